@@ -1,0 +1,5 @@
+use Rattle.flatbuf.proofs.ReadBack.{has}
+use Rattle.flatbuf.proofs.written_is_read.Goals as goal
+
+pub returns : goal.returns
+returns c = has

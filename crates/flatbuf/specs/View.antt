@@ -1,0 +1,33 @@
+-- A tree of the code, whatever memory it takes.
+use Rattle.std.specs.Prelude.{ℕ, List, [], ◌∷◌}
+use Rattle.flatbuf.specs.declared.emit.Node.{Node}
+use Rattle.flatbuf.specs.declared.emit.Slot.{Slot}
+use Rattle.flatbuf.specs.declared.emit.Node.TheOpen.{Node-F, Table, Text, References, Slot-F, Absent, Scalar, Refers}
+use Rattle.flatbuf.specs.declared.emit.Node.TheFolds.{fold-Node, fold-Slot}
+use Rattle.flatbuf.specs.Tree.{Nodes, Slots, table, text, references, no_node, and_node, no_slot, absent, scalar, refers}
+use Rattle.flatbuf.specs.Tree as trees
+
+-- one slot, put before others
+abbrev pub nodes_of : List trees.Tree → Nodes
+nodes_of [] = no_node
+nodes_of (n ∷ ns) = and_node n (nodes_of ns)
+
+abbrev pub slots_in : List (Slots → Slots) → Slots
+slots_in [] = no_slot
+slots_in (s ∷ ss) = s (slots_in ss)
+
+abbrev pub node_step : Node-F trees.Tree (Slots → Slots) → trees.Tree
+node_step (Table slots) = table (slots_in slots.items)
+node_step (Text bytes) = text bytes.items
+node_step (References nodes) = references (nodes_of nodes.items)
+
+abbrev pub slot_step : Slot-F trees.Tree (Slots → Slots) → Slots → Slots
+slot_step Absent = λ rest. absent rest
+slot_step (Scalar w n) = λ rest. scalar w n rest
+slot_step (Refers node) = λ rest. refers node rest
+
+abbrev pub node_of : Node → trees.Tree
+node_of = fold-Node trees.Tree (Slots → Slots) node_step slot_step
+
+abbrev pub slot_of : Slot → Slots → Slots
+slot_of = fold-Slot trees.Tree (Slots → Slots) node_step slot_step
