@@ -1,0 +1,62 @@
+-- Types, fields and schemas as plain trees, without where they lie in memory (Arrow columnar format, "Logical types"; Schema.fbs).
+use Rattle.std.specs.Prelude.{ℕ, Bool, List, [], ◌∷◌, Option}
+
+-- an integer of so many bits: the index type of a dictionary
+pub record Index : Type 0 where
+  pub bits : ℕ
+  pub signed : Bool
+
+-- a key and its value
+abbrev pub Pair : Type 0
+Pair = List ℕ × List ℕ
+
+-- the unit of a date
+pub data DateKind : Type 0 where
+  days : DateKind
+  date_milliseconds : DateKind
+
+-- the unit of a timestamp
+pub data TimeKind : Type 0 where
+  seconds : TimeKind
+  milliseconds : TimeKind
+  microseconds : TimeKind
+  nanoseconds : TimeKind
+
+mutual
+  -- a logical type
+  pub data Kind : Type 0 where
+    nulls : Kind
+    booleans : Kind
+    integers : (bits : ℕ) → (signed : Bool) → Kind
+    dates : DateKind → Kind
+    timestamps : TimeKind → (zone : List ℕ) → Kind
+    texts : Kind
+    large_texts : Kind
+    binaries : Kind
+    large_binaries : Kind
+    fixed_binaries : (width : ℕ) → Kind
+    lists : Column → Kind
+    large_lists : Column → Kind
+    fixed_lists : (size : ℕ) → Column → Kind
+    structs : Columns → Kind
+
+  -- a field
+  pub data Column : Type 0 where
+    column : (name : List ℕ) → (nullable : Bool) → Kind → (dictionary : Option Index) → (pairs : List Pair) → Column
+
+  pub data Columns : Type 0 where
+    no_column : Columns
+    and_column : Column → Columns → Columns
+
+abbrev pub columns_of : List Column → Columns
+columns_of [] = no_column
+columns_of (c ∷ cs) = and_column c (columns_of cs)
+
+abbrev pub list_of : Columns → List Column
+list_of no_column = []
+list_of (and_column c cs) = c ∷ list_of cs
+
+-- a schema: its fields and its own pairs, in order
+pub record PlainSchema : Type 0 where
+  pub columns : List Column
+  pub pairs : List Pair

@@ -1,0 +1,9 @@
+//! Arrow schemas: types, fields and their limits.
+//!
+//! A [`Schema`] is a list of fields and of key/value pairs. Contracts see fields as the plain trees of
+//! `specs/Column.antt`, whatever memory they take.
+#![tactic(auto)]
+
+mod types;
+
+pub use types::{BitWidth, DataType, DateUnit, DictSpec, Field, IntegerType, Schema, TimeUnit};

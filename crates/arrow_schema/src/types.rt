@@ -1,0 +1,89 @@
+// The types that a column may have (Arrow columnar format, "Logical types"; Schema.fbs).
+
+/// How many bits an integer has.
+#[derive(Clone, Copy, Debug, PartialEq, Eq)]
+pub enum BitWidth {
+    Eight,
+    Sixteen,
+    ThirtyTwo,
+    SixtyFour,
+}
+
+/// One of the eight integer types.
+#[derive(Clone, Copy, Debug, PartialEq, Eq)]
+pub struct IntegerType {
+    pub width: BitWidth,
+    pub signed: bool,
+}
+
+/// The dictionary of a field: the type of its indices.
+#[derive(Clone, Copy, Debug, PartialEq, Eq)]
+pub struct DictSpec {
+    pub index: IntegerType,
+}
+
+/// The unit of a date: days in 32 bits, or milliseconds in 64.
+#[derive(Clone, Copy, Debug, PartialEq, Eq)]
+pub enum DateUnit {
+    Day,
+    Millisecond,
+}
+
+/// The unit of a timestamp, a number of 64 bits.
+#[derive(Clone, Copy, Debug, PartialEq, Eq)]
+pub enum TimeUnit {
+    Second,
+    Millisecond,
+    Microsecond,
+    Nanosecond,
+}
+
+/// The logical type of a field. Widths and sizes are 0 to 2,147,483,647; a timestamp without a zone has the empty text.
+#[derive(Debug, Drop)]
+#[cycle(schema)]
+pub enum DataType {
+    Null,
+    Bool,
+    Int(IntegerType),
+    Date(DateUnit),
+    Timestamp(TimeUnit, String),
+    Utf8,
+    LargeUtf8,
+    Binary,
+    LargeBinary,
+    FixedSizeBinary(u32),
+    List(Box<Field>),
+    LargeList(Box<Field>),
+    FixedSizeList(u32, Box<Field>),
+    Struct(Vec<Field>),
+}
+
+/// A column, or a part of one: any text may be its name.
+#[derive(Debug, Drop)]
+#[cycle(schema)]
+pub struct Field {
+    pub name: String,
+    pub nullable: bool,
+    pub data_type: DataType,
+    pub dictionary: Option<DictSpec>,
+    pub pairs: Vec<(String, String)>,
+}
+
+/// The columns of a table, and the schema's own key/value pairs, in order.
+#[derive(Debug, Drop)]
+pub struct Schema {
+    pub fields: Vec<Field>,
+    pub pairs: Vec<(String, String)>,
+}
+
+impl Schema {
+    ghost use Rattle.std.specs.Prelude.{◌≡◌, length};
+    ghost use Rattle.arrow_schema.specs.View.{schema_of};
+
+    /// How many columns it has.
+    pub fn width(&self) -> usize
+        ensures { result ≡ length (schema_of self.now).columns }
+    {
+        self.fields.len()
+    }
+}
