@@ -1,0 +1,13 @@
+//! Arrow IPC messages: framing, and what the metadata of a message spells.
+//!
+//! A message is read without memory up to its header, and refused by the first test that fails; its header is
+//! a tree that borrows its texts, so that hostile metadata cannot make a reader copy more than it was given.
+#![tactic(auto)]
+
+mod fault;
+mod raw;
+
+pub use fault::{Fault, TypeName};
+pub use raw::{
+    Encoding, Header, KeyValue, Parameters, RawBatch, RawDictionaryBatch, RawField, RawSchema,
+};

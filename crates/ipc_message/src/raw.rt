@@ -1,0 +1,75 @@
+// The header of a message as its metadata spells it, before any test. Texts are borrowed; numbers are unsigned.
+
+/// What stands in the table of a field's type.
+#[derive(Clone, Copy, Debug)]
+pub enum Parameters<'a> {
+    Nothing,
+    /// The bits of an integer, and whether it is signed.
+    Integer(u32, bool),
+    ByteWidth(u32),
+    ListSize(u32),
+    DateUnit(u16),
+    /// The unit, and the zone.
+    Timestamp(u16, &'a [u8]),
+}
+
+/// A dictionary encoding: the width and sign of its index type.
+#[derive(Clone, Copy, Debug)]
+pub struct Encoding {
+    pub id: u64,
+    pub width: u32,
+    pub signed: bool,
+    pub kind: u16,
+}
+
+/// A key/value pair.
+#[derive(Clone, Copy, Debug)]
+pub struct KeyValue<'a> {
+    pub key: &'a [u8],
+    pub value: &'a [u8],
+}
+
+/// A field.
+#[derive(Debug, Drop)]
+pub struct RawField<'a> {
+    pub name: &'a [u8],
+    pub nullable: bool,
+    pub code: u8,
+    pub parameters: Parameters<'a>,
+    pub dictionary: Option<Encoding>,
+    pub children: Vec<RawField<'a>>,
+    pub pairs: Vec<KeyValue<'a>>,
+}
+
+/// A schema.
+#[derive(Debug, Drop)]
+pub struct RawSchema<'a> {
+    pub endianness: u16,
+    pub fields: Vec<RawField<'a>>,
+    pub pairs: Vec<KeyValue<'a>>,
+}
+
+/// A record batch: its nodes and buffers as they stand, sixteen bytes each.
+#[derive(Clone, Copy, Debug)]
+pub struct RawBatch<'a> {
+    pub length: u64,
+    pub nodes: &'a [u8],
+    pub buffers: &'a [u8],
+    pub compressed: bool,
+}
+
+/// A dictionary batch.
+#[derive(Clone, Copy, Debug)]
+pub struct RawDictionaryBatch<'a> {
+    pub id: u64,
+    pub batch: RawBatch<'a>,
+    pub is_delta: bool,
+}
+
+/// The header of a message.
+#[derive(Debug, Drop)]
+pub enum Header<'a> {
+    Schema(RawSchema<'a>),
+    DictionaryBatch(RawDictionaryBatch<'a>),
+    RecordBatch(RawBatch<'a>),
+}
