@@ -1,0 +1,50 @@
+-- What a crash leaves after a write or a sync.
+use Rattle.std.specs.Prelude.{◌≡◌, ◌≢◌, ◌⊎◌, ◌==◌, if◌then◌else◌, ℕ, Bool, true, false, List, [], Option, Some, None, refl}
+use Rattle.std.proofs.Common.{inl, inr, ap, subst, arith}
+use Rattle.std.proofs.lemmas.Bool.Decides.{nat_tests}
+use Rattle.sector_dev.specs.Disk.{Disk, Sector, Image, put, flushed, with_content, LeftByWrites, MayHold, MayLeave, synced_image, shown_image}
+
+-- a write changes no other sector
+pub put_other : (d : Disk) (n : ℕ) (c : List ℕ) (x : Option (List ℕ)) (k : ℕ) → k ≢ n → (put d n c x).at k ≡ d.at k
+unfolding put
+put_other d n c x k other = let no : (k == n) ≡ false = grind (arith, nat_tests) in ap (λ (b : Bool). if b then with_content (d.at k) c x else d.at k) no
+
+-- and adds its content to its own
+pub put_same : (d : Disk) (n : ℕ) (c : List ℕ) (x : Option (List ℕ)) → (put d n c x).at n ≡ with_content (d.at n) c x
+unfolding put
+put_same d n c x = let is : (n == n) ≡ true = grind (arith, nat_tests) in ap (λ (b : Bool). if b then with_content (d.at n) c x else d.at n) is
+
+-- a sector with nothing pending holds what was synced
+pub holds_synced : (s : Sector) (c : Option (List ℕ)) → s.pending ≡ [] → MayHold s c → c ≡ s.synced
+holds_synced s c none (inl is) = is
+holds_synced s c none (inr left) = absurd (subst (λ ws. LeftByWrites ws c) none left)
+
+-- a sector with one content pending holds that, or what was synced, or nothing that can be read
+pub holds_one : (s : Sector) (c : List ℕ) (shown x : Option (List ℕ)) → s.pending ≡ [] → MayHold (with_content s c shown) x → (x ≡ s.synced) ⊎ (x ≡ Some c) ⊎ (x ≡ None)
+holds_one s c shown x none (inl is) = inl is
+holds_one s c shown x none (inr (inl is)) = inr (inl is)
+holds_one s c shown x none (inr (inr (inl lost))) = inr (inr lost)
+holds_one s c shown x none (inr (inr (inr left))) = absurd (subst (λ ws. LeftByWrites ws x) none left)
+
+-- a crash leaves a sector with nothing pending as it was synced
+pub leaves_synced : (d : Disk) (image : Image) (n : ℕ) → (d.at n).pending ≡ [] → MayLeave d image → image n ≡ (d.at n).synced
+unfolding MayLeave
+leaves_synced d image n none may = holds_synced (d.at n) (image n) none (may n)
+
+-- where nothing is pending there is one image
+pub only_image : (d : Disk) (image : Image) → ((n : ℕ) → (d.at n).pending ≡ []) → MayLeave d image → image ≡ synced_image d
+only_image d image none may = λ i n. leaves_synced d image n (none n) may i
+
+-- after a sync a crash leaves what reads gave
+pub leaves_flushed : (d : Disk) (image : Image) (n : ℕ) → MayLeave (flushed d) image → image n ≡ (d.at n).shown
+unfolding flushed MayLeave
+leaves_flushed d image n may = holds_synced (record { synced = (d.at n).shown; pending = []; shown = (d.at n).shown }) (image n) refl (may n)
+
+-- the one image after a sync
+pub only_flushed : (d : Disk) (image : Image) → MayLeave (flushed d) image → image ≡ shown_image d
+only_flushed d image may = λ i n. leaves_flushed d image n may i
+
+-- what is synced may be left
+pub may_leave_synced : (d : Disk) → MayLeave d (synced_image d)
+unfolding MayLeave
+may_leave_synced d n = inl refl

@@ -1,0 +1,4 @@
+pub mod Disk
+pub mod Time
+pub mod Crash
+pub mod Model
