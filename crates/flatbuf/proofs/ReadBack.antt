@@ -1,19 +1,22 @@
 -- What was written is read back.
-use Rattle.std.proofs.Common.{◌≡◌, ℕ, zero, suc, ◌+◌, ◌-◌, ◌*◌, ◌<◌, ◌≤◌, ◌^◌, List, [], ◌∷◌, ◌++◌, length, take, drop, Option, Some, None, refl, sym, ap, subst, ◌∙◌, append_assoc, arith, length-append}
-use Rattle.std.proofs.lemmas.List.{length-replicate}
+use Rattle.std.proofs.Common.{◌≡◌, ℕ, suc, ◌+◌, ◌-◌, ◌*◌, ◌<◌, ◌≤◌, ◌^◌, List, [], ◌∷◌, ◌++◌, length, Some, None, refl, sym, ap, subst, ◌∙◌, arith, length-append}
+use Rattle.std.proofs.lemmas.List.{length-replicate, append-nil}
 use Rattle.std.specs.Prelude.{replicate}
 use Rattle.std.proofs.lemmas.Bool.Decides.{nat_tests}
 use Rattle.byteorder.specs.Endian.{little_bytes}
 use Rattle.byteorder.specs.Numbers.{length-bytes_low_first}
 use Rattle.flatbuf.specs.Lookup.{Place, number, target, slot, table_at, vtable_of, back}
-use Rattle.flatbuf.specs.Tree.{Tree, Nodes, Slots, table, text, references, no_node, and_node, no_slot, absent, scalar, refers}
-use Rattle.flatbuf.specs.Laid.{gap, count_of, slots_of, inline_end, distances, inline, links, vtable_len, table_start, start, vtable, laid, laid_all, starts, laid_slots, slot_starts}
-use Rattle.flatbuf.specs.Held.{Has, HasAll, HasSlots, Fits, FitsAll, FitsSlots}
+use Rattle.flatbuf.specs.Tree.{Tree, Nodes, Slots, table, text, references, structs, no_node, and_node, no_slot, absent, scalar, refers}
+use Rattle.flatbuf.specs.Laid.{gap, count_of, struct_bytes, metadata, slots_of, inline_end, distances, inline, links, vtable_len, table_start, start, vtable, laid, laid_all, starts, laid_slots, slot_starts}
+use Rattle.flatbuf.specs.Held.{Has, HasAll, HasSlots, HasStructs, HasHead, Fits, FitsAll, FitsSlots, FitsStructs}
 use Rattle.flatbuf.specs.Stands.{At}
 use Rattle.flatbuf.proofs.Places.{At-left, At-right, At-take, At-within, At-field}
 
 pub At-skip : (bytes : List ℕ) (at g : ℕ) (ys : List ℕ) → At bytes at (replicate g 0 ++ ys) → At bytes (at + g) ys
 At-skip bytes at g ys h = rw length-replicate at (At-right bytes at (replicate g 0) ys h)
+
+At-whole : (bytes : List ℕ) → At bytes 0 bytes
+At-whole bytes = record { front = []; rest = []; whole = sym (append-nil bytes); here = refl }
 
 pub target_is : (bytes : List ℕ) (at s : ℕ) → at ≤ s → number 4 bytes at ≡ s - at → target bytes at ≡ s
 unfolding target
@@ -24,6 +27,9 @@ slot_is bytes t k d le pos h = rw h (grind (arith, nat_tests))
 
 slot_none : (bytes : List ℕ) (t : Place) (k : ℕ) → number 2 bytes (t.vtable + 2 * k + 4) ≡ 0 → slot bytes t k ≡ None
 slot_none bytes t k h = rw h (grind (arith, nat_tests))
+
+slot_past : (bytes : List ℕ) (t : Place) (j : ℕ) → t.size < 2 * j + 6 → slot bytes t j ≡ None
+slot_past bytes t j h = grind (arith, nat_tests)
 
 inline_end-le : (offset : ℕ) (slots : Slots) → offset ≤ inline_end offset slots
 inline_end-le offset no_slot = omega arith
@@ -83,11 +89,13 @@ start-ge : (cursor : ℕ) (n : Tree) → cursor ≤ start cursor n
 start-ge cursor (table slots) = omega arith
 start-ge cursor (text t) = omega arith
 start-ge cursor (references ns) = omega arith
+start-ge cursor (structs ps) = omega arith
 
 start_within : (bytes : List ℕ) (cursor : ℕ) (n : Tree) → At bytes cursor (laid cursor n) → start cursor n ≤ length bytes
 unfolding laid
 start_within bytes cursor (text t) h = omega (arith, At-within bytes _ _ (At-skip bytes cursor (gap 4 cursor) _ h))
 start_within bytes cursor (references ns) h = omega (arith, At-within bytes _ _ (At-skip bytes cursor (gap 4 cursor) _ h))
+start_within bytes cursor (structs ps) h = omega (arith, At-within bytes _ _ (At-skip bytes cursor (gap 8 (cursor + 4)) _ h))
 start_within bytes cursor (table slots) h = omega (arith, At-within bytes _ _ (At-left bytes cursor (vtable cursor slots) _ h), length-vtable cursor slots)
 
 back_is : (d at : ℕ) → d < 2 ^ 16 → d ≤ at → back d at ≡ Some (at - d)
@@ -95,6 +103,7 @@ back_is d at lt le = grind (arith, nat_tests)
 
 head_of : (bytes : List ℕ) (cursor : ℕ) (slots : Slots) → vtable_len slots < 2 ^ 16 → inline_end 4 slots < 2 ^ 16 → At bytes cursor (laid cursor (table slots))
     → (table_at bytes (table_start cursor slots) ≡ record { at = table_start cursor slots; vtable = table_start cursor slots - vtable_len slots; size = vtable_len slots })
+    × HasHead bytes (table_start cursor slots) (slots_of slots)
     × At bytes (table_start cursor slots - vtable_len slots + 4) (distances 4 slots)
     × At bytes (table_start cursor slots + 4) (inline (table_start cursor slots) 4 (slot_starts (table_start cursor slots + inline_end 4 slots) slots) slots ++ laid_slots (table_start cursor slots + inline_end 4 slots) slots)
 unfolding laid
@@ -113,7 +122,14 @@ head_of bytes cursor slots short thin h =
     let vt : cursor + g ≡ at - n = omega arith in
     let found : vtable_of bytes at ≡ Some (at - n) = rw t1.0 (back_is n at (omega arith) (omega arith)) in
     let size : number 2 bytes (at - n) ≡ n = rw (← vt) v2.0 in
-    (rw (found, size) refl, moved bytes _ _ (distances 4 slots) (omega arith) v3.1, t1.1)
+    let head : HasHead bytes at (slots_of slots) = record {
+      vtable = at - n;
+      found = found;
+      size = size;
+      head_in = omega (arith, At-within bytes (at + 4) tail t1.1);
+      vtable_in = omega (arith, At-within bytes (at + 4) tail t1.1);
+    } in
+    (rw (found, size) refl, head, moved bytes _ _ (distances 4 slots) (omega arith) v3.1, t1.1)
 
 length-inline : (at offset cursor : ℕ) (slots : Slots) → offset + length (inline at offset (slot_starts cursor slots) slots) ≡ inline_end offset slots
 unfolding inline slot_starts
@@ -128,6 +144,31 @@ length-inline at offset cursor (refers n rest) =
     let s = start cursor n - (at + offset + g) in
     let more = inline at (offset + g + 4) (slot_starts (cursor + length (laid cursor n)) rest) rest in
     omega (arith, length-append (replicate g 0) (little_bytes 4 s ++ more), length-replicate {A = ℕ} g 0, length-append (little_bytes 4 s) more, length-bytes_low_first 0 4 s, length-inline at (offset + g + 4) (cursor + length (laid cursor n)) rest)
+
+length-struct_bytes : (ps : List (ℕ × ℕ)) → length (struct_bytes ps) ≡ 16 * length ps
+unfolding struct_bytes
+length-struct_bytes [] = refl
+length-struct_bytes (p ∷ ps) =
+    omega (arith, length-append (little_bytes 8 p.0) (little_bytes 8 p.1 ++ struct_bytes ps), length-append (little_bytes 8 p.1) (struct_bytes ps), length-bytes_low_first 0 8 p.0, length-bytes_low_first 0 8 p.1, length-struct_bytes ps)
+
+has_structs : (bytes : List ℕ) (at : ℕ) (ps : List (ℕ × ℕ)) → FitsStructs ps → At bytes at (struct_bytes ps) → HasStructs bytes at ps
+unfolding struct_bytes
+has_structs bytes at [] fits h = tt
+has_structs bytes at (p ∷ ps) fits h =
+    let a = At-field bytes at 8 p.0 (little_bytes 8 p.1 ++ struct_bytes ps) fits.0 h in
+    let b = At-field bytes (at + 8) 8 p.1 (struct_bytes ps) fits.1 a.1 in
+    (a.0, b.0, has_structs bytes (at + 16) ps fits.2 (moved bytes _ _ (struct_bytes ps) (omega arith) b.1))
+
+structs_has : (bytes : List ℕ) (cursor : ℕ) (ps : List (ℕ × ℕ)) → length bytes < 2 ^ 31 → FitsStructs ps → At bytes cursor (laid cursor (structs ps)) → Has bytes (start cursor (structs ps)) (structs ps)
+unfolding laid
+structs_has bytes cursor ps small fits h =
+    let g = gap 8 (cursor + 4) in
+    let a = At-skip bytes cursor g (little_bytes 4 (length ps) ++ struct_bytes ps) h in
+    let len = length-struct_bytes ps in
+    let w = At-within bytes (cursor + g) (little_bytes 4 (length ps) ++ struct_bytes ps) a in
+    let lt : length ps < 256 ^ 4 = omega (arith, length-append (little_bytes 4 (length ps)) (struct_bytes ps)) in
+    let b = At-field bytes (cursor + g) 4 (length ps) (struct_bytes ps) lt a in
+    (b.0, omega (arith, At-within bytes (cursor + g + 4) (struct_bytes ps) b.1), has_structs bytes (cursor + g + 4) ps fits b.1)
 
 mutual
   unfolding laid laid_all starts links laid_slots slot_starts inline
@@ -146,14 +187,17 @@ mutual
       let l = At-left bytes first (links first (starts below ns)) (laid_all below ns) b.1 in
       let r : At bytes below (laid_all below ns) = rw len at (At-right bytes first (links first (starts below ns)) (laid_all below ns) b.1) in
       (b.0, omega (arith, At-within bytes first (links first (starts below ns)) l), has_all bytes first below ns small fits (omega arith) l r)
+  has bytes cursor (structs ps) small fits h = structs_has bytes cursor ps small fits h
   has bytes cursor (table slots) small fits h =
       let at = table_start cursor slots in
       let below = at + inline_end 4 slots in
       let t = head_of bytes cursor slots fits.1 fits.0 h in
       let ins = inline at 4 (slot_starts below slots) slots in
-      let b = moved bytes _ below (laid_slots below slots) (omega (arith, length-inline at 4 below slots)) (At-right bytes (at + 4) ins (laid_slots below slots) t.2) in
-      rw t.0 (has_slots bytes (record { at = at; vtable = at - vtable_len slots; size = vtable_len slots }) 0 4 below slots small fits.2 (omega arith) fits.0 (omega arith) (omega arith)
-      (moved bytes _ _ (distances 4 slots) (omega arith) t.1) (At-left bytes (at + 4) ins (laid_slots below slots) t.2) b)
+      let b = moved bytes _ below (laid_slots below slots) (omega (arith, length-inline at 4 below slots)) (At-right bytes (at + 4) ins (laid_slots below slots) t.3) in (
+        t.1,
+        rw t.0 (has_slots bytes (record { at = at; vtable = at - vtable_len slots; size = vtable_len slots }) 0 4 below slots small fits.2 (omega arith) fits.0 (omega arith) (omega arith)
+            (moved bytes _ _ (distances 4 slots) (omega arith) t.2) (At-left bytes (at + 4) ins (laid_slots below slots) t.3) b),
+      )
 
   pub has_all : (bytes : List ℕ) (at cursor : ℕ) (ns : Nodes) → length bytes < 2 ^ 31 → FitsAll ns → at + 4 * count_of ns ≤ cursor → At bytes at (links at (starts cursor ns)) → At bytes cursor (laid_all cursor ns) → HasAll bytes at ns
   has_all bytes at cursor no_node small fits le l r = tt
@@ -170,7 +214,7 @@ mutual
   pub has_slots : (bytes : List ℕ) (t : Place) (k offset cursor : ℕ) (rest : Slots) → length bytes < 2 ^ 31 → FitsSlots rest → 0 < offset → inline_end offset rest < 2 ^ 16 → t.size ≡ 4 + 2 * (k + slots_of rest)
       → t.at + inline_end offset rest ≤ cursor → At bytes (t.vtable + 2 * k + 4) (distances offset rest) → At bytes (t.at + offset) (inline t.at offset (slot_starts cursor rest) rest)
       → At bytes cursor (laid_slots cursor rest) → HasSlots bytes t k rest
-  has_slots bytes t k offset cursor no_slot small fits pos thin size le v i b = tt
+  has_slots bytes t k offset cursor no_slot small fits pos thin size le v i b = λ j past. slot_past bytes t j (omega arith)
   has_slots bytes t k offset cursor (absent rest) small fits pos thin size le v i b =
       let d = At-field bytes (t.vtable + 2 * k + 4) 2 0 (distances offset rest) (omega arith) v in
       (slot_none bytes t k d.0, has_slots bytes t (suc k) offset cursor rest small fits pos thin (omega arith) le (moved bytes _ _ (distances offset rest) (omega arith) d.1) i b)
@@ -203,3 +247,15 @@ mutual
         has_slots bytes t (suc k) (o + 4) next rest small fits.1 (omega arith) thin (omega arith) (omega arith) (moved bytes _ _ (distances (o + 4) rest) (omega arith) d.1) (moved bytes _ _ more (omega arith) f.1)
             (At-right bytes cursor (laid cursor n) (laid_slots next rest) b),
       )
+
+-- the root of a message's metadata
+pub root_has : (n : Tree) → length (metadata n) < 2 ^ 31 → Fits n → Has (metadata n) (target (metadata n) 0) n
+unfolding metadata
+root_has n small fits =
+    let bytes = metadata n in
+    let fill : List ℕ = replicate (gap 8 (4 + length (laid 4 n))) 0 in
+    let whole : At bytes 0 (little_bytes 4 (start 4 n) ++ (laid 4 n ++ fill)) = At-whole bytes in
+    let below : At bytes 4 (laid 4 n ++ fill) = rw (length-bytes_low_first 0 4 (start 4 n)) at (At-right bytes 0 (little_bytes 4 (start 4 n)) (laid 4 n ++ fill) whole) in
+    let root = At-left bytes 4 (laid 4 n) fill below in
+    let f = At-field bytes 0 4 (start 4 n) (laid 4 n ++ fill) (omega (arith, start_within bytes 4 n root)) whole in
+    rw (target_is bytes 0 (start 4 n) (omega arith) (f.0 ∙ omega arith)) (has bytes 4 n small fits root)

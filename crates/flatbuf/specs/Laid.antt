@@ -1,16 +1,18 @@
--- The bytes of a tree from a cursor on. Gaps are zero bytes.
-use Rattle.std.specs.Prelude.{ℕ, zero, suc, ◌+◌, ◌-◌, ◌*◌, ◌/◌, ◌%◌, List, [], ◌∷◌, ◌++◌, length, replicate}
+-- The bytes of a tree from a cursor on (docs/formats/writing.md; FlatBuffers internals). Gaps are zero bytes, numbers are little-endian.
+use Rattle.std.specs.Prelude.{ℕ, suc, ◌+◌, ◌-◌, ◌*◌, ◌%◌, List, [], ◌∷◌, ◌++◌, length, replicate}
 use Rattle.byteorder.specs.Endian.{little_bytes}
-use Rattle.flatbuf.specs.Tree.{Tree, Nodes, Slots, table, text, references, no_node, and_node, no_slot, absent, scalar, refers}
+use Rattle.flatbuf.specs.Tree.{Tree, Nodes, Slots, table, text, references, structs, no_node, and_node, no_slot, absent, scalar, refers}
 
 -- what is missing to the next multiple of m
 abbrev pub gap : ℕ → ℕ → ℕ
 gap m cursor = (m - cursor % m) % m
 
+-- how many nodes there are
 abbrev pub count_of : Nodes → ℕ
 count_of no_node = 0
 count_of (and_node n ns) = suc (count_of ns)
 
+-- how many slots a table has
 abbrev pub slots_of : Slots → ℕ
 slots_of no_slot = 0
 slots_of (absent rest) = suc (slots_of rest)
@@ -45,6 +47,12 @@ unfoldable pub links : ℕ → List ℕ → List ℕ
 links at [] = []
 links at (s ∷ starts) = little_bytes 4 (s - at) ++ links (at + 4) starts
 
+-- structs of two numbers each, one after the other
+unfoldable pub struct_bytes : List (ℕ × ℕ) → List ℕ
+struct_bytes [] = []
+struct_bytes (p ∷ ps) = little_bytes 8 p.0 ++ (little_bytes 8 p.1 ++ struct_bytes ps)
+
+-- the size of a table's vtable
 abbrev pub vtable_len : Slots → ℕ
 vtable_len slots = 4 + 2 * slots_of slots
 
@@ -57,7 +65,9 @@ abbrev pub start : ℕ → Tree → ℕ
 start cursor (table slots) = table_start cursor slots
 start cursor (text bytes) = cursor + gap 4 cursor
 start cursor (references nodes) = cursor + gap 4 cursor
+start cursor (structs ps) = cursor + gap 8 (cursor + 4)
 
+-- the vtable, which ends where its table begins
 abbrev pub vtable : ℕ → Slots → List ℕ
 vtable cursor slots =
     replicate (gap 8 (cursor + vtable_len slots)) 0 ++ (little_bytes 2 (vtable_len slots) ++ (little_bytes 2 (inline_end 4 slots) ++ distances 4 slots))
@@ -70,27 +80,36 @@ unfoldable mutual
       let first = cursor + gap 4 cursor + 4 in
       let below = first + 4 * count_of nodes in
       replicate (gap 4 cursor) 0 ++ (little_bytes 4 (count_of nodes) ++ (links first (starts below nodes) ++ laid_all below nodes))
+  laid cursor (structs ps) = replicate (gap 8 (cursor + 4)) 0 ++ (little_bytes 4 (length ps) ++ struct_bytes ps)
   laid cursor (table slots) =
       let at = table_start cursor slots in
       let below = at + inline_end 4 slots in
       vtable cursor slots ++ (little_bytes 4 (vtable_len slots) ++ (inline at 4 (slot_starts below slots) slots ++ laid_slots below slots))
 
+  -- nodes, one after the other
   pub laid_all : ℕ → Nodes → List ℕ
   laid_all cursor no_node = []
   laid_all cursor (and_node n ns) = laid cursor n ++ laid_all (cursor + length (laid cursor n)) ns
 
+  -- where each of them stands
   pub starts : ℕ → Nodes → List ℕ
   starts cursor no_node = []
   starts cursor (and_node n ns) = start cursor n ∷ starts (cursor + length (laid cursor n)) ns
 
+  -- what the slots of a table refer to, in slot order
   pub laid_slots : ℕ → Slots → List ℕ
   laid_slots cursor no_slot = []
   laid_slots cursor (absent rest) = laid_slots cursor rest
   laid_slots cursor (scalar w n rest) = laid_slots cursor rest
   laid_slots cursor (refers n rest) = laid cursor n ++ laid_slots (cursor + length (laid cursor n)) rest
 
+  -- where each of that stands
   pub slot_starts : ℕ → Slots → List ℕ
   slot_starts cursor no_slot = []
   slot_starts cursor (absent rest) = slot_starts cursor rest
   slot_starts cursor (scalar w n rest) = slot_starts cursor rest
   slot_starts cursor (refers n rest) = start cursor n ∷ slot_starts (cursor + length (laid cursor n)) rest
+
+-- the metadata of a message: where its root stands, the root, and zeros up to a multiple of 8
+unfoldable pub metadata : Tree → List ℕ
+metadata root = little_bytes 4 (start 4 root) ++ (laid 4 root ++ replicate (gap 8 (4 + length (laid 4 root))) 0)

@@ -1,10 +1,10 @@
 -- A tree of the code, whatever memory it takes.
-use Rattle.std.specs.Prelude.{ℕ, List, [], ◌∷◌}
+use Rattle.std.specs.Prelude.{List, [], ◌∷◌}
 use Rattle.flatbuf.specs.declared.emit.Node.{Node}
 use Rattle.flatbuf.specs.declared.emit.Slot.{Slot}
-use Rattle.flatbuf.specs.declared.emit.Node.TheOpen.{Node-F, Table, Text, References, Slot-F, Absent, Scalar, Refers}
+use Rattle.flatbuf.specs.declared.emit.Node.TheOpen.{Node-F, Table, Text, References, Structs, Slot-F, Absent, Scalar, Refers}
 use Rattle.flatbuf.specs.declared.emit.Node.TheFolds.{fold-Node, fold-Slot}
-use Rattle.flatbuf.specs.Tree.{Nodes, Slots, table, text, references, no_node, and_node, no_slot, absent, scalar, refers}
+use Rattle.flatbuf.specs.Tree.{Nodes, Slots, table, text, references, structs, no_node, and_node, no_slot, absent, scalar, refers}
 use Rattle.flatbuf.specs.Tree as trees
 
 -- one slot, put before others
@@ -20,6 +20,7 @@ abbrev pub node_step : Node-F trees.Tree (Slots → Slots) → trees.Tree
 node_step (Table slots) = table (slots_in slots.items)
 node_step (Text bytes) = text bytes.items
 node_step (References nodes) = references (nodes_of nodes.items)
+node_step (Structs ps) = structs ps.items
 
 abbrev pub slot_step : Slot-F trees.Tree (Slots → Slots) → Slots → Slots
 slot_step Absent = λ rest. absent rest

@@ -12,6 +12,7 @@ pub enum Node {
     Table(Vec<Slot>),
     Text(Vec<u8>),
     References(Vec<Node>),
+    Structs(Vec<(u64, u64)>),
 }
 
 /// What stands in a slot of a table.

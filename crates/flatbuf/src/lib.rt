@@ -3,7 +3,8 @@
 
 ghost use Rattle.std.specs.Prelude.{ℕ, ◌≡◌, ◌<◌, ◌^◌, List, length};
 ghost use Rattle.flatbuf.specs.Tree.{Tree};
-ghost use Rattle.flatbuf.specs.Laid.{laid, start};
+ghost use Rattle.flatbuf.specs.Laid.{laid, start, metadata};
+ghost use Rattle.flatbuf.specs.Lookup.{target};
 ghost use Rattle.flatbuf.specs.Held.{Has, Fits};
 ghost use Rattle.flatbuf.specs.Stands.{At};
 ghost use Rattle.flatbuf.specs.declared.WalkError.TheVariants.{Memory, Flat};
@@ -55,5 +56,6 @@ pub use table::{Budget, Table};
 
 /// What is written is read back: wherever the bytes of a tree stand, a reader finds that tree.
 pub fn written_is_read()
-    ensures { (bytes : List ℕ) (cursor : ℕ) (n : Tree) → length bytes < 2 ^ 31 → Fits n → At bytes cursor (laid cursor n) → Has bytes (start cursor n) n }
+    ensures anywhere { (bytes : List ℕ) (cursor : ℕ) (n : Tree) → length bytes < 2 ^ 31 → Fits n → At bytes cursor (laid cursor n) → Has bytes (start cursor n) n }
+    ensures root { (n : Tree) → length (metadata n) < 2 ^ 31 → Fits n → Has (metadata n) (target (metadata n) 0) n }
 {}
