@@ -1,0 +1,18 @@
+-- What a value of the code is, whatever memory it takes.
+use Rattle.std.specs.Prelude.{List, string_bytes}
+use Rattle.values.specs.declared.value.Value.{Value}
+use Rattle.values.specs.declared.value.Value.TheOpen.{Value-F, Null, Bool as Truth, Int, Text, Bytes, List as Items, Struct}
+use Rattle.values.specs.declared.value.Value.TheFolds.{fold-Value}
+use Rattle.values.specs.Cell.{Cell, null, truth, number, text, bytes, items, parts, cells_of}
+
+abbrev pub cell_step : Value-F Cell → Cell
+cell_step Null = null
+cell_step (Truth b) = truth b
+cell_step (Int n) = number n
+cell_step (Text s) = text (string_bytes s)
+cell_step (Bytes b) = bytes b.items
+cell_step (Items v) = items (cells_of v.items)
+cell_step (Struct v) = parts (cells_of v.items)
+
+abbrev pub cell : Value → Cell
+cell = fold-Value Cell cell_step
