@@ -1,2 +1,5 @@
 pub mod Column
 pub mod View
+pub mod Preorder
+pub mod Limits
+pub mod Tally

@@ -1,9 +1,8 @@
 -- What a field of the code is, whatever memory it takes.
-use Rattle.std.specs.Prelude.{ℕ, Bool, List, [], ◌∷◌, map, string_bytes, String, option_map, Option}
+use Rattle.std.specs.Prelude.{ℕ, map, string_bytes, String, option_map}
 use Rattle.std.specs.Global.{Global}
 use Rattle.arrow_schema.specs.declared.types.BitWidth.{BitWidth}
 use Rattle.arrow_schema.specs.declared.types.BitWidth.TheVariants.{Eight, Sixteen, ThirtyTwo, SixtyFour}
-use Rattle.arrow_schema.specs.declared.types.IntegerType.{IntegerType}
 use Rattle.arrow_schema.specs.declared.types.DictSpec.{DictSpec}
 use Rattle.arrow_schema.specs.declared.types.DateUnit.{DateUnit}
 use Rattle.arrow_schema.specs.declared.types.DateUnit.TheVariants as dates

@@ -4,6 +4,8 @@
 //! `specs/Column.antt`, whatever memory they take.
 #![tactic(auto)]
 
+mod limits;
 mod types;
 
+pub use limits::{MAX_BYTES, MAX_DEPTH, MAX_FIELDS, MAX_PAIRS, NUMBER_END, SchemaError};
 pub use types::{BitWidth, DataType, DateUnit, DictSpec, Field, IntegerType, Schema, TimeUnit};

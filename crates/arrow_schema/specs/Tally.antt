@@ -1,0 +1,32 @@
+-- What the test of a schema counts as it goes over the columns. Numbers stay at the greatest of 64 bits.
+use Rattle.std.specs.Prelude.{ℕ, ◌+◌, ◌-◌, ◌^◌, min, length, true, ◌&&◌, List, [], ◌∷◌}
+use Rattle.arrow_schema.specs.declared.limits.Tally.{Tally}
+use Rattle.arrow_schema.specs.Column.{Pair, Column}
+use Rattle.arrow_schema.specs.Limits.{bytes_of_pairs, pairs_in, bytes_in, has_number_in_range, has_flat_dictionary}
+
+abbrev pub saturated : ℕ → ℕ
+saturated n = min n (2 ^ 64 - 1)
+
+-- before any column
+abbrev pub tally_of_pairs : List Pair → Tally
+tally_of_pairs pairs = record {
+  fields = 0;
+  pairs = saturated (length pairs);
+  bytes = saturated (bytes_of_pairs pairs);
+  numbers_fit = true;
+  dictionaries_fit = true;
+}
+
+-- after one column more
+unfoldable pub tallied_one : Tally → Column → Tally
+tallied_one t c = record {
+  fields = saturated (t.fields + 1);
+  pairs = saturated (t.pairs + pairs_in c);
+  bytes = saturated (t.bytes + bytes_in c);
+  numbers_fit = t.numbers_fit && has_number_in_range c;
+  dictionaries_fit = t.dictionaries_fit && has_flat_dictionary c;
+}
+
+unfoldable pub tallied : Tally → List Column → Tally
+tallied t [] = t
+tallied t (c ∷ cs) = tallied (tallied_one t c) cs

@@ -1,0 +1,232 @@
+// The limits that a schema keeps.
+ghost use Rattle.std.specs.Prelude.{◌≡◌, ◌↔◌, ◌+◌, IsOk, map, length, nat_le};
+ghost use Rattle.std.specs.List.{list_all};
+ghost use Rattle.arrow_schema.specs.Column.{columns_of};
+ghost use Rattle.arrow_schema.specs.View.{schema_of, kind_of, column_of, pair_of};
+ghost use Rattle.arrow_schema.specs.Preorder.{preorder, preorder_below, preorder_all, depth, depth_below, depth_all, every_column};
+ghost use Rattle.arrow_schema.specs.Limits.{IsWithinLimits, first_passed, number_of, is_nested, zone_of, bytes_of_pairs, count_of_pairs, count_of_bytes, has_number_in_range, has_flat_dictionary};
+ghost use Rattle.arrow_schema.specs.Tally.{saturated, tallied, tallied_one, tally_of_pairs};
+
+use crate::types::{DataType, Field, Schema};
+
+/// The most fields of a schema, all children counted.
+pub const MAX_FIELDS: u64 = 2048;
+/// The most levels: a column stands at the first.
+pub const MAX_DEPTH: u64 = 32;
+/// The most key/value pairs of a schema and all its fields together.
+pub const MAX_PAIRS: u64 = 4096;
+/// The most bytes of names, keys, values and zones together.
+pub const MAX_BYTES: u64 = 4_194_304;
+/// Widths and sizes stay below it.
+pub const NUMBER_END: u32 = 1 << 31;
+
+/// The first limit that a schema passes, in this order.
+#[derive(Clone, Copy, Debug, PartialEq, Eq)]
+pub enum SchemaError {
+    /// A field deeper than `MAX_DEPTH`.
+    Depth,
+    /// More fields than `MAX_FIELDS`.
+    Fields,
+    /// More pairs than `MAX_PAIRS`.
+    Pairs,
+    /// More bytes of text than `MAX_BYTES`.
+    Bytes,
+    /// A width or a size past `NUMBER_END`.
+    Number,
+    /// A dictionary whose values are lists or structs.
+    Dictionary,
+}
+
+// What has been counted so far.
+#[derive(Clone, Copy)]
+pub(crate) struct Tally {
+    pub(crate) fields: u64,
+    pub(crate) pairs: u64,
+    pub(crate) bytes: u64,
+    pub(crate) numbers_fit: bool,
+    pub(crate) dictionaries_fit: bool,
+}
+
+#[tactic(auto, using(crate::proofs::Counting::nat_le_down, crate::proofs::Counting::nat_le_none), unfolding(crate::specs::Preorder::depth))]
+#[cycle(depth)]
+fn is_within_depth(levels: u64, field: &Field) -> bool
+    ensures { result ≡ nat_le (depth (column_of field.now)) levels }
+{
+    levels != 0 && is_type_within_depth(levels - 1, &field.data_type)
+}
+
+#[tactic(auto, unfolding(crate::specs::Preorder::depth_below))]
+#[cycle(depth)]
+fn is_type_within_depth(levels: u64, data_type: &DataType) -> bool
+    ensures { result ≡ nat_le (depth_below (kind_of data_type.now)) levels }
+{
+    match data_type {
+        DataType::List(item) => is_within_depth(levels, item),
+        DataType::LargeList(item) => is_within_depth(levels, item),
+        DataType::FixedSizeList(_, item) => is_within_depth(levels, item),
+        DataType::Struct(fields) => are_within_depth(levels, fields),
+        _ => true,
+    }
+}
+
+#[tactic(auto, using(crate::proofs::Counting::depth_rules), unfolding(crate::specs::Preorder::depth_all))]
+#[cycle(depth)]
+fn are_within_depth(levels: u64, fields: &[Field]) -> bool
+    ensures { result ≡ nat_le (depth_all (columns_of (map column_of fields.now))) levels }
+{
+    for field in fields {
+        if !is_within_depth(levels, field) {
+            return false;
+        }
+    }
+    true
+}
+
+impl DataType {
+    /// The width of a fixed binary or the size of a fixed list, and 0 at other types.
+    pub fn number(&self) -> u32
+        ensures { result ≡ number_of (kind_of self.now) }
+    {
+        match self {
+            DataType::FixedSizeBinary(width) => *width,
+            DataType::FixedSizeList(size, _) => *size,
+            _ => 0,
+        }
+    }
+
+    /// Whether its values have parts: lists and structs.
+    pub fn is_nested(&self) -> bool
+        ensures { result ≡ is_nested (kind_of self.now) }
+    {
+        matches!(
+            self,
+            DataType::List(_)
+                | DataType::LargeList(_)
+                | DataType::FixedSizeList(_, _)
+                | DataType::Struct(_)
+        )
+    }
+
+    /// The zone of a timestamp, and no text at other types.
+    pub fn zone(&self) -> &str
+        ensures { result.now ≡ zone_of (kind_of self.now) }
+    {
+        match self {
+            DataType::Timestamp(_, zone) => zone.as_str(),
+            _ => "",
+        }
+    }
+}
+
+fn bytes_of_pairs(pairs: &[(String, String)]) -> u64
+    ensures { result ≡ saturated (bytes_of_pairs (map pair_of pairs.now)) }
+{
+    let mut total = 0u64;
+    for (key, value) in pairs {
+        total = total
+            .saturating_add(key.len() as u64)
+            .saturating_add(value.len() as u64);
+    }
+    total
+}
+
+impl Tally {
+    #[tactic(auto, unfolding(crate::specs::Tally::tallied_one))]
+    fn add(&mut self, field: &Field)
+        ensures { self.new ≡ tallied_one self.old (column_of field.now) }
+    {
+        self.fields = self.fields.saturating_add(1);
+        self.pairs = self.pairs.saturating_add(field.pairs.len() as u64);
+        self.bytes = self
+            .bytes
+            .saturating_add(field.name.len() as u64)
+            .saturating_add(field.data_type.zone().len() as u64)
+            .saturating_add(bytes_of_pairs(&field.pairs));
+        self.numbers_fit = self.numbers_fit && field.data_type.number() < NUMBER_END;
+        self.dictionaries_fit = self.dictionaries_fit
+            && !(field.dictionary.is_some() && field.data_type.is_nested());
+    }
+}
+
+#[tactic(auto, unfolding(crate::specs::Preorder::preorder, crate::specs::Tally::tallied))]
+#[cycle(tally)]
+fn tally_field(tally: &mut Tally, field: &Field)
+    ensures { tally.new ≡ tallied tally.old (preorder (column_of field.now)) }
+{
+    tally.add(field);
+    tally_type(tally, &field.data_type);
+}
+
+#[tactic(auto, unfolding(crate::specs::Preorder::preorder_below, crate::specs::Tally::tallied))]
+#[cycle(tally)]
+fn tally_type(tally: &mut Tally, data_type: &DataType)
+    ensures { tally.new ≡ tallied tally.old (preorder_below (kind_of data_type.now)) }
+{
+    match data_type {
+        DataType::List(item) => tally_field(tally, item),
+        DataType::LargeList(item) => tally_field(tally, item),
+        DataType::FixedSizeList(_, item) => tally_field(tally, item),
+        DataType::Struct(fields) => tally_fields(tally, fields),
+        _ => {}
+    }
+}
+
+#[tactic(auto, using(crate::proofs::Counting::tally_rules), unfolding(crate::specs::Preorder::preorder_all, crate::specs::Tally::tallied))]
+#[cycle(tally)]
+fn tally_fields(tally: &mut Tally, fields: &[Field])
+    ensures { tally.new ≡ tallied tally.old (preorder_all (columns_of (map column_of fields.now))) }
+{
+    for field in fields {
+        tally_field(tally, field);
+    }
+}
+
+fn tally_of(schema: &Schema) -> Tally
+    ensures fields { result.fields ≡ saturated (length (every_column (schema_of schema.now))) }
+    ensures pairs { result.pairs ≡ saturated (count_of_pairs (schema_of schema.now)) }
+    ensures bytes { result.bytes ≡ saturated (count_of_bytes (schema_of schema.now)) }
+    ensures numbers { result.numbers_fit ≡ list_all has_number_in_range (every_column (schema_of schema.now)) }
+    ensures dictionaries { result.dictionaries_fit ≡ list_all has_flat_dictionary (every_column (schema_of schema.now)) }
+{
+    let mut tally = Tally {
+        fields: 0,
+        pairs: schema.pairs.len() as u64,
+        bytes: bytes_of_pairs(&schema.pairs),
+        numbers_fit: true,
+        dictionaries_fit: true,
+    };
+    tally_fields(&mut tally, &schema.fields);
+    tally
+}
+
+fn first_passed(schema: &Schema) -> Result<(), SchemaError>
+    ensures { result ≡ first_passed (schema_of schema.now) }
+{
+    if !are_within_depth(MAX_DEPTH, &schema.fields) {
+        return Err(SchemaError::Depth);
+    }
+    let tally = tally_of(schema);
+    if tally.fields > MAX_FIELDS {
+        Err(SchemaError::Fields)
+    } else if tally.pairs > MAX_PAIRS {
+        Err(SchemaError::Pairs)
+    } else if tally.bytes > MAX_BYTES {
+        Err(SchemaError::Bytes)
+    } else if !tally.numbers_fit {
+        Err(SchemaError::Number)
+    } else if !tally.dictionaries_fit {
+        Err(SchemaError::Dictionary)
+    } else {
+        Ok(())
+    }
+}
+
+impl Schema {
+    /// Whether it is within the limits, and else the first that it passes.
+    pub fn check(&self) -> Result<(), SchemaError>
+        ensures told { result ≡ first_passed (schema_of self.now) }
+        ensures within { IsOk result ↔ IsWithinLimits (schema_of self.now) }
+    {
+        first_passed(self)
+    }
+}
