@@ -1,2 +1,3 @@
+pub mod FaultText
 pub mod Raw
 pub mod View

@@ -5,6 +5,7 @@
 #![tactic(auto)]
 
 mod fault;
+mod fault_text;
 mod raw;
 
 pub use fault::{Fault, TypeName};
