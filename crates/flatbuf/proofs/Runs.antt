@@ -1,8 +1,8 @@
 -- A walk over two lists of things is a walk over the first and then over the second.
-use Rattle.std.proofs.Common.{◌≡◌, ℕ, ◌+◌, Bool, true, false, cond, List, [], ◌∷◌, ◌++◌, length, Result, Ok, Err, refl, sym, ap, subst, ◌∙◌, nat_lt, nat_le, ◌&&◌, eqb, ◌%◌}
+use Rattle.std.proofs.Common.{◌≡◌, ℕ, ◌+◌, Bool, true, false, cond, List, [], ◌∷◌, ◌++◌, length, Result, Ok, Err, refl, ap, ◌∙◌, nat_lt, nat_le, ◌&&◌, eqb, ◌%◌}
 use Rattle.flatbuf.specs.declared.FlatError.{FlatError}
 use Rattle.flatbuf.specs.declared.FlatError.TheVariants.{Bounds, VtableSize, Budget}
-use Rattle.flatbuf.specs.Walk.{Thing, table, too_deep, span, before_all, vtable_size, run, most_tables}
+use Rattle.flatbuf.specs.Walk.{Thing, table, too_deep, span, before_all, vtable_size, missing, run, most_tables}
 
 abbrev pub goes_on : Result ℕ FlatError → (ℕ → Result ℕ FlatError) → Result ℕ FlatError
 goes_on (Ok n) f = f n
@@ -19,6 +19,7 @@ run_append bytes (table ∷ xs) ys n = ap (λ r. cond (nat_lt n most_tables) r (
 run_append bytes (too_deep ∷ xs) ys n = refl
 run_append bytes (span at len ∷ xs) ys n = ap (λ r. cond (nat_le (at + len) (length bytes)) r (Err Bounds)) (run_append bytes xs ys n) ∙ on_cond _ (run bytes xs n) (run bytes ys) Bounds
 run_append bytes (before_all ∷ xs) ys n = refl
+run_append bytes (missing ∷ xs) ys n = refl
 run_append bytes (vtable_size size ∷ xs) ys n = ap (λ r. cond (nat_le 4 size && eqb (size % 2) 0) r (Err VtableSize)) (run_append bytes xs ys n) ∙ on_cond _ (run bytes xs n) (run bytes ys) VtableSize
 
 -- the first part is fine

@@ -1,20 +1,26 @@
 -- What a reader meets, in order, and the first of it that is bad.
-use Rattle.std.specs.Prelude.{◌≡◌, ℕ, ◌+◌, ◌*◌, Bool, List, [], ◌∷◌, ◌++◌, length, Result, Ok, Err, nat_le, nat_lt, ◌==◌, ◌&&◌, ◌%◌, if◌then◌else◌, Option, Some, None, ⊤}
+use Rattle.std.specs.Prelude.{ℕ, ◌+◌, ◌*◌, List, [], ◌∷◌, ◌++◌, length, Result, Ok, Err, nat_le, nat_lt, ◌==◌, ◌&&◌, ◌%◌, if◌then◌else◌, Option, Some, None}
 use Rattle.flatbuf.specs.declared.FlatError.{FlatError}
 use Rattle.flatbuf.specs.declared.FlatError.TheVariants.{Bounds, VtableSize, Budget}
-use Rattle.flatbuf.specs.declared.WalkError.{WalkError}
-use Rattle.flatbuf.specs.declared.WalkError.TheVariants as errors
-use Rattle.flatbuf.specs.Lookup.{number, Place, vtable_of, slot, target}
+use Rattle.flatbuf.specs.Lookup.{number, Place, vtable_of, slot, target, scalar_of}
 
+-- a table that is entered, one that would be too deep, bytes that are read, a vtable before the first byte, a vtable's
+-- size, and something that must be there and is not
 pub data Thing : Type 0 where
   table : Thing
   too_deep : Thing
   span : (at len : ℕ) → Thing
   before_all : Thing
   vtable_size : ℕ → Thing
+  missing : Thing
 
+-- how many tables may be entered
 abbrev pub most_tables : ℕ
 most_tables = 20000
+
+-- how deep tables may stand: the root is one deep
+abbrev pub most_levels : ℕ
+most_levels = 40
 
 -- after n tables, how many tables the things make it, or the first bad thing
 unfoldable pub run : List ℕ → List Thing → ℕ → Result ℕ FlatError
@@ -24,22 +30,14 @@ run bytes (too_deep ∷ things) n = Err Budget
 run bytes (span at len ∷ things) n = if nat_le (at + len) (length bytes) then run bytes things n else Err Bounds
 run bytes (before_all ∷ things) n = Err Bounds
 run bytes (vtable_size size ∷ things) n = if nat_le 4 size && size % 2 == 0 then run bytes things n else Err VtableSize
-
--- What a function returned is what the walk over the things finds, unless memory ran out.
-abbrev pub Fails : WalkError → Result ℕ FlatError → Type 0
-Fails errors.Memory walked = ⊤
-Fails (errors.Flat f) walked = walked ≡ Err f
+run bytes (missing ∷ things) n = Err Bounds
 
 -- what a function that returned this says of a walk that has met n tables
 abbrev pub told : {X : Type 0} → ℕ → Result X FlatError → Result ℕ FlatError
 told n (Ok x) = Ok n
 told n (Err f) = Err f
 
-abbrev pub Walks : {X : Type 0} → List ℕ → List Thing → ℕ → ℕ → Result X WalkError → Type 0
-Walks bytes things old new (Ok x) = run bytes things old ≡ Ok new
-Walks bytes things old new (Err e) = Fails e (run bytes things old)
-
--- where each part of a table reads
+-- a vtable, where it reads
 abbrev pub head_at : Option ℕ → List ℕ → List Thing
 head_at None bytes = before_all ∷ []
 head_at (Some v) bytes = span v 2 ∷ vtable_size (number 2 bytes v) ∷ span v (number 2 bytes v) ∷ []
@@ -48,10 +46,31 @@ head_at (Some v) bytes = span v 2 ∷ vtable_size (number 2 bytes v) ∷ span v 
 unfoldable pub head_things : List ℕ → ℕ → List Thing
 head_things bytes at = table ∷ span at 4 ∷ head_at (vtable_of bytes at) bytes
 
+-- a table at a position, up to its slots, where so many levels are left
+unfoldable pub table_things : ℕ → List ℕ → ℕ → List Thing
+table_things left bytes at = if left == 0 then too_deep ∷ [] else head_things bytes at
+
+-- the n bytes of a slot
 abbrev pub spans : ℕ → Option ℕ → List Thing
 spans n None = []
 spans n (Some at) = span at n ∷ []
 
+-- a vector of elements of n bytes: its reference, its count, and all of it
 abbrev pub vector_at : ℕ → List ℕ → Option ℕ → List Thing
 vector_at n bytes None = []
 vector_at n bytes (Some at) = let v = target bytes at in span at 4 ∷ span v 4 ∷ span (v + 4) (n * number 4 bytes v) ∷ []
+
+-- a reference, and the table that it leads to
+abbrev pub reference_things : ℕ → List ℕ → Option ℕ → List Thing
+reference_things left bytes None = []
+reference_things left bytes (Some at) = span at 4 ∷ table_things left bytes (target bytes at)
+
+-- a union, whose kind stands in slot k and whose reference in the next
+abbrev pub union_things : ℕ → List ℕ → Place → ℕ → List Thing
+union_things left bytes t k =
+    spans 1 (slot bytes t k)
+    ++ (if scalar_of 1 0 bytes (slot bytes t k) == 0 then [] else reference_things left bytes (slot bytes t (k + 1)))
+
+-- the root offset, and the root table
+unfoldable pub root_things : List ℕ → List Thing
+root_things bytes = span 0 4 ∷ table_things most_levels bytes (target bytes 0)

@@ -7,52 +7,28 @@ ghost use Rattle.flatbuf.specs.Laid.{laid, start, metadata};
 ghost use Rattle.flatbuf.specs.Lookup.{target};
 ghost use Rattle.flatbuf.specs.Held.{Has, Fits};
 ghost use Rattle.flatbuf.specs.Stands.{At};
-ghost use Rattle.flatbuf.specs.declared.WalkError.TheVariants.{Memory, Flat};
 
-use std::alloc::{AllocError, AllocFailed};
-
+/// The first bad thing that a reader met.
 #[derive(Clone, Copy, Debug, PartialEq, Eq)]
 pub enum FlatError {
+    /// Something lies out of the bytes.
     Bounds,
+    /// A vtable's size is odd or below 4.
     VtableSize,
+    /// More than `MAX_TABLES` tables, or one more than `MAX_LEVELS` deep.
     Budget,
 }
 
-#[derive(Clone, Copy, Debug, PartialEq, Eq)]
-pub enum WalkError {
-    Memory,
-    Flat(FlatError),
-}
-
-impl From<FlatError> for WalkError {
-    ghost from_gives = { λ f e. e ≡ Flat f };
-
-    fn from(f: FlatError) -> WalkError {
-        WalkError::Flat(f)
-    }
-}
-
-impl From<AllocError> for WalkError {
-    ghost from_gives = { λ _ e. e ≡ Memory };
-
-    fn from(_e: AllocError) -> WalkError {
-        WalkError::Memory
-    }
-}
-
-impl<T: Drop> From<AllocFailed<T>> for WalkError {
-    ghost from_gives = { λ _ e. e ≡ Memory };
-
-    fn from(_e: AllocFailed<T>) -> WalkError {
-        WalkError::Memory
-    }
-}
-
+mod buf;
 mod emit;
+mod numbers;
+mod references;
 mod table;
 
+pub use buf::{Budget, Buf, MAX_BYTES, MAX_LEVELS, MAX_TABLES};
 pub use emit::{Node, Slot};
-pub use table::{Budget, Table};
+pub use references::References;
+pub use table::{Table, Union};
 
 /// What is written is read back: wherever the bytes of a tree stand, a reader finds that tree.
 pub fn written_is_read()

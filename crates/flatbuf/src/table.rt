@@ -1,129 +1,57 @@
-ghost use Rattle.std.specs.Prelude.{◌≡◌, ◌≤◌, ◌<◌, ◌+◌, ◌*◌, ◌^◌, ◌%◌, length, drop, IfOk, IfSome, OnOk, None, Some, option_map, take, ⊤, ℕ, [], ◌∷◌};
-ghost use Rattle.flatbuf.specs.Lookup.{number, slot, back, table_at, target, text_of, vector_of, scalar_of};
-ghost use Rattle.flatbuf.specs.Walk.{run, told, head_things, table, span, spans, vector_at};
+// A table, and the content of its slots.
 
-use crate::{FlatError, WalkError};
+ghost use Rattle.std.specs.Prelude.{◌≡◌, ◌≤◌, ◌<◌, ◌+◌, ◌^◌, length};
+
+use crate::numbers::{position_before, u8_at, u16_at, u32_at, u64_at, vector_from};
+use crate::{Budget, FlatError, References};
 use byteorder::{ByteOrder, LittleEndian};
 
 /// A table in the bytes, whose vtable lies within them.
-#[derive(Clone, Copy)]
+#[derive(Clone, Copy, Debug)]
 pub struct Table<'a> {
     bytes: &'a [u8],
     at: usize,
     vtable: usize,
     size: usize,
-    ghost small: { length bytes.now < 2 ^ 32 },
+    left: u8,
+    ghost small: { length bytes.now ≤ 16777216 },
     ghost at_in: { at + 4 ≤ length bytes.now },
     ghost vtable_in: { vtable + size ≤ length bytes.now },
     ghost size_is: { size < 2 ^ 16 },
 }
 
-/// How many tables were entered.
-pub struct Budget {
-    entered: u32,
-    ghost within: { entered ≤ 20000 },
-}
-
-impl Budget {
-    pub fn new() -> Budget
-        ensures { result.entered ≡ 0 }
-    {
-        Budget { entered: 0 }
-    }
-
-    #[tactic(auto, unfolding(crate::specs::Walk::run, crate::specs::Lookup::number, crate::specs::Lookup::target))]
-    pub fn enter(&mut self, bytes: &[u8]) -> Result<(), FlatError>
-        ensures { run bytes.now (table ∷ []) self.old.entered ≡ told self.new.entered result }
-    {
-        if self.entered >= 20_000 {
-            return Err(FlatError::Budget);
-        }
-        self.entered += 1;
-        Ok(())
-    }
-}
-
-/// The byte at a position.
-#[tactic(auto, unfolding(crate::specs::Walk::run, crate::specs::Lookup::number, crate::specs::Lookup::target))]
-fn byte_at(bytes: &[u8], at: usize) -> Result<u8, FlatError>
-    ensures walked { (n : ℕ) → run bytes.now (span at 1 ∷ []) n ≡ told n result }
-    ensures value { IfOk result (λ x. x ≡ number 1 bytes.now at) }
-{
-    bytes.get(at).copied().ok_or(FlatError::Bounds)
-}
-
-/// The number in the two bytes at a position.
-#[tactic(auto, unfolding(crate::specs::Walk::run, crate::specs::Lookup::number, crate::specs::Lookup::target))]
-fn u16_at(bytes: &[u8], at: usize) -> Result<u16, FlatError>
-    ensures walked { (n : ℕ) → run bytes.now (span at 2 ∷ []) n ≡ told n result }
-    ensures value { IfOk result (λ x. x ≡ number 2 bytes.now at) }
-{
-    if bytes.len() < 2 || at > bytes.len() - 2 {
-        return Err(FlatError::Bounds);
-    }
-    Ok(LittleEndian::read_u16(&bytes[at..]))
-}
-
-/// The number in the four bytes at a position.
-#[tactic(auto, unfolding(crate::specs::Walk::run, crate::specs::Lookup::number, crate::specs::Lookup::target))]
-fn u32_at(bytes: &[u8], at: usize) -> Result<u32, FlatError>
-    ensures walked { (n : ℕ) → run bytes.now (span at 4 ∷ []) n ≡ told n result }
-    ensures value { IfOk result (λ x. x ≡ number 4 bytes.now at) }
-    ensures within { OnOk result (at + 4 ≤ length bytes.now) }
-{
-    if bytes.len() < 4 || at > bytes.len() - 4 {
-        return Err(FlatError::Bounds);
-    }
-    Ok(LittleEndian::read_u32(&bytes[at..]))
-}
-
-/// Where the vector behind the reference at a position begins, and how many elements it has.
-#[tactic(auto, using(crate::proofs::Runs::first_err, crate::proofs::Runs::first_ok), unfolding(crate::specs::Walk::run, crate::specs::Lookup::target))]
-fn vector_from(bytes: &[u8], at: usize, width: u8) -> Result<(usize, usize), FlatError>
-    requires small { length bytes.now < 2 ^ 32 }
-    ensures walked { (n : ℕ) → run bytes.now (vector_at width bytes.now (Some at)) n ≡ told n result }
-    ensures value { IfOk result (λ x. (x.0, x.1) ≡ vector_of bytes.now (Some at)) }
-    ensures within { IfOk result (λ x. x.0 + width * x.1 ≤ length bytes.now) }
-{
-    let distance = u32_at(bytes, at)?;
-    let start = at + distance as usize;
-    let count = u32_at(bytes, start)? as usize;
-    let len = width as usize * count;
-    if len > bytes.len() || start + 4 > bytes.len() - len {
-        return Err(FlatError::Bounds);
-    }
-    Ok((start + 4, count))
-}
-
-/// The position `distance` before `at`, where the distance is a signed number of 32 bits.
-fn position_before(distance: u32, at: usize) -> Option<usize>
-    requires { at < 2 ^ 32 }
-    ensures { result ≡ back distance at }
-{
-    let distance = distance as usize;
-    if distance < 1 << 31 {
-        if distance <= at {
-            Some(at - distance)
-        } else {
-            None
-        }
-    } else {
-        Some(at + ((1 << 32) - distance))
-    }
+/// What stands in the two slots of a union: its kind, 0 for none, and the table that its reference leads to.
+#[derive(Clone, Copy, Debug)]
+pub struct Union<'a> {
+    pub kind: u8,
+    pub table: Option<Table<'a>>,
 }
 
 impl<'a> Table<'a> {
-    ghost use Rattle.flatbuf.specs.Seen.{place_of};
+    ghost use Rattle.std.specs.Prelude.{ℕ, ◌*◌, ◌-◌, IfOk, IfSome, Some, option_map, is_some};
+    ghost use Rattle.flatbuf.specs.Lookup.{slot, target, table_at, table_behind, union_behind, text_of, structs_of, elements, scalar_of, is_set};
+    ghost use Rattle.flatbuf.specs.Seen.{tables_in, bytes_of, place_of, levels_of, slot_of, bytes_behind, places_in, levels_behind};
+    ghost use Rattle.flatbuf.specs.Walk.{run, told, table_things, reference_things, union_things, spans, vector_at};
 
-    /// The table at a position.
-    #[tactic(auto, unfolding(crate::specs::Walk::run, crate::specs::Walk::head_things))]
-    pub fn read(bytes: &'a [u8], at: usize, budget: &mut Budget) -> Result<Table<'a>, FlatError>
-        requires small { length bytes.now < 2 ^ 32 }
+    /// The table at a position, with so many levels left.
+    #[tactic(auto, unfolding(crate::specs::Walk::run, crate::specs::Walk::table_things, crate::specs::Walk::head_things))]
+    pub(crate) fn enter(
+        bytes: &'a [u8],
+        at: usize,
+        left: u8,
+        budget: &mut Budget,
+    ) -> Result<Table<'a>, FlatError>
+        requires small { length bytes.now ≤ 16777216 }
         requires near { at < 2 ^ 40 }
-        ensures walked { run bytes.now (head_things bytes.now at) budget.old.entered ≡ told budget.new.entered result }
-        ensures same { IfOk result (λ t. t.bytes.now ≡ bytes.now) }
+        ensures walked { run bytes.now (table_things left bytes.now at) (tables_in budget.old) ≡ told (tables_in budget.new) result }
+        ensures same { IfOk result (λ t. bytes_of t ≡ bytes.now) }
         ensures here { IfOk result (λ t. place_of t ≡ table_at bytes.now at) }
+        ensures levels { IfOk result (λ t. levels_of t ≡ left - 1) }
+        ensures lower { IfOk result (λ t. levels_of t < left) }
     {
+        if left == 0 {
+            return Err(FlatError::Budget);
+        }
         budget.enter(bytes)?;
         let distance = u32_at(bytes, at)?;
         let vtable = position_before(distance, at).ok_or(FlatError::Bounds)?;
@@ -140,14 +68,15 @@ impl<'a> Table<'a> {
             at,
             vtable,
             size,
+            left: left - 1,
         })
     }
 
     /// Where the content of slot `k` stands, unless it is absent.
     #[tactic(auto, unfolding(crate::specs::Lookup::number))]
     fn slot(&self, k: u16) -> Option<usize>
-        requires { k < 100 }
-        ensures { result ≡ slot self.now.bytes.now (place_of self.now) k }
+        ensures value { result ≡ slot_of self.now k }
+        ensures near { IfSome result (λ p. p < 2 ^ 32) }
     {
         let k = k as usize;
         if 2 * k + 6 > self.size {
@@ -161,69 +90,74 @@ impl<'a> Table<'a> {
         }
     }
 
-    /// The byte of slot `k`, or 0.
-    #[tactic(auto, unfolding(crate::specs::Walk::run, crate::specs::Lookup::number, crate::specs::Lookup::target))]
-    pub fn byte(&self, k: u16) -> Result<u8, FlatError>
-        requires { k < 100 }
-        ensures walked { (n : ℕ) → run self.now.bytes.now (spans 1 (slot self.now.bytes.now (place_of self.now) k)) n ≡ told n result }
-        ensures value { IfOk result (λ x. x ≡ scalar_of 1 0 self.now.bytes.now (slot self.now.bytes.now (place_of self.now) k)) }
+    /// Whether slot `k` is present. Its content is not looked at.
+    pub fn has(&self, k: u16) -> bool
+        ensures { result ≡ is_some (slot_of self.now k) }
+    {
+        self.slot(k).is_some()
+    }
+
+    /// The byte of slot `k`, or the default where it is absent.
+    #[tactic(auto, unfolding(crate::specs::Walk::run))]
+    pub fn scalar_u8(&self, k: u16, default: u8) -> Result<u8, FlatError>
+        ensures walked { (n : ℕ) → run (bytes_of self.now) (spans 1 (slot_of self.now k)) n ≡ told n result }
+        ensures value { IfOk result (λ x. x ≡ scalar_of 1 default (bytes_of self.now) (slot_of self.now k)) }
     {
         match self.slot(k) {
-            None => Ok(0),
-            Some(at) => byte_at(self.bytes, at),
+            None => Ok(default),
+            Some(at) => u8_at(self.bytes, at),
         }
     }
 
-    /// The number of 32 bits of slot `k`, or 0.
-    #[tactic(auto, unfolding(crate::specs::Walk::run, crate::specs::Lookup::number, crate::specs::Lookup::target))]
-    pub fn number(&self, k: u16) -> Result<u32, FlatError>
-        requires { k < 100 }
-        ensures walked { (n : ℕ) → run self.now.bytes.now (spans 4 (slot self.now.bytes.now (place_of self.now) k)) n ≡ told n result }
-        ensures value { IfOk result (λ x. x ≡ scalar_of 4 0 self.now.bytes.now (slot self.now.bytes.now (place_of self.now) k)) }
+    /// The number of 16 bits of slot `k`, or the default where it is absent.
+    #[tactic(auto, unfolding(crate::specs::Walk::run))]
+    pub fn scalar_u16(&self, k: u16, default: u16) -> Result<u16, FlatError>
+        ensures walked { (n : ℕ) → run (bytes_of self.now) (spans 2 (slot_of self.now k)) n ≡ told n result }
+        ensures value { IfOk result (λ x. x ≡ scalar_of 2 default (bytes_of self.now) (slot_of self.now k)) }
     {
         match self.slot(k) {
-            None => Ok(0),
+            None => Ok(default),
+            Some(at) => u16_at(self.bytes, at),
+        }
+    }
+
+    /// The number of 32 bits of slot `k`, or the default where it is absent.
+    #[tactic(auto, unfolding(crate::specs::Walk::run))]
+    pub fn scalar_u32(&self, k: u16, default: u32) -> Result<u32, FlatError>
+        ensures walked { (n : ℕ) → run (bytes_of self.now) (spans 4 (slot_of self.now k)) n ≡ told n result }
+        ensures value { IfOk result (λ x. x ≡ scalar_of 4 default (bytes_of self.now) (slot_of self.now k)) }
+    {
+        match self.slot(k) {
+            None => Ok(default),
             Some(at) => u32_at(self.bytes, at),
         }
     }
 
-    /// What the reference of slot `k` leads to.
-    #[tactic(auto, unfolding(crate::specs::Walk::run, crate::specs::Lookup::number, crate::specs::Lookup::target))]
-    pub fn reference(&self, k: u16) -> Result<Option<usize>, FlatError>
-        requires { k < 100 }
-        ensures walked { (n : ℕ) → run self.now.bytes.now (spans 4 (slot self.now.bytes.now (place_of self.now) k)) n ≡ told n result }
-        ensures value { IfOk result (λ x. x ≡ option_map (target self.now.bytes.now) (slot self.now.bytes.now (place_of self.now) k)) }
-        ensures near { IfOk result (λ x. IfSome x (λ p. p < 2 ^ 40)) }
+    /// The number of 64 bits of slot `k`, or the default where it is absent.
+    #[tactic(auto, unfolding(crate::specs::Walk::run))]
+    pub fn scalar_u64(&self, k: u16, default: u64) -> Result<u64, FlatError>
+        ensures walked { (n : ℕ) → run (bytes_of self.now) (spans 8 (slot_of self.now k)) n ≡ told n result }
+        ensures value { IfOk result (λ x. x ≡ scalar_of 8 default (bytes_of self.now) (slot_of self.now k)) }
     {
         match self.slot(k) {
-            None => Ok(None),
-            Some(at) => {
-                let distance = u32_at(self.bytes, at)?;
-                Ok(Some(at + distance as usize))
-            }
+            None => Ok(default),
+            Some(at) => u64_at(self.bytes, at),
         }
     }
 
-    /// The position of the first element of the vector of slot `k`, and how many there are.
-    #[tactic(auto, unfolding(crate::specs::Walk::run, crate::specs::Lookup::number, crate::specs::Lookup::target))]
-    pub fn vector(&self, k: u16, width: u8) -> Result<(usize, usize), FlatError>
-        requires low { k < 100 }
-        ensures walked { (n : ℕ) → run self.now.bytes.now (vector_at width self.now.bytes.now (slot self.now.bytes.now (place_of self.now) k)) n ≡ told n result }
-        ensures value { IfOk result (λ x. (x.0, x.1) ≡ vector_of self.now.bytes.now (slot self.now.bytes.now (place_of self.now) k)) }
-        ensures within { IfOk result (λ x. x.0 + width * x.1 ≤ length self.now.bytes.now) }
+    /// The bool of slot `k`, false where it is absent.
+    pub fn flag(&self, k: u16) -> Result<bool, FlatError>
+        ensures walked { (n : ℕ) → run (bytes_of self.now) (spans 1 (slot_of self.now k)) n ≡ told n result }
+        ensures value { IfOk result (λ x. x ≡ is_set (scalar_of 1 0 (bytes_of self.now) (slot_of self.now k))) }
     {
-        match self.slot(k) {
-            None => Ok((0, 0)),
-            Some(at) => vector_from(self.bytes, at, width),
-        }
+        Ok(self.scalar_u8(k, 0)? != 0)
     }
 
-    /// The bytes of the text of slot `k`.
-    #[tactic(auto, unfolding(crate::specs::Walk::run, crate::specs::Lookup::number, crate::specs::Lookup::target))]
+    /// The bytes of the text of slot `k`, empty where it is absent.
+    #[tactic(auto, unfolding(crate::specs::Walk::run))]
     pub fn text(&self, k: u16) -> Result<&'a [u8], FlatError>
-        requires low { k < 100 }
-        ensures walked { (n : ℕ) → run self.now.bytes.now (vector_at 1 self.now.bytes.now (slot self.now.bytes.now (place_of self.now) k)) n ≡ told n result }
-        ensures value { IfOk result (λ x. x.now ≡ text_of self.now.bytes.now (slot self.now.bytes.now (place_of self.now) k)) }
+        ensures walked { (n : ℕ) → run (bytes_of self.now) (vector_at 1 (bytes_of self.now) (slot_of self.now k)) n ≡ told n result }
+        ensures value { IfOk result (λ x. x.now ≡ text_of (bytes_of self.now) (slot_of self.now k)) }
     {
         match self.slot(k) {
             None => Ok(&[]),
@@ -232,5 +166,71 @@ impl<'a> Table<'a> {
                 Ok(&self.bytes[first..first + count])
             }
         }
+    }
+
+    /// The elements, of `width` bytes each, of the vector of structs of slot `k`, one after another; none where it is absent.
+    #[tactic(auto, unfolding(crate::specs::Walk::run))]
+    pub fn vector(&self, k: u16, width: u8) -> Result<&'a [u8], FlatError>
+        ensures walked { (n : ℕ) → run (bytes_of self.now) (vector_at width (bytes_of self.now) (slot_of self.now k)) n ≡ told n result }
+        ensures value { IfOk result (λ x. x.now ≡ structs_of width (bytes_of self.now) (slot_of self.now k)) }
+    {
+        match self.slot(k) {
+            None => Ok(&[]),
+            Some(at) => {
+                let (first, count) = vector_from(self.bytes, at, width)?;
+                Ok(&self.bytes[first..first + width as usize * count])
+            }
+        }
+    }
+
+    /// The vector of references to tables of slot `k`, empty where it is absent.
+    #[tactic(auto, unfolding(crate::specs::Walk::run, crate::specs::Lookup::elements))]
+    pub fn references(&self, k: u16) -> Result<References<'a>, FlatError>
+        ensures walked { (n : ℕ) → run (bytes_of self.now) (vector_at 4 (bytes_of self.now) (slot_of self.now k)) n ≡ told n result }
+        ensures same { IfOk result (λ r. bytes_behind r ≡ bytes_of self.now) }
+        ensures places { IfOk result (λ r. places_in r ≡ elements (bytes_of self.now) (slot_of self.now k)) }
+        ensures levels { IfOk result (λ r. levels_behind r ≡ levels_of self.now) }
+    {
+        match self.slot(k) {
+            None => Ok(References::none(self.bytes, self.left)),
+            Some(at) => References::from(self.bytes, at, self.left),
+        }
+    }
+
+    /// The table that the reference of slot `k` leads to, unless it is absent.
+    #[tactic(auto, using(crate::proofs::Runs::first_err, crate::proofs::Runs::first_ok), unfolding(crate::specs::Walk::run, crate::specs::Lookup::target))]
+    pub fn reference(&self, k: u16, budget: &mut Budget) -> Result<Option<Table<'a>>, FlatError>
+        ensures walked { run (bytes_of self.now) (reference_things (levels_of self.now) (bytes_of self.now) (slot_of self.now k)) (tables_in budget.old) ≡ told (tables_in budget.new) result }
+        ensures same { IfOk result (λ found. IfSome found (λ t. bytes_of t ≡ bytes_of self.now)) }
+        ensures here { IfOk result (λ found. option_map place_of found ≡ table_behind (bytes_of self.now) (slot_of self.now k)) }
+        ensures levels { IfOk result (λ found. IfSome found (λ t. levels_of t ≡ levels_of self.now - 1)) }
+        ensures lower { IfOk result (λ found. IfSome found (λ t. levels_of t < levels_of self.now)) }
+    {
+        match self.slot(k) {
+            None => Ok(None),
+            Some(at) => {
+                let distance = u32_at(self.bytes, at)?;
+                let table = Table::enter(self.bytes, at + distance as usize, self.left, budget)?;
+                Ok(Some(table))
+            }
+        }
+    }
+
+    /// The union whose kind stands in slot `k` and whose reference in the next: nothing is entered where the kind is 0.
+    #[tactic(auto, using(crate::proofs::Runs::run_append), unfolding(crate::specs::Walk::run))]
+    pub fn union(&self, k: u16, budget: &mut Budget) -> Result<Union<'a>, FlatError>
+        requires { k + 1 < 2 ^ 16 }
+        ensures walked { run (bytes_of self.now) (union_things (levels_of self.now) (bytes_of self.now) (place_of self.now) k) (tables_in budget.old) ≡ told (tables_in budget.new) result }
+        ensures kind { IfOk result (λ u. u.kind ≡ scalar_of 1 0 (bytes_of self.now) (slot_of self.now k)) }
+        ensures same { IfOk result (λ u. IfSome u.table (λ t. bytes_of t ≡ bytes_of self.now)) }
+        ensures here { IfOk result (λ u. option_map place_of u.table ≡ union_behind (bytes_of self.now) (place_of self.now) k) }
+        ensures levels { IfOk result (λ u. IfSome u.table (λ t. levels_of t ≡ levels_of self.now - 1)) }
+    {
+        let kind = self.scalar_u8(k, 0)?;
+        if kind == 0 {
+            return Ok(Union { kind, table: None });
+        }
+        let table = self.reference(k + 1, budget)?;
+        Ok(Union { kind, table })
     }
 }

@@ -1,9 +1,8 @@
-use Rattle.std.proofs.Common.{◌≡◌, ◌+◌, ◌∙◌, ap, sym, refl}
+use Rattle.std.proofs.Common.{◌≡◌, ◌+◌, ◌∙◌, ap}
 use Rattle.std.proofs.lemmas.Result.{err_from_is_err_and}
 use Rattle.flatbuf.specs.Lookup.{target}
-use Rattle.flatbuf.specs.Walk.{run, told}
 use Rattle.flatbuf.proofs.Runs.{first_err, first_ok}
-use Rattle.flatbuf.proofs.table.vector_from.Goals as goal
+use Rattle.flatbuf.proofs.numbers.vector_from.Goals as goal
 
 pub returns-in_err-distance-clause-walked : goal.returns-in_err-distance-clause-walked
 returns-in_err-distance-clause-walked c = λ n.

@@ -1,0 +1,80 @@
+// The bytes that are read, and how many of their tables may be entered.
+
+ghost use Rattle.std.specs.Prelude.{◌≡◌, ◌≤◌, length, IfOk};
+
+use crate::numbers::u32_at;
+use crate::{FlatError, Table};
+
+/// The most bytes that a buffer may have.
+pub const MAX_BYTES: usize = 16_777_216;
+
+/// How many tables may be entered, each visit counted.
+pub const MAX_TABLES: u32 = 20_000;
+
+/// How deep tables may stand: the root is one deep.
+pub const MAX_LEVELS: u8 = 40;
+
+/// The bytes of a FlatBuffers buffer, whatever they are.
+#[derive(Clone, Copy, Debug)]
+pub struct Buf<'a> {
+    bytes: &'a [u8],
+    ghost small: { length bytes.now ≤ 16777216 },
+}
+
+/// How many tables were entered.
+#[derive(Clone, Copy, Debug)]
+pub struct Budget {
+    entered: u32,
+    ghost within: { entered ≤ 20000 },
+}
+
+impl Budget {
+    ghost use Rattle.std.specs.Prelude.{[], ◌∷◌};
+    ghost use Rattle.flatbuf.specs.Seen.{tables_in};
+    ghost use Rattle.flatbuf.specs.Walk.{run, told, table};
+
+    /// No table was entered.
+    pub fn new() -> Budget
+        ensures { tables_in result ≡ 0 }
+    {
+        Budget { entered: 0 }
+    }
+
+    /// Counts a visit.
+    #[tactic(auto, unfolding(crate::specs::Walk::run))]
+    pub(crate) fn enter(&mut self, bytes: &[u8]) -> Result<(), FlatError>
+        ensures { run bytes.now (table ∷ []) (tables_in self.old) ≡ told (tables_in self.new) result }
+    {
+        if self.entered >= MAX_TABLES {
+            return Err(FlatError::Budget);
+        }
+        self.entered += 1;
+        Ok(())
+    }
+}
+
+impl<'a> Buf<'a> {
+    ghost use Rattle.flatbuf.specs.Lookup.{target, table_at};
+    ghost use Rattle.flatbuf.specs.Seen.{buffer_bytes, tables_in, bytes_of, place_of, levels_of};
+    ghost use Rattle.flatbuf.specs.Walk.{run, told, root_things};
+
+    /// A buffer of these bytes, of which there are at most `MAX_BYTES`.
+    pub fn new(bytes: &'a [u8]) -> Buf<'a>
+        requires { length bytes.now ≤ 16777216 }
+        ensures { buffer_bytes result ≡ bytes.now }
+    {
+        Buf { bytes }
+    }
+
+    /// The root table: the first four bytes say where it stands.
+    #[tactic(auto, using(crate::proofs::Runs::run_append), unfolding(crate::specs::Walk::run, crate::specs::Walk::root_things, crate::specs::Lookup::target))]
+    pub fn root(&self, budget: &mut Budget) -> Result<Table<'a>, FlatError>
+        ensures walked { run (buffer_bytes self.now) (root_things (buffer_bytes self.now)) (tables_in budget.old) ≡ told (tables_in budget.new) result }
+        ensures same { IfOk result (λ t. bytes_of t ≡ buffer_bytes self.now) }
+        ensures here { IfOk result (λ t. place_of t ≡ table_at (buffer_bytes self.now) (target (buffer_bytes self.now) 0)) }
+        ensures levels { IfOk result (λ t. levels_of t ≡ 39) }
+    {
+        let at = u32_at(self.bytes, 0)? as usize;
+        Table::enter(self.bytes, at, MAX_LEVELS, budget)
+    }
+}
