@@ -3,3 +3,5 @@ pub mod View
 pub mod Preorder
 pub mod Limits
 pub mod Tally
+pub mod Shape
+pub mod Alike

@@ -4,8 +4,11 @@
 //! `specs/Column.antt`, whatever memory they take.
 #![tactic(auto)]
 
+mod compare;
+mod copy;
 mod limits;
 mod types;
 
+pub use compare::{one_shape_is_an_equivalence, same_shape};
 pub use limits::{MAX_BYTES, MAX_DEPTH, MAX_FIELDS, MAX_PAIRS, NUMBER_END, SchemaError};
 pub use types::{BitWidth, DataType, DateUnit, DictSpec, Field, IntegerType, Schema, TimeUnit};

@@ -1,0 +1,131 @@
+-- The comparison of two columns as a test, by recursion on the first.
+use Rattle.std.specs.Prelude.{ℕ, Bool, true, false, ◌==◌, ◌&&◌, List, bytes_eq, Option, Some, None}
+use Rattle.std.specs.Cmp.Lexicographic.{pointwise}
+use Rattle.arrow_schema.specs.declared.compare.Detail.{Detail}
+use Rattle.arrow_schema.specs.Column.{Index, Pair, DateKind, days, date_milliseconds, TimeKind, seconds, milliseconds, microseconds, nanoseconds, Kind, Column, Columns, nulls, booleans, integers, dates, timestamps, texts, large_texts, binaries, large_binaries, fixed_binaries, lists, large_lists, fixed_lists, structs, column, no_column, and_column}
+use Rattle.arrow_schema.specs.Shape.{seen_dictionary, seen_pairs}
+
+abbrev pub bool_eq : Bool → Bool → Bool
+bool_eq true b = b
+bool_eq false true = false
+bool_eq false false = true
+
+abbrev pub index_eq : Index → Index → Bool
+index_eq a b = a.bits == b.bits && bool_eq a.signed b.signed
+
+abbrev pub dictionary_eq : Option Index → Option Index → Bool
+dictionary_eq None None = true
+dictionary_eq None (Some b) = false
+dictionary_eq (Some a) None = false
+dictionary_eq (Some a) (Some b) = index_eq a b
+
+abbrev pub pair_eq : Pair → Pair → Bool
+pair_eq a b = bytes_eq a.0 b.0 && bytes_eq a.1 b.1
+
+abbrev pub pairs_eq : List Pair → List Pair → Bool
+pairs_eq = pointwise pair_eq
+
+abbrev pub date_eq : DateKind → DateKind → Bool
+date_eq days days = true
+date_eq date_milliseconds date_milliseconds = true
+date_eq days date_milliseconds = false
+date_eq date_milliseconds days = false
+
+abbrev pub time_number : TimeKind → ℕ
+time_number seconds = 0
+time_number milliseconds = 1
+time_number microseconds = 2
+time_number nanoseconds = 3
+
+-- a kind of this form, with a fact of its parts
+abbrev pub is_nulls : Kind → Bool
+is_nulls nulls = true
+is_nulls _ = false
+
+abbrev pub is_booleans : Kind → Bool
+is_booleans booleans = true
+is_booleans _ = false
+
+abbrev pub is_texts : Kind → Bool
+is_texts texts = true
+is_texts _ = false
+
+abbrev pub is_large_texts : Kind → Bool
+is_large_texts large_texts = true
+is_large_texts _ = false
+
+abbrev pub is_binaries : Kind → Bool
+is_binaries binaries = true
+is_binaries _ = false
+
+abbrev pub is_large_binaries : Kind → Bool
+is_large_binaries large_binaries = true
+is_large_binaries _ = false
+
+abbrev pub integers_where : (ℕ → Bool → Bool) → Kind → Bool
+integers_where p (integers bits signed) = p bits signed
+integers_where p _ = false
+
+abbrev pub dates_where : (DateKind → Bool) → Kind → Bool
+dates_where p (dates unit) = p unit
+dates_where p _ = false
+
+abbrev pub timestamps_where : (TimeKind → List ℕ → Bool) → Kind → Bool
+timestamps_where p (timestamps unit zone) = p unit zone
+timestamps_where p _ = false
+
+abbrev pub fixed_binaries_where : (ℕ → Bool) → Kind → Bool
+fixed_binaries_where p (fixed_binaries width) = p width
+fixed_binaries_where p _ = false
+
+abbrev pub lists_where : (Column → Bool) → Kind → Bool
+lists_where p (lists item) = p item
+lists_where p _ = false
+
+abbrev pub large_lists_where : (Column → Bool) → Kind → Bool
+large_lists_where p (large_lists item) = p item
+large_lists_where p _ = false
+
+abbrev pub fixed_lists_where : (ℕ → Column → Bool) → Kind → Bool
+fixed_lists_where p (fixed_lists size item) = p size item
+fixed_lists_where p _ = false
+
+abbrev pub structs_where : (Columns → Bool) → Kind → Bool
+structs_where p (structs parts) = p parts
+structs_where p _ = false
+
+abbrev pub column_where : (List ℕ → Bool → Kind → Option Index → List Pair → Bool) → Column → Bool
+column_where p (column name nullable kind dictionary pairs) = p name nullable kind dictionary pairs
+
+abbrev pub one_and : (Column → Bool) → (Columns → Bool) → Columns → Bool
+one_and p q no_column = false
+one_and p q (and_column c cs) = p c && q cs
+
+abbrev pub is_no_column : Columns → Bool
+is_no_column no_column = true
+is_no_column (and_column c cs) = false
+
+unfoldable mutual
+  pub alike : Detail → Column → Column → Bool
+  alike detail (column name nullable kind dictionary pairs) =
+      column_where (λ n b k d p. bytes_eq name n && (bool_eq nullable b && (dictionary_eq (seen_dictionary detail dictionary) (seen_dictionary detail d) && (pairs_eq (seen_pairs detail pairs) (seen_pairs detail p) && alike_kind detail kind k))))
+
+  pub alike_kind : Detail → Kind → Kind → Bool
+  alike_kind detail nulls = is_nulls
+  alike_kind detail booleans = is_booleans
+  alike_kind detail (integers bits signed) = integers_where (λ b s. bits == b && bool_eq signed s)
+  alike_kind detail (dates unit) = dates_where (date_eq unit)
+  alike_kind detail (timestamps unit zone) = timestamps_where (λ u z. time_number unit == time_number u && bytes_eq zone z)
+  alike_kind detail texts = is_texts
+  alike_kind detail large_texts = is_large_texts
+  alike_kind detail binaries = is_binaries
+  alike_kind detail large_binaries = is_large_binaries
+  alike_kind detail (fixed_binaries width) = fixed_binaries_where (λ w. width == w)
+  alike_kind detail (lists item) = lists_where (alike detail item)
+  alike_kind detail (large_lists item) = large_lists_where (alike detail item)
+  alike_kind detail (fixed_lists size item) = fixed_lists_where (λ n i. size == n && alike detail item i)
+  alike_kind detail (structs parts) = structs_where (alike_all detail parts)
+
+  pub alike_all : Detail → Columns → Columns → Bool
+  alike_all detail no_column = is_no_column
+  alike_all detail (and_column c cs) = one_and (alike detail c) (alike_all detail cs)

@@ -1,0 +1,45 @@
+-- What of a column is compared: all of it, or its shape, which leaves out dictionaries and pairs at every depth.
+use Rattle.std.specs.Prelude.{◌≡◌, ℕ, Bool, List, [], ◌∷◌, map, Option, None}
+use Rattle.arrow_schema.specs.declared.compare.Detail.{Detail}
+use Rattle.arrow_schema.specs.declared.compare.Detail.TheVariants.{Shape, Whole}
+use Rattle.arrow_schema.specs.Column.{Index, Pair, Kind, Column, Columns, nulls, booleans, integers, dates, timestamps, texts, large_texts, binaries, large_binaries, fixed_binaries, lists, large_lists, fixed_lists, structs, column, no_column, and_column, columns_of, PlainSchema}
+
+abbrev pub seen_dictionary : Detail → Option Index → Option Index
+seen_dictionary Whole d = d
+seen_dictionary Shape d = None
+
+abbrev pub seen_pairs : Detail → List Pair → List Pair
+seen_pairs Whole pairs = pairs
+seen_pairs Shape pairs = []
+
+unfoldable mutual
+  pub seen : Detail → Column → Column
+  seen detail (column name nullable kind dictionary pairs) = column name nullable (seen_kind detail kind) (seen_dictionary detail dictionary) (seen_pairs detail pairs)
+
+  pub seen_kind : Detail → Kind → Kind
+  seen_kind detail nulls = nulls
+  seen_kind detail booleans = booleans
+  seen_kind detail (integers bits signed) = integers bits signed
+  seen_kind detail (dates unit) = dates unit
+  seen_kind detail (timestamps unit zone) = timestamps unit zone
+  seen_kind detail texts = texts
+  seen_kind detail large_texts = large_texts
+  seen_kind detail binaries = binaries
+  seen_kind detail large_binaries = large_binaries
+  seen_kind detail (fixed_binaries width) = fixed_binaries width
+  seen_kind detail (lists item) = lists (seen detail item)
+  seen_kind detail (large_lists item) = large_lists (seen detail item)
+  seen_kind detail (fixed_lists size item) = fixed_lists size (seen detail item)
+  seen_kind detail (structs parts) = structs (seen_all detail parts)
+
+  pub seen_all : Detail → Columns → Columns
+  seen_all detail no_column = no_column
+  seen_all detail (and_column c cs) = and_column (seen detail c) (seen_all detail cs)
+
+-- the shape of a schema: its columns without their dictionaries and pairs
+unfoldable pub shape_of : PlainSchema → Columns
+shape_of s = seen_all Shape (columns_of s.columns)
+
+-- two schemas have one shape
+abbrev pub HaveOneShape : PlainSchema → PlainSchema → Type 0
+HaveOneShape a b = shape_of a ≡ shape_of b

@@ -1,0 +1,184 @@
+// Whether two schemas have one shape, and whether two fields are equal.
+ghost use Rattle.std.specs.Prelude.{◌≡◌, ◌↔◌, ◌==◌, ◌&&◌, IsTrue, map, option_map, length};
+ghost use Rattle.arrow_schema.specs.Column.{columns_of, PlainSchema};
+ghost use Rattle.arrow_schema.specs.View.{schema_of, kind_of, column_of, pair_of, index_of, bits_of, date_kind, time_kind};
+ghost use Rattle.arrow_schema.specs.Shape.{seen_dictionary, seen_pairs, HaveOneShape};
+ghost use Rattle.arrow_schema.specs.Alike.{bool_eq, dictionary_eq, pairs_eq, date_eq, time_number, alike, alike_kind, alike_all};
+
+use crate::types::{BitWidth, DataType, DateUnit, DictSpec, Field, IntegerType, Schema, TimeUnit};
+
+// What is compared: all, or all but dictionaries and pairs.
+#[derive(Clone, Copy)]
+pub(crate) enum Detail {
+    Shape,
+    Whole,
+}
+
+impl BitWidth {
+    /// The number of bits.
+    pub fn bits(self) -> u32
+        ensures { result ≡ bits_of self }
+    {
+        match self {
+            BitWidth::Eight => 8,
+            BitWidth::Sixteen => 16,
+            BitWidth::ThirtyTwo => 32,
+            BitWidth::SixtyFour => 64,
+        }
+    }
+}
+
+fn same_integer(a: IntegerType, b: IntegerType) -> bool
+    ensures { result ≡ (bits_of a.width == bits_of b.width && bool_eq a.signed b.signed) }
+{
+    a.width.bits() == b.width.bits() && a.signed == b.signed
+}
+
+fn same_date(a: DateUnit, b: DateUnit) -> bool
+    ensures { result ≡ date_eq (date_kind a) (date_kind b) }
+{
+    a == b
+}
+
+fn same_time(a: TimeUnit, b: TimeUnit) -> bool
+    ensures { result ≡ (time_number (time_kind a) == time_number (time_kind b)) }
+{
+    a == b
+}
+
+fn same_dictionary(detail: Detail, a: Option<DictSpec>, b: Option<DictSpec>) -> bool
+    ensures { result ≡ dictionary_eq (seen_dictionary detail (option_map index_of a)) (seen_dictionary detail (option_map index_of b)) }
+{
+    match detail {
+        Detail::Shape => true,
+        Detail::Whole => match (a, b) {
+            (Some(a), Some(b)) => same_integer(a.index, b.index),
+            (None, None) => true,
+            _ => false,
+        },
+    }
+}
+
+fn same_pairs(a: &[(String, String)], b: &[(String, String)]) -> bool
+    ensures { result ≡ pairs_eq (map pair_of a.now) (map pair_of b.now) }
+{
+    a == b
+}
+
+fn same_field_pairs(detail: Detail, a: &[(String, String)], b: &[(String, String)]) -> bool
+    ensures { result ≡ pairs_eq (seen_pairs detail (map pair_of a.now)) (seen_pairs detail (map pair_of b.now)) }
+{
+    match detail {
+        Detail::Shape => true,
+        Detail::Whole => same_pairs(a, b),
+    }
+}
+
+#[tactic(auto, unfolding(crate::specs::Alike::alike))]
+#[cycle(same)]
+fn same_field(detail: Detail, a: &Field, b: &Field) -> bool
+    ensures { result ≡ alike detail (column_of a.now) (column_of b.now) }
+{
+    a.name == b.name
+        && a.nullable == b.nullable
+        && same_dictionary(detail, a.dictionary, b.dictionary)
+        && same_field_pairs(detail, &a.pairs, &b.pairs)
+        && same_type(detail, &a.data_type, &b.data_type)
+}
+
+#[tactic(auto, unfolding(crate::specs::Alike::alike_kind))]
+#[cycle(same)]
+fn same_type(detail: Detail, a: &DataType, b: &DataType) -> bool
+    ensures { result ≡ alike_kind detail (kind_of a.now) (kind_of b.now) }
+{
+    match a {
+        DataType::Null => matches!(b, DataType::Null),
+        DataType::Bool => matches!(b, DataType::Bool),
+        DataType::Int(x) => match b {
+            DataType::Int(y) => same_integer(*x, *y),
+            _ => false,
+        },
+        DataType::Date(x) => match b {
+            DataType::Date(y) => same_date(*x, *y),
+            _ => false,
+        },
+        DataType::Timestamp(x, zone) => match b {
+            DataType::Timestamp(y, other_zone) => same_time(*x, *y) && zone == other_zone,
+            _ => false,
+        },
+        DataType::Utf8 => matches!(b, DataType::Utf8),
+        DataType::LargeUtf8 => matches!(b, DataType::LargeUtf8),
+        DataType::Binary => matches!(b, DataType::Binary),
+        DataType::LargeBinary => matches!(b, DataType::LargeBinary),
+        DataType::FixedSizeBinary(x) => match b {
+            DataType::FixedSizeBinary(y) => x == y,
+            _ => false,
+        },
+        DataType::List(x) => match b {
+            DataType::List(y) => same_field(detail, x, y),
+            _ => false,
+        },
+        DataType::LargeList(x) => match b {
+            DataType::LargeList(y) => same_field(detail, x, y),
+            _ => false,
+        },
+        DataType::FixedSizeList(size, x) => match b {
+            DataType::FixedSizeList(other_size, y) => size == other_size
+                && same_field(detail, x, y),
+            _ => false,
+        },
+        DataType::Struct(xs) => match b {
+            DataType::Struct(ys) => same_fields(detail, xs, ys),
+            _ => false,
+        },
+    }
+}
+
+#[tactic(auto, using(crate::proofs::Compared::alike_of_other_length), unfolding(crate::specs::Alike::alike_all))]
+#[cycle(same)]
+fn same_fields(detail: Detail, xs: &[Field], ys: &[Field]) -> bool
+    ensures { result ≡ alike_all detail (columns_of (map column_of xs.now)) (columns_of (map column_of ys.now)) }
+{
+    if xs.len() != ys.len() {
+        return false;
+    }
+    for (i, y) in ys.iter().enumerate() {
+        if !same_field(detail, &xs[i], y) {
+            return false;
+        }
+    }
+    true
+}
+
+/// Whether two schemas have one shape: names, nullability and types are equal at every depth, units, zones, widths and sizes
+/// included. Dictionaries and pairs may differ.
+pub fn same_shape(a: &Schema, b: &Schema) -> bool
+    ensures { IsTrue result ↔ HaveOneShape (schema_of a.now) (schema_of b.now) }
+{
+    same_fields(Detail::Shape, &a.fields, &b.fields)
+}
+
+impl DataType {
+    /// Whether two types are equal, with all that is said of their children.
+    pub fn equals(&self, other: &DataType) -> bool
+        ensures { IsTrue result ↔ (kind_of self.now ≡ kind_of other.now) }
+    {
+        same_type(Detail::Whole, self, other)
+    }
+}
+
+impl Field {
+    /// Whether two fields are equal, with all that is said of their children.
+    pub fn equals(&self, other: &Field) -> bool
+        ensures { IsTrue result ↔ (column_of self.now ≡ column_of other.now) }
+    {
+        same_field(Detail::Whole, self, other)
+    }
+}
+
+/// To have one shape is an equivalence of schemas.
+pub fn one_shape_is_an_equivalence()
+    ensures reflexive { (a : PlainSchema) → HaveOneShape a a }
+    ensures symmetric { (a b : PlainSchema) → HaveOneShape a b → HaveOneShape b a }
+    ensures transitive { (a b c : PlainSchema) → HaveOneShape a b → HaveOneShape b c → HaveOneShape a c }
+{}
