@@ -2,11 +2,13 @@
 ghost use Rattle.std.specs.Prelude.{◌≡◌, IfOk, map};
 ghost use Rattle.arrow_schema.specs.View.{schema_of, kind_of, column_of, pair_of};
 
+use crate::types::{DataType, Field, Schema};
 use std::alloc::{AllocError, Global};
 
-use crate::types::{DataType, Field, Schema};
-
-fn copy_pairs(pairs: &[(String, String)], alloc: Global) -> Result<Vec<(String, String)>, AllocError>
+fn copy_pairs(
+    pairs: &[(String, String)],
+    alloc: Global,
+) -> Result<Vec<(String, String)>, AllocError>
     ensures { IfOk result (λ v. map pair_of v.items ≡ map pair_of pairs.now) }
 {
     let mut copy = Vec::with_capacity(alloc, pairs.len())?;
@@ -33,7 +35,10 @@ fn copy_type(data_type: &DataType, alloc: Global) -> Result<DataType, AllocError
         DataType::FixedSizeBinary(width) => Ok(DataType::FixedSizeBinary(*width)),
         DataType::List(item) => Ok(DataType::List(copy_boxed(item, alloc)?)),
         DataType::LargeList(item) => Ok(DataType::LargeList(copy_boxed(item, alloc)?)),
-        DataType::FixedSizeList(size, item) => Ok(DataType::FixedSizeList(*size, copy_boxed(item, alloc)?)),
+        DataType::FixedSizeList(size, item) => Ok(DataType::FixedSizeList(
+            *size,
+            copy_boxed(item, alloc)?,
+        )),
         DataType::Struct(fields) => Ok(DataType::Struct(copy_fields(fields, alloc)?)),
     }
 }
