@@ -1,3 +1,5 @@
 pub mod FaultText
+pub mod Framing
+pub mod Header
 pub mod Raw
 pub mod View

@@ -50,8 +50,15 @@ abbrev pub buffers_from : ℕ → List ℕ → List RawBuffer
 buffers_from zero bytes = []
 buffers_from (suc n) bytes = record { offset = little_number 8 bytes; length = little_number 8 (drop 8 bytes) } ∷ buffers_from n (drop 16 bytes)
 
+-- all of them
+abbrev pub nodes_in : List ℕ → List RawNode
+nodes_in bytes = nodes_from (length bytes / 16) bytes
+
+abbrev pub buffers_in : List ℕ → List RawBuffer
+buffers_in bytes = buffers_from (length bytes / 16) bytes
+
 abbrev pub raw_batch_of : RawBatch → raw.RawBatch
-raw_batch_of b = record { length = b.length; nodes = nodes_from (length b.nodes.now / 16) b.nodes.now; buffers = buffers_from (length b.buffers.now / 16) b.buffers.now; compressed = b.compressed }
+raw_batch_of b = record { length = b.length; nodes = nodes_in b.nodes.now; buffers = buffers_in b.buffers.now; compressed = b.compressed }
 
 abbrev pub raw_dictionary_of : RawDictionaryBatch → raw.RawDictionaryBatch
 raw_dictionary_of d = record { id = d.id; batch = raw_batch_of d.batch; is_delta = d.is_delta }

@@ -1,0 +1,156 @@
+-- How messages stand one after another (Arrow columnar format, "Encapsulated message format"; Message.fbs). Every number is little-endian.
+use Rattle.std.specs.Prelude.{◌≡◌, ℕ, ◌+◌, ◌*◌, ◌^◌, Bool, not, List, [], ◌∷◌, ◌++◌, length, drop, take, Option, Some, None, Result, Ok, Err, nat_lt, nat_eq, ◌==◌, ◌||◌, if◌then◌else◌, is_none, ◌≤◌, ◌<◌}
+use Rattle.std.specs.List.{starts_with}
+use Rattle.byteorder.specs.Endian.{little_number}
+use Rattle.flatbuf.specs.declared.FlatError.{FlatError}
+use Rattle.flatbuf.specs.declared.FlatError.TheVariants.{Bounds, VtableSize, Budget}
+use Rattle.flatbuf.specs.Lookup.{number, Place, slot, target, table_at, scalar_of}
+use Rattle.flatbuf.specs.Walk.{Thing, run, root_things, spans}
+use Rattle.ipc_message.specs.declared.fault.Fault.{Fault}
+use Rattle.ipc_message.specs.declared.fault.Fault.TheVariants.{Truncated, NoContinuation, MetadataSize, FlatBounds, FlatBudget, MetadataVersion, HeaderKind, BodyLength}
+
+-- the mark that each message begins with
+abbrev pub mark : List ℕ
+mark = 255 ∷ 255 ∷ 255 ∷ 255 ∷ []
+
+-- the most bytes that the metadata of a message may have
+abbrev pub most_metadata : ℕ
+most_metadata = 16777216
+
+-- what the header of a message is (Message.fbs, `MessageHeader`)
+pub data HeaderType : Type 0 where
+  schema_type : HeaderType
+  dictionary_type : HeaderType
+  batch_type : HeaderType
+
+-- the header types by their numbers; others are not read
+abbrev pub header_type : ℕ → Option HeaderType
+header_type n = if n == 1 then Some schema_type else if n == 2 then Some dictionary_type else if n == 3 then Some batch_type else None
+
+-- a message as it stands: its metadata and its body
+pub record Envelope : Type 0 where
+  pub metadata : List ℕ
+  pub body : List ℕ
+
+-- what stands at the front of the bytes: the end mark, or a message
+pub data Front : Type 0 where
+  end_mark : Front
+  message : Envelope → Front
+
+-- how many bytes it takes
+abbrev pub taken : Front → ℕ
+taken end_mark = 8
+taken (message m) = 8 + length m.metadata + length m.body
+
+-- ---- the Message table
+
+-- the Message table is the root
+abbrev pub message_table : List ℕ → Place
+message_table metadata = table_at metadata (target metadata 0)
+
+-- what is read of it before the header: the table, and the content of its slots version, header type, header and bodyLength
+unfoldable pub message_things : List ℕ → List Thing
+message_things metadata =
+    let t = message_table metadata in
+    root_things metadata ++ spans 2 (slot metadata t 0) ++ spans 1 (slot metadata t 1) ++ spans 4 (slot metadata t 2) ++ spans 8 (slot metadata t 3)
+
+unfoldable pub version_of : List ℕ → ℕ
+version_of metadata = scalar_of 2 0 metadata (slot metadata (message_table metadata) 0)
+
+unfoldable pub type_of : List ℕ → ℕ
+type_of metadata = scalar_of 1 0 metadata (slot metadata (message_table metadata) 1)
+
+-- the length of the body, a number of 64 bits, as an unsigned one
+unfoldable pub body_length : List ℕ → ℕ
+body_length metadata = scalar_of 8 0 metadata (slot metadata (message_table metadata) 3)
+
+-- ---- the tests of the front, in order
+
+-- the first of some options that is there
+abbrev pub first_some : {X : Type 0} → List (Option X) → Option X
+first_some [] = None
+first_some (Some x ∷ rest) = Some x
+first_some (None ∷ rest) = first_some rest
+
+-- a fault where a test holds
+abbrev pub when : Bool → Fault → Option Fault
+when b f = if b then Some f else None
+
+-- the fault of something bad that a walk met
+abbrev pub flat_fault : FlatError → Fault
+flat_fault Bounds = FlatBounds
+flat_fault VtableSize = FlatBounds
+flat_fault Budget = FlatBudget
+
+abbrev pub walk_fault : Result ℕ FlatError → Option Fault
+walk_fault (Ok n) = None
+walk_fault (Err e) = Some (flat_fault e)
+
+-- the mark and the size
+unfoldable pub mark_faults : List ℕ → List (Option Fault)
+mark_faults bytes =
+    when (nat_lt (length bytes) 4) Truncated
+    ∷ when (not (starts_with nat_eq bytes mark)) NoContinuation
+    ∷ when (nat_lt (length bytes) 8) Truncated
+    ∷ []
+
+-- the size of the metadata; a negative one is above its limit as an unsigned number
+unfoldable pub metadata_size : List ℕ → ℕ
+metadata_size bytes = number 4 bytes 4
+
+-- the metadata, and all that follows it
+unfoldable pub metadata_in : List ℕ → List ℕ
+metadata_in bytes = take (metadata_size bytes) (drop 8 bytes)
+
+unfoldable pub after_metadata : List ℕ → List ℕ
+after_metadata bytes = drop (metadata_size bytes) (drop 8 bytes)
+
+-- the metadata and the body
+unfoldable pub size_faults : List ℕ → List (Option Fault)
+size_faults bytes =
+    when (nat_lt most_metadata (metadata_size bytes)) MetadataSize
+    ∷ when (nat_lt (length bytes) (8 + metadata_size bytes)) Truncated
+    ∷ []
+
+-- the Message table, where so many bytes follow the metadata
+unfoldable pub message_faults : List ℕ → ℕ → List (Option Fault)
+message_faults metadata following =
+    walk_fault (run metadata (message_things metadata) 0)
+    ∷ when (not (version_of metadata == 4)) MetadataVersion
+    ∷ when (is_none (header_type (type_of metadata))) HeaderKind
+    ∷ when (not (nat_lt (body_length metadata) (2 ^ 63))) BodyLength
+    ∷ when (nat_lt following (body_length metadata)) Truncated
+    ∷ []
+
+abbrev pub unless : Option Fault → Result Front Fault → Result Front Fault
+unless None r = r
+unless (Some f) r = Err f
+
+-- what stands at the front, or the first fault: a size of 0 makes the end mark
+unfoldable pub front : List ℕ → Result Front Fault
+front bytes =
+    unless (first_some (mark_faults bytes))
+    (if metadata_size bytes == 0 then Ok end_mark
+    else unless (first_some (size_faults bytes ++ message_faults (metadata_in bytes) (length (after_metadata bytes))))
+        (Ok (message (record { metadata = metadata_in bytes; body = take (body_length (metadata_in bytes)) (after_metadata bytes) }))))
+
+-- ---- the relation
+
+-- a message that may stand: its metadata passes the tests above, and its body is as long as they say
+pub record IsMessage (m : Envelope) : Type 0 where
+  pub small : length m.metadata ≤ most_metadata
+  pub some : 0 < length m.metadata
+  pub sound : first_some (message_faults m.metadata (length m.body)) ≡ None
+  pub whole : length m.body ≡ body_length m.metadata
+
+-- the bytes are a message, and then others: the mark, the size of the metadata, the metadata, the body
+pub record Framed (bytes : List ℕ) (m : Envelope) (others : List ℕ) : Type 0 where
+  pub size : List ℕ
+  pub parts : bytes ≡ mark ++ (size ++ (m.metadata ++ (m.body ++ others)))
+  pub four : length size ≡ 4
+  pub size_is : little_number 4 size ≡ length m.metadata
+
+-- the bytes are these messages one after another, and then the rest
+abbrev pub Frames : List ℕ → List Envelope → List ℕ → Type 0
+Frames bytes [] rest = bytes ≡ rest
+Frames bytes (m ∷ ms) rest = IsMessage m × ((others : List ℕ) × Framed bytes m others × Frames others ms rest)

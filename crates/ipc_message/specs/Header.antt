@@ -1,0 +1,226 @@
+-- The header of a message: what a reader meets in it, in order, and what it spells (Message.fbs, Schema.fbs). A table that is
+-- absent reads as one whose slots are all absent. `held` says which type codes are held; `left` is how many levels of
+-- tables may stand below the table in question.
+use Rattle.std.specs.Prelude.{ℕ, zero, suc, ◌-◌, ◌/◌, Bool, true, false, ◌&&◌, ◌||◌, ◌==◌, if◌then◌else◌, List, [], ◌∷◌, ◌++◌, length, map, Option, Some, None, option_map, is_some, Result, Ok, Err}
+use Rattle.std.specs.List.{flat_map, list_any}
+use Rattle.flatbuf.specs.declared.FlatError.{FlatError}
+use Rattle.flatbuf.specs.Lookup.{Place, table_at, slot, target, elements, text_of, structs_of, scalar_of, is_set, table_behind}
+use Rattle.flatbuf.specs.Walk.{Thing, too_deep, missing, run, head_things, table_things, reference_things, spans, vector_at}
+use Rattle.arrow_schema.specs.Column.{Pair}
+use Rattle.ipc_message.specs.declared.fault.Fault.{Fault}
+use Rattle.ipc_message.specs.Raw.{RawParameters, no_parameters, integer_parameters, byte_width, list_size, date_unit, timestamp_parameters, RawEncoding, RawField, raw_field, no_raw_field, raw_fields_of, RawSchema, RawBatch, RawDictionaryBatch, RawHeader, schema_header, dictionary_header, batch_header}
+use Rattle.ipc_message.specs.View.{nodes_in, buffers_in}
+use Rattle.ipc_message.specs.Framing.{message_table, type_of, flat_fault}
+
+-- the type codes that are held
+abbrev pub held_codes : ℕ → Bool
+held_codes code = list_any (λ n. n == code) (1 ∷ 2 ∷ 4 ∷ 5 ∷ 6 ∷ 8 ∷ 10 ∷ 12 ∷ 13 ∷ 15 ∷ 16 ∷ 19 ∷ 20 ∷ 21 ∷ [])
+
+-- slot k of a table that may be absent
+abbrev pub slot_in : List ℕ → Option Place → ℕ → Option ℕ
+slot_in bytes None k = None
+slot_in bytes (Some t) k = slot bytes t k
+
+-- ---- what a reader meets
+
+-- an Int: its bitWidth and is_signed
+unfoldable pub int_things : ℕ → List ℕ → Option ℕ → List Thing
+int_things left bytes v =
+    let t = table_behind bytes v in
+    reference_things left bytes v ++ spans 4 (slot_in bytes t 0) ++ spans 1 (slot_in bytes t 1)
+
+-- a FixedSizeBinary or a FixedSizeList: its byteWidth or listSize
+unfoldable pub size_things : ℕ → List ℕ → Option ℕ → List Thing
+size_things left bytes v = reference_things left bytes v ++ spans 4 (slot_in bytes (table_behind bytes v) 0)
+
+-- a Date: its unit
+unfoldable pub date_things : ℕ → List ℕ → Option ℕ → List Thing
+date_things left bytes v = reference_things left bytes v ++ spans 2 (slot_in bytes (table_behind bytes v) 0)
+
+-- a Timestamp: its unit and its timezone
+unfoldable pub timestamp_things : ℕ → List ℕ → Option ℕ → List Thing
+timestamp_things left bytes v =
+    let t = table_behind bytes v in
+    reference_things left bytes v ++ spans 2 (slot_in bytes t 0) ++ vector_at 1 bytes (slot_in bytes t 1)
+
+-- the table of a type, by its code: those of other types are not read
+unfoldable pub type_things : (ℕ → Bool) → ℕ → List ℕ → ℕ → Option ℕ → List Thing
+type_things held left bytes code v =
+    if code == 2 then int_things left bytes v
+    else if code == 15 || code == 16 then size_things left bytes v
+    else if code == 8 && held 8 then date_things left bytes v
+    else if code == 10 && held 10 then timestamp_things left bytes v
+    else []
+
+-- a DictionaryEncoding: its id, indexType, isOrdered and dictionaryKind
+unfoldable pub encoding_things : ℕ → List ℕ → Option ℕ → List Thing
+encoding_things left bytes v =
+    let t = table_behind bytes v in
+    reference_things left bytes v
+    ++ spans 8 (slot_in bytes t 0)
+    ++ int_things (left - 1) bytes (slot_in bytes t 1)
+    ++ spans 1 (slot_in bytes t 2)
+    ++ spans 2 (slot_in bytes t 3)
+
+-- a KeyValue: its key and value
+unfoldable pub pair_things : ℕ → List ℕ → ℕ → List Thing
+pair_things left bytes at =
+    let t = table_at bytes at in
+    table_things left bytes at ++ vector_at 1 bytes (slot bytes t 0) ++ vector_at 1 bytes (slot bytes t 1)
+
+-- key/value pairs
+unfoldable pub pairs_things : ℕ → List ℕ → Option ℕ → List Thing
+pairs_things left bytes v = vector_at 4 bytes v ++ flat_map (pair_things left bytes) (elements bytes v)
+
+-- a field's own table: its name, nullable, type, dictionary, and the vector of its children
+unfoldable pub own_things : (ℕ → Bool) → ℕ → List ℕ → Place → List Thing
+own_things held left bytes t =
+    vector_at 1 bytes (slot bytes t 0)
+    ++ spans 1 (slot bytes t 1)
+    ++ spans 1 (slot bytes t 2)
+    ++ type_things held left bytes (scalar_of 1 0 bytes (slot bytes t 2)) (slot bytes t 3)
+    ++ encoding_things left bytes (slot bytes t 4)
+    ++ vector_at 4 bytes (slot bytes t 5)
+
+-- a field and all below it, at a position from which so many levels are left: its own table, its children, its custom_metadata
+unfoldable pub field_things : (ℕ → Bool) → ℕ → List ℕ → ℕ → List Thing
+field_things held zero bytes at = too_deep ∷ []
+field_things held (suc left) bytes at =
+    let t = table_at bytes at in
+    head_things bytes at
+    ++ (own_things held left bytes t
+    ++ flat_map (field_things held left bytes) (elements bytes (slot bytes t 5))
+    ++ pairs_things left bytes (slot bytes t 6))
+
+-- a Schema: its endianness, fields and custom_metadata
+unfoldable pub schema_things : (ℕ → Bool) → ℕ → List ℕ → Option Place → List Thing
+schema_things held left bytes t =
+    spans 2 (slot_in bytes t 0)
+    ++ vector_at 4 bytes (slot_in bytes t 1)
+    ++ flat_map (field_things held left bytes) (elements bytes (slot_in bytes t 1))
+    ++ pairs_things left bytes (slot_in bytes t 2)
+
+-- a RecordBatch: its length, nodes and buffers
+unfoldable pub batch_things : List ℕ → Option Place → List Thing
+batch_things bytes t = spans 8 (slot_in bytes t 0) ++ vector_at 16 bytes (slot_in bytes t 1) ++ vector_at 16 bytes (slot_in bytes t 2)
+
+-- a table that must be there
+abbrev pub needed_things : ℕ → List ℕ → Option ℕ → List Thing
+needed_things left bytes None = missing ∷ []
+needed_things left bytes (Some at) = reference_things left bytes (Some at)
+
+-- a DictionaryBatch: its id, data and isDelta
+unfoldable pub dictionary_things : ℕ → List ℕ → Option Place → List Thing
+dictionary_things left bytes t =
+    spans 8 (slot_in bytes t 0)
+    ++ needed_things left bytes (slot_in bytes t 1)
+    ++ batch_things bytes (table_behind bytes (slot_in bytes t 1))
+    ++ spans 1 (slot_in bytes t 2)
+
+-- where the header of a message is, and how many levels may stand from there on
+abbrev pub header_slot : List ℕ → Option ℕ
+header_slot metadata = slot metadata (message_table metadata) 2
+
+abbrev pub header_levels : ℕ
+header_levels = 39
+
+-- the header of a message, by its type: the walk that comes after the Message's own things
+unfoldable pub header_things : (ℕ → Bool) → List ℕ → List Thing
+header_things held metadata =
+    let at = header_slot metadata in
+    let t = table_behind metadata at in
+    needed_things header_levels metadata at
+    ++ (if type_of metadata == 1 then schema_things held 38 metadata t
+    else if type_of metadata == 2 then dictionary_things 38 metadata t
+    else batch_things metadata t)
+
+-- ---- what it spells
+
+-- the bitWidth and is_signed of an Int
+abbrev pub int_of : List ℕ → Option Place → ℕ × Bool
+int_of bytes t = (scalar_of 4 0 bytes (slot_in bytes t 0), is_set (scalar_of 1 0 bytes (slot_in bytes t 1)))
+
+-- what the table of a type spells; a Date without a unit has milliseconds, 1
+unfoldable pub parameters_in : (ℕ → Bool) → List ℕ → ℕ → Option Place → RawParameters
+parameters_in held bytes code t =
+    if code == 2 then (let i = int_of bytes t in integer_parameters i.0 i.1)
+    else if code == 15 then byte_width (scalar_of 4 0 bytes (slot_in bytes t 0))
+    else if code == 16 then list_size (scalar_of 4 0 bytes (slot_in bytes t 0))
+    else if code == 8 && held 8 then date_unit (scalar_of 2 1 bytes (slot_in bytes t 0))
+    else if code == 10 && held 10 then timestamp_parameters (scalar_of 2 0 bytes (slot_in bytes t 0)) (text_of bytes (slot_in bytes t 1))
+    else no_parameters
+
+-- an index type: signed with 32 bits where it is absent
+abbrev pub index_of : List ℕ → Option Place → ℕ × Bool
+index_of bytes None = (32, true)
+index_of bytes (Some t) = int_of bytes (Some t)
+
+unfoldable pub encoding_in : List ℕ → Place → RawEncoding
+encoding_in bytes t =
+    let index = index_of bytes (table_behind bytes (slot bytes t 1)) in
+    record { id = scalar_of 8 0 bytes (slot bytes t 0); width = index.0; signed = index.1; kind = scalar_of 2 0 bytes (slot bytes t 3) }
+
+unfoldable pub pair_at : List ℕ → ℕ → Pair
+pair_at bytes at = let t = table_at bytes at in (text_of bytes (slot bytes t 0), text_of bytes (slot bytes t 1))
+
+unfoldable pub pairs_in : List ℕ → Option ℕ → List Pair
+pairs_in bytes v = map (pair_at bytes) (elements bytes v)
+
+-- a field with these children
+unfoldable pub field_with : (ℕ → Bool) → List ℕ → Place → List RawField → RawField
+field_with held bytes t children =
+    let code = scalar_of 1 0 bytes (slot bytes t 2) in
+    raw_field
+        (text_of bytes (slot bytes t 0))
+        (is_set (scalar_of 1 0 bytes (slot bytes t 1)))
+        code
+        (parameters_in held bytes code (table_behind bytes (slot bytes t 3)))
+        (option_map (encoding_in bytes) (table_behind bytes (slot bytes t 4)))
+        (raw_fields_of children)
+        (pairs_in bytes (slot bytes t 6))
+
+-- the field at a position, from which so many levels are left
+unfoldable pub field_at : (ℕ → Bool) → ℕ → List ℕ → ℕ → RawField
+field_at held zero bytes at = raw_field [] false 0 no_parameters None no_raw_field []
+field_at held (suc left) bytes at =
+    let t = table_at bytes at in
+    field_with held bytes t (map (field_at held left bytes) (elements bytes (slot bytes t 5)))
+
+unfoldable pub schema_in : (ℕ → Bool) → ℕ → List ℕ → Option Place → RawSchema
+schema_in held left bytes t = record {
+    endianness = scalar_of 2 0 bytes (slot_in bytes t 0);
+    fields = map (field_at held left bytes) (elements bytes (slot_in bytes t 1));
+    pairs = pairs_in bytes (slot_in bytes t 2) }
+
+-- the presence of its compression is its vtable's entry alone
+unfoldable pub batch_in : List ℕ → Option Place → RawBatch
+batch_in bytes t = record {
+    length = scalar_of 8 0 bytes (slot_in bytes t 0);
+    nodes = nodes_in (structs_of 16 bytes (slot_in bytes t 1));
+    buffers = buffers_in (structs_of 16 bytes (slot_in bytes t 2));
+    compressed = is_some (slot_in bytes t 3) }
+
+unfoldable pub dictionary_in : List ℕ → Option Place → RawDictionaryBatch
+dictionary_in bytes t = record {
+    id = scalar_of 8 0 bytes (slot_in bytes t 0);
+    batch = batch_in bytes (table_behind bytes (slot_in bytes t 1));
+    is_delta = is_set (scalar_of 1 0 bytes (slot_in bytes t 2)) }
+
+-- what the header of a message spells, whatever its metadata is
+unfoldable pub header_of : (ℕ → Bool) → List ℕ → RawHeader
+header_of held metadata =
+    let t = table_behind metadata (header_slot metadata) in
+    if type_of metadata == 1 then schema_header (schema_in held 38 metadata t)
+    else if type_of metadata == 2 then dictionary_header (dictionary_in metadata t)
+    else batch_header (batch_in metadata t)
+
+-- ---- the test of the header
+
+-- what a walk found, or the fault of the first bad thing
+abbrev pub spelled : Result ℕ FlatError → RawHeader → Result RawHeader Fault
+spelled (Ok n) h = Ok h
+spelled (Err e) h = Err (flat_fault e)
+
+-- what the header spells, where the walk over it finds nothing bad; the Message table was the first that was entered
+unfoldable pub header : (ℕ → Bool) → List ℕ → Result RawHeader Fault
+header held metadata = spelled (run metadata (header_things held metadata) 1) (header_of held metadata)
