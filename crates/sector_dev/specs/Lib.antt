@@ -1,4 +1,8 @@
 pub mod Disk
 pub mod Time
 pub mod Crash
-pub mod Model
+pub mod Faults
+pub mod History
+pub mod Cells
+pub mod Newest
+pub mod View

@@ -1,8 +1,17 @@
-//! Devices of sectors.
+//! Devices of sectors of 512 bytes: what a store may rely on, a device in memory for tests, and a device that is a file.
+//!
+//! `SectorDevice` promises what a read gives, what a crash may leave, and that failed calls are counted.
+//! `ModelDevice` is proved to keep all of it. A `FileDevice` is trusted for what its file holds.
 #![tactic(auto)]
 
+mod cells;
+mod choice;
 mod device;
+mod faults;
+mod log;
 mod model;
 
+pub use choice::Choice;
 pub use device::{DevError, SECTOR_BYTES, SectorDevice};
-pub use model::{Entry, ModelDevice};
+pub use faults::Faults;
+pub use model::ModelDevice;

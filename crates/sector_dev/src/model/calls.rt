@@ -1,0 +1,77 @@
+// The calls of a device in memory.
+ghost use Rattle.std.specs.Prelude.{◌≡◌, ◌<◌, ◌⊎◌, ◌+◌, ◌-◌, ◌^◌, min, true, Some, None, Err, OnOk, OnErr, IfErr, IsErrOf};
+ghost use Rattle.sector_dev.specs.Disk.{now, Watches, Passes, Puts, FailsToPut, Flushes, Counts};
+ghost use Rattle.sector_dev.specs.Faults.{CallFails, ReadFails, after_call, after_read};
+ghost use Rattle.sector_dev.specs.Newest.{story_shows};
+ghost use Rattle.sector_dev.specs.View.{size_of, failed_of, faults_of, history_of};
+
+use super::ModelDevice;
+use crate::cells::{reach, read_cell, settle};
+use crate::log::{keep_passed, keep_synced, keep_wrote};
+use crate::{DevError, SectorDevice};
+
+// One more call has failed.
+fn failed_once(failed: &mut u64) -> DevError
+    ensures error { result ≡ DevError.Failed }
+    ensures counted { failed.new ≡ min (failed.old + 1) (2 ^ 64 - 1) }
+{
+    *failed = failed.saturating_add(1);
+    DevError::Failed
+}
+
+impl SectorDevice for ModelDevice {
+    ghost size = { size_of };
+
+    ghost failed = { failed_of };
+
+    ghost tells = { true };
+
+    ghost story = { history_of };
+
+    ghost shows = { λ d told. story_shows d.start.items d.log.items };
+
+    fn sectors(&self) -> u64 {
+        self.sectors
+    }
+
+    fn failures(&self) -> u64 {
+        self.failed
+    }
+
+    fn read(&mut self, n: u64, to: &mut [u8; 512]) -> Result<(), DevError> {
+        let fails = self.faults.fails_read();
+        if !keep_passed(&mut self.log) || fails {
+            return Err(failed_once(&mut self.failed));
+        }
+        if read_cell(&self.cells, n as usize, to) {
+            Ok(())
+        } else {
+            Err(DevError::Unreadable)
+        }
+    }
+
+    fn write(&mut self, n: u64, from: &[u8; 512]) -> Result<(), DevError> {
+        let fails = self.faults.fails_call();
+        let reached = reach(&mut self.cells, n as usize + 1);
+        if !reached || !keep_wrote(&mut self.log, n, from) {
+            return Err(failed_once(&mut self.failed));
+        }
+        self.cells[n as usize].newest = Some(*from);
+        if fails {
+            return Err(failed_once(&mut self.failed));
+        }
+        Ok(())
+    }
+
+    fn sync(&mut self) -> Result<(), DevError> {
+        if self.faults.fails_call() {
+            let _kept = keep_passed(&mut self.log);
+            return Err(failed_once(&mut self.failed));
+        }
+        if !keep_synced(&mut self.log) {
+            return Err(failed_once(&mut self.failed));
+        }
+        settle(&mut self.cells);
+        Ok(())
+    }
+}
