@@ -1,16 +1,23 @@
 -- The cells of a device in memory agree with its story.
-use Rattle.std.proofs.Common.{◌≡◌, ◌≢◌, ◌<◌, ℕ, Bool, ◌==◌, if◌then◌else◌, true, false, List, [], ◌∷◌, Option, Some, None, length, get_or, set, refl, ap, sym, ◌∙◌, subst, arith, ⊎_elim, get_or-set_same, get_or-set_other}
+use Rattle.std.proofs.Common.{◌≡◌, ◌≢◌, ◌<◌, ℕ, List, [], Option, Some, None, length, get_or, set, ap, sym, ◌∙◌, ⊎_elim, get_or-set_same, get_or-set_other}
 use Rattle.std.proofs.lemmas.Bool.{cases_eq}
 use Rattle.std.proofs.lemmas.List.{get_or_default}
-use Rattle.sector_dev.specs.Disk.{Disk, Sector, Story, now, put, flushed, with_content, Watches, Puts, Flushes}
+use Rattle.sector_dev.specs.Disk.{Disk, Story, now, put, flushed, Puts, Flushes}
 use Rattle.sector_dev.specs.Crash.{put_same, put_other}
 use Rattle.sector_dev.specs.Cells.{fresh_cell, cell_at, cell_of, shown_in, settled}
+use Rattle.sector_dev.specs.History.{all_synced, content_at, story_of, story_first}
 use Rattle.sector_dev.specs.Newest.{ReadsNewest}
+use Rattle.sector_dev.specs.declared.log.Event.{Event}
 use Rattle.sector_dev.specs.declared.cells.Cell.{Cell}
 
 -- the cells are those of the disk
 abbrev pub Agrees : List Cell → Disk → Type 0
 Agrees cells d = (n : ℕ) → cell_at cells n ≡ cell_of (d.at n)
+
+-- with no call yet
+pub agrees_first : (start : List (Option (List ℕ))) (log : List Event) (cells : List Cell) → log ≡ [] → ((n : ℕ) → cell_at cells n ≡ record { synced = content_at start n; newest = None }) → Agrees cells (now (story_of start log))
+unfolding all_synced
+agrees_first start log cells none holds n = holds n ∙ ap (λ (s : Story). cell_of ((now s).at n)) (sym (story_first start log none))
 
 pub agrees_read : (cells : List Cell) (d : Disk) (n : ℕ) → Agrees cells d → ReadsNewest d → (d.at n).shown ≡ shown_in (cell_at cells n)
 agrees_read cells d n agrees reads = reads n ∙ ap shown_in (sym (agrees n))
@@ -40,5 +47,6 @@ agrees_put old new before after k c x e agrees lt is sets puts n =
   where
     written : Cell
     written = record { synced = e.synced; newest = Some c }
+
     here : e ≡ cell_of ((now before).at k)
     here = is ∙ get_or_default old k e fresh_cell lt ∙ agrees k

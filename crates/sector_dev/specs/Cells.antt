@@ -1,7 +1,9 @@
 -- What a device in memory holds now.
-use Rattle.std.specs.Prelude.{ℕ, List, [], ◌∷◌, Option, Some, None, slice_index_or}
+use Rattle.std.specs.Prelude.{ℕ, zero, suc, ◌+◌, if◌then◌else◌, List, [], ◌∷◌, Option, Some, None, is_some, slice_index_or}
 use Rattle.sector_dev.specs.Disk.{Sector}
+use Rattle.sector_dev.specs.Chosen.{newest_of, chosen}
 use Rattle.sector_dev.specs.History.{zeros}
+use Rattle.sector_dev.specs.declared.choice.Choice.{Choice}
 use Rattle.sector_dev.specs.declared.cells.Cell.{Cell}
 
 -- a sector that was never written
@@ -25,10 +27,15 @@ shown_in c = first_some c.newest c.synced
 abbrev pub settled : Cell → Cell
 settled c = record { synced = shown_in c; newest = None }
 
-abbrev pub newest_of : List (List ℕ) → Option (List ℕ)
-newest_of [] = None
-newest_of (w ∷ ws) = Some w
-
 -- the cell of a sector of a disk on which a failed write gives the new content
 abbrev pub cell_of : Sector → Cell
 cell_of s = record { synced = s.synced; newest = newest_of s.pending }
+
+-- how many of the first cells are not yet synced
+abbrev pub waiting_below : List Cell → ℕ → ℕ
+waiting_below cells zero = 0
+waiting_below cells (suc n) = waiting_below cells n + (if is_some (cell_at cells n).newest then 1 else 0)
+
+-- what the choice leaves in a cell, where so many below it are not yet synced
+abbrev pub left_in : Choice → ℕ → Cell → Option (List ℕ)
+left_in choice below c = elim c.newest [ None ↦ c.synced | Some w ↦ chosen choice below (record { synced = c.synced; pending = w ∷ []; shown = Some w }) ]

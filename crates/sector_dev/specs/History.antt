@@ -1,6 +1,6 @@
 -- The story of a device that keeps what it held at first, and each call since.
 use Rattle.std.specs.Prelude.{◌≡◌, ℕ, List, [], ◌∷◌, ◌++◌, Option, Some, slice_index_or, replicate}
-use Rattle.std.proofs.Common.{refl}
+use Rattle.std.proofs.Common.{refl, ap}
 use Rattle.sector_dev.specs.Disk.{Disk, Story, now, put, flushed}
 use Rattle.sector_dev.specs.declared.log.Event.{Event}
 use Rattle.sector_dev.specs.declared.log.Event.TheVariants.{Passed, Wrote, Synced}
@@ -39,3 +39,8 @@ replay_push (x ∷ es) e s = replay_push es e (step x s)
 pub story_push : (start : List (Option (List ℕ))) (log : List Event) (e : Event) → story_of start (log ++ e ∷ []) ≡ step e (story_of start log)
 unfolding story_of
 story_push start log e = replay_push log e (all_synced (content_at start) ∷ [])
+
+-- with no call yet
+pub story_first : (start : List (Option (List ℕ))) (log : List Event) → log ≡ [] → story_of start log ≡ all_synced (content_at start) ∷ []
+unfolding story_of
+story_first start log none = ap (λ (es : List Event). replay es (all_synced (content_at start) ∷ [])) none

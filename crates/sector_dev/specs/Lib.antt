@@ -1,6 +1,7 @@
 pub mod Disk
 pub mod Time
 pub mod Crash
+pub mod Chosen
 pub mod Faults
 pub mod History
 pub mod Cells

@@ -1,6 +1,6 @@
 -- A device in memory reads the newest content of each sector.
-use Rattle.std.specs.Prelude.{◌≡◌, ◌==◌, ℕ, Bool, if◌then◌else◌, List, [], ◌∷◌, Option, Some, None, refl}
-use Rattle.std.proofs.Common.{inl, inr, true, false, ap, sym, ◌∙◌, subst}
+use Rattle.std.specs.Prelude.{◌≡◌, ◌==◌, ℕ, if◌then◌else◌, List, [], ◌∷◌, Option, Some, refl}
+use Rattle.std.proofs.Common.{inl, inr, true, false, sym, subst}
 use Rattle.sector_dev.specs.Disk.{Disk, Sector, Story, now, put, flushed, with_content, MayHold, MayLeave, ShowsImage}
 use Rattle.sector_dev.specs.History.{all_synced, content_at, step, replay, story_of}
 use Rattle.sector_dev.specs.Cells.{shown_in, cell_of}

@@ -9,6 +9,8 @@ use crate::cells::Cell;
 use crate::log::Event;
 
 mod calls;
+mod crash;
+mod made;
 
 /// A device in memory, for tests. It can be told to fail, to stop and to crash.
 ///

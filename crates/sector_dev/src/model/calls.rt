@@ -38,7 +38,19 @@ impl SectorDevice for ModelDevice {
         self.failed
     }
 
-    fn read(&mut self, n: u64, to: &mut [u8; 512]) -> Result<(), DevError> {
+    fn read(&mut self, n: u64, to: &mut [u8; 512]) -> Result<(), DevError>
+        requires { n < size_of self.old }
+        ensures size { size_of self.new ≡ size_of self.old }
+        ensures count { Counts (failed_of self.old) (failed_of self.new) result }
+        ensures story { Passes (history_of self.old) (history_of self.new) }
+        ensures begun { OnOk result (Watches (history_of self.old) (history_of self.new)) }
+        ensures content { OnOk result (((now (history_of self.old)).at n).shown ≡ Some to.new) }
+        ensures unreadable { IsErrOf result DevError.Unreadable → ((now (history_of self.old)).at n).shown ≡ None }
+        ensures faults { faults_of self.new ≡ after_read (faults_of self.old) }
+        ensures due { ReadFails (faults_of self.old) → result ≡ Err DevError.Failed }
+        // Any other failure is for want of memory.
+        ensures not_due { ¬ ReadFails (faults_of self.old) → IsErrOf result DevError.Failed → history_of self.new ≡ history_of self.old }
+    {
         let fails = self.faults.fails_read();
         if !keep_passed(&mut self.log) || fails {
             return Err(failed_once(&mut self.failed));
@@ -50,7 +62,19 @@ impl SectorDevice for ModelDevice {
         }
     }
 
-    fn write(&mut self, n: u64, from: &[u8; 512]) -> Result<(), DevError> {
+    fn write(&mut self, n: u64, from: &[u8; 512]) -> Result<(), DevError>
+        requires { n < size_of self.old }
+        ensures size { size_of self.new ≡ size_of self.old }
+        ensures count { Counts (failed_of self.old) (failed_of self.new) result }
+        ensures error { IfErr result (λ e. e ≡ DevError.Failed) }
+        ensures ok { OnOk result (Puts (history_of self.old) n from.now (Some from.now) (history_of self.new)) }
+        // After a failed write a read gives the new content.
+        ensures err { OnErr result ((history_of self.new ≡ history_of self.old) ⊎ Puts (history_of self.old) n from.now (Some from.now) (history_of self.new)) }
+        ensures faults { faults_of self.new ≡ after_call (faults_of self.old) }
+        ensures due { CallFails (faults_of self.old) → result ≡ Err DevError.Failed }
+        // Any other failure is for want of memory.
+        ensures not_due { ¬ CallFails (faults_of self.old) → OnErr result (history_of self.new ≡ history_of self.old) }
+    {
         let fails = self.faults.fails_call();
         let reached = reach(&mut self.cells, n as usize + 1);
         if !reached || !keep_wrote(&mut self.log, n, from) {
@@ -63,7 +87,17 @@ impl SectorDevice for ModelDevice {
         Ok(())
     }
 
-    fn sync(&mut self) -> Result<(), DevError> {
+    fn sync(&mut self) -> Result<(), DevError>
+        ensures size { size_of self.new ≡ size_of self.old }
+        ensures count { Counts (failed_of self.old) (failed_of self.new) result }
+        ensures error { IfErr result (λ e. e ≡ DevError.Failed) }
+        ensures ok { OnOk result (Flushes (history_of self.old) (history_of self.new)) }
+        ensures err { OnErr result (Passes (history_of self.old) (history_of self.new)) }
+        ensures faults { faults_of self.new ≡ after_call (faults_of self.old) }
+        ensures due { CallFails (faults_of self.old) → result ≡ Err DevError.Failed }
+        // Any other failure is for want of memory.
+        ensures not_due { ¬ CallFails (faults_of self.old) → OnErr result (history_of self.new ≡ history_of self.old) }
+    {
         if self.faults.fails_call() {
             let _kept = keep_passed(&mut self.log);
             return Err(failed_once(&mut self.failed));

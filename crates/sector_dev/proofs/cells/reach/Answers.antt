@@ -1,7 +1,6 @@
-use Rattle.std.proofs.Common.{◌≡◌, ◌∙◌, ◌++◌, ◌∷◌, [], if◌then◌else◌, List, arith, ap, subst}
+use Rattle.std.proofs.Common.{◌≡◌, ◌∙◌, ◌++◌, ◌∷◌, [], if◌then◌else◌, arith, subst}
 use Rattle.std.proofs.lemmas.Grind.{common_steps}
 use Rattle.std.specs.Prelude.{is_ok}
-use Rattle.sector_dev.specs.Cells.{fresh_cell}
 use Rattle.sector_dev.specs.declared.cells.Cell.{Cell}
 use Rattle.sector_dev.proofs.Sparse.{same_cells}
 use Rattle.sector_dev.proofs.cells.reach.Goals as goal

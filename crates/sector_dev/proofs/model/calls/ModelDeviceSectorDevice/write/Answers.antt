@@ -1,4 +1,4 @@
-use Rattle.std.proofs.Common.{◌∙◌, ◌≡◌, sym, refl, length, arith}
+use Rattle.std.proofs.Common.{◌∙◌, refl, arith}
 use Rattle.sector_dev.specs.View.{history_of}
 use Rattle.sector_dev.specs.History.{story_of}
 use Rattle.sector_dev.proofs.Agreement.{agrees_put}

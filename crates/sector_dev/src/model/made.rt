@@ -1,0 +1,69 @@
+// A new device in memory, and which of its calls are to fail.
+ghost use Rattle.std.specs.Prelude.{◌≡◌, ◌∷◌, [], Some, IfOk};
+ghost use Rattle.sector_dev.specs.Faults.{no_faults};
+ghost use Rattle.sector_dev.specs.History.{all_synced, zeros};
+ghost use Rattle.sector_dev.specs.View.{size_of, failed_of, faults_of, history_of};
+
+use super::ModelDevice;
+use crate::Faults;
+use std::alloc::{AllocError, Global};
+
+impl ModelDevice {
+    /// A device of this many sectors: zeros, all synced. No call is to fail.
+    ///
+    /// # Errors
+    /// There is no memory for it.
+    pub fn new(alloc: Global, sectors: u64) -> Result<ModelDevice, AllocError>
+        ensures size { IfOk result (λ d. size_of d ≡ sectors) }
+        ensures zeros { IfOk result (λ d. history_of d ≡ all_synced (λ _. Some zeros) ∷ []) }
+        ensures failed { IfOk result (λ d. failed_of d ≡ 0) }
+        ensures faults { IfOk result (λ d. faults_of d ≡ no_faults) }
+    {
+        Ok(ModelDevice {
+            sectors,
+            start: Vec::new(alloc),
+            log: Vec::new(alloc),
+            cells: Vec::new(alloc),
+            failed: 0,
+            faults: Faults::none(),
+        })
+    }
+
+    /// Which calls are to fail.
+    pub fn faults(&self) -> Faults
+        ensures { result ≡ faults_of self.now }
+    {
+        self.faults
+    }
+
+    /// Makes the k-th write or sync from now fail once; 0: none.
+    pub fn fail_at(&mut self, k: u64)
+        ensures faults { faults_of self.new ≡ record (faults_of self.old) { fail = k } }
+        ensures size { size_of self.new ≡ size_of self.old }
+        ensures history { history_of self.new ≡ history_of self.old }
+        ensures failed { failed_of self.new ≡ failed_of self.old }
+    {
+        self.faults.fail = k;
+    }
+
+    /// Makes the k-th write or sync from now fail, as if a stop came while it was in flight, and every call after it;
+    /// 0: none.
+    pub fn stop_at(&mut self, k: u64)
+        ensures faults { faults_of self.new ≡ record (faults_of self.old) { stop = k } }
+        ensures size { size_of self.new ≡ size_of self.old }
+        ensures history { history_of self.new ≡ history_of self.old }
+        ensures failed { failed_of self.new ≡ failed_of self.old }
+    {
+        self.faults.stop = k;
+    }
+
+    /// Makes the k-th read from now fail once; 0: none.
+    pub fn fail_read_at(&mut self, k: u64)
+        ensures faults { faults_of self.new ≡ record (faults_of self.old) { fail_read = k } }
+        ensures size { size_of self.new ≡ size_of self.old }
+        ensures history { history_of self.new ≡ history_of self.old }
+        ensures failed { failed_of self.new ≡ failed_of self.old }
+    {
+        self.faults.fail_read = k;
+    }
+}
