@@ -1,0 +1,6 @@
+pub mod Cut
+pub mod Integers
+pub mod Body
+pub mod Columns
+pub mod Table
+pub mod View
