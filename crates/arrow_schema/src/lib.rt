@@ -12,3 +12,6 @@ mod types;
 pub use compare::{one_shape_is_an_equivalence, same_shape};
 pub use limits::{MAX_BYTES, MAX_DEPTH, MAX_FIELDS, MAX_PAIRS, NUMBER_END, SchemaError};
 pub use types::{BitWidth, DataType, DateUnit, DictSpec, Field, IntegerType, Schema, TimeUnit};
+
+#[cfg(test)]
+mod tests;
