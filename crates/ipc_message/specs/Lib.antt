@@ -3,3 +3,11 @@ pub mod Framing
 pub mod Header
 pub mod Raw
 pub mod View
+pub mod Fields
+pub mod Types
+pub mod Held
+pub mod Convert
+pub mod Same
+pub mod Rounds
+pub mod Listed
+pub mod Outcome

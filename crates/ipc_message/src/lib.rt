@@ -4,11 +4,21 @@
 //! a tree that borrows its texts, so that hostile metadata cannot make a reader copy more than it was given.
 #![tactic(auto)]
 
+mod allowed;
+mod error;
 mod fault;
 mod fault_text;
+mod fields;
+mod held;
 mod raw;
+mod rounds;
+mod same;
+mod texts;
 
+pub use error::ImportError;
 pub use fault::{Fault, TypeName};
+pub use held::{is_held, type_name};
 pub use raw::{
     Encoding, Header, KeyValue, Parameters, RawBatch, RawDictionaryBatch, RawField, RawSchema,
 };
+pub use rounds::check_schema;

@@ -1,0 +1,4 @@
+pub mod Compared
+pub mod Opened
+pub mod Children
+pub mod Levels

@@ -1,0 +1,69 @@
+-- Whether two fields have one dictionary id, and whether they have one type: its parameters, and its children in full, ids apart.
+use Rattle.std.specs.Prelude.{ℕ, Bool, true, false, not, ◌&&◌, ◌==◌, bytes_eq, List, [], ◌∷◌, Option, Some, None, is_none}
+use Rattle.arrow_schema.specs.Column.{Pair}
+use Rattle.ipc_message.specs.Raw.{RawParameters, no_parameters, integer_parameters, byte_width, list_size, date_unit, timestamp_parameters, RawEncoding, RawField, RawFields, raw_field, no_raw_field, and_raw_field}
+use Rattle.ipc_message.specs.Fields.{name_of, is_nullable, code_of, parameters_of, dictionary_of, children_of, pairs_of}
+
+abbrev pub has_id : ℕ → Option RawEncoding → Bool
+has_id id None = false
+has_id id (Some e) = id == e.id
+
+abbrev pub one_id : Option RawEncoding → Option RawEncoding → Bool
+one_id None other = false
+one_id (Some e) other = has_id e.id other
+
+abbrev pub same_flag : Bool → Bool → Bool
+same_flag true b = b
+same_flag false b = not b
+
+abbrev pub same_parameters : RawParameters → RawParameters → Bool
+same_parameters no_parameters no_parameters = true
+same_parameters (integer_parameters m a) (integer_parameters n b) = m == n && same_flag a b
+same_parameters (byte_width m) (byte_width n) = m == n
+same_parameters (list_size m) (list_size n) = m == n
+same_parameters (date_unit m) (date_unit n) = m == n
+same_parameters (timestamp_parameters m y) (timestamp_parameters n z) = m == n && bytes_eq y z
+same_parameters _ _ = false
+
+abbrev pub has_index : RawEncoding → Option RawEncoding → Bool
+has_index d None = false
+has_index d (Some e) = d.width == e.width && same_flag d.signed e.signed
+
+abbrev pub same_index : Option RawEncoding → Option RawEncoding → Bool
+same_index None other = is_none other
+same_index (Some d) other = has_index d other
+
+abbrev pub same_pairs : List Pair → List Pair → Bool
+same_pairs [] [] = true
+same_pairs (p ∷ ps) (q ∷ qs) = bytes_eq p.0 q.0 && bytes_eq p.1 q.1 && same_pairs ps qs
+same_pairs _ _ = false
+
+abbrev pub is_empty : RawFields → Bool
+is_empty no_raw_field = true
+is_empty (and_raw_field f fs) = false
+
+abbrev pub first_is : (RawField → Bool) → RawFields → Bool
+first_is p no_raw_field = false
+first_is p (and_raw_field f fs) = p f
+
+abbrev pub others_of : RawFields → RawFields
+others_of no_raw_field = no_raw_field
+others_of (and_raw_field f fs) = fs
+
+-- all but their children
+unfoldable pub same_parts : RawField → RawField → Bool
+same_parts f g =
+    bytes_eq (name_of f) (name_of g) && same_flag (is_nullable f) (is_nullable g) && code_of f == code_of g && same_parameters (parameters_of f) (parameters_of g) && same_index (dictionary_of f) (dictionary_of g) && same_pairs (pairs_of f) (pairs_of g)
+
+unfoldable mutual
+  pub same_field : RawField → RawField → Bool
+  same_field (raw_field name nullable code table dictionary children pairs) f =
+      same_parts (raw_field name nullable code table dictionary children pairs) f && same_fields children (children_of f)
+
+  pub same_fields : RawFields → RawFields → Bool
+  same_fields no_raw_field fs = is_empty fs
+  same_fields (and_raw_field g gs) fs = first_is (same_field g) fs && same_fields gs (others_of fs)
+
+-- the type of their values
+abbrev pub same_value_type : RawField → RawField → Bool
+same_value_type f g = code_of f == code_of g && same_parameters (parameters_of f) (parameters_of g) && same_fields (children_of f) (children_of g)

@@ -1,0 +1,123 @@
+-- The type that a field's code, its table and its children spell (Schema.fbs, the union Type), where they spell one.
+use Rattle.std.specs.Prelude.{ℕ, ◌^◌, Bool, true, false, ◌&&◌, ◌||◌, ◌==◌, is_some, nat_lt, if◌then◌else◌, List, [], ◌∷◌, Option, Some, None, option_map}
+use Rattle.ipc_message.specs.declared.fault.TypeName.{TypeName}
+use Rattle.ipc_message.specs.declared.fault.TypeName.TheVariants as types
+use Rattle.arrow_schema.specs.Column.{Kind, Column, DateKind, days, date_milliseconds, TimeKind, seconds, milliseconds, microseconds, nanoseconds, nulls, booleans, integers, dates, timestamps, texts, large_texts, binaries, large_binaries, fixed_binaries, lists, large_lists, fixed_lists, structs, columns_of}
+use Rattle.ipc_message.specs.Raw.{RawParameters, integer_parameters, byte_width, list_size, date_unit, timestamp_parameters}
+
+-- the name of a type code
+unfoldable pub type_name : ℕ → TypeName
+type_name code =
+    if code == 1 then types.Null
+    else if code == 2 then types.Int
+    else if code == 3 then types.FloatingPoint
+    else if code == 4 then types.Binary
+    else if code == 5 then types.Utf8
+    else if code == 6 then types.Bool
+    else if code == 7 then types.Decimal
+    else if code == 8 then types.Date
+    else if code == 9 then types.Time
+    else if code == 10 then types.Timestamp
+    else if code == 11 then types.Interval
+    else if code == 12 then types.List
+    else if code == 13 then types.Struct
+    else if code == 14 then types.Union
+    else if code == 15 then types.FixedSizeBinary
+    else if code == 16 then types.FixedSizeList
+    else if code == 17 then types.Map
+    else if code == 18 then types.Duration
+    else if code == 19 then types.LargeBinary
+    else if code == 20 then types.LargeUtf8
+    else if code == 21 then types.LargeList
+    else if code == 22 then types.RunEndEncoded
+    else if code == 23 then types.BinaryView
+    else if code == 24 then types.Utf8View
+    else if code == 25 then types.ListView
+    else if code == 26 then types.LargeListView
+    else types.Unknown
+
+-- the number of bits of an integer
+abbrev pub is_bit_width : ℕ → Bool
+is_bit_width n = n == 8 || n == 16 || n == 32 || n == 64
+
+-- a size of 32 bits with a sign, that is not negative
+abbrev pub is_size : ℕ → Bool
+is_size n = nat_lt n (2 ^ 31)
+
+abbrev pub date_kind : ℕ → Option DateKind
+date_kind n = if n == 0 then Some days else if n == 1 then Some date_milliseconds else None
+
+abbrev pub time_kind : ℕ → Option TimeKind
+time_kind n = if n == 0 then Some seconds else if n == 1 then Some milliseconds else if n == 2 then Some microseconds else if n == 3 then Some nanoseconds else None
+
+-- the tables of the types that have slots
+abbrev pub integer : RawParameters → Option Kind
+integer (integer_parameters width signed) = if is_bit_width width then Some (integers width signed) else None
+integer _ = None
+
+abbrev pub date : RawParameters → Option Kind
+date (date_unit n) = option_map dates (date_kind n)
+date _ = None
+
+abbrev pub timestamp : RawParameters → Option Kind
+timestamp (timestamp_parameters n zone) = option_map (λ unit. timestamps unit zone) (time_kind n)
+timestamp _ = None
+
+abbrev pub fixed_binary : RawParameters → Option Kind
+fixed_binary (byte_width n) = if is_size n then Some (fixed_binaries n) else None
+fixed_binary _ = None
+
+abbrev pub has_list_size : RawParameters → Bool
+has_list_size (list_size n) = is_size n
+has_list_size _ = false
+
+abbrev pub fixed_list : RawParameters → Column → Option Kind
+fixed_list (list_size n) item = if is_size n then Some (fixed_lists n item) else None
+fixed_list _ item = None
+
+-- a type without children
+abbrev pub without_children : Option Kind → List Column → Option Kind
+without_children kind [] = kind
+without_children kind (c ∷ cs) = None
+
+-- a type with one child
+abbrev pub with_item : (Column → Option Kind) → List Column → Option Kind
+with_item kind [] = None
+with_item kind (item ∷ []) = kind item
+with_item kind (item ∷ c ∷ cs) = None
+
+-- what a type code's name, its table and its children spell
+unfoldable pub spelled_type : TypeName → RawParameters → List Column → Option Kind
+spelled_type types.Null p children = without_children (Some nulls) children
+spelled_type types.Int p children = without_children (integer p) children
+spelled_type types.Binary p children = without_children (Some binaries) children
+spelled_type types.Utf8 p children = without_children (Some texts) children
+spelled_type types.Bool p children = without_children (Some booleans) children
+spelled_type types.Date p children = without_children (date p) children
+spelled_type types.Timestamp p children = without_children (timestamp p) children
+spelled_type types.List p children = with_item (λ item. Some (lists item)) children
+spelled_type types.Struct p children = Some (structs (columns_of children))
+spelled_type types.FixedSizeBinary p children = without_children (fixed_binary p) children
+spelled_type types.FixedSizeList p children = with_item (fixed_list p) children
+spelled_type types.LargeBinary p children = without_children (Some large_binaries) children
+spelled_type types.LargeUtf8 p children = without_children (Some large_texts) children
+spelled_type types.LargeList p children = with_item (λ item. Some (large_lists item)) children
+spelled_type _ p children = None
+
+-- the same as a test, by the number of children
+unfoldable pub is_spelled : TypeName → RawParameters → ℕ → Bool
+is_spelled types.Null p n = n == 0
+is_spelled types.Int p n = n == 0 && is_some (integer p)
+is_spelled types.Binary p n = n == 0
+is_spelled types.Utf8 p n = n == 0
+is_spelled types.Bool p n = n == 0
+is_spelled types.Date p n = n == 0 && is_some (date p)
+is_spelled types.Timestamp p n = n == 0 && is_some (timestamp p)
+is_spelled types.List p n = n == 1
+is_spelled types.Struct p n = true
+is_spelled types.FixedSizeBinary p n = n == 0 && is_some (fixed_binary p)
+is_spelled types.FixedSizeList p n = n == 1 && has_list_size p
+is_spelled types.LargeBinary p n = n == 0
+is_spelled types.LargeUtf8 p n = n == 0
+is_spelled types.LargeList p n = n == 1
+is_spelled _ p n = false
