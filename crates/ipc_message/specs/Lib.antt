@@ -5,7 +5,6 @@ pub mod Raw
 pub mod View
 pub mod Fields
 pub mod Types
-pub mod Held
 pub mod Convert
 pub mod Same
 pub mod Rounds

@@ -8,6 +8,7 @@ use Rattle.ipc_message.specs.declared.fault.Fault.{Fault}
 use Rattle.ipc_message.specs.declared.fault.Fault.TheVariants.{NotYet, BigEndian, TypeNotHeld, BadParameter, SchemaLimit, NotUtf8, DictionaryId, DictionaryOfNested}
 use Rattle.arrow_schema.specs.Column.{Pair}
 use Rattle.ipc_message.specs.Raw.{RawParameters, RawEncoding, RawField, raw_fields_of, timestamp_parameters, RawSchema}
+use Rattle.ipc_message.specs.Framing.{when}
 use Rattle.ipc_message.specs.Fields.{every_field, depth_all, name_of, code_of, parameters_of, dictionary_of, children_of, pairs_of}
 use Rattle.ipc_message.specs.Types.{is_bit_width, type_name, spelled_type}
 use Rattle.ipc_message.specs.Convert.{columns_of_fields}
@@ -17,16 +18,6 @@ use Rattle.ipc_message.specs.Same.{one_id, same_value_type}
 abbrev pub first : {A : Type 0} → (A → Bool) → List A → Option A
 first p [] = None
 first p (x ∷ xs) = if p x then Some x else first p xs
-
--- the first of them that is there
-abbrev pub first_some : {A : Type 0} → List (Option A) → Option A
-first_some [] = None
-first_some (None ∷ rest) = first_some rest
-first_some (Some x ∷ rest) = Some x
-
--- a fault that is told where a test finds something
-abbrev pub when : Bool → Fault → Option Fault
-when found fault = if found then Some fault else None
 
 -- F12: a type that is not held
 abbrev pub is_unheld : (ℕ → Bool) → RawField → Bool

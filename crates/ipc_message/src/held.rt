@@ -1,6 +1,6 @@
 // Which types are held (Schema.fbs, the union Type).
 ghost use Rattle.std.specs.Prelude.{◌≡◌};
-ghost use Rattle.ipc_message.specs.Held.{held};
+ghost use Rattle.ipc_message.specs.Header.{held_codes};
 ghost use Rattle.ipc_message.specs.Types.{type_name};
 
 use crate::fault::TypeName;
@@ -42,9 +42,8 @@ pub fn type_name(code: u8) -> TypeName
 }
 
 /// Whether types of this code are held.
-#[tactic(auto, unfolding(crate::specs::Held::held))]
 pub fn is_held(code: u8) -> bool
-    ensures { result ≡ held code }
+    ensures { result ≡ held_codes code }
 {
     matches!(
         code,

@@ -1,8 +1,8 @@
 use Rattle.std.proofs.Common.{◌≡◌, drop}
-use Rattle.ipc_message.specs.Held.{held}
+use Rattle.ipc_message.specs.Header.{held_codes}
 use Rattle.ipc_message.specs.Rounds.{first, is_unheld}
 use Rattle.ipc_message.specs.Listed.{listed}
 use Rattle.ipc_message.proofs.rounds.unheld_type.Given as goal
 
 abbrev pub invariant-loop-place : goal.invariant-loop-place
-invariant-loop-place l = first (is_unheld held) (listed (drop l.place-index l.fields)) ≡ first (is_unheld held) (listed l.fields)
+invariant-loop-place l = first (is_unheld held_codes) (listed (drop l.place-index l.fields)) ≡ first (is_unheld held_codes) (listed l.fields)
