@@ -1,0 +1,4 @@
+pub mod Worked
+pub mod Fine
+pub mod TypeRead
+pub mod FieldRead

@@ -1,0 +1,4 @@
+pub mod Trees
+pub mod Spelled
+pub mod Written
+pub mod Walked

@@ -1,0 +1,46 @@
+-- How many tables a reader enters for what was written, and which types it must hold.
+use Rattle.std.specs.Prelude.{◌≡◌, ℕ, ◌+◌, Bool, true, length, Option, Some, None}
+use Rattle.arrow_schema.specs.Column.{Index, Kind, Column, Columns, nulls, booleans, integers, dates, timestamps, texts, large_texts, binaries, large_binaries, fixed_binaries, lists, large_lists, fixed_lists, structs, column, no_column, and_column}
+
+-- dates and timestamps are held: the types that not every reader holds, and whose tables are read
+abbrev pub Holds : (ℕ → Bool) → Type 0
+Holds held = (held 8 ≡ true) × (held 10 ≡ true)
+
+-- the tables that are entered for a type: none where it has no parameters
+abbrev pub type_tables : Kind → ℕ
+type_tables (integers bits signed) = 1
+type_tables (fixed_binaries width) = 1
+type_tables (fixed_lists size item) = 1
+type_tables (dates unit) = 1
+type_tables (timestamps unit zone) = 1
+type_tables _ = 0
+
+-- the tables of a dictionary: its own and that of its index type
+abbrev pub encoding_tables : Option Index → ℕ
+encoding_tables None = 0
+encoding_tables (Some index) = 2
+
+-- the tables that are entered for a column, with its children
+abbrev mutual
+  pub tables_of : Column → ℕ
+  tables_of (column name nullable kind dictionary pairs) = 1 + type_tables kind + encoding_tables dictionary + tables_below kind + length pairs
+
+  pub tables_below : Kind → ℕ
+  tables_below nulls = 0
+  tables_below booleans = 0
+  tables_below (integers bits signed) = 0
+  tables_below (dates unit) = 0
+  tables_below (timestamps unit zone) = 0
+  tables_below texts = 0
+  tables_below large_texts = 0
+  tables_below binaries = 0
+  tables_below large_binaries = 0
+  tables_below (fixed_binaries width) = 0
+  tables_below (lists item) = tables_of item
+  tables_below (large_lists item) = tables_of item
+  tables_below (fixed_lists size item) = tables_of item
+  tables_below (structs parts) = tables_of_all parts
+
+  pub tables_of_all : Columns → ℕ
+  tables_of_all no_column = 0
+  tables_of_all (and_column c cs) = tables_of c + tables_of_all cs

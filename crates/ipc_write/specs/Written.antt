@@ -1,0 +1,50 @@
+-- The bytes of the messages of a stream (Arrow columnar format, "Encapsulated message format").
+use Rattle.std.specs.Prelude.{ℕ, ◌+◌, ◌-◌, ◌%◌, false, List, [], ◌∷◌, ◌++◌, length, replicate}
+use Rattle.byteorder.specs.Endian.{little_bytes}
+use Rattle.flatbuf.specs.Tree.{Tree}
+use Rattle.flatbuf.specs.Laid.{metadata}
+use Rattle.arrow_schema.specs.Column.{PlainSchema}
+use Rattle.ipc_message.specs.Framing.{mark}
+use Rattle.ipc_message.specs.Raw.{RawNode, RawBuffer, RawBatch}
+use Rattle.ipc_write.specs.Trees.{schema_tree, batch_tree, dictionary_tree, message_tree}
+
+-- the mark, the size of the metadata, the metadata, the body
+abbrev pub framed : List ℕ → List ℕ → List ℕ
+framed metadata body = mark ++ (little_bytes 4 (length metadata) ++ (metadata ++ body))
+
+-- a message with a header of this type
+abbrev pub message_bytes : ℕ → Tree → List ℕ → List ℕ
+message_bytes type header body = framed (metadata (message_tree type header (length body))) body
+
+-- bytes, and zeros up to a multiple of 8
+abbrev pub padded : List ℕ → List ℕ
+padded bytes = bytes ++ replicate ((8 - length bytes % 8) % 8) 0
+
+-- the body of a batch: its buffers one after another, each filled to a multiple of 8
+abbrev pub body : List (List ℕ) → List ℕ
+body [] = []
+body (buffer ∷ buffers) = padded buffer ++ body buffers
+
+-- where each buffer stands, the first at this offset
+abbrev pub placed : ℕ → List (List ℕ) → List RawBuffer
+placed at [] = []
+placed at (buffer ∷ buffers) = record { offset = at; length = length buffer } ∷ placed (at + length (padded buffer)) buffers
+
+-- a batch of so many rows with these nodes and buffers
+abbrev pub batch_of : ℕ → List RawNode → List (List ℕ) → RawBatch
+batch_of rows nodes buffers = record { length = rows; nodes = nodes; buffers = placed 0 buffers; compressed = false }
+
+-- a schema message has no body
+abbrev pub schema_message : PlainSchema → List ℕ
+schema_message s = message_bytes 1 (schema_tree s) []
+
+-- a dictionary batch, which replaces the entries of its id
+abbrev pub dictionary_message : ℕ → ℕ → List RawNode → List (List ℕ) → List ℕ
+dictionary_message id rows nodes buffers = message_bytes 2 (dictionary_tree (record { id = id; batch = batch_of rows nodes buffers; is_delta = false })) (body buffers)
+
+abbrev pub batch_message : ℕ → List RawNode → List (List ℕ) → List ℕ
+batch_message rows nodes buffers = message_bytes 3 (batch_tree (batch_of rows nodes buffers)) (body buffers)
+
+-- the end mark
+abbrev pub end_mark : List ℕ
+end_mark = mark ++ (0 ∷ 0 ∷ 0 ∷ 0 ∷ [])

@@ -1,0 +1,9 @@
+//! Writing Arrow IPC messages: the one way in which each schema, dictionary batch and record batch is written.
+//!
+//! The bytes are definitions (`specs/Trees.antt`, `specs/Written.antt`), and the laws below say that a reader finds in
+//! them what was written.
+#![tactic(auto)]
+
+mod laws;
+
+pub use laws::field_is_read_again;
