@@ -2,3 +2,4 @@ pub mod Worked
 pub mod Fine
 pub mod TypeRead
 pub mod FieldRead
+pub mod MessageRead

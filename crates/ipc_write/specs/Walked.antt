@@ -1,5 +1,6 @@
 -- How many tables a reader enters for what was written, and which types it must hold.
-use Rattle.std.specs.Prelude.{◌≡◌, ℕ, ◌+◌, Bool, true, length, Option, Some, None}
+use Rattle.std.specs.Prelude.{is_none, false, ◌≡◌, ℕ, ◌+◌, Bool, true, length, Option, Some, None}
+use Rattle.ipc_message.specs.Framing.{header_type}
 use Rattle.arrow_schema.specs.Column.{Index, Kind, Column, Columns, nulls, booleans, integers, dates, timestamps, texts, large_texts, binaries, large_binaries, fixed_binaries, lists, large_lists, fixed_lists, structs, column, no_column, and_column}
 
 -- dates and timestamps are held: the types that not every reader holds, and whose tables are read
@@ -44,3 +45,7 @@ abbrev mutual
   pub tables_of_all : Columns → ℕ
   tables_of_all no_column = 0
   tables_of_all (and_column c cs) = tables_of c + tables_of_all cs
+
+-- a header type that is read
+abbrev pub IsHeaderType : ℕ → Type 0
+IsHeaderType type = is_none (header_type type) ≡ false

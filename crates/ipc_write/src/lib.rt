@@ -6,4 +6,4 @@
 
 mod laws;
 
-pub use laws::field_is_read_again;
+pub use laws::{field_is_read_again, message_is_read_again};
