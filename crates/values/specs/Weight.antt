@@ -1,5 +1,5 @@
 -- How much a value weighs, by its type and never by its dictionary: about the bytes and the cells that it takes in memory.
-use Rattle.std.specs.Prelude.{ℕ, ◌+◌, ◌*◌, List, [], ◌∷◌, length, sum_by}
+use Rattle.std.specs.Prelude.{ℕ, ◌+◌, ◌*◌, min, List, [], ◌∷◌, length, sum_by}
 use Rattle.arrow_schema.specs.Column.{Kind, Column, Columns, nulls, booleans, integers, dates, timestamps, texts, large_texts, binaries, large_binaries, fixed_binaries, lists, large_lists, fixed_lists, structs, column, no_column, and_column, columns_of, PlainSchema}
 use Rattle.values.specs.Cell.{Cell, Cells, null, truth, number, text, bytes, items, parts, no_cell, and_cell, cells_of}
 
@@ -68,3 +68,7 @@ row_weight s row = 1 + parts_weight (columns_of s.columns) (cells_of row)
 -- a table weighs as much as its rows
 abbrev pub table_weight : PlainSchema → List (List Cell) → ℕ
 table_weight s rows = sum_by (row_weight s) rows
+
+-- a weight as it is told: every weight that a table may have is told exactly, and all greater ones as one
+abbrev pub told_weight : ℕ → ℕ
+told_weight w = min w 268435457
