@@ -1,0 +1,4 @@
+pub mod Placed
+pub mod Used
+pub mod Changed
+pub mod Lowest

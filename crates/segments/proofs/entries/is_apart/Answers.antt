@@ -1,0 +1,58 @@
+use Rattle.std.proofs.Common.{◌≡◌, inl, inr, ◌≤◌, ◌<◌, ◌+◌, ◌-◌, ℕ, suc, length, get_or, false, refl, sym, subst, arith}
+use Rattle.segments.specs.declared.run.Run.{Run}
+use Rattle.segments.specs.declared.entries.Entry.{Entry}
+use Rattle.segments.specs.Runs.{IsApart}
+use Rattle.segments.specs.Usages.{place_of}
+use Rattle.segments.proofs.Placed.{apart_at, some_at, below_place, at_place, gap_apart, ends_by, meets}
+use Rattle.segments.proofs.entries.is_apart.Goals as goal
+use Rattle.segments.proofs.entries.is_apart.Goals.{else-place-gt0-via-then-place-gt0+else-contains, else-place-gt0-via-else-place-gt0, else-place-entries-via-then-place-entries+else-contains-2, else-place-entries-via-else-place-entries}
+
+abbrev none : Entry
+none = record { run = record { start = 0; count = 0 }; usage = record { taken = false; pins = 0 } }
+
+swapped : (a b : Run) → IsApart a b → IsApart b a
+swapped a b (inl before) = inr before
+swapped a b (inr after) = inl after
+
+pub returns-then-contains : goal.returns-then-contains
+returns-then-contains c =
+    let within : c.place_of_start-place.result - 1 < length c.args.entries.now = omega arith in
+    let before = (get_or c.args.entries.now (c.place_of_start-place.result - 1) none).run in
+    let starts = c.contains.ensures.0 c.if-contains.true in
+    (λ is. absurd (cc), λ apart. absurd (meets before c.args.run c.args.run.start (λ i. c.args.run.start) starts.0 starts.1 c.requires.some (apart_at c.args.run c.args.entries.now (c.place_of_start-place.result - 1) none apart within)))
+
+pub returns-then-contains-2 : goal.returns-then-contains-2
+returns-then-contains-2 c =
+    let at = (get_or c.args.entries.now c.place_of_start-place.result none).run in
+    let starts = c.contains-then-place-entries.ensures.0 c.if-contains-2.true in (
+      λ is. absurd (cc),
+      λ apart.
+          absurd (meets c.args.run at at.start (λ i. at.start) starts.0 starts.1 (some_at 2 c.args.entries.now c.place_of_start-place.result none c.requires.ordered c.if-place-entries.true)
+          (swapped c.args.run at (apart_at c.args.run c.args.entries.now c.place_of_start-place.result none apart c.if-place-entries.true))),
+    )
+
+pub returns : goal.returns
+returns c =
+    let es = c.args.entries.now in
+    let run = c.args.run in
+    let place = c.place_of_start-place.ensures.place in
+    let before : (k : ℕ) → suc k ≡ place_of run.start es → (get_or es k none).run.start + (get_or es k none).run.count ≤ run.start =
+    λ k is. elim c.else-place-gt0.branch [
+      | else-place-gt0-via-then-place-gt0+else-contains w ↦
+          let at : c.place_of_start-place.result - 1 ≡ k = omega arith in
+          let low = below_place run.start es k none (omega arith) in
+          subst (λ n. (get_or es n none).run.start + (get_or es n none).run.count ≤ run.start) at
+          (ends_by (get_or es (c.place_of_start-place.result - 1) none).run run.start w.contains.result w.contains.ensures w.if-contains.false (subst (λ n. (get_or es n none).run.start ≤ run.start) (sym at) (omega arith)))
+      | else-place-gt0-via-else-place-gt0 w ↦ omega arith
+    ]
+    in
+    let after : (k : ℕ) → k ≡ place_of run.start es → k < length es → run.start + run.count ≤ (get_or es k none).run.start =
+    λ k is lt. elim c.else-place-entries.branch [
+      | else-place-entries-via-then-place-entries+else-contains-2 w ↦
+          let at : c.place_of_start-place.result ≡ k = omega arith in
+          subst (λ n. run.start + run.count ≤ (get_or es n none).run.start) at
+          (ends_by run (get_or es c.place_of_start-place.result none).run.start w.contains-then-place-entries.result w.contains-then-place-entries.ensures w.if-contains-2.false
+          (subst (λ n. run.start ≤ (get_or es n none).run.start) (sym place) (at_place run.start es none (omega arith))))
+      | else-place-entries-via-else-place-entries w ↦ omega arith
+    ]
+    in (λ _. gap_apart run 2 es none c.requires.ordered before after, λ _. refl)

@@ -1,0 +1,24 @@
+-- Runs of sectors: which are free, and the lowest of them.
+use Rattle.std.specs.Prelude.{◌≡◌, ◌⊎◌, ◌≤◌, ◌+◌, ℕ, Option, Some, None}
+use Rattle.segments.specs.declared.run.Run.{Run}
+
+-- two runs share no sector
+abbrev pub IsApart : Run → Run → Type 0
+IsApart a b = (a.start + a.count ≤ b.start) ⊎ (b.start + b.count ≤ a.start)
+
+-- a run lies on the device, behind the two commit sectors
+pub record IsOnDevice (size : ℕ) (run : Run) : Type 0 where
+  pub above : 2 ≤ run.start
+  pub some : 1 ≤ run.count
+  pub within : run.start + run.count ≤ size
+
+-- a run on the device, behind the two commit sectors, that meets no used run
+pub record IsFree (size : ℕ) (used : Run → Type 0) (run : Run) : Type 0 where
+  pub above : 2 ≤ run.start
+  pub within : run.start + run.count ≤ size
+  pub apart : (other : Run) → used other → IsApart run other
+
+-- the free run of so many sectors that starts lowest, or that there is none
+abbrev pub IsLowest : ℕ → (Run → Type 0) → ℕ → Option Run → Type 0
+IsLowest size used count (Some run) = (run.count ≡ count) × IsFree size used run × ((other : Run) → other.count ≡ count → IsFree size used other → run.start ≤ other.start)
+IsLowest size used count None = (run : Run) → run.count ≡ count → IsFree size used run → ⊥

@@ -1,0 +1,197 @@
+// The runs of a device that are in use, and the lowest free one.
+ghost use Rattle.std.specs.Prelude.{◌≡◌, ◌≤◌, ◌↔◌, ◌⊎◌, [], Err, None, Some, IfOk, IfErr, OnOk, OnErr, IsErrOf, IsTrue, true};
+ghost use Rattle.segments.specs.Runs.{IsOnDevice, IsFree, IsLowest};
+ghost use Rattle.segments.specs.Usages.{UNUSED, TAKEN, given, pinned, unpinned, is_used, usage_of, with_run, IsUsedIn, Changes};
+
+use crate::entries::{change, is_apart, lowest, place_of_run, place_of_start};
+use crate::{EnterError, Entry, Run, TakeError, Usage};
+use std::alloc::{AllocError, Global};
+use std::marker::Model;
+
+/// The runs in use on a device: those taken by the catalogue that rules, and those pinned by snapshots.
+/// All others behind the two commit sectors are free.
+#[derive(Drop)]
+pub struct FreeMap {
+    size: u64,
+    entries: Vec<Entry>,
+}
+
+impl Model for FreeMap {
+    ghost use Rattle.segments.specs.Usages.{Space, IsSound};
+
+    ghost Value = { Space };
+
+    ghost view = { λ map. record { size = map.size; entries = map.entries.items } };
+
+    ghost invariant = { λ map. IsSound (record { size = map.size; entries = map.entries.items }) };
+}
+
+impl FreeMap {
+    /// A device of so many sectors on which no run is in use.
+    pub fn new(alloc: Global, size: u64) -> Self
+        ensures { result ≡ record { size = size; entries = [] } }
+    {
+        FreeMap {
+            size,
+            entries: Vec::new(alloc),
+        }
+    }
+
+    /// What a run is used for.
+    pub fn usage(&self, run: Run) -> Usage
+        ensures usage { result ≡ usage_of self.now.entries run }
+        ensures on_device { is_used result ≡ true → IsOnDevice self.now.size run }
+    {
+        match place_of_run(&self.entries, run) {
+            Some(place) => self.entries[place].usage,
+            None => Usage {
+                taken: false,
+                pins: 0,
+            },
+        }
+    }
+
+    /// The lowest free run of so many sectors. It takes no memory.
+    pub fn find(&self, count: u64) -> Option<Run>
+        requires { 1 ≤ count }
+        ensures { IsLowest self.now.size (IsUsedIn self.now.entries) count result }
+    {
+        lowest(self.size, &self.entries, count)
+    }
+
+    /// Takes the lowest free run of so many sectors.
+    pub fn take(&mut self, count: u64) -> Result<Run, TakeError>
+        requires { 1 ≤ count }
+        ensures lowest { IfOk result (λ run. IsLowest self.old.size (IsUsedIn self.old.entries) count (Some run)) }
+        ensures taken { IfOk result (λ run. self.new ≡ with_run self.old run TAKEN) }
+        ensures changes { IfOk result (λ run. Changes self.old self.new run TAKEN) }
+        ensures no_room { (result ≡ Err (TakeError.NoRoom count)) ↔ IsLowest self.old.size (IsUsedIn self.old.entries) count None }
+        ensures err { OnErr result (self.new ≡ self.old) }
+        ensures errors { IfErr result (λ e. (e ≡ TakeError.NoRoom count) ⊎ (e ≡ TakeError.OutOfMemory)) }
+    {
+        let Some(run) = self.find(count) else {
+            return Err(TakeError::NoRoom(count));
+        };
+        let usage = Usage {
+            taken: true,
+            pins: 0,
+        };
+        self.insert(run, usage)?;
+        Ok(run)
+    }
+
+    /// Takes this run, as one that a catalogue names.
+    pub fn occupy(&mut self, run: Run) -> Result<(), EnterError>
+        ensures fits { OnOk result (IsOnDevice self.old.size run × IsFree self.old.size (IsUsedIn self.old.entries) run) }
+        ensures taken { OnOk result (self.new ≡ with_run self.old run TAKEN) }
+        ensures changes { OnOk result (Changes self.old self.new run TAKEN) }
+        ensures range { IsErrOf result EnterError.Range ↔ (IsOnDevice self.old.size run → ⊥) }
+        ensures overlap { IsErrOf result EnterError.Overlap → IsFree self.old.size (IsUsedIn self.old.entries) run → ⊥ }
+        ensures pins { IsErrOf result EnterError.TooManyPins → ⊥ }
+        ensures err { OnErr result (self.new ≡ self.old) }
+    {
+        let usage = Usage {
+            taken: true,
+            pins: 0,
+        };
+        self.enter(run, usage)
+    }
+
+    /// Gives the run back. It stays in use while it is pinned. It takes no memory.
+    pub fn give(&mut self, run: Run)
+        ensures given { self.new ≡ with_run self.old run (given (usage_of self.old.entries run)) }
+        ensures changes { Changes self.old self.new run (given (usage_of self.old.entries run)) }
+    {
+        let usage = self.usage(run);
+        let pins = usage.pins;
+        self.set_usage(run, Usage { taken: false, pins });
+    }
+
+    /// Pins the run once more. It stays in use until it is unpinned as often.
+    /// It takes memory only where the run wasn't in use.
+    pub fn pin(&mut self, run: Run) -> Result<(), EnterError>
+        ensures fits { OnOk result (IsUsedIn self.old.entries run ⊎ IsFree self.old.size (IsUsedIn self.old.entries) run) }
+        ensures pinned { OnOk result (self.new ≡ with_run self.old run (pinned (usage_of self.old.entries run))) }
+        ensures changes { OnOk result (Changes self.old self.new run (pinned (usage_of self.old.entries run))) }
+        ensures range { IsErrOf result EnterError.Range ↔ (IsOnDevice self.old.size run → ⊥) }
+        ensures overlap { IsErrOf result EnterError.Overlap → (usage_of self.old.entries run ≡ UNUSED) × (IsFree self.old.size (IsUsedIn self.old.entries) run → ⊥) }
+        ensures pins { IsErrOf result EnterError.TooManyPins → (usage_of self.old.entries run).pins ≡ u32.MAX }
+        ensures memory { IsErrOf result EnterError.OutOfMemory → usage_of self.old.entries run ≡ UNUSED }
+        ensures err { OnErr result (self.new ≡ self.old) }
+    {
+        let usage = self.usage(run);
+        let taken = usage.taken;
+        if !usage.is_used() {
+            return self.enter(run, Usage { taken, pins: 1 });
+        }
+        let Some(pins) = usage.pins.checked_add(1) else {
+            return Err(EnterError::TooManyPins);
+        };
+        self.set_usage(run, Usage { taken, pins });
+        Ok(())
+    }
+
+    /// Takes one pin from the run, if it has one. It takes no memory.
+    pub fn unpin(&mut self, run: Run)
+        ensures unpinned { self.new ≡ with_run self.old run (unpinned (usage_of self.old.entries run)) }
+        ensures changes { Changes self.old self.new run (unpinned (usage_of self.old.entries run)) }
+    {
+        let usage = self.usage(run);
+        let taken = usage.taken;
+        let pins = usage.pins.saturating_sub(1);
+        self.set_usage(run, Usage { taken, pins });
+    }
+
+    // Gives a run in use another usage; one that isn't stays so.
+    fn set_usage(&mut self, run: Run, usage: Usage)
+        requires { usage_of self.old.entries run ≡ UNUSED → usage ≡ UNUSED }
+        ensures entries { self.new ≡ with_run self.old run usage }
+        ensures changes { Changes self.old self.new run usage }
+    {
+        if let Some(place) = place_of_run(&self.entries, run) {
+            change(&mut self.entries, run, place, usage);
+        }
+    }
+
+    // A run comes into use, where it is free.
+    fn enter(&mut self, run: Run, usage: Usage) -> Result<(), EnterError>
+        requires { is_used usage ≡ true }
+        ensures fits { OnOk result (IsOnDevice self.old.size run × IsFree self.old.size (IsUsedIn self.old.entries) run) }
+        ensures entered { OnOk result (self.new ≡ with_run self.old run usage) }
+        ensures changes { OnOk result (Changes self.old self.new run usage) }
+        ensures range { IsErrOf result EnterError.Range ↔ (IsOnDevice self.old.size run → ⊥) }
+        ensures overlap { IsErrOf result EnterError.Overlap → IsFree self.old.size (IsUsedIn self.old.entries) run → ⊥ }
+        ensures pins { IsErrOf result EnterError.TooManyPins → ⊥ }
+        ensures err { OnErr result (self.new ≡ self.old) }
+    {
+        if !is_on_device(run, self.size) {
+            return Err(EnterError::Range);
+        }
+        if !is_apart(&self.entries, run) {
+            return Err(EnterError::Overlap);
+        }
+        self.insert(run, usage)?;
+        Ok(())
+    }
+
+    // A free run comes into use.
+    fn insert(&mut self, run: Run, usage: Usage) -> Result<(), AllocError>
+        requires used { is_used usage ≡ true }
+        requires some { 1 ≤ run.count }
+        requires free { IsFree self.old.size (IsUsedIn self.old.entries) run }
+        ensures entered { OnOk result (self.new ≡ with_run self.old run usage) }
+        ensures changes { OnOk result (Changes self.old self.new run usage) }
+        ensures err { OnErr result (self.new ≡ self.old) }
+    {
+        let place = place_of_start(&self.entries, run.start);
+        self.entries.insert(place, Entry { run, usage })?;
+        Ok(())
+    }
+}
+
+// Whether the run lies on a device of this size, behind the commit sectors.
+fn is_on_device(run: Run, size: u64) -> bool
+    ensures { IsTrue result ↔ IsOnDevice size run }
+{
+    run.start >= 2 && run.count >= 1 && run.start <= size && run.count <= size - run.start
+}
