@@ -6,4 +6,6 @@ pub mod Faults
 pub mod History
 pub mod Cells
 pub mod Newest
+pub mod Run
+pub mod Silent
 pub mod View

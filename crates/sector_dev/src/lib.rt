@@ -8,10 +8,13 @@ mod cells;
 mod choice;
 mod device;
 mod faults;
+mod file;
 mod log;
 mod model;
+mod run;
 
 pub use choice::Choice;
 pub use device::{DevError, SECTOR_BYTES, SectorDevice};
 pub use faults::Faults;
+pub use file::{FileDevice, FileError, LEAST_SECTORS, MOST_SECTORS};
 pub use model::ModelDevice;
