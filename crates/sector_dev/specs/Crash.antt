@@ -2,7 +2,7 @@
 use Rattle.std.specs.Prelude.{◌≡◌, ◌≢◌, ◌⊎◌, ◌==◌, if◌then◌else◌, ℕ, Bool, true, false, List, [], Option, Some, None, refl}
 use Rattle.std.proofs.Common.{inl, inr, ap, subst, arith}
 use Rattle.std.proofs.lemmas.Bool.Decides.{nat_tests}
-use Rattle.sector_dev.specs.Disk.{Disk, Sector, Image, put, flushed, with_content, LeftByWrites, MayHold, MayLeave, synced_image, shown_image}
+use Rattle.sector_dev.specs.Disk.{Disk, Sector, Image, put, flushed, with_content, LeftByWrites, MayHold, MayLeave, synced_image, shown_image, ShowsImage, blank}
 
 -- a write changes no other sector
 pub put_other : (d : Disk) (n : ℕ) (c : List ℕ) (x : Option (List ℕ)) (k : ℕ) → k ≢ n → (put d n c x).at k ≡ d.at k
@@ -48,3 +48,8 @@ only_flushed d image may = λ i n. leaves_flushed d image n may i
 pub may_leave_synced : (d : Disk) → MayLeave d (synced_image d)
 unfolding MayLeave
 may_leave_synced d n = inl refl
+
+-- a disk on which nothing was ever told shows what a crash may leave
+pub blank_shows : ShowsImage blank
+unfolding ShowsImage MayLeave
+blank_shows n = inl refl

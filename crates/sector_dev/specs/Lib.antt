@@ -7,5 +7,4 @@ pub mod History
 pub mod Cells
 pub mod Newest
 pub mod Run
-pub mod Silent
 pub mod View

@@ -2,7 +2,7 @@
 ghost use Rattle.std.specs.Prelude.{◌≡◌, ◌≤◌, ◌<◌, ◌⊎◌, ◌↔◌, [], false, IfOk, IfErr, IsErrOf, IsTrue};
 ghost use Rattle.sector_dev.specs.Disk.{Counts};
 ghost use Rattle.sector_dev.specs.declared.file.FileError.TheVariants.{Io};
-ghost use Rattle.sector_dev.specs.Silent.{silent_shows};
+ghost use Rattle.sector_dev.specs.Crash.{blank_shows};
 
 use crate::run::{MOST, Run};
 use crate::{DevError, SectorDevice};
@@ -110,9 +110,12 @@ impl<F: Read + Write + Seek + OpenFile + Drop> FileDevice<F> {
     /// # Errors
     /// `Io` where the system refuses; `BadSize` where its length is no multiple of 512, or is outside 16 to 4,194,304
     /// sectors.
-    pub fn open<R: Files<File = F> + AllocGlobal>(rt: &R, path: &str) -> Result<FileDevice<F>, FileError>
-        ensures size { IfOk result (λ d. (16 ≤ d.sectors) × (d.sectors ≤ 4194304)) }
-        ensures failed { IfOk result (λ d. d.failed ≡ 0) }
+    pub fn open<R: Files<File = F> + AllocGlobal>(
+        rt: &R,
+        path: &str,
+    ) -> Result<FileDevice<F>, FileError>
+        ensures size { IfOk result (λ d. (16 ≤ ⟦<FileDevice<F> as SectorDevice>⟧.size d) × (⟦<FileDevice<F> as SectorDevice>⟧.size d ≤ 4194304)) }
+        ensures failed { IfOk result (λ d. ⟦<FileDevice<F> as SectorDevice>⟧.failed d ≡ 0) }
     {
         let mut file = OpenOptions::new().read(true).write(true).open(rt, path)?;
         let bytes = file.seek(SeekFrom::End(0))?;
@@ -128,9 +131,13 @@ impl<F: Read + Write + Seek + OpenFile + Drop> FileDevice<F> {
     /// # Errors
     /// `BadSize` where that is outside 16 to 4,194,304, told first; `Io` where something is at the path already, or the
     /// system refuses: then no file was made.
-    pub fn create<R: Files<File = F> + AllocGlobal>(rt: &R, path: &str, sectors: u64) -> Result<FileDevice<F>, FileError>
-        ensures size { IfOk result (λ d. d.sectors ≡ sectors) }
-        ensures failed { IfOk result (λ d. d.failed ≡ 0) }
+    pub fn create<R: Files<File = F> + AllocGlobal>(
+        rt: &R,
+        path: &str,
+        sectors: u64,
+    ) -> Result<FileDevice<F>, FileError>
+        ensures size { IfOk result (λ d. ⟦<FileDevice<F> as SectorDevice>⟧.size d ≡ sectors) }
+        ensures failed { IfOk result (λ d. ⟦<FileDevice<F> as SectorDevice>⟧.failed d ≡ 0) }
         ensures bad_size { IsErrOf result FileError.BadSize ↔ ¬ ((16 ≤ sectors) × (sectors ≤ 4194304)) }
     {
         if !is_size(sectors) {
@@ -145,7 +152,8 @@ impl<F: Read + Write + Seek + OpenFile + Drop> FileDevice<F> {
         Ok(FileDevice::over(rt.alloc(), file, sectors))
     }
 
-    fn over(alloc: Global, file: F, sectors: u64) -> FileDevice<F>
+    // A device over a file of this many sectors.
+    pub(crate) fn over(alloc: Global, file: F, sectors: u64) -> FileDevice<F>
         requires { sectors ≤ 4194304 }
         ensures size { result.sectors ≡ sectors }
         ensures failed { result.failed ≡ 0 }
@@ -262,7 +270,7 @@ impl<F: Read + Write + Seek + OpenFile + Drop> SectorDevice for FileDevice<F> {
 
     ghost story = { λ f. [] };
 
-    ghost shows = { λ f told. silent_shows told };
+    ghost shows = { λ f told. blank_shows };
 
     fn sectors(&self) -> u64 {
         self.sectors
