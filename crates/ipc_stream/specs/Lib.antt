@@ -4,3 +4,5 @@ pub mod Body
 pub mod Columns
 pub mod Table
 pub mod View
+pub mod Batch
+pub mod Meaning

@@ -1,0 +1,106 @@
+-- What a stream of bytes means: a table, or the first fault (Arrow columnar format, "IPC Streaming Format"). `held` says which
+-- type codes are held.
+use Rattle.std.specs.Prelude.{ℕ, zero, suc, Bool, true, false, not, ◌==◌, List, [], ◌∷◌, ◌++◌, length, drop, flat_map, Option, Some, None, Result, Ok, Err, if◌then◌else◌}
+use Rattle.std.specs.List.{list_any}
+use Rattle.values.specs.Cell.{Cell, PlainTable}
+use Rattle.arrow_schema.specs.Column.{PlainSchema}
+use Rattle.ipc_message.specs.declared.fault.Fault.{Fault}
+use Rattle.ipc_message.specs.declared.fault.Fault.TheVariants.{Truncated, NoSchema, SecondSchema, DictionaryId, AfterEnd}
+use Rattle.ipc_message.specs.Raw.{RawSchema, RawDictionaryBatch, RawHeader, schema_header, dictionary_header, batch_header}
+use Rattle.ipc_message.specs.Framing.{Front, end_mark, message, Envelope, front, taken, first_some, when, type_of}
+use Rattle.ipc_message.specs.Header.{header}
+use Rattle.ipc_message.specs.Fields.{every_field, dictionary_of}
+use Rattle.ipc_message.specs.Same.{has_id}
+use Rattle.ipc_message.specs.Convert.{plain_schema_of}
+use Rattle.ipc_message.specs.Rounds.{schema_rounds}
+use Rattle.ipc_stream.specs.Batch.{batch_rows, batch_rounds}
+
+infixl 10 ◌>>=◌
+abbrev pub ◌>>=◌ : {A B : Type 0} → Result A Fault → (A → Result B Fault) → Result B Fault
+(Ok x) >>= f = f x
+(Err e) >>= f = Err e
+
+-- a fault, or else what follows
+abbrev pub or_else : {A : Type 0} → Option Fault → Result A Fault → Result A Fault
+or_else (Some fault) r = Err fault
+or_else None r = r
+
+abbrev pub is_empty : {A : Type 0} → List A → Bool
+is_empty [] = true
+is_empty (x ∷ xs) = false
+
+-- a message that was accepted: its header and its body
+pub record Message : Type 0 where
+  pub header : RawHeader
+  pub body : List ℕ
+
+-- ---- what accepted messages mean: the first is the schema, record batches follow
+
+abbrev pub schema_of_header : RawHeader → RawSchema
+schema_of_header (schema_header s) = s
+schema_of_header _ = record { endianness = 0; fields = []; pairs = [] }
+
+abbrev pub schema_in : List Message → RawSchema
+schema_in [] = record { endianness = 0; fields = []; pairs = [] }
+schema_in (m ∷ ms) = schema_of_header m.header
+
+abbrev pub rows_of_header : PlainSchema → List ℕ → RawHeader → List (List Cell)
+rows_of_header s body (batch_header b) = batch_rows s b body
+rows_of_header s body _ = []
+
+abbrev pub rows_in : PlainSchema → List Message → List (List Cell)
+rows_in s ms = flat_map (λ m. rows_of_header s m.body m.header) ms
+
+-- the schema, and the rows of all record batches joined
+unfoldable pub table_in : List Message → PlainTable
+table_in ms = let s = plain_schema_of (schema_in ms) in record { schema = s; rows = rows_in s ms }
+
+-- ---- the tests of a message after those before it
+
+-- F9, F10: a batch before the schema, and a schema after it
+abbrev pub order_fault : List Message → ℕ → Option Fault
+order_fault before header_type =
+    if is_empty before then when (not (header_type == 1)) NoSchema else when (header_type == 1) SecondSchema
+
+-- F24: an id that no field has; dictionaries are not read yet, so that this is told of each dictionary batch
+abbrev pub dictionary_rounds : RawSchema → RawDictionaryBatch → List (Option Fault)
+dictionary_rounds s d = when (not (list_any (λ f. has_id d.id (dictionary_of f)) (every_field s))) DictionaryId ∷ []
+
+-- the tests of what a header spells
+abbrev pub header_rounds : (ℕ → Bool) → List Message → List ℕ → RawHeader → List (Option Fault)
+header_rounds held before body (schema_header s) = schema_rounds held s
+header_rounds held before body (dictionary_header d) = dictionary_rounds (schema_in before) d
+header_rounds held before body (batch_header b) =
+    let s = plain_schema_of (schema_in before) in batch_rounds s (rows_in s before) b body
+
+unfoldable pub accepted : (ℕ → Bool) → List Message → Envelope → Result Message Fault
+accepted held before m =
+    or_else (order_fault before (type_of m.metadata))
+    (header held m.metadata >>= λ h. or_else (first_some (header_rounds held before m.body h)) (Ok (record { header = h; body = m.body })))
+
+-- ---- the stream
+
+-- the end of the bytes, between two messages
+abbrev pub at_end : List Message → Result (List Message) Fault
+at_end before = if is_empty before then Err NoSchema else Ok before
+
+-- the end mark, and what follows it
+abbrev pub at_mark : List Message → List ℕ → Result (List Message) Fault
+at_mark before rest = if is_empty before then Err NoSchema else if is_empty rest then Ok before else Err AfterEnd
+
+abbrev pub by_front : {A : Type 0} → Front → A → (Envelope → A) → A
+by_front end_mark x f = x
+by_front (message m) x f = f m
+
+-- the messages up to the end, or the first fault; each message takes bytes, so that as many steps as bytes are enough
+unfoldable pub messages : (ℕ → Bool) → ℕ → List Message → List ℕ → Result (List Message) Fault
+messages held zero before bytes = Err Truncated
+messages held (suc steps) before bytes =
+    if is_empty bytes then at_end before
+    else (front bytes >>= λ f. by_front f
+    (at_mark before (drop 8 bytes))
+    (λ m. accepted held before m >>= λ a. messages held steps (before ++ a ∷ []) (drop (taken f) bytes)))
+
+-- the table that the bytes mean, or the first fault
+unfoldable pub meaning : (ℕ → Bool) → List ℕ → Result PlainTable Fault
+meaning held bytes = messages held (suc (length bytes)) [] bytes >>= λ ms. Ok (table_in ms)
