@@ -1,4 +1,3 @@
-pub mod Runs
 pub mod Places
 pub mod ReadBack
 pub mod Elements

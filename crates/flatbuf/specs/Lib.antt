@@ -1,5 +1,6 @@
 pub mod Lookup
 pub mod Walk
+pub mod WalkLaws
 pub mod Seen
 pub mod Tree
 pub mod Laid

@@ -29,7 +29,7 @@ pub struct Budget {
 }
 
 impl Budget {
-    ghost use Rattle.std.specs.Prelude.{[], ◌∷◌};
+    ghost use Rattle.std.specs.Prelude.{[], ◌∷◌, ◌+◌, OnOk};
     ghost use Rattle.flatbuf.specs.Seen.{tables_in};
     ghost use Rattle.flatbuf.specs.Walk.{run, told, table};
 
@@ -43,7 +43,8 @@ impl Budget {
     /// Counts a visit.
     #[tactic(auto, unfolding(crate::specs::Walk::run))]
     pub(crate) fn enter(&mut self, bytes: &[u8]) -> Result<(), FlatError>
-        ensures { run bytes.now (table ∷ []) (tables_in self.old) ≡ told (tables_in self.new) result }
+        ensures walked { run bytes.now (table ∷ []) (tables_in self.old) ≡ told (tables_in self.new) result }
+        ensures counted { OnOk result (tables_in self.new ≡ tables_in self.old + 1) }
     {
         if self.entered >= MAX_TABLES {
             return Err(FlatError::Budget);
@@ -54,6 +55,7 @@ impl Budget {
 }
 
 impl<'a> Buf<'a> {
+    ghost use Rattle.std.specs.Prelude.{◌+◌, OnOk};
     ghost use Rattle.flatbuf.specs.Lookup.{target, table_at};
     ghost use Rattle.flatbuf.specs.Seen.{buffer_bytes, tables_in, bytes_of, place_of, levels_of};
     ghost use Rattle.flatbuf.specs.Walk.{run, told, root_things};
@@ -67,9 +69,10 @@ impl<'a> Buf<'a> {
     }
 
     /// The root table: the first four bytes say where it stands.
-    #[tactic(auto, using(crate::proofs::Runs::run_append), unfolding(crate::specs::Walk::run, crate::specs::Walk::root_things, crate::specs::Lookup::target))]
+    #[tactic(auto, using(crate::specs::WalkLaws::run_append), unfolding(crate::specs::Walk::run, crate::specs::Walk::root_things, crate::specs::Lookup::target))]
     pub fn root(&self, budget: &mut Budget) -> Result<Table<'a>, FlatError>
         ensures walked { run (buffer_bytes self.now) (root_things (buffer_bytes self.now)) (tables_in budget.old) ≡ told (tables_in budget.new) result }
+        ensures counted { OnOk result (tables_in budget.new ≡ tables_in budget.old + 1) }
         ensures same { IfOk result (λ t. bytes_of t ≡ buffer_bytes self.now) }
         ensures here { IfOk result (λ t. place_of t ≡ table_at (buffer_bytes self.now) (target (buffer_bytes self.now) 0)) }
         ensures levels { IfOk result (λ t. levels_of t ≡ 39) }

@@ -6,6 +6,8 @@ use Rattle.flatbuf.specs.declared.FlatError.{FlatError}
 use Rattle.flatbuf.specs.declared.FlatError.TheVariants.{Bounds, VtableSize, Budget}
 use Rattle.flatbuf.specs.Lookup.{number, Place, slot, target, table_at, scalar_of}
 use Rattle.flatbuf.specs.Walk.{Thing, run, root_things, spans}
+use Rattle.ipc_message.specs.declared.envelope.HeaderType.{HeaderType}
+use Rattle.ipc_message.specs.declared.envelope.HeaderType.TheVariants.{Schema, DictionaryBatch, RecordBatch}
 use Rattle.ipc_message.specs.declared.fault.Fault.{Fault}
 use Rattle.ipc_message.specs.declared.fault.Fault.TheVariants.{Truncated, NoContinuation, MetadataSize, FlatBounds, FlatBudget, MetadataVersion, HeaderKind, BodyLength}
 
@@ -17,15 +19,9 @@ mark = 255 ∷ 255 ∷ 255 ∷ 255 ∷ []
 abbrev pub most_metadata : ℕ
 most_metadata = 16777216
 
--- what the header of a message is (Message.fbs, `MessageHeader`)
-pub data HeaderType : Type 0 where
-  schema_type : HeaderType
-  dictionary_type : HeaderType
-  batch_type : HeaderType
-
--- the header types by their numbers; others are not read
+-- what the header of a message is, by its number (Message.fbs, `MessageHeader`); others are not read
 abbrev pub header_type : ℕ → Option HeaderType
-header_type n = if n == 1 then Some schema_type else if n == 2 then Some dictionary_type else if n == 3 then Some batch_type else None
+header_type n = if n == 1 then Some Schema else if n == 2 then Some DictionaryBatch else if n == 3 then Some RecordBatch else None
 
 -- a message as it stands: its metadata and its body
 pub record Envelope : Type 0 where
@@ -132,7 +128,7 @@ front bytes =
     unless (first_some (mark_faults bytes))
     (if metadata_size bytes == 0 then Ok end_mark
     else unless (first_some (size_faults bytes ++ message_faults (metadata_in bytes) (length (after_metadata bytes))))
-        (Ok (message (record { metadata = metadata_in bytes; body = take (body_length (metadata_in bytes)) (after_metadata bytes) }))))
+    (Ok (message (record { metadata = metadata_in bytes; body = take (body_length (metadata_in bytes)) (after_metadata bytes) }))))
 
 -- ---- the relation
 

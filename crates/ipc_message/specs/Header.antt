@@ -1,16 +1,18 @@
 -- The header of a message: what a reader meets in it, in order, and what it spells (Message.fbs, Schema.fbs). A table that is
 -- absent reads as one whose slots are all absent. `held` says which type codes are held; `left` is how many levels of
 -- tables may stand below the table in question.
-use Rattle.std.specs.Prelude.{ℕ, zero, suc, ◌-◌, ◌/◌, Bool, true, false, ◌&&◌, ◌||◌, ◌==◌, if◌then◌else◌, List, [], ◌∷◌, ◌++◌, length, map, Option, Some, None, option_map, is_some, Result, Ok, Err}
+use Rattle.std.specs.Prelude.{ℕ, zero, suc, ◌-◌, ◌/◌, Bool, true, false, ◌&&◌, ◌||◌, ◌==◌, if◌then◌else◌, List, [], ◌∷◌, ◌++◌, length, map, Option, Some, None, option_map, is_some, unwrap_or, Result, Ok, Err}
 use Rattle.std.specs.List.{flat_map, list_any}
 use Rattle.flatbuf.specs.declared.FlatError.{FlatError}
 use Rattle.flatbuf.specs.Lookup.{Place, table_at, slot, target, elements, text_of, structs_of, scalar_of, is_set, table_behind}
 use Rattle.flatbuf.specs.Walk.{Thing, too_deep, missing, run, head_things, table_things, reference_things, spans, vector_at}
 use Rattle.arrow_schema.specs.Column.{Pair}
+use Rattle.ipc_message.specs.declared.envelope.HeaderType.{HeaderType}
+use Rattle.ipc_message.specs.declared.envelope.HeaderType.TheVariants.{Schema, DictionaryBatch, RecordBatch}
 use Rattle.ipc_message.specs.declared.fault.Fault.{Fault}
 use Rattle.ipc_message.specs.Raw.{RawParameters, no_parameters, integer_parameters, byte_width, list_size, date_unit, timestamp_parameters, RawEncoding, RawField, raw_field, no_raw_field, raw_fields_of, RawSchema, RawBatch, RawDictionaryBatch, RawHeader, schema_header, dictionary_header, batch_header}
 use Rattle.ipc_message.specs.View.{nodes_in, buffers_in}
-use Rattle.ipc_message.specs.Framing.{message_table, type_of, flat_fault}
+use Rattle.ipc_message.specs.Framing.{message_table, type_of, header_type, flat_fault}
 
 -- the type codes that are held
 abbrev pub held_codes : ℕ → Bool
@@ -82,15 +84,21 @@ own_things held left bytes t =
     ++ encoding_things left bytes (slot bytes t 4)
     ++ vector_at 4 bytes (slot bytes t 5)
 
--- a field and all below it, at a position from which so many levels are left: its own table, its children, its custom_metadata
+-- a field's slots: its own table, its children by the walk over a child, its custom_metadata
+unfoldable pub slots_by : (ℕ → List Thing) → (ℕ → Bool) → ℕ → List ℕ → Place → List Thing
+slots_by child_things held left bytes t =
+    own_things held left bytes t
+    ++ flat_map child_things (elements bytes (slot bytes t 5))
+    ++ pairs_things left bytes (slot bytes t 6)
+
+-- a field and all below it, at a position from which so many levels are left
 unfoldable pub field_things : (ℕ → Bool) → ℕ → List ℕ → ℕ → List Thing
 field_things held zero bytes at = too_deep ∷ []
-field_things held (suc left) bytes at =
-    let t = table_at bytes at in
-    head_things bytes at
-    ++ (own_things held left bytes t
-    ++ flat_map (field_things held left bytes) (elements bytes (slot bytes t 5))
-    ++ pairs_things left bytes (slot bytes t 6))
+field_things held (suc left) bytes at = head_things bytes at ++ slots_by (field_things held left bytes) held left bytes (table_at bytes at)
+
+-- the slots of a field's table, below which so many levels may stand
+abbrev pub field_slots : (ℕ → Bool) → ℕ → List ℕ → Place → List Thing
+field_slots held left bytes t = slots_by (field_things held left bytes) held left bytes t
 
 -- a Schema: its endianness, fields and custom_metadata
 unfoldable pub schema_things : (ℕ → Bool) → ℕ → List ℕ → Option Place → List Thing
@@ -117,47 +125,47 @@ dictionary_things left bytes t =
     ++ batch_things bytes (table_behind bytes (slot_in bytes t 1))
     ++ spans 1 (slot_in bytes t 2)
 
--- where the header of a message is, and how many levels may stand from there on
+-- what the header of a message is
+abbrev pub type_in : List ℕ → HeaderType
+type_in metadata = unwrap_or (header_type (type_of metadata)) RecordBatch
+
+-- where it stands
 abbrev pub header_slot : List ℕ → Option ℕ
 header_slot metadata = slot metadata (message_table metadata) 2
 
-abbrev pub header_levels : ℕ
-header_levels = 39
+-- a header of this type
+abbrev pub things_by_type : (ℕ → Bool) → ℕ → List ℕ → Option Place → HeaderType → List Thing
+things_by_type held left bytes t Schema = schema_things held left bytes t
+things_by_type held left bytes t DictionaryBatch = dictionary_things left bytes t
+things_by_type held left bytes t RecordBatch = batch_things bytes t
 
--- the header of a message, by its type: the walk that comes after the Message's own things
+-- the header of a message: the walk that comes after the Message's own things. 39 levels are left from the header on
 unfoldable pub header_things : (ℕ → Bool) → List ℕ → List Thing
 header_things held metadata =
-    let at = header_slot metadata in
-    let t = table_behind metadata at in
-    needed_things header_levels metadata at
-    ++ (if type_of metadata == 1 then schema_things held 38 metadata t
-    else if type_of metadata == 2 then dictionary_things 38 metadata t
-    else batch_things metadata t)
+    needed_things 39 metadata (header_slot metadata)
+    ++ things_by_type held 38 metadata (table_behind metadata (header_slot metadata)) (type_in metadata)
 
 -- ---- what it spells
 
--- the bitWidth and is_signed of an Int
-abbrev pub int_of : List ℕ → Option Place → ℕ × Bool
-int_of bytes t = (scalar_of 4 0 bytes (slot_in bytes t 0), is_set (scalar_of 1 0 bytes (slot_in bytes t 1)))
+-- the bitWidth and is_signed of an Int, or what an absent one means
+abbrev pub int_or : ℕ × Bool → List ℕ → Option Place → ℕ × Bool
+int_or absent bytes None = absent
+int_or absent bytes (Some t) = (scalar_of 4 0 bytes (slot bytes t 0), is_set (scalar_of 1 0 bytes (slot bytes t 1)))
 
 -- what the table of a type spells; a Date without a unit has milliseconds, 1
 unfoldable pub parameters_in : (ℕ → Bool) → List ℕ → ℕ → Option Place → RawParameters
 parameters_in held bytes code t =
-    if code == 2 then (let i = int_of bytes t in integer_parameters i.0 i.1)
+    if code == 2 then (let i = int_or (0, false) bytes t in integer_parameters i.0 i.1)
     else if code == 15 then byte_width (scalar_of 4 0 bytes (slot_in bytes t 0))
     else if code == 16 then list_size (scalar_of 4 0 bytes (slot_in bytes t 0))
     else if code == 8 && held 8 then date_unit (scalar_of 2 1 bytes (slot_in bytes t 0))
     else if code == 10 && held 10 then timestamp_parameters (scalar_of 2 0 bytes (slot_in bytes t 0)) (text_of bytes (slot_in bytes t 1))
     else no_parameters
 
--- an index type: signed with 32 bits where it is absent
-abbrev pub index_of : List ℕ → Option Place → ℕ × Bool
-index_of bytes None = (32, true)
-index_of bytes (Some t) = int_of bytes (Some t)
-
+-- a DictionaryEncoding; an absent index type is signed with 32 bits
 unfoldable pub encoding_in : List ℕ → Place → RawEncoding
 encoding_in bytes t =
-    let index = index_of bytes (table_behind bytes (slot bytes t 1)) in
+    let index = int_or (32, true) bytes (table_behind bytes (slot bytes t 1)) in
     record { id = scalar_of 8 0 bytes (slot bytes t 0); width = index.0; signed = index.1; kind = scalar_of 2 0 bytes (slot bytes t 3) }
 
 unfoldable pub pair_at : List ℕ → ℕ → Pair
@@ -171,13 +179,13 @@ unfoldable pub field_with : (ℕ → Bool) → List ℕ → Place → List RawFi
 field_with held bytes t children =
     let code = scalar_of 1 0 bytes (slot bytes t 2) in
     raw_field
-        (text_of bytes (slot bytes t 0))
-        (is_set (scalar_of 1 0 bytes (slot bytes t 1)))
-        code
-        (parameters_in held bytes code (table_behind bytes (slot bytes t 3)))
-        (option_map (encoding_in bytes) (table_behind bytes (slot bytes t 4)))
-        (raw_fields_of children)
-        (pairs_in bytes (slot bytes t 6))
+    (text_of bytes (slot bytes t 0))
+    (is_set (scalar_of 1 0 bytes (slot bytes t 1)))
+    code
+    (parameters_in held bytes code (table_behind bytes (slot bytes t 3)))
+    (option_map (encoding_in bytes) (table_behind bytes (slot bytes t 4)))
+    (raw_fields_of children)
+    (pairs_in bytes (slot bytes t 6))
 
 -- the field at a position, from which so many levels are left
 unfoldable pub field_at : (ℕ → Bool) → ℕ → List ℕ → ℕ → RawField
@@ -188,31 +196,35 @@ field_at held (suc left) bytes at =
 
 unfoldable pub schema_in : (ℕ → Bool) → ℕ → List ℕ → Option Place → RawSchema
 schema_in held left bytes t = record {
-    endianness = scalar_of 2 0 bytes (slot_in bytes t 0);
-    fields = map (field_at held left bytes) (elements bytes (slot_in bytes t 1));
-    pairs = pairs_in bytes (slot_in bytes t 2) }
+  endianness = scalar_of 2 0 bytes (slot_in bytes t 0);
+  fields = map (field_at held left bytes) (elements bytes (slot_in bytes t 1));
+  pairs = pairs_in bytes (slot_in bytes t 2);
+}
 
 -- the presence of its compression is its vtable's entry alone
 unfoldable pub batch_in : List ℕ → Option Place → RawBatch
 batch_in bytes t = record {
-    length = scalar_of 8 0 bytes (slot_in bytes t 0);
-    nodes = nodes_in (structs_of 16 bytes (slot_in bytes t 1));
-    buffers = buffers_in (structs_of 16 bytes (slot_in bytes t 2));
-    compressed = is_some (slot_in bytes t 3) }
+  length = scalar_of 8 0 bytes (slot_in bytes t 0);
+  nodes = nodes_in (structs_of 16 bytes (slot_in bytes t 1));
+  buffers = buffers_in (structs_of 16 bytes (slot_in bytes t 2));
+  compressed = is_some (slot_in bytes t 3);
+}
 
 unfoldable pub dictionary_in : List ℕ → Option Place → RawDictionaryBatch
 dictionary_in bytes t = record {
-    id = scalar_of 8 0 bytes (slot_in bytes t 0);
-    batch = batch_in bytes (table_behind bytes (slot_in bytes t 1));
-    is_delta = is_set (scalar_of 1 0 bytes (slot_in bytes t 2)) }
+  id = scalar_of 8 0 bytes (slot_in bytes t 0);
+  batch = batch_in bytes (table_behind bytes (slot_in bytes t 1));
+  is_delta = is_set (scalar_of 1 0 bytes (slot_in bytes t 2));
+}
+
+abbrev pub header_by_type : (ℕ → Bool) → ℕ → List ℕ → Option Place → HeaderType → RawHeader
+header_by_type held left bytes t Schema = schema_header (schema_in held left bytes t)
+header_by_type held left bytes t DictionaryBatch = dictionary_header (dictionary_in bytes t)
+header_by_type held left bytes t RecordBatch = batch_header (batch_in bytes t)
 
 -- what the header of a message spells, whatever its metadata is
 unfoldable pub header_of : (ℕ → Bool) → List ℕ → RawHeader
-header_of held metadata =
-    let t = table_behind metadata (header_slot metadata) in
-    if type_of metadata == 1 then schema_header (schema_in held 38 metadata t)
-    else if type_of metadata == 2 then dictionary_header (dictionary_in metadata t)
-    else batch_header (batch_in metadata t)
+header_of held metadata = header_by_type held 38 metadata (table_behind metadata (header_slot metadata)) (type_in metadata)
 
 -- ---- the test of the header
 

@@ -1,6 +1,7 @@
 pub mod FaultText
 pub mod Framing
 pub mod Header
+pub mod Messages
 pub mod Raw
 pub mod View
 pub mod Fields
@@ -10,3 +11,4 @@ pub mod Same
 pub mod Rounds
 pub mod Listed
 pub mod Outcome
+pub mod Walked

@@ -5,19 +5,27 @@
 #![tactic(auto)]
 
 mod allowed;
+mod envelope;
 mod error;
 mod fault;
 mod fault_text;
 mod fields;
+mod header;
 mod held;
+mod message;
+mod parts;
 mod raw;
 mod rounds;
 mod same;
 mod texts;
+mod walk;
+mod walk_error;
 
+pub use envelope::HeaderType;
 pub use error::ImportError;
 pub use fault::{Fault, TypeName};
 pub use held::{is_held, type_name};
+pub use message::{Front, Message};
 pub use raw::{
     Encoding, Header, KeyValue, Parameters, RawBatch, RawDictionaryBatch, RawField, RawSchema,
 };

@@ -1,0 +1,17 @@
+-- A message of the code as it stands in the bytes.
+use Rattle.std.specs.Prelude.{ℕ, List}
+use Rattle.flatbuf.specs.Seen.{bytes_of}
+use Rattle.ipc_message.specs.declared.message.Message.{Message}
+use Rattle.ipc_message.specs.declared.message.Front.{Front}
+use Rattle.ipc_message.specs.declared.message.Front.TheVariants as fronts
+use Rattle.ipc_message.specs.Framing.{Envelope, end_mark, message}
+use Rattle.ipc_message.specs.Framing as framing
+
+-- its metadata and its body
+abbrev pub envelope_of : Message → Envelope
+envelope_of m = record { metadata = bytes_of m.table; body = m.body.now }
+
+-- what stands at the front
+abbrev pub front_of : Front → framing.Front
+front_of (fronts.Message m) = message (envelope_of m)
+front_of fronts.EndMark = end_mark

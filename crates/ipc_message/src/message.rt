@@ -1,0 +1,125 @@
+// The front of a stream of messages: one message, or the end mark.
+
+ghost use Rattle.std.specs.Prelude.{◌≡◌, Some};
+ghost use Rattle.flatbuf.specs.Seen.{tables_in, bytes_of, place_of, levels_of};
+ghost use Rattle.ipc_message.specs.Framing.{message_table, header_type, type_of};
+
+use crate::walk_error::WalkError;
+use crate::header::{header_by_type, needed};
+use crate::{Fault, Header, HeaderType, ImportError};
+use flatbuf::{Budget, Buf, FlatError, MAX_BYTES, Table};
+use std::alloc::Global;
+
+/// A message whose Message table was read: its header is not, and its body is as many bytes as it says.
+#[derive(Clone, Copy, Debug)]
+pub struct Message<'a> {
+    kind: HeaderType,
+    table: Table<'a>,
+    budget: Budget,
+    body: &'a [u8],
+    ghost root: { place_of table ≡ message_table (bytes_of table) },
+    ghost levels: { levels_of table ≡ 39 },
+    ghost entered: { tables_in budget ≡ 1 },
+    ghost type_is: { header_type (type_of (bytes_of table)) ≡ Some kind },
+}
+
+/// What stands at the front of a stream.
+#[derive(Clone, Copy, Debug)]
+pub enum Front<'a> {
+    Message(Message<'a>),
+    /// The end mark: a mark, and a size of 0.
+    EndMark,
+}
+
+/// What test 8 reads of the Message table.
+#[derive(Clone, Copy)]
+struct MessageHead<'a> {
+    table: Table<'a>,
+    budget: Budget,
+    version: u16,
+    header_type: u8,
+    body_length: u64,
+}
+
+impl<'a> Message<'a> {
+    ghost use Rattle.std.specs.Prelude.{IfOk};
+    ghost use Rattle.ipc_message.specs.Header.{held_codes, header};
+    ghost use Rattle.ipc_message.specs.Messages.{envelope_of};
+    ghost use Rattle.ipc_message.specs.Outcome.{Gives};
+    ghost use Rattle.ipc_message.specs.View.{raw_header_of};
+    ghost use Rattle.ipc_message.specs.Walked.{Spells};
+
+    /// What its header is.
+    pub fn header_type(&self) -> HeaderType
+        ensures { header_type (type_of (envelope_of self.now).metadata) ≡ Some result }
+    {
+        self.kind
+    }
+
+    /// Its body, whatever its metadata says of it.
+    pub fn body(&self) -> &'a [u8]
+        ensures { result.now ≡ (envelope_of self.now).body }
+    {
+        self.body
+    }
+
+    /// What its header spells, with texts that borrow from the metadata, or the fault of the first bad thing in it:
+    /// F4 where something lies out of bounds, a vtable is bad, or the header or the data of a dictionary batch is
+    /// absent; F5 where more tables would be entered than a message may have, or one deeper.
+    pub fn header(&self, alloc: Global) -> Result<Header<'a>, ImportError>
+        ensures exact { Gives raw_header_of result (header held_codes (envelope_of self.now).metadata) }
+    {
+        match self.walk(alloc) {
+            Ok(found) => Ok(found),
+            Err(WalkError::Memory) => Err(ImportError::OutOfMemory),
+            Err(WalkError::Flat(FlatError::Budget)) => Err(ImportError::Fault(Fault::FlatBudget)),
+            Err(WalkError::Flat(FlatError::Bounds | FlatError::VtableSize)) => Err(
+                ImportError::Fault(Fault::FlatBounds),
+            ),
+        }
+    }
+
+    /// The walk over the header, which also reads it.
+    fn walk(&self, alloc: Global) -> Result<Header<'a>, WalkError>
+        ensures { Spells result (header held_codes (bytes_of self.now.table)) }
+    {
+        let mut budget = self.budget;
+        let table = needed(&self.table, 2, &mut budget)?;
+        header_by_type(alloc, self.kind, &table, &mut budget)
+    }
+}
+
+impl<'a> MessageHead<'a> {
+    ghost use Rattle.std.specs.Prelude.{IfOk};
+    ghost use Rattle.std.specs.Prelude.{◌≤◌, length};
+    ghost use Rattle.flatbuf.specs.Walk.{run, told};
+    ghost use Rattle.ipc_message.specs.Framing.{message_things, version_of, body_length};
+
+    /// The Message table, and the content of its slots 0 to 3: where the header's reference leads is not looked at.
+    #[tactic(auto, using(flatbuf::specs::WalkLaws::run_append), unfolding(crate::specs::Framing::message_things, crate::specs::Framing::version_of, crate::specs::Framing::type_of, crate::specs::Framing::body_length))]
+    fn read(metadata: &'a [u8]) -> Result<MessageHead<'a>, FlatError>
+        requires small { length metadata.now ≤ 16777216 }
+        ensures walked { run metadata.now (message_things metadata.now) 0 ≡ told 1 result }
+        ensures same { IfOk result (λ h. bytes_of h.table ≡ metadata.now) }
+        ensures root { IfOk result (λ h. place_of h.table ≡ message_table metadata.now) }
+        ensures levels { IfOk result (λ h. levels_of h.table ≡ 39) }
+        ensures entered { IfOk result (λ h. tables_in h.budget ≡ 1) }
+        ensures version { IfOk result (λ h. h.version ≡ version_of metadata.now) }
+        ensures header_type { IfOk result (λ h. h.header_type ≡ type_of metadata.now) }
+        ensures body_length { IfOk result (λ h. h.body_length ≡ body_length metadata.now) }
+    {
+        let mut budget = Budget::new();
+        let table = Buf::new(metadata).root(&mut budget)?;
+        let version = table.scalar_u16(0, 0)?;
+        let header_type = table.scalar_u8(1, 0)?;
+        let _distance = table.scalar_u32(2, 0)?;
+        let body_length = table.scalar_u64(3, 0)?;
+        Ok(MessageHead {
+            table,
+            budget,
+            version,
+            header_type,
+            body_length,
+        })
+    }
+}

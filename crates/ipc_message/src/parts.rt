@@ -1,0 +1,191 @@
+// The tables of a header that need no memory.
+
+ghost use Rattle.std.specs.Prelude.{◌≡◌, ◌<◌, ℕ, List, length, IfOk, option_map, slice_index};
+ghost use Rattle.flatbuf.specs.Lookup.{slot, table_behind, elements, scalar_of, text_of};
+ghost use Rattle.flatbuf.specs.Seen.{tables_in, bytes_of, place_of, levels_of, slot_of, bytes_behind, places_in, levels_behind};
+ghost use Rattle.flatbuf.specs.Walk.{run, told};
+ghost use Rattle.ipc_message.specs.Header.{held_codes, slot_in, int_things, int_or, size_things, date_things, timestamp_things, type_things, parameters_in, encoding_things, encoding_in, pair_things, pair_at, own_things, field_with, pairs_in};
+ghost use Rattle.ipc_message.specs.Raw.{RawField, raw_field, raw_fields_of};
+ghost use Rattle.ipc_message.specs.View.{parameters_of, encoding_of, key_value};
+
+use crate::{Encoding, KeyValue, Parameters};
+use flatbuf::{Budget, FlatError, References, Table};
+
+// Type codes (Schema.fbs, the union `Type`) whose tables are read.
+const INT: u8 = 2;
+
+const DATE: u8 = 8;
+
+const TIMESTAMP: u8 = 10;
+
+const FIXED_SIZE_BINARY: u8 = 15;
+
+const FIXED_SIZE_LIST: u8 = 16;
+
+/// The bitWidth and is_signed of the Int behind slot `k`.
+#[tactic(auto, using(flatbuf::specs::WalkLaws::run_append), unfolding(crate::specs::Header::int_things))]
+fn int_at(
+    table: &Table,
+    k: u16,
+    absent: (u32, bool),
+    budget: &mut Budget,
+) -> Result<(u32, bool), FlatError>
+    ensures walked { run (bytes_of table.now) (int_things (levels_of table.now) (bytes_of table.now) (slot_of table.now k)) (tables_in budget.old) ≡ told (tables_in budget.new) result }
+    ensures value { IfOk result (λ x. x ≡ int_or absent (bytes_of table.now) (table_behind (bytes_of table.now) (slot_of table.now k))) }
+{
+    match table.reference(k, budget)? {
+        None => Ok(absent),
+        Some(int) => {
+            let width = int.scalar_u32(0, 0)?;
+            let signed = int.flag(1)?;
+            Ok((width, signed))
+        }
+    }
+}
+
+/// The byteWidth of the FixedSizeBinary or the listSize of the FixedSizeList behind slot `k`.
+#[tactic(auto, using(flatbuf::specs::WalkLaws::run_append), unfolding(crate::specs::Header::size_things))]
+fn size_at(table: &Table, k: u16, budget: &mut Budget) -> Result<u32, FlatError>
+    ensures walked { run (bytes_of table.now) (size_things (levels_of table.now) (bytes_of table.now) (slot_of table.now k)) (tables_in budget.old) ≡ told (tables_in budget.new) result }
+    ensures value { IfOk result (λ x. x ≡ scalar_of 4 0 (bytes_of table.now) (slot_in (bytes_of table.now) (table_behind (bytes_of table.now) (slot_of table.now k)) 0)) }
+{
+    match table.reference(k, budget)? {
+        None => Ok(0),
+        Some(sized) => sized.scalar_u32(0, 0),
+    }
+}
+
+/// The unit of the Date behind slot `k`: milliseconds where it is absent.
+#[tactic(auto, using(flatbuf::specs::WalkLaws::run_append), unfolding(crate::specs::Header::date_things))]
+fn date_unit_at(table: &Table, k: u16, budget: &mut Budget) -> Result<u16, FlatError>
+    ensures walked { run (bytes_of table.now) (date_things (levels_of table.now) (bytes_of table.now) (slot_of table.now k)) (tables_in budget.old) ≡ told (tables_in budget.new) result }
+    ensures value { IfOk result (λ x. x ≡ scalar_of 2 1 (bytes_of table.now) (slot_in (bytes_of table.now) (table_behind (bytes_of table.now) (slot_of table.now k)) 0)) }
+{
+    match table.reference(k, budget)? {
+        None => Ok(1),
+        Some(date) => date.scalar_u16(0, 1),
+    }
+}
+
+/// The unit and the timezone of the Timestamp behind slot `k`.
+#[tactic(auto, using(flatbuf::specs::WalkLaws::run_append), unfolding(crate::specs::Header::timestamp_things))]
+fn timestamp_at<'a>(
+    table: &Table<'a>,
+    k: u16,
+    budget: &mut Budget,
+) -> Result<(u16, &'a [u8]), FlatError>
+    ensures walked { run (bytes_of table.now) (timestamp_things (levels_of table.now) (bytes_of table.now) (slot_of table.now k)) (tables_in budget.old) ≡ told (tables_in budget.new) result }
+    ensures unit { IfOk result (λ x. x.0 ≡ scalar_of 2 0 (bytes_of table.now) (slot_in (bytes_of table.now) (table_behind (bytes_of table.now) (slot_of table.now k)) 0)) }
+    ensures zone { IfOk result (λ x. x.1.now ≡ text_of (bytes_of table.now) (slot_in (bytes_of table.now) (table_behind (bytes_of table.now) (slot_of table.now k)) 1)) }
+{
+    match table.reference(k, budget)? {
+        None => Ok((0, &[])),
+        Some(timestamp) => {
+            let unit = timestamp.scalar_u16(0, 0)?;
+            let zone = timestamp.text(1)?;
+            Ok((unit, zone))
+        }
+    }
+}
+
+/// What stands in the table of the type of this code, behind slot 3.
+#[tactic(auto, using(flatbuf::specs::WalkLaws::run_append), unfolding(crate::specs::Header::type_things, crate::specs::Header::parameters_in, flatbuf::specs::Walk::run))]
+fn parameters_at<'a>(
+    table: &Table<'a>,
+    code: u8,
+    budget: &mut Budget,
+) -> Result<Parameters<'a>, FlatError>
+    ensures walked { run (bytes_of table.now) (type_things held_codes (levels_of table.now) (bytes_of table.now) code (slot_of table.now 3)) (tables_in budget.old) ≡ told (tables_in budget.new) result }
+    ensures value { IfOk result (λ x. parameters_of x ≡ parameters_in held_codes (bytes_of table.now) code (table_behind (bytes_of table.now) (slot_of table.now 3))) }
+{
+    match code {
+        INT => {
+            let (width, signed) = int_at(table, 3, (0, false), budget)?;
+            Ok(Parameters::Integer(width, signed))
+        }
+        FIXED_SIZE_BINARY => Ok(Parameters::ByteWidth(size_at(table, 3, budget)?)),
+        FIXED_SIZE_LIST => Ok(Parameters::ListSize(size_at(table, 3, budget)?)),
+        DATE => Ok(Parameters::DateUnit(date_unit_at(table, 3, budget)?)),
+        TIMESTAMP => {
+            let (unit, zone) = timestamp_at(table, 3, budget)?;
+            Ok(Parameters::Timestamp(unit, zone))
+        }
+        _ => Ok(Parameters::Nothing),
+    }
+}
+
+/// The DictionaryEncoding behind slot 4, unless it is absent.
+#[tactic(auto, using(flatbuf::specs::WalkLaws::run_append), unfolding(crate::specs::Header::encoding_things, crate::specs::Header::encoding_in, crate::specs::Header::int_things))]
+fn encoding_at(table: &Table, budget: &mut Budget) -> Result<Option<Encoding>, FlatError>
+    ensures walked { run (bytes_of table.now) (encoding_things (levels_of table.now) (bytes_of table.now) (slot_of table.now 4)) (tables_in budget.old) ≡ told (tables_in budget.new) result }
+    ensures value { IfOk result (λ x. option_map encoding_of x ≡ option_map (encoding_in (bytes_of table.now)) (table_behind (bytes_of table.now) (slot_of table.now 4))) }
+{
+    match table.reference(4, budget)? {
+        None => Ok(None),
+        Some(encoding) => {
+            let id = encoding.scalar_u64(0, 0)?;
+            let (width, signed) = int_at(&encoding, 1, (32, true), budget)?;
+            let _is_ordered = encoding.flag(2)?;
+            let kind = encoding.scalar_u16(3, 0)?;
+            Ok(Some(Encoding {
+                id,
+                width,
+                signed,
+                kind,
+            }))
+        }
+    }
+}
+
+/// The KeyValue that reference `i` leads to.
+#[tactic(auto, using(flatbuf::specs::WalkLaws::run_append), unfolding(crate::specs::Header::pair_things, crate::specs::Header::pair_at))]
+pub(crate) fn pair_behind<'a>(
+    pairs: &References<'a>,
+    i: usize,
+    budget: &mut Budget,
+) -> Result<KeyValue<'a>, FlatError>
+    requires { i < length (places_in pairs.now) }
+    ensures walked { run (bytes_behind pairs.now) (pair_things (levels_behind pairs.now) (bytes_behind pairs.now) (slice_index (places_in pairs.now) i)) (tables_in budget.old) ≡ told (tables_in budget.new) result }
+    ensures value { IfOk result (λ p. key_value p ≡ pair_at (bytes_behind pairs.now) (slice_index (places_in pairs.now) i)) }
+{
+    let table = pairs.table(i, budget)?;
+    let key = table.text(0)?;
+    let value = table.text(1)?;
+    Ok(KeyValue { key, value })
+}
+
+/// A field's own table, up to the vector of its children.
+#[derive(Clone, Copy)]
+pub(crate) struct Own<'a> {
+    pub(crate) name: &'a [u8],
+    pub(crate) nullable: bool,
+    pub(crate) code: u8,
+    pub(crate) parameters: Parameters<'a>,
+    pub(crate) dictionary: Option<Encoding>,
+    pub(crate) children: References<'a>,
+}
+
+/// What a field's own table says.
+#[tactic(auto, using(flatbuf::specs::WalkLaws::run_append), unfolding(crate::specs::Header::own_things, crate::specs::Header::field_with))]
+pub(crate) fn own_of<'a>(table: &Table<'a>, budget: &mut Budget) -> Result<Own<'a>, FlatError>
+    ensures walked { run (bytes_of table.now) (own_things held_codes (levels_of table.now) (bytes_of table.now) (place_of table.now)) (tables_in budget.old) ≡ told (tables_in budget.new) result }
+    ensures value { IfOk result (λ o. (children : List RawField) → raw_field o.name.now o.nullable o.code (parameters_of o.parameters) (option_map encoding_of o.dictionary) (raw_fields_of children) (pairs_in (bytes_of table.now) (slot_of table.now 6)) ≡ field_with held_codes (bytes_of table.now) (place_of table.now) children) }
+    ensures same { IfOk result (λ o. bytes_behind o.children ≡ bytes_of table.now) }
+    ensures children { IfOk result (λ o. places_in o.children ≡ elements (bytes_of table.now) (slot_of table.now 5)) }
+    ensures levels { IfOk result (λ o. levels_behind o.children ≡ levels_of table.now) }
+{
+    let name = table.text(0)?;
+    let nullable = table.flag(1)?;
+    let code = table.scalar_u8(2, 0)?;
+    let parameters = parameters_at(table, code, budget)?;
+    let dictionary = encoding_at(table, budget)?;
+    let children = table.references(5)?;
+    Ok(Own {
+        name,
+        nullable,
+        code,
+        parameters,
+        dictionary,
+        children,
+    })
+}
