@@ -85,7 +85,7 @@ own_things held left bytes t =
     ++ vector_at 4 bytes (slot bytes t 5)
 
 -- a field's slots: its own table, its children by the walk over a child, its custom_metadata
-unfoldable pub slots_by : (ℕ → List Thing) → (ℕ → Bool) → ℕ → List ℕ → Place → List Thing
+abbrev pub slots_by : (ℕ → List Thing) → (ℕ → Bool) → ℕ → List ℕ → Place → List Thing
 slots_by child_things held left bytes t =
     own_things held left bytes t
     ++ flat_map child_things (elements bytes (slot bytes t 5))
@@ -152,10 +152,13 @@ abbrev pub int_or : ℕ × Bool → List ℕ → Option Place → ℕ × Bool
 int_or absent bytes None = absent
 int_or absent bytes (Some t) = (scalar_of 4 0 bytes (slot bytes t 0), is_set (scalar_of 1 0 bytes (slot bytes t 1)))
 
+abbrev pub int_of : List ℕ → Option Place → ℕ × Bool
+int_of bytes t = int_or (0, false) bytes t
+
 -- what the table of a type spells; a Date without a unit has milliseconds, 1
 unfoldable pub parameters_in : (ℕ → Bool) → List ℕ → ℕ → Option Place → RawParameters
 parameters_in held bytes code t =
-    if code == 2 then (let i = int_or (0, false) bytes t in integer_parameters i.0 i.1)
+    if code == 2 then (let i = int_of bytes t in integer_parameters i.0 i.1)
     else if code == 15 then byte_width (scalar_of 4 0 bytes (slot_in bytes t 0))
     else if code == 16 then list_size (scalar_of 4 0 bytes (slot_in bytes t 0))
     else if code == 8 && held 8 then date_unit (scalar_of 2 1 bytes (slot_in bytes t 0))

@@ -8,8 +8,8 @@ ghost use Rattle.ipc_message.specs.Header.{held_codes, needed_things, schema_thi
 ghost use Rattle.ipc_message.specs.View.{raw_schema_of, raw_batch_of, raw_dictionary_of, raw_header_of};
 ghost use Rattle.ipc_message.specs.Walked.{Walks};
 
-use crate::walk_error::WalkError;
 use crate::walk::{fields_behind, pairs_at};
+use crate::walk_error::WalkError;
 use crate::{Header, HeaderType, RawBatch, RawDictionaryBatch, RawSchema};
 use flatbuf::{Budget, FlatError, Table};
 use std::alloc::Global;

@@ -4,8 +4,8 @@ ghost use Rattle.std.specs.Prelude.{◌≡◌, Some};
 ghost use Rattle.flatbuf.specs.Seen.{tables_in, bytes_of, place_of, levels_of};
 ghost use Rattle.ipc_message.specs.Framing.{message_table, header_type, type_of};
 
-use crate::walk_error::WalkError;
 use crate::header::{header_by_type, needed};
+use crate::walk_error::WalkError;
 use crate::{Fault, Header, HeaderType, ImportError};
 use flatbuf::{Budget, Buf, FlatError, MAX_BYTES, Table};
 use std::alloc::Global;

@@ -8,8 +8,8 @@ ghost use Rattle.ipc_message.specs.Header.{held_codes, pair_things, pair_at, pai
 ghost use Rattle.ipc_message.specs.View.{key_value, raw_field_of};
 ghost use Rattle.ipc_message.specs.Walked.{Walks};
 
-use crate::walk_error::WalkError;
 use crate::parts::{own_of, pair_behind};
+use crate::walk_error::WalkError;
 use crate::{KeyValue, RawField};
 use flatbuf::{Budget, References, Table};
 use std::alloc::Global;

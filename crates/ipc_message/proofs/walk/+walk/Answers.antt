@@ -7,14 +7,13 @@ use Rattle.flatbuf.specs.Seen.{tables_in, bytes_of, place_of, levels_of, slot_of
 use Rattle.flatbuf.specs.WalkLaws.{run_err}
 use Rattle.ipc_message.specs.declared.raw.RawField.TheFolds.{fold-roll-RawField}
 use Rattle.ipc_message.specs.Raw as raw
-use Rattle.ipc_message.specs.Header.{held_codes, field_things, field_at, slots_by}
+use Rattle.ipc_message.specs.Header.{held_codes, field_things, field_at}
 use Rattle.ipc_message.specs.View.{raw_field_of, raw_field_step}
 use Rattle.ipc_message.proofs.ElementLemmas.{element_err, element_fails, element_ok, element_read, all_done}
 use Rattle.ipc_message.proofs.FieldLemmas.{fails_first, fails_then, ok_then, table_bad, field_fails, field_ok, field_read, fails_there, runs_there, read_there, children_fail, children_run, children_read}
 use Rattle.ipc_message.proofs.walk.+walk.Goals as goal
 
 pub field_of-returns-in_err-own-clause-walked : goal.field_of-returns-in_err-own-clause-walked
-unfolding slots_by
 field_of-returns-in_err-own-clause-walked t c =
     let p = err_from_is_err_and c.from_residual.result c.from_residual.ensures.1 in
     let bytes = bytes_of c.args.table.now in
@@ -22,7 +21,6 @@ field_of-returns-in_err-own-clause-walked t c =
     rw (p.1, p.2) (run_err bytes _ _ n _ (run_err bytes _ _ n _ c.in_err-own.ensures.walked))
 
 pub field_of-returns-in_err-children-clause-walked : goal.field_of-returns-in_err-children-clause-walked
-unfolding slots_by
 field_of-returns-in_err-children-clause-walked t c =
     let p = err_from_is_err_and c.from_residual-in_err-children.result c.from_residual-in_err-children.ensures.1 in
     let bytes = bytes_of c.args.table.now in
@@ -32,7 +30,6 @@ field_of-returns-in_err-children-clause-walked t c =
     (children_fail _ bytes _ (levels_of c.args.table.now) _ (tables_in c.own_of.new.budget) _ _ own.same own.levels own.children c.in_err-children.ensures.walked)))
 
 pub field_of-returns-in_err-pairs-clause-walked : goal.field_of-returns-in_err-pairs-clause-walked
-unfolding slots_by
 field_of-returns-in_err-pairs-clause-walked t c =
     let p = err_from_is_err_and c.from_residual-in_err-pairs.result c.from_residual-in_err-pairs.ensures.1 in
     let bytes = bytes_of c.args.table.now in
@@ -45,7 +42,6 @@ field_of-returns-in_err-pairs-clause-walked t c =
     c.in_err-pairs.ensures.walked)
 
 pub field_of-returns-clause-walked : goal.field_of-returns-clause-walked
-unfolding slots_by
 field_of-returns-clause-walked t c =
     let bytes = bytes_of c.args.table.now in
     let n = tables_in c.args.budget.now in

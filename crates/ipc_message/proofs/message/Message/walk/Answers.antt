@@ -17,6 +17,6 @@ returns c =
     let bytes = bytes_of m.table in
     let table = c.in_ok-table.ensures in
     header_there bytes (bytes_of c.in_ok-table.table) (tables_in c.needed.new.budget) (tables_in c.header_by_type.new.budget) (levels_of c.in_ok-table.table) (place_of c.in_ok-table.table) m.kind c.header_by_type.result
-        (needed_there bytes (levels_of m.table) (tables_in m.budget) (place_of m.table) _ m.levels m.entered m.root table.walked)
-        table.same (table.levels ∙ ap (λ l. l - 1) m.levels) (behind_there bytes (place_of m.table) _ m.root table.here) m.type_is
-        c.header_by_type.ensures.walked c.header_by_type.ensures.value
+    (needed_there bytes (levels_of m.table) (tables_in m.budget) (place_of m.table) _ m.levels m.entered m.root table.walked)
+    table.same (table.levels ∙ ap (λ l. l - 1) m.levels) (behind_there bytes (place_of m.table) _ m.root table.here) m.type_is
+    c.header_by_type.ensures.walked c.header_by_type.ensures.value
