@@ -1,21 +1,17 @@
 -- What the cut is where the rows are light: only their number counts.
 use Rattle.std.specs.Prelude.{nat_le, ◌&&◌, sum_by}
-use Rattle.std.proofs.Common.{◌≡◌, ℕ, suc, ◌+◌, ◌-◌, ◌*◌, ◌<◌, ◌≤◌, Bool, true, false, List, [], ◌∷◌, ◌++◌, length, take, drop, refl, ◌∙◌, append_assoc, arith, length-append, inl, inr}
+use Rattle.std.proofs.Common.{◌≡◌, ℕ, suc, ◌+◌, ◌-◌, ◌*◌, ◌<◌, ◌≤◌, Bool, true, false, List, [], ◌∷◌, ◌++◌, length, take, drop, refl, ◌∙◌, append_assoc, arith, length-append, inl, inr, zero}
 use Rattle.std.proofs.lemmas.List.{append-nil}
 use Rattle.std.proofs.lemmas.List.Sums.{sum_by-cons}
 use Rattle.std.proofs.lemmas.Bool.{cases_lt}
 use Rattle.std.proofs.Math.Seq.{take-nil, drop-nil}
 use Rattle.std.proofs.Math.Nat.{mul-le-mul_left}
-use Rattle.ipc_stream.specs.Cut.{pieces, pieces_from}
+use Rattle.ipc_stream.specs.Cut.{pieces, pieces_from, within_limits}
 
 -- no row weighs more than this
 abbrev pub AllLight : {A : Type 0} → (A → ℕ) → ℕ → List A → Type 0
 AllLight weight most [] = Unit {0}
 AllLight weight most (row ∷ rows) = (weight row ≤ most) × AllLight weight most rows
-
--- the limits of a piece: so many rows, and so much weight
-abbrev pub within_limits : {A : Type 0} → (A → ℕ) → ℕ → ℕ → List A → Bool
-within_limits weight count total rows = nat_le (length rows) count && nat_le (sum_by weight rows) total
 
 le_true : (a b : ℕ) → a ≤ b → nat_le a b ≡ true
 le_true a b h = grind arith
@@ -68,3 +64,12 @@ pieces_from-light weight most count total taken (row ∷ rows) one room light al
           let steps : count - length taken ≡ 0 = omega arith in
           rw (not_taken, steps, append-nil taken) refl
     ]
+
+-- the first piece of light rows, and the pieces of the others
+pub first_piece : {A : Type 0} (weight : A → ℕ) (most count total : ℕ) (rows : List A) → 1 ≤ count → most * count ≤ total → AllLight weight most rows → 0 < length rows
+    → pieces (within_limits weight count total) rows ≡ take count rows ∷ pieces (within_limits weight count total) (drop count rows)
+first_piece weight most count total [] one room light some = absurd (omega arith)
+first_piece weight most zero total (row ∷ rows) one room light some = absurd (omega arith)
+first_piece weight most (suc k) total (row ∷ rows) one room light some =
+    let steps : suc k - 1 ≡ k = omega arith in
+    pieces_from-light weight most (suc k) total (row ∷ []) rows one room (light.0, tt) light.1 one ∙ rw steps refl

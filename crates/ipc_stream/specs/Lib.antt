@@ -1,8 +1,8 @@
 pub mod Cut
 pub mod Integers
-pub mod Body
 pub mod Columns
 pub mod Table
 pub mod View
 pub mod Batch
 pub mod Meaning
+pub mod Canonical
