@@ -31,18 +31,18 @@ slot_none bytes t k h = rw h (grind (arith, nat_tests))
 slot_past : (bytes : List ℕ) (t : Place) (j : ℕ) → t.size < 2 * j + 6 → slot bytes t j ≡ None
 slot_past bytes t j h = grind (arith, nat_tests)
 
-inline_end-le : (offset : ℕ) (slots : Slots) → offset ≤ inline_end offset slots
-inline_end-le offset no_slot = omega arith
-inline_end-le offset (absent rest) = inline_end-le offset rest
-inline_end-le offset (scalar w n rest) = omega (arith, inline_end-le (offset + gap w offset + w) rest)
-inline_end-le offset (refers n rest) = omega (arith, inline_end-le (offset + gap 4 offset + 4) rest)
+pub inline_le_end : (offset : ℕ) (slots : Slots) → offset ≤ inline_end offset slots
+inline_le_end offset no_slot = omega arith
+inline_le_end offset (absent rest) = inline_le_end offset rest
+inline_le_end offset (scalar w n rest) = omega (arith, inline_le_end (offset + gap w offset + w) rest)
+inline_le_end offset (refers n rest) = omega (arith, inline_le_end (offset + gap 4 offset + 4) rest)
 
-length-links : (at : ℕ) (ss : List ℕ) → length (links at ss) ≡ 4 * length ss
+pub length-links : (at : ℕ) (ss : List ℕ) → length (links at ss) ≡ 4 * length ss
 unfolding links
 length-links at [] = refl
 length-links at (s ∷ ss) = omega (arith, length-append (little_bytes 4 (s - at)) (links (at + 4) ss), length-links (at + 4) ss, length-bytes_low_first 0 4 (s - at))
 
-length-starts : (cursor : ℕ) (ns : Nodes) → length (starts cursor ns) ≡ count_of ns
+pub length-starts : (cursor : ℕ) (ns : Nodes) → length (starts cursor ns) ≡ count_of ns
 unfolding starts
 length-starts cursor no_node = refl
 length-starts cursor (and_node n ns) = ap suc (length-starts (cursor + length (laid cursor n)) ns)
@@ -71,7 +71,7 @@ length-distances offset (refers n rest) =
     let o = offset + gap 4 offset in
     omega (arith, length-append (little_bytes 2 o) (distances (o + 4) rest), length-distances (o + 4) rest, length-bytes_low_first 0 2 o)
 
-length-vtable : (cursor : ℕ) (slots : Slots) → length (vtable cursor slots) ≡ gap 8 (cursor + vtable_len slots) + vtable_len slots
+pub length-vtable : (cursor : ℕ) (slots : Slots) → length (vtable cursor slots) ≡ gap 8 (cursor + vtable_len slots) + vtable_len slots
 length-vtable cursor slots =
     let g = gap 8 (cursor + vtable_len slots) in
     omega (
@@ -85,11 +85,11 @@ length-vtable cursor slots =
       length-distances 4 slots,
     )
 
-start-ge : (cursor : ℕ) (n : Tree) → cursor ≤ start cursor n
-start-ge cursor (table slots) = omega arith
-start-ge cursor (text t) = omega arith
-start-ge cursor (references ns) = omega arith
-start-ge cursor (structs ps) = omega arith
+pub start_ge : (cursor : ℕ) (n : Tree) → cursor ≤ start cursor n
+start_ge cursor (table slots) = omega arith
+start_ge cursor (text t) = omega arith
+start_ge cursor (references ns) = omega arith
+start_ge cursor (structs ps) = omega arith
 
 start_within : (bytes : List ℕ) (cursor : ℕ) (n : Tree) → At bytes cursor (laid cursor n) → start cursor n ≤ length bytes
 unfolding laid
@@ -131,7 +131,7 @@ head_of bytes cursor slots short thin h =
     } in
     (rw (found, size) refl, head, moved bytes _ _ (distances 4 slots) (omega arith) v3.1, t1.1)
 
-length-inline : (at offset cursor : ℕ) (slots : Slots) → offset + length (inline at offset (slot_starts cursor slots) slots) ≡ inline_end offset slots
+pub length-inline : (at offset cursor : ℕ) (slots : Slots) → offset + length (inline at offset (slot_starts cursor slots) slots) ≡ inline_end offset slots
 unfolding inline slot_starts
 length-inline at offset cursor no_slot = omega (arith, length-replicate {A = ℕ} (gap 4 offset) 0)
 length-inline at offset cursor (absent rest) = length-inline at offset cursor rest
@@ -145,7 +145,7 @@ length-inline at offset cursor (refers n rest) =
     let more = inline at (offset + g + 4) (slot_starts (cursor + length (laid cursor n)) rest) rest in
     omega (arith, length-append (replicate g 0) (little_bytes 4 s ++ more), length-replicate {A = ℕ} g 0, length-append (little_bytes 4 s) more, length-bytes_low_first 0 4 s, length-inline at (offset + g + 4) (cursor + length (laid cursor n)) rest)
 
-length-struct_bytes : (ps : List (ℕ × ℕ)) → length (struct_bytes ps) ≡ 16 * length ps
+pub length-struct_bytes : (ps : List (ℕ × ℕ)) → length (struct_bytes ps) ≡ 16 * length ps
 unfolding struct_bytes
 length-struct_bytes [] = refl
 length-struct_bytes (p ∷ ps) =
@@ -205,7 +205,7 @@ mutual
       let next = cursor + length (laid cursor n) in
       let s = start cursor n in
       let here = At-left bytes cursor (laid cursor n) (laid_all next ns) r in
-      let le2 = start-ge cursor n in
+      let le2 = start_ge cursor n in
       let f = At-field bytes at 4 (s - at) (links (at + 4) (starts next ns)) (omega (arith, start_within bytes cursor n here)) l in (
         rw (target_is bytes at s (omega arith) f.0) (has bytes cursor n small fits.0 here),
         has_all bytes (at + 4) next ns small fits.1 (omega arith) f.1 (At-right bytes cursor (laid cursor n) (laid_all next ns) r),
@@ -221,7 +221,7 @@ mutual
   has_slots bytes t k offset cursor (scalar w n rest) small fits pos thin size le v i b =
       let g = gap w offset in
       let o = offset + g in
-      let end = inline_end-le (o + w) rest in
+      let end = inline_le_end (o + w) rest in
       let d = At-field bytes (t.vtable + 2 * k + 4) 2 o (distances (o + w) rest) (omega arith) v in
       let more = inline t.at (o + w) (slot_starts cursor rest) rest in
       let a = moved bytes _ (t.at + o) (little_bytes w n ++ more) (omega arith) (At-skip bytes (t.at + offset) g (little_bytes w n ++ more) i) in
@@ -233,13 +233,13 @@ mutual
       let g = gap 4 offset in
       let o = offset + g in
       let next = cursor + length (laid cursor n) in
-      let end = inline_end-le (o + 4) rest in
+      let end = inline_le_end (o + 4) rest in
       let d = At-field bytes (t.vtable + 2 * k + 4) 2 o (distances (o + 4) rest) (omega arith) v in
       let s = start cursor n in
       let x = s - (t.at + offset + g) in
       let more = inline t.at (o + 4) (slot_starts next rest) rest in
       let here = At-left bytes cursor (laid cursor n) (laid_slots next rest) b in
-      let le2 = start-ge cursor n in
+      let le2 = start_ge cursor n in
       let a = moved bytes _ (t.at + o) (little_bytes 4 x ++ more) (omega arith) (At-skip bytes (t.at + offset) g (little_bytes 4 x ++ more) i) in
       let f = At-field bytes (t.at + o) 4 x more (omega (arith, start_within bytes cursor n here)) a in
       let to : target bytes (t.at + o) ≡ s = target_is bytes (t.at + o) s (omega arith) (f.0 ∙ omega arith) in (

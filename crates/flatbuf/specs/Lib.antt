@@ -4,6 +4,7 @@ pub mod WalkLaws
 pub mod Seen
 pub mod Tree
 pub mod Laid
+pub mod Ends
 pub mod Held
 pub mod Stands
 pub mod View

@@ -1,9 +1,9 @@
 -- A tree of the code, whatever memory it takes.
 use Rattle.std.specs.Prelude.{List, [], ◌∷◌}
-use Rattle.flatbuf.specs.declared.emit.Node.{Node}
-use Rattle.flatbuf.specs.declared.emit.Slot.{Slot}
-use Rattle.flatbuf.specs.declared.emit.Node.TheOpen.{Node-F, Table, Text, References, Structs, Slot-F, Absent, Scalar, Refers}
-use Rattle.flatbuf.specs.declared.emit.Node.TheFolds.{fold-Node, fold-Slot}
+use Rattle.flatbuf.specs.declared.nodes.Node.{Node}
+use Rattle.flatbuf.specs.declared.nodes.Slot.{Slot}
+use Rattle.flatbuf.specs.declared.nodes.Node.TheOpen.{Node-F, Table, Text, References, Structs, Slot-F, Absent, Byte, Short, Word, Long, Refers}
+use Rattle.flatbuf.specs.declared.nodes.Node.TheFolds.{fold-Node, fold-Slot}
 use Rattle.flatbuf.specs.Tree.{Nodes, Slots, table, text, references, structs, no_node, and_node, no_slot, absent, scalar, refers}
 use Rattle.flatbuf.specs.Tree as trees
 
@@ -24,7 +24,10 @@ node_step (Structs ps) = structs ps.items
 
 abbrev pub slot_step : Slot-F trees.Tree (Slots → Slots) → Slots → Slots
 slot_step Absent = λ rest. absent rest
-slot_step (Scalar w n) = λ rest. scalar w n rest
+slot_step (Byte n) = λ rest. scalar 1 n rest
+slot_step (Short n) = λ rest. scalar 2 n rest
+slot_step (Word n) = λ rest. scalar 4 n rest
+slot_step (Long n) = λ rest. scalar 8 n rest
 slot_step (Refers node) = λ rest. refers node rest
 
 abbrev pub node_of : Node → trees.Tree

@@ -1,49 +1,304 @@
-ghost use Rattle.std.specs.Prelude.{ℕ, ◌≡◌, ◌<◌, ◌≤◌, ◌^◌, ◌+◌, ◌*◌, ◌++◌, ◌∷◌, [], List, length, replicate, map, OnOk, IfOk};
+// The bytes of a tree, each written once: where a node stands is known before its bytes are written.
+ghost use Rattle.std.specs.Prelude.{ℕ, List, ◌≡◌, ◌<◌, ◌≤◌, ◌^◌, ◌+◌, ◌*◌, ◌++◌, ◌∷◌, [], length, map, replicate, OnOk, IfOk};
 ghost use Rattle.byteorder.specs.Endian.{little_bytes};
-ghost use Rattle.flatbuf.specs.Laid.{laid, laid_all, start, starts, gap, links};
-ghost use Rattle.flatbuf.specs.View.{node_of, nodes_of};
+ghost use Rattle.flatbuf.specs.Tree.{Slots, no_slot, table, text, references, structs};
+ghost use Rattle.flatbuf.specs.Laid.{gap, inline_end, distances, inline, links, starts, slot_starts, laid, laid_all, laid_slots, struct_bytes, vtable, vtable_len, start};
+ghost use Rattle.flatbuf.specs.Ends.{end_at, ends_at, below_ends_at};
+ghost use Rattle.flatbuf.specs.Held.{Fits, FitsAll, FitsSlots};
+ghost use Rattle.flatbuf.specs.View.{node_of, nodes_of, slot_of, slots_in};
 
-use std::alloc::{AllocError, Global};
+use crate::nodes::{Node, Slot};
+use crate::sizes::{aligned, end_of, inline_end, start_of, table_start, width};
+use std::alloc::AllocError;
 
-/// A tree of tables, texts and vectors.
-#[derive(Debug, Drop)]
-#[cycle(tree)]
-pub enum Node {
-    Table(Vec<Slot>),
-    Text(Vec<u8>),
-    References(Vec<Node>),
-    Structs(Vec<(u64, u64)>),
-}
-
-/// What stands in a slot of a table.
-#[derive(Debug, Drop)]
-#[cycle(tree)]
-pub enum Slot {
-    Absent,
-    Scalar(u8, u64),
-    Refers(Node),
-}
-
-/// Zeros up to the next multiple.
-fn pad(out: &mut Vec<u8>, base: usize, multiple: u8) -> Result<(), AllocError>
+/// Zeros from a position up to the next multiple.
+pub fn pad(out: &mut Vec<u8>, from: usize, multiple: u8) -> Result<(), AllocError>
     requires positive { 0 < multiple }
-    requires small { base + length out.old.items < 2 ^ 62 }
-    ensures { OnOk result (out.new.items ≡ out.old.items ++ replicate (gap multiple (base + length out.old.items)) 0) }
+    requires near { from < 2 ^ 62 }
+    requires small { length out.old.items < 2 ^ 62 }
+    ensures { OnOk result (out.new.items ≡ out.old.items ++ replicate (gap multiple from) 0) }
 {
-    let multiple = multiple as usize;
-    let missing = (multiple - (base + out.len()) % multiple) % multiple;
-    out.resize(out.len() + missing, 0)?;
-    Ok(())
+    let missing = aligned(multiple, from) - from;
+    out.resize(out.len() + missing, 0)
 }
 
-fn put_text(out: &mut Vec<u8>, base: usize, bytes: &[u8]) -> Result<(), AllocError>
-    requires small { base + length out.old.items < 2 ^ 62 }
-    requires short { length bytes.now < 2 ^ 32 }
-    ensures { OnOk result (out.new.items ≡ out.old.items ++ (replicate (gap 4 (base + length out.old.items)) 0 ++ (little_bytes 4 (length bytes.now) ++ (bytes.now ++ 0 ∷ [])))) }
+/// A text.
+#[tactic(auto, unfolding(crate::specs::Laid::laid))]
+fn put_text(out: &mut Vec<u8>, bytes: &[u8]) -> Result<(), AllocError>
+    requires small { end_at (length out.old.items) (text bytes.now) < 2 ^ 31 }
+    ensures { OnOk result (out.new.items ≡ out.old.items ++ laid (length out.old.items) (text bytes.now)) }
 {
-    pad(out, base, 4)?;
+    pad(out, out.len(), 4)?;
     out.extend_from_slice(&(bytes.len() as u32).to_le_bytes())?;
     out.extend_from_slice(bytes)?;
     out.push(0)?;
+    Ok(())
+}
+
+/// A struct of two numbers.
+fn put_pair(out: &mut Vec<u8>, pair: &(u64, u64)) -> Result<(), AllocError>
+    ensures { OnOk result (out.new.items ≡ out.old.items ++ (little_bytes 8 pair.now.0 ++ little_bytes 8 pair.now.1)) }
+{
+    out.extend_from_slice(&pair.0.to_le_bytes())?;
+    out.extend_from_slice(&pair.1.to_le_bytes())?;
+    Ok(())
+}
+
+/// Structs of two numbers, one after the other.
+#[tactic(auto, unfolding(crate::specs::Laid::struct_bytes))]
+fn put_pairs(out: &mut Vec<u8>, pairs: &[(u64, u64)]) -> Result<(), AllocError>
+    ensures { OnOk result (out.new.items ≡ out.old.items ++ struct_bytes pairs.now) }
+{
+    for pair in pairs {
+        put_pair(out, pair)?;
+    }
+    Ok(())
+}
+
+/// A vector of structs.
+#[tactic(auto, unfolding(crate::specs::Laid::laid))]
+fn put_structs(out: &mut Vec<u8>, pairs: &[(u64, u64)]) -> Result<(), AllocError>
+    requires small { end_at (length out.old.items) (structs pairs.now) < 2 ^ 31 }
+    ensures { OnOk result (out.new.items ≡ out.old.items ++ laid (length out.old.items) (structs pairs.now)) }
+{
+    pad(out, out.len() + 4, 8)?;
+    out.extend_from_slice(&(pairs.len() as u32).to_le_bytes())?;
+    put_pairs(out, pairs)
+}
+
+/// The references to nodes that are written one after the other from `below` on.
+#[tactic(auto, unfolding(crate::specs::Laid::links, crate::specs::Laid::starts))]
+fn put_links(out: &mut Vec<u8>, below: usize, nodes: &[Node]) -> Result<(), AllocError>
+    requires small { ends_at below (nodes_of (map node_of nodes.now)) < 2 ^ 31 }
+    requires room { length out.old.items + 4 * length nodes.now ≤ below }
+    ensures { OnOk result (out.new.items ≡ out.old.items ++ links (length out.old.items) (starts below (nodes_of (map node_of nodes.now)))) }
+{
+    let mut cursor = below;
+    for node in nodes {
+        let distance = start_of(cursor, node) - out.len();
+        out.extend_from_slice(&(distance as u32).to_le_bytes())?;
+        cursor = end_of(cursor, node);
+    }
+    Ok(())
+}
+
+/// The distances of the slots, for the vtable.
+#[tactic(auto, using(crate::proofs::ReadBack::inline_le_end))]
+fn put_distances(out: &mut Vec<u8>, slots: &[Slot]) -> Result<(), AllocError>
+    requires thin { inline_end 4 (slots_in (map slot_of slots.now)) < 2 ^ 16 }
+    ensures { OnOk result (out.new.items ≡ out.old.items ++ distances 4 (slots_in (map slot_of slots.now))) }
+{
+    let mut offset = 4;
+    for slot in slots {
+        match width(slot) {
+            None => out.extend_from_slice(&0u16.to_le_bytes())?,
+            Some(width) => {
+                let field = aligned(width, offset);
+                out.extend_from_slice(&(field as u16).to_le_bytes())?;
+                offset = field + width as usize;
+            }
+        }
+    }
+    Ok(())
+}
+
+/// The vtable of a table, which ends where the table begins.
+#[tactic(auto, using(crate::proofs::Cases::count_slots))]
+fn put_vtable(out: &mut Vec<u8>, slots: &[Slot]) -> Result<(), AllocError>
+    requires near { length out.old.items < 2 ^ 31 }
+    requires thin { inline_end 4 (slots_in (map slot_of slots.now)) < 2 ^ 16 }
+    requires short { vtable_len (slots_in (map slot_of slots.now)) < 2 ^ 16 }
+    ensures { OnOk result (out.new.items ≡ out.old.items ++ vtable (length out.old.items) (slots_in (map slot_of slots.now))) }
+{
+    let size = 4 + 2 * slots.len();
+    pad(out, out.len() + size, 8)?;
+    out.extend_from_slice(&(size as u16).to_le_bytes())?;
+    out.extend_from_slice(&(inline_end(slots) as u16).to_le_bytes())?;
+    put_distances(out, slots)?;
+    Ok(())
+}
+
+/// Where the inline part of a table has come to, and where what its slots refer to has.
+#[derive(Clone, Copy)]
+struct Reached {
+    offset: usize,
+    cursor: usize,
+}
+
+/// A field of the inline part, at the next multiple of its size; where it ends.
+fn put_field(out: &mut Vec<u8>, offset: usize, field: &[u8]) -> Result<usize, AllocError>
+    requires positive { 0 < length field.now }
+    requires wide { length field.now ≤ 8 }
+    requires near { offset < 2 ^ 31 }
+    requires small { length out.old.items < 2 ^ 62 }
+    ensures bytes { OnOk result (out.new.items ≡ out.old.items ++ (replicate (gap (length field.now) offset) 0 ++ field.now)) }
+    ensures end { IfOk result (λ end. end ≡ offset + gap (length field.now) offset + length field.now) }
+{
+    pad(out, offset, field.len() as u8)?;
+    out.extend_from_slice(field)?;
+    Ok(aligned(field.len() as u8, offset) + field.len())
+}
+
+/// A byte of the inline part; where it ends.
+fn put_byte(out: &mut Vec<u8>, offset: usize, byte: u8) -> Result<usize, AllocError>
+    requires near { offset < 2 ^ 31 }
+    requires small { length out.old.items < 2 ^ 62 }
+    ensures bytes { OnOk result (out.new.items ≡ out.old.items ++ (replicate (gap 1 offset) 0 ++ little_bytes 1 byte)) }
+    ensures end { IfOk result (λ end. end ≡ offset + gap 1 offset + 1) }
+{
+    put_field(out, offset, &[byte])
+}
+
+/// The inline content of a slot.
+#[tactic(auto, using(crate::proofs::Ends::start_le, crate::proofs::Ends::end_le), unfolding(crate::specs::Laid::inline, crate::specs::Laid::slot_starts))]
+fn put_slot(
+    out: &mut Vec<u8>,
+    at: usize,
+    reached: Reached,
+    slot: &Slot,
+) -> Result<Reached, AllocError>
+    requires near { reached.offset < 2 ^ 16 }
+    requires small { length out.old.items < 2 ^ 31 }
+    requires low { below_ends_at reached.cursor (slot_of slot.now no_slot) < 2 ^ 31 }
+    requires room { (rest : Slots) × (at + inline_end reached.offset (slot_of slot.now rest) ≤ reached.cursor) }
+    ensures bytes { IfOk result (λ r. (rest : Slots) → out.new.items ++ inline at r.offset (slot_starts r.cursor rest) rest ≡ out.old.items ++ inline at reached.offset (slot_starts reached.cursor (slot_of slot.now rest)) (slot_of slot.now rest)) }
+    ensures inline { IfOk result (λ r. (rest : Slots) → inline_end r.offset rest ≡ inline_end reached.offset (slot_of slot.now rest)) }
+    ensures below { IfOk result (λ r. (rest : Slots) → below_ends_at r.cursor rest ≡ below_ends_at reached.cursor (slot_of slot.now rest)) }
+    ensures up { IfOk result (λ r. reached.cursor ≤ r.cursor) }
+{
+    let offset = reached.offset;
+    let cursor = reached.cursor;
+    match slot {
+        Slot::Absent => Ok(reached),
+        Slot::Byte(n) => {
+            let offset = put_byte(out, offset, *n)?;
+            Ok(Reached { offset, cursor })
+        }
+        Slot::Short(n) => {
+            let offset = put_field(out, offset, &n.to_le_bytes())?;
+            Ok(Reached { offset, cursor })
+        }
+        Slot::Word(n) => {
+            let offset = put_field(out, offset, &n.to_le_bytes())?;
+            Ok(Reached { offset, cursor })
+        }
+        Slot::Long(n) => {
+            let offset = put_field(out, offset, &n.to_le_bytes())?;
+            Ok(Reached { offset, cursor })
+        }
+        Slot::Refers(node) => {
+            let distance = start_of(cursor, node) - (at + aligned(4, offset));
+            let offset = put_field(out, offset, &(distance as u32).to_le_bytes())?;
+            Ok(Reached {
+                offset,
+                cursor: end_of(cursor, node),
+            })
+        }
+    }
+}
+
+/// The inline part of a table, whose slots refer to what is written from `below` on.
+#[tactic(auto, using(crate::proofs::ReadBack::inline_le_end, crate::proofs::Cases::slot_fits), unfolding(crate::specs::Laid::inline))]
+fn put_inline(out: &mut Vec<u8>, at: usize, below: usize, slots: &[Slot]) -> Result<(), AllocError>
+    requires here { length out.old.items ≡ at + 4 }
+    requires room { below ≡ at + inline_end 4 (slots_in (map slot_of slots.now)) }
+    requires thin { inline_end 4 (slots_in (map slot_of slots.now)) < 2 ^ 16 }
+    requires small { below_ends_at below (slots_in (map slot_of slots.now)) < 2 ^ 31 }
+    ensures { OnOk result (out.new.items ≡ out.old.items ++ inline at 4 (slot_starts below (slots_in (map slot_of slots.now))) (slots_in (map slot_of slots.now))) }
+{
+    let mut reached = Reached {
+        offset: 4,
+        cursor: below,
+    };
+    for slot in slots {
+        reached = put_slot(out, at, reached, slot)?;
+    }
+    pad(out, reached.offset, 4)
+}
+
+/// A vector of references, up to what it refers to.
+fn put_vector(out: &mut Vec<u8>, nodes: &[Node]) -> Result<(), AllocError>
+    requires small { end_at (length out.old.items) (references (nodes_of (map node_of nodes.now))) < 2 ^ 31 }
+    ensures { OnOk result (out.new.items ++ laid_all (length out.new.items) (nodes_of (map node_of nodes.now)) ≡ out.old.items ++ laid (length out.old.items) (references (nodes_of (map node_of nodes.now)))) }
+{
+    pad(out, out.len(), 4)?;
+    out.extend_from_slice(&(nodes.len() as u32).to_le_bytes())?;
+    let below = out.len() + 4 * nodes.len();
+    put_links(out, below, nodes)?;
+    Ok(())
+}
+
+/// A table, up to what it refers to.
+fn put_head(out: &mut Vec<u8>, slots: &[Slot]) -> Result<(), AllocError>
+    requires fits { Fits (table (slots_in (map slot_of slots.now))) }
+    requires small { end_at (length out.old.items) (table (slots_in (map slot_of slots.now))) < 2 ^ 31 }
+    ensures { OnOk result (out.new.items ++ laid_slots (length out.new.items) (slots_in (map slot_of slots.now)) ≡ out.old.items ++ laid (length out.old.items) (table (slots_in (map slot_of slots.now)))) }
+{
+    let at = table_start(out.len(), slots);
+    put_vtable(out, slots)?;
+    out.extend_from_slice(&((4 + 2 * slots.len()) as u32).to_le_bytes())?;
+    put_inline(out, at, at + inline_end(slots), slots)?;
+    Ok(())
+}
+
+/// A node, and all that it refers to.
+#[cycle(put)]
+pub fn put(out: &mut Vec<u8>, node: &Node) -> Result<(), AllocError>
+    requires fits { Fits (node_of node.now) }
+    requires small { end_at (length out.old.items) (node_of node.now) < 2 ^ 31 }
+    ensures { OnOk result (out.new.items ≡ out.old.items ++ laid (length out.old.items) (node_of node.now)) }
+{
+    match node {
+        Node::Table(slots) => put_table(out, slots),
+        Node::Text(bytes) => put_text(out, bytes),
+        Node::References(nodes) => put_references(out, nodes),
+        Node::Structs(pairs) => put_structs(out, pairs),
+    }
+}
+
+/// A table, and all that it refers to.
+#[tactic(auto, unfolding(crate::specs::Laid::laid_slots))]
+#[cycle(put)]
+fn put_table(out: &mut Vec<u8>, slots: &[Slot]) -> Result<(), AllocError>
+    requires fits { Fits (table (slots_in (map slot_of slots.now))) }
+    requires small { end_at (length out.old.items) (table (slots_in (map slot_of slots.now))) < 2 ^ 31 }
+    ensures { OnOk result (out.new.items ≡ out.old.items ++ laid (length out.old.items) (table (slots_in (map slot_of slots.now)))) }
+{
+    put_head(out, slots)?;
+    for slot in slots {
+        put_below(out, slot)?;
+    }
+    Ok(())
+}
+
+/// What a slot refers to.
+#[tactic(auto, unfolding(crate::specs::Laid::laid_slots))]
+#[cycle(put)]
+fn put_below(out: &mut Vec<u8>, slot: &Slot) -> Result<(), AllocError>
+    requires fits { FitsSlots (slot_of slot.now no_slot) }
+    requires small { below_ends_at (length out.old.items) (slot_of slot.now no_slot) < 2 ^ 31 }
+    ensures { OnOk result ((rest : Slots) → out.new.items ++ laid_slots (length out.new.items) rest ≡ out.old.items ++ laid_slots (length out.old.items) (slot_of slot.now rest)) }
+{
+    match slot {
+        Slot::Absent | Slot::Byte(_) | Slot::Short(_) | Slot::Word(_) | Slot::Long(_) => Ok(()),
+        Slot::Refers(node) => {
+            put(out, node)?;
+            Ok(())
+        }
+    }
+}
+
+/// A vector of references, and all that it refers to.
+#[tactic(auto, unfolding(crate::specs::Laid::laid_all))]
+#[cycle(put)]
+fn put_references(out: &mut Vec<u8>, nodes: &[Node]) -> Result<(), AllocError>
+    requires fits { FitsAll (nodes_of (map node_of nodes.now)) }
+    requires small { end_at (length out.old.items) (references (nodes_of (map node_of nodes.now))) < 2 ^ 31 }
+    ensures { OnOk result (out.new.items ≡ out.old.items ++ laid (length out.old.items) (references (nodes_of (map node_of nodes.now)))) }
+{
+    put_vector(out, nodes)?;
+    for node in nodes {
+        put(out, node)?;
+    }
     Ok(())
 }

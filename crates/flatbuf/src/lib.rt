@@ -1,7 +1,7 @@
 //! FlatBuffers: reading tables that may be malicious, and writing them so that they read back.
 #![tactic(auto)]
 
-ghost use Rattle.std.specs.Prelude.{ℕ, ◌≡◌, ◌<◌, ◌^◌, List, length};
+ghost use Rattle.std.specs.Prelude.{ℕ, ◌≡◌, ◌<◌, ◌^◌, ◌%◌, List, length};
 ghost use Rattle.flatbuf.specs.Tree.{Tree};
 ghost use Rattle.flatbuf.specs.Laid.{laid, start, metadata};
 ghost use Rattle.flatbuf.specs.Lookup.{target};
@@ -21,17 +21,22 @@ pub enum FlatError {
 
 mod buf;
 mod emit;
+mod nodes;
 mod numbers;
 mod references;
+mod sizes;
 mod table;
+mod writer;
 
 pub use buf::{Budget, Buf, MAX_BYTES, MAX_LEVELS, MAX_TABLES};
-pub use emit::{Node, Slot};
+pub use nodes::{Node, Slot};
 pub use references::References;
 pub use table::{Table, Union};
+pub use writer::Writer;
 
 /// What is written is read back: wherever the bytes of a tree stand, a reader finds that tree.
 pub fn written_is_read()
     ensures anywhere { (bytes : List ℕ) (cursor : ℕ) (n : Tree) → length bytes < 2 ^ 31 → Fits n → At bytes cursor (laid cursor n) → Has bytes (start cursor n) n }
+    ensures whole { (n : Tree) → length (metadata n) % 8 ≡ 0 }
     ensures root { (n : Tree) → length (metadata n) < 2 ^ 31 → Fits n → Has (metadata n) (target (metadata n) 0) n }
 {}

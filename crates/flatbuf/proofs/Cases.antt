@@ -1,0 +1,63 @@
+-- A slot of the code is absent, a number, or a reference; and how many slots and nodes a vector holds.
+use Rattle.std.proofs.Common.{◌≡◌, ◌≤◌, ◌<◌, ◌+◌, ℕ, suc, get_or, drop, add-one, drop-cons, List, [], ◌∷◌, map, length, refl, sym, ap, subst, ◌∙◌}
+use Rattle.flatbuf.specs.declared.nodes.Slot.{Slot}
+use Rattle.flatbuf.specs.declared.nodes.Node.{Node}
+use Rattle.flatbuf.specs.declared.nodes.Node.TheOpen.{Slot-F, Absent, Byte, Short, Word, Long, Refers}
+use Rattle.flatbuf.specs.declared.nodes.Node.TheFolds.{fold_out-Slot}
+use Rattle.flatbuf.specs.Tree.{Tree, Slots, absent, scalar, refers, no_slot}
+use Rattle.flatbuf.specs.Laid.{count_of, slots_of}
+use Rattle.flatbuf.specs.Ends.{end_at, ends_at, below_ends_at}
+use Rattle.flatbuf.specs.Held.{FitsSlots}
+use Rattle.flatbuf.proofs.Ends.{below_le, ends_le}
+use Rattle.flatbuf.specs.View.{node_of, nodes_of, slot_of, slots_in, slot_step, node_step}
+
+of_layer : (P : (Slots → Slots) → Type 0) → P (λ rest. absent rest) → ((w n : ℕ) → P (λ rest. scalar w n rest)) → ((t : Tree) → P (λ rest. refers t rest)) → (l : Slot-F Tree (Slots → Slots)) → P (slot_step l)
+of_layer P a b c Absent = a
+of_layer P a b c (Byte n) = b 1 n
+of_layer P a b c (Short n) = b 2 n
+of_layer P a b c (Word n) = b 4 n
+of_layer P a b c (Long n) = b 8 n
+of_layer P a b c (Refers t) = c t
+
+pub slot_cases : (P : (Slots → Slots) → Type 0) → P (λ rest. absent rest) → ((w n : ℕ) → P (λ rest. scalar w n rest)) → ((t : Tree) → P (λ rest. refers t rest)) → (s : Slot) → P (slot_of s)
+slot_cases P a b c s = subst P (sym (fold_out-Slot Tree (Slots → Slots) node_step slot_step s)) (of_layer P a b c _)
+
+pub one_slot : (s : Slot) (rest : Slots) → slots_of (slot_of s rest) ≡ suc (slots_of rest)
+one_slot s = slot_cases (λ f. (rest : Slots) → slots_of (f rest) ≡ suc (slots_of rest)) (λ rest. refl) (λ w n rest. refl) (λ t rest. refl) s
+
+-- a slot fits, and so do the others
+pub fits_split : (s : Slot) (rest : Slots) → FitsSlots (slot_of s rest) → FitsSlots (slot_of s no_slot) × FitsSlots rest
+fits_split s =
+    slot_cases (λ f. (rest : Slots) → FitsSlots (f rest) → FitsSlots (f no_slot) × FitsSlots rest) (λ rest h. (tt, h)) (λ w n rest h. ((h.0, tt), h.1)) (λ t rest h. ((h.0, tt), h.1)) s
+
+pub count_slots : (ss : List Slot) → slots_of (slots_in (map slot_of ss)) ≡ length ss
+count_slots [] = refl
+count_slots (s ∷ ss) = one_slot s (slots_in (map slot_of ss)) ∙ ap suc (count_slots ss)
+
+pub count_nodes : (ns : List Node) → count_of (nodes_of (map node_of ns)) ≡ length ns
+count_nodes [] = refl
+count_nodes (n ∷ ns) = ap suc (count_nodes ns)
+
+-- what one slot refers to ends before what all do
+pub below_one : (s : Slot) (rest : Slots) (cursor : ℕ) → below_ends_at cursor (slot_of s no_slot) ≤ below_ends_at cursor (slot_of s rest)
+below_one s =
+    slot_cases (λ f. (rest : Slots) (cursor : ℕ) → below_ends_at cursor (f no_slot) ≤ below_ends_at cursor (f rest))
+    (λ rest cursor. below_le cursor rest)
+    (λ w n rest cursor. below_le cursor rest)
+    (λ t rest cursor. below_le (end_at cursor t) rest)
+    s
+
+-- the item that a loop is at, before what is left
+pub item_at : {X : Type 0} (xs : List X) (i : ℕ) (x : X) → i < length xs → x ≡ get_or xs i x → drop i xs ≡ x ∷ drop (i + 1) xs
+item_at xs i x lt e = rw (add-one, drop-cons xs i x) (ap (λ y. y ∷ drop (suc i) xs) (sym e))
+
+pub node_fits : (ns : List Node) (i : ℕ) (n : Node) (cursor : ℕ) → i < length ns → n ≡ get_or ns i n → end_at cursor (node_of n) ≤ ends_at cursor (nodes_of (map node_of (drop i ns)))
+node_fits ns i n cursor lt e =
+    rw (item_at ns i n lt e) (ends_le (end_at cursor (node_of n)) (nodes_of (map node_of (drop (i + 1) ns))))
+
+pub slot_fits : (ss : List Slot) (i : ℕ) (s : Slot) (cursor : ℕ) → i < length ss → s ≡ get_or ss i s → below_ends_at cursor (slot_of s no_slot) ≤ below_ends_at cursor (slots_in (map slot_of (drop i ss)))
+slot_fits ss i s cursor lt e = rw (item_at ss i s lt e) (below_one s (slots_in (map slot_of (drop (i + 1) ss))) cursor)
+
+pub node_ends : (ns : List Node) (i : ℕ) (n : Node) (cursor next whole : ℕ) → i < length ns → n ≡ get_or ns i n → next ≡ end_at cursor (node_of n) → ends_at cursor (nodes_of (map node_of (drop i ns))) ≡ whole
+    → ends_at next (nodes_of (map node_of (drop (i + 1) ns))) ≡ whole
+node_ends ns i n cursor next whole lt is e h = rw e (rw (item_at ns i n lt is) at h)
