@@ -1,0 +1,33 @@
+#!/bin/sh
+# Writes, syncs and reads so many mebibytes through a device that is a file, and the same by dd, some times in turn in
+# one run, and prints the least times and their ratios.
+#   bench/device.sh [MEBIBYTES] [FOLDER] [TIMES]
+# The program is made by `rt run` in crates/bench_device.
+set -e
+top=$(cd "$(dirname "$0")/.." && pwd)
+program=$top/crates/bench_device/out/bench_device
+size=${1:-100}
+folder=${2:-$top/bench}
+times=${3:-5}
+file=$folder/bench_device.tmp
+least() { sort -n | head -1; }
+micros() { echo $(($(date +%s%N) / 1000)); }
+
+rm -f "$file" "$file".device "$file".write "$file".read
+dd if=/dev/urandom of="$file".source bs=1M count="$size" conv=fdatasync status=none
+for i in $(seq "$times"); do
+  "$program" "$file" "$size" 2>>"$file".device
+  start=$(micros)
+  dd if="$file".source of="$file" bs=1M conv=fdatasync status=none
+  echo $(($(micros) - start)) >>"$file".write
+  start=$(micros)
+  dd if="$file" of=/dev/null bs=1M status=none
+  echo $(($(micros) - start)) >>"$file".read
+  rm -f "$file"
+done
+for what in write read; do
+  device=$(sed -n "s/^device $what //p" "$file".device | least)
+  plain=$(least <"$file".$what)
+  echo "$what $size MiB: device $device us, dd $plain us, ratio $(echo "scale=2; $device / $plain" | bc)"
+done
+rm -f "$file".source "$file".device "$file".write "$file".read
