@@ -5,3 +5,4 @@ pub mod Levels
 pub mod ElementLemmas
 pub mod FieldLemmas
 pub mod HeaderLemmas
+pub mod FrontLemmas

@@ -118,9 +118,14 @@ message_faults metadata following =
     ∷ when (nat_lt following (body_length metadata)) Truncated
     ∷ []
 
+-- the fault, where there is one
 abbrev pub unless : Option Fault → Result Front Fault → Result Front Fault
 unless None r = r
 unless (Some f) r = Err f
+
+-- the message whose metadata this is, where these bytes follow it
+abbrev pub message_with : List ℕ → List ℕ → Front
+message_with metadata following = message (record { metadata = metadata; body = take (body_length metadata) following })
 
 -- what stands at the front, or the first fault: a size of 0 makes the end mark
 unfoldable pub front : List ℕ → Result Front Fault
@@ -128,7 +133,12 @@ front bytes =
     unless (first_some (mark_faults bytes))
     (if metadata_size bytes == 0 then Ok end_mark
     else unless (first_some (size_faults bytes ++ message_faults (metadata_in bytes) (length (after_metadata bytes))))
-    (Ok (message (record { metadata = metadata_in bytes; body = take (body_length (metadata_in bytes)) (after_metadata bytes) }))))
+    (Ok (message_with (metadata_in bytes) (after_metadata bytes))))
+
+-- the fault that a result tells
+abbrev pub fault_of : {X : Type 0} → Result X Fault → Option Fault
+fault_of (Ok x) = None
+fault_of (Err f) = Some f
 
 -- ---- the relation
 

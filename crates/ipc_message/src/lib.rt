@@ -10,6 +10,7 @@ mod error;
 mod fault;
 mod fault_text;
 mod fields;
+mod front;
 mod header;
 mod held;
 mod message;
@@ -24,6 +25,7 @@ mod walk_error;
 pub use envelope::HeaderType;
 pub use error::ImportError;
 pub use fault::{Fault, TypeName};
+pub use front::read_message;
 pub use held::{is_held, type_name};
 pub use message::{Front, Message};
 pub use raw::{

@@ -4,11 +4,15 @@ ghost use Rattle.std.specs.Prelude.{◌≡◌, Some};
 ghost use Rattle.flatbuf.specs.Seen.{tables_in, bytes_of, place_of, levels_of};
 ghost use Rattle.ipc_message.specs.Framing.{message_table, header_type, type_of};
 
+use crate::envelope::header_type;
 use crate::header::{header_by_type, needed};
 use crate::walk_error::WalkError;
 use crate::{Fault, Header, HeaderType, ImportError};
-use flatbuf::{Budget, Buf, FlatError, MAX_BYTES, Table};
+use flatbuf::{Budget, Buf, FlatError, Table};
 use std::alloc::Global;
+
+/// The version of the metadata that is read (Message.fbs, `MetadataVersion`).
+const V5: u16 = 4;
 
 /// A message whose Message table was read: its header is not, and its body is as many bytes as it says.
 #[derive(Clone, Copy, Debug)]
@@ -31,7 +35,7 @@ pub enum Front<'a> {
     EndMark,
 }
 
-/// What test 8 reads of the Message table.
+/// What is read of the Message table before the header.
 #[derive(Clone, Copy)]
 struct MessageHead<'a> {
     table: Table<'a>,
@@ -42,12 +46,43 @@ struct MessageHead<'a> {
 }
 
 impl<'a> Message<'a> {
-    ghost use Rattle.std.specs.Prelude.{IfOk};
+    ghost use Rattle.std.specs.Prelude.{◌≤◌, length, IfOk};
+    ghost use Rattle.ipc_message.specs.Framing.{message, message_with, message_faults, first_some, fault_of};
     ghost use Rattle.ipc_message.specs.Header.{held_codes, header};
     ghost use Rattle.ipc_message.specs.Messages.{envelope_of};
     ghost use Rattle.ipc_message.specs.Outcome.{Gives};
     ghost use Rattle.ipc_message.specs.View.{raw_header_of};
     ghost use Rattle.ipc_message.specs.Walked.{Spells};
+
+    /// The message whose metadata this is, where these bytes follow it, or the first of these faults: F4 where the
+    /// Message table or its first four slots are out of bounds, F6 a version that is not V5, F7 a header that is none
+    /// of the three, F8 a negative length of the body, F1 where fewer bytes follow than that.
+    #[tactic(auto, unfolding(crate::specs::Framing::message_faults))]
+    pub(crate) fn read(metadata: &'a [u8], following: &'a [u8]) -> Result<Message<'a>, Fault>
+        requires small { length metadata.now ≤ 16777216 }
+        ensures faults { first_some (message_faults metadata.now (length following.now)) ≡ fault_of result }
+        ensures value { IfOk result (λ m. message (envelope_of m) ≡ message_with metadata.now following.now) }
+        ensures metadata { IfOk result (λ m. (envelope_of m).metadata ≡ metadata.now) }
+        ensures body { IfOk result (λ m. length (envelope_of m).body ≤ length following.now) }
+    {
+        let head = MessageHead::read(metadata)?;
+        if head.version != V5 {
+            return Err(Fault::MetadataVersion);
+        }
+        let kind = header_type(head.header_type).ok_or(Fault::HeaderKind)?;
+        if head.body_length >= 1 << 63 {
+            return Err(Fault::BodyLength);
+        }
+        if (following.len() as u64) < head.body_length {
+            return Err(Fault::Truncated);
+        }
+        Ok(Message {
+            kind,
+            table: head.table,
+            budget: head.budget,
+            body: &following[..head.body_length as usize],
+        })
+    }
 
     /// What its header is.
     pub fn header_type(&self) -> HeaderType
@@ -72,10 +107,7 @@ impl<'a> Message<'a> {
         match self.walk(alloc) {
             Ok(found) => Ok(found),
             Err(WalkError::Memory) => Err(ImportError::OutOfMemory),
-            Err(WalkError::Flat(FlatError::Budget)) => Err(ImportError::Fault(Fault::FlatBudget)),
-            Err(WalkError::Flat(FlatError::Bounds | FlatError::VtableSize)) => Err(
-                ImportError::Fault(Fault::FlatBounds),
-            ),
+            Err(WalkError::Flat(f)) => Err(ImportError::Fault(f.into())),
         }
     }
 

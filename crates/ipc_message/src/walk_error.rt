@@ -1,8 +1,10 @@
 // Why a walk that keeps what it reads stopped.
 
 ghost use Rattle.std.specs.Prelude.{◌≡◌};
+ghost use Rattle.ipc_message.specs.Framing.{flat_fault};
 ghost use Rattle.ipc_message.specs.declared.walk_error.WalkError.TheVariants.{Memory, Flat};
 
+use crate::Fault;
 use flatbuf::FlatError;
 use std::alloc::{AllocError, AllocFailed};
 
@@ -34,5 +36,17 @@ impl<T: Drop> From<AllocFailed<T>> for WalkError {
 
     fn from(_e: AllocFailed<T>) -> WalkError {
         WalkError::Memory
+    }
+}
+
+/// What is told of something bad: F5 where the budget of tables or levels is spent, else F4.
+impl From<FlatError> for Fault {
+    ghost from_gives = { λ f e. e ≡ flat_fault f };
+
+    fn from(f: FlatError) -> Fault {
+        match f {
+            FlatError::Bounds | FlatError::VtableSize => Fault::FlatBounds,
+            FlatError::Budget => Fault::FlatBudget,
+        }
     }
 }
