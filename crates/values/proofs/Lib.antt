@@ -1,2 +1,4 @@
 pub mod CellLemmas
 pub mod WeightLemmas
+pub mod EntryLemmas
+pub mod HoldingLemmas

@@ -13,8 +13,8 @@ pub told_product : (n w : ℕ) → told_weight (n * told_weight w) ≡ told_weig
 told_product zero w = omega arith
 told_product (suc n) w =
     elim (cases_lt w 268435457) [
-      inl lt ↦ (let e : told_weight w ≡ w = omega arith in rw e refl)
-    | inr ge ↦ (let e : told_weight w ≡ 268435457 = omega arith in
-        let m : suc n * 268435457 ≤ suc n * w = mul-le-mul_left (suc n) ge in
-        rw e (omega (arith, m, one_times n)))
+      | inl lt ↦ (let e : told_weight w ≡ w = omega arith in rw e refl)
+      | inr ge ↦ (let e : told_weight w ≡ 268435457 = omega arith in
+          let m : suc n * 268435457 ≤ suc n * w = mul-le-mul_left (suc n) ge in
+          rw e (omega (arith, m, one_times n)))
     ]

@@ -1,9 +1,10 @@
 -- The values that the dictionary columns of a schema hold in some rows, and how many their indices can name
 -- (Arrow columnar format, "Dictionary-encoded layout").
-use Rattle.std.specs.Prelude.{ℕ, zero, suc, ◌+◌, ◌^◌, ◌-◌, ℤ, Bool, true, false, not, ◌&&◌, ◌||◌, ◌==◌, nat_le, bytes_eq, List, [], ◌∷◌, ◌++◌, map, length, Option, Some, None, if◌then◌else◌, slice_get, option_to_list}
+use Rattle.std.specs.Prelude.{ℕ, zero, suc, ◌+◌, ◌^◌, ◌-◌, ℤ, Bool, true, false, not, nat_le, bytes_eq, List, [], ◌∷◌, ◌++◌, map, length, Option, Some, None, if◌then◌else◌, slice_get, option_to_list}
 use Rattle.std.specs.List.{flat_map, list_any, list_all}
 use Rattle.std.specs.Ordering.{int_eq}
 use Rattle.arrow_schema.specs.Column.{Index, Kind, Column, Columns, nulls, booleans, integers, dates, timestamps, texts, large_texts, binaries, large_binaries, fixed_binaries, lists, large_lists, fixed_lists, structs, column, no_column, and_column, columns_of, PlainSchema}
+use Rattle.values.specs.Weight.{items_in, parts_in}
 use Rattle.values.specs.Cell.{Cell, Cells, null, truth, number, text, bytes, items, parts, no_cell, and_cell, cells_of, cell_list}
 
 -- a dictionary column: its index type, and the cells that it has
@@ -15,14 +16,12 @@ abbrev pub own_holding : Option Index → List Cell → List Holding
 own_holding None cells = []
 own_holding (Some i) cells = record { index = i; cells = cells } ∷ []
 
--- the items of a list cell; the parts of a struct cell, where it is not null
-abbrev pub item_cells : Cell → List Cell
-item_cells (items cs) = cell_list cs
-item_cells _ = []
+-- the items of a list, and the parts of a struct: none where it is null
+abbrev pub item_list : Cell → List Cell
+item_list c = cell_list (items_in c)
 
-abbrev pub part_rows : Cell → List (List Cell)
-part_rows (parts cs) = cell_list cs ∷ []
-part_rows _ = []
+abbrev pub part_list : Cell → List Cell
+part_list c = cell_list (parts_in c)
 
 -- the cells at a place of some rows
 abbrev pub cells_at : ℕ → List (List Cell) → List Cell
@@ -44,10 +43,10 @@ unfoldable mutual
   holdings_below binaries = λ cells. []
   holdings_below large_binaries = λ cells. []
   holdings_below (fixed_binaries width) = λ cells. []
-  holdings_below (lists item) = λ cells. holdings item (flat_map item_cells cells)
-  holdings_below (large_lists item) = λ cells. holdings item (flat_map item_cells cells)
-  holdings_below (fixed_lists size item) = λ cells. holdings item (flat_map item_cells cells)
-  holdings_below (structs columns) = λ cells. holdings_from 0 columns (flat_map part_rows cells)
+  holdings_below (lists item) = λ cells. holdings item (flat_map item_list cells)
+  holdings_below (large_lists item) = λ cells. holdings item (flat_map item_list cells)
+  holdings_below (fixed_lists size item) = λ cells. holdings item (flat_map item_list cells)
+  holdings_below (structs columns) = λ cells. holdings_from 0 columns (map part_list cells)
 
   -- these columns, the first at this place of the rows
   pub holdings_from : ℕ → Columns → List (List Cell) → List Holding
@@ -58,7 +57,7 @@ unfoldable mutual
 abbrev pub holdings_of : PlainSchema → List (List Cell) → List Holding
 holdings_of s rows = holdings_from 0 (columns_of s.columns) rows
 
--- whether two values are one entry of a dictionary: no entry is null, a list or a struct
+-- whether two values are one entry of a dictionary
 abbrev pub is_entry : Cell → Cell → Bool
 is_entry (truth a) (truth b) = if a then b else not b
 is_entry (number a) (number b) = int_eq a b
@@ -66,12 +65,28 @@ is_entry (text a) (text b) = bytes_eq a b
 is_entry (bytes a) (bytes b) = bytes_eq a b
 is_entry _ _ = false
 
--- the entries, with one more where the value is not null and not among them
-abbrev pub with_entry : List Cell → Cell → List Cell
-with_entry entries null = entries
-with_entry entries c = if list_any (is_entry c) entries then entries else entries ++ c ∷ []
+-- the entries, with one more where it is not among them
+abbrev pub with_new : List Cell → Cell → List Cell
+with_new entries c = if list_any (is_entry c) entries then entries else entries ++ c ∷ []
 
-abbrev pub with_entries : List Cell → List Cell → List Cell
+-- a value as an entry: no entry is null, a list or a struct
+abbrev pub entry_in : Cell → Option Cell
+entry_in null = None
+entry_in (truth b) = Some (truth b)
+entry_in (number n) = Some (number n)
+entry_in (text t) = Some (text t)
+entry_in (bytes t) = Some (bytes t)
+entry_in (items cs) = None
+entry_in (parts cs) = None
+
+abbrev pub with_option : List Cell → Option Cell → List Cell
+with_option entries None = entries
+with_option entries (Some c) = with_new entries c
+
+abbrev pub with_entry : List Cell → Cell → List Cell
+with_entry entries c = with_option entries (entry_in c)
+
+unfoldable pub with_entries : List Cell → List Cell → List Cell
 with_entries entries [] = entries
 with_entries entries (c ∷ cs) = with_entries (with_entry entries c) cs
 
@@ -79,12 +94,16 @@ with_entries entries (c ∷ cs) = with_entries (with_entry entries c) cs
 abbrev pub entries_of : List Cell → List Cell
 entries_of cells = with_entries [] cells
 
--- how many entries an index type can name; indices of 32 bits and more have no limit
-abbrev pub index_range : Index → ℕ
-index_range i = if i.signed then 2 ^ (i.bits - 1) else 2 ^ i.bits
+-- how many entries an index type can name; indices of 32 bits and more have no limit here
+abbrev pub entry_limit : Index → Option ℕ
+entry_limit i = if nat_le 32 i.bits then None else Some (if i.signed then 2 ^ (i.bits - 1) else 2 ^ i.bits)
+
+abbrev pub is_within : Option ℕ → ℕ → Bool
+is_within None n = true
+is_within (Some most) n = nat_le n most
 
 abbrev pub has_few_entries : Holding → Bool
-has_few_entries h = nat_le 32 h.index.bits || nat_le (length (entries_of h.cells)) (index_range h.index)
+has_few_entries h = is_within (entry_limit h.index) (length (entries_of h.cells))
 
 -- each dictionary column holds no more values in these rows than its indices can name
 abbrev pub dictionaries_fit : PlainSchema → List (List Cell) → Bool

@@ -1,5 +1,6 @@
 -- What a value of the code is, whatever memory it takes.
-use Rattle.std.specs.Prelude.{List, string_bytes}
+use Rattle.std.specs.Prelude.{List, map, string_bytes}
+use Rattle.std.specs.Borrow.{Bor}
 use Rattle.values.specs.declared.value.Value.{Value}
 use Rattle.values.specs.declared.value.Value.TheOpen.{Value-F, Null, Bool as Truth, Int, Text, Bytes, List as Items, Struct}
 use Rattle.values.specs.declared.value.Value.TheFolds.{fold-Value}
@@ -16,3 +17,10 @@ cell_step (Struct v) = parts (cells_of v.items)
 
 abbrev pub cell : Value → Cell
 cell = fold-Value Cell cell_step
+
+-- the value behind a reference, and the row behind one
+abbrev pub cell_behind : Bor Value → Cell
+cell_behind v = cell v.now
+
+abbrev pub row_behind : Bor (List Value) → List Cell
+row_behind r = map cell r.now

@@ -39,7 +39,7 @@ fn byte_count(value: &Value) -> u64
     }
 }
 
-fn items_in(value: &Value) -> &[Value]
+pub(crate) fn items_in(value: &Value) -> &[Value]
     ensures { cells_of (map cell result.now) ≡ items_in (cell value.now) }
 {
     match value {
@@ -48,7 +48,7 @@ fn items_in(value: &Value) -> &[Value]
     }
 }
 
-fn parts_in(value: &Value) -> &[Value]
+pub(crate) fn parts_in(value: &Value) -> &[Value]
     ensures { cells_of (map cell result.now) ≡ parts_in (cell value.now) }
 {
     match value {

@@ -1,0 +1,15 @@
+-- What an entry of the code is.
+use Rattle.std.specs.Prelude.{Option, Some, None}
+use Rattle.values.specs.declared.entry.Entry.{Entry}
+use Rattle.values.specs.declared.entry.Entry.TheVariants as entries
+use Rattle.values.specs.Cell.{Cell, null, truth, number, text, bytes}
+
+abbrev pub entry_cell : Entry → Cell
+entry_cell (entries.Bool b) = truth b
+entry_cell (entries.Int n) = number n
+entry_cell (entries.Text t) = text t.now
+entry_cell (entries.Bytes t) = bytes t.now
+
+abbrev pub told_entry : Option Entry → Option Cell
+told_entry None = None
+told_entry (Some e) = Some (entry_cell e)
