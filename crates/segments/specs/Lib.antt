@@ -1,2 +1,6 @@
 pub mod Runs
 pub mod Usages
+pub mod Sectors
+pub mod Writing
+pub mod Reading
+pub mod ReadBack

@@ -1,5 +1,5 @@
 -- Runs of sectors: which are free, and the lowest of them.
-use Rattle.std.specs.Prelude.{◌≡◌, ◌⊎◌, ◌≤◌, ◌+◌, ℕ, Option, Some, None}
+use Rattle.std.specs.Prelude.{◌≡◌, ◌⊎◌, ◌≤◌, ◌<◌, ◌+◌, ℕ, List, [], ◌∷◌, Option, Some, None}
 use Rattle.segments.specs.declared.run.Run.{Run}
 
 -- two runs share no sector
@@ -22,3 +22,18 @@ pub record IsFree (size : ℕ) (used : Run → Type 0) (run : Run) : Type 0 wher
 abbrev pub IsLowest : ℕ → (Run → Type 0) → ℕ → Option Run → Type 0
 IsLowest size used count (Some run) = (run.count ≡ count) × IsFree size used run × ((other : Run) → other.count ≡ count → IsFree size used other → run.start ≤ other.start)
 IsLowest size used count None = (run : Run) → run.count ≡ count → IsFree size used run → ⊥
+
+-- a sector lies in none of these runs
+abbrev pub OutOf : List Run → ℕ → Type 0
+OutOf [] n = Unit {0}
+OutOf (r ∷ rs) n = ((n < r.start) ⊎ (r.start + r.count ≤ n)) × OutOf rs n
+
+-- a run shares no sector with any of these
+abbrev pub ApartFrom : Run → List Run → Type 0
+ApartFrom run [] = Unit {0}
+ApartFrom run (r ∷ rs) = IsApart run r × ApartFrom run rs
+
+-- no two of these runs share a sector
+abbrev pub AreApart : List Run → Type 0
+AreApart [] = Unit {0}
+AreApart (r ∷ rs) = ApartFrom r rs × AreApart rs

@@ -1,0 +1,18 @@
+-- What reading a run counts and tells.
+use Rattle.std.specs.Prelude.{◌≡◌, ◌+◌, ◌-◌, ◌^◌, ℕ, min, Result, Ok, Err}
+use Rattle.sector_dev.specs.declared.device.DevError.{DevError}
+use Rattle.sector_dev.specs.declared.device.DevError.TheVariants.{Failed as DeviceFailed, Unreadable as SectorUnreadable}
+use Rattle.segments.specs.declared.reading.ReadError.{ReadError}
+use Rattle.segments.specs.declared.reading.ReadError.TheVariants.{Failed, Unreadable, OutOfMemory}
+
+-- what a device tells of a sector, as told of the run
+abbrev pub read_error : DevError → ReadError
+read_error DeviceFailed = Failed
+read_error SectorUnreadable = Unreadable
+
+-- a failed read is counted, up to the greatest number; no other answer is
+abbrev pub CountsRead : {T : Type 0} → ℕ → ℕ → Result T ReadError → Type 0
+CountsRead before after (Ok x) = after ≡ before
+CountsRead before after (Err Failed) = after ≡ min (before + 1) (2 ^ 64 - 1)
+CountsRead before after (Err Unreadable) = after ≡ before
+CountsRead before after (Err OutOfMemory) = after ≡ before

@@ -1,0 +1,41 @@
+-- What the writing of runs may touch.
+use Rattle.std.specs.Prelude.{◌≡◌, ◌⊎◌, ◌≤◌, ◌<◌, ◌+◌, ℕ, List, [], ◌∷◌, length, get_or, map, Some}
+use Rattle.sector_dev.specs.Disk.{Disk, Story, Image, now, moment, LeftSince, MayHold}
+use Rattle.segments.specs.declared.run.Run.{Run}
+use Rattle.segments.specs.declared.piece.Piece.{Piece}
+use Rattle.segments.specs.Runs.{OutOf}
+use Rattle.segments.specs.Sectors.{sector_count, Holds}
+
+-- the run that these bytes take from a sector on
+abbrev pub run_for : ℕ → List ℕ → Run
+run_for start bytes = record { start = start; count = sector_count (length bytes) }
+
+-- while these runs are written: no other sector has changed, and none at all before a write began
+pub record WritesOnly (runs : List Run) (old d : Disk) : Type 0 where
+  pub outside : (n : ℕ) → OutOf runs n → d.at n ≡ old.at n
+  pub begun : (d ≡ old) ⊎ (old.writes < d.writes)
+
+-- no image left since then holds in a sector outside these runs what none could hold there before
+abbrev pub LeavesOthers : List Run → Story → Story → Type 0
+LeavesOthers runs old new = (image : Image) → LeftSince new (moment old) image → (n : ℕ) → OutOf runs n → MayHold ((now old).at n) (image n)
+
+abbrev pub runs_of : List Piece → List Run
+runs_of pieces = map (λ (p : Piece). p.run) pieces
+
+-- each run lies on the device, and has room for its bytes
+abbrev pub AllFit : ℕ → List Piece → Type 0
+AllFit size [] = Unit {0}
+AllFit size (p ∷ ps) = (p.run.start + p.run.count ≤ size) × (sector_count (length p.bytes.items) ≤ p.run.count) × AllFit size ps
+
+-- each run holds its bytes
+abbrev pub HoldsEach : Image → List Piece → Type 0
+HoldsEach image [] = Unit {0}
+HoldsEach image (p ∷ ps) = Holds image p.run.start p.bytes.items × HoldsEach image ps
+
+-- so many sectors from one on
+abbrev pub sectors_from : ℕ → ℕ → List Run
+sectors_from start count = record { start = start; count = count } ∷ []
+
+-- sectors in a row have these contents
+unfoldable pub ShowsSectors : Image → ℕ → List (List ℕ) → Type 0
+ShowsSectors image start contents = (j : ℕ) → j < length contents → image (start + j) ≡ Some (get_or contents j [])
