@@ -1,5 +1,5 @@
 -- What was written is read back.
-use Rattle.std.proofs.Common.{◌≡◌, ℕ, suc, ◌+◌, ◌-◌, ◌*◌, ◌<◌, ◌≤◌, ◌^◌, List, [], ◌∷◌, ◌++◌, length, Some, None, refl, sym, ap, subst, ◌∙◌, arith, length-append}
+use Rattle.std.proofs.Common.{◌≡◌, ℕ, suc, ◌+◌, ◌-◌, ◌*◌, ◌<◌, ◌≤◌, ◌^◌, List, [], ◌∷◌, ◌++◌, length, take, drop, Some, None, refl, sym, ap, subst, ◌∙◌, arith, length-append}
 use Rattle.std.proofs.lemmas.List.{length-replicate, append-nil}
 use Rattle.std.specs.Prelude.{replicate}
 use Rattle.std.proofs.lemmas.Bool.Decides.{nat_tests}
@@ -168,7 +168,8 @@ structs_has bytes cursor ps small fits h =
     let w = At-within bytes (cursor + g) (little_bytes 4 (length ps) ++ struct_bytes ps) a in
     let lt : length ps < 256 ^ 4 = omega (arith, length-append (little_bytes 4 (length ps)) (struct_bytes ps)) in
     let b = At-field bytes (cursor + g) 4 (length ps) (struct_bytes ps) lt a in
-    (b.0, omega (arith, At-within bytes (cursor + g + 4) (struct_bytes ps) b.1), has_structs bytes (cursor + g + 4) ps fits b.1)
+    let all : take (16 * length ps) (drop (cursor + g + 4) bytes) ≡ struct_bytes ps = rw (← len) (At-take bytes (cursor + g + 4) (struct_bytes ps) b.1) in
+    (b.0, all, omega (arith, At-within bytes (cursor + g + 4) (struct_bytes ps) b.1), has_structs bytes (cursor + g + 4) ps fits b.1)
 
 mutual
   unfolding laid laid_all starts links laid_slots slot_starts inline

@@ -2,7 +2,7 @@
 use Rattle.std.specs.Prelude.{◌≡◌, ℕ, suc, ◌+◌, ◌*◌, ◌≤◌, ◌<◌, ◌^◌, List, [], ◌∷◌, length, take, drop, ⊤, Some, None}
 use Rattle.flatbuf.specs.Lookup.{Place, number, target, slot, table_at, vtable_of}
 use Rattle.flatbuf.specs.Tree.{Tree, Nodes, Slots, table, text, references, structs, no_node, and_node, no_slot, absent, scalar, refers}
-use Rattle.flatbuf.specs.Laid.{count_of, slots_of, inline_end, vtable_len}
+use Rattle.flatbuf.specs.Laid.{count_of, slots_of, inline_end, vtable_len, struct_bytes}
 
 -- a table with so many slots stands at a position, and its vtable within the bytes
 pub record HasHead (bytes : List ℕ) (at slots : ℕ) : Type 0 where
@@ -22,7 +22,7 @@ abbrev mutual
   pub Has : List ℕ → ℕ → Tree → Type 0
   Has bytes at (text t) = (number 4 bytes at ≡ length t) × (take (length t) (drop (at + 4) bytes) ≡ t) × (at + 4 + length t ≤ length bytes)
   Has bytes at (references nodes) = (number 4 bytes at ≡ count_of nodes) × (at + 4 + 4 * count_of nodes ≤ length bytes) × HasAll bytes (at + 4) nodes
-  Has bytes at (structs ps) = (number 4 bytes at ≡ length ps) × (at + 4 + 16 * length ps ≤ length bytes) × HasStructs bytes (at + 4) ps
+  Has bytes at (structs ps) = (number 4 bytes at ≡ length ps) × (take (16 * length ps) (drop (at + 4) bytes) ≡ struct_bytes ps) × (at + 4 + 16 * length ps ≤ length bytes) × HasStructs bytes (at + 4) ps
   Has bytes at (table slots) = HasHead bytes at (slots_of slots) × HasSlots bytes (table_at bytes at) 0 slots
 
   -- the references from a position on lead to the nodes

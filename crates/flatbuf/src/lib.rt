@@ -1,9 +1,10 @@
 //! FlatBuffers: reading tables that may be malicious, and writing them so that they read back.
 #![tactic(auto)]
 
-ghost use Rattle.std.specs.Prelude.{ℕ, ◌≡◌, ◌<◌, ◌^◌, ◌%◌, List, length};
+ghost use Rattle.std.specs.Prelude.{ℕ, ◌≡◌, ◌<◌, ◌^◌, ◌%◌, ◌+◌, List, length};
 ghost use Rattle.flatbuf.specs.Tree.{Tree};
-ghost use Rattle.flatbuf.specs.Laid.{laid, start, metadata};
+ghost use Rattle.flatbuf.specs.Laid.{laid, start, metadata, gap};
+ghost use Rattle.flatbuf.specs.Ends.{end_at};
 ghost use Rattle.flatbuf.specs.Lookup.{target};
 ghost use Rattle.flatbuf.specs.Held.{Has, Fits};
 ghost use Rattle.flatbuf.specs.Stands.{At};
@@ -37,6 +38,7 @@ pub use writer::Writer;
 /// What is written is read back: wherever the bytes of a tree stand, a reader finds that tree.
 pub fn written_is_read()
     ensures anywhere { (bytes : List ℕ) (cursor : ℕ) (n : Tree) → length bytes < 2 ^ 31 → Fits n → At bytes cursor (laid cursor n) → Has bytes (start cursor n) n }
+    ensures size { (n : Tree) → length (metadata n) ≡ end_at 4 n + gap 8 (end_at 4 n) }
     ensures whole { (n : Tree) → length (metadata n) % 8 ≡ 0 }
     ensures root { (n : Tree) → length (metadata n) < 2 ^ 31 → Fits n → Has (metadata n) (target (metadata n) 0) n }
 {}
