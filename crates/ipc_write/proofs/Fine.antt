@@ -67,7 +67,7 @@ fine_references bytes s p n nodes e reference has =
 pub fine_structs : (bytes : List ℕ) (s : Option ℕ) (p n : ℕ) (ps : List (ℕ × ℕ)) → s ≡ Some p → p + 4 ≤ length bytes → Has bytes (target bytes p) (structs ps) → Fine bytes (vector_at 16 bytes s) n n
 fine_structs bytes s p n ps e reference has =
     let count : number 4 bytes (target bytes p) ≡ length ps = has.0 in
-    fine_vector bytes 16 s p n e reference (omega (arith, has.1)) (rw count (omega (arith, has.1)))
+    fine_vector bytes 16 s p n e reference (omega (arith, has.2)) (rw count (omega (arith, has.2)))
 
 even : (k : ℕ) → (4 + 2 * k) % 2 ≡ 0
 even k = omega arith
