@@ -41,7 +41,7 @@ some_size : (b : Bool) (k : Kind) → is_some (if b then Some k else None) ≡ b
 some_size true k = refl
 some_size false k = refl
 
-sized_list : (p : RawParameters) (c : Column) → is_some (fixed_list p c) ≡ has_list_size p
+pub sized_list : (p : RawParameters) (c : Column) → is_some (fixed_list p c) ≡ has_list_size p
 sized_list (list_size n) c = some_size (is_size n) _
 sized_list no_parameters c = refl
 sized_list (integer_parameters w s) c = refl

@@ -6,3 +6,6 @@ pub mod ElementLemmas
 pub mod FieldLemmas
 pub mod HeaderLemmas
 pub mod FrontLemmas
+pub mod Spelled
+pub mod Shapes
+pub mod Columns

@@ -12,3 +12,5 @@ pub mod Rounds
 pub mod Listed
 pub mod Outcome
 pub mod Walked
+pub mod Readable
+pub mod Accepted

@@ -1,23 +1,18 @@
 -- The tests of a schema in their order: the first that finds something is told (docs/definitions/streams.md).
-use Rattle.std.specs.Prelude.{ℕ, ◌+◌, Bool, true, false, not, ◌&&◌, ◌||◌, ◌==◌, nat_lt, List, [], ◌∷◌, ◌++◌, flat_map, length, sum_by, Option, Some, None, option_map, is_some, if◌then◌else◌, Result, Ok, Err}
+use Rattle.std.specs.Prelude.{ℕ, ◌+◌, Bool, true, false, not, ◌&&◌, ◌||◌, ◌==◌, nat_lt, List, [], ◌∷◌, ◌++◌, flat_map, length, sum_by, Option, Some, None, option_map, is_some, find, Result, Ok, Err}
 use Rattle.std.specs.List.{list_any, list_all}
 use Rattle.std.specs.Str.{is_utf8}
 use Rattle.ipc_message.specs.declared.fault.TypeName.{TypeName}
 use Rattle.ipc_message.specs.declared.fault.TypeName.TheVariants as types
 use Rattle.ipc_message.specs.declared.fault.Fault.{Fault}
 use Rattle.ipc_message.specs.declared.fault.Fault.TheVariants.{NotYet, BigEndian, TypeNotHeld, BadParameter, SchemaLimit, NotUtf8, DictionaryId, DictionaryOfNested}
-use Rattle.arrow_schema.specs.Column.{Pair}
+use Rattle.arrow_schema.specs.Column.{Pair, PlainSchema}
 use Rattle.ipc_message.specs.Raw.{RawParameters, RawEncoding, RawField, raw_fields_of, timestamp_parameters, RawSchema}
-use Rattle.ipc_message.specs.Framing.{when}
+use Rattle.ipc_message.specs.Framing.{first_some, when}
 use Rattle.ipc_message.specs.Fields.{every_field, depth_all, name_of, code_of, parameters_of, dictionary_of, children_of, pairs_of}
 use Rattle.ipc_message.specs.Types.{is_bit_width, type_name, spelled_type}
-use Rattle.ipc_message.specs.Convert.{columns_of_fields}
+use Rattle.ipc_message.specs.Convert.{columns_of_fields, plain_schema_of}
 use Rattle.ipc_message.specs.Same.{one_id, same_value_type}
-
--- the first element with a property
-abbrev pub first : {A : Type 0} → (A → Bool) → List A → Option A
-first p [] = None
-first p (x ∷ xs) = if p x then Some x else first p xs
 
 -- F12: a type that is not held
 abbrev pub is_unheld : (ℕ → Bool) → RawField → Bool
@@ -91,7 +86,7 @@ is_not_yet f = not (code_of f == 2) || is_some (dictionary_of f) || not (length 
 unfoldable pub schema_rounds : (ℕ → Bool) → RawSchema → List (Option Fault)
 schema_rounds held s =
     when (not (s.endianness == 0)) BigEndian
-    ∷ option_map (λ f. TypeNotHeld (name_of_type f)) (first (is_unheld held) (every_field s))
+    ∷ option_map (λ f. TypeNotHeld (name_of_type f)) (find (is_unheld held) (every_field s))
     ∷ when (list_any is_bad (every_field s)) BadParameter
     ∷ when (passes_limit s) SchemaLimit
     ∷ when (not (list_all is_utf8 (texts_of s))) NotUtf8
@@ -100,7 +95,11 @@ schema_rounds held s =
     ∷ when (not (length s.pairs == 0) || list_any is_not_yet (every_field s)) NotYet
     ∷ []
 
--- a fault, or nothing to tell
-abbrev pub outcome : Option Fault → Result (Unit {0}) Fault
-outcome None = Ok tt
-outcome (Some fault) = Err fault
+-- a fault, or else this
+abbrev pub outcome : {A : Type 0} → Option Fault → A → Result A Fault
+outcome None x = Ok x
+outcome (Some fault) x = Err fault
+
+-- the schema that is read, or the fault of the first test that finds something
+unfoldable pub schema_told : (ℕ → Bool) → RawSchema → Result PlainSchema Fault
+schema_told held s = outcome (first_some (schema_rounds held s)) (plain_schema_of s)

@@ -6,6 +6,7 @@
 
 mod allowed;
 mod envelope;
+mod convert;
 mod error;
 mod fault;
 mod fault_text;
@@ -23,6 +24,7 @@ mod walk;
 mod walk_error;
 
 pub use envelope::HeaderType;
+pub use convert::read_schema;
 pub use error::ImportError;
 pub use fault::{Fault, TypeName};
 pub use front::read_message;

@@ -1,11 +1,11 @@
 // The tests of a schema in their order, and the first that finds something.
-ghost use Rattle.std.specs.Prelude.{◌≡◌, ◌+◌, ◌||◌, ◌==◌, not, map, length, sum_by, nat_le, nat_lt, option_map, is_some, Some};
+ghost use Rattle.std.specs.Prelude.{find, ◌≡◌, ◌+◌, ◌||◌, ◌==◌, not, map, length, sum_by, nat_le, nat_lt, option_map, is_some, Some};
 ghost use Rattle.std.specs.List.{list_any};
 ghost use Rattle.ipc_message.specs.Raw.{raw_fields_of};
 ghost use Rattle.ipc_message.specs.Fields.{every_field, depth, depth_all, pairs_of, dictionary_of};
 ghost use Rattle.ipc_message.specs.Header.{held_codes};
 ghost use Rattle.ipc_message.specs.Framing.{first_some};
-ghost use Rattle.ipc_message.specs.Rounds.{first, is_unheld, name_of_type, is_bad, texts_of, count_of_pairs, passes_limit, has_other_type, has_two_types, is_nested, is_dictionary_of_nested, is_not_yet, schema_rounds, outcome};
+ghost use Rattle.ipc_message.specs.Rounds.{is_unheld, name_of_type, is_bad, texts_of, count_of_pairs, passes_limit, has_other_type, has_two_types, is_nested, is_dictionary_of_nested, is_not_yet, schema_rounds, outcome};
 ghost use Rattle.ipc_message.specs.View.{raw_field_of, raw_schema_of};
 ghost use Rattle.ipc_message.specs.Listed.{listed, text_list};
 ghost use Rattle.ipc_message.specs.Outcome.{Gives};
@@ -22,7 +22,7 @@ use arrow_schema::{MAX_BYTES, MAX_DEPTH, MAX_FIELDS, MAX_PAIRS};
 use std::alloc::Global;
 
 fn unheld_type(fields: &[FieldRef]) -> Option<TypeName>
-    ensures { result ≡ option_map name_of_type (first (is_unheld held_codes) (listed fields.now)) }
+    ensures { result ≡ option_map name_of_type (find (is_unheld held_codes) (listed fields.now)) }
 {
     for place in fields {
         let field = place.field;
@@ -180,7 +180,7 @@ fn first_fault(schema: &RawSchema, fields: &[FieldRef], texts: &[&[u8]]) -> Opti
 
 /// Whether a schema passes its tests, and else the fault of the first that it fails. It copies no text.
 pub fn check_schema(alloc: Global, schema: &RawSchema) -> Result<(), ImportError>
-    ensures { Gives (λ x. x) result (outcome (first_some (schema_rounds held_codes (raw_schema_of schema.now)))) }
+    ensures { Gives (λ x. x) result (outcome (first_some (schema_rounds held_codes (raw_schema_of schema.now))) tt) }
 {
     let fields = every_field(alloc, &schema.fields)?;
     let texts = list_texts(alloc, &schema.pairs, &fields)?;

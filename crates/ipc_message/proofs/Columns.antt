@@ -1,0 +1,178 @@
+-- The columns of an accepted schema are those of its fields, and within the limits.
+use Rattle.std.proofs.Common.{◌≡◌, ℕ, ◌+◌, ◌≤◌, max, Bool, true, false, ◌&&◌, List, [], ◌∷◌, ◌++◌, length, refl, ap, sym, ◌∙◌, map, arith}
+use Rattle.std.specs.Prelude.{Option, Some, None, is_some, unwrap_or, option_map, nat_lt, not, ◌||◌, sum_by, flat_map}
+use Rattle.std.specs.List.{list_any, list_all}
+use Rattle.std.specs.Str.{is_utf8}
+use Rattle.std.proofs.lemmas.List.{length-map, map-append}
+use Rattle.std.proofs.lemmas.List.Concat.{flat_map-cons}
+use Rattle.std.proofs.lemmas.List.Sums.{sum_by-cons, sum_by-append, AllPass-from_list_all}
+use Rattle.std.proofs.lemmas.List.Folds.{list_any-append, list_all-append}
+use Rattle.arrow_schema.specs.Column.{Pair, Column, nulls, columns_of}
+use Rattle.arrow_schema.specs.Preorder as columns
+use Rattle.arrow_schema.specs.Preorder.{every_column, preorder_below, depth_below}
+use Rattle.arrow_schema.specs.Limits as limits
+use Rattle.arrow_schema.specs.Limits.{IsWithinLimits}
+use Rattle.ipc_message.specs.Raw.{RawParameters, RawEncoding, RawField, RawFields, raw_field, no_raw_field, and_raw_field, raw_fields_of, RawSchema}
+use Rattle.ipc_message.specs.Fields.{preorder, preorder_all, every_field, depth, depth_all, pairs_of}
+use Rattle.ipc_message.specs.Types.{type_name, spelled_type}
+use Rattle.ipc_message.specs.Convert.{index_of, column_of_field, columns_of_fields, plain_schema_of}
+use Rattle.ipc_message.specs.Rounds.{is_bad, zone_of, texts_of_pairs, texts_of_field, texts_of, count_of_pairs, is_dictionary_of_nested}
+use Rattle.ipc_message.specs.Accepted.{IsAccepted}
+use Rattle.ipc_message.specs.Readable.{AreReadable}
+use Rattle.ipc_message.proofs.Shapes.{HasShape, spelled_shape}
+
+some_of : {A : Type 0} (o : Option A) (d : A) → is_some o ≡ true → o ≡ Some (unwrap_or o d)
+some_of None d h = absurd cc
+some_of (Some x) d h = refl
+
+-- the type that is read of a field that is not bad
+pub field_shape : (name : List ℕ) (nullable : Bool) (code : ℕ) (p : RawParameters) (d : Option RawEncoding) (fs : RawFields) (pairs : List Pair) → is_bad (raw_field name nullable code p d fs pairs) ≡ false
+    → HasShape (type_name code) p (columns_of_fields fs) (unwrap_or (spelled_type (type_name code) p (columns_of_fields fs)) nulls)
+field_shape name nullable code p d fs pairs h =
+    spelled_shape (type_name code) p (columns_of_fields fs) _ (some_of _ nulls (and_left _ _ (not_false _ h)))
+  where
+    not_false : (b : Bool) → not b ≡ false → b ≡ true
+    not_false true h = refl
+    not_false false h = absurd cc
+
+    and_left : (a b : Bool) → (a && b) ≡ true → a ≡ true
+    and_left true b h = refl
+    and_left false b h = h
+
+or_left : (a b : Bool) → (a || b) ≡ false → a ≡ false
+or_left true b h = h
+or_left false b h = refl
+
+or_right : (a b : Bool) → (a || b) ≡ false → b ≡ false
+or_right true b h = absurd cc
+or_right false b h = h
+
+mutual
+  unfolding preorder preorder_all columns.preorder columns.preorder_all column_of_field columns_of_fields
+
+  -- the columns in preorder are those of the fields in preorder
+  pub columns_listed : (f : RawField) → list_any is_bad (preorder f) ≡ false → columns.preorder (column_of_field f) ≡ map column_of_field (preorder f)
+  columns_listed (raw_field name nullable code p d fs pairs) h =
+      let s = field_shape name nullable code p d fs pairs (or_left _ _ h) in
+      ap (λ (cs : List Column). column_of_field (raw_field name nullable code p d fs pairs) ∷ cs) (s.below ∙ all_columns_listed fs (or_right _ _ h))
+
+  pub all_columns_listed : (fs : RawFields) → list_any is_bad (preorder_all fs) ≡ false → columns.preorder_all (columns_of (columns_of_fields fs)) ≡ map column_of_field (preorder_all fs)
+  all_columns_listed no_raw_field h = refl
+  all_columns_listed (and_raw_field f fs) h =
+      let split = sym (list_any-append is_bad (preorder f) (preorder_all fs)) ∙ h in
+      ap (λ (cs : List Column). cs ++ columns.preorder_all (columns_of (columns_of_fields fs))) (columns_listed f (or_left _ _ split))
+      ∙ ap (λ (cs : List Column). map column_of_field (preorder f) ++ cs) (all_columns_listed fs (or_right _ _ split))
+      ∙ sym (map-append column_of_field (preorder f) (preorder_all fs))
+
+mutual
+  unfolding preorder preorder_all columns.depth columns.depth_all column_of_field columns_of_fields depth depth_all
+
+  -- they go as deep
+  pub same_depth : (f : RawField) → list_any is_bad (preorder f) ≡ false → columns.depth (column_of_field f) ≡ depth f
+  same_depth (raw_field name nullable code p d fs pairs) h =
+      let s = field_shape name nullable code p d fs pairs (or_left _ _ h) in
+      ap (λ n. 1 + n) (s.depth ∙ all_same_depth fs (or_right _ _ h))
+
+  pub all_same_depth : (fs : RawFields) → list_any is_bad (preorder_all fs) ≡ false → columns.depth_all (columns_of (columns_of_fields fs)) ≡ depth_all fs
+  all_same_depth no_raw_field h = refl
+  all_same_depth (and_raw_field f fs) h =
+      let split = sym (list_any-append is_bad (preorder f) (preorder_all fs)) ∙ h in
+      ap (λ n. max n (columns.depth_all (columns_of (columns_of_fields fs)))) (same_depth f (or_left _ _ split)) ∙ ap (λ n. max (depth f) n) (all_same_depth fs (or_right _ _ split))
+
+pub columns_of_list : (fs : List RawField) → columns_of_fields (raw_fields_of fs) ≡ map column_of_field fs
+unfolding columns_of_fields
+columns_of_list [] = refl
+columns_of_list (f ∷ fs) = ap (λ cs. column_of_field f ∷ cs) (columns_of_list fs)
+
+-- ---- what the limits count
+
+count_pairs : (fs : List RawField) → sum_by limits.pairs_in (map column_of_field fs) ≡ sum_by (λ f. length (pairs_of f)) fs
+unfolding column_of_field
+count_pairs [] = refl
+count_pairs (raw_field name nullable code p d children pairs ∷ fs) =
+    let f = raw_field name nullable code p d children pairs in
+    sum_by-cons limits.pairs_in (column_of_field f) (map column_of_field fs) ∙ ap (λ n. length pairs + n) (count_pairs fs) ∙ sym (sum_by-cons (λ g. length (pairs_of g)) f fs)
+
+pairs_bytes : (pairs : List Pair) → sum_by length (texts_of_pairs pairs) ≡ limits.bytes_of_pairs pairs
+pairs_bytes [] = refl
+pairs_bytes (p ∷ pairs) =
+    sum_by-cons length p.0 (p.1 ∷ texts_of_pairs pairs)
+    ∙ ap (λ n. length p.0 + n) (sum_by-cons length p.1 (texts_of_pairs pairs) ∙ ap (λ n. length p.1 + n) (pairs_bytes pairs))
+    ∙ omega (arith, sum_by-cons (λ (q : Pair). length q.0 + length q.1) p pairs)
+
+field_bytes : (f : RawField) → is_bad f ≡ false → limits.bytes_in (column_of_field f) ≤ sum_by length (texts_of_field f)
+unfolding column_of_field
+field_bytes (raw_field name nullable code p d children pairs) h =
+    let s = field_shape name nullable code p d children pairs h in
+    omega (arith, s.zone, pairs_bytes pairs, sum_by-cons length name (zone_of p ∷ texts_of_pairs pairs), sum_by-cons length (zone_of p) (texts_of_pairs pairs))
+
+count_bytes : (fs : List RawField) → list_any is_bad fs ≡ false → sum_by limits.bytes_in (map column_of_field fs) ≤ sum_by length (flat_map texts_of_field fs)
+count_bytes [] h = omega arith
+count_bytes (f ∷ fs) h =
+    let here = field_bytes f (or_left (is_bad f) (list_any is_bad fs) h) in
+    let rest = count_bytes fs (or_right (is_bad f) (list_any is_bad fs) h) in
+    let whole = ap (sum_by length) (flat_map-cons texts_of_field f fs) in
+    omega (arith, whole, here, rest, sum_by-cons limits.bytes_in (column_of_field f) (map column_of_field fs), sum_by-append length (texts_of_field f) (flat_map texts_of_field fs))
+
+numbers_fit : (fs : List RawField) → list_any is_bad fs ≡ false → list_all limits.has_number_in_range (map column_of_field fs) ≡ true
+unfolding column_of_field
+numbers_fit [] h = refl
+numbers_fit (raw_field name nullable code p d children pairs ∷ fs) h =
+    both (field_shape name nullable code p d children pairs (or_left _ _ h)).number (numbers_fit fs (or_right _ _ h))
+  where
+    both : {a b : Bool} → a ≡ true → b ≡ true → (a && b) ≡ true
+    both x y = rw x y
+
+same_some : (d : Option RawEncoding) → is_some (option_map index_of d) ≡ is_some d
+same_some None = refl
+same_some (Some e) = refl
+
+dictionaries_fit : (fs : List RawField) → list_any is_bad fs ≡ false → list_any is_dictionary_of_nested fs ≡ false → list_all limits.has_flat_dictionary (map column_of_field fs) ≡ true
+unfolding column_of_field
+dictionaries_fit [] h g = refl
+dictionaries_fit (raw_field name nullable code p d children pairs ∷ fs) h g =
+    let s = field_shape name nullable code p d children pairs (or_left _ _ h) in
+    let here : not (is_some (option_map index_of d) && limits.is_nested (unwrap_or (spelled_type (type_name code) p (columns_of_fields children)) nulls)) ≡ true = rw (same_some d, s.nested) (ap not (or_left _ _ g)) in
+    rw here (dictionaries_fit fs (or_right _ _ h) (or_right _ _ g))
+
+le_of : (a b : ℕ) → nat_lt b a ≡ false → a ≤ b
+le_of a b h = grind arith
+
+-- an accepted schema is within the limits
+pub accepted_within : (s : RawSchema) → IsAccepted s → IsWithinLimits (plain_schema_of s)
+accepted_within s a =
+    let listed : every_column (plain_schema_of s) ≡ map column_of_field (every_field s) =
+    ap (λ (cs : List Column). columns.preorder_all (columns_of cs)) (sym (columns_of_list s.fields)) ∙ all_columns_listed (raw_fields_of s.fields) a.spelled in
+    let deep : columns.depth_all (columns_of (map column_of_field s.fields)) ≡ depth_all (raw_fields_of s.fields) =
+    ap (λ (cs : List Column). columns.depth_all (columns_of cs)) (sym (columns_of_list s.fields)) ∙ all_same_depth (raw_fields_of s.fields) a.spelled in
+    let many = nat_lt 2048 (length (every_field s)) in
+    let deeper = nat_lt 32 (depth_all (raw_fields_of s.fields)) in
+    let paired = nat_lt 4096 (count_of_pairs s) in
+    let long = nat_lt 4194304 (sum_by length (texts_of s)) in
+    let rest : ((many || deeper) || paired) ≡ false = or_left ((many || deeper) || paired) long a.small in
+    let bytes : sum_by length (texts_of s) ≤ 4194304 = le_of _ _ (or_right ((many || deeper) || paired) long a.small) in
+    let pairs : count_of_pairs s ≤ 4096 = le_of _ _ (or_right (many || deeper) paired rest) in
+    let few : length (every_field s) ≤ 2048 = le_of _ _ (or_left many deeper (or_left (many || deeper) paired rest)) in
+    let low : depth_all (raw_fields_of s.fields) ≤ 32 = le_of _ _ (or_right many deeper (or_left (many || deeper) paired rest)) in
+    record {
+      levels = omega (arith, deep, low);
+      fields = rw listed (omega (arith, length-map (every_field s) column_of_field, few));
+      pairs = rw listed (omega (arith, count_pairs (every_field s), pairs));
+      bytes = rw listed (omega (arith, count_bytes (every_field s) a.spelled, pairs_bytes s.pairs, sum_by-append length (texts_of_pairs s.pairs) (flat_map texts_of_field (every_field s)), bytes));
+      numbers = rw listed (AllPass-from_list_all limits.has_number_in_range _ (numbers_fit (every_field s) a.spelled));
+      dictionaries = rw listed (AllPass-from_list_all limits.has_flat_dictionary _ (dictionaries_fit (every_field s) a.spelled a.flat));
+    }
+
+pub accepted_readable : (s : RawSchema) → IsAccepted s → AreReadable (preorder_all (raw_fields_of s.fields))
+accepted_readable s a = record { spelled = a.spelled; utf8 = and_right _ _ (sym (list_all-append is_utf8 (texts_of_pairs s.pairs) _) ∙ a.utf8) }
+  where
+    and_right : (a b : Bool) → (a && b) ≡ true → b ≡ true
+    and_right true b h = h
+    and_right false b h = absurd cc
+
+pub accepted_pairs : (s : RawSchema) → IsAccepted s → list_all is_utf8 (texts_of_pairs s.pairs) ≡ true
+accepted_pairs s a = and_left _ _ (sym (list_all-append is_utf8 (texts_of_pairs s.pairs) _) ∙ a.utf8)
+  where
+    and_left : (a b : Bool) → (a && b) ≡ true → a ≡ true
+    and_left true b h = refl
+    and_left false b h = h

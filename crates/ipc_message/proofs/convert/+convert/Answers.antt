@@ -1,0 +1,48 @@
+use Rattle.std.proofs.Common.{◌≡◌, ◌∙◌, ◌∷◌, ◌+◌, sym, ap, drop, suc, add-one, drop-cons, rules}
+use Rattle.std.specs.Prelude.{unwrap_or, Option}
+use Rattle.arrow_schema.specs.Column.{Column, Kind, nulls}
+use Rattle.arrow_schema.specs.View.{kind_step, column_step}
+use Rattle.arrow_schema.specs.declared.types.Field.{fold-roll-Field}
+use Rattle.ipc_message.specs.declared.raw.RawField.{RawField}
+use Rattle.ipc_message.specs.declared.raw.RawField.TheViews.{the_lemmas}
+use Rattle.ipc_message.specs.Fields.{preorder, preorder_all}
+use Rattle.ipc_message.specs.Convert.{column_of_field}
+use Rattle.ipc_message.specs.View.{raw_field_of}
+use Rattle.ipc_message.proofs.Spelled.{parts_readable, column_opened, left_readable, same_column}
+use Rattle.ipc_message.proofs.convert.+convert.Goals as goal
+
+pub copy_field-copy_fields-requires : goal.copy_field-copy_fields-requires
+copy_field-copy_fields-requires t c = (search (rules, the_lemmas), rw c.deref.ensures.value (parts_readable c.args.raw.now c.requires).below)
+
+pub copy_field-copy_text-requires : goal.copy_field-copy_text-requires
+copy_field-copy_text-requires t c = (parts_readable c.args.raw.now c.requires).name
+
+pub copy_field-data_type-requires-clause-spelled : goal.copy_field-data_type-requires-clause-spelled
+copy_field-data_type-requires-clause-spelled t c =
+    rw (c.type_name.ensures, c.in_ok-children.ensures, c.deref.ensures.value) (parts_readable c.args.raw.now c.requires).spelled
+
+pub copy_field-data_type-requires-clause-zone : goal.copy_field-data_type-requires-clause-zone
+copy_field-data_type-requires-clause-zone t c = (parts_readable c.args.raw.now c.requires).zone
+
+pub copy_field-copy_pairs-requires : goal.copy_field-copy_pairs-requires
+copy_field-copy_pairs-requires t c = rw c.deref-2.ensures.value (parts_readable c.args.raw.now c.requires).pairs
+
+pub copy_field-copy_index-requires : goal.copy_field-copy_index-requires
+copy_field-copy_index-requires t c = (parts_readable c.args.raw.now c.requires).index
+
+pub copy_field-returns : goal.copy_field-returns
+unfolding column_of_field
+copy_field-returns t c =
+    let spelled = rw (c.type_name.ensures, c.in_ok-children.ensures, c.deref.ensures.value) at c.in_ok-data_type.ensures in
+    let pairs = rw c.deref-2.ensures.value at c.in_ok-pairs.ensures in
+    fold-roll-Field Kind Column kind_step column_step _
+    ∙ same_column c.in_ok-name.ensures (sym (ap (λ (kind : Option Kind). unwrap_or kind nulls) spelled)) c.copy_index.ensures pairs
+    ∙ sym (column_opened c.args.raw.now)
+
+pub copy_fields-copy_field-requires : goal.copy_fields-copy_field-requires
+unfolding preorder_all
+copy_fields-copy_field-requires t c =
+    let i = c.loop-field.field-index in
+    let x = c.field-item.result in
+    let next : drop i c.args.raw.now ≡ x ∷ drop (i + 1) c.args.raw.now = rw add-one (drop-cons c.args.raw.now i x c.loop-field-test.true ∙ ap (λ (y : RawField). y ∷ drop (suc i) c.args.raw.now) (sym c.field-item.is)) in
+    (search (rules, the_lemmas), left_readable (preorder (raw_field_of x)) _ (rw next at c.loop-field.invariant.readable))
