@@ -5,8 +5,8 @@
 #![tactic(auto)]
 
 mod allowed;
-mod envelope;
 mod convert;
+mod envelope;
 mod error;
 mod fault;
 mod fault_text;
@@ -23,8 +23,8 @@ mod texts;
 mod walk;
 mod walk_error;
 
-pub use envelope::HeaderType;
 pub use convert::read_schema;
+pub use envelope::HeaderType;
 pub use error::ImportError;
 pub use fault::{Fault, TypeName};
 pub use front::read_message;
