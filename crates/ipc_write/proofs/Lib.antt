@@ -3,3 +3,5 @@ pub mod Fine
 pub mod TypeRead
 pub mod FieldRead
 pub mod MessageRead
+pub mod FieldNode
+pub mod Room

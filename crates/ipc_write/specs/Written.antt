@@ -35,14 +35,14 @@ abbrev pub batch_of : ℕ → List RawNode → List (List ℕ) → RawBatch
 batch_of rows nodes buffers = record { length = rows; nodes = nodes; buffers = placed 0 buffers; compressed = false }
 
 -- a schema message has no body
-abbrev pub schema_message : PlainSchema → List ℕ
+unfoldable pub schema_message : PlainSchema → List ℕ
 schema_message s = message_bytes 1 (schema_tree s) []
 
 -- a dictionary batch, which replaces the entries of its id
-abbrev pub dictionary_message : ℕ → ℕ → List RawNode → List (List ℕ) → List ℕ
+unfoldable pub dictionary_message : ℕ → ℕ → List RawNode → List (List ℕ) → List ℕ
 dictionary_message id rows nodes buffers = message_bytes 2 (dictionary_tree (record { id = id; batch = batch_of rows nodes buffers; is_delta = false })) (body buffers)
 
-abbrev pub batch_message : ℕ → List RawNode → List (List ℕ) → List ℕ
+unfoldable pub batch_message : ℕ → List RawNode → List (List ℕ) → List ℕ
 batch_message rows nodes buffers = message_bytes 3 (batch_tree (batch_of rows nodes buffers)) (body buffers)
 
 -- the end mark

@@ -4,6 +4,9 @@
 //! them what was written.
 #![tactic(auto)]
 
+mod framing;
 mod laws;
+mod trees;
 
+pub use framing::{write_end, write_schema};
 pub use laws::{field_is_read_again, message_is_read_again};

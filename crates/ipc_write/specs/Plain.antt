@@ -1,0 +1,24 @@
+-- Columns of integers, without a dictionary or pairs.
+use Rattle.std.specs.Prelude.{ℕ, Bool, true, false, ◌==◌, ◌||◌, ◌&&◌, List, [], ◌∷◌, Option, Some, None}
+use Rattle.std.specs.List.{list_all}
+use Rattle.arrow_schema.specs.Column.{Kind, Column, column, integers, PlainSchema}
+
+-- the widths of integers
+abbrev pub is_bit_width : ℕ → Bool
+is_bit_width bits = bits == 8 || bits == 16 || bits == 32 || bits == 64
+
+abbrev pub is_integer_kind : Kind → Bool
+is_integer_kind (integers bits signed) = is_bit_width bits
+is_integer_kind _ = false
+
+abbrev pub is_empty : {A : Type 0} → List A → Bool
+is_empty [] = true
+is_empty (x ∷ xs) = false
+
+abbrev pub is_integer_column : Column → Bool
+is_integer_column (column name nullable kind None pairs) = is_integer_kind kind && is_empty pairs
+is_integer_column (column name nullable kind (Some index) pairs) = false
+
+-- a schema of such columns, without pairs
+abbrev pub is_integer_schema : PlainSchema → Bool
+is_integer_schema s = list_all is_integer_column s.columns && is_empty s.pairs
