@@ -101,7 +101,12 @@ pub fn message_node(
 ) -> Result<Node, AllocError>
     ensures { IfOk result (λ n. node_of n ≡ message_tree kind (node_of header) body_length) }
 {
-    let slots = vec![in alloc; Slot::Short(4), Slot::Byte(kind), Slot::Refers(header), Slot::Long(body_length)]?;
+    let slots = vec![in alloc;
+        Slot::Short(4),
+        Slot::Byte(kind),
+        Slot::Refers(header),
+        Slot::Long(body_length),
+    ]?;
     Ok(Node::Table(slots))
 }
 
@@ -114,6 +119,10 @@ pub fn batch_node(
 ) -> Result<Node, AllocError>
     ensures { IfOk result (λ n. node_of n ≡ table (scalar 8 rows (refers (structs nodes.items) (refers (structs buffers.items) no_slot)))) }
 {
-    let slots = vec![in alloc; Slot::Long(rows), Slot::Refers(Node::Structs(nodes)), Slot::Refers(Node::Structs(buffers))]?;
+    let slots = vec![in alloc;
+        Slot::Long(rows),
+        Slot::Refers(Node::Structs(nodes)),
+        Slot::Refers(Node::Structs(buffers)),
+    ]?;
     Ok(Node::Table(slots))
 }

@@ -23,13 +23,13 @@ write-requires-clause-fits c =
 pub write-requires-clause-small : goal.write-requires-clause-small
 write-requires-clause-small c =
     small_is (node_of c.in_ok-root.root) (schema_of c.args.schema.now)
-        (tree_is (node_of c.in_ok-root.root) (node_of c.in_ok-header.header) (schema_of c.args.schema.now) c.in_ok-root.ensures c.in_ok-header.ensures)
-        (schema_small (schema_of c.args.schema.now) c.requires.integers c.requires.limits)
+    (tree_is (node_of c.in_ok-root.root) (node_of c.in_ok-header.header) (schema_of c.args.schema.now) c.in_ok-root.ensures c.in_ok-header.ensures)
+    (schema_small (schema_of c.args.schema.now) c.requires.integers c.requires.limits)
 
 pub put_metadata-requires : goal.put_metadata-requires
 put_metadata-requires c =
     let small = small_is (node_of c.in_ok-root.root) (schema_of c.args.schema.now)
-        (tree_is (node_of c.in_ok-root.root) (node_of c.in_ok-header.header) (schema_of c.args.schema.now) c.in_ok-root.ensures c.in_ok-header.ensures)
-        (schema_small (schema_of c.args.schema.now) c.requires.integers c.requires.limits) in
+    (tree_is (node_of c.in_ok-root.root) (node_of c.in_ok-header.header) (schema_of c.args.schema.now) c.in_ok-root.ensures c.in_ok-header.ensures)
+    (schema_small (schema_of c.args.schema.now) c.requires.integers c.requires.limits) in
     let is : length c.deref.result.now ≡ length (metadata (node_of c.in_ok-root.root)) = ap length (c.deref.ensures.value ∙ c.in_ok-metadata.ensures) in
     omega (arith, small, is)
