@@ -5,3 +5,5 @@ pub mod Limits
 pub mod Tally
 pub mod Shape
 pub mod Alike
+pub mod Keywords
+pub mod FieldText

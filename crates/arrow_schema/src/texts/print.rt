@@ -1,0 +1,164 @@
+// Field texts, as they are printed.
+ghost use Rattle.std.specs.Prelude.{◌≡◌, ◌++◌, IfOk, OnOk, string_bytes, map, option_map, codes};
+ghost use Rattle.json.specs.Print.{quoted};
+ghost use Rattle.arrow_schema.specs.Column.{columns_of};
+ghost use Rattle.arrow_schema.specs.View.{kind_of, column_of, index_of};
+ghost use Rattle.arrow_schema.specs.declared.types.Field.{out-Field};
+ghost use Rattle.arrow_schema.specs.Keywords.{number_text, keyword_text};
+ghost use Rattle.arrow_schema.specs.FieldText.{printed, zone_text, dictionary_text, with_dictionary, type_text, field_text, fields_text};
+
+use super::keyword::Keyword;
+use crate::types::{DataType, DictSpec, Field};
+use serde_json::Value;
+use std::alloc::{AllocError, Global};
+use std::fmt::Write;
+
+// The JSON text of a text.
+fn json_text(alloc: Global, text: &str) -> Result<String, AllocError>
+    ensures { IfOk result (λ json. string_bytes json ≡ quoted text.now) }
+{
+    Value::try_from_str(alloc, text)?.to_string(alloc)
+}
+
+/// The form that `schema` prints: names, items' names and zones are JSON texts. Pairs are not printed.
+pub fn field_text(alloc: Global, field: &Field) -> Result<String, AllocError>
+    ensures { IfOk result (λ text. string_bytes text ≡ field_text printed (column_of field.now)) }
+{
+    let mut text = String::new(alloc);
+    push_field(alloc, &mut text, field)?;
+    Ok(text)
+}
+
+#[tactic(auto, using(crate::proofs::Numerals::decimal_is))]
+fn push_number(text: &mut String, number: u32) -> Result<(), AllocError>
+    ensures { OnOk result (string_bytes text.new ≡ string_bytes text.old ++ number_text number) }
+{
+    write!(text, "{number}")
+}
+
+fn push_word_and_number(text: &mut String, word: Keyword, number: u32) -> Result<(), AllocError>
+    ensures { OnOk result (string_bytes text.new ≡ string_bytes text.old ++ (keyword_text word ++ number_text number)) }
+{
+    text.push_str(word.text())?;
+    push_number(text, number)
+}
+
+// What stands before the type of a dictionary's values.
+#[tactic(auto, unfolding(crate::specs::Keywords::keyword_text))]
+fn push_dictionary(text: &mut String, dictionary: DictSpec) -> Result<(), AllocError>
+    ensures { OnOk result (string_bytes text.new ≡ string_bytes text.old ++ dictionary_text (index_of dictionary)) }
+{
+    text.push_str(Keyword::Dictionary.text())?;
+    text.push_str(Keyword::Int(dictionary.index).text())?;
+    text.push_str(",")
+}
+
+// A zone in parentheses, where there is one.
+fn push_zone(alloc: Global, text: &mut String, zone: &str) -> Result<(), AllocError>
+    ensures { OnOk result (string_bytes text.new ≡ string_bytes text.old ++ zone_text printed zone.now) }
+{
+    if !zone.is_empty() {
+        text.push_str("(")?;
+        text.push_str(json_text(alloc, zone)?.as_str())?;
+        text.push_str(")")?;
+    }
+    Ok(())
+}
+
+// A name, an item's too, and its type.
+#[tactic(auto, unfolding(crate::specs::FieldText::field_text))]
+#[cycle(print)]
+fn push_field(alloc: Global, text: &mut String, field: &Field) -> Result<(), AllocError>
+    ensures { OnOk result (string_bytes text.new ≡ string_bytes text.old ++ field_text printed (column_of field.now)) }
+{
+    text.push_str(json_text(alloc, field.name.as_str())?.as_str())?;
+    text.push_str(":")?;
+    push_with_dictionary(alloc, text, field)?;
+    if field.nullable {
+        text.push_str("?")?;
+    }
+    Ok(())
+}
+
+#[cycle(print)]
+fn push_with_dictionary(alloc: Global, text: &mut String, field: &Field) -> Result<(), AllocError>
+    ensures { OnOk result (string_bytes text.new ≡ string_bytes text.old
+        ++ with_dictionary (option_map index_of (out-Field field.now).dictionary) (type_text printed (kind_of (out-Field field.now).data_type))) }
+{
+    match field.dictionary {
+        None => push_type(alloc, text, &field.data_type),
+        Some(dictionary) => {
+            push_dictionary(text, dictionary)?;
+            push_type(alloc, text, &field.data_type)?;
+            text.push_str(">")
+        }
+    }
+}
+
+#[tactic(auto, using(crate::proofs::Printing::item_printed), unfolding(crate::specs::FieldText::type_text, crate::specs::Keywords::keyword_text))]
+#[cycle(print)]
+fn push_type(alloc: Global, text: &mut String, data_type: &DataType) -> Result<(), AllocError>
+    ensures { OnOk result (string_bytes text.new ≡ string_bytes text.old ++ type_text printed (kind_of data_type.now)) }
+{
+    match data_type {
+        DataType::Null => text.push_str(Keyword::Null.text()),
+        DataType::Bool => text.push_str(Keyword::Bool.text()),
+        DataType::Int(integer) => text.push_str(Keyword::Int(*integer).text()),
+        DataType::Date(unit) => text.push_str(Keyword::Date(*unit).text()),
+        DataType::Timestamp(unit, zone) => {
+            text.push_str(Keyword::Timestamp(*unit).text())?;
+            push_zone(alloc, text, zone.as_str())
+        }
+        DataType::Utf8 => text.push_str(Keyword::Utf8.text()),
+        DataType::LargeUtf8 => text.push_str(Keyword::LargeUtf8.text()),
+        DataType::Binary => text.push_str(Keyword::Binary.text()),
+        DataType::LargeBinary => text.push_str(Keyword::LargeBinary.text()),
+        DataType::FixedSizeBinary(width) => {
+            push_word_and_number(text, Keyword::FixedBinary, *width)?;
+            text.push_str(")")
+        }
+        DataType::List(item) => push_item(alloc, text, Keyword::List, item),
+        DataType::LargeList(item) => push_item(alloc, text, Keyword::LargeList, item),
+        DataType::FixedSizeList(size, item) => {
+            push_word_and_number(text, Keyword::FixedList, *size)?;
+            text.push_str(",")?;
+            push_field(alloc, text, item)?;
+            text.push_str(")")
+        }
+        DataType::Struct(fields) => {
+            text.push_str(Keyword::Struct.text())?;
+            push_fields(alloc, text, fields)?;
+            text.push_str(">")
+        }
+    }
+}
+
+#[cycle(print)]
+fn push_item(
+    alloc: Global,
+    text: &mut String,
+    list: Keyword,
+    item: &Field,
+) -> Result<(), AllocError>
+    ensures { OnOk result (string_bytes text.new ≡ string_bytes text.old ++ (keyword_text list ++ field_text printed (column_of item.now) ++ codes ">")) }
+{
+    text.push_str(list.text())?;
+    push_field(alloc, text, item)?;
+    text.push_str(">")
+}
+
+#[tactic(auto, unfolding(crate::specs::FieldText::fields_text, crate::specs::FieldText::more_text))]
+#[cycle(print)]
+fn push_fields(alloc: Global, text: &mut String, fields: &[Field]) -> Result<(), AllocError>
+    ensures { OnOk result (string_bytes text.new ≡ string_bytes text.old ++ fields_text printed (columns_of (map column_of fields.now))) }
+{
+    let Some((first, others)) = fields.split_first() else {
+        return Ok(());
+    };
+    push_field(alloc, text, first)?;
+    for field in others {
+        text.push_str(",")?;
+        push_field(alloc, text, field)?;
+    }
+    Ok(())
+}
