@@ -1,5 +1,5 @@
 -- The words of field texts (docs/definitions/field_texts.md).
-use Rattle.std.specs.Prelude.{ℕ, ◌+◌, Bool, ◌==◌, List, [], ◌++◌, map, codes, if◌then◌else◌}
+use Rattle.std.specs.Prelude.{ℕ, ◌+◌, Bool, ◌==◌, List, ◌++◌, map, codes, if◌then◌else◌}
 use Rattle.std.specs.Int.Digits.{digits_of}
 use Rattle.arrow_schema.specs.Column.{DateKind, days, date_milliseconds, TimeKind, seconds, milliseconds, microseconds, nanoseconds}
 use Rattle.arrow_schema.specs.View.{bits_of, date_kind, time_kind}
