@@ -2,17 +2,17 @@
 ghost use Rattle.std.specs.Prelude.{◌≡◌, ◌↔◌, ◌-◌, IsTrue};
 ghost use Rattle.sector_dev.specs.Faults.{no_faults, after_call, after_read, CallFails, ReadFails};
 
-/// Which calls of a device in memory are to fail.
-#[derive(Clone, Copy, Debug, PartialEq, Eq)]
-pub struct Faults {
-    /// The write or sync that fails once, where the next one is 1; 0: none.
-    pub fail: u64,
-    /// The write or sync that fails, as does every call after it; 0: none.
-    pub stop: u64,
-    /// The read that fails once, where the next one is 1; 0: none.
-    pub fail_read: u64,
-    /// The device has stopped: every call fails.
-    pub stopped: bool,
+// Which calls are to fail.
+#[derive(Clone, Copy)]
+pub(crate) struct Faults {
+    // The write or sync that fails once, where the next one is 1; 0: none.
+    pub(crate) fail: u64,
+    // The write or sync that fails, as does every call after it; 0: none.
+    pub(crate) stop: u64,
+    // The read that fails once, where the next one is 1; 0: none.
+    pub(crate) fail_read: u64,
+    // The device has stopped: every call fails.
+    pub(crate) stopped: bool,
 }
 
 // Counts down to 0, and says when it comes there.
@@ -26,7 +26,7 @@ fn is_due(left: &mut u64) -> bool
 }
 
 impl Faults {
-    /// No call is to fail.
+    // No call is to fail.
     pub(crate) fn none() -> Faults
         ensures { result ≡ no_faults }
     {

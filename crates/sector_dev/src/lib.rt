@@ -15,6 +15,8 @@ mod run;
 
 pub use choice::Choice;
 pub use device::{DevError, SECTOR_BYTES, SectorDevice};
-pub use faults::Faults;
 pub use file::{FileDevice, FileError, LEAST_SECTORS, MOST_SECTORS};
 pub use model::ModelDevice;
+
+#[cfg(test)]
+mod tests;

@@ -4,8 +4,8 @@ ghost use Rattle.sector_dev.specs.Disk.{now};
 ghost use Rattle.sector_dev.specs.History.{story_of};
 ghost use Rattle.sector_dev.specs.Cells.{cell_at, cell_of};
 
-use crate::Faults;
 use crate::cells::Cell;
+use crate::faults::Faults;
 use crate::log::Event;
 
 mod calls;

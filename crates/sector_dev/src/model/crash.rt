@@ -8,8 +8,9 @@ ghost use Rattle.sector_dev.specs.Cells.{cell_at, waiting_below, left_in};
 ghost use Rattle.sector_dev.specs.View.{size_of, failed_of, faults_of, history_of};
 
 use super::ModelDevice;
+use crate::Choice;
 use crate::cells::Cell;
-use crate::{Choice, Faults};
+use crate::faults::Faults;
 use std::alloc::{AllocError, Global};
 
 // Whether the choice's bit of the i-th sector is 1.

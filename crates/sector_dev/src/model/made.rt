@@ -5,7 +5,7 @@ ghost use Rattle.sector_dev.specs.History.{all_synced, zeros};
 ghost use Rattle.sector_dev.specs.View.{size_of, failed_of, faults_of, history_of};
 
 use super::ModelDevice;
-use crate::Faults;
+use crate::faults::Faults;
 use std::alloc::{AllocError, Global};
 
 impl ModelDevice {
@@ -27,13 +27,6 @@ impl ModelDevice {
             failed: 0,
             faults: Faults::none(),
         })
-    }
-
-    /// Which calls are to fail.
-    pub fn faults(&self) -> Faults
-        ensures { result ≡ faults_of self.now }
-    {
-        self.faults
     }
 
     /// Makes the k-th write or sync from now fail once; 0: none.
