@@ -1,5 +1,5 @@
 -- Neighbouring sectors in memory.
-use Rattle.std.specs.Prelude.{ℕ, ◌-◌, ◌+◌, nat_lt, if◌then◌else◌, List, Option, None, slice_get}
+use Rattle.std.specs.Prelude.{ℕ, ◌-◌, nat_lt, if◌then◌else◌, List, Option, None, slice_get}
 use Rattle.sector_dev.specs.declared.run.Run.{Run}
 
 -- the content of this sector, if the run has it

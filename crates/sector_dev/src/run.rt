@@ -13,8 +13,8 @@ pub(crate) struct Run {
     pub(crate) contents: Vec<[u8; 512]>,
 }
 
-// 1 MiB: a longer run is not faster to write or to read
-pub(crate) const MOST: usize = 2048;
+// 256 KiB: a longer run was not faster to write or to read
+pub(crate) const MOST: usize = 512;
 
 impl Run {
     // No sector.

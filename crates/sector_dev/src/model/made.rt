@@ -1,6 +1,6 @@
 // A new device in memory, and which of its calls are to fail.
-ghost use Rattle.std.specs.Prelude.{◌≡◌, ◌∷◌, [], Some, IfOk};
-ghost use Rattle.sector_dev.specs.Faults.{no_faults};
+ghost use Rattle.std.specs.Prelude.{◌≡◌, ◌≤◌, ◌+◌, ◌-◌, ◌∷◌, [], ℕ, Some, IfOk};
+ghost use Rattle.sector_dev.specs.Faults.{no_faults, CallFails, ReadFails, calls_later, reads_later};
 ghost use Rattle.sector_dev.specs.History.{all_synced, zeros};
 ghost use Rattle.sector_dev.specs.View.{size_of, failed_of, faults_of, history_of};
 
@@ -32,6 +32,7 @@ impl ModelDevice {
     /// Makes the k-th write or sync from now fail once; 0: none.
     pub fn fail_at(&mut self, k: u64)
         ensures faults { faults_of self.new ≡ record (faults_of self.old) { fail = k } }
+        ensures due { 1 ≤ k → CallFails (calls_later (k - 1) (faults_of self.new)) }
         ensures size { size_of self.new ≡ size_of self.old }
         ensures history { history_of self.new ≡ history_of self.old }
         ensures failed { failed_of self.new ≡ failed_of self.old }
@@ -43,6 +44,8 @@ impl ModelDevice {
     /// 0: none.
     pub fn stop_at(&mut self, k: u64)
         ensures faults { faults_of self.new ≡ record (faults_of self.old) { stop = k } }
+        ensures due { 1 ≤ k → (n : ℕ) → k ≤ n + 1 → CallFails (calls_later n (faults_of self.new)) }
+        ensures reads_too { 1 ≤ k → (n : ℕ) → k ≤ n → ReadFails (calls_later n (faults_of self.new)) }
         ensures size { size_of self.new ≡ size_of self.old }
         ensures history { history_of self.new ≡ history_of self.old }
         ensures failed { failed_of self.new ≡ failed_of self.old }
@@ -53,6 +56,7 @@ impl ModelDevice {
     /// Makes the k-th read from now fail once; 0: none.
     pub fn fail_read_at(&mut self, k: u64)
         ensures faults { faults_of self.new ≡ record (faults_of self.old) { fail_read = k } }
+        ensures due { 1 ≤ k → ReadFails (reads_later (k - 1) (faults_of self.new)) }
         ensures size { size_of self.new ≡ size_of self.old }
         ensures history { history_of self.new ≡ history_of self.old }
         ensures failed { failed_of self.new ≡ failed_of self.old }
