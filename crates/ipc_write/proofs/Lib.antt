@@ -5,3 +5,4 @@ pub mod FieldRead
 pub mod MessageRead
 pub mod FieldNode
 pub mod Room
+pub mod HeaderRead

@@ -9,4 +9,7 @@ mod laws;
 mod trees;
 
 pub use framing::{write_end, write_schema};
-pub use laws::{field_is_read_again, message_is_read_again};
+pub use laws::{
+    batch_is_read_again, dictionary_is_read_again, field_is_read_again, message_is_read_again,
+    schema_is_read_again,
+};
