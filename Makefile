@@ -1,11 +1,50 @@
-# The gate and its checks. Needs rt, the Rattle toolchain.
+# The gate, and the built program with its tests. Needs rt (the Rattle toolchain), gcc and python3.
 .PHONY: all test
 
-# Proves each crate, lowest first, and keeps the work in out/ for the next time.
+ifeq ($(wildcard crates/arrowstore/src/main.rt),)
+
+# Until crates/arrowstore is a whole program: proves each crate, lowest first, and keeps the work in out/.
 all:
 	@echo "Proving each crate. The first time takes some minutes; a line comes for each function."
 	rt all check
 
-# The merge gate: every proof from nothing, the must-fail edits, the tests and the programs.
+# The merge gate: every proof from nothing, the must-fail edits and the tests.
 test:
 	rt ci
+
+else
+
+SOURCES := $(shell find crates.txt crates -name out -prune -o -type f -print)
+PROGRAM := crates/arrowstore/out/arrowstore
+
+.PHONY: vectors bench
+
+# Builds the program and runs it once, on the stream of examples/.
+all: bin/arrowstore
+	@examples/run bin/arrowstore
+
+bin/arrowstore: $(SOURCES)
+	@echo "Proving and building arrowstore. The first build proves every crate: on four processors that takes"
+	@echo "some ten minutes. A line comes for each crate and function; later builds prove only what changed."
+	cd crates/arrowstore && rt run -- recode < stdin > /dev/null
+	@mkdir -p bin
+	@cp $(PROGRAM) $@
+
+# The gate proves every crate from nothing and builds the program, which the tests then run.
+test:
+	@echo "The gate proves every crate from nothing: on four processors that takes some twenty minutes."
+	rt ci
+	@mkdir -p bin
+	@cp $(PROGRAM) bin/arrowstore
+	@$(MAKE) --no-print-directory vectors
+
+# The program as it is built, on whole streams, with failing input and output, and with each allocation refused.
+vectors:
+	tests/program bin/arrowstore
+	tests/refused_memory bin/arrowstore
+	tests/run_vectors bin/arrowstore tests/vectors/ints
+
+bench: bin/arrowstore
+	bench/recode bin/arrowstore
+
+endif

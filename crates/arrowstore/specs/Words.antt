@@ -1,0 +1,14 @@
+-- What the command line knows: one command `recode`, without arguments.
+use Rattle.std.specs.Prelude.{ℕ, List, [], ◌∷◌, ◌≡◌, codes, true}
+use Rattle.clap.specs.Words.{App, Text, new_app, with_subcommand}
+
+abbrev pub recode_command : App
+recode_command = new_app (codes "recode")
+
+-- a command has to be given
+abbrev pub program_command : App
+program_command = with_subcommand (record { top = record (new_app (codes "arrowstore")).top { subcommand_required = true }; subs = [] }) recode_command.top
+
+-- the words are the program's name, whatever it is, and `recode`
+abbrev pub AreRecode : List Text → Type 0
+AreRecode words = (name : Text) × (words ≡ name ∷ codes "recode" ∷ [])

@@ -1,0 +1,66 @@
+// Words, and writers that fail.
+pub mod fakes;
+
+use crate::{Action, Refusal, Status, action_of, end, tell_words, write_whole};
+use fakes::FailsAt;
+use std::test::Fail;
+
+#[test]
+fn knows_recode(rt: HostRuntime) -> Result<(), Fail> {
+    assert_eq!(rt;
+        action_of(rt.alloc(), &["arrowstore", "recode"])?,
+        Action::Recode
+    );
+    Ok(())
+}
+
+#[test]
+fn tells_wrong_words_and_help(rt: HostRuntime) -> Result<(), Fail> {
+    let alloc = rt.alloc();
+    for (words, wanted) in [
+        (
+            ["arrowstore", "recode", "now"].as_slice(),
+            Status::WrongWords,
+        ),
+        (["arrowstore"].as_slice(), Status::WrongWords),
+        (["arrowstore", "help"].as_slice(), Status::Done),
+    ] {
+        let (mut output, mut errors) = (Vec::new(alloc), Vec::new(alloc));
+        let status = match action_of(alloc, words) {
+            Ok(_) => Status::Refused,
+            Err(error) => tell_words(&error, &mut output, &mut errors),
+        };
+        assert_eq!(rt; status, wanted);
+        assert_eq!(rt; errors.is_empty(), status == Status::Done);
+        assert_eq!(rt; output.is_empty(), status != Status::Done);
+    }
+    Ok(())
+}
+
+#[test]
+fn tells_a_refusal(rt: HostRuntime) {
+    let mut errors = Vec::new(rt.alloc());
+    assert_eq!(rt;
+        end(Err(Refusal::TooManyBytes), &mut errors),
+        Status::Refused
+    );
+    assert_eq!(rt; errors.as_slice(), b"refused S7 TooMany Bytes\n".as_slice());
+}
+
+#[test]
+fn tells_each_failing_write(rt: HostRuntime) {
+    let alloc = rt.alloc();
+    for call in 0..4 {
+        let mut output = FailsAt {
+            kept: Vec::new(alloc),
+            calls: 0,
+            at: call,
+        };
+        assert_eq!(rt;
+            write_whole(&mut output, &[7u8; 48]),
+            Err(Refusal::Io),
+            "call {call}"
+        );
+        assert_eq!(rt; output.kept.len(), call * 16);
+    }
+}
