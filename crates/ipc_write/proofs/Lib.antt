@@ -6,3 +6,4 @@ pub mod MessageRead
 pub mod FieldNode
 pub mod Room
 pub mod HeaderRead
+pub mod BatchNode

@@ -147,6 +147,9 @@ schema_tree s = table (scalar 2 0 (refers (references (field_nodes 0 (columns_of
 abbrev pub node_pair : RawNode → ℕ × ℕ
 node_pair n = (n.length, n.null_count)
 
+abbrev pub raw_node : ℕ × ℕ → RawNode
+raw_node p = record { length = p.0; null_count = p.1 }
+
 abbrev pub buffer_pair : RawBuffer → ℕ × ℕ
 buffer_pair b = (b.offset, b.length)
 

@@ -3,11 +3,13 @@ ghost use Rattle.std.specs.Prelude.{◌≡◌, ◌≤◌, ◌<◌, ◌+◌, ◌^
 ghost use Rattle.byteorder.specs.Endian.{little_bytes};
 ghost use Rattle.arrow_schema.specs.View.{schema_of};
 ghost use Rattle.arrow_schema.specs.Limits.{IsWithinLimits};
+ghost use Rattle.flatbuf.specs.Held.{FitsStructs};
 ghost use Rattle.ipc_message.specs.Framing.{mark};
 ghost use Rattle.ipc_write.specs.Plain.{is_integer_schema};
-ghost use Rattle.ipc_write.specs.Written.{schema_message, end_mark};
+ghost use Rattle.ipc_write.specs.Trees.{buffer_pair, raw_node};
+ghost use Rattle.ipc_write.specs.Written.{schema_message, batch_message, end_mark, padded, body, placed};
 
-use crate::trees::{message_node, schema_node};
+use crate::trees::{batch_node, message_node, schema_node};
 use arrow_schema::Schema;
 use flatbuf::Writer;
 use std::alloc::{AllocError, Global};
@@ -33,6 +35,67 @@ pub fn write_schema(alloc: Global, out: &mut Vec<u8>, schema: &Schema) -> Result
     let root = message_node(alloc, 1, header, 0)?;
     let metadata = Writer::new(alloc).write(&root)?;
     put_metadata(out, &metadata)
+}
+
+/// Bytes, and zeros up to a multiple of 8.
+fn put_padded(out: &mut Vec<u8>, bytes: &[u8]) -> Result<(), AllocError>
+    ensures { OnOk result (out.new.items ≡ out.old.items ++ padded bytes.now) }
+{
+    out.extend_from_slice(bytes)?;
+    out.resize(out.len() + (8 - bytes.len() % 8) % 8, 0)
+}
+
+/// The body of a batch: each buffer, filled to a multiple of 8.
+fn put_body(out: &mut Vec<u8>, buffers: &[&[u8]]) -> Result<(), AllocError>
+    ensures { OnOk result (out.new.items ≡ out.old.items ++ body (map (λ b. b.now) buffers.now)) }
+{
+    for buffer in buffers {
+        put_padded(out, buffer)?;
+    }
+    Ok(())
+}
+
+/// Where each buffer stands in the body, and how long the body is.
+#[tactic(auto, using(crate::proofs::BatchNode::fits_more))]
+fn ranges_of(alloc: Global, buffers: &[&[u8]]) -> Result<(Vec<(u64, u64)>, u64), AllocError>
+    requires { length (body (map (λ b. b.now) buffers.now)) < 2 ^ 62 }
+    ensures ranges { IfOk result (λ r. r.0.items ≡ map buffer_pair (placed 0 (map (λ b. b.now) buffers.now))) }
+    ensures fits { IfOk result (λ r. FitsStructs r.0.items) }
+    ensures end { IfOk result (λ r. r.1 ≡ length (body (map (λ b. b.now) buffers.now))) }
+{
+    let mut ranges = Vec::new(alloc);
+    let mut end: u64 = 0;
+    for buffer in buffers {
+        let length = buffer.len() as u64;
+        ranges.push((end, length))?;
+        end += length + (8 - length % 8) % 8;
+    }
+    Ok((ranges, end))
+}
+
+/// Appends a record batch of so many rows, with a node for each array (its length and null count) and these buffers.
+///
+/// The caller sees to it that the metadata stays below its limit and the body below 2^62 bytes.
+#[tactic(auto, unfolding(crate::specs::Written::batch_message))]
+pub fn write_batch(
+    alloc: Global,
+    out: &mut Vec<u8>,
+    rows: u64,
+    nodes: Vec<(u64, u64)>,
+    buffers: &[&[u8]],
+) -> Result<(), AllocError>
+    requires fits { FitsStructs nodes.items }
+    requires nodes { length nodes.items ≤ 2048 }
+    requires buffers { length buffers.now ≤ 65536 }
+    requires body { length (body (map (λ b. b.now) buffers.now)) < 2 ^ 62 }
+    ensures { OnOk result (out.new.items ≡ out.old.items ++ batch_message rows (map raw_node nodes.items) (map (λ b. b.now) buffers.now)) }
+{
+    let (ranges, body_length) = ranges_of(alloc, buffers)?;
+    let header = batch_node(alloc, rows, nodes, ranges)?;
+    let root = message_node(alloc, 3, header, body_length)?;
+    let metadata = Writer::new(alloc).write(&root)?;
+    put_metadata(out, &metadata)?;
+    put_body(out, buffers)
 }
 
 /// Appends the end mark.

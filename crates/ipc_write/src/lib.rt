@@ -8,7 +8,7 @@ mod framing;
 mod laws;
 mod trees;
 
-pub use framing::{write_end, write_schema};
+pub use framing::{write_batch, write_end, write_schema};
 pub use laws::{
     batch_is_read_again, dictionary_is_read_again, field_is_read_again, message_is_read_again,
     schema_is_read_again,
