@@ -4,3 +4,5 @@ pub mod ColumnLemmas
 pub mod ByteLemmas
 pub mod RowLemmas
 pub mod SliceLemmas
+pub mod Pieces
+pub mod PieceSize

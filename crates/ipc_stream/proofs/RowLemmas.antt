@@ -1,5 +1,5 @@
 -- Rows read from columns.
-use Rattle.std.proofs.Common.{◌≡◌, ℕ, zero, suc, ◌+◌, ◌-◌, ◌*◌, ◌≤◌, ◌<◌, List, [], ◌∷◌, ◌++◌, map, take, drop, length, refl, arith, sym, ap, ◌∙◌}
+use Rattle.std.proofs.Common.{◌≡◌, ℕ, zero, suc, ◌+◌, ◌-◌, ◌≤◌, List, ◌∷◌, take, drop, length, refl, arith, ap}
 use Rattle.values.specs.Cell.{Cell}
 use Rattle.ipc_stream.specs.Columns.{IntegerColumn, row_at, rows_from}
 

@@ -1,14 +1,11 @@
 -- The values of some rows are a slice of each column's bytes.
-use Rattle.std.specs.Prelude.{slice_index}
-use Rattle.std.proofs.Common.{◌≡◌, ℕ, zero, suc, ◌+◌, ◌-◌, ◌*◌, ◌^◌, ◌≤◌, ◌<◌, Bool, List, [], ◌∷◌, ◌++◌, map, take, drop, length, refl, arith, sym, ap, ◌∙◌}
-use Rattle.std.specs.List.{flat_map}
+use Rattle.std.proofs.Common.{◌≡◌, ℕ, zero, suc, ◌+◌, ◌*◌, ◌^◌, ◌≤◌, ◌<◌, List, [], ◌∷◌, ◌++◌, map, take, drop, length, refl, arith, sym, ap, ◌∙◌}
 use Rattle.std.proofs.lemmas.List.Concat.{flat_map-cons}
 use Rattle.std.proofs.lemmas.List.{length-drop}
 use Rattle.std.proofs.Math.Seq.{take-nil, drop-nil}
 use Rattle.byteorder.specs.Endian.{little_number, little_bytes}
 use Rattle.byteorder.specs.Numbers.{little_from-lt}
-use Rattle.values.specs.Cell.{Cell, number}
-use Rattle.ipc_stream.specs.Integers.{integer_of, number_of}
+use Rattle.values.specs.Cell.{Cell}
 use Rattle.ipc_stream.specs.Columns.{IntegerColumn, integer_bytes, values_of, first_cell, other_cells, cell_at, row_at, rows_from}
 use Rattle.ipc_stream.proofs.ByteLemmas.{AreBytes, bytes_again, drop-bytes}
 use Rattle.ipc_stream.proofs.IntegerLemmas.{number_again}

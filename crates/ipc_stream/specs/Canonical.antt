@@ -20,7 +20,7 @@ abbrev pub full_nodes : {A : Type 0} → List A → ℕ → List RawNode
 full_nodes columns rows = map (λ c. record { length = rows; null_count = 0 }) columns
 
 -- the record batch of a piece
-abbrev pub piece_message : PlainSchema → List (List Cell) → List ℕ
+unfoldable pub piece_message : PlainSchema → List (List Cell) → List ℕ
 piece_message s rows = batch_message (length rows) (full_nodes s.columns (length rows)) (integer_buffers (integer_columns s) rows)
 
 -- a piece has at most 4,096 rows and a weight of 16,777,216

@@ -58,7 +58,8 @@ fn is_integer_schema(schema: &Schema) -> bool
     are_integer_fields(&schema.fields) && schema.pairs.is_empty()
 }
 
-fn width_of(field: &Field) -> usize
+/// The bytes of an integer column's values.
+pub(crate) fn width_of(field: &Field) -> usize
     ensures value { result ≡ (integer_column (column_of field.now)).width }
     ensures small { result ≤ 8 }
 {

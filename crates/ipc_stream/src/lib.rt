@@ -2,8 +2,10 @@
 #![tactic(auto)]
 
 mod decoder;
+mod encoder;
 mod table;
 
 pub use decoder::decode;
+pub use encoder::encode;
 pub use ipc_message::ImportError;
 pub use table::Table;

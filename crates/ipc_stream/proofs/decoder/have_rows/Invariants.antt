@@ -1,4 +1,4 @@
-use Rattle.std.proofs.Common.{◌≡◌, ℕ, map, drop, List}
+use Rattle.std.proofs.Common.{◌≡◌, map, drop}
 use Rattle.arrow_schema.specs.View.{column_of}
 use Rattle.ipc_stream.specs.Table.{integer_column, have_rows}
 use Rattle.ipc_stream.proofs.decoder.have_rows.Given as goal
