@@ -1,3 +1,4 @@
 pub mod Given
+pub mod Recode
 pub mod Told
 pub mod Words

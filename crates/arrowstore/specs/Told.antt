@@ -1,10 +1,17 @@
 -- What is told of a refusal: its code, its name and what it carries, split by spaces.
 use Rattle.std.specs.Prelude.{ℕ, List, codes}
 use Rattle.ipc_message.specs.FaultText.{fault_text}
+use Rattle.ipc_message.specs.declared.error.ImportError.{ImportError}
+use Rattle.ipc_message.specs.declared.error.ImportError.TheVariants as errors
 use Rattle.arrowstore.specs.declared.refusal.Refusal.{Refusal}
 use Rattle.arrowstore.specs.declared.refusal.Refusal.TheVariants.{Fault, TooManyBytes, Io, OutOfMemory}
 use Rattle.arrowstore.specs.declared.outcome.Status.{Status}
 use Rattle.arrowstore.specs.declared.outcome.Status.TheVariants.{Done, Refused, WrongWords}
+
+-- what an import that failed is told as
+abbrev pub refusal_of : ImportError → Refusal
+refusal_of (errors.Fault fault) = Fault fault
+refusal_of errors.OutOfMemory = OutOfMemory
 
 abbrev pub refusal_text : Refusal → List ℕ
 refusal_text (Fault fault) = fault_text fault

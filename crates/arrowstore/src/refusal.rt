@@ -1,8 +1,9 @@
 // Why a command was refused.
 ghost use Rattle.std.specs.Prelude.{◌≡◌};
 ghost use Rattle.arrowstore.specs.declared.refusal.Refusal.TheVariants.{OutOfMemory};
+ghost use Rattle.arrowstore.specs.Told.{refusal_of};
 
-use ipc_message::Fault;
+use ipc_message::{Fault, ImportError};
 use std::alloc::AllocError;
 use std::fmt;
 
@@ -24,6 +25,17 @@ impl From<AllocError> for Refusal {
 
     fn from(_error: AllocError) -> Refusal {
         Refusal::OutOfMemory
+    }
+}
+
+impl From<ImportError> for Refusal {
+    ghost from_gives = { λ error refusal. refusal ≡ refusal_of error };
+
+    fn from(error: ImportError) -> Refusal {
+        match error {
+            ImportError::Fault(fault) => Refusal::Fault(fault),
+            ImportError::OutOfMemory => Refusal::OutOfMemory,
+        }
     }
 }
 

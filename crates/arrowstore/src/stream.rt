@@ -1,0 +1,45 @@
+// A stream from a reader, in its canonical form to a writer.
+ghost use Rattle.std.specs.Prelude.{◌≡◌, ◌≢◌, ◌+◌, ◌≤◌, length, IfSome, IfErr, IsErrOf};
+ghost use Rattle.std.specs.Io.KnownBytes.{IsAtEnd};
+ghost use Rattle.arrowstore.specs.Given.{HasGiven};
+ghost use Rattle.arrowstore.specs.Recode.{IsVerdict};
+
+use crate::{LARGEST_INPUT, Refusal, read_input, write_whole};
+use ipc_stream::{Table, decode, encode};
+use std::alloc::Global;
+use std::io::{Read, Write};
+
+/// Reads a stream to its end, and writes the canonical stream of its table and nothing else.
+///
+/// Refused by `TooManyBytes` where the input has more than `LARGEST_INPUT` bytes, and else by the fault of a stream
+/// without a meaning; then nothing is written. `OutOfMemory` comes only where a growth was refused, before anything is
+/// written, and `Io` where a read or a write fails.
+pub fn recode<R: Read, W: Write>(
+    alloc: Global,
+    reader: &mut R,
+    writer: &mut W,
+) -> Result<(), Refusal>
+    // A verdict comes only where the input was read to its end, and is not too long.
+    ensures end { IsVerdict result → IsAtEnd (R.remaining reader.new) }
+    ensures within { IsVerdict result → IfSome (R.remaining reader.old) (λ input. length input ≤ LARGEST_INPUT) }
+    // Too many bytes: one more than the most was read.
+    ensures too_many { IsErrOf result Refusal.TooManyBytes
+        → HasGiven (R.remaining reader.old) (R.remaining reader.new) (LARGEST_INPUT + 1) }
+    // Where it is refused, nothing is written, unless a read or a write failed.
+    ensures silent { IfErr result (λ refusal. refusal ≢ Refusal.Io → writer.new ≡ writer.old) }
+{
+    let table = read_table(alloc, reader)?;
+    let bytes = encode(alloc, &table)?;
+    write_whole(writer, bytes.as_slice())
+}
+
+// The table that all the reader has stands for.
+fn read_table<R: Read>(alloc: Global, reader: &mut R) -> Result<Table, Refusal>
+    ensures end { IsVerdict result → IsAtEnd (R.remaining reader.new) }
+    ensures within { IsVerdict result → IfSome (R.remaining reader.old) (λ input. length input ≤ LARGEST_INPUT) }
+    ensures too_many { IsErrOf result Refusal.TooManyBytes
+        → HasGiven (R.remaining reader.old) (R.remaining reader.new) (LARGEST_INPUT + 1) }
+{
+    let input = read_input(alloc, reader)?;
+    Ok(decode(alloc, input.as_slice())?)
+}
