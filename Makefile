@@ -34,8 +34,7 @@ bin/arrowstore: $(SOURCES)
 test:
 	@echo "The gate proves every crate from nothing: on four processors that takes some twenty minutes."
 	rt ci
-	@mkdir -p bin
-	@cp $(PROGRAM) bin/arrowstore
+	@$(MAKE) --no-print-directory bin/arrowstore
 	@$(MAKE) --no-print-directory vectors
 
 # The program as it is built, on whole streams, with failing input and output, and with each allocation refused.
