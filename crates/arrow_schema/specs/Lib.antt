@@ -2,8 +2,15 @@ pub mod Column
 pub mod View
 pub mod Preorder
 pub mod Limits
+pub mod Integers
 pub mod Tally
 pub mod Shape
 pub mod Alike
 pub mod Keywords
 pub mod FieldText
+pub mod Typed
+pub mod Scan
+pub mod Fronts
+pub mod Build
+pub mod Standing
+pub mod Told

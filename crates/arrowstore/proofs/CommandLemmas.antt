@@ -1,5 +1,5 @@
 -- What `clap` makes of the words that ask for `recode`.
-use Rattle.std.proofs.Common.{◌≡◌, ℕ, List, [], ◌∷◌, Option, Some, None, option_map, codes, true, refl, ap, ap₂, ◌∙◌, sym}
+use Rattle.std.proofs.Common.{◌≡◌, List, [], ◌∷◌, Option, Some, None, option_map, codes, true, refl, ap, ap₂, ◌∙◌, sym}
 use Rattle.std.specs.Prelude.{Box}
 use Rattle.std.specs.Box.{box_value}
 use Rattle.clap.specs.Words.{App, Text, HasMatchesOf, subcommand_of, subcommand_name_of, takes, is_simple}

@@ -1,6 +1,6 @@
 -- What the command line knows: one command `recode`, without arguments.
-use Rattle.std.specs.Prelude.{ℕ, List, [], ◌∷◌, ◌≡◌, codes, true}
-use Rattle.clap.specs.Words.{App, Text, new_app, with_subcommand}
+use Rattle.std.specs.Prelude.{List, [], ◌∷◌, ◌≡◌, codes, true, Some, option_map}
+use Rattle.clap.specs.Words.{App, Text, new_app, subcommand_of, with_subcommand}
 
 abbrev pub recode_command : App
 recode_command = new_app (codes "recode")
@@ -12,3 +12,7 @@ program_command = with_subcommand (record { top = record (new_app (codes "arrows
 -- the words are the program's name, whatever it is, and `recode`
 abbrev pub AreRecode : List Text → Type 0
 AreRecode words = (name : Text) × (words ≡ name ∷ codes "recode" ∷ [])
+
+-- the words name the command `recode`, rightly or wrongly used
+abbrev pub NameRecode : List Text → Type 0
+NameRecode words = option_map (λ p. p.0) (subcommand_of program_command words) ≡ Some (codes "recode")

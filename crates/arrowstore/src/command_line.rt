@@ -1,8 +1,8 @@
 // The words of a command line.
-ghost use Rattle.std.specs.Prelude.{◌≡◌, map, codes, Some, IfOk, MatchResult};
+ghost use Rattle.std.specs.Prelude.{◌≡◌, map, codes, Some, IfOk, IfSome, OnOk, MatchResult};
 ghost use Rattle.clap.specs.Words.{app_of, kind_of, subcommand_name_of};
 ghost use Rattle.clap.specs.declared.error.kind.ErrorKind.TheVariants.{OutOfMemory};
-ghost use Rattle.arrowstore.specs.Words.{program_command, AreRecode};
+ghost use Rattle.arrowstore.specs.Words.{program_command, AreRecode, NameRecode};
 
 use clap::error::ErrorKind;
 use clap::{ArgMatches, Command, Error};
@@ -18,8 +18,9 @@ pub enum Action {
 
 /// Reads the words of a command line, the program's name the first. An `Err` is a mistake in them, or asks for help.
 pub fn action_of<S: AsStr>(alloc: Global, words: &[S]) -> Result<Action, Error>
-    ensures { AreRecode (map S.text words.now)
+    ensures understood { AreRecode (map S.text words.now)
         → MatchResult result (λ action. action ≡ Action.Recode) (λ error. kind_of error ≡ OutOfMemory) }
+    ensures asked { OnOk result (NameRecode (map S.text words.now)) }
 {
     let matches = program(alloc)?.try_get_matches_from(words)?;
     match named(&matches) {
@@ -29,7 +30,8 @@ pub fn action_of<S: AsStr>(alloc: Global, words: &[S]) -> Result<Action, Error>
 }
 
 fn named(matches: &ArgMatches<'_>) -> Option<Action>
-    ensures { subcommand_name_of matches.now ≡ Some (codes "recode") → result ≡ Some Action.Recode }
+    ensures known { subcommand_name_of matches.now ≡ Some (codes "recode") → result ≡ Some Action.Recode }
+    ensures asked { IfSome result (λ _. subcommand_name_of matches.now ≡ Some (codes "recode")) }
 {
     match matches.subcommand_name() {
         Some("recode") => Some(Action::Recode),

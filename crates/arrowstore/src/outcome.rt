@@ -33,7 +33,7 @@ impl Status {
 pub fn tell_words<W: Write, E: Write>(error: &clap::Error, output: &mut W, errors: &mut E) -> Status
     ensures done { result ≡ Status.Done → errors.new ≡ errors.old }
     ensures wrong_words { result ≡ Status.WrongWords → output.new ≡ output.old }
-    ensures memory { kind_of error.now ≡ OutOfMemory → result ≡ Status.Refused }
+    ensures memory { kind_of error.now ≡ OutOfMemory → (result ≡ Status.Refused) × (output.new ≡ output.old) }
 {
     if error.kind() == ErrorKind::OutOfMemory {
         return end(Err(Refusal::OutOfMemory), errors);

@@ -1,8 +1,11 @@
 // The program over any input and output.
-ghost use Rattle.std.specs.Prelude.{◌≡◌, ◌≢◌, map};
-ghost use Rattle.arrowstore.specs.Words.{AreRecode};
+ghost use Rattle.std.specs.Prelude.{◌≡◌, ◌≢◌, ◌⊎◌, ◌<◌, length, map, IfSome, IsErr};
+ghost use Rattle.ipc_message.specs.Header.{held_codes};
+ghost use Rattle.ipc_stream.specs.Meaning.{meaning};
+ghost use Rattle.arrowstore.specs.Recode.{AppendsCanonical};
+ghost use Rattle.arrowstore.specs.Words.{AreRecode, NameRecode};
 
-use crate::{Action, Status, action_of, end, recode, tell_words};
+use crate::{Action, LARGEST_INPUT, Status, action_of, end, recode, tell_words};
 use std::alloc::Global;
 use std::convert::AsStr;
 use std::io::{Read, Write};
@@ -16,6 +19,16 @@ pub fn run<S: AsStr, R: Read, W: Write, E: Write>(
     errors: &mut E,
 ) -> Status
     ensures right_words { AreRecode (map S.text words.now) → result ≢ Status.WrongWords }
+    // Done: the output has been given the canonical stream of what the input means, and nothing else.
+    ensures recoded { AreRecode (map S.text words.now) → result ≡ Status.Done
+        → IfSome (R.remaining input.old) (AppendsCanonical (W.contents output.old) (W.contents output.new)) }
+    // An input that has no meaning or too many bytes is refused, and nothing is written.
+    ensures meaningless { AreRecode (map S.text words.now)
+        → IfSome (R.remaining input.old) (λ bytes. IsErr (meaning held_codes bytes) → (result ≡ Status.Refused) × (output.new ≡ output.old)) }
+    ensures too_long { AreRecode (map S.text words.now)
+        → IfSome (R.remaining input.old) (λ bytes. LARGEST_INPUT < length bytes → (result ≡ Status.Refused) × (output.new ≡ output.old)) }
+    // The input is read only where the words name the command.
+    ensures asked { NameRecode (map S.text words.now) ⊎ (input.new ≡ input.old) }
     ensures done { result ≡ Status.Done → errors.new ≡ errors.old }
     ensures wrong_words { result ≡ Status.WrongWords → (input.new ≡ input.old) × (output.new ≡ output.old) }
 {

@@ -1,8 +1,12 @@
 // A stream from a reader, in its canonical form to a writer.
-ghost use Rattle.std.specs.Prelude.{◌≡◌, ◌≢◌, ◌+◌, ◌≤◌, length, IfSome, IfErr, IsErrOf};
+ghost use Rattle.std.specs.Prelude.{◌≡◌, ◌≢◌, ◌+◌, ◌≤◌, ◌<◌, length, IfSome, IfOk, IfErr, OnOk, IsErr, IsErrOf};
 ghost use Rattle.std.specs.Io.KnownBytes.{IsAtEnd};
+ghost use Rattle.ipc_message.specs.Header.{held_codes};
+ghost use Rattle.ipc_stream.specs.Meaning.{meaning};
+ghost use Rattle.values.specs.IntegerTable.{IsIntegerTable};
+ghost use Rattle.values.specs.TableView.{table_of};
 ghost use Rattle.arrowstore.specs.Given.{HasGiven};
-ghost use Rattle.arrowstore.specs.Recode.{IsVerdict};
+ghost use Rattle.arrowstore.specs.Recode.{IsVerdict, AppendsCanonical, IsTrueFault};
 
 use crate::{LARGEST_INPUT, Refusal, read_input, write_whole};
 use ipc_stream::{Table, decode, encode};
@@ -19,12 +23,19 @@ pub fn recode<R: Read, W: Write>(
     reader: &mut R,
     writer: &mut W,
 ) -> Result<(), Refusal>
+    // What is written is the canonical stream of what the input means, and nothing else.
+    ensures written { OnOk result (IfSome (R.remaining reader.old) (AppendsCanonical (W.contents writer.old) (W.contents writer.new))) }
+    // A fault that is told is the fault of the input.
+    ensures fault { IfErr result (λ refusal. IfSome (R.remaining reader.old) (IsTrueFault refusal)) }
     // A verdict comes only where the input was read to its end, and is not too long.
     ensures end { IsVerdict result → IsAtEnd (R.remaining reader.new) }
     ensures within { IsVerdict result → IfSome (R.remaining reader.old) (λ input. length input ≤ LARGEST_INPUT) }
     // Too many bytes: one more than the most was read.
     ensures too_many { IsErrOf result Refusal.TooManyBytes
         → HasGiven (R.remaining reader.old) (R.remaining reader.new) (LARGEST_INPUT + 1) }
+    // Of an input that has no meaning or too many bytes nothing is written, whatever fails.
+    ensures meaningless { IfSome (R.remaining reader.old) (λ input. IsErr (meaning held_codes input) → writer.new ≡ writer.old) }
+    ensures too_long { IfSome (R.remaining reader.old) (λ input. LARGEST_INPUT < length input → writer.new ≡ writer.old) }
     // Where it is refused, nothing is written, unless a read or a write failed.
     ensures silent { IfErr result (λ refusal. refusal ≢ Refusal.Io → writer.new ≡ writer.old) }
 {
@@ -35,6 +46,9 @@ pub fn recode<R: Read, W: Write>(
 
 // The table that all the reader has stands for.
 fn read_table<R: Read>(alloc: Global, reader: &mut R) -> Result<Table, Refusal>
+    ensures meaning { IfOk result (λ table. IfSome (R.remaining reader.old) (λ input. meaning held_codes input ≡ Ok (table_of table))) }
+    ensures integers { IfOk result (λ table. IsIntegerTable (table_of table)) }
+    ensures fault { IfErr result (λ refusal. IfSome (R.remaining reader.old) (IsTrueFault refusal)) }
     ensures end { IsVerdict result → IsAtEnd (R.remaining reader.new) }
     ensures within { IsVerdict result → IfSome (R.remaining reader.old) (λ input. length input ≤ LARGEST_INPUT) }
     ensures too_many { IsErrOf result Refusal.TooManyBytes

@@ -1,4 +1,7 @@
 //! FlatBuffers: reading tables that may be malicious, and writing them so that they read back.
+//!
+//! A reading call gives what the slot has by the look-up of the format, or the first thing that is out of bounds, and
+//! takes no memory. [`Writer`] gives one layout for each tree, and what it wrote is read again.
 #![tactic(auto)]
 
 ghost use Rattle.std.specs.Prelude.{ℕ, ◌≡◌, ◌<◌, ◌^◌, ◌%◌, ◌+◌, List, length};
@@ -27,6 +30,8 @@ mod numbers;
 mod references;
 mod sizes;
 mod table;
+#[cfg(test)]
+mod tests;
 mod writer;
 
 pub use buf::{Budget, Buf, MAX_BYTES, MAX_LEVELS, MAX_TABLES};

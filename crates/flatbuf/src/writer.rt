@@ -19,7 +19,8 @@ impl Writer {
         Writer { alloc }
     }
 
-    /// The metadata whose root is this node (docs/formats/writing.md): linear in its bytes, by one allocation.
+    /// The metadata whose root is this node (docs/formats/writing.md), by one allocation. Each byte is written
+    /// once; the size of a table is computed once for each level above it.
     ///
     /// The caller sees to it that it is shorter than 2 GiB, that each number fits its slot, and that each table fits
     /// the 16 bits of its vtable.

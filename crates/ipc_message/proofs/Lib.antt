@@ -6,6 +6,7 @@ pub mod ElementLemmas
 pub mod FieldLemmas
 pub mod HeaderLemmas
 pub mod FrontLemmas
+pub mod FramedLemmas
 pub mod Spelled
 pub mod Shapes
 pub mod Columns

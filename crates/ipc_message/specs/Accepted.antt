@@ -18,20 +18,20 @@ pub record IsAccepted (s : RawSchema) : Type 0 where
   pub read : (not (length s.pairs == 0) || list_any is_not_yet (every_field s)) ≡ false
 
 -- no test finds anything
-abbrev AllNone : {A : Type 0} → List (Option A) → Type 0
+abbrev pub AllNone : {A : Type 0} → List (Option A) → Type 0
 AllNone [] = Unit {0}
 AllNone (o ∷ os) = (o ≡ None) × AllNone os
 
-all_none : {A : Type 0} (os : List (Option A)) → first_some os ≡ None → AllNone os
+pub all_none : {A : Type 0} (os : List (Option A)) → first_some os ≡ None → AllNone os
 all_none [] h = tt
 all_none (None ∷ os) h = (refl, all_none os h)
 all_none (Some x ∷ os) h = absurd cc
 
-when_none : (b : Bool) (f : Fault) → when b f ≡ None → b ≡ false
+pub when_none : (b : Bool) (f : Fault) → when b f ≡ None → b ≡ false
 when_none true f h = absurd cc
 when_none false f h = refl
 
-not_false : (b : Bool) → not b ≡ false → b ≡ true
+pub not_false : (b : Bool) → not b ≡ false → b ≡ true
 not_false true h = refl
 not_false false h = absurd cc
 

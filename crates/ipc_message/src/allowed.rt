@@ -80,19 +80,7 @@ fn is_type(name: TypeName, parameters: &Parameters, children: usize) -> bool
         TypeName::List | TypeName::LargeList => children == 1,
         TypeName::FixedSizeList => children == 1 && is_fixed_list(parameters),
         TypeName::Struct => true,
-        TypeName::FloatingPoint
-        | TypeName::Decimal
-        | TypeName::Time
-        | TypeName::Interval
-        | TypeName::Union
-        | TypeName::Map
-        | TypeName::Duration
-        | TypeName::RunEndEncoded
-        | TypeName::BinaryView
-        | TypeName::Utf8View
-        | TypeName::ListView
-        | TypeName::LargeListView
-        | TypeName::Unknown => false,
+        _ => false,
     }
 }
 

@@ -187,19 +187,7 @@ fn data_type(
             boxed(alloc, children)?,
         )),
         TypeName::Struct => Ok(DataType::Struct(children)),
-        TypeName::FloatingPoint
-        | TypeName::Decimal
-        | TypeName::Time
-        | TypeName::Interval
-        | TypeName::Union
-        | TypeName::Map
-        | TypeName::Duration
-        | TypeName::RunEndEncoded
-        | TypeName::BinaryView
-        | TypeName::Utf8View
-        | TypeName::ListView
-        | TypeName::LargeListView
-        | TypeName::Unknown => unreachable!(),
+        _ => unreachable!(),
     }
 }
 

@@ -14,6 +14,7 @@ mod fields;
 mod front;
 mod header;
 mod held;
+mod laws;
 mod message;
 mod parts;
 mod raw;
@@ -29,6 +30,7 @@ pub use error::ImportError;
 pub use fault::{Fault, TypeName};
 pub use front::read_message;
 pub use held::{is_held, type_name};
+pub use laws::front_is_framed;
 pub use message::{Front, Message};
 pub use raw::{
     Encoding, Header, KeyValue, Parameters, RawBatch, RawDictionaryBatch, RawField, RawSchema,

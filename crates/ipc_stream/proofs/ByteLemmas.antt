@@ -13,11 +13,11 @@ byte_at-small : (k x : ℕ) → byte_at k x < 256
 byte_at-small zero x = omega arith
 byte_at-small (suc k) x = omega arith
 
-cons-bytes : (x : ℕ) (xs : List ℕ) → x < 256 → AreBytes xs → AreBytes (x ∷ xs)
+pub cons-bytes : (x : ℕ) (xs : List ℕ) → x < 256 → AreBytes xs → AreBytes (x ∷ xs)
 cons-bytes x xs here rest zero = here
 cons-bytes x xs here rest (suc k) = rest k
 
-low_first-bytes : (j k x : ℕ) → AreBytes (bytes_low_first j k x)
+pub low_first-bytes : (j k x : ℕ) → AreBytes (bytes_low_first j k x)
 low_first-bytes j zero x = λ i. omega arith
 low_first-bytes j (suc k) x = cons-bytes (byte_at j x) (bytes_low_first (suc j) k x) (byte_at-small j x) (low_first-bytes (suc j) k x)
 

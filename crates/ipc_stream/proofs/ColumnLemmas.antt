@@ -9,8 +9,8 @@ use Rattle.std.proofs.lemmas.List.{length-replicate}
 use Rattle.byteorder.specs.Endian.{little_number, little_bytes}
 use Rattle.byteorder.specs.Numbers.{little_number-reads_back, length-bytes_low_first}
 use Rattle.values.specs.Cell.{Cell, null, truth, number, text, bytes, items, parts}
-use Rattle.ipc_stream.specs.Integers.{integer_of, number_of}
-use Rattle.ipc_stream.specs.Columns.{IntegerColumn, integer_bytes, values_of, first_cell, other_cells, values_of_all, cell_at, row_at, rows_from}
+use Rattle.values.specs.Integers.{integer_of, number_of}
+use Rattle.values.specs.Columns.{IntegerColumn, integer_bytes, values_of, first_cell, other_cells, values_of_all, cell_at, row_at, rows_from}
 
 -- an integer of the column
 abbrev pub IsIntegerOf : IntegerColumn → Cell → Type 0
@@ -35,7 +35,7 @@ length-integer w (bytes t) = length-replicate w 0
 length-integer w (items cs) = length-replicate w 0
 length-integer w (parts cs) = length-replicate w 0
 
-length-values : (w : ℕ) (cells : List Cell) → length (values_of w cells) ≡ length cells * w
+pub length-values : (w : ℕ) (cells : List Cell) → length (values_of w cells) ≡ length cells * w
 length-values w [] = omega arith
 length-values w (c ∷ cs) =
     rw (flat_map-cons (integer_bytes w) c cs) (omega (arith, length-append (integer_bytes w c) (values_of w cs), length-integer w c, length-values w cs))

@@ -4,7 +4,7 @@ use Rattle.std.proofs.Common.{◌≡◌, ℕ, zero, suc, ◌+◌, ◌-◌, ◌*�
 use Rattle.std.proofs.lemmas.Bool.{cases_lt}
 use Rattle.std.proofs.lemmas.Int.{ints}
 use Rattle.std.proofs.Math.Nat.{pow-suc}
-use Rattle.ipc_stream.specs.Integers.{integer_of, number_of}
+use Rattle.values.specs.Integers.{integer_of, number_of}
 
 pub lt_true : (a b : ℕ) → a < b → nat_lt a b ≡ true
 lt_true a b h = grind arith
@@ -28,7 +28,7 @@ number_again w true n h = elim (cases_lt n (2 ^ (8 * w - 1))) [
 pub unsigned_again : (w n : ℕ) → integer_of w false (number_of w (pos n)) ≡ pos n
 unsigned_again w n = refl
 
-double : (k : ℕ) → 1 ≤ k → 2 ^ k ≡ 2 * 2 ^ (k - 1)
+pub double : (k : ℕ) → 1 ≤ k → 2 ^ k ≡ 2 * 2 ^ (k - 1)
 double zero one = absurd (omega arith)
 double (suc k) one = let less : suc k - 1 ≡ k = omega arith in rw less (omega (arith, pow-suc 2 k))
 

@@ -4,7 +4,7 @@ use Rattle.std.proofs.lemmas.List.{length-replicate}
 use Rattle.std.specs.Prelude.{replicate}
 use Rattle.ipc_write.specs.Written.{body, padded}
 
-padded_small : (b : List ℕ) → length (padded b) ≤ length b + 8
+pub padded_small : (b : List ℕ) → length (padded b) ≤ length b + 8
 padded_small b = omega (arith, length-append b (replicate ((8 - length b % 8) % 8) 0), length-replicate {A = ℕ} ((8 - length b % 8) % 8) 0)
 
 pub body_more : (bs : List (List ℕ)) (b : List ℕ) → length (body (bs ++ b ∷ [])) ≤ length (body bs) + length b + 8

@@ -11,9 +11,10 @@ use Rattle.values.specs.Cell.{Cell, Cells, cells_of}
 use Rattle.values.specs.Weight.{weight, kind_weight, parts_weight, first_part, other_parts, row_weight}
 use Rattle.ipc_write.specs.Written.{schema_message, end_mark}
 use Rattle.ipc_stream.specs.Canonical.{canonical, piece_message}
-use Rattle.ipc_stream.specs.Columns.{IntegerColumn, row_at, rows_from}
+use Rattle.values.specs.Columns.{IntegerColumn, row_at, rows_from}
 use Rattle.ipc_stream.specs.Cut.{pieces, within_limits}
-use Rattle.ipc_stream.specs.Table.{integer_columns, is_integer_schema, is_integer_column, plain_table, is_empty}
+use Rattle.arrow_schema.specs.Integers.{is_integer_schema, is_integer_column, is_empty}
+use Rattle.values.specs.IntegerTable.{integer_columns, plain_table}
 use Rattle.ipc_stream.proofs.CutLemmas.{AllLight, first_piece}
 use Rattle.ipc_stream.proofs.RowLemmas.{take_rows, drop_rows, length_rows}
 

@@ -9,8 +9,8 @@ use Rattle.ipc_message.specs.declared.fault.Fault.{Fault}
 use Rattle.ipc_message.specs.declared.fault.Fault.TheVariants.{NotYet, Compressed, LayoutCount, BufferRange, BufferShort, RowCount, NullCount, TooHeavy}
 use Rattle.ipc_message.specs.Framing.{when}
 use Rattle.ipc_message.specs.Raw.{RawNode, RawBuffer, RawBatch}
-use Rattle.ipc_stream.specs.Columns.{IntegerColumn, rows_from}
-use Rattle.ipc_stream.specs.Table.{integer_columns}
+use Rattle.values.specs.Columns.{IntegerColumn, rows_from}
+use Rattle.values.specs.IntegerTable.{integer_columns}
 
 -- the array of a column: its node, and its validity and values buffers
 pub record Array : Type 0 where
@@ -23,6 +23,9 @@ pub record Array : Type 0 where
 abbrev pub arrays_of : List IntegerColumn → List RawNode → List RawBuffer → List Array
 arrays_of (c ∷ cs) (n ∷ ns) (v ∷ x ∷ bs) = record { column = c; node = n; validity = v; values = x } ∷ arrays_of cs ns bs
 arrays_of _ _ _ = []
+
+abbrev pub arrays_in : PlainSchema → RawBatch → List Array
+arrays_in s b = arrays_of (integer_columns s) b.nodes b.buffers
 
 -- ---- the tests
 
@@ -70,9 +73,7 @@ bytes_of body b = take b.length (drop b.offset body)
 
 -- row i is the integers at place i of each column's values
 unfoldable pub batch_rows : PlainSchema → RawBatch → List ℕ → List (List Cell)
-batch_rows s b body =
-    let columns = integer_columns s in
-    rows_from columns (map (λ a. bytes_of body a.values) (arrays_of columns b.nodes b.buffers)) 0 b.length
+batch_rows s b body = rows_from (integer_columns s) (map (λ a. bytes_of body a.values) (arrays_in s b)) 0 b.length
 
 -- F28: a row weighs over 16,777,216, or all rows so far over 268,435,456
 abbrev pub are_too_heavy : PlainSchema → List (List Cell) → List (List Cell) → Bool
@@ -81,10 +82,9 @@ are_too_heavy s before rows = list_any (λ row. nat_lt 16777216 (row_weight s ro
 -- the tests of a batch after these rows; offsets, indices, texts and nulls have no test where all columns are integers without nulls
 unfoldable pub batch_rounds : PlainSchema → List (List Cell) → RawBatch → List ℕ → List (Option Fault)
 batch_rounds s before b body =
-    let columns = integer_columns s in
-    let arrays = arrays_of columns b.nodes b.buffers in
+    let arrays = arrays_in s b in
     when b.compressed Compressed
-    ∷ when (has_other_layout columns b) LayoutCount
+    ∷ when (has_other_layout (integer_columns s) b) LayoutCount
     ∷ when (has_bad_length b) RowCount
     ∷ when (list_any (is_outside body) b.buffers) BufferRange
     ∷ when (list_any is_short arrays) BufferShort

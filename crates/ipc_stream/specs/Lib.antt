@@ -1,8 +1,11 @@
 pub mod Cut
-pub mod Integers
-pub mod Columns
-pub mod Table
+pub mod CutRows
 pub mod View
 pub mod Batch
 pub mod Meaning
+pub mod Added
 pub mod Canonical
+pub mod FramedTable
+pub mod FramedFault
+pub mod Progress
+pub mod Packed

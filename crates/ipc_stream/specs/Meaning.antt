@@ -1,6 +1,6 @@
 -- What a stream of bytes means: a table, or the first fault (Arrow columnar format, "IPC Streaming Format"). `held` says which
 -- type codes are held.
-use Rattle.std.specs.Prelude.{ℕ, zero, suc, Bool, true, false, not, ◌==◌, List, [], ◌∷◌, ◌++◌, length, drop, flat_map, Option, Some, None, Result, Ok, Err, if◌then◌else◌}
+use Rattle.std.specs.Prelude.{ℕ, zero, suc, Bool, not, ◌==◌, List, [], ◌∷◌, ◌++◌, length, drop, flat_map, Option, Some, None, Result, Ok, Err, if◌then◌else◌}
 use Rattle.std.specs.List.{list_any}
 use Rattle.values.specs.Cell.{Cell, PlainTable}
 use Rattle.arrow_schema.specs.Column.{PlainSchema}
@@ -13,6 +13,7 @@ use Rattle.ipc_message.specs.Fields.{every_field, dictionary_of}
 use Rattle.ipc_message.specs.Same.{has_id}
 use Rattle.ipc_message.specs.Convert.{plain_schema_of}
 use Rattle.ipc_message.specs.Rounds.{schema_rounds}
+use Rattle.arrow_schema.specs.Integers.{is_empty}
 use Rattle.ipc_stream.specs.Batch.{batch_rows, batch_rounds}
 
 infixl 10 ◌>>=◌
@@ -24,10 +25,6 @@ abbrev pub ◌>>=◌ : {A B : Type 0} → Result A Fault → (A → Result B Fau
 abbrev pub or_else : {A : Type 0} → Option Fault → Result A Fault → Result A Fault
 or_else (Some fault) r = Err fault
 or_else None r = r
-
-abbrev pub is_empty : {A : Type 0} → List A → Bool
-is_empty [] = true
-is_empty (x ∷ xs) = false
 
 -- a message that was accepted: its header and its body
 pub record Message : Type 0 where

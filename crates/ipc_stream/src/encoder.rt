@@ -1,77 +1,101 @@
 // The canonical stream of a table.
-ghost use Rattle.std.specs.Prelude.{◌≡◌, ◌≤◌, ◌<◌, ◌+◌, ◌-◌, ◌*◌, ◌++◌, [], ◌∷◌, List, ℕ, map, length, take, drop, IfOk, OnOk, IsTrue};
+ghost use Rattle.std.specs.Prelude.{◌≡◌, ◌≤◌, ◌+◌, ◌*◌, ◌++◌, ◌∷◌, List, ℕ, map, length, IfOk, OnOk, IsTrue};
 ghost use Rattle.arrow_schema.specs.View.{schema_of};
+ghost use Rattle.arrow_schema.specs.Integers.{is_integer_schema};
 ghost use Rattle.arrow_schema.specs.Limits.{IsWithinLimits};
-ghost use Rattle.ipc_write.specs.Written.{schema_message, batch_message, end_mark};
-ghost use Rattle.ipc_stream.specs.Canonical.{canonical, piece_message, full_nodes, integer_buffers};
-ghost use Rattle.ipc_stream.specs.Columns.{rows_from};
-ghost use Rattle.ipc_stream.specs.Table.{integer_columns, have_rows, is_integer_schema};
-ghost use Rattle.ipc_stream.specs.View.{table_of};
+ghost use Rattle.ipc_stream.specs.Canonical.{canonical, piece_message};
+ghost use Rattle.values.specs.Columns.{IntegerColumn, rows_from, values_of, first_cell};
+ghost use Rattle.values.specs.IntegerTable.{integer_columns, have_rows, plain_table, IsIntegerTable};
+ghost use Rattle.values.specs.TableView.{table_of};
 
-use crate::Table;
 use crate::decoder::width_of;
+use crate::pack::pack;
+use arrow_schema::Schema;
 use ipc_write::{write_batch, write_end, write_schema};
 use std::alloc::{AllocError, Global};
+use values::Table;
 
 /// The most rows of a piece. Rows of integers are too light for the limit of weight to count.
 const PIECE_ROWS: usize = 4096;
 
-/// The values of some rows of a column.
+/// The values of some rows of a column: they are the same whatever other columns there are.
 fn values_in(column: &[u8], width: usize, from: usize, count: usize) -> &[u8]
     requires few { count ≤ 4096 }
     requires narrow { width ≤ 8 }
-    requires within { from ≤ 268435456 }
-    ensures { length result.now ≤ 32768 }
+    requires within { (from + count) * width ≤ length column.now }
+    ensures values { (c : IntegerColumn) (cs : List IntegerColumn) (vs : List (List ℕ)) → c.width ≡ width
+        → result.now ≡ values_of c.width (map first_cell (rows_from (c ∷ cs) (column.now ∷ vs) from count)) }
+    ensures small { length result.now ≤ 32768 }
 {
     let start = from * width;
-    let end = start + count * width;
-    if end <= column.len() {
-        &column[start..end]
-    } else {
-        &[]
-    }
+    &column[start..start + count * width]
 }
 
 /// The record batch of `count` rows from one on.
-#[tactic(auto, using(crate::proofs::PieceSize::body_more, ipc_write::proofs::BatchNode::fits_more))]
 fn write_piece(
     alloc: Global,
     out: &mut Vec<u8>,
-    table: &Table,
+    schema: &Schema,
+    columns: &[Vec<u8>],
+    rows: usize,
     from: usize,
     count: usize,
 ) -> Result<(), AllocError>
-    requires within { from + count ≤ table.now.rows }
+    requires within { from + count ≤ rows }
     requires few { count ≤ 4096 }
-    requires light { table.now.rows ≤ 268435456 }
-    requires columns { length table.now.schema.fields.items ≤ 2048 }
+    requires columns { length schema.now.fields.items ≤ 2048 }
+    requires filled { IsTrue (have_rows (integer_columns (schema_of schema.now)) (map (λ v. v.items) columns.now) rows) }
+    ensures { OnOk result (out.new.items ≡ out.old.items ++ piece_message (schema_of schema.now)
+        (rows_from (integer_columns (schema_of schema.now)) (map (λ v. v.items) columns.now) from count)) }
 {
     let mut nodes = Vec::new(alloc);
     let mut buffers: Vec<&[u8]> = Vec::new(alloc);
-    for i in 0..table.schema.fields.len() {
-        let width = width_of(&table.schema.fields[i]);
+    for i in 0..schema.fields.len() {
+        let width = width_of(&schema.fields[i]);
         nodes.push((count as u64, 0))?;
         buffers.push(&[])?;
-        buffers.push(match table.columns.get(i) {
-            Some(column) => values_in(column, width, from, count),
-            None => &[],
-        })?;
+        buffers.push(values_in(&columns[i], width, from, count))?;
     }
     write_batch(alloc, out, count as u64, nodes, &buffers)
 }
 
-/// The one stream of a table: its schema, record batches of at most 4,096 rows, and the end mark (docs/formats.md).
-///
-/// It takes time linear in the stream, and copies each column's bytes once.
-pub fn encode(alloc: Global, table: &Table) -> Result<Vec<u8>, AllocError> {
+/// The one stream of so many rows of integer columns, of which the little-endian values stand one after another.
+fn encode_columns(
+    alloc: Global,
+    schema: &Schema,
+    columns: &[Vec<u8>],
+    rows: usize,
+) -> Result<Vec<u8>, AllocError>
+    requires limits { IsWithinLimits (schema_of schema.now) }
+    requires integers { IsTrue (is_integer_schema (schema_of schema.now)) }
+    requires filled { IsTrue (have_rows (integer_columns (schema_of schema.now)) (map (λ v. v.items) columns.now) rows) }
+    ensures { IfOk result (λ out. out.items ≡ canonical (plain_table (schema_of schema.now) (map (λ v. v.items) columns.now) rows)) }
+{
     let mut out = Vec::new(alloc);
-    write_schema(alloc, &mut out, &table.schema)?;
+    write_schema(alloc, &mut out, schema)?;
     let mut from = 0;
-    while from < table.rows {
-        let count = PIECE_ROWS.min(table.rows - from);
-        write_piece(alloc, &mut out, table, from, count)?;
+    while from < rows {
+        let count = PIECE_ROWS.min(rows - from);
+        write_piece(alloc, &mut out, schema, columns, rows, from, count)?;
         from += count;
     }
     write_end(&mut out)?;
     Ok(out)
+}
+
+/// The one stream of a table: its schema, record batches of at most 4,096 rows, and the end mark (docs/formats.md).
+///
+/// It takes tables of integers without nulls; other types are not written yet. Refused only where a growth was. It takes
+/// time linear in the stream, and copies each column's bytes once, and once more where the table was made of rows.
+pub fn encode(alloc: Global, table: &Table) -> Result<Vec<u8>, AllocError>
+    requires { IsIntegerTable (table_of table.now) }
+    ensures { IfOk result (λ out. out.items ≡ canonical (table_of table.now)) }
+{
+    match table.integers() {
+        Some(columns) => encode_columns(alloc, table.schema(), columns, table.len()),
+        None => {
+            let columns = pack(alloc, table)?;
+            encode_columns(alloc, table.schema(), &columns, table.len())
+        }
+    }
 }

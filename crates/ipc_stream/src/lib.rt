@@ -1,11 +1,22 @@
 //! Arrow IPC streams of integer columns: what a stream of bytes means, and the canonical stream of a table.
+//!
+//! [`decode`] gives exactly the table that the bytes mean, or their first fault; [`encode`] gives exactly the canonical
+//! stream of a table, and that stream means the table ([`canonical_means_its_table`]). [`meaning_is_framed`] says in the
+//! words of the format what a meaning and a fault are. Columns of other types, and nulls, are refused until they are read.
 #![tactic(auto)]
 
+mod batch;
 mod decoder;
 mod encoder;
-mod table;
+mod gathered;
+mod laws;
+mod pack;
 
 pub use decoder::decode;
 pub use encoder::encode;
 pub use ipc_message::ImportError;
-pub use table::Table;
+pub use laws::{canonical_means_its_table, meaning_is_framed, pieces_are_the_cut};
+pub use values::Table;
+
+#[cfg(test)]
+mod tests;

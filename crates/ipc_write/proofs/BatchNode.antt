@@ -1,5 +1,5 @@
 -- The tree of a record batch.
-use Rattle.std.proofs.Common.{◌≡◌, ℕ, suc, ◌≤◌, ◌<◌, ◌+◌, ◌*◌, ◌^◌, List, [], ◌∷◌, ◌++◌, map, length, refl, sym, ap, ◌∙◌, arith, subst, append_assoc}
+use Rattle.std.proofs.Common.{◌≡◌, ℕ, suc, ◌≤◌, ◌<◌, ◌+◌, ◌^◌, List, [], ◌∷◌, ◌++◌, map, length, refl, sym, ap, ◌∙◌, arith, subst, append_assoc}
 use Rattle.flatbuf.specs.Tree.{Tree, table, structs, scalar, refers, no_slot}
 use Rattle.flatbuf.specs.Laid.{metadata}
 use Rattle.flatbuf.specs.Held.{Fits, FitsStructs}

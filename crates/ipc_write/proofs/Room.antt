@@ -1,21 +1,22 @@
 -- How much room a written tree takes, and that the trees of messages fit.
-use Rattle.std.specs.Prelude.{◌&&◌, sum_by, IsTrue}
+use Rattle.std.specs.Prelude.{sum_by}
 use Rattle.std.specs.List.{list_all}
-use Rattle.std.proofs.Common.{◌≡◌, ℕ, zero, suc, ◌+◌, ◌-◌, ◌*◌, ◌%◌, ◌^◌, ◌<◌, ◌≤◌, Bool, true, false, List, [], ◌∷◌, ◌++◌, map, length, Option, Some, None, refl, arith, sym, ap, ◌∙◌, length-append}
+use Rattle.std.proofs.Common.{◌≡◌, ℕ, zero, suc, ◌+◌, ◌-◌, ◌*◌, ◌%◌, ◌^◌, ◌<◌, ◌≤◌, Bool, true, false, List, [], ◌∷◌, ◌++◌, map, length, None, refl, arith, ap, length-append}
 use Rattle.std.proofs.lemmas.Bool.Decides.{nat_tests}
 use Rattle.std.proofs.lemmas.List.Sums.{sum_by-cons, sum_by-append}
 use Rattle.flatbuf.specs.Tree.{Tree, Nodes, Slots, table, text, references, structs, no_node, and_node, no_slot, absent, scalar, refers}
-use Rattle.flatbuf.specs.Laid.{gap, count_of, vtable_len, slots_of, inline_end, table_start, metadata}
+use Rattle.flatbuf.specs.Laid.{gap, count_of, vtable_len, inline_end, table_start, metadata}
 use Rattle.flatbuf.specs.Ends.{end_at, ends_at, below_ends_at}
-use Rattle.flatbuf.specs.Held.{Fits, FitsAll, FitsSlots, FitsStructs}
+use Rattle.flatbuf.specs.Held.{Fits, FitsAll, FitsStructs}
 use Rattle.flatbuf.specs.View.{nodes_of}
 use Rattle.flatbuf.proofs.Ends.{metadata_len}
-use Rattle.arrow_schema.specs.Column.{Pair, Column, Columns, column, integers, columns_of, PlainSchema}
-use Rattle.arrow_schema.specs.Preorder.{preorder, preorder_below, preorder_all, every_column}
+use Rattle.arrow_schema.specs.Column.{Pair, Column, column, integers, columns_of, PlainSchema}
+use Rattle.arrow_schema.specs.Preorder.{preorder, preorder_below, preorder_all}
 use Rattle.arrow_schema.specs.Limits.{IsWithinLimits, bytes_in}
-use Rattle.ipc_write.specs.Trees.{bit, pairs_slot, field_tree, field_nodes, child_nodes, schema_tree, message_tree, batch_tree, ids_of}
-use Rattle.ipc_write.specs.Plain.{is_integer_column, is_bit_width, is_empty, is_integer_schema}
-use Rattle.ipc_write.proofs.FieldNode.{integer_case, both}
+use Rattle.ipc_write.specs.Trees.{bit, pairs_slot, field_tree, field_nodes, child_nodes, schema_tree, message_tree, ids_of}
+use Rattle.arrow_schema.specs.Integers.{is_integer_column, is_bit_width, is_empty, is_integer_schema}
+use Rattle.arrow_schema.proofs.IntegerColumns.{integer_case}
+use Rattle.ipc_write.proofs.FieldNode.{both}
 
 gap_small : (m c : ℕ) → gap m c ≤ m
 gap_small zero c = let none : 0 - c % 0 ≡ 0 = omega arith in rw none (omega arith)

@@ -2,4 +2,3 @@ pub mod Trees
 pub mod Spelled
 pub mod Written
 pub mod Walked
-pub mod Plain

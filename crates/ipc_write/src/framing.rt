@@ -5,7 +5,7 @@ ghost use Rattle.arrow_schema.specs.View.{schema_of};
 ghost use Rattle.arrow_schema.specs.Limits.{IsWithinLimits};
 ghost use Rattle.flatbuf.specs.Held.{FitsStructs};
 ghost use Rattle.ipc_message.specs.Framing.{mark};
-ghost use Rattle.ipc_write.specs.Plain.{is_integer_schema};
+ghost use Rattle.arrow_schema.specs.Integers.{is_integer_schema};
 ghost use Rattle.ipc_write.specs.Trees.{buffer_pair, raw_node};
 ghost use Rattle.ipc_write.specs.Written.{schema_message, batch_message, end_mark, padded, body, placed};
 

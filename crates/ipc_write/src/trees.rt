@@ -6,7 +6,7 @@ ghost use Rattle.arrow_schema.specs.Column.{columns_of};
 ghost use Rattle.flatbuf.specs.Tree.{table, references, structs, scalar, refers, no_slot};
 ghost use Rattle.flatbuf.specs.View.{node_of, nodes_of};
 ghost use Rattle.ipc_write.specs.Trees.{bit, int_tree, type_tree, field_tree, field_nodes, schema_tree, message_tree};
-ghost use Rattle.ipc_write.specs.Plain.{is_integer_column, is_integer_kind, is_integer_schema};
+ghost use Rattle.arrow_schema.specs.Integers.{is_integer_column, is_integer_kind, is_integer_schema};
 
 use arrow_schema::{BitWidth, DataType, Field, IntegerType, Schema};
 use flatbuf::{Node, Slot};

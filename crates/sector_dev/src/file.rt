@@ -280,7 +280,13 @@ impl<F: Read + Write + Seek + OpenFile + Drop> SectorDevice for FileDevice<F> {
         self.failed
     }
 
-    fn read(&mut self, n: u64, to: &mut [u8; 512]) -> Result<(), DevError> {
+    // It never answers `Unreadable`.
+    fn read(&mut self, n: u64, to: &mut [u8; 512]) -> Result<(), DevError>
+        requires { n < self.old.sectors }
+        ensures size { self.new.sectors ≡ self.old.sectors }
+        ensures count { Counts self.old.failed self.new.failed result }
+        ensures error { IfErr result (λ e. e ≡ DevError.Failed) }
+    {
         let done = self.get(n, to);
         self.counted(done)
     }

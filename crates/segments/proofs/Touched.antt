@@ -90,3 +90,14 @@ shows_all i image start contents is so_far j lt = so_far j (omega arith)
 -- what stays out of a row of sectors stays out of the front of it
 pub fewer_sectors : (start few many : ℕ) → few ≤ many → (n : ℕ) → OutOf (sectors_from start many) n → OutOf (sectors_from start few) n
 fewer_sectors start few many le n out = (⊎_elim (λ (below : n < start). inl below) (λ (above : start + many ≤ n). inr (omega arith)) out.0, tt)
+
+-- writing the front of a row is writing in the row
+pub front_written : (start few many : ℕ) (a b : Story) → few ≤ many → Grows (WritesOnly (sectors_from start few) (now a)) a b → Grows (WritesOnly (sectors_from start many) (now a)) a b
+front_written start few many a b le g = written_wider (sectors_from start few) (sectors_from start many) a b (fewer_sectors start few many le) g
+
+-- so is writing the sector behind the front after it
+pub next_written : (start few many : ℕ) (a b z : Story) (c : List ℕ) → few < many → Grows (WritesOnly (sectors_from start few) (now a)) a b → FailsToPut b (start + few) c z → Grows (WritesOnly (sectors_from start many) (now a)) a z
+next_written start few many a b z c lt g put =
+    let runs = sectors_from start many in
+    let front = front_written start few many a b (omega arith) g in
+    goes_on front (write_failed runs (now a) b z (start + few) c (inside_run start many (start + few) (omega arith) (omega arith)) (written_now runs a b front) put)

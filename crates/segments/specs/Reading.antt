@@ -1,5 +1,6 @@
 -- What reading a run counts and tells.
-use Rattle.std.specs.Prelude.{◌≡◌, ◌+◌, ◌-◌, ◌^◌, ℕ, min, Result, Ok, Err}
+use Rattle.std.specs.Prelude.{◌≡◌, ◌≢◌, ◌≤◌, ◌<◌, ◌+◌, ◌-◌, ◌*◌, ◌^◌, ℕ, min, None, Result, Ok, Err}
+use Rattle.sector_dev.specs.Disk.{Image, Story, moment}
 use Rattle.sector_dev.specs.declared.device.DevError.{DevError}
 use Rattle.sector_dev.specs.declared.device.DevError.TheVariants.{Failed as DeviceFailed, Unreadable as SectorUnreadable}
 use Rattle.segments.specs.declared.reading.ReadError.{ReadError}
@@ -16,3 +17,11 @@ CountsRead before after (Ok x) = after ≡ before
 CountsRead before after (Err Failed) = after ≡ min (before + 1) (2 ^ 64 - 1)
 CountsRead before after (Err Unreadable) = after ≡ before
 CountsRead before after (Err OutOfMemory) = after ≡ before
+
+-- the reading of so many sectors ended with this error at one of them: those before it can be read, and no call began after it
+pub record EndsAtSector (error : ReadError) (image : Image) (start count : ℕ) (old new : Story) : Type 0 where
+  pub at : ℕ
+  pub within : at < count
+  pub before : (j : ℕ) → j < at → image (start + j) ≢ None
+  pub unreadable : error ≡ Unreadable → image (start + at) ≡ None
+  pub begun : moment new ≤ moment old + 2 * (at + 1)

@@ -88,6 +88,7 @@ impl FreeMap {
         ensures range { IsErrOf result EnterError.Range ↔ (IsOnDevice self.old.size run → ⊥) }
         ensures overlap { IsErrOf result EnterError.Overlap → IsFree self.old.size (IsUsedIn self.old.entries) run → ⊥ }
         ensures pins { IsErrOf result EnterError.TooManyPins → ⊥ }
+        ensures memory { IsErrOf result EnterError.OutOfMemory → IsOnDevice self.old.size run × IsFree self.old.size (IsUsedIn self.old.entries) run }
         ensures err { OnErr result (self.new ≡ self.old) }
     {
         let usage = Usage {
@@ -116,7 +117,7 @@ impl FreeMap {
         ensures range { IsErrOf result EnterError.Range ↔ (IsOnDevice self.old.size run → ⊥) }
         ensures overlap { IsErrOf result EnterError.Overlap → (usage_of self.old.entries run ≡ UNUSED) × (IsFree self.old.size (IsUsedIn self.old.entries) run → ⊥) }
         ensures pins { IsErrOf result EnterError.TooManyPins → (usage_of self.old.entries run).pins ≡ u32.MAX }
-        ensures memory { IsErrOf result EnterError.OutOfMemory → usage_of self.old.entries run ≡ UNUSED }
+        ensures memory { IsErrOf result EnterError.OutOfMemory → (usage_of self.old.entries run ≡ UNUSED) × IsFree self.old.size (IsUsedIn self.old.entries) run }
         ensures err { OnErr result (self.new ≡ self.old) }
     {
         let usage = self.usage(run);
@@ -162,6 +163,7 @@ impl FreeMap {
         ensures range { IsErrOf result EnterError.Range ↔ (IsOnDevice self.old.size run → ⊥) }
         ensures overlap { IsErrOf result EnterError.Overlap → IsFree self.old.size (IsUsedIn self.old.entries) run → ⊥ }
         ensures pins { IsErrOf result EnterError.TooManyPins → ⊥ }
+        ensures memory { IsErrOf result EnterError.OutOfMemory → IsOnDevice self.old.size run × IsFree self.old.size (IsUsedIn self.old.entries) run }
         ensures err { OnErr result (self.new ≡ self.old) }
     {
         if !is_on_device(run, self.size) {

@@ -1,9 +1,9 @@
 // Runs of sectors are read.
-ghost use Rattle.std.specs.Prelude.{◌≡◌, ◌+◌, ◌*◌, ◌≤◌, ◌<◌, ◌^◌, true, Some, None, IfOk, IsErrOf, vec_len};
+ghost use Rattle.std.specs.Prelude.{◌≡◌, ◌≢◌, ◌+◌, ◌*◌, ◌≤◌, ◌<◌, ◌^◌, true, Some, None, IfOk, IfErr, IsErrOf, vec_len};
 ghost use Rattle.sector_dev.specs.Disk.{now, shown_image};
 ghost use Rattle.sector_dev.specs.Time.{OnlyReads};
 ghost use Rattle.segments.specs.Sectors.{sector_count, bytes_at};
-ghost use Rattle.segments.specs.Reading.{CountsRead};
+ghost use Rattle.segments.specs.Reading.{CountsRead, EndsAtSector};
 
 use sector_dev::{DevError, SECTOR_BYTES, SectorDevice};
 use std::alloc::{AllocError, Global};
@@ -25,7 +25,7 @@ pub enum ReadError {
 /// Reads so many bytes from this sector on. Nothing changes.
 ///
 /// # Errors
-/// `OutOfMemory` before the first read; else that of the first sector that fails.
+/// `OutOfMemory` before the first read; else that of the first sector that fails, behind which none is read.
 pub fn read_run<D: SectorDevice>(
     alloc: Global,
     device: &mut D,
@@ -40,6 +40,7 @@ pub fn read_run<D: SectorDevice>(
     ensures length { IfOk result (λ bytes. vec_len bytes ≡ byte_count) }
     ensures found { IfOk result (λ bytes. D.tells ≡ true → bytes_at (shown_image (now (D.story device.old))) start byte_count ≡ Some bytes.items) }
     ensures unreadable { IsErrOf result ReadError.Unreadable → D.tells ≡ true → bytes_at (shown_image (now (D.story device.old))) start byte_count ≡ None }
+    ensures first { IfErr result (λ e. e ≢ ReadError.OutOfMemory → D.tells ≡ true → EndsAtSector e (shown_image (now (D.story device.old))) start (sector_count byte_count) (D.story device.old) (D.story device.new)) }
     ensures memory { IsErrOf result ReadError.OutOfMemory → D.tells ≡ true → D.story device.new ≡ D.story device.old }
 {
     let count = byte_count.div_ceil(SECTOR_BYTES);

@@ -1,5 +1,5 @@
 -- Lists of values, as cells.
-use Rattle.std.proofs.Common.{◌≡◌, ◌≢◌, ◌<◌, ◌≤◌, get_or, ℕ, zero, suc, ◌+◌, Bool, true, false, ◌&&◌, List, [], ◌∷◌, map, length, refl, ap, ◌∙◌, arith}
+use Rattle.std.proofs.Common.{◌≡◌, ◌≢◌, ◌<◌, ◌≤◌, get_or, ℕ, zero, suc, Bool, true, false, ◌&&◌, List, [], ◌∷◌, map, length, refl, ap, ◌∙◌, arith}
 use Rattle.std.specs.Prelude.{slice_get, option_to_list}
 use Rattle.arrow_schema.specs.declared.types.Field.{Field}
 use Rattle.arrow_schema.specs.Column.{columns_of}
@@ -13,7 +13,7 @@ pub count_cells : (vs : List Value) → count_of (cells_of (map cell vs)) ≡ le
 count_cells [] = refl
 count_cells (v ∷ vs) = omega (arith, count_cells vs)
 
-and_false : (b : Bool) → (b && false) ≡ false
+pub and_false : (b : Bool) → (b && false) ≡ false
 and_false true = refl
 and_false false = refl
 

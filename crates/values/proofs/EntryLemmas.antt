@@ -1,5 +1,5 @@
 -- Entries of the code, as cells.
-use Rattle.std.proofs.Common.{◌≡◌, ℕ, Bool, true, false, List, [], ◌∷◌, ◌++◌, map, refl}
+use Rattle.std.proofs.Common.{◌≡◌, Bool, true, false, List, [], ◌∷◌, ◌++◌, map, refl}
 use Rattle.std.specs.Prelude.{if◌then◌else◌, not}
 use mathlib.Core.Bool.{beq}
 use Rattle.std.specs.List.{list_any}
@@ -8,7 +8,6 @@ use Rattle.indexmap.specs.IndexSet.{insert_key}
 use Rattle.values.specs.contracts.entry.EntryPartialEq.TheImpl.{eq-value}
 use Rattle.values.specs.declared.entry.Entry.{Entry}
 use Rattle.values.specs.declared.entry.Entry.TheVariants as entries
-use Rattle.values.specs.Cell.{Cell}
 use Rattle.values.specs.Entry.{entry_cell}
 use Rattle.values.specs.Dictionary.{is_entry, with_new}
 

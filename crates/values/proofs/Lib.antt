@@ -2,3 +2,10 @@ pub mod CellLemmas
 pub mod WeightLemmas
 pub mod EntryLemmas
 pub mod HoldingLemmas
+pub mod RowLemmas
+pub mod AcceptLemmas
+pub mod TableLemmas
+pub mod RangeLemmas
+pub mod IntegerRows
+pub mod IntegerTables
+pub mod ContentLemmas

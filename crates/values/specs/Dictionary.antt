@@ -1,11 +1,11 @@
 -- The values that the dictionary columns of a schema hold in some rows, and how many their indices can name
 -- (Arrow columnar format, "Dictionary-encoded layout").
-use Rattle.std.specs.Prelude.{ℕ, zero, suc, ◌+◌, ◌^◌, ◌-◌, ℤ, Bool, true, false, not, nat_le, bytes_eq, List, [], ◌∷◌, ◌++◌, map, length, Option, Some, None, if◌then◌else◌, slice_get, option_to_list}
+use Rattle.std.specs.Prelude.{ℕ, ◌+◌, ◌^◌, ◌-◌, Bool, true, false, not, nat_le, bytes_eq, List, [], ◌∷◌, ◌++◌, map, length, Option, Some, None, if◌then◌else◌, slice_get, option_to_list, is_some, ◌||◌}
 use Rattle.std.specs.List.{flat_map, list_any, list_all}
 use Rattle.std.specs.Ordering.{int_eq}
 use Rattle.arrow_schema.specs.Column.{Index, Kind, Column, Columns, nulls, booleans, integers, dates, timestamps, texts, large_texts, binaries, large_binaries, fixed_binaries, lists, large_lists, fixed_lists, structs, column, no_column, and_column, columns_of, PlainSchema}
 use Rattle.values.specs.Weight.{items_in, parts_in}
-use Rattle.values.specs.Cell.{Cell, Cells, null, truth, number, text, bytes, items, parts, no_cell, and_cell, cells_of, cell_list}
+use Rattle.values.specs.Cell.{Cell, null, truth, number, text, bytes, items, parts, cell_list}
 
 -- a dictionary column: its index type, and the cells that it has
 pub record Holding : Type 0 where
@@ -108,3 +108,33 @@ has_few_entries h = is_within (entry_limit h.index) (length (entries_of h.cells)
 -- each dictionary column holds no more values in these rows than its indices can name
 abbrev pub dictionaries_fit : PlainSchema → List (List Cell) → Bool
 dictionaries_fit s rows = list_all has_few_entries (holdings_of s rows)
+
+-- whether the indices of a dictionary have a limit
+abbrev pub has_limit : Option Index → Bool
+has_limit None = false
+has_limit (Some i) = is_some (entry_limit i)
+
+unfoldable mutual
+  -- whether a dictionary at or below a column has a limit: without one, no row fills a dictionary
+  pub is_limited : Column → Bool
+  is_limited (column name nullable kind dictionary pairs) = has_limit dictionary || is_kind_limited kind
+
+  pub is_kind_limited : Kind → Bool
+  is_kind_limited nulls = false
+  is_kind_limited booleans = false
+  is_kind_limited (integers bits signed) = false
+  is_kind_limited (dates unit) = false
+  is_kind_limited (timestamps unit zone) = false
+  is_kind_limited texts = false
+  is_kind_limited large_texts = false
+  is_kind_limited binaries = false
+  is_kind_limited large_binaries = false
+  is_kind_limited (fixed_binaries width) = false
+  is_kind_limited (lists item) = is_limited item
+  is_kind_limited (large_lists item) = is_limited item
+  is_kind_limited (fixed_lists size item) = is_limited item
+  is_kind_limited (structs columns) = is_any_limited columns
+
+  pub is_any_limited : Columns → Bool
+  is_any_limited no_column = false
+  is_any_limited (and_column f fs) = is_limited f || is_any_limited fs

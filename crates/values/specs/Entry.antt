@@ -2,7 +2,7 @@
 use Rattle.std.specs.Prelude.{Option, Some, None}
 use Rattle.values.specs.declared.entry.Entry.{Entry}
 use Rattle.values.specs.declared.entry.Entry.TheVariants as entries
-use Rattle.values.specs.Cell.{Cell, null, truth, number, text, bytes}
+use Rattle.values.specs.Cell.{Cell, truth, number, text, bytes}
 
 abbrev pub entry_cell : Entry → Cell
 entry_cell (entries.Bool b) = truth b

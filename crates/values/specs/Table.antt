@@ -1,5 +1,5 @@
 -- What a table keeps.
-use Rattle.std.specs.Prelude.{ℕ, ◌≤◌, Bool, ◌&&◌, nat_le, not, List, [], ◌∷◌, Option, Some, None, Result, Ok, Err, if◌then◌else◌, IsTrue, position}
+use Rattle.std.specs.Prelude.{ℕ, ◌≤◌, Bool, ◌&&◌, nat_le, not, List, [], ◌∷◌, Option, Some, None, Result, Ok, Err, if◌then◌else◌, position}
 use Rattle.std.specs.List.{AllPass}
 use Rattle.arrow_schema.specs.Column.{columns_of, PlainSchema}
 use Rattle.arrow_schema.specs.Limits.{IsWithinLimits}
@@ -15,6 +15,10 @@ row_fits s row = each_fits (columns_of s.columns) (cells_of row)
 -- a row that a table takes: it fits, weighs at most 16,777,216, and fills no dictionary
 unfoldable pub is_row : PlainSchema → List Cell → Bool
 is_row s row = row_fits s row && (nat_le (row_weight s row) 16777216 && dictionaries_fit s (row ∷ []))
+
+-- the weight of a row that a table takes
+abbrev pub taken_weight : PlainSchema → List Cell → Option ℕ
+taken_weight s row = if is_row s row then Some (row_weight s row) else None
 
 pub record IsTable (t : PlainTable) : Type 0 where
   pub schema : IsWithinLimits t.schema

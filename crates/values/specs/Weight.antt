@@ -1,7 +1,7 @@
 -- How much a value weighs, by its type and never by its dictionary: about the bytes and the cells that it takes in memory.
-use Rattle.std.specs.Prelude.{ℕ, ◌+◌, ◌*◌, min, List, [], ◌∷◌, length, sum_by}
+use Rattle.std.specs.Prelude.{ℕ, ◌+◌, ◌*◌, min, List, length, sum_by}
 use Rattle.arrow_schema.specs.Column.{Kind, Column, Columns, nulls, booleans, integers, dates, timestamps, texts, large_texts, binaries, large_binaries, fixed_binaries, lists, large_lists, fixed_lists, structs, column, no_column, and_column, columns_of, PlainSchema}
-use Rattle.values.specs.Cell.{Cell, Cells, null, truth, number, text, bytes, items, parts, no_cell, and_cell, cells_of}
+use Rattle.values.specs.Cell.{Cell, Cells, null, text, bytes, items, parts, no_cell, and_cell, cells_of}
 
 -- the bytes of a text or a binary
 abbrev pub byte_count : Cell → ℕ

@@ -1,13 +1,13 @@
 // How much values and rows weigh.
 ghost use Rattle.std.specs.Prelude.{◌≡◌, ◌+◌, ◌*◌, map};
 ghost use Rattle.arrow_schema.specs.Column.{columns_of};
-ghost use Rattle.arrow_schema.specs.View.{kind_of, column_of};
+ghost use Rattle.arrow_schema.specs.View.{kind_of, column_of, schema_of};
 ghost use Rattle.values.specs.Cell.{cells_of, null};
 ghost use Rattle.values.specs.View.{cell};
-ghost use Rattle.values.specs.Weight.{weight, kind_weight, parts_weight, sum_of, fixed_sum, byte_count, items_in, parts_in, told_weight};
+ghost use Rattle.values.specs.Weight.{weight, row_weight, kind_weight, parts_weight, sum_of, fixed_sum, byte_count, items_in, parts_in, told_weight};
 
 use crate::value::Value;
-use arrow_schema::{DataType, Field};
+use arrow_schema::{DataType, Field, Schema};
 
 /// The most that a row may weigh.
 pub const MAX_ROW_WEIGHT: u64 = 16_777_216;
@@ -134,4 +134,12 @@ pub(crate) fn parts_weight(fields: &[Field], parts: &[Value]) -> u64
         total = add(total, part_weight);
     }
     total
+}
+
+/// The weight of a row: 1 and its cells, where an absent cell weighs as a null. It is exact up to `MAX_TABLE_WEIGHT`, and
+/// `TOO_HEAVY` where the row weighs more.
+pub fn row_weight(schema: &Schema, row: &[Value]) -> u64
+    ensures { result ≡ told_weight (row_weight (schema_of schema.now) (map cell row.now)) }
+{
+    add(1, parts_weight(&schema.fields, row))
 }

@@ -24,6 +24,60 @@ pub(crate) enum Keyword {
     Dictionary,
 }
 
+/// Each word once. None of them begins another.
+pub(crate) const KEYWORDS: [Keyword; 26] = [
+    Keyword::Null,
+    Keyword::Bool,
+    Keyword::Int(IntegerType {
+        width: BitWidth::Eight,
+        signed: true,
+    }),
+    Keyword::Int(IntegerType {
+        width: BitWidth::Sixteen,
+        signed: true,
+    }),
+    Keyword::Int(IntegerType {
+        width: BitWidth::ThirtyTwo,
+        signed: true,
+    }),
+    Keyword::Int(IntegerType {
+        width: BitWidth::SixtyFour,
+        signed: true,
+    }),
+    Keyword::Int(IntegerType {
+        width: BitWidth::Eight,
+        signed: false,
+    }),
+    Keyword::Int(IntegerType {
+        width: BitWidth::Sixteen,
+        signed: false,
+    }),
+    Keyword::Int(IntegerType {
+        width: BitWidth::ThirtyTwo,
+        signed: false,
+    }),
+    Keyword::Int(IntegerType {
+        width: BitWidth::SixtyFour,
+        signed: false,
+    }),
+    Keyword::Date(DateUnit::Day),
+    Keyword::Date(DateUnit::Millisecond),
+    Keyword::Timestamp(TimeUnit::Second),
+    Keyword::Timestamp(TimeUnit::Millisecond),
+    Keyword::Timestamp(TimeUnit::Microsecond),
+    Keyword::Timestamp(TimeUnit::Nanosecond),
+    Keyword::Utf8,
+    Keyword::LargeUtf8,
+    Keyword::Binary,
+    Keyword::LargeBinary,
+    Keyword::FixedBinary,
+    Keyword::List,
+    Keyword::LargeList,
+    Keyword::FixedList,
+    Keyword::Struct,
+    Keyword::Dictionary,
+];
+
 #[tactic(auto, unfolding(crate::specs::Keywords::integer_text))]
 fn integer_word(integer: IntegerType) -> &'static str
     ensures { result.now ≡ integer_text (bits_of integer.width) integer.signed }

@@ -8,19 +8,19 @@ use std::io::{self, Cursor, ErrorKind, Read, Seek, SeekFrom, Write};
 use std::process::Abort;
 use std::test::Fail;
 
-// A path of this test's own, at which there is nothing.
-fn path_of(rt: &HostRuntime, name: &str) -> Result<String, Fail> {
-    let dir = env::temp_dir(rt)?;
+// A path of this test's own, at which there is nothing. `None`: there was no memory for it.
+fn path_of(rt: &HostRuntime, name: &str) -> Option<String> {
+    let dir = env::temp_dir(rt).ok()?;
     let id = std::process::id(rt.process());
     let dir = dir.as_str();
-    let path = format!(in rt.alloc(); "{dir}/sector_dev_{id}_{name}")?;
+    let path = format!(in rt.alloc(); "{dir}/sector_dev_{id}_{name}").ok()?;
     let _removed = fs::remove_file(rt, path.as_str());
-    Ok(path)
+    Some(path)
 }
 
 #[test]
 fn a_file_has_16_to_4194304_sectors(rt: HostRuntime) -> Result<(), Fail> {
-    let path = path_of(&rt, "sizes")?;
+    let path = path_of(&rt, "sizes").ok_or(FileError::Io)?;
     for sectors in [0, 15, 4_194_305, u64::MAX] {
         let refused = FileDevice::create(&rt, path.as_str(), sectors).err();
         assert_eq!(&rt; refused, Some(FileError::BadSize));
@@ -113,7 +113,7 @@ fn write_runs<D: SectorDevice>(rt: &impl Abort, device: &mut D) {
 
 #[test]
 fn what_was_written_is_read(rt: HostRuntime) -> Result<(), Fail> {
-    let path = path_of(&rt, "runs")?;
+    let path = path_of(&rt, "runs").ok_or(FileError::Io)?;
     let mut device = FileDevice::create(&rt, path.as_str(), 6000)?;
     write_runs(&rt, &mut device);
     drop(device);
@@ -125,6 +125,42 @@ fn what_was_written_is_read(rt: HostRuntime) -> Result<(), Fail> {
     }
     assert_eq!(&rt; byte_of(&rt, &mut device, 5999), Ok(0));
     fs::remove_file(&rt, path.as_str())?;
+    Ok(())
+}
+
+// One allocation at the most is refused, by tests/refused_memory: `create` and `open` may refuse for want of it, and then no
+// file is left by `create`; no call of a device does.
+#[test]
+fn a_file_is_made_and_used_also_without_memory(rt: HostRuntime) -> Result<(), Fail> {
+    let Some(path) = path_of(&rt, "memory") else {
+        return Ok(());
+    };
+    let path = path.as_str();
+    let mut created = FileDevice::create(&rt, path, 6000);
+    if let Err(refused) = created {
+        assert_eq!(&rt; refused, FileError::Io);
+        assert_eq!(&rt; fs::exists(&rt, path)?, false);
+        created = FileDevice::create(&rt, path, 6000);
+    }
+    let mut device = created?;
+    write_runs(&rt, &mut device);
+    drop(device);
+    let opened = FileDevice::open(&rt, path);
+    let mut device = match opened {
+        Ok(device) => device,
+        Err(refused) => {
+            assert_eq!(&rt; refused, FileError::Io);
+            FileDevice::open(&rt, path)?
+        }
+    };
+    for n in 0..5000 {
+        assert_reads(&rt, &mut device, n, times_of(n));
+    }
+    assert!(&rt;
+        fs::remove_file(&rt, path)
+            .or(fs::remove_file(&rt, path))
+            .is_ok()
+    );
     Ok(())
 }
 

@@ -298,31 +298,34 @@ fn a_great_device_is_made_at_once(rt: HostRuntime) -> Result<(), Fail> {
     Ok(())
 }
 
-// With `rt try --test --fail-alloc N` a call finds no memory: it fails, is counted, and changes nothing.
+// One allocation at the most is refused, by tests/refused_memory: a call that finds no memory fails, is counted, and
+// changes nothing.
 #[test]
-fn a_call_without_memory_changes_nothing(rt: HostRuntime) -> Result<(), Fail> {
+fn calls_agree_with_a_list_also_without_memory(rt: HostRuntime) -> Result<(), Fail> {
     let mut device = ModelDevice::new(rt.alloc(), 16)?;
     let mut plain = Plain::new(Fault::None);
     for n in [3, 0, 3, 7, 1, 6] {
         let failures = device.failures();
-        match fill(&rt, &mut device, n as u64, n as u8 + 1) {
-            Ok(()) => plain.fill(n, n as u8 + 1),
-            Err(_) => assert_eq!(&rt; device.failures(), failures.wrapping_add(1)),
+        let written = fill(&rt, &mut device, n as u64, n as u8 + 1);
+        if written.is_ok() {
+            plain.fill(n, n as u8 + 1);
         }
-        if n == 3 && device.sync().is_ok() {
+        let synced = if n == 3 { device.sync() } else { Ok(()) };
+        if n == 3 && synced.is_ok() {
             plain.sync();
         }
-        if let Ok(byte) = byte_of(&rt, &mut device, n as u64) {
-            assert_eq!(&rt; byte, plain.shown(n));
-        }
+        let read = byte_of(&rt, &mut device, n as u64);
+        assert!(&rt; read.is_err() || read == Ok(plain.shown(n)));
+        let failed = written.is_err() || synced.is_err() || read.is_err();
+        assert_eq!(&rt; device.failures(), failures.wrapping_add(failed as u64));
     }
-    let Ok(mut left) = device.crash(Choice::Bits(5)) else {
-        return Ok(());
+    let mut left = match device.crash(Choice::Bits(5)) {
+        Ok(left) => left,
+        Err(_) => device.crash(Choice::Bits(5))?,
     };
     for (n, want) in plain.left(Choice::Bits(5)).iter().enumerate() {
-        if let Ok(byte) = byte_of(&rt, &mut left, n as u64) {
-            assert_eq!(&rt; Some(byte), *want);
-        }
+        let byte = byte_of(&rt, &mut left, n as u64).or(byte_of(&rt, &mut left, n as u64));
+        assert_eq!(&rt; byte.ok(), *want);
     }
     Ok(())
 }

@@ -1,8 +1,8 @@
 // Worked rows of the free map, and scripts beside a plain record of the runs.
-ghost use Rattle.std.specs.Prelude.{◌<◌};
+ghost use Rattle.std.specs.Prelude.{◌<◌, ◌≤◌};
 
 use crate::{EnterError, FreeMap, Run, TakeError, Usage};
-use std::alloc::{AllocError, Global};
+use std::alloc::Global;
 use std::process::Abort;
 use std::test::Fail;
 
@@ -125,22 +125,43 @@ fn entered_runs_are_tested(rt: HostRuntime) -> Result<(), Fail> {
     Ok(())
 }
 
-// What is in use, sector by sector: each run that was named, and for what.
+const UNUSED: Usage = Usage {
+    taken: false,
+    pins: 0,
+};
+
+const MOST_SECTORS: usize = 34;
+
+const MOST_COUNT: usize = 5;
+
+// Which sectors are in use, and what each run is used for, by its start and count. It takes no memory.
 #[derive(Drop)]
 struct Plain {
     size: u64,
-    runs: Vec<(Run, Usage)>,
+    used: [bool; MOST_SECTORS],
+    usages: [[Usage; MOST_COUNT + 1]; MOST_SECTORS],
 }
 
 impl Plain {
+    fn new(size: u64) -> Plain {
+        Plain {
+            size,
+            used: [false; MOST_SECTORS],
+            usages: [[UNUSED; MOST_COUNT + 1]; MOST_SECTORS],
+        }
+    }
+
     fn is_free(&self, run: Run) -> bool {
         let end = run.start.saturating_add(run.count);
-        let meets = |other: &(Run, Usage)| {
-            (other.1.taken || other.1.pins > 0)
-                && run.start < other.0.start.saturating_add(other.0.count)
-                && other.0.start < end
-        };
-        run.start >= 2 && end <= self.size && !self.runs.iter().any(meets)
+        if run.start < 2 || end > self.size {
+            return false;
+        }
+        for sector in run.start..end {
+            if self.used.get(sector as usize) != Some(&false) {
+                return false;
+            }
+        }
+        true
     }
 
     fn find(&self, count: u64) -> Option<Run> {
@@ -153,23 +174,31 @@ impl Plain {
     }
 
     fn usage(&self, run: Run) -> Usage {
-        let mut usage = Usage {
-            taken: false,
-            pins: 0,
-        };
-        for other in &self.runs {
-            if other.0 == run {
-                usage = other.1;
-            }
+        match self.usages.get(run.start as usize) {
+            Some(usages) => usages.get(run.count as usize).copied().unwrap_or(UNUSED),
+            None => UNUSED,
         }
-        usage
     }
 
-    fn set(&mut self, run: Run, usage: Usage) -> Result<(), AllocError> {
-        self.runs.retain(|other| other.0 != run);
-        self.runs.push((run, usage))?;
-        Ok(())
+    fn set(&mut self, run: Run, usage: Usage) {
+        let was = is_used(self.usage(run));
+        if let Some(usages) = self.usages.get_mut(run.start as usize) {
+            if let Some(known) = usages.get_mut(run.count as usize) {
+                *known = usage;
+            }
+        }
+        if was != is_used(usage) {
+            for sector in run.start..run.start.saturating_add(run.count) {
+                if let Some(used) = self.used.get_mut(sector as usize) {
+                    *used = !was;
+                }
+            }
+        }
     }
+}
+
+fn is_used(usage: Usage) -> bool {
+    usage.taken || usage.pins > 0
 }
 
 // Numbers that look random.
@@ -189,91 +218,125 @@ impl Numbers {
     }
 }
 
-// One call of a script, as the map answers it and as the plain record has it. Refused memory changes nothing.
-fn step(
+const TAKEN: Usage = Usage {
+    taken: true,
+    pins: 0,
+};
+
+// A run is taken as the plain record has it, or the map was refused memory: whether it was. Then nothing changes.
+fn take(rt: &impl Abort, map: &mut FreeMap, plain: &mut Plain, count: u64) -> bool
+    requires { 1 ≤ count }
+{
+    let found = plain.find(count);
+    let answer = map.take(count);
+    if answer == Err(TakeError::OutOfMemory) {
+        return true;
+    }
+    assert_eq!(rt; answer.ok(), found);
+    if let Some(found) = found {
+        plain.set(found, TAKEN);
+    }
+    false
+}
+
+// A run came into use where the plain record has room for it, or the map was refused memory: whether it was.
+fn enter(
     rt: &impl Abort,
-    map: &mut FreeMap,
+    answer: Result<(), EnterError>,
     plain: &mut Plain,
-    numbers: &mut Numbers,
-) -> Result<(), AllocError> {
-    let count = 1 + numbers.below(5);
+    run: Run,
+    usage: Option<Usage>,
+) -> bool {
+    if answer == Err(EnterError::OutOfMemory) {
+        return true;
+    }
+    assert_eq!(rt; answer.is_ok(), usage.is_some());
+    if let Some(usage) = usage {
+        plain.set(run, usage);
+    }
+    false
+}
+
+// One call of a script, as the map answers it and as the plain record has it: whether the map was refused memory.
+fn step(rt: &impl Abort, map: &mut FreeMap, plain: &mut Plain, numbers: &mut Numbers) -> bool {
+    let count = 1 + numbers.below(MOST_COUNT as u64);
     let start = numbers.below(plain.size.max(1));
     let run = Run { start, count };
-    let Usage { taken, pins } = plain.usage(run);
-    let used = taken || pins > 0;
-    let free = plain.is_free(run);
+    let usage = plain.usage(run);
+    let Usage { taken, pins } = usage;
     match numbers.below(5) {
-        0 => {
-            let found = plain.find(count);
-            let answer = map.take(count);
-            if answer != Err(TakeError::OutOfMemory) {
-                assert_eq!(rt; answer.ok(), found);
-                if let Some(found) = found {
-                    plain.set(
-                        found,
-                        Usage {
-                            taken: true,
-                            pins: 0,
-                        },
-                    )?;
-                }
-            }
-        }
+        0 => take(rt, map, plain, count),
         1 => {
             map.give(run);
-            plain.set(run, Usage { taken: false, pins })?;
+            plain.set(run, Usage { taken: false, pins });
+            false
         }
         2 => {
-            let answer = map.pin(run);
-            if answer != Err(EnterError::OutOfMemory) {
-                assert_eq!(rt; answer.is_ok(), used || free);
-                if used || free {
-                    let pins = pins.saturating_add(1);
-                    plain.set(run, Usage { taken, pins })?;
-                }
-            }
+            let pins = pins.saturating_add(1);
+            let fits = is_used(usage) || plain.is_free(run);
+            let pinned = if fits {
+                Some(Usage { taken, pins })
+            } else {
+                None
+            };
+            enter(rt, map.pin(run), plain, run, pinned)
         }
         3 => {
             map.unpin(run);
             let pins = pins.saturating_sub(1);
-            plain.set(run, Usage { taken, pins })?;
+            plain.set(run, Usage { taken, pins });
+            false
         }
         _ => {
-            let answer = map.occupy(run);
-            if answer != Err(EnterError::OutOfMemory) {
-                assert_eq!(rt; answer.is_ok(), free);
-                if free {
-                    plain.set(
-                        run,
-                        Usage {
-                            taken: true,
-                            pins: 0,
-                        },
-                    )?;
-                }
-            }
+            let taken = if plain.is_free(run) {
+                Some(TAKEN)
+            } else {
+                None
+            };
+            enter(rt, map.occupy(run), plain, run, taken)
         }
     }
-    for count in 1..8 {
-        assert_eq!(rt; map.find(count), plain.find(count));
-    }
-    assert_eq!(rt; map.usage(run), plain.usage(run));
-    Ok(())
 }
 
+// The map finds the runs that the plain record finds, and uses each run for the same.
+fn assert_agree(rt: &impl Abort, map: &FreeMap, plain: &Plain) {
+    for count in 1..8 {
+        assert_eq!(rt; map.find(count), plain.find(count));
+        for start in 0..plain.size {
+            let run = Run { start, count };
+            assert_eq!(rt; map.usage(run), plain.usage(run));
+        }
+    }
+}
+
+// tests/refused_memory refuses each allocation in turn.
 #[test]
-fn scripts_agree_with_a_plain_record(rt: HostRuntime) -> Result<(), Fail> {
+fn scripts_agree_with_a_plain_record_also_without_memory(rt: HostRuntime) {
+    let mut refusals = 0u64;
     for seed in 0..40 {
         let mut numbers = Numbers(seed);
         let size = 4 + numbers.below(30);
         let mut map = FreeMap::new(rt.alloc(), size);
-        let mut plain = Plain {
-            size,
-            runs: Vec::new(rt.alloc()),
-        };
+        let mut plain = Plain::new(size);
         for _ in 0..60 {
-            step(&rt, &mut map, &mut plain, &mut numbers)?;
+            let refused = step(&rt, &mut map, &mut plain, &mut numbers);
+            refusals = refusals.wrapping_add(refused as u64);
+            assert_agree(&rt, &map, &plain);
         }
     }
+    assert!(&rt; refusals <= 1);
+}
+
+// Each find goes over the runs once: if it went over them for each of them, this would take hours.
+#[test]
+fn a_run_is_found_among_65536(rt: HostRuntime) -> Result<(), Fail> {
+    let mut map = FreeMap::new(rt.alloc(), 4_194_304);
+    for i in 0..65_536 {
+        map.occupy(run(2 + 2 * i, 1))?;
+    }
+    for count in 2..1000 {
+        assert_eq!(&rt; map.find(count), Some(run(131_073, count)));
+    }
+    assert_eq!(&rt; map.take(1)?, run(3, 1));
     Ok(())
 }

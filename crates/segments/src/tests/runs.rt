@@ -172,3 +172,36 @@ fn the_first_failing_sector_is_told(rt: HostRuntime) -> Result<(), Fail> {
     }
     Ok(())
 }
+
+// One allocation at the most is refused, by tests/refused_memory: then the device has no memory to keep a call, which
+// fails and is counted, or `read_run` has none for the bytes.
+#[test]
+fn a_run_is_written_and_read_also_without_memory(rt: HostRuntime) -> Result<(), Fail> {
+    let Ok(mut device) = used_device(rt.alloc()) else {
+        return Ok(());
+    };
+    let Ok(bytes) = pattern(rt.alloc(), 1100) else {
+        return Ok(());
+    };
+    let failures = device.failures();
+    let written = write_run(&mut device, 5, &bytes);
+    let pieces = [Piece {
+        run: Run { start: 5, count: 3 },
+        bytes,
+    }];
+    let again = write_runs(&mut device, &pieces);
+    assert!(rt; written.is_ok() || again.is_ok());
+    let failed = written.is_err() || again.is_err();
+    assert_eq!(rt; device.failures(), failures.wrapping_add(failed as u64));
+
+    let failures = device.failures();
+    let mut read = read_run(rt.alloc(), &mut device, 5, 1100);
+    if let Err(error) = read {
+        let failed = error == ReadError::Failed;
+        assert!(rt; failed || error == ReadError::OutOfMemory);
+        assert_eq!(rt; device.failures(), failures.wrapping_add(failed as u64));
+        read = read_run(rt.alloc(), &mut device, 5, 1100);
+    }
+    assert!(rt; read?.as_slice() == pieces[0].bytes.as_slice());
+    Ok(())
+}

@@ -1,4 +1,7 @@
-use Rattle.std.proofs.Common.{◌+◌, map, drop, arith}
+use Rattle.std.proofs.Common.{◌≡◌, ◌<◌, ◌+◌, ◌^◌, ◌++◌, ℕ, List, length, map, drop, arith}
+use Rattle.flatbuf.specs.Ends.{below_ends_at}
+use Rattle.flatbuf.specs.Laid.{inline, inline_end, slot_starts}
+use Rattle.flatbuf.specs.Tree.{Slots}
 use Rattle.flatbuf.specs.View.{slot_of, slots_in}
 use Rattle.flatbuf.proofs.Cases.{item_at}
 use Rattle.flatbuf.proofs.Ends.{below_le}
@@ -6,17 +9,15 @@ use Rattle.flatbuf.proofs.Puts.{inline_len}
 use Rattle.flatbuf.proofs.ReadBack.{inline_le_end}
 use Rattle.flatbuf.proofs.emit.put_inline.Goals as goal
 
+-- what is written of the inline part stands before what it refers to
+written_small : (old new : List ℕ) (at offset cursor below : ℕ) (rest all : Slots) → new ++ inline at offset (slot_starts cursor rest) rest ≡ old ++ inline at 4 (slot_starts below all) all
+    → inline_end offset rest ≡ inline_end 4 all → length old ≡ at + 4 → below ≡ at + inline_end 4 all → below_ends_at below all < 2 ^ 31 → length new < 2 ^ 31
+written_small old new at offset cursor below rest all bytes end here room small =
+    omega (arith, inline_len old new at offset cursor below rest all bytes end, inline_le_end offset rest, end, here, room, small, below_le below all)
+
 pub put_slot-requires-clause-small : goal.put_slot-requires-clause-small
 put_slot-requires-clause-small c =
-    let rest = slots_in (map slot_of (drop c.loop-slot.slot-index c.args.slots.now)) in
-    omega (
-      arith,
-      inline_len c.args.out.now.items c.loop-slot.out.items c.args.at c.loop-slot.reached.offset c.loop-slot.reached.cursor c.args.below rest (slots_in (map slot_of c.args.slots.now)) c.loop-slot.invariant.bytes c.loop-slot.invariant.end,
-      inline_le_end c.loop-slot.reached.offset rest,
-      c.loop-slot.invariant.end,
-      c.loop-slot.invariant.low,
-      below_le c.args.below (slots_in (map slot_of c.args.slots.now)),
-    )
+    written_small c.args.out.now.items c.loop-slot.out.items c.args.at c.loop-slot.reached.offset c.loop-slot.reached.cursor c.args.below _ _ c.loop-slot.invariant.bytes c.loop-slot.invariant.end c.requires.here c.requires.room c.requires.small
 
 pub put_slot-requires-clause-room : goal.put_slot-requires-clause-room
 put_slot-requires-clause-room c =
@@ -26,12 +27,5 @@ put_slot-requires-clause-room c =
 
 pub pad-requires-clause-small : goal.pad-requires-clause-small
 pad-requires-clause-small c =
-    let rest = slots_in (map slot_of (drop c.loop-slot.slot-index c.args.slots.now)) in
-    omega (
-      arith,
-      inline_len c.args.out.now.items c.loop-slot.out.items c.args.at c.loop-slot.reached.offset c.loop-slot.reached.cursor c.args.below rest (slots_in (map slot_of c.args.slots.now)) c.loop-slot.invariant.bytes c.loop-slot.invariant.end,
-      inline_le_end c.loop-slot.reached.offset rest,
-      c.loop-slot.invariant.end,
-      c.loop-slot.invariant.low,
-      below_le c.args.below (slots_in (map slot_of c.args.slots.now)),
-    )
+    let small = written_small c.args.out.now.items c.loop-slot.out.items c.args.at c.loop-slot.reached.offset c.loop-slot.reached.cursor c.args.below _ _ c.loop-slot.invariant.bytes c.loop-slot.invariant.end c.requires.here c.requires.room c.requires.small in
+    omega (arith, small)

@@ -1,35 +1,59 @@
-use Rattle.std.proofs.Common.{◌≡◌, ◌≤◌, ◌+◌, ◌*◌, ◌++◌, [], ◌∷◌, List, ℕ, Bor, map, length, arith, refl, ap, ◌∙◌, length-append}
-use Rattle.std.proofs.lemmas.List.{map-append}
-use Rattle.ipc_write.specs.Written.{body}
+use Rattle.std.proofs.Common.{◌≡◌, ◌<◌, ◌+◌, ◌++◌, [], ◌∷◌, List, ℕ, Bor, map, length, drop, arith, refl, ap, sym, ◌∙◌, length-append, append-nil}
+use Rattle.std.proofs.lemmas.List.{drop_all, length-map, length-drop}
+use Rattle.std.proofs.lemmas.Result.{on_ok_weaker}
+use Rattle.arrow_schema.specs.declared.types.Field.{Field}
+use Rattle.arrow_schema.specs.View.{column_of, schema_of}
 use Rattle.ipc_write.proofs.BatchNode.{fits_more}
-use Rattle.ipc_stream.proofs.PieceSize.{body_more}
+use Rattle.ipc_write.specs.Trees.{raw_node}
+use Rattle.ipc_stream.specs.Canonical.{full_nodes, integer_buffers}
+use Rattle.values.specs.Columns.{IntegerColumn, rows_from, values_of, first_cell}
+use Rattle.values.specs.IntegerTable.{integer_column}
+use Rattle.ipc_stream.proofs.PieceLemmas.{next, left_more, column_left, nodes_more, two_more, size_more, buffers_more, piece_is}
 use Rattle.ipc_stream.proofs.encoder.write_piece.Goals as goal
-use Rattle.ipc_stream.proofs.encoder.write_piece.Goals.{in-Some, in-None}
-
--- two buffers more
-two_more : (old middle new : List (Bor (List ℕ))) (a b : Bor (List ℕ)) (i : ℕ) → middle ≡ old ++ a ∷ [] → new ≡ middle ++ b ∷ [] → a.now ≡ [] → length b.now ≤ 32768
-    → length old ≡ 2 * i → length (body (map (λ x. x.now) old)) ≤ 32776 * (2 * i)
-    → (length new ≡ 2 * (i + 1)) × (length (body (map (λ x. x.now) new)) ≤ 32776 * (2 * (i + 1)))
-two_more old middle new a b i first second empty small len size =
-    let read : Bor (List ℕ) → List ℕ = λ x. x.now in
-    let e1 : map read middle ≡ map read old ++ a.now ∷ [] = ap (map read) first ∙ map-append read old (a ∷ []) in
-    let e2 : map read new ≡ map read middle ++ b.now ∷ [] = ap (map read) second ∙ map-append read middle (b ∷ []) in
-    let s1 : length (body (map read middle)) ≤ length (body (map read old)) + length a.now + 8 = rw e1 (body_more (map read old) a.now) in
-    let s2 : length (body (map read new)) ≤ length (body (map read middle)) + length b.now + 8 = rw e2 (body_more (map read middle) b.now) in
-    let none : length a.now ≡ 0 = ap length empty in
-    (omega (arith, ap length first, ap length second, length-append old (a ∷ []), length-append middle (b ∷ [])), omega arith)
 
 pub loop-i-preserved : goal.loop-i-preserved
 loop-i-preserved c =
-    let one : c.push.new.self.items ≡ c.loop-i.nodes.items ++ (c.args.count, 0) ∷ [] = c.in_ok-push.ensures.items in
-    let b : Bor (List ℕ) = c.match-get.push in
-    let small : length b.now ≤ 32768 = elim c.match-get.branch [
-      | in-Some w ↦ omega (arith, ap (λ (x : Bor (List ℕ)). length x.now) w.push-is, w.values_in.ensures)
-      | in-None w ↦ omega (arith, ap (λ (x : Bor (List ℕ)). length x.now) w.push-is)
-    ] in
-    let more = two_more c.loop-i.buffers.items c.push-in-loop-i.new.self.items c.push-in-loop-i-2.new.self.items _ b c.loop-i.i c.in_ok-push-2.ensures.items c.in_ok-push-3.ensures.items refl small c.loop-i.invariant.2 c.loop-i.invariant.3 in (
-      rw one (fits_more c.loop-i.nodes.items (c.args.count, 0) c.loop-i.invariant.0 (omega arith) (omega arith)),
-      omega (arith, ap length one, length-append c.loop-i.nodes.items ((c.args.count, 0) ∷ []), c.loop-i.invariant.1),
-      more.0,
-      more.1,
-    )
+    let i : ℕ = c.loop-i.i in
+    let is = c.loop-i.invariant in
+    let column : IntegerColumn = integer_column (column_of c.index.result.now) in
+    let values : List ℕ = c.index-columns-i.result.items in
+    let b : Bor (List ℕ) = c.values_in.result in
+    let fields = ap (map column_of) (next c.args.schema.now.fields.items i c.index.result.now (omega arith) c.index.ensures) in
+    let columns = ap (map integer_column) fields in
+    let some = column_left column _ _ _ _ columns is.left in
+    let inside : i < length c.args.columns.now = omega (arith, some, length-map (drop i c.args.columns.now) (λ v. v.items), length-drop i c.args.columns.now) in
+    let all_values = ap (map (λ v. v.items)) (next c.args.columns.now i c.index-columns-i.result inside c.index-columns-i.is) in
+    let pushed : c.push.new.self.items ≡ c.loop-i.nodes.items ++ (c.args.count, 0) ∷ [] = c.in_ok-push.ensures.items in
+    let columns_left = map integer_column (map column_of (drop (i + 1) c.args.schema.now.fields.items)) in
+    let values_left = map (λ v. v.items) (drop (i + 1) c.args.columns.now) in
+    let here : b.now ≡ values_of column.width (map first_cell (rows_from (column ∷ columns_left) (values ∷ values_left) c.args.from c.args.count)) =
+    c.values_in.ensures.values column columns_left values_left (sym c.width_of-width.ensures.value)
+    ∙ ap (λ (v : List ℕ). values_of column.width (map first_cell (rows_from (column ∷ columns_left) (v ∷ values_left) c.args.from c.args.count))) c.deref.ensures.value in
+    let two = two_more c.loop-i.buffers.items c.push-in-loop-i.new.self.items c.push-in-loop-i-2.new.self.items _ b c.in_ok-push-2.ensures.items c.in_ok-push-3.ensures.items refl in
+    record {
+      fits = rw pushed (fits_more c.loop-i.nodes.items (c.args.count, 0) is.fits (omega arith) (omega arith));
+      nodes_count = omega (arith, ap length pushed, length-append c.loop-i.nodes.items ((c.args.count, 0) ∷ []));
+      buffers_count = omega (arith, ap length c.in_ok-push-2.ensures.items, ap length c.in_ok-push-3.ensures.items, length-append c.loop-i.buffers.items, length-append c.push-in-loop-i.new.self.items);
+      size = rw two (omega (arith, size_more (map (λ x. x.now) c.loop-i.buffers.items) b.now c.values_in.ensures.small));
+      left = (left_more column _ _ values _ _ _ columns all_values is.left).1;
+      nodes = nodes_more c.loop-i.nodes.items c.push.new.self.items _ _ _ c.args.count _ pushed fields is.nodes;
+      buffers = buffers_more _ _ b.now column _ _ values _ _ c.args.from c.args.count _ two columns all_values here is.buffers;
+    }
+
+pub returns : goal.returns
+returns c =
+    let is = c.loop-i.invariant in
+    let values = map (λ v. v.items) c.args.columns.now in
+    let done = drop_all c.loop-i.i c.args.schema.now.fields.items (omega arith) in
+    let nodes : map raw_node c.loop-i.nodes.items ≡ full_nodes (schema_of c.args.schema.now).columns c.args.count =
+    sym (append-nil (map raw_node c.loop-i.nodes.items))
+    ∙ ap (λ (x : List Field). map raw_node c.loop-i.nodes.items ++ full_nodes (map column_of x) c.args.count) (sym done)
+    ∙ is.nodes in
+    let written = map (λ b. b.now) c.loop-i.buffers.items in
+    let values_left = map (λ v. v.items) (drop c.loop-i.i c.args.columns.now) in
+    let buffers : map (λ b. b.now) c.deref-2.result.now ≡ integer_buffers (map integer_column (map column_of c.args.schema.now.fields.items)) (rows_from (map integer_column (map column_of c.args.schema.now.fields.items)) values c.args.from c.args.count) =
+    ap (map (λ b. b.now)) c.deref-2.ensures.value
+    ∙ sym (append-nil written)
+    ∙ ap (λ (x : List Field). written ++ integer_buffers (map integer_column (map column_of x)) (rows_from (map integer_column (map column_of x)) values_left c.args.from c.args.count)) (sym done)
+    ∙ is.buffers in
+    on_ok_weaker c.write_batch.result (λ e. e ∙ ap (λ (x : List ℕ). c.args.out.now.items ++ x) (piece_is (schema_of c.args.schema.now) values c.args.from c.args.count _ _ nodes buffers)) c.write_batch.ensures

@@ -1,4 +1,4 @@
-use Rattle.std.proofs.Common.{arith, rules}
+use Rattle.std.proofs.Common.{arith}
 use Rattle.std.proofs.lemmas.Grind.{common_steps}
 use Rattle.ipc_write.proofs.BatchNode.{fits_more}
 use Rattle.ipc_write.proofs.framing.ranges_of.Goals as goal

@@ -1,12 +1,7 @@
-use Rattle.std.proofs.Common.{rules, ◌≡◌, ◌≤◌, ◌<◌, ◌+◌, ◌*◌, ◌^◌, ◌++◌, ℕ, List, map, length, refl, sym, ap, ◌∙◌, arith, subst, append_assoc}
-use Rattle.byteorder.specs.Endian.{little_bytes}
+use Rattle.std.proofs.Common.{◌≡◌, map, length, ap, ◌∙◌, arith}
 use Rattle.flatbuf.specs.Laid.{metadata}
-use Rattle.flatbuf.specs.Tree.{Tree}
 use Rattle.flatbuf.specs.View.{node_of}
-use Rattle.ipc_message.specs.Framing.{mark}
-use Rattle.ipc_write.specs.Trees.{raw_node, buffer_pair, message_tree, batch_tree}
-use Rattle.ipc_write.specs.Written.{body, placed, batch_of, batch_message, message_bytes, framed}
-use Rattle.ipc_write.proofs.BatchNode.{root_fits, root_small, ranges_few, header_is, tree_of}
+use Rattle.ipc_write.proofs.BatchNode.{root_small, ranges_few}
 use Rattle.std.specs.Prelude.{Result, OnOk, [], Ok, Err}
 use Rattle.std.proofs.lemmas.List.{length-map}
 use Rattle.ipc_write.proofs.BatchNode.{batch_is}

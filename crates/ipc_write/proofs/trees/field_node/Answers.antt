@@ -1,10 +1,10 @@
-use Rattle.std.proofs.Common.{rules, ◌≡◌, ℕ, true, refl, sym, ap, ◌∙◌}
+use Rattle.std.proofs.Common.{rules, ◌≡◌, true, sym, ap, ◌∙◌}
 use Rattle.arrow_schema.specs.View.{column_of, kind_of}
 use Rattle.arrow_schema.specs.declared.types.Field.{the_lemmas as field_lemmas}
 use Rattle.flatbuf.specs.declared.nodes.Node.{the_lemmas as node_lemmas, Table}
-use Rattle.ipc_write.specs.Plain.{is_integer_kind}
+use Rattle.arrow_schema.specs.Integers.{is_integer_kind}
 use Rattle.flatbuf.specs.View.{node_of}
-use Rattle.ipc_write.specs.Trees.{field_tree, type_tree}
+use Rattle.ipc_write.specs.Trees.{type_tree}
 use Rattle.ipc_write.proofs.FieldNode.{plain_tree, plain_is, kind_in, kind_is}
 use Rattle.ipc_write.proofs.trees.field_node.Goals as goal
 

@@ -3,7 +3,7 @@ use Rattle.std.specs.List.{list_all}
 use Rattle.arrow_schema.specs.View.{column_of}
 use Rattle.flatbuf.specs.View.{node_of}
 use Rattle.ipc_write.specs.Trees.{field_tree}
-use Rattle.ipc_write.specs.Plain.{is_integer_column}
+use Rattle.arrow_schema.specs.Integers.{is_integer_column}
 use Rattle.ipc_write.proofs.trees.field_nodes.Given as goal
 
 abbrev pub invariant-loop-field : goal.invariant-loop-field

@@ -1,12 +1,12 @@
 use Rattle.std.proofs.Common.{rules, ◌≡◌, List, [], ◌∷◌, map, refl, sym, ap, ◌∙◌}
 use Rattle.std.specs.List.{list_all}
-use Rattle.arrow_schema.specs.Column.{Column, PlainSchema, columns_of}
+use Rattle.arrow_schema.specs.Column.{PlainSchema, columns_of}
 use Rattle.arrow_schema.specs.View.{schema_of, column_of}
-use Rattle.flatbuf.specs.Tree.{Tree, Nodes, Slots, table, references, scalar, refers, no_slot}
+use Rattle.flatbuf.specs.Tree.{Nodes, Slots, table, references, scalar, refers, no_slot}
 use Rattle.flatbuf.specs.View.{node_of, nodes_of}
 use Rattle.flatbuf.specs.declared.nodes.Node.{the_lemmas as node_lemmas, Table}
-use Rattle.ipc_write.specs.Trees.{field_tree, field_nodes, schema_tree}
-use Rattle.ipc_write.specs.Plain.{is_integer_column, is_empty}
+use Rattle.ipc_write.specs.Trees.{field_tree, field_nodes}
+use Rattle.arrow_schema.specs.Integers.{is_integer_column, is_empty}
 use Rattle.ipc_write.proofs.FieldNode.{both}
 use Rattle.ipc_write.proofs.Room.{fields_are, no_pairs}
 use Rattle.ipc_write.proofs.trees.schema_node.Goals as goal

@@ -1,20 +1,17 @@
-use Rattle.std.proofs.Common.{◌≡◌, ◌≢◌, ◌+◌, ◌%◌, ◌∷◌, [], ◌∙◌, length, sym, arith, eqb-true}
+use Rattle.std.proofs.Common.{◌≡◌, ◌≢◌, ◌<◌, ◌%◌, ◌∷◌, [], ◌∙◌, inl, inr, length, sym, arith, eqb-true}
 use Rattle.std.proofs.lemmas.Bool.{eqb-false}
-use Rattle.sector_dev.specs.Disk.{now}
-use Rattle.sector_dev.specs.Time.{goes_on}
 use Rattle.segments.specs.Sectors.{sector_count}
-use Rattle.segments.specs.Writing.{run_for, sectors_from}
+use Rattle.segments.specs.Writing.{run_for}
 use Rattle.segments.specs.ReadBack.{read_back}
 use Rattle.segments.proofs.Contents.{holds_whole, holds_last}
-use Rattle.segments.proofs.Touched.{leaves_others, written_wider, written_now, write_done, write_failed, inside_run, fewer_sectors}
+use Rattle.segments.proofs.Touched.{leaves_others, front_written, next_written}
 use Rattle.segments.proofs.writing.write_run.Goals as goal
 
 pub returns-in_err-write_sectors-clause-moments : goal.returns-in_err-write_sectors-clause-moments
 returns-in_err-write_sectors-clause-moments g c = λ told.
     let D = g.D.SectorDevice in
-    let whole = length c.as_chunks.result.0.now in
-    written_wider (sectors_from c.args.start whole) (run_for c.args.start c.args.bytes.now ∷ []) (D.story c.args.device.now) (D.story c.write_sectors.new.device)
-    (fewer_sectors c.args.start whole (sector_count (length c.args.bytes.now)) (omega (arith, c.as_chunks.ensures.front_len))) (c.write_sectors.ensures.moments told)
+    front_written c.args.start (length c.as_chunks.result.0.now) (sector_count (length c.args.bytes.now)) (D.story c.args.device.now) (D.story c.write_sectors.new.device)
+    (omega (arith, c.as_chunks.ensures.front_len)) (c.write_sectors.ensures.moments told)
 
 pub returns-in_err-write_sectors-clause-others : goal.returns-in_err-write_sectors-clause-others
 returns-in_err-write_sectors-clause-others g c = λ told.
@@ -23,9 +20,8 @@ returns-in_err-write_sectors-clause-others g c = λ told.
 pub returns-then-is_empty-clause-moments : goal.returns-then-is_empty-clause-moments
 returns-then-is_empty-clause-moments g c = λ told.
     let D = g.D.SectorDevice in
-    let whole = length c.as_chunks.result.0.now in
-    written_wider (sectors_from c.args.start whole) (run_for c.args.start c.args.bytes.now ∷ []) (D.story c.args.device.now) (D.story c.write_sectors.new.device)
-    (fewer_sectors c.args.start whole (sector_count (length c.args.bytes.now)) (omega (arith, c.as_chunks.ensures.front_len))) (c.write_sectors.ensures.moments told)
+    front_written c.args.start (length c.as_chunks.result.0.now) (sector_count (length c.args.bytes.now)) (D.story c.args.device.now) (D.story c.write_sectors.new.device)
+    (omega (arith, c.as_chunks.ensures.front_len)) (c.write_sectors.ensures.moments told)
 
 pub returns-then-is_empty-clause-others : goal.returns-then-is_empty-clause-others
 returns-then-is_empty-clause-others g c = λ told.
@@ -44,15 +40,10 @@ pub returns-in_err-write-clause-moments : goal.returns-in_err-write-clause-momen
 returns-in_err-write-clause-moments g c = λ told.
     let D = g.D.SectorDevice in
     let whole = length c.as_chunks.result.0.now in
-    let count = sector_count (length c.args.bytes.now) in
-    let runs = run_for c.args.start c.args.bytes.now ∷ [] in
     let some = eqb-false (length c.as_chunks.result.1.now) 0 (sym c.is_empty.ensures ∙ c.if-is_empty.false) in
-    let odd : length c.args.bytes.now % 512 ≢ 0 = λ even. some (omega (arith, even, c.as_chunks.ensures.back_len)) in
-    let front =
-    written_wider (sectors_from c.args.start whole) runs (D.story c.args.device.now) (D.story c.write_sectors.new.device)
-    (fewer_sectors c.args.start whole count (omega (arith, c.as_chunks.ensures.front_len))) (c.write_sectors.ensures.moments told) in
-    goes_on front (write_failed runs (now (D.story c.args.device.now)) (D.story c.write_sectors.new.device) (D.story c.write.new.self) (c.args.start + whole) _
-    (inside_run c.args.start count (c.args.start + whole) (omega arith) (omega (arith, odd, c.as_chunks.ensures.front_len))) (written_now runs (D.story c.args.device.now) (D.story c.write_sectors.new.device) front) (c.in_err-write.ensures.err told))
+    let more : whole < sector_count (length c.args.bytes.now) = omega (arith, some, c.as_chunks.ensures.front_len, c.as_chunks.ensures.back_len) in
+    next_written c.args.start whole (sector_count (length c.args.bytes.now)) (D.story c.args.device.now) (D.story c.write_sectors.new.device) (D.story c.write.new.self) _ more
+    (c.write_sectors.ensures.moments told) (c.in_err-write.ensures.err told)
 
 pub returns-in_err-write-clause-others : goal.returns-in_err-write-clause-others
 returns-in_err-write-clause-others g c = λ told. leaves_others (run_for c.args.start c.args.bytes.now ∷ []) _ _ (returns-in_err-write-clause-moments g c told)
@@ -61,15 +52,10 @@ pub returns-clause-moments : goal.returns-clause-moments
 returns-clause-moments g c = λ told.
     let D = g.D.SectorDevice in
     let whole = length c.as_chunks.result.0.now in
-    let count = sector_count (length c.args.bytes.now) in
-    let runs = run_for c.args.start c.args.bytes.now ∷ [] in
     let some = eqb-false (length c.as_chunks.result.1.now) 0 (sym c.is_empty.ensures ∙ c.if-is_empty.false) in
-    let odd : length c.args.bytes.now % 512 ≢ 0 = λ even. some (omega (arith, even, c.as_chunks.ensures.back_len)) in
-    let front =
-    written_wider (sectors_from c.args.start whole) runs (D.story c.args.device.now) (D.story c.write_sectors.new.device)
-    (fewer_sectors c.args.start whole count (omega (arith, c.as_chunks.ensures.front_len))) (c.write_sectors.ensures.moments told) in
-    goes_on front (write_done runs (now (D.story c.args.device.now)) (D.story c.write_sectors.new.device) (D.story c.write.new.self) (c.args.start + whole) _ _
-    (inside_run c.args.start count (c.args.start + whole) (omega arith) (omega (arith, odd, c.as_chunks.ensures.front_len))) (written_now runs (D.story c.args.device.now) (D.story c.write_sectors.new.device) front) (c.in_ok-write.ensures.ok told))
+    let more : whole < sector_count (length c.args.bytes.now) = omega (arith, some, c.as_chunks.ensures.front_len, c.as_chunks.ensures.back_len) in
+    next_written c.args.start whole (sector_count (length c.args.bytes.now)) (D.story c.args.device.now) (D.story c.write_sectors.new.device) (D.story c.write.new.self) _ more
+    (c.write_sectors.ensures.moments told) (inr (inl (c.in_ok-write.ensures.ok told)))
 
 pub returns-clause-others : goal.returns-clause-others
 returns-clause-others g c = λ told. leaves_others (run_for c.args.start c.args.bytes.now ∷ []) _ _ (returns-clause-moments g c told)

@@ -1,10 +1,10 @@
-use Rattle.std.proofs.Common.{◌≡◌, ◌≤◌, List, length, map, drop, ◌+◌, sym, ap, ◌∙◌, arith}
+use Rattle.std.proofs.Common.{List, length, map, drop, ◌+◌, sym, ap, ◌∙◌, arith}
 use Rattle.std.proofs.lemmas.Bool.{lt-leb}
 use Rattle.std.proofs.lemmas.List.{length-map}
 use Rattle.values.specs.Cell.{Cell}
 use Rattle.values.specs.View.{cell, cell_behind}
 use Rattle.values.specs.Entry.{entry_cell}
-use Rattle.values.specs.Dictionary.{with_entry, with_entries, entries_of}
+use Rattle.values.specs.Dictionary.{with_entry}
 use Rattle.values.proofs.HoldingLemmas.{entries_grow, next_value}
 use Rattle.values.proofs.holding.are_few.Goals as goal
 

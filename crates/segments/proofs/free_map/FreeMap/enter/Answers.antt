@@ -1,5 +1,6 @@
-use Rattle.std.proofs.Common.{◌∙◌, sym, subst}
+use Rattle.std.proofs.Common.{◌≡◌, ◌∙◌, sym, subst}
 use Rattle.std.proofs.lemmas.Bool.{true≢false}
+use Rattle.segments.specs.declared.run.Run.{Run}
 use Rattle.segments.specs.Runs.{IsFree, IsOnDevice}
 use Rattle.segments.specs.Usages.{Space, IsUsedIn, ApartEach}
 use Rattle.segments.proofs.Changed.{free_apart, apart_free}
@@ -12,18 +13,21 @@ returns-then-not-is_apart-clause-overlap c = λ _ free.
     let is = c.is_apart.ensures.1 (subst (ApartEach c.args.run) (sym c.deref.ensures.value) apart) in
     true≢false (sym is ∙ c.if-not-is_apart.true)
 
+-- a run on the device that meets no entry is free
+fits : {inside view : Space} → inside ≡ view → (run : Run) → IsOnDevice inside.size run → ApartEach run inside.entries → IsOnDevice view.size run × IsFree view.size (IsUsedIn view.entries) run
+fits {inside} {view} is run on apart = subst (λ (s : Space). IsOnDevice s.size run × IsFree s.size (IsUsedIn s.entries) run) is (on, apart_free inside.size inside.entries run on apart)
+
 pub insert-requires-clause-free : goal.insert-requires-clause-free
 insert-requires-clause-free c =
-    let on = c.is_on_device.ensures.0 c.if-not-is_on_device.false in
-    let apart = c.is_apart.ensures.0 c.if-not-is_apart.false in
-    subst (λ (s : Space). IsFree s.size (IsUsedIn s.entries) c.args.run) c.self.view_is
-    (apart_free c.self.inside.size c.self.inside.entries.items c.args.run on (subst (ApartEach c.args.run) c.deref.ensures.value apart))
+    (fits c.self.view_is c.args.run (c.is_on_device.ensures.0 c.if-not-is_on_device.false)
+    (subst (ApartEach c.args.run) c.deref.ensures.value (c.is_apart.ensures.0 c.if-not-is_apart.false))).1
+
+pub returns-in_err-insert-clause-memory : goal.returns-in_err-insert-clause-memory
+returns-in_err-insert-clause-memory c = λ _.
+    fits c.self.view_is c.args.run (c.is_on_device.ensures.0 c.if-not-is_on_device.false)
+    (subst (ApartEach c.args.run) c.deref.ensures.value (c.is_apart.ensures.0 c.if-not-is_apart.false))
 
 pub returns-clause-fits : goal.returns-clause-fits
 returns-clause-fits c =
-    let on = c.is_on_device.ensures.0 c.if-not-is_on_device.false in
-    let apart = c.is_apart.ensures.0 c.if-not-is_apart.false in (
-      subst (λ (s : Space). IsOnDevice s.size c.args.run) c.self.view_is on,
-      subst (λ (s : Space). IsFree s.size (IsUsedIn s.entries) c.args.run) c.self.view_is
-          (apart_free c.self.inside.size c.self.inside.entries.items c.args.run on (subst (ApartEach c.args.run) c.deref.ensures.value apart)),
-    )
+    fits c.self.view_is c.args.run (c.is_on_device.ensures.0 c.if-not-is_on_device.false)
+    (subst (ApartEach c.args.run) c.deref.ensures.value (c.is_apart.ensures.0 c.if-not-is_apart.false))

@@ -1,0 +1,66 @@
+-- What begins a text, and where a byte first stands in it.
+use Rattle.std.proofs.Common.{◌≡◌, ◌≢◌, ◌<◌, ℕ, suc, ◌==◌, cond, Bool, true, false, List, [], ◌∷◌, ◌++◌, length, get_or, refl, sym, ap, ◌∙◌, Bor, arith}
+use Rattle.std.specs.Prelude.{Option, None, Some, MatchOption}
+use Rattle.std.proofs.lemmas.Bool.{ne_eqb}
+use Rattle.std.proofs.lemmas.Bool.Decides.{nat_tests}
+use Rattle.std.proofs.lemmas.Str.Pattern.{split_parts, IsSplitOnceResult}
+use Rattle.std.specs.Str.Pattern.{FindsTextPrefix, StripsPrefix}
+use Rattle.arrow_schema.specs.Scan.{Reads, stripped, cut_at}
+
+same : (x : ℕ) → (x == x) ≡ true
+same x = grind (arith, nat_tests)
+
+one : (x y : ℕ) → (x == y) ≡ true → x ≡ y
+one x y e = grind (arith, nat_tests)
+
+-- what a choice gave
+pub chosen : {A : Type 0} (b : Bool) (o : Option A) (r : A) → cond b o None ≡ Some r → (b ≡ true) × (o ≡ Some r)
+chosen true o r e = (refl, e)
+chosen false o r e = cc
+
+-- what stands before what follows
+pub stripped-append : (xs ys : List ℕ) → stripped xs (xs ++ ys) ≡ Some ys
+unfolding stripped
+stripped-append [] ys = refl
+stripped-append (x ∷ xs) ys = rw (same x) (stripped-append xs ys)
+
+pub stripped_is : (xs text rest : List ℕ) → stripped xs text ≡ Some rest → text ≡ xs ++ rest
+unfolding stripped
+stripped_is [] text rest e = cc
+stripped_is (x ∷ xs) [] rest e = cc
+stripped_is (x ∷ xs) (y ∷ ys) rest e =
+    let both : ((x == y) ≡ true) × (stripped xs ys ≡ Some rest) = chosen (x == y) (stripped xs ys) rest e in
+    (λ k. sym (one x y both.0) k ∷ stripped_is xs ys rest both.1 k)
+
+-- where the byte is nowhere
+pub cut_none : (mark : ℕ) (xs : List ℕ) → ((i : ℕ) → i < length xs → get_or xs i 0 ≢ mark) → cut_at mark xs ≡ None
+unfolding cut_at
+cut_none mark [] free = refl
+cut_none mark (x ∷ xs) free =
+    let other : (x == mark) ≡ false = ne_eqb x mark (free 0 (omega arith)) in
+    rw (other, cut_none mark xs (λ i h. free (suc i) (omega (arith, h)))) refl
+
+pub cut_some : (mark : ℕ) (xs ys : List ℕ) → ((i : ℕ) → i < length xs → get_or xs i 0 ≢ mark) → cut_at mark (xs ++ mark ∷ ys) ≡ Some (xs, ys)
+unfolding cut_at
+cut_some mark [] ys free = rw (same mark) refl
+cut_some mark (x ∷ xs) ys free =
+    let other : (x == mark) ≡ false = ne_eqb x mark (free 0 (omega arith)) in
+    rw (other, cut_some mark xs ys (λ i h. free (suc i) (omega (arith, h)))) refl
+
+-- what the code's searches answer
+pub strip_reads : (xs text : List ℕ) (r : Option (Bor (List ℕ))) → MatchOption r ((rest : List ℕ) → text ≢ xs ++ rest) (λ x. text ≡ xs ++ x.now) → Reads (λ x. x.now) r (stripped xs text)
+strip_reads xs text None h = strip_none (stripped xs text) refl
+  where
+    strip_none : (o : Option (List ℕ)) → o ≡ stripped xs text → stripped xs text ≡ None
+    strip_none None e = sym e
+    strip_none (Some rest) e = absurd (h rest (stripped_is xs text rest (sym e)))
+strip_reads xs text (Some x) h = ap (stripped xs) h ∙ stripped-append xs x.now
+
+pub cut_reads : (mark : ℕ) (text : List ℕ) (r : Option (Bor (List ℕ) × Bor (List ℕ))) → IsSplitOnceResult mark text r → mark < 128 → Reads (λ p. (p.0.now, p.1.now)) r (cut_at mark text)
+cut_reads mark text None h low = cut_none mark text (split_parts mark text None h low)
+cut_reads mark text (Some x) h low = let k = split_parts mark text (Some x) h low in ap (cut_at mark) k.0 ∙ cut_some mark x.0.now x.1.now k.1
+
+-- the clause of `strip_prefix` at a text
+pub found : (xs text : List ℕ) (r : Option (Bor (List ℕ))) → MatchOption r (FindsTextPrefix xs text None) (λ x. StripsPrefix (FindsTextPrefix xs) text x.now) → MatchOption r ((rest : List ℕ) → text ≢ xs ++ rest) (λ x. text ≡ xs ++ x.now)
+found xs text None h = h
+found xs text (Some x) h = h.1.1 ∙ ap (λ (ys : List ℕ). xs ++ ys) (sym h.2)

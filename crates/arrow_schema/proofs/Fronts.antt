@@ -1,0 +1,102 @@
+-- What stands at the front of a field text, there and back.
+use Rattle.std.proofs.Common.{◌≡◌, ◌≢◌, ◌<◌, ℕ, zero, suc, ◌^◌, ◌==◌, Bool, true, false, List, [], ◌∷◌, ◌++◌, length, get_or, refl, sym, ap, ◌∙◌, arith, cond}
+use Rattle.std.specs.Prelude.{Option, None, Some, option_map, IfSome, codes, not, ◌||◌, nat_lt}
+use Rattle.std.specs.List.{list_all}
+use Rattle.std.proofs.lemmas.List.{append_assoc}
+use Rattle.std.proofs.lemmas.Bool.{ne_eqb, both_ways}
+use Rattle.std.proofs.lemmas.Bool.Decides.{nat_tests}
+use Rattle.arrow_schema.specs.Keywords.{number_text}
+use Rattle.arrow_schema.specs.FieldText.{plain, zone_text}
+use Rattle.arrow_schema.specs.Typed.{IsSize, is_name_byte, is_zone_byte, is_name}
+use Rattle.arrow_schema.specs.Scan.{stripped, cut_at, is_digit, has_one_form, is_numeral, value, within_word, is_size, size_at, is_zone, zone_within, zone_or, zone_at, name_at}
+use Rattle.arrow_schema.proofs.Cutting.{cut_some}
+use Rattle.arrow_schema.proofs.Digits.{and_left, and_right, value_text, numeral_text, text_value}
+use Rattle.arrow_schema.proofs.Options.{some_map, some_then, some_if}
+use Rattle.arrow_schema.proofs.Words.{stripped_told}
+
+-- what is refused everywhere does not stand there
+pub lacks : (p : ℕ → Bool) (mark : ℕ) (xs : List ℕ) → p mark ≡ false → list_all p xs ≡ true → (i : ℕ) → i < length xs → get_or xs i 0 ≢ mark
+lacks p mark [] out all i h = absurd (omega (arith, h))
+lacks p mark (x ∷ xs) out all zero h = λ same. both_ways (p x) (ap p same ∙ out) (and_left (p x) (list_all p xs) all)
+lacks p mark (x ∷ xs) out all (suc i) h = lacks p mark xs out (and_right (p x) (list_all p xs) all) i (omega (arith, h))
+
+cut_step : (mark x : ℕ) (xs : List ℕ) (b : Bool) → (x == mark) ≡ b → IfSome (cut_at mark xs) (λ p. xs ≡ p.0 ++ mark ∷ p.1)
+    → IfSome {T = List ℕ × List ℕ} (cond b (Some ([], xs)) (option_map (λ p. (x ∷ p.0, p.1)) (cut_at mark xs))) (λ p. x ∷ xs ≡ p.0 ++ mark ∷ p.1)
+cut_step mark x xs true e h = let same : x ≡ mark = grind (arith, nat_tests) in ap (λ y. y ∷ xs) same
+cut_step mark x xs false e h = some_map (λ p. (x ∷ p.0, p.1)) (cut_at mark xs) (λ p. xs ≡ p.0 ++ mark ∷ p.1) (λ p. x ∷ xs ≡ p.0 ++ mark ∷ p.1) h (λ p k. ap (λ (ys : List ℕ). x ∷ ys) k)
+
+cut_told : (mark : ℕ) (text : List ℕ) → IfSome (cut_at mark text) (λ p. text ≡ p.0 ++ mark ∷ p.1)
+unfolding cut_at
+cut_told mark [] = tt
+cut_told mark (x ∷ xs) = cut_step mark x xs (x == mark) refl (cut_told mark xs)
+
+-- sizes
+sized : (limited : Bool) (n : ℕ) → IsSize limited n → (not limited || nat_lt n (2 ^ 31)) ≡ true
+sized true n h = let small : n < 2 ^ 31 = h refl in grind (arith, nat_tests)
+sized false n h = refl
+
+unsized : (limited : Bool) (n : ℕ) → (not limited || nat_lt n (2 ^ 31)) ≡ true → IsSize limited n
+unsized true n e = λ _. grind (arith, nat_tests)
+unsized false n e = λ never. absurd (both_ways false refl never)
+
+digits_only : (n mark : ℕ) → is_digit mark ≡ false → (i : ℕ) → i < length (number_text n) → get_or (number_text n) i 0 ≢ mark
+unfolding is_numeral
+digits_only n mark out = lacks is_digit mark (number_text n) out (and_left _ (has_one_form (number_text n)) (numeral_text n))
+
+pub size_again : (limited : Bool) (mark n : ℕ) (rest : List ℕ) → is_digit mark ≡ false → IsSize limited n → size_at limited mark (number_text n ++ mark ∷ rest) ≡ Some (within_word n, rest)
+unfolding size_at
+size_again limited mark n rest out small = rw (cut_some mark (number_text n) rest (digits_only n mark out), numeral_text n, value_text n, sized limited n small) refl
+
+pub size_told : (limited : Bool) (mark : ℕ) (text : List ℕ) → IfSome (size_at limited mark text) (λ p. (n : ℕ) × IsSize limited n × (text ≡ number_text n ++ mark ∷ p.1))
+unfolding size_at
+size_told limited mark text =
+    some_then (λ p. cond (is_size limited p.0) (Some (within_word (value p.0), p.1)) None) (cut_at mark text) (λ p. text ≡ p.0 ++ mark ∷ p.1) (λ p. (n : ℕ) × IsSize limited n × (text ≡ number_text n ++ mark ∷ p.1))
+    (cut_told mark text)
+    (λ p h. some_if (is_size limited p.0) (within_word (value p.0), p.1) (λ p. (n : ℕ) × IsSize limited n × (text ≡ number_text n ++ mark ∷ p.1))
+    (λ e. (value p.0, unsized limited (value p.0) (and_right (is_numeral p.0) _ e), h ∙ ap (λ (ds : List ℕ). ds ++ mark ∷ p.1) (sym (text_value p.0 (and_left (is_numeral p.0) _ e))))))
+
+-- zones
+within_again : (zone rest : List ℕ) → (length zone == 0) ≡ false → list_all is_zone_byte zone ≡ true → zone_within (zone ++ 41 ∷ rest) ≡ Some (zone, rest)
+unfolding zone_within
+within_again zone rest some all = rw (cut_some 41 zone rest (lacks is_zone_byte 41 zone refl all), all, some) refl
+
+zone_inside : (text : List ℕ) → zone_at (40 ∷ text) ≡ zone_within text
+unfolding zone_at stripped
+zone_inside text = refl
+
+pub zone_again : (zone rest : List ℕ) → list_all is_zone_byte zone ≡ true → stripped (codes "(") rest ≡ None → zone_at (zone_text plain zone ++ rest) ≡ Some (zone, rest)
+unfolding zone_at
+zone_again [] rest all none = rw none refl
+zone_again (x ∷ xs) rest all none =
+    let some : (length (x ∷ xs) == 0) ≡ false = ne_eqb (length (x ∷ xs)) 0 (omega arith) in
+    let grouped : zone_text plain (x ∷ xs) ++ rest ≡ 40 ∷ (x ∷ xs) ++ 41 ∷ rest = ap (λ (ys : List ℕ). 40 ∷ x ∷ ys) (append_assoc xs (41 ∷ []) rest) in
+    ap zone_at grouped ∙ zone_inside ((x ∷ xs) ++ 41 ∷ rest) ∙ within_again (x ∷ xs) rest some all
+
+text_of_zone : (zone rest : List ℕ) → not (length zone == 0) ≡ true → zone_text plain zone ++ rest ≡ 40 ∷ zone ++ 41 ∷ rest
+text_of_zone [] rest e = cc
+text_of_zone (x ∷ xs) rest e = ap (λ (ys : List ℕ). 40 ∷ x ∷ ys) (append_assoc xs (41 ∷ []) rest)
+
+abbrev pub IsZoneText : List ℕ → List ℕ × List ℕ → Type 0
+IsZoneText text p = (list_all is_zone_byte p.0 ≡ true) × (text ≡ zone_text plain p.0 ++ p.1)
+
+pub zone_told : (text : List ℕ) → IfSome (zone_at text) (IsZoneText text)
+unfolding zone_at zone_within
+zone_told text = told (stripped (codes "(") text) (stripped_told (codes "(") text)
+  where
+    told : (o : Option (List ℕ)) → IfSome o (λ rest. text ≡ 40 ∷ rest) → IfSome (zone_or text o) (IsZoneText text)
+    told None h = (refl, refl)
+    told (Some inside) h =
+        some_then (λ p. cond (is_zone p.0) (Some p) None) (cut_at 41 inside) (λ p. inside ≡ p.0 ++ 41 ∷ p.1) (IsZoneText text) (cut_told 41 inside)
+        (λ p e. some_if (is_zone p.0) p (IsZoneText text)
+        (λ all. (and_left _ _ all, h ∙ ap (λ (ys : List ℕ). 40 ∷ ys) e ∙ sym (text_of_zone p.0 p.1 (and_right (list_all is_zone_byte p.0) _ all)))))
+
+-- names
+pub name_again : (name rest : List ℕ) → is_name name ≡ true → name_at (name ++ 58 ∷ rest) ≡ Some (name, rest)
+unfolding name_at
+name_again name rest e = rw (cut_some 58 name rest (lacks is_name_byte 58 name refl (and_left _ (not (length name == 0)) e)), e) refl
+
+pub name_told : (text : List ℕ) → IfSome (name_at text) (λ p. (is_name p.0 ≡ true) × (text ≡ p.0 ++ 58 ∷ p.1))
+unfolding name_at
+name_told text =
+    some_then (λ p. cond (is_name p.0) (Some p) None) (cut_at 58 text) (λ p. text ≡ p.0 ++ 58 ∷ p.1) (λ p. (is_name p.0 ≡ true) × (text ≡ p.0 ++ 58 ∷ p.1)) (cut_told 58 text)
+    (λ p h. some_if (is_name p.0) p (λ p. (is_name p.0 ≡ true) × (text ≡ p.0 ++ 58 ∷ p.1)) (λ e. (e, h)))

@@ -1,0 +1,150 @@
+-- What reading field texts tells.
+use Rattle.std.proofs.Common.{◌≡◌, ◌⊎◌, ◌<◌, ◌≤◌, ◌+◌, ℕ, suc, Bool, true, false, ◌&&◌, List, [], ◌∷◌, ◌++◌, length, get_or, map, drop, drop-cons, add-one, Bor, refl, sym, ap, ◌∙◌, subst, arith, cond, inl, inr, ⊎_elim}
+use Rattle.std.specs.Prelude.{Option, None, Some, option_map, nat_le, Ok, Err}
+use Rattle.std.specs.Prelude.{String}
+use Rattle.std.specs.Global.{Global}
+use Rattle.std.specs.Option.{option_and_then}
+use Rattle.std.proofs.lemmas.Bool.{le-leb}
+use Rattle.std.proofs.lemmas.List.{append-nil, append_assoc, drop_all, get_or-map}
+use Rattle.arrow_schema.specs.declared.texts.build.BuildError.{BuildError}
+use Rattle.arrow_schema.specs.declared.texts.build.BuildError.TheVariants.{Unread, Memory}
+use Rattle.arrow_schema.specs.declared.texts.parse.ParseError.{ParseError}
+use Rattle.arrow_schema.specs.declared.texts.parse.ParseError.TheVariants.{BadText, Limit, OutOfMemory}
+use Rattle.arrow_schema.specs.Column.{Pair, Column, columns_of, PlainSchema}
+use Rattle.arrow_schema.specs.View.{pair_of}
+use Rattle.arrow_schema.specs.Preorder.{depth, depth_all}
+use Rattle.arrow_schema.specs.Limits.{IsWithinLimits}
+use Rattle.arrow_schema.specs.Typed.{IsTextOf, IsFieldText}
+use Rattle.arrow_schema.specs.Build.{field_from, column_at, Builds, columns_at, before_columns}
+use Rattle.arrow_schema.specs.Told.{AreTextsOf, schema_with, IsTold, TestsOne, Tests}
+use Rattle.arrow_schema.proofs.Counting.{nat_le-max}
+use Rattle.arrow_schema.proofs.Options.{some_eq, none_some}
+use Rattle.arrow_schema.proofs.Again.{always, field_again}
+
+both_by : (a b : Bool) (c : Column) (cs : List Column) (o : Option (List Column)) → o ≡ cond b (Some cs) None
+    → option_and_then (λ (p : Column × List ℕ). option_map (λ (cs : List Column). p.0 ∷ cs) o) (cond a (Some (c, [])) None) ≡ cond (a && b) (Some (c ∷ cs)) None
+both_by true true c cs o e = rw e refl
+both_by true false c cs o e = rw e refl
+both_by false b c cs o e = refl
+
+-- columns are built from their texts, where they are of no more levels
+columns_again : (texts : List (List ℕ)) (columns : List Column) (l : ℕ) → AreTextsOf texts columns → columns_at l texts ≡ cond (nat_le (depth_all (columns_of columns)) l) (Some columns) None
+unfolding columns_at depth_all
+columns_again [] [] l h = rw (always l) refl
+columns_again [] (c ∷ cs) l h = absurd h
+columns_again (t ∷ ts) [] l h = absurd h
+columns_again (t ∷ ts) (c ∷ cs) l h =
+    rw (field_again c l t h.0.0 h.0.1, nat_le-max (depth c) (depth_all (columns_of cs)) l)
+    (both_by (nat_le (depth c) l) (nat_le (depth_all (columns_of cs)) l) c cs (columns_at l ts) (columns_again ts cs l h.1))
+
+pub record Columns (texts : List (List ℕ)) : Type 0 where
+  pub columns : List Column
+  pub texts_of : AreTextsOf texts columns
+
+all_columns : (texts : List (List ℕ)) → ((k : ℕ) → k < length texts → IsFieldText true (get_or texts k [])) → Columns texts
+all_columns [] h = record { columns = []; texts_of = tt }
+all_columns (t ∷ ts) h =
+    let first : IsFieldText true t = h 0 (omega arith) in
+    let others : Columns ts = all_columns ts (λ k below. h (suc k) (omega (arith, below))) in
+    record { columns = first.0 ∷ others.columns; texts_of = (first.1, others.texts_of) }
+
+built_same : (b : Bool) (cs columns : List Column) → Some cs ≡ cond b (Some columns) None → cs ≡ columns
+built_same true cs columns e = cc
+built_same false cs columns e = cc
+
+texts_of_built : (texts : List (List ℕ)) (cs : List Column) → ((k : ℕ) → k < length texts → IsFieldText true (get_or texts k [])) → columns_at 32 texts ≡ Some cs → AreTextsOf texts cs
+texts_of_built texts cs good e =
+    let all : Columns texts = all_columns texts good in
+    subst (AreTextsOf texts) (sym (built_same (nat_le (depth_all (columns_of all.columns)) 32) cs all.columns (sym e ∙ columns_again texts all.columns 32 all.texts_of))) all.texts_of
+
+pub told_ok : (texts : List (List ℕ)) (cs : List Column) (s : PlainSchema) → Tests texts (Ok tt) → columns_at 32 texts ≡ Some cs → s ≡ schema_with cs → IsWithinLimits s → IsTold texts (Ok cs)
+told_ok texts cs s good e is within = (texts_of_built texts cs good e, subst IsWithinLimits is within)
+
+pub told_past : (texts : List (List ℕ)) (cs : List Column) (s : PlainSchema) → Tests texts (Ok tt) → columns_at 32 texts ≡ Some cs → s ≡ schema_with cs → (IsWithinLimits s → ⊥) → IsTold texts (Err Limit)
+told_past texts cs s good e is past = inr (record { columns = cs; texts_of = texts_of_built texts cs good e; past = λ within. past (subst IsWithinLimits (sym is) within) })
+
+pub told_deep : (texts : List (List ℕ)) → Tests texts (Ok tt) → columns_at 32 texts ≡ None → IsTold texts (Err Limit)
+told_deep texts good e =
+    let all : Columns texts = all_columns texts good in
+    inr (record {
+      columns = all.columns;
+      texts_of = all.texts_of;
+      past = λ within.
+          let shallow : nat_le (depth_all (columns_of all.columns)) 32 ≡ true = le-leb _ _ within.levels in
+          none_some (sym e ∙ columns_again texts all.columns 32 all.texts_of ∙ ap (λ (b : Bool). cond b (Some all.columns) None) shallow);
+    })
+
+pub told_err : (texts : List (List ℕ)) (e : ParseError) → Tests texts (Err e) → IsTold texts (Err e)
+told_err texts (BadText n) h = h
+told_err texts Limit h = inl h
+told_err texts OutOfMemory h = tt
+
+-- the test of each text in turn
+pub next_good : (texts : List (List ℕ)) (i : ℕ) → ((k : ℕ) → k < i → IsFieldText true (get_or texts k [])) → IsFieldText true (get_or texts i []) → (k : ℕ) → k < i + 1 → IsFieldText true (get_or texts k [])
+next_good texts i before here k h =
+    ⊎_elim {C = IsFieldText true (get_or texts k [])} (λ less. before k less) (λ same. subst (λ j. IsFieldText true (get_or texts j [])) (sym same) here) (split k i h)
+  where
+    split : (k i : ℕ) → k < i + 1 → (k < i) ⊎ (k ≡ i)
+    split k i h = grind (arith, h)
+
+pub one_refused : (texts : List (List ℕ)) (i : ℕ) (e : ParseError) → i < length texts → ((k : ℕ) → k < i → IsFieldText true (get_or texts k [])) → TestsOne (i + 1) (get_or texts i []) (Err e) → Tests texts (Err e)
+one_refused texts i (BadText n) among before h = record { index = i; counted = h.0; first = record { among = among; before = before; refused = h.1 }; bad = h.2 }
+one_refused texts i Limit among before h = record { index = i; first = record { among = among; before = before; refused = h.0 }; text = h.1 }
+one_refused texts i OutOfMemory among before h = tt
+
+-- the columns of each text in turn
+pub next_column : (front cs : List Column) (c : Column) (l : ℕ) (text : List ℕ) (texts : List (List ℕ)) (rest : List ℕ) → field_from (column_at l) text ≡ Some (c, rest)
+    → before_columns (front ++ c ∷ []) (columns_at l texts) ≡ before_columns front (columns_at l (text ∷ texts))
+unfolding columns_at
+next_column front cs c l text texts rest e = rw e (shift (columns_at l texts))
+  where
+    shift : (o : Option (List Column)) → before_columns (front ++ c ∷ []) o ≡ before_columns front (option_map (λ cs. c ∷ cs) o)
+    shift None = refl
+    shift (Some cs) = ap Some (append_assoc front (c ∷ []) cs)
+
+pub no_column : (front : List Column) (l : ℕ) (text : List ℕ) (texts : List (List ℕ)) → field_from (column_at l) text ≡ None → before_columns front (columns_at l (text ∷ texts)) ≡ None
+unfolding columns_at
+no_column front l text texts e = rw e refl
+
+pub all_built : (front : List Column) (l : ℕ) → before_columns front (columns_at l []) ≡ Some front
+unfolding columns_at
+all_built front l = ap Some (append-nil front)
+
+-- one text is that of one column
+pub one_column : (text : List ℕ) (c d : Column) → IsTextOf true text c → IsTextOf true text d → c ≡ d
+one_column text c d h k =
+    let l : ℕ = depth c + depth d in
+    let first : field_from (column_at l) text ≡ Some (c, []) = field_again c l text h.0 h.1 ∙ ap (λ (b : Bool). cond b (Some (c, [])) None) (le-leb (depth c) l (omega arith)) in
+    let second : field_from (column_at l) text ≡ Some (d, []) = field_again d l text k.0 k.1 ∙ ap (λ (b : Bool). cond b (Some (d, [])) None) (le-leb (depth d) l (omega arith)) in
+    ap (λ (p : Column × List ℕ). p.0) (some_eq {X = Column × List ℕ} (c, []) (d, []) (sym first ∙ second))
+
+-- over the texts as the code keeps them
+pub next_text : (xs : List (Bor (List ℕ))) (i : ℕ) (d : Bor (List ℕ)) (front : List Column) (c : Column) (rest : List ℕ) → i < length xs → field_from (column_at 32) (get_or xs i d).now ≡ Some (c, rest)
+    → before_columns (front ++ c ∷ []) (columns_at 32 (map (λ t. t.now) (drop (i + 1) xs))) ≡ before_columns front (columns_at 32 (map (λ t. t.now) (drop i xs)))
+next_text xs i d front c rest h e =
+    let next : drop i xs ≡ get_or xs i d ∷ drop (i + 1) xs = rw (add-one i) (drop-cons xs i d h) in
+    rw next (next_column front [] c 32 (get_or xs i d).now (map (λ t. t.now) (drop (i + 1) xs)) rest e)
+
+no_text : (xs : List (Bor (List ℕ))) (i : ℕ) (d : Bor (List ℕ)) (front : List Column) → i < length xs → field_from (column_at 32) (get_or xs i d).now ≡ None → before_columns front (columns_at 32 (map (λ t. t.now) (drop i xs))) ≡ None
+no_text xs i d front h e =
+    let next : drop i xs ≡ get_or xs i d ∷ drop (i + 1) xs = rw (add-one i) (drop-cons xs i d h) in
+    rw next (no_column front 32 (get_or xs i d).now (map (λ t. t.now) (drop (i + 1) xs)) e)
+
+pub text_fails : {X Y : Type 0} (view : X → Column × List ℕ) (views : Y → List Column) (err : BuildError) (xs : List (Bor (List ℕ))) (i : ℕ) (d : Bor (List ℕ)) (front : List Column) (all : Option (List Column))
+    → i < length xs → Builds view (Err err) (field_from (column_at 32) (get_or xs i d).now) → before_columns front (columns_at 32 (map (λ t. t.now) (drop i xs))) ≡ all → Builds views (Err err) all
+text_fails view views Unread xs i d front all h e was = sym was ∙ no_text xs i d front h e
+text_fails view views Memory xs i d front all h e was = tt
+
+pub texts_done : (xs : List (Bor (List ℕ))) (i : ℕ) (front : List Column) (all : Option (List Column)) → length xs ≤ i → before_columns front (columns_at 32 (map (λ t. t.now) (drop i xs))) ≡ all → all ≡ Some front
+texts_done xs i front all h was =
+    let none : drop i xs ≡ [] = drop_all i xs h in
+    sym was ∙ rw none (all_built front 32)
+
+pub good_at : (xs : List (Bor (List ℕ))) (i : ℕ) (d : Bor (List ℕ)) → i < length xs → IsFieldText true (get_or xs i d).now → IsFieldText true (get_or (map (λ t. t.now) xs) i [])
+good_at xs i d h good = subst (IsFieldText true) (sym (get_or-map (λ t. t.now) xs i d [] h)) good
+
+abbrev pub paired : List Column → List Pair → PlainSchema
+paired cs ps = record { columns = cs; pairs = ps }
+
+pub plain_schema : (cs : List Column) (ps : List (String Global × String Global)) → ps ≡ [] → paired cs (map pair_of ps) ≡ schema_with cs
+plain_schema cs ps e = rw e refl

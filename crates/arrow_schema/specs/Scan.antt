@@ -1,0 +1,148 @@
+-- What stands at the front of a field text, and what follows it.
+use Rattle.std.specs.Prelude.{◌≡◌, ℕ, ◌-◌, ◌^◌, ◌==◌, min, Bool, true, false, not, ◌&&◌, ◌||◌, nat_le, nat_lt, List, [], ◌∷◌, map, length, get_or, codes, Option, None, Some, is_some, option_map, if◌then◌else◌}
+use Rattle.std.specs.List.{list_all}
+use Rattle.std.specs.Option.{option_and_then, option_or, unwrap_or}
+use Rattle.std.specs.Int.Digits.{number_from_digits}
+use Rattle.arrow_schema.specs.declared.types.BitWidth.TheVariants.{Eight, Sixteen, ThirtyTwo, SixtyFour}
+use Rattle.arrow_schema.specs.declared.types.DateUnit.TheVariants as days
+use Rattle.arrow_schema.specs.declared.types.TimeUnit.TheVariants as times
+use Rattle.arrow_schema.specs.declared.texts.keyword.Keyword.{Keyword}
+use Rattle.arrow_schema.specs.declared.texts.keyword.Keyword.TheVariants as words
+use Rattle.arrow_schema.specs.Column.{Index, Kind, nulls, booleans, integers, dates, timestamps, texts, large_texts, binaries, large_binaries, fixed_binaries}
+use Rattle.arrow_schema.specs.View.{bits_of, date_kind, time_kind}
+use Rattle.arrow_schema.specs.Keywords.{keyword_text}
+use Rattle.arrow_schema.specs.Typed.{is_zone_byte, is_name}
+
+-- what the code read is what reading the bytes gives
+abbrev pub Reads : {X Y : Type 0} → (X → Y) → Option X → Option Y → Type 0
+Reads view None read = read ≡ None
+Reads view (Some x) read = read ≡ Some (view x)
+
+-- what follows a beginning
+unfoldable pub stripped : List ℕ → List ℕ → Option (List ℕ)
+stripped [] text = Some text
+stripped (x ∷ xs) [] = None
+stripped (x ∷ xs) (y ∷ ys) = if x == y then stripped xs ys else None
+
+-- what stands before the first such byte, and what after it
+unfoldable pub cut_at : ℕ → List ℕ → Option (List ℕ × List ℕ)
+cut_at mark [] = None
+cut_at mark (x ∷ xs) = if x == mark then Some ([], xs) else option_map (λ p. (x ∷ p.0, p.1)) (cut_at mark xs)
+
+-- the words that begin a type; none of them begins another
+unfoldable pub every_keyword : List Keyword
+every_keyword =
+    words.Null ∷ words.Bool
+    ∷ words.Int (record { width = Eight; signed = true }) ∷ words.Int (record { width = Sixteen; signed = true })
+    ∷ words.Int (record { width = ThirtyTwo; signed = true }) ∷ words.Int (record { width = SixtyFour; signed = true })
+    ∷ words.Int (record { width = Eight; signed = false }) ∷ words.Int (record { width = Sixteen; signed = false })
+    ∷ words.Int (record { width = ThirtyTwo; signed = false }) ∷ words.Int (record { width = SixtyFour; signed = false })
+    ∷ words.Date days.Day ∷ words.Date days.Millisecond
+    ∷ words.Timestamp times.Second ∷ words.Timestamp times.Millisecond ∷ words.Timestamp times.Microsecond ∷ words.Timestamp times.Nanosecond
+    ∷ words.Utf8 ∷ words.LargeUtf8 ∷ words.Binary ∷ words.LargeBinary ∷ words.FixedBinary
+    ∷ words.List ∷ words.LargeList ∷ words.FixedList ∷ words.Struct ∷ words.Dictionary ∷ []
+
+unfoldable pub keyword_in : List Keyword → List ℕ → Option (Keyword × List ℕ)
+keyword_in [] text = None
+keyword_in (word ∷ others) text = option_or (option_map (λ rest. (word, rest)) (stripped (keyword_text word) text)) (keyword_in others text)
+
+unfoldable pub keyword_at : List ℕ → Option (Keyword × List ℕ)
+keyword_at text = keyword_in every_keyword text
+
+-- decimal digits without leading zeros, and the number that they write
+abbrev pub is_digit : ℕ → Bool
+is_digit b = nat_le 48 b && nat_le b 57
+
+abbrev pub has_one_form : List ℕ → Bool
+has_one_form ds = not (length ds == 0) && ((length ds == 1) || not (get_or ds 0 0 == 48))
+
+unfoldable pub is_numeral : List ℕ → Bool
+is_numeral ds = list_all is_digit ds && has_one_form ds
+
+unfoldable pub value : List ℕ → ℕ
+value ds = number_from_digits 10 (map (λ d. d - 48) ds)
+
+-- a number of 32 bits, the greatest for those past it
+abbrev pub within_word : ℕ → ℕ
+within_word n = min n (2 ^ 32 - 1)
+
+-- a number; where limited, one below 2^31
+abbrev pub is_size : Bool → List ℕ → Bool
+is_size limited ds = is_numeral ds && (not limited || nat_lt (value ds) (2 ^ 31))
+
+unfoldable pub size_at : Bool → ℕ → List ℕ → Option (ℕ × List ℕ)
+size_at limited mark text = option_and_then (λ p. if is_size limited p.0 then Some (within_word (value p.0), p.1) else None) (cut_at mark text)
+
+-- a zone in parentheses, where one opens
+abbrev pub is_zone : List ℕ → Bool
+is_zone zone = list_all is_zone_byte zone && not (length zone == 0)
+
+unfoldable pub zone_within : List ℕ → Option (List ℕ × List ℕ)
+zone_within text = option_and_then (λ p. if is_zone p.0 then Some p else None) (cut_at 41 text)
+
+abbrev pub zone_or : List ℕ → Option (List ℕ) → Option (List ℕ × List ℕ)
+zone_or text None = Some ([], text)
+zone_or text (Some inside) = zone_within inside
+
+unfoldable pub zone_at : List ℕ → Option (List ℕ × List ℕ)
+zone_at text = zone_or text (stripped (codes "(") text)
+
+-- what follows a word that begins a type without parts
+unfoldable pub flat_at : Bool → Keyword → List ℕ → Option (Kind × List ℕ)
+flat_at limited words.Null text = Some (nulls, text)
+flat_at limited words.Bool text = Some (booleans, text)
+flat_at limited (words.Int integer) text = Some (integers (bits_of integer.width) integer.signed, text)
+flat_at limited (words.Date unit) text = Some (dates (date_kind unit), text)
+flat_at limited (words.Timestamp unit) text = option_map (λ p. (timestamps (time_kind unit) p.0, p.1)) (zone_at text)
+flat_at limited words.Utf8 text = Some (texts, text)
+flat_at limited words.LargeUtf8 text = Some (large_texts, text)
+flat_at limited words.Binary text = Some (binaries, text)
+flat_at limited words.LargeBinary text = Some (large_binaries, text)
+flat_at limited words.FixedBinary text = option_map (λ p. (fixed_binaries p.0, p.1)) (size_at limited 41 text)
+flat_at limited words.List text = None
+flat_at limited words.LargeList text = None
+flat_at limited words.FixedList text = None
+flat_at limited words.Struct text = None
+flat_at limited words.Dictionary text = None
+
+-- how a type begins: all of a flat type, or what opens one with parts
+pub data Front : Type 0 where
+  flat : Kind → Option Index → Front
+  list : Front
+  large_list : Front
+  fixed_list : ℕ → Front
+  struct : Front
+
+abbrev pub index_in : Keyword → Option Index
+index_in (words.Int integer) = Some (record { bits = bits_of integer.width; signed = integer.signed })
+index_in _ = None
+
+-- the values of a dictionary, and the bracket that closes it
+unfoldable pub values_at : Bool → Index → List ℕ → Option (Front × List ℕ)
+values_at limited index text = option_and_then (λ q. option_and_then (λ v. option_map (λ rest. (flat v.0 (Some index), rest)) (stripped (codes ">") v.1)) (flat_at limited q.0 q.1)) (keyword_at text)
+
+-- the rest of a dictionary, after its word
+unfoldable pub dictionary_at : Bool → List ℕ → Option (Front × List ℕ)
+dictionary_at limited text = option_and_then (λ p. option_and_then (λ index. option_and_then (values_at limited index) (stripped (codes ",") p.1)) (index_in p.0)) (keyword_at text)
+
+unfoldable pub front_after : Bool → Keyword → List ℕ → Option (Front × List ℕ)
+front_after limited words.List text = Some (list, text)
+front_after limited words.LargeList text = Some (large_list, text)
+front_after limited words.FixedList text = option_map (λ p. (fixed_list p.0, p.1)) (size_at limited 44 text)
+front_after limited words.Struct text = Some (struct, text)
+front_after limited words.Dictionary text = dictionary_at limited text
+front_after limited word text = option_map (λ p. (flat p.0 None, p.1)) (flat_at limited word text)
+
+unfoldable pub front_at : Bool → List ℕ → Option (Front × List ℕ)
+front_at limited text = option_and_then (λ p. front_after limited p.0 p.1) (keyword_at text)
+
+-- a name and its colon
+unfoldable pub name_at : List ℕ → Option (List ℕ × List ℕ)
+name_at text = option_and_then (λ p. if is_name p.0 then Some p else None) (cut_at 58 text)
+
+-- the mark of what is nullable, and what follows it
+abbrev pub is_marked : List ℕ → Bool
+is_marked text = is_some (stripped (codes "?") text)
+
+abbrev pub after_mark : List ℕ → List ℕ
+after_mark text = unwrap_or (stripped (codes "?") text) text

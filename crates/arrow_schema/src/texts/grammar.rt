@@ -1,0 +1,148 @@
+// Whether a text is that of a field. What is open stands on the heap: no nesting runs out of stack.
+ghost use Rattle.std.specs.Prelude.{◌≡◌, ◌↔◌, IfOk, Bool, reverse, true};
+ghost use Rattle.arrow_schema.specs.Typed.{IsFieldText};
+ghost use Rattle.arrow_schema.specs.Fronts.{front_of};
+ghost use Rattle.arrow_schema.specs.Scan.{Reads};
+ghost use Rattle.arrow_schema.specs.Standing.{close_of, begun, continued, is_over, step};
+ghost use Rattle.arrow_schema.specs.declared.texts.grammar.Place.TheVariants.{BeforeType, AfterType};
+
+use super::scan::{Front, front_of, mark_of, name_of, strip};
+use std::alloc::{AllocError, Global};
+
+/// What a type stands in.
+#[derive(Clone, Copy)]
+pub(crate) enum Open {
+    List,
+    FixedList,
+    Struct,
+}
+
+/// Where the test stands.
+#[derive(Clone, Copy)]
+pub(crate) enum Place {
+    BeforeType,
+    AfterType,
+}
+
+impl Open {
+    fn close(self) -> &'static str
+        ensures { result.now ≡ close_of self }
+    {
+        match self {
+            Open::List | Open::Struct => ">",
+            Open::FixedList => ")",
+        }
+    }
+}
+
+// After the front of a type: what it opens, or none where the type ends there.
+#[tactic(auto, unfolding(crate::specs::Standing::begun))]
+fn begin<'a>(front: Front, text: &'a str) -> Option<(Option<Open>, &'a str)>
+    ensures { Reads (λ p. (p.0, p.1.now)) result (begun (front_of front.entry) text.now) }
+{
+    match front {
+        Front::Flat(_, _) => Some((None, mark_of(text).1)),
+        Front::List | Front::LargeList => Some((Some(Open::List), text)),
+        Front::FixedList(_) => Some((Some(Open::FixedList), text)),
+        Front::Struct => {
+            if let Some(rest) = strip(text, ">") {
+                return Some((None, mark_of(rest).1));
+            }
+            let (_, rest) = name_of(text)?;
+            Some((Some(Open::Struct), rest))
+        }
+    }
+}
+
+// After a type: whether what it stands in is closed, or has a field more.
+#[tactic(auto, unfolding(crate::specs::Standing::continued))]
+fn go_on(innermost: Open, text: &str) -> Option<(bool, &str)>
+    ensures { Reads (λ p. (p.0, p.1.now)) result (continued innermost text.now) }
+{
+    if let Some(rest) = strip(text, innermost.close()) {
+        return Some((true, mark_of(rest).1));
+    }
+    let Open::Struct = innermost else {
+        return None;
+    };
+    let (_, rest) = name_of(strip(text, ",")?)?;
+    Some((false, rest))
+}
+
+#[tactic(auto, unfolding(crate::specs::Standing::step))]
+fn before_type<'a>(
+    around: &mut Vec<Open>,
+    text: &'a str,
+    limited: bool,
+) -> Result<Option<(Place, &'a str)>, AllocError>
+    ensures { IfOk result (λ next. Reads (λ p. (p.0, reverse around.new.items, p.1.now)) next (step limited BeforeType (reverse around.old.items) text.now)) }
+{
+    let Some((front, rest)) = front_of(text, limited) else {
+        return Ok(None);
+    };
+    let Some((opened, rest)) = begin(front, rest) else {
+        return Ok(None);
+    };
+    let Some(opened) = opened else {
+        return Ok(Some((Place::AfterType, rest)));
+    };
+    around.push(opened)?;
+    Ok(Some((Place::BeforeType, rest)))
+}
+
+#[tactic(auto, unfolding(crate::specs::Standing::step))]
+fn after_type<'a>(around: &mut Vec<Open>, text: &'a str) -> Option<(Place, &'a str)>
+    ensures { (limited : Bool) → Reads (λ p. (p.0, reverse around.new.items, p.1.now)) result (step limited AfterType (reverse around.old.items) text.now) }
+{
+    let innermost = *around.last()?;
+    let (closed, rest) = go_on(innermost, text)?;
+    if !closed {
+        return Some((Place::BeforeType, rest));
+    }
+    around.pop();
+    Some((Place::AfterType, rest))
+}
+
+fn take_step<'a>(
+    around: &mut Vec<Open>,
+    place: Place,
+    text: &'a str,
+    limited: bool,
+) -> Result<Option<(Place, &'a str)>, AllocError>
+    ensures { IfOk result (λ next. Reads (λ p. (p.0, reverse around.new.items, p.1.now)) next (step limited place (reverse around.old.items) text.now)) }
+{
+    match place {
+        Place::BeforeType => before_type(around, text, limited),
+        Place::AfterType => Ok(after_type(around, text)),
+    }
+}
+
+// A type was read, and nothing is open around it.
+fn is_over(place: Place, around: &[Open]) -> bool
+    ensures { result ≡ is_over place around.now }
+{
+    match place {
+        Place::BeforeType => false,
+        Place::AfterType => around.is_empty(),
+    }
+}
+
+/// Whether the text is that of a field. Where limited, its numbers are below `NUMBER_END`.
+pub(crate) fn is_field_text(alloc: Global, text: &str, limited: bool) -> Result<bool, AllocError>
+    ensures { IfOk result (λ is. (is ≡ true) ↔ IsFieldText limited text.now) }
+{
+    let Some((_, start)) = name_of(text) else {
+        return Ok(false);
+    };
+    let mut around = Vec::new(alloc);
+    let mut place = Place::BeforeType;
+    let mut rest = start;
+    'steps: while !is_over(place, &around) {
+        let Some((next, after)) = take_step(&mut around, place, rest, limited)? else {
+            return Ok(false);
+        };
+        place = next;
+        rest = after;
+    }
+    Ok(rest.is_empty())
+}

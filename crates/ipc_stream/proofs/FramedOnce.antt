@@ -1,0 +1,80 @@
+-- A stream spells at most one table.
+use Rattle.std.proofs.Common.{◌≡◌, ℕ, Bool, true, false, List, [], ◌∷◌, ◌++◌, length, drop, Ok, inl, inr, refl, sym, ap, ◌∙◌, arith, subst}
+use Rattle.std.proofs.lemmas.List.{ext_get_or}
+use Rattle.arrow_schema.specs.Column.{PlainSchema}
+use Rattle.values.specs.Cell.{Cell, PlainTable}
+use Rattle.ipc_message.specs.Convert.{plain_schema_of}
+use Rattle.ipc_message.specs.Framing.{Envelope, Frames, front, end_mark, message, taken}
+use Rattle.ipc_message.specs.Header.{header}
+use Rattle.ipc_message.specs.Raw.{RawBatch}
+use Rattle.ipc_message.proofs.FramedLemmas.{front_framed, front_marked}
+use Rattle.values.specs.Columns.{IntegerColumn}
+use Rattle.ipc_stream.specs.FramedTable.{IsEnd, row_in, IsBatchOf, AreBatchesOf, StreamSpells}
+use Rattle.arrow_schema.specs.Integers.{is_empty}
+use Rattle.values.specs.IntegerTable.{integer_columns}
+use Rattle.ipc_stream.proofs.FramedBack.{some_front, follows}
+
+-- ---- the messages of a stream
+
+no_message : (bytes : List ℕ) (m : Envelope) → IsEnd bytes → front bytes ≡ Ok (message m) → ⊥
+no_message bytes m (inl none) h =
+    let some : is_empty bytes ≡ false = some_front bytes (message m) h in
+    let empty : is_empty bytes ≡ true = ap is_empty none in
+    absurd (cc (some, empty))
+no_message bytes m (inr marked) h =
+    let end : front bytes ≡ Ok end_mark = ap front marked ∙ front_marked [] in
+    absurd (cc (end, h))
+
+pub same_messages : (bytes : List ℕ) (ms ns : List Envelope) (rest left : List ℕ) → Frames bytes ms rest → IsEnd rest → Frames bytes ns left → IsEnd left → ms ≡ ns
+same_messages bytes [] [] rest left f e g k = refl
+same_messages bytes [] (n ∷ ns) rest left f e g k = absurd (no_message bytes n (subst IsEnd (sym f) e) (front_framed bytes g.1.0 n g.0 g.1.1))
+same_messages bytes (m ∷ ms) [] rest left f e g k = absurd (no_message bytes m (subst IsEnd (sym g) k) (front_framed bytes f.1.0 m f.0 f.1.1))
+same_messages bytes (m ∷ ms) (n ∷ ns) rest left f e g k =
+    let first : front bytes ≡ Ok (message m) = front_framed bytes f.1.0 m f.0 f.1.1 in
+    let second : front bytes ≡ Ok (message n) = front_framed bytes g.1.0 n g.0 g.1.1 in
+    let same : m ≡ n = cc (first, second) in
+    let others : f.1.0 ≡ g.1.0 = sym (follows bytes f.1.0 m f.1.1) ∙ ap (λ (x : Envelope). drop (taken (message x)) bytes) same ∙ follows bytes g.1.0 n g.1.1 in
+    let more : ms ≡ ns = same_messages g.1.0 ms ns rest left (subst (λ (x : List ℕ). Frames x ms rest) others f.1.2) e g.1.2 k in
+    ap (λ (x : Envelope). x ∷ ms) same ∙ ap (λ (x : List Envelope). n ∷ x) more
+
+-- ---- the rows of its batches
+
+same_batch : (held : ℕ → Bool) (columns : List IntegerColumn) (m : Envelope) (xs ys : List (List Cell)) → IsBatchOf held columns m xs → IsBatchOf held columns m ys → xs ≡ ys
+same_batch held columns m xs ys a b =
+    let first = a.spelled in
+    let second = b.spelled in
+    let batch : a.batch ≡ b.batch = cc (first, second) in
+    let rows : a.batch.length ≡ b.batch.length = ap (λ (x : RawBatch). x.length) batch in
+    let long : length xs ≡ a.batch.length = a.count in
+    let len : length xs ≡ length ys = a.count ∙ rows ∙ sym b.count in
+    ext_get_or [] xs ys len
+    (λ j below. a.each j (omega (arith, long)) ∙ ap (λ (x : RawBatch). row_in columns x.buffers m.body j) batch ∙ sym (b.each j (omega (arith, long, rows))))
+
+same_rows : (held : ℕ → Bool) (columns : List IntegerColumn) (ms : List Envelope) (xs ys : List (List Cell)) → AreBatchesOf held columns ms xs → AreBatchesOf held columns ms ys → xs ≡ ys
+same_rows held columns [] xs ys a b = a ∙ sym b
+same_rows held columns (m ∷ ms) xs ys a b =
+    let first : a.0 ≡ b.0 = same_batch held columns m a.0 b.0 a.2 b.2 in
+    let others : a.1 ≡ b.1 = same_rows held columns ms a.1 b.1 a.3 b.3 in
+    a.4 ∙ ap (λ (x : List (List Cell)). x ++ a.1) first ∙ ap (λ (x : List (List Cell)). b.0 ++ x) others ∙ sym b.4
+
+-- ---- the table
+
+abbrev first_of : List Envelope → Envelope → Envelope
+first_of [] m = m
+first_of (x ∷ xs) m = x
+
+abbrev others_of : List Envelope → List Envelope
+others_of [] = []
+others_of (x ∷ xs) = xs
+
+pub one_table : (held : ℕ → Bool) (bytes : List ℕ) (t u : PlainTable) → StreamSpells held bytes t → StreamSpells held bytes u → t ≡ u
+one_table held bytes t u a b =
+    let same : a.first ∷ a.others ≡ b.first ∷ b.others = same_messages bytes (a.first ∷ a.others) (b.first ∷ b.others) a.rest b.rest a.framed a.ended b.framed b.ended in
+    let first : a.first ≡ b.first = ap (λ (x : List Envelope). first_of x a.first) same in
+    let others : a.others ≡ b.others = ap others_of same in
+    let spelled = sym a.spelled ∙ ap (λ (m : Envelope). header held m.metadata) first ∙ b.spelled in
+    let raw : a.schema ≡ b.schema = cc spelled in
+    let schema : t.schema ≡ u.schema = sym a.schema_is ∙ ap plain_schema_of raw ∙ b.schema_is in
+    let batches = subst (λ (ms : List Envelope). AreBatchesOf held (integer_columns u.schema) ms t.rows) others (subst (λ (s : PlainSchema). AreBatchesOf held (integer_columns s) a.others t.rows) schema a.batches) in
+    let rows : t.rows ≡ u.rows = same_rows held (integer_columns u.schema) b.others t.rows u.rows batches b.batches in
+    λ i. record { schema = schema i; rows = rows i }

@@ -1,0 +1,251 @@
+-- The canonical stream of a table is read as that table.
+use Rattle.std.specs.Prelude.{IsTrue, min, Result}
+use Rattle.std.proofs.Common.{◌≡◌, ℕ, zero, suc, ◌+◌, ◌-◌, ◌*◌, ◌<◌, ◌≤◌, Bool, true, false, List, [], ◌∷◌, ◌++◌, length, drop, None, Ok, refl, arith, ap, ◌∙◌, length-append, append_assoc}
+use Rattle.std.proofs.lemmas.Grind.{flat_map-append}
+use Rattle.std.proofs.lemmas.List.{append-nil, length-map}
+use Rattle.std.proofs.Math.Nat.{mul-le-mul_left}
+use Rattle.flatbuf.specs.Lookup.{number}
+use Rattle.arrow_schema.specs.Column.{PlainSchema}
+use Rattle.arrow_schema.specs.Limits.{IsWithinLimits}
+use Rattle.values.specs.Cell.{Cell, PlainTable}
+use Rattle.ipc_message.specs.declared.fault.Fault.{Fault}
+use Rattle.ipc_message.specs.Framing.{Envelope, message, front, mark_faults, metadata_size, taken, first_some, type_of}
+use Rattle.ipc_message.specs.Framing as framing
+use Rattle.ipc_message.specs.Raw.{RawHeader, schema_header, batch_header}
+use Rattle.ipc_message.specs.Header.{header, held_codes}
+use Rattle.ipc_message.specs.Convert.{plain_schema_of}
+use Rattle.ipc_write.specs.Written.{framed, body, end_mark}
+use Rattle.ipc_write.proofs.Room.{columns_few}
+use Rattle.ipc_stream.specs.Batch.{batch_rounds}
+use Rattle.values.specs.IntegerRows.{AllBytes}
+use Rattle.ipc_stream.specs.Canonical.{canonical, piece_message, full_nodes}
+use Rattle.values.specs.Columns.{IntegerColumn, rows_from}
+use Rattle.ipc_stream.specs.Meaning.{◌>>=◌, Message, order_fault, header_rounds, accepted, schema_in, rows_of_header, rows_in, table_in, messages, meaning}
+use Rattle.arrow_schema.specs.Integers.{is_integer_schema, is_empty}
+use Rattle.values.specs.IntegerTable.{integer_column, integer_columns, have_rows, plain_table}
+use Rattle.ipc_stream.proofs.Pieces.{integers_of, messages_of, next_piece, no_piece, canonical_is}
+use Rattle.ipc_stream.proofs.RowLemmas.{length_rows}
+use Rattle.ipc_stream.proofs.RoundTripSchema.{AreNamed, plain_raw, raw_schema_is, schema_again, schema_accepted}
+use Rattle.ipc_stream.proofs.RoundTripFront.{IsSmall, envelope, length_framed, after_framed, schema_metadata, schema_written, schema_front, schema_type, schema_read_again, batch_metadata, batch_written, batch_front, batch_type, batch_read_again}
+use Rattle.ipc_stream.proofs.RoundTripBatch.{piece_buffers, piece_batch, length_buffers, body_small, rows_back, batch_accepted}
+use Rattle.ipc_stream.proofs.RoundTripRows.{rows_are, rows_joined, narrow}
+
+-- ---- a message, and the end
+
+abbrev pub read : RawHeader → List ℕ → Message
+read h b = record { header = h; body = b }
+
+pub accepts : (held : ℕ → Bool) (before : List Message) (m : Envelope) (h : RawHeader) → order_fault before (type_of m.metadata) ≡ None → header held m.metadata ≡ Ok h
+    → first_some (header_rounds held before m.body h) ≡ None → accepted held before m ≡ Ok (read h m.body)
+unfolding accepted
+accepts held before m h order spelled sound = rw (order, spelled, sound) refl
+
+step_by : (held : ℕ → Bool) (steps : ℕ) (before : List Message) (bytes rest : List ℕ) (e : Envelope) (a : Message) → is_empty bytes ≡ false → front bytes ≡ Ok (message e) → accepted held before e ≡ Ok a
+    → drop (taken (message e)) bytes ≡ rest → messages held (suc steps) before bytes ≡ messages held steps (before ++ a ∷ []) rest
+unfolding messages
+step_by held steps before bytes rest e a some stands fine after = rw (some, stands, fine, after) refl
+
+-- a message at the front is read, and then what follows it
+pub message_step : (held : ℕ → Bool) (steps : ℕ) (before : List Message) (m b rest : List ℕ) (a : Message) → front (framed m b ++ rest) ≡ Ok (message (envelope m b)) → accepted held before (envelope m b) ≡ Ok a
+    → messages held (suc steps) before (framed m b ++ rest) ≡ messages held steps (before ++ a ∷ []) rest
+message_step held steps before m b rest a stands fine = step_by held steps before (framed m b ++ rest) rest (envelope m b) a refl stands fine (after_framed m b rest)
+
+mark_stands : front end_mark ≡ Ok framing.end_mark
+unfolding front mark_faults metadata_size number
+mark_stands = refl
+
+end_step : (held : ℕ → Bool) (steps : ℕ) (before : List Message) → is_empty before ≡ false → messages held (suc steps) before end_mark ≡ Ok before
+unfolding messages
+end_step held steps before some = rw (mark_stands, some) refl
+
+-- ---- what messages that were read hold
+
+some_more : (before : List Message) (a : Message) → is_empty (before ++ a ∷ []) ≡ false
+some_more [] a = refl
+some_more (m ∷ ms) a = refl
+
+same_schema : (before : List Message) (a : Message) → is_empty before ≡ false → schema_in (before ++ a ∷ []) ≡ schema_in before
+same_schema [] a some = absurd cc
+same_schema (m ∷ ms) a some = refl
+
+rows_more : (s : PlainSchema) (before : List Message) (a : Message) → rows_in s (before ++ a ∷ []) ≡ rows_in s before ++ rows_of_header s a.body a.header
+rows_more s before a =
+    flat_map-append (λ (m : Message). rows_of_header s m.body m.header) before (a ∷ []) ∙ ap (λ (rows : List (List Cell)). rows_in s before ++ rows) (append-nil (rows_of_header s a.body a.header))
+
+order_none : (before : List Message) (n : ℕ) → is_empty before ≡ false → n ≡ 3 → order_fault before n ≡ None
+order_none before n some is = rw (some, is) refl
+
+-- ---- a table of integers whose columns are bytes
+
+pub record IsHeld (s : PlainSchema) (vs : List (List ℕ)) (rows : ℕ) : Type 0 where
+  pub integers : IsTrue (is_integer_schema s)
+  pub limits : IsWithinLimits s
+  pub named : AreNamed s.columns
+  pub each : have_rows (integer_columns s) vs rows ≡ true
+  pub bytes : AllBytes vs
+  pub light : rows * (1 + length s.columns) ≤ 268435456
+
+-- the messages before: the schema, and the rows up to here
+pub record IsRead (s : PlainSchema) (vs : List (List ℕ)) (from : ℕ) (before : List Message) : Type 0 where
+  pub some : is_empty before ≡ false
+  pub schema : schema_in before ≡ plain_raw s
+  pub rows : rows_in s before ≡ rows_from (integer_columns s) vs 0 from
+
+-- ---- the pieces
+
+unfoldable piece_metadata : PlainSchema → List (List Cell) → List ℕ
+piece_metadata s rows = batch_metadata (length rows) (full_nodes s.columns (length rows)) (piece_buffers s rows)
+
+unfoldable piece_body : PlainSchema → List (List Cell) → List ℕ
+piece_body s rows = body (piece_buffers s rows)
+
+-- the message of a piece as it is read
+unfoldable piece_read : PlainSchema → List (List Cell) → Message
+piece_read s rows = read (batch_header (piece_batch s rows)) (body (piece_buffers s rows))
+
+piece_written : (s : PlainSchema) (rows : List (List Cell)) → piece_message s rows ≡ framed (piece_metadata s rows) (piece_body s rows)
+unfolding piece_message piece_metadata piece_body
+piece_written s rows = batch_written (length rows) (full_nodes s.columns (length rows)) (piece_buffers s rows)
+
+columns_few_of : (s : PlainSchema) (vs : List (List ℕ)) (total : ℕ) → IsHeld s vs total → length s.columns ≤ 2048
+columns_few_of s vs total held = omega (arith, columns_few s.columns, held.limits.fields)
+
+piece_small : (s : PlainSchema) (vs : List (List ℕ)) (total : ℕ) (rows : List (List Cell)) → IsHeld s vs total → length rows ≤ 4096 → IsSmall (length rows) s.columns (piece_buffers s rows)
+piece_small s vs total rows held some =
+    let h = integers_of s held.integers in
+    let few = columns_few_of s vs total held in
+    let as_many : length (integer_columns s) ≡ length s.columns = length-map s.columns integer_column in
+    let two = length_buffers (integer_columns s) rows in
+    let small = body_small (integer_columns s) rows (narrow s.columns h) some in
+    record { few_rows = some; few_columns = few; few_buffers = omega (arith, few, as_many, two); short = omega (arith, few, as_many, small) }
+
+piece_front : (s : PlainSchema) (vs : List (List ℕ)) (total : ℕ) (rows : List (List Cell)) (rest : List ℕ) → IsHeld s vs total → length rows ≤ 4096
+    → front (framed (piece_metadata s rows) (piece_body s rows) ++ rest) ≡ Ok (message (envelope (piece_metadata s rows) (piece_body s rows)))
+unfolding piece_metadata piece_body
+piece_front s vs total rows rest held some = batch_front (length rows) s.columns (piece_buffers s rows) rest (piece_small s vs total rows held some)
+
+-- the schema that the first message told
+schema_of_read : (s : PlainSchema) (vs : List (List ℕ)) (total from : ℕ) (before : List Message) → IsHeld s vs total → IsRead s vs from before → plain_schema_of (schema_in before) ≡ s
+schema_of_read s vs total from before held is = ap plain_schema_of is.schema ∙ schema_again s (integers_of s held.integers)
+
+piece_sound : (s : PlainSchema) (vs : List (List ℕ)) (total from k : ℕ) (before : List Message) → IsHeld s vs total → IsRead s vs from before → k ≤ 4096 → from + k ≤ total
+    → first_some (header_rounds held_codes before (body (piece_buffers s (rows_from (integer_columns s) vs from k))) (batch_header (piece_batch s (rows_from (integer_columns s) vs from k)))) ≡ None
+piece_sound s vs total from k before held is some inside =
+    let cs : List IntegerColumn = integer_columns s in
+    let rows : List (List Cell) = rows_from cs vs from k in
+    let old : List (List Cell) = rows_from cs vs 0 from in
+    let bytes : List ℕ = body (piece_buffers s rows) in
+    let h = integers_of s held.integers in
+    let count : length rows ≡ k = length_rows cs vs from k in
+    let count_old : length old ≡ from = length_rows cs vs 0 from in
+    let all : length (old ++ rows) ≤ total = omega (arith, inside, count, count_old, length-append old rows) in
+    let product : (1 + length s.columns) * length (old ++ rows) ≤ (1 + length s.columns) * total = mul-le-mul_left (1 + length s.columns) all in
+    let light : (1 + length s.columns) * length (old ++ rows) ≤ 268435456 = omega (arith, product, held.light) in
+    let few_rows : length rows ≤ 4096 = omega (arith, some, count) in
+    let small = piece_small s vs total rows held few_rows in
+    ap (λ (x : PlainSchema). first_some (batch_rounds x (rows_in x before) (piece_batch s rows) bytes)) (schema_of_read s vs total from before held is)
+    ∙ ap (λ (x : List (List Cell)). first_some (batch_rounds s x (piece_batch s rows) bytes)) is.rows
+    ∙ batch_accepted s old rows h (columns_few_of s vs total held) few_rows (rows_are cs vs total from k held.each held.bytes) small.short light
+
+piece_accepted : (s : PlainSchema) (vs : List (List ℕ)) (total from k : ℕ) (before : List Message) → IsHeld s vs total → IsRead s vs from before → k ≤ 4096 → from + k ≤ total
+    → accepted held_codes before (envelope (piece_metadata s (rows_from (integer_columns s) vs from k)) (piece_body s (rows_from (integer_columns s) vs from k))) ≡ Ok (piece_read s (rows_from (integer_columns s) vs from k))
+unfolding piece_metadata piece_body piece_read
+piece_accepted s vs total from k before held is some inside =
+    let rows : List (List Cell) = rows_from (integer_columns s) vs from k in
+    let count : length rows ≡ k = length_rows (integer_columns s) vs from k in
+    let small = piece_small s vs total rows held (omega (arith, some, count)) in
+    accepts held_codes before (envelope (batch_metadata (length rows) (full_nodes s.columns (length rows)) (piece_buffers s rows)) (body (piece_buffers s rows))) (batch_header (piece_batch s rows))
+    (order_none before _ is.some (batch_type (length rows) s.columns (piece_buffers s rows) small))
+    (batch_read_again (length rows) s.columns (piece_buffers s rows) small)
+    (piece_sound s vs total from k before held is some inside)
+
+-- after a piece its rows are read too
+read_more : (s : PlainSchema) (vs : List (List ℕ)) (total from k : ℕ) (before : List Message) → IsHeld s vs total → IsRead s vs from before
+    → IsRead s vs (from + k) (before ++ piece_read s (rows_from (integer_columns s) vs from k) ∷ [])
+unfolding piece_read
+read_more s vs total from k before held is =
+    let cs : List IntegerColumn = integer_columns s in
+    let rows : List (List Cell) = rows_from cs vs from k in
+    let a : Message = read (batch_header (piece_batch s rows)) (body (piece_buffers s rows)) in
+    let back = rows_back s rows (rows_are cs vs total from k held.each held.bytes) in
+    let here : from ≡ 0 + from = omega arith in
+    record {
+      some = some_more before a;
+      schema = same_schema before a is.some ∙ is.schema;
+      rows =
+          rows_more s before a
+          ∙ ap (λ (x : List (List Cell)). rows_in s before ++ x) back
+          ∙ ap (λ (x : List (List Cell)). x ++ rows) is.rows
+          ∙ ap (λ (j : ℕ). rows_from cs vs 0 from ++ rows_from cs vs j k) here
+          ∙ rows_joined cs vs 0 from k;
+    }
+
+-- ---- the whole stream
+
+-- the table of the messages that were read
+abbrev pub table_told : Result (List Message) Fault → Result PlainTable Fault
+table_told r = r >>= λ ms. Ok (table_in ms)
+
+abbrev table_with : PlainSchema → List (List Cell) → PlainTable
+table_with s rows = record { schema = s; rows = rows }
+
+table_read : (s : PlainSchema) (vs : List (List ℕ)) (total from : ℕ) (before : List Message) → IsHeld s vs total → IsRead s vs from before → table_in before ≡ plain_table s vs from
+unfolding table_in
+table_read s vs total from before held is =
+    ap (λ (x : PlainSchema). table_with x (rows_in x before)) (schema_of_read s vs total from before held is) ∙ ap (table_with s) is.rows
+
+-- the messages of the rows from one on, and the end mark
+read_on : (steps : ℕ) (s : PlainSchema) (vs : List (List ℕ)) (total from n : ℕ) (before : List Message) → IsHeld s vs total → IsRead s vs from before → from + n ≡ total
+    → length (messages_of s vs from n ++ end_mark) < steps → table_told (messages held_codes steps before (messages_of s vs from n ++ end_mark)) ≡ Ok (plain_table s vs total)
+read_on zero s vs total from n before held is all enough = absurd (omega arith)
+read_on (suc steps) s vs total from zero before held is all enough =
+    let none : messages_of s vs from 0 ++ end_mark ≡ end_mark = ap (λ (xs : List ℕ). xs ++ end_mark) (no_piece s vs from) in
+    let here : from ≡ total = omega (arith, all) in
+    ap (λ (xs : List ℕ). table_told (messages held_codes (suc steps) before xs)) none
+    ∙ ap table_told (end_step held_codes steps before is.some)
+    ∙ ap Ok (table_read s vs total from before held is)
+    ∙ ap (λ (n : ℕ). Ok (plain_table s vs n)) here
+read_on (suc steps) s vs total from (suc m) before held is all enough =
+    let k : ℕ = min 4096 (suc m) in
+    let rows : List (List Cell) = rows_from (integer_columns s) vs from k in
+    let others : List ℕ = messages_of s vs (from + k) (suc m - k) in
+    let rest : List ℕ = others ++ end_mark in
+    let some : k ≤ 4096 = omega arith in
+    let inside : from + k ≤ total = omega (arith, all) in
+    let count : length rows ≡ k = length_rows (integer_columns s) vs from k in
+    let cut : messages_of s vs from (suc m) ≡ piece_message s rows ++ others = next_piece s vs from (suc m) k held.integers held.limits (omega arith) refl in
+    let bytes : messages_of s vs from (suc m) ++ end_mark ≡ framed (piece_metadata s rows) (piece_body s rows) ++ rest =
+    ap (λ (xs : List ℕ). xs ++ end_mark) cut ∙ append_assoc (piece_message s rows) others end_mark ∙ ap (λ (xs : List ℕ). xs ++ rest) (piece_written s rows) in
+    let stands = piece_front s vs total rows rest held (omega (arith, some, count)) in
+    let step = message_step held_codes steps before (piece_metadata s rows) (piece_body s rows) rest (piece_read s rows) stands (piece_accepted s vs total from k before held is some inside) in
+    let whole : length (messages_of s vs from (suc m) ++ end_mark) ≡ length (framed (piece_metadata s rows) (piece_body s rows) ++ rest) = ap length bytes in
+    let two = length-append (framed (piece_metadata s rows) (piece_body s rows)) rest in
+    let long = length_framed (piece_metadata s rows) (piece_body s rows) in
+    ap (λ (xs : List ℕ). table_told (messages held_codes (suc steps) before xs)) bytes
+    ∙ ap table_told step
+    ∙ read_on steps s vs total (from + k) (suc m - k) (before ++ piece_read s rows ∷ []) held (read_more s vs total from k before held is) (omega (arith, all)) (omega (arith, enough, whole, two, long))
+
+schema_fine : (s : PlainSchema) (vs : List (List ℕ)) (total : ℕ) → IsHeld s vs total → accepted held_codes [] (envelope (schema_metadata s) []) ≡ Ok (read (schema_header (plain_raw s)) [])
+schema_fine s vs total held =
+    let h = integers_of s held.integers in
+    let order : order_fault [] (type_of (schema_metadata s)) ≡ None = rw (schema_type s held.integers held.limits) refl in
+    accepts held_codes [] (envelope (schema_metadata s) []) (schema_header (plain_raw s)) order
+    (schema_read_again s held.integers held.limits ∙ ap (λ r. Ok (schema_header r)) (raw_schema_is s h))
+    (schema_accepted s held.integers held.limits held.named)
+
+-- the canonical stream means the table
+pub canonical_read : (s : PlainSchema) (vs : List (List ℕ)) (total : ℕ) → IsHeld s vs total → meaning held_codes (canonical (plain_table s vs total)) ≡ Ok (plain_table s vs total)
+unfolding meaning
+canonical_read s vs total held =
+    let rest : List ℕ = messages_of s vs 0 total ++ end_mark in
+    let first : List ℕ = framed (schema_metadata s) [] in
+    let a : Message = read (schema_header (plain_raw s)) [] in
+    let bytes : canonical (plain_table s vs total) ≡ first ++ rest = canonical_is s vs total ∙ ap (λ (xs : List ℕ). xs ++ rest) (schema_written s) in
+    let stands = schema_front s rest held.integers held.limits in
+    let step = message_step held_codes (length (first ++ rest)) [] (schema_metadata s) [] rest a stands (schema_fine s vs total held) in
+    let is : IsRead s vs 0 (a ∷ []) = record { some = refl; schema = refl; rows = refl } in
+    let two = length-append first rest in
+    let long = length_framed (schema_metadata s) [] in
+    ap (λ (xs : List ℕ). table_told (messages held_codes (suc (length xs)) [] xs)) bytes
+    ∙ ap table_told step
+    ∙ read_on (length (first ++ rest)) s vs total 0 total (a ∷ []) held is (omega arith) (omega (arith, two, long))

@@ -1,0 +1,62 @@
+use Rattle.std.proofs.Common.{◌+◌, ◌*◌, arith, refl, sym, ◌∙◌}
+use Rattle.arrow_schema.specs.declared.types.Schema.{Schema}
+use Rattle.ipc_message.specs.declared.raw.RawBatch.{RawBatch}
+use Rattle.ipc_stream.specs.Batch.{batch_rounds, batch_rows}
+use Rattle.ipc_stream.proofs.IntegerLemmas.{lt_true, lt_false}
+use Rattle.ipc_stream.proofs.BatchLemmas.{heavy_is, few_fields, few_rows, weight_fits}
+use Rattle.ipc_stream.proofs.batch.batch_fault.Goals as goal
+
+pub returns-then-batch : goal.returns-then-batch
+unfolding batch_rounds
+returns-then-batch c = λ rows len. rw (c.if-batch.true) refl
+
+pub returns-then-has_other_layout : goal.returns-then-has_other_layout
+unfolding batch_rounds
+returns-then-has_other_layout c = λ rows len.
+    rw (c.if-batch.false, ← c.if-has_other_layout.ensures) refl
+
+pub returns-then-has_bad_length : goal.returns-then-has_bad_length
+unfolding batch_rounds
+returns-then-has_bad_length c = λ rows len.
+    rw (c.if-batch.false, ← c.if-has_other_layout.ensures, ← c.if-has_bad_length.ensures) refl
+
+pub returns-then-has_buffer_outside : goal.returns-then-has_buffer_outside
+unfolding batch_rounds
+returns-then-has_buffer_outside c = λ rows len.
+    rw (c.if-batch.false, ← c.if-has_other_layout.ensures, ← c.if-has_bad_length.ensures, ← c.if-has_buffer_outside.ensures) refl
+
+pub returns-then-has_short_buffer : goal.returns-then-has_short_buffer
+unfolding batch_rounds
+returns-then-has_short_buffer c = λ rows len.
+    rw (c.if-batch.false, ← c.if-has_other_layout.ensures, ← c.if-has_bad_length.ensures, ← c.if-has_buffer_outside.ensures, ← c.if-has_short_buffer.ensures) refl
+
+pub returns-then-has_validity : goal.returns-then-has_validity
+unfolding batch_rounds
+returns-then-has_validity c = λ rows len.
+    rw (c.if-batch.false, ← c.if-has_other_layout.ensures, ← c.if-has_bad_length.ensures, ← c.if-has_buffer_outside.ensures, ← c.if-has_short_buffer.ensures, ← c.if-has_validity.ensures) refl
+
+pub returns-then-counts_nulls : goal.returns-then-counts_nulls
+unfolding batch_rounds
+returns-then-counts_nulls c = λ rows len.
+    rw (c.if-batch.false, ← c.if-has_other_layout.ensures, ← c.if-has_bad_length.ensures, ← c.if-has_buffer_outside.ensures, ← c.if-has_short_buffer.ensures, ← c.if-has_validity.ensures, ← c.if-counts_nulls.ensures) refl
+
+pub overflow_mul-before : goal.overflow_mul-before
+overflow_mul-before c =
+    let s : Schema = c.args.schema.now in
+    let b : RawBatch = c.args.batch.now in
+    let fits = weight_fits c.args.before b.length c.len.result c.requires.light (few_rows b (sym c.if-has_bad_length.ensures)) (omega (arith, few_fields s c.requires.limits)) in
+    omega (arith, fits)
+
+pub returns-then-before-batch-gt-MAX_WEIGHT : goal.returns-then-before-batch-gt-MAX_WEIGHT
+unfolding batch_rounds batch_rows
+returns-then-before-batch-gt-MAX_WEIGHT c = λ rows len.
+    let weight = heavy_is c.args.schema.now c.args.batch.now c.args.body.now rows c.args.before c.len.result c.requires.integers c.requires.limits len (omega arith) in
+    let heavy = weight ∙ lt_true 268435456 ((c.args.before + c.args.batch.now.length) * (1 + c.len.result)) c.if-before-batch-gt-MAX_WEIGHT.true in
+    rw (c.if-batch.false, ← c.if-has_other_layout.ensures, ← c.if-has_bad_length.ensures, ← c.if-has_buffer_outside.ensures, ← c.if-has_short_buffer.ensures, ← c.if-has_validity.ensures, ← c.if-counts_nulls.ensures, heavy) refl
+
+pub returns : goal.returns
+unfolding batch_rounds batch_rows
+returns c = λ rows len.
+    let weight = heavy_is c.args.schema.now c.args.batch.now c.args.body.now rows c.args.before c.len.result c.requires.integers c.requires.limits len (omega arith) in
+    let light = weight ∙ lt_false 268435456 ((c.args.before + c.args.batch.now.length) * (1 + c.len.result)) c.if-before-batch-gt-MAX_WEIGHT.false in
+    rw (c.if-batch.false, ← c.if-has_other_layout.ensures, ← c.if-has_bad_length.ensures, ← c.if-has_buffer_outside.ensures, ← c.if-has_short_buffer.ensures, ← c.if-has_validity.ensures, ← c.if-counts_nulls.ensures, light) refl

@@ -1,0 +1,34 @@
+use Rattle.std.specs.Prelude.{Ok}
+use Rattle.std.proofs.Common.{◌≡◌, ◌≤◌, ◌+◌, ◌*◌, ℕ, List, length, arith, refl, subst}
+use Rattle.arrow_schema.specs.Column.{PlainSchema}
+use Rattle.values.specs.Cell.{PlainTable}
+use Rattle.values.specs.Columns.{values_of_all}
+use Rattle.values.specs.IntegerTable.{integer_columns}
+use Rattle.values.specs.TableView.{table_of}
+use Rattle.ipc_message.specs.Header.{held_codes}
+use Rattle.ipc_stream.specs.Canonical.{canonical}
+use Rattle.ipc_stream.specs.Meaning.{meaning}
+use Rattle.ipc_stream.proofs.IntegerTables.{all_bytes}
+use Rattle.ipc_stream.proofs.PackLemmas.{table_again, values_fill}
+use Rattle.ipc_stream.proofs.RoundTrip.{canonical_read}
+use Rattle.ipc_stream.proofs.RoundTripSchema.{AreNamed, named}
+use Rattle.ipc_stream.proofs.RowWeights.{rows_weigh}
+use Rattle.ipc_stream.proofs.laws.canonical_means_its_table.Goals as goal
+
+pub returns : goal.returns
+returns c =
+    let t : PlainTable = table_of c.args.table.now in
+    let is = c.schema-schema.ensures.kept in
+    let weighs = rows_weigh t.schema t.rows c.requires.schema in
+    let light : length t.rows * (1 + length t.schema.columns) ≤ 268435456 = omega (arith, weighs, is.weight) in
+    let values : List (List ℕ) = values_of_all (integer_columns t.schema) t.rows in
+    subst (λ (x : PlainTable). meaning held_codes (canonical x) ≡ Ok x) (table_again t values is c.requires refl)
+    (canonical_read t.schema values (length t.rows)
+    (record {
+      integers = c.requires.schema;
+      limits = is.schema;
+      named = subst (λ (s : PlainSchema). AreNamed s.columns) c.schema-schema.ensures.schema (named c.schema-schema.result.now.fields.items);
+      each = values_fill (integer_columns t.schema) t.rows (length t.rows) refl;
+      bytes = all_bytes (integer_columns t.schema) t.rows;
+      light = light;
+    }))

@@ -1,0 +1,16 @@
+-- Rows whose cells stand one after another, and the table that has them.
+use Rattle.std.specs.Prelude.{ℕ, zero, suc, List, [], ◌∷◌, map, length, take, drop}
+use Rattle.arrow_schema.specs.View.{schema_of}
+use Rattle.arrow_schema.specs.declared.types.Schema.{Schema}
+use Rattle.values.specs.declared.value.Value.{Value}
+use Rattle.values.specs.Cell.{PlainTable}
+use Rattle.values.specs.View.{cell}
+
+-- so many rows of this width
+abbrev pub rows_in : {X : Type 0} → ℕ → ℕ → List X → List (List X)
+rows_in width zero cells = []
+rows_in width (suc n) cells = take width cells ∷ rows_in width n (drop width cells)
+
+-- a schema and so many rows of its width
+abbrev pub table_in : Schema → ℕ → List Value → PlainTable
+table_in schema n cells = record { schema = schema_of schema; rows = rows_in (length schema.fields.items) n (map cell cells) }

@@ -1,0 +1,27 @@
+-- What a row and a table of the code are, and how an answer tells a refusal.
+use Rattle.std.specs.Prelude.{◌≡◌, List, map, drop, Result, Err}
+use Rattle.values.specs.declared.row.Row.{Row}
+use Rattle.values.specs.declared.table.Table.{Table}
+use Rattle.values.specs.declared.rows.Rows.{Rows}
+use Rattle.values.specs.declared.errors.TableError.{TableError}
+use Rattle.values.specs.declared.errors.TableError.TheVariants.{Unfit, Weight, OutOfMemory}
+use Rattle.values.specs.Cell.{Cell, PlainTable}
+use Rattle.values.specs.View.{cell}
+use Rattle.values.specs.Table.{Refusal, unfit, too_heavy}
+use Rattle.values.specs.Content.{table_with}
+
+abbrev pub row_of : Row → List Cell
+row_of r = map cell r.cells.items
+
+abbrev pub table_of : Table → PlainTable
+table_of t = table_with t.schema t.rows t.content
+
+-- the rows that an iterator has left
+abbrev pub rows_left : Rows → List (List Cell)
+rows_left it = drop it.next (table_of it.table.now).rows
+
+-- the code tells what is: memory may be wanting whatever it is
+abbrev pub Tells : TableError → Result PlainTable Refusal → Type 0
+Tells (Unfit i) r = r ≡ Err (unfit i)
+Tells Weight r = r ≡ Err too_heavy
+Tells OutOfMemory r = Unit {0}

@@ -1,0 +1,10 @@
+// How a table keeps its rows.
+use crate::value::Value;
+
+/// The rows of a table: cells one after another, row after row, or the little-endian values of each column one after
+/// another, where all columns are of integers without a null.
+#[derive(Debug, Drop)]
+pub(crate) enum Content {
+    Cells(Vec<Value>),
+    Integers(Vec<Vec<u8>>),
+}

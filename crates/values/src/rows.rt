@@ -1,0 +1,45 @@
+// The rows of a table, one after another.
+ghost use Rattle.std.specs.Prelude.{◌≡◌, ◌+◌, ◌*◌, ◌≤◌, map, take, drop, length};
+ghost use Rattle.values.specs.View.{cell};
+
+use crate::lent::Values;
+use crate::table::Table;
+use crate::value::Value;
+
+/// Gives the rows of a table in order.
+#[derive(Debug, Drop)]
+pub struct Rows<'a> {
+    pub(crate) table: &'a Table,
+    pub(crate) next: usize,
+}
+
+impl<'a> Iterator for Rows<'a> {
+    ghost use Rattle.std.specs.Iterator.{YieldsFirstBy, item_count};
+    ghost use Rattle.values.specs.Lent.{lent_cells};
+    ghost use Rattle.values.specs.TableView.{rows_left};
+
+    type Item = Values<'a>;
+
+    ghost next_gives = { YieldsFirstBy lent_cells rows_left };
+
+    ghost remaining = { item_count rows_left };
+
+    fn next(&mut self) -> Option<Values<'a>> {
+        match self.table.row(self.next) {
+            None => None,
+            Some(row) => {
+                self.next += 1;
+                Some(row)
+            }
+        }
+    }
+}
+
+// The row at a place, of rows whose cells stand one after another.
+pub(crate) fn row_at(cells: &[Value], width: usize, i: usize) -> &[Value]
+    requires { width * i + width ≤ length cells.now }
+    ensures { map cell result.now ≡ take width (drop (width * i) (map cell cells.now)) }
+{
+    let start = width * i;
+    &cells[start..start + width]
+}

@@ -1,0 +1,174 @@
+// A table in memory.
+ghost use Rattle.std.specs.Prelude.{◌≡◌, IsTrue};
+ghost use Rattle.values.specs.Table.{IsTable};
+ghost use Rattle.values.specs.Content.{table_with, is_filled};
+
+use crate::accept::{weigh_cells, weigh_rows};
+use crate::content::Content;
+use crate::errors::TableError;
+use crate::integers::{IntegerRow, columns_are_bytes, have_rows, is_integer_schema};
+use crate::lent::{Form, Values};
+use crate::row::{Row, join};
+use crate::rows::{Rows, row_at};
+use crate::value::Value;
+use crate::weigh::MAX_TABLE_WEIGHT;
+use arrow_schema::Schema;
+use std::alloc::Global;
+
+/// A table: its schema, and its rows in order. Contracts see nothing else of it. Its cells stand in one vector, row
+/// after row, or as the bytes of integer columns, so that a row takes no memory of its own.
+#[derive(Debug, Drop)]
+pub struct Table {
+    schema: Schema,
+    content: Content,
+    rows: usize,
+    ghost filled: { IsTrue (is_filled schema rows content) },
+    ghost kept: { IsTable (table_with schema rows content) },
+}
+
+impl Table {
+    ghost use Rattle.std.specs.Prelude.{◌==◌, ◌≤◌, ◌+◌, ◌*◌, ◌↔◌, length, slice_get, option_map, map, IfOk, IfErr, IfSome, Ok};
+    ghost use Rattle.arrow_schema.specs.Integers.{is_integer_schema};
+    ghost use Rattle.arrow_schema.specs.View.{schema_of};
+    ghost use Rattle.arrow_schema.specs.Limits.{IsWithinLimits};
+    ghost use Rattle.values.specs.Lent.{lent_cells};
+    ghost use Rattle.values.specs.IntegerTable.{integer_columns, have_rows, plain_table};
+    ghost use Rattle.values.specs.Rows.{table_in};
+    ghost use Rattle.values.specs.Table.{table_from};
+    ghost use Rattle.values.specs.TableView.{row_of, table_of, rows_left, Tells};
+
+    /// The table of these rows. It refuses the first row, counted from 0, that does not fit, weighs more than
+    /// `MAX_ROW_WEIGHT` or fills a dictionary (V1), or else rows that weigh more than `MAX_TABLE_WEIGHT` together (V2).
+    pub fn new(alloc: Global, schema: Schema, rows: Vec<Row>) -> Result<Table, TableError>
+        requires { IsWithinLimits (schema_of schema) }
+        ensures made { IfOk result (λ t. table_of t ≡ record { schema = schema_of schema; rows = map row_of rows.items }) }
+        ensures taken { IfOk result (λ t. table_from (schema_of schema) (map row_of rows.items) ≡ Ok (table_of t)) }
+        ensures refused { IfErr result (λ e. Tells e (table_from (schema_of schema) (map row_of rows.items))) }
+    {
+        let weight = weigh_rows(&schema, &rows, alloc)?;
+        if weight > MAX_TABLE_WEIGHT {
+            return Err(TableError::Weight);
+        }
+        let count = rows.len();
+        let cells = join(alloc, schema.fields.len(), rows)?;
+        Ok(Table {
+            schema,
+            content: Content::Cells(cells),
+            rows: count,
+        })
+    }
+
+    /// The same of so many rows whose cells stand one after another: no row takes memory of its own.
+    pub fn from_cells(
+        alloc: Global,
+        schema: Schema,
+        cells: Vec<Value>,
+        rows: usize,
+    ) -> Result<Table, TableError>
+        requires limits { IsWithinLimits (schema_of schema) }
+        requires filled { length cells.items ≡ length schema.fields.items * rows }
+        ensures made { IfOk result (λ t. table_of t ≡ table_in schema rows cells.items) }
+        ensures taken { IfOk result (λ t. table_from (schema_of schema) (table_in schema rows cells.items).rows ≡ Ok (table_of t)) }
+        ensures refused { IfErr result (λ e. Tells e (table_from (schema_of schema) (table_in schema rows cells.items).rows)) }
+    {
+        let weight = weigh_cells(&schema, &cells, rows, alloc)?;
+        if weight > MAX_TABLE_WEIGHT {
+            return Err(TableError::Weight);
+        }
+        Ok(Table {
+            schema,
+            content: Content::Cells(cells),
+            rows,
+        })
+    }
+
+    /// Whether `from_integers` takes these: columns of integers alone, the bytes of so many rows for each of them, and no
+    /// more rows than a table may have.
+    pub fn takes_integers(schema: &Schema, columns: &[Vec<u8>], rows: usize) -> bool
+        ensures { IsTrue result ↔ (IsTrue (is_integer_schema (schema_of schema.now)) × IsTrue (have_rows (integer_columns (schema_of schema.now)) (map (λ v. v.items) columns.now) rows) × (rows * (1 + length schema.now.fields.items) ≤ 268435456)) }
+    {
+        is_integer_schema(schema)
+            && have_rows(&schema.fields, columns, rows)
+            && rows as u128 * (1 + schema.fields.len() as u128) <= u128::from(MAX_TABLE_WEIGHT)
+    }
+
+    /// The table of so many rows of integer columns without a null, of which the little-endian values of each column
+    /// stand one after another. It takes a moment for each column, and no memory.
+    pub fn from_integers(schema: Schema, columns: Vec<Vec<u8>>, rows: usize) -> Table
+        requires limits { IsWithinLimits (schema_of schema) }
+        requires integers { IsTrue (is_integer_schema (schema_of schema)) }
+        requires filled { IsTrue (have_rows (integer_columns (schema_of schema)) (map (λ v. v.items) columns.items) rows) }
+        requires light { rows * (1 + length schema.fields.items) ≤ 268435456 }
+        ensures { table_of result ≡ plain_table (schema_of schema) (map (λ v. v.items) columns.items) rows }
+    {
+        columns_are_bytes(&columns);
+        Table {
+            schema,
+            content: Content::Integers(columns),
+            rows,
+        }
+    }
+
+    /// The little-endian values of each column, one after another, where the table is kept so.
+    pub fn integers(&self) -> Option<&[Vec<u8>]>
+        ensures schema { IfSome result (λ _. IsTrue (is_integer_schema (table_of self.now).schema)) }
+        ensures filled { IfSome result (λ columns. IsTrue (have_rows (integer_columns (table_of self.now).schema) (map (λ v. v.items) columns.now) (length (table_of self.now).rows))) }
+        ensures values { IfSome result (λ columns. table_of self.now ≡ plain_table (table_of self.now).schema (map (λ v. v.items) columns.now) (length (table_of self.now).rows)) }
+    {
+        match &self.content {
+            Content::Cells(_) => None,
+            Content::Integers(columns) => Some(columns),
+        }
+    }
+
+    /// The schema.
+    pub fn schema(&self) -> &Schema
+        ensures schema { schema_of result.now ≡ (table_of self.now).schema }
+        ensures kept { IsTable (table_of self.now) }
+    {
+        &self.schema
+    }
+
+    /// How many rows it has.
+    #[tactic(auto, using(crate::proofs::ContentLemmas::length_content))]
+    pub fn len(&self) -> usize
+        ensures { result ≡ length (table_of self.now).rows }
+    {
+        self.rows
+    }
+
+    /// Whether it has no row.
+    pub fn is_empty(&self) -> bool
+        ensures { result ≡ (length (table_of self.now).rows == 0) }
+    {
+        self.len() == 0
+    }
+
+    /// The row at a place, counted from 0.
+    pub fn row(&self, i: usize) -> Option<Values<'_>>
+        ensures { option_map lent_cells result ≡ slice_get (table_of self.now).rows i }
+    {
+        if i >= self.len() {
+            return None;
+        }
+        let form = match &self.content {
+            Content::Cells(cells) => Form::Cells(row_at(cells, self.schema.fields.len(), i)),
+            Content::Integers(columns) => Form::Integers(IntegerRow {
+                fields: &self.schema.fields,
+                columns,
+                row: i,
+            }),
+        };
+        Some(Values { form })
+    }
+
+    /// The rows, in order.
+    pub fn rows(&self) -> Rows<'_>
+        ensures { rows_left result ≡ (table_of self.now).rows }
+    {
+        Rows {
+            table: self,
+            next: 0,
+        }
+    }
+}
