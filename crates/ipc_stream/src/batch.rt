@@ -226,7 +226,11 @@ fn append_values(
 }
 
 /// A table with the rows of a batch behind its own, or the batch's first fault.
-pub(crate) fn add_batch(table: Gathered, batch: &RawBatch, body: &[u8]) -> Result<Gathered, ImportError>
+pub(crate) fn add_batch(
+    table: Gathered,
+    batch: &RawBatch,
+    body: &[u8],
+) -> Result<Gathered, ImportError>
     ensures { Gives gathered_table result (added (gathered_table table) (raw_batch_of batch.now) body.now) }
 {
     if let Some(fault) = batch_fault(&table.schema, table.rows, batch, body) {

@@ -92,11 +92,7 @@ fn empty_table(alloc: Global, schema: Schema) -> Result<Gathered, AllocError>
 }
 
 /// The table after one more message.
-fn add_message(
-    alloc: Global,
-    table: Gathered,
-    message: &Message,
-) -> Result<Gathered, ImportError>
+fn add_message(alloc: Global, table: Gathered, message: &Message) -> Result<Gathered, ImportError>
     ensures { Adds (gathered_table table) (envelope_of message.now) result }
 {
     if let HeaderType::Schema = message.header_type() {
