@@ -3,6 +3,7 @@ pub mod View
 pub mod Preorder
 pub mod Limits
 pub mod Integers
+pub mod IntegerCases
 pub mod Tally
 pub mod Shape
 pub mod Alike

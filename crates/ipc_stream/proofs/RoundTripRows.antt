@@ -7,7 +7,7 @@ use Rattle.byteorder.specs.Numbers.{little_from-lt}
 use Rattle.arrow_schema.specs.Column.{Column, column, integers}
 use Rattle.values.specs.Cell.{Cell}
 use Rattle.arrow_schema.specs.Integers.{is_integer_column, is_bit_width}
-use Rattle.arrow_schema.proofs.IntegerColumns.{integer_case}
+use Rattle.arrow_schema.specs.IntegerCases.{integer_case}
 use Rattle.ipc_write.proofs.FieldNode.{both}
 use Rattle.ipc_write.proofs.Room.{AreIntegers}
 use Rattle.values.specs.IntegerRows.{AllBytes}

@@ -24,7 +24,7 @@ use Rattle.ipc_write.specs.Trees.{code_of, ids_of}
 use Rattle.arrow_schema.specs.Integers.{is_integer_column, is_bit_width, is_empty, is_integer_schema}
 use Rattle.ipc_write.specs.Spelled.{parameters_of, raw_of, raw_below, raw_of_all, raw_schema}
 use Rattle.ipc_write.specs.Walked.{tables_of, tables_of_all}
-use Rattle.arrow_schema.proofs.IntegerColumns.{integer_case}
+use Rattle.arrow_schema.specs.IntegerCases.{integer_case}
 use Rattle.ipc_write.proofs.FieldNode.{both}
 use Rattle.ipc_write.proofs.Room.{AreIntegers, name_len, columns_few, names_few}
 use Rattle.ipc_stream.proofs.IntegerLemmas.{lt_false}

@@ -15,7 +15,7 @@ use Rattle.arrow_schema.specs.Preorder.{preorder, preorder_below, preorder_all}
 use Rattle.arrow_schema.specs.Limits.{IsWithinLimits, bytes_in}
 use Rattle.ipc_write.specs.Trees.{bit, pairs_slot, field_tree, field_nodes, child_nodes, schema_tree, message_tree, ids_of}
 use Rattle.arrow_schema.specs.Integers.{is_integer_column, is_bit_width, is_empty, is_integer_schema}
-use Rattle.arrow_schema.proofs.IntegerColumns.{integer_case}
+use Rattle.arrow_schema.specs.IntegerCases.{integer_case}
 use Rattle.ipc_write.proofs.FieldNode.{both}
 
 gap_small : (m c : ℕ) → gap m c ≤ m
