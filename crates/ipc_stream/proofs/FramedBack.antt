@@ -5,7 +5,7 @@ use Rattle.std.proofs.Math.Seq.{drop-append_seam}
 use Rattle.std.proofs.lemmas.List.{length-drop, append-nil}
 use Rattle.ipc_message.specs.declared.fault.Fault.{Fault}
 use Rattle.ipc_message.specs.Framing.{Envelope, Front, Frames, Framed, front, mark_faults, end_mark, message, taken, mark}
-use Rattle.ipc_message.proofs.FramedLemmas.{front_framed, front_marked}
+use Rattle.ipc_stream.proofs.FrontLaw.{FrontLaw}
 use Rattle.ipc_stream.specs.FramedFault.{AreAccepted, IsRefused, no_front, bad_message, nothing, only_mark, after_mark, FaultStands}
 use Rattle.ipc_stream.specs.FramedTable.{IsEnd}
 use Rattle.ipc_stream.specs.Meaning.{◌>>=◌, Message, table_in, accepted, messages, meaning}
@@ -47,25 +47,25 @@ record Through (held : ℕ → Bool) (steps : ℕ) (before after : List Message)
   enough : length rest < left
   same : messages held steps before bytes ≡ messages held left after rest
 
-through : (held : ℕ → Bool) (steps : ℕ) (before : List Message) (ms : List Envelope) (more : List Message) (bytes rest : List ℕ) → Frames bytes ms rest → AreAccepted held before ms more → length bytes < steps
+through : FrontLaw → (held : ℕ → Bool) (steps : ℕ) (before : List Message) (ms : List Envelope) (more : List Message) (bytes rest : List ℕ) → Frames bytes ms rest → AreAccepted held before ms more → length bytes < steps
     → Through held steps before (before ++ more) bytes rest
-through held steps before [] [] bytes rest framed are enough = record {
+through law held steps before [] [] bytes rest framed are enough = record {
   left = steps;
   enough = rw (← framed) enough;
   same = ap (messages held steps before) framed ∙ ap (λ (x : List Message). messages held steps x rest) (sym (append-nil before));
 }
-through held steps before [] (a ∷ more) bytes rest framed are enough = absurd are
-through held steps before (m ∷ ms) [] bytes rest framed are enough = absurd are
-through held zero before (m ∷ ms) (a ∷ more) bytes rest framed are enough = absurd (omega arith)
-through held (suc steps) before (m ∷ ms) (a ∷ more) bytes rest framed are enough =
+through law held steps before [] (a ∷ more) bytes rest framed are enough = absurd are
+through law held steps before (m ∷ ms) [] bytes rest framed are enough = absurd are
+through law held zero before (m ∷ ms) (a ∷ more) bytes rest framed are enough = absurd (omega arith)
+through law held (suc steps) before (m ∷ ms) (a ∷ more) bytes rest framed are enough =
     let others : List ℕ = framed.1.0 in
     let stands : Framed bytes m others = framed.1.1 in
-    let h : front bytes ≡ Ok (message m) = front_framed bytes others m framed.0 stands in
+    let h : front bytes ≡ Ok (message m) = law.read bytes others m framed.0 stands in
     let some : is_empty bytes ≡ false = some_front bytes (message m) h in
     let after : drop (8 + length m.metadata + length m.body) bytes ≡ others = follows bytes others m stands in
     let long : 0 < length bytes = some_long bytes some in
     let len : length others ≡ length bytes - (8 + length m.metadata + length m.body) = sym (ap length after) ∙ length-drop (8 + length m.metadata + length m.body) bytes in
-    let next = through held steps (before ++ a ∷ []) ms more others rest framed.1.2 are.1 (omega (arith, len, long)) in
+    let next = through law held steps (before ++ a ∷ []) ms more others rest framed.1.2 are.1 (omega (arith, len, long)) in
     record {
       left = next.left;
       enough = next.enough;
@@ -73,18 +73,18 @@ through held (suc steps) before (m ∷ ms) (a ∷ more) bytes rest framed are en
           ∙ ap (λ (x : List Message). messages held next.left x rest) (append_assoc before (a ∷ []) more);
     }
 
-ends : (held : ℕ → Bool) (left : ℕ) (before : List Message) (rest : List ℕ) → IsEnd rest → is_empty before ≡ false → length rest < left → messages held left before rest ≡ Ok before
+ends : FrontLaw → (held : ℕ → Bool) (left : ℕ) (before : List Message) (rest : List ℕ) → IsEnd rest → is_empty before ≡ false → length rest < left → messages held left before rest ≡ Ok before
 unfolding messages
-ends held zero before rest ended some enough = absurd (omega arith)
-ends held (suc left) before rest (inl none) some enough = rw (none, some) refl
-ends held (suc left) before rest (inr marked) some enough = rw (marked, front_marked [], some) refl
+ends law held zero before rest ended some enough = absurd (omega arith)
+ends law held (suc left) before rest (inl none) some enough = rw (none, some) refl
+ends law held (suc left) before rest (inr marked) some enough = rw (marked, law.ended [], some) refl
 
-pub accepted_mean : (held : ℕ → Bool) (bytes : List ℕ) (ms : List Envelope) (more : List Message) (rest : List ℕ) → Frames bytes ms rest → IsEnd rest → AreAccepted held [] ms more → more ≢ []
+pub accepted_mean : FrontLaw → (held : ℕ → Bool) (bytes : List ℕ) (ms : List Envelope) (more : List Message) (rest : List ℕ) → Frames bytes ms rest → IsEnd rest → AreAccepted held [] ms more → more ≢ []
     → meaning held bytes ≡ Ok (table_in more)
 unfolding meaning
-accepted_mean held bytes ms more rest framed ended are some =
-    let t = through held (suc (length bytes)) [] ms more bytes rest framed are (omega arith) in
-    ap (λ (r : Result (List Message) Fault). r >>= λ found. Ok (table_in found)) (t.same ∙ ends held t.left more rest ended (not_empty more some) t.enough)
+accepted_mean law held bytes ms more rest framed ended are some =
+    let t = through law held (suc (length bytes)) [] ms more bytes rest framed are (omega arith) in
+    ap (λ (r : Result (List Message) Fault). r >>= λ found. Ok (table_in found)) (t.same ∙ ends law held t.left more rest ended (not_empty more some) t.enough)
 
 refused_told : (held : ℕ → Bool) (left : ℕ) (before : List Message) (rest : List ℕ) (fault : Fault) → IsRefused held before rest fault → length rest < left → messages held left before rest ≡ Err fault
 unfolding messages
@@ -96,8 +96,8 @@ refused_told held (suc left) before rest fault (only_mark h early told) enough =
 refused_told held (suc left) before rest fault (after_mark h late some told) enough =
     rw (some_front rest end_mark h, h, not_empty before late, not_empty (drop 8 rest) some, told) refl
 
-pub fault_told : (held : ℕ → Bool) (bytes : List ℕ) (fault : Fault) → FaultStands held bytes fault → meaning held bytes ≡ Err fault
+pub fault_told : FrontLaw → (held : ℕ → Bool) (bytes : List ℕ) (fault : Fault) → FaultStands held bytes fault → meaning held bytes ≡ Err fault
 unfolding meaning
-fault_told held bytes fault s =
-    let t = through held (suc (length bytes)) [] s.messages s.before bytes s.rest s.framed s.accepted (omega arith) in
+fault_told law held bytes fault s =
+    let t = through law held (suc (length bytes)) [] s.messages s.before bytes s.rest s.framed s.accepted (omega arith) in
     ap (λ (r : Result (List Message) Fault). r >>= λ found. Ok (table_in found)) (t.same ∙ refused_told held t.left s.before s.rest fault s.refused t.enough)

@@ -6,7 +6,7 @@ use Rattle.ipc_message.specs.declared.fault.Fault.{Fault}
 use Rattle.ipc_message.specs.Framing.{Envelope, Front, Frames, front, end_mark, message, taken, mark, first_some, type_of}
 use Rattle.ipc_message.specs.Header.{header}
 use Rattle.ipc_message.specs.Raw.{RawHeader}
-use Rattle.ipc_message.proofs.FramedLemmas.{framed_front, marked_front}
+use Rattle.ipc_stream.proofs.FrontLaw.{FrontLaw}
 use Rattle.ipc_stream.specs.FramedFault.{AreAccepted, IsRefused, no_front, bad_message, nothing, only_mark, after_mark, FaultStands}
 use Rattle.ipc_stream.specs.FramedTable.{IsEnd}
 use Rattle.ipc_stream.specs.Meaning.{◌>>=◌, or_else, Message, table_in, order_fault, header_rounds, accepted, at_end, at_mark, by_front, messages, meaning}
@@ -88,19 +88,19 @@ at_end_ok : (held : ℕ → Bool) (before ms : List Message) → at_end before �
 at_end_ok held [] ms h = absurd (cc)
 at_end_ok held (b ∷ bs) ms h = ends_here held (b ∷ bs) [] ms (inl refl) refl (cc h)
 
-marked_end : (bytes : List ℕ) → front bytes ≡ Ok end_mark → drop 8 bytes ≡ [] → IsEnd bytes
-marked_end bytes h none = inr (marked_front bytes h ∙ ap (λ (x : List ℕ). mark ++ (0 ∷ 0 ∷ 0 ∷ 0 ∷ x)) none)
+marked_end : FrontLaw → (bytes : List ℕ) → front bytes ≡ Ok end_mark → drop 8 bytes ≡ [] → IsEnd bytes
+marked_end law bytes h none = inr (law.marked bytes h ∙ ap (λ (x : List ℕ). mark ++ (0 ∷ 0 ∷ 0 ∷ 0 ∷ x)) none)
 
-at_mark_ok : (held : ℕ → Bool) (before ms : List Message) (bytes others : List ℕ) → front bytes ≡ Ok end_mark → drop 8 bytes ≡ others → at_mark before others ≡ Ok ms → Reads held before bytes ms
-at_mark_ok held [] ms bytes others h d e = absurd (cc)
-at_mark_ok held (b ∷ bs) ms bytes (x ∷ xs) h d e = absurd (cc)
-at_mark_ok held (b ∷ bs) ms bytes [] h d e = ends_here held (b ∷ bs) bytes ms (marked_end bytes h d) refl (cc e)
+at_mark_ok : FrontLaw → (held : ℕ → Bool) (before ms : List Message) (bytes others : List ℕ) → front bytes ≡ Ok end_mark → drop 8 bytes ≡ others → at_mark before others ≡ Ok ms → Reads held before bytes ms
+at_mark_ok law held [] ms bytes others h d e = absurd (cc)
+at_mark_ok law held (b ∷ bs) ms bytes (x ∷ xs) h d e = absurd (cc)
+at_mark_ok law held (b ∷ bs) ms bytes [] h d e = ends_here held (b ∷ bs) bytes ms (marked_end law bytes h d) refl (cc e)
 
 -- one message more in front
-one_more : (held : ℕ → Bool) (before ms : List Message) (bytes : List ℕ) (m : Envelope) (a : Message) → front bytes ≡ Ok (message m) → accepted held before m ≡ Ok a
+one_more : FrontLaw → (held : ℕ → Bool) (before ms : List Message) (bytes : List ℕ) (m : Envelope) (a : Message) → front bytes ≡ Ok (message m) → accepted held before m ≡ Ok a
     → Reads held (before ++ a ∷ []) (drop (taken (message m)) bytes) ms → Reads held before bytes ms
-one_more held before ms bytes m a h is next =
-    let f = framed_front bytes m h in
+one_more law held before ms bytes m a h is next =
+    let f = law.framed bytes m h in
     record {
       envelopes = m ∷ next.envelopes;
       found = a ∷ next.found;
@@ -115,22 +115,22 @@ one_more held before ms bytes m a h is next =
 abbrev Rest : (ℕ → Bool) → ℕ → List Message → Front → List ℕ → Result (List Message) Fault
 Rest held steps before f bytes = by_front f (at_mark before (drop 8 bytes)) (λ m. accepted held before m >>= λ a. messages held steps (before ++ a ∷ []) (drop (taken f) bytes))
 
-after_front : (held : ℕ → Bool) (steps : ℕ) (before ms : List Message) (bytes : List ℕ) (f : Front)
+after_front : FrontLaw → (held : ℕ → Bool) (steps : ℕ) (before ms : List Message) (bytes : List ℕ) (f : Front)
     → ((b : List Message) (others : List ℕ) → messages held steps b others ≡ Ok ms → Reads held b others ms)
     → front bytes ≡ Ok f → Rest held steps before f bytes ≡ Ok ms → Reads held before bytes ms
-after_front held steps before ms bytes end_mark next h e = at_mark_ok held before ms bytes (drop 8 bytes) h refl e
-after_front held steps before ms bytes (message m) next h e =
+after_front law held steps before ms bytes end_mark next h e = at_mark_ok law held before ms bytes (drop 8 bytes) h refl e
+after_front law held steps before ms bytes (message m) next h e =
     let go = λ (a : Message). messages held steps (before ++ a ∷ []) (drop (taken (message m)) bytes) in
     let b = bind_ok (accepted held before m) go ms e in
-    one_more held before ms bytes m b.0 h b.1 (next (before ++ b.0 ∷ []) (drop (taken (message m)) bytes) b.2)
+    one_more law held before ms bytes m b.0 h b.1 (next (before ++ b.0 ∷ []) (drop (taken (message m)) bytes) b.2)
 
-pub messages_framed : (held : ℕ → Bool) (steps : ℕ) (before ms : List Message) (bytes : List ℕ) → messages held steps before bytes ≡ Ok ms → Reads held before bytes ms
+pub messages_framed : FrontLaw → (held : ℕ → Bool) (steps : ℕ) (before ms : List Message) (bytes : List ℕ) → messages held steps before bytes ≡ Ok ms → Reads held before bytes ms
 unfolding messages
-messages_framed held zero before ms bytes h = absurd (cc)
-messages_framed held (suc steps) before ms [] h = at_end_ok held before ms h
-messages_framed held (suc steps) before ms (x ∷ xs) h =
+messages_framed law held zero before ms bytes h = absurd (cc)
+messages_framed law held (suc steps) before ms [] h = at_end_ok held before ms h
+messages_framed law held (suc steps) before ms (x ∷ xs) h =
     let b = bind_ok (front (x ∷ xs)) (λ (f : Front). Rest held steps before f (x ∷ xs)) ms h in
-    after_front held steps before ms (x ∷ xs) b.0 (λ c others e. messages_framed held steps c ms others e) b.1 b.2
+    after_front law held steps before ms (x ∷ xs) b.0 (λ c others e. messages_framed law held steps c ms others e) b.1 b.2
 
 -- ---- a fault
 
@@ -160,10 +160,10 @@ at_mark_err held (b ∷ bs) bytes [] fault h d e = absurd (cc)
 at_mark_err held (b ∷ bs) bytes (x ∷ xs) fault h d e =
     stops_here held (b ∷ bs) bytes fault (after_mark h (some_left b bs (b ∷ bs) refl) (some_left x xs (drop 8 bytes) d) (cc e))
 
-stops_later : (held : ℕ → Bool) (before : List Message) (bytes : List ℕ) (fault : Fault) (m : Envelope) (a : Message) → front bytes ≡ Ok (message m) → accepted held before m ≡ Ok a
+stops_later : FrontLaw → (held : ℕ → Bool) (before : List Message) (bytes : List ℕ) (fault : Fault) (m : Envelope) (a : Message) → front bytes ≡ Ok (message m) → accepted held before m ≡ Ok a
     → Stops held (before ++ a ∷ []) (drop (taken (message m)) bytes) fault → Stops held before bytes fault
-stops_later held before bytes fault m a h is next =
-    let f = framed_front bytes m h in
+stops_later law held before bytes fault m a h is next =
+    let f = law.framed bytes m h in
     record {
       envelopes = m ∷ next.envelopes;
       found = a ∷ next.found;
@@ -173,36 +173,36 @@ stops_later held before bytes fault m a h is next =
       refused = rw (← append_assoc before (a ∷ []) next.found) next.refused;
     }
 
-refused_front : (held : ℕ → Bool) (steps : ℕ) (before : List Message) (bytes : List ℕ) (fault : Fault) (f : Front)
+refused_front : FrontLaw → (held : ℕ → Bool) (steps : ℕ) (before : List Message) (bytes : List ℕ) (fault : Fault) (f : Front)
     → ((b : List Message) (others : List ℕ) → length others < length bytes → messages held steps b others ≡ Err fault → Stops held b others fault)
     → 0 < length bytes → front bytes ≡ Ok f → Rest held steps before f bytes ≡ Err fault → Stops held before bytes fault
-refused_front held steps before bytes fault end_mark next some h e = at_mark_err held before bytes (drop 8 bytes) fault h refl e
-refused_front held steps before bytes fault (message m) next some h e =
+refused_front law held steps before bytes fault end_mark next some h e = at_mark_err held before bytes (drop 8 bytes) fault h refl e
+refused_front law held steps before bytes fault (message m) next some h e =
     let go = λ (a : Message). messages held steps (before ++ a ∷ []) (drop (taken (message m)) bytes) in
     elim (bind_err (accepted held before m) go fault e) [
       | inl bad ↦ stops_here held before bytes fault (bad_message m h bad)
       | inr b ↦
-          stops_later held before bytes fault m b.0 h b.1
+          stops_later law held before bytes fault m b.0 h b.1
           (next (before ++ b.0 ∷ []) (drop (taken (message m)) bytes) (omega (arith, length-drop (8 + length m.metadata + length m.body) bytes)) b.2)
     ]
 
-stopped : (held : ℕ → Bool) (steps : ℕ) (before : List Message) (bytes : List ℕ) (fault : Fault) → length bytes < steps → messages held steps before bytes ≡ Err fault → Stops held before bytes fault
+stopped : FrontLaw → (held : ℕ → Bool) (steps : ℕ) (before : List Message) (bytes : List ℕ) (fault : Fault) → length bytes < steps → messages held steps before bytes ≡ Err fault → Stops held before bytes fault
 unfolding messages
-stopped held zero before bytes fault enough h = absurd (omega arith)
-stopped held (suc steps) before [] fault enough h = at_end_err held before fault h
-stopped held (suc steps) before (x ∷ xs) fault enough h =
+stopped law held zero before bytes fault enough h = absurd (omega arith)
+stopped law held (suc steps) before [] fault enough h = at_end_err held before fault h
+stopped law held (suc steps) before (x ∷ xs) fault enough h =
     elim (bind_err (front (x ∷ xs)) (λ (f : Front). Rest held steps before f (x ∷ xs)) fault h) [
       | inl bad ↦ stops_here held before (x ∷ xs) fault (no_front (some_left x xs (x ∷ xs) refl) bad)
       | inr b ↦
-          refused_front held steps before (x ∷ xs) fault b.0 (λ c others less e. stopped held steps c others fault (omega arith) e) (omega arith) b.1 b.2
+          refused_front law held steps before (x ∷ xs) fault b.0 (λ c others less e. stopped law held steps c others fault (omega arith) e) (omega arith) b.1 b.2
     ]
 
 bind_value_err : {A B : Type 0} (r : Result A Fault) (f : A → B) (e : Fault) → (r >>= λ x. Ok (f x)) ≡ Err e → r ≡ Err e
 bind_value_err (Ok x) f e h = absurd (cc)
 bind_value_err (Err d) f e h = cc
 
-pub fault_stands : (held : ℕ → Bool) (bytes : List ℕ) (fault : Fault) → meaning held bytes ≡ Err fault → FaultStands held bytes fault
+pub fault_stands : FrontLaw → (held : ℕ → Bool) (bytes : List ℕ) (fault : Fault) → meaning held bytes ≡ Err fault → FaultStands held bytes fault
 unfolding meaning
-fault_stands held bytes fault h =
-    let s : Stops held [] bytes fault = stopped held (suc (length bytes)) [] bytes fault (omega arith) (bind_value_err (messages held (suc (length bytes)) [] bytes) table_in fault h) in
+fault_stands law held bytes fault h =
+    let s : Stops held [] bytes fault = stopped law held (suc (length bytes)) [] bytes fault (omega arith) (bind_value_err (messages held (suc (length bytes)) [] bytes) table_in fault h) in
     record { messages = s.envelopes; before = s.found; rest = s.rest; framed = s.framed; accepted = s.are; refused = s.refused }

@@ -7,7 +7,7 @@ use Rattle.ipc_message.specs.Convert.{plain_schema_of}
 use Rattle.ipc_message.specs.Framing.{Envelope, Frames, front, end_mark, message, taken}
 use Rattle.ipc_message.specs.Header.{header}
 use Rattle.ipc_message.specs.Raw.{RawBatch}
-use Rattle.ipc_message.proofs.FramedLemmas.{front_framed, front_marked}
+use Rattle.ipc_stream.proofs.FrontLaw.{FrontLaw}
 use Rattle.values.specs.Columns.{IntegerColumn}
 use Rattle.ipc_stream.specs.FramedTable.{IsEnd, row_in, IsBatchOf, AreBatchesOf, StreamSpells}
 use Rattle.arrow_schema.specs.Integers.{is_empty}
@@ -16,25 +16,25 @@ use Rattle.ipc_stream.proofs.FramedBack.{some_front, follows}
 
 -- ---- the messages of a stream
 
-no_message : (bytes : List ℕ) (m : Envelope) → IsEnd bytes → front bytes ≡ Ok (message m) → ⊥
-no_message bytes m (inl none) h =
+no_message : FrontLaw → (bytes : List ℕ) (m : Envelope) → IsEnd bytes → front bytes ≡ Ok (message m) → ⊥
+no_message law bytes m (inl none) h =
     let some : is_empty bytes ≡ false = some_front bytes (message m) h in
     let empty : is_empty bytes ≡ true = ap is_empty none in
     absurd (cc (some, empty))
-no_message bytes m (inr marked) h =
-    let end : front bytes ≡ Ok end_mark = ap front marked ∙ front_marked [] in
+no_message law bytes m (inr marked) h =
+    let end : front bytes ≡ Ok end_mark = ap front marked ∙ law.ended [] in
     absurd (cc (end, h))
 
-pub same_messages : (bytes : List ℕ) (ms ns : List Envelope) (rest left : List ℕ) → Frames bytes ms rest → IsEnd rest → Frames bytes ns left → IsEnd left → ms ≡ ns
-same_messages bytes [] [] rest left f e g k = refl
-same_messages bytes [] (n ∷ ns) rest left f e g k = absurd (no_message bytes n (subst IsEnd (sym f) e) (front_framed bytes g.1.0 n g.0 g.1.1))
-same_messages bytes (m ∷ ms) [] rest left f e g k = absurd (no_message bytes m (subst IsEnd (sym g) k) (front_framed bytes f.1.0 m f.0 f.1.1))
-same_messages bytes (m ∷ ms) (n ∷ ns) rest left f e g k =
-    let first : front bytes ≡ Ok (message m) = front_framed bytes f.1.0 m f.0 f.1.1 in
-    let second : front bytes ≡ Ok (message n) = front_framed bytes g.1.0 n g.0 g.1.1 in
+pub same_messages : FrontLaw → (bytes : List ℕ) (ms ns : List Envelope) (rest left : List ℕ) → Frames bytes ms rest → IsEnd rest → Frames bytes ns left → IsEnd left → ms ≡ ns
+same_messages law bytes [] [] rest left f e g k = refl
+same_messages law bytes [] (n ∷ ns) rest left f e g k = absurd (no_message law bytes n (subst IsEnd (sym f) e) (law.read bytes g.1.0 n g.0 g.1.1))
+same_messages law bytes (m ∷ ms) [] rest left f e g k = absurd (no_message law bytes m (subst IsEnd (sym g) k) (law.read bytes f.1.0 m f.0 f.1.1))
+same_messages law bytes (m ∷ ms) (n ∷ ns) rest left f e g k =
+    let first : front bytes ≡ Ok (message m) = law.read bytes f.1.0 m f.0 f.1.1 in
+    let second : front bytes ≡ Ok (message n) = law.read bytes g.1.0 n g.0 g.1.1 in
     let same : m ≡ n = cc (first, second) in
     let others : f.1.0 ≡ g.1.0 = sym (follows bytes f.1.0 m f.1.1) ∙ ap (λ (x : Envelope). drop (taken (message x)) bytes) same ∙ follows bytes g.1.0 n g.1.1 in
-    let more : ms ≡ ns = same_messages g.1.0 ms ns rest left (subst (λ (x : List ℕ). Frames x ms rest) others f.1.2) e g.1.2 k in
+    let more : ms ≡ ns = same_messages law g.1.0 ms ns rest left (subst (λ (x : List ℕ). Frames x ms rest) others f.1.2) e g.1.2 k in
     ap (λ (x : Envelope). x ∷ ms) same ∙ ap (λ (x : List Envelope). n ∷ x) more
 
 -- ---- the rows of its batches
@@ -67,9 +67,9 @@ abbrev others_of : List Envelope → List Envelope
 others_of [] = []
 others_of (x ∷ xs) = xs
 
-pub one_table : (held : ℕ → Bool) (bytes : List ℕ) (t u : PlainTable) → StreamSpells held bytes t → StreamSpells held bytes u → t ≡ u
-one_table held bytes t u a b =
-    let same : a.first ∷ a.others ≡ b.first ∷ b.others = same_messages bytes (a.first ∷ a.others) (b.first ∷ b.others) a.rest b.rest a.framed a.ended b.framed b.ended in
+pub one_table : FrontLaw → (held : ℕ → Bool) (bytes : List ℕ) (t u : PlainTable) → StreamSpells held bytes t → StreamSpells held bytes u → t ≡ u
+one_table law held bytes t u a b =
+    let same : a.first ∷ a.others ≡ b.first ∷ b.others = same_messages law bytes (a.first ∷ a.others) (b.first ∷ b.others) a.rest b.rest a.framed a.ended b.framed b.ended in
     let first : a.first ≡ b.first = ap (λ (x : List Envelope). first_of x a.first) same in
     let others : a.others ≡ b.others = ap others_of same in
     let spelled = sym a.spelled ∙ ap (λ (m : Envelope). header held m.metadata) first ∙ b.spelled in

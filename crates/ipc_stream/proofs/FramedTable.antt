@@ -32,6 +32,7 @@ use Rattle.ipc_stream.specs.Meaning.{Message, dictionary_rounds, header_rounds, 
 use Rattle.arrow_schema.specs.Integers.{is_empty}
 use Rattle.values.specs.IntegerTable.{integer_columns}
 use Rattle.ipc_stream.proofs.AcceptedSchema.{accepted_integer, accepted_lacks_id}
+use Rattle.ipc_stream.proofs.FrontLaw.{FrontLaw}
 use Rattle.ipc_stream.proofs.FramedMessages.{bind_ok, Passes, accepted_passes, Reads, messages_framed}
 use Rattle.ipc_stream.proofs.RowLemmas.{length_rows}
 use Rattle.ipc_stream.proofs.Steps.{same_schema, still_some}
@@ -262,10 +263,10 @@ spells held bytes t (m ∷ ms) (a ∷ more) rest framed ended are some is =
     let schema : IsSchema a.header = is_schema held m.metadata a.header p.spelled (schema_first (eqb (type_of m.metadata) 1) p.ordered) in
     after_schema held bytes t m ms a.header a.body more rest framed ended schema p.spelled p.rounds are.1 is
 
-pub table_spelled : (held : ℕ → Bool) (bytes : List ℕ) (t : PlainTable) → meaning held bytes ≡ Ok t → StreamSpells held bytes t
+pub table_spelled : FrontLaw → (held : ℕ → Bool) (bytes : List ℕ) (t : PlainTable) → meaning held bytes ≡ Ok t → StreamSpells held bytes t
 unfolding meaning
-table_spelled held bytes t h =
+table_spelled law held bytes t h =
     let b = bind_ok (messages held (suc (length bytes)) [] bytes) (λ (ms : List Message). Ok (table_in ms)) t h in
-    let r : Reads held [] bytes b.0 = messages_framed held (suc (length bytes)) [] b.0 bytes b.1 in
+    let r : Reads held [] bytes b.0 = messages_framed law held (suc (length bytes)) [] b.0 bytes b.1 in
     let is : table_in b.0 ≡ t = cc (b.2) in
     spells held bytes t r.envelopes r.found r.rest r.framed r.ended r.are (ap is_empty (sym r.all) ∙ r.some) (ap table_in (sym r.all) ∙ is)

@@ -16,6 +16,7 @@ pub mod PieceLemmas
 pub mod IntegerTables
 pub mod PackLemmas
 pub mod PackColumns
+pub mod FrontLaw
 pub mod FramedMessages
 pub mod FramedTable
 pub mod FramedBack

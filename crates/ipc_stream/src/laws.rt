@@ -1,5 +1,5 @@
 // Laws of streams: what `meaning` is in the words of the format, the round trip, and what the cut is. The functions are
-// there for their contracts.
+// there for their contracts; they call the laws below that their proofs use.
 ghost use Rattle.std.specs.Prelude.{◌≡◌, ◌≢◌, ℕ, Bool, List, [], Ok, Err};
 ghost use Rattle.values.specs.Cell.{Cell, PlainTable};
 ghost use Rattle.ipc_message.specs.declared.fault.Fault.{Fault};
@@ -13,6 +13,7 @@ ghost use Rattle.ipc_stream.specs.Meaning.{Message, meaning, table_in};
 ghost use Rattle.values.specs.IntegerTable.{IsIntegerTable};
 ghost use Rattle.values.specs.TableView.{table_of};
 
+use ipc_message::front_is_framed;
 use values::Table;
 
 /// A stream that means a table spells it: framed messages, of which the first is its schema and the others are record
@@ -26,7 +27,9 @@ pub fn meaning_is_framed()
         → meaning held bytes ≡ Ok (table_in found) }
     ensures fault { (held : ℕ → Bool) (bytes : List ℕ) (fault : Fault) → meaning held bytes ≡ Err fault → FaultStands held bytes fault }
     ensures told { (held : ℕ → Bool) (bytes : List ℕ) (fault : Fault) → FaultStands held bytes fault → meaning held bytes ≡ Err fault }
-{}
+{
+    front_is_framed();
+}
 
 /// The canonical stream of a table means that table, whatever the table of integers: what is written is read again.
 pub fn canonical_means_its_table(table: &Table)
