@@ -2,6 +2,7 @@
 use Rattle.std.specs.Prelude.{not, ◌==◌, ◌&&◌, ◌||◌, nat_lt, ◌/◌, IsTrue, Option, Some, None, Result, Err}
 use Rattle.std.specs.List.{list_any}
 use Rattle.std.proofs.Common.{◌≡◌, ℕ, zero, suc, ◌+◌, ◌*◌, ◌≤◌, ◌<◌, Bool, true, false, List, [], ◌∷◌, ◌++◌, length, map, drop, refl, arith, sym, ap, ◌∙◌}
+use Rattle.std.proofs.lemmas.Bool.{and_parts, eqb-true, ltb-false, not-false, or_parts}
 use Rattle.flatbuf.specs.Lookup.{number}
 use Rattle.arrow_schema.specs.Column.{PlainSchema}
 use Rattle.values.specs.Cell.{Cell}
@@ -19,40 +20,35 @@ use Rattle.values.specs.IntegerTable.{have_rows, integer_columns}
 use Rattle.ipc_stream.specs.Batch.{Array, arrays_of, arrays_in, is_negative, is_bad_length, has_bad_length, has_other_layout, is_outside, is_short, has_validity, counts_nulls, are_too_heavy, bytes_of, batch_rows, batch_rounds}
 use Rattle.ipc_stream.specs.Meaning.{or_else}
 use Rattle.ipc_stream.proofs.ArrayLemmas.{count_nodes, count_buffers, buffer_at, node_at, next_node, next_buffer, array_at, array_columns}
-use Rattle.ipc_stream.proofs.BatchLemmas.{is_other, neither, eq_back, lt_back, layout_fits, array_here, column_at, count_columns}
-use Rattle.ipc_stream.proofs.Pieces.{both}
+use Rattle.ipc_stream.proofs.BatchLemmas.{has_other_length, layout_fits, array_here, column_at, count_columns}
 use Rattle.ipc_stream.proofs.GrowthLemmas.{Grows, grown, rows_grown, have_grown}
-
-not_false : (b : Bool) → not b ≡ false → b ≡ true
-not_false true h = refl
-not_false false h = cc
 
 by_parts : (a b d : Bool) → (a || b || d) ≡ false → (a || (b || d)) ≡ false
 by_parts true b d h = h
 by_parts false b d h = h
 
-node_is : (n : ℕ) (m : RawNode) → is_other n m ≡ false → m.length ≡ n
+node_is : (n : ℕ) (m : RawNode) → has_other_length n m ≡ false → m.length ≡ n
 node_is n m h =
-    let parts = neither (is_bad_length m.length) (not (m.length == n)) h in
-    eq_back m.length n (not_false (m.length == n) parts.1)
+    let parts = or_parts (is_bad_length m.length) (not (m.length == n)) h in
+    eqb-true m.length n (not-false (m.length == n) parts.1)
 
 -- the values are as many as they must be, and end in the body
 enough : (n : ℕ) (a : Array) → a.node.length ≡ n → is_short a ≡ false → n * a.column.width ≤ a.values.length
 enough n a is h =
-    let parts = neither (nat_lt 0 a.validity.length && nat_lt a.validity.length ((a.node.length + 7) / 8)) (nat_lt a.values.length (a.node.length * a.column.width)) h in
-    let long = lt_back a.values.length (a.node.length * a.column.width) parts.1 in
+    let parts = or_parts (nat_lt 0 a.validity.length && nat_lt a.validity.length ((a.node.length + 7) / 8)) (nat_lt a.values.length (a.node.length * a.column.width)) h in
+    let long = ltb-false a.values.length (a.node.length * a.column.width) parts.1 in
     rw (← is) long
 
 within : (body : List ℕ) (b : RawBuffer) → is_outside body b ≡ false → b.offset + b.length ≤ length body
 within body b h =
     let far : Bool = nat_lt (length body) (b.offset + b.length) in
-    let parts = neither (is_negative b.offset) (is_negative b.length || far) (by_parts (is_negative b.offset) (is_negative b.length) far h) in
-    lt_back (length body) (b.offset + b.length) (neither (is_negative b.length) far parts.1).1
+    let parts = or_parts (is_negative b.offset) (is_negative b.length || far) (by_parts (is_negative b.offset) (is_negative b.length) far h) in
+    ltb-false (length body) (b.offset + b.length) (or_parts (is_negative b.length) far parts.1).1
 
 -- columns of so many rows that may grow
 pub grows_of : (cs : List IntegerColumn) (ns : List RawNode) (bs : List RawBuffer) (vs : List (List ℕ)) (before n : ℕ) (body : List ℕ)
     → length ns ≡ length cs → length bs ≡ 2 * length cs → have_rows cs vs before ≡ true
-    → list_any (is_other n) ns ≡ false → list_any (is_outside body) bs ≡ false → list_any is_short (arrays_of cs ns bs) ≡ false
+    → list_any (has_other_length n) ns ≡ false → list_any (is_outside body) bs ≡ false → list_any is_short (arrays_of cs ns bs) ≡ false
     → Grows before n body (arrays_of cs ns bs) vs
 grows_of [] ns bs [] before n body hn hb rows lengths inside long = tt
 grows_of [] ns bs (v ∷ vs) before n body hn hb rows lengths inside long = cc
@@ -62,12 +58,12 @@ grows_of (c ∷ cs) (m ∷ ns) (a ∷ []) vs before n body hn hb rows lengths in
 grows_of (c ∷ cs) (m ∷ ns) (a ∷ b ∷ bs) [] before n body hn hb rows lengths inside long = cc
 grows_of (c ∷ cs) (m ∷ ns) (a ∷ b ∷ bs) (v ∷ vs) before n body hn hb rows lengths inside long =
     let here : Array = record { column = c; node = m; validity = a; values = b } in
-    let full = both (length v == before * c.width) (have_rows cs vs before) rows in
-    let nodes = neither (is_other n m) (list_any (is_other n) ns) lengths in
-    let first = neither (is_outside body a) (is_outside body b || list_any (is_outside body) bs) inside in
-    let second = neither (is_outside body b) (list_any (is_outside body) bs) first.1 in
-    let arrays = neither (is_short here) (list_any is_short (arrays_of cs ns bs)) long in (
-      eq_back (length v) (before * c.width) full.0,
+    let full = and_parts (length v == before * c.width) (have_rows cs vs before) rows in
+    let nodes = or_parts (has_other_length n m) (list_any (has_other_length n) ns) lengths in
+    let first = or_parts (is_outside body a) (is_outside body b || list_any (is_outside body) bs) inside in
+    let second = or_parts (is_outside body b) (list_any (is_outside body) bs) first.1 in
+    let arrays = or_parts (is_short here) (list_any is_short (arrays_of cs ns bs)) long in (
+      eqb-true (length v) (before * c.width) full.0,
       enough n here (node_is n m nodes.0) arrays.0,
       within body b second.0,
       grows_of cs ns bs vs before n body (omega arith) (omega arith) full.1 nodes.1 second.1 arrays.1,
@@ -82,7 +78,7 @@ batch_grows schema b body vs before layout lengths inside long rows =
     let cs : List IntegerColumn = integer_columns (schema_of schema) in
     let fits = layout_fits schema b layout in
     let n = count_columns schema in
-    let nodes = neither (is_bad_length b.length) (list_any (is_other b.length) (nodes_in b.nodes.now)) lengths in
+    let nodes = or_parts (is_bad_length b.length) (list_any (has_other_length b.length) (nodes_in b.nodes.now)) lengths in
     grows_of cs (nodes_in b.nodes.now) (buffers_in b.buffers.now) vs before b.length body (count_nodes b.nodes.now ∙ fits.0 ∙ sym n) (count_buffers b.buffers.now ∙ fits.1 ∙ ap (λ (k : ℕ). 2 * k) (sym n)) rows nodes.1 inside long
 
 -- ---- at a place
@@ -90,10 +86,10 @@ batch_grows schema b body vs before layout lengths inside long rows =
 none_after : {A : Type 0} (p : A → Bool) (xs : List A) (i : ℕ) → list_any p xs ≡ false → list_any p (drop i xs) ≡ false
 none_after p xs zero h = h
 none_after p [] (suc i) h = refl
-none_after p (x ∷ xs) (suc i) h = none_after p xs i (neither (p x) (list_any p xs) h).1
+none_after p (x ∷ xs) (suc i) h = none_after p xs i (or_parts (p x) (list_any p xs) h).1
 
 none_at : {A : Type 0} (p : A → Bool) (xs : List A) (i : ℕ) (x : A) → drop i xs ≡ x ∷ drop (i + 1) xs → list_any p xs ≡ false → p x ≡ false
-none_at p xs i x here none = (neither (p x) (list_any p (drop (i + 1) xs)) (sym (ap (list_any p) here) ∙ none_after p xs i none)).0
+none_at p xs i x here none = (or_parts (p x) (list_any p (drop (i + 1) xs)) (sym (ap (list_any p) here) ∙ none_after p xs i none)).0
 
 -- the values of a column stand in the body
 pub values_within : (schema : Schema) (b : RawBatch) (body : List ℕ) (i : ℕ) → has_other_layout (integer_columns (schema_of schema)) (raw_batch_of b) ≡ false
@@ -103,8 +99,8 @@ pub values_within : (schema : Schema) (b : RawBatch) (body : List ℕ) (i : ℕ)
 values_within schema b body i layout lengths inside long few =
     let fits = layout_fits schema b layout in
     let a : Array = array_at (column_at schema i) b.nodes.now b.buffers.now i in
-    let nodes = neither (is_bad_length b.length) (list_any (is_other b.length) (nodes_in b.nodes.now)) lengths in
-    let node = none_at (is_other b.length) (nodes_in b.nodes.now) i (node_at b.nodes.now i) (next_node b.nodes.now i (omega arith)) nodes.1 in
+    let nodes = or_parts (is_bad_length b.length) (list_any (has_other_length b.length) (nodes_in b.nodes.now)) lengths in
+    let node = none_at (has_other_length b.length) (nodes_in b.nodes.now) i (node_at b.nodes.now i) (next_node b.nodes.now i (omega arith)) nodes.1 in
     let buffer = none_at (is_outside body) (buffers_in b.buffers.now) (2 * i + 1) (buffer_at b.buffers.now (2 * i + 1)) (next_buffer b.buffers.now (2 * i + 1) (omega arith)) inside in
     let array = none_at is_short (arrays_in (schema_of schema) (raw_batch_of b)) i a (array_here schema b i layout few) long in
     let many = enough b.length a (node_is b.length (node_at b.nodes.now i) node) array in

@@ -5,7 +5,9 @@ use Rattle.std.proofs.Common.{◌≡◌, ℕ, ◌+◌, ◌*◌, ◌^◌, ◌≤�
 use Rattle.std.proofs.lemmas.List.{length-map, get_or-map}
 use Rattle.std.proofs.Math.Seq.{drop-cons}
 use Rattle.arrow_schema.specs.View.{schema_of, column_of}
+use Rattle.std.proofs.Math.Bool.{or-true}
 use Rattle.std.proofs.Math.Nat.{mul-le-mul}
+use Rattle.std.proofs.lemmas.Bool.{and_parts, eq-eqb, eqb-true, ltb-false, ne_eqb, not-false, or_parts}
 use Rattle.arrow_schema.specs.Column.{Column, PlainSchema}
 use Rattle.arrow_schema.specs.Limits.{IsWithinLimits}
 use Rattle.values.specs.Cell.{Cell}
@@ -21,33 +23,6 @@ use Rattle.ipc_stream.specs.Batch.{is_negative, is_bad_length, has_bad_length, h
 use Rattle.ipc_stream.proofs.RowLemmas.{length_rows}
 use Rattle.ipc_stream.proofs.RowWeights.{too_heavy, few_columns}
 use Rattle.ipc_stream.proofs.ArrayLemmas.{count_nodes, count_buffers, count_arrays, array_at, next_array}
-
--- ---- tests
-
-pub eq_true : (a b : ℕ) → a ≡ b → (a == b) ≡ true
-eq_true a b e = grind arith
-
-pub eq_false : (a b : ℕ) → (a ≡ b → ⊥) → (a == b) ≡ false
-eq_false a b e = grind arith
-
-pub eq_back : (a b : ℕ) → (a == b) ≡ true → a ≡ b
-eq_back a b e = grind arith
-
-pub lt_back : (a b : ℕ) → nat_lt a b ≡ false → b ≤ a
-lt_back a b e = grind arith
-
-pub neither : (a b : Bool) → (a || b) ≡ false → (a ≡ false) × (b ≡ false)
-neither false b h = (refl, h)
-neither true b h = cc
-
-both_of : (a b : Bool) → not (a && b) ≡ false → (a ≡ true) × (b ≡ true)
-both_of true true h = (refl, refl)
-both_of true false h = cc
-both_of false b h = cc
-
-or_true : (b : Bool) → (b || true) ≡ true
-or_true true = refl
-or_true false = refl
 
 -- ---- the layout
 
@@ -65,8 +40,8 @@ pub layout_fits : (schema : Schema) (b : RawBatch) → has_other_layout (integer
     → (length b.nodes.now / 16 ≡ length schema.fields.items) × (length b.buffers.now / 16 ≡ 2 * length schema.fields.items)
 layout_fits schema b h =
     let n : ℕ = length schema.fields.items in
-    let parts = both_of (length b.nodes.now / 16 == n) (length b.buffers.now / 16 == 2 * n) (sym (layout_is schema b n refl) ∙ h) in
-    (eq_back (length b.nodes.now / 16) n parts.0, eq_back (length b.buffers.now / 16) (2 * n) parts.1)
+    let parts = and_parts (length b.nodes.now / 16 == n) (length b.buffers.now / 16 == 2 * n) (not-false (length b.nodes.now / 16 == n && length b.buffers.now / 16 == 2 * n) (sym (layout_is schema b n refl) ∙ h)) in
+    (eqb-true (length b.nodes.now / 16) n parts.0, eqb-true (length b.buffers.now / 16) (2 * n) parts.1)
 
 -- the column at a place
 abbrev pub column_at : Schema → ℕ → IntegerColumn
@@ -93,14 +68,14 @@ count_arrays_in schema b h =
 -- ---- lengths
 
 -- a node's length is none, or not the batch's
-abbrev pub is_other : ℕ → RawNode → Bool
-is_other length n = is_bad_length n.length || not (n.length == length)
+abbrev pub has_other_length : ℕ → RawNode → Bool
+has_other_length length n = is_bad_length n.length || not (n.length == length)
 
 pub other_length : (length x : ℕ) → (x ≡ length → ⊥) → (is_bad_length x || not (x == length)) ≡ true
-other_length length x other = rw (eq_false x length other) (or_true (is_bad_length x))
+other_length length x other = rw (ne_eqb x length other) (or-true (is_bad_length x))
 
 pub same_length : (length x : ℕ) → x ≡ length → is_bad_length length ≡ false → (is_bad_length x || not (x == length)) ≡ false
-same_length length x same fine = rw (same, fine, eq_true length length refl) refl
+same_length length x same fine = rw (same, fine, eq-eqb length length refl) refl
 
 -- ---- the column at a place, as the code reads it
 
@@ -129,9 +104,9 @@ few_fields schema limits = omega (arith, few_columns (schema_of schema) limits, 
 
 pub few_rows : (b : RawBatch) → has_bad_length (raw_batch_of b) ≡ false → b.length ≤ 16777216
 few_rows b fine =
-    let good = neither (is_bad_length b.length) (list_any (is_other b.length) (nodes_in b.nodes.now)) fine in
-    let short = neither (is_negative b.length) (nat_lt 16777216 b.length) good.0 in
-    lt_back 16777216 b.length short.1
+    let good = or_parts (is_bad_length b.length) (list_any (has_other_length b.length) (nodes_in b.nodes.now)) fine in
+    let short = or_parts (is_negative b.length) (nat_lt 16777216 b.length) good.0 in
+    ltb-false 16777216 b.length short.1
 
 -- a weight is a number of 64 bits
 pub weight_fits : (before n columns : ℕ) → before ≤ 268435456 → n ≤ 16777216 → columns ≤ 2048 → (before + n) * (1 + columns) < 2 ^ 64

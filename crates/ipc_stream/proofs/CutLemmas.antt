@@ -1,10 +1,11 @@
 -- What the cut is where the rows are light: only their number counts.
-use Rattle.std.specs.Prelude.{nat_le, ◌&&◌, sum_by}
-use Rattle.std.proofs.Common.{◌≡◌, ℕ, suc, ◌+◌, ◌-◌, ◌*◌, ◌<◌, ◌≤◌, Bool, true, false, List, [], ◌∷◌, ◌++◌, length, take, drop, refl, ◌∙◌, append_assoc, arith, length-append, inl, inr, zero}
+use Rattle.std.specs.Prelude.{nat_le, sum_by}
+use Rattle.std.proofs.Common.{◌≡◌, ℕ, suc, ◌+◌, ◌-◌, ◌*◌, ◌<◌, ◌≤◌, true, false, List, [], ◌∷◌, ◌++◌, length, take, drop, refl, ◌∙◌, append_assoc, arith, length-append, inl, inr, zero}
 use Rattle.std.proofs.lemmas.List.{append-nil}
 use Rattle.std.proofs.lemmas.List.Sums.{sum_by-cons}
-use Rattle.std.proofs.lemmas.Bool.{cases_lt}
+use Rattle.std.proofs.lemmas.Bool.{cases_lt, le-leb}
 use Rattle.std.proofs.Math.Seq.{take-nil, drop-nil}
+use Rattle.std.proofs.Math.Bool.{and-true}
 use Rattle.std.proofs.Math.Nat.{mul-le-mul_left}
 use Rattle.ipc_stream.specs.Cut.{pieces, pieces_from, within_limits}
 
@@ -12,9 +13,6 @@ use Rattle.ipc_stream.specs.Cut.{pieces, pieces_from, within_limits}
 abbrev pub AllLight : {A : Type 0} → (A → ℕ) → ℕ → List A → Type 0
 AllLight weight most [] = Unit {0}
 AllLight weight most (row ∷ rows) = (weight row ≤ most) × AllLight weight most rows
-
-le_true : (a b : ℕ) → a ≤ b → nat_le a b ≡ true
-le_true a b h = grind arith
 
 le_false : (a b : ℕ) → b < a → nat_le a b ≡ false
 le_false a b h = grind arith
@@ -27,10 +25,6 @@ pub light_append : {A : Type 0} (weight : A → ℕ) (most : ℕ) (xs ys : List 
 light_append weight most [] ys a b = b
 light_append weight most (x ∷ xs) ys a b = (a.0, light_append weight most xs ys a.1 b)
 
-and_true : (b : Bool) → (b && true) ≡ b
-and_true true = refl
-and_true false = refl
-
 -- a front of light rows is within the limits exactly where there are few enough
 pub light_within : {A : Type 0} (weight : A → ℕ) (most count total : ℕ) (rows : List A) → AllLight weight most rows → most * count ≤ total → within_limits weight count total rows ≡ nat_le (length rows) count
 light_within weight most count total rows light room =
@@ -39,7 +33,7 @@ light_within weight most count total rows light room =
           let bound = light_sum weight most rows light in
           let more : most * length rows ≤ most * count = mul-le-mul_left most few in
           let small : sum_by weight rows ≤ total = omega (arith, bound, more) in
-          rw (le_true (sum_by weight rows) total small) (and_true (nat_le (length rows) count))
+          rw (le-leb (sum_by weight rows) total small) (and-true (nat_le (length rows) count))
       | inl many ↦ rw (le_false (length rows) count many) refl
     ]
 
@@ -54,7 +48,7 @@ pieces_from-light weight most count total taken (row ∷ rows) one room light al
     let len : length (taken ++ row ∷ []) ≡ length taken + 1 = length-append taken (row ∷ []) in
     elim (cases_lt count (length taken + 1)) [
       | inr fits ↦
-          let taken_too : within_limits weight count total (taken ++ row ∷ []) ≡ true = counted ∙ rw len (le_true (length taken + 1) count fits) in
+          let taken_too : within_limits weight count total (taken ++ row ∷ []) ≡ true = counted ∙ rw len (le-leb (length taken + 1) count fits) in
           let few' : length (taken ++ row ∷ []) ≤ count = rw len fits in
           let rest = pieces_from-light weight most count total (taken ++ row ∷ []) rows one room joined all.1 few' in
           let steps : count - length taken ≡ suc (count - (length taken + 1)) = omega arith in

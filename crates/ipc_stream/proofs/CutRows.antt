@@ -1,9 +1,10 @@
 -- The pieces of rows are the cut, and there is one cut.
-use Rattle.std.specs.Prelude.{nat_le, ◌&&◌, sum_by}
-use Rattle.std.proofs.Common.{◌≡◌, ◌≢◌, ℕ, ◌≤◌, Bool, true, false, List, [], ◌∷◌, ◌++◌, length, refl, sym, ap, ◌∙◌, arith, append_assoc, length-append}
+use Rattle.std.specs.Prelude.{nat_le, sum_by}
+use Rattle.std.proofs.Common.{◌≡◌, ◌≢◌, ℕ, Bool, true, false, List, [], ◌∷◌, ◌++◌, length, refl, sym, ap, ◌∙◌, arith, append_assoc, length-append}
 use Rattle.std.proofs.lemmas.List.{append-nil}
 use Rattle.std.proofs.lemmas.List.Concat.{flat_map-cons}
 use Rattle.std.proofs.lemmas.List.Sums.{sum_by-append}
+use Rattle.std.proofs.lemmas.Bool.{and_parts, le-leb, leb-true}
 use Rattle.ipc_stream.specs.Cut.{pieces, pieces_from, within_limits}
 use Rattle.ipc_stream.specs.CutRows.{HasNoRoom, joined, AreLongest, IsCut, EachWithin}
 
@@ -79,21 +80,11 @@ one_cut within ((row ∷ rows) ∷ others) fronts longest =
 pub only_cut : {A : Type 0} (within : List A → Bool) (rows : List A) (ps : List (List A)) → IsOfFronts within → IsCut within rows ps → ps ≡ pieces within rows
 only_cut within rows ps fronts cut = one_cut within ps fronts cut.longest ∙ ap (pieces within) cut.whole
 
-le_true : (a b : ℕ) → a ≤ b → nat_le a b ≡ true
-le_true a b h = grind arith
-
-true_le : (a b : ℕ) → nat_le a b ≡ true → a ≤ b
-true_le a b h = grind arith
-
-both : (a b : Bool) → (a && b) ≡ true → (a ≡ true) × (b ≡ true)
-both true b h = (refl, h)
-both false b h = cc
-
 pub limits_fronts : {A : Type 0} (weight : A → ℕ) (count total : ℕ) (front others : List A) → within_limits weight count total (front ++ others) ≡ true → within_limits weight count total front ≡ true
 limits_fronts weight count total front others h =
-    let parts = both (nat_le (length (front ++ others)) count) (nat_le (sum_by weight (front ++ others)) total) h in
-    let few = true_le (length (front ++ others)) count parts.0 in
-    let light = true_le (sum_by weight (front ++ others)) total parts.1 in
+    let parts = and_parts (nat_le (length (front ++ others)) count) (nat_le (sum_by weight (front ++ others)) total) h in
+    let few = leb-true (length (front ++ others)) count parts.0 in
+    let light = leb-true (sum_by weight (front ++ others)) total parts.1 in
     let a = length-append front others in
     let s = sum_by-append weight front others in
-    rw (le_true (length front) count (omega (arith, few, a)), le_true (sum_by weight front) total (omega (arith, light, s))) refl
+    rw (le-leb (length front) count (omega (arith, few, a)), le-leb (sum_by weight front) total (omega (arith, light, s))) refl

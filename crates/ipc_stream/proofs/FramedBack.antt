@@ -6,9 +6,10 @@ use Rattle.std.proofs.lemmas.List.{length-drop, append-nil}
 use Rattle.ipc_message.specs.declared.fault.Fault.{Fault}
 use Rattle.ipc_message.specs.Framing.{Envelope, Front, Frames, Framed, front, mark_faults, end_mark, message, taken, mark}
 use Rattle.ipc_stream.proofs.FrontLaw.{FrontLaw}
+use Rattle.ipc_stream.proofs.Steps.{some_length, step_on}
 use Rattle.ipc_stream.specs.FramedFault.{AreAccepted, IsRefused, no_front, bad_message, nothing, only_mark, after_mark, FaultStands}
 use Rattle.ipc_stream.specs.FramedTable.{IsEnd}
-use Rattle.ipc_stream.specs.Meaning.{◌>>=◌, Message, table_in, accepted, messages, meaning}
+use Rattle.ipc_stream.specs.Meaning.{◌>>=◌, Message, table_in, messages, meaning}
 use Rattle.arrow_schema.specs.Integers.{is_empty}
 
 not_empty : {A : Type 0} (xs : List A) → xs ≢ [] → is_empty xs ≡ false
@@ -21,10 +22,6 @@ unfolding front mark_faults
 some_front [] f h = absurd (cc)
 some_front (x ∷ xs) f h = refl
 
-some_long : (bytes : List ℕ) → is_empty bytes ≡ false → 0 < length bytes
-some_long [] h = absurd (cc)
-some_long (x ∷ xs) h = omega arith
-
 -- what follows a message
 pub follows : (bytes others : List ℕ) (m : Envelope) → Framed bytes m others → drop (taken (message m)) bytes ≡ others
 follows bytes others m framed =
@@ -34,12 +31,6 @@ follows bytes others m framed =
     let four : length framed.size ≡ 4 = framed.four in
     let long : 8 + length m.metadata + length m.body ≡ length before = omega (arith, four, length-append framed.size (m.metadata ++ m.body), length-append m.metadata m.body) in
     ap (drop (8 + length m.metadata + length m.body)) cut ∙ ap (λ (k : ℕ). drop k (before ++ others)) long ∙ drop-append_seam before others
-
--- one message
-one_step : (held : ℕ → Bool) (steps : ℕ) (before : List Message) (bytes others : List ℕ) (m : Envelope) (a : Message) → is_empty bytes ≡ false → front bytes ≡ Ok (message m) → accepted held before m ≡ Ok a
-    → drop (taken (message m)) bytes ≡ others → messages held (suc steps) before bytes ≡ messages held steps (before ++ a ∷ []) others
-unfolding messages
-one_step held steps before bytes others m a some h is rest = rw (some, h, is, rest) refl
 
 -- the messages of a front are read, and what follows is read from there
 record Through (held : ℕ → Bool) (steps : ℕ) (before after : List Message) (bytes rest : List ℕ) : Type 0 where
@@ -63,13 +54,13 @@ through law held (suc steps) before (m ∷ ms) (a ∷ more) bytes rest framed ar
     let h : front bytes ≡ Ok (message m) = law.read bytes others m framed.0 stands in
     let some : is_empty bytes ≡ false = some_front bytes (message m) h in
     let after : drop (8 + length m.metadata + length m.body) bytes ≡ others = follows bytes others m stands in
-    let long : 0 < length bytes = some_long bytes some in
+    let long : 0 < length bytes = some_length bytes some in
     let len : length others ≡ length bytes - (8 + length m.metadata + length m.body) = sym (ap length after) ∙ length-drop (8 + length m.metadata + length m.body) bytes in
     let next = through law held steps (before ++ a ∷ []) ms more others rest framed.1.2 are.1 (omega (arith, len, long)) in
     record {
       left = next.left;
       enough = next.enough;
-      same = one_step held steps before bytes others m a some h are.0 after ∙ next.same
+      same = step_on held steps before bytes m a some h are.0 ∙ ap (messages held steps (before ++ a ∷ [])) after ∙ next.same
           ∙ ap (λ (x : List Message). messages held next.left x rest) (append_assoc before (a ∷ []) more);
     }
 

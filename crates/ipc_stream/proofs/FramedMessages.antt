@@ -35,17 +35,17 @@ pub record Passes (held : ℕ → Bool) (before : List Message) (m : Envelope) (
   pub rounds : first_some (header_rounds held before m.body a.header) ≡ None
   pub body : m.body ≡ a.body
 
-abbrev with_header : List ℕ → RawHeader → Message
-with_header body h = record { header = h; body = body }
+abbrev pub message_of : RawHeader → List ℕ → Message
+message_of h body = record { header = h; body = body }
 
 pub accepted_passes : (held : ℕ → Bool) (before : List Message) (m : Envelope) (a : Message) → accepted held before m ≡ Ok a → Passes held before m a
 unfolding accepted
 accepted_passes held before m a h =
-    let f = λ (x : RawHeader). or_else (first_some (header_rounds held before m.body x)) (Ok (with_header m.body x)) in
+    let f = λ (x : RawHeader). or_else (first_some (header_rounds held before m.body x)) (Ok (message_of x m.body)) in
     let o = else_ok (order_fault before (type_of m.metadata)) (header held m.metadata >>= f) a h in
     let b = bind_ok (header held m.metadata) f a o.1 in
-    let r = else_ok (first_some (header_rounds held before m.body b.0)) (Ok (with_header m.body b.0)) a b.2 in
-    let is : with_header m.body b.0 ≡ a = cc (r.1) in
+    let r = else_ok (first_some (header_rounds held before m.body b.0)) (Ok (message_of b.0 m.body)) a b.2 in
+    let is : message_of b.0 m.body ≡ a = cc (r.1) in
     let same : b.0 ≡ a.header = ap (λ (x : Message). x.header) is in
     record {
       ordered = o.0;

@@ -5,6 +5,7 @@ use Rattle.std.proofs.Common.{◌≡◌, ℕ, zero, suc, ◌+◌, ◌-◌, ◌*�
 use Rattle.std.proofs.Math.Nat.{mul-le-mul_right}
 use Rattle.std.proofs.lemmas.List.{drop-drop, drop-take}
 use Rattle.std.proofs.lemmas.List.Concat.{flat_map-cons}
+use Rattle.std.proofs.lemmas.Bool.{and_parts, eqb-true, ltb-false, not-false, or_parts}
 use Rattle.byteorder.specs.Endian.{little_number}
 use Rattle.byteorder.specs.Numbers.{little_from-take}
 use Rattle.arrow_schema.specs.Column.{PlainSchema}
@@ -32,26 +33,11 @@ use Rattle.ipc_stream.specs.Meaning.{Message, dictionary_rounds, header_rounds, 
 use Rattle.arrow_schema.specs.Integers.{is_empty}
 use Rattle.values.specs.IntegerTable.{integer_columns}
 use Rattle.ipc_stream.proofs.AcceptedSchema.{accepted_integer, accepted_lacks_id}
+use Rattle.ipc_stream.proofs.BatchLemmas.{has_other_length}
 use Rattle.ipc_stream.proofs.FrontLaw.{FrontLaw}
-use Rattle.ipc_stream.proofs.FramedMessages.{bind_ok, Passes, accepted_passes, Reads, messages_framed}
+use Rattle.ipc_stream.proofs.FramedMessages.{bind_ok, message_of, Passes, accepted_passes, Reads, messages_framed}
 use Rattle.ipc_stream.proofs.RowLemmas.{length_rows}
 use Rattle.ipc_stream.proofs.Steps.{same_schema, still_some}
-
--- ---- tests of which none found anything
-
-neither : (a b : Bool) → (a || b) ≡ false → (a ≡ false) × (b ≡ false)
-neither true b h = absurd (cc)
-neither false b h = (refl, h)
-
-both : (a b : Bool) → (a && b) ≡ true → (a ≡ true) × (b ≡ true)
-both true b h = (refl, h)
-both false b h = absurd (cc)
-
-equal : (a b : ℕ) → eqb a b ≡ true → a ≡ b
-equal a b h = grind arith
-
-at_most : (a b : ℕ) → nat_lt a b ≡ false → b ≤ a
-at_most a b h = grind arith
 
 -- ---- what a header is, by the type that its message has
 
@@ -115,13 +101,13 @@ record IsHeld (body : List ℕ) (rows : ℕ) (a : Array) : Type 0 where
 
 is_held : (body : List ℕ) (rows : ℕ) (a : Array) → (is_bad_length a.node.length || not (eqb a.node.length rows)) ≡ false → is_outside body a.values ≡ false → is_short a ≡ false → IsHeld body rows a
 is_held body rows a counted placed long =
-    let n : a.node.length ≡ rows = equal a.node.length rows (schemas.not_false (eqb a.node.length rows) (neither (is_bad_length a.node.length) (not (eqb a.node.length rows)) counted).1) in
+    let n : a.node.length ≡ rows = eqb-true a.node.length rows (not-false (eqb a.node.length rows) (or_parts (is_bad_length a.node.length) (not (eqb a.node.length rows)) counted).1) in
     let p : a.values.offset + a.values.length ≤ length body =
-    at_most (length body) (a.values.offset + a.values.length)
-    (neither (is_negative a.values.offset || is_negative a.values.length) (nat_lt (length body) (a.values.offset + a.values.length)) placed).1 in
+    ltb-false (length body) (a.values.offset + a.values.length)
+    (or_parts (is_negative a.values.offset || is_negative a.values.length) (nat_lt (length body) (a.values.offset + a.values.length)) placed).1 in
     let l : a.node.length * a.column.width ≤ a.values.length =
-    at_most a.values.length (a.node.length * a.column.width)
-    (neither (nat_lt 0 a.validity.length && nat_lt a.validity.length ((a.node.length + 7) / 8)) (nat_lt a.values.length (a.node.length * a.column.width)) long).1 in
+    ltb-false a.values.length (a.node.length * a.column.width)
+    (or_parts (nat_lt 0 a.validity.length && nat_lt a.validity.length ((a.node.length + 7) / 8)) (nat_lt a.values.length (a.node.length * a.column.width)) long).1 in
     let enough : rows * a.column.width ≤ a.values.length = rw n at l in
     record { enough = enough; inside = omega arith }
 
@@ -137,25 +123,22 @@ cell_same body rows j a is below =
 abbrev values_in : List ℕ → List Array → List (List ℕ)
 values_in body arrays = map (λ a. bytes_of body a.values) arrays
 
-abbrev other_length : ℕ → RawNode → Bool
-other_length rows n = is_bad_length n.length || not (eqb n.length rows)
-
 record SameRows (body : List ℕ) (rows : ℕ) (cs : List IntegerColumn) (ns : List RawNode) (bs : List RawBuffer) : Type 0 where
   whole : HaveValues cs bs rows body
   same : (j : ℕ) → j < rows → row_at cs (values_in body (arrays_of cs ns bs)) j ≡ row_in cs bs body j
 
 same_rows : (body : List ℕ) (rows : ℕ) (cs : List IntegerColumn) (ns : List RawNode) (bs : List RawBuffer) → length ns ≡ length cs → length bs ≡ 2 * length cs
-    → list_any (other_length rows) ns ≡ false → list_any (is_outside body) bs ≡ false → list_any is_short (arrays_of cs ns bs) ≡ false → SameRows body rows cs ns bs
+    → list_any (has_other_length rows) ns ≡ false → list_any (is_outside body) bs ≡ false → list_any is_short (arrays_of cs ns bs) ≡ false → SameRows body rows cs ns bs
 same_rows body rows [] ns bs n b counted placed long = record { whole = tt; same = λ j below. refl }
 same_rows body rows (c ∷ cs) [] bs n b counted placed long = absurd (omega arith)
 same_rows body rows (c ∷ cs) (m ∷ ns) [] n b counted placed long = absurd (omega arith)
 same_rows body rows (c ∷ cs) (m ∷ ns) (v ∷ []) n b counted placed long = absurd (omega arith)
 same_rows body rows (c ∷ cs) (m ∷ ns) (v ∷ x ∷ bs) n b counted placed long =
     let a : Array = record { column = c; node = m; validity = v; values = x } in
-    let k = neither (other_length rows m) (list_any (other_length rows) ns) counted in
-    let p = neither (is_outside body v) (is_outside body x || list_any (is_outside body) bs) placed in
-    let q = neither (is_outside body x) (list_any (is_outside body) bs) p.1 in
-    let l = neither (is_short a) (list_any is_short (arrays_of cs ns bs)) long in
+    let k = or_parts (has_other_length rows m) (list_any (has_other_length rows) ns) counted in
+    let p = or_parts (is_outside body v) (is_outside body x || list_any (is_outside body) bs) placed in
+    let q = or_parts (is_outside body x) (list_any (is_outside body) bs) p.1 in
+    let l = or_parts (is_short a) (list_any is_short (arrays_of cs ns bs)) long in
     let here : IsHeld body rows a = is_held body rows a k.0 q.0 l.0 in
     let others : SameRows body rows cs ns bs = same_rows body rows cs ns bs (omega arith) (omega arith) k.1 q.1 l.1 in
     record {
@@ -171,10 +154,10 @@ unfolding batch_rows batch_rounds
 batch_is held s before m b is passed =
     let cs : List IntegerColumn = integer_columns s in
     let found = schemas.all_none (batch_rounds s before b m.body) passed in
-    let layout = both (eqb (length b.nodes) (length cs)) (eqb (length b.buffers) (2 * length cs)) (schemas.not_false (eqb (length b.nodes) (length cs) && eqb (length b.buffers) (2 * length cs)) (schemas.when_none _ _ found.1.0)) in
-    let nodes : length b.nodes ≡ length cs = equal (length b.nodes) (length cs) layout.0 in
-    let buffers : length b.buffers ≡ 2 * length cs = equal (length b.buffers) (2 * length cs) layout.1 in
-    let counted = neither (is_bad_length b.length) (list_any (other_length b.length) b.nodes) (schemas.when_none _ _ found.1.1.0) in
+    let layout = and_parts (eqb (length b.nodes) (length cs)) (eqb (length b.buffers) (2 * length cs)) (not-false (eqb (length b.nodes) (length cs) && eqb (length b.buffers) (2 * length cs)) (schemas.when_none _ _ found.1.0)) in
+    let nodes : length b.nodes ≡ length cs = eqb-true (length b.nodes) (length cs) layout.0 in
+    let buffers : length b.buffers ≡ 2 * length cs = eqb-true (length b.buffers) (2 * length cs) layout.1 in
+    let counted = or_parts (is_bad_length b.length) (list_any (has_other_length b.length) b.nodes) (schemas.when_none _ _ found.1.1.0) in
     let same : SameRows m.body b.length cs b.nodes b.buffers =
     same_rows m.body b.length cs b.nodes b.buffers nodes buffers counted.1 (schemas.when_none _ _ found.1.1.1.0) (schemas.when_none _ _ found.1.1.1.1.0) in
     let values : List (List ℕ) = values_in m.body (arrays_of cs b.nodes b.buffers) in
@@ -203,7 +186,7 @@ batch_case held s before m (schema_header x) good is e other passed = absurd oth
 batch_case held s before m (dictionary_header d) good is e other passed =
     let id = λ (f : RawField). has_id d.id (dictionary_of f) in
     let found : list_any id (every_field (schema_in before)) ≡ true =
-    schemas.not_false (list_any id (every_field (schema_in before))) (schemas.when_none (not (list_any id (every_field (schema_in before)))) DictionaryId (schemas.all_none (dictionary_rounds (schema_in before) d) passed).0) in
+    not-false (list_any id (every_field (schema_in before))) (schemas.when_none (not (list_any id (every_field (schema_in before)))) DictionaryId (schemas.all_none (dictionary_rounds (schema_in before) d) passed).0) in
     let none : list_any id (every_field s) ≡ false = accepted_lacks_id s d.id good in
     let same : list_any id (every_field (schema_in before)) ≡ list_any id (every_field s) = ap (λ (x : RawSchema). list_any id (every_field x)) is in
     absurd (cc (found, none, same))
@@ -225,9 +208,6 @@ batches held s before (m ∷ ms) (a ∷ more) good is some are =
     (rows a, rows_in (plain_schema_of s) more, one, batches held s (before ++ a ∷ []) ms more good (same_schema before a some ∙ is) (still_some before a) are.1, flat_map-cons rows a more)
 
 -- ---- the whole stream
-
-abbrev message_of : RawHeader → List ℕ → Message
-message_of h body = record { header = h; body = body }
 
 after_schema : (held : ℕ → Bool) (bytes : List ℕ) (t : PlainTable) (m : Envelope) (ms : List Envelope) (h : RawHeader) (body : List ℕ) (more : List Message) (rest : List ℕ)
     → Frames bytes (m ∷ ms) rest → IsEnd rest → IsSchema h → header held m.metadata ≡ Ok h → first_some (header_rounds held [] m.body h) ≡ None

@@ -4,6 +4,7 @@ use Rattle.std.proofs.Common.{◌≡◌, ℕ, zero, suc, ◌+◌, ◌-◌, ◌*�
 use Rattle.std.proofs.lemmas.List.{drop-take, take-append-le, drop-append-le, length-take-le, length-drop, take-take, take_more_set, drop-set-lt, drop_all, take_all, append-nil}
 use Rattle.std.proofs.Math.Seq.{drop-append-add, drop-cons}
 use Rattle.std.proofs.Math.Nat.{mul-le-mul_left}
+use Rattle.std.proofs.lemmas.Bool.{eq-eqb}
 use Rattle.byteorder.specs.Endian.{little_number}
 use Rattle.byteorder.specs.Numbers.{little_from-take}
 use Rattle.values.specs.Cell.{Cell, number}
@@ -139,9 +140,6 @@ length-grown a v body before n len enough inside =
     let long : n * a.column.width ≤ length (drop a.values.offset body) = omega (arith, length-drop a.values.offset body) in
     omega (arith, length-append v (front_of n body a), length-take-le (n * a.column.width) (drop a.values.offset body) long)
 
-equal : {a b : ℕ} → a ≡ b → (a == b) ≡ true
-equal e = grind arith
-
 -- each has the values of all rows
 pub have_grown : (arrays : List Array) (vs : List (List ℕ)) (body : List ℕ) (before n : ℕ) → Grows before n body arrays vs
     → have_rows (columns_of arrays) (grown n body arrays vs) (before + n) ≡ true
@@ -149,7 +147,7 @@ have_grown [] [] body before n grows = refl
 have_grown [] (v ∷ vs) body before n grows = absurd grows
 have_grown (a ∷ arrays) [] body before n grows = absurd grows
 have_grown (a ∷ arrays) (v ∷ vs) body before n grows =
-    let here : (length (v ++ front_of n body a) == (before + n) * a.column.width) ≡ true = equal (length-grown a v body before n grows.0 grows.1 grows.2) in
+    let here : (length (v ++ front_of n body a) == (before + n) * a.column.width) ≡ true = eq-eqb _ _ (length-grown a v body before n grows.0 grows.1 grows.2) in
     rw here (have_grown arrays vs body before n grows.3)
 
 -- ---- growing column by column

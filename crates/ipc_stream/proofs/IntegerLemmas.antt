@@ -1,16 +1,10 @@
 -- Integers as bytes and back.
-use Rattle.std.specs.Prelude.{negsuc, pos, ℤ, ◌-ℤ◌, ◌≤ℤ◌, ◌<ℤ◌, neg_ℤ, nat_lt}
+use Rattle.std.specs.Prelude.{negsuc, pos, ℤ, ◌-ℤ◌, ◌≤ℤ◌, ◌<ℤ◌, neg_ℤ}
 use Rattle.std.proofs.Common.{◌≡◌, ℕ, zero, suc, ◌+◌, ◌-◌, ◌*◌, ◌^◌, ◌<◌, ◌≤◌, Bool, true, false, refl, inl, inr, arith}
-use Rattle.std.proofs.lemmas.Bool.{cases_lt}
+use Rattle.std.proofs.lemmas.Bool.{cases_lt, le-ltb, lt-ltb}
 use Rattle.std.proofs.lemmas.Int.{ints}
 use Rattle.std.proofs.Math.Nat.{pow-suc}
 use Rattle.values.specs.Integers.{integer_of, number_of}
-
-pub lt_true : (a b : ℕ) → a < b → nat_lt a b ≡ true
-lt_true a b h = grind arith
-
-pub lt_false : (a b : ℕ) → b ≤ a → nat_lt a b ≡ false
-lt_false a b h = grind arith
 
 -- a number below another, less it
 below : (w n m : ℕ) → n < m → m ≡ 2 ^ (8 * w) → number_of w (pos n -ℤ pos m) ≡ n
@@ -21,8 +15,8 @@ below w n m h e =
 pub number_again : (w : ℕ) (signed : Bool) (n : ℕ) → n < 2 ^ (8 * w) → number_of w (integer_of w signed n) ≡ n
 number_again w false n h = refl
 number_again w true n h = elim (cases_lt n (2 ^ (8 * w - 1))) [
-  | inl low ↦ rw (lt_true n (2 ^ (8 * w - 1)) low) refl
-  | inr high ↦ rw (lt_false n (2 ^ (8 * w - 1)) high) (below w n (2 ^ (8 * w)) h refl)
+  | inl low ↦ rw (lt-ltb n (2 ^ (8 * w - 1)) low) refl
+  | inr high ↦ rw (le-ltb n (2 ^ (8 * w - 1)) high) (below w n (2 ^ (8 * w)) h refl)
 ]
 
 pub unsigned_again : (w n : ℕ) → integer_of w false (number_of w (pos n)) ≡ pos n
@@ -35,10 +29,10 @@ double (suc k) one = let less : suc k - 1 ≡ k = omega arith in rw less (omega 
 pub signed_again : (w : ℕ) (z : ℤ) → 1 ≤ w → neg_ℤ (pos (2 ^ (8 * w - 1))) ≤ℤ z → z <ℤ pos (2 ^ (8 * w - 1)) → integer_of w true (number_of w z) ≡ z
 signed_again w (pos n) one low high =
     let small : n < 2 ^ (8 * w - 1) = omega (arith, ints) in
-    rw (lt_true n (2 ^ (8 * w - 1)) small) refl
+    rw (lt-ltb n (2 ^ (8 * w - 1)) small) refl
 signed_again w (negsuc n) one low high =
     let doubled : 2 ^ (8 * w) ≡ 2 * 2 ^ (8 * w - 1) = double (8 * w) (omega arith) in
     let small : n < 2 ^ (8 * w - 1) = omega (arith, ints) in
     let large : 2 ^ (8 * w - 1) ≤ 2 ^ (8 * w) - (n + 1) = omega arith in
     let left : pos (2 ^ (8 * w) - (n + 1)) -ℤ pos (2 ^ (8 * w)) ≡ negsuc n = omega (arith, ints) in
-    rw (lt_false (2 ^ (8 * w) - (n + 1)) (2 ^ (8 * w - 1)) large) left
+    rw (le-ltb (2 ^ (8 * w) - (n + 1)) (2 ^ (8 * w - 1)) large) left

@@ -159,19 +159,19 @@ batch_gives held before m b some other read =
 -- ---- the same of a result
 
 pub second_adds : (t : PlainTable) (m : Envelope) → header_type (type_of m.metadata) ≡ Some Schema → Adds t m (Err (errors.Fault SecondSchema))
-second_adds t m e before mean = rw (second_schema held_codes before m mean.some (is_schema _ e)) refl
+second_adds t m e before is = rw (second_schema held_codes before m is.some (is_schema _ e)) refl
 
 pub unread_adds : (t : PlainTable) (m : Envelope) (k : HeaderType) (e : ImportError) → (k ≡ Schema → ⊥) → header_type (type_of m.metadata) ≡ Some k
     → Fails e (header held_codes m.metadata) → Adds t m (Err e)
-unread_adds t m k errors.OutOfMemory other typed read before mean = tt
-unread_adds t m k (errors.Fault fault) other typed read before mean = rw (unread held_codes before m fault mean.some (no_schema _ k other typed) read) refl
+unread_adds t m k errors.OutOfMemory other typed read before is = tt
+unread_adds t m k (errors.Fault fault) other typed read before is = rw (unread held_codes before m fault is.some (no_schema _ k other typed) read) refl
 
 pub dictionary_adds : (t : PlainTable) (m : Envelope) (k : HeaderType) (d : RawDictionaryBatch) → (k ≡ Schema → ⊥) → header_type (type_of m.metadata) ≡ Some k
     → header held_codes m.metadata ≡ Ok (dictionary_header d) → Adds t m (Err (errors.Fault DictionaryId))
-dictionary_adds t m k d other typed read before mean = rw (dictionary_refused held_codes before m d mean.some (no_schema _ k other typed) read mean.schema) refl
+dictionary_adds t m k d other typed read before is = rw (dictionary_refused held_codes before m d is.some (no_schema _ k other typed) read is.schema) refl
 
 pub batch_adds : (t : PlainTable) (m : Envelope) (k : HeaderType) (b : RawBatch) (result : Result Gathered ImportError) → (k ≡ Schema → ⊥) → header_type (type_of m.metadata) ≡ Some k
     → header held_codes m.metadata ≡ Ok (batch_header b) → Gives gathered_table result (added t b m.body) → Adds t m result
-batch_adds t m k b result other typed read h before mean =
-    let e = batch_gives held_codes before m b mean.some (no_schema _ k other typed) read in
-    subst (Gives gathered_table result) (sym (e ∙ ap (λ (x : PlainTable). added x b m.body) mean.table)) h
+batch_adds t m k b result other typed read h before is =
+    let e = batch_gives held_codes before m b is.some (no_schema _ k other typed) read in
+    subst (Gives gathered_table result) (sym (e ∙ ap (λ (x : PlainTable). added x b m.body) is.table)) h

@@ -1,9 +1,9 @@
 -- The cells of a table of integers are integers of their columns, and the bytes of its columns give its rows back.
-use Rattle.std.specs.Prelude.{pos, negsuc, ℤ, ◌≤ℤ◌, ◌<ℤ◌, neg_ℤ, int_le, int_lt, ◌==◌, ◌&&◌}
+use Rattle.std.specs.Prelude.{pos, negsuc, ℤ, ◌≤ℤ◌, ◌<ℤ◌, neg_ℤ, int_le, int_lt, ◌&&◌}
 use Rattle.std.specs.Int.{w128}
 use Rattle.std.specs.List.{list_all}
 use Rattle.std.proofs.Common.{◌≡◌, ℕ, suc, ◌+◌, ◌-◌, ◌*◌, ◌/◌, ◌%◌, ◌^◌, ◌≤◌, ◌<◌, Bool, true, false, List, [], ◌∷◌, map, length, None, refl, ap, sym, ◌∙◌, arith}
-use Rattle.std.proofs.lemmas.Bool.{and_from, and_parts}
+use Rattle.std.proofs.lemmas.Bool.{and_from, and_parts, eq-eqb}
 use Rattle.std.proofs.lemmas.Bool.Decides.{nat_tests}
 use Rattle.std.proofs.lemmas.Int.{ints}
 use Rattle.std.proofs.lemmas.List.{length-map}
@@ -144,11 +144,8 @@ table_again t vs is ints e =
     let again = rows_again (integer_columns t.schema) [] t.rows (rows_are t.schema.columns t.rows columns (all_fit t is) ints.numbers) in
     ap (λ (x : List (List ℕ)). plain_table t.schema x (length t.rows)) e ∙ ap (λ (x : List (List Cell)). record { schema = t.schema; rows = x }) again
 
-same_size : (a b : ℕ) → a ≡ b → (a == b) ≡ true
-same_size a b e = grind arith
-
 pub values_fill : (cs : List IntegerColumn) (rows : List (List Cell)) (n : ℕ) → length rows ≡ n → have_rows cs (values_of_all cs rows) n ≡ true
 values_fill [] rows n e = refl
 values_fill (c ∷ cs) rows n e =
     let size : length (values_of c.width (map first_cell rows)) ≡ n * c.width = length-values c.width (map first_cell rows) ∙ ap (λ (k : ℕ). k * c.width) (length-map rows first_cell ∙ e) in
-    and_from _ _ (same_size _ _ size) (values_fill cs (map other_cells rows) n (length-map rows other_cells ∙ e))
+    and_from _ _ (eq-eqb _ _ size) (values_fill cs (map other_cells rows) n (length-map rows other_cells ∙ e))

@@ -2,6 +2,7 @@
 use Rattle.std.proofs.Common.{◌≡◌, ℕ, zero, suc, ◌+◌, ◌*◌, ◌^◌, ◌≤◌, ◌<◌, ◌==◌, IsTrue, List, [], ◌∷◌, ◌++◌, Bor, map, drop, get_or, length, eqb-true, subst, refl, arith, sym, ap, ◌∙◌, append_assoc}
 use Rattle.std.proofs.lemmas.List.{drop_more, map-append}
 use Rattle.std.proofs.lemmas.Nat.{pow-add}
+use Rattle.std.proofs.lemmas.Bool.{and_parts}
 use Rattle.arrow_schema.specs.Column.{Column, PlainSchema}
 use Rattle.values.specs.Cell.{Cell}
 use Rattle.ipc_message.specs.Raw.{RawNode}
@@ -10,7 +11,6 @@ use Rattle.ipc_write.specs.Written.{batch_message, body}
 use Rattle.ipc_stream.specs.Canonical.{piece_message, full_nodes, integer_buffers}
 use Rattle.values.specs.Columns.{IntegerColumn, rows_from, first_cell, values_of}
 use Rattle.values.specs.IntegerTable.{integer_columns, have_rows}
-use Rattle.ipc_stream.proofs.Pieces.{both}
 use Rattle.ipc_stream.proofs.PieceSize.{body_more}
 use Rattle.ipc_stream.proofs.RowLemmas.{length_rows}
 use Rattle.ipc_stream.proofs.SliceLemmas.{other_rows}
@@ -39,7 +39,7 @@ pub left_more : (c : IntegerColumn) (cs cs' : List IntegerColumn) (v : List ℕ)
     → (length v ≡ rows * c.width) × IsTrue (have_rows cs' vs' rows)
 left_more c cs cs' v vs vs' rows ce ve h =
     let all : IsTrue (have_rows (c ∷ cs') (v ∷ vs') rows) = subst (λ (x : List IntegerColumn). IsTrue (have_rows x (v ∷ vs') rows)) ce (subst (λ (x : List (List ℕ)). IsTrue (have_rows cs x rows)) ve h) in
-    let parts = both (length v == rows * c.width) (have_rows cs' vs' rows) all in
+    let parts = and_parts (length v == rows * c.width) (have_rows cs' vs' rows) all in
     (eqb-true (length v) (rows * c.width) parts.0, parts.1)
 
 pub column_left : (c : IntegerColumn) (cs cs' : List IntegerColumn) (vs : List (List ℕ)) (rows : ℕ) → cs ≡ c ∷ cs' → IsTrue (have_rows cs vs rows) → 0 < length vs

@@ -1,9 +1,10 @@
 -- The pieces of a table of integers: so many rows each.
-use Rattle.std.specs.Prelude.{◌&&◌, IsTrue, min}
+use Rattle.std.specs.Prelude.{IsTrue, min}
 use Rattle.std.specs.List.{flat_map, list_all}
-use Rattle.std.proofs.Common.{◌≡◌, ℕ, zero, suc, ◌+◌, ◌-◌, ◌≤◌, ◌<◌, Bool, true, false, List, [], ◌∷◌, ◌++◌, length, take, drop, Some, None, refl, arith, sym, ap, ◌∙◌, length-append}
+use Rattle.std.proofs.Common.{◌≡◌, ℕ, zero, suc, ◌+◌, ◌-◌, ◌≤◌, ◌<◌, true, List, [], ◌∷◌, ◌++◌, length, take, drop, Some, None, refl, arith, sym, ap, ◌∙◌, length-append}
 use Rattle.std.proofs.lemmas.List.Concat.{flat_map-cons}
 use Rattle.std.proofs.lemmas.List.{take_min, drop_min}
+use Rattle.std.proofs.lemmas.Bool.{and_parts}
 use Rattle.arrow_schema.specs.Column.{Column, column, integers, columns_of, PlainSchema, nulls, booleans, dates, timestamps, texts, large_texts, binaries, large_binaries, fixed_binaries, lists, large_lists, fixed_lists, structs}
 use Rattle.arrow_schema.specs.Preorder.{preorder, preorder_below, preorder_all}
 use Rattle.arrow_schema.specs.Limits.{IsWithinLimits}
@@ -20,10 +21,6 @@ use Rattle.ipc_stream.proofs.RowLemmas.{take_rows, drop_rows, length_rows}
 
 abbrev pub AreIntegers : List Column → Type 0
 AreIntegers columns = list_all is_integer_column columns ≡ true
-
-pub both : (a b : Bool) → (a && b) ≡ true → (a ≡ true) × (b ≡ true)
-both true b h = (refl, h)
-both false b h = cc
 
 -- a column of integers weighs one, whatever its cell
 one : (c : Column) (x : Cell) → is_integer_column c ≡ true → weight c x ≡ 1
@@ -60,7 +57,7 @@ pub parts_weigh : (cs : List Column) (x : Cells) → AreIntegers cs → parts_we
 unfolding parts_weight
 parts_weigh [] x h = refl
 parts_weigh (c ∷ cs) x h =
-    let parts = both (is_integer_column c) (list_all is_integer_column cs) h in
+    let parts = and_parts (is_integer_column c) (list_all is_integer_column cs) h in
     let head = one c (first_part x) parts.0 in
     let tail = parts_weigh cs (other_parts x) parts.1 in
     omega (arith, head, tail)
@@ -79,7 +76,7 @@ rows_light s most cs vs i (suc n) light = (light (row_at cs vs i), rows_light s 
 
 -- what the test of a schema says
 pub integers_of : (s : PlainSchema) → IsTrue (is_integer_schema s) → AreIntegers s.columns
-integers_of s h = (both (list_all is_integer_column s.columns) (is_empty s.pairs) h).0
+integers_of s h = (and_parts (list_all is_integer_column s.columns) (is_empty s.pairs) h).0
 
 -- the messages of some rows
 unfoldable pub messages_of : PlainSchema → List (List ℕ) → ℕ → ℕ → List ℕ

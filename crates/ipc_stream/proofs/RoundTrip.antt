@@ -1,6 +1,6 @@
 -- The canonical stream of a table is read as that table.
 use Rattle.std.specs.Prelude.{IsTrue, min, Result}
-use Rattle.std.proofs.Common.{◌≡◌, ℕ, zero, suc, ◌+◌, ◌-◌, ◌*◌, ◌<◌, ◌≤◌, Bool, true, false, List, [], ◌∷◌, ◌++◌, length, drop, None, Ok, refl, arith, ap, ◌∙◌, length-append, append_assoc}
+use Rattle.std.proofs.Common.{◌≡◌, ℕ, zero, suc, ◌+◌, ◌-◌, ◌*◌, ◌<◌, ◌≤◌, Bool, true, false, List, [], ◌∷◌, ◌++◌, length, None, Ok, refl, arith, ap, ◌∙◌, length-append, append_assoc}
 use Rattle.std.proofs.lemmas.Grind.{flat_map-append}
 use Rattle.std.proofs.lemmas.List.{append-nil, length-map}
 use Rattle.std.proofs.Math.Nat.{mul-le-mul_left}
@@ -25,6 +25,8 @@ use Rattle.arrow_schema.specs.Integers.{is_integer_schema, is_empty}
 use Rattle.values.specs.IntegerTable.{integer_column, integer_columns, have_rows, plain_table}
 use Rattle.ipc_stream.proofs.Pieces.{integers_of, messages_of, next_piece, no_piece, canonical_is}
 use Rattle.ipc_stream.proofs.RowLemmas.{length_rows}
+use Rattle.ipc_stream.proofs.FramedMessages.{message_of}
+use Rattle.ipc_stream.proofs.Steps.{step_on, still_some, same_schema}
 use Rattle.ipc_stream.proofs.RoundTripSchema.{AreNamed, plain_raw, raw_schema_is, schema_again, schema_accepted}
 use Rattle.ipc_stream.proofs.RoundTripFront.{IsSmall, envelope, length_framed, after_framed, schema_metadata, schema_written, schema_front, schema_type, schema_read_again, batch_metadata, batch_written, batch_front, batch_type, batch_read_again}
 use Rattle.ipc_stream.proofs.RoundTripBatch.{piece_buffers, piece_batch, length_buffers, body_small, rows_back, batch_accepted}
@@ -32,23 +34,16 @@ use Rattle.ipc_stream.proofs.RoundTripRows.{rows_are, rows_joined, narrow}
 
 -- ---- a message, and the end
 
-abbrev pub read : RawHeader → List ℕ → Message
-read h b = record { header = h; body = b }
-
 pub accepts : (held : ℕ → Bool) (before : List Message) (m : Envelope) (h : RawHeader) → order_fault before (type_of m.metadata) ≡ None → header held m.metadata ≡ Ok h
-    → first_some (header_rounds held before m.body h) ≡ None → accepted held before m ≡ Ok (read h m.body)
+    → first_some (header_rounds held before m.body h) ≡ None → accepted held before m ≡ Ok (message_of h m.body)
 unfolding accepted
 accepts held before m h order spelled sound = rw (order, spelled, sound) refl
-
-step_by : (held : ℕ → Bool) (steps : ℕ) (before : List Message) (bytes rest : List ℕ) (e : Envelope) (a : Message) → is_empty bytes ≡ false → front bytes ≡ Ok (message e) → accepted held before e ≡ Ok a
-    → drop (taken (message e)) bytes ≡ rest → messages held (suc steps) before bytes ≡ messages held steps (before ++ a ∷ []) rest
-unfolding messages
-step_by held steps before bytes rest e a some stands fine after = rw (some, stands, fine, after) refl
 
 -- a message at the front is read, and then what follows it
 pub message_step : (held : ℕ → Bool) (steps : ℕ) (before : List Message) (m b rest : List ℕ) (a : Message) → front (framed m b ++ rest) ≡ Ok (message (envelope m b)) → accepted held before (envelope m b) ≡ Ok a
     → messages held (suc steps) before (framed m b ++ rest) ≡ messages held steps (before ++ a ∷ []) rest
-message_step held steps before m b rest a stands fine = step_by held steps before (framed m b ++ rest) rest (envelope m b) a refl stands fine (after_framed m b rest)
+message_step held steps before m b rest a stands fine =
+    step_on held steps before (framed m b ++ rest) (envelope m b) a refl stands fine ∙ ap (messages held steps (before ++ a ∷ [])) (after_framed m b rest)
 
 mark_stands : front end_mark ≡ Ok framing.end_mark
 unfolding front mark_faults metadata_size number
@@ -59,14 +54,6 @@ unfolding messages
 end_step held steps before some = rw (mark_stands, some) refl
 
 -- ---- what messages that were read hold
-
-some_more : (before : List Message) (a : Message) → is_empty (before ++ a ∷ []) ≡ false
-some_more [] a = refl
-some_more (m ∷ ms) a = refl
-
-same_schema : (before : List Message) (a : Message) → is_empty before ≡ false → schema_in (before ++ a ∷ []) ≡ schema_in before
-same_schema [] a some = absurd cc
-same_schema (m ∷ ms) a some = refl
 
 rows_more : (s : PlainSchema) (before : List Message) (a : Message) → rows_in s (before ++ a ∷ []) ≡ rows_in s before ++ rows_of_header s a.body a.header
 rows_more s before a =
@@ -101,7 +88,7 @@ piece_body s rows = body (piece_buffers s rows)
 
 -- the message of a piece as it is read
 unfoldable piece_read : PlainSchema → List (List Cell) → Message
-piece_read s rows = read (batch_header (piece_batch s rows)) (body (piece_buffers s rows))
+piece_read s rows = message_of (batch_header (piece_batch s rows)) (body (piece_buffers s rows))
 
 piece_written : (s : PlainSchema) (rows : List (List Cell)) → piece_message s rows ≡ framed (piece_metadata s rows) (piece_body s rows)
 unfolding piece_message piece_metadata piece_body
@@ -166,11 +153,11 @@ unfolding piece_read
 read_more s vs total from k before held is =
     let cs : List IntegerColumn = integer_columns s in
     let rows : List (List Cell) = rows_from cs vs from k in
-    let a : Message = read (batch_header (piece_batch s rows)) (body (piece_buffers s rows)) in
+    let a : Message = message_of (batch_header (piece_batch s rows)) (body (piece_buffers s rows)) in
     let back = rows_back s rows (rows_are cs vs total from k held.each held.bytes) in
     let here : from ≡ 0 + from = omega arith in
     record {
-      some = some_more before a;
+      some = still_some before a;
       schema = same_schema before a is.some ∙ is.schema;
       rows =
           rows_more s before a
@@ -225,7 +212,7 @@ read_on (suc steps) s vs total from (suc m) before held is all enough =
     ∙ ap table_told step
     ∙ read_on steps s vs total (from + k) (suc m - k) (before ++ piece_read s rows ∷ []) held (read_more s vs total from k before held is) (omega (arith, all)) (omega (arith, enough, whole, two, long))
 
-schema_fine : (s : PlainSchema) (vs : List (List ℕ)) (total : ℕ) → IsHeld s vs total → accepted held_codes [] (envelope (schema_metadata s) []) ≡ Ok (read (schema_header (plain_raw s)) [])
+schema_fine : (s : PlainSchema) (vs : List (List ℕ)) (total : ℕ) → IsHeld s vs total → accepted held_codes [] (envelope (schema_metadata s) []) ≡ Ok (message_of (schema_header (plain_raw s)) [])
 schema_fine s vs total held =
     let h = integers_of s held.integers in
     let order : order_fault [] (type_of (schema_metadata s)) ≡ None = rw (schema_type s held.integers held.limits) refl in
@@ -239,7 +226,7 @@ unfolding meaning
 canonical_read s vs total held =
     let rest : List ℕ = messages_of s vs 0 total ++ end_mark in
     let first : List ℕ = framed (schema_metadata s) [] in
-    let a : Message = read (schema_header (plain_raw s)) [] in
+    let a : Message = message_of (schema_header (plain_raw s)) [] in
     let bytes : canonical (plain_table s vs total) ≡ first ++ rest = canonical_is s vs total ∙ ap (λ (xs : List ℕ). xs ++ rest) (schema_written s) in
     let stands = schema_front s rest held.integers held.limits in
     let step = message_step held_codes (length (first ++ rest)) [] (schema_metadata s) [] rest a stands (schema_fine s vs total held) in

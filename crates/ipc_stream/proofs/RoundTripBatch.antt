@@ -3,9 +3,9 @@ use Rattle.std.specs.Prelude.{nat_lt}
 use Rattle.std.specs.List.{list_any}
 use Rattle.std.proofs.Common.{◌≡◌, ℕ, suc, ◌+◌, ◌*◌, ◌-◌, ◌%◌, ◌^◌, ◌<◌, ◌≤◌, Bool, true, false, not, ◌||◌, ◌==◌, List, [], ◌∷◌, ◌++◌, map, length, take, drop, replicate, None, refl, arith, sym, ap, ◌∙◌, length-append, append_assoc}
 use Rattle.std.proofs.lemmas.List.{length-map}
-use Rattle.std.proofs.lemmas.Bool.Decides.{nat_tests}
 use Rattle.std.proofs.Math.Nat.{mul-le-mul, le_refl}
 use Rattle.std.proofs.Math.Seq.{drop-append_seam, take-append_seam}
+use Rattle.std.proofs.lemmas.Bool.{eq-eqb, le-ltb, lt-ltb, or_from}
 use Rattle.arrow_schema.specs.Column.{Column, PlainSchema}
 use Rattle.values.specs.Cell.{Cell, cells_of}
 use Rattle.values.specs.Weight.{row_weight, table_weight}
@@ -18,14 +18,9 @@ use Rattle.values.specs.Columns.{IntegerColumn, values_of, first_cell, other_cel
 use Rattle.values.specs.IntegerTable.{integer_column, integer_columns}
 use Rattle.ipc_stream.proofs.ColumnLemmas.{AreRowsOf, length-values, rows_again}
 use Rattle.ipc_stream.proofs.CutLemmas.{AllLight, light_sum}
-use Rattle.ipc_stream.proofs.IntegerLemmas.{lt_true, lt_false}
 use Rattle.ipc_stream.proofs.Pieces.{AreIntegers, parts_weigh}
 use Rattle.ipc_stream.proofs.PieceSize.{padded_small}
 use Rattle.ipc_stream.proofs.RoundTripFront.{length_placed}
-use Rattle.ipc_stream.proofs.RoundTripSchema.{or_none}
-
-eq_true : (n : ℕ) → (n == n) ≡ true
-eq_true n = grind (arith, nat_tests)
 
 -- the batch of a piece
 abbrev pub piece_buffers : PlainSchema → List (List Cell) → List (List ℕ)
@@ -42,7 +37,7 @@ full_again (c ∷ cs) n = ap (λ (ns : List RawNode). record { length = n; null_
 
 no_node : {A : Type 0} (p : RawNode → Bool) (n : ℕ) → p (record { length = n; null_count = 0 }) ≡ false → (cs : List A) → list_any p (full_nodes cs n) ≡ false
 no_node p n h [] = refl
-no_node p n h (c ∷ cs) = or_none (p (record { length = n; null_count = 0 })) (list_any p (full_nodes cs n)) h (no_node p n h cs)
+no_node p n h (c ∷ cs) = or_from (p (record { length = n; null_count = 0 })) (list_any p (full_nodes cs n)) h (no_node p n h cs)
 
 length_full : {A : Type 0} (cs : List A) (n : ℕ) → length (full_nodes cs n) ≡ length cs
 length_full [] n = refl
@@ -71,10 +66,10 @@ no_array p n f (c ∷ cs) rows at len =
     let size : length values ≡ n * c.width = length-values c.width (map first_cell rows) ∙ ap (λ (m : ℕ). m * c.width) counted in
     let here : p (record { column = c; node = record { length = n; null_count = 0 }; validity = record { offset = at; length = 0 }; values = record { offset = at + length (padded []); length = length values } }) ≡ false =
     ap (λ (m : ℕ). p (record { column = c; node = record { length = n; null_count = 0 }; validity = record { offset = at; length = 0 }; values = record { offset = at + length (padded []); length = m } })) size ∙ f c at (at + length (padded [])) in
-    or_none _ _ here (no_array p n f cs (map other_cells rows) (at + length (padded []) + length (padded values)) (length-map rows other_cells ∙ len))
+    or_from _ _ here (no_array p n f cs (map other_cells rows) (at + length (padded []) + length (padded values)) (length-map rows other_cells ∙ len))
 
 short_one : (n : ℕ) (c : IntegerColumn) (a b : ℕ) → is_short (full_array c n a b) ≡ false
-short_one n c a b = lt_false (n * c.width) (n * c.width) (le_refl (n * c.width))
+short_one n c a b = le-ltb (n * c.width) (n * c.width) (le_refl (n * c.width))
 
 valid_one : (n : ℕ) (c : IntegerColumn) (a b : ℕ) → has_validity (full_array c n a b) ≡ false
 valid_one n c a b = refl
@@ -85,9 +80,9 @@ null_one n c a b = refl
 -- buffers within a body
 outside_one : (total at len : ℕ) → at + len ≤ total → total < 2 ^ 63 → (not (nat_lt at (2 ^ 63)) || not (nat_lt len (2 ^ 63)) || nat_lt total (at + len)) ≡ false
 outside_one total at len fits small =
-    let a : nat_lt at (2 ^ 63) ≡ true = lt_true at (2 ^ 63) (omega arith) in
-    let b : nat_lt len (2 ^ 63) ≡ true = lt_true len (2 ^ 63) (omega arith) in
-    rw (a, b, lt_false total (at + len) fits) refl
+    let a : nat_lt at (2 ^ 63) ≡ true = lt-ltb at (2 ^ 63) (omega arith) in
+    let b : nat_lt len (2 ^ 63) ≡ true = lt-ltb len (2 ^ 63) (omega arith) in
+    rw (a, b, le-ltb total (at + len) fits) refl
 
 none_outside : (B : List ℕ) (at : ℕ) (bs : List (List ℕ)) → at + length (body bs) ≤ length B → length B < 2 ^ 63 → list_any (is_outside B) (placed at bs) ≡ false
 none_outside B at [] fits small = refl
@@ -95,7 +90,7 @@ none_outside B at (b ∷ bs) fits small =
     let whole = length-append (padded b) (body bs) in
     let filled = length-append b (replicate ((8 - length b % 8) % 8) 0) in
     let fit : at + length b ≤ length B = omega (arith, fits, whole, filled) in
-    or_none _ _ (outside_one (length B) at (length b) fit small) (none_outside B (at + length (padded b)) bs (omega (arith, fits, whole)) small)
+    or_from _ _ (outside_one (length B) at (length b) fit small) (none_outside B (at + length (padded b)) bs (omega (arith, fits, whole)) small)
 
 -- ---- the values that stand in the body
 
@@ -140,12 +135,12 @@ all_light s (row ∷ rows) h = let w = parts_weigh s.columns (cells_of row) h in
 none_heavy : (s : PlainSchema) (most : ℕ) (rows : List (List Cell)) → most ≤ 16777216 → AllLight (row_weight s) most rows → list_any (λ (row : List Cell). nat_lt 16777216 (row_weight s row)) rows ≡ false
 none_heavy s most [] few light = refl
 none_heavy s most (row ∷ rows) few light =
-    or_none (nat_lt 16777216 (row_weight s row)) (list_any (λ (r : List Cell). nat_lt 16777216 (row_weight s r)) rows) (lt_false 16777216 (row_weight s row) (let w : row_weight s row ≤ most = light.0 in omega (arith, w, few))) (none_heavy s most rows few light.1)
+    or_from (nat_lt 16777216 (row_weight s row)) (list_any (λ (r : List Cell). nat_lt 16777216 (row_weight s r)) rows) (le-ltb 16777216 (row_weight s row) (let w : row_weight s row ≤ most = light.0 in omega (arith, w, few))) (none_heavy s most rows few light.1)
 
 light_enough : (s : PlainSchema) (before rows : List (List Cell)) → AreIntegers s.columns → length s.columns ≤ 2048 → (1 + length s.columns) * length (before ++ rows) ≤ 268435456 → are_too_heavy s before rows ≡ false
 light_enough s before rows h few light =
     let sum : table_weight s (before ++ rows) ≤ (1 + length s.columns) * length (before ++ rows) = light_sum (row_weight s) (1 + length s.columns) (before ++ rows) (all_light s (before ++ rows) h) in
-    or_none _ _ (none_heavy s (1 + length s.columns) rows (omega (arith, few)) (all_light s rows h)) (lt_false 268435456 (table_weight s (before ++ rows)) (omega (arith, sum, light)))
+    or_from _ _ (none_heavy s (1 + length s.columns) rows (omega (arith, few)) (all_light s rows h)) (le-ltb 268435456 (table_weight s (before ++ rows)) (omega (arith, sum, light)))
 
 -- ---- the size of the body
 
@@ -169,21 +164,21 @@ body_small (c ∷ cs) rows narrow few =
 -- ---- the tests
 
 length_fair : (n : ℕ) → n ≤ 4096 → is_bad_length n ≡ false
-length_fair n few = rw (lt_true n (2 ^ 63) (omega arith), lt_false 16777216 n (omega arith)) refl
+length_fair n few = rw (lt-ltb n (2 ^ 63) (omega arith), le-ltb 16777216 n (omega arith)) refl
 
 node_fair : (n : ℕ) → n ≤ 4096 → (is_bad_length n || not (n == n)) ≡ false
-node_fair n few = or_none (is_bad_length n) (not (n == n)) (length_fair n few) (ap not (eq_true n))
+node_fair n few = or_from (is_bad_length n) (not (n == n)) (length_fair n few) (ap not (eq-eqb n n refl))
 
 layout_fair : (s : PlainSchema) (rows : List (List Cell)) → has_other_layout (integer_columns s) (piece_batch s rows) ≡ false
 layout_fair s rows =
     let cs : List IntegerColumn = integer_columns s in
     let a : length (full_nodes s.columns (length rows)) ≡ length cs = length_full s.columns (length rows) ∙ sym (length-map s.columns integer_column) in
     let b : length (placed 0 (integer_buffers cs rows)) ≡ 2 * length cs = length_placed 0 (integer_buffers cs rows) ∙ length_buffers cs rows in
-    rw (a, b, eq_true (length cs), eq_true (2 * length cs)) refl
+    rw (a, b, eq-eqb (length cs) (length cs) refl, eq-eqb (2 * length cs) (2 * length cs) refl) refl
 
 lengths_fair : (s : PlainSchema) (rows : List (List Cell)) → length rows ≤ 4096 → has_bad_length (piece_batch s rows) ≡ false
 lengths_fair s rows few =
-    or_none _ _ (length_fair (length rows) few) (no_node (λ (m : RawNode). is_bad_length m.length || not (m.length == length rows)) (length rows) (node_fair (length rows) few) s.columns)
+    or_from _ _ (length_fair (length rows) few) (no_node (λ (m : RawNode). is_bad_length m.length || not (m.length == length rows)) (length rows) (node_fair (length rows) few) s.columns)
 
 arrays_fair : (p : Array → Bool) (s : PlainSchema) (rows : List (List Cell)) → ((c : IntegerColumn) (a b : ℕ) → p (full_array c (length rows) a b) ≡ false)
     → list_any p (arrays_of (integer_columns s) (full_nodes s.columns (length rows)) (placed 0 (piece_buffers s rows))) ≡ false

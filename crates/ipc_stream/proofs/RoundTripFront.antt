@@ -3,6 +3,7 @@ use Rattle.std.proofs.Common.{◌≡◌, ℕ, suc, ◌+◌, ◌-◌, ◌%◌, �
 use Rattle.std.specs.List.{list_all}
 use Rattle.std.proofs.lemmas.List.{length-map}
 use Rattle.std.proofs.Math.Seq.{drop-append_seam}
+use Rattle.std.proofs.lemmas.Bool.{and_parts}
 use Rattle.byteorder.specs.Endian.{little_bytes}
 use Rattle.byteorder.specs.Numbers.{length-bytes_low_first}
 use Rattle.flatbuf.specs.Lookup.{target}
@@ -19,7 +20,6 @@ use Rattle.arrow_schema.specs.Integers.{is_integer_column, is_empty, is_integer_
 use Rattle.ipc_write.specs.Spelled.{raw_schema}
 use Rattle.ipc_write.specs.Trees.{schema_tree, batch_tree, message_tree, node_pair, buffer_pair}
 use Rattle.ipc_write.specs.Written.{framed, padded, body, placed, batch_of, schema_message, batch_message}
-use Rattle.ipc_write.proofs.FieldNode.{both}
 use Rattle.ipc_write.proofs.Room.{schema_fits, schema_small, batch_fits, batch_room, columns_few}
 use Rattle.ipc_write.proofs.MessageRead.{front_again, type_read}
 use Rattle.ipc_write.proofs.HeaderRead.{schema_header_read, batch_header_read}
@@ -68,7 +68,7 @@ schema_type s ints limits = type_read (schema_metadata s) 1 0 (schema_tree s) (s
 
 pub schema_read_again : (s : PlainSchema) → is_integer_schema s ≡ true → IsWithinLimits s → header held_codes (schema_metadata s) ≡ Ok (schema_header (raw_schema s))
 schema_read_again s ints limits =
-    let parts = both (list_all is_integer_column s.columns) (is_empty s.pairs) ints in
+    let parts = and_parts (list_all is_integer_column s.columns) (is_empty s.pairs) ints in
     let none : length s.pairs ≡ 0 = ap length (no_pairs s.pairs parts.1) in
     let tables = tables_are s.columns parts.0 in
     let few = columns_few s.columns in

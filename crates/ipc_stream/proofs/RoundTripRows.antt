@@ -2,13 +2,13 @@
 use Rattle.std.specs.List.{list_all}
 use Rattle.std.proofs.Common.{◌≡◌, ℕ, zero, suc, ◌+◌, ◌*◌, ◌^◌, ◌<◌, ◌≤◌, Bool, true, ◌==◌, List, [], ◌∷◌, ◌++◌, None, map, length, drop, refl, arith, sym, ap, ◌∙◌}
 use Rattle.std.proofs.lemmas.Bool.Decides.{nat_tests}
+use Rattle.std.proofs.lemmas.Bool.{and_parts}
 use Rattle.byteorder.specs.Endian.{little_number}
 use Rattle.byteorder.specs.Numbers.{little_from-lt}
 use Rattle.arrow_schema.specs.Column.{Column, column, integers}
 use Rattle.values.specs.Cell.{Cell}
 use Rattle.arrow_schema.specs.Integers.{is_integer_column, is_bit_width}
 use Rattle.arrow_schema.specs.IntegerCases.{integer_case}
-use Rattle.ipc_write.proofs.FieldNode.{both}
 use Rattle.ipc_write.proofs.Room.{AreIntegers}
 use Rattle.values.specs.IntegerRows.{AllBytes}
 use Rattle.values.specs.Columns.{IntegerColumn, cell_at, row_at, rows_from}
@@ -32,7 +32,7 @@ row_is : (cs : List IntegerColumn) (vs : List (List ℕ)) (n i : ℕ) → have_r
 row_is [] [] n i have small = tt
 row_is [] (v ∷ vs) n i have small = cc
 row_is (c ∷ cs) [] n i have small = cc
-row_is (c ∷ cs) (v ∷ vs) n i have small = (cell_is c v i small.0, row_is cs vs n i (both (length v == n * c.width) (have_rows cs vs n) have).1 small.1)
+row_is (c ∷ cs) (v ∷ vs) n i have small = (cell_is c v i small.0, row_is cs vs n i (and_parts (length v == n * c.width) (have_rows cs vs n) have).1 small.1)
 
 pub rows_are : (cs : List IntegerColumn) (vs : List (List ℕ)) (n i k : ℕ) → have_rows cs vs n ≡ true → AllBytes vs → AreRowsOf cs (rows_from cs vs i k)
 rows_are cs vs n i zero have small = tt
@@ -60,5 +60,5 @@ narrow_one name nullable bits signed w = let small = narrow_width bits w in omeg
 pub narrow : (cs : List Column) → AreIntegers cs → AreNarrow (map integer_column cs)
 narrow [] h = tt
 narrow (c ∷ cs) h =
-    let parts = both (is_integer_column c) (list_all is_integer_column cs) h in
+    let parts = and_parts (is_integer_column c) (list_all is_integer_column cs) h in
     (integer_case (λ x. (integer_column x).width ≤ 8) narrow_one c parts.0, narrow cs parts.1)

@@ -2,12 +2,13 @@
 use Rattle.std.specs.Prelude.{sum_by, find, flat_map, nat_lt, string_bytes}
 use Rattle.std.specs.List.{list_any, list_all}
 use Rattle.std.specs.Str.{is_utf8}
-use Rattle.std.proofs.Common.{◌≡◌, ℕ, ◌+◌, ◌*◌, ◌≤◌, Bool, true, false, ◌&&◌, ◌||◌, List, [], ◌∷◌, ◌++◌, map, length, None, refl, arith, ap, ◌∙◌}
+use Rattle.std.proofs.Common.{◌≡◌, ℕ, ◌+◌, ◌*◌, ◌≤◌, Bool, true, false, List, [], ◌∷◌, ◌++◌, map, length, None, refl, arith, ap, ◌∙◌}
 use Rattle.std.proofs.lemmas.Str.{is_utf8-from_IsUtf8, IsUtf8-nil, IsUtf8-string_bytes}
 use Rattle.std.proofs.lemmas.List.{length-map}
 use Rattle.std.proofs.lemmas.List.Concat.{flat_map-cons}
 use Rattle.std.proofs.lemmas.List.Sums.{sum_by-cons, sum_by-append}
 use Rattle.std.proofs.lemmas.List.Folds.{list_all-append}
+use Rattle.std.proofs.lemmas.Bool.{and_from, and_parts, le-ltb, or_from}
 use Rattle.arrow_schema.specs.declared.types.Field.{Field, out-Field}
 use Rattle.arrow_schema.specs.declared.types.DataType.TheFolds.{fold_out-Field}
 use Rattle.arrow_schema.specs.View.{kind_step, column_step, column_of}
@@ -25,9 +26,7 @@ use Rattle.arrow_schema.specs.Integers.{is_integer_column, is_bit_width, is_empt
 use Rattle.ipc_write.specs.Spelled.{parameters_of, raw_of, raw_below, raw_of_all, raw_schema}
 use Rattle.ipc_write.specs.Walked.{tables_of, tables_of_all}
 use Rattle.arrow_schema.specs.IntegerCases.{integer_case}
-use Rattle.ipc_write.proofs.FieldNode.{both}
 use Rattle.ipc_write.proofs.Room.{AreIntegers, name_len, columns_few, names_few}
-use Rattle.ipc_stream.proofs.IntegerLemmas.{lt_false}
 
 -- the field of a column without a dictionary or children
 abbrev pub plain_field : Column → RawField
@@ -68,7 +67,7 @@ raws_are : (id : ℕ) (cs : List Column) → AreIntegers cs → raw_list_of (raw
 unfolding raw_of_all
 raws_are id [] h = refl
 raws_are id (c ∷ cs) h =
-    let parts = both (is_integer_column c) (list_all is_integer_column cs) h in
+    let parts = and_parts (is_integer_column c) (list_all is_integer_column cs) h in
     λ i. raw_is id c parts.0 i ∷ raws_are (id + ids_of c) cs parts.1 i
 
 pub raw_schema_is : (s : PlainSchema) → AreIntegers s.columns → raw_schema s ≡ plain_raw s
@@ -83,7 +82,7 @@ column_one name nullable bits signed w = rw w refl
 columns_again : (cs : List Column) → AreIntegers cs → map column_of_field (map plain_field cs) ≡ cs
 columns_again [] h = refl
 columns_again (c ∷ cs) h =
-    let parts = both (is_integer_column c) (list_all is_integer_column cs) h in
+    let parts = and_parts (is_integer_column c) (list_all is_integer_column cs) h in
     let first : column_of_field (plain_field c) ≡ c = integer_case (λ x. column_of_field (plain_field x) ≡ x) column_one c parts.0 in
     let rest = columns_again cs parts.1 in
     λ i. first i ∷ rest i
@@ -99,7 +98,7 @@ two_tables name nullable bits signed w = refl
 pub tables_are : (cs : List Column) → AreIntegers cs → tables_of_all (columns_of cs) ≡ 2 * length cs
 tables_are [] h = refl
 tables_are (c ∷ cs) h =
-    let parts = both (is_integer_column c) (list_all is_integer_column cs) h in
+    let parts = and_parts (is_integer_column c) (list_all is_integer_column cs) h in
     let one : tables_of c ≡ 2 = integer_case (λ x. tables_of x ≡ 2) two_tables c parts.0 in
     let rest = tables_are cs parts.1 in
     omega (arith, one, rest)
@@ -126,20 +125,12 @@ depth_low (c ∷ cs) = let rest = depth_low cs in let one = depth_one c in omega
 
 -- ---- the tests
 
-pub or_none : (a b : Bool) → a ≡ false → b ≡ false → (a || b) ≡ false
-or_none true b h k = absurd cc
-or_none false b h k = k
-
-and_all : (a b : Bool) → a ≡ true → b ≡ true → (a && b) ≡ true
-and_all true b h k = k
-and_all false b h k = absurd cc
-
 -- what is false of each field
 none_any : (p : RawField → Bool) → ((c : Column) → is_integer_column c ≡ true → p (plain_field c) ≡ false) → (cs : List Column) → AreIntegers cs → list_any p (map plain_field cs) ≡ false
 none_any p f [] h = refl
 none_any p f (c ∷ cs) h =
-    let parts = both (is_integer_column c) (list_all is_integer_column cs) h in
-    or_none (p (plain_field c)) (list_any p (map plain_field cs)) (f c parts.0) (none_any p f cs parts.1)
+    let parts = and_parts (is_integer_column c) (list_all is_integer_column cs) h in
+    or_from (p (plain_field c)) (list_any p (map plain_field cs)) (f c parts.0) (none_any p f cs parts.1)
 
 unheld_one : (name : List ℕ) (nullable : Bool) (bits : ℕ) (signed : Bool) → is_bit_width bits ≡ true → is_unheld held_codes (plain_field (column name nullable (integers bits signed) None [])) ≡ false
 unheld_one name nullable bits signed w = refl
@@ -147,7 +138,7 @@ unheld_one name nullable bits signed w = refl
 find_none : (cs : List Column) → AreIntegers cs → find (is_unheld held_codes) (map plain_field cs) ≡ None
 find_none [] h = refl
 find_none (c ∷ cs) h =
-    let parts = both (is_integer_column c) (list_all is_integer_column cs) h in
+    let parts = and_parts (is_integer_column c) (list_all is_integer_column cs) h in
     let held : is_unheld held_codes (plain_field c) ≡ false = integer_case (λ x. is_unheld held_codes (plain_field x) ≡ false) unheld_one c parts.0 in
     rw held (find_none cs parts.1)
 
@@ -163,7 +154,7 @@ no_dictionary (column name nullable kind dictionary pairs) = refl
 
 odds_none : (f : RawField) → dictionary_of f ≡ None → (gs : List RawField) → list_any (are_at_odds f) gs ≡ false
 odds_none f h [] = refl
-odds_none f h (g ∷ gs) = or_none (are_at_odds f g) (list_any (are_at_odds f) gs) (rw h refl) (odds_none f h gs)
+odds_none f h (g ∷ gs) = or_from (are_at_odds f g) (list_any (are_at_odds f) gs) (rw h refl) (odds_none f h gs)
 
 other_none : (fields : List RawField) (c : Column) → has_other_type fields (plain_field c) ≡ false
 unfolding has_other_type
@@ -192,7 +183,7 @@ text_one name nullable bits signed w = omega (arith, sum_by-cons length name ([]
 texts_len : (cs : List Column) → AreIntegers cs → sum_by length (flat_map texts_of_field (map plain_field cs)) ≡ sum_by name_len cs
 texts_len [] h = refl
 texts_len (c ∷ cs) h =
-    let parts = both (is_integer_column c) (list_all is_integer_column cs) h in
+    let parts = and_parts (is_integer_column c) (list_all is_integer_column cs) h in
     let fs : List RawField = map plain_field cs in
     let one : sum_by length (texts_of_field (plain_field c)) ≡ name_len c = integer_case (λ x. sum_by length (texts_of_field (plain_field x)) ≡ name_len x) text_one c parts.0 in
     let rest = texts_len cs parts.1 in
@@ -202,16 +193,16 @@ texts_len (c ∷ cs) h =
 
 utf8_one : (name : List ℕ) (nullable : Bool) (bits : ℕ) (signed : Bool) → is_bit_width bits ≡ true
     → is_utf8 name ≡ true → list_all is_utf8 (texts_of_field (plain_field (column name nullable (integers bits signed) None []))) ≡ true
-utf8_one name nullable bits signed w h = and_all (is_utf8 name) (list_all is_utf8 ([] ∷ [])) h (and_all (is_utf8 []) true (is_utf8-from_IsUtf8 [] IsUtf8-nil) refl)
+utf8_one name nullable bits signed w h = and_from (is_utf8 name) (list_all is_utf8 ([] ∷ [])) h (and_from (is_utf8 []) true (is_utf8-from_IsUtf8 [] IsUtf8-nil) refl)
 
 texts_utf8 : (cs : List Column) → AreIntegers cs → AreNamed cs → list_all is_utf8 (flat_map texts_of_field (map plain_field cs)) ≡ true
 texts_utf8 [] h named = refl
 texts_utf8 (c ∷ cs) h named =
-    let parts = both (is_integer_column c) (list_all is_integer_column cs) h in
+    let parts = and_parts (is_integer_column c) (list_all is_integer_column cs) h in
     let fs : List RawField = map plain_field cs in
     let one : list_all is_utf8 (texts_of_field (plain_field c)) ≡ true = integer_case (λ x. is_utf8 (name_of x) ≡ true → list_all is_utf8 (texts_of_field (plain_field x)) ≡ true) utf8_one c parts.0 named.0 in
     ap (list_all is_utf8) (flat_map-cons texts_of_field (plain_field c) fs)
-    ∙ (list_all-append is_utf8 (texts_of_field (plain_field c)) (flat_map texts_of_field fs) ∙ and_all (list_all is_utf8 (texts_of_field (plain_field c))) (list_all is_utf8 (flat_map texts_of_field fs)) one (texts_utf8 cs parts.1 named.1))
+    ∙ (list_all-append is_utf8 (texts_of_field (plain_field c)) (flat_map texts_of_field fs) ∙ and_from (list_all is_utf8 (texts_of_field (plain_field c))) (list_all is_utf8 (flat_map texts_of_field fs)) one (texts_utf8 cs parts.1 named.1))
 
 -- ---- the limits
 
@@ -221,7 +212,7 @@ pairs_one name nullable bits signed w = refl
 none_paired : (cs : List Column) → AreIntegers cs → sum_by (λ (f : RawField). length (pairs_of f)) (map plain_field cs) ≡ 0
 none_paired [] h = refl
 none_paired (c ∷ cs) h =
-    let parts = both (is_integer_column c) (list_all is_integer_column cs) h in
+    let parts = and_parts (is_integer_column c) (list_all is_integer_column cs) h in
     let one : length (pairs_of (plain_field c)) ≡ 0 = integer_case (λ x. length (pairs_of (plain_field x)) ≡ 0) pairs_one c parts.0 in
     let rest = none_paired cs parts.1 in
     let sum = sum_by-cons (λ (f : RawField). length (pairs_of f)) (plain_field c) (map plain_field cs) in
@@ -239,13 +230,13 @@ small_is cs h few short =
     let deep : depth_all (raw_fields_of fs) ≤ 32 = omega (arith, depth_low cs) in
     let paired : sum_by (λ (f : RawField). length (pairs_of f)) fs ≤ 4096 = omega (arith, none_paired cs h) in
     let long : sum_by length (flat_map texts_of_field fs) ≤ 4194304 = omega (arith, short, texts_len cs h) in
-    let a : nat_lt 2048 (length (preorder_all (raw_fields_of fs))) ≡ false = ap (λ (gs : List RawField). nat_lt 2048 (length gs)) (every_is cs) ∙ lt_false 2048 (length fs) count in
-    let b : nat_lt 32 (depth_all (raw_fields_of fs)) ≡ false = lt_false 32 (depth_all (raw_fields_of fs)) deep in
+    let a : nat_lt 2048 (length (preorder_all (raw_fields_of fs))) ≡ false = ap (λ (gs : List RawField). nat_lt 2048 (length gs)) (every_is cs) ∙ le-ltb 2048 (length fs) count in
+    let b : nat_lt 32 (depth_all (raw_fields_of fs)) ≡ false = le-ltb 32 (depth_all (raw_fields_of fs)) deep in
     let c : nat_lt 4096 (0 + sum_by (λ (f : RawField). length (pairs_of f)) (preorder_all (raw_fields_of fs))) ≡ false =
-    ap (λ (gs : List RawField). nat_lt 4096 (0 + sum_by (λ (f : RawField). length (pairs_of f)) gs)) (every_is cs) ∙ lt_false 4096 (0 + sum_by (λ (f : RawField). length (pairs_of f)) fs) (omega (arith, paired)) in
+    ap (λ (gs : List RawField). nat_lt 4096 (0 + sum_by (λ (f : RawField). length (pairs_of f)) gs)) (every_is cs) ∙ le-ltb 4096 (0 + sum_by (λ (f : RawField). length (pairs_of f)) fs) (omega (arith, paired)) in
     let d : nat_lt 4194304 (sum_by length (flat_map texts_of_field (preorder_all (raw_fields_of fs)))) ≡ false =
-    ap (λ (gs : List RawField). nat_lt 4194304 (sum_by length (flat_map texts_of_field gs))) (every_is cs) ∙ lt_false 4194304 (sum_by length (flat_map texts_of_field fs)) long in
-    or_none _ _ (or_none _ _ (or_none _ _ a b) c) d
+    ap (λ (gs : List RawField). nat_lt 4194304 (sum_by length (flat_map texts_of_field gs))) (every_is cs) ∙ le-ltb 4194304 (sum_by length (flat_map texts_of_field fs)) long in
+    or_from _ _ (or_from _ _ (or_from _ _ a b) c) d
 
 accepted_columns : (cs : List Column) → AreIntegers cs → AreNamed cs → length cs ≤ 2048 → sum_by name_len cs ≤ 4194304 → first_some (schema_rounds held_codes (plain_raw (record { columns = cs; pairs = [] }))) ≡ None
 unfolding schema_rounds
@@ -255,7 +246,7 @@ accepted_columns cs h named few short =
 -- no test of the schema finds anything
 pub schema_accepted : (s : PlainSchema) → is_integer_schema s ≡ true → IsWithinLimits s → AreNamed s.columns → first_some (schema_rounds held_codes (plain_raw s)) ≡ None
 schema_accepted s ints limits named =
-    let parts = both (list_all is_integer_column s.columns) (is_empty s.pairs) ints in
+    let parts = and_parts (list_all is_integer_column s.columns) (is_empty s.pairs) ints in
     let none : s.pairs ≡ [] = no_pairs s.pairs parts.1 in
     ap (λ (ps : List Pair). first_some (schema_rounds held_codes (record { endianness = 0; fields = map plain_field s.columns; pairs = ps }))) none
     ∙ accepted_columns s.columns parts.0 named (omega (arith, columns_few s.columns, limits.fields)) (omega (arith, names_few s.columns, limits.bytes))

@@ -3,13 +3,13 @@ use Rattle.std.specs.Prelude.{nat_lt, IsTrue}
 use Rattle.std.specs.List.{list_any}
 use Rattle.std.proofs.Common.{◌≡◌, ℕ, suc, ◌+◌, ◌*◌, ◌≤◌, false, List, [], ◌∷◌, ◌++◌, length, refl, arith, sym, ap, ◌∙◌, length-append}
 use Rattle.std.proofs.lemmas.List.Sums.{sum_by-cons}
+use Rattle.std.proofs.lemmas.Bool.{le-ltb}
 use Rattle.arrow_schema.specs.Column.{PlainSchema}
 use Rattle.arrow_schema.specs.Limits.{IsWithinLimits}
 use Rattle.values.specs.Cell.{Cell, cells_of}
 use Rattle.values.specs.Weight.{row_weight, table_weight}
 use Rattle.arrow_schema.specs.Integers.{is_integer_schema}
 use Rattle.ipc_stream.specs.Batch.{are_too_heavy}
-use Rattle.ipc_stream.proofs.IntegerLemmas.{lt_false}
 use Rattle.ipc_stream.proofs.Pieces.{integers_of, parts_weigh, columns_few}
 
 row_weighs : (s : PlainSchema) (row : List Cell) → IsTrue (is_integer_schema s) → row_weight s row ≡ 1 + length s.columns
@@ -26,7 +26,7 @@ no_heavy_row : (s : PlainSchema) (rows : List (List Cell)) → IsTrue (is_intege
 no_heavy_row s [] ints few = refl
 no_heavy_row s (row ∷ rows) ints few =
     let light : row_weight s row ≤ 16777216 = omega (arith, row_weighs s row ints) in
-    rw (lt_false 16777216 (row_weight s row) light) (no_heavy_row s rows ints few)
+    rw (le-ltb 16777216 (row_weight s row) light) (no_heavy_row s rows ints few)
 
 -- a schema has no more columns than fields
 pub few_columns : (s : PlainSchema) → IsWithinLimits s → length s.columns ≤ 2048

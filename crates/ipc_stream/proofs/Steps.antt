@@ -97,7 +97,7 @@ meaning_on held bytes m a some e goes = rw (step_on held (length bytes) [] bytes
 
 -- ---- in the middle
 
-some_length : (bytes : List ℕ) → is_empty bytes ≡ false → 0 < length bytes
+pub some_length : (bytes : List ℕ) → is_empty bytes ≡ false → 0 < length bytes
 some_length [] h = absurd cc
 some_length (b ∷ bytes) h = omega arith
 
@@ -110,7 +110,7 @@ pub read_first : (bytes : List ℕ) (m : Envelope) (a : Message) (t : PlainTable
 read_first bytes m a t some e goes known is = record {
   before = a ∷ [];
   steps = length bytes;
-  mean = record { some = refl; schema = known; table = is };
+  table = record { some = refl; schema = known; table = is };
   enough = shorter bytes (message m) some;
   others = meaning_on held_codes bytes m a some e goes;
 }
@@ -121,7 +121,7 @@ unfolding table_in
 schema_means before t known is = subst (λ (x : PlainTable). is_integer_schema x.schema ≡ true) is (accepted_integer (schema_in before) known)
 
 pub read_integer : (bytes rest : List ℕ) (t : PlainTable) → IsRead bytes rest t → is_integer_schema t.schema ≡ true
-read_integer bytes rest t r = schema_means r.before t r.mean.schema r.mean.table
+read_integer bytes rest t r = schema_means r.before t r.table.schema r.table.table
 
 -- a fault of the rest is one of all
 others_fault : (bytes rest : List ℕ) (t : PlainTable) (r : IsRead bytes rest t) (fault : Fault) → messages held_codes r.steps r.before rest ≡ Err fault → meaning held_codes bytes ≡ Err fault
@@ -129,14 +129,14 @@ others_fault bytes rest t r fault e = r.others ∙ ap (λ (x : Result (List Mess
 
 -- and so is what the messages mean
 others_end : (bytes rest : List ℕ) (t : PlainTable) (r : IsRead bytes rest t) → messages held_codes r.steps r.before rest ≡ Ok r.before → meaning held_codes bytes ≡ Ok t
-others_end bytes rest t r e = r.others ∙ ap (λ (x : Result (List Message) Fault). x >>= λ ms. Ok (table_in ms)) e ∙ ap Ok r.mean.table
+others_end bytes rest t r e = r.others ∙ ap (λ (x : Result (List Message) Fault). x >>= λ ms. Ok (table_in ms)) e ∙ ap Ok r.table.table
 
 pub read_end : (bytes rest : List ℕ) (t : PlainTable) → IsRead bytes rest t → length rest ≡ 0 → meaning held_codes bytes ≡ Ok t
 read_end bytes rest t r none =
     let less = any_steps r.steps (length rest) r.enough in
     let goes : messages held_codes r.steps r.before rest ≡ at_end r.before =
     ap (λ (n : ℕ). messages held_codes n r.before rest) less.1 ∙ ap (λ (x : List ℕ). messages held_codes (suc less.0) r.before x) (no_bytes rest none) ∙ step_end held_codes less.0 r.before in
-    others_end bytes rest t r (goes ∙ at_end_some r.before r.mean.some)
+    others_end bytes rest t r (goes ∙ at_end_some r.before r.table.some)
   where
     at_end_some : (before : List Message) → is_empty before ≡ false → at_end before ≡ Ok before
     at_end_some before some = rw some refl
@@ -158,14 +158,14 @@ read_mark bytes rest t f r some e is short =
     let last : length rest ≤ 8 = rw is at short in
     let less = any_steps r.steps (length rest) r.enough in
     let goes : messages held_codes r.steps r.before rest ≡ at_mark r.before (drop 8 rest) = rw less.1 (step_mark held_codes less.0 r.before rest some (e ∙ ap Ok is)) in
-    others_end bytes rest t r (goes ∙ at_mark_end r.before (drop 8 rest) r.mean.some (omega (arith, length-drop 8 rest)))
+    others_end bytes rest t r (goes ∙ at_mark_end r.before (drop 8 rest) r.table.some (omega (arith, length-drop 8 rest)))
 
 pub read_past_mark : (bytes rest : List ℕ) (t : PlainTable) (f : Front) → IsRead bytes rest t → is_empty rest ≡ false → front rest ≡ Ok f → f ≡ end_mark → taken f < length rest → meaning held_codes bytes ≡ Err AfterEnd
 read_past_mark bytes rest t f r some e is long =
     let more : 8 < length rest = rw is at long in
     let less = any_steps r.steps (length rest) r.enough in
     let goes : messages held_codes r.steps r.before rest ≡ at_mark r.before (drop 8 rest) = rw less.1 (step_mark held_codes less.0 r.before rest some (e ∙ ap Ok is)) in
-    others_fault bytes rest t r AfterEnd (goes ∙ at_mark_more r.before (drop 8 rest) r.mean.some (omega (arith, length-drop 8 rest)))
+    others_fault bytes rest t r AfterEnd (goes ∙ at_mark_more r.before (drop 8 rest) r.table.some (omega (arith, length-drop 8 rest)))
 
 -- ---- a message more
 
@@ -185,14 +185,14 @@ pub read_on : (bytes rest : List ℕ) (t : PlainTable) (m : Envelope) (next : Ga
     → IsRead bytes (drop (taken (message m)) rest) (gathered_table next)
 read_on bytes rest t m next r some e adds =
     let less = any_steps r.steps (length rest) r.enough in
-    let went = bind_ok (accepted held_codes r.before m) (λ (a : Message). Ok (table_in (r.before ++ a ∷ []))) (gathered_table next) (adds r.before r.mean) in
+    let went = bind_ok (accepted held_codes r.before m) (λ (a : Message). Ok (table_in (r.before ++ a ∷ []))) (gathered_table next) (adds r.before r.table) in
     let means : table_in (r.before ++ went.0 ∷ []) ≡ gathered_table next = cc (went.2) in
     let goes : messages held_codes r.steps r.before rest ≡ messages held_codes less.0 (r.before ++ went.0 ∷ []) (drop (taken (message m)) rest) =
     ap (λ (n : ℕ). messages held_codes n r.before rest) less.1 ∙ step_on held_codes less.0 r.before rest m went.0 some e went.1 in
     record {
       before = r.before ++ went.0 ∷ [];
       steps = less.0;
-      mean = record { some = still_some r.before went.0; schema = subst IsAccepted (sym (same_schema r.before went.0 r.mean.some)) r.mean.schema; table = means };
+      table = record { some = still_some r.before went.0; schema = subst IsAccepted (sym (same_schema r.before went.0 r.table.some)) r.table.schema; table = means };
       enough = omega (arith, shorter rest (message m) some, r.enough, less.1);
       others = r.others ∙ ap (λ (x : Result (List Message) Fault). x >>= λ ms. Ok (table_in ms)) goes;
     }
@@ -202,5 +202,5 @@ pub read_refused : (bytes rest : List ℕ) (t : PlainTable) (m : Envelope) (e : 
 read_refused bytes rest t m errors.OutOfMemory r some e adds = tt
 read_refused bytes rest t m (errors.Fault fault) r some e adds =
     let less = any_steps r.steps (length rest) r.enough in
-    let refused = still_err (accepted held_codes r.before m) (λ (a : Message). table_in (r.before ++ a ∷ [])) fault (adds r.before r.mean) in
+    let refused = still_err (accepted held_codes r.before m) (λ (a : Message). table_in (r.before ++ a ∷ [])) fault (adds r.before r.table) in
     others_fault bytes rest t r fault (rw less.1 (step_refused held_codes less.0 r.before rest m fault some e refused))

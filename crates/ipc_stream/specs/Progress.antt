@@ -16,20 +16,20 @@ use Rattle.ipc_stream.specs.View.{gathered_table}
 abbrev pub without_rows : PlainSchema → PlainTable
 without_rows s = record { schema = s; rows = [] }
 
--- accepted messages, of which the first is a schema that passed its tests, mean this table
-pub record Mean (before : List Message) (t : PlainTable) : Type 0 where
+-- this is the table of accepted messages, of which the first is a schema that passed its tests
+pub record IsTableOf (before : List Message) (t : PlainTable) : Type 0 where
   pub some : is_empty before ≡ false
   pub schema : IsAccepted (schema_in before)
   pub table : table_in before ≡ t
 
--- the bytes mean what the rest means after the messages before it, which mean this table
+-- the bytes mean what the rest means after the messages before it, of which this is the table
 pub record IsRead (bytes rest : List ℕ) (t : PlainTable) : Type 0 where
   pub before : List Message
   pub steps : ℕ
-  pub mean : Mean before t
+  pub table : IsTableOf before t
   pub enough : length rest < steps
   pub others : meaning held_codes bytes ≡ (messages held_codes steps before rest >>= λ ms. Ok (table_in ms))
 
--- a message after those that mean a table gives the table that they mean together, or the message's fault
+-- a message after those of which this is the table gives the table of all of them, or the message's fault
 abbrev pub Adds : PlainTable → Envelope → Result Gathered ImportError → Type 0
-Adds t m result = (before : List Message) → Mean before t → Gives gathered_table result (accepted held_codes before m >>= λ a. Ok (table_in (before ++ a ∷ [])))
+Adds t m result = (before : List Message) → IsTableOf before t → Gives gathered_table result (accepted held_codes before m >>= λ a. Ok (table_in (before ++ a ∷ [])))

@@ -1,6 +1,7 @@
 use Rattle.std.specs.Prelude.{Ok}
 use Rattle.std.proofs.Common.{◌≡◌, ◌≤◌, ◌+◌, ◌*◌, ℕ, true, List, [], ◌∷◌, None, length, map, arith, refl, sym, ap, ◌∙◌}
 use Rattle.std.proofs.lemmas.List.{length-map}
+use Rattle.std.proofs.lemmas.Bool.{and_parts, ltb-false}
 use Rattle.arrow_schema.specs.View.{schema_of}
 use Rattle.values.specs.Cell.{Cell}
 use Rattle.ipc_message.specs.declared.raw.RawBatch.{RawBatch}
@@ -12,9 +13,8 @@ use Rattle.values.specs.IntegerTable.{integer_columns, have_rows}
 use Rattle.ipc_stream.specs.Batch.{batch_rounds}
 use Rattle.ipc_stream.specs.View.{gathered_table}
 use Rattle.ipc_stream.specs.Added.{added}
-use Rattle.ipc_stream.proofs.Pieces.{both}
 use Rattle.ipc_stream.proofs.RowLemmas.{length_rows}
-use Rattle.ipc_stream.proofs.BatchLemmas.{count_columns, few_rows, heavy_is, lt_back}
+use Rattle.ipc_stream.proofs.BatchLemmas.{count_columns, few_rows, heavy_is}
 use Rattle.ipc_stream.proofs.AcceptedLemmas.{IsFine, fine_of, or_fault, or_none}
 use Rattle.ipc_stream.proofs.batch.add_batch.Goals as goal
 
@@ -26,7 +26,7 @@ same_count : (cs : List IntegerColumn) (vs : List (List ℕ)) (rows : ℕ) → h
 same_count [] [] rows h = refl
 same_count [] (v ∷ vs) rows h = cc
 same_count (c ∷ cs) [] rows h = cc
-same_count (c ∷ cs) (v ∷ vs) rows h = omega (arith, same_count cs vs rows (both _ _ h).1)
+same_count (c ∷ cs) (v ∷ vs) rows h = omega (arith, same_count cs vs rows (and_parts _ _ h).1)
 
 pub returns-in-Some : goal.returns-in-Some
 unfolding added
@@ -71,7 +71,7 @@ invariant_of-result c =
       integers = t.integers;
       limits = t.limits;
       each = (c.in_ok-append_values.ensures t.rows t.each).0;
-      light = lt_back 268435456 ((t.rows + b.length) * (1 + length t.schema.fields.items)) (sym heavy ∙ light);
+      light = ltb-false 268435456 ((t.rows + b.length) * (1 + length t.schema.fields.items)) (sym heavy ∙ light);
     }
 
 pub returns : goal.returns

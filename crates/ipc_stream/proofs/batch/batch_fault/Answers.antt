@@ -1,8 +1,8 @@
 use Rattle.std.proofs.Common.{◌+◌, ◌*◌, arith, refl, sym, ◌∙◌}
+use Rattle.std.proofs.lemmas.Bool.{le-ltb, lt-ltb}
 use Rattle.arrow_schema.specs.declared.types.Schema.{Schema}
 use Rattle.ipc_message.specs.declared.raw.RawBatch.{RawBatch}
 use Rattle.ipc_stream.specs.Batch.{batch_rounds, batch_rows}
-use Rattle.ipc_stream.proofs.IntegerLemmas.{lt_true, lt_false}
 use Rattle.ipc_stream.proofs.BatchLemmas.{heavy_is, few_fields, few_rows, weight_fits}
 use Rattle.ipc_stream.proofs.batch.batch_fault.Goals as goal
 
@@ -51,12 +51,12 @@ pub returns-then-before-batch-gt-MAX_WEIGHT : goal.returns-then-before-batch-gt-
 unfolding batch_rounds batch_rows
 returns-then-before-batch-gt-MAX_WEIGHT c = λ rows len.
     let weight = heavy_is c.args.schema.now c.args.batch.now c.args.body.now rows c.args.before c.len.result c.requires.integers c.requires.limits len (omega arith) in
-    let heavy = weight ∙ lt_true 268435456 ((c.args.before + c.args.batch.now.length) * (1 + c.len.result)) c.if-before-batch-gt-MAX_WEIGHT.true in
+    let heavy = weight ∙ lt-ltb 268435456 ((c.args.before + c.args.batch.now.length) * (1 + c.len.result)) c.if-before-batch-gt-MAX_WEIGHT.true in
     rw (c.if-batch.false, ← c.if-has_other_layout.ensures, ← c.if-has_bad_length.ensures, ← c.if-has_buffer_outside.ensures, ← c.if-has_short_buffer.ensures, ← c.if-has_validity.ensures, ← c.if-counts_nulls.ensures, heavy) refl
 
 pub returns : goal.returns
 unfolding batch_rounds batch_rows
 returns c = λ rows len.
     let weight = heavy_is c.args.schema.now c.args.batch.now c.args.body.now rows c.args.before c.len.result c.requires.integers c.requires.limits len (omega arith) in
-    let light = weight ∙ lt_false 268435456 ((c.args.before + c.args.batch.now.length) * (1 + c.len.result)) c.if-before-batch-gt-MAX_WEIGHT.false in
+    let light = weight ∙ le-ltb 268435456 ((c.args.before + c.args.batch.now.length) * (1 + c.len.result)) c.if-before-batch-gt-MAX_WEIGHT.false in
     rw (c.if-batch.false, ← c.if-has_other_layout.ensures, ← c.if-has_bad_length.ensures, ← c.if-has_buffer_outside.ensures, ← c.if-has_short_buffer.ensures, ← c.if-has_validity.ensures, ← c.if-counts_nulls.ensures, light) refl

@@ -1,12 +1,13 @@
 use Rattle.std.specs.Prelude.{not}
 use Rattle.std.proofs.Common.{◌≡◌, ◌<◌, ℕ, true, false, length, arith, sym, ap, ◌∙◌}
+use Rattle.std.proofs.lemmas.Bool.{eq-eqb, ne_eqb}
 use Rattle.arrow_schema.specs.declared.types.Schema.{Schema}
 use Rattle.arrow_schema.specs.View.{schema_of}
 use Rattle.ipc_message.specs.declared.raw.RawBatch.{RawBatch}
 use Rattle.ipc_message.specs.View.{raw_batch_of}
 use Rattle.ipc_stream.specs.Batch.{counts_nulls, arrays_in}
 use Rattle.ipc_stream.proofs.ArrayLemmas.{any_here, any_later, any_end, array_at}
-use Rattle.ipc_stream.proofs.BatchLemmas.{layout_fits, array_here, count_arrays_in, column_at, eq_true, eq_false}
+use Rattle.ipc_stream.proofs.BatchLemmas.{layout_fits, array_here, count_arrays_in, column_at}
 use Rattle.ipc_stream.proofs.batch.counts_nulls.Goals as goal
 
 pub pair_at-requires : goal.pair_at-requires
@@ -18,7 +19,7 @@ returns-then-pair_at-ne0 c =
     let b : RawBatch = c.args.batch.now in
     let i : ℕ = c.loop-i.i in
     let few : i < length s.fields.items = omega arith in
-    let here : counts_nulls (array_at (column_at s i) b.nodes.now b.buffers.now i) ≡ true = ap not (eq_false _ 0 (λ none. c.if-pair_at-ne0.true (c.pair_at.ensures.second ∙ none))) in
+    let here : counts_nulls (array_at (column_at s i) b.nodes.now b.buffers.now i) ≡ true = ap not (ne_eqb _ 0 (λ none. c.if-pair_at-ne0.true (c.pair_at.ensures.second ∙ none))) in
     sym (any_here counts_nulls (arrays_in (schema_of s) (raw_batch_of b)) i (array_at (column_at s i) b.nodes.now b.buffers.now i) (array_here s b i c.requires few) here) ∙ c.loop-i.invariant
 
 pub loop-i-preserved : goal.loop-i-preserved
@@ -27,7 +28,7 @@ loop-i-preserved c =
     let b : RawBatch = c.args.batch.now in
     let i : ℕ = c.loop-i.i in
     let few : i < length s.fields.items = omega arith in
-    let here : counts_nulls (array_at (column_at s i) b.nodes.now b.buffers.now i) ≡ false = ap not (eq_true _ 0 (sym c.pair_at.ensures.second ∙ c.if-pair_at-ne0.false)) in
+    let here : counts_nulls (array_at (column_at s i) b.nodes.now b.buffers.now i) ≡ false = ap not (eq-eqb _ 0 (sym c.pair_at.ensures.second ∙ c.if-pair_at-ne0.false)) in
     any_later counts_nulls (arrays_in (schema_of s) (raw_batch_of b)) i (array_at (column_at s i) b.nodes.now b.buffers.now i) (array_here s b i c.requires few) here ∙ c.loop-i.invariant
 
 pub returns : goal.returns
