@@ -36,6 +36,10 @@ pairs_in (column name nullable kind dictionary pairs) = length pairs
 abbrev pub bytes_in : Column → ℕ
 bytes_in (column name nullable kind dictionary pairs) = length name + length (zone_of kind) + bytes_of_pairs pairs
 
+-- the bytes of its name alone
+abbrev pub name_len : Column → ℕ
+name_len (column name nullable kind dictionary pairs) = length name
+
 -- its width or size is one that the format can state
 abbrev pub has_number_in_range : Column → Bool
 has_number_in_range (column name nullable kind dictionary pairs) = nat_lt (number_of kind) (2 ^ 31)

@@ -1,10 +1,10 @@
 // The limits that a schema keeps.
-ghost use Rattle.std.specs.Prelude.{◌≡◌, ◌↔◌, ◌+◌, IsOk, map, length, nat_le};
+ghost use Rattle.std.specs.Prelude.{◌≡◌, ◌↔◌, ◌+◌, ◌≤◌, IsOk, map, length, nat_le, sum_by};
 ghost use Rattle.std.specs.List.{list_all};
-ghost use Rattle.arrow_schema.specs.Column.{columns_of};
+ghost use Rattle.arrow_schema.specs.Column.{columns_of, PlainSchema};
 ghost use Rattle.arrow_schema.specs.View.{schema_of, kind_of, column_of, pair_of};
 ghost use Rattle.arrow_schema.specs.Preorder.{preorder, preorder_below, preorder_all, depth, depth_below, depth_all, every_column};
-ghost use Rattle.arrow_schema.specs.Limits.{IsWithinLimits, first_passed, number_of, is_nested, zone_of, bytes_of_pairs, count_of_pairs, count_of_bytes, has_number_in_range, has_flat_dictionary};
+ghost use Rattle.arrow_schema.specs.Limits.{IsWithinLimits, first_passed, number_of, is_nested, zone_of, bytes_of_pairs, count_of_pairs, count_of_bytes, has_number_in_range, has_flat_dictionary, name_len};
 ghost use Rattle.arrow_schema.specs.Tally.{saturated, tallied, tallied_one, tally_of_pairs};
 
 use crate::types::{DataType, Field, Schema};
@@ -230,3 +230,9 @@ impl Schema {
         first_passed(self)
     }
 }
+
+/// What the limits say of a schema's own columns, their children left out.
+pub fn limits_bound_columns()
+    ensures fields { (s : PlainSchema) → IsWithinLimits s → length s.columns ≤ 2048 }
+    ensures names { (s : PlainSchema) → IsWithinLimits s → sum_by name_len s.columns ≤ 4194304 }
+{}

@@ -7,3 +7,4 @@ pub mod FieldNode
 pub mod Room
 pub mod HeaderRead
 pub mod BatchNode
+pub mod WrittenMessages

@@ -59,10 +59,14 @@ message_sound metadata type body_len following header known long small whole has
       lt_false following body_len whole,
     ) refl
 
+-- a framed message stands at the front, as ipc_message tells it
+abbrev pub Fronts : Type 0
+Fronts = (bytes others : List ℕ) (m : Envelope) → IsMessage m → Framed bytes m others → front bytes ≡ Ok (message m)
+
 -- what was framed stands at the front
-pub front_again : (metadata body rest : List ℕ) (type : ℕ) (header : Tree) → IsHeaderType type → 4 ≤ length metadata → length metadata ≤ 16777216 → length body < 2 ^ 63
+pub framed_again : Fronts → (metadata body rest : List ℕ) (type : ℕ) (header : Tree) → IsHeaderType type → 4 ≤ length metadata → length metadata ≤ 16777216 → length body < 2 ^ 63
     → Has metadata (target metadata 0) (message_tree type header (length body)) → front (framed metadata body ++ rest) ≡ Ok (message (record { metadata = metadata; body = body }))
-front_again metadata body rest type header known long short small has =
+framed_again fronts metadata body rest type header known long short small has =
     let n : ℕ = length metadata in
     let m : Envelope = record { metadata = metadata; body = body } in
     let good : IsMessage m = record {
@@ -77,4 +81,9 @@ front_again metadata body rest type header known long short small has =
       four = length-bytes_low_first 0 4 n;
       size_is = ap (little_number 4) (sym (append-nil (little_bytes 4 n))) ∙ little_number-reads_back 4 n [] (omega arith);
     } in
-    front_framed (framed metadata body ++ rest) rest m good stands
+    fronts (framed metadata body ++ rest) rest m good stands
+
+-- until ipc_stream takes the laws
+pub front_again : (metadata body rest : List ℕ) (type : ℕ) (header : Tree) → IsHeaderType type → 4 ≤ length metadata → length metadata ≤ 16777216 → length body < 2 ^ 63
+    → Has metadata (target metadata 0) (message_tree type header (length body)) → front (framed metadata body ++ rest) ≡ Ok (message (record { metadata = metadata; body = body }))
+front_again = framed_again front_framed

@@ -1,12 +1,13 @@
 -- The bytes of the messages of a stream (Arrow columnar format, "Encapsulated message format").
-use Rattle.std.specs.Prelude.{ℕ, ◌+◌, ◌-◌, ◌%◌, false, List, [], ◌∷◌, ◌++◌, length, replicate}
+use Rattle.std.specs.Prelude.{ℕ, ◌+◌, ◌-◌, ◌%◌, ◌^◌, ◌<◌, ◌≤◌, false, List, [], ◌∷◌, ◌++◌, map, length, replicate}
 use Rattle.byteorder.specs.Endian.{little_bytes}
 use Rattle.flatbuf.specs.Tree.{Tree}
 use Rattle.flatbuf.specs.Laid.{metadata}
+use Rattle.flatbuf.specs.Held.{FitsStructs}
 use Rattle.arrow_schema.specs.Column.{PlainSchema}
-use Rattle.ipc_message.specs.Framing.{mark}
+use Rattle.ipc_message.specs.Framing.{mark, Envelope}
 use Rattle.ipc_message.specs.Raw.{RawNode, RawBuffer, RawBatch}
-use Rattle.ipc_write.specs.Trees.{schema_tree, batch_tree, dictionary_tree, message_tree}
+use Rattle.ipc_write.specs.Trees.{schema_tree, batch_tree, dictionary_tree, message_tree, node_pair}
 
 -- the mark, the size of the metadata, the metadata, the body
 abbrev pub framed : List ℕ → List ℕ → List ℕ
@@ -44,6 +45,21 @@ dictionary_message id rows nodes buffers = message_bytes 2 (dictionary_tree (rec
 
 unfoldable pub batch_message : ℕ → List RawNode → List (List ℕ) → List ℕ
 batch_message rows nodes buffers = message_bytes 3 (batch_tree (batch_of rows nodes buffers)) (body buffers)
+
+-- the message of a schema, and that of a record batch, as a reader finds them
+abbrev pub schema_envelope : PlainSchema → Envelope
+schema_envelope s = record { metadata = metadata (message_tree 1 (schema_tree s) 0); body = [] }
+
+abbrev pub batch_envelope : ℕ → List RawNode → List (List ℕ) → Envelope
+batch_envelope rows nodes buffers = record { metadata = metadata (message_tree 3 (batch_tree (batch_of rows nodes buffers)) (length (body buffers))); body = body buffers }
+
+-- a batch whose numbers fit 64 bits, with no more nodes than a schema has columns, and whose metadata and body stay in their limits
+pub record IsWritableBatch (rows : ℕ) (nodes : List RawNode) (buffers : List (List ℕ)) : Type 0 where
+  pub rows_fit : rows < 2 ^ 64
+  pub nodes_fit : FitsStructs (map node_pair nodes)
+  pub few_nodes : length nodes ≤ 2048
+  pub few_buffers : length buffers ≤ 65536
+  pub short_body : length (body buffers) < 2 ^ 62
 
 -- the end mark
 abbrev pub end_mark : List ℕ

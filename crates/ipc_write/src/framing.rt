@@ -9,6 +9,7 @@ ghost use Rattle.arrow_schema.specs.Integers.{is_integer_schema};
 ghost use Rattle.ipc_write.specs.Trees.{buffer_pair, raw_node};
 ghost use Rattle.ipc_write.specs.Written.{schema_message, batch_message, end_mark, padded, body, placed};
 
+use crate::laws::metadata_is_within_its_limit;
 use crate::trees::{batch_node, message_node, schema_node};
 use arrow_schema::Schema;
 use flatbuf::Writer;
@@ -31,6 +32,7 @@ pub fn write_schema(alloc: Global, out: &mut Vec<u8>, schema: &Schema) -> Result
     requires limits { IsWithinLimits (schema_of schema.now) }
     ensures { OnOk result (out.new.items ≡ out.old.items ++ schema_message (schema_of schema.now)) }
 {
+    metadata_is_within_its_limit();
     let header = schema_node(alloc, schema)?;
     let root = message_node(alloc, 1, header, 0)?;
     let metadata = Writer::new(alloc).write(&root)?;
@@ -90,6 +92,7 @@ pub fn write_batch(
     requires body { length (body (map (λ b. b.now) buffers.now)) < 2 ^ 62 }
     ensures { OnOk result (out.new.items ≡ out.old.items ++ batch_message rows (map raw_node nodes.items) (map (λ b. b.now) buffers.now)) }
 {
+    metadata_is_within_its_limit();
     let (ranges, body_length) = ranges_of(alloc, buffers)?;
     let header = batch_node(alloc, rows, nodes, ranges)?;
     let root = message_node(alloc, 3, header, body_length)?;

@@ -1,16 +1,18 @@
 // What is written is read again. The functions do nothing: their contracts are the laws.
-ghost use Rattle.std.specs.Prelude.{◌≡◌, ℕ, Bool, false, List, ◌+◌, ◌≤◌, ◌<◌, ◌^◌, ◌++◌, length, map, Ok};
+ghost use Rattle.std.specs.Prelude.{◌≡◌, ℕ, Bool, false, List, ◌+◌, ◌≤◌, ◌<◌, ◌^◌, ◌++◌, length, map, drop, Ok, IsTrue};
 ghost use Rattle.arrow_schema.specs.Column.{Column, columns_of, PlainSchema};
+ghost use Rattle.arrow_schema.specs.Integers.{is_integer_schema};
+ghost use Rattle.arrow_schema.specs.Limits.{IsWithinLimits};
 ghost use Rattle.arrow_schema.specs.Preorder.{depth, depth_all};
 ghost use Rattle.flatbuf.specs.Held.{Has, FitsStructs};
 ghost use Rattle.flatbuf.specs.Lookup.{target};
 ghost use Rattle.flatbuf.specs.Tree.{Tree};
 ghost use Rattle.flatbuf.specs.Walk.{run, most_tables};
 ghost use Rattle.ipc_message.specs.Header.{field_at, field_things, header};
-ghost use Rattle.ipc_message.specs.Raw.{RawBatch, RawDictionaryBatch, schema_header, dictionary_header, batch_header};
-ghost use Rattle.ipc_message.specs.Framing.{front, message};
+ghost use Rattle.ipc_message.specs.Raw.{RawNode, RawBatch, RawDictionaryBatch, schema_header, dictionary_header, batch_header};
+ghost use Rattle.ipc_message.specs.Framing.{front, message, taken, type_of, most_metadata};
 ghost use Rattle.ipc_write.specs.Trees.{field_tree, schema_tree, dictionary_tree, batch_tree, message_tree, node_pair, buffer_pair};
-ghost use Rattle.ipc_write.specs.Written.{framed};
+ghost use Rattle.ipc_write.specs.Written.{framed, schema_message, batch_message, batch_of, schema_envelope, batch_envelope, IsWritableBatch};
 ghost use Rattle.ipc_write.specs.Spelled.{raw_of, raw_schema};
 ghost use Rattle.ipc_write.specs.Walked.{Holds, tables_of, tables_of_all, IsHeaderType};
 
@@ -28,7 +30,9 @@ pub fn message_is_read_again()
     ensures { (metadata body rest : List ℕ) (type : ℕ) (header : Tree) → IsHeaderType type → 4 ≤ length metadata → length metadata ≤ 16777216 → length body < 2 ^ 63
         → Has metadata (target metadata 0) (message_tree type header (length body))
         → front (framed metadata body ++ rest) ≡ Ok (message (record { metadata = metadata; body = body })) }
-{}
+{
+    ipc_message::front_is_framed();
+}
 
 /// The header of a schema message that was written is the schema that was written.
 pub fn schema_is_read_again()
@@ -47,3 +51,41 @@ pub fn batch_is_read_again()
     ensures { (held : ℕ → Bool) (metadata : List ℕ) (body_len : ℕ) (b : RawBatch) → b.compressed ≡ false → FitsStructs (map node_pair b.nodes) → FitsStructs (map buffer_pair b.buffers)
         → Has metadata (target metadata 0) (message_tree 3 (batch_tree b) body_len) → header held metadata ≡ Ok (batch_header b) }
 {}
+
+/// The metadata of a schema of integer columns within the limits, and that of a batch, are no longer than a reader takes.
+pub fn metadata_is_within_its_limit()
+    ensures schema { (s : PlainSchema) → IsTrue (is_integer_schema s) → IsWithinLimits s → length (schema_envelope s).metadata ≤ most_metadata }
+    ensures batch { (rows : ℕ) (nodes : List RawNode) (buffers : List (List ℕ)) → IsWritableBatch rows nodes buffers → length (batch_envelope rows nodes buffers).metadata ≤ most_metadata }
+{
+    arrow_schema::limits_bound_columns();
+    flatbuf::written_is_read();
+}
+
+/// The message of a schema of integer columns within the limits is read again. `front`: it stands at the front of whatever
+/// follows it; `kind`: its header is a schema; `header`: that schema is the one that was written; `after`: past it stands
+/// what follows it.
+pub fn schema_message_is_read_again()
+    ensures front { (s : PlainSchema) (rest : List ℕ) → IsTrue (is_integer_schema s) → IsWithinLimits s → front (schema_message s ++ rest) ≡ Ok (message (schema_envelope s)) }
+    ensures kind { (s : PlainSchema) → IsTrue (is_integer_schema s) → IsWithinLimits s → type_of (schema_envelope s).metadata ≡ 1 }
+    ensures header { (held : ℕ → Bool) (s : PlainSchema) → Holds held → IsTrue (is_integer_schema s) → IsWithinLimits s → header held (schema_envelope s).metadata ≡ Ok (schema_header (raw_schema s)) }
+    ensures after { (s : PlainSchema) (rest : List ℕ) → drop (taken (message (schema_envelope s))) (schema_message s ++ rest) ≡ rest }
+{
+    arrow_schema::limits_bound_columns();
+    flatbuf::written_is_read();
+    ipc_message::front_is_framed();
+    metadata_is_within_its_limit();
+}
+
+/// The message of a record batch is read again, by the clauses of [`schema_message_is_read_again`].
+pub fn batch_message_is_read_again()
+    ensures front { (rows : ℕ) (nodes : List RawNode) (buffers : List (List ℕ)) (rest : List ℕ) → IsWritableBatch rows nodes buffers
+        → front (batch_message rows nodes buffers ++ rest) ≡ Ok (message (batch_envelope rows nodes buffers)) }
+    ensures kind { (rows : ℕ) (nodes : List RawNode) (buffers : List (List ℕ)) → IsWritableBatch rows nodes buffers → type_of (batch_envelope rows nodes buffers).metadata ≡ 3 }
+    ensures header { (held : ℕ → Bool) (rows : ℕ) (nodes : List RawNode) (buffers : List (List ℕ)) → IsWritableBatch rows nodes buffers
+        → header held (batch_envelope rows nodes buffers).metadata ≡ Ok (batch_header (batch_of rows nodes buffers)) }
+    ensures after { (rows : ℕ) (nodes : List RawNode) (buffers : List (List ℕ)) (rest : List ℕ) → drop (taken (message (batch_envelope rows nodes buffers))) (batch_message rows nodes buffers ++ rest) ≡ rest }
+{
+    flatbuf::written_is_read();
+    ipc_message::front_is_framed();
+    metadata_is_within_its_limit();
+}

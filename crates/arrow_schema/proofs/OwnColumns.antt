@@ -1,0 +1,31 @@
+-- The limits count a schema's own columns among all of them.
+use Rattle.std.specs.Prelude.{sum_by}
+use Rattle.std.proofs.Common.{ℕ, ◌+◌, ◌≤◌, List, [], ◌∷◌, ◌++◌, length, arith, length-append}
+use Rattle.std.proofs.lemmas.List.Sums.{sum_by-cons, sum_by-append}
+use Rattle.arrow_schema.specs.Column.{Column, column, columns_of, PlainSchema}
+use Rattle.arrow_schema.specs.Preorder.{preorder, preorder_below, preorder_all}
+use Rattle.arrow_schema.specs.Limits.{IsWithinLimits, bytes_in, name_len}
+
+columns_few : (cs : List Column) → length cs ≤ length (preorder_all (columns_of cs))
+unfolding preorder preorder_all
+columns_few [] = omega arith
+columns_few (column name nullable kind dictionary pairs ∷ cs) =
+    let rest = columns_few cs in
+    omega (arith, rest, length-append (preorder_below kind) (preorder_all (columns_of cs)))
+
+names_few : (cs : List Column) → sum_by name_len cs ≤ sum_by bytes_in (preorder_all (columns_of cs))
+unfolding preorder preorder_all
+names_few [] = omega arith
+names_few (column name nullable kind dictionary pairs ∷ cs) =
+    let c : Column = column name nullable kind dictionary pairs in
+    let rest = names_few cs in
+    let a = sum_by-cons name_len c cs in
+    let b = sum_by-cons bytes_in c (preorder_below kind ++ preorder_all (columns_of cs)) in
+    let d = sum_by-append bytes_in (preorder_below kind) (preorder_all (columns_of cs)) in
+    omega (arith, rest, a, b, d)
+
+pub own_columns : (s : PlainSchema) → IsWithinLimits s → length s.columns ≤ 2048
+own_columns s limits = omega (arith, columns_few s.columns, limits.fields)
+
+pub own_names : (s : PlainSchema) → IsWithinLimits s → sum_by name_len s.columns ≤ 4194304
+own_names s limits = omega (arith, names_few s.columns, limits.bytes)
