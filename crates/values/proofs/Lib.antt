@@ -9,3 +9,4 @@ pub mod RangeLemmas
 pub mod IntegerRows
 pub mod IntegerTables
 pub mod ContentLemmas
+pub mod IntegerCells

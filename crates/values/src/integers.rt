@@ -5,11 +5,13 @@ ghost use Rattle.byteorder.specs.Endian.{little_number};
 ghost use Rattle.arrow_schema.specs.Integers.{is_integer_column, is_integer_schema};
 ghost use Rattle.arrow_schema.specs.View.{bits_of, column_of, schema_of};
 ghost use Rattle.values.specs.Cell.{number};
+ghost use Rattle.values.specs.View.{cell};
 ghost use Rattle.values.specs.Integers.{integer_of};
 ghost use Rattle.values.specs.Columns.{cell_at};
-ghost use Rattle.values.specs.IntegerTable.{integer_column, have_rows};
+ghost use Rattle.values.specs.IntegerTable.{integer_column, have_rows, is_number};
 ghost use Rattle.values.specs.IntegerRows.{columns_in, have_row, AllBytes};
 
+use crate::value::Value;
 use arrow_schema::{BitWidth, DataType, Field, IntegerType, Schema};
 use byteorder::{ByteOrder, LittleEndian};
 
@@ -92,6 +94,24 @@ pub(crate) fn is_integer_schema(schema: &Schema) -> bool
     ensures { result ≡ is_integer_schema (schema_of schema.now) }
 {
     are_integer_fields(&schema.fields) && schema.pairs.is_empty()
+}
+
+fn is_integer(value: &Value) -> bool
+    ensures { result ≡ is_number (cell value.now) }
+{
+    matches!(value, Value::Int(_))
+}
+
+// Whether cells are integers, none of them null.
+pub(crate) fn are_integers(cells: &[Value]) -> bool
+    ensures { result ≡ list_all is_number (map cell cells.now) }
+{
+    for value in cells {
+        if !is_integer(value) {
+            return false;
+        }
+    }
+    true
 }
 
 // Of 128 bits, so that the bytes of any number of rows can be told.

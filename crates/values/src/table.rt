@@ -6,7 +6,7 @@ ghost use Rattle.values.specs.Content.{table_with, is_filled};
 use crate::accept::{weigh_cells, weigh_rows};
 use crate::content::Content;
 use crate::errors::TableError;
-use crate::integers::{IntegerRow, columns_are_bytes, have_rows, is_integer_schema};
+use crate::integers::{IntegerRow, are_integers, columns_are_bytes, have_rows, is_integer_schema};
 use crate::lent::{Form, Values};
 use crate::row::{Row, join};
 use crate::rows::{Rows, row_at};
@@ -32,7 +32,7 @@ impl Table {
     ghost use Rattle.arrow_schema.specs.View.{schema_of};
     ghost use Rattle.arrow_schema.specs.Limits.{IsWithinLimits};
     ghost use Rattle.values.specs.Lent.{lent_cells};
-    ghost use Rattle.values.specs.IntegerTable.{integer_columns, have_rows, plain_table};
+    ghost use Rattle.values.specs.IntegerTable.{integer_columns, have_rows, plain_table, IsIntegerTable};
     ghost use Rattle.values.specs.Rows.{table_in};
     ghost use Rattle.values.specs.Table.{table_from};
     ghost use Rattle.values.specs.TableView.{row_of, table_of, rows_left, Tells};
@@ -118,6 +118,17 @@ impl Table {
         match &self.content {
             Content::Cells(_) => None,
             Content::Integers(columns) => Some(columns),
+        }
+    }
+
+    /// Whether it is of integers alone: only columns of integers, and no null in a row. It looks at each cell at most once,
+    /// and at none where the table is kept as integer columns.
+    pub fn has_only_integers(&self) -> bool
+        ensures { IsTrue result ↔ IsIntegerTable (table_of self.now) }
+    {
+        match &self.content {
+            Content::Cells(cells) => is_integer_schema(&self.schema) && are_integers(cells),
+            Content::Integers(_) => true,
         }
     }
 
