@@ -9,7 +9,6 @@ use Rattle.std.proofs.Math.Bool.{or-true}
 use Rattle.std.proofs.Math.Nat.{mul-le-mul}
 use Rattle.std.proofs.lemmas.Bool.{and_parts, eq-eqb, eqb-true, ltb-false, ne_eqb, not-false, or_parts}
 use Rattle.arrow_schema.specs.Column.{Column, PlainSchema}
-use Rattle.arrow_schema.specs.Limits.{IsWithinLimits}
 use Rattle.values.specs.Cell.{Cell}
 use Rattle.arrow_schema.specs.declared.types.Schema.{Schema}
 use Rattle.arrow_schema.specs.declared.types.Field.{Field}
@@ -21,7 +20,7 @@ use Rattle.arrow_schema.specs.Integers.{is_integer_schema}
 use Rattle.values.specs.IntegerTable.{integer_column, integer_columns}
 use Rattle.ipc_stream.specs.Batch.{is_negative, is_bad_length, has_bad_length, has_other_layout, arrays_in, are_too_heavy, batch_rows, bytes_of}
 use Rattle.ipc_stream.proofs.RowLemmas.{length_rows}
-use Rattle.ipc_stream.proofs.RowWeights.{too_heavy, few_columns}
+use Rattle.ipc_stream.proofs.RowWeights.{too_heavy}
 use Rattle.ipc_stream.proofs.ArrayLemmas.{count_nodes, count_buffers, count_arrays, array_at, next_array}
 
 -- ---- the layout
@@ -89,18 +88,15 @@ column_is schema i f few is =
 
 -- ---- the weight
 
-pub heavy_is : (schema : Schema) (b : RawBatch) (body : List ℕ) (rows : List (List Cell)) (before columns : ℕ) → IsTrue (is_integer_schema (schema_of schema)) → IsWithinLimits (schema_of schema)
+pub heavy_is : (schema : Schema) (b : RawBatch) (body : List ℕ) (rows : List (List Cell)) (before columns : ℕ) → IsTrue (is_integer_schema (schema_of schema)) → length (schema_of schema).columns ≤ 2048
     → length rows ≡ before → columns ≡ length schema.fields.items
     → are_too_heavy (schema_of schema) rows (batch_rows (schema_of schema) (raw_batch_of b) body) ≡ nat_lt 268435456 ((before + b.length) * (1 + columns))
 unfolding batch_rows
-heavy_is schema b body rows before columns ints limits len is =
+heavy_is schema b body rows before columns ints few len is =
     let s : PlainSchema = schema_of schema in
     let many : length (batch_rows s (raw_batch_of b) body) ≡ b.length = length_rows (integer_columns s) (map (λ a. bytes_of body a.values) (arrays_in s (raw_batch_of b))) 0 b.length in
     let count : length s.columns ≡ columns = length-map schema.fields.items column_of ∙ sym is in
-    too_heavy s rows (batch_rows s (raw_batch_of b) body) ints limits ∙ λ j. nat_lt 268435456 ((len j + many j) * (1 + count j))
-
-pub few_fields : (schema : Schema) → IsWithinLimits (schema_of schema) → length schema.fields.items ≤ 2048
-few_fields schema limits = omega (arith, few_columns (schema_of schema) limits, length-map schema.fields.items column_of)
+    too_heavy s rows (batch_rows s (raw_batch_of b) body) ints few ∙ λ j. nat_lt 268435456 ((len j + many j) * (1 + count j))
 
 pub few_rows : (b : RawBatch) → has_bad_length (raw_batch_of b) ≡ false → b.length ≤ 16777216
 few_rows b fine =

@@ -22,7 +22,7 @@ pub mod FramedTable
 pub mod FramedBack
 pub mod FramedOnce
 pub mod RoundTripSchema
-pub mod RoundTripFront
+pub mod WrittenLaws
 pub mod RoundTripBatch
 pub mod RoundTripRows
 pub mod RoundTrip

@@ -1,13 +1,11 @@
 -- The pieces of a table of integers: so many rows each.
 use Rattle.std.specs.Prelude.{IsTrue, min}
 use Rattle.std.specs.List.{flat_map, list_all}
-use Rattle.std.proofs.Common.{◌≡◌, ℕ, zero, suc, ◌+◌, ◌-◌, ◌≤◌, ◌<◌, true, List, [], ◌∷◌, ◌++◌, length, take, drop, Some, None, refl, arith, sym, ap, ◌∙◌, length-append}
+use Rattle.std.proofs.Common.{◌≡◌, ℕ, zero, suc, ◌+◌, ◌-◌, ◌≤◌, ◌<◌, true, List, [], ◌∷◌, ◌++◌, length, take, drop, Some, None, refl, arith, sym, ap, ◌∙◌}
 use Rattle.std.proofs.lemmas.List.Concat.{flat_map-cons}
 use Rattle.std.proofs.lemmas.List.{take_min, drop_min}
 use Rattle.std.proofs.lemmas.Bool.{and_parts}
 use Rattle.arrow_schema.specs.Column.{Column, column, integers, columns_of, PlainSchema, nulls, booleans, dates, timestamps, texts, large_texts, binaries, large_binaries, fixed_binaries, lists, large_lists, fixed_lists, structs}
-use Rattle.arrow_schema.specs.Preorder.{preorder, preorder_below, preorder_all}
-use Rattle.arrow_schema.specs.Limits.{IsWithinLimits}
 use Rattle.values.specs.Cell.{Cell, Cells, cells_of}
 use Rattle.values.specs.Weight.{weight, kind_weight, parts_weight, first_part, other_parts, row_weight}
 use Rattle.ipc_write.specs.Written.{schema_message, end_mark}
@@ -62,14 +60,6 @@ parts_weigh (c ∷ cs) x h =
     let tail = parts_weigh cs (other_parts x) parts.1 in
     omega (arith, head, tail)
 
--- there are no more columns than columns with all their children
-pub columns_few : (cs : List Column) → length cs ≤ length (preorder_all (columns_of cs))
-unfolding preorder preorder_all
-columns_few [] = omega arith
-columns_few (column name nullable kind dictionary pairs ∷ cs) =
-    let rest = columns_few cs in
-    omega (arith, rest, length-append (preorder_below kind) (preorder_all (columns_of cs)))
-
 rows_light : (s : PlainSchema) (most : ℕ) (cs : List IntegerColumn) (vs : List (List ℕ)) (i n : ℕ) → ((row : List Cell) → row_weight s row ≤ most) → AllLight (row_weight s) most (rows_from cs vs i n)
 rows_light s most cs vs i zero light = tt
 rows_light s most cs vs i (suc n) light = (light (row_at cs vs i), rows_light s most cs vs (i + 1) n light)
@@ -82,22 +72,21 @@ integers_of s h = (and_parts (list_all is_integer_column s.columns) (is_empty s.
 unfoldable pub messages_of : PlainSchema → List (List ℕ) → ℕ → ℕ → List ℕ
 messages_of s vs from n = flat_map (piece_message s) (pieces (within_limits (row_weight s) 4096 16777216) (rows_from (integer_columns s) vs from n))
 
-pub next_piece : (s : PlainSchema) (vs : List (List ℕ)) (from n k : ℕ) → IsTrue (is_integer_schema s) → IsWithinLimits s → 0 < n → k ≡ min 4096 n
+pub next_piece : (s : PlainSchema) (vs : List (List ℕ)) (from n k : ℕ) → IsTrue (is_integer_schema s) → length s.columns ≤ 2048 → 0 < n → k ≡ min 4096 n
     → messages_of s vs from n ≡ piece_message s (rows_from (integer_columns s) vs from k) ++ messages_of s vs (from + k) (n - k)
 unfolding messages_of
-next_piece s vs from n k ints limits some is =
+next_piece s vs from n k ints few some is =
     let cs : List IntegerColumn = integer_columns s in
     let rows : List (List Cell) = rows_from cs vs from n in
     let W = within_limits (row_weight s) 4096 16777216 in
     let columns : AreIntegers s.columns = integers_of s ints in
-    let many : length s.columns ≤ 2048 = omega (arith, limits.fields, columns_few s.columns) in
-    let light : AllLight (row_weight s) 2049 rows = rows_light s 2049 cs vs from n (λ row. let w = parts_weigh s.columns (cells_of row) columns in omega (arith, w, many)) in
+    let light : AllLight (row_weight s) 2049 rows = rows_light s 2049 cs vs from n (λ row. let w = parts_weigh s.columns (cells_of row) columns in omega (arith, w, few)) in
     let len : length rows ≡ n = length_rows cs vs from n in
     let first : pieces W rows ≡ take 4096 rows ∷ pieces W (drop 4096 rows) = first_piece (row_weight s) 2049 4096 16777216 rows (omega arith) (omega arith) light (omega arith) in
     let least : k ≡ min 4096 (length rows) = is ∙ ap (min 4096) (sym len) in
-    let few : k ≤ n = omega arith in
-    let taken : take 4096 rows ≡ rows_from cs vs from k = sym (take_min 4096 rows) ∙ ap (λ (m : ℕ). take m rows) (sym least) ∙ take_rows k cs vs from n few in
-    let dropped : drop 4096 rows ≡ rows_from cs vs (from + k) (n - k) = sym (drop_min 4096 rows) ∙ ap (λ (m : ℕ). drop m rows) (sym least) ∙ drop_rows k cs vs from n few in
+    let inside : k ≤ n = omega arith in
+    let taken : take 4096 rows ≡ rows_from cs vs from k = sym (take_min 4096 rows) ∙ ap (λ (m : ℕ). take m rows) (sym least) ∙ take_rows k cs vs from n inside in
+    let dropped : drop 4096 rows ≡ rows_from cs vs (from + k) (n - k) = sym (drop_min 4096 rows) ∙ ap (λ (m : ℕ). drop m rows) (sym least) ∙ drop_rows k cs vs from n inside in
     ap (flat_map (piece_message s)) first
     ∙ flat_map-cons (piece_message s) (take 4096 rows) (pieces W (drop 4096 rows))
     ∙ λ i. piece_message s (taken i) ++ flat_map (piece_message s) (pieces W (dropped i))

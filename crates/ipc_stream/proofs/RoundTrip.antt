@@ -1,21 +1,20 @@
 -- The canonical stream of a table is read as that table.
-use Rattle.std.specs.Prelude.{IsTrue, min, Result}
-use Rattle.std.proofs.Common.{◌≡◌, ℕ, zero, suc, ◌+◌, ◌-◌, ◌*◌, ◌<◌, ◌≤◌, Bool, true, false, List, [], ◌∷◌, ◌++◌, length, None, Ok, refl, arith, ap, ◌∙◌, length-append, append_assoc}
+use Rattle.std.specs.Prelude.{IsTrue, min, sum_by, Result}
+use Rattle.std.proofs.Common.{◌≡◌, ℕ, zero, suc, ◌+◌, ◌-◌, ◌*◌, ◌<◌, ◌≤◌, Bool, true, false, List, [], ◌∷◌, ◌++◌, length, drop, None, Ok, refl, arith, ap, ◌∙◌, length-append, append_assoc}
 use Rattle.std.proofs.lemmas.Grind.{flat_map-append}
 use Rattle.std.proofs.lemmas.List.{append-nil, length-map}
 use Rattle.std.proofs.Math.Nat.{mul-le-mul_left}
 use Rattle.flatbuf.specs.Lookup.{number}
 use Rattle.arrow_schema.specs.Column.{PlainSchema}
-use Rattle.arrow_schema.specs.Limits.{IsWithinLimits}
+use Rattle.arrow_schema.specs.Limits.{name_len}
 use Rattle.values.specs.Cell.{Cell, PlainTable}
 use Rattle.ipc_message.specs.declared.fault.Fault.{Fault}
 use Rattle.ipc_message.specs.Framing.{Envelope, message, front, mark_faults, metadata_size, taken, first_some, type_of}
 use Rattle.ipc_message.specs.Framing as framing
-use Rattle.ipc_message.specs.Raw.{RawHeader, schema_header, batch_header}
+use Rattle.ipc_message.specs.Raw.{RawHeader, RawNode, schema_header, batch_header}
 use Rattle.ipc_message.specs.Header.{header, held_codes}
 use Rattle.ipc_message.specs.Convert.{plain_schema_of}
-use Rattle.ipc_write.specs.Written.{framed, body, end_mark}
-use Rattle.ipc_write.proofs.Room.{columns_few}
+use Rattle.ipc_write.specs.Written.{body, end_mark, schema_message, schema_envelope, batch_envelope, IsWritableBatch}
 use Rattle.ipc_stream.specs.Batch.{batch_rounds}
 use Rattle.values.specs.IntegerRows.{AllBytes}
 use Rattle.ipc_stream.specs.Canonical.{canonical, piece_message, full_nodes}
@@ -25,11 +24,12 @@ use Rattle.arrow_schema.specs.Integers.{is_integer_schema, is_empty}
 use Rattle.values.specs.IntegerTable.{integer_column, integer_columns, have_rows, plain_table}
 use Rattle.ipc_stream.proofs.Pieces.{integers_of, messages_of, next_piece, no_piece, canonical_is}
 use Rattle.ipc_stream.proofs.RowLemmas.{length_rows}
+use Rattle.ipc_stream.proofs.FramedBack.{some_front}
 use Rattle.ipc_stream.proofs.FramedMessages.{message_of}
-use Rattle.ipc_stream.proofs.Steps.{step_on, still_some, same_schema}
+use Rattle.ipc_stream.proofs.Steps.{shorter, step_on, still_some, same_schema}
+use Rattle.ipc_stream.proofs.WrittenLaws.{SchemaLaw, BatchLaw}
 use Rattle.ipc_stream.proofs.RoundTripSchema.{AreNamed, plain_raw, raw_schema_is, schema_again, schema_accepted}
-use Rattle.ipc_stream.proofs.RoundTripFront.{IsSmall, envelope, length_framed, after_framed, schema_metadata, schema_written, schema_front, schema_type, schema_read_again, batch_metadata, batch_written, batch_front, batch_type, batch_read_again}
-use Rattle.ipc_stream.proofs.RoundTripBatch.{piece_buffers, piece_batch, length_buffers, body_small, rows_back, batch_accepted}
+use Rattle.ipc_stream.proofs.RoundTripBatch.{full_nodes_fit, piece_buffers, piece_batch, length_full, length_buffers, body_small, rows_back, batch_accepted}
 use Rattle.ipc_stream.proofs.RoundTripRows.{rows_are, rows_joined, narrow}
 
 -- ---- a message, and the end
@@ -40,10 +40,14 @@ unfolding accepted
 accepts held before m h order spelled sound = rw (order, spelled, sound) refl
 
 -- a message at the front is read, and then what follows it
-pub message_step : (held : ℕ → Bool) (steps : ℕ) (before : List Message) (m b rest : List ℕ) (a : Message) → front (framed m b ++ rest) ≡ Ok (message (envelope m b)) → accepted held before (envelope m b) ≡ Ok a
-    → messages held (suc steps) before (framed m b ++ rest) ≡ messages held steps (before ++ a ∷ []) rest
-message_step held steps before m b rest a stands fine =
-    step_on held steps before (framed m b ++ rest) (envelope m b) a refl stands fine ∙ ap (messages held steps (before ++ a ∷ [])) (after_framed m b rest)
+message_step : (held : ℕ → Bool) (steps : ℕ) (before : List Message) (bytes rest : List ℕ) (m : Envelope) (a : Message) → front bytes ≡ Ok (message m) → accepted held before m ≡ Ok a
+    → drop (taken (message m)) bytes ≡ rest → messages held (suc steps) before bytes ≡ messages held steps (before ++ a ∷ []) rest
+message_step held steps before bytes rest m a stands fine after =
+    step_on held steps before bytes m a (some_front bytes (message m) stands) stands fine ∙ ap (messages held steps (before ++ a ∷ [])) after
+
+-- what follows is shorter
+less_left : (bytes rest : List ℕ) (m : Envelope) → front bytes ≡ Ok (message m) → drop (taken (message m)) bytes ≡ rest → length rest < length bytes
+less_left bytes rest m stands after = let less = shorter bytes (message m) (some_front bytes (message m) stands) in rw (← after) less
 
 mark_stands : front end_mark ≡ Ok framing.end_mark
 unfolding front mark_faults metadata_size number
@@ -66,7 +70,8 @@ order_none before n some is = rw (some, is) refl
 
 pub record IsHeld (s : PlainSchema) (vs : List (List ℕ)) (rows : ℕ) : Type 0 where
   pub integers : IsTrue (is_integer_schema s)
-  pub limits : IsWithinLimits s
+  pub few : length s.columns ≤ 2048
+  pub short : sum_by name_len s.columns ≤ 4194304
   pub named : AreNamed s.columns
   pub each : have_rows (integer_columns s) vs rows ≡ true
   pub bytes : AllBytes vs
@@ -80,36 +85,36 @@ pub record IsRead (s : PlainSchema) (vs : List (List ℕ)) (from : ℕ) (before 
 
 -- ---- the pieces
 
-unfoldable piece_metadata : PlainSchema → List (List Cell) → List ℕ
-piece_metadata s rows = batch_metadata (length rows) (full_nodes s.columns (length rows)) (piece_buffers s rows)
-
-unfoldable piece_body : PlainSchema → List (List Cell) → List ℕ
-piece_body s rows = body (piece_buffers s rows)
+unfoldable piece_envelope : PlainSchema → List (List Cell) → Envelope
+piece_envelope s rows = batch_envelope (length rows) (full_nodes s.columns (length rows)) (piece_buffers s rows)
 
 -- the message of a piece as it is read
 unfoldable piece_read : PlainSchema → List (List Cell) → Message
 piece_read s rows = message_of (batch_header (piece_batch s rows)) (body (piece_buffers s rows))
 
-piece_written : (s : PlainSchema) (rows : List (List Cell)) → piece_message s rows ≡ framed (piece_metadata s rows) (piece_body s rows)
-unfolding piece_message piece_metadata piece_body
-piece_written s rows = batch_written (length rows) (full_nodes s.columns (length rows)) (piece_buffers s rows)
-
-columns_few_of : (s : PlainSchema) (vs : List (List ℕ)) (total : ℕ) → IsHeld s vs total → length s.columns ≤ 2048
-columns_few_of s vs total held = omega (arith, columns_few s.columns, held.limits.fields)
-
-piece_small : (s : PlainSchema) (vs : List (List ℕ)) (total : ℕ) (rows : List (List Cell)) → IsHeld s vs total → length rows ≤ 4096 → IsSmall (length rows) s.columns (piece_buffers s rows)
-piece_small s vs total rows held some =
-    let h = integers_of s held.integers in
-    let few = columns_few_of s vs total held in
+piece_writable : (s : PlainSchema) (vs : List (List ℕ)) (total : ℕ) (rows : List (List Cell)) → IsHeld s vs total → length rows ≤ 4096
+    → IsWritableBatch (length rows) (full_nodes s.columns (length rows)) (piece_buffers s rows)
+piece_writable s vs total rows held some =
+    let few : length s.columns ≤ 2048 = held.few in
     let as_many : length (integer_columns s) ≡ length s.columns = length-map s.columns integer_column in
     let two = length_buffers (integer_columns s) rows in
-    let small = body_small (integer_columns s) rows (narrow s.columns h) some in
-    record { few_rows = some; few_columns = few; few_buffers = omega (arith, few, as_many, two); short = omega (arith, few, as_many, small) }
+    let small = body_small (integer_columns s) rows (narrow s.columns (integers_of s held.integers)) some in
+    record {
+      rows_fit = omega (arith, some);
+      nodes_fit = full_nodes_fit s.columns (length rows) (omega (arith, some));
+      few_nodes = omega (arith, few, length_full s.columns (length rows));
+      few_buffers = omega (arith, few, as_many, two);
+      short_body = omega (arith, few, as_many, small);
+    }
 
-piece_front : (s : PlainSchema) (vs : List (List ℕ)) (total : ℕ) (rows : List (List Cell)) (rest : List ℕ) → IsHeld s vs total → length rows ≤ 4096
-    → front (framed (piece_metadata s rows) (piece_body s rows) ++ rest) ≡ Ok (message (envelope (piece_metadata s rows) (piece_body s rows)))
-unfolding piece_metadata piece_body
-piece_front s vs total rows rest held some = batch_front (length rows) s.columns (piece_buffers s rows) rest (piece_small s vs total rows held some)
+piece_front : BatchLaw → (s : PlainSchema) (vs : List (List ℕ)) (total : ℕ) (rows : List (List Cell)) (rest : List ℕ) → IsHeld s vs total → length rows ≤ 4096
+    → front (piece_message s rows ++ rest) ≡ Ok (message (piece_envelope s rows))
+unfolding piece_message piece_envelope
+piece_front law s vs total rows rest held some = law.stands (length rows) (full_nodes s.columns (length rows)) (piece_buffers s rows) rest (piece_writable s vs total rows held some)
+
+piece_after : BatchLaw → (s : PlainSchema) (rows : List (List Cell)) (rest : List ℕ) → drop (taken (message (piece_envelope s rows))) (piece_message s rows ++ rest) ≡ rest
+unfolding piece_message piece_envelope
+piece_after law s rows rest = law.after (length rows) (full_nodes s.columns (length rows)) (piece_buffers s rows) rest
 
 -- the schema that the first message told
 schema_of_read : (s : PlainSchema) (vs : List (List ℕ)) (total from : ℕ) (before : List Message) → IsHeld s vs total → IsRead s vs from before → plain_schema_of (schema_in before) ≡ s
@@ -129,21 +134,22 @@ piece_sound s vs total from k before held is some inside =
     let product : (1 + length s.columns) * length (old ++ rows) ≤ (1 + length s.columns) * total = mul-le-mul_left (1 + length s.columns) all in
     let light : (1 + length s.columns) * length (old ++ rows) ≤ 268435456 = omega (arith, product, held.light) in
     let few_rows : length rows ≤ 4096 = omega (arith, some, count) in
-    let small = piece_small s vs total rows held few_rows in
+    let small = piece_writable s vs total rows held few_rows in
     ap (λ (x : PlainSchema). first_some (batch_rounds x (rows_in x before) (piece_batch s rows) bytes)) (schema_of_read s vs total from before held is)
     ∙ ap (λ (x : List (List Cell)). first_some (batch_rounds s x (piece_batch s rows) bytes)) is.rows
-    ∙ batch_accepted s old rows h (columns_few_of s vs total held) few_rows (rows_are cs vs total from k held.each held.bytes) small.short light
+    ∙ batch_accepted s old rows h held.few few_rows (rows_are cs vs total from k held.each held.bytes) small.short_body light
 
-piece_accepted : (s : PlainSchema) (vs : List (List ℕ)) (total from k : ℕ) (before : List Message) → IsHeld s vs total → IsRead s vs from before → k ≤ 4096 → from + k ≤ total
-    → accepted held_codes before (envelope (piece_metadata s (rows_from (integer_columns s) vs from k)) (piece_body s (rows_from (integer_columns s) vs from k))) ≡ Ok (piece_read s (rows_from (integer_columns s) vs from k))
-unfolding piece_metadata piece_body piece_read
-piece_accepted s vs total from k before held is some inside =
+piece_accepted : BatchLaw → (s : PlainSchema) (vs : List (List ℕ)) (total from k : ℕ) (before : List Message) → IsHeld s vs total → IsRead s vs from before → k ≤ 4096 → from + k ≤ total
+    → accepted held_codes before (piece_envelope s (rows_from (integer_columns s) vs from k)) ≡ Ok (piece_read s (rows_from (integer_columns s) vs from k))
+unfolding piece_envelope piece_read
+piece_accepted law s vs total from k before held is some inside =
     let rows : List (List Cell) = rows_from (integer_columns s) vs from k in
+    let nodes : List RawNode = full_nodes s.columns (length rows) in
     let count : length rows ≡ k = length_rows (integer_columns s) vs from k in
-    let small = piece_small s vs total rows held (omega (arith, some, count)) in
-    accepts held_codes before (envelope (batch_metadata (length rows) (full_nodes s.columns (length rows)) (piece_buffers s rows)) (body (piece_buffers s rows))) (batch_header (piece_batch s rows))
-    (order_none before _ is.some (batch_type (length rows) s.columns (piece_buffers s rows) small))
-    (batch_read_again (length rows) s.columns (piece_buffers s rows) small)
+    let small = piece_writable s vs total rows held (omega (arith, some, count)) in
+    accepts held_codes before (batch_envelope (length rows) nodes (piece_buffers s rows)) (batch_header (piece_batch s rows))
+    (order_none before _ is.some (law.kind (length rows) nodes (piece_buffers s rows) small))
+    (law.spelled (length rows) nodes (piece_buffers s rows) small)
     (piece_sound s vs total from k before held is some inside)
 
 -- after a piece its rows are read too
@@ -182,57 +188,52 @@ table_read s vs total from before held is =
     ap (λ (x : PlainSchema). table_with x (rows_in x before)) (schema_of_read s vs total from before held is) ∙ ap (table_with s) is.rows
 
 -- the messages of the rows from one on, and the end mark
-read_on : (steps : ℕ) (s : PlainSchema) (vs : List (List ℕ)) (total from n : ℕ) (before : List Message) → IsHeld s vs total → IsRead s vs from before → from + n ≡ total
+read_on : BatchLaw → (steps : ℕ) (s : PlainSchema) (vs : List (List ℕ)) (total from n : ℕ) (before : List Message) → IsHeld s vs total → IsRead s vs from before → from + n ≡ total
     → length (messages_of s vs from n ++ end_mark) < steps → table_told (messages held_codes steps before (messages_of s vs from n ++ end_mark)) ≡ Ok (plain_table s vs total)
-read_on zero s vs total from n before held is all enough = absurd (omega arith)
-read_on (suc steps) s vs total from zero before held is all enough =
+read_on law zero s vs total from n before held is all enough = absurd (omega arith)
+read_on law (suc steps) s vs total from zero before held is all enough =
     let none : messages_of s vs from 0 ++ end_mark ≡ end_mark = ap (λ (xs : List ℕ). xs ++ end_mark) (no_piece s vs from) in
     let here : from ≡ total = omega (arith, all) in
     ap (λ (xs : List ℕ). table_told (messages held_codes (suc steps) before xs)) none
     ∙ ap table_told (end_step held_codes steps before is.some)
     ∙ ap Ok (table_read s vs total from before held is)
     ∙ ap (λ (n : ℕ). Ok (plain_table s vs n)) here
-read_on (suc steps) s vs total from (suc m) before held is all enough =
+read_on law (suc steps) s vs total from (suc m) before held is all enough =
     let k : ℕ = min 4096 (suc m) in
     let rows : List (List Cell) = rows_from (integer_columns s) vs from k in
     let others : List ℕ = messages_of s vs (from + k) (suc m - k) in
     let rest : List ℕ = others ++ end_mark in
+    let here : List ℕ = piece_message s rows ++ rest in
     let some : k ≤ 4096 = omega arith in
     let inside : from + k ≤ total = omega (arith, all) in
     let count : length rows ≡ k = length_rows (integer_columns s) vs from k in
-    let cut : messages_of s vs from (suc m) ≡ piece_message s rows ++ others = next_piece s vs from (suc m) k held.integers held.limits (omega arith) refl in
-    let bytes : messages_of s vs from (suc m) ++ end_mark ≡ framed (piece_metadata s rows) (piece_body s rows) ++ rest =
-    ap (λ (xs : List ℕ). xs ++ end_mark) cut ∙ append_assoc (piece_message s rows) others end_mark ∙ ap (λ (xs : List ℕ). xs ++ rest) (piece_written s rows) in
-    let stands = piece_front s vs total rows rest held (omega (arith, some, count)) in
-    let step = message_step held_codes steps before (piece_metadata s rows) (piece_body s rows) rest (piece_read s rows) stands (piece_accepted s vs total from k before held is some inside) in
-    let whole : length (messages_of s vs from (suc m) ++ end_mark) ≡ length (framed (piece_metadata s rows) (piece_body s rows) ++ rest) = ap length bytes in
-    let two = length-append (framed (piece_metadata s rows) (piece_body s rows)) rest in
-    let long = length_framed (piece_metadata s rows) (piece_body s rows) in
+    let cut : messages_of s vs from (suc m) ≡ piece_message s rows ++ others = next_piece s vs from (suc m) k held.integers held.few (omega arith) refl in
+    let bytes : messages_of s vs from (suc m) ++ end_mark ≡ here = ap (λ (xs : List ℕ). xs ++ end_mark) cut ∙ append_assoc (piece_message s rows) others end_mark in
+    let stands = piece_front law s vs total rows rest held (omega (arith, some, count)) in
+    let after = piece_after law s rows rest in
+    let step = message_step held_codes steps before here rest (piece_envelope s rows) (piece_read s rows) stands (piece_accepted law s vs total from k before held is some inside) after in
+    let whole : length (messages_of s vs from (suc m) ++ end_mark) ≡ length here = ap length bytes in
+    let less : length rest < length here = less_left here rest (piece_envelope s rows) stands after in
     ap (λ (xs : List ℕ). table_told (messages held_codes (suc steps) before xs)) bytes
     ∙ ap table_told step
-    ∙ read_on steps s vs total (from + k) (suc m - k) (before ++ piece_read s rows ∷ []) held (read_more s vs total from k before held is) (omega (arith, all)) (omega (arith, enough, whole, two, long))
+    ∙ read_on law steps s vs total (from + k) (suc m - k) (before ++ piece_read s rows ∷ []) held (read_more s vs total from k before held is) (omega (arith, all)) (omega (arith, enough, whole, less))
 
-schema_fine : (s : PlainSchema) (vs : List (List ℕ)) (total : ℕ) → IsHeld s vs total → accepted held_codes [] (envelope (schema_metadata s) []) ≡ Ok (message_of (schema_header (plain_raw s)) [])
-schema_fine s vs total held =
-    let h = integers_of s held.integers in
-    let order : order_fault [] (type_of (schema_metadata s)) ≡ None = rw (schema_type s held.integers held.limits) refl in
-    accepts held_codes [] (envelope (schema_metadata s) []) (schema_header (plain_raw s)) order
-    (schema_read_again s held.integers held.limits ∙ ap (λ r. Ok (schema_header r)) (raw_schema_is s h))
-    (schema_accepted s held.integers held.limits held.named)
+schema_fine : (s : PlainSchema) (vs : List (List ℕ)) (total : ℕ) → SchemaLaw s → IsHeld s vs total → accepted held_codes [] (schema_envelope s) ≡ Ok (message_of (schema_header (plain_raw s)) [])
+schema_fine s vs total law held =
+    let order : order_fault [] (type_of (schema_envelope s).metadata) ≡ None = rw law.kind refl in
+    accepts held_codes [] (schema_envelope s) (schema_header (plain_raw s)) order
+    (law.spelled ∙ ap (λ r. Ok (schema_header r)) (raw_schema_is s (integers_of s held.integers)))
+    (schema_accepted s held.integers held.few held.short held.named)
 
 -- the canonical stream means the table
-pub canonical_read : (s : PlainSchema) (vs : List (List ℕ)) (total : ℕ) → IsHeld s vs total → meaning held_codes (canonical (plain_table s vs total)) ≡ Ok (plain_table s vs total)
+pub canonical_read : (s : PlainSchema) (vs : List (List ℕ)) (total : ℕ) → SchemaLaw s → BatchLaw → IsHeld s vs total → meaning held_codes (canonical (plain_table s vs total)) ≡ Ok (plain_table s vs total)
 unfolding meaning
-canonical_read s vs total held =
+canonical_read s vs total schema batch held =
     let rest : List ℕ = messages_of s vs 0 total ++ end_mark in
-    let first : List ℕ = framed (schema_metadata s) [] in
+    let whole : List ℕ = schema_message s ++ rest in
     let a : Message = message_of (schema_header (plain_raw s)) [] in
-    let bytes : canonical (plain_table s vs total) ≡ first ++ rest = canonical_is s vs total ∙ ap (λ (xs : List ℕ). xs ++ rest) (schema_written s) in
-    let stands = schema_front s rest held.integers held.limits in
-    let step = message_step held_codes (length (first ++ rest)) [] (schema_metadata s) [] rest a stands (schema_fine s vs total held) in
+    let step = message_step held_codes (length whole) [] whole rest (schema_envelope s) a (schema.stands rest) (schema_fine s vs total schema held) (schema.after rest) in
     let is : IsRead s vs 0 (a ∷ []) = record { some = refl; schema = refl; rows = refl } in
-    let two = length-append first rest in
-    let long = length_framed (schema_metadata s) [] in
-    ap (λ (xs : List ℕ). table_told (messages held_codes (suc (length xs)) [] xs)) bytes
+    ap (λ (xs : List ℕ). table_told (messages held_codes (suc (length xs)) [] xs)) (canonical_is s vs total)
     ∙ ap table_told step
-    ∙ read_on (length (first ++ rest)) s vs total 0 total (a ∷ []) held is (omega arith) (omega (arith, two, long))
+    ∙ read_on batch (length whole) s vs total 0 total (a ∷ []) held is (omega arith) (less_left whole rest (schema_envelope s) (schema.stands rest) (schema.after rest))

@@ -11,6 +11,8 @@ use Rattle.values.specs.Cell.{Cell, cells_of}
 use Rattle.values.specs.Weight.{row_weight, table_weight}
 use Rattle.ipc_message.specs.Framing.{first_some}
 use Rattle.ipc_message.specs.Raw.{RawNode, RawBatch}
+use Rattle.flatbuf.specs.Held.{FitsStructs}
+use Rattle.ipc_write.specs.Trees.{node_pair}
 use Rattle.ipc_write.specs.Written.{padded, body, placed, batch_of}
 use Rattle.ipc_stream.specs.Batch.{Array, arrays_of, is_bad_length, is_outside, is_short, has_validity, counts_nulls, has_other_layout, has_bad_length, bytes_of, batch_rows, are_too_heavy, batch_rounds}
 use Rattle.ipc_stream.specs.Canonical.{integer_buffers, full_nodes}
@@ -20,7 +22,6 @@ use Rattle.ipc_stream.proofs.ColumnLemmas.{AreRowsOf, length-values, rows_again}
 use Rattle.ipc_stream.proofs.CutLemmas.{AllLight, light_sum}
 use Rattle.ipc_stream.proofs.Pieces.{AreIntegers, parts_weigh}
 use Rattle.ipc_stream.proofs.PieceSize.{padded_small}
-use Rattle.ipc_stream.proofs.RoundTripFront.{length_placed}
 
 -- the batch of a piece
 abbrev pub piece_buffers : PlainSchema → List (List Cell) → List (List ℕ)
@@ -31,6 +32,14 @@ piece_batch s rows = batch_of (length rows) (full_nodes s.columns (length rows))
 
 -- ---- nodes and buffers
 
+pub full_nodes_fit : {A : Type 0} (columns : List A) (rows : ℕ) → rows < 2 ^ 64 → FitsStructs (map node_pair (full_nodes columns rows))
+full_nodes_fit [] rows small = tt
+full_nodes_fit (c ∷ cs) rows small = (small, omega arith, full_nodes_fit cs rows small)
+
+length_placed : (at : ℕ) (buffers : List (List ℕ)) → length (placed at buffers) ≡ length buffers
+length_placed at [] = refl
+length_placed at (b ∷ bs) = ap suc (length_placed (at + length (padded b)) bs)
+
 full_again : (cs : List Column) (n : ℕ) → full_nodes cs n ≡ full_nodes (map integer_column cs) n
 full_again [] n = refl
 full_again (c ∷ cs) n = ap (λ (ns : List RawNode). record { length = n; null_count = 0 } ∷ ns) (full_again cs n)
@@ -39,7 +48,7 @@ no_node : {A : Type 0} (p : RawNode → Bool) (n : ℕ) → p (record { length =
 no_node p n h [] = refl
 no_node p n h (c ∷ cs) = or_from (p (record { length = n; null_count = 0 })) (list_any p (full_nodes cs n)) h (no_node p n h cs)
 
-length_full : {A : Type 0} (cs : List A) (n : ℕ) → length (full_nodes cs n) ≡ length cs
+pub length_full : {A : Type 0} (cs : List A) (n : ℕ) → length (full_nodes cs n) ≡ length cs
 length_full [] n = refl
 length_full (c ∷ cs) n = ap suc (length_full cs n)
 

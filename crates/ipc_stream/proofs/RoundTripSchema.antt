@@ -2,7 +2,7 @@
 use Rattle.std.specs.Prelude.{sum_by, find, flat_map, nat_lt, string_bytes}
 use Rattle.std.specs.List.{list_any, list_all}
 use Rattle.std.specs.Str.{is_utf8}
-use Rattle.std.proofs.Common.{◌≡◌, ℕ, ◌+◌, ◌*◌, ◌≤◌, Bool, true, false, List, [], ◌∷◌, ◌++◌, map, length, None, refl, arith, ap, ◌∙◌}
+use Rattle.std.proofs.Common.{◌≡◌, ℕ, ◌+◌, ◌≤◌, Bool, true, false, List, [], ◌∷◌, ◌++◌, map, length, None, refl, arith, ap, ◌∙◌}
 use Rattle.std.proofs.lemmas.Str.{is_utf8-from_IsUtf8, IsUtf8-nil, IsUtf8-string_bytes}
 use Rattle.std.proofs.lemmas.List.{length-map}
 use Rattle.std.proofs.lemmas.List.Concat.{flat_map-cons}
@@ -13,7 +13,7 @@ use Rattle.arrow_schema.specs.declared.types.Field.{Field, out-Field}
 use Rattle.arrow_schema.specs.declared.types.DataType.TheFolds.{fold_out-Field}
 use Rattle.arrow_schema.specs.View.{kind_step, column_step, column_of}
 use Rattle.arrow_schema.specs.Column.{Pair, Kind, Column, column, integers, columns_of, PlainSchema}
-use Rattle.arrow_schema.specs.Limits.{IsWithinLimits}
+use Rattle.arrow_schema.specs.Limits.{name_len}
 use Rattle.ipc_message.specs.Raw.{RawField, raw_field, no_raw_field, raw_fields_of, raw_list_of, RawSchema}
 use Rattle.ipc_message.specs.Fields.{preorder, preorder_all, depth, depth_all, dictionary_of, pairs_of}
 use Rattle.ipc_message.specs.Types.{type_name, spelled_type}
@@ -24,9 +24,8 @@ use Rattle.ipc_message.specs.Rounds.{is_unheld, is_bad, passes_limit, texts_of_f
 use Rattle.ipc_write.specs.Trees.{code_of, ids_of}
 use Rattle.arrow_schema.specs.Integers.{is_integer_column, is_bit_width, is_empty, is_integer_schema}
 use Rattle.ipc_write.specs.Spelled.{parameters_of, raw_of, raw_below, raw_of_all, raw_schema}
-use Rattle.ipc_write.specs.Walked.{tables_of, tables_of_all}
 use Rattle.arrow_schema.specs.IntegerCases.{integer_case}
-use Rattle.ipc_write.proofs.Room.{AreIntegers, name_len, columns_few, names_few}
+use Rattle.ipc_stream.proofs.Pieces.{AreIntegers}
 
 -- the field of a column without a dictionary or children
 abbrev pub plain_field : Column → RawField
@@ -89,19 +88,6 @@ columns_again (c ∷ cs) h =
 
 pub schema_again : (s : PlainSchema) → AreIntegers s.columns → plain_schema_of (plain_raw s) ≡ s
 schema_again s h = let columns = columns_again s.columns h in λ i. record { columns = columns i; pairs = s.pairs }
-
--- ---- the tables that are entered for them
-
-two_tables : (name : List ℕ) (nullable : Bool) (bits : ℕ) (signed : Bool) → is_bit_width bits ≡ true → tables_of (column name nullable (integers bits signed) None []) ≡ 2
-two_tables name nullable bits signed w = refl
-
-pub tables_are : (cs : List Column) → AreIntegers cs → tables_of_all (columns_of cs) ≡ 2 * length cs
-tables_are [] h = refl
-tables_are (c ∷ cs) h =
-    let parts = and_parts (is_integer_column c) (list_all is_integer_column cs) h in
-    let one : tables_of c ≡ 2 = integer_case (λ x. tables_of x ≡ 2) two_tables c parts.0 in
-    let rest = tables_are cs parts.1 in
-    omega (arith, one, rest)
 
 -- ---- all fields: these alone
 
@@ -218,7 +204,7 @@ none_paired (c ∷ cs) h =
     let sum = sum_by-cons (λ (f : RawField). length (pairs_of f)) (plain_field c) (map plain_field cs) in
     omega (arith, one, rest, sum)
 
-pub no_pairs : (ps : List Pair) → is_empty ps ≡ true → ps ≡ []
+no_pairs : (ps : List Pair) → is_empty ps ≡ true → ps ≡ []
 no_pairs [] h = refl
 no_pairs (p ∷ ps) h = cc
 
@@ -244,9 +230,9 @@ accepted_columns cs h named few short =
     rw (small_is cs h few short, every_is cs, find_none cs h, none_bad cs h, texts_utf8 cs h named, none_at_odds (map plain_field cs) cs h, none_nested cs h, none_not_yet cs h) refl
 
 -- no test of the schema finds anything
-pub schema_accepted : (s : PlainSchema) → is_integer_schema s ≡ true → IsWithinLimits s → AreNamed s.columns → first_some (schema_rounds held_codes (plain_raw s)) ≡ None
-schema_accepted s ints limits named =
+pub schema_accepted : (s : PlainSchema) → is_integer_schema s ≡ true → length s.columns ≤ 2048 → sum_by name_len s.columns ≤ 4194304 → AreNamed s.columns → first_some (schema_rounds held_codes (plain_raw s)) ≡ None
+schema_accepted s ints few short named =
     let parts = and_parts (list_all is_integer_column s.columns) (is_empty s.pairs) ints in
     let none : s.pairs ≡ [] = no_pairs s.pairs parts.1 in
     ap (λ (ps : List Pair). first_some (schema_rounds held_codes (record { endianness = 0; fields = map plain_field s.columns; pairs = ps }))) none
-    ∙ accepted_columns s.columns parts.0 named (omega (arith, columns_few s.columns, limits.fields)) (omega (arith, names_few s.columns, limits.bytes))
+    ∙ accepted_columns s.columns parts.0 named few short

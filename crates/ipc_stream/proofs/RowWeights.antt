@@ -5,12 +5,11 @@ use Rattle.std.proofs.Common.{◌≡◌, ℕ, suc, ◌+◌, ◌*◌, ◌≤◌, 
 use Rattle.std.proofs.lemmas.List.Sums.{sum_by-cons}
 use Rattle.std.proofs.lemmas.Bool.{le-ltb}
 use Rattle.arrow_schema.specs.Column.{PlainSchema}
-use Rattle.arrow_schema.specs.Limits.{IsWithinLimits}
 use Rattle.values.specs.Cell.{Cell, cells_of}
 use Rattle.values.specs.Weight.{row_weight, table_weight}
 use Rattle.arrow_schema.specs.Integers.{is_integer_schema}
 use Rattle.ipc_stream.specs.Batch.{are_too_heavy}
-use Rattle.ipc_stream.proofs.Pieces.{integers_of, parts_weigh, columns_few}
+use Rattle.ipc_stream.proofs.Pieces.{integers_of, parts_weigh}
 
 row_weighs : (s : PlainSchema) (row : List Cell) → IsTrue (is_integer_schema s) → row_weight s row ≡ 1 + length s.columns
 row_weighs s row ints = omega (arith, parts_weigh s.columns (cells_of row) (integers_of s ints))
@@ -28,13 +27,9 @@ no_heavy_row s (row ∷ rows) ints few =
     let light : row_weight s row ≤ 16777216 = omega (arith, row_weighs s row ints) in
     rw (le-ltb 16777216 (row_weight s row) light) (no_heavy_row s rows ints few)
 
--- a schema has no more columns than fields
-pub few_columns : (s : PlainSchema) → IsWithinLimits s → length s.columns ≤ 2048
-few_columns s limits = omega (arith, limits.fields, columns_few s.columns)
-
 -- rows of integers are too heavy together, or not at all
-pub too_heavy : (s : PlainSchema) (before rows : List (List Cell)) → IsTrue (is_integer_schema s) → IsWithinLimits s
+pub too_heavy : (s : PlainSchema) (before rows : List (List Cell)) → IsTrue (is_integer_schema s) → length s.columns ≤ 2048
     → are_too_heavy s before rows ≡ nat_lt 268435456 ((length before + length rows) * (1 + length s.columns))
-too_heavy s before rows ints limits =
-    rw (no_heavy_row s rows ints (few_columns s limits))
+too_heavy s before rows ints few =
+    rw (no_heavy_row s rows ints few)
     (ap (nat_lt 268435456) (rows_weigh s (before ++ rows) ints ∙ ap (λ (n : ℕ). n * (1 + length s.columns)) (length-append before rows)))

@@ -101,7 +101,7 @@ pub some_length : (bytes : List ℕ) → is_empty bytes ≡ false → 0 < length
 some_length [] h = absurd cc
 some_length (b ∷ bytes) h = omega arith
 
-shorter : (bytes : List ℕ) (f : Front) → is_empty bytes ≡ false → length (drop (taken f) bytes) < length bytes
+pub shorter : (bytes : List ℕ) (f : Front) → is_empty bytes ≡ false → length (drop (taken f) bytes) < length bytes
 shorter bytes f some = omega (arith, taken_some f, some_length bytes some, length-drop (taken f) bytes)
 
 -- the schema was the first message

@@ -17,7 +17,7 @@ ghost use Rattle.ipc_stream.specs.Added.{added};
 
 use crate::decoder::width_of;
 use crate::gathered::Gathered;
-use arrow_schema::Schema;
+use arrow_schema::{Schema, limits_bound_columns};
 use byteorder::{ByteOrder, LittleEndian};
 use ipc_message::{Fault, ImportError, RawBatch};
 use std::alloc::AllocError;
@@ -161,6 +161,7 @@ fn batch_fault(schema: &Schema, before: usize, batch: &RawBatch, body: &[u8]) ->
     requires light { before ≤ 268435456 }
     ensures { (rows : List (List Cell)) → length rows ≡ before → result ≡ first_some (batch_rounds (schema_of schema.now) rows (raw_batch_of batch.now) body.now) }
 {
+    limits_bound_columns();
     if batch.compressed {
         return Some(Fault::Compressed);
     }
@@ -233,6 +234,7 @@ pub(crate) fn add_batch(
 ) -> Result<Gathered, ImportError>
     ensures { Gives gathered_table result (added (gathered_table table) (raw_batch_of batch.now) body.now) }
 {
+    limits_bound_columns();
     if let Some(fault) = batch_fault(&table.schema, table.rows, batch, body) {
         return Err(ImportError::Fault(fault));
     }

@@ -10,7 +10,7 @@ ghost use Rattle.values.specs.TableView.{table_of};
 
 use crate::decoder::width_of;
 use crate::pack::pack;
-use arrow_schema::Schema;
+use arrow_schema::{Schema, limits_bound_columns};
 use ipc_write::{write_batch, write_end, write_schema};
 use std::alloc::{AllocError, Global};
 use values::Table;
@@ -71,6 +71,7 @@ fn encode_columns(
     requires filled { IsTrue (have_rows (integer_columns (schema_of schema.now)) (map (λ v. v.items) columns.now) rows) }
     ensures { IfOk result (λ out. out.items ≡ canonical (plain_table (schema_of schema.now) (map (λ v. v.items) columns.now) rows)) }
 {
+    limits_bound_columns();
     let mut out = Vec::new(alloc);
     write_schema(alloc, &mut out, schema)?;
     let mut from = 0;

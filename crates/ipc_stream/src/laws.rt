@@ -13,7 +13,9 @@ ghost use Rattle.ipc_stream.specs.Meaning.{Message, meaning, table_in};
 ghost use Rattle.values.specs.IntegerTable.{IsIntegerTable};
 ghost use Rattle.values.specs.TableView.{table_of};
 
+use arrow_schema::limits_bound_columns;
 use ipc_message::front_is_framed;
+use ipc_write::{batch_message_is_read_again, schema_message_is_read_again};
 use values::Table;
 
 /// A stream that means a table spells it: framed messages, of which the first is its schema and the others are record
@@ -38,6 +40,9 @@ pub fn canonical_means_its_table(table: &Table)
 {
     // A table is within the limits: a contract knows it of the schema that is lent.
     let _schema = table.schema();
+    limits_bound_columns();
+    schema_message_is_read_again();
+    batch_message_is_read_again();
 }
 
 /// The cut of a table's rows by what it is: joined, the pieces are the rows; none is empty, each is within the limits of

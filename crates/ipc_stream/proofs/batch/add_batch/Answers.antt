@@ -66,7 +66,7 @@ invariant_of-result c =
     let t : Gathered = c.args.table in
     let b : RawBatch = c.args.batch.now in
     let light = (fine t b c.args.body.now c.in_default.ensures).light in
-    let heavy = heavy_is t.schema b c.args.body.now (gathered_table t).rows t.rows (length t.schema.fields.items) t.integers t.limits (count_rows t) refl in
+    let heavy = heavy_is t.schema b c.args.body.now (gathered_table t).rows t.rows (length t.schema.fields.items) t.integers (c.limits_bound_columns.ensures.fields (schema_of t.schema) t.limits) (count_rows t) refl in
     record {
       integers = t.integers;
       limits = t.limits;

@@ -1,9 +1,11 @@
 use Rattle.std.proofs.Common.{◌+◌, ◌*◌, arith, refl, sym, ◌∙◌}
 use Rattle.std.proofs.lemmas.Bool.{le-ltb, lt-ltb}
+use Rattle.std.proofs.lemmas.List.{length-map}
 use Rattle.arrow_schema.specs.declared.types.Schema.{Schema}
+use Rattle.arrow_schema.specs.View.{schema_of, column_of}
 use Rattle.ipc_message.specs.declared.raw.RawBatch.{RawBatch}
 use Rattle.ipc_stream.specs.Batch.{batch_rounds, batch_rows}
-use Rattle.ipc_stream.proofs.BatchLemmas.{heavy_is, few_fields, few_rows, weight_fits}
+use Rattle.ipc_stream.proofs.BatchLemmas.{heavy_is, few_rows, weight_fits}
 use Rattle.ipc_stream.proofs.batch.batch_fault.Goals as goal
 
 pub returns-then-batch : goal.returns-then-batch
@@ -44,19 +46,19 @@ pub overflow_mul-before : goal.overflow_mul-before
 overflow_mul-before c =
     let s : Schema = c.args.schema.now in
     let b : RawBatch = c.args.batch.now in
-    let fits = weight_fits c.args.before b.length c.len.result c.requires.light (few_rows b (sym c.if-has_bad_length.ensures)) (omega (arith, few_fields s c.requires.limits)) in
+    let fits = weight_fits c.args.before b.length c.len.result c.requires.light (few_rows b (sym c.if-has_bad_length.ensures)) (omega (arith, c.limits_bound_columns.ensures.fields (schema_of s) c.requires.limits, length-map s.fields.items column_of)) in
     omega (arith, fits)
 
 pub returns-then-before-batch-gt-MAX_WEIGHT : goal.returns-then-before-batch-gt-MAX_WEIGHT
 unfolding batch_rounds batch_rows
 returns-then-before-batch-gt-MAX_WEIGHT c = λ rows len.
-    let weight = heavy_is c.args.schema.now c.args.batch.now c.args.body.now rows c.args.before c.len.result c.requires.integers c.requires.limits len (omega arith) in
+    let weight = heavy_is c.args.schema.now c.args.batch.now c.args.body.now rows c.args.before c.len.result c.requires.integers (c.limits_bound_columns.ensures.fields (schema_of c.args.schema.now) c.requires.limits) len (omega arith) in
     let heavy = weight ∙ lt-ltb 268435456 ((c.args.before + c.args.batch.now.length) * (1 + c.len.result)) c.if-before-batch-gt-MAX_WEIGHT.true in
     rw (c.if-batch.false, ← c.if-has_other_layout.ensures, ← c.if-has_bad_length.ensures, ← c.if-has_buffer_outside.ensures, ← c.if-has_short_buffer.ensures, ← c.if-has_validity.ensures, ← c.if-counts_nulls.ensures, heavy) refl
 
 pub returns : goal.returns
 unfolding batch_rounds batch_rows
 returns c = λ rows len.
-    let weight = heavy_is c.args.schema.now c.args.batch.now c.args.body.now rows c.args.before c.len.result c.requires.integers c.requires.limits len (omega arith) in
+    let weight = heavy_is c.args.schema.now c.args.batch.now c.args.body.now rows c.args.before c.len.result c.requires.integers (c.limits_bound_columns.ensures.fields (schema_of c.args.schema.now) c.requires.limits) len (omega arith) in
     let light = weight ∙ le-ltb 268435456 ((c.args.before + c.args.batch.now.length) * (1 + c.len.result)) c.if-before-batch-gt-MAX_WEIGHT.false in
     rw (c.if-batch.false, ← c.if-has_other_layout.ensures, ← c.if-has_bad_length.ensures, ← c.if-has_buffer_outside.ensures, ← c.if-has_short_buffer.ensures, ← c.if-has_validity.ensures, ← c.if-counts_nulls.ensures, light) refl

@@ -2,7 +2,6 @@ use Rattle.std.proofs.Common.{◌≡◌, ◌+◌, ◌-◌, ◌≤◌, ◌++◌, 
 use Rattle.std.specs.Prelude.{min}
 use Rattle.std.proofs.lemmas.List.{length-map}
 use Rattle.arrow_schema.specs.View.{schema_of, column_of}
-use Rattle.ipc_write.proofs.Room.{columns_few}
 use Rattle.ipc_write.specs.Written.{schema_message, end_mark}
 use Rattle.ipc_stream.specs.Canonical.{piece_message}
 use Rattle.values.specs.Columns.{rows_from}
@@ -12,7 +11,7 @@ use Rattle.ipc_stream.proofs.encoder.encode_columns.Goals as goal
 
 pub write_piece-requires-clause-columns : goal.write_piece-requires-clause-columns
 write_piece-requires-clause-columns c =
-    omega (arith, c.requires.limits.fields, columns_few (schema_of c.args.schema.now).columns, length-map c.args.schema.now.fields.items column_of)
+    omega (arith, c.limits_bound_columns.ensures.fields (schema_of c.args.schema.now) c.requires.limits, length-map c.args.schema.now.fields.items column_of)
 
 pub loop-from-preserved : goal.loop-from-preserved
 loop-from-preserved c =
@@ -26,7 +25,7 @@ loop-from-preserved c =
     let left : c.args.rows - (from + k) ≡ n - k = omega arith in
     let piece : List ℕ = piece_message s (rows_from (integer_columns s) values from k) in
     let rest : List ℕ = messages_of s values (from + k) (n - k) in
-    let next : messages_of s values from n ≡ piece ++ rest = next_piece s values from n k c.requires.integers c.requires.limits (omega arith) least in
+    let next : messages_of s values from n ≡ piece ++ rest = next_piece s values from n k c.requires.integers (c.limits_bound_columns.ensures.fields s c.requires.limits) (omega arith) least in
     let written : c.write_piece.new.out.items ≡ c.loop-from.out.items ++ piece = c.in_ok-write_piece.ensures in
     record {
       within = within;

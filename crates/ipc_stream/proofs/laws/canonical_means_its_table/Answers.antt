@@ -19,14 +19,24 @@ pub returns : goal.returns
 returns c =
     let t : PlainTable = table_of c.args.table.now in
     let is = c.schema-schema.ensures.kept in
+    let schema = c.schema_message_is_read_again.ensures in
+    let batch = c.batch_message_is_read_again.ensures in
     let weighs = rows_weigh t.schema t.rows c.requires.schema in
     let light : length t.rows * (1 + length t.schema.columns) ≤ 268435456 = omega (arith, weighs, is.weight) in
     let values : List (List ℕ) = values_of_all (integer_columns t.schema) t.rows in
     subst (λ (x : PlainTable). meaning held_codes (canonical x) ≡ Ok x) (table_again t values is c.requires refl)
     (canonical_read t.schema values (length t.rows)
     (record {
+      stands = λ rest. schema.front t.schema rest c.requires.schema is.schema;
+      kind = schema.kind t.schema c.requires.schema is.schema;
+      spelled = schema.header held_codes t.schema (refl, refl) c.requires.schema is.schema;
+      after = schema.after t.schema;
+    })
+    (record { stands = batch.front; kind = batch.kind; spelled = batch.header held_codes; after = batch.after })
+    (record {
       integers = c.requires.schema;
-      limits = is.schema;
+      few = c.limits_bound_columns.ensures.fields t.schema is.schema;
+      short = c.limits_bound_columns.ensures.names t.schema is.schema;
       named = subst (λ (s : PlainSchema). AreNamed s.columns) c.schema-schema.ensures.schema (named c.schema-schema.result.now.fields.items);
       each = values_fill (integer_columns t.schema) t.rows (length t.rows) refl;
       bytes = all_bytes (integer_columns t.schema) t.rows;
