@@ -4,6 +4,8 @@ use ipc_message::{Fault, TypeName};
 use std::alloc::{AllocError, Global};
 use std::test::Fail;
 
+mod made;
+
 /// The schema of one column `a`, a 32-bit integer with a sign, that is not nullable.
 const SCHEMA: [u8; 152] = [
     0xff, 0xff, 0xff, 0xff, 0x90, 0x00, 0x00, 0x00, 0x10, 0x00, 0x00, 0x00, 0x0c, 0x00, 0x18, 0x00,
@@ -123,10 +125,9 @@ fn rows_without_columns_are_counted(rt: HostRuntime) -> Result<(), Fail> {
     Ok(())
 }
 
-#[test]
-fn a_batch_of_4097_rows_is_written_as_two(rt: HostRuntime) -> Result<(), Fail> {
-    let alloc = rt.alloc();
-    // One batch of 4,097 rows: the lengths of the body, the batch, the node and the values, and the values.
+/// One batch of the 4,097 rows 7, -1, and 2 to 4,096, without an end mark.
+fn many_rows(alloc: Global) -> Result<Vec<u8>, AllocError> {
+    // The lengths of the body, the batch, the node and the values, the values, and what fills the body up.
     let mut stream = changed(
         alloc,
         &[&SCHEMA, &BATCH],
@@ -141,10 +142,17 @@ fn a_batch_of_4097_rows_is_written_as_two(rt: HostRuntime) -> Result<(), Fail> {
             (297, 0x40),
         ],
     )?;
-    for n in 2..4098u32 {
+    for n in 2..4097u32 {
         stream.extend_from_slice(&n.to_le_bytes())?;
     }
-    let written = recoded(alloc, &stream)?;
+    stream.extend_from_slice(&[0; 4])?;
+    Ok(stream)
+}
+
+#[test]
+fn a_batch_of_4097_rows_is_written_as_two(rt: HostRuntime) -> Result<(), Fail> {
+    let alloc = rt.alloc();
+    let written = recoded(alloc, &many_rows(alloc)?)?;
     assert_eq!(rt; written.len(), 16_856);
     assert_eq!(rt; rows_of(alloc, &written)?, Ok(4097));
     assert_eq!(rt; recoded(alloc, &written)?.as_slice(), written.as_slice());
