@@ -1,11 +1,9 @@
 -- The tree of a record batch.
-use Rattle.std.proofs.Common.{◌≡◌, ℕ, ◌≤◌, ◌<◌, ◌^◌, List, [], ◌∷◌, ◌++◌, map, length, refl, sym, ap, ◌∙◌, arith, subst, append_assoc}
+use Rattle.std.proofs.Common.{add-one, ◌+◌, suc, take, get_or, zero, ◌≡◌, ℕ, ◌≤◌, ◌<◌, ◌^◌, List, [], ◌∷◌, ◌++◌, map, length, refl, sym, ap, ◌∙◌, arith, subst}
 use Rattle.flatbuf.specs.Tree.{Tree, table, structs, scalar, refers, no_slot}
 use Rattle.flatbuf.specs.Laid.{metadata}
 use Rattle.flatbuf.specs.Held.{FitsStructs}
 use Rattle.std.proofs.lemmas.List.{length-map}
-use Rattle.byteorder.specs.Endian.{little_bytes}
-use Rattle.ipc_message.specs.Framing.{mark}
 use Rattle.ipc_message.specs.Raw.{RawNode}
 use Rattle.ipc_write.specs.Trees.{batch_tree, message_tree, node_pair, raw_node, buffer_pair}
 use Rattle.ipc_write.specs.Written.{body, placed, batch_of, batch_message, framed, IsWritableBatch}
@@ -13,6 +11,15 @@ use Rattle.ipc_write.specs.Written.{body, placed, batch_of, batch_message, frame
 pub fits_more : (ps : List (ℕ × ℕ)) (p : ℕ × ℕ) → FitsStructs ps → p.0 < 2 ^ 64 → p.1 < 2 ^ 64 → FitsStructs (ps ++ p ∷ [])
 fits_more [] p h a b = (a, b, tt)
 fits_more (q ∷ qs) p h a b = (h.0, h.1, fits_more qs p h.2 a b)
+
+-- the numbers read so far fit, and so do those of the next
+pub fits_next : (ps : List (ℕ × ℕ)) (i : ℕ) (d : ℕ × ℕ) → i < length ps → FitsStructs (take i ps) → (get_or ps i d).0 < 2 ^ 64 → (get_or ps i d).1 < 2 ^ 64 → FitsStructs (take (i + 1) ps)
+fits_next ps i d lt h a b = subst (λ (n : ℕ). FitsStructs (take n ps)) (sym (add-one i)) (next ps i lt h a b)
+  where
+    next : (qs : List (ℕ × ℕ)) (k : ℕ) → k < length qs → FitsStructs (take k qs) → (get_or qs k d).0 < 2 ^ 64 → (get_or qs k d).1 < 2 ^ 64 → FitsStructs (take (suc k) qs)
+    next [] k lt h a b = tt
+    next (q ∷ qs) zero lt h a b = (a, b, tt)
+    next (q ∷ qs) (suc k) lt h a b = (h.0, h.1, next qs k (omega arith) h.2 a b)
 
 pairs_again : (ps : List (ℕ × ℕ)) → map node_pair (map raw_node ps) ≡ ps
 pairs_again [] = refl
@@ -39,16 +46,8 @@ is_writable rows nodes buffers small fits few some short = record {
   short_body = short;
 }
 
--- what is written is the message of the batch
-pub batch_is : (out out2 out3 meta : List ℕ) (root : Tree) (rows : ℕ) (nodes : List RawNode) (buffers : List (List ℕ))
-    → root ≡ message_tree 3 (batch_tree (batch_of rows nodes buffers)) (length (body buffers)) → meta ≡ metadata root
-    → out2 ≡ out ++ (mark ++ (little_bytes 4 (length meta) ++ meta)) → out3 ≡ out2 ++ body buffers
-    → out3 ≡ out ++ batch_message rows nodes buffers
+-- the bytes of a message with this metadata and the body of the batch
+pub batch_is : (meta : List ℕ) (root : Tree) (rows : ℕ) (nodes : List RawNode) (buffers : List (List ℕ)) → root ≡ message_tree 3 (batch_tree (batch_of rows nodes buffers)) (length (body buffers)) → meta ≡ metadata root
+    → framed meta (body buffers) ≡ batch_message rows nodes buffers
 unfolding batch_message
-batch_is out out2 out3 meta root rows nodes buffers tree m a b =
-    let is : meta ≡ metadata (message_tree 3 (batch_tree (batch_of rows nodes buffers)) (length (body buffers))) = m ∙ ap metadata tree in
-    let size : List ℕ = little_bytes 4 (length meta) in
-    b ∙ ap (λ (x : List ℕ). x ++ body buffers) a
-    ∙ append_assoc out (mark ++ (size ++ meta)) (body buffers)
-    ∙ ap (λ (x : List ℕ). out ++ (mark ++ x)) (append_assoc size meta (body buffers))
-    ∙ ap (λ (x : List ℕ). out ++ framed x (body buffers)) is
+batch_is meta root rows nodes buffers is m = ap (λ (x : List ℕ). framed x (body buffers)) (m ∙ ap metadata is)

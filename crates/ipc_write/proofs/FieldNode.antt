@@ -1,15 +1,10 @@
 -- The tree of a column of integers.
-use Rattle.std.specs.Prelude.{◌&&◌}
-use Rattle.std.proofs.Common.{◌≡◌, ℕ, Bool, true, false, List, [], None, refl}
+use Rattle.std.proofs.Common.{◌≡◌, ℕ, Bool, true, List, [], None, refl}
 use Rattle.flatbuf.specs.Tree.{Tree, table, text, references, no_node, no_slot, absent, scalar, refers}
 use Rattle.arrow_schema.specs.Column.{Kind, Column, column, integers}
 use Rattle.ipc_write.specs.Trees.{bit, type_tree, field_tree, child_nodes}
 use Rattle.arrow_schema.specs.Integers.{is_integer_column, is_integer_kind, is_bit_width}
 use Rattle.arrow_schema.specs.IntegerCases.{integer_case}
-
-pub both : (a b : Bool) → (a && b) ≡ true → (a ≡ true) × (b ≡ true)
-both true b h = (refl, h)
-both false b h = cc
 
 abbrev pub kind_in : Column → Kind
 kind_in (column name nullable kind dictionary pairs) = kind

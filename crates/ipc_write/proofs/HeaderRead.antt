@@ -1,6 +1,7 @@
 -- The header of a message that was written is the header that is read, and the walk over it finds nothing bad.
 use Rattle.std.specs.List.{flat_map}
-use Rattle.std.proofs.Common.{◌≡◌, ℕ, suc, ◌+◌, ◌*◌, ◌/◌, ◌^◌, ◌<◌, ◌≤◌, Bool, false, List, [], ◌∷◌, ◌++◌, map, length, drop, Option, Some, Ok, is_some, refl, sym, ap, ◌∙◌, arith}
+use Rattle.std.proofs.Common.{◌≡◌, ℕ, ◌+◌, ◌*◌, ◌/◌, ◌^◌, ◌<◌, ◌≤◌, Bool, false, List, [], ◌∷◌, ◌++◌, map, length, drop, Option, Some, Ok, is_some, refl, sym, ap, ◌∙◌, arith}
+use Rattle.std.proofs.lemmas.List.{length-map}
 use Rattle.byteorder.specs.Endian.{little_number, little_bytes}
 use Rattle.byteorder.specs.Numbers.{little_number-reads_back}
 use Rattle.flatbuf.specs.Lookup.{target, slot, table_at, table_behind, elements, targets, structs_of, scalar_of, is_set, Place}
@@ -98,10 +99,6 @@ structs_read bytes s p ps e has = rw (e, has.0) has.1
 count_structs : (ps : List (ℕ × ℕ)) (n : ℕ) → length ps ≡ n → length (struct_bytes ps) / 16 ≡ n
 count_structs ps n e = omega (arith, length_structs ps, e)
 
-length_map : {A B : Type 0} (f : A → B) (xs : List A) → length (map f xs) ≡ length xs
-length_map f [] = refl
-length_map f (x ∷ xs) = ap suc (length_map f xs)
-
 pub batch_read : (bytes : List ℕ) (at : ℕ) (b : RawBatch) → b.compressed ≡ false → FitsStructs (map node_pair b.nodes) → FitsStructs (map buffer_pair b.buffers) → Has bytes at (batch_tree b)
     → batch_in bytes (Some (table_at bytes at)) ≡ b
 unfolding batch_in
@@ -112,9 +109,9 @@ batch_read bytes at b plain fits_nodes fits_buffers has =
     let ns : List (ℕ × ℕ) = map node_pair b.nodes in
     let bs : List (ℕ × ℕ) = map buffer_pair b.buffers in
     let nodes_at : structs_of 16 bytes (slot bytes t 1) ≡ struct_bytes ns = structs_read bytes (slot bytes t 1) h.1.0.0 ns h.1.0.1 h.1.0.3 in
-    let nodes_are : nodes_in (structs_of 16 bytes (slot bytes t 1)) ≡ b.nodes = rw (nodes_at, count_structs ns (length b.nodes) (length_map node_pair b.nodes)) (nodes_read b.nodes fits_nodes) in
+    let nodes_are : nodes_in (structs_of 16 bytes (slot bytes t 1)) ≡ b.nodes = rw (nodes_at, count_structs ns (length b.nodes) (length-map b.nodes node_pair)) (nodes_read b.nodes fits_nodes) in
     let buffers_at : structs_of 16 bytes (slot bytes t 2) ≡ struct_bytes bs = structs_read bytes (slot bytes t 2) h.1.1.0.0 bs h.1.1.0.1 h.1.1.0.3 in
-    let buffers_are : buffers_in (structs_of 16 bytes (slot bytes t 2)) ≡ b.buffers = rw (buffers_at, count_structs bs (length b.buffers) (length_map buffer_pair b.buffers)) (buffers_read b.buffers fits_buffers) in
+    let buffers_are : buffers_in (structs_of 16 bytes (slot bytes t 2)) ≡ b.buffers = rw (buffers_at, count_structs bs (length b.buffers) (length-map b.buffers buffer_pair)) (buffers_read b.buffers fits_buffers) in
     let plain_is : is_some (slot bytes t 3) ≡ b.compressed = rw (h.1.1.1 3 (omega arith)) (sym plain) in
     λ i. record { length = rows i; nodes = nodes_are i; buffers = buffers_are i; compressed = plain_is i }
 

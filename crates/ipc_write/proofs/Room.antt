@@ -17,7 +17,7 @@ use Rattle.arrow_schema.specs.Limits.{name_len as own_name_len, IsWithinLimits, 
 use Rattle.ipc_write.specs.Trees.{bit, pairs_slot, field_tree, field_nodes, child_nodes, schema_tree, message_tree, ids_of}
 use Rattle.arrow_schema.specs.Integers.{is_integer_column, is_bit_width, is_empty, is_integer_schema}
 use Rattle.arrow_schema.specs.IntegerCases.{integer_case}
-use Rattle.ipc_write.proofs.FieldNode.{both}
+use Rattle.std.proofs.lemmas.Bool.{and_parts}
 
 gap_small : (m c : ℕ) → gap m c ≤ m
 gap_small zero c = let none : 0 - c % 0 ≡ 0 = omega arith in rw none (omega arith)
@@ -114,7 +114,7 @@ pub fields_are : (cs : List Column) → AreIntegers cs → nodes_of (map (field_
 unfolding field_nodes
 fields_are [] h = refl
 fields_are (c ∷ cs) h =
-    let parts = both (is_integer_column c) (list_all is_integer_column cs) h in
+    let parts = and_parts (is_integer_column c) (list_all is_integer_column cs) h in
     let rest = fields_are cs parts.1 in
     let none : ids_of c ≡ 0 = no_ids c parts.0 in
     rw (none, rest) refl
@@ -123,14 +123,14 @@ pub fields_room : (id : ℕ) (cs : List Column) → AreIntegers cs → rooms (fi
 unfolding field_nodes
 fields_room id [] h = omega arith
 fields_room id (c ∷ cs) h =
-    let parts = both (is_integer_column c) (list_all is_integer_column cs) h in
+    let parts = and_parts (is_integer_column c) (list_all is_integer_column cs) h in
     rw (sum_by-cons own_name_len c cs) (omega (arith, field_room id c parts.0, fields_room (id + ids_of c) cs parts.1))
 
 pub fields_fit : (id : ℕ) (cs : List Column) → AreIntegers cs → FitsAll (field_nodes id (columns_of cs))
 unfolding field_nodes
 fields_fit id [] h = tt
 fields_fit id (c ∷ cs) h =
-    let parts = both (is_integer_column c) (list_all is_integer_column cs) h in
+    let parts = and_parts (is_integer_column c) (list_all is_integer_column cs) h in
     (field_fits id c parts.0, fields_fit (id + ids_of c) cs parts.1)
 
 fields_count : (id : ℕ) (cs : List Column) → count_of (field_nodes id (columns_of cs)) ≡ length cs
@@ -147,7 +147,7 @@ no_pairs (p ∷ ps) h = cc
 -- the metadata of a schema of so many columns, with names of so many bytes
 pub schema_short : Sizes → (s : PlainSchema) → is_integer_schema s ≡ true → length s.columns ≤ 2048 → sum_by own_name_len s.columns ≤ 4194304 → length (metadata (message_tree 1 (schema_tree s) 0)) ≤ 16777216
 schema_short size s h few short =
-    let parts = both (list_all is_integer_column s.columns) (is_empty s.pairs) h in
+    let parts = and_parts (list_all is_integer_column s.columns) (is_empty s.pairs) h in
     let none : pairs_slot s.pairs ≡ no_slot = no_pairs s.pairs parts.1 in
     let fields = fields_room 0 s.columns parts.0 in
     let count : count_of (field_nodes 0 (columns_of s.columns)) ≡ length s.columns = fields_count 0 s.columns in
@@ -156,7 +156,7 @@ schema_short size s h few short =
 
 pub schema_fits : (s : PlainSchema) → is_integer_schema s ≡ true → Fits (message_tree 1 (schema_tree s) 0)
 schema_fits s h =
-    let parts = both (list_all is_integer_column s.columns) (is_empty s.pairs) h in
+    let parts = and_parts (list_all is_integer_column s.columns) (is_empty s.pairs) h in
     let none : pairs_slot s.pairs ≡ no_slot = no_pairs s.pairs parts.1 in
     rw none (omega arith, omega arith, (omega arith, (omega arith, ((omega arith, omega arith, (omega arith, (fields_fit 0 s.columns parts.0, tt))), (omega arith, tt)))))
 

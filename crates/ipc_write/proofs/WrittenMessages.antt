@@ -20,7 +20,7 @@ use Rattle.ipc_write.specs.Spelled.{raw_schema}
 use Rattle.ipc_write.specs.Trees.{schema_tree, batch_tree, message_tree, node_pair, buffer_pair}
 use Rattle.ipc_write.specs.Walked.{Holds, tables_of, tables_of_all}
 use Rattle.ipc_write.specs.Written.{framed, padded, body, placed, batch_of, schema_message, batch_message, schema_envelope, batch_envelope, IsWritableBatch}
-use Rattle.ipc_write.proofs.FieldNode.{both}
+use Rattle.std.proofs.lemmas.Bool.{and_parts}
 use Rattle.ipc_write.proofs.Room.{AreIntegers, Sizes, schema_fits, batch_fits, batch_short}
 use Rattle.ipc_write.proofs.MessageRead.{Fronts, framed_again, type_read}
 use Rattle.ipc_write.proofs.HeaderRead.{schema_header_read, batch_header_read}
@@ -75,7 +75,7 @@ two_tables name nullable bits signed w = refl
 tables_are : (cs : List Column) → AreIntegers cs → tables_of_all (columns_of cs) ≡ 2 * length cs
 tables_are [] h = refl
 tables_are (c ∷ cs) h =
-    let parts = both (is_integer_column c) (list_all is_integer_column cs) h in
+    let parts = and_parts (is_integer_column c) (list_all is_integer_column cs) h in
     let one : tables_of c ≡ 2 = integer_case (λ x. tables_of x ≡ 2) two_tables c parts.0 in
     let rest = tables_are cs parts.1 in
     omega (arith, one, rest)
@@ -87,7 +87,7 @@ none_paired (p ∷ ps) h = cc
 pub schema_read_again : Roots → (held : ℕ → Bool) (s : PlainSchema) → Holds held → is_integer_schema s ≡ true → IsWithinLimits s → length s.columns ≤ 2048 → length (schema_envelope s).metadata ≤ 16777216
     → header held (schema_envelope s).metadata ≡ Ok (schema_header (raw_schema s))
 schema_read_again roots held s holds ints limits few small =
-    let parts = both (list_all is_integer_column s.columns) (is_empty s.pairs) ints in
+    let parts = and_parts (list_all is_integer_column s.columns) (is_empty s.pairs) ints in
     let none = none_paired s.pairs parts.1 in
     let tables = tables_are s.columns parts.0 in
     schema_header_read held (schema_envelope s).metadata 0 s holds (omega (arith, limits.levels)) (omega (arith, none, tables, few)) (schema_has roots s ints small)

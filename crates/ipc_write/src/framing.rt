@@ -1,5 +1,5 @@
 // The messages of a stream, as bytes.
-ghost use Rattle.std.specs.Prelude.{◌≡◌, ◌≤◌, ◌<◌, ◌+◌, ◌^◌, ◌++◌, [], ◌∷◌, ℕ, List, map, length, OnOk, IfOk, IsTrue, replicate};
+ghost use Rattle.std.specs.Prelude.{◌≡◌, ◌≤◌, ◌<◌, ◌+◌, ◌^◌, ◌++◌, [], ◌∷◌, ℕ, List, map, length, take, OnOk, OnErr, IfOk, IsTrue, replicate};
 ghost use Rattle.byteorder.specs.Endian.{little_bytes};
 ghost use Rattle.arrow_schema.specs.View.{schema_of};
 ghost use Rattle.arrow_schema.specs.Limits.{IsWithinLimits};
@@ -7,7 +7,7 @@ ghost use Rattle.flatbuf.specs.Held.{FitsStructs};
 ghost use Rattle.ipc_message.specs.Framing.{mark};
 ghost use Rattle.arrow_schema.specs.Integers.{is_integer_schema};
 ghost use Rattle.ipc_write.specs.Trees.{buffer_pair, raw_node};
-ghost use Rattle.ipc_write.specs.Written.{schema_message, batch_message, end_mark, padded, body, placed};
+ghost use Rattle.ipc_write.specs.Written.{framed, schema_message, batch_message, end_mark, padded, body, placed};
 
 use crate::laws::metadata_is_within_its_limit;
 use crate::trees::{batch_node, message_node, schema_node};
@@ -15,46 +15,74 @@ use arrow_schema::Schema;
 use flatbuf::Writer;
 use std::alloc::{AllocError, Global};
 
-/// The mark, the size of the metadata, and the metadata.
+/// Appends the mark, the size of the metadata, and the metadata.
 fn put_metadata(out: &mut Vec<u8>, metadata: &[u8]) -> Result<(), AllocError>
     requires { length metadata.now < 2 ^ 31 }
-    ensures { OnOk result (out.new.items ≡ out.old.items ++ (mark ++ (little_bytes 4 (length metadata.now) ++ metadata.now))) }
+    ensures appended { OnOk result (out.new.items ≡ out.old.items ++ (mark ++ (little_bytes 4 (length metadata.now) ++ metadata.now))) }
+    ensures begins { take (length out.old.items) out.new.items ≡ out.old.items }
 {
     out.extend_from_slice(&[255, 255, 255, 255])?;
     out.extend_from_slice(&(metadata.len() as u32).to_le_bytes())?;
     out.extend_from_slice(metadata)
 }
 
-/// Appends the message of a schema of integer columns (docs/formats/writing.md).
-#[tactic(auto, unfolding(crate::specs::Written::schema_message))]
-pub fn write_schema(alloc: Global, out: &mut Vec<u8>, schema: &Schema) -> Result<(), AllocError>
-    requires integers { IsTrue (is_integer_schema (schema_of schema.now)) }
-    requires limits { IsWithinLimits (schema_of schema.now) }
-    ensures { OnOk result (out.new.items ≡ out.old.items ++ schema_message (schema_of schema.now)) }
-{
-    metadata_is_within_its_limit();
-    let header = schema_node(alloc, schema)?;
-    let root = message_node(alloc, 1, header, 0)?;
-    let metadata = Writer::new(alloc).write(&root)?;
-    put_metadata(out, &metadata)
-}
-
-/// Bytes, and zeros up to a multiple of 8.
+/// Appends bytes, and zeros up to a multiple of 8.
 fn put_padded(out: &mut Vec<u8>, bytes: &[u8]) -> Result<(), AllocError>
-    ensures { OnOk result (out.new.items ≡ out.old.items ++ padded bytes.now) }
+    ensures appended { OnOk result (out.new.items ≡ out.old.items ++ padded bytes.now) }
+    ensures begins { take (length out.old.items) out.new.items ≡ out.old.items }
 {
     out.extend_from_slice(bytes)?;
     out.resize(out.len() + (8 - bytes.len() % 8) % 8, 0)
 }
 
-/// The body of a batch: each buffer, filled to a multiple of 8.
+/// Appends the body of a message: each buffer, filled to a multiple of 8.
 fn put_body(out: &mut Vec<u8>, buffers: &[&[u8]]) -> Result<(), AllocError>
-    ensures { OnOk result (out.new.items ≡ out.old.items ++ body (map (λ b. b.now) buffers.now)) }
+    ensures appended { OnOk result (out.new.items ≡ out.old.items ++ body (map (λ b. b.now) buffers.now)) }
+    ensures begins { take (length out.old.items) out.new.items ≡ out.old.items }
 {
     for buffer in buffers {
         put_padded(out, buffer)?;
     }
     Ok(())
+}
+
+/// Appends the metadata of a message and its body; a part of them where memory is refused.
+fn put_parts(out: &mut Vec<u8>, metadata: &[u8], buffers: &[&[u8]]) -> Result<(), AllocError>
+    requires { length metadata.now < 2 ^ 31 }
+    ensures appended { OnOk result (out.new.items ≡ out.old.items ++ framed metadata.now (body (map (λ b. b.now) buffers.now))) }
+    ensures begins { take (length out.old.items) out.new.items ≡ out.old.items }
+{
+    put_metadata(out, metadata)?;
+    put_body(out, buffers)
+}
+
+/// Appends a message with this metadata and the body of these buffers, or nothing where memory is refused.
+fn put_message(out: &mut Vec<u8>, metadata: &[u8], buffers: &[&[u8]]) -> Result<(), AllocError>
+    requires { length metadata.now < 2 ^ 31 }
+    ensures appended { OnOk result (out.new.items ≡ out.old.items ++ framed metadata.now (body (map (λ b. b.now) buffers.now))) }
+    ensures kept { OnErr result (out.new.items ≡ out.old.items) }
+{
+    let before = out.len();
+    let put = put_parts(out, metadata, buffers);
+    if put.is_err() {
+        out.truncate(before);
+    }
+    put
+}
+
+/// Appends the message of a schema of integer columns (docs/formats/writing.md), or nothing where memory is refused.
+#[tactic(auto, unfolding(crate::specs::Written::schema_message))]
+pub fn write_schema(alloc: Global, out: &mut Vec<u8>, schema: &Schema) -> Result<(), AllocError>
+    requires integers { IsTrue (is_integer_schema (schema_of schema.now)) }
+    requires limits { IsWithinLimits (schema_of schema.now) }
+    ensures appended { OnOk result (out.new.items ≡ out.old.items ++ schema_message (schema_of schema.now)) }
+    ensures kept { OnErr result (out.new.items ≡ out.old.items) }
+{
+    metadata_is_within_its_limit();
+    let header = schema_node(alloc, schema)?;
+    let root = message_node(alloc, 1, header, 0)?;
+    let metadata = Writer::new(alloc).write(&root)?;
+    put_message(out, &metadata, &[])
 }
 
 /// Where each buffer stands in the body, and how long the body is.
@@ -75,9 +103,19 @@ fn ranges_of(alloc: Global, buffers: &[&[u8]]) -> Result<(Vec<(u64, u64)>, u64),
     Ok((ranges, end))
 }
 
-/// Appends a record batch of so many rows, with a node for each array (its length and null count) and these buffers.
+/// The type of the numbers makes them fit the 64 bits that they are written in.
+fn numbers_fit(nodes: &[(u64, u64)])
+    ensures { FitsStructs nodes.now }
+{
+    for node in nodes {
+        let (_length, _null_count) = (node.0, node.1);
+    }
+}
+
+/// Appends a record batch of so many rows, with a node for each array (its length and null count) and these buffers, or
+/// nothing where memory is refused.
 ///
-/// The caller sees to it that the metadata stays below its limit and the body below 2^62 bytes.
+/// The caller sees to it that there are few enough of both, and that the body is below 2^62 bytes.
 #[tactic(auto, unfolding(crate::specs::Written::batch_message))]
 pub fn write_batch(
     alloc: Global,
@@ -86,24 +124,25 @@ pub fn write_batch(
     nodes: Vec<(u64, u64)>,
     buffers: &[&[u8]],
 ) -> Result<(), AllocError>
-    requires fits { FitsStructs nodes.items }
     requires nodes { length nodes.items ≤ 2048 }
     requires buffers { length buffers.now ≤ 65536 }
     requires body { length (body (map (λ b. b.now) buffers.now)) < 2 ^ 62 }
-    ensures { OnOk result (out.new.items ≡ out.old.items ++ batch_message rows (map raw_node nodes.items) (map (λ b. b.now) buffers.now)) }
+    ensures appended { OnOk result (out.new.items ≡ out.old.items ++ batch_message rows (map raw_node nodes.items) (map (λ b. b.now) buffers.now)) }
+    ensures kept { OnErr result (out.new.items ≡ out.old.items) }
 {
     metadata_is_within_its_limit();
+    numbers_fit(&nodes);
     let (ranges, body_length) = ranges_of(alloc, buffers)?;
     let header = batch_node(alloc, rows, nodes, ranges)?;
     let root = message_node(alloc, 3, header, body_length)?;
     let metadata = Writer::new(alloc).write(&root)?;
-    put_metadata(out, &metadata)?;
-    put_body(out, buffers)
+    put_message(out, &metadata, buffers)
 }
 
-/// Appends the end mark.
+/// Appends the end mark, or nothing where memory is refused.
 pub fn write_end(out: &mut Vec<u8>) -> Result<(), AllocError>
-    ensures { OnOk result (out.new.items ≡ out.old.items ++ end_mark) }
+    ensures appended { OnOk result (out.new.items ≡ out.old.items ++ end_mark) }
+    ensures kept { OnErr result (out.new.items ≡ out.old.items) }
 {
     out.extend_from_slice(&[255, 255, 255, 255, 0, 0, 0, 0])
 }

@@ -49,7 +49,7 @@ returns c =
     ∙ ap (λ (x : List ℕ). out ++ x) (sym (no_piece s values from))
     ∙ ap (λ (m : ℕ). out ++ messages_of s values from m) (sym none)
     ∙ c.loop-from.invariant.written in
-    let ended : c.write_end.new.out.items ≡ out ++ end_mark = c.in_ok-write_end.ensures in
+    let ended : c.write_end.new.out.items ≡ out ++ end_mark = c.in_ok-write_end.ensures.appended in
     ended ∙ ap (λ (x : List ℕ). x ++ end_mark) whole
     ∙ append_assoc (schema_message s) (messages_of s values 0 c.args.rows) end_mark
     ∙ sym (canonical_is s values c.args.rows)

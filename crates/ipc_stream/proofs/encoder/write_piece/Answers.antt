@@ -3,7 +3,6 @@ use Rattle.std.proofs.lemmas.List.{drop_all, length-map, length-drop}
 use Rattle.std.proofs.lemmas.Result.{on_ok_weaker}
 use Rattle.arrow_schema.specs.declared.types.Field.{Field}
 use Rattle.arrow_schema.specs.View.{column_of, schema_of}
-use Rattle.ipc_write.proofs.BatchNode.{fits_more}
 use Rattle.ipc_write.specs.Trees.{raw_node}
 use Rattle.ipc_stream.specs.Canonical.{full_nodes, integer_buffers}
 use Rattle.values.specs.Columns.{IntegerColumn, rows_from, values_of, first_cell}
@@ -31,7 +30,6 @@ loop-i-preserved c =
     ∙ ap (λ (v : List ℕ). values_of column.width (map first_cell (rows_from (column ∷ columns_left) (v ∷ values_left) c.args.from c.args.count))) c.deref.ensures.value in
     let two = two_more c.loop-i.buffers.items c.push-in-loop-i.new.self.items c.push-in-loop-i-2.new.self.items _ b c.in_ok-push-2.ensures.items c.in_ok-push-3.ensures.items refl in
     record {
-      fits = rw pushed (fits_more c.loop-i.nodes.items (c.args.count, 0) is.fits (omega arith) (omega arith));
       nodes_count = omega (arith, ap length pushed, length-append c.loop-i.nodes.items ((c.args.count, 0) ∷ []));
       buffers_count = omega (arith, ap length c.in_ok-push-2.ensures.items, ap length c.in_ok-push-3.ensures.items, length-append c.loop-i.buffers.items, length-append c.push-in-loop-i.new.self.items);
       size = rw two (omega (arith, size_more (map (λ x. x.now) c.loop-i.buffers.items) b.now c.values_in.ensures.small));
@@ -56,4 +54,4 @@ returns c =
     ∙ sym (append-nil written)
     ∙ ap (λ (x : List Field). written ++ integer_buffers (map integer_column (map column_of x)) (rows_from (map integer_column (map column_of x)) values_left c.args.from c.args.count)) (sym done)
     ∙ is.buffers in
-    on_ok_weaker c.write_batch.result (λ e. e ∙ ap (λ (x : List ℕ). c.args.out.now.items ++ x) (piece_is (schema_of c.args.schema.now) values c.args.from c.args.count _ _ nodes buffers)) c.write_batch.ensures
+    on_ok_weaker c.write_batch.result (λ e. e ∙ ap (λ (x : List ℕ). c.args.out.now.items ++ x) (piece_is (schema_of c.args.schema.now) values c.args.from c.args.count _ _ nodes buffers)) c.write_batch.ensures.appended

@@ -1,6 +1,5 @@
 use Rattle.std.proofs.Common.{◌≡◌, ◌≤◌, ◌*◌, ◌++◌, IsTrue, map, drop, length}
 use Rattle.arrow_schema.specs.View.{column_of}
-use Rattle.flatbuf.specs.Held.{FitsStructs}
 use Rattle.ipc_write.specs.Trees.{raw_node}
 use Rattle.ipc_write.specs.Written.{body}
 use Rattle.ipc_stream.specs.Canonical.{full_nodes, integer_buffers}
@@ -18,7 +17,6 @@ invariant-loop-i l =
     let values = map (λ v. v.items) l.columns in
     let values_left = map (λ v. v.items) (drop l.i l.columns) in
     record {
-      fits : FitsStructs l.nodes.items;
       nodes_count : length l.nodes.items ≡ l.i;
       buffers_count : length l.buffers.items ≡ 2 * l.i;
       size : length (body (map (λ b. b.now) l.buffers.items)) ≤ 32776 * (2 * l.i);

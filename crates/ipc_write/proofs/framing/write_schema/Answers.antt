@@ -24,8 +24,8 @@ write-requires-clause-small c =
     root_small (node_of c.in_ok-root.root) (message_tree 1 (schema_tree s) 0) (tree_is (node_of c.in_ok-root.root) (node_of c.in_ok-header.header) s c.in_ok-root.ensures c.in_ok-header.ensures)
     (c.metadata_is_within_its_limit.ensures.schema s c.requires.integers c.requires.limits)
 
-pub put_metadata-requires : goal.put_metadata-requires
-put_metadata-requires c =
+pub put_message-requires : goal.put_message-requires
+put_message-requires c =
     let s : PlainSchema = schema_of c.args.schema.now in
     let small = root_small (node_of c.in_ok-root.root) (message_tree 1 (schema_tree s) 0) (tree_is (node_of c.in_ok-root.root) (node_of c.in_ok-header.header) s c.in_ok-root.ensures c.in_ok-header.ensures)
     (c.metadata_is_within_its_limit.ensures.schema s c.requires.integers c.requires.limits) in

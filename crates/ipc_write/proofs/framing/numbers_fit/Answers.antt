@@ -1,0 +1,6 @@
+use Rattle.std.proofs.Common.{arith}
+use Rattle.ipc_write.proofs.BatchNode.{fits_next}
+use Rattle.ipc_write.proofs.framing.numbers_fit.Goals as goal
+
+pub loop-node-preserved : goal.loop-node-preserved
+loop-node-preserved c = fits_next c.args.nodes.now c.loop-node.node-index (0, 0) (omega arith) c.loop-node.invariant (omega arith) (omega arith)
