@@ -173,3 +173,89 @@ fn columns_of_other_lengths_are_not_taken(rt: HostRuntime) -> Result<(), AllocEr
     assert!(rt; !Table::takes_integers(&none, &[], 268_435_457));
     Ok(())
 }
+
+// Whether the table of one column and these values is of integers alone.
+fn is_of_integers(
+    rt: &impl Abort,
+    alloc: Global,
+    schema: Schema,
+    values: Vec<Value>,
+) -> Result<bool, AllocError> {
+    let mut rows = Vec::new(alloc);
+    for value in values {
+        rows.push(Row {
+            cells: vec![in alloc; value]?,
+        })?;
+    }
+    let Ok(made) = table(rt, alloc, schema, rows)? else {
+        panic!(rt; "refused");
+    };
+    Ok(made.has_only_integers())
+}
+
+#[test]
+fn only_integers_without_a_null_are_told(rt: HostRuntime) -> Result<(), AllocError> {
+    let alloc = rt.alloc();
+    let of_numbers = one_column(alloc, int32())?;
+    let numbers = vec![in alloc; Value::Int(7), Value::Int(-1)]?;
+    assert!(rt; is_of_integers(&rt, alloc, of_numbers, numbers)?);
+    let of_numbers = one_column(alloc, int32())?;
+    let with_a_null = vec![in alloc; Value::Int(7), Value::Null]?;
+    assert!(rt; !is_of_integers(&rt, alloc, of_numbers, with_a_null)?);
+    let mut not_nullable = field(alloc, "a", int32())?;
+    not_nullable.nullable = false;
+    let not_nullable = schema(alloc, vec![in alloc; not_nullable]?);
+    let numbers = vec![in alloc; Value::Int(7)]?;
+    assert!(rt; is_of_integers(&rt, alloc, not_nullable, numbers)?);
+    Ok(())
+}
+
+#[test]
+fn other_columns_are_no_integers_even_without_a_row(rt: HostRuntime) -> Result<(), AllocError> {
+    let alloc = rt.alloc();
+    let of_texts = one_column(alloc, DataType::Utf8)?;
+    let texts = vec![in alloc; text(alloc, "x")?]?;
+    assert!(rt; !is_of_integers(&rt, alloc, of_texts, texts)?);
+    for other in [DataType::Utf8, DataType::Date(DateUnit::Day)] {
+        let of_others = one_column(alloc, other)?;
+        assert!(rt; !is_of_integers(&rt, alloc, of_others, Vec::new(alloc))?);
+    }
+    let of_numbers = one_column(alloc, int32())?;
+    assert!(rt; is_of_integers(&rt, alloc, of_numbers, Vec::new(alloc))?);
+    Ok(())
+}
+
+#[test]
+fn pairs_and_dictionaries_are_no_integers(rt: HostRuntime) -> Result<(), AllocError> {
+    let alloc = rt.alloc();
+    let mut of_pairs = one_column(alloc, int32())?;
+    let pair = (String::from_str(alloc, "k")?, String::new(alloc));
+    of_pairs.pairs.push(pair)?;
+    let numbers = vec![in alloc; Value::Int(7)]?;
+    assert!(rt; !is_of_integers(&rt, alloc, of_pairs, numbers)?);
+    let mut of_entries = field(alloc, "a", int32())?;
+    of_entries.dictionary = Some(DictSpec {
+        index: integer(BitWidth::Eight, true),
+    });
+    let of_entries = schema(alloc, vec![in alloc; of_entries]?);
+    let numbers = vec![in alloc; Value::Int(7)]?;
+    assert!(rt; !is_of_integers(&rt, alloc, of_entries, numbers)?);
+    Ok(())
+}
+
+#[test]
+fn columns_of_bytes_and_no_columns_are_of_integers(rt: HostRuntime) -> Result<(), AllocError> {
+    let alloc = rt.alloc();
+    let schema_of_eight = columns_of_each_width(alloc)?;
+    let columns = bytes_of_each_width(alloc)?;
+    let made = of_integers(&rt, schema_of_eight, columns, 4);
+    assert!(rt; made.has_only_integers());
+    let none = schema(alloc, Vec::new(alloc));
+    let checked = none.check().is_ok();
+    assert!(rt; checked && none.fields.is_empty());
+    let Ok(rows) = told(Table::from_cells(alloc, none, Vec::new(alloc), 3))? else {
+        panic!(rt; "refused");
+    };
+    assert!(rt; rows.has_only_integers());
+    Ok(())
+}
