@@ -10,3 +10,4 @@ pub mod IntegerRows
 pub mod IntegerTables
 pub mod ContentLemmas
 pub mod IntegerCells
+pub mod DistinctEntries
