@@ -11,7 +11,7 @@ ghost use Rattle.values.specs.TableView.{row_of, Tells};
 
 use crate::errors::TableError;
 use crate::fit::each_fits;
-use crate::holding::row_fits;
+use crate::holding::row_entries_fit;
 use crate::limited::has_limits;
 use crate::row::Row;
 use crate::rows::row_at;
@@ -38,7 +38,7 @@ fn taken_weight(
     if weight > MAX_ROW_WEIGHT {
         return Ok(None);
     }
-    if limited && !row_fits(&schema.fields, row, alloc)? {
+    if limited && !row_entries_fit(&schema.fields, row, alloc)? {
         return Ok(None);
     }
     Ok(Some(weight))

@@ -1,5 +1,5 @@
 // What a dictionary may hold.
-ghost use Rattle.std.specs.Prelude.{◌≡◌, map, OnOk};
+ghost use Rattle.std.specs.Prelude.{◌≡◌, map, OnOk, OnErr};
 ghost use Rattle.values.specs.View.{cell};
 ghost use Rattle.values.specs.Entry.{entry_cell, told_entry};
 ghost use Rattle.values.specs.Dictionary.{with_entry, entry_in};
@@ -32,9 +32,10 @@ pub fn entry_of(value: &Value) -> Option<Entry<'_>>
     }
 }
 
-/// Adds a value to the entries, where it can be one and is not among them.
+/// Adds a value to the entries, where it can be one and is not among them. Where memory is refused they stay as they were.
 pub fn note<'a>(entries: &mut IndexSet<Entry<'a>>, value: &'a Value) -> Result<(), AllocError>
-    ensures { OnOk result (map entry_cell entries.new.keys ≡ with_entry (map entry_cell entries.old.keys) (cell value.now)) }
+    ensures noted { OnOk result (map entry_cell entries.new.keys ≡ with_entry (map entry_cell entries.old.keys) (cell value.now)) }
+    ensures unchanged { OnErr result (entries.new.keys ≡ entries.old.keys) }
 {
     if let Some(entry) = entry_of(value) {
         entries.insert(entry)?;

@@ -25,7 +25,7 @@ pub fn entry_limit(index: IntegerType) -> Option<usize>
     }
 }
 
-// Whether there are at most so many distinct values that are not null.
+// Whether cells have at most so many entries.
 #[tactic(auto, using(crate::proofs::HoldingLemmas::entries_rules), unfolding(crate::specs::Dictionary::with_entries))]
 fn are_few(most: usize, cells: &[&Value], alloc: Global) -> Result<bool, AllocError>
     ensures { IfOk result (λ b. b ≡ nat_le (length (entries_of (map cell_behind cells.now))) most) }
@@ -41,7 +41,11 @@ fn are_few(most: usize, cells: &[&Value], alloc: Global) -> Result<bool, AllocEr
 }
 
 #[tactic(auto, using(crate::proofs::HoldingLemmas::entries_rules))]
-fn own_fits(dictionary: DictSpec, cells: &[&Value], alloc: Global) -> Result<bool, AllocError>
+fn own_entries_fit(
+    dictionary: DictSpec,
+    cells: &[&Value],
+    alloc: Global,
+) -> Result<bool, AllocError>
     ensures { IfOk result (λ b. b ≡ has_few_entries (record { index = index_of dictionary; cells = map cell_behind cells.now })) }
 {
     match entry_limit(dictionary.index) {
@@ -117,7 +121,7 @@ fn cells_at<'a>(i: usize, rows: &[&'a [Value]], alloc: Global) -> Result<Vec<&'a
 }
 
 // The field's own dictionary, where it has one.
-fn dictionary_fits(
+fn dictionary_entries_fit(
     dictionary: Option<DictSpec>,
     cells: &[&Value],
     alloc: Global,
@@ -126,59 +130,67 @@ fn dictionary_fits(
 {
     match dictionary {
         None => Ok(true),
-        Some(dictionary) => own_fits(dictionary, cells, alloc),
+        Some(dictionary) => own_entries_fit(dictionary, cells, alloc),
     }
 }
 
 // Whether each dictionary at and below a field names all that it holds, where the field has these cells.
 #[tactic(auto, using(crate::proofs::HoldingLemmas::holding_rules), unfolding(crate::specs::Dictionary::holdings))]
 #[cycle(holdings)]
-fn field_fits(field: &Field, cells: &[&Value], alloc: Global) -> Result<bool, AllocError>
+fn field_entries_fit(field: &Field, cells: &[&Value], alloc: Global) -> Result<bool, AllocError>
     ensures { IfOk result (λ b. b ≡ list_all has_few_entries (holdings (column_of field.now) (map cell_behind cells.now))) }
 {
     if cells.is_empty() {
         return Ok(true);
     }
-    let own = dictionary_fits(field.dictionary, cells, alloc)?;
+    let own = dictionary_entries_fit(field.dictionary, cells, alloc)?;
     if !own {
         return Ok(false);
     }
-    type_fits(&field.data_type, cells, alloc)
+    entries_below_fit(&field.data_type, cells, alloc)
 }
 
 #[tactic(auto, unfolding(crate::specs::Dictionary::holdings_below))]
 #[cycle(holdings)]
-fn type_fits(data_type: &DataType, cells: &[&Value], alloc: Global) -> Result<bool, AllocError>
+fn entries_below_fit(
+    data_type: &DataType,
+    cells: &[&Value],
+    alloc: Global,
+) -> Result<bool, AllocError>
     ensures { IfOk result (λ b. b ≡ list_all has_few_entries (holdings_below (kind_of data_type.now) (map cell_behind cells.now))) }
 {
     match data_type {
-        DataType::List(item) => items_fit(item, cells, alloc),
-        DataType::LargeList(item) => items_fit(item, cells, alloc),
-        DataType::FixedSizeList(_, item) => items_fit(item, cells, alloc),
+        DataType::List(item) => item_entries_fit(item, cells, alloc),
+        DataType::LargeList(item) => item_entries_fit(item, cells, alloc),
+        DataType::FixedSizeList(_, item) => item_entries_fit(item, cells, alloc),
         DataType::Struct(fields) => {
             let rows = rows_of(cells, alloc)?;
-            fields_fit(fields, &rows, alloc)
+            column_entries_fit(fields, &rows, alloc)
         }
         _ => Ok(true),
     }
 }
 
 #[cycle(holdings)]
-fn items_fit(item: &Field, cells: &[&Value], alloc: Global) -> Result<bool, AllocError>
+fn item_entries_fit(item: &Field, cells: &[&Value], alloc: Global) -> Result<bool, AllocError>
     ensures { IfOk result (λ b. b ≡ list_all has_few_entries (holdings (column_of item.now) (flat_map item_list (map cell_behind cells.now)))) }
 {
     let items = items_of(cells, alloc)?;
-    field_fits(item, &items, alloc)
+    field_entries_fit(item, &items, alloc)
 }
 
 #[tactic(auto, using(crate::proofs::HoldingLemmas::holding_rules), unfolding(crate::specs::Dictionary::holdings_from))]
 #[cycle(holdings)]
-fn fields_fit(fields: &[Field], rows: &[&[Value]], alloc: Global) -> Result<bool, AllocError>
+fn column_entries_fit(
+    fields: &[Field],
+    rows: &[&[Value]],
+    alloc: Global,
+) -> Result<bool, AllocError>
     ensures { IfOk result (λ b. b ≡ list_all has_few_entries (holdings_from 0 (columns_of (map column_of fields.now)) (map row_behind rows.now))) }
 {
     for (i, field) in fields.iter().enumerate() {
         let cells = cells_at(i, rows, alloc)?;
-        if !field_fits(field, &cells, alloc)? {
+        if !field_entries_fit(field, &cells, alloc)? {
             return Ok(false);
         }
     }
@@ -186,22 +198,31 @@ fn fields_fit(fields: &[Field], rows: &[&[Value]], alloc: Global) -> Result<bool
 }
 
 // The same of the cell at a place of one row.
-fn part_fits(field: &Field, i: usize, row: &[Value], alloc: Global) -> Result<bool, AllocError>
+fn part_entries_fit(
+    field: &Field,
+    i: usize,
+    row: &[Value],
+    alloc: Global,
+) -> Result<bool, AllocError>
     ensures { IfOk result (λ b. b ≡ list_all has_few_entries (holdings (column_of field.now) (cells_at i (map cell row.now ∷ [])))) }
 {
     match row.get(i) {
-        Some(value) => field_fits(field, &[value], alloc),
+        Some(value) => field_entries_fit(field, &[value], alloc),
         None => Ok(true),
     }
 }
 
 // The same of one row: its cells are taken where they lie.
 #[tactic(auto, using(crate::proofs::HoldingLemmas::holding_rules), unfolding(crate::specs::Dictionary::holdings_from))]
-pub(crate) fn row_fits(fields: &[Field], row: &[Value], alloc: Global) -> Result<bool, AllocError>
+pub(crate) fn row_entries_fit(
+    fields: &[Field],
+    row: &[Value],
+    alloc: Global,
+) -> Result<bool, AllocError>
     ensures { IfOk result (λ b. b ≡ list_all has_few_entries (holdings_from 0 (columns_of (map column_of fields.now)) (map cell row.now ∷ []))) }
 {
     for (i, field) in fields.iter().enumerate() {
-        if !part_fits(field, i, row, alloc)? {
+        if !part_entries_fit(field, i, row, alloc)? {
             return Ok(false);
         }
     }

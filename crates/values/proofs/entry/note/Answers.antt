@@ -7,8 +7,8 @@ use Rattle.values.specs.Dictionary.{with_option}
 use Rattle.values.proofs.EntryLemmas.{put_is}
 use Rattle.values.proofs.entry.note.Goals as goal
 
-pub returns-in_ok-insert : goal.returns-in_ok-insert
-returns-in_ok-insert c =
+pub returns-in_ok-insert-clause-noted : goal.returns-in_ok-insert-clause-noted
+returns-in_ok-insert-clause-noted c =
     ap (λ (ks : List Entry). map entry_cell ks) c.in_ok-insert.ensures.keys
     ∙ put_is c.in-Some.entry c.args.entries.now.keys
     ∙ ap (λ (o : Option Cell). with_option (map entry_cell c.args.entries.now.keys) o) c.in-Some.ensures

@@ -6,6 +6,6 @@ use Rattle.values.specs.View.{row_behind}
 use Rattle.values.specs.Dictionary.{has_few_entries, holdings_from}
 use Rattle.values.proofs.holding.+holdings.Given as goal
 
-abbrev pub invariant-fields_fit-loop-i : goal.invariant-fields_fit-loop-i
-invariant-fields_fit-loop-i l =
+abbrev pub invariant-column_entries_fit-loop-i : goal.invariant-column_entries_fit-loop-i
+invariant-column_entries_fit-loop-i l =
     list_all has_few_entries (holdings_from l.i (columns_of (map column_of (drop l.i l.fields))) (map row_behind l.rows)) ≡ list_all has_few_entries (holdings_from 0 (columns_of (map column_of l.fields)) (map row_behind l.rows))

@@ -13,6 +13,6 @@ returns-then-len-most c =
     let e = next_value (map entry_cell c.loop-value.entries.keys) c.args.cells.now c.loop-value.value-index c.value-item.result c.loop-value-test.true c.value-item.is in
     let all = ap (λ (cs : List Cell). length cs) (sym e ∙ c.loop-value.invariant.0) in
     let grown = entries_grow (with_entry (map entry_cell c.loop-value.entries.keys) (cell c.value-item.result.now)) (map cell_behind (drop (c.loop-value.value-index + 1) c.args.cells.now)) in
-    let noted = ap (λ (cs : List Cell). length cs) c.in_ok-note.ensures in
+    let noted = ap (λ (cs : List Cell). length cs) c.in_ok-note.ensures.noted in
     let same = length-map c.note.new.entries.keys entry_cell in
     sym (lt-leb _ _ (omega (arith, all, grown, noted, same)))

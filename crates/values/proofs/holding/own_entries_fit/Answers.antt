@@ -3,7 +3,7 @@ use Rattle.std.proofs.lemmas.Bool.{le-leb}
 use Rattle.std.proofs.lemmas.List.{length-map}
 use Rattle.values.specs.View.{cell_behind}
 use Rattle.values.proofs.HoldingLemmas.{entries_few}
-use Rattle.values.proofs.holding.own_fits.Goals as goal
+use Rattle.values.proofs.holding.own_entries_fit.Goals as goal
 
 pub returns-then-cells-most : goal.returns-then-cells-most
 returns-then-cells-most c =

@@ -4,7 +4,7 @@ use Rattle.arrow_schema.specs.Column.{columns_of}
 use Rattle.arrow_schema.specs.View.{column_of}
 use Rattle.values.specs.View.{cell}
 use Rattle.values.specs.Dictionary.{has_few_entries, holdings_from}
-use Rattle.values.proofs.holding.row_fits.Given as goal
+use Rattle.values.proofs.holding.row_entries_fit.Given as goal
 
 abbrev pub invariant-loop-i : goal.invariant-loop-i
 invariant-loop-i l =
