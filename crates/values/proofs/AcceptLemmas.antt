@@ -1,9 +1,9 @@
 -- Rows are tested and weighed one by one.
-use Rattle.std.proofs.Common.{◌≡◌, ℕ, zero, suc, ◌+◌, ◌≤◌, ◌<◌, ◌⊎◌, inl, inr, Bool, true, false, ◌&&◌, List, [], ◌∷◌, map, length, drop, get_or, refl, ap, sym, ◌∙◌, arith, add-one}
+use Rattle.std.proofs.Common.{◌≡◌, ℕ, ◌+◌, ◌≤◌, ◌<◌, ◌⊎◌, inl, inr, Bool, true, false, ◌&&◌, List, [], ◌∷◌, map, length, drop, get_or, refl, ap, sym, ◌∙◌, arith}
 use Rattle.std.specs.Prelude.{Some, None, Result, Ok, Err, not, nat_le, if◌then◌else◌}
 use Rattle.std.specs.List.{list_all, position_from}
 use Rattle.std.proofs.lemmas.Bool.{le-leb, lt-leb, and_from, and_parts}
-use Rattle.std.proofs.lemmas.List.{at_drop_all}
+use Rattle.std.proofs.lemmas.List.{at_drop_all, drop-map, drop_more}
 use Rattle.std.proofs.lemmas.List.Sums.{sum_by-cons, AllPass-from_list_all}
 use Rattle.std.proofs.lemmas.Iterator.Adapters.{position_from-zero}
 use Rattle.arrow_schema.specs.Column.{PlainSchema}
@@ -105,13 +105,11 @@ pub ends : (s : PlainSchema) (all : List (List Cell)) (i t : ℕ) → length all
 ends s all i t le = at_drop_all (told_from s i t) all i le
 
 -- the rows of a list of rows
-drop_row : {A : Type 0} (f : A → List Cell) (rows : List A) (i : ℕ) (x : A) → i < length rows → x ≡ get_or rows i x → drop i (map f rows) ≡ f x ∷ drop (suc i) (map f rows)
-drop_row f [] i x lt is = absurd (omega arith)
-drop_row f (r ∷ rs) zero x lt is = rw is refl
-drop_row f (r ∷ rs) (suc i) x lt is = drop_row f rs i x (omega arith) is
-
 pub next_of : {A : Type 0} (f : A → List Cell) (rows : List A) (i : ℕ) (x : A) → i < length rows → x ≡ get_or rows i x → drop i (map f rows) ≡ f x ∷ drop (i + 1) (map f rows)
-next_of f rows i x lt is = rw (add-one i) (drop_row f rows i x lt is)
+next_of {A = A} f rows i x lt is =
+    drop-map f i rows
+    ∙ (ap (λ (xs : List A). map f xs) (drop_more rows i x lt ∙ ap (λ (y : A). y ∷ drop (i + 1) rows) (sym is))
+    ∙ ap (λ (xs : List (List Cell)). f x ∷ xs) (sym (drop-map f (i + 1) rows)))
 
 -- what they weigh together decides
 pub is_light : (s : PlainSchema) (w : ℕ) (rows : List (List Cell)) → first_unfit s rows ≡ None → w ≡ told_weight (table_weight s rows) → w ≤ 268435456

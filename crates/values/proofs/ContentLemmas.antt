@@ -1,11 +1,11 @@
 -- The rows of a table, however they are kept.
-use Rattle.std.specs.Prelude.{slice_get, ◌==◌, Vec}
+use Rattle.std.specs.Prelude.{slice_get, Vec}
 use Rattle.std.specs.Global.{Global}
-use Rattle.std.proofs.Common.{◌≡◌, ℕ, zero, suc, ◌+◌, ◌*◌, ◌≤◌, ◌<◌, true, List, [], ◌∷◌, map, length, take, drop, Some, None, refl, ap, sym, ◌∙◌, arith, add-one}
-use Rattle.std.proofs.lemmas.Bool.{and_parts}
-use Rattle.std.proofs.lemmas.Bool.Decides.{nat_tests}
+use Rattle.std.proofs.Common.{inl, inr, ◌≡◌, ℕ, ◌+◌, ◌*◌, ◌≤◌, ◌<◌, true, List, [], ◌∷◌, map, length, take, drop, Some, None, refl, ap, sym, ◌∙◌, arith}
+use Rattle.std.proofs.lemmas.Bool.{and_parts, eqb-true}
+use Rattle.std.proofs.lemmas.List.{drop_all, drop_more}
 use Rattle.std.proofs.lemmas.List.Sums.{sum_by-cons}
-use Rattle.std.proofs.lemmas.Option.{slice_get_past}
+use Rattle.std.proofs.lemmas.Option.{slice_get_past, slice_get_cases, slice_get_within, get_or_from_slice_get}
 use Rattle.arrow_schema.specs.Column.{PlainSchema}
 use Rattle.arrow_schema.specs.declared.types.Schema.{Schema}
 use Rattle.arrow_schema.specs.Integers.{is_integer_schema}
@@ -35,22 +35,11 @@ none_past s n content i le = sym (slice_get_past (rows_of s n content) i (omega 
 
 -- the rows from a place on
 pub none_left : {X : Type 0} (xs : List X) (i : ℕ) → None ≡ slice_get xs i → drop i xs ≡ []
-none_left [] zero h = refl
-none_left [] (suc i) h = refl
-none_left (x ∷ xs) zero h = cc
-none_left (x ∷ xs) (suc i) h = none_left xs i h
-
-one_left : {X : Type 0} (xs : List X) (i : ℕ) (x : X) → Some x ≡ slice_get xs i → (drop i xs ≡ x ∷ drop (suc i) xs) × (i < length xs)
-one_left [] zero x h = cc
-one_left [] (suc i) x h = cc
-one_left (y ∷ xs) zero x h = let same : x ≡ y = cc in (rw same refl, omega arith)
-one_left (y ∷ xs) (suc i) x h = let rest = one_left xs i x h in (rest.0, omega (arith, rest.1))
+none_left xs i h = elim (slice_get_cases xs i).1 [ inl some ↦ (let there = some.2 in cc) | inr past ↦ drop_all i xs past.0 ]
 
 pub next_left : {X : Type 0} (xs : List X) (i : ℕ) (x : X) → Some x ≡ slice_get xs i → drop i xs ≡ x ∷ drop (i + 1) xs
-next_left xs i x h = rw (add-one i) ((one_left xs i x h).0)
-
-pub within_rows : {X : Type 0} (xs : List X) (i : ℕ) (x : X) → Some x ≡ slice_get xs i → i < length xs
-within_rows xs i x h = (one_left xs i x h).1
+next_left {X = X} xs i x h =
+    drop_more xs i x (slice_get_within xs i x (sym h)) ∙ ap (λ (y : X). y ∷ drop (i + 1) xs) (get_or_from_slice_get xs i x x (sym h))
 
 -- each row weighs at least one
 pub few_rows : (s : PlainSchema) (rows : List (List Cell)) → length rows ≤ table_weight s rows
@@ -58,16 +47,10 @@ few_rows s [] = omega arith
 few_rows s (row ∷ rows) = omega (arith, sum_by-cons (row_weight s) row rows, few_rows s rows)
 
 -- as many cells as the rows have
-eq_of : (a b : ℕ) → (a == b) ≡ true → a ≡ b
-eq_of a b h = grind (arith, nat_tests)
-
-pub is_equal : (a b : ℕ) → a ≡ b → (a == b) ≡ true
-is_equal a b h = grind (arith, nat_tests)
-
 pub cells_within : (s : Schema) (n : ℕ) (content : Content) (values : Vec Value Global) (i : ℕ) → content ≡ Cells values → is_filled s n content ≡ true → i < n
     → length s.fields.items * i + length s.fields.items ≤ length values.items
 cells_within s n content values i is filled lt =
-    row_within (length s.fields.items) n i (length values.items) lt (eq_of _ _ (rw is at filled))
+    row_within (length s.fields.items) n i (length values.items) lt (eqb-true _ _ (rw is at filled))
 
 -- the row at a place
 pub row_of_cells : (s : Schema) (n : ℕ) (content : Content) (values : Vec Value Global) (i : ℕ) → content ≡ Cells values → i < n

@@ -1,10 +1,9 @@
 -- Tables of integers alone.
-use Rattle.std.specs.Prelude.{◌↔◌, ◌==◌, IsTrue, Vec}
+use Rattle.std.specs.Prelude.{◌↔◌, IsTrue, Vec}
 use Rattle.std.specs.Global.{Global}
 use Rattle.std.specs.List.{list_all}
 use Rattle.std.proofs.Common.{◌≡◌, ℕ, zero, suc, ◌+◌, ◌*◌, Bool, true, ◌&&◌, List, [], ◌∷◌, map, length, take, drop, refl, ap, sym, ◌∙◌, arith, length-drop}
-use Rattle.std.proofs.lemmas.Bool.{and_from, and_parts}
-use Rattle.std.proofs.lemmas.Bool.Decides.{nat_tests}
+use Rattle.std.proofs.lemmas.Bool.{and_from, and_parts, eqb-true}
 use Rattle.std.proofs.lemmas.List.{nil_from_length, take-append-drop, length-map}
 use Rattle.std.proofs.lemmas.List.Folds.{list_all-append}
 use Rattle.arrow_schema.specs.declared.types.Schema.{Schema}
@@ -47,13 +46,10 @@ kept_columns s n content columns is filled = rw is (record {
 })
 
 -- and one that is kept as cells
-cell_count : (a b : ℕ) → (a == b) ≡ true → a ≡ b
-cell_count a b h = grind (arith, nat_tests)
-
 pub kept_cells : (s : Schema) (n : ℕ) (content : Content) (values : Vec Value Global) → content ≡ Cells values → is_filled s n content ≡ true
     → IsTrue (is_integer_schema (schema_of s) && list_all is_number (map cell values.items)) ↔ IsIntegerTable (table_with s n content)
 kept_cells s n content values is filled =
-    let count : length (map cell values.items) ≡ length s.fields.items * n = length-map values.items cell ∙ cell_count _ _ (rw is at filled) in
+    let count : length (map cell values.items) ≡ length s.fields.items * n = length-map values.items cell ∙ eqb-true _ _ (rw is at filled) in
     let all = all_rows is_number (length s.fields.items) n (map cell values.items) count in
     rw is (
       (λ h. let both = and_parts (is_integer_schema (schema_of s)) (list_all is_number (map cell values.items)) h in

@@ -2,14 +2,13 @@
 use Rattle.std.specs.Prelude.{slice_get, nat_le, ◌==◌, Vec}
 use Rattle.std.specs.Global.{Global}
 use Rattle.std.proofs.Common.{◌≡◌, ◌≢◌, ℕ, zero, suc, ◌+◌, ◌-◌, ◌*◌, ◌≤◌, ◌<◌, Bool, true, false, ◌&&◌, List, [], ◌∷◌, map, length, get_or, Some, refl, ap, ◌∙◌, arith}
-use Rattle.std.proofs.lemmas.Bool.{and_from, and_parts, le-leb}
-use Rattle.std.proofs.lemmas.Bool.Decides.{nat_tests}
+use Rattle.std.proofs.Math.Bool.{and-false}
+use Rattle.std.proofs.lemmas.Bool.{and_from, and_parts, eqb-true, le-leb, leb-true}
 use Rattle.arrow_schema.specs.declared.types.Field.{Field}
 use Rattle.arrow_schema.specs.View.{column_of}
 use Rattle.values.specs.Columns.{IntegerColumn, cell_at, row_at, rows_from}
 use Rattle.values.specs.IntegerTable.{integer_column, have_rows}
 use Rattle.values.specs.IntegerRows.{columns_in, have_row}
-use Rattle.values.proofs.CellLemmas.{and_false}
 
 pub count_rows : (cs : List IntegerColumn) (vs : List (List ℕ)) (i n : ℕ) → length (rows_from cs vs i n) ≡ n
 count_rows cs vs i zero = refl
@@ -29,7 +28,7 @@ spread w i k = omega arith
 
 place_within : (w i n all : ℕ) → i < n → (all == n * w) ≡ true → nat_le (i * w + w) all ≡ true
 place_within w i n all lt is =
-    let size : all ≡ n * w = grind (arith, nat_tests) in
+    let size : all ≡ n * w = eqb-true _ _ is in
     let k : ℕ = n - i - 1 in
     let whole : n ≡ i + 1 + k = omega arith in
     let parts : n * w ≡ i * w + w + k * w = ap (λ (m : ℕ). m * w) whole ∙ spread w i k in
@@ -50,7 +49,7 @@ rows_of_other_length [] (v ∷ vs) n h = refl
 rows_of_other_length (f ∷ fs) [] n h = refl
 rows_of_other_length (f ∷ fs) (v ∷ vs) n h =
     let size : Bool = length v.items == n * (integer_column (column_of f)).width in
-    ap (λ (b : Bool). size && b) (rows_of_other_length fs vs n (λ e. h (ap suc e))) ∙ and_false size
+    ap (λ (b : Bool). size && b) (rows_of_other_length fs vs n (λ e. h (ap suc e))) ∙ and-false size
 
 -- a cell for each column
 pub length_row : (fs : List Field) (vs : List (List ℕ)) (i : ℕ) → have_row (columns_in fs) vs i ≡ true → length (row_at (columns_in fs) vs i) ≡ length fs
@@ -77,14 +76,11 @@ cell_in (x ∷ fs) (y ∷ vs) i (suc j) f v lt fis vis h =
     cell_in fs vs i j f v (omega arith) fis vis (and_parts (nat_le (i * (integer_column (column_of x)).width + (integer_column (column_of x)).width) (length y.items)) (have_row (columns_in fs) (map (λ v. v.items) vs) i) h).1
 
 -- and its bytes are there
-le_of : (a b : ℕ) → nat_le a b ≡ true → a ≤ b
-le_of a b h = grind (arith, nat_tests)
-
 pub room_in : (fs : List Field) (vs : List (Vec ℕ Global)) (i j : ℕ) (f : Field) (v : Vec ℕ Global) → j < length fs → f ≡ get_or fs j f → v ≡ get_or vs j v → have_row (columns_in fs) (map (λ v. v.items) vs) i ≡ true
     → i * (integer_column (column_of f)).width + (integer_column (column_of f)).width ≤ length v.items
 room_in [] vs i j f v lt fis vis h = absurd (omega arith)
 room_in (x ∷ fs) [] i j f v lt fis vis h = cc
 room_in (x ∷ fs) (y ∷ vs) i zero f v lt fis vis h =
-    rw (fis, vis) (le_of _ _ (and_parts (nat_le (i * (integer_column (column_of x)).width + (integer_column (column_of x)).width) (length y.items)) (have_row (columns_in fs) (map (λ v. v.items) vs) i) h).0)
+    rw (fis, vis) (leb-true _ _ (and_parts (nat_le (i * (integer_column (column_of x)).width + (integer_column (column_of x)).width) (length y.items)) (have_row (columns_in fs) (map (λ v. v.items) vs) i) h).0)
 room_in (x ∷ fs) (y ∷ vs) i (suc j) f v lt fis vis h =
     room_in fs vs i j f v (omega arith) fis vis (and_parts (nat_le (i * (integer_column (column_of x)).width + (integer_column (column_of x)).width) (length y.items)) (have_row (columns_in fs) (map (λ v. v.items) vs) i) h).1

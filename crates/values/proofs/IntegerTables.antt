@@ -3,6 +3,7 @@ use Rattle.std.specs.Prelude.{slice_index, ◌==◌, IsTrue}
 use Rattle.std.specs.List.{list_all}
 use Rattle.std.proofs.Common.{◌≡◌, ℕ, zero, suc, ◌+◌, ◌*◌, ◌≤◌, ◌<◌, Bool, true, List, [], ◌∷◌, map, length, drop, None, refl, ap, sym, ◌∙◌, arith, length-append}
 use Rattle.std.proofs.lemmas.Bool.{and_from, and_parts, le-leb}
+use Rattle.std.proofs.lemmas.List.{get_or-drop}
 use Rattle.std.proofs.lemmas.List.Sums.{sum_by-cons, AllPass-from_list_all}
 use Rattle.byteorder.specs.Numbers.{little_from-lt}
 use Rattle.arrow_schema.specs.Column.{Column, column, integers, columns_of, PlainSchema}
@@ -28,9 +29,7 @@ abbrev AreIntegers : List Column → Type 0
 AreIntegers columns = list_all is_integer_column columns ≡ true
 
 drop_bytes : (n : ℕ) (xs : List ℕ) → AreBytes xs → AreBytes (drop n xs)
-drop_bytes zero xs small = small
-drop_bytes (suc n) [] small = small
-drop_bytes (suc n) (x ∷ xs) small = drop_bytes n xs (λ k. small (suc k))
+drop_bytes n xs small = λ k. rw (get_or-drop n xs k 0) (small (n + k))
 
 -- ---- each cell fits its column
 

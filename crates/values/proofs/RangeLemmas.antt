@@ -1,31 +1,18 @@
 -- An integer that is read from so many bytes is one of so many bits.
-use Rattle.std.specs.Prelude.{pos, ℤ, ◌-ℤ◌, ◌≤ℤ◌, ◌<ℤ◌, neg_ℤ, nat_lt, int_le, int_lt}
-use Rattle.std.proofs.Common.{◌≡◌, ℕ, zero, suc, ◌+◌, ◌-◌, ◌*◌, ◌/◌, ◌^◌, ◌<◌, ◌≤◌, Bool, true, false, inl, inr, arith, ap, sym, ◌∙◌, pow-add}
-use Rattle.std.proofs.lemmas.Bool.{cases_lt, and_from}
+use Rattle.std.specs.Prelude.{pos, ℤ, ◌-ℤ◌, ◌≤ℤ◌, ◌<ℤ◌, neg_ℤ, int_le, int_lt}
+use Rattle.std.proofs.Common.{◌≡◌, ℕ, zero, suc, ◌-◌, ◌*◌, ◌/◌, ◌^◌, ◌<◌, ◌≤◌, Bool, true, false, inl, inr, arith, ap, ◌∙◌}
+use Rattle.std.proofs.lemmas.Bool.{cases_lt, and_from, le-ltb, lt-ltb}
 use Rattle.std.proofs.lemmas.Bool.Decides.{nat_tests}
 use Rattle.std.proofs.lemmas.Int.{ints}
 use Rattle.std.proofs.Math.Nat.{pow-suc}
+use Rattle.byteorder.proofs.Bytes.{pow256}
 use Rattle.arrow_schema.specs.Integers.{is_bit_width}
 use Rattle.values.specs.Fit.{in_range}
 use Rattle.values.specs.Integers.{integer_of}
 
--- bits and bytes
-powers : (w : ℕ) → 2 ^ (8 * w) ≡ 256 ^ w
-powers zero = let none : 8 * 0 ≡ 0 = omega arith in ap (λ (k : ℕ). 2 ^ k) none
-powers (suc w) =
-    let bits : 8 * suc w ≡ 8 + 8 * w = omega arith in
-    let one : suc w ≡ 1 + w = omega arith in
-    ap (λ (k : ℕ). 2 ^ k) bits ∙ pow-add 2 8 (8 * w) ∙ ap (λ (k : ℕ). 256 * k) (powers w) ∙ sym (ap (λ (k : ℕ). 256 ^ k) one ∙ pow-add 256 1 w)
-
 double : (k : ℕ) → 1 ≤ k → 2 ^ k ≡ 2 * 2 ^ (k - 1)
 double zero one = absurd (omega arith)
 double (suc k) one = let less : suc k - 1 ≡ k = omega arith in rw less (omega (arith, pow-suc 2 k))
-
-lt_true : (a b : ℕ) → a < b → nat_lt a b ≡ true
-lt_true a b h = grind arith
-
-lt_false : (a b : ℕ) → b ≤ a → nat_lt a b ≡ false
-lt_false a b h = grind arith
 
 within : (low high : ℤ) (z : ℤ) → low ≤ℤ z → z <ℤ high → int_le low z ≡ true
 within low high z a b = grind (arith, ints)
@@ -42,17 +29,17 @@ signed_in k z a b = (within _ (pos k) z a b, below z (pos k) b)
 pub integer_fits : (bits : ℕ) (signed : Bool) (n : ℕ) → is_bit_width bits ≡ true → n < 256 ^ (bits / 8) → in_range bits signed (integer_of (bits / 8) signed n) ≡ true
 integer_fits bits false n w h =
     let whole = width_cases bits w in
-    let e : 256 ^ (bits / 8) ≡ 2 ^ bits = sym (powers (bits / 8)) ∙ ap (λ (k : ℕ). 2 ^ k) whole.0 in
+    let e : 256 ^ (bits / 8) ≡ 2 ^ bits = pow256 (bits / 8) ∙ ap (λ (k : ℕ). 2 ^ k) whole.0 in
     let lt : n < 2 ^ bits = rw (← e) h in
     and_from _ _ (within (pos 0) (pos (2 ^ bits)) (pos n) (omega (arith, ints)) (omega (arith, ints))) (below (pos n) (pos (2 ^ bits)) (omega (arith, ints)))
 integer_fits bits true n w h =
     let whole = width_cases bits w in
-    let e : 256 ^ (bits / 8) ≡ 2 ^ bits = sym (powers (bits / 8)) ∙ ap (λ (k : ℕ). 2 ^ k) whole.0 in
+    let e : 256 ^ (bits / 8) ≡ 2 ^ bits = pow256 (bits / 8) ∙ ap (λ (k : ℕ). 2 ^ k) whole.0 in
     let lt : n < 2 ^ bits = rw (← e) h in
     let two : 2 ^ bits ≡ 2 * 2 ^ (bits - 1) = double bits whole.1 in
     rw whole.0 (elim (cases_lt n (2 ^ (bits - 1))) [
-      | inl low ↦ rw (lt_true n (2 ^ (bits - 1)) low)
+      | inl low ↦ rw (lt-ltb n (2 ^ (bits - 1)) low)
           (let b = signed_in (2 ^ (bits - 1)) (pos n) (omega (arith, ints)) (omega (arith, ints)) in and_from _ _ b.0 b.1)
-      | inr high ↦ rw (lt_false n (2 ^ (bits - 1)) high)
+      | inr high ↦ rw (le-ltb n (2 ^ (bits - 1)) high)
           (let b = signed_in (2 ^ (bits - 1)) (pos n -ℤ pos (2 ^ bits)) (omega (arith, ints)) (omega (arith, ints)) in and_from _ _ b.0 b.1)
     ])

@@ -1,9 +1,9 @@
 -- Rows whose cells stand one after another.
-use Rattle.std.proofs.Common.{◌≡◌, ◌≢◌, ℕ, zero, suc, ◌+◌, ◌-◌, ◌*◌, ◌≤◌, ◌<◌, true, List, [], ◌∷◌, ◌++◌, map, length, take, drop, refl, ap, sym, ◌∙◌, arith, length-append, add-one}
-use Rattle.std.specs.Prelude.{Some, None, slice_get}
+use Rattle.std.proofs.Common.{◌≡◌, ℕ, zero, suc, ◌+◌, ◌*◌, ◌≤◌, ◌<◌, true, List, [], ◌∷◌, ◌++◌, map, length, take, drop, refl, ap, sym, ◌∙◌, arith, length-append, add-one}
+use Rattle.std.specs.Prelude.{Some, slice_get}
 use Rattle.std.specs.List.{flat_map, list_all}
 use Rattle.std.proofs.Math.Nat.{mul-le-mul_left}
-use Rattle.std.proofs.lemmas.Option.{slice_get_past}
+use Rattle.std.proofs.Math.Seq.{take-append_seam, drop-append_seam}
 use Rattle.std.proofs.lemmas.List.{drop-drop, take-map, drop-map}
 use Rattle.std.proofs.lemmas.Bool.{and_parts}
 use Rattle.arrow_schema.specs.Column.{Column, columns_of, PlainSchema}
@@ -15,26 +15,6 @@ use Rattle.values.specs.Rows.{rows_in}
 pub length_rows : {X : Type 0} (width n : ℕ) (cells : List X) → length (rows_in width n cells) ≡ n
 length_rows width zero cells = refl
 length_rows width (suc n) cells = ap suc (length_rows width n (drop width cells))
-
--- the first row, and the others
-pub first_row : {X : Type 0} (width n : ℕ) (cells : List X) → n ≢ 0 → rows_in width n cells ≡ take width cells ∷ rows_in width (n - 1) (drop width cells)
-first_row width zero cells some = absurd (some refl)
-first_row width (suc n) cells some =
-    let less : suc n - 1 ≡ n = omega arith in
-    rw less refl
-
--- the same where the cells are seen as what they are
-pub step_row : {X Y : Type 0} (f : X → Y) (width n : ℕ) (cells front others : List X) → n ≢ 0 → front ≡ take width cells → others ≡ drop width cells
-    → rows_in width n (map f cells) ≡ map f front ∷ rows_in width (n - 1) (map f others)
-step_row f width n cells front others some a b =
-    rw (a, b, ← take-map f width cells, ← drop-map f width cells) (first_row width n (map f cells) some)
-
--- the others have so many cells
-pub fewer_cells : (width n all others : ℕ) → n ≢ 0 → all ≡ width * n → others + width ≡ all → others ≡ width * (n - 1)
-fewer_cells width zero all others some a b = absurd (some refl)
-fewer_cells width (suc n) all others some a b =
-    let less : suc n - 1 ≡ n = omega arith in
-    rw less (omega arith)
 
 no_drop : {X : Type 0} (width : ℕ) (cells : List X) → drop (width * 0) cells ≡ cells
 no_drop {X = X} width cells = ap (λ (k : ℕ). drop k cells) (let none : width * 0 ≡ 0 = omega arith in none)
@@ -59,10 +39,6 @@ row_in {X = X} width (suc n) zero cells lt = ap (λ (xs : List X). Some (take wi
 row_in {X = X} width (suc n) (suc i) cells lt =
     row_in width n i (drop width cells) (omega arith) ∙ ap (λ (xs : List X). Some (take width xs)) (next_drop width i cells)
 
--- and none past the last
-pub no_row : {X : Type 0} (width n i : ℕ) (cells : List X) → n ≤ i → None ≡ slice_get (rows_in width n cells) i
-no_row width n i cells le = sym (slice_get_past (rows_in width n cells) i (omega (arith, length_rows width n cells)))
-
 -- a row stands within the cells
 pub row_within : (width n i all : ℕ) → i < n → all ≡ width * n → width * i + width ≤ all
 row_within width n i all lt filled =
@@ -86,19 +62,11 @@ pub row_length : (s : PlainSchema) (row : List Cell) → is_row s row ≡ true �
 unfolding is_row
 row_length s row h = fitting_length s.columns row (and_parts _ _ h).0
 
-take_front : {X : Type 0} (xs ys : List X) → take (length xs) (xs ++ ys) ≡ xs
-take_front [] ys = refl
-take_front {X = X} (x ∷ xs) ys = ap (λ (zs : List X). x ∷ zs) (take_front xs ys)
-
-drop_front : {X : Type 0} (xs ys : List X) → drop (length xs) (xs ++ ys) ≡ ys
-drop_front [] ys = refl
-drop_front (x ∷ xs) ys = drop_front xs ys
-
 front_of : {X : Type 0} (width : ℕ) (xs ys : List X) → length xs ≡ width → take width (xs ++ ys) ≡ xs
-front_of width xs ys l = rw (← l) (take_front xs ys)
+front_of width xs ys l = rw (← l) (take-append_seam xs ys)
 
 back_of : {X : Type 0} (width : ℕ) (xs ys : List X) → length xs ≡ width → drop width (xs ++ ys) ≡ ys
-back_of width xs ys l = rw (← l) (drop_front xs ys)
+back_of width xs ys l = rw (← l) (drop-append_seam xs ys)
 
 joined_more : {X : Type 0} (width n : ℕ) (xs ys : List X) (rest : List (List X)) → length xs ≡ width → rows_in width n ys ≡ rest → rows_in width (suc n) (xs ++ ys) ≡ xs ∷ rest
 joined_more width n xs ys rest l e = rw (front_of width xs ys l, back_of width xs ys l, e) refl

@@ -1,8 +1,8 @@
 use Rattle.std.proofs.Common.{◌≡◌, map, length, rules}
+use Rattle.std.proofs.lemmas.Bool.{eq-eqb}
 use Rattle.arrow_schema.specs.View.{schema_of}
 use Rattle.values.specs.TableView.{row_of}
 use Rattle.values.proofs.AcceptLemmas.{is_heavy, is_light, is_table}
-use Rattle.values.proofs.ContentLemmas.{is_equal}
 use Rattle.values.proofs.TableLemmas.{joined_table, joined_cells, is_table_of, answers_table}
 use Rattle.values.proofs.table.Table.new.Goals as goal
 
@@ -19,7 +19,7 @@ invariant_of-result c =
     let count : c.len-count.result ≡ length c.args.rows.items = search rules in
     let plain = is_table (schema_of c.args.schema) c.in_ok-weight.weight (map row_of c.args.rows.items) c.requires none weight c.if-weight-gt-MAX_TABLE_WEIGHT.false in
     record {
-      filled = is_equal _ _ (joined_cells c.args.schema c.args.rows.items c.len-count.result c.in_ok-cells.cells.items none count c.in_ok-cells.ensures);
+      filled = eq-eqb _ _ (joined_cells c.args.schema c.args.rows.items c.len-count.result c.in_ok-cells.cells.items none count c.in_ok-cells.ensures);
       kept = is_table_of _ _ (joined_table c.args.schema c.args.rows.items c.len-count.result c.in_ok-cells.cells.items none count c.in_ok-cells.ensures) plain;
     }
 
