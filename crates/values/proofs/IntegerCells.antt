@@ -6,6 +6,7 @@ use Rattle.std.proofs.Common.{◌≡◌, ℕ, zero, suc, ◌+◌, ◌*◌, Bool,
 use Rattle.std.proofs.lemmas.Bool.{and_from, and_parts, eqb-true}
 use Rattle.std.proofs.lemmas.List.{nil_from_length, take-append-drop, length-map}
 use Rattle.std.proofs.lemmas.List.Folds.{list_all-append}
+use Rattle.arrow_schema.specs.Column.{PlainSchema}
 use Rattle.arrow_schema.specs.declared.types.Schema.{Schema}
 use Rattle.arrow_schema.specs.Integers.{is_integer_schema}
 use Rattle.arrow_schema.specs.View.{schema_of}
@@ -14,7 +15,7 @@ use Rattle.values.specs.declared.content.Content.TheVariants.{Cells, Integers}
 use Rattle.values.specs.declared.value.Value.{Value}
 use Rattle.values.specs.Columns.{IntegerColumn, row_at, rows_from}
 use Rattle.values.specs.Content.{table_with, is_filled}
-use Rattle.values.specs.IntegerTable.{integer_columns, have_rows, is_number, IsIntegerTable}
+use Rattle.values.specs.IntegerTable.{integer_columns, have_rows, is_number, plain_table, IsIntegerTable}
 use Rattle.values.specs.Rows.{rows_in}
 use Rattle.values.specs.View.{cell}
 
@@ -39,11 +40,13 @@ rows_numbers cs vs i zero = refl
 rows_numbers cs vs i (suc n) = and_from _ _ (row_numbers cs vs i) (rows_numbers cs vs (i + 1) n)
 
 -- a table that is kept as integer columns
+pub plain_integers : (s : PlainSchema) (vs : List (List ℕ)) (n : ℕ) → IsTrue (is_integer_schema s) → IsIntegerTable (plain_table s vs n)
+plain_integers s vs n ints = record { schema = ints; numbers = rows_numbers (integer_columns s) vs 0 n }
+
 pub kept_columns : (s : Schema) (n : ℕ) (content : Content) (columns : Vec (Vec ℕ Global) Global) → content ≡ Integers columns → is_filled s n content ≡ true → IsIntegerTable (table_with s n content)
-kept_columns s n content columns is filled = rw is (record {
-  schema = (and_parts (is_integer_schema (schema_of s)) (have_rows (integer_columns (schema_of s)) (map (λ v. v.items) columns.items) n) (rw is at filled)).0;
-  numbers = rows_numbers (integer_columns (schema_of s)) (map (λ v. v.items) columns.items) 0 n;
-})
+kept_columns s n content columns is filled =
+    let parts = and_parts (is_integer_schema (schema_of s)) (have_rows (integer_columns (schema_of s)) (map (λ v. v.items) columns.items) n) (rw is at filled) in
+    rw is (plain_integers (schema_of s) (map (λ v. v.items) columns.items) n parts.0)
 
 -- and one that is kept as cells
 pub kept_cells : (s : Schema) (n : ℕ) (content : Content) (values : Vec Value Global) → content ≡ Cells values → is_filled s n content ≡ true

@@ -64,12 +64,15 @@ parts_weigh (c ∷ cs) x h =
     let tail = parts_weigh cs (other_parts x) both.1 in
     omega (arith, head, tail)
 
-pub rows_weigh : (s : PlainSchema) (rows : List (List Cell)) → AreIntegers s.columns → table_weight s rows ≡ length rows * (1 + length s.columns)
+pub row_weighs : (s : PlainSchema) (row : List Cell) → IsTrue (is_integer_schema s) → row_weight s row ≡ 1 + length s.columns
+row_weighs s row ints = ap (λ (w : ℕ). 1 + w) (parts_weigh s.columns (cells_of row) (and_parts (list_all is_integer_column s.columns) (is_empty s.pairs) ints).0)
+
+pub rows_weigh : (s : PlainSchema) (rows : List (List Cell)) → IsTrue (is_integer_schema s) → table_weight s rows ≡ length rows * (1 + length s.columns)
 rows_weigh s [] ints = omega arith
 rows_weigh s (row ∷ rows) ints =
     let w : ℕ = 1 + length s.columns in
     let more : suc (length rows) * w ≡ w + length rows * w = omega arith in
-    sum_by-cons (row_weight s) row rows ∙ (λ j. 1 + parts_weigh s.columns (cells_of row) ints j + rows_weigh s rows ints j) ∙ sym more
+    sum_by-cons (row_weight s) row rows ∙ (λ j. row_weighs s row ints j + rows_weigh s rows ints j) ∙ sym more
 
 -- there are no more columns than columns with all their children
 columns_few : (cs : List Column) → length cs ≤ length (preorder_all (columns_of cs))
@@ -114,7 +117,7 @@ integers_table s vs n limits ints have small light =
     let few : length s.columns ≤ 2048 = omega (arith, limits.fields, columns_few s.columns) in
     let rows = rows_from (integer_columns s) vs 0 n in
     let count : length rows ≡ n = count_rows (integer_columns s) vs 0 n in
-    let weighs : table_weight s rows ≡ n * (1 + length s.columns) = rows_weigh s rows columns ∙ ap (λ (k : ℕ). k * (1 + length s.columns)) count in
+    let weighs : table_weight s rows ≡ n * (1 + length s.columns) = rows_weigh s rows ints ∙ ap (λ (k : ℕ). k * (1 + length s.columns)) count in
     record {
       schema = limits;
       rows = AllPass-from_list_all (is_row s) rows (rows_taken s vs n 0 n columns few have small);

@@ -25,7 +25,10 @@ pub use entry::{Entry, entry_of, note};
 pub use errors::TableError;
 pub use fit::fits;
 pub use holding::entry_limit;
-pub use laws::{entries_are_the_distinct_values, one_entry_is_one_value};
+pub use laws::{
+    entries_are_the_distinct_values, integer_columns_are_integer_tables, integer_rows_weigh_alike,
+    one_entry_is_one_value,
+};
 pub use lent::{ValueRef, Values, ValuesIter, lend};
 pub use row::Row;
 pub use rows::Rows;
