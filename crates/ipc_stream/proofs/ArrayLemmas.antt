@@ -2,7 +2,7 @@
 use Rattle.std.specs.Prelude.{◌||◌, ◌/◌}
 use Rattle.std.specs.List.{list_any}
 use Rattle.std.proofs.Common.{◌≡◌, ℕ, zero, suc, ◌+◌, ◌*◌, ◌≤◌, ◌<◌, Bool, true, false, List, [], ◌∷◌, length, map, drop, refl, arith, sym, ap, ◌∙◌}
-use Rattle.std.proofs.lemmas.List.{drop_all}
+use Rattle.std.proofs.lemmas.List.{drop_all, drop-drop}
 use Rattle.std.proofs.Math.Seq.{drop-nil}
 use Rattle.byteorder.specs.Endian.{little_number}
 use Rattle.flatbuf.specs.Lookup.{number}
@@ -36,14 +36,9 @@ node_at bytes i = record { length = number 8 bytes (16 * i); null_count = number
 abbrev pub buffer_at : List ℕ → ℕ → RawBuffer
 buffer_at bytes i = record { offset = number 8 bytes (16 * i); length = number 8 bytes (16 * i + 8) }
 
-drop_two : (a b : ℕ) (xs : List ℕ) → drop b (drop a xs) ≡ drop (a + b) xs
-drop_two zero b xs = let e : 0 + b ≡ b = omega arith in rw e refl
-drop_two (suc a) b [] = rw (drop-nil b, drop-nil (suc a + b)) refl
-drop_two (suc a) b (x ∷ xs) = let e : suc a + b ≡ suc (a + b) = omega arith in rw e (drop_two a b xs)
-
 number_later : (n a b c : ℕ) (bytes : List ℕ) → a + b ≡ c → number n (drop a bytes) b ≡ number n bytes c
 unfolding number
-number_later n a b c bytes e = ap (little_number n) (drop_two a b bytes ∙ ap (λ (k : ℕ). drop k bytes) e)
+number_later n a b c bytes e = ap (little_number n) (drop-drop b a bytes ∙ ap (λ (k : ℕ). drop k bytes) e)
 
 length-nodes : (n : ℕ) (bytes : List ℕ) → length (nodes_from n bytes) ≡ n
 length-nodes zero bytes = refl

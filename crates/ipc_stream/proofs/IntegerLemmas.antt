@@ -1,10 +1,19 @@
 -- Integers as bytes and back.
 use Rattle.std.specs.Prelude.{negsuc, pos, ℤ, ◌-ℤ◌, ◌≤ℤ◌, ◌<ℤ◌, neg_ℤ}
-use Rattle.std.proofs.Common.{◌≡◌, ℕ, zero, suc, ◌+◌, ◌-◌, ◌*◌, ◌^◌, ◌<◌, ◌≤◌, Bool, true, false, refl, inl, inr, arith}
+use Rattle.std.proofs.Common.{◌≡◌, ℕ, zero, suc, ◌+◌, ◌-◌, ◌*◌, ◌^◌, ◌<◌, ◌≤◌, Bool, true, false, refl, inl, inr, arith, ap, sym, ◌∙◌}
 use Rattle.std.proofs.lemmas.Bool.{cases_lt, le-ltb, lt-ltb}
 use Rattle.std.proofs.lemmas.Int.{ints}
+use Rattle.std.proofs.lemmas.Nat.{pow-add}
 use Rattle.std.proofs.Math.Nat.{pow-suc}
 use Rattle.values.specs.Integers.{integer_of, number_of}
+
+-- bits and bytes
+pub powers : (w : ℕ) → 2 ^ (8 * w) ≡ 256 ^ w
+powers zero = let none : 8 * 0 ≡ 0 = omega arith in ap (λ (k : ℕ). 2 ^ k) none
+powers (suc w) =
+    let bits : 8 * suc w ≡ 8 + 8 * w = omega arith in
+    let one : suc w ≡ 1 + w = omega arith in
+    ap (λ (k : ℕ). 2 ^ k) bits ∙ pow-add 2 8 (8 * w) ∙ ap (λ (k : ℕ). 256 * k) (powers w) ∙ sym (ap (λ (k : ℕ). 256 ^ k) one ∙ pow-add 256 1 w)
 
 -- a number below another, less it
 below : (w n m : ℕ) → n < m → m ≡ 2 ^ (8 * w) → number_of w (pos n -ℤ pos m) ≡ n

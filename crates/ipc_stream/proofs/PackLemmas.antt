@@ -21,8 +21,7 @@ use Rattle.values.specs.IntegerTable.{integer_column, integer_columns, have_rows
 use Rattle.values.specs.Integers.{integer_of, number_of}
 use Rattle.values.specs.Table.{is_row, row_fits, IsTable}
 use Rattle.ipc_stream.proofs.ColumnLemmas.{IsIntegerOf, IsRowOf, AreRowsOf, length-values, rows_again}
-use Rattle.ipc_stream.proofs.IntegerLemmas.{double, signed_again}
-use Rattle.ipc_stream.proofs.PieceLemmas.{powers}
+use Rattle.ipc_stream.proofs.IntegerLemmas.{powers, double, signed_again}
 
 -- ---- numbers in range
 

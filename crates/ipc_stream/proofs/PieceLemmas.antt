@@ -1,7 +1,6 @@
 -- The record batch of a piece: a node and two buffers for each column.
-use Rattle.std.proofs.Common.{◌≡◌, ℕ, zero, suc, ◌+◌, ◌*◌, ◌^◌, ◌≤◌, ◌<◌, ◌==◌, IsTrue, List, [], ◌∷◌, ◌++◌, Bor, map, drop, get_or, length, eqb-true, subst, refl, arith, sym, ap, ◌∙◌, append_assoc}
+use Rattle.std.proofs.Common.{◌≡◌, ℕ, ◌+◌, ◌*◌, ◌≤◌, ◌<◌, ◌==◌, IsTrue, List, [], ◌∷◌, ◌++◌, Bor, map, drop, get_or, length, eqb-true, subst, refl, arith, sym, ap, ◌∙◌, append_assoc}
 use Rattle.std.proofs.lemmas.List.{drop_more, map-append}
-use Rattle.std.proofs.lemmas.Nat.{pow-add}
 use Rattle.std.proofs.lemmas.Bool.{and_parts}
 use Rattle.arrow_schema.specs.Column.{Column, PlainSchema}
 use Rattle.values.specs.Cell.{Cell}
@@ -14,14 +13,6 @@ use Rattle.values.specs.IntegerTable.{integer_columns, have_rows}
 use Rattle.ipc_stream.proofs.PieceSize.{body_more}
 use Rattle.ipc_stream.proofs.RowLemmas.{length_rows}
 use Rattle.ipc_stream.proofs.SliceLemmas.{other_rows}
-
--- bits and bytes
-pub powers : (w : ℕ) → 2 ^ (8 * w) ≡ 256 ^ w
-powers zero = let none : 8 * 0 ≡ 0 = omega arith in ap (λ (k : ℕ). 2 ^ k) none
-powers (suc w) =
-    let bits : 8 * suc w ≡ 8 + 8 * w = omega arith in
-    let one : suc w ≡ 1 + w = omega arith in
-    ap (λ (k : ℕ). 2 ^ k) bits ∙ pow-add 2 8 (8 * w) ∙ ap (λ (k : ℕ). 256 * k) (powers w) ∙ sym (ap (λ (k : ℕ). 256 ^ k) one ∙ pow-add 256 1 w)
 
 -- a piece is a batch with these nodes and buffers
 pub piece_is : (s : PlainSchema) (vs : List (List ℕ)) (from n : ℕ) (nodes : List RawNode) (buffers : List (List ℕ))

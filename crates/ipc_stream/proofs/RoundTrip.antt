@@ -68,7 +68,7 @@ order_none before n some is = rw (some, is) refl
 
 -- ---- a table of integers whose columns are bytes
 
-pub record IsHeld (s : PlainSchema) (vs : List (List ℕ)) (rows : ℕ) : Type 0 where
+pub record HasColumns (s : PlainSchema) (vs : List (List ℕ)) (rows : ℕ) : Type 0 where
   pub integers : IsTrue (is_integer_schema s)
   pub few : length s.columns ≤ 2048
   pub short : sum_by name_len s.columns ≤ 4194304
@@ -78,7 +78,7 @@ pub record IsHeld (s : PlainSchema) (vs : List (List ℕ)) (rows : ℕ) : Type 0
   pub light : rows * (1 + length s.columns) ≤ 268435456
 
 -- the messages before: the schema, and the rows up to here
-pub record IsRead (s : PlainSchema) (vs : List (List ℕ)) (from : ℕ) (before : List Message) : Type 0 where
+pub record IsReadTo (s : PlainSchema) (vs : List (List ℕ)) (from : ℕ) (before : List Message) : Type 0 where
   pub some : is_empty before ≡ false
   pub schema : schema_in before ≡ plain_raw s
   pub rows : rows_in s before ≡ rows_from (integer_columns s) vs 0 from
@@ -92,7 +92,7 @@ piece_envelope s rows = batch_envelope (length rows) (full_nodes s.columns (leng
 unfoldable piece_read : PlainSchema → List (List Cell) → Message
 piece_read s rows = message_of (batch_header (piece_batch s rows)) (body (piece_buffers s rows))
 
-piece_writable : (s : PlainSchema) (vs : List (List ℕ)) (total : ℕ) (rows : List (List Cell)) → IsHeld s vs total → length rows ≤ 4096
+piece_writable : (s : PlainSchema) (vs : List (List ℕ)) (total : ℕ) (rows : List (List Cell)) → HasColumns s vs total → length rows ≤ 4096
     → IsWritableBatch (length rows) (full_nodes s.columns (length rows)) (piece_buffers s rows)
 piece_writable s vs total rows held some =
     let few : length s.columns ≤ 2048 = held.few in
@@ -107,7 +107,7 @@ piece_writable s vs total rows held some =
       short_body = omega (arith, few, as_many, small);
     }
 
-piece_front : BatchLaw → (s : PlainSchema) (vs : List (List ℕ)) (total : ℕ) (rows : List (List Cell)) (rest : List ℕ) → IsHeld s vs total → length rows ≤ 4096
+piece_front : BatchLaw → (s : PlainSchema) (vs : List (List ℕ)) (total : ℕ) (rows : List (List Cell)) (rest : List ℕ) → HasColumns s vs total → length rows ≤ 4096
     → front (piece_message s rows ++ rest) ≡ Ok (message (piece_envelope s rows))
 unfolding piece_message piece_envelope
 piece_front law s vs total rows rest held some = law.stands (length rows) (full_nodes s.columns (length rows)) (piece_buffers s rows) rest (piece_writable s vs total rows held some)
@@ -117,10 +117,10 @@ unfolding piece_message piece_envelope
 piece_after law s rows rest = law.after (length rows) (full_nodes s.columns (length rows)) (piece_buffers s rows) rest
 
 -- the schema that the first message told
-schema_of_read : (s : PlainSchema) (vs : List (List ℕ)) (total from : ℕ) (before : List Message) → IsHeld s vs total → IsRead s vs from before → plain_schema_of (schema_in before) ≡ s
+schema_of_read : (s : PlainSchema) (vs : List (List ℕ)) (total from : ℕ) (before : List Message) → HasColumns s vs total → IsReadTo s vs from before → plain_schema_of (schema_in before) ≡ s
 schema_of_read s vs total from before held is = ap plain_schema_of is.schema ∙ schema_again s (integers_of s held.integers)
 
-piece_sound : (s : PlainSchema) (vs : List (List ℕ)) (total from k : ℕ) (before : List Message) → IsHeld s vs total → IsRead s vs from before → k ≤ 4096 → from + k ≤ total
+piece_sound : (s : PlainSchema) (vs : List (List ℕ)) (total from k : ℕ) (before : List Message) → HasColumns s vs total → IsReadTo s vs from before → k ≤ 4096 → from + k ≤ total
     → first_some (header_rounds held_codes before (body (piece_buffers s (rows_from (integer_columns s) vs from k))) (batch_header (piece_batch s (rows_from (integer_columns s) vs from k)))) ≡ None
 piece_sound s vs total from k before held is some inside =
     let cs : List IntegerColumn = integer_columns s in
@@ -139,7 +139,7 @@ piece_sound s vs total from k before held is some inside =
     ∙ ap (λ (x : List (List Cell)). first_some (batch_rounds s x (piece_batch s rows) bytes)) is.rows
     ∙ batch_accepted s old rows h held.few few_rows (rows_are cs vs total from k held.each held.bytes) small.short_body light
 
-piece_accepted : BatchLaw → (s : PlainSchema) (vs : List (List ℕ)) (total from k : ℕ) (before : List Message) → IsHeld s vs total → IsRead s vs from before → k ≤ 4096 → from + k ≤ total
+piece_accepted : BatchLaw → (s : PlainSchema) (vs : List (List ℕ)) (total from k : ℕ) (before : List Message) → HasColumns s vs total → IsReadTo s vs from before → k ≤ 4096 → from + k ≤ total
     → accepted held_codes before (piece_envelope s (rows_from (integer_columns s) vs from k)) ≡ Ok (piece_read s (rows_from (integer_columns s) vs from k))
 unfolding piece_envelope piece_read
 piece_accepted law s vs total from k before held is some inside =
@@ -153,8 +153,8 @@ piece_accepted law s vs total from k before held is some inside =
     (piece_sound s vs total from k before held is some inside)
 
 -- after a piece its rows are read too
-read_more : (s : PlainSchema) (vs : List (List ℕ)) (total from k : ℕ) (before : List Message) → IsHeld s vs total → IsRead s vs from before
-    → IsRead s vs (from + k) (before ++ piece_read s (rows_from (integer_columns s) vs from k) ∷ [])
+read_more : (s : PlainSchema) (vs : List (List ℕ)) (total from k : ℕ) (before : List Message) → HasColumns s vs total → IsReadTo s vs from before
+    → IsReadTo s vs (from + k) (before ++ piece_read s (rows_from (integer_columns s) vs from k) ∷ [])
 unfolding piece_read
 read_more s vs total from k before held is =
     let cs : List IntegerColumn = integer_columns s in
@@ -182,13 +182,13 @@ table_told r = r >>= λ ms. Ok (table_in ms)
 abbrev table_with : PlainSchema → List (List Cell) → PlainTable
 table_with s rows = record { schema = s; rows = rows }
 
-table_read : (s : PlainSchema) (vs : List (List ℕ)) (total from : ℕ) (before : List Message) → IsHeld s vs total → IsRead s vs from before → table_in before ≡ plain_table s vs from
+table_read : (s : PlainSchema) (vs : List (List ℕ)) (total from : ℕ) (before : List Message) → HasColumns s vs total → IsReadTo s vs from before → table_in before ≡ plain_table s vs from
 unfolding table_in
 table_read s vs total from before held is =
     ap (λ (x : PlainSchema). table_with x (rows_in x before)) (schema_of_read s vs total from before held is) ∙ ap (table_with s) is.rows
 
 -- the messages of the rows from one on, and the end mark
-read_on : BatchLaw → (steps : ℕ) (s : PlainSchema) (vs : List (List ℕ)) (total from n : ℕ) (before : List Message) → IsHeld s vs total → IsRead s vs from before → from + n ≡ total
+read_on : BatchLaw → (steps : ℕ) (s : PlainSchema) (vs : List (List ℕ)) (total from n : ℕ) (before : List Message) → HasColumns s vs total → IsReadTo s vs from before → from + n ≡ total
     → length (messages_of s vs from n ++ end_mark) < steps → table_told (messages held_codes steps before (messages_of s vs from n ++ end_mark)) ≡ Ok (plain_table s vs total)
 read_on law zero s vs total from n before held is all enough = absurd (omega arith)
 read_on law (suc steps) s vs total from zero before held is all enough =
@@ -218,7 +218,7 @@ read_on law (suc steps) s vs total from (suc m) before held is all enough =
     ∙ ap table_told step
     ∙ read_on law steps s vs total (from + k) (suc m - k) (before ++ piece_read s rows ∷ []) held (read_more s vs total from k before held is) (omega (arith, all)) (omega (arith, enough, whole, less))
 
-schema_fine : (s : PlainSchema) (vs : List (List ℕ)) (total : ℕ) → SchemaLaw s → IsHeld s vs total → accepted held_codes [] (schema_envelope s) ≡ Ok (message_of (schema_header (plain_raw s)) [])
+schema_fine : (s : PlainSchema) (vs : List (List ℕ)) (total : ℕ) → SchemaLaw s → HasColumns s vs total → accepted held_codes [] (schema_envelope s) ≡ Ok (message_of (schema_header (plain_raw s)) [])
 schema_fine s vs total law held =
     let order : order_fault [] (type_of (schema_envelope s).metadata) ≡ None = rw law.kind refl in
     accepts held_codes [] (schema_envelope s) (schema_header (plain_raw s)) order
@@ -226,14 +226,14 @@ schema_fine s vs total law held =
     (schema_accepted s held.integers held.few held.short held.named)
 
 -- the canonical stream means the table
-pub canonical_read : (s : PlainSchema) (vs : List (List ℕ)) (total : ℕ) → SchemaLaw s → BatchLaw → IsHeld s vs total → meaning held_codes (canonical (plain_table s vs total)) ≡ Ok (plain_table s vs total)
+pub canonical_read : (s : PlainSchema) (vs : List (List ℕ)) (total : ℕ) → SchemaLaw s → BatchLaw → HasColumns s vs total → meaning held_codes (canonical (plain_table s vs total)) ≡ Ok (plain_table s vs total)
 unfolding meaning
 canonical_read s vs total schema batch held =
     let rest : List ℕ = messages_of s vs 0 total ++ end_mark in
     let whole : List ℕ = schema_message s ++ rest in
     let a : Message = message_of (schema_header (plain_raw s)) [] in
     let step = message_step held_codes (length whole) [] whole rest (schema_envelope s) a (schema.stands rest) (schema_fine s vs total schema held) (schema.after rest) in
-    let is : IsRead s vs 0 (a ∷ []) = record { some = refl; schema = refl; rows = refl } in
+    let is : IsReadTo s vs 0 (a ∷ []) = record { some = refl; schema = refl; rows = refl } in
     ap (λ (xs : List ℕ). table_told (messages held_codes (suc (length xs)) [] xs)) (canonical_is s vs total)
     ∙ ap table_told step
     ∙ read_on batch (length whole) s vs total 0 total (a ∷ []) held is (omega arith) (less_left whole rest (schema_envelope s) (schema.stands rest) (schema.after rest))

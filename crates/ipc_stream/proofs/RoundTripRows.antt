@@ -16,8 +16,7 @@ use Rattle.values.specs.Integers.{integer_of, number_of}
 use Rattle.values.specs.IntegerTable.{integer_column, have_rows}
 use Rattle.ipc_stream.proofs.ByteLemmas.{AreBytes, drop-bytes}
 use Rattle.ipc_stream.proofs.ColumnLemmas.{IsIntegerOf, IsRowOf, AreRowsOf}
-use Rattle.ipc_stream.proofs.IntegerLemmas.{number_again}
-use Rattle.ipc_stream.proofs.PieceLemmas.{powers}
+use Rattle.ipc_stream.proofs.IntegerLemmas.{powers, number_again}
 use Rattle.ipc_stream.proofs.RoundTripBatch.{AreNarrow}
 
 cell_is : (c : IntegerColumn) (v : List ℕ) (i : ℕ) → AreBytes v → IsIntegerOf c (cell_at c v i)

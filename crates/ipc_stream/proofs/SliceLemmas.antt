@@ -1,45 +1,30 @@
 -- The values of some rows are a slice of each column's bytes.
-use Rattle.std.proofs.Common.{◌≡◌, ℕ, zero, suc, ◌+◌, ◌*◌, ◌^◌, ◌≤◌, ◌<◌, List, [], ◌∷◌, ◌++◌, map, take, drop, length, refl, arith, sym, ap, ◌∙◌}
+use Rattle.std.proofs.Common.{◌≡◌, ℕ, zero, suc, ◌+◌, ◌*◌, ◌^◌, ◌≤◌, ◌<◌, List, ◌∷◌, ◌++◌, map, take, drop, length, refl, arith, sym, ap, ◌∙◌}
 use Rattle.std.proofs.lemmas.List.Concat.{flat_map-cons}
-use Rattle.std.proofs.lemmas.List.{length-drop}
-use Rattle.std.proofs.Math.Seq.{take-nil, drop-nil}
+use Rattle.std.proofs.lemmas.List.{length-drop, drop-drop}
+use Rattle.std.proofs.Math.Seq.{take-add}
 use Rattle.byteorder.specs.Endian.{little_number, little_bytes}
 use Rattle.byteorder.specs.Numbers.{little_from-lt}
 use Rattle.values.specs.Cell.{Cell}
 use Rattle.values.specs.Columns.{IntegerColumn, integer_bytes, values_of, first_cell, other_cells, cell_at, row_at, rows_from}
 use Rattle.ipc_stream.proofs.ByteLemmas.{AreBytes, bytes_again, drop-bytes}
-use Rattle.ipc_stream.proofs.IntegerLemmas.{number_again}
-
--- a front in two parts
-take_two : (a b : ℕ) (xs : List ℕ) → take (a + b) xs ≡ take a xs ++ take b (drop a xs)
-take_two zero b xs = let e : 0 + b ≡ b = omega arith in ap (λ (n : ℕ). take n xs) e
-take_two (suc a) b [] = rw (take-nil (suc a + b), take-nil b) refl
-take_two (suc a) b (x ∷ xs) =
-    let e : suc a + b ≡ suc (a + b) = omega arith in
-    ap (λ (n : ℕ). take n (x ∷ xs)) e ∙ ap (λ (ys : List ℕ). x ∷ ys) (take_two a b xs)
-
-drop_two : (a b : ℕ) (xs : List ℕ) → drop (a + b) xs ≡ drop b (drop a xs)
-drop_two zero b xs = let e : 0 + b ≡ b = omega arith in ap (λ (n : ℕ). drop n xs) e
-drop_two (suc a) b [] = rw (drop-nil (suc a + b), drop-nil b) refl
-drop_two (suc a) b (x ∷ xs) =
-    let e : suc a + b ≡ suc (a + b) = omega arith in
-    ap (λ (n : ℕ). drop n (x ∷ xs)) e ∙ drop_two a b xs
+use Rattle.ipc_stream.proofs.IntegerLemmas.{number_again, powers}
 
 -- the bytes of the cell at a place are those that stand there
-cell_bytes : (c : IntegerColumn) (v : List ℕ) (i : ℕ) → AreBytes v → 2 ^ (8 * c.width) ≡ 256 ^ c.width → i * c.width + c.width ≤ length v → integer_bytes c.width (cell_at c v i) ≡ take c.width (drop (i * c.width) v)
-cell_bytes c v i small pow inside =
+cell_bytes : (c : IntegerColumn) (v : List ℕ) (i : ℕ) → AreBytes v → i * c.width + c.width ≤ length v → integer_bytes c.width (cell_at c v i) ≡ take c.width (drop (i * c.width) v)
+cell_bytes c v i small inside =
     let here : List ℕ = drop (i * c.width) v in
     let below : AreBytes here = drop-bytes (i * c.width) v small in
     let n : ℕ = little_number c.width here in
-    let fits : n < 2 ^ (8 * c.width) = rw pow (little_from-lt 0 c.width here below) in
+    let fits : n < 2 ^ (8 * c.width) = rw (powers c.width) (little_from-lt 0 c.width here below) in
     let long : c.width ≤ length here = omega (arith, length-drop (i * c.width) v) in
     ap (little_bytes c.width) (number_again c.width c.signed n fits) ∙ bytes_again c.width here below long
 
 -- the values of the first column of some rows
-pub first_values : (c : IntegerColumn) (cs : List IntegerColumn) (v : List ℕ) (vs : List (List ℕ)) (i n : ℕ) → AreBytes v → 2 ^ (8 * c.width) ≡ 256 ^ c.width → (i + n) * c.width ≤ length v
+pub first_values : (c : IntegerColumn) (cs : List IntegerColumn) (v : List ℕ) (vs : List (List ℕ)) (i n : ℕ) → AreBytes v → (i + n) * c.width ≤ length v
     → values_of c.width (map first_cell (rows_from (c ∷ cs) (v ∷ vs) i n)) ≡ take (n * c.width) (drop (i * c.width) v)
-first_values c cs v vs i zero small pow inside = let none : 0 * c.width ≡ 0 = omega arith in rw none refl
-first_values c cs v vs i (suc n) small pow inside =
+first_values c cs v vs i zero small inside = let none : 0 * c.width ≡ 0 = omega arith in rw none refl
+first_values c cs v vs i (suc n) small inside =
     let rows : List (List Cell) = rows_from (c ∷ cs) (v ∷ vs) (i + 1) n in
     let w : ℕ = c.width in
     let split : (i + suc n) * w ≡ i * w + w + n * w = omega arith in
@@ -48,11 +33,11 @@ first_values c cs v vs i (suc n) small pow inside =
     let far : (i + 1 + n) * w ≡ i * w + w + n * w = omega arith in
     let whole : i * w + w + n * w ≤ length v = rw split at inside in
     let rest : values_of w (map first_cell rows) ≡ take (n * w) (drop (i * w + w) v) =
-    first_values c cs v vs (i + 1) n small pow (rw far whole) ∙ ap (λ (k : ℕ). take (n * w) (drop k v)) next in
-    let here = cell_bytes c v i small pow (omega arith) in
+    first_values c cs v vs (i + 1) n small (rw far whole) ∙ ap (λ (k : ℕ). take (n * w) (drop k v)) next in
+    let here = cell_bytes c v i small (omega arith) in
     let joined : take (suc n * w) (drop (i * w) v) ≡ take w (drop (i * w) v) ++ take (n * w) (drop (i * w + w) v) =
-    ap (λ (k : ℕ). take k (drop (i * w) v)) wide ∙ take_two w (n * w) (drop (i * w) v)
-    ∙ ap (λ (x : List ℕ). take w (drop (i * w) v) ++ take (n * w) x) (sym (drop_two (i * w) w v)) in
+    ap (λ (k : ℕ). take k (drop (i * w) v)) wide ∙ take-add w (n * w) (drop (i * w) v)
+    ∙ ap (λ (x : List ℕ). take w (drop (i * w) v) ++ take (n * w) x) (drop-drop w (i * w) v) in
     flat_map-cons (integer_bytes w) (cell_at c v i) (map first_cell rows)
     ∙ ap (λ (x : List ℕ). x ++ values_of w (map first_cell rows)) here
     ∙ ap (λ (x : List ℕ). take w (drop (i * w) v) ++ x) rest ∙ sym joined

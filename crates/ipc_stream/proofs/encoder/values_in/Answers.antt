@@ -1,6 +1,5 @@
 use Rattle.std.proofs.Common.{◌≡◌, ◌+◌, ◌-◌, ◌*◌, ◌≤◌, List, ℕ, take, drop, length, arith, ap, sym, ◌∙◌}
 use Rattle.ipc_stream.proofs.ByteLemmas.{AreBytes}
-use Rattle.ipc_stream.proofs.PieceLemmas.{powers}
 use Rattle.ipc_stream.proofs.SliceLemmas.{first_values}
 use Rattle.ipc_stream.proofs.encoder.values_in.Goals as goal
 
@@ -15,4 +14,4 @@ returns-clause-values c = λ column cs vs is.
     let inside : (from + count) * column.width ≤ length bytes = rw is c.requires.within in
     ap (λ (k : ℕ). take k (drop (from * w) bytes)) taken
     ∙ ap (λ (k : ℕ). take (count * k) (drop (from * k) bytes)) (sym is)
-    ∙ sym (first_values column cs bytes vs from count small (powers column.width) inside)
+    ∙ sym (first_values column cs bytes vs from count small inside)
