@@ -1,6 +1,6 @@
 -- The limits count a schema's own columns among all of them.
 use Rattle.std.specs.Prelude.{sum_by}
-use Rattle.std.proofs.Common.{ℕ, ◌+◌, ◌≤◌, List, [], ◌∷◌, ◌++◌, length, arith, length-append}
+use Rattle.std.proofs.Common.{◌≤◌, List, [], ◌∷◌, ◌++◌, length, arith, length-append}
 use Rattle.std.proofs.lemmas.List.Sums.{sum_by-cons, sum_by-append}
 use Rattle.arrow_schema.specs.Column.{Column, column, columns_of, PlainSchema}
 use Rattle.arrow_schema.specs.Preorder.{preorder, preorder_below, preorder_all}

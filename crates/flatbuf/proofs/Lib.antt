@@ -1,6 +1,7 @@
-pub mod Places
-pub mod ReadBack
-pub mod Elements
-pub mod Cases
-pub mod Ends
-pub mod Puts
+mod Places
+mod ReadBack
+mod Elements
+mod Cases
+mod Ends
+mod Puts
+mod FirstThing

@@ -29,11 +29,3 @@ run_ok bytes xs ys n m h = run_append bytes xs ys n ∙ ap (λ r. goes_on r (run
 -- the first part is not
 pub run_err : (bytes : List ℕ) (xs ys : List Thing) (n : ℕ) (e : FlatError) → run bytes xs n ≡ Err e → run bytes (xs ++ ys) n ≡ Err e
 run_err bytes xs ys n e h = run_append bytes xs ys n ∙ ap (λ r. goes_on r (run bytes ys)) h
-
--- the first thing is bad
-pub first_err : (bytes : List ℕ) (x : Thing) (xs : List Thing) (n : ℕ) (e : FlatError) → run bytes (x ∷ []) n ≡ Err e → run bytes (x ∷ xs) n ≡ Err e
-first_err bytes x xs n e h = run_err bytes (x ∷ []) xs n e h
-
--- the first thing is fine
-pub first_ok : (bytes : List ℕ) (x : Thing) (xs : List Thing) (n m : ℕ) → run bytes (x ∷ []) n ≡ Ok m → run bytes (x ∷ xs) n ≡ run bytes xs m
-first_ok bytes x xs n m h = run_ok bytes (x ∷ []) xs n m h

@@ -54,7 +54,7 @@ pub(crate) fn u64_at(bytes: &[u8], at: usize) -> Result<u64, FlatError>
 }
 
 /// Where the vector behind the reference at a position begins, and how many elements of `width` bytes it has.
-#[tactic(auto, using(crate::specs::WalkLaws::first_err, crate::specs::WalkLaws::first_ok), unfolding(crate::specs::Walk::run, crate::specs::Lookup::target))]
+#[tactic(auto, using(crate::proofs::FirstThing::first_err, crate::proofs::FirstThing::first_ok), unfolding(crate::specs::Walk::run, crate::specs::Lookup::target))]
 pub(crate) fn vector_from(bytes: &[u8], at: usize, width: u8) -> Result<(usize, usize), FlatError>
     requires small { length bytes.now < 2 ^ 32 }
     ensures walked { (n : ℕ) → run bytes.now (vector_at width bytes.now (Some at)) n ≡ told n result }

@@ -199,7 +199,7 @@ impl<'a> Table<'a> {
     }
 
     /// The table that the reference of slot `k` leads to, unless it is absent.
-    #[tactic(auto, using(crate::specs::WalkLaws::first_err, crate::specs::WalkLaws::first_ok), unfolding(crate::specs::Walk::run, crate::specs::Lookup::target))]
+    #[tactic(auto, using(crate::proofs::FirstThing::first_err, crate::proofs::FirstThing::first_ok), unfolding(crate::specs::Walk::run, crate::specs::Lookup::target))]
     pub fn reference(&self, k: u16, budget: &mut Budget) -> Result<Option<Table<'a>>, FlatError>
         ensures walked { run (bytes_of self.now) (reference_things (levels_of self.now) (bytes_of self.now) (slot_of self.now k)) (tables_in budget.old) ≡ told (tables_in budget.new) result }
         ensures same { IfOk result (λ found. IfSome found (λ t. bytes_of t ≡ bytes_of self.now)) }

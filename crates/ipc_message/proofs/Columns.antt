@@ -12,6 +12,7 @@ use Rattle.arrow_schema.specs.Preorder as columns
 use Rattle.arrow_schema.specs.Preorder.{every_column, preorder_below, depth_below}
 use Rattle.arrow_schema.specs.Limits as limits
 use Rattle.arrow_schema.specs.Limits.{IsWithinLimits}
+use Rattle.std.proofs.lemmas.Bool.{and_parts, not-false}
 use Rattle.ipc_message.specs.Raw.{RawParameters, RawEncoding, RawField, RawFields, raw_field, no_raw_field, and_raw_field, raw_fields_of, RawSchema}
 use Rattle.ipc_message.specs.Fields.{preorder, preorder_all, every_field, depth, depth_all, pairs_of}
 use Rattle.ipc_message.specs.Types.{type_name, spelled_type}
@@ -29,15 +30,7 @@ some_of (Some x) d h = refl
 pub field_shape : (name : List ℕ) (nullable : Bool) (code : ℕ) (p : RawParameters) (d : Option RawEncoding) (fs : RawFields) (pairs : List Pair) → is_bad (raw_field name nullable code p d fs pairs) ≡ false
     → HasShape (type_name code) p (columns_of_fields fs) (unwrap_or (spelled_type (type_name code) p (columns_of_fields fs)) nulls)
 field_shape name nullable code p d fs pairs h =
-    spelled_shape (type_name code) p (columns_of_fields fs) _ (some_of _ nulls (and_left _ _ (not_false _ h)))
-  where
-    not_false : (b : Bool) → not b ≡ false → b ≡ true
-    not_false true h = refl
-    not_false false h = absurd cc
-
-    and_left : (a b : Bool) → (a && b) ≡ true → a ≡ true
-    and_left true b h = refl
-    and_left false b h = h
+    spelled_shape (type_name code) p (columns_of_fields fs) _ (some_of _ nulls (and_parts _ _ (not-false _ h)).0)
 
 or_left : (a b : Bool) → (a || b) ≡ false → a ≡ false
 or_left true b h = h

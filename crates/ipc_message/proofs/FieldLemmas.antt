@@ -1,5 +1,5 @@
 -- The walk over a field, as the code takes its steps, and what it reads.
-use Rattle.std.proofs.Common.{◌≡◌, ℕ, zero, suc, ◌+◌, ◌-◌, ◌<◌, Bool, List, [], ◌∷◌, ◌++◌, map, Result, Ok, Err, refl, sym, ap, subst, ◌∙◌, arith}
+use Rattle.std.proofs.Common.{◌≡◌, ℕ, zero, suc, ◌-◌, ◌<◌, List, ◌++◌, map, Result, Ok, Err, refl, ap, subst, ◌∙◌, arith}
 use Rattle.std.specs.List.{flat_map}
 use Rattle.std.proofs.Math.Dec.{eqb-suc-zero}
 use Rattle.flatbuf.specs.declared.FlatError.{FlatError}
@@ -9,7 +9,7 @@ use Rattle.flatbuf.specs.WalkLaws.{run_ok, run_err}
 use Rattle.ipc_message.specs.declared.walk_error.WalkError.{WalkError}
 use Rattle.ipc_message.specs.declared.walk_error.WalkError.TheVariants as errors
 use Rattle.ipc_message.specs.Raw.{RawField}
-use Rattle.ipc_message.specs.Header.{held_codes, field_things, field_slots, slots_by, field_at, field_with}
+use Rattle.ipc_message.specs.Header.{held_codes, field_things, field_slots, field_at, field_with}
 use Rattle.ipc_message.specs.Walked.{Fails}
 
 fails_same : (e : WalkError) (r s : Result ℕ FlatError) → r ≡ s → Fails e s → Fails e r

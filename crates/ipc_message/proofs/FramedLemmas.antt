@@ -12,7 +12,8 @@ use Rattle.flatbuf.specs.Lookup.{number}
 use Rattle.flatbuf.specs.Walk.{run}
 use Rattle.ipc_message.specs.declared.fault.Fault.{Fault}
 use Rattle.ipc_message.specs.declared.fault.Fault.TheVariants.{Truncated, NoContinuation, MetadataSize, MetadataVersion, HeaderKind, BodyLength}
-use Rattle.ipc_message.specs.Accepted.{all_none, when_none, not_false}
+use Rattle.std.proofs.lemmas.Bool.{not-false}
+use Rattle.ipc_message.specs.Accepted.{all_none, when_none}
 use Rattle.ipc_message.specs.Framing.{Envelope, Front, message, end_mark, taken, mark, front, unless, first_some, when, walk_fault, message_things, version_of, type_of, header_type, mark_faults, size_faults, message_faults, metadata_size, metadata_in, after_metadata, message_with, body_length, IsMessage, Framed}
 use Rattle.ipc_message.proofs.FrontLemmas.{first_pass}
 
@@ -45,7 +46,7 @@ mark_passed bytes h =
     let found = all_none (mark_faults bytes) h in
     record {
       long = lt_false (length bytes) 8 (when_none (nat_lt (length bytes) 8) Truncated found.1.1.0);
-      starts = (starts_is Decides-eqb bytes mark (starts_with nat_eq bytes mark) refl).0 (not_false (starts_with nat_eq bytes mark) (when_none (not (starts_with nat_eq bytes mark)) NoContinuation found.1.0));
+      starts = (starts_is Decides-eqb bytes mark (starts_with nat_eq bytes mark) refl).0 (not-false (starts_with nat_eq bytes mark) (when_none (not (starts_with nat_eq bytes mark)) NoContinuation found.1.0));
     }
 
 record IsSized (bytes : List ℕ) : Type 0 where

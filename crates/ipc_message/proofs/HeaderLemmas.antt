@@ -1,8 +1,8 @@
 -- From the walk over a header to what is told of it.
-use Rattle.std.proofs.Common.{◌≡◌, ℕ, List, [], ◌++◌, Option, Some, unwrap_or, Result, Ok, Err, IfOk, refl, sym, ap, subst, ◌∙◌}
+use Rattle.std.proofs.Common.{◌≡◌, ℕ, List, Option, Some, unwrap_or, Result, Ok, Err, IfOk, sym, ap, subst, ◌∙◌}
 use Rattle.flatbuf.specs.declared.FlatError.{FlatError}
 use Rattle.flatbuf.specs.Lookup.{Place, slot, table_behind}
-use Rattle.flatbuf.specs.Walk.{Thing, run}
+use Rattle.flatbuf.specs.Walk.{run}
 use Rattle.flatbuf.specs.WalkLaws.{run_ok, run_err}
 use Rattle.ipc_message.specs.declared.envelope.HeaderType.{HeaderType}
 use Rattle.ipc_message.specs.declared.envelope.HeaderType.TheVariants.{RecordBatch}
@@ -10,7 +10,6 @@ use Rattle.ipc_message.specs.declared.raw.Header.{Header}
 use Rattle.ipc_message.specs.declared.walk_error.WalkError.{WalkError}
 use Rattle.ipc_message.specs.declared.walk_error.WalkError.TheVariants as errors
 use Rattle.ipc_message.specs.Framing.{flat_fault, header_type, type_of, message_table}
-use Rattle.ipc_message.specs.Raw.{RawHeader}
 use Rattle.ipc_message.specs.Header.{held_codes, header, header_of, header_slot, header_things, header_by_type, things_by_type, needed_things, spelled, type_in}
 use Rattle.ipc_message.specs.View.{raw_header_of}
 use Rattle.ipc_message.specs.Walked.{Walks, Spells}

@@ -1,12 +1,12 @@
-pub mod Compared
-pub mod Opened
-pub mod Children
-pub mod Levels
-pub mod ElementLemmas
-pub mod FieldLemmas
-pub mod HeaderLemmas
-pub mod FrontLemmas
-pub mod FramedLemmas
-pub mod Spelled
-pub mod Shapes
-pub mod Columns
+mod Compared
+mod Opened
+mod Children
+mod Levels
+mod ElementLemmas
+mod FieldLemmas
+mod HeaderLemmas
+mod FrontLemmas
+mod FramedLemmas
+mod Spelled
+mod Shapes
+mod Columns

@@ -3,6 +3,7 @@ use Rattle.std.specs.Prelude.{◌≡◌, ℕ, Bool, true, false, not, ◌||◌, 
 use Rattle.std.specs.List.{list_any, list_all}
 use Rattle.std.specs.Str.{is_utf8}
 use Rattle.std.proofs.Common.{refl}
+use Rattle.std.proofs.lemmas.Bool.{not-false}
 use Rattle.ipc_message.specs.declared.fault.Fault.{Fault}
 use Rattle.ipc_message.specs.declared.fault.Fault.TheVariants.{BadParameter, SchemaLimit, NotUtf8, DictionaryOfNested, NotYet}
 use Rattle.ipc_message.specs.Raw.{RawSchema}
@@ -31,10 +32,6 @@ pub when_none : (b : Bool) (f : Fault) → when b f ≡ None → b ≡ false
 when_none true f h = absurd cc
 when_none false f h = refl
 
-pub not_false : (b : Bool) → not b ≡ false → b ≡ true
-not_false true h = refl
-not_false false h = absurd cc
-
 -- where no test finds anything, each finds nothing
 pub accepted : (held : ℕ → Bool) (s : RawSchema) → first_some (schema_rounds held s) ≡ None → IsAccepted s
 unfolding schema_rounds
@@ -43,7 +40,7 @@ accepted held s h =
     record {
       spelled = when_none _ BadParameter found.1.1.0;
       small = when_none _ SchemaLimit found.1.1.1.0;
-      utf8 = not_false _ (when_none _ NotUtf8 found.1.1.1.1.0);
+      utf8 = not-false _ (when_none _ NotUtf8 found.1.1.1.1.0);
       flat = when_none _ DictionaryOfNested found.1.1.1.1.1.1.0;
       read = when_none _ NotYet found.1.1.1.1.1.1.1.0;
     }

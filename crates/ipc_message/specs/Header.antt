@@ -1,10 +1,10 @@
 -- The header of a message: what a reader meets in it, in order, and what it spells (Message.fbs, Schema.fbs). A table that is
 -- absent reads as one whose slots are all absent. `held` says which type codes are held; `left` is how many levels of
 -- tables may stand below the table in question.
-use Rattle.std.specs.Prelude.{ℕ, zero, suc, ◌-◌, ◌/◌, Bool, true, false, ◌&&◌, ◌||◌, ◌==◌, if◌then◌else◌, List, [], ◌∷◌, ◌++◌, length, map, Option, Some, None, option_map, is_some, unwrap_or, Result, Ok, Err}
+use Rattle.std.specs.Prelude.{ℕ, zero, suc, ◌-◌, Bool, true, false, ◌&&◌, ◌||◌, ◌==◌, if◌then◌else◌, List, [], ◌∷◌, ◌++◌, map, Option, Some, None, option_map, is_some, unwrap_or, Result, Ok, Err}
 use Rattle.std.specs.List.{flat_map, list_any}
 use Rattle.flatbuf.specs.declared.FlatError.{FlatError}
-use Rattle.flatbuf.specs.Lookup.{Place, table_at, slot, target, elements, text_of, structs_of, scalar_of, is_set, table_behind}
+use Rattle.flatbuf.specs.Lookup.{Place, table_at, slot, elements, text_of, structs_of, scalar_of, is_set, table_behind}
 use Rattle.flatbuf.specs.Walk.{Thing, too_deep, missing, run, head_things, table_things, reference_things, spans, vector_at}
 use Rattle.arrow_schema.specs.Column.{Pair}
 use Rattle.ipc_message.specs.declared.envelope.HeaderType.{HeaderType}

@@ -1,5 +1,5 @@
 -- A message of the code as it stands in the bytes.
-use Rattle.std.specs.Prelude.{ℕ, List, Result, Ok, Err}
+use Rattle.std.specs.Prelude.{Result, Ok, Err}
 use Rattle.flatbuf.specs.Seen.{bytes_of}
 use Rattle.ipc_message.specs.declared.message.Message.{Message}
 use Rattle.ipc_message.specs.declared.message.Front.{Front}

@@ -1,10 +1,10 @@
-pub mod Worked
-pub mod Fine
-pub mod TypeRead
-pub mod FieldRead
-pub mod MessageRead
-pub mod FieldNode
-pub mod Room
-pub mod HeaderRead
-pub mod BatchNode
-pub mod WrittenMessages
+mod Worked
+mod Fine
+mod TypeRead
+mod FieldRead
+mod MessageRead
+mod FieldNode
+mod Room
+mod HeaderRead
+mod BatchNode
+mod WrittenMessages

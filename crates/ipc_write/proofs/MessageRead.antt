@@ -9,7 +9,6 @@ use Rattle.flatbuf.specs.Walk.{span, spans, table_things, root_things, most_leve
 use Rattle.flatbuf.specs.Held.{Has}
 use Rattle.flatbuf.specs.Tree.{Tree}
 use Rattle.ipc_message.specs.Framing.{Envelope, IsMessage, Framed, mark, message, front, message_things, message_table, version_of, type_of, body_length, message_faults, first_some}
-use Rattle.ipc_message.proofs.FramedLemmas.{front_framed}
 use Rattle.ipc_write.specs.Trees.{message_tree}
 use Rattle.ipc_write.specs.Walked.{IsHeaderType}
 use Rattle.ipc_write.specs.Written.{framed}
@@ -64,9 +63,9 @@ abbrev pub Fronts : Type 0
 Fronts = (bytes others : List ℕ) (m : Envelope) → IsMessage m → Framed bytes m others → front bytes ≡ Ok (message m)
 
 -- what was framed stands at the front
-pub framed_again : Fronts → (metadata body rest : List ℕ) (type : ℕ) (header : Tree) → IsHeaderType type → 4 ≤ length metadata → length metadata ≤ 16777216 → length body < 2 ^ 63
+pub front_again : Fronts → (metadata body rest : List ℕ) (type : ℕ) (header : Tree) → IsHeaderType type → 4 ≤ length metadata → length metadata ≤ 16777216 → length body < 2 ^ 63
     → Has metadata (target metadata 0) (message_tree type header (length body)) → front (framed metadata body ++ rest) ≡ Ok (message (record { metadata = metadata; body = body }))
-framed_again fronts metadata body rest type header known long short small has =
+front_again fronts metadata body rest type header known long short small has =
     let n : ℕ = length metadata in
     let m : Envelope = record { metadata = metadata; body = body } in
     let good : IsMessage m = record {
@@ -82,8 +81,3 @@ framed_again fronts metadata body rest type header known long short small has =
       size_is = ap (little_number 4) (sym (append-nil (little_bytes 4 n))) ∙ little_number-reads_back 4 n [] (omega arith);
     } in
     fronts (framed metadata body ++ rest) rest m good stands
-
--- until ipc_stream takes the laws
-pub front_again : (metadata body rest : List ℕ) (type : ℕ) (header : Tree) → IsHeaderType type → 4 ≤ length metadata → length metadata ≤ 16777216 → length body < 2 ^ 63
-    → Has metadata (target metadata 0) (message_tree type header (length body)) → front (framed metadata body ++ rest) ≡ Ok (message (record { metadata = metadata; body = body }))
-front_again = framed_again front_framed

@@ -1,7 +1,7 @@
 -- How much room a written tree takes, and that the trees of messages fit.
 use Rattle.std.specs.Prelude.{sum_by}
 use Rattle.std.specs.List.{list_all}
-use Rattle.std.proofs.Common.{◌++◌, length-append, ◌≡◌, ℕ, zero, suc, ◌+◌, ◌-◌, ◌*◌, ◌%◌, ◌^◌, ◌<◌, ◌≤◌, Bool, true, false, List, [], ◌∷◌, map, length, None, refl, arith, ap}
+use Rattle.std.proofs.Common.{◌≡◌, ℕ, zero, suc, ◌+◌, ◌-◌, ◌*◌, ◌%◌, ◌^◌, ◌<◌, ◌≤◌, Bool, true, false, List, [], ◌∷◌, map, length, None, refl, arith, ap}
 use Rattle.std.proofs.lemmas.Bool.Decides.{nat_tests}
 use Rattle.std.proofs.lemmas.List.Sums.{sum_by-cons}
 use Rattle.flatbuf.specs.Tree.{Tree, Nodes, Slots, table, text, references, structs, no_node, and_node, no_slot, absent, scalar, refers}
@@ -9,11 +9,8 @@ use Rattle.flatbuf.specs.Laid.{gap, count_of, vtable_len, inline_end, table_star
 use Rattle.flatbuf.specs.Ends.{end_at, ends_at, below_ends_at}
 use Rattle.flatbuf.specs.Held.{Fits, FitsAll, FitsStructs}
 use Rattle.flatbuf.specs.View.{nodes_of}
-use Rattle.flatbuf.proofs.Ends.{metadata_len}
-use Rattle.arrow_schema.specs.Preorder.{preorder, preorder_below, preorder_all}
-use Rattle.std.proofs.lemmas.List.Sums.{sum_by-append}
 use Rattle.arrow_schema.specs.Column.{Pair, Column, column, integers, columns_of, PlainSchema}
-use Rattle.arrow_schema.specs.Limits.{name_len as own_name_len, IsWithinLimits, bytes_in}
+use Rattle.arrow_schema.specs.Limits.{name_len}
 use Rattle.ipc_write.specs.Trees.{bit, pairs_slot, field_tree, field_nodes, child_nodes, schema_tree, message_tree, ids_of}
 use Rattle.arrow_schema.specs.Integers.{is_integer_column, is_bit_width, is_empty, is_integer_schema}
 use Rattle.arrow_schema.specs.IntegerCases.{integer_case}
@@ -84,7 +81,7 @@ metadata_small size t = omega (arith, size t, room_holds 4 t, gap_small 8 (end_a
 abbrev pub AreIntegers : List Column → Type 0
 AreIntegers cs = list_all is_integer_column cs ≡ true
 
-one_room : (id : ℕ) (name : List ℕ) (nullable : Bool) (bits : ℕ) (signed : Bool) → is_bit_width bits ≡ true → room (field_tree id (column name nullable (integers bits signed) None [])) ≤ 150 + own_name_len (column name nullable (integers bits signed) None [])
+one_room : (id : ℕ) (name : List ℕ) (nullable : Bool) (bits : ℕ) (signed : Bool) → is_bit_width bits ≡ true → room (field_tree id (column name nullable (integers bits signed) None [])) ≤ 150 + name_len (column name nullable (integers bits signed) None [])
 unfolding field_tree child_nodes
 one_room id name nullable bits signed w = omega arith
 
@@ -103,8 +100,8 @@ one_fits id name nullable bits signed w =
 no_ids : (c : Column) → is_integer_column c ≡ true → ids_of c ≡ 0
 no_ids c h = integer_case (λ x. ids_of x ≡ 0) (λ name nullable bits signed w. refl) c h
 
-field_room : (id : ℕ) (c : Column) → is_integer_column c ≡ true → room (field_tree id c) ≤ 150 + own_name_len c
-field_room id c h = integer_case (λ x. room (field_tree id x) ≤ 150 + own_name_len x) (one_room id) c h
+field_room : (id : ℕ) (c : Column) → is_integer_column c ≡ true → room (field_tree id c) ≤ 150 + name_len c
+field_room id c h = integer_case (λ x. room (field_tree id x) ≤ 150 + name_len x) (one_room id) c h
 
 field_fits : (id : ℕ) (c : Column) → is_integer_column c ≡ true → Fits (field_tree id c)
 field_fits id c h = integer_case (λ x. Fits (field_tree id x)) (one_fits id) c h
@@ -119,12 +116,12 @@ fields_are (c ∷ cs) h =
     let none : ids_of c ≡ 0 = no_ids c parts.0 in
     rw (none, rest) refl
 
-pub fields_room : (id : ℕ) (cs : List Column) → AreIntegers cs → rooms (field_nodes id (columns_of cs)) ≤ 160 * length cs + sum_by own_name_len cs
+pub fields_room : (id : ℕ) (cs : List Column) → AreIntegers cs → rooms (field_nodes id (columns_of cs)) ≤ 160 * length cs + sum_by name_len cs
 unfolding field_nodes
 fields_room id [] h = omega arith
 fields_room id (c ∷ cs) h =
     let parts = and_parts (is_integer_column c) (list_all is_integer_column cs) h in
-    rw (sum_by-cons own_name_len c cs) (omega (arith, field_room id c parts.0, fields_room (id + ids_of c) cs parts.1))
+    rw (sum_by-cons name_len c cs) (omega (arith, field_room id c parts.0, fields_room (id + ids_of c) cs parts.1))
 
 pub fields_fit : (id : ℕ) (cs : List Column) → AreIntegers cs → FitsAll (field_nodes id (columns_of cs))
 unfolding field_nodes
@@ -145,13 +142,13 @@ no_pairs (p ∷ ps) h = cc
 -- ---- messages
 
 -- the metadata of a schema of so many columns, with names of so many bytes
-pub schema_short : Sizes → (s : PlainSchema) → is_integer_schema s ≡ true → length s.columns ≤ 2048 → sum_by own_name_len s.columns ≤ 4194304 → length (metadata (message_tree 1 (schema_tree s) 0)) ≤ 16777216
-schema_short size s h few short =
+pub schema_small : Sizes → (s : PlainSchema) → is_integer_schema s ≡ true → length s.columns ≤ 2048 → sum_by name_len s.columns ≤ 4194304 → length (metadata (message_tree 1 (schema_tree s) 0)) ≤ 16777216
+schema_small size s h few short =
     let parts = and_parts (list_all is_integer_column s.columns) (is_empty s.pairs) h in
     let none : pairs_slot s.pairs ≡ no_slot = no_pairs s.pairs parts.1 in
     let fields = fields_room 0 s.columns parts.0 in
     let count : count_of (field_nodes 0 (columns_of s.columns)) ≡ length s.columns = fields_count 0 s.columns in
-    let tree : room (message_tree 1 (schema_tree s) 0) ≤ 280 + 160 * length s.columns + sum_by own_name_len s.columns + 4 * length s.columns = rw none (omega (arith, fields, count)) in
+    let tree : room (message_tree 1 (schema_tree s) 0) ≤ 280 + 160 * length s.columns + sum_by name_len s.columns + 4 * length s.columns = rw none (omega (arith, fields, count)) in
     omega (arith, metadata_small size (message_tree 1 (schema_tree s) 0), tree, few, short)
 
 pub schema_fits : (s : PlainSchema) → is_integer_schema s ≡ true → Fits (message_tree 1 (schema_tree s) 0)
@@ -160,8 +157,8 @@ schema_fits s h =
     let none : pairs_slot s.pairs ≡ no_slot = no_pairs s.pairs parts.1 in
     rw none (omega arith, omega arith, (omega arith, (omega arith, ((omega arith, omega arith, (omega arith, (fields_fit 0 s.columns parts.0, tt))), (omega arith, tt)))))
 
-pub batch_short : Sizes → (rows body_length : ℕ) (nodes buffers : List (ℕ × ℕ)) → length (metadata (message_tree 3 (table (scalar 8 rows (refers (structs nodes) (refers (structs buffers) no_slot)))) body_length)) ≤ 300 + 16 * length nodes + 16 * length buffers
-batch_short size rows body_length nodes buffers = omega (arith, metadata_small size (message_tree 3 (table (scalar 8 rows (refers (structs nodes) (refers (structs buffers) no_slot)))) body_length))
+pub batch_room : Sizes → (rows body_length : ℕ) (nodes buffers : List (ℕ × ℕ)) → length (metadata (message_tree 3 (table (scalar 8 rows (refers (structs nodes) (refers (structs buffers) no_slot)))) body_length)) ≤ 300 + 16 * length nodes + 16 * length buffers
+batch_room size rows body_length nodes buffers = omega (arith, metadata_small size (message_tree 3 (table (scalar 8 rows (refers (structs nodes) (refers (structs buffers) no_slot)))) body_length))
 
 pub batch_fits : (rows body_length : ℕ) (nodes buffers : List (ℕ × ℕ)) → rows < 2 ^ 64 → body_length < 2 ^ 64 → FitsStructs nodes → FitsStructs buffers → Fits (message_tree 3 (table (scalar 8 rows (refers (structs nodes) (refers (structs buffers) no_slot)))) body_length)
 batch_fits rows body_length nodes buffers small short n b =
@@ -170,37 +167,3 @@ batch_fits rows body_length nodes buffers small short n b =
 -- a tree whose metadata is within the most that a reader takes can be written
 pub root_small : (root tree : Tree) → root ≡ tree → length (metadata tree) ≤ 16777216 → length (metadata root) < 2 ^ 31
 root_small root tree is small = omega (arith, small, ap (λ (t : Tree). length (metadata t)) is)
-
--- ---- until ipc_stream takes the laws
-
-pub batch_room : (rows body_length : ℕ) (nodes buffers : List (ℕ × ℕ)) → length (metadata (message_tree 3 (table (scalar 8 rows (refers (structs nodes) (refers (structs buffers) no_slot)))) body_length)) ≤ 300 + 16 * length nodes + 16 * length buffers
-batch_room = batch_short metadata_len
-
-abbrev pub name_len : Column → ℕ
-name_len (column name nullable kind dictionary pairs) = length name
-
-pub columns_few : (cs : List Column) → length cs ≤ length (preorder_all (columns_of cs))
-unfolding preorder preorder_all
-columns_few [] = omega arith
-columns_few (column name nullable kind dictionary pairs ∷ cs) =
-    let rest = columns_few cs in
-    omega (arith, rest, length-append (preorder_below kind) (preorder_all (columns_of cs)))
-
-pub names_few : (cs : List Column) → sum_by name_len cs ≤ sum_by bytes_in (preorder_all (columns_of cs))
-unfolding preorder preorder_all
-names_few [] = omega arith
-names_few (column name nullable kind dictionary pairs ∷ cs) =
-    let c : Column = column name nullable kind dictionary pairs in
-    let rest = names_few cs in
-    let a = sum_by-cons name_len c cs in
-    let b = sum_by-cons bytes_in c (preorder_below kind ++ preorder_all (columns_of cs)) in
-    let d = sum_by-append bytes_in (preorder_below kind) (preorder_all (columns_of cs)) in
-    omega (arith, rest, a, b, d)
-
-pub schema_small : (s : PlainSchema) → is_integer_schema s ≡ true → IsWithinLimits s → length (metadata (message_tree 1 (schema_tree s) 0)) ≤ 16777216
-schema_small s h limits =
-    schema_short metadata_len s h (omega (arith, columns_few s.columns, limits.fields)) (let a : sum_by own_name_len s.columns ≡ sum_by name_len s.columns = same_names s.columns in omega (arith, a, names_few s.columns, limits.bytes))
-  where
-    same_names : (cs : List Column) → sum_by own_name_len cs ≡ sum_by name_len cs
-    same_names [] = refl
-    same_names (column name nullable kind dictionary pairs ∷ cs) = omega (arith, same_names cs, sum_by-cons own_name_len (column name nullable kind dictionary pairs) cs, sum_by-cons name_len (column name nullable kind dictionary pairs) cs)

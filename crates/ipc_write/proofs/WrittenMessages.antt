@@ -21,8 +21,8 @@ use Rattle.ipc_write.specs.Trees.{schema_tree, batch_tree, message_tree, node_pa
 use Rattle.ipc_write.specs.Walked.{Holds, tables_of, tables_of_all}
 use Rattle.ipc_write.specs.Written.{framed, padded, body, placed, batch_of, schema_message, batch_message, schema_envelope, batch_envelope, IsWritableBatch}
 use Rattle.std.proofs.lemmas.Bool.{and_parts}
-use Rattle.ipc_write.proofs.Room.{AreIntegers, Sizes, schema_fits, batch_fits, batch_short}
-use Rattle.ipc_write.proofs.MessageRead.{Fronts, framed_again, type_read}
+use Rattle.ipc_write.proofs.Room.{AreIntegers, Sizes, schema_fits, batch_fits, batch_room}
+use Rattle.ipc_write.proofs.MessageRead.{Fronts, front_again, type_read}
 use Rattle.ipc_write.proofs.HeaderRead.{schema_header_read, batch_header_read}
 
 -- written metadata has its root, as flatbuf tells it
@@ -60,7 +60,7 @@ schema_has roots s ints small = roots (message_tree 1 (schema_tree s) 0) (omega 
 pub schema_front : Roots → Fronts → (s : PlainSchema) (rest : List ℕ) → is_integer_schema s ≡ true → length (schema_envelope s).metadata ≤ 16777216 → front (schema_message s ++ rest) ≡ Ok (message (schema_envelope s))
 schema_front roots fronts s rest ints small =
     ap (λ (bytes : List ℕ). front (bytes ++ rest)) (schema_written s)
-    ∙ framed_again fronts (schema_envelope s).metadata [] rest 1 (schema_tree s) refl (long_metadata (message_tree 1 (schema_tree s) 0)) small (omega arith) (schema_has roots s ints small)
+    ∙ front_again fronts (schema_envelope s).metadata [] rest 1 (schema_tree s) refl (long_metadata (message_tree 1 (schema_tree s) 0)) small (omega arith) (schema_has roots s ints small)
 
 pub schema_type : Roots → (s : PlainSchema) → is_integer_schema s ≡ true → length (schema_envelope s).metadata ≤ 16777216 → type_of (schema_envelope s).metadata ≡ 1
 schema_type roots s ints small = type_read (schema_envelope s).metadata 1 0 (schema_tree s) (schema_has roots s ints small)
@@ -111,7 +111,7 @@ length_placed at (b ∷ bs) = ap suc (length_placed (at + length (padded b)) bs)
 
 pub batch_small : Sizes → (rows : ℕ) (nodes : List RawNode) (buffers : List (List ℕ)) → IsWritableBatch rows nodes buffers → length (batch_envelope rows nodes buffers).metadata ≤ 16777216
 batch_small size rows nodes buffers fits =
-    let room = batch_short size rows (length (body buffers)) (map node_pair nodes) (map buffer_pair (placed 0 buffers)) in
+    let room = batch_room size rows (length (body buffers)) (map node_pair nodes) (map buffer_pair (placed 0 buffers)) in
     let a = length-map nodes node_pair in
     let b = length-map (placed 0 buffers) buffer_pair in
     let c = length_placed 0 buffers in
@@ -130,7 +130,7 @@ pub batch_front : Roots → Fronts → (rows : ℕ) (nodes : List RawNode) (buff
     → front (batch_message rows nodes buffers ++ rest) ≡ Ok (message (batch_envelope rows nodes buffers))
 batch_front roots fronts rows nodes buffers rest fits small =
     ap (λ (bytes : List ℕ). front (bytes ++ rest)) (batch_written rows nodes buffers)
-    ∙ framed_again fronts (batch_envelope rows nodes buffers).metadata (body buffers) rest 3 (batch_tree (batch_of rows nodes buffers)) refl (long_metadata (message_tree 3 (batch_tree (batch_of rows nodes buffers)) (length (body buffers))))
+    ∙ front_again fronts (batch_envelope rows nodes buffers).metadata (body buffers) rest 3 (batch_tree (batch_of rows nodes buffers)) refl (long_metadata (message_tree 3 (batch_tree (batch_of rows nodes buffers)) (length (body buffers))))
     small (omega (arith, fits.short_body)) (batch_has roots rows nodes buffers fits small)
 
 pub batch_type : Roots → (rows : ℕ) (nodes : List RawNode) (buffers : List (List ℕ)) → IsWritableBatch rows nodes buffers → length (batch_envelope rows nodes buffers).metadata ≤ 16777216 → type_of (batch_envelope rows nodes buffers).metadata ≡ 3

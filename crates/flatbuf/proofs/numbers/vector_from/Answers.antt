@@ -1,7 +1,7 @@
 use Rattle.std.proofs.Common.{◌≡◌, ◌+◌, ◌∙◌, ap}
 use Rattle.std.proofs.lemmas.Result.{err_from_is_err_and}
 use Rattle.flatbuf.specs.Lookup.{target}
-use Rattle.flatbuf.specs.WalkLaws.{first_err, first_ok}
+use Rattle.flatbuf.proofs.FirstThing.{first_err, first_ok}
 use Rattle.flatbuf.proofs.numbers.vector_from.Goals as goal
 
 pub returns-in_err-distance-clause-walked : goal.returns-in_err-distance-clause-walked

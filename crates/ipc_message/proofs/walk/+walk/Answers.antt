@@ -1,9 +1,8 @@
-use Rattle.std.proofs.Common.{◌≡◌, ◌∷◌, [], ◌++◌, map, ap, sym, slice_index, ◌∙◌, ◌-◌, ◌<◌, arith}
-use Rattle.std.specs.List.{flat_map}
+use Rattle.std.proofs.Common.{◌≡◌, ◌∷◌, [], ◌++◌, map, ap, sym, slice_index, ◌∙◌, ◌-◌, arith}
 use Rattle.std.proofs.lemmas.Result.{err_from_is_err_and}
 use Rattle.std.proofs.lemmas.List.{map_push}
-use Rattle.flatbuf.specs.Lookup.{table_at, elements}
-use Rattle.flatbuf.specs.Seen.{tables_in, bytes_of, place_of, levels_of, slot_of, bytes_behind, places_in, levels_behind}
+use Rattle.flatbuf.specs.Lookup.{elements}
+use Rattle.flatbuf.specs.Seen.{tables_in, bytes_of, levels_of, slot_of, bytes_behind, places_in, levels_behind}
 use Rattle.flatbuf.specs.WalkLaws.{run_err}
 use Rattle.ipc_message.specs.declared.raw.RawField.TheFolds.{fold-roll-RawField}
 use Rattle.ipc_message.specs.Raw as raw

@@ -1,7 +1,7 @@
 use Rattle.std.proofs.lemmas.Result.{err_from_is_err_and}
 use Rattle.flatbuf.specs.Seen.{tables_in, buffer_bytes}
 use Rattle.flatbuf.specs.Walk.{root_things}
-use Rattle.flatbuf.specs.WalkLaws.{first_err}
+use Rattle.flatbuf.proofs.FirstThing.{first_err}
 use Rattle.flatbuf.proofs.buf.Buf.root.Goals as goal
 
 pub returns-in_err-at-clause-walked : goal.returns-in_err-at-clause-walked

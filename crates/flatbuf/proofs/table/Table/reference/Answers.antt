@@ -1,7 +1,7 @@
 use Rattle.std.proofs.Common.{◌≡◌, Some, sym}
 use Rattle.std.proofs.lemmas.Result.{err_from_is_err_and}
 use Rattle.flatbuf.specs.Seen.{tables_in, bytes_of, slot_of}
-use Rattle.flatbuf.specs.WalkLaws.{first_err}
+use Rattle.flatbuf.proofs.FirstThing.{first_err}
 use Rattle.flatbuf.proofs.table.Table.reference.Goals as goal
 
 pub returns-in_err-distance-in-Some-clause-walked : goal.returns-in_err-distance-in-Some-clause-walked

@@ -1,4 +1,4 @@
-use Rattle.std.proofs.Common.{◌≡◌, ◌∙◌, ◌-◌, ap}
+use Rattle.std.proofs.Common.{◌∙◌, ◌-◌, ap}
 use Rattle.std.proofs.lemmas.Result.{err_from_is_err_and}
 use Rattle.flatbuf.specs.Seen.{bytes_of, tables_in, levels_of, place_of}
 use Rattle.ipc_message.proofs.HeaderLemmas.{header_absent, header_there, needed_there, behind_there}
