@@ -1,13 +1,13 @@
-pub mod CellLemmas
-pub mod WeightLemmas
-pub mod EntryLemmas
-pub mod HoldingLemmas
-pub mod RowLemmas
-pub mod AcceptLemmas
-pub mod TableLemmas
-pub mod RangeLemmas
-pub mod IntegerRows
-pub mod IntegerTables
-pub mod ContentLemmas
-pub mod IntegerCells
-pub mod DistinctEntries
+mod CellLemmas
+mod WeightLemmas
+mod EntryLemmas
+mod HoldingLemmas
+mod RowLemmas
+mod AcceptLemmas
+mod TableLemmas
+mod RangeLemmas
+mod IntegerRows
+mod IntegerTables
+mod ContentLemmas
+mod IntegerCells
+mod DistinctEntries

@@ -1,18 +1,12 @@
 -- An integer that is read from so many bytes is one of so many bits.
 use Rattle.std.specs.Prelude.{pos, ℤ, ◌-ℤ◌, ◌≤ℤ◌, ◌<ℤ◌, neg_ℤ, int_le, int_lt}
-use Rattle.std.proofs.Common.{◌≡◌, ℕ, zero, suc, ◌-◌, ◌*◌, ◌/◌, ◌^◌, ◌<◌, ◌≤◌, Bool, true, false, inl, inr, arith, ap, ◌∙◌}
+use Rattle.std.proofs.Common.{◌≡◌, ℕ, ◌-◌, ◌*◌, ◌/◌, ◌^◌, ◌<◌, Bool, true, false, inl, inr, arith}
 use Rattle.std.proofs.lemmas.Bool.{cases_lt, and_from, le-ltb, lt-ltb}
 use Rattle.std.proofs.lemmas.Bool.Decides.{nat_tests}
 use Rattle.std.proofs.lemmas.Int.{ints}
-use Rattle.std.proofs.Math.Nat.{pow-suc}
-use Rattle.byteorder.proofs.Bytes.{pow256}
 use Rattle.arrow_schema.specs.Integers.{is_bit_width}
 use Rattle.values.specs.Fit.{in_range}
 use Rattle.values.specs.Integers.{integer_of}
-
-double : (k : ℕ) → 1 ≤ k → 2 ^ k ≡ 2 * 2 ^ (k - 1)
-double zero one = absurd (omega arith)
-double (suc k) one = let less : suc k - 1 ≡ k = omega arith in rw less (omega (arith, pow-suc 2 k))
 
 within : (low high : ℤ) (z : ℤ) → low ≤ℤ z → z <ℤ high → int_le low z ≡ true
 within low high z a b = grind (arith, ints)
@@ -20,7 +14,8 @@ within low high z a b = grind (arith, ints)
 below : (z high : ℤ) → z <ℤ high → int_lt z high ≡ true
 below z high b = grind (arith, ints)
 
-width_cases : (bits : ℕ) → is_bit_width bits ≡ true → (8 * (bits / 8) ≡ bits) × (1 ≤ bits)
+-- of each width
+width_cases : (bits : ℕ) → is_bit_width bits ≡ true → (256 ^ (bits / 8) ≡ 2 ^ bits) × (8 * (bits / 8) ≡ bits) × (2 ^ bits ≡ 2 * 2 ^ (bits - 1))
 width_cases bits w = grind (arith, nat_tests)
 
 signed_in : (k : ℕ) (z : ℤ) → neg_ℤ (pos k) ≤ℤ z → z <ℤ pos k → (int_le (neg_ℤ (pos k)) z ≡ true) × (int_lt z (pos k) ≡ true)
@@ -29,15 +24,13 @@ signed_in k z a b = (within _ (pos k) z a b, below z (pos k) b)
 pub integer_fits : (bits : ℕ) (signed : Bool) (n : ℕ) → is_bit_width bits ≡ true → n < 256 ^ (bits / 8) → in_range bits signed (integer_of (bits / 8) signed n) ≡ true
 integer_fits bits false n w h =
     let whole = width_cases bits w in
-    let e : 256 ^ (bits / 8) ≡ 2 ^ bits = pow256 (bits / 8) ∙ ap (λ (k : ℕ). 2 ^ k) whole.0 in
-    let lt : n < 2 ^ bits = rw (← e) h in
+    let lt : n < 2 ^ bits = rw (← whole.0) h in
     and_from _ _ (within (pos 0) (pos (2 ^ bits)) (pos n) (omega (arith, ints)) (omega (arith, ints))) (below (pos n) (pos (2 ^ bits)) (omega (arith, ints)))
 integer_fits bits true n w h =
     let whole = width_cases bits w in
-    let e : 256 ^ (bits / 8) ≡ 2 ^ bits = pow256 (bits / 8) ∙ ap (λ (k : ℕ). 2 ^ k) whole.0 in
-    let lt : n < 2 ^ bits = rw (← e) h in
-    let two : 2 ^ bits ≡ 2 * 2 ^ (bits - 1) = double bits whole.1 in
-    rw whole.0 (elim (cases_lt n (2 ^ (bits - 1))) [
+    let lt : n < 2 ^ bits = rw (← whole.0) h in
+    let two = whole.2 in
+    rw whole.1 (elim (cases_lt n (2 ^ (bits - 1))) [
       | inl low ↦ rw (lt-ltb n (2 ^ (bits - 1)) low)
           (let b = signed_in (2 ^ (bits - 1)) (pos n) (omega (arith, ints)) (omega (arith, ints)) in and_from _ _ b.0 b.1)
       | inr high ↦ rw (le-ltb n (2 ^ (bits - 1)) high)
