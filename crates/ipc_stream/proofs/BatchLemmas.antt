@@ -1,5 +1,5 @@
 -- What the tests of a batch say of its parts.
-use Rattle.std.specs.Prelude.{not, ◌==◌, ◌&&◌, ◌||◌, ◌/◌, nat_lt, IsTrue}
+use Rattle.std.specs.Prelude.{not, ◌==◌, ◌&&◌, ◌||◌, ◌/◌, nat_lt}
 use Rattle.std.specs.List.{list_any}
 use Rattle.std.proofs.Common.{◌≡◌, ℕ, ◌+◌, ◌*◌, ◌^◌, ◌≤◌, ◌<◌, Bool, true, false, List, ◌∷◌, length, map, drop, get_or, refl, arith, sym, ap, ◌∙◌}
 use Rattle.std.proofs.lemmas.List.{length-map, get_or-map}
@@ -16,11 +16,10 @@ use Rattle.ipc_message.specs.Raw.{RawNode}
 use Rattle.ipc_message.specs.declared.raw.RawBatch.{RawBatch}
 use Rattle.ipc_message.specs.View.{raw_batch_of, nodes_in, buffers_in}
 use Rattle.values.specs.Columns.{IntegerColumn}
-use Rattle.arrow_schema.specs.Integers.{is_integer_schema}
 use Rattle.values.specs.IntegerTable.{integer_column, integer_columns}
 use Rattle.ipc_stream.specs.Batch.{is_negative, is_bad_length, has_bad_length, has_other_layout, arrays_in, are_too_heavy, batch_rows, bytes_of}
 use Rattle.ipc_stream.proofs.RowLemmas.{length_rows}
-use Rattle.ipc_stream.proofs.RowWeights.{too_heavy}
+use Rattle.ipc_stream.proofs.RowWeights.{WeighAlike, too_heavy}
 use Rattle.ipc_stream.proofs.ArrayLemmas.{count_nodes, count_buffers, count_arrays, array_at, next_array}
 
 -- ---- the layout
@@ -88,15 +87,15 @@ column_is schema i f few is =
 
 -- ---- the weight
 
-pub heavy_is : (schema : Schema) (b : RawBatch) (body : List ℕ) (rows : List (List Cell)) (before columns : ℕ) → IsTrue (is_integer_schema (schema_of schema)) → length (schema_of schema).columns ≤ 2048
+pub heavy_is : (schema : Schema) (b : RawBatch) (body : List ℕ) (rows : List (List Cell)) (before columns : ℕ) → WeighAlike (schema_of schema) → length (schema_of schema).columns ≤ 2048
     → length rows ≡ before → columns ≡ length schema.fields.items
     → are_too_heavy (schema_of schema) rows (batch_rows (schema_of schema) (raw_batch_of b) body) ≡ nat_lt 268435456 ((before + b.length) * (1 + columns))
 unfolding batch_rows
-heavy_is schema b body rows before columns ints few len is =
+heavy_is schema b body rows before columns alike few len is =
     let s : PlainSchema = schema_of schema in
     let many : length (batch_rows s (raw_batch_of b) body) ≡ b.length = length_rows (integer_columns s) (map (λ a. bytes_of body a.values) (arrays_in s (raw_batch_of b))) 0 b.length in
     let count : length s.columns ≡ columns = length-map schema.fields.items column_of ∙ sym is in
-    too_heavy s rows (batch_rows s (raw_batch_of b) body) ints few ∙ λ j. nat_lt 268435456 ((len j + many j) * (1 + count j))
+    too_heavy s rows (batch_rows s (raw_batch_of b) body) alike few ∙ λ j. nat_lt 268435456 ((len j + many j) * (1 + count j))
 
 pub few_rows : (b : RawBatch) → has_bad_length (raw_batch_of b) ≡ false → b.length ≤ 16777216
 few_rows b fine =

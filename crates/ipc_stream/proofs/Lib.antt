@@ -13,7 +13,7 @@ pub mod Pieces
 pub mod RowWeights
 pub mod PieceSize
 pub mod PieceLemmas
-pub mod IntegerTables
+pub mod ColumnBytes
 pub mod PackLemmas
 pub mod PackColumns
 pub mod FrontLaw

@@ -1,13 +1,13 @@
 -- The pieces of a table of integers: so many rows each.
 use Rattle.std.specs.Prelude.{IsTrue, min}
 use Rattle.std.specs.List.{flat_map, list_all}
-use Rattle.std.proofs.Common.{◌≡◌, ℕ, zero, suc, ◌+◌, ◌-◌, ◌≤◌, ◌<◌, true, List, [], ◌∷◌, ◌++◌, length, take, drop, Some, None, refl, arith, sym, ap, ◌∙◌}
+use Rattle.std.proofs.Common.{◌≡◌, ℕ, zero, suc, ◌+◌, ◌-◌, ◌≤◌, ◌<◌, true, List, [], ◌∷◌, ◌++◌, length, take, drop, refl, arith, sym, ap, ◌∙◌}
 use Rattle.std.proofs.lemmas.List.Concat.{flat_map-cons}
 use Rattle.std.proofs.lemmas.List.{take_min, drop_min}
 use Rattle.std.proofs.lemmas.Bool.{and_parts}
-use Rattle.arrow_schema.specs.Column.{Column, column, integers, columns_of, PlainSchema, nulls, booleans, dates, timestamps, texts, large_texts, binaries, large_binaries, fixed_binaries, lists, large_lists, fixed_lists, structs}
-use Rattle.values.specs.Cell.{Cell, Cells, cells_of}
-use Rattle.values.specs.Weight.{weight, kind_weight, parts_weight, first_part, other_parts, row_weight}
+use Rattle.arrow_schema.specs.Column.{Column, PlainSchema}
+use Rattle.values.specs.Cell.{Cell}
+use Rattle.values.specs.Weight.{row_weight}
 use Rattle.ipc_write.specs.Written.{schema_message, end_mark}
 use Rattle.ipc_stream.specs.Canonical.{canonical, piece_message}
 use Rattle.values.specs.Columns.{IntegerColumn, row_at, rows_from}
@@ -15,50 +15,11 @@ use Rattle.ipc_stream.specs.Cut.{pieces, within_limits}
 use Rattle.arrow_schema.specs.Integers.{is_integer_schema, is_integer_column, is_empty}
 use Rattle.values.specs.IntegerTable.{integer_columns, plain_table}
 use Rattle.ipc_stream.proofs.CutLemmas.{AllLight, first_piece}
+use Rattle.ipc_stream.proofs.RowWeights.{WeighAlike}
 use Rattle.ipc_stream.proofs.RowLemmas.{take_rows, drop_rows, length_rows}
 
 abbrev pub AreIntegers : List Column → Type 0
 AreIntegers columns = list_all is_integer_column columns ≡ true
-
--- a column of integers weighs one, whatever its cell
-one : (c : Column) (x : Cell) → is_integer_column c ≡ true → weight c x ≡ 1
-unfolding weight kind_weight
-one (column name nullable (integers bits signed) dictionary pairs) x h = refl
-one (column name nullable nulls (Some index) pairs) x h = cc
-one (column name nullable nulls None pairs) x h = cc
-one (column name nullable booleans (Some index) pairs) x h = cc
-one (column name nullable booleans None pairs) x h = cc
-one (column name nullable (dates u) (Some index) pairs) x h = cc
-one (column name nullable (dates u) None pairs) x h = cc
-one (column name nullable (timestamps u z) (Some index) pairs) x h = cc
-one (column name nullable (timestamps u z) None pairs) x h = cc
-one (column name nullable texts (Some index) pairs) x h = cc
-one (column name nullable texts None pairs) x h = cc
-one (column name nullable large_texts (Some index) pairs) x h = cc
-one (column name nullable large_texts None pairs) x h = cc
-one (column name nullable binaries (Some index) pairs) x h = cc
-one (column name nullable binaries None pairs) x h = cc
-one (column name nullable large_binaries (Some index) pairs) x h = cc
-one (column name nullable large_binaries None pairs) x h = cc
-one (column name nullable (fixed_binaries w) (Some index) pairs) x h = cc
-one (column name nullable (fixed_binaries w) None pairs) x h = cc
-one (column name nullable (lists i) (Some index) pairs) x h = cc
-one (column name nullable (lists i) None pairs) x h = cc
-one (column name nullable (large_lists i) (Some index) pairs) x h = cc
-one (column name nullable (large_lists i) None pairs) x h = cc
-one (column name nullable (fixed_lists n i) (Some index) pairs) x h = cc
-one (column name nullable (fixed_lists n i) None pairs) x h = cc
-one (column name nullable (structs cs) (Some index) pairs) x h = cc
-one (column name nullable (structs cs) None pairs) x h = cc
-
-pub parts_weigh : (cs : List Column) (x : Cells) → AreIntegers cs → parts_weight (columns_of cs) x ≡ length cs
-unfolding parts_weight
-parts_weigh [] x h = refl
-parts_weigh (c ∷ cs) x h =
-    let parts = and_parts (is_integer_column c) (list_all is_integer_column cs) h in
-    let head = one c (first_part x) parts.0 in
-    let tail = parts_weigh cs (other_parts x) parts.1 in
-    omega (arith, head, tail)
 
 rows_light : (s : PlainSchema) (most : ℕ) (cs : List IntegerColumn) (vs : List (List ℕ)) (i n : ℕ) → ((row : List Cell) → row_weight s row ≤ most) → AllLight (row_weight s) most (rows_from cs vs i n)
 rows_light s most cs vs i zero light = tt
@@ -72,15 +33,14 @@ integers_of s h = (and_parts (list_all is_integer_column s.columns) (is_empty s.
 unfoldable pub messages_of : PlainSchema → List (List ℕ) → ℕ → ℕ → List ℕ
 messages_of s vs from n = flat_map (piece_message s) (pieces (within_limits (row_weight s) 4096 16777216) (rows_from (integer_columns s) vs from n))
 
-pub next_piece : (s : PlainSchema) (vs : List (List ℕ)) (from n k : ℕ) → IsTrue (is_integer_schema s) → length s.columns ≤ 2048 → 0 < n → k ≡ min 4096 n
+pub next_piece : (s : PlainSchema) (vs : List (List ℕ)) (from n k : ℕ) → WeighAlike s → length s.columns ≤ 2048 → 0 < n → k ≡ min 4096 n
     → messages_of s vs from n ≡ piece_message s (rows_from (integer_columns s) vs from k) ++ messages_of s vs (from + k) (n - k)
 unfolding messages_of
-next_piece s vs from n k ints few some is =
+next_piece s vs from n k alike few some is =
     let cs : List IntegerColumn = integer_columns s in
     let rows : List (List Cell) = rows_from cs vs from n in
     let W = within_limits (row_weight s) 4096 16777216 in
-    let columns : AreIntegers s.columns = integers_of s ints in
-    let light : AllLight (row_weight s) 2049 rows = rows_light s 2049 cs vs from n (λ row. let w = parts_weigh s.columns (cells_of row) columns in omega (arith, w, few)) in
+    let light : AllLight (row_weight s) 2049 rows = rows_light s 2049 cs vs from n (λ row. let w = alike.row row in omega (arith, w, few)) in
     let len : length rows ≡ n = length_rows cs vs from n in
     let first : pieces W rows ≡ take 4096 rows ∷ pieces W (drop 4096 rows) = first_piece (row_weight s) 2049 4096 16777216 rows (omega arith) (omega arith) light (omega arith) in
     let least : k ≡ min 4096 (length rows) = is ∙ ap (min 4096) (sym len) in

@@ -1,9 +1,9 @@
 -- The canonical stream of a table is read as that table.
 use Rattle.std.specs.Prelude.{IsTrue, min, sum_by, Result}
-use Rattle.std.proofs.Common.{◌≡◌, ℕ, zero, suc, ◌+◌, ◌-◌, ◌*◌, ◌<◌, ◌≤◌, Bool, true, false, List, [], ◌∷◌, ◌++◌, length, drop, None, Ok, refl, arith, ap, ◌∙◌, length-append, append_assoc}
+use Rattle.std.proofs.Common.{◌≡◌, ℕ, zero, suc, ◌+◌, ◌-◌, ◌*◌, ◌<◌, ◌≤◌, Bool, true, false, List, [], ◌∷◌, ◌++◌, length, drop, None, Ok, refl, arith, ap, ◌∙◌, append_assoc}
 use Rattle.std.proofs.lemmas.Grind.{flat_map-append}
 use Rattle.std.proofs.lemmas.List.{append-nil, length-map}
-use Rattle.std.proofs.Math.Nat.{mul-le-mul_left}
+use Rattle.std.proofs.Math.Nat.{mul-le-mul_right}
 use Rattle.flatbuf.specs.Lookup.{number}
 use Rattle.arrow_schema.specs.Column.{PlainSchema}
 use Rattle.arrow_schema.specs.Limits.{name_len}
@@ -23,6 +23,7 @@ use Rattle.ipc_stream.specs.Meaning.{◌>>=◌, Message, order_fault, header_rou
 use Rattle.arrow_schema.specs.Integers.{is_integer_schema, is_empty}
 use Rattle.values.specs.IntegerTable.{integer_column, integer_columns, have_rows, plain_table}
 use Rattle.ipc_stream.proofs.Pieces.{integers_of, messages_of, next_piece, no_piece, canonical_is}
+use Rattle.ipc_stream.proofs.RowWeights.{WeighAlike}
 use Rattle.ipc_stream.proofs.RowLemmas.{length_rows}
 use Rattle.ipc_stream.proofs.FramedBack.{some_front}
 use Rattle.ipc_stream.proofs.FramedMessages.{message_of}
@@ -70,6 +71,7 @@ order_none before n some is = rw (some, is) refl
 
 pub record HasColumns (s : PlainSchema) (vs : List (List ℕ)) (rows : ℕ) : Type 0 where
   pub integers : IsTrue (is_integer_schema s)
+  pub weigh : WeighAlike s
   pub few : length s.columns ≤ 2048
   pub short : sum_by name_len s.columns ≤ 4194304
   pub named : AreNamed s.columns
@@ -127,17 +129,16 @@ piece_sound s vs total from k before held is some inside =
     let rows : List (List Cell) = rows_from cs vs from k in
     let old : List (List Cell) = rows_from cs vs 0 from in
     let bytes : List ℕ = body (piece_buffers s rows) in
-    let h = integers_of s held.integers in
     let count : length rows ≡ k = length_rows cs vs from k in
     let count_old : length old ≡ from = length_rows cs vs 0 from in
-    let all : length (old ++ rows) ≤ total = omega (arith, inside, count, count_old, length-append old rows) in
-    let product : (1 + length s.columns) * length (old ++ rows) ≤ (1 + length s.columns) * total = mul-le-mul_left (1 + length s.columns) all in
-    let light : (1 + length s.columns) * length (old ++ rows) ≤ 268435456 = omega (arith, product, held.light) in
+    let all : length old + length rows ≤ total = omega (arith, inside, count, count_old) in
+    let product : (length old + length rows) * (1 + length s.columns) ≤ total * (1 + length s.columns) = mul-le-mul_right (1 + length s.columns) all in
+    let light : (length old + length rows) * (1 + length s.columns) ≤ 268435456 = omega (arith, product, held.light) in
     let few_rows : length rows ≤ 4096 = omega (arith, some, count) in
     let small = piece_writable s vs total rows held few_rows in
     ap (λ (x : PlainSchema). first_some (batch_rounds x (rows_in x before) (piece_batch s rows) bytes)) (schema_of_read s vs total from before held is)
     ∙ ap (λ (x : List (List Cell)). first_some (batch_rounds s x (piece_batch s rows) bytes)) is.rows
-    ∙ batch_accepted s old rows h held.few few_rows (rows_are cs vs total from k held.each held.bytes) small.short_body light
+    ∙ batch_accepted s old rows held.weigh held.few few_rows (rows_are cs vs total from k held.each held.bytes) small.short_body light
 
 piece_accepted : BatchLaw → (s : PlainSchema) (vs : List (List ℕ)) (total from k : ℕ) (before : List Message) → HasColumns s vs total → IsReadTo s vs from before → k ≤ 4096 → from + k ≤ total
     → accepted held_codes before (piece_envelope s (rows_from (integer_columns s) vs from k)) ≡ Ok (piece_read s (rows_from (integer_columns s) vs from k))
@@ -207,7 +208,7 @@ read_on law (suc steps) s vs total from (suc m) before held is all enough =
     let some : k ≤ 4096 = omega arith in
     let inside : from + k ≤ total = omega (arith, all) in
     let count : length rows ≡ k = length_rows (integer_columns s) vs from k in
-    let cut : messages_of s vs from (suc m) ≡ piece_message s rows ++ others = next_piece s vs from (suc m) k held.integers held.few (omega arith) refl in
+    let cut : messages_of s vs from (suc m) ≡ piece_message s rows ++ others = next_piece s vs from (suc m) k held.weigh held.few (omega arith) refl in
     let bytes : messages_of s vs from (suc m) ++ end_mark ≡ here = ap (λ (xs : List ℕ). xs ++ end_mark) cut ∙ append_assoc (piece_message s rows) others end_mark in
     let stands = piece_front law s vs total rows rest held (omega (arith, some, count)) in
     let after = piece_after law s rows rest in

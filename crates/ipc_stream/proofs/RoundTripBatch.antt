@@ -7,20 +7,18 @@ use Rattle.std.proofs.Math.Nat.{mul-le-mul, le_refl}
 use Rattle.std.proofs.Math.Seq.{drop-append_seam, take-append_seam}
 use Rattle.std.proofs.lemmas.Bool.{eq-eqb, le-ltb, lt-ltb, or_from}
 use Rattle.arrow_schema.specs.Column.{Column, PlainSchema}
-use Rattle.values.specs.Cell.{Cell, cells_of}
-use Rattle.values.specs.Weight.{row_weight, table_weight}
+use Rattle.values.specs.Cell.{Cell}
 use Rattle.ipc_message.specs.Framing.{first_some}
 use Rattle.ipc_message.specs.Raw.{RawNode, RawBatch}
 use Rattle.flatbuf.specs.Held.{FitsStructs}
 use Rattle.ipc_write.specs.Trees.{node_pair}
 use Rattle.ipc_write.specs.Written.{padded, body, placed, batch_of}
-use Rattle.ipc_stream.specs.Batch.{Array, arrays_of, is_bad_length, is_outside, is_short, has_validity, counts_nulls, has_other_layout, has_bad_length, bytes_of, batch_rows, are_too_heavy, batch_rounds}
+use Rattle.ipc_stream.specs.Batch.{Array, arrays_of, is_bad_length, is_outside, is_short, has_validity, counts_nulls, has_other_layout, has_bad_length, bytes_of, batch_rows, batch_rounds}
 use Rattle.ipc_stream.specs.Canonical.{integer_buffers, full_nodes}
 use Rattle.values.specs.Columns.{IntegerColumn, values_of, first_cell, other_cells, values_of_all, rows_from}
 use Rattle.values.specs.IntegerTable.{integer_column, integer_columns}
 use Rattle.ipc_stream.proofs.ColumnLemmas.{AreRowsOf, length-values, rows_again}
-use Rattle.ipc_stream.proofs.CutLemmas.{AllLight, light_sum}
-use Rattle.ipc_stream.proofs.Pieces.{AreIntegers, parts_weigh}
+use Rattle.ipc_stream.proofs.RowWeights.{WeighAlike, too_heavy}
 use Rattle.ipc_stream.proofs.PieceSize.{padded_small}
 
 -- the batch of a piece
@@ -135,22 +133,6 @@ rows_back s rows are =
     ∙ ap (λ (vs : List (List ℕ)). rows_from cs vs 0 (length rows)) (values_back cs rows (length rows) 0 B [] refl refl)
     ∙ rows_again cs [] rows are
 
--- ---- weights
-
-pub all_light : (s : PlainSchema) (rows : List (List Cell)) → AreIntegers s.columns → AllLight (row_weight s) (1 + length s.columns) rows
-all_light s [] h = tt
-all_light s (row ∷ rows) h = let w = parts_weigh s.columns (cells_of row) h in (omega (arith, w), all_light s rows h)
-
-none_heavy : (s : PlainSchema) (most : ℕ) (rows : List (List Cell)) → most ≤ 16777216 → AllLight (row_weight s) most rows → list_any (λ (row : List Cell). nat_lt 16777216 (row_weight s row)) rows ≡ false
-none_heavy s most [] few light = refl
-none_heavy s most (row ∷ rows) few light =
-    or_from (nat_lt 16777216 (row_weight s row)) (list_any (λ (r : List Cell). nat_lt 16777216 (row_weight s r)) rows) (le-ltb 16777216 (row_weight s row) (let w : row_weight s row ≤ most = light.0 in omega (arith, w, few))) (none_heavy s most rows few light.1)
-
-light_enough : (s : PlainSchema) (before rows : List (List Cell)) → AreIntegers s.columns → length s.columns ≤ 2048 → (1 + length s.columns) * length (before ++ rows) ≤ 268435456 → are_too_heavy s before rows ≡ false
-light_enough s before rows h few light =
-    let sum : table_weight s (before ++ rows) ≤ (1 + length s.columns) * length (before ++ rows) = light_sum (row_weight s) (1 + length s.columns) (before ++ rows) (all_light s (before ++ rows) h) in
-    or_from _ _ (none_heavy s (1 + length s.columns) rows (omega (arith, few)) (all_light s rows h)) (le-ltb 268435456 (table_weight s (before ++ rows)) (omega (arith, sum, light)))
-
 -- ---- the size of the body
 
 -- no column is wider than eight bytes
@@ -195,11 +177,11 @@ arrays_fair p s rows f =
     ap (λ (ns : List RawNode). list_any p (arrays_of (integer_columns s) ns (placed 0 (piece_buffers s rows)))) (full_again s.columns (length rows)) ∙ no_array p (length rows) f (integer_columns s) rows 0 refl
 
 -- no test of the batch finds anything
-pub batch_accepted : (s : PlainSchema) (before rows : List (List Cell)) → AreIntegers s.columns → length s.columns ≤ 2048 → length rows ≤ 4096 → AreRowsOf (integer_columns s) rows
-    → length (body (piece_buffers s rows)) < 2 ^ 62 → (1 + length s.columns) * length (before ++ rows) ≤ 268435456
+pub batch_accepted : (s : PlainSchema) (before rows : List (List Cell)) → WeighAlike s → length s.columns ≤ 2048 → length rows ≤ 4096 → AreRowsOf (integer_columns s) rows
+    → length (body (piece_buffers s rows)) < 2 ^ 62 → (length before + length rows) * (1 + length s.columns) ≤ 268435456
     → first_some (batch_rounds s before (piece_batch s rows) (body (piece_buffers s rows))) ≡ None
 unfolding batch_rounds
-batch_accepted s before rows h few some are small light =
+batch_accepted s before rows alike few some are small light =
     let B : List ℕ = body (piece_buffers s rows) in
     rw (
       layout_fair s rows,
@@ -209,5 +191,6 @@ batch_accepted s before rows h few some are small light =
       arrays_fair has_validity s rows (valid_one (length rows)),
       arrays_fair counts_nulls s rows (null_one (length rows)),
       rows_back s rows are,
-      light_enough s before rows h few light,
+      too_heavy s before rows alike few,
+      le-ltb 268435456 ((length before + length rows) * (1 + length s.columns)) light,
     ) refl

@@ -21,6 +21,7 @@ use arrow_schema::{Schema, limits_bound_columns};
 use byteorder::{ByteOrder, LittleEndian};
 use ipc_message::{Fault, ImportError, RawBatch};
 use std::alloc::AllocError;
+use values::integer_rows_weigh_alike;
 
 /// The most rows of a batch.
 const MAX_LENGTH: u64 = 16_777_216;
@@ -162,6 +163,7 @@ fn batch_fault(schema: &Schema, before: usize, batch: &RawBatch, body: &[u8]) ->
     ensures { (rows : List (List Cell)) → length rows ≡ before → result ≡ first_some (batch_rounds (schema_of schema.now) rows (raw_batch_of batch.now) body.now) }
 {
     limits_bound_columns();
+    integer_rows_weigh_alike();
     if batch.compressed {
         return Some(Fault::Compressed);
     }
@@ -235,6 +237,7 @@ pub(crate) fn add_batch(
     ensures { Gives gathered_table result (added (gathered_table table) (raw_batch_of batch.now) body.now) }
 {
     limits_bound_columns();
+    integer_rows_weigh_alike();
     if let Some(fault) = batch_fault(&table.schema, table.rows, batch, body) {
         return Err(ImportError::Fault(fault));
     }

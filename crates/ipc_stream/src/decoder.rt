@@ -21,7 +21,7 @@ use ipc_message::{
     Fault, Front, Header, HeaderType, ImportError, Message, read_message, read_schema,
 };
 use std::alloc::{AllocError, Global};
-use values::Table;
+use values::{Table, integer_columns_are_integer_tables};
 
 /// What stands at the front of the bytes, and how many bytes it takes.
 fn front_at(bytes: &[u8]) -> Result<(Front<'_>, usize), ImportError>
@@ -134,6 +134,7 @@ pub fn decode(alloc: Global, bytes: &[u8]) -> Result<Table, ImportError>
     // Columns of other types, and nulls, are not read yet.
     ensures integers { IfOk result (λ table. IsIntegerTable (table_of table)) }
 {
+    integer_columns_are_integer_tables();
     let Gathered {
         schema,
         columns,

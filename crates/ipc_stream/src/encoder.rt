@@ -13,7 +13,7 @@ use crate::pack::pack;
 use arrow_schema::{Schema, limits_bound_columns};
 use ipc_write::{write_batch, write_end, write_schema};
 use std::alloc::{AllocError, Global};
-use values::Table;
+use values::{Table, integer_rows_weigh_alike};
 
 /// The most rows of a piece. Rows of integers are too light for the limit of weight to count.
 const PIECE_ROWS: usize = 4096;
@@ -72,6 +72,7 @@ fn encode_columns(
     ensures { IfOk result (λ out. out.items ≡ canonical (plain_table (schema_of schema.now) (map (λ v. v.items) columns.now) rows)) }
 {
     limits_bound_columns();
+    integer_rows_weigh_alike();
     let mut out = Vec::new(alloc);
     write_schema(alloc, &mut out, schema)?;
     let mut from = 0;

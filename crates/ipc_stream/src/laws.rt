@@ -16,7 +16,7 @@ ghost use Rattle.values.specs.TableView.{table_of};
 use arrow_schema::limits_bound_columns;
 use ipc_message::front_is_framed;
 use ipc_write::{batch_message_is_read_again, schema_message_is_read_again};
-use values::Table;
+use values::{Table, integer_rows_weigh_alike};
 
 /// A stream that means a table spells it: framed messages, of which the first is its schema and the others are record
 /// batches, whose rows joined are the table's, and then nothing or the end mark; and it spells no other table. A stream
@@ -41,6 +41,7 @@ pub fn canonical_means_its_table(table: &Table)
     // A table is within the limits: a contract knows it of the schema that is lent.
     let _schema = table.schema();
     limits_bound_columns();
+    integer_rows_weigh_alike();
     schema_message_is_read_again();
     batch_message_is_read_again();
 }

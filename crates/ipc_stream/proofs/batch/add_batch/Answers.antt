@@ -2,6 +2,7 @@ use Rattle.std.specs.Prelude.{Ok}
 use Rattle.std.proofs.Common.{◌≡◌, ◌≤◌, ◌+◌, ◌*◌, ℕ, true, List, [], ◌∷◌, None, length, map, arith, refl, sym, ap, ◌∙◌}
 use Rattle.std.proofs.lemmas.List.{length-map}
 use Rattle.std.proofs.lemmas.Bool.{and_parts, ltb-false}
+use Rattle.arrow_schema.specs.Column.{PlainSchema}
 use Rattle.arrow_schema.specs.View.{schema_of}
 use Rattle.values.specs.Cell.{Cell}
 use Rattle.ipc_message.specs.declared.raw.RawBatch.{RawBatch}
@@ -14,6 +15,7 @@ use Rattle.ipc_stream.specs.Batch.{batch_rounds}
 use Rattle.ipc_stream.specs.View.{gathered_table}
 use Rattle.ipc_stream.specs.Added.{added}
 use Rattle.ipc_stream.proofs.RowLemmas.{length_rows}
+use Rattle.ipc_stream.proofs.RowWeights.{WeighAlike}
 use Rattle.ipc_stream.proofs.BatchLemmas.{count_columns, few_rows, heavy_is}
 use Rattle.ipc_stream.proofs.AcceptedLemmas.{IsFine, fine_of, or_fault, or_none}
 use Rattle.ipc_stream.proofs.batch.add_batch.Goals as goal
@@ -66,7 +68,9 @@ invariant_of-result c =
     let t : Gathered = c.args.table in
     let b : RawBatch = c.args.batch.now in
     let light = (fine t b c.args.body.now c.in_default.ensures).light in
-    let heavy = heavy_is t.schema b c.args.body.now (gathered_table t).rows t.rows (length t.schema.fields.items) t.integers (c.limits_bound_columns.ensures.fields (schema_of t.schema) t.limits) (count_rows t) refl in
+    let s : PlainSchema = schema_of t.schema in
+    let alike : WeighAlike s = record { row = λ row. c.integer_rows_weigh_alike.ensures.row s row t.integers; rows = λ rows. c.integer_rows_weigh_alike.ensures.rows s rows t.integers } in
+    let heavy = heavy_is t.schema b c.args.body.now (gathered_table t).rows t.rows (length t.schema.fields.items) alike (c.limits_bound_columns.ensures.fields s t.limits) (count_rows t) refl in
     record {
       integers = t.integers;
       limits = t.limits;

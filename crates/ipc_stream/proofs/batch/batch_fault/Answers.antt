@@ -2,9 +2,11 @@ use Rattle.std.proofs.Common.{◌+◌, ◌*◌, arith, refl, sym, ◌∙◌}
 use Rattle.std.proofs.lemmas.Bool.{le-ltb, lt-ltb}
 use Rattle.std.proofs.lemmas.List.{length-map}
 use Rattle.arrow_schema.specs.declared.types.Schema.{Schema}
+use Rattle.arrow_schema.specs.Column.{PlainSchema}
 use Rattle.arrow_schema.specs.View.{schema_of, column_of}
 use Rattle.ipc_message.specs.declared.raw.RawBatch.{RawBatch}
 use Rattle.ipc_stream.specs.Batch.{batch_rounds, batch_rows}
+use Rattle.ipc_stream.proofs.RowWeights.{WeighAlike}
 use Rattle.ipc_stream.proofs.BatchLemmas.{heavy_is, few_rows, weight_fits}
 use Rattle.ipc_stream.proofs.batch.batch_fault.Goals as goal
 
@@ -52,13 +54,17 @@ overflow_mul-before c =
 pub returns-then-before-batch-gt-MAX_WEIGHT : goal.returns-then-before-batch-gt-MAX_WEIGHT
 unfolding batch_rounds batch_rows
 returns-then-before-batch-gt-MAX_WEIGHT c = λ rows len.
-    let weight = heavy_is c.args.schema.now c.args.batch.now c.args.body.now rows c.args.before c.len.result c.requires.integers (c.limits_bound_columns.ensures.fields (schema_of c.args.schema.now) c.requires.limits) len (omega arith) in
+    let s : PlainSchema = schema_of c.args.schema.now in
+    let alike : WeighAlike s = record { row = λ row. c.integer_rows_weigh_alike.ensures.row s row c.requires.integers; rows = λ rows. c.integer_rows_weigh_alike.ensures.rows s rows c.requires.integers } in
+    let weight = heavy_is c.args.schema.now c.args.batch.now c.args.body.now rows c.args.before c.len.result alike (c.limits_bound_columns.ensures.fields s c.requires.limits) len (omega arith) in
     let heavy = weight ∙ lt-ltb 268435456 ((c.args.before + c.args.batch.now.length) * (1 + c.len.result)) c.if-before-batch-gt-MAX_WEIGHT.true in
     rw (c.if-batch.false, ← c.if-has_other_layout.ensures, ← c.if-has_bad_length.ensures, ← c.if-has_buffer_outside.ensures, ← c.if-has_short_buffer.ensures, ← c.if-has_validity.ensures, ← c.if-counts_nulls.ensures, heavy) refl
 
 pub returns : goal.returns
 unfolding batch_rounds batch_rows
 returns c = λ rows len.
-    let weight = heavy_is c.args.schema.now c.args.batch.now c.args.body.now rows c.args.before c.len.result c.requires.integers (c.limits_bound_columns.ensures.fields (schema_of c.args.schema.now) c.requires.limits) len (omega arith) in
+    let s : PlainSchema = schema_of c.args.schema.now in
+    let alike : WeighAlike s = record { row = λ row. c.integer_rows_weigh_alike.ensures.row s row c.requires.integers; rows = λ rows. c.integer_rows_weigh_alike.ensures.rows s rows c.requires.integers } in
+    let weight = heavy_is c.args.schema.now c.args.batch.now c.args.body.now rows c.args.before c.len.result alike (c.limits_bound_columns.ensures.fields s c.requires.limits) len (omega arith) in
     let light = weight ∙ le-ltb 268435456 ((c.args.before + c.args.batch.now.length) * (1 + c.len.result)) c.if-before-batch-gt-MAX_WEIGHT.false in
     rw (c.if-batch.false, ← c.if-has_other_layout.ensures, ← c.if-has_bad_length.ensures, ← c.if-has_buffer_outside.ensures, ← c.if-has_short_buffer.ensures, ← c.if-has_validity.ensures, ← c.if-counts_nulls.ensures, light) refl

@@ -1,11 +1,13 @@
 use Rattle.std.proofs.Common.{◌≡◌, ◌+◌, ◌-◌, ◌≤◌, ◌++◌, List, ℕ, map, arith, rules, ap, sym, ◌∙◌, append_assoc, append-nil}
 use Rattle.std.specs.Prelude.{min}
 use Rattle.std.proofs.lemmas.List.{length-map}
+use Rattle.arrow_schema.specs.Column.{PlainSchema}
 use Rattle.arrow_schema.specs.View.{schema_of, column_of}
 use Rattle.ipc_write.specs.Written.{schema_message, end_mark}
 use Rattle.ipc_stream.specs.Canonical.{piece_message}
 use Rattle.values.specs.Columns.{rows_from}
 use Rattle.values.specs.IntegerTable.{integer_columns}
+use Rattle.ipc_stream.proofs.RowWeights.{WeighAlike}
 use Rattle.ipc_stream.proofs.Pieces.{messages_of, next_piece, no_piece, canonical_is}
 use Rattle.ipc_stream.proofs.encoder.encode_columns.Goals as goal
 
@@ -15,7 +17,7 @@ write_piece-requires-clause-columns c =
 
 pub loop-from-preserved : goal.loop-from-preserved
 loop-from-preserved c =
-    let s = schema_of c.args.schema.now in
+    let s : PlainSchema = schema_of c.args.schema.now in
     let values = map (λ v. v.items) c.args.columns.now in
     let from : ℕ = c.loop-from.from in
     let n : ℕ = c.args.rows - from in
@@ -25,7 +27,8 @@ loop-from-preserved c =
     let left : c.args.rows - (from + k) ≡ n - k = omega arith in
     let piece : List ℕ = piece_message s (rows_from (integer_columns s) values from k) in
     let rest : List ℕ = messages_of s values (from + k) (n - k) in
-    let next : messages_of s values from n ≡ piece ++ rest = next_piece s values from n k c.requires.integers (c.limits_bound_columns.ensures.fields s c.requires.limits) (omega arith) least in
+    let alike : WeighAlike s = record { row = λ row. c.integer_rows_weigh_alike.ensures.row s row c.requires.integers; rows = λ rows. c.integer_rows_weigh_alike.ensures.rows s rows c.requires.integers } in
+    let next : messages_of s values from n ≡ piece ++ rest = next_piece s values from n k alike (c.limits_bound_columns.ensures.fields s c.requires.limits) (omega arith) least in
     let written : c.write_piece.new.out.items ≡ c.loop-from.out.items ++ piece = c.in_ok-write_piece.ensures in
     record {
       within = within;

@@ -8,11 +8,10 @@ use Rattle.values.specs.TableView.{table_of}
 use Rattle.ipc_message.specs.Header.{held_codes}
 use Rattle.ipc_stream.specs.Canonical.{canonical}
 use Rattle.ipc_stream.specs.Meaning.{meaning}
-use Rattle.ipc_stream.proofs.IntegerTables.{all_bytes}
+use Rattle.ipc_stream.proofs.ColumnBytes.{all_bytes}
 use Rattle.ipc_stream.proofs.PackLemmas.{table_again, values_fill}
 use Rattle.ipc_stream.proofs.RoundTrip.{canonical_read}
 use Rattle.ipc_stream.proofs.RoundTripSchema.{AreNamed, named}
-use Rattle.ipc_stream.proofs.RowWeights.{rows_weigh}
 use Rattle.ipc_stream.proofs.laws.canonical_means_its_table.Goals as goal
 
 pub returns : goal.returns
@@ -21,7 +20,8 @@ returns c =
     let is = c.schema-schema.ensures.kept in
     let schema = c.schema_message_is_read_again.ensures in
     let batch = c.batch_message_is_read_again.ensures in
-    let weighs = rows_weigh t.schema t.rows c.requires.schema in
+    let alike = c.integer_rows_weigh_alike.ensures in
+    let weighs = alike.rows t.schema t.rows c.requires.schema in
     let light : length t.rows * (1 + length t.schema.columns) ≤ 268435456 = omega (arith, weighs, is.weight) in
     let values : List (List ℕ) = values_of_all (integer_columns t.schema) t.rows in
     subst (λ (x : PlainTable). meaning held_codes (canonical x) ≡ Ok x) (table_again t values is c.requires refl)
@@ -35,6 +35,7 @@ returns c =
     (record { stands = batch.front; kind = batch.kind; spelled = batch.header held_codes; after = batch.after })
     (record {
       integers = c.requires.schema;
+      weigh = record { row = λ row. alike.row t.schema row c.requires.schema; rows = λ rows. alike.rows t.schema rows c.requires.schema };
       few = c.limits_bound_columns.ensures.fields t.schema is.schema;
       short = c.limits_bound_columns.ensures.names t.schema is.schema;
       named = subst (λ (s : PlainSchema). AreNamed s.columns) c.schema-schema.ensures.schema (named c.schema-schema.result.now.fields.items);
