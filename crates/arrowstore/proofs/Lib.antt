@@ -1,1 +1,1 @@
-pub mod CommandLemmas
+mod CommandLemmas

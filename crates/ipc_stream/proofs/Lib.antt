@@ -1,33 +1,33 @@
-pub mod CutLemmas
-pub mod CutRows
-pub mod IntegerLemmas
-pub mod ColumnLemmas
-pub mod ByteLemmas
-pub mod ArrayLemmas
-pub mod GrowthLemmas
-pub mod BatchLemmas
-pub mod AcceptedLemmas
-pub mod RowLemmas
-pub mod SliceLemmas
-pub mod Pieces
-pub mod RowWeights
-pub mod PieceSize
-pub mod PieceLemmas
-pub mod ColumnBytes
-pub mod PackLemmas
-pub mod PackColumns
-pub mod FrontLaw
-pub mod FramedMessages
-pub mod FramedTable
-pub mod FramedBack
-pub mod FramedOnce
-pub mod RoundTripSchema
-pub mod WrittenLaws
-pub mod RoundTripBatch
-pub mod RoundTripRows
-pub mod RoundTrip
-pub mod AcceptedSchema
-pub mod Steps
-pub mod NextMessage
-pub mod FirstMessage
-pub mod EmptyColumns
+mod CutLemmas
+mod CutRows
+mod IntegerLemmas
+mod ColumnLemmas
+mod ByteLemmas
+mod ArrayLemmas
+mod GrowthLemmas
+mod BatchLemmas
+mod AcceptedLemmas
+mod RowLemmas
+mod SliceLemmas
+mod Pieces
+mod RowWeights
+mod PieceSize
+mod PieceLemmas
+mod ColumnBytes
+mod PackLemmas
+mod PackColumns
+mod FrontLaw
+mod FramedMessages
+mod FramedTable
+mod FramedBack
+mod FramedOnce
+mod RoundTripSchema
+mod WrittenLaws
+mod RoundTripBatch
+mod RoundTripRows
+mod RoundTrip
+mod AcceptedSchema
+mod Steps
+mod NextMessage
+mod FirstMessage
+mod EmptyColumns
