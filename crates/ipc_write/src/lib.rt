@@ -6,6 +6,8 @@
 
 mod framing;
 mod laws;
+#[cfg(test)]
+mod tests;
 mod trees;
 
 pub use framing::{write_batch, write_end, write_schema};
