@@ -1,17 +1,18 @@
 #!/bin/sh
 # Writes, syncs and reads so many mebibytes through a device that is a file, and the same by dd, some times in turn in
 # one run, and prints the least times and their ratios.
-#   bench/device.sh [MEBIBYTES] [FOLDER] [TIMES]
-# The program is made by `rt run` in crates/bench_device.
+#   bench/device.sh PROGRAM [MEBIBYTES] [FOLDER] [TIMES]
+# The program is that of crates/bench_device; `make bench-device` builds it.
 set -e
-top=$(cd "$(dirname "$0")/.." && pwd)
-program=$top/crates/bench_device/out/bench_device
-size=${1:-100}
-folder=${2:-$top/bench}
-times=${3:-5}
+program=$1
+size=${2:-100}
+folder=${3:-$(dirname "$0")}
+times=${4:-5}
 file=$folder/bench_device.tmp
 least() { sort -n | head -1; }
 micros() { echo $(($(date +%s%N) / 1000)); }
+# The ratio of two numbers, to two places.
+ratio() { printf '%d.%02d' $(($1 / $2)) $(($1 % $2 * 100 / $2)); }
 
 rm -f "$file" "$file".device "$file".write "$file".read
 dd if=/dev/urandom of="$file".source bs=1M count="$size" conv=fdatasync status=none
@@ -28,6 +29,6 @@ done
 for what in write read; do
   device=$(sed -n "s/^device $what //p" "$file".device | least)
   plain=$(least <"$file".$what)
-  echo "$what $size MiB: device $device us, dd $plain us, ratio $(echo "scale=2; $device / $plain" | bc)"
+  echo "$what $size MiB: device $device us, dd $plain us, ratio $(ratio "$device" "$plain")"
 done
 rm -f "$file".source "$file".device "$file".write "$file".read

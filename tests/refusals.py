@@ -17,7 +17,7 @@ def each_refused(command, given=b""):
     with tempfile.TemporaryDirectory() as room:
         library, counted = os.path.join(room, "refuse_allocation.so"), os.path.join(room, "count")
         source = os.path.join(HERE, "refuse_allocation.c")
-        subprocess.run(["gcc", "-O1", "-shared", "-fPIC", "-o", library, source, "-ldl"], check=True)
+        subprocess.run(["gcc", "-O1", "-shared", "-fPIC", "-o", library, source], check=True)
         undisturbed = answer_of(command, given, LD_PRELOAD=library, ALLOCATIONS=counted)
         with open(counted, encoding="ascii") as count:
             numbers = range(1, int(count.read()) + 1)
