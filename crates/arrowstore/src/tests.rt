@@ -1,8 +1,10 @@
-// Words, and writers that fail.
+// Words, and what is told of them.
 pub mod fakes;
+mod recoding;
+mod running;
+mod streams;
 
-use crate::{Action, Refusal, Status, action_of, end, tell_words, write_whole};
-use fakes::FailsAt;
+use crate::{Action, Refusal, Status, action_of, end, tell_words};
 use std::test::Fail;
 
 #[test]
@@ -45,22 +47,4 @@ fn tells_a_refusal(rt: HostRuntime) {
         Status::Refused
     );
     assert_eq!(rt; errors.as_slice(), b"refused S7 TooMany Bytes\n".as_slice());
-}
-
-#[test]
-fn tells_each_failing_write(rt: HostRuntime) {
-    let alloc = rt.alloc();
-    for call in 0..4 {
-        let mut output = FailsAt {
-            kept: Vec::new(alloc),
-            calls: 0,
-            at: call,
-        };
-        assert_eq!(rt;
-            write_whole(&mut output, &[7u8; 48]),
-            Err(Refusal::Io),
-            "call {call}"
-        );
-        assert_eq!(rt; output.kept.len(), call * 16);
-    }
 }

@@ -1,4 +1,5 @@
 // Readers and writers that fail at a chosen call.
+use std::alloc::{AllocError, Global};
 use std::io;
 use std::io::{ErrorKind, Read, Write};
 
@@ -8,6 +9,21 @@ pub enum Moment {
     Never,
     Fails(usize),
     IsInterrupted(usize),
+}
+
+impl Moment {
+    // One call more: what comes of it.
+    fn pass(self, calls: &mut usize) -> io::Result<()> {
+        let call = *calls;
+        *calls = call.saturating_add(1);
+        match self {
+            Moment::Fails(at) if at == call => Err(io::Error::from(ErrorKind::Other)),
+            Moment::IsInterrupted(at) if at == call => {
+                Err(io::Error::from(ErrorKind::Interrupted))
+            }
+            _ => Ok(()),
+        }
+    }
 }
 
 /// Gives bytes in pieces.
@@ -35,19 +51,16 @@ impl<'a> Pieces<'a> {
     pub fn given(&self) -> usize {
         self.given
     }
+
+    /// How many reads were tried.
+    pub fn calls(&self) -> usize {
+        self.calls
+    }
 }
 
 impl Read for Pieces<'_> {
     fn read(&mut self, buf: &mut [u8]) -> io::Result<usize> {
-        let call = self.calls;
-        self.calls = call.saturating_add(1);
-        match self.moment {
-            Moment::Fails(at) if at == call => return Err(io::Error::from(ErrorKind::Other)),
-            Moment::IsInterrupted(at) if at == call => {
-                return Err(io::Error::from(ErrorKind::Interrupted));
-            }
-            _ => {}
-        }
+        self.moment.pass(&mut self.calls)?;
         let start = self.given.min(self.bytes.len());
         let rest = &self.bytes[start..];
         let count = rest.len().min(self.piece).min(buf.len());
@@ -59,34 +72,41 @@ impl Read for Pieces<'_> {
     }
 }
 
-/// Keeps what is written, at most 16 bytes a call, and fails at a call; a flush is a call too.
+/// Keeps what is written, in pieces; a flush is a call too.
 #[derive(Drop)]
-pub struct FailsAt {
-    pub kept: Vec<u8>,
-    pub calls: usize,
-    pub at: usize,
+pub struct Kept {
+    bytes: Vec<u8>,
+    piece: usize,
+    calls: usize,
+    moment: Moment,
 }
 
-impl FailsAt {
-    fn call(&mut self) -> io::Result<()> {
-        let call = self.calls;
-        self.calls = call.saturating_add(1);
-        if call == self.at {
-            return Err(io::Error::from(ErrorKind::StorageFull));
-        }
-        Ok(())
+impl Kept {
+    /// Has room for 512 bytes.
+    pub fn new(alloc: Global, piece: usize, moment: Moment) -> Result<Kept, AllocError> {
+        Ok(Kept {
+            bytes: Vec::with_capacity(alloc, 512)?,
+            piece,
+            calls: 0,
+            moment,
+        })
+    }
+
+    /// What was written.
+    pub fn bytes(&self) -> &[u8] {
+        self.bytes.as_slice()
     }
 }
 
-impl Write for FailsAt {
+impl Write for Kept {
     fn write(&mut self, buf: &[u8]) -> io::Result<usize> {
-        self.call()?;
-        let count = buf.len().min(16);
-        self.kept.extend_from_slice(&buf[..count])?;
+        self.moment.pass(&mut self.calls)?;
+        let count = buf.len().min(self.piece);
+        self.bytes.extend_from_slice(&buf[..count])?;
         Ok(count)
     }
 
     fn flush(&mut self) -> io::Result<()> {
-        self.call()
+        self.moment.pass(&mut self.calls)
     }
 }
