@@ -5,27 +5,13 @@ ghost use Rattle.arrow_schema.specs.View.{schema_of, kind_of, column_of, pair_of
 ghost use Rattle.arrow_schema.specs.Shape.{seen_dictionary, seen_pairs, HaveOneShape};
 ghost use Rattle.arrow_schema.specs.Alike.{bool_eq, dictionary_eq, pairs_eq, date_eq, time_number, alike, alike_kind, alike_all};
 
-use crate::types::{BitWidth, DataType, DateUnit, DictSpec, Field, IntegerType, Schema, TimeUnit};
+use crate::types::{DataType, DateUnit, DictSpec, Field, IntegerType, Schema, TimeUnit};
 
 // What is compared: all, or all but dictionaries and pairs.
 #[derive(Clone, Copy)]
 pub(crate) enum Detail {
     Shape,
     Whole,
-}
-
-impl BitWidth {
-    /// The number of bits.
-    pub fn bits(self) -> u32
-        ensures { result ≡ bits_of self }
-    {
-        match self {
-            BitWidth::Eight => 8,
-            BitWidth::Sixteen => 16,
-            BitWidth::ThirtyTwo => 32,
-            BitWidth::SixtyFour => 64,
-        }
-    }
 }
 
 fn same_integer(a: IntegerType, b: IntegerType) -> bool
@@ -94,14 +80,8 @@ fn same_type(detail: Detail, a: &DataType, b: &DataType) -> bool
     match a {
         DataType::Null => matches!(b, DataType::Null),
         DataType::Bool => matches!(b, DataType::Bool),
-        DataType::Int(x) => match b {
-            DataType::Int(y) => same_integer(*x, *y),
-            _ => false,
-        },
-        DataType::Date(x) => match b {
-            DataType::Date(y) => same_date(*x, *y),
-            _ => false,
-        },
+        DataType::Int(x) => matches!(b, DataType::Int(y) if same_integer(*x, *y)),
+        DataType::Date(x) => matches!(b, DataType::Date(y) if same_date(*x, *y)),
         DataType::Timestamp(x, zone) => match b {
             DataType::Timestamp(y, other_zone) => same_time(*x, *y) && zone == other_zone,
             _ => false,
@@ -110,27 +90,15 @@ fn same_type(detail: Detail, a: &DataType, b: &DataType) -> bool
         DataType::LargeUtf8 => matches!(b, DataType::LargeUtf8),
         DataType::Binary => matches!(b, DataType::Binary),
         DataType::LargeBinary => matches!(b, DataType::LargeBinary),
-        DataType::FixedSizeBinary(x) => match b {
-            DataType::FixedSizeBinary(y) => x == y,
-            _ => false,
-        },
-        DataType::List(x) => match b {
-            DataType::List(y) => same_field(detail, x, y),
-            _ => false,
-        },
-        DataType::LargeList(x) => match b {
-            DataType::LargeList(y) => same_field(detail, x, y),
-            _ => false,
-        },
+        DataType::FixedSizeBinary(x) => matches!(b, DataType::FixedSizeBinary(y) if x == y),
+        DataType::List(x) => matches!(b, DataType::List(y) if same_field(detail, x, y)),
+        DataType::LargeList(x) => matches!(b, DataType::LargeList(y) if same_field(detail, x, y)),
         DataType::FixedSizeList(size, x) => match b {
             DataType::FixedSizeList(other_size, y) => size == other_size
                 && same_field(detail, x, y),
             _ => false,
         },
-        DataType::Struct(xs) => match b {
-            DataType::Struct(ys) => same_fields(detail, xs, ys),
-            _ => false,
-        },
+        DataType::Struct(xs) => matches!(b, DataType::Struct(ys) if same_fields(detail, xs, ys)),
     }
 }
 

@@ -9,6 +9,37 @@ pub enum BitWidth {
     SixtyFour,
 }
 
+impl BitWidth {
+    ghost use Rattle.std.specs.Prelude.{◌≡◌, ◌≤◌, ◌/◌};
+    ghost use Rattle.arrow_schema.specs.View.{bits_of};
+
+    /// How many bits it is.
+    pub fn bits(self) -> u32
+        ensures { result ≡ bits_of self }
+    {
+        match self {
+            BitWidth::Eight => 8,
+            BitWidth::Sixteen => 16,
+            BitWidth::ThirtyTwo => 32,
+            BitWidth::SixtyFour => 64,
+        }
+    }
+
+    /// How many bytes a value of it takes, 1 to 8 (Arrow columnar format, "Fixed-size Primitive Layout").
+    pub fn bytes(self) -> usize
+        ensures value { result ≡ bits_of self / 8 }
+        ensures low { 1 ≤ result }
+        ensures high { result ≤ 8 }
+    {
+        match self {
+            BitWidth::Eight => 1,
+            BitWidth::Sixteen => 2,
+            BitWidth::ThirtyTwo => 4,
+            BitWidth::SixtyFour => 8,
+        }
+    }
+}
+
 /// One of the eight integer types.
 #[derive(Clone, Copy, Debug, PartialEq, Eq)]
 pub struct IntegerType {

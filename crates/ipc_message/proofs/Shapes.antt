@@ -4,11 +4,12 @@ use Rattle.std.specs.Prelude.{Option, Some, None, option_map, nat_lt, ifâ—Œthenâ
 use Rattle.std.proofs.lemmas.Option.{cond_some, same_Some, none-some}
 use Rattle.arrow_schema.specs.Column.{Kind, Column, nulls, booleans, integers, dates, timestamps, texts, large_texts, binaries, large_binaries, fixed_binaries, lists, large_lists, fixed_lists, columns_of}
 use Rattle.arrow_schema.specs.Preorder.{preorder_below, depth_below, preorder_all, depth_all}
+use Rattle.arrow_schema.specs.Integers.{is_bit_width}
 use Rattle.arrow_schema.specs.Limits as limits
 use Rattle.ipc_message.specs.declared.fault.TypeName.{TypeName}
 use Rattle.ipc_message.specs.declared.fault.TypeName.TheVariants as types
 use Rattle.ipc_message.specs.Raw.{RawParameters, no_parameters, integer_parameters, byte_width, list_size, date_unit, timestamp_parameters}
-use Rattle.ipc_message.specs.Types.{without_children, with_item, is_bit_width, is_size, date_kind, time_kind, integer, date, timestamp, fixed_binary, fixed_list, spelled_type}
+use Rattle.ipc_message.specs.Types.{without_children, with_item, is_size, date_kind, time_kind, integer, date, timestamp, fixed_binary, fixed_list, spelled_type}
 use Rattle.ipc_message.specs.Rounds.{zone_of, is_nested}
 
 pub record HasShape (name : TypeName) (p : RawParameters) (cs : List Column) (k : Kind) : Type 0 where

@@ -7,10 +7,11 @@ use Rattle.ipc_message.specs.declared.fault.TypeName.TheVariants as types
 use Rattle.ipc_message.specs.declared.fault.Fault.{Fault}
 use Rattle.ipc_message.specs.declared.fault.Fault.TheVariants.{NotYet, BigEndian, TypeNotHeld, BadParameter, SchemaLimit, NotUtf8, DictionaryId, DictionaryOfNested}
 use Rattle.arrow_schema.specs.Column.{Pair, PlainSchema}
+use Rattle.arrow_schema.specs.Integers.{is_bit_width}
 use Rattle.ipc_message.specs.Raw.{RawParameters, RawEncoding, RawField, raw_fields_of, timestamp_parameters, RawSchema}
 use Rattle.ipc_message.specs.Framing.{first_some, when}
 use Rattle.ipc_message.specs.Fields.{every_field, depth_all, name_of, code_of, parameters_of, dictionary_of, children_of, pairs_of}
-use Rattle.ipc_message.specs.Types.{is_bit_width, type_name, spelled_type}
+use Rattle.ipc_message.specs.Types.{type_name, spelled_type}
 use Rattle.ipc_message.specs.Convert.{columns_of_fields, plain_schema_of}
 use Rattle.ipc_message.specs.Same.{one_id, same_value_type}
 

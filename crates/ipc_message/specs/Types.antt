@@ -1,8 +1,9 @@
 -- The type that a field's code, its table and its children spell (Schema.fbs, the union Type), where they spell one.
-use Rattle.std.specs.Prelude.{ℕ, ◌^◌, Bool, true, false, ◌&&◌, ◌||◌, ◌==◌, is_some, nat_lt, if◌then◌else◌, List, [], ◌∷◌, Option, Some, None, option_map}
+use Rattle.std.specs.Prelude.{ℕ, ◌^◌, Bool, true, false, ◌&&◌, ◌==◌, is_some, nat_lt, if◌then◌else◌, List, [], ◌∷◌, Option, Some, None, option_map}
 use Rattle.ipc_message.specs.declared.fault.TypeName.{TypeName}
 use Rattle.ipc_message.specs.declared.fault.TypeName.TheVariants as types
 use Rattle.arrow_schema.specs.Column.{Kind, Column, DateKind, days, date_milliseconds, TimeKind, seconds, milliseconds, microseconds, nanoseconds, nulls, booleans, integers, dates, timestamps, texts, large_texts, binaries, large_binaries, fixed_binaries, lists, large_lists, fixed_lists, structs, columns_of}
+use Rattle.arrow_schema.specs.Integers.{is_bit_width}
 use Rattle.ipc_message.specs.Raw.{RawParameters, integer_parameters, byte_width, list_size, date_unit, timestamp_parameters}
 
 -- the name of a type code
@@ -35,10 +36,6 @@ type_name code =
     else if code == 25 then types.ListView
     else if code == 26 then types.LargeListView
     else types.Unknown
-
--- the number of bits of an integer
-abbrev pub is_bit_width : ℕ → Bool
-is_bit_width n = n == 8 || n == 16 || n == 32 || n == 64
 
 -- a size of 32 bits with a sign, that is not negative
 abbrev pub is_size : ℕ → Bool

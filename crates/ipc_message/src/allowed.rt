@@ -1,6 +1,7 @@
 // Whether a field spells a type that there is: its width, size, unit and children.
 ghost use Rattle.std.specs.Prelude.{◌≡◌, is_some, option_map};
-ghost use Rattle.ipc_message.specs.Types.{is_bit_width, integer, date, timestamp, fixed_binary, has_list_size, is_spelled};
+ghost use Rattle.arrow_schema.specs.Integers.{is_bit_width};
+ghost use Rattle.ipc_message.specs.Types.{integer, date, timestamp, fixed_binary, has_list_size, is_spelled};
 ghost use Rattle.ipc_message.specs.Rounds.{has_type, is_index_type, is_bad};
 ghost use Rattle.ipc_message.specs.View.{raw_field_of, parameters_of, encoding_of};
 

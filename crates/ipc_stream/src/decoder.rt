@@ -16,7 +16,7 @@ ghost use Rattle.values.specs.TableView.{table_of};
 
 use crate::batch::add_batch;
 use crate::gathered::Gathered;
-use arrow_schema::{BitWidth, DataType, Field, Schema};
+use arrow_schema::{DataType, Field, Schema};
 use ipc_message::{
     Fault, Front, Header, HeaderType, ImportError, Message, read_message, read_schema,
 };
@@ -41,12 +41,7 @@ pub(crate) fn width_of(field: &Field) -> usize
     ensures small { result ≤ 8 }
 {
     match &field.data_type {
-        DataType::Int(integer) => match integer.width {
-            BitWidth::Eight => 1,
-            BitWidth::Sixteen => 2,
-            BitWidth::ThirtyTwo => 4,
-            BitWidth::SixtyFour => 8,
-        },
+        DataType::Int(integer) => integer.width.bytes(),
         _ => 0,
     }
 }

@@ -1,28 +1,16 @@
 // The tables of a message, as trees that are yet to be written (docs/formats/writing.md).
 ghost use Rattle.std.specs.Prelude.{◌≡◌, ◌++◌, ◌+◌, [], ◌∷◌, ℕ, List, map, IfOk, IsTrue};
 ghost use Rattle.std.specs.List.{list_all};
-ghost use Rattle.arrow_schema.specs.View.{schema_of, kind_of, column_of, bits_of};
+ghost use Rattle.arrow_schema.specs.View.{schema_of, kind_of, column_of};
 ghost use Rattle.arrow_schema.specs.Column.{columns_of};
 ghost use Rattle.flatbuf.specs.Tree.{table, references, structs, scalar, refers, no_slot};
 ghost use Rattle.flatbuf.specs.View.{node_of, nodes_of};
 ghost use Rattle.ipc_write.specs.Trees.{bit, int_tree, type_tree, field_tree, field_nodes, schema_tree, message_tree};
 ghost use Rattle.arrow_schema.specs.Integers.{is_integer_column, is_integer_kind, is_integer_schema};
 
-use arrow_schema::{BitWidth, DataType, Field, IntegerType, Schema};
+use arrow_schema::{DataType, Field, IntegerType, Schema};
 use flatbuf::{Node, Slot};
 use std::alloc::{AllocError, Global};
-
-/// The number of bits.
-fn bits_of(width: BitWidth) -> u32
-    ensures { result ≡ bits_of width }
-{
-    match width {
-        BitWidth::Eight => 8,
-        BitWidth::Sixteen => 16,
-        BitWidth::ThirtyTwo => 32,
-        BitWidth::SixtyFour => 64,
-    }
-}
 
 /// A flag as a byte.
 fn flag(b: bool) -> u8
@@ -44,7 +32,7 @@ fn type_node(alloc: Global, data_type: &DataType) -> Result<Node, AllocError>
     ensures { IfOk result (λ n. IsTrue (is_integer_kind (kind_of data_type.now)) → node_of n ≡ type_tree (kind_of data_type.now)) }
 {
     match data_type {
-        DataType::Int(IntegerType { width, signed }) => int_node(alloc, bits_of(*width), *signed),
+        DataType::Int(IntegerType { width, signed }) => int_node(alloc, width.bits(), *signed),
         _ => Ok(Node::Table(Vec::new(alloc))),
     }
 }

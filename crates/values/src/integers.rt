@@ -12,29 +12,15 @@ ghost use Rattle.values.specs.IntegerTable.{integer_column, have_rows, is_number
 ghost use Rattle.values.specs.IntegerRows.{columns_in, have_row, AllBytes};
 
 use crate::value::Value;
-use arrow_schema::{BitWidth, DataType, Field, IntegerType, Schema};
+use arrow_schema::{DataType, Field, IntegerType, Schema};
 use byteorder::{ByteOrder, LittleEndian};
-
-// The bytes of an integer.
-fn width_of(width: BitWidth) -> usize
-    ensures value { result ≡ bits_of width / 8 }
-    ensures low { 1 ≤ result }
-    ensures high { result ≤ 8 }
-{
-    match width {
-        BitWidth::Eight => 1,
-        BitWidth::Sixteen => 2,
-        BitWidth::ThirtyTwo => 4,
-        BitWidth::SixtyFour => 8,
-    }
-}
 
 // The integer at the front of some bytes.
 fn read_integer(integer: IntegerType, bytes: &[u8]) -> i128
     requires { bits_of integer.width / 8 ≤ length bytes.now }
     ensures { result ≡ integer_of (bits_of integer.width / 8) integer.signed (little_number (bits_of integer.width / 8) bytes.now) }
 {
-    let width = width_of(integer.width);
+    let width = integer.width.bytes();
     if integer.signed {
         i128::from(LittleEndian::read_int(bytes, width))
     } else {
@@ -49,7 +35,7 @@ fn integer_at(field: &Field, values: &[u8], row: usize) -> i128
 {
     match &field.data_type {
         DataType::Int(integer) => {
-            read_integer(*integer, &values[row * width_of(integer.width)..])
+            read_integer(*integer, &values[row * integer.width.bytes()..])
         }
         _ => 0,
     }
@@ -120,7 +106,7 @@ fn has_rows(field: &Field, values: &[u8], rows: usize) -> bool
 {
     match &field.data_type {
         DataType::Int(integer) => {
-            values.len() as u128 == rows as u128 * width_of(integer.width) as u128
+            values.len() as u128 == rows as u128 * integer.width.bytes() as u128
         }
         _ => values.is_empty(),
     }
