@@ -1,5 +1,6 @@
 use crate::*;
 use std::alloc::{AllocError, Global};
+use std::process::Abort;
 
 fn field(alloc: Global, name: &str, data_type: DataType) -> Result<Field, AllocError> {
     Ok(Field {
@@ -142,6 +143,48 @@ fn types_are_read(rt: HostRuntime) -> Result<(), AllocError> {
     let utc = DataType::Timestamp(TimeUnit::Nanosecond, String::from_str(alloc, "UTC")?);
     assert_eq!(rt; utc.zone(), "UTC");
     assert_eq!(rt; BitWidth::SixtyFour.bits(), 64);
+    assert_eq!(rt; BitWidth::SixtyFour.bytes(), 8);
     assert_eq!(rt; wide(alloc, 3)?.width(), 3);
     Ok(())
+}
+
+// A schema with memory at each place that has any.
+fn with_all_memory(alloc: Global) -> Result<Schema, AllocError> {
+    let zone = String::from_str(alloc, "UTC")?;
+    let mut time = field(alloc, "t", DataType::Timestamp(TimeUnit::Second, zone))?;
+    let value = String::from_str(alloc, "value")?;
+    time.pairs.push((String::from_str(alloc, "key")?, value))?;
+    let list = field(alloc, "l", DataType::List(Box::new(alloc, time)?))?;
+    let large = DataType::LargeList(Box::new(alloc, field(alloc, "b", DataType::Binary)?)?);
+    let item = Box::new(alloc, field(alloc, "m", large)?)?;
+    let fixed = field(alloc, "f", DataType::FixedSizeList(2, item))?;
+    let both = DataType::Struct(vec![in alloc; list, fixed]?);
+    let mut schema = schema(alloc, field(alloc, "s", both)?)?;
+    schema.fields.push(nested(alloc, 2)?)?;
+    let value = String::from_str(alloc, "a value")?;
+    schema
+        .pairs
+        .push((String::from_str(alloc, "a key")?, value))?;
+    Ok(schema)
+}
+
+fn assert_copies(rt: &impl Abort, alloc: Global) -> Result<(), AllocError> {
+    let schema = with_all_memory(alloc)?;
+    let copy = schema.copy(alloc)?;
+    assert_eq!(rt; copy.width(), 2);
+    assert!(rt; copy.pairs == schema.pairs);
+    for (field, copied) in schema.fields.iter().zip(copy.fields.iter()) {
+        assert!(rt; copied.equals(field));
+        assert!(rt; field.copy(alloc)?.equals(field));
+        assert!(rt; field.data_type.copy(alloc)?.equals(&field.data_type));
+    }
+    Ok(())
+}
+
+// tests/refused_memory_in_crates refuses each allocation in turn: then one of two runs ends for want of memory.
+#[test]
+fn copies_are_equal_or_refused_also_without_memory(rt: HostRuntime) {
+    let first = assert_copies(&rt, rt.alloc());
+    let second = assert_copies(&rt, rt.alloc());
+    assert!(rt; first.is_ok() || second.is_ok());
 }

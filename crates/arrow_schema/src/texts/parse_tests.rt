@@ -2,6 +2,7 @@
 use super::*;
 use crate::Field;
 use std::alloc::{AllocError, Global};
+use std::process::Abort;
 use std::test::Fail;
 
 // What was parsed, printed and joined by spaces.
@@ -80,9 +81,18 @@ fn parses_every_type(rt: HostRuntime) -> Result<(), Fail> {
     Ok(())
 }
 
+fn assert_bad_texts(rt: &impl Abort, alloc: Global, texts: &[&str]) {
+    for text in texts {
+        assert_eq!(rt;
+            answer(alloc, &[text]).err(),
+            Some(ParseError::BadText(1)),
+            "{text}"
+        );
+    }
+}
+
 #[test]
-fn refuses_what_is_no_field(rt: HostRuntime) -> Result<(), Fail> {
-    let alloc = rt.alloc();
+fn refuses_bad_names_and_flat_types(rt: HostRuntime) {
     let texts = [
         "",
         "a",
@@ -107,6 +117,13 @@ fn refuses_what_is_no_field(rt: HostRuntime) -> Result<(), Fail> {
         "a:fixed_binary(01)",
         "a:fixed_binary(+1)",
         "a:fixed_binary(1",
+    ];
+    assert_bad_texts(&rt, rt.alloc(), &texts);
+}
+
+#[test]
+fn refuses_bad_lists_structs_and_dictionaries(rt: HostRuntime) {
+    let texts = [
         "a:fixed_list(3)",
         "a:fixed_list(2147483648,int8x)",
         "a:list<>",
@@ -124,14 +141,7 @@ fn refuses_what_is_no_field(rt: HostRuntime) -> Result<(), Fail> {
         "a:dict<int8,struct<>>",
         "a:dict<int8,dict<int8,utf8>>",
     ];
-    for text in texts {
-        assert_eq!(rt;
-            answer(alloc, &[text]).err(),
-            Some(ParseError::BadText(1)),
-            "{text}"
-        );
-    }
-    Ok(())
+    assert_bad_texts(&rt, rt.alloc(), &texts);
 }
 
 #[test]
@@ -173,14 +183,14 @@ fn keeps_the_most_fields(rt: HostRuntime) -> Result<(), Fail> {
 }
 
 #[test]
-fn refuses_a_million_levels(rt: HostRuntime) -> Result<(), Fail> {
+fn refuses_a_hundred_thousand_levels(rt: HostRuntime) -> Result<(), Fail> {
     let alloc = rt.alloc();
-    let whole = deep(alloc, 1_000_000, true)?;
+    let whole = deep(alloc, 100_000, true)?;
     assert_eq!(rt;
         answer(alloc, &[whole.as_str()]).err(),
         Some(ParseError::Limit)
     );
-    let odd = deep(alloc, 1_000_000, false)?;
+    let odd = deep(alloc, 10_000, false)?;
     assert_eq!(rt;
         answer(alloc, &[odd.as_str()]).err(),
         Some(ParseError::BadText(1))

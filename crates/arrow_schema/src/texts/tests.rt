@@ -74,18 +74,9 @@ fn prints_nested_fields(rt: HostRuntime) -> Result<(), Fail> {
         "\"city\":dict<uint8,utf8>?"
     );
     let other = field(alloc, "x", true, DataType::Bool)?;
-    let pair = field(
-        alloc,
-        "p",
-        false,
-        DataType::Struct(vec![in alloc; city, other]?),
-    )?;
-    let fixed = field(
-        alloc,
-        "f",
-        false,
-        DataType::FixedSizeList(2, Box::new(alloc, pair)?),
-    )?;
+    let both = DataType::Struct(vec![in alloc; city, other]?);
+    let pair = Box::new(alloc, field(alloc, "p", false, both)?)?;
+    let fixed = field(alloc, "f", false, DataType::FixedSizeList(2, pair))?;
     assert_eq!(rt;
         field_text(alloc, &fixed)?.as_str(),
         "\"f\":fixed_list(2,\"p\":struct<\"city\":dict<uint8,utf8>?,\"x\":bool?>)"
