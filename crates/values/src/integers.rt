@@ -34,9 +34,7 @@ fn integer_at(field: &Field, values: &[u8], row: usize) -> i128
     ensures { number result ≡ cell_at (integer_column (column_of field.now)) values.now row }
 {
     match &field.data_type {
-        DataType::Int(integer) => {
-            read_integer(*integer, &values[row * integer.width.bytes()..])
-        }
+        DataType::Int(integer) => { read_integer(*integer, &values[row * integer.width.bytes()..]) }
         _ => 0,
     }
 }
