@@ -53,3 +53,9 @@ may_leave_synced d n = inl refl
 pub blank_shows : ShowsImage blank
 unfolding ShowsImage MayLeave
 blank_shows n = inl refl
+
+-- after a write reads still give what a crash may leave
+pub put_shows : (d : Disk) (n : ℕ) (c : List ℕ) → ShowsImage d → ShowsImage (put d n c (Some c))
+unfolding ShowsImage MayLeave put
+put_shows d n c shows k =
+    elim (k == n) as (λ b. MayHold (if b then with_content (d.at k) c (Some c) else d.at k) (if b then with_content (d.at k) c (Some c) else d.at k).shown) [ true ↦ inr (inl refl) | false ↦ shows k ]

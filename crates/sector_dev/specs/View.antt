@@ -1,5 +1,5 @@
 -- What contracts see of a device in memory.
-use Rattle.std.specs.Prelude.{ℕ}
+use Rattle.std.specs.Prelude.{ℕ, Bool}
 use Rattle.sector_dev.specs.Disk.{Story}
 use Rattle.sector_dev.specs.History.{story_of}
 use Rattle.sector_dev.specs.declared.faults.Faults.{Faults}
@@ -12,6 +12,10 @@ size_of d = d.sectors
 -- how many calls have failed
 abbrev pub failed_of : ModelDevice → ℕ
 failed_of d = d.failed
+
+-- there was memory to keep the last call
+abbrev pub kept_of : ModelDevice → Bool
+kept_of d = d.kept
 
 -- which calls are to fail
 abbrev pub faults_of : ModelDevice → Faults

@@ -15,7 +15,7 @@ mod made;
 /// A device in memory, for tests. It can be told to fail, to stop and to crash.
 ///
 /// After a failed write a read gives the new content. Where there is no memory to keep a call, the call fails before it
-/// began, and is counted. Each call stays in memory, and the sectors up to the highest that was written.
+/// began, is counted, and `is_kept` tells so. Each call stays in memory, and the sectors up to the highest that was written.
 #[derive(Drop)]
 pub struct ModelDevice {
     sectors: u64,
@@ -26,6 +26,8 @@ pub struct ModelDevice {
     // what these calls have made of it: a sector past the end was never written
     cells: Vec<Cell>,
     failed: u64,
+    // there was memory for the last call
+    kept: bool,
     faults: Faults,
     ghost agrees: { (n : ℕ) → cell_at cells.items n ≡ cell_of ((now (story_of start.items log.items)).at n) },
 }

@@ -1,11 +1,11 @@
 // What a crash leaves of a device in memory.
-ghost use Rattle.std.specs.Prelude.{◌≡◌, ◌∷◌, [], ℕ, Some, None, List, length, IfOk};
+ghost use Rattle.std.specs.Prelude.{◌≡◌, ◌∷◌, [], ℕ, Some, None, List, length, true, IfOk};
 ghost use Rattle.sector_dev.specs.Disk.{now, MayLeave, shown_image};
 ghost use Rattle.sector_dev.specs.Chosen.{has_bit, IsChosen};
 ghost use Rattle.sector_dev.specs.Faults.{no_faults};
 ghost use Rattle.sector_dev.specs.History.{all_synced, content_at};
 ghost use Rattle.sector_dev.specs.Cells.{cell_at, waiting_below, left_in};
-ghost use Rattle.sector_dev.specs.View.{size_of, failed_of, faults_of, history_of};
+ghost use Rattle.sector_dev.specs.View.{size_of, failed_of, kept_of, faults_of, history_of};
 
 use super::ModelDevice;
 use crate::Choice;
@@ -88,6 +88,7 @@ impl ModelDevice {
         ensures allowed { IfOk result (λ d. MayLeave (now (history_of self.now)) (shown_image (now (history_of d)))) }
         ensures chosen { IfOk result (λ d. IsChosen choice (now (history_of self.now)) (size_of self.now) (shown_image (now (history_of d)))) }
         ensures failed { IfOk result (λ d. failed_of d ≡ 0) }
+        ensures kept { IfOk result (λ d. kept_of d ≡ true) }
         ensures faults { IfOk result (λ d. faults_of d ≡ no_faults) }
     {
         let alloc = *self.cells.allocator();
@@ -99,6 +100,7 @@ impl ModelDevice {
             log: Vec::new(alloc),
             cells,
             failed: 0,
+            kept: true,
             faults: Faults::none(),
         })
     }

@@ -1,8 +1,8 @@
 // A new device in memory, and which of its calls are to fail.
-ghost use Rattle.std.specs.Prelude.{◌≡◌, ◌≤◌, ◌+◌, ◌-◌, ◌∷◌, [], ℕ, Some, IfOk};
+ghost use Rattle.std.specs.Prelude.{◌≡◌, ◌≤◌, ◌+◌, ◌-◌, ◌∷◌, [], ℕ, Some, true, IfOk};
 ghost use Rattle.sector_dev.specs.Faults.{no_faults, CallFails, ReadFails, calls_later, reads_later};
 ghost use Rattle.sector_dev.specs.History.{all_synced, zeros};
-ghost use Rattle.sector_dev.specs.View.{size_of, failed_of, faults_of, history_of};
+ghost use Rattle.sector_dev.specs.View.{size_of, failed_of, kept_of, faults_of, history_of};
 
 use super::ModelDevice;
 use crate::faults::Faults;
@@ -17,6 +17,7 @@ impl ModelDevice {
         ensures size { IfOk result (λ d. size_of d ≡ sectors) }
         ensures zeros { IfOk result (λ d. history_of d ≡ all_synced (λ _. Some zeros) ∷ []) }
         ensures failed { IfOk result (λ d. failed_of d ≡ 0) }
+        ensures kept { IfOk result (λ d. kept_of d ≡ true) }
         ensures faults { IfOk result (λ d. faults_of d ≡ no_faults) }
     {
         Ok(ModelDevice {
@@ -25,8 +26,17 @@ impl ModelDevice {
             log: Vec::new(alloc),
             cells: Vec::new(alloc),
             failed: 0,
+            kept: true,
             faults: Faults::none(),
         })
+    }
+
+    /// Whether there was memory to keep the last read, write or sync; `true` before the first. Where there was none the
+    /// call failed before it began.
+    pub fn is_kept(&self) -> bool
+        ensures { result ≡ kept_of self.now }
+    {
+        self.kept
     }
 
     /// Makes the k-th write or sync from now fail once; 0: none.
@@ -36,6 +46,7 @@ impl ModelDevice {
         ensures size { size_of self.new ≡ size_of self.old }
         ensures history { history_of self.new ≡ history_of self.old }
         ensures failed { failed_of self.new ≡ failed_of self.old }
+        ensures kept { kept_of self.new ≡ kept_of self.old }
     {
         self.faults.fail = k;
     }
@@ -49,6 +60,7 @@ impl ModelDevice {
         ensures size { size_of self.new ≡ size_of self.old }
         ensures history { history_of self.new ≡ history_of self.old }
         ensures failed { failed_of self.new ≡ failed_of self.old }
+        ensures kept { kept_of self.new ≡ kept_of self.old }
     {
         self.faults.stop = k;
     }
@@ -60,6 +72,7 @@ impl ModelDevice {
         ensures size { size_of self.new ≡ size_of self.old }
         ensures history { history_of self.new ≡ history_of self.old }
         ensures failed { failed_of self.new ≡ failed_of self.old }
+        ensures kept { kept_of self.new ≡ kept_of self.old }
     {
         self.faults.fail_read = k;
     }

@@ -128,8 +128,8 @@ fn what_was_written_is_read(rt: HostRuntime) -> Result<(), Fail> {
     Ok(())
 }
 
-// One allocation at the most is refused, by tests/refused_memory: `create` and `open` may refuse for want of it, and then no
-// file is left by `create`; no call of a device does.
+// One allocation at the most is refused, by tests/refused_memory_in_crates: `create` and `open` may refuse for want of it,
+// and then no file is left by `create`; no call of a device does.
 #[test]
 fn a_file_is_made_and_used_also_without_memory(rt: HostRuntime) -> Result<(), Fail> {
     let Some(path) = path_of(&rt, "memory") else {

@@ -191,6 +191,7 @@ fn run_call(rt: &impl Abort, device: &mut ModelDevice, plain: &mut Plain, call: 
     };
     assert_eq!(rt; answer, if fails { Err(DevError::Failed) } else { Ok(()) });
     assert_eq!(rt; device.failures(), plain.failures);
+    assert!(rt; device.is_kept());
 }
 
 // Runs the script, and crashes the device after the call that fails, or where none is to fail after each, and at the end.
@@ -298,8 +299,8 @@ fn a_great_device_is_made_at_once(rt: HostRuntime) -> Result<(), Fail> {
     Ok(())
 }
 
-// One allocation at the most is refused, by tests/refused_memory: a call that finds no memory fails, is counted, and
-// changes nothing.
+// One allocation at the most is refused, by tests/refused_memory_in_crates: a call that finds no memory fails, is counted,
+// and changes nothing.
 #[test]
 fn calls_agree_with_a_list_also_without_memory(rt: HostRuntime) -> Result<(), Fail> {
     let mut device = ModelDevice::new(rt.alloc(), 16)?;
@@ -307,6 +308,7 @@ fn calls_agree_with_a_list_also_without_memory(rt: HostRuntime) -> Result<(), Fa
     for n in [3, 0, 3, 7, 1, 6] {
         let failures = device.failures();
         let written = fill(&rt, &mut device, n as u64, n as u8 + 1);
+        assert_eq!(&rt; device.is_kept(), written.is_ok());
         if written.is_ok() {
             plain.fill(n, n as u8 + 1);
         }

@@ -309,7 +309,7 @@ fn assert_agree(rt: &impl Abort, map: &FreeMap, plain: &Plain) {
     }
 }
 
-// tests/refused_memory refuses each allocation in turn.
+// tests/refused_memory_in_crates refuses each allocation in turn.
 #[test]
 fn scripts_agree_with_a_plain_record_also_without_memory(rt: HostRuntime) {
     let mut refusals = 0u64;

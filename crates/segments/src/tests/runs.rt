@@ -173,7 +173,7 @@ fn the_first_failing_sector_is_told(rt: HostRuntime) -> Result<(), Fail> {
     Ok(())
 }
 
-// One allocation at the most is refused, by tests/refused_memory: then the device has no memory to keep a call, which
+// One allocation at the most is refused, by tests/refused_memory_in_crates: then the device has no memory to keep a call, which
 // fails and is counted, or `read_run` has none for the bytes.
 #[test]
 fn a_run_is_written_and_read_also_without_memory(rt: HostRuntime) -> Result<(), Fail> {

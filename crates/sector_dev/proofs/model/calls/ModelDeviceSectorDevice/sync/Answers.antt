@@ -13,4 +13,4 @@ invariant_of-self-2 c =
     let d = c.args.self.now in
     let len : d.cells.len ≡ length c.settle.new.cells = omega arith in
     let whole : take d.cells.len (c.settle.new.cells ++ drop (length c.settle.new.cells) d.cells.items) ≡ c.settle.new.cells = ap (λ (k : ℕ). take k (c.settle.new.cells ++ drop (length c.settle.new.cells) d.cells.items)) len ∙ take-append_seam c.settle.new.cells _ in
-    record { agrees = agrees_flushed d.cells.items _ (history_of d) (story_of d.start.items c.keep_synced.new.log.items) d.agrees (reads_newest d.start.items d.log.items) (c.if-not-keep_synced.ensures.kept d.start.items) (λ n. ap (λ (cells : List Cell). cell_at cells n) whole ∙ c.settle.ensures n ∙ ap (λ (cells : List Cell). settled (cell_at cells n)) c.deref_mut.ensures.value) }
+    record { agrees = agrees_flushed d.cells.items _ (history_of d) (story_of d.start.items c.keep_synced-kept.new.log.items) d.agrees (reads_newest d.start.items d.log.items) (c.if-not-kept.ensures.kept d.start.items) (λ n. ap (λ (cells : List Cell). cell_at cells n) whole ∙ c.settle.ensures n ∙ ap (λ (cells : List Cell). settled (cell_at cells n)) c.deref_mut.ensures.value) }

@@ -7,9 +7,9 @@ use Rattle.sector_dev.proofs.model.calls.ModelDeviceSectorDevice.write.Goals as 
 pub invariant_of-self-then-fails : goal.invariant_of-self-then-fails
 invariant_of-self-then-fails c =
     let d = c.args.self.now in
-    record { agrees = agrees_put c.reach-reached.new.cells.items _ (history_of d) (story_of d.start.items c.keep_wrote.new.log.items) c.args.n c.args.from.now _ c.index_mut.result.now (λ n. c.reach-reached.ensures.same n ∙ d.agrees n) (omega (arith, c.if-not-reached.ensures.reached)) c.index_mut.ensures.value refl (c.if-not-keep_wrote.ensures.kept d.start.items) }
+    record { agrees = agrees_put c.make_room-kept.new.cells.items _ (history_of d) (story_of d.start.items c.make_room-kept.new.log.items) c.args.n c.args.from.now _ c.index_mut.result.now (λ n. c.make_room-kept.ensures.same n ∙ d.agrees n) (omega (arith, c.if-not-kept.ensures.reached)) c.index_mut.ensures.value refl (c.if-not-kept.ensures.kept d.start.items) }
 
 pub invariant_of-self-else-fails : goal.invariant_of-self-else-fails
 invariant_of-self-else-fails c =
     let d = c.args.self.now in
-    record { agrees = agrees_put c.reach-reached.new.cells.items _ (history_of d) (story_of d.start.items c.keep_wrote.new.log.items) c.args.n c.args.from.now _ c.index_mut.result.now (λ n. c.reach-reached.ensures.same n ∙ d.agrees n) (omega (arith, c.if-not-reached.ensures.reached)) c.index_mut.ensures.value refl (c.if-not-keep_wrote.ensures.kept d.start.items) }
+    record { agrees = agrees_put c.make_room-kept.new.cells.items _ (history_of d) (story_of d.start.items c.make_room-kept.new.log.items) c.args.n c.args.from.now _ c.index_mut.result.now (λ n. c.make_room-kept.ensures.same n ∙ d.agrees n) (omega (arith, c.if-not-kept.ensures.reached)) c.index_mut.ensures.value refl (c.if-not-kept.ensures.kept d.start.items) }
