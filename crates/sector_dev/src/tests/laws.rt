@@ -109,7 +109,8 @@ struct Brief {
 
 impl Brief {
     fn refuse(&mut self) -> Result<(), DevError>
-        ensures { (result ≡ Err DevError.Failed) × (self.new.failed ≡ min (self.old.failed + 1) (2 ^ 64 - 1)) }
+        ensures error { result ≡ Err DevError.Failed }
+        ensures count { self.new.failed ≡ min (self.old.failed + 1) (2 ^ 64 - 1) }
         ensures life { self.new.life ≡ self.old.life }
     {
         self.failed = self.failed.saturating_add(1);
