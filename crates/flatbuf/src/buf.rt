@@ -29,9 +29,9 @@ pub struct Budget {
 }
 
 impl Budget {
-    ghost use Rattle.std.specs.Prelude.{[], ◌∷◌, ◌+◌, OnOk};
+    ghost use Rattle.std.specs.Prelude.{◌≡◌, ◌+◌, Ok, Err, OnOk, nat_lt, if◌then◌else◌};
     ghost use Rattle.flatbuf.specs.Seen.{tables_in};
-    ghost use Rattle.flatbuf.specs.Walk.{run, told, table};
+    ghost use Rattle.flatbuf.specs.Walk.{told, most_tables};
 
     /// No table was entered.
     pub fn new() -> Budget
@@ -41,9 +41,8 @@ impl Budget {
     }
 
     /// Counts a visit.
-    #[tactic(auto, unfolding(crate::specs::Walk::run))]
-    pub(crate) fn enter(&mut self, bytes: &[u8]) -> Result<(), FlatError>
-        ensures walked { run bytes.now (table ∷ []) (tables_in self.old) ≡ told (tables_in self.new) result }
+    pub(crate) fn enter(&mut self) -> Result<(), FlatError>
+        ensures walked { told (tables_in self.new) result ≡ (if nat_lt (tables_in self.old) most_tables then Ok (tables_in self.old + 1) else Err FlatError.Budget) }
         ensures counted { OnOk result (tables_in self.new ≡ tables_in self.old + 1) }
     {
         if self.entered >= MAX_TABLES {

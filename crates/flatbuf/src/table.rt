@@ -53,7 +53,7 @@ impl<'a> Table<'a> {
         if left == 0 {
             return Err(FlatError::Budget);
         }
-        budget.enter(bytes)?;
+        budget.enter()?;
         let distance = u32_at(bytes, at)?;
         let vtable = position_before(distance, at).ok_or(FlatError::Bounds)?;
         let size = u16_at(bytes, vtable)?;
