@@ -7,4 +7,5 @@ pub mod History
 pub mod Cells
 pub mod Newest
 pub mod Run
+pub mod Written
 pub mod View

@@ -1,6 +1,8 @@
 // A device that is a file.
-ghost use Rattle.std.specs.Prelude.{◌≡◌, ◌≤◌, ◌<◌, ◌⊎◌, ◌↔◌, [], false, IfOk, IfErr, IsErrOf, IsTrue};
+ghost use Rattle.std.specs.Prelude.{◌≡◌, ◌≤◌, ◌<◌, ◌⊎◌, ◌↔◌, ◌*◌, [], false, IfOk, IfErr, OnOk, OnErr, IsErrOf, IsTrue, IfSome, is_ok, true};
 ghost use Rattle.sector_dev.specs.Disk.{Counts};
+ghost use Rattle.sector_dev.specs.Run.{held_at};
+ghost use Rattle.sector_dev.specs.Written.{Writes, WritesRun, IsEmpty, Joins, MakesRoom, Saves};
 ghost use Rattle.sector_dev.specs.declared.file.FileError.TheVariants.{Io};
 ghost use Rattle.sector_dev.specs.Crash.{blank_shows};
 
@@ -75,6 +77,7 @@ fn read_at<F: Read + Seek>(file: &mut F, start: u64, contents: &mut [[u8; 512]])
 // Writes sectors to the file.
 fn write_at<F: Write + Seek>(file: &mut F, start: u64, contents: &[[u8; 512]]) -> io::Result<()>
     requires { start < 4194304 }
+    ensures { OnOk result (Writes F.stream_position F.contents (start * 512) contents.now file.old file.new) }
 {
     file.seek(SeekFrom::Start(start * 512))?;
     file.write_all(contents.as_flattened())
@@ -171,6 +174,10 @@ impl<F: Read + Write + Seek + OpenFile + Drop> FileDevice<F> {
     fn flush(&mut self) -> io::Result<()>
         ensures sectors { self.new.sectors ≡ self.old.sectors }
         ensures failed { self.new.failed ≡ self.old.failed }
+        ensures kept { OnErr result (self.new.behind ≡ self.old.behind) }
+        ensures written { OnOk result (WritesRun F.stream_position F.contents self.old.behind self.old.file self.new.file) }
+        ensures emptied { OnOk result (IsEmpty self.new.behind) }
+        ensures none { OnOk result (self.new.behind.contents.items ≡ []) }
     {
         if self.behind.contents.is_empty() {
             return Ok(());
@@ -185,6 +192,8 @@ impl<F: Read + Write + Seek + OpenFile + Drop> FileDevice<F> {
         requires { n < self.old.sectors }
         ensures sectors { self.new.sectors ≡ self.old.sectors }
         ensures failed { self.new.failed ≡ self.old.failed }
+        ensures ok { OnOk result (Joins self.old.behind n from.now self.new.behind ⊎ MakesRoom F.stream_position F.contents self.old.behind n from.now self.new.behind self.old.file self.new.file) }
+        ensures err { OnErr result (Saves F.stream_position F.contents self.old.behind self.new.behind self.old.file) }
     {
         if self.behind.replace(n, from) || self.behind.append(n, from) {
             return Ok(());
@@ -202,6 +211,8 @@ impl<F: Read + Write + Seek + OpenFile + Drop> FileDevice<F> {
         requires { n < self.old.sectors }
         ensures sectors { self.new.sectors ≡ self.old.sectors }
         ensures failed { self.new.failed ≡ self.old.failed }
+        ensures behind { self.new.behind ≡ self.old.behind }
+        ensures waiting { IfSome (held_at self.old.behind n) (λ c. (is_ok result ≡ true) × (to.new ≡ c)) }
     {
         if self.behind.get(n).is_none() && self.ahead.get(n).is_none() {
             self.read_ahead(n);
@@ -222,6 +233,7 @@ impl<F: Read + Write + Seek + OpenFile + Drop> FileDevice<F> {
         requires { n < self.old.sectors }
         ensures sectors { self.new.sectors ≡ self.old.sectors }
         ensures failed { self.new.failed ≡ self.old.failed }
+        ensures behind { self.new.behind ≡ self.old.behind }
     {
         let count = if self.ahead.ends_before(n) {
             (2 * self.ahead.contents.len()).clamp(FIRST_READ, MOST)
@@ -241,6 +253,9 @@ impl<F: Read + Write + Seek + OpenFile + Drop> FileDevice<F> {
     fn settle(&mut self) -> io::Result<()>
         ensures sectors { self.new.sectors ≡ self.old.sectors }
         ensures failed { self.new.failed ≡ self.old.failed }
+        ensures written { OnOk result (WritesRun F.stream_position F.contents self.old.behind self.old.file self.new.file) }
+        ensures emptied { OnOk result (IsEmpty self.new.behind) }
+        ensures err { OnErr result (Saves F.stream_position F.contents self.old.behind self.new.behind self.old.file) }
     {
         self.flush()?;
         self.file.sync_data()
@@ -248,6 +263,9 @@ impl<F: Read + Write + Seek + OpenFile + Drop> FileDevice<F> {
 
     fn counted(&mut self, done: io::Result<()>) -> Result<(), DevError>
         ensures sectors { self.new.sectors ≡ self.old.sectors }
+        ensures behind { self.new.behind ≡ self.old.behind }
+        ensures file { self.new.file ≡ self.old.file }
+        ensures ok { is_ok result ≡ is_ok done }
         ensures count { Counts self.old.failed self.new.failed result }
         ensures error { IfErr result (λ e. e ≡ DevError.Failed) }
     {
@@ -262,6 +280,8 @@ impl<F: Read + Write + Seek + OpenFile + Drop> FileDevice<F> {
 }
 
 impl<F: Read + Write + Seek + OpenFile + Drop> SectorDevice for FileDevice<F> {
+    ghost use Rattle.sector_dev.specs.View.{waiting_of, file_of};
+
     ghost size = { λ f. f.sectors };
 
     ghost failed = { λ f. f.failed };
@@ -286,17 +306,33 @@ impl<F: Read + Write + Seek + OpenFile + Drop> SectorDevice for FileDevice<F> {
         ensures size { self.new.sectors ≡ self.old.sectors }
         ensures count { Counts self.old.failed self.new.failed result }
         ensures error { IfErr result (λ e. e ≡ DevError.Failed) }
+        ensures waits { waiting_of self.new ≡ waiting_of self.old }
+        ensures content { IfSome (held_at (waiting_of self.old) n) (λ c. (is_ok result ≡ true) × (to.new ≡ c)) }
     {
         let done = self.get(n, to);
         self.counted(done)
     }
 
-    fn write(&mut self, n: u64, from: &[u8; 512]) -> Result<(), DevError> {
+    fn write(&mut self, n: u64, from: &[u8; 512]) -> Result<(), DevError>
+        requires { n < self.old.sectors }
+        ensures size { self.new.sectors ≡ self.old.sectors }
+        ensures count { Counts self.old.failed self.new.failed result }
+        ensures error { IfErr result (λ e. e ≡ DevError.Failed) }
+        ensures ok { OnOk result (Joins (waiting_of self.old) n from.now (waiting_of self.new) ⊎ MakesRoom F.stream_position F.contents (waiting_of self.old) n from.now (waiting_of self.new) (file_of self.old) (file_of self.new)) }
+        ensures err { OnErr result (Saves F.stream_position F.contents (waiting_of self.old) (waiting_of self.new) (file_of self.old)) }
+    {
         let done = self.put(n, from);
         self.counted(done)
     }
 
-    fn sync(&mut self) -> Result<(), DevError> {
+    fn sync(&mut self) -> Result<(), DevError>
+        ensures size { self.new.sectors ≡ self.old.sectors }
+        ensures count { Counts self.old.failed self.new.failed result }
+        ensures error { IfErr result (λ e. e ≡ DevError.Failed) }
+        ensures written { OnOk result (WritesRun F.stream_position F.contents (waiting_of self.old) (file_of self.old) (file_of self.new)) }
+        ensures emptied { OnOk result (IsEmpty (waiting_of self.new)) }
+        ensures err { OnErr result (Saves F.stream_position F.contents (waiting_of self.old) (waiting_of self.new) (file_of self.old)) }
+    {
         let done = self.settle();
         self.counted(done)
     }

@@ -1,5 +1,5 @@
 // Neighbouring sectors in memory.
-ghost use Rattle.std.specs.Prelude.{◌≡◌, ◌⊎◌, ◌↔◌, ◌+◌, ◌==◌, ℕ, if◌then◌else◌, Some, None, IsTrue, length};
+ghost use Rattle.std.specs.Prelude.{◌≡◌, ◌⊎◌, ◌↔◌, ◌+◌, ◌==◌, ℕ, if◌then◌else◌, Some, None, IsTrue, length, []};
 ghost use Rattle.std.specs.Option.{option_copied};
 ghost use Rattle.std.specs.Bool.{OnTrue, OnFalse};
 ghost use Rattle.sector_dev.specs.Run.{held_at};
@@ -48,6 +48,7 @@ impl Run {
     // Forgets them.
     pub(crate) fn clear(&mut self)
         ensures none { (n : ℕ) → held_at self.new n ≡ None }
+        ensures contents { self.new.contents.items ≡ [] }
         ensures start { self.new.start ≡ self.old.start }
     {
         self.contents.clear();
@@ -73,7 +74,8 @@ impl Run {
     // Adds a sector after them, or begins with it. `false`: it is another one, they are many enough, or there was no memory.
     pub(crate) fn append(&mut self, n: u64, content: &[u8; 512]) -> bool
         ensures appended { OnTrue result ((k : ℕ) → held_at self.new k ≡ (if k == n then Some content.now else held_at self.old k)) }
-        ensures same { OnFalse result ((k : ℕ) → held_at self.new k ≡ held_at self.old k) }
+        ensures same { OnFalse result (self.new.contents.items ≡ self.old.contents.items) }
+        ensures place { OnFalse result ((self.new.start ≡ self.old.start) ⊎ (self.old.contents.items ≡ [])) }
         ensures start { (self.new.start ≡ self.old.start) ⊎ (self.new.start ≡ n) }
     {
         self.begin_at(n);
@@ -86,6 +88,8 @@ impl Run {
     // An empty run begins here.
     fn begin_at(&mut self, n: u64)
         ensures same { (k : ℕ) → held_at self.new k ≡ held_at self.old k }
+        ensures contents { self.new.contents.items ≡ self.old.contents.items }
+        ensures place { (self.new.start ≡ self.old.start) ⊎ (self.old.contents.items ≡ []) }
         ensures start { (self.new.start ≡ self.old.start) ⊎ (self.new.start ≡ n) }
     {
         if self.contents.is_empty() {

@@ -1,6 +1,6 @@
 // A device that is a file of the system, and one over a file that fails.
 use super::{byte_of, fill, read, write};
-use crate::{FileDevice, FileError, SectorDevice};
+use crate::{DevError, FileDevice, FileError, SectorDevice};
 use std::cell::Cell;
 use std::env;
 use std::fs::{self, File, Metadata, OpenFile};
@@ -172,6 +172,7 @@ struct Flaky {
     bytes: Cursor<[u8; SMALL * 512]>,
     calls: Cell<u64>,
     fails_at: u64,
+    refuses_sync: bool,
 }
 
 impl Flaky {
@@ -224,6 +225,9 @@ impl OpenFile for Flaky {
     }
 
     fn sync_data(&self) -> io::Result<()> {
+        if self.refuses_sync {
+            return Err(io::Error::from(ErrorKind::Other));
+        }
         self.begin()
     }
 }
@@ -270,6 +274,7 @@ fn a_delayed_write_that_fails_is_not_lost(rt: HostRuntime) {
             bytes,
             calls: Cell::new(0),
             fails_at,
+            refuses_sync: false,
         };
         let mut device = FileDevice::over(rt.alloc(), file, SMALL as u64);
         let want = run_flaky(&rt, &mut device);
@@ -284,4 +289,20 @@ fn a_delayed_write_that_fails_is_not_lost(rt: HostRuntime) {
             );
         }
     }
+}
+
+// So a sync is never left to the system's leisure.
+#[test]
+fn a_sync_that_the_system_refuses_fails(rt: HostRuntime) {
+    let file = Flaky {
+        bytes: Cursor::new([0; SMALL * 512]),
+        calls: Cell::new(0),
+        fails_at: 0,
+        refuses_sync: true,
+    };
+    let mut device = FileDevice::over(rt.alloc(), file, SMALL as u64);
+    assert_eq!(&rt; fill(&rt, &mut device, 3, 7), Ok(()));
+    assert_eq!(&rt; device.sync(), Err(DevError::Failed));
+    assert_eq!(&rt; device.failures(), 1);
+    assert_eq!(&rt; byte_of(&rt, &mut device, 3), Ok(7));
 }
