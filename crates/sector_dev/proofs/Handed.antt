@@ -13,13 +13,13 @@ empty_run : (run : Run) → run.contents.items ≡ [] → IsEmpty run
 empty_run run none k = none_at (nat_lt k run.start) run.contents.items (k - run.start) none
 
 -- a run that only an empty one's start tells apart
-same_run : {F : Type 0} (position : F → Option ℕ) (contents : F → Option (List ℕ)) (old mid : Run) (before between : F) → mid.contents.items ≡ old.contents.items → (mid.start ≡ old.start) ⊎ (old.contents.items ≡ []) → WritesRun position contents mid before between → WritesRun position contents old before between
-same_run position contents old mid before between same (inr none) written = inl none
-same_run position contents old mid before between same (inl place) (inl none) = inl (sym same ∙ none)
-same_run position contents old mid before between same (inl place) (inr written) =
-    inr (subst (λ (s : ℕ). Writes position contents (s * 512) old.contents.items before between) place (subst (λ (xs : List (List ℕ)). Writes position contents (mid.start * 512) xs before between) same written))
+same_run : {F : Type 0} (position : F → Option ℕ) (bytes contents : F → Option (List ℕ)) (old mid : Run) (before between : F) → mid.contents.items ≡ old.contents.items → (mid.start ≡ old.start) ⊎ (old.contents.items ≡ []) → WritesRun position bytes contents mid before between → WritesRun position bytes contents old before between
+same_run position bytes contents old mid before between same place (inl (none, kept)) = inl (sym same ∙ none, kept)
+same_run position bytes contents old mid before between same (inr none) (inr (some, written)) = absurd (some (same ∙ none))
+same_run position bytes contents old mid before between same (inl place) (inr (some, written)) =
+    inr ((λ none. some (same ∙ none)), subst (λ (s : ℕ). Writes position bytes contents (s * 512) old.contents.items before between) place (subst (λ (xs : List (List ℕ)). Writes position bytes contents (mid.start * 512) xs before between) same written))
 
-pub written_alone : {F E : Type 0} (position : F → Option ℕ) (contents : F → Option (List ℕ)) (old mid new : Run) (n : ℕ) (c : List ℕ) (r : Result (Unit {0}) E) (before between after : F) → mid.contents.items ≡ old.contents.items → (mid.start ≡ old.start) ⊎ (old.contents.items ≡ []) → WritesRun position contents mid before between → new.contents.items ≡ [] → OnOk r (Writes position contents (n * 512) (c ∷ []) between after) → OnOk r (Joins old n c new ⊎ MakesRoom position contents old n c new before after)
-written_alone position contents old mid new n c (Ok x) before between after same place flushed none written =
-    inr (between, same_run position contents old mid before between same place flushed, inr (empty_run new none, written))
-written_alone position contents old mid new n c (Err e) before between after same place flushed none written = tt
+pub written_alone : {F E : Type 0} (position : F → Option ℕ) (bytes contents : F → Option (List ℕ)) (old mid new : Run) (n : ℕ) (c : List ℕ) (r : Result (Unit {0}) E) (before between after : F) → mid.contents.items ≡ old.contents.items → (mid.start ≡ old.start) ⊎ (old.contents.items ≡ []) → WritesRun position bytes contents mid before between → new.contents.items ≡ [] → OnOk r (Writes position bytes contents (n * 512) (c ∷ []) between after) → OnOk r (Joins old n c new before after ⊎ MakesRoom position bytes contents old n c new before after)
+written_alone position bytes contents old mid new n c (Ok x) before between after same place flushed none written =
+    inr (between, same_run position bytes contents old mid before between same place flushed, inr (empty_run new none, written))
+written_alone position bytes contents old mid new n c (Err e) before between after same place flushed none written = tt

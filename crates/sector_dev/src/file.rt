@@ -77,7 +77,7 @@ fn read_at<F: Read + Seek>(file: &mut F, start: u64, contents: &mut [[u8; 512]])
 // Writes sectors to the file.
 fn write_at<F: Write + Seek>(file: &mut F, start: u64, contents: &[[u8; 512]]) -> io::Result<()>
     requires { start < 4194304 }
-    ensures { OnOk result (Writes F.stream_position F.contents (start * 512) contents.now file.old file.new) }
+    ensures { OnOk result (Writes F.stream_position F.stream_bytes F.contents (start * 512) contents.now file.old file.new) }
 {
     file.seek(SeekFrom::Start(start * 512))?;
     file.write_all(contents.as_flattened())
@@ -175,7 +175,7 @@ impl<F: Read + Write + Seek + OpenFile + Drop> FileDevice<F> {
         ensures sectors { self.new.sectors ≡ self.old.sectors }
         ensures failed { self.new.failed ≡ self.old.failed }
         ensures kept { OnErr result (self.new.behind ≡ self.old.behind) }
-        ensures written { OnOk result (WritesRun F.stream_position F.contents self.old.behind self.old.file self.new.file) }
+        ensures written { OnOk result (WritesRun F.stream_position F.stream_bytes F.contents self.old.behind self.old.file self.new.file) }
         ensures emptied { OnOk result (IsEmpty self.new.behind) }
         ensures none { OnOk result (self.new.behind.contents.items ≡ []) }
     {
@@ -192,8 +192,8 @@ impl<F: Read + Write + Seek + OpenFile + Drop> FileDevice<F> {
         requires { n < self.old.sectors }
         ensures sectors { self.new.sectors ≡ self.old.sectors }
         ensures failed { self.new.failed ≡ self.old.failed }
-        ensures ok { OnOk result (Joins self.old.behind n from.now self.new.behind ⊎ MakesRoom F.stream_position F.contents self.old.behind n from.now self.new.behind self.old.file self.new.file) }
-        ensures err { OnErr result (Saves F.stream_position F.contents self.old.behind self.new.behind self.old.file) }
+        ensures ok { OnOk result (Joins self.old.behind n from.now self.new.behind self.old.file self.new.file ⊎ MakesRoom F.stream_position F.stream_bytes F.contents self.old.behind n from.now self.new.behind self.old.file self.new.file) }
+        ensures err { OnErr result (Saves F.stream_position F.stream_bytes F.contents self.old.behind self.new.behind self.old.file) }
     {
         if self.behind.replace(n, from) || self.behind.append(n, from) {
             return Ok(());
@@ -212,7 +212,7 @@ impl<F: Read + Write + Seek + OpenFile + Drop> FileDevice<F> {
         ensures sectors { self.new.sectors ≡ self.old.sectors }
         ensures failed { self.new.failed ≡ self.old.failed }
         ensures behind { self.new.behind ≡ self.old.behind }
-        ensures waiting { IfSome (held_at self.old.behind n) (λ c. (is_ok result ≡ true) × (to.new ≡ c)) }
+        ensures waiting { IfSome (held_at self.old.behind n) (λ c. (is_ok result ≡ true) × (to.new ≡ c) × (self.new.file ≡ self.old.file)) }
     {
         if self.behind.get(n).is_none() && self.ahead.get(n).is_none() {
             self.read_ahead(n);
@@ -253,9 +253,9 @@ impl<F: Read + Write + Seek + OpenFile + Drop> FileDevice<F> {
     fn settle(&mut self) -> io::Result<()>
         ensures sectors { self.new.sectors ≡ self.old.sectors }
         ensures failed { self.new.failed ≡ self.old.failed }
-        ensures written { OnOk result (WritesRun F.stream_position F.contents self.old.behind self.old.file self.new.file) }
+        ensures written { OnOk result (WritesRun F.stream_position F.stream_bytes F.contents self.old.behind self.old.file self.new.file) }
         ensures emptied { OnOk result (IsEmpty self.new.behind) }
-        ensures err { OnErr result (Saves F.stream_position F.contents self.old.behind self.new.behind self.old.file) }
+        ensures err { OnErr result (Saves F.stream_position F.stream_bytes F.contents self.old.behind self.new.behind self.old.file) }
     {
         self.flush()?;
         self.file.sync_data()
@@ -307,7 +307,7 @@ impl<F: Read + Write + Seek + OpenFile + Drop> SectorDevice for FileDevice<F> {
         ensures count { Counts self.old.failed self.new.failed result }
         ensures error { IfErr result (λ e. e ≡ DevError.Failed) }
         ensures waits { waiting_of self.new ≡ waiting_of self.old }
-        ensures content { IfSome (held_at (waiting_of self.old) n) (λ c. (is_ok result ≡ true) × (to.new ≡ c)) }
+        ensures content { IfSome (held_at (waiting_of self.old) n) (λ c. (is_ok result ≡ true) × (to.new ≡ c) × (file_of self.new ≡ file_of self.old)) }
     {
         let done = self.get(n, to);
         self.counted(done)
@@ -318,8 +318,8 @@ impl<F: Read + Write + Seek + OpenFile + Drop> SectorDevice for FileDevice<F> {
         ensures size { self.new.sectors ≡ self.old.sectors }
         ensures count { Counts self.old.failed self.new.failed result }
         ensures error { IfErr result (λ e. e ≡ DevError.Failed) }
-        ensures ok { OnOk result (Joins (waiting_of self.old) n from.now (waiting_of self.new) ⊎ MakesRoom F.stream_position F.contents (waiting_of self.old) n from.now (waiting_of self.new) (file_of self.old) (file_of self.new)) }
-        ensures err { OnErr result (Saves F.stream_position F.contents (waiting_of self.old) (waiting_of self.new) (file_of self.old)) }
+        ensures ok { OnOk result (Joins (waiting_of self.old) n from.now (waiting_of self.new) (file_of self.old) (file_of self.new) ⊎ MakesRoom F.stream_position F.stream_bytes F.contents (waiting_of self.old) n from.now (waiting_of self.new) (file_of self.old) (file_of self.new)) }
+        ensures err { OnErr result (Saves F.stream_position F.stream_bytes F.contents (waiting_of self.old) (waiting_of self.new) (file_of self.old)) }
     {
         let done = self.put(n, from);
         self.counted(done)
@@ -329,9 +329,9 @@ impl<F: Read + Write + Seek + OpenFile + Drop> SectorDevice for FileDevice<F> {
         ensures size { self.new.sectors ≡ self.old.sectors }
         ensures count { Counts self.old.failed self.new.failed result }
         ensures error { IfErr result (λ e. e ≡ DevError.Failed) }
-        ensures written { OnOk result (WritesRun F.stream_position F.contents (waiting_of self.old) (file_of self.old) (file_of self.new)) }
+        ensures written { OnOk result (WritesRun F.stream_position F.stream_bytes F.contents (waiting_of self.old) (file_of self.old) (file_of self.new)) }
         ensures emptied { OnOk result (IsEmpty (waiting_of self.new)) }
-        ensures err { OnErr result (Saves F.stream_position F.contents (waiting_of self.old) (waiting_of self.new) (file_of self.old)) }
+        ensures err { OnErr result (Saves F.stream_position F.stream_bytes F.contents (waiting_of self.old) (waiting_of self.new) (file_of self.old)) }
     {
         let done = self.settle();
         self.counted(done)
