@@ -30,7 +30,7 @@ $(TESTS): crates/%_tests: $(SOURCES)
 
 # The gate proves every crate from nothing and builds the program and the tests, which then run with refused memory.
 test:
-	@echo "The gate proves every crate from nothing: on two processors that takes 34 minutes."
+	@echo "The gate proves every crate from nothing: on two processors that takes about an hour."
 	rt ci
 	@$(MAKE) --no-print-directory memory vectors
 
