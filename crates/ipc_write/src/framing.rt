@@ -115,7 +115,7 @@ fn numbers_fit(nodes: &[(u64, u64)])
 /// Appends a record batch of so many rows, with a node for each array (its length and null count) and these buffers, or
 /// nothing where memory is refused.
 ///
-/// The caller sees to it that there are few enough of both, and that the body is below 2^62 bytes.
+/// The caller sees to it that there are at most 2,048 nodes and 65,536 buffers, and that the body is below 2^62 bytes.
 #[tactic(auto, unfolding(crate::specs::Written::batch_message))]
 pub fn write_batch(
     alloc: Global,

@@ -2,7 +2,7 @@
 use std::alloc::AllocError;
 use thiserror::Error;
 
-/// Why rows are no table: V1 `Unfit`, V2 `Weight`.
+/// Why rows are no table.
 #[derive(Clone, Copy, Debug, PartialEq, Eq, Error)]
 pub enum TableError {
     /// This row, counted from 0, is the first that does not fit, weighs more than a row may, or fills a dictionary.

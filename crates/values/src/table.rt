@@ -38,7 +38,8 @@ impl Table {
     ghost use Rattle.values.specs.TableView.{row_of, table_of, rows_left, Tells};
 
     /// The table of these rows. It refuses the first row, counted from 0, that does not fit, weighs more than
-    /// `MAX_ROW_WEIGHT` or fills a dictionary (V1), or else rows that weigh more than `MAX_TABLE_WEIGHT` together (V2).
+    /// `MAX_ROW_WEIGHT` or fills a dictionary (`Unfit`), or else rows that weigh more than `MAX_TABLE_WEIGHT` together
+    /// (`Weight`).
     pub fn new(alloc: Global, schema: Schema, rows: Vec<Row>) -> Result<Table, TableError>
         requires { IsWithinLimits (schema_of schema) }
         ensures made { IfOk result (λ t. table_of t ≡ record { schema = schema_of schema; rows = map row_of rows.items }) }
