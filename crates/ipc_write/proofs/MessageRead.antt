@@ -8,7 +8,7 @@ use Rattle.flatbuf.specs.Lookup.{target, slot, Place}
 use Rattle.flatbuf.specs.Walk.{span, spans, table_things, root_things, most_levels}
 use Rattle.flatbuf.specs.Held.{Has}
 use Rattle.flatbuf.specs.Tree.{Tree}
-use Rattle.ipc_message.specs.Framing.{Envelope, IsMessage, Framed, mark, message, front, message_things, message_table, version_of, type_of, body_length, message_faults, first_some}
+use Rattle.ipc_message.specs.Framing.{Envelope, IsMessage, Framed, continuation_marker, message, next_message, message_things, message_table, version_of, type_of, body_length, message_faults, first_some}
 use Rattle.ipc_write.specs.Trees.{message_tree}
 use Rattle.ipc_write.specs.Walked.{IsHeaderType}
 use Rattle.ipc_write.specs.Written.{framed}
@@ -59,13 +59,13 @@ message_sound metadata type body_len following header known long small whole has
     ) refl
 
 -- a framed message stands at the front, as ipc_message tells it
-abbrev pub Fronts : Type 0
-Fronts = (bytes others : List ℕ) (m : Envelope) → IsMessage m → Framed bytes m others → front bytes ≡ Ok (message m)
+abbrev pub NextMessages : Type 0
+NextMessages = (bytes others : List ℕ) (m : Envelope) → IsMessage m → Framed bytes m others → next_message bytes ≡ Ok (message m)
 
 -- what was framed stands at the front
-pub front_again : Fronts → (metadata body rest : List ℕ) (type : ℕ) (header : Tree) → IsHeaderType type → 4 ≤ length metadata → length metadata ≤ 16777216 → length body < 2 ^ 63
-    → Has metadata (target metadata 0) (message_tree type header (length body)) → front (framed metadata body ++ rest) ≡ Ok (message (record { metadata = metadata; body = body }))
-front_again fronts metadata body rest type header known long short small has =
+pub next_message_again : NextMessages → (metadata body rest : List ℕ) (type : ℕ) (header : Tree) → IsHeaderType type → 4 ≤ length metadata → length metadata ≤ 16777216 → length body < 2 ^ 63
+    → Has metadata (target metadata 0) (message_tree type header (length body)) → next_message (framed metadata body ++ rest) ≡ Ok (message (record { metadata = metadata; body = body }))
+next_message_again next_messages metadata body rest type header known long short small has =
     let n : ℕ = length metadata in
     let m : Envelope = record { metadata = metadata; body = body } in
     let good : IsMessage m = record {
@@ -76,8 +76,8 @@ front_again fronts metadata body rest type header known long short small has =
     } in
     let stands : Framed (framed metadata body ++ rest) m rest = record {
       size = little_bytes 4 n;
-      parts = ap (λ (x : List ℕ). mark ++ x) (append_assoc (little_bytes 4 n) (metadata ++ body) rest ∙ ap (λ (x : List ℕ). little_bytes 4 n ++ x) (append_assoc metadata body rest));
+      parts = ap (λ (x : List ℕ). continuation_marker ++ x) (append_assoc (little_bytes 4 n) (metadata ++ body) rest ∙ ap (λ (x : List ℕ). little_bytes 4 n ++ x) (append_assoc metadata body rest));
       four = length-bytes_low_first 0 4 n;
       size_is = ap (little_number 4) (sym (append-nil (little_bytes 4 n))) ∙ little_number-reads_back 4 n [] (omega arith);
     } in
-    fronts (framed metadata body ++ rest) rest m good stands
+    next_messages (framed metadata body ++ rest) rest m good stands
