@@ -7,6 +7,7 @@
 
 mod entries;
 mod errors;
+mod extent;
 mod free_map;
 mod piece;
 mod reading;
@@ -15,6 +16,7 @@ mod writing;
 
 pub use entries::{Entry, Usage};
 pub use errors::{EnterError, TakeError};
+pub use extent::Extent;
 pub use free_map::FreeMap;
 pub use piece::Piece;
 pub use reading::{ReadError, read_run};

@@ -1,0 +1,3 @@
+pub mod Sectors
+pub mod Frame
+pub mod Crash
