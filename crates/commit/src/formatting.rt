@@ -121,7 +121,10 @@ fn first_map(alloc: Global, sectors: u64) -> Result<FreeMap, FormatError>
 /// # Errors
 /// `Damaged(DeviceSize)` without a read; `AlreadyAStore` where a commit rules; `Device` where the device failed. After any
 /// other error nothing has changed.
-pub fn format<D: SectorDevice>(alloc: Global, device: &mut D) -> Result<(Commit, FreeMap), FormatError>
+pub fn format<D: SectorDevice>(
+    alloc: Global,
+    device: &mut D,
+) -> Result<(Commit, FreeMap), FormatError>
     ensures size { D.size device.new ≡ D.size device.old }
     ensures count { CountsFormat (D.failed device.old) (D.failed device.new) result }
     ensures limits { is_size (D.size device.old) ≡ false → (result ≡ Err (FormatError.Damaged Cause.DeviceSize)) × (D.story device.new ≡ D.story device.old) }

@@ -95,7 +95,10 @@ fn fields(sector: &[u8; 512]) -> Commit
     let bytes = number_at(sector, 32);
     Commit {
         epoch: number_at(sector, 8),
-        catalogue: Extent { run: Run { start, count }, bytes },
+        catalogue: Extent {
+            run: Run { start, count },
+            bytes,
+        },
         device_sectors: number_at(sector, 40),
         version: FormatVersion::One,
         kind: CatalogueKind::Whole,

@@ -10,7 +10,7 @@ returns-then-eq c = found c.args.n c.args.sector.now _ c.fields-commit.result c.
 
 pub returns-else-commit-gt0 : goal.returns-else-commit-gt0
 returns-else-commit-gt0 c = elim c.else-commit-gt0.branch [
-  else-commit-gt0-via-then-commit-gt0+then-commit-n+else-eq w ↦ misspelled c.args.n c.args.sector.now _ c.fields-commit.result c.fields-commit.ensures w.commit_sector.ensures (sym w.eq.ensures ∙ w.if-eq.false)
+  | else-commit-gt0-via-then-commit-gt0+then-commit-n+else-eq w ↦ misspelled c.args.n c.args.sector.now _ c.fields-commit.result c.fields-commit.ensures w.commit_sector.ensures (sym w.eq.ensures ∙ w.if-eq.false)
   | else-commit-gt0-via-then-commit-gt0+else-commit-n w ↦ misplaced c.args.n c.args.sector.now c.fields-commit.result c.fields-commit.ensures (another_sector c.args.n c.fields-commit.result w.if-commit-n.false)
   | else-commit-gt0-via-else-commit-gt0 w ↦ misplaced c.args.n c.args.sector.now c.fields-commit.result c.fields-commit.ensures (no_epoch c.args.n c.fields-commit.result w.if-commit-gt0.false)
 ]
