@@ -1,4 +1,4 @@
-use Rattle.std.proofs.Common.{◌≡◌, ◌∙◌, ap, sym, refl, Err, Some, None, Bool, true, false, replicate, arith}
+use Rattle.std.proofs.Common.{◌≡◌, ◌∙◌, ap, sym, refl, Err, Some, None, Bool, true, false, replicate, arith, ◌<◌}
 use Rattle.sector_dev.specs.Disk.{now}
 use Rattle.sector_dev.specs.Time.{goes_on, now_has, passed, stays}
 use Rattle.commit.specs.Formatting.{HasNoCommit}
@@ -44,7 +44,12 @@ returns-clause-prepared g c = λ told has.
 
 pub returns-clause-begun : goal.returns-clause-begun
 returns-clause-begun g c = λ told.
-    let one = puts_more _ _ _ _ _ (c.in_ok-write.ensures.ok told) in
-    let two = puts_more _ _ _ _ _ (c.in_ok-write-2.ensures.ok told) in
-    let same = flushes_same _ _ (c.in_ok-sync.ensures.ok told) in
-    omega arith
+    let D = g.D.SectorDevice in
+    let s0 = D.story c.args.device.now in
+    let s1 = D.story c.write.new.self in
+    let s2 = D.story c.write-2.new.self in
+    let s3 = D.story c.sync.new.self in
+    let one : (now s0).writes < (now s1).writes = puts_more s0 s1 0 _ _ (c.in_ok-write.ensures.ok told) in
+    let two : (now s1).writes < (now s2).writes = puts_more s1 s2 2 _ _ (c.in_ok-write-2.ensures.ok told) in
+    let same : (now s3).writes ≡ (now s2).writes = flushes_same s2 s3 (c.in_ok-sync.ensures.ok told) in
+    omega (arith, one, two, same)
