@@ -1,17 +1,16 @@
 -- The moments of a publishing.
-use Rattle.std.proofs.Common.{◌≡◌, ◌≢◌, ◌⊎◌, inl, inr, ⊎_elim, ◌≤◌, ◌<◌, ◌+◌, ◌%◌, ◌*◌, ◌/◌, ℕ, List, [], ◌∷◌, length, Option, Some, None, refl, sym, ap, ◌∙◌, subst, arith}
+use Rattle.std.proofs.Common.{◌≡◌, ◌≢◌, ◌⊎◌, inl, inr, ⊎_elim, ◌≤◌, ◌<◌, ◌+◌, ◌%◌, ℕ, List, [], ◌∷◌, Option, Some, None, refl, sym, ap, ◌∙◌, subst, arith}
 use Rattle.std.proofs.lemmas.Bool.{cases_eq}
-use Rattle.sector_dev.specs.Disk.{Disk, Sector, Story, Image, now, put, flushed, with_content, synced_image, shown_image, MayLeave, MayHold, Puts, FailsToPut, Flushes, Passes, LeftSince, moment}
-use Rattle.sector_dev.specs.Time.{Grows, LeavesOnly, two, passed, weaken, goes_on, now_has, left_since}
+use Rattle.sector_dev.specs.Disk.{Disk, Sector, Story, Image, now, put, flushed, synced_image, shown_image, MayLeave, MayHold, Puts, FailsToPut, Flushes, LeftSince, moment}
+use Rattle.sector_dev.specs.Time.{Grows, two, left_since}
 use Rattle.sector_dev.specs.Crash.{put_other, put_same, holds_one, holds_synced, leaves_synced, leaves_flushed}
 use Rattle.segments.specs.Runs.{OutOf}
-use Rattle.segments.specs.Sectors.{Holds, sector_count}
 use Rattle.segments.specs.ReadBack.{same_holds}
 use Rattle.segments.specs.Writing.{WritesOnly, HoldsEach, runs_of}
 use Rattle.segments.specs.declared.piece.Piece.{Piece}
 use Rattle.commit.specs.declared.sector.Commit.{Commit}
 use Rattle.commit.specs.Sector.{commit_at}
-use Rattle.commit.specs.Ruling.{ruling, IsQuiet, Rests}
+use Rattle.commit.specs.Ruling.{ruling, Rests}
 use Rattle.commit.specs.Publishing.{AllAbove, IsOutside, IsOldOrNew, IsPublishing, IsPublished}
 use Rattle.commit.proofs.Rules.{same_rules, new_rules, old_rules}
 

@@ -1,5 +1,5 @@
 -- What may lie on a disk while it is formatted.
-use Rattle.std.specs.Prelude.{◌≡◌, ◌⊎◌, ◌≤◌, ◌<◌, ◌+◌, ◌-◌, ◌^◌, ℕ, min, List, [], ◌∷◌, Option, Some, None, Result, Ok, Err}
+use Rattle.std.specs.Prelude.{◌≡◌, ◌⊎◌, ◌<◌, ◌+◌, ◌-◌, ◌^◌, ℕ, min, List, [], ◌∷◌, Some, None, Result, Ok, Err}
 use Rattle.sector_dev.specs.Disk.{Disk, Image, synced_image}
 use Rattle.sector_dev.specs.Time.{LeavesOnly}
 use Rattle.segments.specs.Sectors.{bytes_at}

@@ -1,5 +1,5 @@
 -- Which commit rules an image.
-use Rattle.std.specs.Prelude.{◌≡◌, ℕ, if◌then◌else◌, nat_lt, List, [], Option, Some, None}
+use Rattle.std.specs.Prelude.{◌≡◌, ℕ, if◌then◌else◌, nat_lt, [], Option, Some, None}
 use Rattle.sector_dev.specs.Disk.{Disk, Image, synced_image}
 use Rattle.commit.specs.declared.sector.Commit.{Commit}
 use Rattle.commit.specs.Sector.{commit_at}

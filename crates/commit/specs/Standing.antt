@@ -1,5 +1,5 @@
 -- What one who opens an image finds. How a catalogue is read is an argument here.
-use Rattle.std.specs.Prelude.{◌≡◌, ◌≤◌, ◌<◌, ◌+◌, ◌⊎◌, ◌==◌, ◌&&◌, ◌||◌, ℕ, Bool, true, false, nat_le, if◌then◌else◌, List, [], ◌∷◌, Option, Some, None, Result, Ok, Err}
+use Rattle.std.specs.Prelude.{◌≡◌, ◌≤◌, ◌<◌, ◌+◌, ◌⊎◌, ◌==◌, ◌&&◌, ◌||◌, ℕ, Bool, true, nat_le, if◌then◌else◌, List, [], ◌∷◌, Option, Some, None, Result, Ok, Err}
 use Rattle.sector_dev.specs.Disk.{Disk, Image, synced_image}
 use Rattle.segments.specs.Sectors.{sector_count, bytes_at}
 use Rattle.segments.specs.declared.run.Run.{Run}

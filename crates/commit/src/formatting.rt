@@ -1,12 +1,12 @@
 // A device becomes an empty store.
 ghost use Rattle.std.specs.Prelude.{◌≡◌, ◌≢◌, ◌≤◌, ◌+◌, ◌∷◌, [], true, false, None, Err, OnOk, OnErr, IfOk, IfErr, IsErrOf};
 ghost use Rattle.sector_dev.specs.Disk.{now, shown_image, Counts};
-ghost use Rattle.sector_dev.specs.Time.{Grows, LeavesOnly};
+ghost use Rattle.sector_dev.specs.Time.{Grows};
 ghost use Rattle.commit.specs.Ruling.{ruling};
 ghost use Rattle.commit.specs.Standing.{is_size};
-ghost use Rattle.commit.specs.Formatting.{HoldsNoCommit, HasNoCommit, IsNoneOrEmpty, IsFormatting, IsFormatted, CountsFormat, first_commit};
+ghost use Rattle.commit.specs.Formatting.{HasNoCommit, IsFormatting, IsFormatted, CountsFormat, first_commit};
 ghost use Rattle.commit.specs.Placing.{Uses};
-ghost use Rattle.commit.specs.inner.Prepared.{IsPrepared};
+ghost use Rattle.commit.specs.inner.Prepared.{IsPrepared, Begins, EndsBegun, Clears, EndsCleared};
 
 use crate::opening::read_ruling;
 use crate::sector::commit_sector;
@@ -74,8 +74,8 @@ fn begin<D: SectorDevice>(device: &mut D) -> Result<(), DevError>
     ensures size { D.size device.new ≡ D.size device.old }
     ensures count { Counts (D.failed device.old) (D.failed device.new) result }
     ensures error { IfErr result (λ e. e ≡ DevError.Failed) }
-    ensures moments { D.tells ≡ true → IsPrepared (now (D.story device.old)) → Grows (LeavesOnly (IsNoneOrEmpty (D.size device.old))) (D.story device.old) (D.story device.new) }
-    ensures formatted { OnOk result (D.tells ≡ true → IsPrepared (now (D.story device.old)) → IsFormatted (D.size device.old) (now (D.story device.old)) (now (D.story device.new))) }
+    ensures moments { D.tells ≡ true → Begins (D.size device.old) (D.story device.old) (D.story device.new) }
+    ensures formatted { OnOk result (D.tells ≡ true → EndsBegun (D.size device.old) (D.story device.old) (D.story device.new)) }
 {
     let first = first_commit(device.sectors());
     let sector = commit_sector(first);
@@ -91,8 +91,8 @@ fn clear_and_begin<D: SectorDevice>(device: &mut D) -> Result<(), DevError>
     ensures size { D.size device.new ≡ D.size device.old }
     ensures count { Counts (D.failed device.old) (D.failed device.new) result }
     ensures error { IfErr result (λ e. e ≡ DevError.Failed) }
-    ensures moments { D.tells ≡ true → HoldsNoCommit (shown_image (now (D.story device.old))) → Grows (IsFormatting (D.size device.old) (now (D.story device.old))) (D.story device.old) (D.story device.new) }
-    ensures formatted { OnOk result (D.tells ≡ true → HoldsNoCommit (shown_image (now (D.story device.old))) → IsFormatted (D.size device.old) (now (D.story device.old)) (now (D.story device.new))) }
+    ensures moments { D.tells ≡ true → Clears (D.size device.old) (D.story device.old) (D.story device.new) }
+    ensures formatted { OnOk result (D.tells ≡ true → EndsCleared (D.size device.old) (D.story device.old) (D.story device.new)) }
 {
     device.sync()?;
     prepare(device)?;

@@ -1,5 +1,5 @@
 -- What one who opens finds depends on the commit sectors and on the runs in use alone.
-use Rattle.std.specs.Prelude.{◌≡◌, ◌≢◌, ◌⊎◌, ◌≤◌, ◌<◌, ◌+◌, ◌%◌, ◌==◌, ◌&&◌, ℕ, Bool, true, false, nat_le, if◌then◌else◌, List, [], ◌∷◌, Option, Some, None, Result, Ok, Err, refl}
+use Rattle.std.specs.Prelude.{◌≡◌, ◌⊎◌, ◌≤◌, ◌<◌, ◌+◌, ◌%◌, ◌==◌, ◌&&◌, ℕ, Bool, true, false, nat_le, if◌then◌else◌, List, [], ◌∷◌, Option, Some, None, Result, Ok, Err, refl}
 use Rattle.std.proofs.Common.{inl, inr, ⊎_elim, sym, ap, ◌∙◌, subst, arith}
 use Rattle.std.proofs.lemmas.Bool.Decides.{nat_tests}
 use Rattle.sector_dev.specs.Disk.{Disk, Image, synced_image}
@@ -14,7 +14,7 @@ use Rattle.commit.specs.declared.cause.Cause.{Cause}
 use Rattle.commit.specs.declared.cause.Cause.TheVariants.{DeviceSize, CatalogueRange, RunRange, RunOverlap}
 use Rattle.commit.specs.Ruling.{ruling}
 use Rattle.commit.specs.Publishing.{IsOldOrNew}
-use Rattle.commit.specs.Standing.{Reading, Standing, no_store, damaged, rules, is_size, is_on_device, is_extent, all_on_device, are_apart, used_runs, by_catalogue, by_text, by_commit, standing, InSome, IsLocal}
+use Rattle.commit.specs.Standing.{Reading, damaged, rules, is_size, is_on_device, is_extent, all_on_device, are_apart, used_runs, by_catalogue, by_text, by_commit, standing, InSome, IsLocal}
 
 module _ {C : Type 0} (reading : Reading C) (size : ℕ) where
   -- all tests passed

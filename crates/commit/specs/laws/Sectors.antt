@@ -1,17 +1,16 @@
 -- One text for each commit, and one commit for each text.
-use Rattle.std.specs.Prelude.{◌≡◌, ◌≤◌, ◌<◌, ◌+◌, ◌-◌, ◌%◌, ◌^◌, ◌==◌, ◌&&◌, ℕ, Bool, true, false, nat_eq, nat_lt, if◌then◌else◌, List, [], ◌∷◌, ◌++◌, length, take, drop, replicate, Option, Some, None, refl}
-use Rattle.std.proofs.Common.{sym, ap, ◌∙◌, subst, arith, append_assoc}
+use Rattle.std.specs.Prelude.{◌≡◌, ◌≤◌, ◌%◌, ◌==◌, ◌&&◌, ℕ, Bool, true, false, nat_eq, nat_lt, if◌then◌else◌, List, ◌∷◌, ◌++◌, drop, replicate, Option, Some, None, refl}
+use Rattle.std.proofs.Common.{ap, ◌∙◌, subst, arith}
 use Rattle.std.proofs.lemmas.Bool.Decides.{nat_tests}
 use Rattle.std.specs.Cmp.Lexicographic.{pointwise, bytes_decides}
-use Rattle.byteorder.specs.Endian.{little_bytes, little_number}
+use Rattle.byteorder.specs.Endian.{little_bytes}
 use Rattle.byteorder.specs.Numbers.{little_number-reads_back}
-use Rattle.segments.specs.Sectors.{filled}
 use Rattle.commit.specs.declared.sector.CatalogueKind.{CatalogueKind}
 use Rattle.commit.specs.declared.sector.CatalogueKind.TheVariants.{Whole}
 use Rattle.commit.specs.declared.sector.FormatVersion.{FormatVersion}
 use Rattle.commit.specs.declared.sector.FormatVersion.TheVariants.{One}
 use Rattle.commit.specs.declared.sector.Commit.{Commit}
-use Rattle.commit.specs.Sector.{letters, version_number, kind_number, fields_text, commit_text, number_at, fields_of, is_placed, commit_at, IsCommit}
+use Rattle.commit.specs.Sector.{version_number, kind_number, commit_text, number_at, fields_of, is_placed, commit_at, IsCommit}
 
 one_kind : (k : CatalogueKind) → Whole ≡ k
 one_kind Whole = refl

@@ -1,9 +1,9 @@
-use Rattle.std.proofs.Common.{◌≡◌, ◌∙◌, ap, sym, refl, Err, Some, None, Bool, true, false, subst, arith}
-use Rattle.sector_dev.specs.Disk.{now, Disk}
-use Rattle.sector_dev.specs.Time.{goes_on, now_has, passed, stays, two, LeavesOnly}
+use Rattle.std.proofs.Common.{◌∙◌, ap, sym, refl, subst, arith}
+use Rattle.sector_dev.specs.Disk.{now}
+use Rattle.sector_dev.specs.Time.{goes_on, now_has, passed, two, LeavesOnly}
 use Rattle.commit.specs.Sector.{commit_text}
 use Rattle.commit.specs.Formatting.{IsNoneOrEmpty, IsFormatted, first_commit}
-use Rattle.commit.proofs.Formatted.{first_found, at_rest, while_begun, begin_put, begin_failed, begin_done}
+use Rattle.commit.proofs.Formatted.{first_found, at_rest, begin_put, begin_failed, begin_done}
 use Rattle.commit.proofs.formatting.begin.Goals as goal
 
 pub returns-in_err-write-clause-moments : goal.returns-in_err-write-clause-moments

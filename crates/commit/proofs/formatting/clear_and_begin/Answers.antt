@@ -1,5 +1,5 @@
-use Rattle.std.proofs.Common.{◌≡◌, ◌∙◌, ap, sym, refl, inl, subst, ℕ, arith}
-use Rattle.sector_dev.specs.Disk.{now, Disk, Story}
+use Rattle.std.proofs.Common.{◌∙◌, refl, inl, subst, ℕ, arith}
+use Rattle.sector_dev.specs.Disk.{now}
 use Rattle.sector_dev.specs.Time.{Grows, LeavesOnly, goes_on, passed}
 use Rattle.commit.specs.Formatting.{IsNoneOrEmpty, IsFormatting, IsFormatted}
 use Rattle.commit.proofs.Formatted.{cleaned, as_none, as_empty, flushes_same, formatted_since}

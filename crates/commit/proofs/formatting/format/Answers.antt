@@ -1,4 +1,4 @@
-use Rattle.std.proofs.Common.{◌≡◌, ◌≢◌, ◌∙◌, ap, sym, inl, subst, ℕ, Bool, true, false, Option, Some, None, Result, Ok, Err, IfErr, is_some}
+use Rattle.std.proofs.Common.{◌≡◌, ◌≢◌, ◌∙◌, ap, sym, inl, subst, ℕ, false, Option, Some, None, Result, Ok, Err, IfErr, is_some}
 use Rattle.sector_dev.specs.Disk.{Disk, now, shown_image}
 use Rattle.sector_dev.specs.Time.{Grows, weaken, now_read}
 use Rattle.commit.specs.declared.sector.Commit.{Commit}

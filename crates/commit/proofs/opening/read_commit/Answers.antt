@@ -1,4 +1,4 @@
-use Rattle.std.proofs.Common.{◌≡◌, ◌∙◌, ap, sym, refl, Err, None}
+use Rattle.std.proofs.Common.{◌∙◌, ap, sym, Err}
 use Rattle.sector_dev.specs.Time.{only_read}
 use Rattle.commit.specs.Sector.{commit_at}
 use Rattle.commit.specs.laws.Sectors.{none_unreadable}

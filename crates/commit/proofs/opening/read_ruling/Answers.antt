@@ -1,5 +1,5 @@
-use Rattle.std.proofs.Common.{◌≡◌, ◌∙◌, ap, sym, refl}
-use Rattle.sector_dev.specs.Disk.{Disk, now, shown_image}
+use Rattle.std.proofs.Common.{◌∙◌, ap, sym}
+use Rattle.sector_dev.specs.Disk.{Disk, shown_image}
 use Rattle.sector_dev.specs.Time.{read_on, now_read}
 use Rattle.commit.specs.Sector.{commit_at}
 use Rattle.commit.specs.Ruling.{newer, ruling}

@@ -1,9 +1,9 @@
-use Rattle.std.proofs.Common.{◌≡◌, ◌+◌, length, ◌∙◌, refl, arith, true, sym, ap, inl}
+use Rattle.std.proofs.Common.{refl, inl}
 use Rattle.sector_dev.specs.Disk.{now}
-use Rattle.sector_dev.specs.Time.{stays, goes_on, now_has, weaken, passed}
+use Rattle.sector_dev.specs.Time.{goes_on, now_has, weaken, passed}
 use Rattle.segments.specs.Writing.{WritesOnly, runs_of}
 use Rattle.commit.proofs.Texts.{found_in}
-use Rattle.commit.proofs.Moments.{while_written, run_done, put_done, put_failed, sync_done, P}
+use Rattle.commit.proofs.Moments.{while_written, run_done, put_done, put_failed, sync_done}
 use Rattle.commit.proofs.publishing.write_and_commit.Goals as goal
 
 pub returns-in_err-write_runs-clause-moments : goal.returns-in_err-write_runs-clause-moments

@@ -1,6 +1,4 @@
-use Rattle.std.proofs.Common.{◌≡◌, ◌%◌, ◌==◌, ◌&&◌, nat_lt, Bool, true, false, sym, ap, ◌∙◌, refl, arith}
-use Rattle.std.proofs.lemmas.Bool.Decides.{nat_tests}
-use Rattle.commit.specs.Sector.{is_placed}
+use Rattle.std.proofs.Common.{sym, ◌∙◌, arith}
 use Rattle.commit.proofs.Texts.{found, misplaced, misspelled, another_sector, no_epoch}
 use Rattle.commit.proofs.sector.commit_in.Goals as goal
 use Rattle.commit.proofs.sector.commit_in.Goals.{else-commit-gt0-via-then-commit-gt0+then-commit-n+else-eq, else-commit-gt0-via-then-commit-gt0+else-commit-n, else-commit-gt0-via-else-commit-gt0}
