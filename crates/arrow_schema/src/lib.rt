@@ -16,6 +16,3 @@ pub use limits::{
 };
 pub use texts::{ParseError, field_text, one_column_of_a_text, parse_fields};
 pub use types::{BitWidth, DataType, DateUnit, DictSpec, Field, IntegerType, Schema, TimeUnit};
-
-#[cfg(test)]
-mod tests;
