@@ -39,7 +39,7 @@ kind_same nulls h = refl
 kind_same booleans h = refl
 kind_same (integers bits signed) h = refl
 kind_same (dates unit) h = refl
-kind_same (timestamps unit zone) h = refl
+kind_same (timestamps unit timezone) h = refl
 kind_same texts h = refl
 kind_same large_texts h = refl
 kind_same binaries h = refl
@@ -192,7 +192,7 @@ mutual
   kind_again booleans l name m d rest dict typed s = rw (always l) (flat_built (column_at l) name m booleans d rest typed refl dict s)
   kind_again (integers bits signed) l name m d rest dict typed s = rw (always l) (flat_built (column_at l) name m (integers bits signed) d rest typed refl dict s)
   kind_again (dates unit) l name m d rest dict typed s = rw (always l) (flat_built (column_at l) name m (dates unit) d rest typed refl dict s)
-  kind_again (timestamps unit zone) l name m d rest dict typed s = rw (always l) (flat_built (column_at l) name m (timestamps unit zone) d rest typed refl dict s)
+  kind_again (timestamps unit timezone) l name m d rest dict typed s = rw (always l) (flat_built (column_at l) name m (timestamps unit timezone) d rest typed refl dict s)
   kind_again texts l name m d rest dict typed s = rw (always l) (flat_built (column_at l) name m texts d rest typed refl dict s)
   kind_again large_texts l name m d rest dict typed s = rw (always l) (flat_built (column_at l) name m large_texts d rest typed refl dict s)
   kind_again binaries l name m d rest dict typed s = rw (always l) (flat_built (column_at l) name m binaries d rest typed refl dict s)

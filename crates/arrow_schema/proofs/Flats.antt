@@ -14,12 +14,12 @@ use Rattle.arrow_schema.specs.Column.{Index, days, date_milliseconds, seconds, m
 use Rattle.arrow_schema.specs.View.{bits_of, date_kind, time_kind}
 use Rattle.arrow_schema.specs.Limits.{is_nested}
 use Rattle.arrow_schema.specs.Keywords.{number_text, integer_text, time_text, keyword_text}
-use Rattle.arrow_schema.specs.FieldText.{plain, zone_text, dictionary_text, with_dictionary, type_text}
-use Rattle.arrow_schema.specs.Typed.{IsBits, IsSize, IsTypedDictionary, IsTypedKind, is_zone_byte}
-use Rattle.arrow_schema.specs.Scan.{stripped, keyword_at, within_word, size_at, zone_at, flat_at, Front, flat, list, large_list, fixed_list, struct, index_in, values_at, dictionary_at, front_after, front_at}
+use Rattle.arrow_schema.specs.FieldText.{plain, timezone_text, dictionary_text, with_dictionary, type_text}
+use Rattle.arrow_schema.specs.Typed.{IsBits, IsSize, IsTypedDictionary, IsTypedKind, is_timezone_byte}
+use Rattle.arrow_schema.specs.Scan.{stripped, keyword_at, within_word, size_at, timezone_at, flat_at, Front, flat, list, large_list, fixed_list, struct, index_in, values_at, dictionary_at, front_after, front_at}
 use Rattle.arrow_schema.proofs.Options.{some_map, some_then}
 use Rattle.arrow_schema.proofs.Words.{keyword_again, keyword_told, stripped_told}
-use Rattle.arrow_schema.proofs.Fronts.{size_again, size_told, zone_again, IsZoneText, zone_told}
+use Rattle.arrow_schema.proofs.Fronts.{size_again, size_told, timezone_again, IsTimezoneText, timezone_told}
 
 pub three : (a b c d : List ℕ) → a ++ b ++ c ++ d ≡ a ++ (b ++ (c ++ d))
 three a b c d = append_assoc (a ++ b) c d ∙ append_assoc a b (c ++ d)
@@ -33,9 +33,9 @@ within_kind k = k
 abbrev pub FlatStarts : Bool → Kind → List ℕ → Type 0
 FlatStarts limited k rest = (word : Keyword) × (after : List ℕ) × (type_text plain k ++ rest ≡ keyword_text word ++ after) × (flat_at limited word after ≡ Some (within_kind k, rest))
 
-time_starts : (limited : Bool) (unit : TimeUnit) (zone rest : List ℕ) → list_all is_zone_byte zone ≡ true → stripped (codes "(") rest ≡ None → FlatStarts limited (timestamps (time_kind unit) zone) rest
+time_starts : (limited : Bool) (unit : TimeUnit) (timezone rest : List ℕ) → list_all is_timezone_byte timezone ≡ true → stripped (codes "(") rest ≡ None → FlatStarts limited (timestamps (time_kind unit) timezone) rest
 unfolding type_text flat_at keyword_text
-time_starts limited unit zone rest all none = (words.Timestamp unit, zone_text plain zone ++ rest, append_assoc (time_text (time_kind unit)) (zone_text plain zone) rest, rw (zone_again zone rest all none) refl)
+time_starts limited unit timezone rest all none = (words.Timestamp unit, timezone_text plain timezone ++ rest, append_assoc (time_text (time_kind unit)) (timezone_text plain timezone) rest, rw (timezone_again timezone rest all none) refl)
 
 pub flat_starts : (limited : Bool) (k : Kind) (rest : List ℕ) → IsTypedKind limited k → is_nested k ≡ false → stripped (codes "(") rest ≡ None → FlatStarts limited k rest
 unfolding IsTypedKind type_text flat_at keyword_text
@@ -45,10 +45,10 @@ flat_starts limited (integers bits signed) rest h e none =
     (words.Int (record { width = h.0; signed = signed }), rest, ap (λ b. integer_text b signed ++ rest) h.1, ap (λ b. Some (integers b signed, rest)) (sym h.1))
 flat_starts limited (dates days) rest h e none = (words.Date date_units.Day, rest, refl, refl)
 flat_starts limited (dates date_milliseconds) rest h e none = (words.Date date_units.Millisecond, rest, refl, refl)
-flat_starts limited (timestamps seconds zone) rest h e none = time_starts limited time_units.Second zone rest h none
-flat_starts limited (timestamps milliseconds zone) rest h e none = time_starts limited time_units.Millisecond zone rest h none
-flat_starts limited (timestamps microseconds zone) rest h e none = time_starts limited time_units.Microsecond zone rest h none
-flat_starts limited (timestamps nanoseconds zone) rest h e none = time_starts limited time_units.Nanosecond zone rest h none
+flat_starts limited (timestamps seconds timezone) rest h e none = time_starts limited time_units.Second timezone rest h none
+flat_starts limited (timestamps milliseconds timezone) rest h e none = time_starts limited time_units.Millisecond timezone rest h none
+flat_starts limited (timestamps microseconds timezone) rest h e none = time_starts limited time_units.Microsecond timezone rest h none
+flat_starts limited (timestamps nanoseconds timezone) rest h e none = time_starts limited time_units.Nanosecond timezone rest h none
 flat_starts limited texts rest h e none = (words.Utf8, rest, refl, refl)
 flat_starts limited large_texts rest h e none = (words.LargeUtf8, rest, refl, refl)
 flat_starts limited binaries rest h e none = (words.Binary, rest, refl, refl)
@@ -70,8 +70,8 @@ flat_told limited words.Bool text = (booleans, tt, refl, refl)
 flat_told limited (words.Int i) text = (integers (bits_of i.width) i.signed, (i.width, refl), refl, refl)
 flat_told limited (words.Date unit) text = (dates (date_kind unit), tt, refl, refl)
 flat_told limited (words.Timestamp unit) text =
-    some_map (λ p. (timestamps (time_kind unit) p.0, p.1)) (zone_at text) (IsZoneText text) (IsFlatText limited (keyword_text (words.Timestamp unit) ++ text)) (zone_told text)
-    (λ p h. (timestamps (time_kind unit) p.0, h.0, refl, ap (λ (ys : List ℕ). time_text (time_kind unit) ++ ys) h.1 ∙ sym (append_assoc (time_text (time_kind unit)) (zone_text plain p.0) p.1)))
+    some_map (λ p. (timestamps (time_kind unit) p.0, p.1)) (timezone_at text) (IsTimezoneText text) (IsFlatText limited (keyword_text (words.Timestamp unit) ++ text)) (timezone_told text)
+    (λ p h. (timestamps (time_kind unit) p.0, h.0, refl, ap (λ (ys : List ℕ). time_text (time_kind unit) ++ ys) h.1 ∙ sym (append_assoc (time_text (time_kind unit)) (timezone_text plain p.0) p.1)))
 flat_told limited words.Utf8 text = (texts, tt, refl, refl)
 flat_told limited words.LargeUtf8 text = (large_texts, tt, refl, refl)
 flat_told limited words.Binary text = (binaries, tt, refl, refl)

@@ -6,9 +6,9 @@ use Rattle.std.proofs.lemmas.List.{append_assoc}
 use Rattle.std.proofs.lemmas.Bool.{ne_eqb, both_ways}
 use Rattle.std.proofs.lemmas.Bool.Decides.{nat_tests}
 use Rattle.arrow_schema.specs.Keywords.{number_text}
-use Rattle.arrow_schema.specs.FieldText.{plain, zone_text}
-use Rattle.arrow_schema.specs.Typed.{IsSize, is_name_byte, is_zone_byte, is_name}
-use Rattle.arrow_schema.specs.Scan.{stripped, cut_at, is_digit, has_one_form, is_numeral, value, within_word, is_size, size_at, is_zone, zone_within, zone_or, zone_at, name_at}
+use Rattle.arrow_schema.specs.FieldText.{plain, timezone_text}
+use Rattle.arrow_schema.specs.Typed.{IsSize, is_name_byte, is_timezone_byte, is_name}
+use Rattle.arrow_schema.specs.Scan.{stripped, cut_at, is_digit, has_one_form, is_numeral, value, within_word, is_size, size_at, is_timezone, timezone_within, timezone_or, timezone_at, name_at}
 use Rattle.arrow_schema.proofs.Cutting.{cut_some}
 use Rattle.arrow_schema.proofs.Digits.{and_left, and_right, value_text, numeral_text, text_value}
 use Rattle.arrow_schema.proofs.Options.{some_map, some_then, some_if}
@@ -55,40 +55,40 @@ size_told limited mark text =
     (λ p h. some_if (is_size limited p.0) (within_word (value p.0), p.1) (λ p. (n : ℕ) × IsSize limited n × (text ≡ number_text n ++ mark ∷ p.1))
     (λ e. (value p.0, unsized limited (value p.0) (and_right (is_numeral p.0) _ e), h ∙ ap (λ (ds : List ℕ). ds ++ mark ∷ p.1) (sym (text_value p.0 (and_left (is_numeral p.0) _ e))))))
 
--- zones
-within_again : (zone rest : List ℕ) → (length zone == 0) ≡ false → list_all is_zone_byte zone ≡ true → zone_within (zone ++ 41 ∷ rest) ≡ Some (zone, rest)
-unfolding zone_within
-within_again zone rest some all = rw (cut_some 41 zone rest (lacks is_zone_byte 41 zone refl all), all, some) refl
+-- timezones
+within_again : (timezone rest : List ℕ) → (length timezone == 0) ≡ false → list_all is_timezone_byte timezone ≡ true → timezone_within (timezone ++ 41 ∷ rest) ≡ Some (timezone, rest)
+unfolding timezone_within
+within_again timezone rest some all = rw (cut_some 41 timezone rest (lacks is_timezone_byte 41 timezone refl all), all, some) refl
 
-zone_inside : (text : List ℕ) → zone_at (40 ∷ text) ≡ zone_within text
-unfolding zone_at stripped
-zone_inside text = refl
+timezone_inside : (text : List ℕ) → timezone_at (40 ∷ text) ≡ timezone_within text
+unfolding timezone_at stripped
+timezone_inside text = refl
 
-pub zone_again : (zone rest : List ℕ) → list_all is_zone_byte zone ≡ true → stripped (codes "(") rest ≡ None → zone_at (zone_text plain zone ++ rest) ≡ Some (zone, rest)
-unfolding zone_at
-zone_again [] rest all none = rw none refl
-zone_again (x ∷ xs) rest all none =
+pub timezone_again : (timezone rest : List ℕ) → list_all is_timezone_byte timezone ≡ true → stripped (codes "(") rest ≡ None → timezone_at (timezone_text plain timezone ++ rest) ≡ Some (timezone, rest)
+unfolding timezone_at
+timezone_again [] rest all none = rw none refl
+timezone_again (x ∷ xs) rest all none =
     let some : (length (x ∷ xs) == 0) ≡ false = ne_eqb (length (x ∷ xs)) 0 (omega arith) in
-    let grouped : zone_text plain (x ∷ xs) ++ rest ≡ 40 ∷ (x ∷ xs) ++ 41 ∷ rest = ap (λ (ys : List ℕ). 40 ∷ x ∷ ys) (append_assoc xs (41 ∷ []) rest) in
-    ap zone_at grouped ∙ zone_inside ((x ∷ xs) ++ 41 ∷ rest) ∙ within_again (x ∷ xs) rest some all
+    let grouped : timezone_text plain (x ∷ xs) ++ rest ≡ 40 ∷ (x ∷ xs) ++ 41 ∷ rest = ap (λ (ys : List ℕ). 40 ∷ x ∷ ys) (append_assoc xs (41 ∷ []) rest) in
+    ap timezone_at grouped ∙ timezone_inside ((x ∷ xs) ++ 41 ∷ rest) ∙ within_again (x ∷ xs) rest some all
 
-text_of_zone : (zone rest : List ℕ) → not (length zone == 0) ≡ true → zone_text plain zone ++ rest ≡ 40 ∷ zone ++ 41 ∷ rest
-text_of_zone [] rest e = cc
-text_of_zone (x ∷ xs) rest e = ap (λ (ys : List ℕ). 40 ∷ x ∷ ys) (append_assoc xs (41 ∷ []) rest)
+text_of_timezone : (timezone rest : List ℕ) → not (length timezone == 0) ≡ true → timezone_text plain timezone ++ rest ≡ 40 ∷ timezone ++ 41 ∷ rest
+text_of_timezone [] rest e = cc
+text_of_timezone (x ∷ xs) rest e = ap (λ (ys : List ℕ). 40 ∷ x ∷ ys) (append_assoc xs (41 ∷ []) rest)
 
-abbrev pub IsZoneText : List ℕ → List ℕ × List ℕ → Type 0
-IsZoneText text p = (list_all is_zone_byte p.0 ≡ true) × (text ≡ zone_text plain p.0 ++ p.1)
+abbrev pub IsTimezoneText : List ℕ → List ℕ × List ℕ → Type 0
+IsTimezoneText text p = (list_all is_timezone_byte p.0 ≡ true) × (text ≡ timezone_text plain p.0 ++ p.1)
 
-pub zone_told : (text : List ℕ) → IfSome (zone_at text) (IsZoneText text)
-unfolding zone_at zone_within
-zone_told text = told (stripped (codes "(") text) (stripped_told (codes "(") text)
+pub timezone_told : (text : List ℕ) → IfSome (timezone_at text) (IsTimezoneText text)
+unfolding timezone_at timezone_within
+timezone_told text = told (stripped (codes "(") text) (stripped_told (codes "(") text)
   where
-    told : (o : Option (List ℕ)) → IfSome o (λ rest. text ≡ 40 ∷ rest) → IfSome (zone_or text o) (IsZoneText text)
+    told : (o : Option (List ℕ)) → IfSome o (λ rest. text ≡ 40 ∷ rest) → IfSome (timezone_or text o) (IsTimezoneText text)
     told None h = (refl, refl)
     told (Some inside) h =
-        some_then (λ p. cond (is_zone p.0) (Some p) None) (cut_at 41 inside) (λ p. inside ≡ p.0 ++ 41 ∷ p.1) (IsZoneText text) (cut_told 41 inside)
-        (λ p e. some_if (is_zone p.0) p (IsZoneText text)
-        (λ all. (and_left _ _ all, h ∙ ap (λ (ys : List ℕ). 40 ∷ ys) e ∙ sym (text_of_zone p.0 p.1 (and_right (list_all is_zone_byte p.0) _ all)))))
+        some_then (λ p. cond (is_timezone p.0) (Some p) None) (cut_at 41 inside) (λ p. inside ≡ p.0 ++ 41 ∷ p.1) (IsTimezoneText text) (cut_told 41 inside)
+        (λ p e. some_if (is_timezone p.0) p (IsTimezoneText text)
+        (λ all. (and_left _ _ all, h ∙ ap (λ (ys : List ℕ). 40 ∷ ys) e ∙ sym (text_of_timezone p.0 p.1 (and_right (list_all is_timezone_byte p.0) _ all)))))
 
 -- names
 pub name_again : (name rest : List ℕ) → is_name name ≡ true → name_at (name ++ 58 ∷ rest) ≡ Some (name, rest)

@@ -22,7 +22,7 @@ four a b c d e = append_assoc (a ++ b ++ c) d e ∙ three a b c (d ++ e)
 -- marks
 pub record Stops (rest : List ℕ) : Type 0 where
   pub mark : stripped (codes "?") rest ≡ None
-  pub zone : stripped (codes "(") rest ≡ None
+  pub timezone : stripped (codes "(") rest ≡ None
 
 pub unmarked : (m : Bool) (rest : List ℕ) → Stops rest → after_mark (mark m ++ rest) ≡ rest
 unfolding stripped
@@ -34,10 +34,10 @@ unfolding stripped
 marked true rest s = refl
 marked false rest s = rw s.mark refl
 
-no_zone : (m : Bool) (rest : List ℕ) → Stops rest → stripped (codes "(") (mark m ++ rest) ≡ None
+no_timezone : (m : Bool) (rest : List ℕ) → Stops rest → stripped (codes "(") (mark m ++ rest) ≡ None
 unfolding stripped
-no_zone true rest s = refl
-no_zone false rest s = s.zone
+no_timezone true rest s = refl
+no_timezone false rest s = s.timezone
 
 mark_of : (text : List ℕ) (o : Option (List ℕ)) → stripped (codes "?") text ≡ o → IfSome o (λ rest. text ≡ 63 ∷ rest) → text ≡ mark (is_marked text) ++ after_mark text
 mark_of text None e h = rw e refl
@@ -49,19 +49,19 @@ mark_split text = mark_of text (stripped (codes "?") text) refl (stripped_told (
 -- what closes stops
 pub stops_at_end : (text : List ℕ) → text ≡ [] → Stops text
 unfolding stripped
-stops_at_end text e = rw e (record { mark = refl; zone = refl })
+stops_at_end text e = rw e (record { mark = refl; timezone = refl })
 
 pub stops_at : (text rest : List ℕ) → text ≡ 62 ∷ rest → Stops text
 unfolding stripped
-stops_at text rest e = rw e (record { mark = refl; zone = refl })
+stops_at text rest e = rw e (record { mark = refl; timezone = refl })
 
 pub stops_at_parenthesis : (text rest : List ℕ) → text ≡ 41 ∷ rest → Stops text
 unfolding stripped
-stops_at_parenthesis text rest e = rw e (record { mark = refl; zone = refl })
+stops_at_parenthesis text rest e = rw e (record { mark = refl; timezone = refl })
 
 stops_at_comma : (text rest : List ℕ) → text ≡ 44 ∷ rest → Stops text
 unfolding stripped
-stops_at_comma text rest e = rw e (record { mark = refl; zone = refl })
+stops_at_comma text rest e = rw e (record { mark = refl; timezone = refl })
 
 -- what is left of the fields of a struct begins with its bracket or a comma
 pub more_stops : (cs : Columns) (text rest : List ℕ) → text ≡ more_text plain cs ++ codes ">" ++ rest → Stops text
@@ -158,7 +158,7 @@ pub record Starts (limited : Bool) (text rest : List ℕ) : Type 0 where
 
 pub flat_read : (limited m : Bool) (k : Kind) (d : Option Index) (rest : List ℕ) → IsTypedKind limited k → is_nested k ≡ false → IsTypedDictionary d k → Stops rest
     → front_at limited (with_dictionary d (type_text plain k) ++ mark m ++ rest) ≡ Some (flat (within_kind k) d, mark m ++ rest)
-flat_read limited m k None rest typed e d s = ap (front_at limited) (append_assoc (type_text plain k) (mark m) rest) ∙ flat_front limited k (mark m ++ rest) typed e (no_zone m rest s)
+flat_read limited m k None rest typed e d s = ap (front_at limited) (append_assoc (type_text plain k) (mark m) rest) ∙ flat_front limited k (mark m ++ rest) typed e (no_timezone m rest s)
 flat_read limited m k (Some index) rest typed e d s =
     ap (front_at limited) (append_assoc (with_dictionary (Some index) (type_text plain k)) (mark m) rest)
     ∙ subst (λ bits. front_at limited (with_dictionary (Some (record { bits = bits; signed = index.signed })) (type_text plain k) ++ (mark m ++ rest)) ≡ Some (flat (within_kind k) (Some (record { bits = bits; signed = index.signed })), mark m ++ rest))
@@ -174,7 +174,7 @@ item_starts limited (column name m nulls d pairs) rest h s = flat_item limited m
 item_starts limited (column name m booleans d pairs) rest h s = flat_item limited m booleans d rest h.3 refl h.2 s
 item_starts limited (column name m (integers bits signed) d pairs) rest h s = flat_item limited m (integers bits signed) d rest h.3 refl h.2 s
 item_starts limited (column name m (dates unit) d pairs) rest h s = flat_item limited m (dates unit) d rest h.3 refl h.2 s
-item_starts limited (column name m (timestamps unit zone) d pairs) rest h s = flat_item limited m (timestamps unit zone) d rest h.3 refl h.2 s
+item_starts limited (column name m (timestamps unit timezone) d pairs) rest h s = flat_item limited m (timestamps unit timezone) d rest h.3 refl h.2 s
 item_starts limited (column name m texts d pairs) rest h s = flat_item limited m texts d rest h.3 refl h.2 s
 item_starts limited (column name m large_texts d pairs) rest h s = flat_item limited m large_texts d rest h.3 refl h.2 s
 item_starts limited (column name m binaries d pairs) rest h s = flat_item limited m binaries d rest h.3 refl h.2 s

@@ -71,7 +71,7 @@ dates_where p (dates unit) = p unit
 dates_where p _ = false
 
 abbrev pub timestamps_where : (TimeKind → List ℕ → Bool) → Kind → Bool
-timestamps_where p (timestamps unit zone) = p unit zone
+timestamps_where p (timestamps unit timezone) = p unit timezone
 timestamps_where p _ = false
 
 abbrev pub fixed_binaries_where : (ℕ → Bool) → Kind → Bool
@@ -115,7 +115,7 @@ unfoldable mutual
   alike_kind detail booleans = is_booleans
   alike_kind detail (integers bits signed) = integers_where (λ b s. bits == b && bool_eq signed s)
   alike_kind detail (dates unit) = dates_where (date_eq unit)
-  alike_kind detail (timestamps unit zone) = timestamps_where (λ u z. time_number unit == time_number u && bytes_eq zone z)
+  alike_kind detail (timestamps unit timezone) = timestamps_where (λ u z. time_number unit == time_number u && bytes_eq timezone z)
   alike_kind detail texts = is_texts
   alike_kind detail large_texts = is_large_texts
   alike_kind detail binaries = is_binaries

@@ -29,7 +29,7 @@ mutual
     booleans : Kind
     integers : (bits : ℕ) → (signed : Bool) → Kind
     dates : DateKind → Kind
-    timestamps : TimeKind → (zone : List ℕ) → Kind
+    timestamps : TimeKind → (timezone : List ℕ) → Kind
     texts : Kind
     large_texts : Kind
     binaries : Kind

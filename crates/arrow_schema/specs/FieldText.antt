@@ -5,24 +5,24 @@ use Rattle.arrow_schema.specs.Column.{Index, Kind, Column, Columns, nulls, boole
 use Rattle.arrow_schema.specs.Keywords.{number_text, integer_text, date_text, time_text, keyword_text}
 use Rattle.arrow_schema.specs.declared.texts.keyword.Keyword.TheVariants as words
 
--- how a name before a type, the name of an item and a zone are written
+-- how a name before a type, the name of an item and a timezone are written
 pub record Style : Type 0 where
   pub field : List ℕ → List ℕ
   pub item : List ℕ → List ℕ
-  pub zone : List ℕ → List ℕ
+  pub timezone : List ℕ → List ℕ
 
 -- as they are typed in: an item's name is left out
 abbrev pub plain : Style
-plain = record { field = λ name. name ++ codes ":"; item = λ _. []; zone = λ zone. zone }
+plain = record { field = λ name. name ++ codes ":"; item = λ _. []; timezone = λ timezone. timezone }
 
--- as they are printed: each name and each zone is a JSON text
+-- as they are printed: each name and each timezone is a JSON text
 abbrev pub printed : Style
-printed = record { field = λ name. quoted name ++ codes ":"; item = λ name. quoted name ++ codes ":"; zone = quoted }
+printed = record { field = λ name. quoted name ++ codes ":"; item = λ name. quoted name ++ codes ":"; timezone = quoted }
 
--- no zone, or one in parentheses
-abbrev pub zone_text : Style → List ℕ → List ℕ
-zone_text style [] = []
-zone_text style (x ∷ xs) = codes "(" ++ style.zone (x ∷ xs) ++ codes ")"
+-- no timezone, or one in parentheses
+abbrev pub timezone_text : Style → List ℕ → List ℕ
+timezone_text style [] = []
+timezone_text style (x ∷ xs) = codes "(" ++ style.timezone (x ∷ xs) ++ codes ")"
 
 -- the mark of what is nullable
 abbrev pub mark : Bool → List ℕ
@@ -43,7 +43,7 @@ unfoldable mutual
   type_text style booleans = keyword_text words.Bool
   type_text style (integers bits signed) = integer_text bits signed
   type_text style (dates unit) = date_text unit
-  type_text style (timestamps unit zone) = time_text unit ++ zone_text style zone
+  type_text style (timestamps unit timezone) = time_text unit ++ timezone_text style timezone
   type_text style texts = keyword_text words.Utf8
   type_text style large_texts = keyword_text words.LargeUtf8
   type_text style binaries = keyword_text words.Binary

@@ -10,10 +10,10 @@ use Rattle.arrow_schema.specs.Preorder.{every_column, depth_all}
 abbrev pub bytes_of_pairs : List Pair → ℕ
 bytes_of_pairs pairs = sum_by (λ p. length p.0 + length p.1) pairs
 
--- the zone of a timestamp
-abbrev pub zone_of : Kind → List ℕ
-zone_of (timestamps unit zone) = zone
-zone_of _ = []
+-- the timezone of a timestamp
+abbrev pub timezone_of : Kind → List ℕ
+timezone_of (timestamps unit timezone) = timezone
+timezone_of _ = []
 
 -- the width or the size that a type states
 abbrev pub number_of : Kind → ℕ
@@ -29,12 +29,12 @@ is_nested (fixed_lists size item) = true
 is_nested (structs parts) = true
 is_nested _ = false
 
--- of one column, without its children: its pairs, and the bytes of its name, its zone and its pairs
+-- of one column, without its children: its pairs, and the bytes of its name, its timezone and its pairs
 abbrev pub pairs_in : Column → ℕ
 pairs_in (column name nullable kind dictionary pairs) = length pairs
 
 abbrev pub bytes_in : Column → ℕ
-bytes_in (column name nullable kind dictionary pairs) = length name + length (zone_of kind) + bytes_of_pairs pairs
+bytes_in (column name nullable kind dictionary pairs) = length name + length (timezone_of kind) + bytes_of_pairs pairs
 
 -- the bytes of its name alone
 abbrev pub name_len : Column → ℕ
@@ -52,7 +52,7 @@ has_flat_dictionary (column name nullable kind dictionary pairs) = not (is_some 
 abbrev pub count_of_pairs : PlainSchema → ℕ
 count_of_pairs s = length s.pairs + sum_by pairs_in (every_column s)
 
--- all bytes of names, keys, values and zones
+-- all bytes of names, keys, values and timezones
 abbrev pub count_of_bytes : PlainSchema → ℕ
 count_of_bytes s = bytes_of_pairs s.pairs + sum_by bytes_in (every_column s)
 

@@ -16,7 +16,7 @@ unfoldable mutual
   preorder_below booleans = []
   preorder_below (integers bits signed) = []
   preorder_below (dates unit) = []
-  preorder_below (timestamps unit zone) = []
+  preorder_below (timestamps unit timezone) = []
   preorder_below texts = []
   preorder_below large_texts = []
   preorder_below binaries = []
@@ -45,7 +45,7 @@ unfoldable mutual
   depth_below booleans = 0
   depth_below (integers bits signed) = 0
   depth_below (dates unit) = 0
-  depth_below (timestamps unit zone) = 0
+  depth_below (timestamps unit timezone) = 0
   depth_below texts = 0
   depth_below large_texts = 0
   depth_below binaries = 0

@@ -11,7 +11,7 @@ use Rattle.arrow_schema.specs.declared.texts.keyword.Keyword.TheVariants as word
 use Rattle.arrow_schema.specs.Column.{Index, Kind, nulls, booleans, integers, dates, timestamps, texts, large_texts, binaries, large_binaries, fixed_binaries}
 use Rattle.arrow_schema.specs.View.{bits_of, date_kind, time_kind}
 use Rattle.arrow_schema.specs.Keywords.{keyword_text}
-use Rattle.arrow_schema.specs.Typed.{is_zone_byte, is_name}
+use Rattle.arrow_schema.specs.Typed.{is_timezone_byte, is_name}
 
 -- what the code read is what reading the bytes gives
 abbrev pub Reads : {X Y : Type 0} → (X → Y) → Option X → Option Y → Type 0
@@ -73,19 +73,19 @@ is_size limited ds = is_numeral ds && (not limited || nat_lt (value ds) (2 ^ 31)
 unfoldable pub size_at : Bool → ℕ → List ℕ → Option (ℕ × List ℕ)
 size_at limited mark text = option_and_then (λ p. if is_size limited p.0 then Some (within_word (value p.0), p.1) else None) (cut_at mark text)
 
--- a zone in parentheses, where one opens
-abbrev pub is_zone : List ℕ → Bool
-is_zone zone = list_all is_zone_byte zone && not (length zone == 0)
+-- a timezone in parentheses, where one opens
+abbrev pub is_timezone : List ℕ → Bool
+is_timezone timezone = list_all is_timezone_byte timezone && not (length timezone == 0)
 
-unfoldable pub zone_within : List ℕ → Option (List ℕ × List ℕ)
-zone_within text = option_and_then (λ p. if is_zone p.0 then Some p else None) (cut_at 41 text)
+unfoldable pub timezone_within : List ℕ → Option (List ℕ × List ℕ)
+timezone_within text = option_and_then (λ p. if is_timezone p.0 then Some p else None) (cut_at 41 text)
 
-abbrev pub zone_or : List ℕ → Option (List ℕ) → Option (List ℕ × List ℕ)
-zone_or text None = Some ([], text)
-zone_or text (Some inside) = zone_within inside
+abbrev pub timezone_or : List ℕ → Option (List ℕ) → Option (List ℕ × List ℕ)
+timezone_or text None = Some ([], text)
+timezone_or text (Some inside) = timezone_within inside
 
-unfoldable pub zone_at : List ℕ → Option (List ℕ × List ℕ)
-zone_at text = zone_or text (stripped (codes "(") text)
+unfoldable pub timezone_at : List ℕ → Option (List ℕ × List ℕ)
+timezone_at text = timezone_or text (stripped (codes "(") text)
 
 -- what follows a word that begins a type without parts
 unfoldable pub flat_at : Bool → Keyword → List ℕ → Option (Kind × List ℕ)
@@ -93,7 +93,7 @@ flat_at limited words.Null text = Some (nulls, text)
 flat_at limited words.Bool text = Some (booleans, text)
 flat_at limited (words.Int integer) text = Some (integers (bits_of integer.width) integer.signed, text)
 flat_at limited (words.Date unit) text = Some (dates (date_kind unit), text)
-flat_at limited (words.Timestamp unit) text = option_map (λ p. (timestamps (time_kind unit) p.0, p.1)) (zone_at text)
+flat_at limited (words.Timestamp unit) text = option_map (λ p. (timestamps (time_kind unit) p.0, p.1)) (timezone_at text)
 flat_at limited words.Utf8 text = Some (texts, text)
 flat_at limited words.LargeUtf8 text = Some (large_texts, text)
 flat_at limited words.Binary text = Some (binaries, text)

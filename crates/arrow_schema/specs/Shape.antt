@@ -21,7 +21,7 @@ unfoldable mutual
   seen_kind detail booleans = booleans
   seen_kind detail (integers bits signed) = integers bits signed
   seen_kind detail (dates unit) = dates unit
-  seen_kind detail (timestamps unit zone) = timestamps unit zone
+  seen_kind detail (timestamps unit timezone) = timestamps unit timezone
   seen_kind detail texts = texts
   seen_kind detail large_texts = large_texts
   seen_kind detail binaries = binaries

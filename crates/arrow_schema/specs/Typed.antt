@@ -1,4 +1,4 @@
--- Which columns can be typed in: what their names, types and zones hold (docs/definitions/field_texts.md).
+-- Which columns can be typed in: what their names, types and timezones hold (docs/definitions/field_texts.md).
 use Rattle.std.specs.Prelude.{◌≡◌, ℕ, ◌<◌, ◌^◌, ◌==◌, Bool, true, false, not, ◌&&◌, ◌||◌, length, List, [], ◌∷◌, codes, Option, None, Some}
 use Rattle.std.specs.List.{list_all}
 use Rattle.arrow_schema.specs.declared.types.BitWidth.{BitWidth}
@@ -11,12 +11,12 @@ abbrev pub is_one_of : List ℕ → ℕ → Bool
 is_one_of [] b = false
 is_one_of (x ∷ xs) b = b == x || is_one_of xs b
 
--- what a name may hold, and what a zone may
+-- what a name may hold, and what a timezone may
 abbrev pub is_name_byte : ℕ → Bool
 is_name_byte b = not (is_one_of (codes " :,<>()?\"") b)
 
-abbrev pub is_zone_byte : ℕ → Bool
-is_zone_byte b = not (is_one_of (codes " ()\"") b)
+abbrev pub is_timezone_byte : ℕ → Bool
+is_timezone_byte b = not (is_one_of (codes " ()\"") b)
 
 -- a name has one byte or more
 abbrev pub is_name : List ℕ → Bool
@@ -41,7 +41,7 @@ unfoldable mutual
   IsTypedKind limited booleans = Unit {0}
   IsTypedKind limited (integers bits signed) = IsBits bits
   IsTypedKind limited (dates unit) = Unit {0}
-  IsTypedKind limited (timestamps unit zone) = list_all is_zone_byte zone ≡ true
+  IsTypedKind limited (timestamps unit timezone) = list_all is_timezone_byte timezone ≡ true
   IsTypedKind limited texts = Unit {0}
   IsTypedKind limited large_texts = Unit {0}
   IsTypedKind limited binaries = Unit {0}

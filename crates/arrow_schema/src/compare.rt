@@ -82,8 +82,9 @@ fn same_type(detail: Detail, a: &DataType, b: &DataType) -> bool
         DataType::Bool => matches!(b, DataType::Bool),
         DataType::Int(x) => matches!(b, DataType::Int(y) if same_integer(*x, *y)),
         DataType::Date(x) => matches!(b, DataType::Date(y) if same_date(*x, *y)),
-        DataType::Timestamp(x, zone) => match b {
-            DataType::Timestamp(y, other_zone) => same_time(*x, *y) && zone == other_zone,
+        DataType::Timestamp(x, timezone) => match b {
+            DataType::Timestamp(y, other_timezone) => same_time(*x, *y)
+                && timezone == other_timezone,
             _ => false,
         },
         DataType::Utf8 => matches!(b, DataType::Utf8),
@@ -118,7 +119,7 @@ fn same_fields(detail: Detail, xs: &[Field], ys: &[Field]) -> bool
     true
 }
 
-/// Whether two schemas have one shape: names, nullability and types are equal at every depth, units, zones, widths and sizes
+/// Whether two schemas have one shape: names, nullability and types are equal at every depth, units, timezones, widths and sizes
 /// included. Dictionaries and pairs may differ.
 pub fn same_shape(a: &Schema, b: &Schema) -> bool
     ensures { IsTrue result ↔ HaveOneShape (schema_of a.now) (schema_of b.now) }

@@ -27,7 +27,7 @@ fn copy_type(data_type: &DataType, alloc: Global) -> Result<DataType, AllocError
         DataType::Bool => Ok(DataType::Bool),
         DataType::Int(integer) => Ok(DataType::Int(*integer)),
         DataType::Date(unit) => Ok(DataType::Date(*unit)),
-        DataType::Timestamp(unit, zone) => Ok(DataType::Timestamp(*unit, zone.clone()?)),
+        DataType::Timestamp(unit, timezone) => Ok(DataType::Timestamp(*unit, timezone.clone()?)),
         DataType::Utf8 => Ok(DataType::Utf8),
         DataType::LargeUtf8 => Ok(DataType::LargeUtf8),
         DataType::Binary => Ok(DataType::Binary),

@@ -4,7 +4,7 @@ ghost use Rattle.std.specs.List.{list_all};
 ghost use Rattle.arrow_schema.specs.Column.{columns_of, PlainSchema};
 ghost use Rattle.arrow_schema.specs.View.{schema_of, kind_of, column_of, pair_of};
 ghost use Rattle.arrow_schema.specs.Preorder.{preorder, preorder_below, preorder_all, depth, depth_below, depth_all, every_column};
-ghost use Rattle.arrow_schema.specs.Limits.{IsWithinLimits, first_passed, number_of, is_nested, zone_of, bytes_of_pairs, count_of_pairs, count_of_bytes, has_number_in_range, has_flat_dictionary, name_len};
+ghost use Rattle.arrow_schema.specs.Limits.{IsWithinLimits, first_passed, number_of, is_nested, timezone_of, bytes_of_pairs, count_of_pairs, count_of_bytes, has_number_in_range, has_flat_dictionary, name_len};
 ghost use Rattle.arrow_schema.specs.Tally.{saturated, tallied, tallied_one, tally_of_pairs};
 
 use crate::types::{DataType, Field, Schema};
@@ -15,7 +15,7 @@ pub const MAX_FIELDS: u64 = 2048;
 pub const MAX_DEPTH: u64 = 32;
 /// The most key/value pairs of a schema and all its fields together.
 pub const MAX_PAIRS: u64 = 4096;
-/// The most bytes of names, keys, values and zones together.
+/// The most bytes of names, keys, values and timezones together.
 pub const MAX_BYTES: u64 = 4_194_304;
 /// Widths and sizes stay below it.
 pub const NUMBER_END: u32 = 1 << 31;
@@ -107,12 +107,12 @@ impl DataType {
         )
     }
 
-    /// The zone of a timestamp, and no text at other types.
-    pub fn zone(&self) -> &str
-        ensures { result.now ≡ zone_of (kind_of self.now) }
+    /// The timezone of a timestamp, and no text at other types.
+    pub fn timezone(&self) -> &str
+        ensures { result.now ≡ timezone_of (kind_of self.now) }
     {
         match self {
-            DataType::Timestamp(_, zone) => zone.as_str(),
+            DataType::Timestamp(_, timezone) => timezone.as_str(),
             _ => "",
         }
     }
@@ -140,7 +140,7 @@ impl Tally {
         self.bytes = self
             .bytes
             .saturating_add(field.name.len() as u64)
-            .saturating_add(field.data_type.zone().len() as u64)
+            .saturating_add(field.data_type.timezone().len() as u64)
             .saturating_add(bytes_of_pairs(&field.pairs));
         self.numbers_fit = self.numbers_fit && field.data_type.number() < NUMBER_END;
         self.dictionaries_fit = self.dictionaries_fit

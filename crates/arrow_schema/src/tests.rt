@@ -58,12 +58,12 @@ fn long_text(alloc: Global, bytes: u32) -> Result<String, AllocError> {
     Ok(text)
 }
 
-// The zone of a timestamp counts beside the name `a`.
-fn with_zone(alloc: Global, bytes: u32) -> Result<Schema, AllocError> {
-    let zone = long_text(alloc, bytes)?;
+// The timezone of a timestamp counts beside the name `a`.
+fn with_timezone(alloc: Global, bytes: u32) -> Result<Schema, AllocError> {
+    let timezone = long_text(alloc, bytes)?;
     schema(
         alloc,
-        field(alloc, "a", DataType::Timestamp(TimeUnit::Second, zone))?,
+        field(alloc, "a", DataType::Timestamp(TimeUnit::Second, timezone))?,
     )
 }
 
@@ -93,9 +93,9 @@ fn limits_are_told(rt: HostRuntime) -> Result<(), AllocError> {
     );
     assert_eq!(rt; with_pairs(alloc, 4096)?.check(), Ok(()));
     assert_eq!(rt; with_pairs(alloc, 4097)?.check(), Err(SchemaError::Pairs));
-    assert_eq!(rt; with_zone(alloc, 4_194_303)?.check(), Ok(()));
+    assert_eq!(rt; with_timezone(alloc, 4_194_303)?.check(), Ok(()));
     assert_eq!(rt;
-        with_zone(alloc, 4_194_304)?.check(),
+        with_timezone(alloc, 4_194_304)?.check(),
         Err(SchemaError::Bytes)
     );
     let widest = DataType::FixedSizeBinary(2_147_483_647);
@@ -124,9 +124,9 @@ fn shapes_are_compared(rt: HostRuntime) -> Result<(), AllocError> {
     assert!(rt; same_shape(&plain, &indexed));
     assert!(rt; !same_shape(&plain, &large));
     assert!(rt; !same_shape(&plain, &renamed));
-    let zone = with_zone(alloc, 3)?;
-    assert!(rt; !same_shape(&zone, &with_zone(alloc, 0)?));
-    assert!(rt; same_shape(&zone, &zone.copy(alloc)?));
+    let timezone = with_timezone(alloc, 3)?;
+    assert!(rt; !same_shape(&timezone, &with_timezone(alloc, 0)?));
+    assert!(rt; same_shape(&timezone, &timezone.copy(alloc)?));
     let deep = nested(alloc, 3)?;
     assert!(rt; deep.equals(&deep.copy(alloc)?));
     assert!(rt; !deep.equals(&nested(alloc, 2)?));
@@ -141,7 +141,7 @@ fn types_are_read(rt: HostRuntime) -> Result<(), AllocError> {
     assert!(rt; DataType::Struct(Vec::new(alloc)).is_nested());
     assert!(rt; !DataType::LargeBinary.is_nested());
     let utc = DataType::Timestamp(TimeUnit::Nanosecond, String::from_str(alloc, "UTC")?);
-    assert_eq!(rt; utc.zone(), "UTC");
+    assert_eq!(rt; utc.timezone(), "UTC");
     assert_eq!(rt; BitWidth::SixtyFour.bits(), 64);
     assert_eq!(rt; BitWidth::SixtyFour.bytes(), 8);
     assert_eq!(rt; wide(alloc, 3)?.width(), 3);
@@ -150,8 +150,8 @@ fn types_are_read(rt: HostRuntime) -> Result<(), AllocError> {
 
 // A schema with memory at each place that has any.
 fn with_all_memory(alloc: Global) -> Result<Schema, AllocError> {
-    let zone = String::from_str(alloc, "UTC")?;
-    let mut time = field(alloc, "t", DataType::Timestamp(TimeUnit::Second, zone))?;
+    let timezone = String::from_str(alloc, "UTC")?;
+    let mut time = field(alloc, "t", DataType::Timestamp(TimeUnit::Second, timezone))?;
     let value = String::from_str(alloc, "value")?;
     time.pairs.push((String::from_str(alloc, "key")?, value))?;
     let list = field(alloc, "l", DataType::List(Box::new(alloc, time)?))?;

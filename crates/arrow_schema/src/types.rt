@@ -69,7 +69,7 @@ pub enum TimeUnit {
     Nanosecond,
 }
 
-/// The logical type of a field. Widths and sizes are 0 to 2,147,483,647; a timestamp without a zone has the empty text.
+/// The logical type of a field. Widths and sizes are 0 to 2,147,483,647; a timestamp without a timezone has the empty text.
 #[derive(Debug, Drop)]
 #[cycle(schema)]
 pub enum DataType {

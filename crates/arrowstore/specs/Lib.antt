@@ -1,4 +1,4 @@
 pub mod Given
 pub mod Recode
-pub mod Told
-pub mod Words
+pub mod Reported
+pub mod Arguments

@@ -2,7 +2,7 @@
 use Rattle.std.specs.Prelude.{◌≡◌, ℕ, List, Option, Result, Ok, Err}
 use Rattle.std.specs.Io.KnownBytes.{Appends}
 use Rattle.values.specs.Cell.{PlainTable}
-use Rattle.ipc_message.specs.Header.{held_codes}
+use Rattle.ipc_message.specs.Header.{supported_codes}
 use Rattle.ipc_stream.specs.Meaning.{meaning}
 use Rattle.ipc_stream.specs.Canonical.{canonical}
 use Rattle.arrowstore.specs.declared.refusal.Refusal.{Refusal}
@@ -18,11 +18,11 @@ IsVerdict (Err OutOfMemory) = ⊥
 
 -- the input means a table, and what was written, from `old` to `new`, is the canonical stream of that table and nothing else
 abbrev pub AppendsCanonical : Option (List ℕ) → Option (List ℕ) → List ℕ → Type 0
-AppendsCanonical old new input = (table : PlainTable) × (meaning held_codes input ≡ Ok table) × Appends old new (canonical table)
+AppendsCanonical old new input = (table : PlainTable) × (meaning supported_codes input ≡ Ok table) × Appends old new (canonical table)
 
--- a fault that is told is the fault of the input
+-- a fault that is reported is the fault of the input
 abbrev pub IsTrueFault : Refusal → List ℕ → Type 0
-IsTrueFault (Fault fault) input = meaning held_codes input ≡ Err fault
+IsTrueFault (Fault fault) input = meaning supported_codes input ≡ Err fault
 IsTrueFault TooManyBytes input = Unit {0}
 IsTrueFault Io input = Unit {0}
 IsTrueFault OutOfMemory input = Unit {0}

@@ -2,7 +2,7 @@
 ghost use Rattle.std.specs.Prelude.{◌≡◌, map, codes, Some, IfOk, IfSome, OnOk, MatchResult};
 ghost use Rattle.clap.specs.Words.{app_of, kind_of, subcommand_name_of};
 ghost use Rattle.clap.specs.declared.error.kind.ErrorKind.TheVariants.{OutOfMemory};
-ghost use Rattle.arrowstore.specs.Words.{program_command, AreRecode, NameRecode};
+ghost use Rattle.arrowstore.specs.Arguments.{program_command, AreRecode, NameRecode};
 
 use clap::error::ErrorKind;
 use clap::{ArgMatches, Command, Error};
@@ -17,12 +17,12 @@ pub enum Action {
 }
 
 /// Reads the words of a command line, the program's name the first. An `Err` is a mistake in them, or asks for help.
-pub fn action_of<S: AsStr>(alloc: Global, words: &[S]) -> Result<Action, Error>
-    ensures understood { AreRecode (map S.text words.now)
+pub fn action_of<S: AsStr>(alloc: Global, arguments: &[S]) -> Result<Action, Error>
+    ensures understood { AreRecode (map S.text arguments.now)
         → MatchResult result (λ action. action ≡ Action.Recode) (λ error. kind_of error ≡ OutOfMemory) }
-    ensures asked { OnOk result (NameRecode (map S.text words.now)) }
+    ensures asked { OnOk result (NameRecode (map S.text arguments.now)) }
 {
-    let matches = program(alloc)?.try_get_matches_from(words)?;
+    let matches = program(alloc)?.try_get_matches_from(arguments)?;
     match named(&matches) {
         Some(action) => Ok(action),
         None => Err(program(alloc)?.error(ErrorKind::MissingSubcommand, "a command is wanted")?),

@@ -1,6 +1,6 @@
 //! The program `arrowstore`: reads its command line, does what it asks for, and tells the outcome by its exit status.
 //!
-//! Status 0 is done, 1 refused, with one line `refused CODE NAME ..` on standard error, and 2 wrong words. The work
+//! Status 0 is done, 1 refused, with one line `refused CODE NAME ..` on standard error, and 2 wrong arguments. The work
 //! stands in functions over any reader and writer, whose contracts say which bytes they take and give.
 #![tactic(auto)]
 
@@ -19,7 +19,7 @@ mod tests;
 
 pub use command_line::{Action, action_of};
 pub use input::{LARGEST_INPUT, read_input};
-pub use outcome::{Status, end, tell_words};
+pub use outcome::{Status, end, report_arguments};
 pub use output::write_whole;
 pub use refusal::Refusal;
 pub use run::run;
@@ -29,31 +29,31 @@ use std::{env, io};
 pub use stream::recode;
 
 fn main(rt: HostRuntime) -> ExitCode {
-    let status = match words_of(&rt) {
-        Ok(words) => run::run(
+    let status = match arguments_of(&rt) {
+        Ok(arguments) => run::run(
             rt.alloc(),
-            words.as_slice(),
+            arguments.as_slice(),
             &mut rt.reader(),
             &mut rt.stdout(),
             &mut rt.stderr(),
         ),
-        Err(error) => no_words(&error, &mut rt.stderr()),
+        Err(error) => no_arguments(&error, &mut rt.stderr()),
     };
     ExitCode::from(status.code())
 }
 
-fn words_of(rt: &HostRuntime) -> io::Result<Vec<String>> {
+fn arguments_of(rt: &HostRuntime) -> io::Result<Vec<String>> {
     Ok(env::args(rt)?.collect(rt.alloc())?)
 }
 
 // Words that can't be read: memory is out, or they are no UTF-8.
-fn no_words<E: io::Write>(error: &io::Error, errors: &mut E) -> Status
+fn no_arguments<E: io::Write>(error: &io::Error, errors: &mut E) -> Status
     ensures memory { error_kind error.now ≡ ErrorKind.OutOfMemory → result ≡ Status.Refused }
-    ensures text { error_kind error.now ≢ ErrorKind.OutOfMemory → result ≡ Status.WrongWords }
+    ensures text { error_kind error.now ≢ ErrorKind.OutOfMemory → result ≡ Status.WrongArguments }
 {
     if error.kind() == ErrorKind::OutOfMemory {
         return end(Err(Refusal::OutOfMemory), errors);
     }
     let _ = writeln!(errors, "error: a word is not UTF-8");
-    Status::WrongWords
+    Status::WrongArguments
 }

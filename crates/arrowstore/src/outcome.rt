@@ -1,8 +1,8 @@
-// How a run ended, and what is told of it.
+// How a run ended, and what is reported of it.
 ghost use Rattle.std.specs.Prelude.{◌≡◌, IsOk, IsErr};
 ghost use Rattle.clap.specs.Words.{kind_of};
 ghost use Rattle.clap.specs.declared.error.kind.ErrorKind.TheVariants.{OutOfMemory};
-ghost use Rattle.arrowstore.specs.Told.{status_code};
+ghost use Rattle.arrowstore.specs.Reported.{status_code};
 
 use crate::Refusal;
 use clap::error::ErrorKind;
@@ -13,7 +13,7 @@ use std::io::Write;
 pub enum Status {
     Done,
     Refused,
-    WrongWords,
+    WrongArguments,
 }
 
 impl Status {
@@ -24,15 +24,19 @@ impl Status {
         match self {
             Status::Done => 0,
             Status::Refused => 1,
-            Status::WrongWords => 2,
+            Status::WrongArguments => 2,
         }
     }
 }
 
 /// Tells why the words ask for nothing: what is wrong with them goes to `errors`, and help to `output`.
-pub fn tell_words<W: Write, E: Write>(error: &clap::Error, output: &mut W, errors: &mut E) -> Status
+pub fn report_arguments<W: Write, E: Write>(
+    error: &clap::Error,
+    output: &mut W,
+    errors: &mut E,
+) -> Status
     ensures done { result ≡ Status.Done → errors.new ≡ errors.old }
-    ensures wrong_words { result ≡ Status.WrongWords → output.new ≡ output.old }
+    ensures wrong_arguments { result ≡ Status.WrongArguments → output.new ≡ output.old }
     ensures memory { kind_of error.now ≡ OutOfMemory → (result ≡ Status.Refused) × (output.new ≡ output.old) }
 {
     if error.kind() == ErrorKind::OutOfMemory {
@@ -40,7 +44,7 @@ pub fn tell_words<W: Write, E: Write>(error: &clap::Error, output: &mut W, error
     }
     if error.use_stderr() {
         let _ = write!(errors, "{error}");
-        return Status::WrongWords;
+        return Status::WrongArguments;
     }
     end(write!(output, "{error}").map_err(|_| Refusal::Io), errors)
 }

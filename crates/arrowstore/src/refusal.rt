@@ -1,7 +1,7 @@
 // Why a command was refused.
 ghost use Rattle.std.specs.Prelude.{◌≡◌};
 ghost use Rattle.arrowstore.specs.declared.refusal.Refusal.TheVariants.{OutOfMemory};
-ghost use Rattle.arrowstore.specs.Told.{refusal_of};
+ghost use Rattle.arrowstore.specs.Reported.{refusal_of};
 
 use ipc_message::{Fault, ImportError};
 use std::alloc::AllocError;
@@ -42,7 +42,7 @@ impl From<ImportError> for Refusal {
 /// Code, name and carried values, split by spaces, as `S7 TooMany Bytes`.
 impl fmt::Display for Refusal {
     ghost use Rattle.std.specs.Prelude.{Some};
-    ghost use Rattle.arrowstore.specs.Told.{refusal_text};
+    ghost use Rattle.arrowstore.specs.Reported.{refusal_text};
 
     ghost output = { λ refusal. Some (refusal_text refusal) };
 

@@ -1,7 +1,7 @@
 // A stream from a reader, in its canonical form to a writer.
 ghost use Rattle.std.specs.Prelude.{◌≡◌, ◌≢◌, ◌+◌, ◌≤◌, ◌<◌, length, IfSome, IfOk, IfErr, OnOk, IsErr, IsErrOf};
 ghost use Rattle.std.specs.Io.KnownBytes.{IsAtEnd};
-ghost use Rattle.ipc_message.specs.Header.{held_codes};
+ghost use Rattle.ipc_message.specs.Header.{supported_codes};
 ghost use Rattle.ipc_stream.specs.Meaning.{meaning};
 ghost use Rattle.values.specs.IntegerTable.{IsIntegerTable};
 ghost use Rattle.values.specs.TableView.{table_of};
@@ -25,7 +25,7 @@ pub fn recode<R: Read, W: Write>(
 ) -> Result<(), Refusal>
     // What is written is the canonical stream of what the input means, and nothing else.
     ensures written { OnOk result (IfSome (R.remaining reader.old) (AppendsCanonical (W.contents writer.old) (W.contents writer.new))) }
-    // A fault that is told is the fault of the input.
+    // A fault that is reported is the fault of the input.
     ensures fault { IfErr result (λ refusal. IfSome (R.remaining reader.old) (IsTrueFault refusal)) }
     // A verdict comes only where the input was read to its end, and is not too long.
     ensures end { IsVerdict result → IsAtEnd (R.remaining reader.new) }
@@ -34,7 +34,7 @@ pub fn recode<R: Read, W: Write>(
     ensures too_many { IsErrOf result Refusal.TooManyBytes
         → HasGiven (R.remaining reader.old) (R.remaining reader.new) (LARGEST_INPUT + 1) }
     // Of an input that has no meaning or too many bytes nothing is written, whatever fails.
-    ensures meaningless { IfSome (R.remaining reader.old) (λ input. IsErr (meaning held_codes input) → writer.new ≡ writer.old) }
+    ensures meaningless { IfSome (R.remaining reader.old) (λ input. IsErr (meaning supported_codes input) → writer.new ≡ writer.old) }
     ensures too_long { IfSome (R.remaining reader.old) (λ input. LARGEST_INPUT < length input → writer.new ≡ writer.old) }
     // Where it is refused, nothing is written, unless a read or a write failed.
     ensures silent { IfErr result (λ refusal. refusal ≢ Refusal.Io → writer.new ≡ writer.old) }
@@ -46,7 +46,7 @@ pub fn recode<R: Read, W: Write>(
 
 // The table that all the reader has stands for.
 fn read_table<R: Read>(alloc: Global, reader: &mut R) -> Result<Table, Refusal>
-    ensures meaning { IfOk result (λ table. IfSome (R.remaining reader.old) (λ input. meaning held_codes input ≡ Ok (table_of table))) }
+    ensures meaning { IfOk result (λ table. IfSome (R.remaining reader.old) (λ input. meaning supported_codes input ≡ Ok (table_of table))) }
     ensures integers { IfOk result (λ table. IsIntegerTable (table_of table)) }
     ensures fault { IfErr result (λ refusal. IfSome (R.remaining reader.old) (IsTrueFault refusal)) }
     ensures end { IsVerdict result → IsAtEnd (R.remaining reader.new) }

@@ -1,10 +1,10 @@
-// Words, and what is told of them.
+// Words, and what is reported of them.
 pub mod fakes;
 mod recoding;
 mod running;
 mod streams;
 
-use crate::{Action, Refusal, Status, action_of, end, tell_words};
+use crate::{Action, Refusal, Status, action_of, end, report_arguments};
 use std::test::Fail;
 
 #[test]
@@ -17,20 +17,20 @@ fn knows_recode(rt: HostRuntime) -> Result<(), Fail> {
 }
 
 #[test]
-fn tells_wrong_words_and_help(rt: HostRuntime) -> Result<(), Fail> {
+fn reports_wrong_arguments_and_help(rt: HostRuntime) -> Result<(), Fail> {
     let alloc = rt.alloc();
-    for (words, wanted) in [
+    for (arguments, wanted) in [
         (
             ["arrowstore", "recode", "now"].as_slice(),
-            Status::WrongWords,
+            Status::WrongArguments,
         ),
-        (["arrowstore"].as_slice(), Status::WrongWords),
+        (["arrowstore"].as_slice(), Status::WrongArguments),
         (["arrowstore", "help"].as_slice(), Status::Done),
     ] {
         let (mut output, mut errors) = (Vec::new(alloc), Vec::new(alloc));
-        let status = match action_of(alloc, words) {
+        let status = match action_of(alloc, arguments) {
             Ok(_) => Status::Refused,
-            Err(error) => tell_words(&error, &mut output, &mut errors),
+            Err(error) => report_arguments(&error, &mut output, &mut errors),
         };
         assert_eq!(rt; status, wanted);
         assert_eq!(rt; errors.is_empty(), status == Status::Done);

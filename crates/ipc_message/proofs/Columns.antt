@@ -15,12 +15,12 @@ use Rattle.arrow_schema.specs.Limits.{IsWithinLimits}
 use Rattle.std.proofs.lemmas.Bool.{and_parts, not-false}
 use Rattle.ipc_message.specs.Raw.{RawParameters, RawEncoding, RawField, RawFields, raw_field, no_raw_field, and_raw_field, raw_fields_of, RawSchema}
 use Rattle.ipc_message.specs.Fields.{preorder, preorder_all, every_field, depth, depth_all, pairs_of}
-use Rattle.ipc_message.specs.Types.{type_name, spelled_type}
+use Rattle.ipc_message.specs.Types.{type_name, decoded_type}
 use Rattle.ipc_message.specs.Convert.{index_of, column_of_field, columns_of_fields, plain_schema_of}
-use Rattle.ipc_message.specs.Rounds.{is_bad, zone_of, texts_of_pairs, texts_of_field, texts_of, count_of_pairs, is_dictionary_of_nested}
+use Rattle.ipc_message.specs.Checks.{is_bad, timezone_of, texts_of_pairs, texts_of_field, texts_of, count_of_pairs, is_dictionary_of_nested}
 use Rattle.ipc_message.specs.Accepted.{IsAccepted}
 use Rattle.ipc_message.specs.Readable.{AreReadable}
-use Rattle.ipc_message.proofs.Shapes.{HasShape, spelled_shape}
+use Rattle.ipc_message.proofs.Shapes.{HasShape, decoded_shape}
 
 some_of : {A : Type 0} (o : Option A) (d : A) → is_some o ≡ true → o ≡ Some (unwrap_or o d)
 some_of None d h = absurd cc
@@ -28,9 +28,9 @@ some_of (Some x) d h = refl
 
 -- the type that is read of a field that is not bad
 pub field_shape : (name : List ℕ) (nullable : Bool) (code : ℕ) (p : RawParameters) (d : Option RawEncoding) (fs : RawFields) (pairs : List Pair) → is_bad (raw_field name nullable code p d fs pairs) ≡ false
-    → HasShape (type_name code) p (columns_of_fields fs) (unwrap_or (spelled_type (type_name code) p (columns_of_fields fs)) nulls)
+    → HasShape (type_name code) p (columns_of_fields fs) (unwrap_or (decoded_type (type_name code) p (columns_of_fields fs)) nulls)
 field_shape name nullable code p d fs pairs h =
-    spelled_shape (type_name code) p (columns_of_fields fs) _ (some_of _ nulls (and_parts _ _ (not-false _ h)).0)
+    decoded_shape (type_name code) p (columns_of_fields fs) _ (some_of _ nulls (and_parts _ _ (not-false _ h)).0)
 
 or_left : (a b : Bool) → (a || b) ≡ false → a ≡ false
 or_left true b h = h
@@ -97,7 +97,7 @@ field_bytes : (f : RawField) → is_bad f ≡ false → limits.bytes_in (column_
 unfolding column_of_field
 field_bytes (raw_field name nullable code p d children pairs) h =
     let s = field_shape name nullable code p d children pairs h in
-    omega (arith, s.zone, pairs_bytes pairs, sum_by-cons length name (zone_of p ∷ texts_of_pairs pairs), sum_by-cons length (zone_of p) (texts_of_pairs pairs))
+    omega (arith, s.timezone, pairs_bytes pairs, sum_by-cons length name (timezone_of p ∷ texts_of_pairs pairs), sum_by-cons length (timezone_of p) (texts_of_pairs pairs))
 
 count_bytes : (fs : List RawField) → list_any is_bad fs ≡ false → sum_by limits.bytes_in (map column_of_field fs) ≤ sum_by length (flat_map texts_of_field fs)
 count_bytes [] h = omega arith
@@ -125,7 +125,7 @@ unfolding column_of_field
 dictionaries_fit [] h g = refl
 dictionaries_fit (raw_field name nullable code p d children pairs ∷ fs) h g =
     let s = field_shape name nullable code p d children pairs (or_left _ _ h) in
-    let here : not (is_some (option_map index_of d) && limits.is_nested (unwrap_or (spelled_type (type_name code) p (columns_of_fields children)) nulls)) ≡ true = rw (same_some d, s.nested) (ap not (or_left _ _ g)) in
+    let here : not (is_some (option_map index_of d) && limits.is_nested (unwrap_or (decoded_type (type_name code) p (columns_of_fields children)) nulls)) ≡ true = rw (same_some d, s.nested) (ap not (or_left _ _ g)) in
     rw here (dictionaries_fit fs (or_right _ _ h) (or_right _ _ g))
 
 le_of : (a b : ℕ) → nat_lt b a ≡ false → a ≤ b
@@ -135,9 +135,9 @@ le_of a b h = grind arith
 pub accepted_within : (s : RawSchema) → IsAccepted s → IsWithinLimits (plain_schema_of s)
 accepted_within s a =
     let listed : every_column (plain_schema_of s) ≡ map column_of_field (every_field s) =
-    ap (λ (cs : List Column). columns.preorder_all (columns_of cs)) (sym (columns_of_list s.fields)) ∙ all_columns_listed (raw_fields_of s.fields) a.spelled in
+    ap (λ (cs : List Column). columns.preorder_all (columns_of cs)) (sym (columns_of_list s.fields)) ∙ all_columns_listed (raw_fields_of s.fields) a.decoded in
     let deep : columns.depth_all (columns_of (map column_of_field s.fields)) ≡ depth_all (raw_fields_of s.fields) =
-    ap (λ (cs : List Column). columns.depth_all (columns_of cs)) (sym (columns_of_list s.fields)) ∙ all_same_depth (raw_fields_of s.fields) a.spelled in
+    ap (λ (cs : List Column). columns.depth_all (columns_of cs)) (sym (columns_of_list s.fields)) ∙ all_same_depth (raw_fields_of s.fields) a.decoded in
     let many = nat_lt 2048 (length (every_field s)) in
     let deeper = nat_lt 32 (depth_all (raw_fields_of s.fields)) in
     let paired = nat_lt 4096 (count_of_pairs s) in
@@ -151,13 +151,13 @@ accepted_within s a =
       levels = omega (arith, deep, low);
       fields = rw listed (omega (arith, length-map (every_field s) column_of_field, few));
       pairs = rw listed (omega (arith, count_pairs (every_field s), pairs));
-      bytes = rw listed (omega (arith, count_bytes (every_field s) a.spelled, pairs_bytes s.pairs, sum_by-append length (texts_of_pairs s.pairs) (flat_map texts_of_field (every_field s)), bytes));
-      numbers = rw listed (AllPass-from_list_all limits.has_number_in_range _ (numbers_fit (every_field s) a.spelled));
-      dictionaries = rw listed (AllPass-from_list_all limits.has_flat_dictionary _ (dictionaries_fit (every_field s) a.spelled a.flat));
+      bytes = rw listed (omega (arith, count_bytes (every_field s) a.decoded, pairs_bytes s.pairs, sum_by-append length (texts_of_pairs s.pairs) (flat_map texts_of_field (every_field s)), bytes));
+      numbers = rw listed (AllPass-from_list_all limits.has_number_in_range _ (numbers_fit (every_field s) a.decoded));
+      dictionaries = rw listed (AllPass-from_list_all limits.has_flat_dictionary _ (dictionaries_fit (every_field s) a.decoded a.flat));
     }
 
 pub accepted_readable : (s : RawSchema) → IsAccepted s → AreReadable (preorder_all (raw_fields_of s.fields))
-accepted_readable s a = record { spelled = a.spelled; utf8 = and_right _ _ (sym (list_all-append is_utf8 (texts_of_pairs s.pairs) _) ∙ a.utf8) }
+accepted_readable s a = record { decoded = a.decoded; utf8 = and_right _ _ (sym (list_all-append is_utf8 (texts_of_pairs s.pairs) _) ∙ a.utf8) }
   where
     and_right : (a b : Bool) → (a && b) ≡ true → b ≡ true
     and_right true b h = h

@@ -1,4 +1,4 @@
--- A loop over the elements of a vector: the walk over those that are left, and what they spell.
+-- A loop over the elements of a vector: the walk over those that are left, and what they decode to.
 use Rattle.std.proofs.Common.{◌≡◌, ℕ, suc, ◌+◌, ◌<◌, ◌≤◌, List, [], ◌∷◌, ◌++◌, length, drop, map, slice_index, Result, Ok, Err, sym, ap, ◌∙◌, append_assoc, arith}
 use Rattle.std.specs.List.{flat_map}
 use Rattle.std.proofs.Math.Seq.{drop-cons}
@@ -33,10 +33,10 @@ element_ok things bytes places i m k total lt so_far fine =
     sym (run_ok bytes _ _ m k fine) ∙ ap (λ (ps : List ℕ). run bytes (flat_map things ps) m) (sym (more places i lt)) ∙ so_far
 
 -- it was read
-pub element_read : {A : Type 0} (spelled : ℕ → A) (places : List ℕ) (i : ℕ) (found total : List A) → i < length places
-    → found ++ map spelled (drop i places) ≡ total → (found ++ spelled (slice_index places i) ∷ []) ++ map spelled (drop (i + 1) places) ≡ total
-element_read spelled places i found total lt so_far =
-    append_assoc found _ _ ∙ ap (λ (ps : List ℕ). found ++ map spelled ps) (sym (more places i lt)) ∙ so_far
+pub element_read : {A : Type 0} (decoded : ℕ → A) (places : List ℕ) (i : ℕ) (found total : List A) → i < length places
+    → found ++ map decoded (drop i places) ≡ total → (found ++ decoded (slice_index places i) ∷ []) ++ map decoded (drop (i + 1) places) ≡ total
+element_read decoded places i found total lt so_far =
+    append_assoc found _ _ ∙ ap (λ (ps : List ℕ). found ++ map decoded ps) (sym (more places i lt)) ∙ so_far
 
 -- no element is left
 pub all_done : (things : ℕ → List Thing) (bytes : List ℕ) (places : List ℕ) (i m : ℕ) (total : Result ℕ FlatError) → length places ≤ i

@@ -9,7 +9,7 @@ use Rattle.flatbuf.specs.WalkLaws.{run_ok, run_err}
 use Rattle.ipc_message.specs.declared.walk_error.WalkError.{WalkError}
 use Rattle.ipc_message.specs.declared.walk_error.WalkError.TheVariants as errors
 use Rattle.ipc_message.specs.Raw.{RawField}
-use Rattle.ipc_message.specs.Header.{held_codes, field_things, field_slots, field_at, field_with}
+use Rattle.ipc_message.specs.Header.{supported_codes, field_things, field_slots, field_at, field_with}
 use Rattle.ipc_message.specs.Walked.{Fails}
 
 fails_same : (e : WalkError) (r s : Result ℕ FlatError) → r ≡ s → Fails e s → Fails e r
@@ -36,31 +36,31 @@ goes_in : (bytes : List ℕ) (left at : ℕ) → table_things (suc left) bytes a
 unfolding table_things
 goes_in bytes left at = rw (eqb-suc-zero left) refl
 
-enters : (bytes : List ℕ) (left at : ℕ) → 0 < left → field_things held_codes left bytes at ≡ table_things left bytes at ++ field_slots held_codes (left - 1) bytes (table_at bytes at)
+enters : (bytes : List ℕ) (left at : ℕ) → 0 < left → field_things supported_codes left bytes at ≡ table_things left bytes at ++ field_slots supported_codes (left - 1) bytes (table_at bytes at)
 unfolding field_things
 enters bytes zero at lt = absurd (omega arith)
 enters bytes (suc left) at lt =
     let k : suc left - 1 ≡ left = omega arith in
     rw (k, goes_in bytes left at) refl
 
-pub table_bad : (bytes : List ℕ) (left at n : ℕ) (e : FlatError) → run bytes (table_things left bytes at) n ≡ Err e → run bytes (field_things held_codes left bytes at) n ≡ Err e
+pub table_bad : (bytes : List ℕ) (left at n : ℕ) (e : FlatError) → run bytes (table_things left bytes at) n ≡ Err e → run bytes (field_things supported_codes left bytes at) n ≡ Err e
 unfolding field_things table_things
 table_bad bytes zero at n e bad = bad
 table_bad bytes (suc left) at n e bad = run_err bytes (head_things bytes at) _ n e (rw (eqb-suc-zero left) at bad)
 
 pub field_fails : (e : WalkError) (bytes : List ℕ) (left at n m : ℕ) → 0 < left → run bytes (table_things left bytes at) n ≡ Ok m
-    → Fails e (run bytes (field_slots held_codes (left - 1) bytes (table_at bytes at)) m) → Fails e (run bytes (field_things held_codes left bytes at) n)
+    → Fails e (run bytes (field_slots supported_codes (left - 1) bytes (table_at bytes at)) m) → Fails e (run bytes (field_things supported_codes left bytes at) n)
 field_fails e bytes left at n m lt fine f = fails_same e _ _ (ap (λ ts. run bytes ts n) (enters bytes left at lt) ∙ run_ok bytes _ _ n m fine) f
 
 pub field_ok : (bytes : List ℕ) (left at n m k : ℕ) → 0 < left → run bytes (table_things left bytes at) n ≡ Ok m
-    → run bytes (field_slots held_codes (left - 1) bytes (table_at bytes at)) m ≡ Ok k → run bytes (field_things held_codes left bytes at) n ≡ Ok k
+    → run bytes (field_slots supported_codes (left - 1) bytes (table_at bytes at)) m ≡ Ok k → run bytes (field_things supported_codes left bytes at) n ≡ Ok k
 field_ok bytes left at n m k lt fine also = ap (λ ts. run bytes ts n) (enters bytes left at lt) ∙ run_ok bytes _ _ n m fine ∙ also
 
--- what a field's table spells, where so many levels are below it
+-- what a field's table decodes to, where so many levels are below it
 abbrev pub field_below : ℕ → List ℕ → Place → RawField
-field_below left bytes t = field_with held_codes bytes t (map (field_at held_codes left bytes) (elements bytes (slot bytes t 5)))
+field_below left bytes t = field_with supported_codes bytes t (map (field_at supported_codes left bytes) (elements bytes (slot bytes t 5)))
 
-pub field_read : (bytes : List ℕ) (left at : ℕ) → 0 < left → field_below (left - 1) bytes (table_at bytes at) ≡ field_at held_codes left bytes at
+pub field_read : (bytes : List ℕ) (left at : ℕ) → 0 < left → field_below (left - 1) bytes (table_at bytes at) ≡ field_at supported_codes left bytes at
 unfolding field_at
 field_read bytes zero at lt = absurd (omega arith)
 field_read bytes (suc left) at lt =
@@ -70,18 +70,18 @@ field_read bytes (suc left) at lt =
 -- ---- the same, said of a table of the code
 
 pub fails_there : (e : WalkError) (bytes there : List ℕ) (left below m : ℕ) (t u : Place) → there ≡ bytes → below ≡ left → t ≡ u
-    → Fails e (run there (field_slots held_codes below there t) m) → Fails e (run bytes (field_slots held_codes left bytes u) m)
+    → Fails e (run there (field_slots supported_codes below there t) m) → Fails e (run bytes (field_slots supported_codes left bytes u) m)
 fails_there e bytes there left below m t u same lower here f =
-    subst (λ p. Fails e (run bytes (field_slots held_codes left bytes p) m)) here
-    (subst (λ l. Fails e (run bytes (field_slots held_codes l bytes t) m)) lower
-    (subst (λ b. Fails e (run b (field_slots held_codes below b t) m)) same f))
+    subst (λ p. Fails e (run bytes (field_slots supported_codes left bytes p) m)) here
+    (subst (λ l. Fails e (run bytes (field_slots supported_codes l bytes t) m)) lower
+    (subst (λ b. Fails e (run b (field_slots supported_codes below b t) m)) same f))
 
 pub runs_there : (bytes there : List ℕ) (left below m : ℕ) (t u : Place) → there ≡ bytes → below ≡ left → t ≡ u
-    → run there (field_slots held_codes below there t) m ≡ run bytes (field_slots held_codes left bytes u) m
+    → run there (field_slots supported_codes below there t) m ≡ run bytes (field_slots supported_codes left bytes u) m
 runs_there bytes there left below m t u same lower here =
-    ap (λ b. run b (field_slots held_codes below b t) m) same
-    ∙ ap (λ l. run bytes (field_slots held_codes l bytes t) m) lower
-    ∙ ap (λ p. run bytes (field_slots held_codes left bytes p) m) here
+    ap (λ b. run b (field_slots supported_codes below b t) m) same
+    ∙ ap (λ l. run bytes (field_slots supported_codes l bytes t) m) lower
+    ∙ ap (λ p. run bytes (field_slots supported_codes left bytes p) m) here
 
 pub read_there : (bytes there : List ℕ) (left below : ℕ) (t u : Place) → there ≡ bytes → below ≡ left → t ≡ u → field_below below there t ≡ field_below left bytes u
 read_there bytes there left below t u same lower here =
@@ -90,22 +90,22 @@ read_there bytes there left below t u same lower here =
 -- ---- the children, said of the references of the code
 
 pub children_fail : (e : WalkError) (bytes there : List ℕ) (left below m : ℕ) (places children : List ℕ) → there ≡ bytes → below ≡ left → places ≡ children
-    → Fails e (run there (flat_map (field_things held_codes below there) places) m) → Fails e (run bytes (flat_map (field_things held_codes left bytes) children) m)
+    → Fails e (run there (flat_map (field_things supported_codes below there) places) m) → Fails e (run bytes (flat_map (field_things supported_codes left bytes) children) m)
 children_fail e bytes there left below m places children same lower here f =
-    subst (λ (ps : List ℕ). Fails e (run bytes (flat_map (field_things held_codes left bytes) ps) m)) here
-    (subst (λ l. Fails e (run bytes (flat_map (field_things held_codes l bytes) places) m)) lower
-    (subst (λ b. Fails e (run b (flat_map (field_things held_codes below b) places) m)) same f))
+    subst (λ (ps : List ℕ). Fails e (run bytes (flat_map (field_things supported_codes left bytes) ps) m)) here
+    (subst (λ l. Fails e (run bytes (flat_map (field_things supported_codes l bytes) places) m)) lower
+    (subst (λ b. Fails e (run b (flat_map (field_things supported_codes below b) places) m)) same f))
 
 pub children_run : (bytes there : List ℕ) (left below m : ℕ) (places children : List ℕ) → there ≡ bytes → below ≡ left → places ≡ children
-    → run there (flat_map (field_things held_codes below there) places) m ≡ run bytes (flat_map (field_things held_codes left bytes) children) m
+    → run there (flat_map (field_things supported_codes below there) places) m ≡ run bytes (flat_map (field_things supported_codes left bytes) children) m
 children_run bytes there left below m places children same lower here =
-    ap (λ b. run b (flat_map (field_things held_codes below b) places) m) same
-    ∙ ap (λ l. run bytes (flat_map (field_things held_codes l bytes) places) m) lower
-    ∙ ap (λ (ps : List ℕ). run bytes (flat_map (field_things held_codes left bytes) ps) m) here
+    ap (λ b. run b (flat_map (field_things supported_codes below b) places) m) same
+    ∙ ap (λ l. run bytes (flat_map (field_things supported_codes l bytes) places) m) lower
+    ∙ ap (λ (ps : List ℕ). run bytes (flat_map (field_things supported_codes left bytes) ps) m) here
 
 pub children_read : (bytes there : List ℕ) (left below : ℕ) (places children : List ℕ) → there ≡ bytes → below ≡ left → places ≡ children
-    → map (field_at held_codes below there) places ≡ map (field_at held_codes left bytes) children
+    → map (field_at supported_codes below there) places ≡ map (field_at supported_codes left bytes) children
 children_read bytes there left below places children same lower here =
-    ap (λ b. map (field_at held_codes below b) places) same
-    ∙ ap (λ l. map (field_at held_codes l bytes) places) lower
-    ∙ ap (λ (ps : List ℕ). map (field_at held_codes left bytes) ps) here
+    ap (λ b. map (field_at supported_codes below b) places) same
+    ∙ ap (λ l. map (field_at supported_codes l bytes) places) lower
+    ∙ ap (λ (ps : List ℕ). map (field_at supported_codes left bytes) ps) here

@@ -8,14 +8,15 @@ use Rattle.std.proofs.lemmas.List.{take-append-drop, drop-drop, length-take-le, 
 use Rattle.std.proofs.lemmas.Slice.Eq.{starts_is}
 use Rattle.byteorder.specs.Endian.{little_number}
 use Rattle.byteorder.specs.Numbers.{little_from-append, little_from-take}
+use Rattle.flatbuf.specs.declared.limits.TheConstants.{MAX_BUFFER_BYTES}
 use Rattle.flatbuf.specs.Lookup.{number}
 use Rattle.flatbuf.specs.Walk.{run}
 use Rattle.ipc_message.specs.declared.fault.Fault.{Fault}
 use Rattle.ipc_message.specs.declared.fault.Fault.TheVariants.{Truncated, NoContinuation, MetadataSize, MetadataVersion, HeaderKind, BodyLength}
 use Rattle.std.proofs.lemmas.Bool.{not-false}
 use Rattle.ipc_message.specs.Accepted.{all_none, when_none}
-use Rattle.ipc_message.specs.Framing.{Envelope, Front, message, end_mark, taken, mark, front, unless, first_some, when, walk_fault, message_things, version_of, type_of, header_type, mark_faults, size_faults, message_faults, metadata_size, metadata_in, after_metadata, message_with, body_length, IsMessage, Framed}
-use Rattle.ipc_message.proofs.FrontLemmas.{first_pass}
+use Rattle.ipc_message.specs.Framing.{Envelope, NextMessage, message, end_of_stream, taken, continuation_marker, next_message, unless, first_some, when, walk_fault, message_things, version_of, type_of, header_type, marker_faults, size_faults, message_faults, metadata_size, metadata_in, after_metadata, message_with, body_length, IsMessage, Framed}
+use Rattle.ipc_message.proofs.NextMessageLemmas.{first_pass}
 
 -- ---- tests of which none found a fault
 
@@ -30,27 +31,27 @@ both_passed [] ys h = (refl, h)
 both_passed (None ∷ xs) ys h = both_passed xs ys h
 both_passed (Some f ∷ xs) ys h = absurd (cc)
 
-unless_passed : (o : Option Fault) (r : Result Front Fault) (x : Front) → unless o r ≡ Ok x → (o ≡ None) × (r ≡ Ok x)
+unless_passed : (o : Option Fault) (r : Result NextMessage Fault) (x : NextMessage) → unless o r ≡ Ok x → (o ≡ None) × (r ≡ Ok x)
 unless_passed None r x h = (refl, h)
 unless_passed (Some f) r x h = absurd (cc)
 
 -- ---- the tests of the front, passed
 
-record IsMarked (bytes : List ℕ) : Type 0 where
+record HasMarker (bytes : List ℕ) : Type 0 where
   long : 8 ≤ length bytes
-  starts : bytes ≡ mark ++ drop 4 bytes
+  starts : bytes ≡ continuation_marker ++ drop 4 bytes
 
-mark_passed : (bytes : List ℕ) → first_some (mark_faults bytes) ≡ None → IsMarked bytes
-unfolding mark_faults
-mark_passed bytes h =
-    let found = all_none (mark_faults bytes) h in
+marker_passed : (bytes : List ℕ) → first_some (marker_faults bytes) ≡ None → HasMarker bytes
+unfolding marker_faults
+marker_passed bytes h =
+    let found = all_none (marker_faults bytes) h in
     record {
       long = lt_false (length bytes) 8 (when_none (nat_lt (length bytes) 8) Truncated found.1.1.0);
-      starts = (starts_is Decides-eqb bytes mark (starts_with nat_eq bytes mark) refl).0 (not-false (starts_with nat_eq bytes mark) (when_none (not (starts_with nat_eq bytes mark)) NoContinuation found.1.0));
+      starts = (starts_is Decides-eqb bytes continuation_marker (starts_with nat_eq bytes continuation_marker) refl).0 (not-false (starts_with nat_eq bytes continuation_marker) (when_none (not (starts_with nat_eq bytes continuation_marker)) NoContinuation found.1.0));
     }
 
 record IsSized (bytes : List ℕ) : Type 0 where
-  small : metadata_size bytes ≤ 16777216
+  small : metadata_size bytes ≤ MAX_BUFFER_BYTES
   room : 8 + metadata_size bytes ≤ length bytes
 
 size_passed : (bytes : List ℕ) → first_some (size_faults bytes) ≡ None → IsSized bytes
@@ -58,7 +59,7 @@ unfolding size_faults
 size_passed bytes h =
     let found = all_none (size_faults bytes) h in
     record {
-      small = lt_false 16777216 (metadata_size bytes) (when_none (nat_lt 16777216 (metadata_size bytes)) MetadataSize found.0);
+      small = lt_false MAX_BUFFER_BYTES (metadata_size bytes) (when_none (nat_lt MAX_BUFFER_BYTES (metadata_size bytes)) MetadataSize found.0);
       room = lt_false (length bytes) (8 + metadata_size bytes) (when_none (nat_lt (length bytes) (8 + metadata_size bytes)) Truncated found.1.0);
     }
 
@@ -85,50 +86,50 @@ message_passes metadata following h room =
 
 -- ---- what stands at the front is framed
 
-after_mark : (bytes : List ℕ) → IsMarked bytes → bytes ≡ mark ++ (take 4 (drop 4 bytes) ++ drop 8 bytes)
-after_mark bytes marked =
-    marked.starts ∙ ap (λ (x : List ℕ). mark ++ x) (sym (take-append-drop 4 (drop 4 bytes)) ∙ ap (λ (x : List ℕ). take 4 (drop 4 bytes) ++ x) (drop-drop 4 4 bytes))
+after_marker : (bytes : List ℕ) → HasMarker bytes → bytes ≡ continuation_marker ++ (take 4 (drop 4 bytes) ++ drop 8 bytes)
+after_marker bytes marked =
+    marked.starts ∙ ap (λ (x : List ℕ). continuation_marker ++ x) (sym (take-append-drop 4 (drop 4 bytes)) ∙ ap (λ (x : List ℕ). take 4 (drop 4 bytes) ++ x) (drop-drop 4 4 bytes))
 
 size_read : (bytes : List ℕ) → little_number 4 (take 4 (drop 4 bytes)) ≡ metadata_size bytes
 unfolding metadata_size number
 size_read bytes = little_from-take 0 4 4 (drop 4 bytes) (omega arith)
 
-chosen_message : (c : Bool) (r : Result Front Fault) (m : Envelope) → (if c then Ok end_mark else r) ≡ Ok (message m) → (c ≡ false) × (r ≡ Ok (message m))
+chosen_message : (c : Bool) (r : Result NextMessage Fault) (m : Envelope) → (if c then Ok end_of_stream else r) ≡ Ok (message m) → (c ≡ false) × (r ≡ Ok (message m))
 chosen_message true r m h = absurd (cc)
 chosen_message false r m h = (refl, h)
 
-chosen_mark : (c : Bool) (o : Option Fault) (m : Envelope) → (if c then Ok end_mark else unless o (Ok (message m))) ≡ Ok end_mark → c ≡ true
-chosen_mark true o m h = refl
-chosen_mark false None m h = absurd (cc)
-chosen_mark false (Some f) m h = absurd (cc)
+chosen_marker : (c : Bool) (o : Option Fault) (m : Envelope) → (if c then Ok end_of_stream else unless o (Ok (message m))) ≡ Ok end_of_stream → c ≡ true
+chosen_marker true o m h = refl
+chosen_marker false None m h = absurd (cc)
+chosen_marker false (Some f) m h = absurd (cc)
 
 -- all that is known of the bytes before a message
 record Passed (bytes : List ℕ) (m : Envelope) : Type 0 where
-  marked : IsMarked bytes
+  marked : HasMarker bytes
   sized : IsSized bytes
   some : eqb (metadata_size bytes) 0 ≡ false
   table : first_some (table_faults (metadata_in bytes)) ≡ None
   room : body_length (metadata_in bytes) ≤ length (after_metadata bytes)
   is : record { metadata = metadata_in bytes; body = take (body_length (metadata_in bytes)) (after_metadata bytes) } ≡ m
 
-passed : (bytes : List ℕ) (m : Envelope) → front bytes ≡ Ok (message m) → Passed bytes m
-unfolding front
+passed : (bytes : List ℕ) (m : Envelope) → next_message bytes ≡ Ok (message m) → Passed bytes m
+unfolding next_message
 passed bytes m h =
     let all : List (Option Fault) = size_faults bytes ++ message_faults (metadata_in bytes) (length (after_metadata bytes)) in
-    let found : Result Front Fault = Ok (message_with (metadata_in bytes) (after_metadata bytes)) in
-    let a = unless_passed (first_some (mark_faults bytes)) (if eqb (metadata_size bytes) 0 then Ok end_mark else unless (first_some all) found) (message m) h in
+    let found : Result NextMessage Fault = Ok (message_with (metadata_in bytes) (after_metadata bytes)) in
+    let a = unless_passed (first_some (marker_faults bytes)) (if eqb (metadata_size bytes) 0 then Ok end_of_stream else unless (first_some all) found) (message m) h in
     let b = chosen_message (eqb (metadata_size bytes) 0) (unless (first_some all) found) m a.1 in
     let d = unless_passed (first_some all) found (message m) b.1 in
     let e = both_passed (size_faults bytes) (message_faults (metadata_in bytes) (length (after_metadata bytes))) d.0 in
     let t = message_passed (metadata_in bytes) (length (after_metadata bytes)) e.1 in
-    record { marked = mark_passed bytes a.0; sized = size_passed bytes e.0; some = b.0; table = t.0; room = t.1; is = cc (d.1) }
+    record { marked = marker_passed bytes a.0; sized = size_passed bytes e.0; some = b.0; table = t.0; room = t.1; is = cc (d.1) }
 
-framed_parts : (bytes : List ℕ) (n b : ℕ) → IsMarked bytes → 8 + n ≤ length bytes
-    → bytes ≡ mark ++ (take 4 (drop 4 bytes) ++ (take n (drop 8 bytes) ++ (take b (drop n (drop 8 bytes)) ++ drop b (drop n (drop 8 bytes)))))
+framed_parts : (bytes : List ℕ) (n b : ℕ) → HasMarker bytes → 8 + n ≤ length bytes
+    → bytes ≡ continuation_marker ++ (take 4 (drop 4 bytes) ++ (take n (drop 8 bytes) ++ (take b (drop n (drop 8 bytes)) ++ drop b (drop n (drop 8 bytes)))))
 framed_parts bytes n b marked room =
     let inner : drop 8 bytes ≡ take n (drop 8 bytes) ++ (take b (drop n (drop 8 bytes)) ++ drop b (drop n (drop 8 bytes))) =
     sym (take-append-drop n (drop 8 bytes)) ∙ ap (λ (x : List ℕ). take n (drop 8 bytes) ++ x) (sym (take-append-drop b (drop n (drop 8 bytes)))) in
-    after_mark bytes marked ∙ ap (λ (x : List ℕ). mark ++ (take 4 (drop 4 bytes) ++ x)) inner
+    after_marker bytes marked ∙ ap (λ (x : List ℕ). continuation_marker ++ (take 4 (drop 4 bytes) ++ x)) inner
 
 -- what follows the body
 rest_is : (bytes : List ℕ) (n b : ℕ) → drop b (drop n (drop 8 bytes)) ≡ drop (8 + n + b) bytes
@@ -150,7 +151,7 @@ abbrev found : List ℕ → Envelope
 found bytes = record { metadata = metadata_in bytes; body = take (body_length (metadata_in bytes)) (after_metadata bytes) }
 
 found_parts : (bytes : List ℕ) (m : Envelope) → Passed bytes m
-    → bytes ≡ mark ++ (take 4 (drop 4 bytes) ++ ((found bytes).metadata ++ ((found bytes).body ++ drop (body_length (metadata_in bytes)) (after_metadata bytes))))
+    → bytes ≡ continuation_marker ++ (take 4 (drop 4 bytes) ++ ((found bytes).metadata ++ ((found bytes).body ++ drop (body_length (metadata_in bytes)) (after_metadata bytes))))
 unfolding metadata_in after_metadata
 found_parts bytes m p = framed_parts bytes (metadata_size bytes) (body_length (metadata_in bytes)) p.marked p.sized.room
 
@@ -170,78 +171,78 @@ found_framed bytes m p =
     let n : length metadata ≡ metadata_size bytes = metadata_long bytes p.sized in
     let b : length body ≡ body_length metadata = length-take-le (body_length metadata) (after_metadata bytes) p.room in
     let some : 0 < metadata_size bytes = not_zero (metadata_size bytes) p.some in
-    let small : metadata_size bytes ≤ 16777216 = p.sized.small in
+    let small : metadata_size bytes ≤ MAX_BUFFER_BYTES = p.sized.small in
     let long : 8 ≤ length bytes = p.marked.long in (
       record { small = omega (arith, n, small); some = omega (arith, n, some); sound = message_passes metadata (length body) p.table (omega (arith, b)); whole = b },
       record {
         size = take 4 (drop 4 bytes);
-        parts = found_parts bytes m p ∙ ap (λ (x : List ℕ). mark ++ (take 4 (drop 4 bytes) ++ (metadata ++ (body ++ x)))) (found_rest bytes m p);
+        parts = found_parts bytes m p ∙ ap (λ (x : List ℕ). continuation_marker ++ (take 4 (drop 4 bytes) ++ (metadata ++ (body ++ x)))) (found_rest bytes m p);
         four = length-take-le 4 (drop 4 bytes) (omega (arith, length-drop 4 bytes));
         size_is = size_read bytes ∙ sym n;
       },
     )
 
-pub framed_front : (bytes : List ℕ) (m : Envelope) → front bytes ≡ Ok (message m) → IsMessage m × Framed bytes m (drop (taken (message m)) bytes)
-framed_front bytes m h =
+pub framed_next_message : (bytes : List ℕ) (m : Envelope) → next_message bytes ≡ Ok (message m) → IsMessage m × Framed bytes m (drop (taken (message m)) bytes)
+framed_next_message bytes m h =
     let p : Passed bytes m = passed bytes m h in
     subst (λ (x : Envelope). IsMessage x × Framed bytes x (drop (taken (message x)) bytes)) p.is (found_framed bytes m p)
 
 -- ---- what is framed stands at the front
 
-after_size : (size others : List ℕ) → length size ≡ 4 → drop 8 (mark ++ (size ++ others)) ≡ others
+after_size : (size others : List ℕ) → length size ≡ 4 → drop 8 (continuation_marker ++ (size ++ others)) ≡ others
 after_size size others four = ap (λ (k : ℕ). drop k (size ++ others)) (sym four) ∙ drop-append_seam size others
 
-size_written : (size others : List ℕ) (n : ℕ) → length size ≡ 4 → little_number 4 size ≡ n → metadata_size (mark ++ (size ++ others)) ≡ n
+size_written : (size others : List ℕ) (n : ℕ) → length size ≡ 4 → little_number 4 size ≡ n → metadata_size (continuation_marker ++ (size ++ others)) ≡ n
 unfolding metadata_size number
 size_written size others n four is = little_from-append 4 size others (omega arith) ∙ is
 
-metadata_written : (size metadata others : List ℕ) → length size ≡ 4 → metadata_size (mark ++ (size ++ (metadata ++ others))) ≡ length metadata → metadata_in (mark ++ (size ++ (metadata ++ others))) ≡ metadata
+metadata_written : (size metadata others : List ℕ) → length size ≡ 4 → metadata_size (continuation_marker ++ (size ++ (metadata ++ others))) ≡ length metadata → metadata_in (continuation_marker ++ (size ++ (metadata ++ others))) ≡ metadata
 unfolding metadata_in
 metadata_written size metadata others four is =
-    ap (λ (k : ℕ). take k (drop 8 (mark ++ (size ++ (metadata ++ others))))) is
+    ap (λ (k : ℕ). take k (drop 8 (continuation_marker ++ (size ++ (metadata ++ others))))) is
     ∙ ap (take (length metadata)) (after_size size (metadata ++ others) four) ∙ take-append_seam metadata others
 
-after_written : (size metadata others : List ℕ) → length size ≡ 4 → metadata_size (mark ++ (size ++ (metadata ++ others))) ≡ length metadata → after_metadata (mark ++ (size ++ (metadata ++ others))) ≡ others
+after_written : (size metadata others : List ℕ) → length size ≡ 4 → metadata_size (continuation_marker ++ (size ++ (metadata ++ others))) ≡ length metadata → after_metadata (continuation_marker ++ (size ++ (metadata ++ others))) ≡ others
 unfolding after_metadata
 after_written size metadata others four is =
-    ap (λ (k : ℕ). drop k (drop 8 (mark ++ (size ++ (metadata ++ others))))) is
+    ap (λ (k : ℕ). drop k (drop 8 (continuation_marker ++ (size ++ (metadata ++ others))))) is
     ∙ ap (drop (length metadata)) (after_size size (metadata ++ others) four) ∙ drop-append_seam metadata others
 
-mark_passes : (size others : List ℕ) → length size ≡ 4 → first_some (mark_faults (mark ++ (size ++ others))) ≡ None
-unfolding mark_faults
-mark_passes size others four =
-    let long : 8 ≤ length (mark ++ (size ++ others)) = omega (arith, length-append size others) in
-    let short : 4 ≤ length (mark ++ (size ++ others)) = omega arith in
-    rw (no_lt (length (mark ++ (size ++ others))) 4 short, no_lt (length (mark ++ (size ++ others))) 8 long) refl
+marker_passes : (size others : List ℕ) → length size ≡ 4 → first_some (marker_faults (continuation_marker ++ (size ++ others))) ≡ None
+unfolding marker_faults
+marker_passes size others four =
+    let long : 8 ≤ length (continuation_marker ++ (size ++ others)) = omega (arith, length-append size others) in
+    let short : 4 ≤ length (continuation_marker ++ (size ++ others)) = omega arith in
+    rw (no_lt (length (continuation_marker ++ (size ++ others))) 4 short, no_lt (length (continuation_marker ++ (size ++ others))) 8 long) refl
 
-size_passes : (bytes : List ℕ) (n : ℕ) → metadata_size bytes ≡ n → n ≤ 16777216 → 8 + n ≤ length bytes → first_some (size_faults bytes) ≡ None
+size_passes : (bytes : List ℕ) (n : ℕ) → metadata_size bytes ≡ n → n ≤ MAX_BUFFER_BYTES → 8 + n ≤ length bytes → first_some (size_faults bytes) ≡ None
 unfolding size_faults
-size_passes bytes n is small room = rw (is, no_lt 16777216 n small, no_lt (length bytes) (8 + n) room) refl
+size_passes bytes n is small room = rw (is, no_lt MAX_BUFFER_BYTES n small, no_lt (length bytes) (8 + n) room) refl
 
 no_zero : (n : ℕ) → 0 < n → eqb n 0 ≡ false
 no_zero n h = grind arith
 
-written_front : (size : List ℕ) (m : Envelope) (others : List ℕ) → length size ≡ 4 → little_number 4 size ≡ length m.metadata → IsMessage m
-    → front (mark ++ (size ++ (m.metadata ++ (m.body ++ others)))) ≡ Ok (message m)
-unfolding front
-written_front size m others four is good =
-    let bytes : List ℕ = mark ++ (size ++ (m.metadata ++ (m.body ++ others))) in
+written_next_message : (size : List ℕ) (m : Envelope) (others : List ℕ) → length size ≡ 4 → little_number 4 size ≡ length m.metadata → IsMessage m
+    → next_message (continuation_marker ++ (size ++ (m.metadata ++ (m.body ++ others)))) ≡ Ok (message m)
+unfolding next_message
+written_next_message size m others four is good =
+    let bytes : List ℕ = continuation_marker ++ (size ++ (m.metadata ++ (m.body ++ others))) in
     let n : metadata_size bytes ≡ length m.metadata = size_written size (m.metadata ++ (m.body ++ others)) (length m.metadata) four is in
     let here : metadata_in bytes ≡ m.metadata = metadata_written size m.metadata (m.body ++ others) four n in
     let after : after_metadata bytes ≡ m.body ++ others = after_written size m.metadata (m.body ++ others) four n in
-    let small : length m.metadata ≤ 16777216 = good.small in
+    let small : length m.metadata ≤ MAX_BUFFER_BYTES = good.small in
     let whole : length m.body ≡ body_length m.metadata = good.whole in
     let room : 8 + length m.metadata ≤ length bytes = omega (arith, length-append size (m.metadata ++ (m.body ++ others)), length-append m.metadata (m.body ++ others)) in
     let table = (message_passed m.metadata (length m.body) good.sound).0 in
     let sound : first_some (message_faults m.metadata (length (m.body ++ others))) ≡ None = message_passes m.metadata (length (m.body ++ others)) table (omega (arith, length-append m.body others)) in
     let all : first_some (size_faults bytes ++ message_faults (metadata_in bytes) (length (after_metadata bytes))) ≡ None =
     first_pass (size_faults bytes) (message_faults (metadata_in bytes) (length (after_metadata bytes))) (size_passes bytes (length m.metadata) n small room) ∙ rw (here, after) sound in
-    rw (mark_passes size (m.metadata ++ (m.body ++ others)) four, all, n, no_zero (length m.metadata) good.some, here, after, sym whole, take-append_seam m.body others) refl
+    rw (marker_passes size (m.metadata ++ (m.body ++ others)) four, all, n, no_zero (length m.metadata) good.some, here, after, sym whole, take-append_seam m.body others) refl
 
-pub front_framed : (bytes others : List ℕ) (m : Envelope) → IsMessage m → Framed bytes m others → front bytes ≡ Ok (message m)
-front_framed bytes others m good framed = ap front framed.parts ∙ written_front framed.size m others framed.four framed.size_is good
+pub next_message_framed : (bytes others : List ℕ) (m : Envelope) → IsMessage m → Framed bytes m others → next_message bytes ≡ Ok (message m)
+next_message_framed bytes others m good framed = ap next_message framed.parts ∙ written_next_message framed.size m others framed.four framed.size_is good
 
--- ---- the end mark
+-- ---- the end of stream
 
 four_zeros : (xs : List ℕ) → length xs ≡ 4 → little_number 4 xs ≡ 0 → xs ≡ 0 ∷ 0 ∷ 0 ∷ 0 ∷ []
 four_zeros [] l h = absurd (omega arith)
@@ -256,22 +257,22 @@ four_zeros (a ∷ b ∷ c ∷ d ∷ []) l h =
     cc
 four_zeros (a ∷ b ∷ c ∷ d ∷ e ∷ xs) l h = absurd (omega arith)
 
-pub marked_front : (bytes : List ℕ) → front bytes ≡ Ok end_mark → bytes ≡ mark ++ (0 ∷ 0 ∷ 0 ∷ 0 ∷ drop 8 bytes)
-unfolding front
-marked_front bytes h =
+pub marked_next_message : (bytes : List ℕ) → next_message bytes ≡ Ok end_of_stream → bytes ≡ continuation_marker ++ (0 ∷ 0 ∷ 0 ∷ 0 ∷ drop 8 bytes)
+unfolding next_message
+marked_next_message bytes h =
     let all : Option Fault = first_some (size_faults bytes ++ message_faults (metadata_in bytes) (length (after_metadata bytes))) in
     let found : Envelope = record { metadata = metadata_in bytes; body = take (body_length (metadata_in bytes)) (after_metadata bytes) } in
-    let a = unless_passed (first_some (mark_faults bytes)) (if eqb (metadata_size bytes) 0 then Ok end_mark else unless all (Ok (message found))) end_mark h in
-    let marked : IsMarked bytes = mark_passed bytes a.0 in
-    let none : metadata_size bytes ≡ 0 = is_zero (metadata_size bytes) (chosen_mark (eqb (metadata_size bytes) 0) all found a.1) in
+    let a = unless_passed (first_some (marker_faults bytes)) (if eqb (metadata_size bytes) 0 then Ok end_of_stream else unless all (Ok (message found))) end_of_stream h in
+    let marked : HasMarker bytes = marker_passed bytes a.0 in
+    let none : metadata_size bytes ≡ 0 = is_zero (metadata_size bytes) (chosen_marker (eqb (metadata_size bytes) 0) all found a.1) in
     let long : 8 ≤ length bytes = marked.long in
     let zeros : take 4 (drop 4 bytes) ≡ 0 ∷ 0 ∷ 0 ∷ 0 ∷ [] =
     four_zeros (take 4 (drop 4 bytes)) (length-take-le 4 (drop 4 bytes) (omega (arith, length-drop 4 bytes))) (size_read bytes ∙ none) in
-    after_mark bytes marked ∙ ap (λ (x : List ℕ). mark ++ (x ++ drop 8 bytes)) zeros
+    after_marker bytes marked ∙ ap (λ (x : List ℕ). continuation_marker ++ (x ++ drop 8 bytes)) zeros
 
-pub front_marked : (others : List ℕ) → front (mark ++ (0 ∷ 0 ∷ 0 ∷ 0 ∷ others)) ≡ Ok end_mark
-unfolding front
-front_marked others =
+pub next_end_of_stream : (others : List ℕ) → next_message (continuation_marker ++ (0 ∷ 0 ∷ 0 ∷ 0 ∷ others)) ≡ Ok end_of_stream
+unfolding next_message
+next_end_of_stream others =
     let zeros : List ℕ = 0 ∷ 0 ∷ 0 ∷ 0 ∷ [] in
-    let none : metadata_size (mark ++ (zeros ++ others)) ≡ 0 = size_written zeros others 0 refl refl in
-    rw (mark_passes zeros others refl, none) refl
+    let none : metadata_size (continuation_marker ++ (zeros ++ others)) ≡ 0 = size_written zeros others 0 refl refl in
+    rw (marker_passes zeros others refl, none) refl

@@ -5,8 +5,8 @@ mod Levels
 mod ElementLemmas
 mod FieldLemmas
 mod HeaderLemmas
-mod FrontLemmas
+mod NextMessageLemmas
 mod FramedLemmas
-mod Spelled
+mod Decoded
 mod Shapes
 mod Columns

@@ -9,11 +9,11 @@ use Rattle.ipc_message.specs.declared.fault.Fault.TheVariants.{BadParameter, Sch
 use Rattle.ipc_message.specs.Raw.{RawSchema}
 use Rattle.ipc_message.specs.Fields.{every_field}
 use Rattle.ipc_message.specs.Framing.{first_some, when}
-use Rattle.ipc_message.specs.Rounds.{is_bad, passes_limit, texts_of, is_dictionary_of_nested, is_not_yet, schema_rounds, outcome}
+use Rattle.ipc_message.specs.Checks.{is_bad, exceeds_limit, texts_of, is_dictionary_of_nested, is_not_yet, schema_checks, outcome}
 
 pub record IsAccepted (s : RawSchema) : Type 0 where
-  pub spelled : list_any is_bad (every_field s) ≡ false
-  pub small : passes_limit s ≡ false
+  pub decoded : list_any is_bad (every_field s) ≡ false
+  pub small : exceeds_limit s ≡ false
   pub utf8 : list_all is_utf8 (texts_of s) ≡ true
   pub flat : list_any is_dictionary_of_nested (every_field s) ≡ false
   pub read : (not (length s.pairs == 0) || list_any is_not_yet (every_field s)) ≡ false
@@ -33,20 +33,20 @@ when_none true f h = absurd cc
 when_none false f h = refl
 
 -- where no test finds anything, each finds nothing
-pub accepted : (held : ℕ → Bool) (s : RawSchema) → first_some (schema_rounds held s) ≡ None → IsAccepted s
-unfolding schema_rounds
-accepted held s h =
-    let found = all_none (schema_rounds held s) h in
+pub accepted : (supported : ℕ → Bool) (s : RawSchema) → first_some (schema_checks supported s) ≡ None → IsAccepted s
+unfolding schema_checks
+accepted supported s h =
+    let found = all_none (schema_checks supported s) h in
     record {
-      spelled = when_none _ BadParameter found.1.1.0;
+      decoded = when_none _ BadParameter found.1.1.0;
       small = when_none _ SchemaLimit found.1.1.1.0;
       utf8 = not-false _ (when_none _ NotUtf8 found.1.1.1.1.0);
       flat = when_none _ DictionaryOfNested found.1.1.1.1.1.1.0;
       read = when_none _ NotYet found.1.1.1.1.1.1.1.0;
     }
 
-pub accepted_outcome : {A : Type 0} (held : ℕ → Bool) (s : RawSchema) (x : A) → outcome (first_some (schema_rounds held s)) x ≡ Ok x → IsAccepted s
-accepted_outcome held s x h = accepted held s (none_of _ x h)
+pub accepted_outcome : {A : Type 0} (supported : ℕ → Bool) (s : RawSchema) (x : A) → outcome (first_some (schema_checks supported s)) x ≡ Ok x → IsAccepted s
+accepted_outcome supported s x h = accepted supported s (none_of _ x h)
   where
     none_of : {A : Type 0} (o : Option Fault) (x : A) → outcome o x ≡ Ok x → o ≡ None
     none_of None x h = refl

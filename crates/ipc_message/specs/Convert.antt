@@ -1,17 +1,17 @@
--- The schema that a header spells: each field as a column, its dictionary as an index type, whatever the id.
+-- The schema that a header decodes to: each field as a column, its dictionary as an index type, whatever the id.
 use Rattle.std.specs.Prelude.{List, [], ◌∷◌, map, option_map, unwrap_or}
 use Rattle.arrow_schema.specs.Column.{Index, Column, nulls, column, PlainSchema}
 use Rattle.ipc_message.specs.Raw.{RawEncoding, RawField, RawFields, raw_field, no_raw_field, and_raw_field, RawSchema}
-use Rattle.ipc_message.specs.Types.{type_name, spelled_type}
+use Rattle.ipc_message.specs.Types.{type_name, decoded_type}
 
 abbrev pub index_of : RawEncoding → Index
 index_of e = record { bits = e.width; signed = e.signed }
 
--- what spells no type is read as Null: a schema with such a field is refused
+-- what decodes to no type is read as Null: a schema with such a field is refused
 unfoldable mutual
   pub column_of_field : RawField → Column
   column_of_field (raw_field name nullable code table dictionary children pairs) =
-      column name nullable (unwrap_or (spelled_type (type_name code) table (columns_of_fields children)) nulls) (option_map index_of dictionary) pairs
+      column name nullable (unwrap_or (decoded_type (type_name code) table (columns_of_fields children)) nulls) (option_map index_of dictionary) pairs
 
   pub columns_of_fields : RawFields → List Column
   columns_of_fields no_raw_field = []

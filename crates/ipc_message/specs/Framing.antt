@@ -4,6 +4,7 @@ use Rattle.std.specs.List.{starts_with}
 use Rattle.byteorder.specs.Endian.{little_number}
 use Rattle.flatbuf.specs.declared.FlatError.{FlatError}
 use Rattle.flatbuf.specs.declared.FlatError.TheVariants.{Bounds, VtableSize, Budget}
+use Rattle.flatbuf.specs.declared.limits.TheConstants.{MAX_BUFFER_BYTES}
 use Rattle.flatbuf.specs.Lookup.{number, Place, slot, target, table_at, scalar_of}
 use Rattle.flatbuf.specs.Walk.{Thing, run, root_things, spans}
 use Rattle.ipc_message.specs.declared.envelope.HeaderType.{HeaderType}
@@ -11,13 +12,9 @@ use Rattle.ipc_message.specs.declared.envelope.HeaderType.TheVariants.{Schema, D
 use Rattle.ipc_message.specs.declared.fault.Fault.{Fault}
 use Rattle.ipc_message.specs.declared.fault.Fault.TheVariants.{Truncated, NoContinuation, MetadataSize, FlatBounds, FlatBudget, MetadataVersion, HeaderKind, BodyLength}
 
--- the mark that each message begins with
-abbrev pub mark : List ℕ
-mark = 255 ∷ 255 ∷ 255 ∷ 255 ∷ []
-
--- the most bytes that the metadata of a message may have
-abbrev pub most_metadata : ℕ
-most_metadata = 16777216
+-- the continuation marker that each message begins with
+abbrev pub continuation_marker : List ℕ
+continuation_marker = 255 ∷ 255 ∷ 255 ∷ 255 ∷ []
 
 -- what the header of a message is, by its number (Message.fbs, `MessageHeader`); others are not read
 abbrev pub header_type : ℕ → Option HeaderType
@@ -28,14 +25,14 @@ pub record Envelope : Type 0 where
   pub metadata : List ℕ
   pub body : List ℕ
 
--- what stands at the front of the bytes: the end mark, or a message
-pub data Front : Type 0 where
-  end_mark : Front
-  message : Envelope → Front
+-- what stands at the front of the bytes: the end of stream, or a message
+pub data NextMessage : Type 0 where
+  end_of_stream : NextMessage
+  message : Envelope → NextMessage
 
 -- how many bytes it takes
-abbrev pub taken : Front → ℕ
-taken end_mark = 8
+abbrev pub taken : NextMessage → ℕ
+taken end_of_stream = 8
 taken (message m) = 8 + length m.metadata + length m.body
 
 -- ---- the Message table
@@ -82,11 +79,11 @@ abbrev pub walk_fault : Result ℕ FlatError → Option Fault
 walk_fault (Ok n) = None
 walk_fault (Err e) = Some (flat_fault e)
 
--- the mark and the size
-unfoldable pub mark_faults : List ℕ → List (Option Fault)
-mark_faults bytes =
+-- the continuation marker and the size
+unfoldable pub marker_faults : List ℕ → List (Option Fault)
+marker_faults bytes =
     when (nat_lt (length bytes) 4) Truncated
-    ∷ when (not (starts_with nat_eq bytes mark)) NoContinuation
+    ∷ when (not (starts_with nat_eq bytes continuation_marker)) NoContinuation
     ∷ when (nat_lt (length bytes) 8) Truncated
     ∷ []
 
@@ -104,7 +101,7 @@ after_metadata bytes = drop (metadata_size bytes) (drop 8 bytes)
 -- the metadata and the body
 unfoldable pub size_faults : List ℕ → List (Option Fault)
 size_faults bytes =
-    when (nat_lt most_metadata (metadata_size bytes)) MetadataSize
+    when (nat_lt MAX_BUFFER_BYTES (metadata_size bytes)) MetadataSize
     ∷ when (nat_lt (length bytes) (8 + metadata_size bytes)) Truncated
     ∷ []
 
@@ -119,19 +116,19 @@ message_faults metadata following =
     ∷ []
 
 -- the fault, where there is one
-abbrev pub unless : Option Fault → Result Front Fault → Result Front Fault
+abbrev pub unless : Option Fault → Result NextMessage Fault → Result NextMessage Fault
 unless None r = r
 unless (Some f) r = Err f
 
 -- the message whose metadata this is, where these bytes follow it
-abbrev pub message_with : List ℕ → List ℕ → Front
+abbrev pub message_with : List ℕ → List ℕ → NextMessage
 message_with metadata following = message (record { metadata = metadata; body = take (body_length metadata) following })
 
--- what stands at the front, or the first fault: a size of 0 makes the end mark
-unfoldable pub front : List ℕ → Result Front Fault
-front bytes =
-    unless (first_some (mark_faults bytes))
-    (if metadata_size bytes == 0 then Ok end_mark
+-- what stands at the front, or the first fault: a size of 0 makes the end of stream
+unfoldable pub next_message : List ℕ → Result NextMessage Fault
+next_message bytes =
+    unless (first_some (marker_faults bytes))
+    (if metadata_size bytes == 0 then Ok end_of_stream
     else unless (first_some (size_faults bytes ++ message_faults (metadata_in bytes) (length (after_metadata bytes))))
     (Ok (message_with (metadata_in bytes) (after_metadata bytes))))
 
@@ -144,15 +141,15 @@ fault_of (Err f) = Some f
 
 -- a message that may stand: its metadata passes the tests above, and its body is as long as they say
 pub record IsMessage (m : Envelope) : Type 0 where
-  pub small : length m.metadata ≤ most_metadata
+  pub small : length m.metadata ≤ MAX_BUFFER_BYTES
   pub some : 0 < length m.metadata
   pub sound : first_some (message_faults m.metadata (length m.body)) ≡ None
   pub whole : length m.body ≡ body_length m.metadata
 
--- the bytes are a message, and then others: the mark, the size of the metadata, the metadata, the body
+-- the bytes are a message, and then others: the continuation marker, the size of the metadata, the metadata, the body
 pub record Framed (bytes : List ℕ) (m : Envelope) (others : List ℕ) : Type 0 where
   pub size : List ℕ
-  pub parts : bytes ≡ mark ++ (size ++ (m.metadata ++ (m.body ++ others)))
+  pub parts : bytes ≡ continuation_marker ++ (size ++ (m.metadata ++ (m.body ++ others)))
   pub four : length size ≡ 4
   pub size_is : little_number 4 size ≡ length m.metadata
 

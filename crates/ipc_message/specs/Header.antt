@@ -1,5 +1,5 @@
--- The header of a message: what a reader meets in it, in order, and what it spells (Message.fbs, Schema.fbs). A table that is
--- absent reads as one whose slots are all absent. `held` says which type codes are held; `left` is how many levels of
+-- The header of a message: what a reader meets in it, in order, and what it decodes to (Message.fbs, Schema.fbs). A table that is
+-- absent reads as one whose slots are all absent. `supported` says which type codes are supported; `left` is how many levels of
 -- tables may stand below the table in question.
 use Rattle.std.specs.Prelude.{ℕ, zero, suc, ◌-◌, Bool, true, false, ◌&&◌, ◌||◌, ◌==◌, if◌then◌else◌, List, [], ◌∷◌, ◌++◌, map, Option, Some, None, option_map, is_some, unwrap_or, Result, Ok, Err}
 use Rattle.std.specs.List.{flat_map, list_any}
@@ -14,9 +14,9 @@ use Rattle.ipc_message.specs.Raw.{RawParameters, no_parameters, integer_paramete
 use Rattle.ipc_message.specs.View.{nodes_in, buffers_in}
 use Rattle.ipc_message.specs.Framing.{message_table, type_of, header_type, flat_fault}
 
--- the type codes that are held
-abbrev pub held_codes : ℕ → Bool
-held_codes code = list_any (λ n. n == code) (1 ∷ 2 ∷ 4 ∷ 5 ∷ 6 ∷ 8 ∷ 10 ∷ 12 ∷ 13 ∷ 15 ∷ 16 ∷ 19 ∷ 20 ∷ 21 ∷ [])
+-- the type codes that are supported
+abbrev pub supported_codes : ℕ → Bool
+supported_codes code = list_any (λ n. n == code) (1 ∷ 2 ∷ 4 ∷ 5 ∷ 6 ∷ 8 ∷ 10 ∷ 12 ∷ 13 ∷ 15 ∷ 16 ∷ 19 ∷ 20 ∷ 21 ∷ [])
 
 -- slot k of a table that may be absent
 abbrev pub slot_in : List ℕ → Option Place → ℕ → Option ℕ
@@ -47,11 +47,11 @@ timestamp_things left bytes v =
 
 -- the table of a type, by its code: those of other types are not read
 unfoldable pub type_things : (ℕ → Bool) → ℕ → List ℕ → ℕ → Option ℕ → List Thing
-type_things held left bytes code v =
+type_things supported left bytes code v =
     if code == 2 then int_things left bytes v
     else if code == 15 || code == 16 then size_things left bytes v
-    else if code == 8 && held 8 then date_things left bytes v
-    else if code == 10 && held 10 then timestamp_things left bytes v
+    else if code == 8 && supported 8 then date_things left bytes v
+    else if code == 10 && supported 10 then timestamp_things left bytes v
     else []
 
 -- a DictionaryEncoding: its id, indexType, isOrdered and dictionaryKind
@@ -76,36 +76,36 @@ pairs_things left bytes v = vector_at 4 bytes v ++ flat_map (pair_things left by
 
 -- a field's own table: its name, nullable, type, dictionary, and the vector of its children
 unfoldable pub own_things : (ℕ → Bool) → ℕ → List ℕ → Place → List Thing
-own_things held left bytes t =
+own_things supported left bytes t =
     vector_at 1 bytes (slot bytes t 0)
     ++ spans 1 (slot bytes t 1)
     ++ spans 1 (slot bytes t 2)
-    ++ type_things held left bytes (scalar_of 1 0 bytes (slot bytes t 2)) (slot bytes t 3)
+    ++ type_things supported left bytes (scalar_of 1 0 bytes (slot bytes t 2)) (slot bytes t 3)
     ++ encoding_things left bytes (slot bytes t 4)
     ++ vector_at 4 bytes (slot bytes t 5)
 
 -- a field's slots: its own table, its children by the walk over a child, its custom_metadata
 abbrev pub slots_by : (ℕ → List Thing) → (ℕ → Bool) → ℕ → List ℕ → Place → List Thing
-slots_by child_things held left bytes t =
-    own_things held left bytes t
+slots_by child_things supported left bytes t =
+    own_things supported left bytes t
     ++ flat_map child_things (elements bytes (slot bytes t 5))
     ++ pairs_things left bytes (slot bytes t 6)
 
 -- a field and all below it, at a position from which so many levels are left
 unfoldable pub field_things : (ℕ → Bool) → ℕ → List ℕ → ℕ → List Thing
-field_things held zero bytes at = too_deep ∷ []
-field_things held (suc left) bytes at = head_things bytes at ++ slots_by (field_things held left bytes) held left bytes (table_at bytes at)
+field_things supported zero bytes at = too_deep ∷ []
+field_things supported (suc left) bytes at = head_things bytes at ++ slots_by (field_things supported left bytes) supported left bytes (table_at bytes at)
 
 -- the slots of a field's table, below which so many levels may stand
 abbrev pub field_slots : (ℕ → Bool) → ℕ → List ℕ → Place → List Thing
-field_slots held left bytes t = slots_by (field_things held left bytes) held left bytes t
+field_slots supported left bytes t = slots_by (field_things supported left bytes) supported left bytes t
 
 -- a Schema: its endianness, fields and custom_metadata
 unfoldable pub schema_things : (ℕ → Bool) → ℕ → List ℕ → Option Place → List Thing
-schema_things held left bytes t =
+schema_things supported left bytes t =
     spans 2 (slot_in bytes t 0)
     ++ vector_at 4 bytes (slot_in bytes t 1)
-    ++ flat_map (field_things held left bytes) (elements bytes (slot_in bytes t 1))
+    ++ flat_map (field_things supported left bytes) (elements bytes (slot_in bytes t 1))
     ++ pairs_things left bytes (slot_in bytes t 2)
 
 -- a RecordBatch: its length, nodes and buffers
@@ -135,17 +135,17 @@ header_slot metadata = slot metadata (message_table metadata) 2
 
 -- a header of this type
 abbrev pub things_by_type : (ℕ → Bool) → ℕ → List ℕ → Option Place → HeaderType → List Thing
-things_by_type held left bytes t Schema = schema_things held left bytes t
-things_by_type held left bytes t DictionaryBatch = dictionary_things left bytes t
-things_by_type held left bytes t RecordBatch = batch_things bytes t
+things_by_type supported left bytes t Schema = schema_things supported left bytes t
+things_by_type supported left bytes t DictionaryBatch = dictionary_things left bytes t
+things_by_type supported left bytes t RecordBatch = batch_things bytes t
 
 -- the header of a message: the walk that comes after the Message's own things. 39 levels are left from the header on
 unfoldable pub header_things : (ℕ → Bool) → List ℕ → List Thing
-header_things held metadata =
+header_things supported metadata =
     needed_things 39 metadata (header_slot metadata)
-    ++ things_by_type held 38 metadata (table_behind metadata (header_slot metadata)) (type_in metadata)
+    ++ things_by_type supported 38 metadata (table_behind metadata (header_slot metadata)) (type_in metadata)
 
--- ---- what it spells
+-- ---- what it decodes to
 
 -- the bitWidth and is_signed of an Int, or what an absent one means
 abbrev pub int_or : ℕ × Bool → List ℕ → Option Place → ℕ × Bool
@@ -155,14 +155,14 @@ int_or absent bytes (Some t) = (scalar_of 4 0 bytes (slot bytes t 0), is_set (sc
 abbrev pub int_of : List ℕ → Option Place → ℕ × Bool
 int_of bytes t = int_or (0, false) bytes t
 
--- what the table of a type spells; a Date without a unit has milliseconds, 1
+-- what the table of a type decodes to; a Date without a unit has milliseconds, 1
 unfoldable pub parameters_in : (ℕ → Bool) → List ℕ → ℕ → Option Place → RawParameters
-parameters_in held bytes code t =
+parameters_in supported bytes code t =
     if code == 2 then (let i = int_of bytes t in integer_parameters i.0 i.1)
     else if code == 15 then byte_width (scalar_of 4 0 bytes (slot_in bytes t 0))
     else if code == 16 then list_size (scalar_of 4 0 bytes (slot_in bytes t 0))
-    else if code == 8 && held 8 then date_unit (scalar_of 2 1 bytes (slot_in bytes t 0))
-    else if code == 10 && held 10 then timestamp_parameters (scalar_of 2 0 bytes (slot_in bytes t 0)) (text_of bytes (slot_in bytes t 1))
+    else if code == 8 && supported 8 then date_unit (scalar_of 2 1 bytes (slot_in bytes t 0))
+    else if code == 10 && supported 10 then timestamp_parameters (scalar_of 2 0 bytes (slot_in bytes t 0)) (text_of bytes (slot_in bytes t 1))
     else no_parameters
 
 -- a DictionaryEncoding; an absent index type is signed with 32 bits
@@ -179,28 +179,28 @@ pairs_in bytes v = map (pair_at bytes) (elements bytes v)
 
 -- a field with these children
 unfoldable pub field_with : (ℕ → Bool) → List ℕ → Place → List RawField → RawField
-field_with held bytes t children =
+field_with supported bytes t children =
     let code = scalar_of 1 0 bytes (slot bytes t 2) in
     raw_field
     (text_of bytes (slot bytes t 0))
     (is_set (scalar_of 1 0 bytes (slot bytes t 1)))
     code
-    (parameters_in held bytes code (table_behind bytes (slot bytes t 3)))
+    (parameters_in supported bytes code (table_behind bytes (slot bytes t 3)))
     (option_map (encoding_in bytes) (table_behind bytes (slot bytes t 4)))
     (raw_fields_of children)
     (pairs_in bytes (slot bytes t 6))
 
 -- the field at a position, from which so many levels are left
 unfoldable pub field_at : (ℕ → Bool) → ℕ → List ℕ → ℕ → RawField
-field_at held zero bytes at = raw_field [] false 0 no_parameters None no_raw_field []
-field_at held (suc left) bytes at =
+field_at supported zero bytes at = raw_field [] false 0 no_parameters None no_raw_field []
+field_at supported (suc left) bytes at =
     let t = table_at bytes at in
-    field_with held bytes t (map (field_at held left bytes) (elements bytes (slot bytes t 5)))
+    field_with supported bytes t (map (field_at supported left bytes) (elements bytes (slot bytes t 5)))
 
 unfoldable pub schema_in : (ℕ → Bool) → ℕ → List ℕ → Option Place → RawSchema
-schema_in held left bytes t = record {
+schema_in supported left bytes t = record {
   endianness = scalar_of 2 0 bytes (slot_in bytes t 0);
-  fields = map (field_at held left bytes) (elements bytes (slot_in bytes t 1));
+  fields = map (field_at supported left bytes) (elements bytes (slot_in bytes t 1));
   pairs = pairs_in bytes (slot_in bytes t 2);
 }
 
@@ -221,21 +221,21 @@ dictionary_in bytes t = record {
 }
 
 abbrev pub header_by_type : (ℕ → Bool) → ℕ → List ℕ → Option Place → HeaderType → RawHeader
-header_by_type held left bytes t Schema = schema_header (schema_in held left bytes t)
-header_by_type held left bytes t DictionaryBatch = dictionary_header (dictionary_in bytes t)
-header_by_type held left bytes t RecordBatch = batch_header (batch_in bytes t)
+header_by_type supported left bytes t Schema = schema_header (schema_in supported left bytes t)
+header_by_type supported left bytes t DictionaryBatch = dictionary_header (dictionary_in bytes t)
+header_by_type supported left bytes t RecordBatch = batch_header (batch_in bytes t)
 
--- what the header of a message spells, whatever its metadata is
+-- what the header of a message decodes to, whatever its metadata is
 unfoldable pub header_of : (ℕ → Bool) → List ℕ → RawHeader
-header_of held metadata = header_by_type held 38 metadata (table_behind metadata (header_slot metadata)) (type_in metadata)
+header_of supported metadata = header_by_type supported 38 metadata (table_behind metadata (header_slot metadata)) (type_in metadata)
 
 -- ---- the test of the header
 
 -- what a walk found, or the fault of the first bad thing
-abbrev pub spelled : Result ℕ FlatError → RawHeader → Result RawHeader Fault
-spelled (Ok n) h = Ok h
-spelled (Err e) h = Err (flat_fault e)
+abbrev pub decoded : Result ℕ FlatError → RawHeader → Result RawHeader Fault
+decoded (Ok n) h = Ok h
+decoded (Err e) h = Err (flat_fault e)
 
--- what the header spells, where the walk over it finds nothing bad; the Message table was the first that was entered
+-- what the header decodes to, where the walk over it finds nothing bad; the Message table was the first that was entered
 unfoldable pub header : (ℕ → Bool) → List ℕ → Result RawHeader Fault
-header held metadata = spelled (run metadata (header_things held metadata) 1) (header_of held metadata)
+header supported metadata = decoded (run metadata (header_things supported metadata) 1) (header_of supported metadata)

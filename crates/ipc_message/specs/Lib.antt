@@ -8,7 +8,7 @@ pub mod Fields
 pub mod Types
 pub mod Convert
 pub mod Same
-pub mod Rounds
+pub mod Checks
 pub mod Listed
 pub mod Outcome
 pub mod Walked

@@ -1,4 +1,4 @@
--- What the metadata of a message spells, before any test: a text is its bytes, a number its unsigned value (Message.fbs, Schema.fbs).
+-- What the metadata of a message decodes to, before any test: a text is its bytes, a number its unsigned value (Message.fbs, Schema.fbs).
 use Rattle.std.specs.Prelude.{ℕ, Bool, List, [], ◌∷◌, Option}
 use Rattle.arrow_schema.specs.Column.{Pair}
 
@@ -9,7 +9,7 @@ pub data RawParameters : Type 0 where
   byte_width : ℕ → RawParameters
   list_size : ℕ → RawParameters
   date_unit : ℕ → RawParameters
-  timestamp_parameters : (unit : ℕ) → (zone : List ℕ) → RawParameters
+  timestamp_parameters : (unit : ℕ) → (timezone : List ℕ) → RawParameters
 
 -- a DictionaryEncoding: an absent index type is a signed integer of 32 bits; `kind` is 0 for a dense one
 pub record RawEncoding : Type 0 where

@@ -1,4 +1,4 @@
--- The type that a field's code, its table and its children spell (Schema.fbs, the union Type), where they spell one.
+-- The type that a field's code, its table and its children decode to (Schema.fbs, the union Type), where they decode to one.
 use Rattle.std.specs.Prelude.{ℕ, ◌^◌, Bool, true, false, ◌&&◌, ◌==◌, is_some, nat_lt, if◌then◌else◌, List, [], ◌∷◌, Option, Some, None, option_map}
 use Rattle.ipc_message.specs.declared.fault.TypeName.{TypeName}
 use Rattle.ipc_message.specs.declared.fault.TypeName.TheVariants as types
@@ -57,7 +57,7 @@ date (date_unit n) = option_map dates (date_kind n)
 date _ = None
 
 abbrev pub timestamp : RawParameters → Option Kind
-timestamp (timestamp_parameters n zone) = option_map (λ unit. timestamps unit zone) (time_kind n)
+timestamp (timestamp_parameters n timezone) = option_map (λ unit. timestamps unit timezone) (time_kind n)
 timestamp _ = None
 
 abbrev pub fixed_binary : RawParameters → Option Kind
@@ -83,38 +83,38 @@ with_item kind [] = None
 with_item kind (item ∷ []) = kind item
 with_item kind (item ∷ c ∷ cs) = None
 
--- what a type code's name, its table and its children spell
-unfoldable pub spelled_type : TypeName → RawParameters → List Column → Option Kind
-spelled_type types.Null p children = without_children (Some nulls) children
-spelled_type types.Int p children = without_children (integer p) children
-spelled_type types.Binary p children = without_children (Some binaries) children
-spelled_type types.Utf8 p children = without_children (Some texts) children
-spelled_type types.Bool p children = without_children (Some booleans) children
-spelled_type types.Date p children = without_children (date p) children
-spelled_type types.Timestamp p children = without_children (timestamp p) children
-spelled_type types.List p children = with_item (λ item. Some (lists item)) children
-spelled_type types.Struct p children = Some (structs (columns_of children))
-spelled_type types.FixedSizeBinary p children = without_children (fixed_binary p) children
-spelled_type types.FixedSizeList p children = with_item (fixed_list p) children
-spelled_type types.LargeBinary p children = without_children (Some large_binaries) children
-spelled_type types.LargeUtf8 p children = without_children (Some large_texts) children
-spelled_type types.LargeList p children = with_item (λ item. Some (large_lists item)) children
-spelled_type _ p children = None
+-- what a type code's name, its table and its children decode to
+unfoldable pub decoded_type : TypeName → RawParameters → List Column → Option Kind
+decoded_type types.Null p children = without_children (Some nulls) children
+decoded_type types.Int p children = without_children (integer p) children
+decoded_type types.Binary p children = without_children (Some binaries) children
+decoded_type types.Utf8 p children = without_children (Some texts) children
+decoded_type types.Bool p children = without_children (Some booleans) children
+decoded_type types.Date p children = without_children (date p) children
+decoded_type types.Timestamp p children = without_children (timestamp p) children
+decoded_type types.List p children = with_item (λ item. Some (lists item)) children
+decoded_type types.Struct p children = Some (structs (columns_of children))
+decoded_type types.FixedSizeBinary p children = without_children (fixed_binary p) children
+decoded_type types.FixedSizeList p children = with_item (fixed_list p) children
+decoded_type types.LargeBinary p children = without_children (Some large_binaries) children
+decoded_type types.LargeUtf8 p children = without_children (Some large_texts) children
+decoded_type types.LargeList p children = with_item (λ item. Some (large_lists item)) children
+decoded_type _ p children = None
 
 -- the same as a test, by the number of children
-unfoldable pub is_spelled : TypeName → RawParameters → ℕ → Bool
-is_spelled types.Null p n = n == 0
-is_spelled types.Int p n = n == 0 && is_some (integer p)
-is_spelled types.Binary p n = n == 0
-is_spelled types.Utf8 p n = n == 0
-is_spelled types.Bool p n = n == 0
-is_spelled types.Date p n = n == 0 && is_some (date p)
-is_spelled types.Timestamp p n = n == 0 && is_some (timestamp p)
-is_spelled types.List p n = n == 1
-is_spelled types.Struct p n = true
-is_spelled types.FixedSizeBinary p n = n == 0 && is_some (fixed_binary p)
-is_spelled types.FixedSizeList p n = n == 1 && has_list_size p
-is_spelled types.LargeBinary p n = n == 0
-is_spelled types.LargeUtf8 p n = n == 0
-is_spelled types.LargeList p n = n == 1
-is_spelled _ p n = false
+unfoldable pub is_decoded : TypeName → RawParameters → ℕ → Bool
+is_decoded types.Null p n = n == 0
+is_decoded types.Int p n = n == 0 && is_some (integer p)
+is_decoded types.Binary p n = n == 0
+is_decoded types.Utf8 p n = n == 0
+is_decoded types.Bool p n = n == 0
+is_decoded types.Date p n = n == 0 && is_some (date p)
+is_decoded types.Timestamp p n = n == 0 && is_some (timestamp p)
+is_decoded types.List p n = n == 1
+is_decoded types.Struct p n = true
+is_decoded types.FixedSizeBinary p n = n == 0 && is_some (fixed_binary p)
+is_decoded types.FixedSizeList p n = n == 1 && has_list_size p
+is_decoded types.LargeBinary p n = n == 0
+is_decoded types.LargeUtf8 p n = n == 0
+is_decoded types.LargeList p n = n == 1
+is_decoded _ p n = false

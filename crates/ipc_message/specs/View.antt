@@ -1,4 +1,4 @@
--- What a header of the code spells, whatever memory it takes.
+-- What a header of the code decodes to, whatever memory it takes.
 use Rattle.std.specs.Prelude.{ℕ, zero, suc, ◌/◌, List, [], ◌∷◌, map, option_map, drop, length}
 use Rattle.byteorder.specs.Endian.{little_number}
 use Rattle.ipc_message.specs.declared.raw.Parameters.{Parameters}
@@ -23,7 +23,7 @@ parameters_of (Integer width signed) = integer_parameters width signed
 parameters_of (ByteWidth n) = byte_width n
 parameters_of (ListSize n) = list_size n
 parameters_of (DateUnit n) = date_unit n
-parameters_of (Timestamp unit zone) = timestamp_parameters unit zone.now
+parameters_of (Timestamp unit timezone) = timestamp_parameters unit timezone.now
 
 abbrev pub encoding_of : Encoding → RawEncoding
 encoding_of e = record { id = e.id; width = e.width; signed = e.signed; kind = e.kind }

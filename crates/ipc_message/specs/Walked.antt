@@ -20,8 +20,8 @@ abbrev pub Walks : {X : Type 0} → List ℕ → List Thing → ℕ → ℕ → 
 Walks bytes things old new (Ok x) = run bytes things old ≡ Ok new
 Walks bytes things old new (Err e) = Fails e (run bytes things old)
 
--- the header is the one that is spelled, or the error the one that is told, unless memory ran out
-abbrev pub Spells : Result Header WalkError → Result RawHeader Fault → Type 0
-Spells (Ok h) spelled = spelled ≡ Ok (raw_header_of h)
-Spells (Err errors.Memory) spelled = ⊤
-Spells (Err (errors.Flat f)) spelled = spelled ≡ Err (flat_fault f)
+-- the header is the one that is decoded, or the error the one that is reported, unless memory ran out
+abbrev pub Decodes : Result Header WalkError → Result RawHeader Fault → Type 0
+Decodes (Ok h) decoded = decoded ≡ Ok (raw_header_of h)
+Decodes (Err errors.Memory) decoded = ⊤
+Decodes (Err (errors.Flat f)) decoded = decoded ≡ Err (flat_fault f)

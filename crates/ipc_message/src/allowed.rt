@@ -1,13 +1,13 @@
-// Whether a field spells a type that there is: its width, size, unit and children.
+// Whether a field decodes to a type that there is: its width, size, unit and children.
 ghost use Rattle.std.specs.Prelude.{◌≡◌, is_some, option_map};
 ghost use Rattle.arrow_schema.specs.Integers.{is_bit_width};
-ghost use Rattle.ipc_message.specs.Types.{integer, date, timestamp, fixed_binary, has_list_size, is_spelled};
-ghost use Rattle.ipc_message.specs.Rounds.{has_type, is_index_type, is_bad};
+ghost use Rattle.ipc_message.specs.Types.{integer, date, timestamp, fixed_binary, has_list_size, is_decoded};
+ghost use Rattle.ipc_message.specs.Checks.{has_type, is_index_type, is_bad};
 ghost use Rattle.ipc_message.specs.View.{raw_field_of, parameters_of, encoding_of};
 
 use crate::fault::TypeName;
-use crate::held::type_name;
 use crate::raw::{Encoding, Parameters, RawField};
+use crate::supported::type_name;
 
 // Sizes stay below it: they have 32 bits and a sign.
 const SIZE_END: u32 = 1 << 31;
@@ -63,9 +63,9 @@ fn is_fixed_list(parameters: &Parameters) -> bool
     }
 }
 
-#[tactic(auto, unfolding(crate::specs::Types::is_spelled))]
+#[tactic(auto, unfolding(crate::specs::Types::is_decoded))]
 fn is_type(name: TypeName, parameters: &Parameters, children: usize) -> bool
-    ensures { result ≡ is_spelled name (parameters_of parameters.now) children }
+    ensures { result ≡ is_decoded name (parameters_of parameters.now) children }
 {
     match name {
         TypeName::Null
@@ -105,7 +105,7 @@ fn is_index_type(dictionary: &Option<Encoding>) -> bool
     }
 }
 
-/// Whether a field spells no type, or its dictionary no index type.
+/// Whether a field decodes to no type, or its dictionary no index type.
 pub(crate) fn is_bad(field: &RawField) -> bool
     ensures { result ≡ is_bad (raw_field_of field.now) }
 {

@@ -1,29 +1,29 @@
-// The schema that a header spells, as the types of a table.
+// The schema that a header decodes to, as the types of a table.
 ghost use Rattle.std.specs.Prelude.{◌≡◌, [], ◌∷◌, map, flat_map, true, false, is_some, Some, option_map, string_bytes, vec_len, IfOk};
 ghost use Rattle.std.specs.List.{list_any, list_all};
 ghost use Rattle.std.specs.Str.{is_utf8};
 ghost use Rattle.arrow_schema.specs.View.{bits_of, index_of, date_kind, time_kind, kind_of, column_of, pair_of, schema_of};
 ghost use Rattle.ipc_message.specs.Raw.{raw_fields_of};
 ghost use Rattle.ipc_message.specs.Fields.{preorder, preorder_all};
-ghost use Rattle.ipc_message.specs.Types.{integer, date, timestamp, fixed_binary, has_list_size, fixed_list, spelled_type};
+ghost use Rattle.ipc_message.specs.Types.{integer, date, timestamp, fixed_binary, has_list_size, fixed_list, decoded_type};
 ghost use Rattle.arrow_schema.specs.Integers.{is_bit_width};
 ghost use Rattle.arrow_schema.specs.Column.{Column, fixed_lists};
-ghost use Rattle.ipc_message.specs.Types as spelled;
+ghost use Rattle.ipc_message.specs.Types as decoded;
 ghost use Rattle.ipc_message.specs.Convert.{column_of_field, columns_of_fields, plain_schema_of};
 ghost use Rattle.ipc_message.specs.Convert as convert;
 ghost use Rattle.arrow_schema.specs.Limits.{IsWithinLimits};
 ghost use Rattle.ipc_message.specs.Accepted.{IsAccepted};
-ghost use Rattle.ipc_message.specs.Header.{held_codes};
+ghost use Rattle.ipc_message.specs.Header.{supported_codes};
 ghost use Rattle.ipc_message.specs.Outcome.{Gives};
 ghost use Rattle.ipc_message.specs.Readable.{AreReadable};
-ghost use Rattle.ipc_message.specs.Rounds.{zone_of, texts_of_pairs, is_index_type, schema_told};
+ghost use Rattle.ipc_message.specs.Checks.{timezone_of, texts_of_pairs, is_index_type, checked_schema};
 ghost use Rattle.ipc_message.specs.View.{raw_field_of, raw_schema_of, key_value, parameters_of, encoding_of};
 
+use crate::checks::check_schema;
 use crate::error::ImportError;
 use crate::fault::TypeName;
-use crate::held::type_name;
 use crate::raw::{Encoding, KeyValue, Parameters, RawField, RawSchema};
-use crate::rounds::check_schema;
+use crate::supported::type_name;
 use arrow_schema::{BitWidth, DataType, DateUnit, DictSpec, Field, IntegerType, Schema, TimeUnit};
 use std::alloc::{AllocError, Global};
 
@@ -87,8 +87,8 @@ fn date_type(parameters: &Parameters) -> DataType
 }
 
 fn time_unit(unit: u16) -> TimeUnit
-    requires { is_some (spelled.time_kind unit) ≡ true }
-    ensures { spelled.time_kind unit ≡ Some (time_kind result) }
+    requires { is_some (decoded.time_kind unit) ≡ true }
+    ensures { decoded.time_kind unit ≡ Some (time_kind result) }
 {
     match unit {
         0 => TimeUnit::Second,
@@ -100,13 +100,13 @@ fn time_unit(unit: u16) -> TimeUnit
 
 fn timestamp_type(alloc: Global, parameters: &Parameters) -> Result<DataType, AllocError>
     requires unit { is_some (timestamp (parameters_of parameters.now)) ≡ true }
-    requires zone { is_utf8 (zone_of (parameters_of parameters.now)) ≡ true }
+    requires timezone { is_utf8 (timezone_of (parameters_of parameters.now)) ≡ true }
     ensures { IfOk result (λ t. timestamp (parameters_of parameters.now) ≡ Some (kind_of t)) }
 {
     match parameters {
-        Parameters::Timestamp(unit, zone) => Ok(DataType::Timestamp(
+        Parameters::Timestamp(unit, timezone) => Ok(DataType::Timestamp(
             time_unit(*unit),
-            copy_text(alloc, zone)?,
+            copy_text(alloc, timezone)?,
         )),
         _ => unreachable!(),
     }
@@ -159,16 +159,16 @@ fn boxed(alloc: Global, fields: Vec<Field>) -> Result<Box<Field>, AllocError>
     }
 }
 
-#[tactic(auto, using(crate::proofs::Spelled::spelled_rules), unfolding(crate::specs::Types::spelled_type))]
+#[tactic(auto, using(crate::proofs::Decoded::decoded_rules), unfolding(crate::specs::Types::decoded_type))]
 fn data_type(
     alloc: Global,
     name: TypeName,
     parameters: &Parameters,
     children: Vec<Field>,
 ) -> Result<DataType, AllocError>
-    requires spelled { is_some (spelled_type name (parameters_of parameters.now) (map column_of children.items)) ≡ true }
-    requires zone { is_utf8 (zone_of (parameters_of parameters.now)) ≡ true }
-    ensures { IfOk result (λ t. spelled_type name (parameters_of parameters.now) (map column_of children.items) ≡ Some (kind_of t)) }
+    requires decoded { is_some (decoded_type name (parameters_of parameters.now) (map column_of children.items)) ≡ true }
+    requires timezone { is_utf8 (timezone_of (parameters_of parameters.now)) ≡ true }
+    ensures { IfOk result (λ t. decoded_type name (parameters_of parameters.now) (map column_of children.items) ≡ Some (kind_of t)) }
 {
     match name {
         TypeName::Null => Ok(DataType::Null),
@@ -210,7 +210,7 @@ fn copy_field(alloc: Global, raw: &RawField) -> Result<Field, AllocError>
     })
 }
 
-#[tactic(auto, using(crate::proofs::Spelled::right_readable), unfolding(crate::specs::Fields::preorder_all, crate::specs::Convert::columns_of_fields))]
+#[tactic(auto, using(crate::proofs::Decoded::right_readable), unfolding(crate::specs::Fields::preorder_all, crate::specs::Convert::columns_of_fields))]
 #[cycle(convert)]
 fn copy_fields(alloc: Global, raw: &[RawField]) -> Result<Vec<Field>, AllocError>
     requires { AreReadable (preorder_all (raw_fields_of (map raw_field_of raw.now))) }
@@ -233,11 +233,11 @@ fn copy_schema(alloc: Global, raw: &RawSchema) -> Result<Schema, AllocError>
     Ok(Schema { fields, pairs })
 }
 
-/// The schema that a header spells, or the fault of the first of its tests that finds something. Texts are copied once all
+/// The schema that a header decodes to, or the fault of the first of its tests that finds something. Texts are copied once all
 /// tests have passed.
-#[tactic(auto, using(crate::specs::Accepted::accepted_outcome, crate::proofs::Columns::accepted_within), unfolding(crate::specs::Rounds::schema_told))]
+#[tactic(auto, using(crate::specs::Accepted::accepted_outcome, crate::proofs::Columns::accepted_within), unfolding(crate::specs::Checks::checked_schema))]
 pub fn read_schema(alloc: Global, raw: &RawSchema) -> Result<Schema, ImportError>
-    ensures exact { Gives schema_of result (schema_told held_codes (raw_schema_of raw.now)) }
+    ensures exact { Gives schema_of result (checked_schema supported_codes (raw_schema_of raw.now)) }
     ensures within { IfOk result (λ schema. IsWithinLimits (schema_of schema)) }
 {
     check_schema(alloc, raw)?;

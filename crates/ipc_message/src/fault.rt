@@ -59,13 +59,13 @@ pub enum Fault {
     SecondSchema,
     /// F11: the endianness is not little.
     BigEndian,
-    /// F12: a type that is not held.
+    /// F12: a type that is not supported.
     TypeNotHeld(TypeName),
     /// F13: a width, size, unit or number of children that is not allowed.
     BadParameter,
     /// F14: a limit of the schema is passed.
     SchemaLimit,
-    /// F15: a name, key, value, zone or visible text is not UTF-8.
+    /// F15: a name, key, value, timezone or visible text is not UTF-8.
     NotUtf8,
     /// F16: the body is compressed.
     Compressed,
@@ -93,6 +93,6 @@ pub enum Fault {
     DictionaryOfNested,
     /// F28: a row, or all rows so far, are too heavy.
     TooHeavy,
-    /// F29: bytes after the end mark.
+    /// F29: bytes after the end of stream.
     AfterEnd,
 }

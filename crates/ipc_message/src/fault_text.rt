@@ -1,4 +1,4 @@
-// How a fault is told: its code, its name, and the type that it carries.
+// How a fault is reported: its code, its name, and the type that it carries.
 use super::fault::{Fault, TypeName};
 use std::fmt;
 
@@ -42,7 +42,7 @@ impl fmt::Display for TypeName {
     }
 }
 
-/// Code and name, as `F1 Truncated`, and with a type that is not held its name, as `F12 TypeNotHeld Decimal`.
+/// Code and name, as `F1 Truncated`, and with a type that is not supported its name, as `F12 TypeNotHeld Decimal`.
 impl fmt::Display for Fault {
     ghost use Rattle.std.specs.Prelude.{Some};
     ghost use Rattle.ipc_message.specs.FaultText.{fault_text};

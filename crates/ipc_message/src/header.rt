@@ -1,10 +1,10 @@
-// What the header of a message spells.
+// What the header of a message decodes to.
 
 ghost use Rattle.std.specs.Prelude.{◌≡◌, ◌-◌, IfOk, Some};
 ghost use Rattle.flatbuf.specs.Lookup.{table_behind};
 ghost use Rattle.flatbuf.specs.Seen.{tables_in, bytes_of, place_of, levels_of, slot_of};
-ghost use Rattle.flatbuf.specs.Walk.{run, told};
-ghost use Rattle.ipc_message.specs.Header.{held_codes, needed_things, schema_things, schema_in, batch_things, batch_in, dictionary_things, dictionary_in, things_by_type, header_by_type};
+ghost use Rattle.flatbuf.specs.Walk.{run, reported};
+ghost use Rattle.ipc_message.specs.Header.{supported_codes, needed_things, schema_things, schema_in, batch_things, batch_in, dictionary_things, dictionary_in, things_by_type, header_by_type};
 ghost use Rattle.ipc_message.specs.View.{raw_schema_of, raw_batch_of, raw_dictionary_of, raw_header_of};
 ghost use Rattle.ipc_message.specs.Walked.{Walks};
 
@@ -21,7 +21,7 @@ pub(crate) fn needed<'a>(
     k: u16,
     budget: &mut Budget,
 ) -> Result<Table<'a>, FlatError>
-    ensures walked { run (bytes_of table.now) (needed_things (levels_of table.now) (bytes_of table.now) (slot_of table.now k)) (tables_in budget.old) ≡ told (tables_in budget.new) result }
+    ensures walked { run (bytes_of table.now) (needed_things (levels_of table.now) (bytes_of table.now) (slot_of table.now k)) (tables_in budget.old) ≡ reported (tables_in budget.new) result }
     ensures same { IfOk result (λ t. bytes_of t ≡ bytes_of table.now) }
     ensures here { IfOk result (λ t. table_behind (bytes_of table.now) (slot_of table.now k) ≡ Some (place_of t)) }
     ensures levels { IfOk result (λ t. levels_of t ≡ levels_of table.now - 1) }
@@ -39,8 +39,8 @@ pub(crate) fn schema_of<'a>(
     table: &Table<'a>,
     budget: &mut Budget,
 ) -> Result<RawSchema<'a>, WalkError>
-    ensures walked { Walks (bytes_of table.now) (schema_things held_codes (levels_of table.now) (bytes_of table.now) (Some (place_of table.now))) (tables_in budget.old) (tables_in budget.new) result }
-    ensures value { IfOk result (λ s. raw_schema_of s ≡ schema_in held_codes (levels_of table.now) (bytes_of table.now) (Some (place_of table.now))) }
+    ensures walked { Walks (bytes_of table.now) (schema_things supported_codes (levels_of table.now) (bytes_of table.now) (Some (place_of table.now))) (tables_in budget.old) (tables_in budget.new) result }
+    ensures value { IfOk result (λ s. raw_schema_of s ≡ schema_in supported_codes (levels_of table.now) (bytes_of table.now) (Some (place_of table.now))) }
 {
     let endianness = table.scalar_u16(0, 0)?;
     let places = table.references(1)?;
@@ -59,7 +59,7 @@ pub(crate) fn batch_of<'a>(
     table: &Table<'a>,
     budget: &mut Budget,
 ) -> Result<RawBatch<'a>, FlatError>
-    ensures walked { run (bytes_of table.now) (batch_things (bytes_of table.now) (Some (place_of table.now))) (tables_in budget.old) ≡ told (tables_in budget.new) result }
+    ensures walked { run (bytes_of table.now) (batch_things (bytes_of table.now) (Some (place_of table.now))) (tables_in budget.old) ≡ reported (tables_in budget.new) result }
     ensures value { IfOk result (λ b. raw_batch_of b ≡ batch_in (bytes_of table.now) (Some (place_of table.now))) }
 {
     let length = table.scalar_u64(0, 0)?;
@@ -80,7 +80,7 @@ pub(crate) fn dictionary_of<'a>(
     table: &Table<'a>,
     budget: &mut Budget,
 ) -> Result<RawDictionaryBatch<'a>, FlatError>
-    ensures walked { run (bytes_of table.now) (dictionary_things (levels_of table.now) (bytes_of table.now) (Some (place_of table.now))) (tables_in budget.old) ≡ told (tables_in budget.new) result }
+    ensures walked { run (bytes_of table.now) (dictionary_things (levels_of table.now) (bytes_of table.now) (Some (place_of table.now))) (tables_in budget.old) ≡ reported (tables_in budget.new) result }
     ensures value { IfOk result (λ d. raw_dictionary_of d ≡ dictionary_in (bytes_of table.now) (Some (place_of table.now))) }
 {
     let id = table.scalar_u64(0, 0)?;
@@ -101,8 +101,8 @@ pub(crate) fn header_by_type<'a>(
     table: &Table<'a>,
     budget: &mut Budget,
 ) -> Result<Header<'a>, WalkError>
-    ensures walked { Walks (bytes_of table.now) (things_by_type held_codes (levels_of table.now) (bytes_of table.now) (Some (place_of table.now)) header_type) (tables_in budget.old) (tables_in budget.new) result }
-    ensures value { IfOk result (λ h. raw_header_of h ≡ header_by_type held_codes (levels_of table.now) (bytes_of table.now) (Some (place_of table.now)) header_type) }
+    ensures walked { Walks (bytes_of table.now) (things_by_type supported_codes (levels_of table.now) (bytes_of table.now) (Some (place_of table.now)) header_type) (tables_in budget.old) (tables_in budget.new) result }
+    ensures value { IfOk result (λ h. raw_header_of h ≡ header_by_type supported_codes (levels_of table.now) (bytes_of table.now) (Some (place_of table.now)) header_type) }
 {
     match header_type {
         HeaderType::Schema => Ok(Header::Schema(schema_of(alloc, table, budget)?)),

@@ -1,4 +1,4 @@
-// The front of a stream of messages: one message, or the end mark.
+// The front of a stream of messages: one message, or the end of stream.
 
 ghost use Rattle.std.specs.Prelude.{◌≡◌, Some};
 ghost use Rattle.flatbuf.specs.Seen.{tables_in, bytes_of, place_of, levels_of};
@@ -8,7 +8,7 @@ use crate::envelope::header_type;
 use crate::header::{header_by_type, needed};
 use crate::walk_error::WalkError;
 use crate::{Fault, Header, HeaderType, ImportError};
-use flatbuf::{Budget, Buf, FlatError, Table};
+use flatbuf::{Budget, Buf, FlatError, MAX_BUFFER_BYTES, Table};
 use std::alloc::Global;
 
 /// The version of the metadata that is read (Message.fbs, `MetadataVersion`).
@@ -29,10 +29,10 @@ pub struct Message<'a> {
 
 /// What stands at the front of a stream.
 #[derive(Clone, Copy, Debug)]
-pub enum Front<'a> {
+pub enum NextMessage<'a> {
     Message(Message<'a>),
-    /// The end mark: a mark, and a size of 0.
-    EndMark,
+    /// The end of stream: a mark, and a size of 0.
+    EndOfStream,
 }
 
 /// What is read of the Message table before the header.
@@ -48,18 +48,18 @@ struct MessageHead<'a> {
 impl<'a> Message<'a> {
     ghost use Rattle.std.specs.Prelude.{◌≤◌, length, IfOk};
     ghost use Rattle.ipc_message.specs.Framing.{message, message_with, message_faults, first_some, fault_of};
-    ghost use Rattle.ipc_message.specs.Header.{held_codes, header};
+    ghost use Rattle.ipc_message.specs.Header.{supported_codes, header};
     ghost use Rattle.ipc_message.specs.Messages.{envelope_of};
     ghost use Rattle.ipc_message.specs.Outcome.{Gives};
     ghost use Rattle.ipc_message.specs.View.{raw_header_of};
-    ghost use Rattle.ipc_message.specs.Walked.{Spells};
+    ghost use Rattle.ipc_message.specs.Walked.{Decodes};
 
     /// The message whose metadata this is, where these bytes follow it, or the first of these faults: F4 where the
     /// Message table or its first four slots are out of bounds, F6 a version that is not V5, F7 a header that is none
     /// of the three, F8 a negative length of the body, F1 where fewer bytes follow than that.
     #[tactic(auto, unfolding(crate::specs::Framing::message_faults))]
     pub(crate) fn read(metadata: &'a [u8], following: &'a [u8]) -> Result<Message<'a>, Fault>
-        requires small { length metadata.now ≤ 16777216 }
+        requires small { length metadata.now ≤ MAX_BUFFER_BYTES }
         ensures faults { first_some (message_faults metadata.now (length following.now)) ≡ fault_of result }
         ensures value { IfOk result (λ m. message (envelope_of m) ≡ message_with metadata.now following.now) }
         ensures metadata { IfOk result (λ m. (envelope_of m).metadata ≡ metadata.now) }
@@ -98,11 +98,11 @@ impl<'a> Message<'a> {
         self.body
     }
 
-    /// What its header spells, with texts that borrow from the metadata, or the fault of the first bad thing in it:
+    /// What its header decodes to, with texts that borrow from the metadata, or the fault of the first bad thing in it:
     /// F4 where something lies out of bounds, a vtable is bad, or the header or the data of a dictionary batch is
     /// absent; F5 where more tables would be entered than a message may have, or one deeper.
     pub fn header(&self, alloc: Global) -> Result<Header<'a>, ImportError>
-        ensures exact { Gives raw_header_of result (header held_codes (envelope_of self.now).metadata) }
+        ensures exact { Gives raw_header_of result (header supported_codes (envelope_of self.now).metadata) }
     {
         match self.walk(alloc) {
             Ok(found) => Ok(found),
@@ -113,7 +113,7 @@ impl<'a> Message<'a> {
 
     /// The walk over the header, which also reads it.
     fn walk(&self, alloc: Global) -> Result<Header<'a>, WalkError>
-        ensures { Spells result (header held_codes (bytes_of self.now.table)) }
+        ensures { Decodes result (header supported_codes (bytes_of self.now.table)) }
     {
         let mut budget = self.budget;
         let table = needed(&self.table, 2, &mut budget)?;
@@ -124,14 +124,14 @@ impl<'a> Message<'a> {
 impl<'a> MessageHead<'a> {
     ghost use Rattle.std.specs.Prelude.{IfOk};
     ghost use Rattle.std.specs.Prelude.{◌≤◌, length};
-    ghost use Rattle.flatbuf.specs.Walk.{run, told};
+    ghost use Rattle.flatbuf.specs.Walk.{run, reported};
     ghost use Rattle.ipc_message.specs.Framing.{message_things, version_of, body_length};
 
     /// The Message table, and the content of its slots 0 to 3: where the header's reference leads is not looked at.
     #[tactic(auto, using(flatbuf::specs::WalkLaws::run_append), unfolding(crate::specs::Framing::message_things, crate::specs::Framing::version_of, crate::specs::Framing::type_of, crate::specs::Framing::body_length))]
     fn read(metadata: &'a [u8]) -> Result<MessageHead<'a>, FlatError>
-        requires small { length metadata.now ≤ 16777216 }
-        ensures walked { run metadata.now (message_things metadata.now) 0 ≡ told 1 result }
+        requires small { length metadata.now ≤ MAX_BUFFER_BYTES }
+        ensures walked { run metadata.now (message_things metadata.now) 0 ≡ reported 1 result }
         ensures same { IfOk result (λ h. bytes_of h.table ≡ metadata.now) }
         ensures root { IfOk result (λ h. place_of h.table ≡ message_table metadata.now) }
         ensures levels { IfOk result (λ h. levels_of h.table ≡ 39) }

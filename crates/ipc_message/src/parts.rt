@@ -3,8 +3,8 @@
 ghost use Rattle.std.specs.Prelude.{◌≡◌, ◌<◌, ℕ, List, length, IfOk, option_map, slice_index};
 ghost use Rattle.flatbuf.specs.Lookup.{slot, table_behind, elements, scalar_of, text_of};
 ghost use Rattle.flatbuf.specs.Seen.{tables_in, bytes_of, place_of, levels_of, slot_of, bytes_behind, places_in, levels_behind};
-ghost use Rattle.flatbuf.specs.Walk.{run, told};
-ghost use Rattle.ipc_message.specs.Header.{held_codes, slot_in, int_things, int_or, size_things, date_things, timestamp_things, type_things, parameters_in, encoding_things, encoding_in, pair_things, pair_at, own_things, field_with, pairs_in};
+ghost use Rattle.flatbuf.specs.Walk.{run, reported};
+ghost use Rattle.ipc_message.specs.Header.{supported_codes, slot_in, int_things, int_or, size_things, date_things, timestamp_things, type_things, parameters_in, encoding_things, encoding_in, pair_things, pair_at, own_things, field_with, pairs_in};
 ghost use Rattle.ipc_message.specs.Raw.{RawField, raw_field, raw_fields_of};
 ghost use Rattle.ipc_message.specs.View.{parameters_of, encoding_of, key_value};
 
@@ -30,7 +30,7 @@ fn int_at(
     absent: (u32, bool),
     budget: &mut Budget,
 ) -> Result<(u32, bool), FlatError>
-    ensures walked { run (bytes_of table.now) (int_things (levels_of table.now) (bytes_of table.now) (slot_of table.now k)) (tables_in budget.old) ≡ told (tables_in budget.new) result }
+    ensures walked { run (bytes_of table.now) (int_things (levels_of table.now) (bytes_of table.now) (slot_of table.now k)) (tables_in budget.old) ≡ reported (tables_in budget.new) result }
     ensures value { IfOk result (λ x. x ≡ int_or absent (bytes_of table.now) (table_behind (bytes_of table.now) (slot_of table.now k))) }
 {
     match table.reference(k, budget)? {
@@ -46,7 +46,7 @@ fn int_at(
 /// The byteWidth of the FixedSizeBinary or the listSize of the FixedSizeList behind slot `k`.
 #[tactic(auto, using(flatbuf::specs::WalkLaws::run_append), unfolding(crate::specs::Header::size_things))]
 fn size_at(table: &Table, k: u16, budget: &mut Budget) -> Result<u32, FlatError>
-    ensures walked { run (bytes_of table.now) (size_things (levels_of table.now) (bytes_of table.now) (slot_of table.now k)) (tables_in budget.old) ≡ told (tables_in budget.new) result }
+    ensures walked { run (bytes_of table.now) (size_things (levels_of table.now) (bytes_of table.now) (slot_of table.now k)) (tables_in budget.old) ≡ reported (tables_in budget.new) result }
     ensures value { IfOk result (λ x. x ≡ scalar_of 4 0 (bytes_of table.now) (slot_in (bytes_of table.now) (table_behind (bytes_of table.now) (slot_of table.now k)) 0)) }
 {
     match table.reference(k, budget)? {
@@ -58,7 +58,7 @@ fn size_at(table: &Table, k: u16, budget: &mut Budget) -> Result<u32, FlatError>
 /// The unit of the Date behind slot `k`: milliseconds where it is absent.
 #[tactic(auto, using(flatbuf::specs::WalkLaws::run_append), unfolding(crate::specs::Header::date_things))]
 fn date_unit_at(table: &Table, k: u16, budget: &mut Budget) -> Result<u16, FlatError>
-    ensures walked { run (bytes_of table.now) (date_things (levels_of table.now) (bytes_of table.now) (slot_of table.now k)) (tables_in budget.old) ≡ told (tables_in budget.new) result }
+    ensures walked { run (bytes_of table.now) (date_things (levels_of table.now) (bytes_of table.now) (slot_of table.now k)) (tables_in budget.old) ≡ reported (tables_in budget.new) result }
     ensures value { IfOk result (λ x. x ≡ scalar_of 2 1 (bytes_of table.now) (slot_in (bytes_of table.now) (table_behind (bytes_of table.now) (slot_of table.now k)) 0)) }
 {
     match table.reference(k, budget)? {
@@ -74,16 +74,16 @@ fn timestamp_at<'a>(
     k: u16,
     budget: &mut Budget,
 ) -> Result<(u16, &'a [u8]), FlatError>
-    ensures walked { run (bytes_of table.now) (timestamp_things (levels_of table.now) (bytes_of table.now) (slot_of table.now k)) (tables_in budget.old) ≡ told (tables_in budget.new) result }
+    ensures walked { run (bytes_of table.now) (timestamp_things (levels_of table.now) (bytes_of table.now) (slot_of table.now k)) (tables_in budget.old) ≡ reported (tables_in budget.new) result }
     ensures unit { IfOk result (λ x. x.0 ≡ scalar_of 2 0 (bytes_of table.now) (slot_in (bytes_of table.now) (table_behind (bytes_of table.now) (slot_of table.now k)) 0)) }
-    ensures zone { IfOk result (λ x. x.1.now ≡ text_of (bytes_of table.now) (slot_in (bytes_of table.now) (table_behind (bytes_of table.now) (slot_of table.now k)) 1)) }
+    ensures timezone { IfOk result (λ x. x.1.now ≡ text_of (bytes_of table.now) (slot_in (bytes_of table.now) (table_behind (bytes_of table.now) (slot_of table.now k)) 1)) }
 {
     match table.reference(k, budget)? {
         None => Ok((0, &[])),
         Some(timestamp) => {
             let unit = timestamp.scalar_u16(0, 0)?;
-            let zone = timestamp.text(1)?;
-            Ok((unit, zone))
+            let timezone = timestamp.text(1)?;
+            Ok((unit, timezone))
         }
     }
 }
@@ -95,8 +95,8 @@ fn parameters_at<'a>(
     code: u8,
     budget: &mut Budget,
 ) -> Result<Parameters<'a>, FlatError>
-    ensures walked { run (bytes_of table.now) (type_things held_codes (levels_of table.now) (bytes_of table.now) code (slot_of table.now 3)) (tables_in budget.old) ≡ told (tables_in budget.new) result }
-    ensures value { IfOk result (λ x. parameters_of x ≡ parameters_in held_codes (bytes_of table.now) code (table_behind (bytes_of table.now) (slot_of table.now 3))) }
+    ensures walked { run (bytes_of table.now) (type_things supported_codes (levels_of table.now) (bytes_of table.now) code (slot_of table.now 3)) (tables_in budget.old) ≡ reported (tables_in budget.new) result }
+    ensures value { IfOk result (λ x. parameters_of x ≡ parameters_in supported_codes (bytes_of table.now) code (table_behind (bytes_of table.now) (slot_of table.now 3))) }
 {
     match code {
         INT => {
@@ -107,8 +107,8 @@ fn parameters_at<'a>(
         FIXED_SIZE_LIST => Ok(Parameters::ListSize(size_at(table, 3, budget)?)),
         DATE => Ok(Parameters::DateUnit(date_unit_at(table, 3, budget)?)),
         TIMESTAMP => {
-            let (unit, zone) = timestamp_at(table, 3, budget)?;
-            Ok(Parameters::Timestamp(unit, zone))
+            let (unit, timezone) = timestamp_at(table, 3, budget)?;
+            Ok(Parameters::Timestamp(unit, timezone))
         }
         _ => Ok(Parameters::Nothing),
     }
@@ -117,7 +117,7 @@ fn parameters_at<'a>(
 /// The DictionaryEncoding behind slot 4, unless it is absent.
 #[tactic(auto, using(flatbuf::specs::WalkLaws::run_append), unfolding(crate::specs::Header::encoding_things, crate::specs::Header::encoding_in, crate::specs::Header::int_things))]
 fn encoding_at(table: &Table, budget: &mut Budget) -> Result<Option<Encoding>, FlatError>
-    ensures walked { run (bytes_of table.now) (encoding_things (levels_of table.now) (bytes_of table.now) (slot_of table.now 4)) (tables_in budget.old) ≡ told (tables_in budget.new) result }
+    ensures walked { run (bytes_of table.now) (encoding_things (levels_of table.now) (bytes_of table.now) (slot_of table.now 4)) (tables_in budget.old) ≡ reported (tables_in budget.new) result }
     ensures value { IfOk result (λ x. option_map encoding_of x ≡ option_map (encoding_in (bytes_of table.now)) (table_behind (bytes_of table.now) (slot_of table.now 4))) }
 {
     match table.reference(4, budget)? {
@@ -145,7 +145,7 @@ pub(crate) fn pair_behind<'a>(
     budget: &mut Budget,
 ) -> Result<KeyValue<'a>, FlatError>
     requires { i < length (places_in pairs.now) }
-    ensures walked { run (bytes_behind pairs.now) (pair_things (levels_behind pairs.now) (bytes_behind pairs.now) (slice_index (places_in pairs.now) i)) (tables_in budget.old) ≡ told (tables_in budget.new) result }
+    ensures walked { run (bytes_behind pairs.now) (pair_things (levels_behind pairs.now) (bytes_behind pairs.now) (slice_index (places_in pairs.now) i)) (tables_in budget.old) ≡ reported (tables_in budget.new) result }
     ensures value { IfOk result (λ p. key_value p ≡ pair_at (bytes_behind pairs.now) (slice_index (places_in pairs.now) i)) }
 {
     let table = pairs.table(i, budget)?;
@@ -168,8 +168,8 @@ pub(crate) struct Own<'a> {
 /// What a field's own table says.
 #[tactic(auto, using(flatbuf::specs::WalkLaws::run_append), unfolding(crate::specs::Header::own_things, crate::specs::Header::field_with))]
 pub(crate) fn own_of<'a>(table: &Table<'a>, budget: &mut Budget) -> Result<Own<'a>, FlatError>
-    ensures walked { run (bytes_of table.now) (own_things held_codes (levels_of table.now) (bytes_of table.now) (place_of table.now)) (tables_in budget.old) ≡ told (tables_in budget.new) result }
-    ensures value { IfOk result (λ o. (children : List RawField) → raw_field o.name.now o.nullable o.code (parameters_of o.parameters) (option_map encoding_of o.dictionary) (raw_fields_of children) (pairs_in (bytes_of table.now) (slot_of table.now 6)) ≡ field_with held_codes (bytes_of table.now) (place_of table.now) children) }
+    ensures walked { run (bytes_of table.now) (own_things supported_codes (levels_of table.now) (bytes_of table.now) (place_of table.now)) (tables_in budget.old) ≡ reported (tables_in budget.new) result }
+    ensures value { IfOk result (λ o. (children : List RawField) → raw_field o.name.now o.nullable o.code (parameters_of o.parameters) (option_map encoding_of o.dictionary) (raw_fields_of children) (pairs_in (bytes_of table.now) (slot_of table.now 6)) ≡ field_with supported_codes (bytes_of table.now) (place_of table.now) children) }
     ensures same { IfOk result (λ o. bytes_behind o.children ≡ bytes_of table.now) }
     ensures children { IfOk result (λ o. places_in o.children ≡ elements (bytes_of table.now) (slot_of table.now 5)) }
     ensures levels { IfOk result (λ o. levels_behind o.children ≡ levels_of table.now) }

@@ -1,4 +1,4 @@
-// The header of a message as its metadata spells it, before any test. Texts are borrowed; numbers are unsigned.
+// The header of a message as its metadata decodes to it, before any test. Texts are borrowed; numbers are unsigned.
 
 /// What stands in the table of a field's type.
 #[derive(Clone, Copy, Debug)]
@@ -9,7 +9,7 @@ pub enum Parameters<'a> {
     ByteWidth(u32),
     ListSize(u32),
     DateUnit(u16),
-    /// The unit, and the zone.
+    /// The unit, and the timezone.
     Timestamp(u16, &'a [u8]),
 }
 

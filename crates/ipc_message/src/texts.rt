@@ -1,10 +1,10 @@
-// The texts of a schema: names, zones, keys and values.
+// The texts of a schema: names, timezones, keys and values.
 ghost use Rattle.std.specs.Prelude.{◌≡◌, ◌++◌, ◌+◌, map, flat_map, length, sum_by, nat_lt, IfOk, OnOk};
 ghost use Rattle.std.specs.List.{list_all};
 ghost use Rattle.std.specs.Str.{is_utf8};
 ghost use Rattle.ipc_message.specs.Raw.{raw_fields_of};
 ghost use Rattle.ipc_message.specs.Fields.{preorder_all};
-ghost use Rattle.ipc_message.specs.Rounds.{texts_of_pairs, texts_of_field, texts_of, zone_of};
+ghost use Rattle.ipc_message.specs.Checks.{texts_of_pairs, texts_of_field, texts_of, timezone_of};
 ghost use Rattle.ipc_message.specs.View.{raw_field_of, raw_schema_of, key_value, parameters_of};
 ghost use Rattle.ipc_message.specs.Listed.{listed, text_list};
 
@@ -12,11 +12,11 @@ use crate::fields::FieldRef;
 use crate::raw::{KeyValue, Parameters, RawField};
 use std::alloc::{AllocError, Global};
 
-fn zone<'a>(parameters: &Parameters<'a>) -> &'a [u8]
-    ensures { result.now ≡ zone_of (parameters_of parameters.now) }
+fn timezone<'a>(parameters: &Parameters<'a>) -> &'a [u8]
+    ensures { result.now ≡ timezone_of (parameters_of parameters.now) }
 {
     match parameters {
-        Parameters::Timestamp(_, zone) => zone,
+        Parameters::Timestamp(_, timezone) => timezone,
         _ => &[],
     }
 }
@@ -35,7 +35,7 @@ fn list_field<'a>(texts: &mut Vec<&'a [u8]>, field: &RawField<'a>) -> Result<(),
     ensures { OnOk result (text_list texts.new.items ≡ text_list texts.old.items ++ texts_of_field (raw_field_of field.now)) }
 {
     texts.push(field.name)?;
-    texts.push(zone(&field.parameters))?;
+    texts.push(timezone(&field.parameters))?;
     list_pairs(texts, &field.pairs)
 }
 

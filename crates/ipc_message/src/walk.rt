@@ -4,7 +4,7 @@ ghost use Rattle.std.specs.Prelude.{◌≡◌, ◌++◌, map, IfOk};
 ghost use Rattle.std.specs.List.{flat_map};
 ghost use Rattle.flatbuf.specs.Lookup.{elements};
 ghost use Rattle.flatbuf.specs.Seen.{tables_in, bytes_of, place_of, levels_of, slot_of, bytes_behind, places_in, levels_behind};
-ghost use Rattle.ipc_message.specs.Header.{held_codes, pair_things, pair_at, pairs_things, pairs_in, field_things, field_slots, field_at, field_with};
+ghost use Rattle.ipc_message.specs.Header.{supported_codes, pair_things, pair_at, pairs_things, pairs_in, field_things, field_slots, field_at, field_with};
 ghost use Rattle.ipc_message.specs.View.{key_value, raw_field_of};
 ghost use Rattle.ipc_message.specs.Walked.{Walks};
 
@@ -53,8 +53,8 @@ fn field_of<'a>(
     table: &Table<'a>,
     budget: &mut Budget,
 ) -> Result<RawField<'a>, WalkError>
-    ensures walked { Walks (bytes_of table.now) (field_slots held_codes (levels_of table.now) (bytes_of table.now) (place_of table.now)) (tables_in budget.old) (tables_in budget.new) result }
-    ensures value { IfOk result (λ f. raw_field_of f ≡ field_with held_codes (bytes_of table.now) (place_of table.now) (map (field_at held_codes (levels_of table.now) (bytes_of table.now)) (elements (bytes_of table.now) (slot_of table.now 5)))) }
+    ensures walked { Walks (bytes_of table.now) (field_slots supported_codes (levels_of table.now) (bytes_of table.now) (place_of table.now)) (tables_in budget.old) (tables_in budget.new) result }
+    ensures value { IfOk result (λ f. raw_field_of f ≡ field_with supported_codes (bytes_of table.now) (place_of table.now) (map (field_at supported_codes (levels_of table.now) (bytes_of table.now)) (elements (bytes_of table.now) (slot_of table.now 5)))) }
 {
     let own = own_of(table, budget)?;
     let children = fields_behind(alloc, &own.children, budget)?;
@@ -77,8 +77,8 @@ pub(crate) fn fields_behind<'a>(
     fields: &References<'a>,
     budget: &mut Budget,
 ) -> Result<Vec<RawField<'a>>, WalkError>
-    ensures walked { Walks (bytes_behind fields.now) (flat_map (field_things held_codes (levels_behind fields.now) (bytes_behind fields.now)) (places_in fields.now)) (tables_in budget.old) (tables_in budget.new) result }
-    ensures value { IfOk result (λ fs. map raw_field_of fs.items ≡ map (field_at held_codes (levels_behind fields.now) (bytes_behind fields.now)) (places_in fields.now)) }
+    ensures walked { Walks (bytes_behind fields.now) (flat_map (field_things supported_codes (levels_behind fields.now) (bytes_behind fields.now)) (places_in fields.now)) (tables_in budget.old) (tables_in budget.new) result }
+    ensures value { IfOk result (λ fs. map raw_field_of fs.items ≡ map (field_at supported_codes (levels_behind fields.now) (bytes_behind fields.now)) (places_in fields.now)) }
 {
     let mut found = Vec::new(alloc);
     for i in 0..fields.len() {

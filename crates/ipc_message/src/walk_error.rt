@@ -39,7 +39,7 @@ impl<T: Drop> From<AllocFailed<T>> for WalkError {
     }
 }
 
-/// What is told of something bad: F5 where the budget of tables or levels is spent, else F4.
+/// What is reported of something bad: F5 where the budget of tables or levels is spent, else F4.
 impl From<FlatError> for Fault {
     ghost from_gives = { λ f e. e ≡ flat_fault f };
 

@@ -17,7 +17,7 @@ use Rattle.ipc_message.specs.declared.raw.RawBatch.{RawBatch}
 use Rattle.ipc_message.specs.View.{raw_batch_of, nodes_in, buffers_in}
 use Rattle.values.specs.Columns.{IntegerColumn, rows_from}
 use Rattle.values.specs.IntegerTable.{have_rows, integer_columns}
-use Rattle.ipc_stream.specs.Batch.{Array, arrays_of, arrays_in, is_negative, is_bad_length, has_bad_length, has_other_layout, is_outside, is_short, has_validity, counts_nulls, are_too_heavy, bytes_of, batch_rows, batch_rounds}
+use Rattle.ipc_stream.specs.Batch.{Array, arrays_of, arrays_in, is_negative, is_bad_length, has_bad_length, has_other_layout, is_outside, is_short, has_validity, counts_nulls, are_too_heavy, bytes_of, batch_rows, batch_checks}
 use Rattle.ipc_stream.specs.Meaning.{or_else}
 use Rattle.ipc_stream.proofs.ArrayLemmas.{count_nodes, count_buffers, buffer_at, node_at, next_node, next_buffer, array_at, array_columns}
 use Rattle.ipc_stream.proofs.BatchLemmas.{has_other_length, layout_fits, array_here, column_at, count_columns}
@@ -135,9 +135,9 @@ batch_grown schema b body vs new before layout lengths inside long is rows =
 
 -- ---- no fault was found
 
-not_told : (b : Bool) (f : Fault) (rest : List (Option Fault)) → first_some (when b f ∷ rest) ≡ None → (b ≡ false) × (first_some rest ≡ None)
-not_told true f rest h = cc
-not_told false f rest h = (refl, h)
+not_reported : (b : Bool) (f : Fault) (rest : List (Option Fault)) → first_some (when b f ∷ rest) ≡ None → (b ≡ false) × (first_some rest ≡ None)
+not_reported true f rest h = cc
+not_reported false f rest h = (refl, h)
 
 pub record IsFine (s : PlainSchema) (before : List (List Cell)) (b : raw.RawBatch) (body : List ℕ) : Type 0 where
   pub layout : has_other_layout (integer_columns s) b ≡ false
@@ -146,17 +146,17 @@ pub record IsFine (s : PlainSchema) (before : List (List Cell)) (b : raw.RawBatc
   pub long : list_any is_short (arrays_in s b) ≡ false
   pub light : are_too_heavy s before (batch_rows s b body) ≡ false
 
-pub fine_of : (s : PlainSchema) (before : List (List Cell)) (b : raw.RawBatch) (body : List ℕ) → first_some (batch_rounds s before b body) ≡ None → IsFine s before b body
-unfolding batch_rounds
+pub fine_of : (s : PlainSchema) (before : List (List Cell)) (b : raw.RawBatch) (body : List ℕ) → first_some (batch_checks s before b body) ≡ None → IsFine s before b body
+unfolding batch_checks
 fine_of s before b body h =
-    let r1 = not_told b.compressed Compressed _ h in
-    let r2 = not_told (has_other_layout (integer_columns s) b) LayoutCount _ r1.1 in
-    let r3 = not_told (has_bad_length b) RowCount _ r2.1 in
-    let r4 = not_told (list_any (is_outside body) b.buffers) BufferRange _ r3.1 in
-    let r5 = not_told (list_any is_short (arrays_in s b)) BufferShort _ r4.1 in
-    let r6 = not_told (list_any has_validity (arrays_in s b)) NotYet _ r5.1 in
-    let r7 = not_told (list_any counts_nulls (arrays_in s b)) NullCount _ r6.1 in
-    let r8 = not_told (are_too_heavy s before (batch_rows s b body)) TooHeavy _ r7.1 in
+    let r1 = not_reported b.compressed Compressed _ h in
+    let r2 = not_reported (has_other_layout (integer_columns s) b) LayoutCount _ r1.1 in
+    let r3 = not_reported (has_bad_length b) RowCount _ r2.1 in
+    let r4 = not_reported (list_any (is_outside body) b.buffers) BufferRange _ r3.1 in
+    let r5 = not_reported (list_any is_short (arrays_in s b)) BufferShort _ r4.1 in
+    let r6 = not_reported (list_any has_validity (arrays_in s b)) NotYet _ r5.1 in
+    let r7 = not_reported (list_any counts_nulls (arrays_in s b)) NullCount _ r6.1 in
+    let r8 = not_reported (are_too_heavy s before (batch_rows s b body)) TooHeavy _ r7.1 in
     record { layout = r2.0; lengths = r3.0; inside = r4.0; long = r5.0; light = r8.0 }
 
 pub or_fault : {A : Type 0} (o : Option Fault) (f : Fault) (r : Result A Fault) → o ≡ Some f → or_else o r ≡ Err f

@@ -8,9 +8,9 @@ use Rattle.arrow_schema.specs.Column.{Pair, Column, nulls, integers}
 use Rattle.ipc_message.specs.declared.fault.TypeName.TheVariants as types
 use Rattle.ipc_message.specs.Raw.{RawParameters, no_parameters, integer_parameters, byte_width, list_size, date_unit, timestamp_parameters, RawField, RawFields, raw_field, raw_fields_of, RawSchema}
 use Rattle.ipc_message.specs.Fields.{preorder, preorder_all, every_field, dictionary_of}
-use Rattle.ipc_message.specs.Types.{type_name, integer, without_children, spelled_type}
+use Rattle.ipc_message.specs.Types.{type_name, integer, without_children, decoded_type}
 use Rattle.ipc_message.specs.Convert.{column_of_field, columns_of_fields, plain_schema_of}
-use Rattle.ipc_message.specs.Rounds.{is_bad, is_not_yet}
+use Rattle.ipc_message.specs.Checks.{is_bad, is_not_yet}
 use Rattle.ipc_message.specs.Same.{has_id}
 use Rattle.ipc_message.specs.Accepted.{IsAccepted}
 use Rattle.arrow_schema.specs.Integers.{is_bit_width, is_integer_kind, is_empty, is_integer_column, is_integer_schema}
@@ -41,13 +41,13 @@ int_code : (code : ℕ) → (code == 2) ≡ true → type_name code ≡ types.In
 unfolding type_name
 int_code code h = let e : code ≡ 2 = eqb-true code 2 h in rw e refl
 
-int_read : (p : RawParameters) (cs : List Column) → is_some (spelled_type types.Int p cs) ≡ true → is_integer_kind (unwrap_or (spelled_type types.Int p cs) nulls) ≡ true
-unfolding spelled_type
+int_read : (p : RawParameters) (cs : List Column) → is_some (decoded_type types.Int p cs) ≡ true → is_integer_kind (unwrap_or (decoded_type types.Int p cs) nulls) ≡ true
+unfolding decoded_type
 int_read p cs h = leaf_read p cs h
 
 kind_read : (name : List ℕ) (nullable : Bool) (code : ℕ) (p : RawParameters) (children : RawFields) → (code == 2) ≡ true
-    → is_some (spelled_type (type_name code) p (columns_of_fields children)) ≡ true
-    → is_integer_kind (unwrap_or (spelled_type (type_name code) p (columns_of_fields children)) nulls) ≡ true
+    → is_some (decoded_type (type_name code) p (columns_of_fields children)) ≡ true
+    → is_integer_kind (unwrap_or (decoded_type (type_name code) p (columns_of_fields children)) nulls) ≡ true
 kind_read name nullable code p children two h =
     let e : type_name code ≡ types.Int = int_code code two in
     rw e (int_read p (columns_of_fields children) (rw e at h))
@@ -81,7 +81,7 @@ fields_integer (f ∷ fs) bad yet =
 
 pub accepted_integer : (s : RawSchema) → IsAccepted s → is_integer_schema (plain_schema_of s) ≡ true
 accepted_integer s a =
-    and_from _ _ (fields_integer s.fields a.spelled ((or_parts _ _ a.read).1)) (no_pairs s.pairs (not-false _ ((or_parts _ _ a.read).0)))
+    and_from _ _ (fields_integer s.fields a.decoded ((or_parts _ _ a.read).1)) (no_pairs s.pairs (not-false _ ((or_parts _ _ a.read).0)))
 
 -- ---- no field has a dictionary
 

@@ -22,11 +22,11 @@ low_first-bytes j zero x = λ i. omega arith
 low_first-bytes j (suc k) x = cons-bytes (byte_at j x) (bytes_low_first (suc j) k x) (byte_at-small j x) (low_first-bytes (suc j) k x)
 
 -- bytes of one number are the same
-one_spelling : (xs ys : List ℕ) → AreBytes xs → AreBytes ys → length xs ≡ length ys → little_number (length xs) xs ≡ little_number (length xs) ys → xs ≡ ys
-one_spelling [] [] small small' len is = refl
-one_spelling [] (b ∷ ys) small small' len is = absurd (omega arith)
-one_spelling (a ∷ xs) [] small small' len is = absurd (omega arith)
-one_spelling (a ∷ xs) (b ∷ ys) small small' len is =
+one_decoding : (xs ys : List ℕ) → AreBytes xs → AreBytes ys → length xs ≡ length ys → little_number (length xs) xs ≡ little_number (length xs) ys → xs ≡ ys
+one_decoding [] [] small small' len is = refl
+one_decoding [] (b ∷ ys) small small' len is = absurd (omega arith)
+one_decoding (a ∷ xs) [] small small' len is = absurd (omega arith)
+one_decoding (a ∷ xs) (b ∷ ys) small small' len is =
     let ma = little_from-cons 0 (length xs) a xs in
     let mb = little_from-cons 0 (length xs) b ys in
     let sa : a < 256 = small 0 in
@@ -34,7 +34,7 @@ one_spelling (a ∷ xs) (b ∷ ys) small small' len is =
     let whole : a + 256 * little_number (length xs) xs ≡ b + 256 * little_number (length xs) ys = rw (ma, mb) at is in
     let heads : a ≡ b = omega arith in
     let tails : little_number (length xs) xs ≡ little_number (length xs) ys = omega arith in
-    let rest = one_spelling xs ys (λ k. small (suc k)) (λ k. small' (suc k)) (omega arith) tails in
+    let rest = one_decoding xs ys (λ k. small (suc k)) (λ k. small' (suc k)) (omega arith) tails in
     cc
 
 pub take-bytes : (n : ℕ) (xs : List ℕ) → AreBytes xs → AreBytes (take n xs)
@@ -56,4 +56,4 @@ bytes_again n xs small long =
     let len : length (little_bytes n x) ≡ n = length-bytes_low_first 0 n x in
     let short : length (take n xs) ≡ n = length-take-le n xs long in
     let same : little_number n (take n xs) ≡ x = little_from-take 0 n n xs (omega arith) in
-    one_spelling (little_bytes n x) (take n xs) (low_first-bytes 0 n x) (take-bytes n xs small) (len ∙ sym short) (rw len (read ∙ sym same))
+    one_decoding (little_bytes n x) (take n xs) (low_first-bytes 0 n x) (take-bytes n xs small) (len ∙ sym short) (rw len (read ∙ sym same))

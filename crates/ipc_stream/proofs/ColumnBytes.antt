@@ -2,7 +2,7 @@
 use Rattle.std.specs.Prelude.{replicate}
 use Rattle.std.proofs.Common.{ℕ, zero, suc, List, [], ◌∷◌, ◌++◌, map, arith}
 use Rattle.std.proofs.lemmas.List.Concat.{flat_map-cons}
-use Rattle.values.specs.Cell.{Cell, null, truth, number, text, bytes, items, parts}
+use Rattle.values.specs.Cell.{Cell, null, boolean, number, text, bytes, items, parts}
 use Rattle.values.specs.Columns.{IntegerColumn, integer_bytes, values_of, first_cell, other_cells, values_of_all}
 use Rattle.values.specs.Integers.{number_of}
 use Rattle.values.specs.IntegerRows.{AllBytes}
@@ -15,7 +15,7 @@ zeros (suc n) = cons-bytes 0 (replicate n 0) (omega arith) (zeros n)
 cell_bytes : (w : ℕ) (c : Cell) → AreBytes (integer_bytes w c)
 cell_bytes w (number z) = low_first-bytes 0 w (number_of w z)
 cell_bytes w null = zeros w
-cell_bytes w (truth b) = zeros w
+cell_bytes w (boolean b) = zeros w
 cell_bytes w (text t) = zeros w
 cell_bytes w (bytes t) = zeros w
 cell_bytes w (items cs) = zeros w

@@ -16,7 +16,7 @@ mod PieceLemmas
 mod ColumnBytes
 mod PackLemmas
 mod PackColumns
-mod FrontLaw
+mod NextMessageLaw
 mod FramedMessages
 mod FramedTable
 mod FramedBack
@@ -28,6 +28,6 @@ mod RoundTripRows
 mod RoundTrip
 mod AcceptedSchema
 mod Steps
-mod NextMessage
+mod MessageRead
 mod FirstMessage
 mod EmptyColumns

@@ -11,7 +11,7 @@ use Rattle.arrow_schema.specs.Column.{Column, column, integers, columns_of}
 use Rattle.arrow_schema.specs.Integers.{is_bit_width, is_integer_column}
 use Rattle.arrow_schema.specs.IntegerCases.{integer_case}
 use Rattle.ipc_stream.specs.Packed.{IsLow, HasIntegerAt}
-use Rattle.values.specs.Cell.{Cell, null, truth, number, text, bytes, items, parts, cells_of}
+use Rattle.values.specs.Cell.{Cell, null, boolean, number, text, bytes, items, parts, cells_of}
 use Rattle.values.specs.Columns.{IntegerColumn, first_cell, other_cells, integer_bytes, values_of, values_of_all}
 use Rattle.values.specs.Dictionary.{cells_at}
 use Rattle.values.specs.Fit.{fits, fits_kind, each_fits}
@@ -115,7 +115,7 @@ low_of c z int h = integer_case (λ y. fits y (number z) ≡ true → IsLow (int
 here : (c : Column) (x : Cell) (xs : List Cell) → is_integer_column c ≡ true → fits c x ≡ true → is_number x ≡ true → HasIntegerAt (integer_column c).width 0 (x ∷ xs)
 here c (number z) xs int h n = (z, refl, low_of c z int h)
 here c null xs int h n = cc
-here c (truth b) xs int h n = cc
+here c (boolean b) xs int h n = cc
 here c (text t) xs int h n = cc
 here c (bytes b) xs int h n = cc
 here c (items cs) xs int h n = cc

@@ -14,7 +14,7 @@ use Rattle.byteorder.specs.Endian.{low_bytes}
 use Rattle.arrow_schema.specs.Column.{Column, column, integers, columns_of, PlainSchema}
 use Rattle.arrow_schema.specs.Integers.{is_bit_width, is_integer_column, is_empty}
 use Rattle.arrow_schema.specs.IntegerCases.{integer_case}
-use Rattle.values.specs.Cell.{Cell, null, truth, number, text, bytes, items, parts, cells_of, PlainTable}
+use Rattle.values.specs.Cell.{Cell, null, boolean, number, text, bytes, items, parts, cells_of, PlainTable}
 use Rattle.values.specs.Columns.{IntegerColumn, first_cell, other_cells, values_of, values_of_all}
 use Rattle.values.specs.Fit.{in_range, fits, fits_kind, each_fits}
 use Rattle.values.specs.IntegerTable.{integer_column, integer_columns, have_rows, is_number, plain_table, IsIntegerTable}
@@ -93,7 +93,7 @@ cell_is z name nullable bits signed is h =
 integer_is : (c : Column) (x : Cell) → is_integer_column c ≡ true → fits c x ≡ true → is_number x ≡ true → IsIntegerOf (integer_column c) x
 integer_is c (number z) is h n = integer_case (λ y. fits y (number z) ≡ true → IsIntegerOf (integer_column y) (number z)) (cell_is z) c is h
 integer_is c null is h n = cc
-integer_is c (truth b) is h n = cc
+integer_is c (boolean b) is h n = cc
 integer_is c (text t) is h n = cc
 integer_is c (bytes b) is h n = cc
 integer_is c (items cs) is h n = cc

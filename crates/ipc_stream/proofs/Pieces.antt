@@ -8,7 +8,7 @@ use Rattle.std.proofs.lemmas.Bool.{and_parts}
 use Rattle.arrow_schema.specs.Column.{Column, PlainSchema}
 use Rattle.values.specs.Cell.{Cell}
 use Rattle.values.specs.Weight.{row_weight}
-use Rattle.ipc_write.specs.Written.{schema_message, end_mark}
+use Rattle.ipc_write.specs.Written.{schema_message, end_of_stream}
 use Rattle.ipc_stream.specs.Canonical.{canonical, piece_message}
 use Rattle.values.specs.Columns.{IntegerColumn, row_at, rows_from}
 use Rattle.ipc_stream.specs.Cut.{pieces, within_limits}
@@ -55,6 +55,6 @@ pub no_piece : (s : PlainSchema) (vs : List (List ℕ)) (from : ℕ) → message
 unfolding messages_of
 no_piece s vs from = refl
 
-pub canonical_is : (s : PlainSchema) (vs : List (List ℕ)) (rows : ℕ) → canonical (plain_table s vs rows) ≡ schema_message s ++ (messages_of s vs 0 rows ++ end_mark)
+pub canonical_is : (s : PlainSchema) (vs : List (List ℕ)) (rows : ℕ) → canonical (plain_table s vs rows) ≡ schema_message s ++ (messages_of s vs 0 rows ++ end_of_stream)
 unfolding canonical messages_of
 canonical_is s vs rows = refl

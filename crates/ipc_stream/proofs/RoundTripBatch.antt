@@ -13,7 +13,7 @@ use Rattle.ipc_message.specs.Raw.{RawNode, RawBatch}
 use Rattle.flatbuf.specs.Held.{FitsStructs}
 use Rattle.ipc_write.specs.Trees.{node_pair}
 use Rattle.ipc_write.specs.Written.{padded, body, placed, batch_of}
-use Rattle.ipc_stream.specs.Batch.{Array, arrays_of, is_bad_length, is_outside, is_short, has_validity, counts_nulls, has_other_layout, has_bad_length, bytes_of, batch_rows, batch_rounds}
+use Rattle.ipc_stream.specs.Batch.{Array, arrays_of, is_bad_length, is_outside, is_short, has_validity, counts_nulls, has_other_layout, has_bad_length, bytes_of, batch_rows, batch_checks}
 use Rattle.ipc_stream.specs.Canonical.{integer_buffers, full_nodes}
 use Rattle.values.specs.Columns.{IntegerColumn, values_of, first_cell, other_cells, values_of_all, rows_from}
 use Rattle.values.specs.IntegerTable.{integer_column, integer_columns}
@@ -179,8 +179,8 @@ arrays_fair p s rows f =
 -- no test of the batch finds anything
 pub batch_accepted : (s : PlainSchema) (before rows : List (List Cell)) → WeighAlike s → length s.columns ≤ 2048 → length rows ≤ 4096 → AreRowsOf (integer_columns s) rows
     → length (body (piece_buffers s rows)) < 2 ^ 62 → (length before + length rows) * (1 + length s.columns) ≤ 268435456
-    → first_some (batch_rounds s before (piece_batch s rows) (body (piece_buffers s rows))) ≡ None
-unfolding batch_rounds
+    → first_some (batch_checks s before (piece_batch s rows) (body (piece_buffers s rows))) ≡ None
+unfolding batch_checks
 batch_accepted s before rows alike few some are small light =
     let B : List ℕ = body (piece_buffers s rows) in
     rw (

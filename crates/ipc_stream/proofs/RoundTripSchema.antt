@@ -1,4 +1,4 @@
--- A schema of integer columns that was written: what it spells is the schema, and no test of it finds anything.
+-- A schema of integer columns that was written: what it decodes to is the schema, and no test of it finds anything.
 use Rattle.std.specs.Prelude.{sum_by, find, flat_map, nat_lt, string_bytes}
 use Rattle.std.specs.List.{list_any, list_all}
 use Rattle.std.specs.Str.{is_utf8}
@@ -16,14 +16,14 @@ use Rattle.arrow_schema.specs.Column.{Pair, Kind, Column, column, integers, colu
 use Rattle.arrow_schema.specs.Limits.{name_len}
 use Rattle.ipc_message.specs.Raw.{RawField, raw_field, no_raw_field, raw_fields_of, raw_list_of, RawSchema}
 use Rattle.ipc_message.specs.Fields.{preorder, preorder_all, depth, depth_all, dictionary_of, pairs_of}
-use Rattle.ipc_message.specs.Types.{type_name, spelled_type}
+use Rattle.ipc_message.specs.Types.{type_name, decoded_type}
 use Rattle.ipc_message.specs.Convert.{column_of_field, columns_of_fields, plain_schema_of}
 use Rattle.ipc_message.specs.Framing.{first_some}
-use Rattle.ipc_message.specs.Header.{held_codes}
-use Rattle.ipc_message.specs.Rounds.{is_unheld, is_bad, passes_limit, texts_of_field, are_at_odds, has_other_type, is_dictionary_of_nested, is_not_yet, schema_rounds}
+use Rattle.ipc_message.specs.Header.{supported_codes}
+use Rattle.ipc_message.specs.Checks.{is_unsupported, is_bad, exceeds_limit, texts_of_field, are_at_odds, has_other_type, is_dictionary_of_nested, is_not_yet, schema_checks}
 use Rattle.ipc_write.specs.Trees.{code_of, ids_of}
 use Rattle.arrow_schema.specs.Integers.{is_integer_column, is_bit_width, is_empty, is_integer_schema}
-use Rattle.ipc_write.specs.Spelled.{parameters_of, raw_of, raw_below, raw_of_all, raw_schema}
+use Rattle.ipc_write.specs.Decoded.{parameters_of, raw_of, raw_below, raw_of_all, raw_schema}
 use Rattle.arrow_schema.specs.IntegerCases.{integer_case}
 use Rattle.ipc_stream.proofs.Pieces.{AreIntegers}
 
@@ -52,7 +52,7 @@ pub named : (fields : List Field) → AreNamed (map column_of fields)
 named [] = tt
 named (f ∷ fs) = (named_one f, named fs)
 
--- ---- what is spelled
+-- ---- what is decoded
 
 raw_one : (id : ℕ) (name : List ℕ) (nullable : Bool) (bits : ℕ) (signed : Bool) → is_bit_width bits ≡ true
     → raw_of id (column name nullable (integers bits signed) None []) ≡ plain_field (column name nullable (integers bits signed) None [])
@@ -75,7 +75,7 @@ raw_schema_is s h = let fields = raws_are 0 s.columns h in λ i. record { endian
 -- as columns they are the columns again
 column_one : (name : List ℕ) (nullable : Bool) (bits : ℕ) (signed : Bool) → is_bit_width bits ≡ true
     → column_of_field (plain_field (column name nullable (integers bits signed) None [])) ≡ column name nullable (integers bits signed) None []
-unfolding column_of_field columns_of_fields type_name spelled_type
+unfolding column_of_field columns_of_fields type_name decoded_type
 column_one name nullable bits signed w = rw w refl
 
 columns_again : (cs : List Column) → AreIntegers cs → map column_of_field (map plain_field cs) ≡ cs
@@ -118,18 +118,18 @@ none_any p f (c ∷ cs) h =
     let parts = and_parts (is_integer_column c) (list_all is_integer_column cs) h in
     or_from (p (plain_field c)) (list_any p (map plain_field cs)) (f c parts.0) (none_any p f cs parts.1)
 
-unheld_one : (name : List ℕ) (nullable : Bool) (bits : ℕ) (signed : Bool) → is_bit_width bits ≡ true → is_unheld held_codes (plain_field (column name nullable (integers bits signed) None [])) ≡ false
-unheld_one name nullable bits signed w = refl
+unsupported_one : (name : List ℕ) (nullable : Bool) (bits : ℕ) (signed : Bool) → is_bit_width bits ≡ true → is_unsupported supported_codes (plain_field (column name nullable (integers bits signed) None [])) ≡ false
+unsupported_one name nullable bits signed w = refl
 
-find_none : (cs : List Column) → AreIntegers cs → find (is_unheld held_codes) (map plain_field cs) ≡ None
+find_none : (cs : List Column) → AreIntegers cs → find (is_unsupported supported_codes) (map plain_field cs) ≡ None
 find_none [] h = refl
 find_none (c ∷ cs) h =
     let parts = and_parts (is_integer_column c) (list_all is_integer_column cs) h in
-    let held : is_unheld held_codes (plain_field c) ≡ false = integer_case (λ x. is_unheld held_codes (plain_field x) ≡ false) unheld_one c parts.0 in
-    rw held (find_none cs parts.1)
+    let supported : is_unsupported supported_codes (plain_field c) ≡ false = integer_case (λ x. is_unsupported supported_codes (plain_field x) ≡ false) unsupported_one c parts.0 in
+    rw supported (find_none cs parts.1)
 
 bad_one : (name : List ℕ) (nullable : Bool) (bits : ℕ) (signed : Bool) → is_bit_width bits ≡ true → is_bad (plain_field (column name nullable (integers bits signed) None [])) ≡ false
-unfolding type_name spelled_type columns_of_fields
+unfolding type_name decoded_type columns_of_fields
 bad_one name nullable bits signed w = rw w refl
 
 none_bad : (cs : List Column) → AreIntegers cs → list_any is_bad (map plain_field cs) ≡ false
@@ -209,7 +209,7 @@ no_pairs [] h = refl
 no_pairs (p ∷ ps) h = cc
 
 -- the limits hold of columns that are within them
-small_is : (cs : List Column) → AreIntegers cs → length cs ≤ 2048 → sum_by name_len cs ≤ 4194304 → passes_limit (plain_raw (record { columns = cs; pairs = [] })) ≡ false
+small_is : (cs : List Column) → AreIntegers cs → length cs ≤ 2048 → sum_by name_len cs ≤ 4194304 → exceeds_limit (plain_raw (record { columns = cs; pairs = [] })) ≡ false
 small_is cs h few short =
     let fs : List RawField = map plain_field cs in
     let count : length fs ≤ 2048 = omega (arith, few, length-map cs plain_field) in
@@ -224,15 +224,15 @@ small_is cs h few short =
     ap (λ (gs : List RawField). nat_lt 4194304 (sum_by length (flat_map texts_of_field gs))) (every_is cs) ∙ le-ltb 4194304 (sum_by length (flat_map texts_of_field fs)) long in
     or_from _ _ (or_from _ _ (or_from _ _ a b) c) d
 
-accepted_columns : (cs : List Column) → AreIntegers cs → AreNamed cs → length cs ≤ 2048 → sum_by name_len cs ≤ 4194304 → first_some (schema_rounds held_codes (plain_raw (record { columns = cs; pairs = [] }))) ≡ None
-unfolding schema_rounds
+accepted_columns : (cs : List Column) → AreIntegers cs → AreNamed cs → length cs ≤ 2048 → sum_by name_len cs ≤ 4194304 → first_some (schema_checks supported_codes (plain_raw (record { columns = cs; pairs = [] }))) ≡ None
+unfolding schema_checks
 accepted_columns cs h named few short =
     rw (small_is cs h few short, every_is cs, find_none cs h, none_bad cs h, texts_utf8 cs h named, none_at_odds (map plain_field cs) cs h, none_nested cs h, none_not_yet cs h) refl
 
 -- no test of the schema finds anything
-pub schema_accepted : (s : PlainSchema) → is_integer_schema s ≡ true → length s.columns ≤ 2048 → sum_by name_len s.columns ≤ 4194304 → AreNamed s.columns → first_some (schema_rounds held_codes (plain_raw s)) ≡ None
+pub schema_accepted : (s : PlainSchema) → is_integer_schema s ≡ true → length s.columns ≤ 2048 → sum_by name_len s.columns ≤ 4194304 → AreNamed s.columns → first_some (schema_checks supported_codes (plain_raw s)) ≡ None
 schema_accepted s ints few short named =
     let parts = and_parts (list_all is_integer_column s.columns) (is_empty s.pairs) ints in
     let none : s.pairs ≡ [] = no_pairs s.pairs parts.1 in
-    ap (λ (ps : List Pair). first_some (schema_rounds held_codes (record { endianness = 0; fields = map plain_field s.columns; pairs = ps }))) none
+    ap (λ (ps : List Pair). first_some (schema_checks supported_codes (record { endianness = 0; fields = map plain_field s.columns; pairs = ps }))) none
     ∙ accepted_columns s.columns parts.0 named few short

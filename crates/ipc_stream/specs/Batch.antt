@@ -80,8 +80,8 @@ abbrev pub are_too_heavy : PlainSchema → List (List Cell) → List (List Cell)
 are_too_heavy s before rows = list_any (λ row. nat_lt 16777216 (row_weight s row)) rows || nat_lt 268435456 (table_weight s (before ++ rows))
 
 -- the tests of a batch after these rows; offsets, indices, texts and nulls have no test where all columns are integers without nulls
-unfoldable pub batch_rounds : PlainSchema → List (List Cell) → RawBatch → List ℕ → List (Option Fault)
-batch_rounds s before b body =
+unfoldable pub batch_checks : PlainSchema → List (List Cell) → RawBatch → List ℕ → List (Option Fault)
+batch_checks s before b body =
     let arrays = arrays_in s b in
     when b.compressed Compressed
     ∷ when (has_other_layout (integer_columns s) b) LayoutCount

@@ -1,11 +1,11 @@
--- The one stream that a table is written as: its schema, a record batch for each piece of its rows, and the end mark.
+-- The one stream that a table is written as: its schema, a record batch for each piece of its rows, and the end of stream.
 use Rattle.std.specs.Prelude.{ℕ, Bool, List, [], ◌∷◌, ◌++◌, map, length}
 use Rattle.std.specs.List.{flat_map}
 use Rattle.arrow_schema.specs.Column.{PlainSchema}
 use Rattle.values.specs.Cell.{Cell, PlainTable}
 use Rattle.values.specs.Weight.{row_weight}
 use Rattle.ipc_message.specs.Raw.{RawNode}
-use Rattle.ipc_write.specs.Written.{schema_message, batch_message, end_mark}
+use Rattle.ipc_write.specs.Written.{schema_message, batch_message, end_of_stream}
 use Rattle.values.specs.Columns.{IntegerColumn, values_of, first_cell, other_cells}
 use Rattle.ipc_stream.specs.Cut.{pieces, within_limits}
 use Rattle.values.specs.IntegerTable.{integer_columns}
@@ -31,4 +31,4 @@ abbrev pub pieces_of : PlainTable → List (List (List Cell))
 pieces_of t = pieces (within_piece t.schema) t.rows
 
 unfoldable pub canonical : PlainTable → List ℕ
-canonical t = schema_message t.schema ++ (flat_map (piece_message t.schema) (pieces_of t) ++ end_mark)
+canonical t = schema_message t.schema ++ (flat_map (piece_message t.schema) (pieces_of t) ++ end_of_stream)

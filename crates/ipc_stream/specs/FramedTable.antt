@@ -1,9 +1,9 @@
 -- A stream and its table in the words of the format: messages one after another, of which the first is the schema and the others are
--- record batches, and then nothing or the end mark (Arrow columnar format, "IPC Streaming Format" and "Fixed-size Primitive Layout").
+-- record batches, and then nothing or the end of stream (Arrow columnar format, "IPC Streaming Format" and "Fixed-size Primitive Layout").
 use Rattle.std.specs.Prelude.{◌≡◌, ◌≤◌, ◌<◌, ◌⊎◌, ℕ, ◌+◌, ◌*◌, Bool, true, List, [], ◌∷◌, ◌++◌, length, drop, get_or, Ok}
 use Rattle.byteorder.specs.Endian.{little_number}
 use Rattle.values.specs.Cell.{Cell, number, PlainTable}
-use Rattle.ipc_message.specs.Framing.{Envelope, Frames, mark}
+use Rattle.ipc_message.specs.Framing.{Envelope, Frames, continuation_marker}
 use Rattle.ipc_message.specs.Raw.{RawSchema, RawBuffer, RawBatch, schema_header, batch_header}
 use Rattle.ipc_message.specs.Header.{header}
 use Rattle.ipc_message.specs.Convert.{plain_schema_of}
@@ -12,9 +12,9 @@ use Rattle.values.specs.Integers.{integer_of}
 use Rattle.arrow_schema.specs.Integers.{is_integer_schema}
 use Rattle.values.specs.IntegerTable.{integer_columns}
 
--- what may stand after the last message: nothing, or the end mark alone
+-- what may stand after the last message: nothing, or the end of stream alone
 abbrev pub IsEnd : List ℕ → Type 0
-IsEnd rest = (rest ≡ []) ⊎ (rest ≡ mark ++ (0 ∷ 0 ∷ 0 ∷ 0 ∷ []))
+IsEnd rest = (rest ≡ []) ⊎ (rest ≡ continuation_marker ++ (0 ∷ 0 ∷ 0 ∷ 0 ∷ []))
 
 -- row j of a batch: for each column in order, the integer at place j of its values. A column has two buffers: its validity bitmap, and
 -- its values
@@ -30,28 +30,28 @@ HaveValues (c ∷ cs) (validity ∷ values ∷ buffers) rows body = (values.offs
 HaveValues (c ∷ cs) _ rows body = ⊥
 
 -- the message is a record batch, and these are its rows
-pub record IsBatchOf (held : ℕ → Bool) (columns : List IntegerColumn) (m : Envelope) (rows : List (List Cell)) : Type 0 where
+pub record IsBatchOf (supported : ℕ → Bool) (columns : List IntegerColumn) (m : Envelope) (rows : List (List Cell)) : Type 0 where
   pub batch : RawBatch
-  pub spelled : header held m.metadata ≡ Ok (batch_header batch)
+  pub decoded : header supported m.metadata ≡ Ok (batch_header batch)
   pub whole : HaveValues columns batch.buffers batch.length m.body
   pub count : length rows ≡ batch.length
   pub each : (j : ℕ) → j < batch.length → get_or rows j [] ≡ row_in columns batch.buffers m.body j
 
 -- the messages are record batches, and these are their rows, one batch after another
 abbrev pub AreBatchesOf : (ℕ → Bool) → List IntegerColumn → List Envelope → List (List Cell) → Type 0
-AreBatchesOf held columns [] rows = rows ≡ []
-AreBatchesOf held columns (m ∷ ms) rows =
-    (first : List (List Cell)) × (others : List (List Cell)) × IsBatchOf held columns m first × AreBatchesOf held columns ms others × (rows ≡ first ++ others)
+AreBatchesOf supported columns [] rows = rows ≡ []
+AreBatchesOf supported columns (m ∷ ms) rows =
+    (first : List (List Cell)) × (others : List (List Cell)) × IsBatchOf supported columns m first × AreBatchesOf supported columns ms others × (rows ≡ first ++ others)
 
--- the stream spells the table
-pub record StreamSpells (held : ℕ → Bool) (bytes : List ℕ) (t : PlainTable) : Type 0 where
+-- the stream decodes to the table
+pub record StreamEncodes (supported : ℕ → Bool) (bytes : List ℕ) (t : PlainTable) : Type 0 where
   pub first : Envelope
   pub others : List Envelope
   pub rest : List ℕ
   pub framed : Frames bytes (first ∷ others) rest
   pub ended : IsEnd rest
   pub schema : RawSchema
-  pub spelled : header held first.metadata ≡ Ok (schema_header schema)
+  pub decoded : header supported first.metadata ≡ Ok (schema_header schema)
   pub schema_is : plain_schema_of schema ≡ t.schema
   pub integers : is_integer_schema t.schema ≡ true
-  pub batches : AreBatchesOf held (integer_columns t.schema) others t.rows
+  pub batches : AreBatchesOf supported (integer_columns t.schema) others t.rows

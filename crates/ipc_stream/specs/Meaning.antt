@@ -1,5 +1,5 @@
--- What a stream of bytes means: a table, or the first fault (Arrow columnar format, "IPC Streaming Format"). `held` says which
--- type codes are held.
+-- What a stream of bytes means: a table, or the first fault (Arrow columnar format, "IPC Streaming Format"). `supported` says which
+-- type codes are supported.
 use Rattle.std.specs.Prelude.{ℕ, zero, suc, Bool, not, ◌==◌, List, [], ◌∷◌, ◌++◌, length, drop, flat_map, Option, Some, None, Result, Ok, Err, if◌then◌else◌}
 use Rattle.std.specs.List.{list_any}
 use Rattle.values.specs.Cell.{Cell, PlainTable}
@@ -7,14 +7,14 @@ use Rattle.arrow_schema.specs.Column.{PlainSchema}
 use Rattle.ipc_message.specs.declared.fault.Fault.{Fault}
 use Rattle.ipc_message.specs.declared.fault.Fault.TheVariants.{Truncated, NoSchema, SecondSchema, DictionaryId, AfterEnd}
 use Rattle.ipc_message.specs.Raw.{RawSchema, RawDictionaryBatch, RawHeader, schema_header, dictionary_header, batch_header}
-use Rattle.ipc_message.specs.Framing.{Front, end_mark, message, Envelope, front, taken, first_some, when, type_of}
+use Rattle.ipc_message.specs.Framing.{NextMessage, end_of_stream, message, Envelope, next_message, taken, first_some, when, type_of}
 use Rattle.ipc_message.specs.Header.{header}
 use Rattle.ipc_message.specs.Fields.{every_field, dictionary_of}
 use Rattle.ipc_message.specs.Same.{has_id}
 use Rattle.ipc_message.specs.Convert.{plain_schema_of}
-use Rattle.ipc_message.specs.Rounds.{schema_rounds}
+use Rattle.ipc_message.specs.Checks.{schema_checks}
 use Rattle.arrow_schema.specs.Integers.{is_empty}
-use Rattle.ipc_stream.specs.Batch.{batch_rows, batch_rounds}
+use Rattle.ipc_stream.specs.Batch.{batch_rows, batch_checks}
 
 infixl 10 ◌>>=◌
 abbrev pub ◌>>=◌ : {A B : Type 0} → Result A Fault → (A → Result B Fault) → Result B Fault
@@ -59,21 +59,21 @@ abbrev pub order_fault : List Message → ℕ → Option Fault
 order_fault before header_type =
     if is_empty before then when (not (header_type == 1)) NoSchema else when (header_type == 1) SecondSchema
 
--- F24: an id that no field has; dictionaries are not read yet, so that this is told of each dictionary batch
-abbrev pub dictionary_rounds : RawSchema → RawDictionaryBatch → List (Option Fault)
-dictionary_rounds s d = when (not (list_any (λ f. has_id d.id (dictionary_of f)) (every_field s))) DictionaryId ∷ []
+-- F24: an id that no field has; dictionaries are not read yet, so that this is reported of each dictionary batch
+abbrev pub dictionary_checks : RawSchema → RawDictionaryBatch → List (Option Fault)
+dictionary_checks s d = when (not (list_any (λ f. has_id d.id (dictionary_of f)) (every_field s))) DictionaryId ∷ []
 
--- the tests of what a header spells
-abbrev pub header_rounds : (ℕ → Bool) → List Message → List ℕ → RawHeader → List (Option Fault)
-header_rounds held before body (schema_header s) = schema_rounds held s
-header_rounds held before body (dictionary_header d) = dictionary_rounds (schema_in before) d
-header_rounds held before body (batch_header b) =
-    let s = plain_schema_of (schema_in before) in batch_rounds s (rows_in s before) b body
+-- the tests of what a header decodes to
+abbrev pub header_checks : (ℕ → Bool) → List Message → List ℕ → RawHeader → List (Option Fault)
+header_checks supported before body (schema_header s) = schema_checks supported s
+header_checks supported before body (dictionary_header d) = dictionary_checks (schema_in before) d
+header_checks supported before body (batch_header b) =
+    let s = plain_schema_of (schema_in before) in batch_checks s (rows_in s before) b body
 
 unfoldable pub accepted : (ℕ → Bool) → List Message → Envelope → Result Message Fault
-accepted held before m =
+accepted supported before m =
     or_else (order_fault before (type_of m.metadata))
-    (header held m.metadata >>= λ h. or_else (first_some (header_rounds held before m.body h)) (Ok (record { header = h; body = m.body })))
+    (header supported m.metadata >>= λ h. or_else (first_some (header_checks supported before m.body h)) (Ok (record { header = h; body = m.body })))
 
 -- ---- the stream
 
@@ -81,23 +81,23 @@ accepted held before m =
 abbrev pub at_end : List Message → Result (List Message) Fault
 at_end before = if is_empty before then Err NoSchema else Ok before
 
--- the end mark, and what follows it
-abbrev pub at_mark : List Message → List ℕ → Result (List Message) Fault
-at_mark before rest = if is_empty before then Err NoSchema else if is_empty rest then Ok before else Err AfterEnd
+-- the end of stream, and what follows it
+abbrev pub at_end_of_stream : List Message → List ℕ → Result (List Message) Fault
+at_end_of_stream before rest = if is_empty before then Err NoSchema else if is_empty rest then Ok before else Err AfterEnd
 
-abbrev pub by_front : {A : Type 0} → Front → A → (Envelope → A) → A
-by_front end_mark x f = x
-by_front (message m) x f = f m
+abbrev pub by_next_message : {A : Type 0} → NextMessage → A → (Envelope → A) → A
+by_next_message end_of_stream x f = x
+by_next_message (message m) x f = f m
 
 -- the messages up to the end, or the first fault; each message takes bytes, so that as many steps as bytes are enough
 unfoldable pub messages : (ℕ → Bool) → ℕ → List Message → List ℕ → Result (List Message) Fault
-messages held zero before bytes = Err Truncated
-messages held (suc steps) before bytes =
+messages supported zero before bytes = Err Truncated
+messages supported (suc steps) before bytes =
     if is_empty bytes then at_end before
-    else (front bytes >>= λ f. by_front f
-    (at_mark before (drop 8 bytes))
-    (λ m. accepted held before m >>= λ a. messages held steps (before ++ a ∷ []) (drop (taken f) bytes)))
+    else (next_message bytes >>= λ f. by_next_message f
+    (at_end_of_stream before (drop 8 bytes))
+    (λ m. accepted supported before m >>= λ a. messages supported steps (before ++ a ∷ []) (drop (taken f) bytes)))
 
 -- the table that the bytes mean, or the first fault
 unfoldable pub meaning : (ℕ → Bool) → List ℕ → Result PlainTable Fault
-meaning held bytes = messages held (suc (length bytes)) [] bytes >>= λ ms. Ok (table_in ms)
+meaning supported bytes = messages supported (suc (length bytes)) [] bytes >>= λ ms. Ok (table_in ms)

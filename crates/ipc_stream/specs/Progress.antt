@@ -4,7 +4,7 @@ use Rattle.arrow_schema.specs.Column.{PlainSchema}
 use Rattle.values.specs.Cell.{PlainTable}
 use Rattle.ipc_message.specs.declared.error.ImportError.{ImportError}
 use Rattle.ipc_message.specs.Framing.{Envelope}
-use Rattle.ipc_message.specs.Header.{held_codes}
+use Rattle.ipc_message.specs.Header.{supported_codes}
 use Rattle.ipc_message.specs.Accepted.{IsAccepted}
 use Rattle.ipc_message.specs.Outcome.{Gives}
 use Rattle.ipc_stream.specs.declared.gathered.Gathered.{Gathered}
@@ -28,8 +28,8 @@ pub record IsRead (bytes rest : List ℕ) (t : PlainTable) : Type 0 where
   pub steps : ℕ
   pub table : IsTableOf before t
   pub enough : length rest < steps
-  pub others : meaning held_codes bytes ≡ (messages held_codes steps before rest >>= λ ms. Ok (table_in ms))
+  pub others : meaning supported_codes bytes ≡ (messages supported_codes steps before rest >>= λ ms. Ok (table_in ms))
 
 -- a message after those of which this is the table gives the table of all of them, or the message's fault
 abbrev pub Adds : PlainTable → Envelope → Result Gathered ImportError → Type 0
-Adds t m result = (before : List Message) → IsTableOf before t → Gives gathered_table result (accepted held_codes before m >>= λ a. Ok (table_in (before ++ a ∷ [])))
+Adds t m result = (before : List Message) → IsTableOf before t → Gives gathered_table result (accepted supported_codes before m >>= λ a. Ok (table_in (before ++ a ∷ [])))

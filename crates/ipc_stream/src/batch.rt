@@ -11,7 +11,7 @@ ghost use Rattle.ipc_message.specs.View.{raw_batch_of, nodes_in, buffers_in};
 ghost use Rattle.values.specs.Columns.{rows_from};
 ghost use Rattle.arrow_schema.specs.Integers.{is_integer_schema};
 ghost use Rattle.values.specs.IntegerTable.{integer_columns, have_rows};
-ghost use Rattle.ipc_stream.specs.Batch.{is_negative, is_bad_length, has_bad_length, has_other_layout, is_outside, is_short, has_validity, counts_nulls, arrays_in, batch_rows, batch_rounds};
+ghost use Rattle.ipc_stream.specs.Batch.{is_negative, is_bad_length, has_bad_length, has_other_layout, is_outside, is_short, has_validity, counts_nulls, arrays_in, batch_rows, batch_checks};
 ghost use Rattle.ipc_stream.specs.View.{gathered_table};
 ghost use Rattle.ipc_stream.specs.Added.{added};
 
@@ -160,7 +160,7 @@ fn batch_fault(schema: &Schema, before: usize, batch: &RawBatch, body: &[u8]) ->
     requires integers { IsTrue (is_integer_schema (schema_of schema.now)) }
     requires limits { IsWithinLimits (schema_of schema.now) }
     requires light { before ≤ 268435456 }
-    ensures { (rows : List (List Cell)) → length rows ≡ before → result ≡ first_some (batch_rounds (schema_of schema.now) rows (raw_batch_of batch.now) body.now) }
+    ensures { (rows : List (List Cell)) → length rows ≡ before → result ≡ first_some (batch_checks (schema_of schema.now) rows (raw_batch_of batch.now) body.now) }
 {
     limits_bound_columns();
     integer_rows_weigh_alike();
@@ -192,7 +192,7 @@ fn batch_fault(schema: &Schema, before: usize, batch: &RawBatch, body: &[u8]) ->
 }
 
 /// The first bytes of a buffer, so many.
-fn front_of<'a>(buffers: &[u8], i: usize, size: usize, body: &'a [u8]) -> &'a [u8]
+fn next_message_of<'a>(buffers: &[u8], i: usize, size: usize, body: &'a [u8]) -> &'a [u8]
     requires there { 16 * i + 16 ≤ length buffers.now }
     requires long { number 8 buffers.now (16 * i) + size ≤ length body.now }
     ensures { result.now ≡ take size (drop (number 8 buffers.now (16 * i)) body.now) }
@@ -223,7 +223,7 @@ fn append_values(
     let rows = batch.length as usize;
     for i in 0..schema.fields.len() {
         let size = rows * width_of(&schema.fields[i]);
-        columns[i].extend_from_slice(front_of(batch.buffers, 2 * i + 1, size, body))?;
+        columns[i].extend_from_slice(next_message_of(batch.buffers, 2 * i + 1, size, body))?;
     }
     Ok(())
 }

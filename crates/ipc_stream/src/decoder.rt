@@ -3,9 +3,9 @@ ghost use Rattle.std.specs.Prelude.{◌≡◌, ◌≤◌, length, drop, IsTrue, 
 ghost use Rattle.std.specs.Result.{IfErr};
 ghost use Rattle.arrow_schema.specs.View.{schema_of, column_of};
 ghost use Rattle.arrow_schema.specs.Limits.{IsWithinLimits};
-ghost use Rattle.ipc_message.specs.Framing.{front, taken};
-ghost use Rattle.ipc_message.specs.Header.{held_codes};
-ghost use Rattle.ipc_message.specs.Messages.{envelope_of, front_of};
+ghost use Rattle.ipc_message.specs.Framing.{next_message, taken};
+ghost use Rattle.ipc_message.specs.Header.{supported_codes};
+ghost use Rattle.ipc_message.specs.Messages.{envelope_of, next_message_of};
 ghost use Rattle.ipc_message.specs.Outcome.{Gives, Fails};
 ghost use Rattle.ipc_stream.specs.Meaning.{meaning};
 ghost use Rattle.ipc_stream.specs.Progress.{without_rows, IsRead, Adds};
@@ -18,15 +18,15 @@ use crate::batch::add_batch;
 use crate::gathered::Gathered;
 use arrow_schema::{DataType, Field, Schema};
 use ipc_message::{
-    Fault, Front, Header, HeaderType, ImportError, Message, read_message, read_schema,
+    Fault, Header, HeaderType, ImportError, Message, NextMessage, read_message, read_schema,
 };
 use std::alloc::{AllocError, Global};
 use values::{Table, integer_columns_are_integer_tables};
 
 /// What stands at the front of the bytes, and how many bytes it takes.
-fn front_at(bytes: &[u8]) -> Result<(Front<'_>, usize), ImportError>
-    ensures exact { Gives (λ r. front_of r.0) result (front bytes.now) }
-    ensures taken { IfOk result (λ r. r.1 ≡ taken (front_of r.0)) }
+fn next_message_at(bytes: &[u8]) -> Result<(NextMessage<'_>, usize), ImportError>
+    ensures exact { Gives (λ r. next_message_of r.0) result (next_message bytes.now) }
+    ensures taken { IfOk result (λ r. r.1 ≡ taken (next_message_of r.0)) }
     ensures within { IfOk result (λ r. r.1 ≤ length bytes.now) }
 {
     match read_message(bytes) {
@@ -51,13 +51,13 @@ fn first_schema(alloc: Global, bytes: &[u8]) -> Result<(Schema, usize), ImportEr
     ensures limits { IfOk result (λ r. IsWithinLimits (schema_of r.0)) }
     ensures within { IfOk result (λ r. r.1 ≤ length bytes.now) }
     ensures read { IfOk result (λ r. IsRead bytes.now (drop r.1 bytes.now) (without_rows (schema_of r.0))) }
-    ensures refused { IfErr result (λ e. Fails e (meaning held_codes bytes.now)) }
+    ensures refused { IfErr result (λ e. Fails e (meaning supported_codes bytes.now)) }
 {
     if bytes.is_empty() {
         return Err(ImportError::Fault(Fault::NoSchema));
     }
-    let (front, taken) = front_at(bytes)?;
-    let Front::Message(message) = front else {
+    let (next_message, taken) = next_message_at(bytes)?;
+    let NextMessage::Message(message) = next_message else {
         return Err(ImportError::Fault(Fault::NoSchema));
     };
     let HeaderType::Schema = message.header_type() else {
@@ -102,14 +102,14 @@ fn add_message(alloc: Global, table: Gathered, message: &Message) -> Result<Gath
 
 /// The columns of the table that a stream means, or its first fault.
 fn read_stream(alloc: Global, bytes: &[u8]) -> Result<Gathered, ImportError>
-    ensures { Gives gathered_table result (meaning held_codes bytes.now) }
+    ensures { Gives gathered_table result (meaning supported_codes bytes.now) }
 {
     let (schema, taken) = first_schema(alloc, bytes)?;
     let mut table = empty_table(alloc, schema)?;
     let mut rest = &bytes[taken..];
     while !rest.is_empty() {
-        let (front, taken) = front_at(rest)?;
-        let Front::Message(message) = front else {
+        let (next_message, taken) = next_message_at(rest)?;
+        let NextMessage::Message(message) = next_message else {
             if rest.len() > taken {
                 return Err(ImportError::Fault(Fault::AfterEnd));
             }
@@ -125,7 +125,7 @@ fn read_stream(alloc: Global, bytes: &[u8]) -> Result<Gathered, ImportError>
 ///
 /// It takes time linear in the bytes, and copies each column's values once for each record batch.
 pub fn decode(alloc: Global, bytes: &[u8]) -> Result<Table, ImportError>
-    ensures exact { Gives table_of result (meaning held_codes bytes.now) }
+    ensures exact { Gives table_of result (meaning supported_codes bytes.now) }
     // Columns of other types, and nulls, are not read yet.
     ensures integers { IfOk result (λ table. IsIntegerTable (table_of table)) }
 {

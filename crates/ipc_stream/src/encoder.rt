@@ -85,7 +85,7 @@ fn encode_columns(
     Ok(out)
 }
 
-/// The one stream of a table: its schema, record batches of at most 4,096 rows, and the end mark (docs/formats.md).
+/// The one stream of a table: its schema, record batches of at most 4,096 rows, and the end of stream (docs/formats.md).
 ///
 /// It takes tables of integers without nulls; other types are not written yet. Refused only where a growth was. It takes
 /// time linear in the stream, and copies each column's bytes once, and once more where the table was made of rows.

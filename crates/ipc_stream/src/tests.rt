@@ -54,7 +54,7 @@ const THREE_ROWS: [u8; 104] = [
     0x00, 0x00, 0x00, 0x00, 0x00, 0x00, 0x00, 0x00,
 ];
 
-/// The end mark.
+/// The end of stream.
 const END: [u8; 8] = [0xff, 0xff, 0xff, 0xff, 0, 0, 0, 0];
 
 /// These bytes one after another, with some of them changed.
@@ -125,7 +125,7 @@ fn rows_without_columns_are_counted(rt: HostRuntime) -> Result<(), Fail> {
     Ok(())
 }
 
-/// One batch of the 4,097 rows 7, -1, and 2 to 4,096, without an end mark.
+/// One batch of the 4,097 rows 7, -1, and 2 to 4,096, without an end of stream.
 fn many_rows(alloc: Global) -> Result<Vec<u8>, AllocError> {
     // The lengths of the body, the batch, the node and the values, the values, and what fills the body up.
     let mut stream = changed(

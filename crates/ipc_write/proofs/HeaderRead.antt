@@ -4,8 +4,9 @@ use Rattle.std.proofs.Common.{◌≡◌, ℕ, ◌+◌, ◌*◌, ◌/◌, ◌^◌
 use Rattle.std.proofs.lemmas.List.{length-map}
 use Rattle.byteorder.specs.Endian.{little_number, little_bytes}
 use Rattle.byteorder.specs.Numbers.{little_number-reads_back}
+use Rattle.flatbuf.specs.declared.limits.TheConstants.{MAX_TABLES}
 use Rattle.flatbuf.specs.Lookup.{target, slot, table_at, table_behind, elements, targets, structs_of, scalar_of, is_set, Place}
-use Rattle.flatbuf.specs.Walk.{spans, vector_at, most_tables}
+use Rattle.flatbuf.specs.Walk.{spans, vector_at}
 use Rattle.flatbuf.specs.Held.{Has, HasHead, FitsStructs}
 use Rattle.flatbuf.specs.Laid.{struct_bytes, count_of}
 use Rattle.flatbuf.specs.Tree.{structs}
@@ -16,7 +17,7 @@ use Rattle.ipc_message.specs.Raw.{RawNode, RawBuffer, RawField, RawBatch, RawDic
 use Rattle.ipc_message.specs.View.{nodes_from, buffers_from, nodes_in, buffers_in}
 use Rattle.ipc_message.specs.Header.{schema_in, batch_in, dictionary_in, schema_things, batch_things, dictionary_things, pairs_things, needed_things, field_things, field_at, pairs_in, header_things, header_of, header}
 use Rattle.ipc_write.specs.Trees.{node_pair, buffer_pair, field_nodes, schema_tree, batch_tree, dictionary_tree, message_tree}
-use Rattle.ipc_write.specs.Spelled.{raw_of_all, raw_schema}
+use Rattle.ipc_write.specs.Decoded.{raw_of_all, raw_schema}
 use Rattle.ipc_write.specs.Walked.{Holds, tables_of_all}
 use Rattle.ipc_write.proofs.Fine.{Fine, fine_append, fine_after, fine_more, fine_spans, fine_references, fine_structs, fine_reference, elements_read}
 use Rattle.ipc_write.proofs.TypeRead.{is_set-bit, pairs_read, pairs_fine}
@@ -29,27 +30,27 @@ listed : (fs : List RawField) → raw_list_of (raw_fields_of fs) ≡ fs
 listed [] = refl
 listed (f ∷ fs) = ap (λ (gs : List RawField). f ∷ gs) (listed fs)
 
-pub schema_read : (held : ℕ → Bool) (left : ℕ) (bytes : List ℕ) (at : ℕ) (s : PlainSchema) → Holds held → depth_all (columns_of s.columns) + 2 ≤ left → Has bytes at (schema_tree s)
-    → schema_in held left bytes (Some (table_at bytes at)) ≡ raw_schema s
+pub schema_read : (supported : ℕ → Bool) (left : ℕ) (bytes : List ℕ) (at : ℕ) (s : PlainSchema) → Holds supported → depth_all (columns_of s.columns) + 2 ≤ left → Has bytes at (schema_tree s)
+    → schema_in supported left bytes (Some (table_at bytes at)) ≡ raw_schema s
 unfolding schema_in
-schema_read held left bytes at s holds deep has =
+schema_read supported left bytes at s holds deep has =
     let t : Place = table_at bytes at in
     let h = has.1 in
     let cs = columns_of s.columns in
     let fields = field_nodes 0 cs in
     let endian : scalar_of 2 0 bytes (slot bytes t 0) ≡ 0 = rw h.0.1 h.0.2 in
     let found : elements bytes (slot bytes t 1) ≡ targets (count_of fields) bytes (target bytes h.1.0.0 + 4) = elements_read bytes (slot bytes t 1) h.1.0.0 fields h.1.0.1 h.1.0.3 in
-    let all : raw_fields_of (map (field_at held left bytes) (elements bytes (slot bytes t 1))) ≡ raw_of_all 0 cs =
-    ap (λ (places : List ℕ). raw_fields_of (map (field_at held left bytes) places)) found ∙ fields_read held left bytes (target bytes h.1.0.0 + 4) 0 cs holds deep h.1.0.3.2 in
-    let each : map (field_at held left bytes) (elements bytes (slot bytes t 1)) ≡ raw_list_of (raw_of_all 0 cs) = sym (listed (map (field_at held left bytes) (elements bytes (slot bytes t 1)))) ∙ ap raw_list_of all in
+    let all : raw_fields_of (map (field_at supported left bytes) (elements bytes (slot bytes t 1))) ≡ raw_of_all 0 cs =
+    ap (λ (places : List ℕ). raw_fields_of (map (field_at supported left bytes) places)) found ∙ fields_read supported left bytes (target bytes h.1.0.0 + 4) 0 cs holds deep h.1.0.3.2 in
+    let each : map (field_at supported left bytes) (elements bytes (slot bytes t 1)) ≡ raw_list_of (raw_of_all 0 cs) = sym (listed (map (field_at supported left bytes) (elements bytes (slot bytes t 1)))) ∙ ap raw_list_of all in
     let pairs : pairs_in bytes (slot bytes t 2) ≡ s.pairs = pairs_read bytes t 2 s.pairs h.1.1 in
     λ i. record { endianness = endian i; fields = each i; pairs = pairs i }
 
-pub schema_fine : (held : ℕ → Bool) (left : ℕ) (bytes : List ℕ) (at n : ℕ) (s : PlainSchema) → Holds held → depth_all (columns_of s.columns) + 2 ≤ left
-    → n + tables_of_all (columns_of s.columns) + length s.pairs ≤ most_tables → Has bytes at (schema_tree s)
-    → Fine bytes (schema_things held left bytes (Some (table_at bytes at))) n (n + tables_of_all (columns_of s.columns) + length s.pairs)
+pub schema_fine : (supported : ℕ → Bool) (left : ℕ) (bytes : List ℕ) (at n : ℕ) (s : PlainSchema) → Holds supported → depth_all (columns_of s.columns) + 2 ≤ left
+    → n + tables_of_all (columns_of s.columns) + length s.pairs ≤ MAX_TABLES → Has bytes at (schema_tree s)
+    → Fine bytes (schema_things supported left bytes (Some (table_at bytes at))) n (n + tables_of_all (columns_of s.columns) + length s.pairs)
 unfolding schema_things
-schema_fine held left bytes at n s holds deep room has =
+schema_fine supported left bytes at n s holds deep room has =
     let t : Place = table_at bytes at in
     let h = has.1 in
     let cs = columns_of s.columns in
@@ -57,12 +58,12 @@ schema_fine held left bytes at n s holds deep room has =
     let m : ℕ = n + tables_of_all cs in
     let endian = fine_spans bytes 2 (slot bytes t 0) h.0.0 n h.0.1 h.0.3 in
     let vector = fine_references bytes (slot bytes t 1) h.1.0.0 n fields h.1.0.1 h.1.0.2 h.1.0.3 in
-    let each : Fine bytes (flat_map (field_things held left bytes) (elements bytes (slot bytes t 1))) n m =
-    rw (elements_read bytes (slot bytes t 1) h.1.0.0 fields h.1.0.1 h.1.0.3) (fields_fine held left bytes (target bytes h.1.0.0 + 4) 0 n cs holds deep (omega arith) h.1.0.3.2) in
+    let each : Fine bytes (flat_map (field_things supported left bytes) (elements bytes (slot bytes t 1))) n m =
+    rw (elements_read bytes (slot bytes t 1) h.1.0.0 fields h.1.0.1 h.1.0.3) (fields_fine supported left bytes (target bytes h.1.0.0 + 4) 0 n cs holds deep (omega arith) h.1.0.3.2) in
     let pairs = pairs_fine bytes left t 2 m s.pairs h.1.1 (omega arith) room in
     let a1 = fine_after bytes (spans 2 (slot bytes t 0)) (vector_at 4 bytes (slot bytes t 1)) n n endian vector in
-    let a2 = fine_append bytes (spans 2 (slot bytes t 0) ++ vector_at 4 bytes (slot bytes t 1)) (flat_map (field_things held left bytes) (elements bytes (slot bytes t 1))) n n m a1 each in
-    fine_append bytes (spans 2 (slot bytes t 0) ++ vector_at 4 bytes (slot bytes t 1) ++ flat_map (field_things held left bytes) (elements bytes (slot bytes t 1))) (pairs_things left bytes (slot bytes t 2)) n m (m + length s.pairs) a2 pairs
+    let a2 = fine_append bytes (spans 2 (slot bytes t 0) ++ vector_at 4 bytes (slot bytes t 1)) (flat_map (field_things supported left bytes) (elements bytes (slot bytes t 1))) n n m a1 each in
+    fine_append bytes (spans 2 (slot bytes t 0) ++ vector_at 4 bytes (slot bytes t 1) ++ flat_map (field_things supported left bytes) (elements bytes (slot bytes t 1))) (pairs_things left bytes (slot bytes t 2)) n m (m + length s.pairs) a2 pairs
 
 -- ---- a batch
 
@@ -141,7 +142,7 @@ dictionary_read bytes at d plain fits_nodes fits_buffers has =
     let delta : is_set (scalar_of 1 0 bytes (slot bytes t 2)) ≡ d.is_delta = rw (h.1.1.0.1, h.1.1.0.2) (is_set-bit d.is_delta) in
     λ i. record { id = id i; batch = batch i; is_delta = delta i }
 
-pub dictionary_fine : (bytes : List ℕ) (left at n : ℕ) (d : RawDictionaryBatch) → 0 < left → n < most_tables → Has bytes at (dictionary_tree d) → Fine bytes (dictionary_things left bytes (Some (table_at bytes at))) n (n + 1)
+pub dictionary_fine : (bytes : List ℕ) (left at n : ℕ) (d : RawDictionaryBatch) → 0 < left → n < MAX_TABLES → Has bytes at (dictionary_tree d) → Fine bytes (dictionary_things left bytes (Some (table_at bytes at))) n (n + 1)
 unfolding dictionary_things
 dictionary_fine bytes left at n d deep room has =
     let t : Place = table_at bytes at in
@@ -160,10 +161,10 @@ dictionary_fine bytes left at n d deep room has =
 needed_fine : (metadata : List ℕ) (s : Option ℕ) (p slots : ℕ) → s ≡ Some p → p + 4 ≤ length metadata → HasHead metadata (target metadata p) slots → Fine metadata (needed_things 39 metadata s) 1 2
 needed_fine metadata s p slots e reference has = rw e (fine_reference metadata 39 (Some p) p slots 1 refl reference has (omega arith) (omega arith))
 
-pub schema_header_read : (held : ℕ → Bool) (metadata : List ℕ) (body_len : ℕ) (s : PlainSchema) → Holds held → depth_all (columns_of s.columns) ≤ 36 → 2 + tables_of_all (columns_of s.columns) + length s.pairs ≤ most_tables
-    → Has metadata (target metadata 0) (message_tree 1 (schema_tree s) body_len) → header held metadata ≡ Ok (schema_header (raw_schema s))
+pub schema_header_read : (supported : ℕ → Bool) (metadata : List ℕ) (body_len : ℕ) (s : PlainSchema) → Holds supported → depth_all (columns_of s.columns) ≤ 36 → 2 + tables_of_all (columns_of s.columns) + length s.pairs ≤ MAX_TABLES
+    → Has metadata (target metadata 0) (message_tree 1 (schema_tree s) body_len) → header supported metadata ≡ Ok (schema_header (raw_schema s))
 unfolding header header_of header_things
-schema_header_read held metadata body_len s holds deep room has =
+schema_header_read supported metadata body_len s holds deep room has =
     let t : Place = message_table metadata in
     let h = has.1.1.1.0 in
     let kind = type_read metadata 1 body_len (schema_tree s) has in
@@ -171,15 +172,15 @@ schema_header_read held metadata body_len s holds deep room has =
     let tables : ℕ = 2 + tables_of_all (columns_of s.columns) + length s.pairs in
     let behind : table_behind metadata (slot metadata t 2) ≡ Some place = rw h.1 refl in
     let needed : Fine metadata (needed_things 39 metadata (slot metadata t 2)) 1 2 = needed_fine metadata (slot metadata t 2) h.0 _ h.1 h.2 h.3.0 in
-    let things : Fine metadata (schema_things held 38 metadata (Some place)) 2 tables = schema_fine held 38 metadata (target metadata h.0) 2 s holds (omega arith) room h.3 in
-    let walked = fine_append metadata (needed_things 39 metadata (slot metadata t 2)) (schema_things held 38 metadata (Some place)) 1 2 tables needed things in
-    let spells : schema_in held 38 metadata (Some place) ≡ raw_schema s = schema_read held 38 metadata (target metadata h.0) s holds (omega arith) h.3 in
-    rw (kind, behind, walked, spells) refl
+    let things : Fine metadata (schema_things supported 38 metadata (Some place)) 2 tables = schema_fine supported 38 metadata (target metadata h.0) 2 s holds (omega arith) room h.3 in
+    let walked = fine_append metadata (needed_things 39 metadata (slot metadata t 2)) (schema_things supported 38 metadata (Some place)) 1 2 tables needed things in
+    let decodes : schema_in supported 38 metadata (Some place) ≡ raw_schema s = schema_read supported 38 metadata (target metadata h.0) s holds (omega arith) h.3 in
+    rw (kind, behind, walked, decodes) refl
 
-pub batch_header_read : (held : ℕ → Bool) (metadata : List ℕ) (body_len : ℕ) (b : RawBatch) → b.compressed ≡ false → FitsStructs (map node_pair b.nodes) → FitsStructs (map buffer_pair b.buffers)
-    → Has metadata (target metadata 0) (message_tree 3 (batch_tree b) body_len) → header held metadata ≡ Ok (batch_header b)
+pub batch_header_read : (supported : ℕ → Bool) (metadata : List ℕ) (body_len : ℕ) (b : RawBatch) → b.compressed ≡ false → FitsStructs (map node_pair b.nodes) → FitsStructs (map buffer_pair b.buffers)
+    → Has metadata (target metadata 0) (message_tree 3 (batch_tree b) body_len) → header supported metadata ≡ Ok (batch_header b)
 unfolding header header_of header_things
-batch_header_read held metadata body_len b plain fits_nodes fits_buffers has =
+batch_header_read supported metadata body_len b plain fits_nodes fits_buffers has =
     let t : Place = message_table metadata in
     let h = has.1.1.1.0 in
     let kind = type_read metadata 3 body_len (batch_tree b) has in
@@ -189,10 +190,10 @@ batch_header_read held metadata body_len b plain fits_nodes fits_buffers has =
     let walked = fine_append metadata (needed_things 39 metadata (slot metadata t 2)) (batch_things metadata (Some place)) 1 2 2 needed (batch_fine metadata (target metadata h.0) 2 b h.3) in
     rw (kind, behind, walked, batch_read metadata (target metadata h.0) b plain fits_nodes fits_buffers h.3) refl
 
-pub dictionary_header_read : (held : ℕ → Bool) (metadata : List ℕ) (body_len : ℕ) (d : RawDictionaryBatch) → d.batch.compressed ≡ false → FitsStructs (map node_pair d.batch.nodes) → FitsStructs (map buffer_pair d.batch.buffers)
-    → Has metadata (target metadata 0) (message_tree 2 (dictionary_tree d) body_len) → header held metadata ≡ Ok (dictionary_header d)
+pub dictionary_header_read : (supported : ℕ → Bool) (metadata : List ℕ) (body_len : ℕ) (d : RawDictionaryBatch) → d.batch.compressed ≡ false → FitsStructs (map node_pair d.batch.nodes) → FitsStructs (map buffer_pair d.batch.buffers)
+    → Has metadata (target metadata 0) (message_tree 2 (dictionary_tree d) body_len) → header supported metadata ≡ Ok (dictionary_header d)
 unfolding header header_of header_things
-dictionary_header_read held metadata body_len d plain fits_nodes fits_buffers has =
+dictionary_header_read supported metadata body_len d plain fits_nodes fits_buffers has =
     let t : Place = message_table metadata in
     let h = has.1.1.1.0 in
     let kind = type_read metadata 2 body_len (dictionary_tree d) has in

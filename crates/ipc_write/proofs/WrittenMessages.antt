@@ -13,16 +13,16 @@ use Rattle.arrow_schema.specs.Column.{Pair, Column, column, integers, columns_of
 use Rattle.arrow_schema.specs.Integers.{is_integer_column, is_bit_width, is_empty, is_integer_schema}
 use Rattle.arrow_schema.specs.IntegerCases.{integer_case}
 use Rattle.arrow_schema.specs.Limits.{IsWithinLimits}
-use Rattle.ipc_message.specs.Framing.{mark, message, front, taken, type_of}
+use Rattle.ipc_message.specs.Framing.{continuation_marker, message, next_message, taken, type_of}
 use Rattle.ipc_message.specs.Raw.{RawNode, schema_header, batch_header}
 use Rattle.ipc_message.specs.Header.{header}
-use Rattle.ipc_write.specs.Spelled.{raw_schema}
+use Rattle.ipc_write.specs.Decoded.{raw_schema}
 use Rattle.ipc_write.specs.Trees.{schema_tree, batch_tree, message_tree, node_pair, buffer_pair}
 use Rattle.ipc_write.specs.Walked.{Holds, tables_of, tables_of_all}
 use Rattle.ipc_write.specs.Written.{framed, padded, body, placed, batch_of, schema_message, batch_message, schema_envelope, batch_envelope, IsWritableBatch}
 use Rattle.std.proofs.lemmas.Bool.{and_parts}
 use Rattle.ipc_write.proofs.Room.{AreIntegers, Sizes, schema_fits, batch_fits, batch_room}
-use Rattle.ipc_write.proofs.MessageRead.{Fronts, front_again, type_read}
+use Rattle.ipc_write.proofs.MessageRead.{NextMessages, next_message_again, type_read}
 use Rattle.ipc_write.proofs.HeaderRead.{schema_header_read, batch_header_read}
 
 -- written metadata has its root, as flatbuf tells it
@@ -38,7 +38,7 @@ long_metadata : (t : Tree) → 4 ≤ length (metadata t)
 unfolding metadata
 long_metadata t = four_more (little_bytes 4 (start 4 t)) (laid 4 t ++ replicate (gap 8 (4 + length (laid 4 t))) 0) (length-bytes_low_first 0 4 (start 4 t))
 
-length_sized : (size m b : List ℕ) → length size ≡ 4 → length (mark ++ (size ++ (m ++ b))) ≡ 8 + length m + length b
+length_sized : (size m b : List ℕ) → length size ≡ 4 → length (continuation_marker ++ (size ++ (m ++ b))) ≡ 8 + length m + length b
 length_sized size m b four = omega (arith, four, length-append size (m ++ b), length-append m b)
 
 length_framed : (m b : List ℕ) → length (framed m b) ≡ 8 + length m + length b
@@ -57,10 +57,10 @@ schema_written s = refl
 schema_has : Roots → (s : PlainSchema) → is_integer_schema s ≡ true → length (schema_envelope s).metadata ≤ 16777216 → Has (schema_envelope s).metadata (target (schema_envelope s).metadata 0) (message_tree 1 (schema_tree s) 0)
 schema_has roots s ints small = roots (message_tree 1 (schema_tree s) 0) (omega (arith, small)) (schema_fits s ints)
 
-pub schema_front : Roots → Fronts → (s : PlainSchema) (rest : List ℕ) → is_integer_schema s ≡ true → length (schema_envelope s).metadata ≤ 16777216 → front (schema_message s ++ rest) ≡ Ok (message (schema_envelope s))
-schema_front roots fronts s rest ints small =
-    ap (λ (bytes : List ℕ). front (bytes ++ rest)) (schema_written s)
-    ∙ front_again fronts (schema_envelope s).metadata [] rest 1 (schema_tree s) refl (long_metadata (message_tree 1 (schema_tree s) 0)) small (omega arith) (schema_has roots s ints small)
+pub schema_next_message : Roots → NextMessages → (s : PlainSchema) (rest : List ℕ) → is_integer_schema s ≡ true → length (schema_envelope s).metadata ≤ 16777216 → next_message (schema_message s ++ rest) ≡ Ok (message (schema_envelope s))
+schema_next_message roots next_messages s rest ints small =
+    ap (λ (bytes : List ℕ). next_message (bytes ++ rest)) (schema_written s)
+    ∙ next_message_again next_messages (schema_envelope s).metadata [] rest 1 (schema_tree s) refl (long_metadata (message_tree 1 (schema_tree s) 0)) small (omega arith) (schema_has roots s ints small)
 
 pub schema_type : Roots → (s : PlainSchema) → is_integer_schema s ≡ true → length (schema_envelope s).metadata ≤ 16777216 → type_of (schema_envelope s).metadata ≡ 1
 schema_type roots s ints small = type_read (schema_envelope s).metadata 1 0 (schema_tree s) (schema_has roots s ints small)
@@ -84,13 +84,13 @@ none_paired : (ps : List Pair) → is_empty ps ≡ true → length ps ≡ 0
 none_paired [] h = refl
 none_paired (p ∷ ps) h = cc
 
-pub schema_read_again : Roots → (held : ℕ → Bool) (s : PlainSchema) → Holds held → is_integer_schema s ≡ true → IsWithinLimits s → length s.columns ≤ 2048 → length (schema_envelope s).metadata ≤ 16777216
-    → header held (schema_envelope s).metadata ≡ Ok (schema_header (raw_schema s))
-schema_read_again roots held s holds ints limits few small =
+pub schema_read_again : Roots → (supported : ℕ → Bool) (s : PlainSchema) → Holds supported → is_integer_schema s ≡ true → IsWithinLimits s → length s.columns ≤ 2048 → length (schema_envelope s).metadata ≤ 16777216
+    → header supported (schema_envelope s).metadata ≡ Ok (schema_header (raw_schema s))
+schema_read_again roots supported s holds ints limits few small =
     let parts = and_parts (list_all is_integer_column s.columns) (is_empty s.pairs) ints in
     let none = none_paired s.pairs parts.1 in
     let tables = tables_are s.columns parts.0 in
-    schema_header_read held (schema_envelope s).metadata 0 s holds (omega (arith, limits.levels)) (omega (arith, none, tables, few)) (schema_has roots s ints small)
+    schema_header_read supported (schema_envelope s).metadata 0 s holds (omega (arith, limits.levels)) (omega (arith, none, tables, few)) (schema_has roots s ints small)
 
 -- ---- a record batch
 
@@ -126,21 +126,21 @@ batch_has : Roots → (rows : ℕ) (nodes : List RawNode) (buffers : List (List 
     → Has (batch_envelope rows nodes buffers).metadata (target (batch_envelope rows nodes buffers).metadata 0) (message_tree 3 (batch_tree (batch_of rows nodes buffers)) (length (body buffers)))
 batch_has roots rows nodes buffers fits small = roots (message_tree 3 (batch_tree (batch_of rows nodes buffers)) (length (body buffers))) (omega (arith, small)) (batch_tree_fits rows nodes buffers fits)
 
-pub batch_front : Roots → Fronts → (rows : ℕ) (nodes : List RawNode) (buffers : List (List ℕ)) (rest : List ℕ) → IsWritableBatch rows nodes buffers → length (batch_envelope rows nodes buffers).metadata ≤ 16777216
-    → front (batch_message rows nodes buffers ++ rest) ≡ Ok (message (batch_envelope rows nodes buffers))
-batch_front roots fronts rows nodes buffers rest fits small =
-    ap (λ (bytes : List ℕ). front (bytes ++ rest)) (batch_written rows nodes buffers)
-    ∙ front_again fronts (batch_envelope rows nodes buffers).metadata (body buffers) rest 3 (batch_tree (batch_of rows nodes buffers)) refl (long_metadata (message_tree 3 (batch_tree (batch_of rows nodes buffers)) (length (body buffers))))
+pub batch_next_message : Roots → NextMessages → (rows : ℕ) (nodes : List RawNode) (buffers : List (List ℕ)) (rest : List ℕ) → IsWritableBatch rows nodes buffers → length (batch_envelope rows nodes buffers).metadata ≤ 16777216
+    → next_message (batch_message rows nodes buffers ++ rest) ≡ Ok (message (batch_envelope rows nodes buffers))
+batch_next_message roots next_messages rows nodes buffers rest fits small =
+    ap (λ (bytes : List ℕ). next_message (bytes ++ rest)) (batch_written rows nodes buffers)
+    ∙ next_message_again next_messages (batch_envelope rows nodes buffers).metadata (body buffers) rest 3 (batch_tree (batch_of rows nodes buffers)) refl (long_metadata (message_tree 3 (batch_tree (batch_of rows nodes buffers)) (length (body buffers))))
     small (omega (arith, fits.short_body)) (batch_has roots rows nodes buffers fits small)
 
 pub batch_type : Roots → (rows : ℕ) (nodes : List RawNode) (buffers : List (List ℕ)) → IsWritableBatch rows nodes buffers → length (batch_envelope rows nodes buffers).metadata ≤ 16777216 → type_of (batch_envelope rows nodes buffers).metadata ≡ 3
 batch_type roots rows nodes buffers fits small =
     type_read (batch_envelope rows nodes buffers).metadata 3 (length (body buffers)) (batch_tree (batch_of rows nodes buffers)) (batch_has roots rows nodes buffers fits small)
 
-pub batch_read_again : Roots → (held : ℕ → Bool) (rows : ℕ) (nodes : List RawNode) (buffers : List (List ℕ)) → IsWritableBatch rows nodes buffers → length (batch_envelope rows nodes buffers).metadata ≤ 16777216
-    → header held (batch_envelope rows nodes buffers).metadata ≡ Ok (batch_header (batch_of rows nodes buffers))
-batch_read_again roots held rows nodes buffers fits small =
-    batch_header_read held (batch_envelope rows nodes buffers).metadata (length (body buffers)) (batch_of rows nodes buffers) refl fits.nodes_fit (placed_fit 0 buffers (omega (arith, fits.short_body))) (batch_has roots rows nodes buffers fits small)
+pub batch_read_again : Roots → (supported : ℕ → Bool) (rows : ℕ) (nodes : List RawNode) (buffers : List (List ℕ)) → IsWritableBatch rows nodes buffers → length (batch_envelope rows nodes buffers).metadata ≤ 16777216
+    → header supported (batch_envelope rows nodes buffers).metadata ≡ Ok (batch_header (batch_of rows nodes buffers))
+batch_read_again roots supported rows nodes buffers fits small =
+    batch_header_read supported (batch_envelope rows nodes buffers).metadata (length (body buffers)) (batch_of rows nodes buffers) refl fits.nodes_fit (placed_fit 0 buffers (omega (arith, fits.short_body))) (batch_has roots rows nodes buffers fits small)
 
 pub batch_after : (rows : ℕ) (nodes : List RawNode) (buffers : List (List ℕ)) (rest : List ℕ) → drop (taken (message (batch_envelope rows nodes buffers))) (batch_message rows nodes buffers ++ rest) ≡ rest
 batch_after rows nodes buffers rest =

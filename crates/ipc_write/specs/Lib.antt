@@ -1,4 +1,4 @@
 pub mod Trees
-pub mod Spelled
+pub mod Decoded
 pub mod Written
 pub mod Walked

@@ -17,7 +17,7 @@ code_of binaries = 4
 code_of texts = 5
 code_of booleans = 6
 code_of (dates unit) = 8
-code_of (timestamps unit zone) = 10
+code_of (timestamps unit timezone) = 10
 code_of (lists item) = 12
 code_of (struct_kind parts) = 13
 code_of (fixed_binaries width) = 15
@@ -40,10 +40,10 @@ time_unit_of nanoseconds = 3
 abbrev pub int_tree : ℕ → Bool → Tree
 int_tree bits signed = table (scalar 4 bits (scalar 1 (bit signed) no_slot))
 
--- a zone is written where there is one
-abbrev pub zone_slot : List ℕ → Slots
-zone_slot [] = no_slot
-zone_slot (b ∷ bs) = refers (text (b ∷ bs)) no_slot
+-- a timezone is written where there is one
+abbrev pub timezone_slot : List ℕ → Slots
+timezone_slot [] = no_slot
+timezone_slot (b ∷ bs) = refers (text (b ∷ bs)) no_slot
 
 -- the table of a type
 abbrev pub type_tree : Kind → Tree
@@ -53,7 +53,7 @@ type_tree binaries = table no_slot
 type_tree texts = table no_slot
 type_tree booleans = table no_slot
 type_tree (dates unit) = table (scalar 2 (date_unit_of unit) no_slot)
-type_tree (timestamps unit zone) = table (scalar 2 (time_unit_of unit) (zone_slot zone))
+type_tree (timestamps unit timezone) = table (scalar 2 (time_unit_of unit) (timezone_slot timezone))
 type_tree (lists item) = table no_slot
 type_tree (struct_kind parts) = table no_slot
 type_tree (fixed_binaries width) = table (scalar 4 width no_slot)
@@ -104,7 +104,7 @@ abbrev mutual
   ids_below texts = 0
   ids_below booleans = 0
   ids_below (dates unit) = 0
-  ids_below (timestamps unit zone) = 0
+  ids_below (timestamps unit timezone) = 0
   ids_below (fixed_binaries width) = 0
   ids_below large_binaries = 0
   ids_below large_texts = 0
@@ -131,7 +131,7 @@ unfoldable mutual
   child_nodes id texts = no_node
   child_nodes id booleans = no_node
   child_nodes id (dates unit) = no_node
-  child_nodes id (timestamps unit zone) = no_node
+  child_nodes id (timestamps unit timezone) = no_node
   child_nodes id (fixed_binaries width) = no_node
   child_nodes id large_binaries = no_node
   child_nodes id large_texts = no_node

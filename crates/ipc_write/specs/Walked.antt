@@ -5,7 +5,7 @@ use Rattle.arrow_schema.specs.Column.{Index, Kind, Column, Columns, nulls, boole
 
 -- dates and timestamps are held: the types that not every reader holds, and whose tables are read
 abbrev pub Holds : (ℕ → Bool) → Type 0
-Holds held = (held 8 ≡ true) × (held 10 ≡ true)
+Holds supported = (supported 8 ≡ true) × (supported 10 ≡ true)
 
 -- the tables that are entered for a type: none where it has no parameters
 abbrev pub type_tables : Kind → ℕ
@@ -13,7 +13,7 @@ type_tables (integers bits signed) = 1
 type_tables (fixed_binaries width) = 1
 type_tables (fixed_lists size item) = 1
 type_tables (dates unit) = 1
-type_tables (timestamps unit zone) = 1
+type_tables (timestamps unit timezone) = 1
 type_tables _ = 0
 
 -- the tables of a dictionary: its own and that of its index type
@@ -31,7 +31,7 @@ abbrev mutual
   tables_below booleans = 0
   tables_below (integers bits signed) = 0
   tables_below (dates unit) = 0
-  tables_below (timestamps unit zone) = 0
+  tables_below (timestamps unit timezone) = 0
   tables_below texts = 0
   tables_below large_texts = 0
   tables_below binaries = 0

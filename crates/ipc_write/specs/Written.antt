@@ -5,13 +5,13 @@ use Rattle.flatbuf.specs.Tree.{Tree}
 use Rattle.flatbuf.specs.Laid.{metadata}
 use Rattle.flatbuf.specs.Held.{FitsStructs}
 use Rattle.arrow_schema.specs.Column.{PlainSchema}
-use Rattle.ipc_message.specs.Framing.{mark, Envelope}
+use Rattle.ipc_message.specs.Framing.{continuation_marker, Envelope}
 use Rattle.ipc_message.specs.Raw.{RawNode, RawBuffer, RawBatch}
 use Rattle.ipc_write.specs.Trees.{schema_tree, batch_tree, dictionary_tree, message_tree, node_pair}
 
--- the mark, the size of the metadata, the metadata, the body
+-- the continuation marker, the size of the metadata, the metadata, the body
 abbrev pub framed : List ℕ → List ℕ → List ℕ
-framed metadata body = mark ++ (little_bytes 4 (length metadata) ++ (metadata ++ body))
+framed metadata body = continuation_marker ++ (little_bytes 4 (length metadata) ++ (metadata ++ body))
 
 -- a message with a header of this type
 abbrev pub message_bytes : ℕ → Tree → List ℕ → List ℕ
@@ -61,6 +61,6 @@ pub record IsWritableBatch (rows : ℕ) (nodes : List RawNode) (buffers : List (
   pub few_buffers : length buffers ≤ 65536
   pub short_body : length (body buffers) < 2 ^ 62
 
--- the end mark
-abbrev pub end_mark : List ℕ
-end_mark = mark ++ (0 ∷ 0 ∷ 0 ∷ 0 ∷ [])
+-- the end of stream
+abbrev pub end_of_stream : List ℕ
+end_of_stream = continuation_marker ++ (0 ∷ 0 ∷ 0 ∷ 0 ∷ [])

@@ -4,10 +4,10 @@ ghost use Rattle.byteorder.specs.Endian.{little_bytes};
 ghost use Rattle.arrow_schema.specs.View.{schema_of};
 ghost use Rattle.arrow_schema.specs.Limits.{IsWithinLimits};
 ghost use Rattle.flatbuf.specs.Held.{FitsStructs};
-ghost use Rattle.ipc_message.specs.Framing.{mark};
+ghost use Rattle.ipc_message.specs.Framing.{continuation_marker};
 ghost use Rattle.arrow_schema.specs.Integers.{is_integer_schema};
 ghost use Rattle.ipc_write.specs.Trees.{buffer_pair, raw_node};
-ghost use Rattle.ipc_write.specs.Written.{framed, schema_message, batch_message, end_mark, padded, body, placed};
+ghost use Rattle.ipc_write.specs.Written.{framed, schema_message, batch_message, end_of_stream, padded, body, placed};
 
 use crate::laws::metadata_is_within_its_limit;
 use crate::trees::{batch_node, message_node, schema_node};
@@ -15,10 +15,10 @@ use arrow_schema::Schema;
 use flatbuf::Writer;
 use std::alloc::{AllocError, Global};
 
-/// Appends the mark, the size of the metadata, and the metadata.
+/// Appends the continuation marker, the size of the metadata, and the metadata.
 fn put_metadata(out: &mut Vec<u8>, metadata: &[u8]) -> Result<(), AllocError>
     requires { length metadata.now < 2 ^ 31 }
-    ensures appended { OnOk result (out.new.items ≡ out.old.items ++ (mark ++ (little_bytes 4 (length metadata.now) ++ metadata.now))) }
+    ensures appended { OnOk result (out.new.items ≡ out.old.items ++ (continuation_marker ++ (little_bytes 4 (length metadata.now) ++ metadata.now))) }
     ensures begins { take (length out.old.items) out.new.items ≡ out.old.items }
 {
     out.extend_from_slice(&[255, 255, 255, 255])?;
@@ -139,9 +139,9 @@ pub fn write_batch(
     put_message(out, &metadata, buffers)
 }
 
-/// Appends the end mark, or nothing where memory is refused.
+/// Appends the end of stream, or nothing where memory is refused.
 pub fn write_end(out: &mut Vec<u8>) -> Result<(), AllocError>
-    ensures appended { OnOk result (out.new.items ≡ out.old.items ++ end_mark) }
+    ensures appended { OnOk result (out.new.items ≡ out.old.items ++ end_of_stream) }
     ensures kept { OnErr result (out.new.items ≡ out.old.items) }
 {
     out.extend_from_slice(&[255, 255, 255, 255, 0, 0, 0, 0])

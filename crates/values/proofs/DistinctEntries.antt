@@ -11,7 +11,7 @@ use Rattle.std.proofs.lemmas.List.Folds.{list_any_at}
 use Rattle.std.proofs.lemmas.List.Quantifiers.{all_pairs_push}
 use Rattle.std.proofs.lemmas.Map.Views.{Contains-from_any}
 use Rattle.std.proofs.lemmas.Slice.Eq.{bytes_eq-Decides}
-use Rattle.values.specs.Cell.{Cell, null, truth, number, text, bytes, items, parts}
+use Rattle.values.specs.Cell.{Cell, null, boolean, number, text, bytes, items, parts}
 use Rattle.values.specs.Dictionary.{is_entry, entry_in, with_new, with_option, with_entry, with_entries, entries_of}
 use Rattle.values.specs.Entries.{IsSeenBefore, AreEntries}
 
@@ -21,14 +21,14 @@ pub decided : (a b : Cell) → entry_in a ≡ Some a → Decides (is_entry a b) 
 decided null b h = cc
 decided (items cs) b h = cc
 decided (parts cs) b h = cc
-decided (truth true) (truth true) h = (λ _. refl, λ _. refl)
-decided (truth true) (truth false) h = (λ e. cc, λ e. cc)
-decided (truth false) (truth true) h = (λ e. cc, λ e. cc)
-decided (truth false) (truth false) h = (λ _. refl, λ _. refl)
+decided (boolean true) (boolean true) h = (λ _. refl, λ _. refl)
+decided (boolean true) (boolean false) h = (λ e. cc, λ e. cc)
+decided (boolean false) (boolean true) h = (λ e. cc, λ e. cc)
+decided (boolean false) (boolean false) h = (λ _. refl, λ _. refl)
 decided (number a) (number b) h = (λ e. ap number ((Decides-int_eq a b).0 e), λ e. (Decides-int_eq a b).1 cc)
 decided (text a) (text b) h = (λ e. ap text ((bytes_eq-Decides a b).0 e), λ e. (bytes_eq-Decides a b).1 cc)
 decided (bytes a) (bytes b) h = (λ e. ap bytes ((bytes_eq-Decides a b).0 e), λ e. (bytes_eq-Decides a b).1 cc)
-decided (truth a) _ h = (λ e. cc, λ e. cc)
+decided (boolean a) _ h = (λ e. cc, λ e. cc)
 decided (number a) _ h = (λ e. cc, λ e. cc)
 decided (text a) _ h = (λ e. cc, λ e. cc)
 decided (bytes a) _ h = (λ e. cc, λ e. cc)
@@ -37,7 +37,7 @@ one_value : (a b : Cell) → is_entry a b ≡ true → a ≡ b
 one_value null b h = cc
 one_value (items cs) b h = cc
 one_value (parts cs) b h = cc
-one_value (truth a) b h = (decided (truth a) b refl).0 h
+one_value (boolean a) b h = (decided (boolean a) b refl).0 h
 one_value (number a) b h = (decided (number a) b refl).0 h
 one_value (text a) b h = (decided (text a) b refl).0 h
 one_value (bytes a) b h = (decided (bytes a) b refl).0 h
@@ -46,7 +46,7 @@ entry_is : (c e : Cell) → entry_in c ≡ Some e → e ≡ c
 entry_is null e h = cc
 entry_is (items cs) e h = cc
 entry_is (parts cs) e h = cc
-entry_is (truth a) e h = cc
+entry_is (boolean a) e h = cc
 entry_is (number a) e h = cc
 entry_is (text a) e h = cc
 entry_is (bytes a) e h = cc

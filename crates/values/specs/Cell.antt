@@ -6,7 +6,7 @@ mutual
   -- a value: a text is its bytes; integers, dates and timestamps are numbers
   pub data Cell : Type 0 where
     null : Cell
-    truth : Bool → Cell
+    boolean : Bool → Cell
     number : ℤ → Cell
     text : List ℕ → Cell
     bytes : List ℕ → Cell

@@ -5,7 +5,7 @@ use Rattle.std.specs.List.{flat_map, list_any, list_all}
 use Rattle.std.specs.Ordering.{int_eq}
 use Rattle.arrow_schema.specs.Column.{Index, Kind, Column, Columns, nulls, booleans, integers, dates, timestamps, texts, large_texts, binaries, large_binaries, fixed_binaries, lists, large_lists, fixed_lists, structs, column, no_column, and_column, columns_of, PlainSchema}
 use Rattle.values.specs.Weight.{items_in, parts_in}
-use Rattle.values.specs.Cell.{Cell, null, truth, number, text, bytes, items, parts, cell_list}
+use Rattle.values.specs.Cell.{Cell, null, boolean, number, text, bytes, items, parts, cell_list}
 
 -- a dictionary column: its index type, and the cells that it has
 pub record Holding : Type 0 where
@@ -37,7 +37,7 @@ unfoldable mutual
   holdings_below booleans = λ cells. []
   holdings_below (integers bits signed) = λ cells. []
   holdings_below (dates unit) = λ cells. []
-  holdings_below (timestamps unit zone) = λ cells. []
+  holdings_below (timestamps unit timezone) = λ cells. []
   holdings_below texts = λ cells. []
   holdings_below large_texts = λ cells. []
   holdings_below binaries = λ cells. []
@@ -59,7 +59,7 @@ holdings_of s rows = holdings_from 0 (columns_of s.columns) rows
 
 -- whether two values are one entry of a dictionary
 abbrev pub is_entry : Cell → Cell → Bool
-is_entry (truth a) (truth b) = if a then b else not b
+is_entry (boolean a) (boolean b) = if a then b else not b
 is_entry (number a) (number b) = int_eq a b
 is_entry (text a) (text b) = bytes_eq a b
 is_entry (bytes a) (bytes b) = bytes_eq a b
@@ -72,7 +72,7 @@ with_new entries c = if list_any (is_entry c) entries then entries else entries 
 -- a value as an entry: no entry is null, a list or a struct
 abbrev pub entry_in : Cell → Option Cell
 entry_in null = None
-entry_in (truth b) = Some (truth b)
+entry_in (boolean b) = Some (boolean b)
 entry_in (number n) = Some (number n)
 entry_in (text t) = Some (text t)
 entry_in (bytes t) = Some (bytes t)
@@ -124,7 +124,7 @@ unfoldable mutual
   is_kind_limited booleans = false
   is_kind_limited (integers bits signed) = false
   is_kind_limited (dates unit) = false
-  is_kind_limited (timestamps unit zone) = false
+  is_kind_limited (timestamps unit timezone) = false
   is_kind_limited texts = false
   is_kind_limited large_texts = false
   is_kind_limited binaries = false

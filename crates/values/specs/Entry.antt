@@ -2,14 +2,14 @@
 use Rattle.std.specs.Prelude.{Option, Some, None}
 use Rattle.values.specs.declared.entry.Entry.{Entry}
 use Rattle.values.specs.declared.entry.Entry.TheVariants as entries
-use Rattle.values.specs.Cell.{Cell, truth, number, text, bytes}
+use Rattle.values.specs.Cell.{Cell, boolean, number, text, bytes}
 
 abbrev pub entry_cell : Entry → Cell
-entry_cell (entries.Bool b) = truth b
+entry_cell (entries.Bool b) = boolean b
 entry_cell (entries.Int n) = number n
 entry_cell (entries.Text t) = text t.now
 entry_cell (entries.Bytes t) = bytes t.now
 
-abbrev pub told_entry : Option Entry → Option Cell
-told_entry None = None
-told_entry (Some e) = Some (entry_cell e)
+abbrev pub entry_cell_of : Option Entry → Option Cell
+entry_cell_of None = None
+entry_cell_of (Some e) = Some (entry_cell e)

@@ -1,7 +1,7 @@
 -- Which values a field takes (Arrow columnar format, "Logical types"; Schema.fbs).
 use Rattle.std.specs.Prelude.{ℕ, ◌+◌, ◌-◌, ◌^◌, ℤ, pos, neg_ℤ, int_lt, int_le, Bool, true, false, ◌&&◌, ◌==◌, List, length}
 use Rattle.arrow_schema.specs.Column.{DateKind, days, date_milliseconds, Kind, Column, Columns, nulls, booleans, integers, dates, timestamps, texts, large_texts, binaries, large_binaries, fixed_binaries, lists, large_lists, fixed_lists, structs, column, no_column, and_column}
-use Rattle.values.specs.Cell.{Cell, Cells, null, truth, number, text, bytes, items, parts, no_cell, and_cell}
+use Rattle.values.specs.Cell.{Cell, Cells, null, boolean, number, text, bytes, items, parts, no_cell, and_cell}
 
 -- a number of so many bits
 abbrev pub in_range : ℕ → Bool → ℤ → Bool
@@ -22,9 +22,9 @@ all_cells p no_cell = true
 all_cells p (and_cell c cs) = p c && all_cells p cs
 
 -- a cell of this form, with a fact of what it holds
-abbrev pub is_truth : Cell → Bool
-is_truth (truth b) = true
-is_truth _ = false
+abbrev pub is_boolean : Cell → Bool
+is_boolean (boolean b) = true
+is_boolean _ = false
 
 abbrev pub is_text : Cell → Bool
 is_text (text t) = true
@@ -58,10 +58,10 @@ unfoldable mutual
   -- of a cell that is not null: the type of nulls has no such cell
   pub fits_kind : Kind → Cell → Bool
   fits_kind nulls = λ c. false
-  fits_kind booleans = is_truth
+  fits_kind booleans = is_boolean
   fits_kind (integers bits signed) = number_where (in_range bits signed)
   fits_kind (dates unit) = number_where (in_range (date_bits unit) true)
-  fits_kind (timestamps unit zone) = number_where (in_range 64 true)
+  fits_kind (timestamps unit timezone) = number_where (in_range 64 true)
   fits_kind texts = is_text
   fits_kind large_texts = is_text
   fits_kind binaries = bytes_where (λ t. true)

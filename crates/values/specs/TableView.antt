@@ -21,7 +21,7 @@ abbrev pub rows_left : Rows → List (List Cell)
 rows_left it = drop it.next (table_of it.table.now).rows
 
 -- the code tells what is: memory may be wanting whatever it is
-abbrev pub Tells : TableError → Result PlainTable Refusal → Type 0
-Tells (Unfit i) r = r ≡ Err (unfit i)
-Tells Weight r = r ≡ Err too_heavy
-Tells OutOfMemory r = Unit {0}
+abbrev pub Reports : TableError → Result PlainTable Refusal → Type 0
+Reports (Unfit i) r = r ≡ Err (unfit i)
+Reports Weight r = r ≡ Err too_heavy
+Reports OutOfMemory r = Unit {0}

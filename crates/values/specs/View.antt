@@ -2,13 +2,13 @@
 use Rattle.std.specs.Prelude.{List, map, string_bytes}
 use Rattle.std.specs.Borrow.{Bor}
 use Rattle.values.specs.declared.value.Value.{Value}
-use Rattle.values.specs.declared.value.Value.TheOpen.{Value-F, Null, Bool as Truth, Int, Text, Bytes, List as Items, Struct}
+use Rattle.values.specs.declared.value.Value.TheOpen.{Value-F, Null, Bool as Boolean, Int, Text, Bytes, List as Items, Struct}
 use Rattle.values.specs.declared.value.Value.TheFolds.{fold-Value}
-use Rattle.values.specs.Cell.{Cell, null, truth, number, text, bytes, items, parts, cells_of}
+use Rattle.values.specs.Cell.{Cell, null, boolean, number, text, bytes, items, parts, cells_of}
 
 abbrev pub cell_step : Value-F Cell → Cell
 cell_step Null = null
-cell_step (Truth b) = truth b
+cell_step (Boolean b) = boolean b
 cell_step (Int n) = number n
 cell_step (Text s) = text (string_bytes s)
 cell_step (Bytes b) = bytes b.items

@@ -45,7 +45,7 @@ unfoldable mutual
   kind_weight booleans = λ c. 1
   kind_weight (integers bits signed) = λ c. 1
   kind_weight (dates unit) = λ c. 1
-  kind_weight (timestamps unit zone) = λ c. 1
+  kind_weight (timestamps unit timezone) = λ c. 1
   kind_weight texts = λ c. 1 + byte_count c
   kind_weight large_texts = λ c. 1 + byte_count c
   kind_weight binaries = λ c. 1 + byte_count c
@@ -69,6 +69,6 @@ row_weight s row = 1 + parts_weight (columns_of s.columns) (cells_of row)
 abbrev pub table_weight : PlainSchema → List (List Cell) → ℕ
 table_weight s rows = sum_by (row_weight s) rows
 
--- a weight as it is told: every weight that a table may have is told exactly, and all greater ones as one
-abbrev pub told_weight : ℕ → ℕ
-told_weight w = min w 268435457
+-- a weight as it is reported: every weight that a table may have is reported exactly, and all greater ones as one
+abbrev pub capped_weight : ℕ → ℕ
+capped_weight w = min w 268435457

@@ -3,11 +3,11 @@ ghost use Rattle.std.specs.Prelude.{◌≡◌, ◌*◌, map, length, take, drop,
 ghost use Rattle.arrow_schema.specs.Column.{columns_of};
 ghost use Rattle.arrow_schema.specs.View.{schema_of};
 ghost use Rattle.values.specs.View.{cell};
-ghost use Rattle.values.specs.Weight.{table_weight, told_weight};
+ghost use Rattle.values.specs.Weight.{table_weight, capped_weight};
 ghost use Rattle.values.specs.Table.{taken_weight, first_unfit, table_from};
 ghost use Rattle.values.specs.Dictionary.{is_any_limited};
 ghost use Rattle.values.specs.Rows.{rows_in};
-ghost use Rattle.values.specs.TableView.{row_of, Tells};
+ghost use Rattle.values.specs.TableView.{row_of, Reports};
 
 use crate::errors::TableError;
 use crate::fit::each_fits;
@@ -47,8 +47,8 @@ fn taken_weight(
 // The weight of rows that a table takes, or the first that it does not take.
 pub(crate) fn weigh_rows(schema: &Schema, rows: &[Row], alloc: Global) -> Result<u64, TableError>
     ensures taken { IfOk result (λ _. first_unfit (schema_of schema.now) (map row_of rows.now) ≡ None) }
-    ensures weight { IfOk result (λ w. w ≡ told_weight (table_weight (schema_of schema.now) (map row_of rows.now))) }
-    ensures refused { IfErr result (λ e. Tells e (table_from (schema_of schema.now) (map row_of rows.now))) }
+    ensures weight { IfOk result (λ w. w ≡ capped_weight (table_weight (schema_of schema.now) (map row_of rows.now))) }
+    ensures refused { IfErr result (λ e. Reports e (table_from (schema_of schema.now) (map row_of rows.now))) }
 {
     let limited = has_limits(schema);
     let mut total = 0;
@@ -70,8 +70,8 @@ pub(crate) fn weigh_cells(
 ) -> Result<u64, TableError>
     requires { length cells.now ≡ length schema.now.fields.items * rows }
     ensures taken { IfOk result (λ _. first_unfit (schema_of schema.now) (rows_in (length schema.now.fields.items) rows (map cell cells.now)) ≡ None) }
-    ensures weight { IfOk result (λ w. w ≡ told_weight (table_weight (schema_of schema.now) (rows_in (length schema.now.fields.items) rows (map cell cells.now)))) }
-    ensures refused { IfErr result (λ e. Tells e (table_from (schema_of schema.now) (rows_in (length schema.now.fields.items) rows (map cell cells.now)))) }
+    ensures weight { IfOk result (λ w. w ≡ capped_weight (table_weight (schema_of schema.now) (rows_in (length schema.now.fields.items) rows (map cell cells.now)))) }
+    ensures refused { IfErr result (λ e. Reports e (table_from (schema_of schema.now) (rows_in (length schema.now.fields.items) rows (map cell cells.now)))) }
 {
     let limited = has_limits(schema);
     let width = schema.fields.len();

@@ -1,7 +1,7 @@
 // What a dictionary may hold.
 ghost use Rattle.std.specs.Prelude.{◌≡◌, map, OnOk, OnErr};
 ghost use Rattle.values.specs.View.{cell};
-ghost use Rattle.values.specs.Entry.{entry_cell, told_entry};
+ghost use Rattle.values.specs.Entry.{entry_cell, entry_cell_of};
 ghost use Rattle.values.specs.Dictionary.{with_entry, entry_in};
 
 use crate::value::Value;
@@ -19,10 +19,10 @@ pub enum Entry<'a> {
 
 /// The entry that a value would be.
 pub fn entry_of(value: &Value) -> Option<Entry<'_>>
-    ensures { told_entry result ≡ entry_in (cell value.now) }
+    ensures { entry_cell_of result ≡ entry_in (cell value.now) }
 {
     match value {
-        Value::Bool(truth) => Some(Entry::Bool(*truth)),
+        Value::Bool(boolean) => Some(Entry::Bool(*boolean)),
         Value::Int(number) => Some(Entry::Int(*number)),
         Value::Text(text) => Some(Entry::Text(text.as_str())),
         Value::Bytes(bytes) => Some(Entry::Bytes(bytes)),

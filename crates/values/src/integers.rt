@@ -137,7 +137,7 @@ pub(crate) struct IntegerRow<'a> {
 
 impl<'a> IntegerRow<'a> {
     ghost use Rattle.std.specs.Prelude.{◌∷◌, [], slice_get, option_map, option_to_list};
-    ghost use Rattle.values.specs.Lent.{integer_cells, first_integer};
+    ghost use Rattle.values.specs.Borrowed.{integer_cells, first_integer};
 
     pub(crate) fn len(&self) -> usize
         ensures { result ≡ length (integer_cells self.now) }

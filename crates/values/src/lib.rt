@@ -2,10 +2,11 @@
 //!
 //! A [`Value`] is one cell of a table. Contracts see values as the plain trees of `specs/Cell.antt`, and of a [`Table`]
 //! its schema and its rows alone, however it keeps them. A table's rows fit its schema, and they and the whole are within
-//! the limits of weight and of dictionaries; whoever makes one is told the first row that is not.
+//! the limits of weight and of dictionaries; whoever makes one is reported the first row that is not.
 #![tactic(auto)]
 
 mod accept;
+mod borrowed;
 mod content;
 mod entry;
 mod errors;
@@ -13,7 +14,6 @@ mod fit;
 mod holding;
 mod integers;
 mod laws;
-mod lent;
 mod limited;
 mod row;
 mod rows;
@@ -21,6 +21,7 @@ mod table;
 mod value;
 mod weigh;
 
+pub use borrowed::{ValueRef, Values, ValuesIter, borrow_value};
 pub use entry::{Entry, entry_of, note};
 pub use errors::TableError;
 pub use fit::fits;
@@ -29,7 +30,6 @@ pub use laws::{
     entries_are_the_distinct_values, integer_columns_are_integer_tables, integer_rows_weigh_alike,
     one_entry_is_one_value,
 };
-pub use lent::{ValueRef, Values, ValuesIter, lend};
 pub use row::Row;
 pub use rows::Rows;
 pub use table::Table;

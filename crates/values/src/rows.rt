@@ -2,7 +2,7 @@
 ghost use Rattle.std.specs.Prelude.{◌≡◌, ◌+◌, ◌*◌, ◌≤◌, map, take, drop, length};
 ghost use Rattle.values.specs.View.{cell};
 
-use crate::lent::Values;
+use crate::borrowed::Values;
 use crate::table::Table;
 use crate::value::Value;
 
@@ -15,12 +15,12 @@ pub struct Rows<'a> {
 
 impl<'a> Iterator for Rows<'a> {
     ghost use Rattle.std.specs.Iterator.{YieldsFirstBy, item_count};
-    ghost use Rattle.values.specs.Lent.{lent_cells};
+    ghost use Rattle.values.specs.Borrowed.{borrowed_cells};
     ghost use Rattle.values.specs.TableView.{rows_left};
 
     type Item = Values<'a>;
 
-    ghost next_gives = { YieldsFirstBy lent_cells rows_left };
+    ghost next_gives = { YieldsFirstBy borrowed_cells rows_left };
 
     ghost remaining = { item_count rows_left };
 

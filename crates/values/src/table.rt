@@ -4,10 +4,10 @@ ghost use Rattle.values.specs.Table.{IsTable};
 ghost use Rattle.values.specs.Content.{table_with, is_filled};
 
 use crate::accept::{weigh_cells, weigh_rows};
+use crate::borrowed::{Form, Values};
 use crate::content::Content;
 use crate::errors::TableError;
 use crate::integers::{IntegerRow, are_integers, columns_are_bytes, have_rows, is_integer_schema};
-use crate::lent::{Form, Values};
 use crate::row::{Row, join};
 use crate::rows::{Rows, row_at};
 use crate::value::Value;
@@ -31,11 +31,11 @@ impl Table {
     ghost use Rattle.arrow_schema.specs.Integers.{is_integer_schema};
     ghost use Rattle.arrow_schema.specs.View.{schema_of};
     ghost use Rattle.arrow_schema.specs.Limits.{IsWithinLimits};
-    ghost use Rattle.values.specs.Lent.{lent_cells};
+    ghost use Rattle.values.specs.Borrowed.{borrowed_cells};
     ghost use Rattle.values.specs.IntegerTable.{integer_columns, have_rows, plain_table, IsIntegerTable};
     ghost use Rattle.values.specs.Rows.{table_in};
     ghost use Rattle.values.specs.Table.{table_from};
-    ghost use Rattle.values.specs.TableView.{row_of, table_of, rows_left, Tells};
+    ghost use Rattle.values.specs.TableView.{row_of, table_of, rows_left, Reports};
 
     /// The table of these rows. It refuses the first row, counted from 0, that does not fit, weighs more than
     /// `MAX_ROW_WEIGHT` or fills a dictionary (`Unfit`), or else rows that weigh more than `MAX_TABLE_WEIGHT` together
@@ -44,7 +44,7 @@ impl Table {
         requires { IsWithinLimits (schema_of schema) }
         ensures made { IfOk result (λ t. table_of t ≡ record { schema = schema_of schema; rows = map row_of rows.items }) }
         ensures taken { IfOk result (λ t. table_from (schema_of schema) (map row_of rows.items) ≡ Ok (table_of t)) }
-        ensures refused { IfErr result (λ e. Tells e (table_from (schema_of schema) (map row_of rows.items))) }
+        ensures refused { IfErr result (λ e. Reports e (table_from (schema_of schema) (map row_of rows.items))) }
     {
         let weight = weigh_rows(&schema, &rows, alloc)?;
         if weight > MAX_TABLE_WEIGHT {
@@ -70,7 +70,7 @@ impl Table {
         requires filled { length cells.items ≡ length schema.fields.items * rows }
         ensures made { IfOk result (λ t. table_of t ≡ table_in schema rows cells.items) }
         ensures taken { IfOk result (λ t. table_from (schema_of schema) (table_in schema rows cells.items).rows ≡ Ok (table_of t)) }
-        ensures refused { IfErr result (λ e. Tells e (table_from (schema_of schema) (table_in schema rows cells.items).rows)) }
+        ensures refused { IfErr result (λ e. Reports e (table_from (schema_of schema) (table_in schema rows cells.items).rows)) }
     {
         let weight = weigh_cells(&schema, &cells, rows, alloc)?;
         if weight > MAX_TABLE_WEIGHT {
@@ -158,7 +158,7 @@ impl Table {
 
     /// The row at a place, counted from 0.
     pub fn row(&self, i: usize) -> Option<Values<'_>>
-        ensures { option_map lent_cells result ≡ slice_get (table_of self.now).rows i }
+        ensures { option_map borrowed_cells result ≡ slice_get (table_of self.now).rows i }
     {
         if i >= self.len() {
             return None;

@@ -4,7 +4,7 @@ ghost use Rattle.arrow_schema.specs.Column.{columns_of};
 ghost use Rattle.arrow_schema.specs.View.{kind_of, column_of, schema_of};
 ghost use Rattle.values.specs.Cell.{cells_of, null};
 ghost use Rattle.values.specs.View.{cell};
-ghost use Rattle.values.specs.Weight.{weight, row_weight, kind_weight, parts_weight, sum_of, fixed_sum, byte_count, items_in, parts_in, told_weight};
+ghost use Rattle.values.specs.Weight.{weight, row_weight, kind_weight, parts_weight, sum_of, fixed_sum, byte_count, items_in, parts_in, capped_weight};
 
 use crate::value::Value;
 use arrow_schema::{DataType, Field, Schema};
@@ -13,18 +13,18 @@ use arrow_schema::{DataType, Field, Schema};
 pub const MAX_ROW_WEIGHT: u64 = 16_777_216;
 /// The most that all rows of a table may weigh.
 pub const MAX_TABLE_WEIGHT: u64 = 268_435_456;
-/// What weighs more than a table may is told as this.
+/// What weighs more than a table may is reported as this.
 pub const TOO_HEAVY: u64 = MAX_TABLE_WEIGHT + 1;
 
-// The sum as it is told, from two that are.
+// The sum as it is reported, from two that are.
 pub(crate) fn add(a: u64, b: u64) -> u64
-    ensures { result ≡ told_weight (a + b) }
+    ensures { result ≡ capped_weight (a + b) }
 {
     a.saturating_add(b).min(TOO_HEAVY)
 }
 
 fn multiply(size: u32, weight: u64) -> u64
-    ensures { result ≡ told_weight (size * weight) }
+    ensures { result ≡ capped_weight (size * weight) }
 {
     u64::from(size).saturating_mul(weight).min(TOO_HEAVY)
 }
@@ -62,7 +62,7 @@ pub(crate) fn parts_in(value: &Value) -> &[Value]
 #[tactic(auto, unfolding(crate::specs::Weight::weight))]
 #[cycle(weight)]
 pub fn weight(field: &Field, value: &Value) -> u64
-    ensures { result ≡ told_weight (weight (column_of field.now) (cell value.now)) }
+    ensures { result ≡ capped_weight (weight (column_of field.now) (cell value.now)) }
 {
     type_weight(&field.data_type, value)
 }
@@ -70,7 +70,7 @@ pub fn weight(field: &Field, value: &Value) -> u64
 #[tactic(auto, unfolding(crate::specs::Weight::kind_weight))]
 #[cycle(weight)]
 fn type_weight(data_type: &DataType, value: &Value) -> u64
-    ensures { result ≡ told_weight (kind_weight (kind_of data_type.now) (cell value.now)) }
+    ensures { result ≡ capped_weight (kind_weight (kind_of data_type.now) (cell value.now)) }
 {
     match data_type {
         DataType::Null => 1,
@@ -92,7 +92,7 @@ fn type_weight(data_type: &DataType, value: &Value) -> u64
 
 #[cycle(weight)]
 fn items_weight(item: &Field, values: &[Value]) -> u64
-    ensures { result ≡ told_weight (sum_of (weight (column_of item.now)) (cells_of (map cell values.now))) }
+    ensures { result ≡ capped_weight (sum_of (weight (column_of item.now)) (cells_of (map cell values.now))) }
 {
     let mut total = 0;
     for value in values {
@@ -105,10 +105,10 @@ fn items_weight(item: &Field, values: &[Value]) -> u64
 }
 
 // A null fixed list is not gone through: its size is the type's word alone.
-#[tactic(auto, using(crate::proofs::WeightLemmas::told_product))]
+#[tactic(auto, using(crate::proofs::WeightLemmas::capped_product))]
 #[cycle(weight)]
 fn fixed_weight(size: u32, item: &Field, value: &Value) -> u64
-    ensures { result ≡ told_weight (fixed_sum size (weight (column_of item.now)) (cell value.now)) }
+    ensures { result ≡ capped_weight (fixed_sum size (weight (column_of item.now)) (cell value.now)) }
 {
     match value {
         Value::Null => match size {
@@ -123,7 +123,7 @@ fn fixed_weight(size: u32, item: &Field, value: &Value) -> u64
 #[tactic(auto, unfolding(crate::specs::Weight::parts_weight))]
 #[cycle(weight)]
 pub(crate) fn parts_weight(fields: &[Field], parts: &[Value]) -> u64
-    ensures { result ≡ told_weight (parts_weight (columns_of (map column_of fields.now)) (cells_of (map cell parts.now))) }
+    ensures { result ≡ capped_weight (parts_weight (columns_of (map column_of fields.now)) (cells_of (map cell parts.now))) }
 {
     let mut total = 0;
     for (i, field) in fields.iter().enumerate() {
@@ -139,7 +139,7 @@ pub(crate) fn parts_weight(fields: &[Field], parts: &[Value]) -> u64
 /// The weight of a row: 1 and its cells, where an absent cell weighs as a null. It is exact up to `MAX_TABLE_WEIGHT`, and
 /// `TOO_HEAVY` where the row weighs more.
 pub fn row_weight(schema: &Schema, row: &[Value]) -> u64
-    ensures { result ≡ told_weight (row_weight (schema_of schema.now) (map cell row.now)) }
+    ensures { result ≡ capped_weight (row_weight (schema_of schema.now) (map cell row.now)) }
 {
     add(1, parts_weight(&schema.fields, row))
 }

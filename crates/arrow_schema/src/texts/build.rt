@@ -40,8 +40,8 @@ fn flat_type(alloc: Global, flat: Flat) -> Result<DataType, AllocError>
         Flat::Bool => Ok(DataType::Bool),
         Flat::Int(integer) => Ok(DataType::Int(integer)),
         Flat::Date(unit) => Ok(DataType::Date(unit)),
-        Flat::Timestamp(unit, zone) => {
-            Ok(DataType::Timestamp(unit, String::from_str(alloc, zone)?))
+        Flat::Timestamp(unit, timezone) => {
+            Ok(DataType::Timestamp(unit, String::from_str(alloc, timezone)?))
         }
         Flat::Utf8 => Ok(DataType::Utf8),
         Flat::LargeUtf8 => Ok(DataType::LargeUtf8),

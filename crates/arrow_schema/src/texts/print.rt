@@ -5,7 +5,7 @@ ghost use Rattle.arrow_schema.specs.Column.{columns_of};
 ghost use Rattle.arrow_schema.specs.View.{kind_of, column_of, index_of};
 ghost use Rattle.arrow_schema.specs.declared.types.Field.{out-Field};
 ghost use Rattle.arrow_schema.specs.Keywords.{number_text, keyword_text};
-ghost use Rattle.arrow_schema.specs.FieldText.{printed, zone_text, dictionary_text, with_dictionary, type_text, field_text, fields_text};
+ghost use Rattle.arrow_schema.specs.FieldText.{printed, timezone_text, dictionary_text, with_dictionary, type_text, field_text, fields_text};
 
 use super::keyword::Keyword;
 use crate::types::{DataType, DictSpec, Field};
@@ -20,7 +20,7 @@ fn json_text(alloc: Global, text: &str) -> Result<String, AllocError>
     Value::try_from_str(alloc, text)?.to_string(alloc)
 }
 
-/// The form that `schema` prints: names, items' names and zones are JSON texts. Pairs are not printed.
+/// The form that `schema` prints: names, items' names and timezones are JSON texts. Pairs are not printed.
 pub fn field_text(alloc: Global, field: &Field) -> Result<String, AllocError>
     ensures { IfOk result (λ text. string_bytes text ≡ field_text printed (column_of field.now)) }
 {
@@ -53,13 +53,13 @@ fn push_dictionary(text: &mut String, dictionary: DictSpec) -> Result<(), AllocE
     text.push_str(",")
 }
 
-// A zone in parentheses, where there is one.
-fn push_zone(alloc: Global, text: &mut String, zone: &str) -> Result<(), AllocError>
-    ensures { OnOk result (string_bytes text.new ≡ string_bytes text.old ++ zone_text printed zone.now) }
+// A timezone in parentheses, where there is one.
+fn push_timezone(alloc: Global, text: &mut String, timezone: &str) -> Result<(), AllocError>
+    ensures { OnOk result (string_bytes text.new ≡ string_bytes text.old ++ timezone_text printed timezone.now) }
 {
-    if !zone.is_empty() {
+    if !timezone.is_empty() {
         text.push_str("(")?;
-        text.push_str(json_text(alloc, zone)?.as_str())?;
+        text.push_str(json_text(alloc, timezone)?.as_str())?;
         text.push_str(")")?;
     }
     Ok(())
@@ -105,9 +105,9 @@ fn push_type(alloc: Global, text: &mut String, data_type: &DataType) -> Result<(
         DataType::Bool => text.push_str(Keyword::Bool.text()),
         DataType::Int(integer) => text.push_str(Keyword::Int(*integer).text()),
         DataType::Date(unit) => text.push_str(Keyword::Date(*unit).text()),
-        DataType::Timestamp(unit, zone) => {
+        DataType::Timestamp(unit, timezone) => {
             text.push_str(Keyword::Timestamp(*unit).text())?;
-            push_zone(alloc, text, zone.as_str())
+            push_timezone(alloc, text, timezone.as_str())
         }
         DataType::Utf8 => text.push_str(Keyword::Utf8.text()),
         DataType::LargeUtf8 => text.push_str(Keyword::LargeUtf8.text()),

@@ -1,8 +1,8 @@
 // What stands at the front of a field text, and what follows it. No call here takes memory.
 ghost use Rattle.std.specs.Prelude.{◌≡◌, ◌<◌};
 ghost use Rattle.std.specs.List.{list_all};
-ghost use Rattle.arrow_schema.specs.Typed.{is_name_byte, is_zone_byte, is_name};
-ghost use Rattle.arrow_schema.specs.Scan.{Reads, stripped, cut_at, keyword_in, keyword_at, is_numeral, value, within_word, is_size, size_at, is_zone, zone_at, flat_at, dictionary_at, front_at, name_at, is_marked, after_mark};
+ghost use Rattle.arrow_schema.specs.Typed.{is_name_byte, is_timezone_byte, is_name};
+ghost use Rattle.arrow_schema.specs.Scan.{Reads, stripped, cut_at, keyword_in, keyword_at, is_numeral, value, within_word, is_size, size_at, is_timezone, timezone_at, flat_at, dictionary_at, front_at, name_at, is_marked, after_mark};
 ghost use Rattle.arrow_schema.specs.Fronts.{flat_kind, front_of};
 
 use super::keyword::{KEYWORDS, Keyword};
@@ -78,8 +78,8 @@ fn is_name_byte(byte: u8) -> bool
     )
 }
 
-fn is_zone_byte(byte: u8) -> bool
-    ensures { result ≡ is_zone_byte byte }
+fn is_timezone_byte(byte: u8) -> bool
+    ensures { result ≡ is_timezone_byte byte }
 {
     !matches!(byte, b' ' | b'(' | b')' | b'"')
 }
@@ -95,11 +95,11 @@ fn is_name(text: &str) -> bool
     !text.is_empty()
 }
 
-fn is_zone(text: &str) -> bool
-    ensures { result ≡ is_zone text.now }
+fn is_timezone(text: &str) -> bool
+    ensures { result ≡ is_timezone text.now }
 {
     for byte in text.as_bytes() {
-        if !is_zone_byte(*byte) {
+        if !is_timezone_byte(*byte) {
             return false;
         }
     }
@@ -146,16 +146,16 @@ fn size_of(text: &str, mark: char, limited: bool) -> Option<(u32, &str)>
     fits.then_some((number, rest))
 }
 
-// The zone of a timestamp: none where no parenthesis opens.
-#[tactic(auto, unfolding(crate::specs::Scan::zone_at, crate::specs::Scan::zone_within))]
-fn zone_of(text: &str) -> Option<(&str, &str)>
-    ensures { Reads (λ p. (p.0.now, p.1.now)) result (zone_at text.now) }
+// The timezone of a timestamp: none where no parenthesis opens.
+#[tactic(auto, unfolding(crate::specs::Scan::timezone_at, crate::specs::Scan::timezone_within))]
+fn timezone_of(text: &str) -> Option<(&str, &str)>
+    ensures { Reads (λ p. (p.0.now, p.1.now)) result (timezone_at text.now) }
 {
     let Some(inside) = strip(text, "(") else {
         return Some(("", text));
     };
-    let (zone, rest) = cut(inside, ')')?;
-    is_zone(zone).then_some((zone, rest))
+    let (timezone, rest) = cut(inside, ')')?;
+    is_timezone(timezone).then_some((timezone, rest))
 }
 
 // A type without parts, after its word.
@@ -169,8 +169,8 @@ fn flat_of(word: Keyword, text: &str, limited: bool) -> Option<(Flat<'_>, &str)>
         Keyword::Int(integer) => Flat::Int(integer),
         Keyword::Date(unit) => Flat::Date(unit),
         Keyword::Timestamp(unit) => {
-            let (zone, rest) = zone_of(text)?;
-            return Some((Flat::Timestamp(unit, zone), rest));
+            let (timezone, rest) = timezone_of(text)?;
+            return Some((Flat::Timestamp(unit, timezone), rest));
         }
         Keyword::Utf8 => Flat::Utf8,
         Keyword::LargeUtf8 => Flat::LargeUtf8,

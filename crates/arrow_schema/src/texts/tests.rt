@@ -39,12 +39,12 @@ fn prints_flat_fields(rt: HostRuntime) -> Result<(), Fail> {
         field_text(alloc, &quoted)?.as_str(),
         "\"q\\\"\\\\\\n\\u0001é\":fixed_binary(2147483647)"
     );
-    let zone = String::from_str(alloc, "UTC")?;
+    let timezone = String::from_str(alloc, "UTC")?;
     let t = field(
         alloc,
         "",
         false,
-        DataType::Timestamp(TimeUnit::Second, zone),
+        DataType::Timestamp(TimeUnit::Second, timezone),
     )?;
     assert_eq!(rt;
         field_text(alloc, &t)?.as_str(),

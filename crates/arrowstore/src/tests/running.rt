@@ -74,11 +74,11 @@ fn each_failing_read_and_write_is_told_on_one_line(rt: HostRuntime) -> Result<()
 #[test]
 fn the_status_tells_where_errors_cannot_be_written(rt: HostRuntime) -> Result<(), Fail> {
     let alloc = rt.alloc();
-    for (words, code) in [(&RECODE[..2], 1), (&RECODE[..1], 2)] {
+    for (arguments, code) in [(&RECODE[..2], 1), (&RECODE[..1], 2)] {
         let mut input = Pieces::new(&[], 1, Moment::Never);
         let mut output = Vec::new(alloc);
         let mut errors = Kept::new(alloc, 1, Moment::Fails(0))?;
-        let status = run(alloc, words, &mut input, &mut output, &mut errors);
+        let status = run(alloc, arguments, &mut input, &mut output, &mut errors);
         assert_eq!(rt; status.code(), code);
         assert!(rt; output.is_empty());
         assert!(rt; errors.bytes().is_empty());
@@ -87,9 +87,9 @@ fn the_status_tells_where_errors_cannot_be_written(rt: HostRuntime) -> Result<()
 }
 
 #[test]
-fn wrong_words_and_help_read_nothing(rt: HostRuntime) -> Result<(), Fail> {
+fn wrong_arguments_and_help_read_nothing(rt: HostRuntime) -> Result<(), Fail> {
     let alloc = rt.alloc();
-    for (words, code) in [
+    for (arguments, code) in [
         (["arrowstore"].as_slice(), 2),
         (["arrowstore", "store"].as_slice(), 2),
         (["arrowstore", "recode", "now"].as_slice(), 2),
@@ -97,7 +97,7 @@ fn wrong_words_and_help_read_nothing(rt: HostRuntime) -> Result<(), Fail> {
     ] {
         let mut input = Pieces::new(&SCHEMA, 152, Moment::Never);
         let (mut output, mut errors) = (Vec::new(alloc), Vec::new(alloc));
-        let status = run(alloc, words, &mut input, &mut output, &mut errors);
+        let status = run(alloc, arguments, &mut input, &mut output, &mut errors);
         assert_eq!(rt; status.code(), code);
         assert_eq!(rt; input.calls(), 0);
         assert_eq!(rt; output.is_empty(), code == 2);
@@ -112,8 +112,8 @@ fn help_that_cannot_be_written_is_refused(rt: HostRuntime) -> Result<(), Fail> {
     let mut input = Pieces::new(&SCHEMA, 152, Moment::Never);
     let mut output = Kept::new(alloc, 512, Moment::Fails(0))?;
     let mut errors = Vec::new(alloc);
-    let words = ["arrowstore", "--help"];
-    let status = run(alloc, &words, &mut input, &mut output, &mut errors);
+    let arguments = ["arrowstore", "--help"];
+    let status = run(alloc, &arguments, &mut input, &mut output, &mut errors);
     assert_eq!(rt; status, Status::Refused);
     assert_eq!(rt; errors.as_slice(), b"refused G1 Io\n".as_slice());
     assert_eq!(rt; (input.calls(), output.bytes().len()), (0, 0));

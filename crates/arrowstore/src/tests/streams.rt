@@ -49,7 +49,7 @@ pub const THREE_ROWS: [u8; 104] = [
     0x00, 0x00, 0x00, 0x00, 0x00, 0x00, 0x00, 0x00,
 ];
 
-/// The end mark.
+/// The end of stream.
 pub const END: [u8; 8] = [0xff, 0xff, 0xff, 0xff, 0, 0, 0, 0];
 
 /// The numbers 7 and -1 as they stand in a batch.

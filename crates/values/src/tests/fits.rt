@@ -48,8 +48,8 @@ fn dates_and_timestamps_fit_within_their_bits(rt: HostRuntime) -> Result<(), All
             Value::Int(days)
         )?
     );
-    let zone = String::from_str(alloc, "Europe/Paris")?;
-    let timestamp = DataType::Timestamp(TimeUnit::Nanosecond, zone);
+    let timezone = String::from_str(alloc, "Europe/Paris")?;
+    let timestamp = DataType::Timestamp(TimeUnit::Nanosecond, timezone);
     assert!(rt; accepts(alloc, timestamp, Value::Int(most))?);
     let timestamp = DataType::Timestamp(TimeUnit::Second, String::new(alloc));
     assert!(rt; !accepts(alloc, timestamp, Value::Int(most + 1))?);

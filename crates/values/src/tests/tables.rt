@@ -143,7 +143,7 @@ fn items_and_parts_are_lent_in_order(rt: HostRuntime) -> Result<(), AllocError> 
     let alloc = rt.alloc();
     let bytes = Value::Bytes(vec![in alloc; 10, 255]?);
     let items = Value::List(vec![in alloc; Value::Bool(true), Value::Null, bytes]?);
-    let ValueRef::List(items) = lend(&items) else {
+    let ValueRef::List(items) = borrow_value(&items) else {
         panic!(rt; "no list");
     };
     let mut kinds = String::new(alloc);
@@ -157,7 +157,7 @@ fn items_and_parts_are_lent_in_order(rt: HostRuntime) -> Result<(), AllocError> 
     }
     assert_eq!(rt; kinds.as_str(), "tnb");
     let parts = Value::Struct(vec![in alloc; Value::Int(7)]?);
-    assert!(rt; matches!(lend(&parts), ValueRef::Struct(parts) if parts.len() == 1));
+    assert!(rt; matches!(borrow_value(&parts), ValueRef::Struct(parts) if parts.len() == 1));
     Ok(())
 }
 

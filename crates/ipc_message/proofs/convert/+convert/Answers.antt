@@ -8,7 +8,7 @@ use Rattle.ipc_message.specs.declared.raw.RawField.TheViews.{the_lemmas}
 use Rattle.ipc_message.specs.Fields.{preorder, preorder_all}
 use Rattle.ipc_message.specs.Convert.{column_of_field}
 use Rattle.ipc_message.specs.View.{raw_field_of}
-use Rattle.ipc_message.proofs.Spelled.{parts_readable, column_opened, left_readable, same_column}
+use Rattle.ipc_message.proofs.Decoded.{parts_readable, column_opened, left_readable, same_column}
 use Rattle.ipc_message.proofs.convert.+convert.Goals as goal
 
 pub copy_field-copy_fields-requires : goal.copy_field-copy_fields-requires
@@ -17,12 +17,12 @@ copy_field-copy_fields-requires t c = (search (rules, the_lemmas), rw c.deref.en
 pub copy_field-copy_text-requires : goal.copy_field-copy_text-requires
 copy_field-copy_text-requires t c = (parts_readable c.args.raw.now c.requires).name
 
-pub copy_field-data_type-requires-clause-spelled : goal.copy_field-data_type-requires-clause-spelled
-copy_field-data_type-requires-clause-spelled t c =
-    rw (c.type_name.ensures, c.in_ok-children.ensures, c.deref.ensures.value) (parts_readable c.args.raw.now c.requires).spelled
+pub copy_field-data_type-requires-clause-decoded : goal.copy_field-data_type-requires-clause-decoded
+copy_field-data_type-requires-clause-decoded t c =
+    rw (c.type_name.ensures, c.in_ok-children.ensures, c.deref.ensures.value) (parts_readable c.args.raw.now c.requires).decoded
 
-pub copy_field-data_type-requires-clause-zone : goal.copy_field-data_type-requires-clause-zone
-copy_field-data_type-requires-clause-zone t c = (parts_readable c.args.raw.now c.requires).zone
+pub copy_field-data_type-requires-clause-timezone : goal.copy_field-data_type-requires-clause-timezone
+copy_field-data_type-requires-clause-timezone t c = (parts_readable c.args.raw.now c.requires).timezone
 
 pub copy_field-copy_pairs-requires : goal.copy_field-copy_pairs-requires
 copy_field-copy_pairs-requires t c = rw c.deref-2.ensures.value (parts_readable c.args.raw.now c.requires).pairs
@@ -33,10 +33,10 @@ copy_field-copy_index-requires t c = (parts_readable c.args.raw.now c.requires).
 pub copy_field-returns : goal.copy_field-returns
 unfolding column_of_field
 copy_field-returns t c =
-    let spelled = rw (c.type_name.ensures, c.in_ok-children.ensures, c.deref.ensures.value) at c.in_ok-data_type.ensures in
+    let decoded = rw (c.type_name.ensures, c.in_ok-children.ensures, c.deref.ensures.value) at c.in_ok-data_type.ensures in
     let pairs = rw c.deref-2.ensures.value at c.in_ok-pairs.ensures in
     fold-roll-Field Kind Column kind_step column_step _
-    ∙ same_column c.in_ok-name.ensures (sym (ap (λ (kind : Option Kind). unwrap_or kind nulls) spelled)) c.copy_index.ensures pairs
+    ∙ same_column c.in_ok-name.ensures (sym (ap (λ (kind : Option Kind). unwrap_or kind nulls) decoded)) c.copy_index.ensures pairs
     ∙ sym (column_opened c.args.raw.now)
 
 pub copy_fields-copy_field-requires : goal.copy_fields-copy_field-requires

@@ -2,7 +2,7 @@ use Rattle.std.proofs.Common.{◌≡◌, ◌++◌, map, drop, true}
 use Rattle.std.specs.List.{list_all}
 use Rattle.std.specs.Str.{is_utf8}
 use Rattle.arrow_schema.specs.View.{pair_of}
-use Rattle.ipc_message.specs.Rounds.{texts_of_pairs}
+use Rattle.ipc_message.specs.Checks.{texts_of_pairs}
 use Rattle.ipc_message.specs.View.{key_value}
 use Rattle.ipc_message.proofs.convert.copy_pairs.Given as goal
 

@@ -8,9 +8,9 @@ not_utf8 : (bs : List ℕ) (b : Bool) → is_utf8 bs ≡ b → (IsUtf8 bs → �
 not_utf8 bs true e h = absurd (h (IsUtf8-from_is_utf8 bs e))
 not_utf8 bs false e h = sym e
 
-told : {S E : Type 0} (bs : List ℕ) (r : Result S E) (P : S → Type 0) → MatchResult r (λ s. P s × IsUtf8 bs) (λ e. IsUtf8 bs → ⊥) → is_ok r ≡ is_utf8 bs
-told bs (Ok s) P h = sym (is_utf8-from_IsUtf8 bs h.1)
-told bs (Err e) P h = not_utf8 bs _ refl h
+reported : {S E : Type 0} (bs : List ℕ) (r : Result S E) (P : S → Type 0) → MatchResult r (λ s. P s × IsUtf8 bs) (λ e. IsUtf8 bs → ⊥) → is_ok r ≡ is_utf8 bs
+reported bs (Ok s) P h = sym (is_utf8-from_IsUtf8 bs h.1)
+reported bs (Err e) P h = not_utf8 bs _ refl h
 
 pub returns : goal.returns
-returns c = c.is_ok.ensures.value ∙ told c.args.text.now c.from_utf8.result (λ s. s.now ≡ c.args.text.now) c.from_utf8.ensures
+returns c = c.is_ok.ensures.value ∙ reported c.args.text.now c.from_utf8.result (λ s. s.now ≡ c.args.text.now) c.from_utf8.ensures

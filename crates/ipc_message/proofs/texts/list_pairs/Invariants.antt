@@ -1,5 +1,5 @@
 use Rattle.std.proofs.Common.{◌≡◌, ◌++◌, drop, map}
-use Rattle.ipc_message.specs.Rounds.{texts_of_pairs}
+use Rattle.ipc_message.specs.Checks.{texts_of_pairs}
 use Rattle.ipc_message.specs.View.{key_value}
 use Rattle.ipc_message.specs.Listed.{text_list}
 use Rattle.ipc_message.proofs.texts.list_pairs.Given as goal

@@ -11,7 +11,7 @@ use Rattle.ipc_message.specs.View.{raw_batch_of}
 use Rattle.ipc_stream.specs.declared.gathered.Gathered.{Gathered}
 use Rattle.values.specs.Columns.{IntegerColumn}
 use Rattle.values.specs.IntegerTable.{integer_columns, have_rows}
-use Rattle.ipc_stream.specs.Batch.{batch_rounds}
+use Rattle.ipc_stream.specs.Batch.{batch_checks}
 use Rattle.ipc_stream.specs.View.{gathered_table}
 use Rattle.ipc_stream.specs.Added.{added}
 use Rattle.ipc_stream.proofs.RowLemmas.{length_rows}
@@ -35,7 +35,7 @@ unfolding added
 returns-in-Some c = or_fault _ c.in-Some.fault _ (sym (c.batch_fault.ensures (gathered_table c.args.table).rows (count_rows c.args.table)) ∙ c.in-Some.is)
 
 -- no fault was found
-fine : (t : Gathered) (b : RawBatch) (body : List ℕ) → ((rows : List (List Cell)) → length rows ≡ t.rows → None ≡ first_some (batch_rounds (schema_of t.schema) rows (raw_batch_of b) body))
+fine : (t : Gathered) (b : RawBatch) (body : List ℕ) → ((rows : List (List Cell)) → length rows ≡ t.rows → None ≡ first_some (batch_checks (schema_of t.schema) rows (raw_batch_of b) body))
     → IsFine (schema_of t.schema) (gathered_table t).rows (raw_batch_of b) body
 fine t b body none = fine_of (schema_of t.schema) (gathered_table t).rows (raw_batch_of b) body (sym (none (gathered_table t).rows (count_rows t)))
 

@@ -5,42 +5,42 @@ use Rattle.arrow_schema.specs.declared.types.Schema.{Schema}
 use Rattle.arrow_schema.specs.Column.{PlainSchema}
 use Rattle.arrow_schema.specs.View.{schema_of, column_of}
 use Rattle.ipc_message.specs.declared.raw.RawBatch.{RawBatch}
-use Rattle.ipc_stream.specs.Batch.{batch_rounds, batch_rows}
+use Rattle.ipc_stream.specs.Batch.{batch_checks, batch_rows}
 use Rattle.ipc_stream.proofs.RowWeights.{WeighAlike}
 use Rattle.ipc_stream.proofs.BatchLemmas.{heavy_is, few_rows, weight_fits}
 use Rattle.ipc_stream.proofs.batch.batch_fault.Goals as goal
 
 pub returns-then-batch : goal.returns-then-batch
-unfolding batch_rounds
+unfolding batch_checks
 returns-then-batch c = λ rows len. rw (c.if-batch.true) refl
 
 pub returns-then-has_other_layout : goal.returns-then-has_other_layout
-unfolding batch_rounds
+unfolding batch_checks
 returns-then-has_other_layout c = λ rows len.
     rw (c.if-batch.false, ← c.if-has_other_layout.ensures) refl
 
 pub returns-then-has_bad_length : goal.returns-then-has_bad_length
-unfolding batch_rounds
+unfolding batch_checks
 returns-then-has_bad_length c = λ rows len.
     rw (c.if-batch.false, ← c.if-has_other_layout.ensures, ← c.if-has_bad_length.ensures) refl
 
 pub returns-then-has_buffer_outside : goal.returns-then-has_buffer_outside
-unfolding batch_rounds
+unfolding batch_checks
 returns-then-has_buffer_outside c = λ rows len.
     rw (c.if-batch.false, ← c.if-has_other_layout.ensures, ← c.if-has_bad_length.ensures, ← c.if-has_buffer_outside.ensures) refl
 
 pub returns-then-has_short_buffer : goal.returns-then-has_short_buffer
-unfolding batch_rounds
+unfolding batch_checks
 returns-then-has_short_buffer c = λ rows len.
     rw (c.if-batch.false, ← c.if-has_other_layout.ensures, ← c.if-has_bad_length.ensures, ← c.if-has_buffer_outside.ensures, ← c.if-has_short_buffer.ensures) refl
 
 pub returns-then-has_validity : goal.returns-then-has_validity
-unfolding batch_rounds
+unfolding batch_checks
 returns-then-has_validity c = λ rows len.
     rw (c.if-batch.false, ← c.if-has_other_layout.ensures, ← c.if-has_bad_length.ensures, ← c.if-has_buffer_outside.ensures, ← c.if-has_short_buffer.ensures, ← c.if-has_validity.ensures) refl
 
 pub returns-then-counts_nulls : goal.returns-then-counts_nulls
-unfolding batch_rounds
+unfolding batch_checks
 returns-then-counts_nulls c = λ rows len.
     rw (c.if-batch.false, ← c.if-has_other_layout.ensures, ← c.if-has_bad_length.ensures, ← c.if-has_buffer_outside.ensures, ← c.if-has_short_buffer.ensures, ← c.if-has_validity.ensures, ← c.if-counts_nulls.ensures) refl
 
@@ -52,7 +52,7 @@ overflow_mul-before c =
     omega (arith, fits)
 
 pub returns-then-before-batch-gt-MAX_WEIGHT : goal.returns-then-before-batch-gt-MAX_WEIGHT
-unfolding batch_rounds batch_rows
+unfolding batch_checks batch_rows
 returns-then-before-batch-gt-MAX_WEIGHT c = λ rows len.
     let s : PlainSchema = schema_of c.args.schema.now in
     let alike : WeighAlike s = record { row = λ row. c.integer_rows_weigh_alike.ensures.row s row c.requires.integers; rows = λ rows. c.integer_rows_weigh_alike.ensures.rows s rows c.requires.integers } in
@@ -61,7 +61,7 @@ returns-then-before-batch-gt-MAX_WEIGHT c = λ rows len.
     rw (c.if-batch.false, ← c.if-has_other_layout.ensures, ← c.if-has_bad_length.ensures, ← c.if-has_buffer_outside.ensures, ← c.if-has_short_buffer.ensures, ← c.if-has_validity.ensures, ← c.if-counts_nulls.ensures, heavy) refl
 
 pub returns : goal.returns
-unfolding batch_rounds batch_rows
+unfolding batch_checks batch_rows
 returns c = λ rows len.
     let s : PlainSchema = schema_of c.args.schema.now in
     let alike : WeighAlike s = record { row = λ row. c.integer_rows_weigh_alike.ensures.row s row c.requires.integers; rows = λ rows. c.integer_rows_weigh_alike.ensures.rows s rows c.requires.integers } in

@@ -1,11 +1,11 @@
 use Rattle.std.proofs.Common.{sym, subst, ◌∙◌, ap, Ok, Err}
 use Rattle.std.proofs.lemmas.Result.{err_from_is_err_and}
 use Rattle.ipc_message.specs.Messages.{envelope_of}
-use Rattle.ipc_message.specs.Header.{held_codes}
+use Rattle.ipc_message.specs.Header.{supported_codes}
 use Rattle.ipc_message.specs.View.{raw_header_of, raw_batch_of, raw_dictionary_of}
 use Rattle.ipc_stream.specs.Progress.{Adds}
 use Rattle.ipc_stream.specs.View.{gathered_table}
-use Rattle.ipc_stream.proofs.NextMessage.{type_of_header, header_typed, second_adds, unread_adds, dictionary_adds, batch_adds}
+use Rattle.ipc_stream.proofs.MessageRead.{type_of_header, header_typed, second_adds, unread_adds, dictionary_adds, batch_adds}
 use Rattle.ipc_stream.proofs.decoder.add_message.Goals as goal
 
 pub returns-in-Schema : goal.returns-in-Schema
@@ -20,7 +20,7 @@ returns-in_err-batch c =
 pub unreachable-requires : goal.unreachable-requires
 unreachable-requires c =
     c.in_default.not-Schema
-    (sym (header_typed held_codes (envelope_of c.args.message.now).metadata c.header_type.result (raw_header_of c.in_ok-batch.field-0) c.header_type.ensures c.in_ok-batch.ensures.exact)
+    (sym (header_typed supported_codes (envelope_of c.args.message.now).metadata c.header_type.result (raw_header_of c.in_ok-batch.field-0) c.header_type.ensures c.in_ok-batch.ensures.exact)
     ∙ ap (λ h. type_of_header (raw_header_of h)) c.in-Schema-2.is)
 
 pub returns-in-RecordBatch : goal.returns-in-RecordBatch

@@ -3,7 +3,7 @@ use Rattle.std.specs.Prelude.{min}
 use Rattle.std.proofs.lemmas.List.{length-map}
 use Rattle.arrow_schema.specs.Column.{PlainSchema}
 use Rattle.arrow_schema.specs.View.{schema_of, column_of}
-use Rattle.ipc_write.specs.Written.{schema_message, end_mark}
+use Rattle.ipc_write.specs.Written.{schema_message, end_of_stream}
 use Rattle.ipc_stream.specs.Canonical.{piece_message}
 use Rattle.values.specs.Columns.{rows_from}
 use Rattle.values.specs.IntegerTable.{integer_columns}
@@ -52,7 +52,7 @@ returns c =
     ∙ ap (λ (x : List ℕ). out ++ x) (sym (no_piece s values from))
     ∙ ap (λ (m : ℕ). out ++ messages_of s values from m) (sym none)
     ∙ c.loop-from.invariant.written in
-    let ended : c.write_end.new.out.items ≡ out ++ end_mark = c.in_ok-write_end.ensures.appended in
-    ended ∙ ap (λ (x : List ℕ). x ++ end_mark) whole
-    ∙ append_assoc (schema_message s) (messages_of s values 0 c.args.rows) end_mark
+    let ended : c.write_end.new.out.items ≡ out ++ end_of_stream = c.in_ok-write_end.ensures.appended in
+    ended ∙ ap (λ (x : List ℕ). x ++ end_of_stream) whole
+    ∙ append_assoc (schema_message s) (messages_of s values 0 c.args.rows) end_of_stream
     ∙ sym (canonical_is s values c.args.rows)

@@ -5,7 +5,7 @@ use Rattle.values.specs.Cell.{PlainTable}
 use Rattle.values.specs.Columns.{values_of_all}
 use Rattle.values.specs.IntegerTable.{integer_columns}
 use Rattle.values.specs.TableView.{table_of}
-use Rattle.ipc_message.specs.Header.{held_codes}
+use Rattle.ipc_message.specs.Header.{supported_codes}
 use Rattle.ipc_stream.specs.Canonical.{canonical}
 use Rattle.ipc_stream.specs.Meaning.{meaning}
 use Rattle.ipc_stream.proofs.ColumnBytes.{all_bytes}
@@ -24,15 +24,15 @@ returns c =
     let weighs = alike.rows t.schema t.rows c.requires.schema in
     let light : length t.rows * (1 + length t.schema.columns) ≤ 268435456 = omega (arith, weighs, is.weight) in
     let values : List (List ℕ) = values_of_all (integer_columns t.schema) t.rows in
-    subst (λ (x : PlainTable). meaning held_codes (canonical x) ≡ Ok x) (table_again t values is c.requires refl)
+    subst (λ (x : PlainTable). meaning supported_codes (canonical x) ≡ Ok x) (table_again t values is c.requires refl)
     (canonical_read t.schema values (length t.rows)
     (record {
-      stands = λ rest. schema.front t.schema rest c.requires.schema is.schema;
+      stands = λ rest. schema.next_message t.schema rest c.requires.schema is.schema;
       kind = schema.kind t.schema c.requires.schema is.schema;
-      spelled = schema.header held_codes t.schema (refl, refl) c.requires.schema is.schema;
+      decoded = schema.header supported_codes t.schema (refl, refl) c.requires.schema is.schema;
       after = schema.after t.schema;
     })
-    (record { stands = batch.front; kind = batch.kind; spelled = batch.header held_codes; after = batch.after })
+    (record { stands = batch.next_message; kind = batch.kind; decoded = batch.header supported_codes; after = batch.after })
     (record {
       integers = c.requires.schema;
       weigh = record { row = λ row. alike.row t.schema row c.requires.schema; rows = λ rows. alike.rows t.schema rows c.requires.schema };

@@ -17,14 +17,14 @@ loop-i-preserved c =
     let w : ℕ = c.args.width in
     let lt : i < length rows = omega (arith, c.len-i-end.ensures, c.loop-i-test.true) in
     let there = some_row rows i lt in
-    let held = c.requires.integers i there.0 there.1 in
-    let same : c.integer_at.result ≡ held.0 = c.integer_at.ensures there.0 held.0 there.1 held.1 in
+    let supported = c.requires.integers i there.0 there.1 in
+    let same : c.integer_at.result ≡ supported.0 = c.integer_at.ensures there.0 supported.0 there.1 supported.1 in
     let next : suc i ≡ i + 1 = omega arith in
     let all : List ℕ = values_of w (cells_at c.args.place rows) in
     let kept : to_z w128 (of_z w128 c.integer_at.result) ≡ c.integer_at.result = to_z-of_z w128 c.integer_at.result (record { sfits = c.integer_at.type_inv }) in
     let pushed : c.push_integer.new.values.items ≡ c.loop-i.values.items ++ little_bytes w (low_bytes w128 w c.integer_at.result) =
     c.in_ok-push_integer.ensures ∙ ap (λ (z : ℤ). c.loop-i.values.items ++ little_bytes w (low_bytes w128 w z)) kept in
     subst (λ (k : ℕ). c.push_integer.new.values.items ++ values_of w (cells_at c.args.place (drop k rows)) ≡ all) next
-    (cell_more w c.args.place i rows there.0 (number held.0) c.loop-i.values.items all c.push_integer.new.values.items there.1 held.1
-    (subst (λ (z : ℤ). c.push_integer.new.values.items ≡ c.loop-i.values.items ++ little_bytes w (low_bytes w128 w z)) same pushed ∙ ap (λ (n : ℕ). c.loop-i.values.items ++ little_bytes w n) held.2)
+    (cell_more w c.args.place i rows there.0 (number supported.0) c.loop-i.values.items all c.push_integer.new.values.items there.1 supported.1
+    (subst (λ (z : ℤ). c.push_integer.new.values.items ≡ c.loop-i.values.items ++ little_bytes w (low_bytes w128 w z)) same pushed ∙ ap (λ (n : ℕ). c.loop-i.values.items ++ little_bytes w n) supported.2)
     c.loop-i.invariant)

@@ -12,7 +12,7 @@ pub returns : goal.returns
 returns c = λ ints id.
     let t = plain_is id (column_of c.args.field.now) ints in
     let k : kind_in (column_of c.args.field.now) ≡ kind_of c.args.field.now.data_type = search (rules, field_lemmas) in
-    let held : is_integer_kind (kind_of c.args.field.now.data_type) ≡ true = rw k at (kind_is (column_of c.args.field.now) ints) in
-    let kind : node_of c.in_ok-kind.kind ≡ type_tree (kind_of c.args.field.now.data_type) = c.in_ok-kind.ensures held in
+    let supported : is_integer_kind (kind_of c.args.field.now.data_type) ≡ true = rw k at (kind_is (column_of c.args.field.now) ints) in
+    let kind : node_of c.in_ok-kind.kind ≡ type_tree (kind_of c.args.field.now.data_type) = c.in_ok-kind.ensures supported in
     let built : node_of (Table c.in_ok-slots.slots) ≡ plain_tree (column_of c.args.field.now) (node_of c.in_ok-kind.kind) = search (rules, node_lemmas, field_lemmas) in
     built ∙ ap (plain_tree (column_of c.args.field.now)) (kind ∙ ap type_tree (sym k)) ∙ t

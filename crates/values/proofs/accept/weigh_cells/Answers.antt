@@ -5,7 +5,7 @@ use Rattle.values.specs.View.{cell}
 use Rattle.values.specs.Table.{taken_weight}
 use Rattle.values.specs.Rows.{rows_in}
 use Rattle.values.proofs.RowLemmas.{length_rows, next_row}
-use Rattle.values.proofs.AcceptLemmas.{told_from, goes_on, stops, ends, no_unfit, told_all, is_unfit}
+use Rattle.values.proofs.AcceptLemmas.{reported_from, goes_on, stops, ends, no_unfit, reported_all, is_unfit}
 use Rattle.values.proofs.accept.weigh_cells.Goals as goal
 
 pub returns-in-None-clause-refused : goal.returns-in-None-clause-refused
@@ -30,7 +30,7 @@ loop-place-preserved c =
     let next = next_row width c.args.rows c.loop-place.place cells c.loop-place-test.true in
     let some : Some c.in-Some.weight ≡ taken_weight s row = sym c.in-Some.is ∙ (c.in_ok-taken_weight.ensures ∙ ap (taken_weight s) c.row_at.ensures) in
     let on = goes_on s rows c.loop-place.place c.loop-place.total c.in-Some.weight row next some in
-    (ap (λ (t : ℕ). told_from s (c.loop-place.place + 1) t (drop (c.loop-place.place + 1) rows)) c.add-total.ensures ∙ (sym on ∙ c.loop-place.invariant.0), omega (arith, c.add-total.ensures))
+    (ap (λ (t : ℕ). reported_from s (c.loop-place.place + 1) t (drop (c.loop-place.place + 1) rows)) c.add-total.ensures ∙ (sym on ∙ c.loop-place.invariant.0), omega (arith, c.add-total.ensures))
 
 pub returns-clause-taken : goal.returns-clause-taken
 returns-clause-taken c =
@@ -50,4 +50,4 @@ returns-clause-weight c =
     let rows = rows_in width c.args.rows cells in
     let end = ends s rows c.loop-place.place c.loop-place.total (omega (arith, length_rows width c.args.rows cells)) in
     let columns : width ≡ length c.args.schema.now.fields.items = search rules in
-    rw (← columns) (told_all s c.loop-place.total rows (sym c.loop-place.invariant.0 ∙ end))
+    rw (← columns) (reported_all s c.loop-place.total rows (sym c.loop-place.invariant.0 ∙ end))

@@ -1,12 +1,12 @@
 use Rattle.std.proofs.Common.{◌≡◌, map, drop}
 use Rattle.arrow_schema.specs.View.{schema_of}
 use Rattle.values.specs.View.{cell}
-use Rattle.values.specs.Weight.{told_weight}
+use Rattle.values.specs.Weight.{capped_weight}
 use Rattle.values.specs.Rows.{rows_in}
-use Rattle.values.proofs.AcceptLemmas.{told_from}
+use Rattle.values.proofs.AcceptLemmas.{reported_from}
 use Rattle.values.proofs.accept.weigh_cells.Given as goal
 
--- the rest is told as all rows are
+-- the rest is reported as all rows are
 abbrev pub invariant-loop-place : goal.invariant-loop-place
 invariant-loop-place l =
-    (told_from (schema_of l.schema) l.place l.total (drop l.place (rows_in l.width l.rows (map cell l.cells))) ≡ told_from (schema_of l.schema) 0 0 (rows_in l.width l.rows (map cell l.cells))) × (told_weight l.total ≡ l.total)
+    (reported_from (schema_of l.schema) l.place l.total (drop l.place (rows_in l.width l.rows (map cell l.cells))) ≡ reported_from (schema_of l.schema) 0 0 (rows_in l.width l.rows (map cell l.cells))) × (capped_weight l.total ≡ l.total)

@@ -6,7 +6,7 @@ use Rattle.values.specs.declared.value.Value.{Value}
 use Rattle.values.specs.View.{cell}
 use Rattle.values.specs.Table.{taken_weight}
 use Rattle.values.specs.TableView.{row_of}
-use Rattle.values.proofs.AcceptLemmas.{told_from, goes_on, stops, ends, next_of, no_unfit, told_all, is_unfit}
+use Rattle.values.proofs.AcceptLemmas.{reported_from, goes_on, stops, ends, next_of, no_unfit, reported_all, is_unfit}
 use Rattle.values.proofs.accept.weigh_rows.Goals as goal
 
 pub returns-in-None-clause-refused : goal.returns-in-None-clause-refused
@@ -26,7 +26,7 @@ loop-i-preserved c =
     let next = next_of row_of c.args.rows.now c.loop-i.i c.index-rows-i.result c.loop-i-test.true c.index-rows-i.is in
     let some : Some c.in-Some.weight ≡ taken_weight s row = sym c.in-Some.is ∙ (c.in_ok-taken_weight.ensures ∙ ap (λ (vs : List Value). taken_weight s (map cell vs)) c.deref.ensures.value) in
     let on = goes_on s rows c.loop-i.i c.loop-i.total c.in-Some.weight row next some in
-    (ap (λ (t : ℕ). told_from s (c.loop-i.i + 1) t (drop (c.loop-i.i + 1) rows)) c.add-total.ensures ∙ (sym on ∙ c.loop-i.invariant.0), omega (arith, c.add-total.ensures))
+    (ap (λ (t : ℕ). reported_from s (c.loop-i.i + 1) t (drop (c.loop-i.i + 1) rows)) c.add-total.ensures ∙ (sym on ∙ c.loop-i.invariant.0), omega (arith, c.add-total.ensures))
 
 pub returns-clause-taken : goal.returns-clause-taken
 returns-clause-taken c =
@@ -38,4 +38,4 @@ pub returns-clause-weight : goal.returns-clause-weight
 returns-clause-weight c =
     let s = schema_of c.args.schema.now in
     let rows = map row_of c.args.rows.now in
-    told_all s c.loop-i.total rows (sym c.loop-i.invariant.0 ∙ ends s rows c.loop-i.i c.loop-i.total (omega (arith, length-map c.args.rows.now row_of)))
+    reported_all s c.loop-i.total rows (sym c.loop-i.invariant.0 ∙ ends s rows c.loop-i.i c.loop-i.total (omega (arith, length-map c.args.rows.now row_of)))

@@ -1,11 +1,11 @@
 use Rattle.std.proofs.Common.{◌≡◌, map, drop}
 use Rattle.arrow_schema.specs.View.{schema_of}
-use Rattle.values.specs.Weight.{told_weight}
+use Rattle.values.specs.Weight.{capped_weight}
 use Rattle.values.specs.TableView.{row_of}
-use Rattle.values.proofs.AcceptLemmas.{told_from}
+use Rattle.values.proofs.AcceptLemmas.{reported_from}
 use Rattle.values.proofs.accept.weigh_rows.Given as goal
 
--- the rest is told as all rows are
+-- the rest is reported as all rows are
 abbrev pub invariant-loop-i : goal.invariant-loop-i
 invariant-loop-i l =
-    (told_from (schema_of l.schema) l.i l.total (drop l.i (map row_of l.rows)) ≡ told_from (schema_of l.schema) 0 0 (map row_of l.rows)) × (told_weight l.total ≡ l.total)
+    (reported_from (schema_of l.schema) l.i l.total (drop l.i (map row_of l.rows)) ≡ reported_from (schema_of l.schema) 0 0 (map row_of l.rows)) × (capped_weight l.total ≡ l.total)

@@ -5,7 +5,7 @@ use Rattle.arrow_schema.specs.View.{column_of}
 use Rattle.values.specs.Cell.{number}
 use Rattle.values.specs.Columns.{cell_at}
 use Rattle.values.specs.IntegerTable.{integer_column}
-use Rattle.values.specs.Lent.{integer_cells}
+use Rattle.values.specs.Borrowed.{integer_cells}
 use Rattle.values.proofs.IntegerRows.{length_row, as_many, cell_in, room_in}
 use Rattle.values.proofs.integers.IntegerRow.get.Goals as goal
 

@@ -1,6 +1,6 @@
 use Rattle.std.proofs.Common.{length, ap, sym, arith}
 use Rattle.std.proofs.lemmas.Option.{slice_get_within}
-use Rattle.values.specs.Lent.{lent_cells}
+use Rattle.values.specs.Borrowed.{borrowed_cells}
 use Rattle.values.specs.TableView.{table_of}
 use Rattle.values.proofs.ContentLemmas.{none_left, next_left, few_rows}
 use Rattle.values.proofs.rows.RowsIterator.next.Goals as goal
@@ -15,17 +15,17 @@ pub overflow_add-self : goal.overflow_add-self
 overflow_add-self c =
     let some = rw c.in-Some.is at c.row.ensures in
     let table = table_of c.args.self.now.table.now in
-    let within = slice_get_within table.rows c.args.self.now.next (lent_cells c.in-Some.row) (sym some) in
+    let within = slice_get_within table.rows c.args.self.now.next (borrowed_cells c.in-Some.row) (sym some) in
     omega (arith, within, few_rows table.schema table.rows, c.args.self.now.table.now.kept.weight)
 
 pub returns-in-Some-clause-steps : goal.returns-in-Some-clause-steps
 returns-in-Some-clause-steps c =
     let some = rw c.in-Some.is at c.row.ensures in
-    next_left (table_of c.args.self.now.table.now).rows c.args.self.now.next (lent_cells c.in-Some.row) some
+    next_left (table_of c.args.self.now.table.now).rows c.args.self.now.next (borrowed_cells c.in-Some.row) some
 
 pub returns-in-Some-clause-goes : goal.returns-in-Some-clause-goes
 returns-in-Some-clause-goes c =
     let some = rw c.in-Some.is at c.row.ensures in
-    let steps = next_left (table_of c.args.self.now.table.now).rows c.args.self.now.next (lent_cells c.in-Some.row) some in
+    let steps = next_left (table_of c.args.self.now.table.now).rows c.args.self.now.next (borrowed_cells c.in-Some.row) some in
     let fewer = ap length steps in
     omega (arith, fewer)

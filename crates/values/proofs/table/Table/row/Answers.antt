@@ -1,6 +1,6 @@
 use Rattle.std.proofs.Common.{◌≡◌, ◌<◌, ◌∙◌, length, Some, ap, sym, arith, rules}
-use Rattle.values.specs.declared.lent.Form.{Form}
-use Rattle.values.specs.Lent.{form_cells}
+use Rattle.values.specs.declared.borrowed.Form.{Form}
+use Rattle.values.specs.Borrowed.{form_cells}
 use Rattle.values.proofs.ContentLemmas.{length_content, none_past, cells_within, row_of_cells, row_of_integers, has_integers}
 use Rattle.values.proofs.table.Table.row.Goals.{in-Cells, in-Integers}
 use Rattle.values.proofs.table.Table.row.Goals as goal

@@ -1,0 +1,130 @@
+-- What is known of a field that decodes to a type, and whose texts are UTF-8.
+use Rattle.std.proofs.Common.{◌≡◌, ℕ, Bool, true, false, ◌&&◌, List, [], ◌∷◌, ◌++◌, length, refl, ap, sym, ◌∙◌, map}
+use Rattle.std.specs.Prelude.{Option, is_some, not, flat_map, ◌||◌}
+use Rattle.std.specs.List.{list_any, list_all}
+use Rattle.std.specs.Str.{is_utf8}
+use Rattle.arrow_schema.specs.Column.{Index, Pair, Kind, Column, column}
+use Rattle.ipc_message.specs.Types.{without_children, with_item, fixed_list, has_list_size}
+use Rattle.std.specs.Prelude.{option_map}
+use Rattle.std.proofs.lemmas.Grind.{flat_map-append}
+use Rattle.std.proofs.lemmas.List.Folds.{list_any-append, list_all-append}
+use Rattle.ipc_message.specs.declared.raw.RawField as code
+use Rattle.ipc_message.specs.declared.raw.RawField.{out-RawField}
+use Rattle.ipc_message.specs.declared.raw.RawField.TheFolds.{fold_out-RawField}
+use Rattle.ipc_message.specs.Raw.{RawParameters, RawField, raw_field, raw_fields_of}
+use Rattle.ipc_message.specs.Fields.{preorder, preorder_all}
+use Rattle.ipc_message.specs.Types.{type_name, decoded_type}
+use Rattle.ipc_message.specs.Convert.{column_of_field, columns_of_fields}
+use Rattle.ipc_message.specs.Checks.{has_type, is_bad, is_index_type, timezone_of, texts_of_pairs, texts_of_field}
+use Rattle.ipc_message.specs.Readable.{AreReadable}
+use Rattle.ipc_message.specs.View.{raw_field_step, raw_field_of, parameters_of, encoding_of, key_value}
+use Rattle.std.proofs.lemmas.List.{length-map}
+use Rattle.ipc_message.proofs.Children.{sized_list}
+
+pub leaf_is : (kind : Option Kind) (cs : List Column) → is_some (without_children kind cs) ≡ true → without_children kind cs ≡ kind
+leaf_is kind [] h = refl
+leaf_is kind (c ∷ cs) h = absurd cc
+
+pub leaf_some : (kind : Option Kind) (cs : List Column) → is_some (without_children kind cs) ≡ true → is_some kind ≡ true
+leaf_some kind [] h = h
+leaf_some kind (c ∷ cs) h = absurd cc
+
+pub item_one : (kind : Column → Option Kind) (cs : List Column) → is_some (with_item kind cs) ≡ true → length cs ≡ 1
+item_one kind [] h = absurd cc
+item_one kind (c ∷ []) h = refl
+item_one kind (c ∷ d ∷ cs) h = absurd cc
+
+pub sized : (p : RawParameters) (cs : List Column) → is_some (with_item (fixed_list p) cs) ≡ true → has_list_size p ≡ true
+sized p [] h = absurd cc
+sized p (c ∷ []) h = sym (sized_list p c) ∙ h
+sized p (c ∷ d ∷ cs) h = absurd cc
+
+pub ruleset decoded_rules = (leaf_is, leaf_some, item_one, sized, length-map)
+
+-- ---- a field, and all below it
+
+and_left : (a b : Bool) → (a && b) ≡ true → a ≡ true
+and_left true b h = refl
+and_left false b h = h
+
+and_right : (a b : Bool) → (a && b) ≡ true → b ≡ true
+and_right true b h = h
+and_right false b h = absurd cc
+
+or_left : (a b : Bool) → (a || b) ≡ false → a ≡ false
+or_left true b h = h
+or_left false b h = refl
+
+or_right : (a b : Bool) → (a || b) ≡ false → b ≡ false
+or_right true b h = absurd cc
+or_right false b h = h
+
+not_not : (a : Bool) → not a ≡ false → a ≡ true
+not_not true h = refl
+not_not false h = absurd cc
+
+any_left : {A : Type 0} (p : A → Bool) (xs ys : List A) → list_any p (xs ++ ys) ≡ false → list_any p xs ≡ false
+any_left p xs ys h = or_left _ _ (sym (list_any-append p xs ys) ∙ h)
+
+any_right : {A : Type 0} (p : A → Bool) (xs ys : List A) → list_any p (xs ++ ys) ≡ false → list_any p ys ≡ false
+any_right p xs ys h = or_right _ _ (sym (list_any-append p xs ys) ∙ h)
+
+all_left : {A : Type 0} (p : A → Bool) (xs ys : List A) → list_all p (xs ++ ys) ≡ true → list_all p xs ≡ true
+all_left p xs ys h = and_left _ _ (sym (list_all-append p xs ys) ∙ h)
+
+all_right : {A : Type 0} (p : A → Bool) (xs ys : List A) → list_all p (xs ++ ys) ≡ true → list_all p ys ≡ true
+all_right p xs ys h = and_right _ _ (sym (list_all-append p xs ys) ∙ h)
+
+texts-append : (xs ys : List RawField) → flat_map texts_of_field (xs ++ ys) ≡ flat_map texts_of_field xs ++ flat_map texts_of_field ys
+texts-append xs ys = flat_map-append texts_of_field xs ys
+
+pub left_readable : (xs ys : List RawField) → AreReadable (xs ++ ys) → AreReadable xs
+left_readable xs ys h = record {
+  decoded = any_left is_bad xs ys h.decoded;
+  utf8 = all_left is_utf8 (flat_map texts_of_field xs) (flat_map texts_of_field ys) (ap (list_all is_utf8) (sym (texts-append xs ys)) ∙ h.utf8);
+}
+
+pub right_readable : (xs ys : List RawField) → AreReadable (xs ++ ys) → AreReadable ys
+right_readable xs ys h = record {
+  decoded = any_right is_bad xs ys h.decoded;
+  utf8 = all_right is_utf8 (flat_map texts_of_field xs) (flat_map texts_of_field ys) (ap (list_all is_utf8) (sym (texts-append xs ys)) ∙ h.utf8);
+}
+
+-- a field of the code that can be read: its parts, and the fields below it
+pub record HasReadableParts (f : code.RawField) : Type 0 where
+  pub name : is_utf8 (out-RawField f).name.now ≡ true
+  pub timezone : is_utf8 (timezone_of (parameters_of (out-RawField f).parameters)) ≡ true
+  pub pairs : list_all is_utf8 (texts_of_pairs (map key_value (out-RawField f).pairs.items)) ≡ true
+  pub decoded : is_some (decoded_type (type_name (out-RawField f).code) (parameters_of (out-RawField f).parameters) (columns_of_fields (raw_fields_of (map raw_field_of (out-RawField f).children.items)))) ≡ true
+  pub index : is_index_type (option_map encoding_of (out-RawField f).dictionary) ≡ true
+  pub below : AreReadable (preorder_all (raw_fields_of (map raw_field_of (out-RawField f).children.items)))
+
+abbrev pub opened_field : code.RawField → RawField
+opened_field f = raw_field (out-RawField f).name.now (out-RawField f).nullable (out-RawField f).code (parameters_of (out-RawField f).parameters) (option_map encoding_of (out-RawField f).dictionary) (raw_fields_of (map raw_field_of (out-RawField f).children.items)) (map key_value (out-RawField f).pairs.items)
+
+opened : (f : code.RawField) → raw_field_of f ≡ opened_field f
+opened = fold_out-RawField RawField raw_field_step
+
+pub parts_readable : (f : code.RawField) → AreReadable (preorder (raw_field_of f)) → HasReadableParts f
+unfolding preorder
+parts_readable f h =
+    let g = rw (opened f) at h in
+    let rest = right_readable (_ ∷ []) _ g in
+    let own = left_readable (_ ∷ []) _ g in
+    let type : (has_type (opened_field f) && is_index_type (option_map encoding_of (out-RawField f).dictionary)) ≡ true = not_not _ (or_left _ false own.decoded) in
+    let texts : (is_utf8 (out-RawField f).name.now && (is_utf8 (timezone_of (parameters_of (out-RawField f).parameters)) && list_all is_utf8 (texts_of_pairs (map key_value (out-RawField f).pairs.items) ++ []))) ≡ true = own.utf8 in
+    let others = and_right _ _ texts in
+    record {
+      name = and_left _ _ texts;
+      timezone = and_left _ _ others;
+      pairs = all_left is_utf8 _ [] (and_right _ _ others);
+      decoded = and_left _ _ type;
+      index = and_right _ _ type;
+      below = rest;
+    }
+
+pub column_opened : (f : code.RawField) → column_of_field (raw_field_of f) ≡ column_of_field (opened_field f)
+column_opened f = ap column_of_field (opened f)
+
+pub same_column : {m n : List ℕ} {nullable : Bool} {k l : Kind} {d e : Option Index} {p q : List Pair} → m ≡ n → k ≡ l → d ≡ e → p ≡ q → column m nullable k d p ≡ column n nullable l e q
+same_column a b c d = cc

@@ -1,0 +1,132 @@
+// Values of a table, as they are borrowed.
+ghost use Rattle.std.specs.Prelude.{◌≡◌};
+ghost use Rattle.values.specs.View.{cell};
+ghost use Rattle.values.specs.Borrowed.{borrowed_cell};
+
+use crate::integers::IntegerRow;
+use crate::value::Value;
+
+/// A value that is borrowed. Integers, dates and timestamps are `Int`; texts and binaries of either width are `Text` and
+/// `Bytes`; a null of any type is `Null`.
+#[derive(Clone, Copy, Debug)]
+pub enum ValueRef<'a> {
+    Null,
+    Bool(bool),
+    Int(i128),
+    Text(&'a str),
+    Bytes(&'a [u8]),
+    List(Values<'a>),
+    Struct(Values<'a>),
+}
+
+/// How the values that are borrowed are kept: as they stand, or in the bytes of integer columns.
+#[derive(Clone, Copy, Debug)]
+pub(crate) enum Form<'a> {
+    Cells(&'a [Value]),
+    Integers(IntegerRow<'a>),
+}
+
+/// Values that are borrowed, in order: the cells of a row, the items of a list or the parts of a struct.
+#[derive(Clone, Copy, Debug)]
+pub struct Values<'a> {
+    pub(crate) form: Form<'a>,
+}
+
+impl<'a> Values<'a> {
+    ghost use Rattle.std.specs.Prelude.{◌==◌, length, slice_get, option_map};
+    ghost use Rattle.values.specs.Borrowed.{borrowed_cells, values_left, first_borrowed};
+
+    /// How many there are.
+    pub fn len(&self) -> usize
+        ensures { result ≡ length (borrowed_cells self.now) }
+    {
+        match self.form {
+            Form::Cells(cells) => cells.len(),
+            Form::Integers(row) => row.len(),
+        }
+    }
+
+    /// Whether there are none.
+    pub fn is_empty(&self) -> bool
+        ensures { result ≡ (length (borrowed_cells self.now) == 0) }
+    {
+        self.len() == 0
+    }
+
+    /// The value at a place, counted from 0.
+    pub fn get(&self, i: usize) -> Option<ValueRef<'a>>
+        ensures { option_map borrowed_cell result ≡ slice_get (borrowed_cells self.now) i }
+    {
+        match self.form {
+            Form::Cells(cells) => Some(borrow_value(cells.get(i)?)),
+            Form::Integers(row) => Some(ValueRef::Int(row.get(i)?)),
+        }
+    }
+
+    /// The values, in order.
+    pub fn iter(&self) -> ValuesIter<'a>
+        ensures { values_left result ≡ borrowed_cells self.now }
+    {
+        ValuesIter { rest: *self }
+    }
+
+    // The first value, and the others.
+    fn split_first(&self) -> Option<(ValueRef<'a>, Values<'a>)>
+        ensures { borrowed_cells self.now ≡ first_borrowed result }
+    {
+        match self.form {
+            Form::Cells(cells) => {
+                let (first, rest) = cells.split_first()?;
+                let form = Form::Cells(rest);
+                Some((borrow_value(first), Values { form }))
+            }
+            Form::Integers(row) => {
+                let (first, rest) = row.split_first()?;
+                let form = Form::Integers(rest);
+                Some((ValueRef::Int(first), Values { form }))
+            }
+        }
+    }
+}
+
+/// Gives values in order.
+#[derive(Debug, Drop)]
+pub struct ValuesIter<'a> {
+    pub(crate) rest: Values<'a>,
+}
+
+impl<'a> Iterator for ValuesIter<'a> {
+    ghost use Rattle.std.specs.Iterator.{YieldsFirstBy, item_count};
+    ghost use Rattle.values.specs.Borrowed.{borrowed_cell, values_left};
+
+    type Item = ValueRef<'a>;
+
+    ghost next_gives = { YieldsFirstBy borrowed_cell values_left };
+
+    ghost remaining = { item_count values_left };
+
+    fn next(&mut self) -> Option<ValueRef<'a>> {
+        let (first, rest) = self.rest.split_first()?;
+        self.rest = rest;
+        Some(first)
+    }
+}
+
+/// A value, lent.
+pub fn borrow_value(value: &Value) -> ValueRef<'_>
+    ensures { borrowed_cell result ≡ cell value.now }
+{
+    match value {
+        Value::Null => ValueRef::Null,
+        Value::Bool(boolean) => ValueRef::Bool(*boolean),
+        Value::Int(number) => ValueRef::Int(*number),
+        Value::Text(text) => ValueRef::Text(text.as_str()),
+        Value::Bytes(bytes) => ValueRef::Bytes(bytes),
+        Value::List(items) => ValueRef::List(Values {
+            form: Form::Cells(items),
+        }),
+        Value::Struct(parts) => ValueRef::Struct(Values {
+            form: Form::Cells(parts),
+        }),
+    }
+}
