@@ -9,7 +9,7 @@ use Rattle.test_device.specs.declared.other_devices.Life.TheVariants.{Fresh, Wri
 abbrev pub story_of : Life → Story
 story_of Fresh = blank ∷ []
 story_of (Written n c) = put blank n c (Some c) ∷ put blank n c None ∷ blank ∷ []
-story_of (Read n c) = put blank n c (Some c) ∷ put blank n c (Some c) ∷ story_of (Written n c)
+story_of (Read n c) = put blank n c (Some c) ∷ put blank n c (Some c) ∷ put blank n c (Some c) ∷ put blank n c None ∷ blank ∷ []
 
 -- what was written is the content of a sector
 abbrev pub SpeaksOfContents : Life → Type 0
@@ -31,9 +31,9 @@ story_shows (Written n c) = put_shows blank n c blank_shows
 story_shows (Read n c) = put_shows blank n c blank_shows
 
 pub story_begun : (life : Life) → story_of life ≢ []
-story_begun Fresh none = absurd (cc none)
-story_begun (Written n c) none = absurd (cc none)
-story_begun (Read n c) none = absurd (cc none)
+story_begun Fresh = λ none. cc none
+story_begun (Written n c) = λ none. cc none
+story_begun (Read n c) = λ none. cc none
 
 written_whole : (n : ℕ) (c : List ℕ) → IsContent c → Each IsWhole (story_of (Written n c))
 written_whole n c is = (put_whole blank n c (Some c) blank_whole is is, (put_whole blank n c None blank_whole is tt, (blank_whole, tt)))

@@ -345,7 +345,7 @@ fn a_great_device_is_made_at_once(rt: HostRuntime) -> Result<(), Fail> {
 // nothing. Whether all of that holds.
 fn agrees_once(rt: &impl Abort, device: &mut ModelDevice, plain: &mut Plain, n: usize) -> bool {
     let failures = device.failures();
-    let byte = n as u8 + 1;
+    let byte = (n % 100) as u8 + 1;
     let written = fill(rt, device, n as u64, byte).is_ok();
     let mut well = device.is_recorded() == written;
     if written {
