@@ -4,7 +4,6 @@ ghost use Rattle.std.specs.Prelude.{◌<◌, ◌≤◌};
 use segments::{EnterError, FreeMap, Run, TakeError, Usage};
 use std::alloc::Global;
 use std::process::Abort;
-use std::test::Fail;
 
 // A call of a free map, and its answer. A run is its start and its count.
 #[derive(Clone, Copy)]
@@ -56,119 +55,119 @@ fn answers(map: &mut FreeMap, step: Step) -> bool {
     }
 }
 
-fn play(rt: &impl Abort, alloc: Global, steps: &[Step]) -> Result<(), Fail> {
+// Catalogues alternate.
+const CATALOGUES_ALTERNATE: [Step; 6] = [
+    // the first table
+    Take(1, Some((3, 1))),
+    Give(2, 1),
+    // the second
+    Take(1, Some((2, 1))),
+    Give(3, 1),
+    Find(1, Some((3, 1))),
+    Find(13, Some((3, 13))),
+];
+
+// An import fits or not.
+const IMPORT_FITS_OR_NOT: [Step; 8] = [
+    // 6,144 bytes, and the catalogue
+    Find(12, Some((3, 12))),
+    Take(12, Some((3, 12))),
+    Take(1, Some((15, 1))),
+    Take(1, None),
+    // 6,152 bytes, and no room for the catalogue
+    Format,
+    Take(13, Some((3, 13))),
+    Take(1, None),
+    Take(14, None),
+];
+
+// A table is imported again, and dropped.
+const TABLE_IS_IMPORTED_AGAIN_AND_DROPPED: [Step; 8] = [
+    // segment and catalogue
+    Take(1, Some((3, 1))),
+    Take(1, Some((4, 1))),
+    Give(2, 1),
+    // the same again
+    Take(1, Some((2, 1))),
+    Take(1, Some((5, 1))),
+    Give(3, 1),
+    Give(4, 1),
+    // the table is dropped
+    Take(1, Some((3, 1))),
+];
+
+// A snapshot keeps its segment.
+const SNAPSHOT_KEEPS_ITS_SEGMENT: [Step; 11] = [
+    // 562 values
+    Take(5, Some((3, 5))),
+    Take(1, Some((8, 1))),
+    Give(2, 1),
+    Pin(3, 5, None),
+    // the table is dropped
+    Take(1, Some((2, 1))),
+    Give(3, 5),
+    Give(8, 1),
+    // 1,074 values
+    Take(9, None),
+    Unpin(3, 5),
+    Take(9, Some((3, 9))),
+    Take(1, Some((12, 1))),
+];
+
+// Runs that are entered are tested.
+const ENTERED_RUNS_ARE_TESTED: [Step; 25] = [
+    Occupy(1, 1, Some(Range)),
+    Occupy(3, 0, Some(Range)),
+    Occupy(15, 2, Some(Range)),
+    Occupy(3, u64::MAX, Some(Range)),
+    Occupy(2, 1, Some(Overlap)),
+    Occupy(2, 3, Some(Overlap)),
+    Occupy(5, 4, None),
+    Occupy(2, 4, Some(Overlap)),
+    Pin(2, 2, Some(Overlap)),
+    Occupy(3, 4, Some(Overlap)),
+    Pin(3, 2, None),
+    Occupy(4, 4, Some(Overlap)),
+    Pin(4, 2, Some(Overlap)),
+    Occupy(5, 4, Some(Overlap)),
+    Pin(5, 2, Some(Overlap)),
+    Occupy(6, 4, Some(Overlap)),
+    Pin(6, 2, Some(Overlap)),
+    Occupy(7, 4, Some(Overlap)),
+    Pin(7, 2, Some(Overlap)),
+    Occupy(8, 4, Some(Overlap)),
+    Pin(8, 2, Some(Overlap)),
+    Unpin(3, 2),
+    Occupy(3, 2, None),
+    Occupy(9, 7, None),
+    Find(1, None),
+];
+
+// Plays some steps on a formatted device: the place of the first that goes wrong.
+fn wrong_step(alloc: Global, steps: &[Step]) -> Result<Option<usize>, EnterError> {
     let mut map = formatted(alloc)?;
     for (place, step) in steps.iter().enumerate() {
         if let Format = step {
             map = formatted(alloc)?;
         }
-        let well = answers(&mut map, *step);
-        assert!(rt; well, "step {place}");
+        if !answers(&mut map, *step) {
+            return Ok(Some(place));
+        }
     }
-    Ok(())
+    Ok(None)
 }
 
 #[test]
-fn catalogues_alternate(rt: HostRuntime) -> Result<(), Fail> {
-    let steps = [
-        // the first table
-        Take(1, Some((3, 1))),
-        Give(2, 1),
-        // the second
-        Take(1, Some((2, 1))),
-        Give(3, 1),
-        Find(1, Some((3, 1))),
-        Find(13, Some((3, 13))),
-    ];
-    play(&rt, rt.alloc(), &steps)
-}
-
-#[test]
-fn an_import_fits_or_not(rt: HostRuntime) -> Result<(), Fail> {
-    let steps = [
-        // 6,144 bytes, and the catalogue
-        Find(12, Some((3, 12))),
-        Take(12, Some((3, 12))),
-        Take(1, Some((15, 1))),
-        Take(1, None),
-        // 6,152 bytes, and no room for the catalogue
-        Format,
-        Take(13, Some((3, 13))),
-        Take(1, None),
-        Take(14, None),
-    ];
-    play(&rt, rt.alloc(), &steps)
-}
-
-#[test]
-fn a_table_is_imported_again_and_dropped(rt: HostRuntime) -> Result<(), Fail> {
-    let steps = [
-        // segment and catalogue
-        Take(1, Some((3, 1))),
-        Take(1, Some((4, 1))),
-        Give(2, 1),
-        // the same again
-        Take(1, Some((2, 1))),
-        Take(1, Some((5, 1))),
-        Give(3, 1),
-        Give(4, 1),
-        // the table is dropped
-        Take(1, Some((3, 1))),
-    ];
-    play(&rt, rt.alloc(), &steps)
-}
-
-#[test]
-fn a_snapshot_keeps_its_segment(rt: HostRuntime) -> Result<(), Fail> {
-    let steps = [
-        // 562 values
-        Take(5, Some((3, 5))),
-        Take(1, Some((8, 1))),
-        Give(2, 1),
-        Pin(3, 5, None),
-        // the table is dropped
-        Take(1, Some((2, 1))),
-        Give(3, 5),
-        Give(8, 1),
-        // 1,074 values
-        Take(9, None),
-        Unpin(3, 5),
-        Take(9, Some((3, 9))),
-        Take(1, Some((12, 1))),
-    ];
-    play(&rt, rt.alloc(), &steps)
-}
-
-#[test]
-fn entered_runs_are_tested(rt: HostRuntime) -> Result<(), Fail> {
-    let steps = [
-        Occupy(1, 1, Some(Range)),
-        Occupy(3, 0, Some(Range)),
-        Occupy(15, 2, Some(Range)),
-        Occupy(3, u64::MAX, Some(Range)),
-        Occupy(2, 1, Some(Overlap)),
-        Occupy(2, 3, Some(Overlap)),
-        Occupy(5, 4, None),
-        Occupy(2, 4, Some(Overlap)),
-        Pin(2, 2, Some(Overlap)),
-        Occupy(3, 4, Some(Overlap)),
-        Pin(3, 2, None),
-        Occupy(4, 4, Some(Overlap)),
-        Pin(4, 2, Some(Overlap)),
-        Occupy(5, 4, Some(Overlap)),
-        Pin(5, 2, Some(Overlap)),
-        Occupy(6, 4, Some(Overlap)),
-        Pin(6, 2, Some(Overlap)),
-        Occupy(7, 4, Some(Overlap)),
-        Pin(7, 2, Some(Overlap)),
-        Occupy(8, 4, Some(Overlap)),
-        Pin(8, 2, Some(Overlap)),
-        Unpin(3, 2),
-        Occupy(3, 2, None),
-        Occupy(9, 7, None),
-        Find(1, None),
-    ];
-    play(&rt, rt.alloc(), &steps)
+fn worked_rows_are_answered(rt: HostRuntime) {
+    for (name, steps) in [
+        ("catalogues", CATALOGUES_ALTERNATE.as_slice()),
+        ("import", IMPORT_FITS_OR_NOT.as_slice()),
+        ("table", TABLE_IS_IMPORTED_AGAIN_AND_DROPPED.as_slice()),
+        ("snapshot", SNAPSHOT_KEEPS_ITS_SEGMENT.as_slice()),
+        ("entered runs", ENTERED_RUNS_ARE_TESTED.as_slice()),
+    ] {
+        assert_eq!(&rt; wrong_step(rt.alloc(), steps), Ok(None), "{name}");
+    }
 }
 
 const UNUSED: Usage = Usage {
@@ -383,19 +382,22 @@ fn scripts_agree_with_a_plain_record_also_without_memory(rt: HostRuntime) {
 }
 
 // Each find goes over the runs once: if it went over them for each of them, this would take hours.
-#[test]
-fn a_run_is_found_among_65536(rt: HostRuntime) -> Result<(), Fail> {
-    let mut map = FreeMap::new(rt.alloc(), 4_194_304);
+// Whether each second sector can be occupied, and runs are found then.
+fn finds_among_65536(map: &mut FreeMap) -> bool {
+    let mut well = true;
     for i in 0..65_536 {
         let start = 2 + 2 * i;
-        map.occupy(Run { start, count: 1 })?;
+        well = well && map.occupy(Run { start, count: 1 }).is_ok();
     }
-    let mut well = true;
     for count in 2..1000 {
         let start = 131_073;
         well = well && map.find(count) == Some(Run { start, count });
     }
-    well = well && map.take(1) == Ok(Run { start: 3, count: 1 });
-    assert!(&rt; well);
-    Ok(())
+    well && map.take(1) == Ok(Run { start: 3, count: 1 })
+}
+
+#[test]
+fn a_run_is_found_among_65536(rt: HostRuntime) {
+    let mut map = FreeMap::new(rt.alloc(), 4_194_304);
+    assert!(&rt; finds_among_65536(&mut map));
 }

@@ -6,7 +6,6 @@ use sector_dev::{Choice, DevError, ModelDevice, SectorDevice};
 use segments::{Piece, ReadError, Run, read_run, write_run, write_runs};
 use std::alloc::{AllocError, Global};
 use std::process::Abort;
-use std::test::Fail;
 
 const SECTORS: usize = 16;
 
@@ -99,18 +98,17 @@ fn touched(rt: &impl Abort, device: &mut ModelDevice) -> u64 {
 }
 
 // Writes so many bytes from sector 5 on: only these sectors change, and they read as the bytes.
-fn assert_written(rt: &impl Abort, alloc: Global, len: usize, want: u64) -> Result<(), AllocError> {
+fn is_written(rt: &impl Abort, alloc: Global, len: usize, want: u64) -> Result<bool, AllocError> {
     let mut device = used_device(rt, alloc)?;
     let bytes = pattern(rt, alloc, len);
     let well = write_bytes(rt, &mut device, 5, &bytes).is_ok()
         && is_pattern_at(rt, alloc, &mut device, 5, len)
         && touched(rt, &mut device) == want;
-    assert!(rt; well, "{len} bytes");
-    Ok(())
+    Ok(well)
 }
 
 #[test]
-fn a_run_reads_as_its_bytes_and_zeros(rt: HostRuntime) -> Result<(), Fail> {
+fn a_run_reads_as_its_bytes_and_zeros(rt: HostRuntime) {
     for (len, touched) in [
         (0, 0),
         (1, 1 << 5),
@@ -120,15 +118,14 @@ fn a_run_reads_as_its_bytes_and_zeros(rt: HostRuntime) -> Result<(), Fail> {
         (1024, 3 << 5),
         (1500, 7 << 5),
     ] {
-        assert_written(&rt, rt.alloc(), len, touched)?;
+        let well = is_written(&rt, rt.alloc(), len, touched).ok() == Some(true);
+        assert!(&rt; well, "{len} bytes");
     }
-    Ok(())
 }
 
 #[test]
-fn pieces_go_into_their_runs(rt: HostRuntime) -> Result<(), Fail> {
+fn pieces_go_into_their_runs(rt: HostRuntime) {
     let alloc = rt.alloc();
-    let mut device = used_device(&rt, alloc)?;
     let pieces = [
         Piece {
             run: Run { start: 9, count: 3 },
@@ -143,6 +140,9 @@ fn pieces_go_into_their_runs(rt: HostRuntime) -> Result<(), Fail> {
             bytes: pattern(&rt, alloc, 1),
         },
     ];
+    let Ok(mut device) = used_device(&rt, alloc) else {
+        panic!(&rt; "out of memory");
+    };
     assert!(&rt; device.sectors() == 16);
     let written = write_runs(&mut device, &pieces);
     let mut well = written.is_ok() && touched(&rt, &mut device) == 0b1110_0001_0100;
@@ -150,16 +150,10 @@ fn pieces_go_into_their_runs(rt: HostRuntime) -> Result<(), Fail> {
         well = well && is_pattern_at(&rt, alloc, &mut device, start, len);
     }
     assert!(&rt; well);
-    Ok(())
 }
 
 // The k-th write fails. The device shows the new content of its sector. Those behind it aren't written.
-fn assert_fails_at(
-    rt: &impl Abort,
-    alloc: Global,
-    k: u64,
-    touched_then: u64,
-) -> Result<(), AllocError> {
+fn fails_at(rt: &impl Abort, alloc: Global, k: u64, touched_then: u64) -> Result<bool, AllocError> {
     let mut device = used_device(rt, alloc)?;
     let bytes = pattern(rt, alloc, 1500);
     device.fail_at(k);
@@ -167,26 +161,25 @@ fn assert_fails_at(
     let well = failed == (k <= 3)
         && device.failures() == u64::from(failed)
         && touched(rt, &mut device) == touched_then;
-    assert!(rt; well, "write {k}");
-    Ok(())
+    Ok(well)
 }
 
 #[test]
-fn a_failed_write_ends_the_writing(rt: HostRuntime) -> Result<(), Fail> {
+fn a_failed_write_ends_the_writing(rt: HostRuntime) {
     for (k, touched) in [(1, 1 << 5), (2, 3 << 5), (3, 7 << 5), (4, 7 << 5)] {
-        assert_fails_at(&rt, rt.alloc(), k, touched)?;
+        let well = fails_at(&rt, rt.alloc(), k, touched).ok() == Some(true);
+        assert!(&rt; well, "write {k}");
     }
-    Ok(())
 }
 
 // Of sectors 5 to 7 those with a bit are unreadable, and the k-th read fails: what reading a run from sector 5 on answers.
-fn assert_reading_ends(
+fn reading_ends(
     rt: &impl Abort,
     alloc: Global,
     bits: u64,
     k: u64,
     want: Option<ReadError>,
-) -> Result<(), AllocError> {
+) -> Result<bool, AllocError> {
     let mut device = used_device(rt, alloc)?;
     let bytes = pattern(rt, alloc, 1536);
     let _ = write_bytes(rt, &mut device, 5, &bytes);
@@ -194,13 +187,11 @@ fn assert_reading_ends(
     left.fail_read_at(k);
     let error = read_bytes(rt, alloc, &mut left, 5, 1025).err();
     let failures = u64::from(want == Some(ReadError::Failed));
-    let well = error == want && left.failures() == failures;
-    assert!(rt; well, "{bits:b} {k}");
-    Ok(())
+    Ok(error == want && left.failures() == failures)
 }
 
 #[test]
-fn the_first_failing_sector_is_told(rt: HostRuntime) -> Result<(), Fail> {
+fn the_first_failing_sector_is_told(rt: HostRuntime) {
     for (bits, k, want) in [
         (0b000, 0, None),
         (0b010, 0, Some(ReadError::Unreadable)),
@@ -211,9 +202,9 @@ fn the_first_failing_sector_is_told(rt: HostRuntime) -> Result<(), Fail> {
         (0b010, 1, Some(ReadError::Failed)),
         (0b010, 2, Some(ReadError::Failed)),
     ] {
-        assert_reading_ends(&rt, rt.alloc(), bits, k, want)?;
+        let well = reading_ends(&rt, rt.alloc(), bits, k, want).ok() == Some(true);
+        assert!(&rt; well, "{bits:b} {k}");
     }
-    Ok(())
 }
 
 // Writes some bytes twice, of which one call may find no memory: whether one of them was done, and the failure was counted.
