@@ -4,18 +4,19 @@ use Rattle.std.proofs.lemmas.Bool.{cases_eq}
 use Rattle.std.specs.Bool.{OnFalse}
 use Rattle.std.proofs.lemmas.Bool.Decides.{nat_tests}
 use Rattle.sector_dev.specs.Disk.{Disk, Sector, Story, Image, now, put, flushed, with_content, synced_image, shown_image, MayLeave, MayHold, ShowsImage, Puts, FailsToPut, Flushes}
-use Rattle.sector_dev.specs.Time.{Grows, LeavesOnly, OnlyReads, two, weaken, goes_on, now_read}
+use Rattle.sector_dev.specs.Time.{Grows, LeavesOnly, OnlyReads}
+use Rattle.sector_dev.specs.laws.Time.{two, weaken, goes_on, now_read}
 use Rattle.sector_dev.specs.History.{zeros}
-use Rattle.sector_dev.specs.Crash.{put_other, put_same, holds_one, holds_synced, leaves_synced, only_flushed}
+use Rattle.sector_dev.specs.laws.Crash.{put_other, put_same, holds_one, holds_synced, leaves_synced, only_flushed}
 use Rattle.segments.specs.Sectors.{bytes_at, appended}
-use Rattle.segments.specs.ReadBack.{same_bytes}
+use Rattle.segments.specs.laws.ReadBack.{same_bytes}
 use Rattle.commit.specs.declared.sector.Commit.{Commit}
 use Rattle.commit.specs.Sector.{commit_at, commit_text, IsCommit}
 use Rattle.commit.proofs.Texts.{found_in}
 use Rattle.commit.specs.Ruling.{newer, ruling}
 use Rattle.commit.specs.Formatting.{HoldsNoCommit, HasNoCommit, IsNoneOrEmpty, IsEmptyStore, IsFormatting, IsFormatted, first_commit, empty_text}
 use Rattle.commit.specs.laws.Sectors.{none_unreadable, none_begins}
-use Rattle.commit.specs.laws.Crash.{one_more}
+use Rattle.sector_dev.specs.laws.Crash.{one_more}
 use Rattle.commit.specs.inner.Prepared.{IsPrepared}
 
 pub on_false : {P Q : Type 0} (b : Bool) → OnFalse b P → (P → Q) → OnFalse b Q

@@ -2,32 +2,28 @@
 use Rattle.std.proofs.Common.{◌≡◌, ◌≢◌, ◌⊎◌, inl, inr, ⊎_elim, ◌≤◌, ◌<◌, ◌+◌, ◌%◌, ℕ, List, [], ◌∷◌, Option, Some, None, refl, sym, ap, ◌∙◌, subst, arith}
 use Rattle.std.proofs.lemmas.Bool.{cases_eq}
 use Rattle.sector_dev.specs.Disk.{Disk, Sector, Story, Image, now, put, flushed, synced_image, shown_image, MayLeave, MayHold, Puts, FailsToPut, Flushes, LeftSince, moment}
-use Rattle.sector_dev.specs.Time.{Grows, two, left_since}
-use Rattle.sector_dev.specs.Crash.{put_other, put_same, holds_one, holds_synced, leaves_synced, leaves_flushed}
-use Rattle.segments.specs.Runs.{OutOf}
-use Rattle.segments.specs.ReadBack.{same_holds}
+use Rattle.sector_dev.specs.Time.{Grows}
+use Rattle.sector_dev.specs.laws.Time.{two, left_since}
+use Rattle.sector_dev.specs.laws.Crash.{put_other, put_same, holds_one, holds_synced, leaves_synced, leaves_flushed, same_flushed}
+use Rattle.segments.specs.Runs.{OutOf, StartFrom}
+use Rattle.segments.specs.laws.ReadBack.{same_pieces}
 use Rattle.segments.specs.Writing.{WritesOnly, HoldsEach, runs_of}
 use Rattle.segments.specs.declared.piece.Piece.{Piece}
 use Rattle.commit.specs.declared.sector.Commit.{Commit}
 use Rattle.commit.specs.Sector.{commit_at}
 use Rattle.commit.specs.Ruling.{ruling, Rests}
-use Rattle.commit.specs.Publishing.{AllAbove, IsOutside, IsOldOrNew, IsPublishing, IsPublished}
+use Rattle.commit.specs.Publishing.{IsOutside, IsOldOrNew, IsPublishing, IsPublished}
 use Rattle.commit.proofs.Rules.{same_rules, new_rules, old_rules}
 
 -- a commit sector lies in no run
-out_of_commits : (pieces : List Piece) (n : ℕ) → n < 2 → AllAbove pieces → OutOf (runs_of pieces) n
+out_of_commits : (pieces : List Piece) (n : ℕ) → n < 2 → StartFrom 2 (runs_of pieces) → OutOf (runs_of pieces) n
 out_of_commits [] n lt above = tt
 out_of_commits (p ∷ ps) n lt above = (inl (omega (arith, above.0)), out_of_commits ps n lt above.1)
-
--- images that agree behind the commit sectors hold the same pieces
-same_pieces : (a b : Image) (pieces : List Piece) → AllAbove pieces → ((n : ℕ) → 2 ≤ n → b n ≡ a n) → HoldsEach a pieces → HoldsEach b pieces
-same_pieces a b [] above same holds = tt
-same_pieces a b (p ∷ ps) above same holds = (same_holds a b p.run.start p.bytes.items (λ j lt. same (p.run.start + j) (omega (arith, above.0))) holds.0, same_pieces a b ps above.1 same holds.1)
 
 slot_low : (n : ℕ) → n % 2 < 2
 slot_low n = omega arith
 
-module _ (old new : Commit) (pieces : List Piece) (d0 : Disk) (above : AllAbove pieces) (next : new.epoch ≡ old.epoch + 1) (rests : Rests d0 old) where
+module _ (old new : Commit) (pieces : List Piece) (d0 : Disk) (above : StartFrom 2 (runs_of pieces)) (next : new.epoch ≡ old.epoch + 1) (rests : Rests d0 old) where
   abbrev pub P : Disk → Type 0
   P = IsPublishing d0 old new pieces
 
@@ -71,17 +67,13 @@ module _ (old new : Commit) (pieces : List Piece) (d0 : Disk) (above : AllAbove 
   same_sector : (s : Sector) → s.pending ≡ [] → s.shown ≡ s.synced → record { synced = s.shown; pending = []; shown = s.shown } ≡ s
   same_sector s quiet shown = λ i. record { synced = shown i; pending = sym quiet i; shown = s.shown }
 
-  same_disk : (d : Disk) → ((n : ℕ) → (d.at n).pending ≡ []) → ((n : ℕ) → (d.at n).shown ≡ (d.at n).synced) → flushed d ≡ d
-  unfolding flushed
-  same_disk d quiet shown = λ i. record { at = λ n. same_sector (d.at n) (quiet n) (shown n) i; writes = d.writes }
-
   pub staged : (d : Disk) → WritesOnly (runs_of pieces) d0 d → HoldsEach (shown_image d) pieces → Staged (flushed d)
   unfolding flushed
   staged d w holds = record {
     quiet = λ n. refl;
     shown = λ n. refl;
     same = λ n out. ap (λ (s : Sector). record { synced = s.shown; pending = []; shown = s.shown }) (w.outside n out) ∙ same_sector (d0.at n) (rests.quiet.pending n) (rests.quiet.shown n);
-    begun = ⊎_elim (λ (is : d ≡ d0). inl (ap flushed is ∙ same_disk d0 rests.quiet.pending rests.quiet.shown)) (λ (lt : d0.writes < d.writes). inr lt) w.begun;
+    begun = ⊎_elim (λ (is : d ≡ d0). inl (ap flushed is ∙ same_flushed d0 rests.quiet.pending rests.quiet.shown)) (λ (lt : d0.writes < d.writes). inr lt) w.begun;
     holds = holds;
   }
 
@@ -99,7 +91,7 @@ module _ (old new : Commit) (pieces : List Piece) (d0 : Disk) (above : AllAbove 
     pub committed : (d : Disk) → Staged d → (image : Image) → ((n : ℕ) → n ≢ slot → image n ≡ (d.at n).synced) → image slot ≡ Some c → (ruling image ≡ Some new) × HoldsEach image pieces
     committed d s image others is = (
       new_rules (synced_image d) image new.epoch old new (rules_staged d s) (omega (arith, next)) others (ap (commit_at slot) is ∙ spells),
-      same_pieces (synced_image d) image pieces above (λ n low. others n (λ e. omega (arith, slot_low new.epoch))) s.holds,
+      same_pieces 2 (synced_image d) image pieces above (λ n low. others n (λ e. omega (arith, slot_low new.epoch))) s.holds,
     )
 
     -- the disk with the commit sector written

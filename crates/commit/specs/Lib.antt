@@ -4,5 +4,6 @@ pub mod Publishing
 pub mod Standing
 pub mod Formatting
 pub mod Placing
+pub mod Opening
 pub mod laws
 pub mod inner

@@ -2,9 +2,9 @@
 use Rattle.std.specs.Prelude.{◌≡◌, ◌⊎◌, ◌+◌, ℕ, Bool, false, ◌||◌, if◌then◌else◌, List, [], ◌∷◌, Some, None, Result, Ok, Err}
 use Rattle.segments.specs.declared.run.Run.{Run}
 use Rattle.segments.specs.declared.entries.Usage.{Usage}
-use Rattle.segments.specs.declared.entries.Entry.{Entry}
+use Rattle.segments.specs.declared.entries.UsageEntry.{UsageEntry}
 use Rattle.segments.specs.Runs.{IsLowest}
-use Rattle.segments.specs.Usages.{same_run, usage_of, Space}
+use Rattle.segments.specs.Usages.{same_run, usage_of}
 
 -- the run is one of these
 abbrev pub is_among : List Run → Run → Bool
@@ -21,13 +21,8 @@ abbrev pub usage_by : List Run → List Run → Run → Usage
 usage_by ruling pinned run = record { taken = is_among ruling run; pins = times_among pinned run }
 
 -- the entries are those of these runs
-abbrev pub Uses : List Entry → List Run → List Run → Type 0
+abbrev pub Uses : List UsageEntry → List Run → List Run → Type 0
 Uses entries ruling pinned = (run : Run) → usage_of entries run ≡ usage_by ruling pinned run
-
--- each run is used for what it was
-pub record SameUsages (old new : Space) : Type 0 where
-  pub size : new.size ≡ old.size
-  pub usages : (run : Run) → usage_of new.entries run ≡ usage_of old.entries run
 
 -- a run before those that were taken after it
 abbrev pub in_front : Run → Result (List Run) ℕ → Result (List Run) ℕ

@@ -8,11 +8,6 @@ use Rattle.segments.specs.declared.piece.Piece.{Piece}
 use Rattle.commit.specs.declared.sector.Commit.{Commit}
 use Rattle.commit.specs.Ruling.{ruling, Rests}
 
--- no piece lies over a commit sector
-abbrev pub AllAbove : List Piece → Type 0
-AllAbove [] = Unit {0}
-AllAbove (p ∷ ps) = (2 ≤ p.run.start) × AllAbove ps
-
 -- the sector lies in no piece's run, and is not the one of the new commit
 abbrev pub IsOutside : Commit → List Piece → ℕ → Type 0
 IsOutside new pieces n = OutOf (runs_of pieces) n × (n ≢ new.epoch % 2)

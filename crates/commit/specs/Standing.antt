@@ -35,8 +35,8 @@ abbrev pub are_apart : List Run → Bool
 are_apart [] = true
 are_apart (r ∷ rs) = is_apart r rs && are_apart rs
 
--- how a catalogue is read: from the size of the device, what lies on it, the commit and the text that the commit names; and which runs
--- it uses beside that of its text
+-- how a catalogue is read: from the size of the device, what lies on it, the commit and the text that the commit names;
+-- and which runs it names
 pub record Reading (C : Type 0) : Type 0 where
   pub at : ℕ → Image → Commit → List ℕ → Result C Cause
   pub runs : C → List Run
@@ -51,20 +51,38 @@ pub data Standing (C : Type 0) : Type 0 where
 abbrev pub used_runs : {C : Type 0} → Reading C → Commit → C → List Run
 used_runs reading k c = k.catalogue.run ∷ reading.runs c
 
+-- bytes that can be read
+abbrev pub readable : Option (List ℕ) → Result (List ℕ) Cause
+readable None = Err CatalogueUnreadable
+readable (Some text) = Ok text
+
+-- the text of the catalogue that a commit names, or why there is none
+unfoldable pub text_at : ℕ → Image → Commit → Result (List ℕ) Cause
+text_at size image k =
+    if k.device_sectors == size
+    then (if is_extent size 4 k.catalogue then readable (bytes_at image k.catalogue.run.start k.catalogue.bytes) else Err CatalogueRange)
+    else Err DeviceSize
+
+-- why the runs that a catalogue names can't be in use beside that of its text, if they can't
+unfoldable pub runs_fault : ℕ → Run → List Run → Option Cause
+runs_fault size text runs = if all_on_device size runs then (if are_apart (text ∷ runs) then None else Some RunOverlap) else Some RunRange
+
 -- the tests in order; the first that fails is the cause
+abbrev pub by_runs : {C : Type 0} → Commit → C → Option Cause → Standing C
+by_runs k c None = rules k c
+by_runs k c (Some cause) = damaged cause
+
 abbrev pub by_catalogue : {C : Type 0} → Reading C → ℕ → Commit → Result C Cause → Standing C
 by_catalogue reading size k (Err cause) = damaged cause
-by_catalogue reading size k (Ok c) =
-    if all_on_device size (reading.runs c) then (if are_apart (used_runs reading k c) then rules k c else damaged RunOverlap) else damaged RunRange
+by_catalogue reading size k (Ok c) = by_runs k c (runs_fault size k.catalogue.run (reading.runs c))
 
-abbrev pub by_text : {C : Type 0} → Reading C → ℕ → Image → Commit → Option (List ℕ) → Standing C
-by_text reading size image k None = damaged CatalogueUnreadable
-by_text reading size image k (Some text) = by_catalogue reading size k (reading.at size image k text)
+abbrev pub by_text : {C : Type 0} → Reading C → ℕ → Image → Commit → Result (List ℕ) Cause → Standing C
+by_text reading size image k (Err cause) = damaged cause
+by_text reading size image k (Ok text) = by_catalogue reading size k (reading.at size image k text)
 
 abbrev pub by_commit : {C : Type 0} → Reading C → ℕ → Image → Option Commit → Standing C
 by_commit reading size image None = no_store
-by_commit reading size image (Some k) =
-    if k.device_sectors == size then (if is_extent size 4 k.catalogue then by_text reading size image k (bytes_at image k.catalogue.run.start k.catalogue.bytes) else damaged CatalogueRange) else damaged DeviceSize
+by_commit reading size image (Some k) = by_text reading size image k (text_at size image k)
 
 -- what one who opens finds
 unfoldable pub standing : {C : Type 0} → Reading C → ℕ → Image → Standing C
@@ -83,4 +101,5 @@ InSome (r ∷ rs) n = ((r.start ≤ n) × (n < r.start + r.count)) ⊎ InSome rs
 -- what is read depends on the sectors of the catalogue's own runs alone
 abbrev pub IsLocal : {C : Type 0} → Reading C → Type 0
 IsLocal {C = C} reading =
-    (size : ℕ) (a b : Image) (k : Commit) (text : List ℕ) (c : C) → reading.at size a k text ≡ Ok c → ((n : ℕ) → InSome (reading.runs c) n → b n ≡ a n) → reading.at size b k text ≡ Ok c
+    (size : ℕ) (a b : Image) (k : Commit) (text : List ℕ) (c : C) → reading.at size a k text ≡ Ok c
+    → ((n : ℕ) → InSome (reading.runs c) n → b n ≡ a n) → reading.at size b k text ≡ Ok c

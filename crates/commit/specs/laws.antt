@@ -1,3 +1,4 @@
 pub mod Sectors
 pub mod Frame
-pub mod Crash
+pub mod Taking
+pub mod Apart

@@ -1,10 +1,10 @@
 // A new commit takes the place of the one that rules.
 ghost use Rattle.std.specs.Prelude.{◌≡◌, ◌+◌, ◌≤◌, ◌<◌, ◌*◌, ◌^◌, true, OnOk, IfErr};
 ghost use Rattle.sector_dev.specs.Disk.{Counts};
-ghost use Rattle.segments.specs.Runs.{AreApart};
+ghost use Rattle.segments.specs.Runs.{AreApart, StartFrom};
 ghost use Rattle.segments.specs.Writing.{AllFit, runs_of};
 ghost use Rattle.commit.specs.Sector.{IsCommit};
-ghost use Rattle.commit.specs.Publishing.{AllAbove, Publishes, LeavesOldOrNew, EndsPublished};
+ghost use Rattle.commit.specs.Publishing.{Publishes, LeavesOldOrNew, EndsPublished};
 
 use crate::Commit;
 use crate::sector::commit_sector;
@@ -20,7 +20,7 @@ fn write_and_commit<D: SectorDevice>(
 ) -> Result<(), DevError>
     requires fit { AllFit (D.size device.old) pieces.now }
     requires apart { AreApart (runs_of pieces.now) }
-    requires above { AllAbove pieces.now }
+    requires above { StartFrom 2 (runs_of pieces.now) }
     requires room { 2 ≤ D.size device.old }
     requires countable { 512 * D.size device.old < 2 ^ 64 }
     requires next { new.epoch ≡ old.epoch + 1 }
@@ -52,7 +52,7 @@ pub fn publish<D: SectorDevice>(
 ) -> Result<(), DevError>
     requires fit { AllFit (D.size device.old) pieces.now }
     requires apart { AreApart (runs_of pieces.now) }
-    requires above { AllAbove pieces.now }
+    requires above { StartFrom 2 (runs_of pieces.now) }
     requires room { 2 ≤ D.size device.old }
     requires countable { 512 * D.size device.old < 2 ^ 64 }
     requires next { new.epoch ≡ old.epoch + 1 }

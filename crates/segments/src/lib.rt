@@ -14,7 +14,7 @@ mod reading;
 mod run;
 mod writing;
 
-pub use entries::{Entry, Usage};
+pub use entries::{Usage, UsageEntry};
 pub use errors::{EnterError, TakeError};
 pub use extent::Extent;
 pub use free_map::FreeMap;
@@ -22,6 +22,3 @@ pub use piece::Piece;
 pub use reading::{ReadError, read_run};
 pub use run::Run;
 pub use writing::{write_run, write_runs};
-
-#[cfg(test)]
-mod tests;

@@ -1,85 +1,124 @@
 -- What one who opens finds depends on the commit sectors and on the runs in use alone.
 use Rattle.std.specs.Prelude.{◌≡◌, ◌⊎◌, ◌≤◌, ◌<◌, ◌+◌, ◌%◌, ◌==◌, ◌&&◌, ℕ, Bool, true, false, nat_le, if◌then◌else◌, List, [], ◌∷◌, Option, Some, None, Result, Ok, Err, refl}
 use Rattle.std.proofs.Common.{inl, inr, ⊎_elim, sym, ap, ◌∙◌, subst, arith}
+use Rattle.std.proofs.lemmas.Bool.{eq-eqb}
 use Rattle.std.proofs.lemmas.Bool.Decides.{nat_tests}
 use Rattle.sector_dev.specs.Disk.{Disk, Image, synced_image}
 use Rattle.segments.specs.Runs.{OutOf}
 use Rattle.segments.specs.Sectors.{sector_count, bytes_at}
-use Rattle.segments.specs.ReadBack.{same_bytes}
+use Rattle.segments.specs.laws.ReadBack.{same_bytes}
 use Rattle.segments.specs.Writing.{runs_of, HoldsEach}
 use Rattle.segments.specs.declared.run.Run.{Run}
 use Rattle.segments.specs.declared.piece.Piece.{Piece}
 use Rattle.commit.specs.declared.sector.Commit.{Commit}
 use Rattle.commit.specs.declared.cause.Cause.{Cause}
-use Rattle.commit.specs.declared.cause.Cause.TheVariants.{DeviceSize, CatalogueRange, RunRange, RunOverlap}
+use Rattle.commit.specs.declared.cause.Cause.TheVariants.{DeviceSize, CatalogueRange, CatalogueUnreadable, RunRange, RunOverlap}
 use Rattle.commit.specs.Ruling.{ruling}
 use Rattle.commit.specs.Publishing.{IsOldOrNew}
-use Rattle.commit.specs.Standing.{Reading, damaged, rules, is_size, is_on_device, is_extent, all_on_device, are_apart, used_runs, by_catalogue, by_text, by_commit, standing, InSome, IsLocal}
+use Rattle.commit.specs.Standing.{Reading, damaged, rules, is_size, is_on_device, is_extent, all_on_device, are_apart, used_runs, readable, text_at, runs_fault, by_runs, by_catalogue, by_text, by_commit, standing, InSome, IsLocal}
+
+both : (x y : Bool) → (x && y) ≡ true → (x ≡ true) × (y ≡ true)
+both true true is = (refl, refl)
+both true false is = absurd (cc is)
+both false y is = absurd (cc is)
+
+-- a text that is found: the tests before it passed
+pub record HasText (size : ℕ) (image : Image) (k : Commit) (text : List ℕ) : Type 0 where
+  pub device : (k.device_sectors == size) ≡ true
+  pub extent : is_extent size 4 k.catalogue ≡ true
+  pub read : bytes_at image k.catalogue.run.start k.catalogue.bytes ≡ Some text
+
+pub text_is : (size : ℕ) (image : Image) (k : Commit) (text : List ℕ) → text_at size image k ≡ Ok text → HasText size image k text
+unfolding text_at
+text_is size image k text is = by_tests (k.device_sectors == size) (is_extent size 4 k.catalogue) (bytes_at image k.catalogue.run.start k.catalogue.bytes) refl refl refl is
+  where
+    by_tests : (x y : Bool) (o : Option (List ℕ)) → (k.device_sectors == size) ≡ x → is_extent size 4 k.catalogue ≡ y → bytes_at image k.catalogue.run.start k.catalogue.bytes ≡ o
+        → (if x then (if y then readable o else Err CatalogueRange) else Err DeviceSize) ≡ Ok text → HasText size image k text
+    by_tests true true (Some found) d e r is = let same : found ≡ text = cc is in record { device = d; extent = e; read = r ∙ ap Some same }
+    by_tests true true None d e r is = absurd (cc is)
+    by_tests true false o d e r is = absurd (cc is)
+    by_tests false y o d e r is = absurd (cc is)
+
+pub has_text : (size : ℕ) (image : Image) (k : Commit) (text : List ℕ) → HasText size image k text → text_at size image k ≡ Ok text
+unfolding text_at
+has_text size image k text h = λ i. if h.device i then (if h.extent i then readable (h.read i) else Err CatalogueRange) else Err DeviceSize
+
+-- each answer of the tests of a text
+pub text_found : (size : ℕ) (image : Image) (k : Commit) (text : List ℕ) → k.device_sectors ≡ size → is_extent size 4 k.catalogue ≡ true → bytes_at image k.catalogue.run.start k.catalogue.bytes ≡ Some text → text_at size image k ≡ Ok text
+text_found size image k text device extent read = has_text size image k text (record { device = eq-eqb k.device_sectors size device; extent = extent; read = read })
+
+pub text_lost : (size : ℕ) (image : Image) (k : Commit) → k.device_sectors ≡ size → is_extent size 4 k.catalogue ≡ true → bytes_at image k.catalogue.run.start k.catalogue.bytes ≡ None → text_at size image k ≡ Err CatalogueUnreadable
+unfolding text_at
+text_lost size image k device extent read = λ i. if eq-eqb k.device_sectors size device i then (if extent i then readable (read i) else Err CatalogueRange) else Err DeviceSize
+
+pub text_outside : (size : ℕ) (image : Image) (k : Commit) → k.device_sectors ≡ size → is_extent size 4 k.catalogue ≡ false → text_at size image k ≡ Err CatalogueRange
+unfolding text_at
+text_outside size image k device extent = λ i. if eq-eqb k.device_sectors size device i then (if extent i then readable (bytes_at image k.catalogue.run.start k.catalogue.bytes) else Err CatalogueRange) else Err DeviceSize
+
+pub text_elsewhere : (size : ℕ) (image : Image) (k : Commit) → (k.device_sectors ≡ size → ⊥) → text_at size image k ≡ Err DeviceSize
+unfolding text_at
+text_elsewhere size image k other =
+    let no : (k.device_sectors == size) ≡ false = grind (arith, nat_tests) in
+    λ i. if no i then (if is_extent size 4 k.catalogue then readable (bytes_at image k.catalogue.run.start k.catalogue.bytes) else Err CatalogueRange) else Err DeviceSize
+
+-- runs that can be in use: each lies on the device, and no two of them share a sector
+pub fault_none : (size : ℕ) (text : Run) (runs : List Run) → runs_fault size text runs ≡ None → (all_on_device size runs ≡ true) × (are_apart (text ∷ runs) ≡ true)
+unfolding runs_fault
+fault_none size text runs is = by_tests (all_on_device size runs) (are_apart (text ∷ runs)) refl refl is
+  where
+    by_tests : (x y : Bool) → all_on_device size runs ≡ x → are_apart (text ∷ runs) ≡ y → (if x then (if y then None else Some RunOverlap) else Some RunRange) ≡ None
+        → (all_on_device size runs ≡ true) × (are_apart (text ∷ runs) ≡ true)
+    by_tests true true a b is = (a, b)
+    by_tests true false a b is = absurd (cc is)
+    by_tests false y a b is = absurd (cc is)
 
 module _ {C : Type 0} (reading : Reading C) (size : ℕ) where
   -- all tests passed
   pub record IsFound (image : Image) (k : Commit) (c : C) : Type 0 where
     pub size_is : is_size size ≡ true
     pub ruled : ruling image ≡ Some k
-    pub device : (k.device_sectors == size) ≡ true
-    pub extent : is_extent size 4 k.catalogue ≡ true
     pub text : List ℕ
-    pub read : bytes_at image k.catalogue.run.start k.catalogue.bytes ≡ Some text
+    pub found : text_at size image k ≡ Ok text
     pub spelled : reading.at size image k text ≡ Ok c
-    pub on_device : all_on_device size (reading.runs c) ≡ true
-    pub apart : are_apart (used_runs reading k c) ≡ true
+    pub fit : runs_fault size k.catalogue.run (reading.runs c) ≡ None
 
   -- then it rules
   pub found_rules : (image : Image) (k : Commit) (c : C) → IsFound image k c → standing reading size image ≡ rules k c
   unfolding standing
   found_rules image k c f =
       (λ i. if f.size_is i then by_commit reading size image (f.ruled i) else damaged DeviceSize)
-      ∙ (λ i. if f.device i then (if f.extent i then by_text reading size image k (f.read i) else damaged CatalogueRange) else damaged DeviceSize)
+      ∙ ap (by_text reading size image k) f.found
       ∙ ap (by_catalogue reading size k) f.spelled
-      ∙ (λ i. if f.on_device i then (if f.apart i then rules k c else damaged RunOverlap) else damaged RunRange)
+      ∙ ap (by_runs k c) f.fit
 
   -- and where one rules all tests passed
   pub rules_found : (image : Image) (k : Commit) (c : C) → standing reading size image ≡ rules k c → IsFound image k c
   unfolding standing
   rules_found image k c is = by_size (is_size size) refl is
     where
-      by_runs : (k' : Commit) (text : List ℕ) (c' : C) → ruling image ≡ Some k' → is_size size ≡ true → (k'.device_sectors == size) ≡ true → is_extent size 4 k'.catalogue ≡ true
-          → bytes_at image k'.catalogue.run.start k'.catalogue.bytes ≡ Some text → reading.at size image k' text ≡ Ok c'
-          → (x y : Bool) → all_on_device size (reading.runs c') ≡ x → are_apart (used_runs reading k' c') ≡ y → (if x then (if y then rules k' c' else damaged RunOverlap) else damaged RunRange) ≡ rules k c → IsFound image k c
-      by_runs k' text c' r s d e t u true true v w same =
+      by_fault : (k' : Commit) (text : List ℕ) (c' : C) → ruling image ≡ Some k' → is_size size ≡ true → text_at size image k' ≡ Ok text → reading.at size image k' text ≡ Ok c'
+          → (o : Option Cause) → runs_fault size k'.catalogue.run (reading.runs c') ≡ o → by_runs k' c' o ≡ rules k c → IsFound image k c
+      by_fault k' text c' r s t u None f same =
           let ks : k' ≡ k = cc same in let cs : c' ≡ c = cc same in
-          subst (λ (z : C). IsFound image k z) cs (subst (λ (z : Commit). IsFound image z c') ks (record { size_is = s; ruled = r; device = d; extent = e; text = text; read = t; spelled = u; on_device = v; apart = w }))
-      by_runs k' text c' r s d e t u true false v w same = absurd (cc same)
-      by_runs k' text c' r s d e t u false y v w same = absurd (cc same)
+          subst (λ (z : C). IsFound image k z) cs (subst (λ (z : Commit). IsFound image z c') ks (record { size_is = s; ruled = r; text = text; found = t; spelled = u; fit = f }))
+      by_fault k' text c' r s t u (Some cause) f same = absurd (cc same)
 
-      by_spelled : (k' : Commit) (text : List ℕ) → ruling image ≡ Some k' → is_size size ≡ true → (k'.device_sectors == size) ≡ true → is_extent size 4 k'.catalogue ≡ true
-          → bytes_at image k'.catalogue.run.start k'.catalogue.bytes ≡ Some text → (o : Result C Cause) → reading.at size image k' text ≡ o → by_catalogue reading size k' o ≡ rules k c → IsFound image k c
-      by_spelled k' text r s d e t (Err cause) u same = absurd (cc same)
-      by_spelled k' text r s d e t (Ok c') u same = by_runs k' text c' r s d e t u (all_on_device size (reading.runs c')) (are_apart (used_runs reading k' c')) refl refl same
+      by_spelled : (k' : Commit) (text : List ℕ) → ruling image ≡ Some k' → is_size size ≡ true → text_at size image k' ≡ Ok text
+          → (o : Result C Cause) → reading.at size image k' text ≡ o → by_catalogue reading size k' o ≡ rules k c → IsFound image k c
+      by_spelled k' text r s t (Err cause) u same = absurd (cc same)
+      by_spelled k' text r s t (Ok c') u same = by_fault k' text c' r s t u (runs_fault size k'.catalogue.run (reading.runs c')) refl same
 
-      by_read : (k' : Commit) → ruling image ≡ Some k' → is_size size ≡ true → (k'.device_sectors == size) ≡ true → is_extent size 4 k'.catalogue ≡ true
-          → (o : Option (List ℕ)) → bytes_at image k'.catalogue.run.start k'.catalogue.bytes ≡ o → by_text reading size image k' o ≡ rules k c → IsFound image k c
-      by_read k' r s d e None t same = absurd (cc same)
-      by_read k' r s d e (Some text) t same = by_spelled k' text r s d e t (reading.at size image k' text) refl same
-
-      by_tests : (k' : Commit) → ruling image ≡ Some k' → is_size size ≡ true → (x y : Bool) → (k'.device_sectors == size) ≡ x → is_extent size 4 k'.catalogue ≡ y
-          → (if x then (if y then by_text reading size image k' (bytes_at image k'.catalogue.run.start k'.catalogue.bytes) else damaged CatalogueRange) else damaged DeviceSize) ≡ rules k c → IsFound image k c
-      by_tests k' r s true true d e same = by_read k' r s d e (bytes_at image k'.catalogue.run.start k'.catalogue.bytes) refl same
-      by_tests k' r s true false d e same = absurd (cc same)
-      by_tests k' r s false y d e same = absurd (cc same)
+      by_read : (k' : Commit) → ruling image ≡ Some k' → is_size size ≡ true → (o : Result (List ℕ) Cause) → text_at size image k' ≡ o → by_text reading size image k' o ≡ rules k c → IsFound image k c
+      by_read k' r s (Err cause) t same = absurd (cc same)
+      by_read k' r s (Ok text) t same = by_spelled k' text r s t (reading.at size image k' text) refl same
 
       by_ruling : is_size size ≡ true → (o : Option Commit) → ruling image ≡ o → by_commit reading size image o ≡ rules k c → IsFound image k c
       by_ruling s None r same = absurd (cc same)
-      by_ruling s (Some k') r same = by_tests k' r s (k'.device_sectors == size) (is_extent size 4 k'.catalogue) refl refl same
+      by_ruling s (Some k') r same = by_read k' r s (text_at size image k') refl same
 
       by_size : (x : Bool) → is_size size ≡ x → (if x then by_commit reading size image (ruling image) else damaged DeviceSize) ≡ rules k c → IsFound image k c
       by_size true s same = by_ruling s (ruling image) refl same
       by_size false s same = absurd (cc same)
-
-  both : (x y : Bool) → (x && y) ≡ true → (x ≡ true) × (y ≡ true)
-  both true true is = (refl, refl)
-  both true false is = absurd (cc is)
-  both false y is = absurd (cc is)
 
   -- the sectors of the catalogue's text lie in its run
   text_sector : (k : Commit) (j : ℕ) → is_extent size 4 k.catalogue ≡ true → j < sector_count k.catalogue.bytes → (k.catalogue.run.start ≤ k.catalogue.run.start + j) × (k.catalogue.run.start + j < k.catalogue.run.start + k.catalogue.run.count)
@@ -94,16 +133,18 @@ module _ {C : Type 0} (reading : Reading C) (size : ℕ) where
       → ((n : ℕ) → InSome (used_runs reading k c) n → b n ≡ a n) → standing reading size b ≡ rules k c
   same_standing local a b k c is ruled same =
       let f = rules_found a k c is in
+      let h = text_is size a k f.text f.found in
       found_rules b k c (record {
         size_is = f.size_is;
         ruled = ruled ∙ f.ruled;
-        device = f.device;
-        extent = f.extent;
         text = f.text;
-        read = same_bytes b a k.catalogue.run.start k.catalogue.bytes (λ j lt. same (k.catalogue.run.start + j) (inl (text_sector k j f.extent lt))) ∙ f.read;
+        found = has_text size b k f.text (record {
+          device = h.device;
+          extent = h.extent;
+          read = same_bytes b a k.catalogue.run.start k.catalogue.bytes (λ j lt. same (k.catalogue.run.start + j) (inl (text_sector k j h.extent lt))) ∙ h.read;
+        });
         spelled = local size a b k f.text c f.spelled (λ n within. same n (inr within));
-        on_device = f.on_device;
-        apart = f.apart;
+        fit = f.fit;
       })
 
   -- each sector of a run in use lies behind the commit sectors
@@ -120,9 +161,10 @@ module _ {C : Type 0} (reading : Reading C) (size : ℕ) where
   pub above_used : (image : Image) (k : Commit) (c : C) (n : ℕ) → standing reading size image ≡ rules k c → InSome (used_runs reading k c) n → 2 ≤ n
   above_used image k c n is (inl here) =
       let f = rules_found image k c is in
-      let parts = both (nat_le 4 k.catalogue.bytes) ((k.catalogue.run.count == sector_count k.catalogue.bytes) && is_on_device size k.catalogue.run) f.extent in
+      let extent = (text_is size image k f.text f.found).extent in
+      let parts = both (nat_le 4 k.catalogue.bytes) ((k.catalogue.run.count == sector_count k.catalogue.bytes) && is_on_device size k.catalogue.run) extent in
       above_run k.catalogue.run n (both (k.catalogue.run.count == sector_count k.catalogue.bytes) (is_on_device size k.catalogue.run) parts.1).1 here
-  above_used image k c n is (inr later) = above_each (reading.runs c) n (rules_found image k c is).on_device later
+  above_used image k c n is (inr later) = let f = rules_found image k c is in above_each (reading.runs c) n (fault_none size k.catalogue.run (reading.runs c) f.fit).0 later
 
   -- the pieces make this catalogue: whatever image the new commit rules that holds them, and behind the commit sectors holds elsewhere
   -- what lay there, has it

@@ -1,6 +1,7 @@
 use Rattle.std.proofs.Common.{◌∙◌, ap, sym, refl, subst, arith}
 use Rattle.sector_dev.specs.Disk.{now}
-use Rattle.sector_dev.specs.Time.{goes_on, now_has, passed, two, LeavesOnly}
+use Rattle.sector_dev.specs.Time.{LeavesOnly}
+use Rattle.sector_dev.specs.laws.Time.{goes_on, now_has, passed, two}
 use Rattle.commit.specs.Sector.{commit_text}
 use Rattle.commit.specs.Formatting.{IsNoneOrEmpty, IsFormatted, first_commit}
 use Rattle.commit.proofs.Formatted.{first_found, at_rest, begin_put, begin_failed, begin_done}

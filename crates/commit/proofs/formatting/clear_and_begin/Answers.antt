@@ -1,6 +1,7 @@
 use Rattle.std.proofs.Common.{◌∙◌, refl, inl, subst, ℕ, arith}
 use Rattle.sector_dev.specs.Disk.{now}
-use Rattle.sector_dev.specs.Time.{Grows, LeavesOnly, goes_on, passed}
+use Rattle.sector_dev.specs.Time.{Grows, LeavesOnly}
+use Rattle.sector_dev.specs.laws.Time.{goes_on, passed}
 use Rattle.commit.specs.Formatting.{IsNoneOrEmpty, IsFormatting, IsFormatted}
 use Rattle.commit.proofs.Formatted.{cleaned, as_none, as_empty, flushes_same, formatted_since}
 use Rattle.commit.proofs.formatting.clear_and_begin.Goals as goal

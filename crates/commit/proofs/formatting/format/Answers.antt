@@ -1,6 +1,7 @@
 use Rattle.std.proofs.Common.{◌≡◌, ◌≢◌, ◌∙◌, ap, sym, inl, subst, ℕ, false, Option, Some, None, Result, Ok, Err, IfErr, is_some}
 use Rattle.sector_dev.specs.Disk.{Disk, now, shown_image}
-use Rattle.sector_dev.specs.Time.{Grows, weaken, now_read}
+use Rattle.sector_dev.specs.Time.{Grows}
+use Rattle.sector_dev.specs.laws.Time.{weaken, now_read}
 use Rattle.commit.specs.declared.sector.Commit.{Commit}
 use Rattle.commit.specs.declared.formatting.FormatError.{FormatError}
 use Rattle.commit.specs.declared.formatting.FormatError.TheVariants.{Device}

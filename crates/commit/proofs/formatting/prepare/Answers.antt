@@ -1,6 +1,6 @@
 use Rattle.std.proofs.Common.{◌≡◌, refl, None, replicate, arith, ◌<◌}
 use Rattle.sector_dev.specs.Disk.{now}
-use Rattle.sector_dev.specs.Time.{goes_on, now_has, passed}
+use Rattle.sector_dev.specs.laws.Time.{goes_on, now_has, passed}
 use Rattle.commit.proofs.Formatted.{put_grows, failed_grows, flush_grows, zeros_keep, behind_keeps, prepared, puts_more, flushes_same}
 use Rattle.sector_dev.specs.History.{zeros}
 use Rattle.commit.proofs.formatting.prepare.Goals as goal

@@ -1,5 +1,5 @@
 use Rattle.std.proofs.Common.{◌∙◌, ap, sym, Err}
-use Rattle.sector_dev.specs.Time.{only_read}
+use Rattle.sector_dev.specs.laws.Time.{only_read}
 use Rattle.commit.specs.Sector.{commit_at}
 use Rattle.commit.specs.laws.Sectors.{none_unreadable}
 use Rattle.commit.proofs.opening.read_commit.Goals as goal

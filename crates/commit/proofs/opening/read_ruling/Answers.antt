@@ -1,6 +1,6 @@
 use Rattle.std.proofs.Common.{◌∙◌, ap, sym}
 use Rattle.sector_dev.specs.Disk.{Disk, shown_image}
-use Rattle.sector_dev.specs.Time.{read_on, now_read}
+use Rattle.sector_dev.specs.laws.Time.{read_on, now_read}
 use Rattle.commit.specs.Sector.{commit_at}
 use Rattle.commit.specs.Ruling.{newer, ruling}
 use Rattle.commit.proofs.opening.read_ruling.Goals as goal

@@ -1,6 +1,6 @@
 use Rattle.std.proofs.Common.{refl, inl}
 use Rattle.sector_dev.specs.Disk.{now}
-use Rattle.sector_dev.specs.Time.{goes_on, now_has, weaken, passed}
+use Rattle.sector_dev.specs.laws.Time.{goes_on, now_has, weaken, passed}
 use Rattle.segments.specs.Writing.{WritesOnly, runs_of}
 use Rattle.commit.proofs.Texts.{found_in}
 use Rattle.commit.proofs.Moments.{while_written, run_done, put_done, put_failed, sync_done}
