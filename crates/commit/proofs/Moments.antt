@@ -1,5 +1,5 @@
 -- The moments of a publishing.
-use Rattle.std.proofs.Common.{◌≡◌, ◌≢◌, ◌⊎◌, inl, inr, ⊎_elim, ◌≤◌, ◌<◌, ◌+◌, ◌%◌, ℕ, List, [], ◌∷◌, Option, Some, None, refl, sym, ap, ◌∙◌, subst, arith}
+use Rattle.std.proofs.Common.{◌≡◌, ◌≢◌, ◌⊎◌, inl, inr, ⊎_elim, ◌<◌, ◌+◌, ◌%◌, ℕ, List, [], ◌∷◌, Option, Some, None, refl, sym, ap, ◌∙◌, subst, arith}
 use Rattle.std.proofs.lemmas.Bool.{cases_eq}
 use Rattle.sector_dev.specs.Disk.{Disk, Sector, Story, Image, now, put, flushed, synced_image, shown_image, MayLeave, MayHold, Puts, FailsToPut, Flushes, LeftSince, moment}
 use Rattle.sector_dev.specs.Time.{Grows}

@@ -1,5 +1,5 @@
 -- What may lie on a disk while a commit is published.
-use Rattle.std.specs.Prelude.{◌≡◌, ◌≢◌, ◌⊎◌, ◌≤◌, ◌<◌, ◌%◌, ℕ, List, [], ◌∷◌, Some}
+use Rattle.std.specs.Prelude.{◌≡◌, ◌≢◌, ◌⊎◌, ◌<◌, ◌%◌, ℕ, List, Some}
 use Rattle.sector_dev.specs.Disk.{Disk, Image, Story, now, moment, synced_image, LeftSince}
 use Rattle.sector_dev.specs.Time.{LeavesOnly, Grows}
 use Rattle.segments.specs.Runs.{OutOf}

@@ -1,9 +1,8 @@
 // The text of a catalogue is read.
 ghost use Rattle.std.specs.Prelude.{◌≡◌, ◌≢◌, ◌≤◌, ◌+◌, ◌*◌, ◌<◌, ◌^◌, true, false, Ok, Err, OnOk, IfOk, IfErr};
-ghost use Rattle.sector_dev.specs.Disk.{now, shown_image};
 ghost use Rattle.sector_dev.specs.Time.{OnlyReads};
-ghost use Rattle.commit.specs.Standing.{is_on_device, is_extent, text_at};
-ghost use Rattle.commit.specs.Opening.{CountsOpen};
+ghost use Rattle.commit.specs.Standing.{is_on_device, is_extent};
+ghost use Rattle.commit.specs.Opening.{CountsOpen, text_shown, TellsText};
 
 use crate::{Cause, Commit};
 use sector_dev::{SECTOR_BYTES, SectorDevice};
@@ -57,8 +56,8 @@ pub fn read_text<D: SectorDevice>(
     ensures size { D.size device.new ≡ D.size device.old }
     ensures count { CountsOpen (D.failed device.old) (D.failed device.new) result }
     ensures moments { D.tells ≡ true → OnlyReads (D.story device.old) (D.story device.new) }
-    ensures found { IfOk result (λ text. D.tells ≡ true → text_at (D.size device.old) (shown_image (now (D.story device.old))) commit ≡ Ok text.items) }
-    ensures damaged { IfErr result (λ e. (cause : Cause) → e ≡ OpenError.Damaged cause → D.tells ≡ true → text_at (D.size device.old) (shown_image (now (D.story device.old))) commit ≡ Err cause) }
+    ensures found { IfOk result (λ text. D.tells ≡ true → text_shown (D.size device.old) (D.story device.old) commit ≡ Ok text.items) }
+    ensures damaged { IfErr result (λ e. D.tells ≡ true → TellsText e (text_shown (D.size device.old) (D.story device.old) commit)) }
     ensures a_store { IfErr result (λ e. e ≢ OpenError.NotAStore) }
 {
     let sectors = device.sectors();
@@ -68,7 +67,12 @@ pub fn read_text<D: SectorDevice>(
     if !is_extent(sectors, 4, commit.catalogue) {
         return Err(OpenError::Damaged(Cause::CatalogueRange));
     }
-    match read_run(alloc, device, commit.catalogue.run.start, commit.catalogue.bytes as usize) {
+    match read_run(
+        alloc,
+        device,
+        commit.catalogue.run.start,
+        commit.catalogue.bytes as usize,
+    ) {
         Ok(text) => Ok(text),
         Err(ReadError::Unreadable) => Err(OpenError::Damaged(Cause::CatalogueUnreadable)),
         Err(ReadError::Failed) => Err(OpenError::Device),

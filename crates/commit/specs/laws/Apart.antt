@@ -1,12 +1,10 @@
 -- Runs that are entered into a free map one after another share no sector.
-use Rattle.std.specs.Prelude.{◌≡◌, ◌⊎◌, ◌≤◌, ◌<◌, ◌+◌, ◌==◌, ◌&&◌, ◌||◌, ℕ, Bool, true, false, nat_le, if◌then◌else◌, List, [], ◌∷◌, ◌++◌, zero, suc, length, get_or, Option, Some, None, refl}
-use Rattle.std.proofs.Common.{inl, inr, ⊎_elim, sym, ap, ◌∙◌, subst, arith}
-use Rattle.std.proofs.lemmas.Bool.{and_parts, and_from, or_parts, false_from_ne_true, leb-true, le-leb}
+use Rattle.std.specs.Prelude.{◌≡◌, ◌<◌, ◌+◌, ◌&&◌, ◌||◌, ℕ, Bool, true, false, nat_le, if◌then◌else◌, List, [], ◌∷◌, ◌++◌, zero, suc, length, get_or, Some, None, refl}
+use Rattle.std.proofs.Common.{inl, inr, sym, ap, ◌∙◌, subst, arith}
+use Rattle.std.proofs.lemmas.Bool.{and_from, false_from_ne_true, leb-true, le-leb}
 use Rattle.segments.specs.declared.run.Run.{Run}
-use Rattle.segments.specs.declared.entries.Usage.{Usage}
 use Rattle.segments.specs.Runs.{IsApart, IsOnDevice, IsFree}
-use Rattle.segments.specs.Usages.{is_used, UNUSED, TAKEN, same_run, usage_of, IsUsedIn, Changes, Space}
-use Rattle.commit.specs.declared.cause.Cause.{Cause}
+use Rattle.segments.specs.Usages.{is_used, TAKEN, same_run, usage_of, IsUsedIn, Changes, Space}
 use Rattle.commit.specs.declared.cause.Cause.TheVariants.{RunRange, RunOverlap}
 use Rattle.commit.specs.Placing.{is_among, Uses, usage_by}
 use Rattle.commit.specs.Standing.{is_on_device, all_on_device, is_apart, are_apart, runs_fault}

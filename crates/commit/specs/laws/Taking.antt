@@ -1,14 +1,12 @@
 -- Runs that are taken one after another, and given back.
-use Rattle.std.specs.Prelude.{◌≡◌, ◌≢◌, ◌⊎◌, ◌≤◌, ◌<◌, ◌+◌, ◌==◌, ◌&&◌, ◌||◌, ℕ, Bool, true, false, nat_lt, if◌then◌else◌, List, [], ◌∷◌, ◌++◌, Option, Some, None, Result, Ok, Err, refl}
+use Rattle.std.specs.Prelude.{◌≡◌, ◌≢◌, ◌⊎◌, ◌≤◌, ◌||◌, ℕ, Bool, true, false, if◌then◌else◌, List, [], ◌∷◌, ◌++◌, Option, Some, None, Ok, Err, refl}
 use Rattle.std.proofs.Common.{inl, inr, ⊎_elim, sym, ap, ◌∙◌, subst, arith}
-use Rattle.std.proofs.lemmas.Bool.{and_parts, and_from, eqb-true, eq-eqb, false_from_ne_true, cases_Bool, ltb-false}
 use Rattle.segments.specs.declared.run.Run.{Run}
 use Rattle.segments.specs.declared.entries.Usage.{Usage}
-use Rattle.segments.specs.declared.entries.UsageEntry.{UsageEntry}
-use Rattle.segments.specs.Runs.{IsApart, IsFree, IsLowest}
+use Rattle.segments.specs.Runs.{IsLowest}
 use Rattle.segments.specs.Usages.{is_used, UNUSED, TAKEN, given, same_run, usage_of, IsUsedIn, Changes, Space, SameUsages}
 use Rattle.segments.specs.laws.Usages.{same_run_is, same_itself, free_unused, same_lowest}
-use Rattle.commit.specs.Placing.{is_among, Takes, in_front}
+use Rattle.commit.specs.Placing.{is_among, Takes}
 
 pub same_run_not : (a b : Run) → same_run a b ≡ false → a ≢ b
 same_run_not a b other is = let same : same_run a b ≡ true = subst (λ (r : Run). same_run a r ≡ true) is (same_itself a) in absurd (cc (same, other))

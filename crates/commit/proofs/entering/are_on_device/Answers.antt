@@ -1,7 +1,7 @@
-use Rattle.std.proofs.Common.{◌≡◌, ◌∙◌, ◌&&◌, ◌+◌, true, false, Bool, List, drop, get_or, refl, sym, ap}
+use Rattle.std.proofs.Common.{◌∙◌, ◌&&◌, ◌+◌, drop, sym, ap}
 use Rattle.std.proofs.lemmas.List.{drop_more, drop_all}
 use Rattle.segments.specs.declared.run.Run.{Run}
-use Rattle.commit.specs.Standing.{is_on_device, all_on_device}
+use Rattle.commit.specs.Standing.{all_on_device}
 use Rattle.commit.proofs.entering.are_on_device.Goals as goal
 
 abbrev none : Run

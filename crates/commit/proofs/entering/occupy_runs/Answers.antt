@@ -1,4 +1,4 @@
-use Rattle.std.proofs.Common.{◌≡◌, ◌≢◌, ◌∙◌, ◌+◌, ◌<◌, ◌++◌, ◌∷◌, [], ℕ, length, List, take, drop, get_or, take_all, true, false, ap, sym, subst, Option, Some, None, Result, Ok, Err, IfErr, refl}
+use Rattle.std.proofs.Common.{◌≡◌, ◌≢◌, ◌∙◌, ◌+◌, ◌<◌, ◌++◌, ◌∷◌, ℕ, length, List, take, drop, get_or, take_all, true, false, ap, sym, subst, Option, Some, Err, IfErr, refl}
 use Rattle.std.proofs.lemmas.List.{take_more, drop_more, take-append-drop}
 use Rattle.std.proofs.lemmas.Result.{err_from_is_err_and}
 use Rattle.segments.specs.declared.run.Run.{Run}
@@ -11,7 +11,7 @@ use Rattle.commit.specs.declared.cause.Cause.TheVariants.{RunRange, RunOverlap}
 use Rattle.commit.specs.declared.reading.OpenError.{OpenError}
 use Rattle.commit.specs.declared.reading.OpenError.TheVariants.{Damaged, NotAStore, Device}
 use Rattle.commit.specs.Opening.{open_error}
-use Rattle.commit.specs.Standing.{is_on_device, all_on_device, are_apart, runs_fault}
+use Rattle.commit.specs.Standing.{all_on_device, are_apart, runs_fault}
 use Rattle.commit.specs.laws.Apart.{HasEntered, entered_more, overlap_told, on_device_is, all_at, fits, overlaps, outside}
 use Rattle.commit.proofs.entering.occupy_runs.Goals as goal
 

@@ -1,4 +1,4 @@
-use Rattle.std.proofs.Common.{List, take, get_or, take_all, sym, subst}
+use Rattle.std.proofs.Common.{take, get_or, take_all, sym, subst}
 use Rattle.std.proofs.lemmas.List.{take_more}
 use Rattle.segments.specs.declared.run.Run.{Run}
 use Rattle.commit.specs.laws.Taking.{GivesAll, gives_none, gives_one_more}

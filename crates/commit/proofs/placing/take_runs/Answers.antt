@@ -1,4 +1,4 @@
-use Rattle.std.proofs.Common.{◌≡◌, ◌∙◌, ◌+◌, ◌++◌, ◌∷◌, [], ℕ, List, take, drop, get_or, take_all, is_ok, true, ap, sym, subst, arith, Ok, Err, Some, None, ◌⊎◌, inl, inr}
+use Rattle.std.proofs.Common.{◌≡◌, ◌∙◌, ◌+◌, ◌++◌, ◌∷◌, [], ℕ, List, take, drop, get_or, take_all, is_ok, true, ap, sym, subst, arith, Err, None, ◌⊎◌, inl, inr}
 use Rattle.std.proofs.lemmas.List.{take_more, drop_more, take-append-drop}
 use Rattle.std.proofs.lemmas.Bool.{cond-true}
 use Rattle.segments.specs.declared.run.Run.{Run}
@@ -29,7 +29,7 @@ loop-count-preserved c =
       taken =
           subst (λ (rs : List Run). TookAll c.args.map.now c.take.new.self (take (i + 1) counts) rs) (sym items)
           (subst (λ (ns : List ℕ). TookAll c.args.map.now c.take.new.self ns (c.loop-count.runs.items ++ c.in-Ok.run' ∷ [])) (sym here)
-          (took_one_more c.args.map.now c.loop-count.map c.take.new.self (take i counts) c.loop-count.runs.items (get_or counts i 0) c.in-Ok.run' (c.requires i c.loop-count-test.true) c.loop-count.invariant.taken c.in-Ok.ensures.lowest c.in-Ok.ensures.changes));
+          (took_one_more c.args.map.now c.loop-count.map c.take.new.self (take i counts) c.loop-count.runs.items (get_or counts i 0) c.in-Ok.run' (c.requires.some i c.loop-count-test.true) c.loop-count.invariant.taken c.in-Ok.ensures.lowest c.in-Ok.ensures.changes));
     }
 
 pub returns-clause-ok : goal.returns-clause-ok
