@@ -44,7 +44,7 @@ pub use writer::Writer;
 
 /// What is written is read back: wherever the bytes of a tree stand, a reader finds that tree.
 pub fn written_is_read()
-    ensures anywhere { (bytes : List ℕ) (cursor : ℕ) (n : Tree) → length bytes < 2 ^ 31 → Fits n → At bytes cursor (laid cursor n) → Has bytes (start cursor n) n }
+    ensures anywhere { (bytes : List ℕ) (at : ℕ) (n : Tree) → length bytes < 2 ^ 31 → Fits n → At bytes at (laid at n) → Has bytes (start at n) n }
     ensures size { (n : Tree) → length (metadata n) ≡ end_at 4 n + gap 8 (end_at 4 n) }
     ensures whole { (n : Tree) → length (metadata n) % 8 ≡ 0 }
     ensures root { (n : Tree) → length (metadata n) < 2 ^ 31 → Fits n → Has (metadata n) (target (metadata n) 0) n }

@@ -4,35 +4,34 @@
 //! a tree that borrows its texts, so that hostile metadata cannot make a reader copy more than it was given.
 #![tactic(auto)]
 
-mod allowed;
-mod checks;
 mod convert;
-mod envelope;
 mod error;
 mod fault;
 mod fault_text;
 mod fields;
-mod header;
+mod header_type;
 mod laws;
 mod message;
 mod next_message;
-mod parts;
-mod raw;
+mod raw_header;
+mod read_fields;
+mod read_header;
+mod read_tables;
 mod same;
-mod supported;
+mod schema_checks;
 mod texts;
-mod walk;
+mod type_checks;
+mod type_codes;
 mod walk_error;
 
-pub use checks::check_schema;
+pub use schema_checks::check_schema;
 pub use convert::read_schema;
-pub use envelope::HeaderType;
 pub use error::ImportError;
 pub use fault::{Fault, TypeName};
+pub use header_type::HeaderType;
 pub use laws::next_message_is_framed;
 pub use message::{Message, NextMessage};
 pub use next_message::read_message;
-pub use raw::{
+pub use raw_header::{
     Encoding, Header, KeyValue, Parameters, RawBatch, RawDictionaryBatch, RawField, RawSchema,
 };
-pub use supported::{is_supported, type_name};
