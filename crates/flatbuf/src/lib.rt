@@ -2,6 +2,13 @@
 //!
 //! A reading call gives what the slot has by the look-up of the format, or the first thing that is out of bounds, and
 //! takes no memory. [`Writer`] gives one layout for each tree, and what it wrote is read again.
+//!
+//! ```
+//! // The byte of slot 1 of the root table, 0 where it is absent.
+//! let mut budget = Budget::new();
+//! let root = Buf::new(bytes).root(&mut budget)?;
+//! let kind = root.scalar_u8(1, 0)?;
+//! ```
 #![tactic(auto)]
 
 ghost use Rattle.std.specs.Prelude.{ℕ, ◌≡◌, ◌<◌, ◌^◌, ◌%◌, ◌+◌, List, length};
@@ -31,8 +38,6 @@ mod numbers;
 mod references;
 mod sizes;
 mod table;
-#[cfg(test)]
-mod tests;
 mod writer;
 
 pub use buf::{Budget, Buf};

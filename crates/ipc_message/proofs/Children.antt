@@ -8,7 +8,7 @@ use Rattle.ipc_message.specs.declared.raw_header.RawField.{RawField, out-RawFiel
 use Rattle.ipc_message.specs.declared.raw_header.RawField.TheFolds.{fold_out-RawField}
 use Rattle.ipc_message.specs.Raw as raw
 use Rattle.ipc_message.specs.Raw.{RawParameters, no_parameters, integer_parameters, byte_width, list_size, date_unit, timestamp_parameters, raw_fields_of}
-use Rattle.ipc_message.specs.Types.{type_name, without_children, with_item, is_size, integer, date, timestamp, fixed_binary, has_list_size, fixed_list, decoded_type}
+use Rattle.ipc_message.specs.Types.{type_name, without_children, with_item, is_size, has_list_size, fixed_list, decoded_type}
 use Rattle.ipc_message.specs.Convert.{columns_of_fields}
 use Rattle.ipc_message.specs.Checks.{has_type}
 use Rattle.ipc_message.specs.View.{raw_field_of, raw_field_step, parameters_of}
@@ -47,13 +47,13 @@ sized_list (byte_width n) c = refl
 sized_list (date_unit n) c = refl
 sized_list (timestamp_parameters n z) c = refl
 
-one_list : (cs : List Column) → is_some (with_item (λ item. Some (lists item)) cs) ≡ nat_eq (length cs) 1
+pub one_list : (cs : List Column) → is_some (with_item (λ item. Some (lists item)) cs) ≡ nat_eq (length cs) 1
 one_list cs = item_type (λ item. Some (lists item)) true (λ c. refl) cs ∙ and_true _
 
-one_large_list : (cs : List Column) → is_some (with_item (λ item. Some (large_lists item)) cs) ≡ nat_eq (length cs) 1
+pub one_large_list : (cs : List Column) → is_some (with_item (λ item. Some (large_lists item)) cs) ≡ nat_eq (length cs) 1
 one_large_list cs = item_type (λ item. Some (large_lists item)) true (λ c. refl) cs ∙ and_true _
 
-one_fixed_list : (p : RawParameters) (cs : List Column) → is_some (with_item (fixed_list p) cs) ≡ (nat_eq (length cs) 1 && has_list_size p)
+pub one_fixed_list : (p : RawParameters) (cs : List Column) → is_some (with_item (fixed_list p) cs) ≡ (nat_eq (length cs) 1 && has_list_size p)
 one_fixed_list p cs = item_type (fixed_list p) (has_list_size p) (sized_list p) cs
 
 pub ruleset child_rules = (leaf_supported, leaf_type, one_list, one_large_list, one_fixed_list)

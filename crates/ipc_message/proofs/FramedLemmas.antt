@@ -44,9 +44,9 @@ record HasMarker (bytes : List ℕ) : Type 0 where
 marker_passed : (bytes : List ℕ) → first_some (marker_faults bytes) ≡ None → HasMarker bytes
 unfolding marker_faults
 marker_passed bytes h =
-    let four = first_none _ _ h in
-    let marker = first_none _ _ four.1 in
-    let eight = first_none _ _ marker.1 in
+    let four = first_none (when (nat_lt (length bytes) 4) Truncated) (when (not (starts_with nat_eq bytes continuation_marker)) NoContinuation ∷ when (nat_lt (length bytes) 8) Truncated ∷ []) h in
+    let marker = first_none (when (not (starts_with nat_eq bytes continuation_marker)) NoContinuation) (when (nat_lt (length bytes) 8) Truncated ∷ []) four.1 in
+    let eight = first_none (when (nat_lt (length bytes) 8) Truncated) [] marker.1 in
     record {
       long = lt_false (length bytes) 8 (when_none (nat_lt (length bytes) 8) Truncated eight.0);
       starts = (starts_is Decides-eqb bytes continuation_marker (starts_with nat_eq bytes continuation_marker) refl).0 (not-false (starts_with nat_eq bytes continuation_marker) (when_none (not (starts_with nat_eq bytes continuation_marker)) NoContinuation marker.0));

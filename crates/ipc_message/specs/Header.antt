@@ -18,8 +18,8 @@ use Rattle.ipc_message.specs.Framing.{message_table, type_of, header_type, flat_
 -- the type codes that are supported
 abbrev pub supported_codes : ℕ → Bool
 supported_codes code = list_any (λ n. n == code) (
-  NULL ∷ INT ∷ BINARY ∷ UTF8 ∷ BOOL ∷ DATE ∷ TIMESTAMP
-  ∷ LIST ∷ STRUCT ∷ FIXED_SIZE_BINARY ∷ FIXED_SIZE_LIST ∷ LARGE_BINARY ∷ LARGE_UTF8 ∷ LARGE_LIST ∷ [])
+    NULL ∷ INT ∷ BINARY ∷ UTF8 ∷ BOOL ∷ DATE ∷ TIMESTAMP
+    ∷ LIST ∷ STRUCT ∷ FIXED_SIZE_BINARY ∷ FIXED_SIZE_LIST ∷ LARGE_BINARY ∷ LARGE_UTF8 ∷ LARGE_LIST ∷ [])
 
 -- slot k of a table that may be absent
 abbrev pub slot_in : List ℕ → Option Place → ℕ → Option ℕ

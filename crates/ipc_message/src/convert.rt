@@ -19,10 +19,10 @@ ghost use Rattle.ipc_message.specs.inner.Readable.{AreReadable};
 ghost use Rattle.ipc_message.specs.Checks.{timezone_of, texts_of_pairs, is_index_type, checked_schema};
 ghost use Rattle.ipc_message.specs.View.{raw_field_of, raw_schema_of, key_value, parameters_of, encoding_of};
 
-use crate::schema_checks::check_schema;
 use crate::error::ImportError;
 use crate::fault::TypeName;
 use crate::raw_header::{Encoding, KeyValue, Parameters, RawField, RawSchema};
+use crate::schema_checks::check_schema;
 use crate::type_codes::type_name;
 use arrow_schema::{BitWidth, DataType, DateUnit, DictSpec, Field, IntegerType, Schema, TimeUnit};
 use std::alloc::{AllocError, Global};

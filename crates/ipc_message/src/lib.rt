@@ -2,6 +2,16 @@
 //!
 //! A message is read without memory up to its header, and refused by the first test that fails; its header is
 //! a tree that borrows its texts, so that hostile metadata cannot make a reader copy more than it was given.
+//!
+//! ```
+//! // The schema of a stream, where a schema stands first.
+//! let (next, taken) = read_message(bytes)?;
+//! if let NextMessage::Message(message) = next {
+//!     if let Header::Schema(raw) = message.header(alloc)? {
+//!         return read_schema(alloc, &raw);
+//!     }
+//! }
+//! ```
 #![tactic(auto)]
 
 mod convert;
@@ -24,7 +34,6 @@ mod type_checks;
 mod type_codes;
 mod walk_error;
 
-pub use schema_checks::check_schema;
 pub use convert::read_schema;
 pub use error::ImportError;
 pub use fault::{Fault, TypeName};

@@ -9,7 +9,7 @@ ghost use Rattle.ipc_message.specs.View.{key_value, raw_field_of};
 ghost use Rattle.ipc_message.specs.inner.Tables.{at_place, in_slot, over_references, field_in, children_in, fields_behind};
 ghost use Rattle.ipc_message.specs.inner.Walked.{WalksUnlessRefused};
 
-use crate::read_tables::{read_field_table, pair_behind};
+use crate::read_tables::{pair_behind, read_field_table};
 use crate::walk_error::WalkError;
 use crate::{KeyValue, RawField};
 use flatbuf::{Budget, References, Table};

@@ -107,7 +107,9 @@ pub(crate) fn header_by_type<'a>(
 {
     match header_type {
         HeaderType::Schema => Ok(Header::Schema(read_raw_schema(alloc, table, budget)?)),
-        HeaderType::DictionaryBatch => Ok(Header::DictionaryBatch(read_raw_dictionary(table, budget)?)),
+        HeaderType::DictionaryBatch => Ok(Header::DictionaryBatch(read_raw_dictionary(
+            table, budget,
+        )?)),
         HeaderType::RecordBatch => Ok(Header::RecordBatch(read_raw_batch(table, budget)?)),
     }
 }

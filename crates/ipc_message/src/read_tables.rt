@@ -158,7 +158,10 @@ pub(crate) struct FieldTable<'a> {
 
 /// What a field's own table says.
 #[tactic(auto, using(flatbuf::specs::laws::Walk::run_append), unfolding(crate::specs::Header::field_table_things, crate::specs::Header::field_with))]
-pub(crate) fn read_field_table<'a>(table: &Table<'a>, budget: &mut Budget) -> Result<FieldTable<'a>, FlatError>
+pub(crate) fn read_field_table<'a>(
+    table: &Table<'a>,
+    budget: &mut Budget,
+) -> Result<FieldTable<'a>, FlatError>
     ensures walked { Walks (bytes_of table.now) (at_place (field_table_things supported_codes) table.now) budget.old budget.new result }
     ensures value { IfOk result (λ o. (children : List RawField) → field_from o table.now children ≡ field_in table.now children) }
     ensures same { IfOk result (λ o. bytes_behind o.children ≡ bytes_of table.now) }

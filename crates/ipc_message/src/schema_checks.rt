@@ -10,14 +10,14 @@ ghost use Rattle.ipc_message.specs.View.{raw_field_of, raw_schema_of};
 ghost use Rattle.ipc_message.specs.inner.Listed.{listed, text_list};
 ghost use Rattle.ipc_message.specs.Outcome.{Gives};
 
-use crate::type_checks::is_bad;
 use crate::error::ImportError;
 use crate::fault::{Fault, TypeName};
 use crate::fields::{FieldRef, every_field};
 use crate::raw_header::{RawField, RawSchema};
 use crate::same::{have_one_id, have_same_value_type};
-use crate::type_codes::{INT, NONE, is_supported, type_name};
 use crate::texts::{are_longer, are_utf8, list_texts};
+use crate::type_checks::is_bad;
+use crate::type_codes::{INT, NONE, is_supported, type_name};
 use arrow_schema::{MAX_BYTES, MAX_DEPTH, MAX_FIELDS, MAX_PAIRS};
 use std::alloc::Global;
 
@@ -179,7 +179,7 @@ fn first_fault(schema: &RawSchema, fields: &[FieldRef], texts: &[&[u8]]) -> Opti
 }
 
 /// Whether a schema passes its tests, and else the fault of the first that it fails. It copies no text.
-pub fn check_schema(alloc: Global, schema: &RawSchema) -> Result<(), ImportError>
+pub(crate) fn check_schema(alloc: Global, schema: &RawSchema) -> Result<(), ImportError>
     ensures { Gives (λ x. x) result (outcome (first_some (schema_checks supported_codes (raw_schema_of schema.now))) tt) }
 {
     let fields = every_field(alloc, &schema.fields)?;

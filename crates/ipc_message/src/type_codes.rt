@@ -102,8 +102,7 @@ pub(crate) fn is_supported(code: u8) -> bool
 {
     matches!(
         code,
-        NULL
-            | INT
+        NULL | INT
             | BINARY
             | UTF8
             | BOOL
