@@ -119,7 +119,14 @@ fn each_kind_of_slot_is_read(rt: HostRuntime) {
     ];
     for (asked, want) in rows {
         let want = Ok(want);
-        assert_case(&rt, Case { bytes: &EACH_KIND, asked, want });
+        assert_case(
+            &rt,
+            Case {
+                bytes: &EACH_KIND,
+                asked,
+                want,
+            },
+        );
     }
 }
 
@@ -128,7 +135,14 @@ fn bytes_that_end_early_are_refused(rt: HostRuntime) {
     for length in 0..36 {
         let bytes = &EACH_KIND[..length];
         let want = Err(FlatError::Bounds);
-        assert_case(&rt, Case { bytes, asked: Asked::Root, want });
+        assert_case(
+            &rt,
+            Case {
+                bytes,
+                asked: Asked::Root,
+                want,
+            },
+        );
     }
     let rows = [
         (55, Asked::Long(3), Err(FlatError::Bounds)),
@@ -157,7 +171,14 @@ fn odd_and_small_vtables_are_refused(rt: HostRuntime) {
     for (size, fault) in rows {
         let bytes = [8, 0, 0, 0, size, 0, 0, 0, 4, 0, 0, 0];
         let want = Err(fault);
-        assert_case(&rt, Case { bytes: &bytes, asked: Asked::Root, want });
+        assert_case(
+            &rt,
+            Case {
+                bytes: &bytes,
+                asked: Asked::Root,
+                want,
+            },
+        );
     }
 }
 
