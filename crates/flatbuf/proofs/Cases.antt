@@ -10,7 +10,7 @@ use Rattle.flatbuf.specs.Laid.{count_of, slots_of}
 use Rattle.flatbuf.specs.Ends.{end_at, ends_at, below_ends_at}
 use Rattle.flatbuf.specs.Held.{FitsSlots}
 use Rattle.flatbuf.proofs.Ends.{below_le, ends_le}
-use Rattle.flatbuf.specs.View.{node_of, nodes_of, slot_of, slots_in, slot_step, node_step}
+use Rattle.flatbuf.specs.View.{node_of, nodes_of, slot_before, slots_in, slot_step, node_step}
 
 of_layer : (P : (Slots → Slots) → Type 0) → P (λ rest. absent rest) → ((w n : ℕ) → P (λ rest. scalar w n rest)) → ((t : Tree) → P (λ rest. refers t rest)) → (l : Slot-F Tree (Slots → Slots)) → P (slot_step l)
 of_layer P a b c Absent = a
@@ -20,27 +20,27 @@ of_layer P a b c (Word n) = b 4 n
 of_layer P a b c (Long n) = b 8 n
 of_layer P a b c (Refers t) = c t
 
-pub slot_cases : (P : (Slots → Slots) → Type 0) → P (λ rest. absent rest) → ((w n : ℕ) → P (λ rest. scalar w n rest)) → ((t : Tree) → P (λ rest. refers t rest)) → (s : Slot) → P (slot_of s)
+pub slot_cases : (P : (Slots → Slots) → Type 0) → P (λ rest. absent rest) → ((w n : ℕ) → P (λ rest. scalar w n rest)) → ((t : Tree) → P (λ rest. refers t rest)) → (s : Slot) → P (slot_before s)
 slot_cases P a b c s = subst P (sym (fold_out-Slot Tree (Slots → Slots) node_step slot_step s)) (of_layer P a b c _)
 
-pub one_slot : (s : Slot) (rest : Slots) → slots_of (slot_of s rest) ≡ suc (slots_of rest)
+pub one_slot : (s : Slot) (rest : Slots) → slots_of (slot_before s rest) ≡ suc (slots_of rest)
 one_slot s = slot_cases (λ f. (rest : Slots) → slots_of (f rest) ≡ suc (slots_of rest)) (λ rest. refl) (λ w n rest. refl) (λ t rest. refl) s
 
 -- a slot fits, and so do the others
-pub fits_split : (s : Slot) (rest : Slots) → FitsSlots (slot_of s rest) → FitsSlots (slot_of s no_slot) × FitsSlots rest
+pub fits_split : (s : Slot) (rest : Slots) → FitsSlots (slot_before s rest) → FitsSlots (slot_before s no_slot) × FitsSlots rest
 fits_split s =
     slot_cases (λ f. (rest : Slots) → FitsSlots (f rest) → FitsSlots (f no_slot) × FitsSlots rest) (λ rest h. (tt, h)) (λ w n rest h. ((h.0, tt), h.1)) (λ t rest h. ((h.0, tt), h.1)) s
 
-pub count_slots : (ss : List Slot) → slots_of (slots_in (map slot_of ss)) ≡ length ss
+pub count_slots : (ss : List Slot) → slots_of (slots_in (map slot_before ss)) ≡ length ss
 count_slots [] = refl
-count_slots (s ∷ ss) = one_slot s (slots_in (map slot_of ss)) ∙ ap suc (count_slots ss)
+count_slots (s ∷ ss) = one_slot s (slots_in (map slot_before ss)) ∙ ap suc (count_slots ss)
 
 pub count_nodes : (ns : List Node) → count_of (nodes_of (map node_of ns)) ≡ length ns
 count_nodes [] = refl
 count_nodes (n ∷ ns) = ap suc (count_nodes ns)
 
 -- what one slot refers to ends before what all do
-pub below_one : (s : Slot) (rest : Slots) (cursor : ℕ) → below_ends_at cursor (slot_of s no_slot) ≤ below_ends_at cursor (slot_of s rest)
+pub below_one : (s : Slot) (rest : Slots) (cursor : ℕ) → below_ends_at cursor (slot_before s no_slot) ≤ below_ends_at cursor (slot_before s rest)
 below_one s =
     slot_cases (λ f. (rest : Slots) (cursor : ℕ) → below_ends_at cursor (f no_slot) ≤ below_ends_at cursor (f rest))
     (λ rest cursor. below_le cursor rest)
@@ -52,8 +52,8 @@ pub node_fits : (ns : List Node) (i : ℕ) (n : Node) (cursor : ℕ) → i < len
 node_fits ns i n cursor lt e =
     rw (drop-item ns i n lt e) (ends_le (end_at cursor (node_of n)) (nodes_of (map node_of (drop (i + 1) ns))))
 
-pub slot_fits : (ss : List Slot) (i : ℕ) (s : Slot) (cursor : ℕ) → i < length ss → s ≡ get_or ss i s → below_ends_at cursor (slot_of s no_slot) ≤ below_ends_at cursor (slots_in (map slot_of (drop i ss)))
-slot_fits ss i s cursor lt e = rw (drop-item ss i s lt e) (below_one s (slots_in (map slot_of (drop (i + 1) ss))) cursor)
+pub slot_fits : (ss : List Slot) (i : ℕ) (s : Slot) (cursor : ℕ) → i < length ss → s ≡ get_or ss i s → below_ends_at cursor (slot_before s no_slot) ≤ below_ends_at cursor (slots_in (map slot_before (drop i ss)))
+slot_fits ss i s cursor lt e = rw (drop-item ss i s lt e) (below_one s (slots_in (map slot_before (drop (i + 1) ss))) cursor)
 
 pub node_ends : (ns : List Node) (i : ℕ) (n : Node) (cursor next whole : ℕ) → i < length ns → n ≡ get_or ns i n → next ≡ end_at cursor (node_of n) → ends_at cursor (nodes_of (map node_of (drop i ns))) ≡ whole
     → ends_at next (nodes_of (map node_of (drop (i + 1) ns))) ≡ whole

@@ -2,7 +2,7 @@
 use Rattle.std.proofs.Common.{◌≡◌, ℕ, List, [], ◌∷◌, Ok, Err}
 use Rattle.flatbuf.specs.declared.FlatError.{FlatError}
 use Rattle.flatbuf.specs.Walk.{Thing, run}
-use Rattle.flatbuf.specs.WalkLaws.{run_ok, run_err}
+use Rattle.flatbuf.specs.laws.Walk.{run_ok, run_err}
 
 -- the first thing is bad
 pub first_err : (bytes : List ℕ) (x : Thing) (xs : List Thing) (n : ℕ) (e : FlatError) → run bytes (x ∷ []) n ≡ Err e → run bytes (x ∷ xs) n ≡ Err e

@@ -8,7 +8,7 @@ use Rattle.flatbuf.specs.declared.nodes.Slot.{Slot}
 use Rattle.flatbuf.specs.Tree.{Tree, Nodes, Slots, table, references, scalar, refers}
 use Rattle.flatbuf.specs.Laid.{gap, count_of, table_start, inline, inline_end, vtable, vtable_len, distances, links, laid, laid_all, laid_slots, starts, slot_starts, start, struct_bytes, metadata}
 use Rattle.flatbuf.specs.Ends.{end_at, ends_at, below_ends_at}
-use Rattle.flatbuf.specs.View.{node_of, nodes_of, slot_of, slots_in}
+use Rattle.flatbuf.specs.View.{node_of, nodes_of, slot_before, slots_in}
 use Rattle.facts.specs.laws.Lists.{drop-item}
 use Rattle.flatbuf.proofs.Ends.{end_is, ends_is, below_is}
 use Rattle.flatbuf.proofs.ReadBack.{length-inline, length-links, length-starts, length-vtable}
@@ -133,9 +133,9 @@ node_put old new whole i ns n lt is e h =
     next_part old new _ _ whole e (rw len left)
 
 pub slot_put : (old new whole : List ℕ) (i : ℕ) (ss : List Slot) (s : Slot) → i < length ss → s ≡ get_or ss i s
-    → ((rest : Slots) → new ++ laid_slots (length new) rest ≡ old ++ laid_slots (length old) (slot_of s rest))
-    → old ++ laid_slots (length old) (slots_in (map slot_of (drop i ss))) ≡ whole → new ++ laid_slots (length new) (slots_in (map slot_of (drop (i + 1) ss))) ≡ whole
-slot_put old new whole i ss s lt is e h = e (slots_in (map slot_of (drop (i + 1) ss))) ∙ (rw (drop-item ss i s lt is) at h)
+    → ((rest : Slots) → new ++ laid_slots (length new) rest ≡ old ++ laid_slots (length old) (slot_before s rest))
+    → old ++ laid_slots (length old) (slots_in (map slot_before (drop i ss))) ≡ whole → new ++ laid_slots (length new) (slots_in (map slot_before (drop (i + 1) ss))) ≡ whole
+slot_put old new whole i ss s lt is e h = e (slots_in (map slot_before (drop (i + 1) ss))) ∙ (rw (drop-item ss i s lt is) at h)
 
 pub metadata_put : (a b c : List ℕ) (end : ℕ) (n : Tree) → a ≡ little_bytes 4 (start 4 n) → b ≡ a ++ laid (length a) n → end ≡ end_at 4 n → c ≡ b ++ replicate (gap 8 end) 0 → c ≡ metadata n
 unfolding metadata

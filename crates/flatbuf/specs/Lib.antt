@@ -1,6 +1,5 @@
 pub mod Lookup
 pub mod Walk
-pub mod WalkLaws
 pub mod Seen
 pub mod Tree
 pub mod Laid
@@ -8,4 +7,6 @@ pub mod Ends
 pub mod Held
 pub mod Stands
 pub mod View
+pub mod Walked
 pub mod laws
+pub mod inner

@@ -1,5 +1,5 @@
 -- A tree of the code, whatever memory it takes.
-use Rattle.std.specs.Prelude.{List, [], ◌∷◌}
+use Rattle.std.specs.Prelude.{List, [], ◌∷◌, map}
 use Rattle.flatbuf.specs.declared.nodes.Node.{Node}
 use Rattle.flatbuf.specs.declared.nodes.Slot.{Slot}
 use Rattle.flatbuf.specs.declared.nodes.Node.TheOpen.{Node-F, Table, Text, References, Structs, Slot-F, Absent, Byte, Short, Word, Long, Refers}
@@ -33,5 +33,12 @@ slot_step (Refers node) = λ rest. refers node rest
 abbrev pub node_of : Node → trees.Tree
 node_of = fold-Node trees.Tree (Slots → Slots) node_step slot_step
 
-abbrev pub slot_of : Slot → Slots → Slots
-slot_of = fold-Slot trees.Tree (Slots → Slots) node_step slot_step
+abbrev pub slot_before : Slot → Slots → Slots
+slot_before = fold-Slot trees.Tree (Slots → Slots) node_step slot_step
+
+-- the nodes and the slots of vectors of the code
+abbrev pub all_nodes : List Node → Nodes
+all_nodes nodes = nodes_of (map node_of nodes)
+
+abbrev pub all_slots : List Slot → Slots
+all_slots slots = slots_in (map slot_before slots)

@@ -22,9 +22,10 @@ pub struct Budget {
 }
 
 impl Budget {
-    ghost use Rattle.std.specs.Prelude.{◌≡◌, ◌+◌, Ok, Err, OnOk, nat_lt, if◌then◌else◌};
+    ghost use Rattle.std.specs.Prelude.{◌≡◌, ◌+◌, OnOk};
     ghost use Rattle.flatbuf.specs.Seen.{tables_in};
     ghost use Rattle.flatbuf.specs.Walk.{reported};
+    ghost use Rattle.flatbuf.specs.Walked.{one_more};
 
     /// No table was entered.
     pub fn new() -> Budget
@@ -35,7 +36,7 @@ impl Budget {
 
     /// Counts a visit.
     pub(crate) fn enter(&mut self) -> Result<(), FlatError>
-        ensures walked { reported (tables_in self.new) result ≡ (if nat_lt (tables_in self.old) MAX_TABLES then Ok (tables_in self.old + 1) else Err FlatError.Budget) }
+        ensures walked { reported (tables_in self.new) result ≡ one_more (tables_in self.old) }
         ensures counted { OnOk result (tables_in self.new ≡ tables_in self.old + 1) }
     {
         if self.entered >= MAX_TABLES {
@@ -50,7 +51,8 @@ impl<'a> Buf<'a> {
     ghost use Rattle.std.specs.Prelude.{◌+◌, ◌-◌, OnOk};
     ghost use Rattle.flatbuf.specs.Lookup.{target, table_at};
     ghost use Rattle.flatbuf.specs.Seen.{buffer_bytes, tables_in, bytes_of, place_of, levels_of};
-    ghost use Rattle.flatbuf.specs.Walk.{run, reported, root_things};
+    ghost use Rattle.flatbuf.specs.Walk.{root_things};
+    ghost use Rattle.flatbuf.specs.Walked.{Walks};
 
     /// A buffer of these bytes, of which there are at most `MAX_BUFFER_BYTES`.
     pub fn new(bytes: &'a [u8]) -> Buf<'a>
@@ -61,9 +63,9 @@ impl<'a> Buf<'a> {
     }
 
     /// The root table: the first four bytes say where it stands.
-    #[tactic(auto, using(crate::specs::WalkLaws::run_append), unfolding(crate::specs::Walk::run, crate::specs::Walk::root_things, crate::specs::Lookup::target))]
+    #[tactic(auto, using(crate::specs::laws::Walk::run_append), unfolding(crate::specs::Walk::run, crate::specs::Walk::root_things, crate::specs::Lookup::target))]
     pub fn root(&self, budget: &mut Budget) -> Result<Table<'a>, FlatError>
-        ensures walked { run (buffer_bytes self.now) (root_things (buffer_bytes self.now)) (tables_in budget.old) ≡ reported (tables_in budget.new) result }
+        ensures walked { Walks (buffer_bytes self.now) (root_things (buffer_bytes self.now)) budget.old budget.new result }
         ensures counted { OnOk result (tables_in budget.new ≡ tables_in budget.old + 1) }
         ensures same { IfOk result (λ t. bytes_of t ≡ buffer_bytes self.now) }
         ensures here { IfOk result (λ t. place_of t ≡ table_at (buffer_bytes self.now) (target (buffer_bytes self.now) 0)) }

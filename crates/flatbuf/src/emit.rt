@@ -5,14 +5,15 @@ ghost use Rattle.flatbuf.specs.Tree.{Slots, no_slot, table, text, references, st
 ghost use Rattle.flatbuf.specs.Laid.{gap, inline_end, distances, inline, links, starts, slot_starts, laid, laid_all, laid_slots, struct_bytes, vtable, vtable_len, start};
 ghost use Rattle.flatbuf.specs.Ends.{end_at, ends_at, below_ends_at};
 ghost use Rattle.flatbuf.specs.Held.{Fits, FitsAll, FitsSlots};
-ghost use Rattle.flatbuf.specs.View.{node_of, nodes_of, slot_of, slots_in};
+ghost use Rattle.flatbuf.specs.inner.Steps.{to_put, then_nodes, then_slots};
+ghost use Rattle.flatbuf.specs.View.{node_of, all_nodes, slot_before, all_slots};
 
 use crate::nodes::{Node, Slot};
 use crate::sizes::{aligned, end_of, inline_end, start_of, table_start, width};
 use std::alloc::AllocError;
 
 /// Zeros from a position up to the next multiple.
-pub fn pad(out: &mut Vec<u8>, from: usize, multiple: u8) -> Result<(), AllocError>
+pub(crate) fn pad(out: &mut Vec<u8>, from: usize, multiple: u8) -> Result<(), AllocError>
     requires positive { 0 < multiple }
     requires near { from < 2 ^ 62 }
     requires small { length out.old.items < 2 ^ 62 }
@@ -69,9 +70,9 @@ fn put_structs(out: &mut Vec<u8>, pairs: &[(u64, u64)]) -> Result<(), AllocError
 /// The references to nodes that are written one after the other from `below` on.
 #[tactic(auto, unfolding(crate::specs::Laid::links, crate::specs::Laid::starts))]
 fn put_links(out: &mut Vec<u8>, below: usize, nodes: &[Node]) -> Result<(), AllocError>
-    requires small { ends_at below (nodes_of (map node_of nodes.now)) < 2 ^ 31 }
+    requires small { ends_at below (all_nodes nodes.now) < 2 ^ 31 }
     requires room { length out.old.items + 4 * length nodes.now ≤ below }
-    ensures { OnOk result (out.new.items ≡ out.old.items ++ links (length out.old.items) (starts below (nodes_of (map node_of nodes.now)))) }
+    ensures { OnOk result (out.new.items ≡ out.old.items ++ links (length out.old.items) (starts below (all_nodes nodes.now))) }
 {
     let mut cursor = below;
     for node in nodes {
@@ -85,8 +86,8 @@ fn put_links(out: &mut Vec<u8>, below: usize, nodes: &[Node]) -> Result<(), Allo
 /// The distances of the slots, for the vtable.
 #[tactic(auto, using(crate::proofs::ReadBack::inline_le_end))]
 fn put_distances(out: &mut Vec<u8>, slots: &[Slot]) -> Result<(), AllocError>
-    requires thin { inline_end 4 (slots_in (map slot_of slots.now)) < 2 ^ 16 }
-    ensures { OnOk result (out.new.items ≡ out.old.items ++ distances 4 (slots_in (map slot_of slots.now))) }
+    requires thin { inline_end 4 (all_slots slots.now) < 2 ^ 16 }
+    ensures { OnOk result (out.new.items ≡ out.old.items ++ distances 4 (all_slots slots.now)) }
 {
     let mut offset = 4;
     for slot in slots {
@@ -106,9 +107,9 @@ fn put_distances(out: &mut Vec<u8>, slots: &[Slot]) -> Result<(), AllocError>
 #[tactic(auto, using(crate::proofs::Cases::count_slots))]
 fn put_vtable(out: &mut Vec<u8>, slots: &[Slot]) -> Result<(), AllocError>
     requires near { length out.old.items < 2 ^ 31 }
-    requires thin { inline_end 4 (slots_in (map slot_of slots.now)) < 2 ^ 16 }
-    requires short { vtable_len (slots_in (map slot_of slots.now)) < 2 ^ 16 }
-    ensures { OnOk result (out.new.items ≡ out.old.items ++ vtable (length out.old.items) (slots_in (map slot_of slots.now))) }
+    requires thin { inline_end 4 (all_slots slots.now) < 2 ^ 16 }
+    requires short { vtable_len (all_slots slots.now) < 2 ^ 16 }
+    ensures { OnOk result (out.new.items ≡ out.old.items ++ vtable (length out.old.items) (all_slots slots.now)) }
 {
     let size = 4 + 2 * slots.len();
     pad(out, out.len() + size, 8)?;
@@ -159,11 +160,11 @@ fn put_slot(
 ) -> Result<Reached, AllocError>
     requires near { reached.offset < 2 ^ 16 }
     requires small { length out.old.items < 2 ^ 31 }
-    requires low { below_ends_at reached.cursor (slot_of slot.now no_slot) < 2 ^ 31 }
-    requires room { (rest : Slots) × (at + inline_end reached.offset (slot_of slot.now rest) ≤ reached.cursor) }
-    ensures bytes { IfOk result (λ r. (rest : Slots) → out.new.items ++ inline at r.offset (slot_starts r.cursor rest) rest ≡ out.old.items ++ inline at reached.offset (slot_starts reached.cursor (slot_of slot.now rest)) (slot_of slot.now rest)) }
-    ensures inline { IfOk result (λ r. (rest : Slots) → inline_end r.offset rest ≡ inline_end reached.offset (slot_of slot.now rest)) }
-    ensures below { IfOk result (λ r. (rest : Slots) → below_ends_at r.cursor rest ≡ below_ends_at reached.cursor (slot_of slot.now rest)) }
+    requires low { below_ends_at reached.cursor (slot_before slot.now no_slot) < 2 ^ 31 }
+    requires room { (rest : Slots) × (at + inline_end reached.offset (slot_before slot.now rest) ≤ reached.cursor) }
+    ensures bytes { IfOk result (λ r. (rest : Slots) → out.new.items ++ to_put at r rest ≡ out.old.items ++ to_put at reached (slot_before slot.now rest)) }
+    ensures inline { IfOk result (λ r. (rest : Slots) → inline_end r.offset rest ≡ inline_end reached.offset (slot_before slot.now rest)) }
+    ensures below { IfOk result (λ r. (rest : Slots) → below_ends_at r.cursor rest ≡ below_ends_at reached.cursor (slot_before slot.now rest)) }
     ensures up { IfOk result (λ r. reached.cursor ≤ r.cursor) }
 {
     let offset = reached.offset;
@@ -201,10 +202,10 @@ fn put_slot(
 #[tactic(auto, using(crate::proofs::ReadBack::inline_le_end, crate::proofs::Cases::slot_fits), unfolding(crate::specs::Laid::inline))]
 fn put_inline(out: &mut Vec<u8>, at: usize, below: usize, slots: &[Slot]) -> Result<(), AllocError>
     requires here { length out.old.items ≡ at + 4 }
-    requires room { below ≡ at + inline_end 4 (slots_in (map slot_of slots.now)) }
-    requires thin { inline_end 4 (slots_in (map slot_of slots.now)) < 2 ^ 16 }
-    requires small { below_ends_at below (slots_in (map slot_of slots.now)) < 2 ^ 31 }
-    ensures { OnOk result (out.new.items ≡ out.old.items ++ inline at 4 (slot_starts below (slots_in (map slot_of slots.now))) (slots_in (map slot_of slots.now))) }
+    requires room { below ≡ at + inline_end 4 (all_slots slots.now) }
+    requires thin { inline_end 4 (all_slots slots.now) < 2 ^ 16 }
+    requires small { below_ends_at below (all_slots slots.now) < 2 ^ 31 }
+    ensures { OnOk result (out.new.items ≡ out.old.items ++ inline at 4 (slot_starts below (all_slots slots.now)) (all_slots slots.now)) }
 {
     let mut reached = Reached {
         offset: 4,
@@ -218,8 +219,8 @@ fn put_inline(out: &mut Vec<u8>, at: usize, below: usize, slots: &[Slot]) -> Res
 
 /// A vector of references, up to what it refers to.
 fn put_vector(out: &mut Vec<u8>, nodes: &[Node]) -> Result<(), AllocError>
-    requires small { end_at (length out.old.items) (references (nodes_of (map node_of nodes.now))) < 2 ^ 31 }
-    ensures { OnOk result (out.new.items ++ laid_all (length out.new.items) (nodes_of (map node_of nodes.now)) ≡ out.old.items ++ laid (length out.old.items) (references (nodes_of (map node_of nodes.now)))) }
+    requires small { end_at (length out.old.items) (references (all_nodes nodes.now)) < 2 ^ 31 }
+    ensures { OnOk result (then_nodes out.new.items (all_nodes nodes.now) ≡ out.old.items ++ laid (length out.old.items) (references (all_nodes nodes.now))) }
 {
     pad(out, out.len(), 4)?;
     out.extend_from_slice(&(nodes.len() as u32).to_le_bytes())?;
@@ -230,9 +231,9 @@ fn put_vector(out: &mut Vec<u8>, nodes: &[Node]) -> Result<(), AllocError>
 
 /// A table, up to what it refers to.
 fn put_head(out: &mut Vec<u8>, slots: &[Slot]) -> Result<(), AllocError>
-    requires fits { Fits (table (slots_in (map slot_of slots.now))) }
-    requires small { end_at (length out.old.items) (table (slots_in (map slot_of slots.now))) < 2 ^ 31 }
-    ensures { OnOk result (out.new.items ++ laid_slots (length out.new.items) (slots_in (map slot_of slots.now)) ≡ out.old.items ++ laid (length out.old.items) (table (slots_in (map slot_of slots.now)))) }
+    requires fits { Fits (table (all_slots slots.now)) }
+    requires small { end_at (length out.old.items) (table (all_slots slots.now)) < 2 ^ 31 }
+    ensures { OnOk result (then_slots out.new.items (all_slots slots.now) ≡ out.old.items ++ laid (length out.old.items) (table (all_slots slots.now))) }
 {
     let at = table_start(out.len(), slots);
     put_vtable(out, slots)?;
@@ -243,7 +244,7 @@ fn put_head(out: &mut Vec<u8>, slots: &[Slot]) -> Result<(), AllocError>
 
 /// A node, and all that it refers to.
 #[cycle(put)]
-pub fn put(out: &mut Vec<u8>, node: &Node) -> Result<(), AllocError>
+pub(crate) fn put(out: &mut Vec<u8>, node: &Node) -> Result<(), AllocError>
     requires fits { Fits (node_of node.now) }
     requires small { end_at (length out.old.items) (node_of node.now) < 2 ^ 31 }
     ensures { OnOk result (out.new.items ≡ out.old.items ++ laid (length out.old.items) (node_of node.now)) }
@@ -260,9 +261,9 @@ pub fn put(out: &mut Vec<u8>, node: &Node) -> Result<(), AllocError>
 #[tactic(auto, unfolding(crate::specs::Laid::laid_slots))]
 #[cycle(put)]
 fn put_table(out: &mut Vec<u8>, slots: &[Slot]) -> Result<(), AllocError>
-    requires fits { Fits (table (slots_in (map slot_of slots.now))) }
-    requires small { end_at (length out.old.items) (table (slots_in (map slot_of slots.now))) < 2 ^ 31 }
-    ensures { OnOk result (out.new.items ≡ out.old.items ++ laid (length out.old.items) (table (slots_in (map slot_of slots.now)))) }
+    requires fits { Fits (table (all_slots slots.now)) }
+    requires small { end_at (length out.old.items) (table (all_slots slots.now)) < 2 ^ 31 }
+    ensures { OnOk result (out.new.items ≡ out.old.items ++ laid (length out.old.items) (table (all_slots slots.now))) }
 {
     put_head(out, slots)?;
     for slot in slots {
@@ -275,9 +276,9 @@ fn put_table(out: &mut Vec<u8>, slots: &[Slot]) -> Result<(), AllocError>
 #[tactic(auto, unfolding(crate::specs::Laid::laid_slots))]
 #[cycle(put)]
 fn put_below(out: &mut Vec<u8>, slot: &Slot) -> Result<(), AllocError>
-    requires fits { FitsSlots (slot_of slot.now no_slot) }
-    requires small { below_ends_at (length out.old.items) (slot_of slot.now no_slot) < 2 ^ 31 }
-    ensures { OnOk result ((rest : Slots) → out.new.items ++ laid_slots (length out.new.items) rest ≡ out.old.items ++ laid_slots (length out.old.items) (slot_of slot.now rest)) }
+    requires fits { FitsSlots (slot_before slot.now no_slot) }
+    requires small { below_ends_at (length out.old.items) (slot_before slot.now no_slot) < 2 ^ 31 }
+    ensures { OnOk result ((rest : Slots) → then_slots out.new.items rest ≡ then_slots out.old.items (slot_before slot.now rest)) }
 {
     match slot {
         Slot::Absent | Slot::Byte(_) | Slot::Short(_) | Slot::Word(_) | Slot::Long(_) => Ok(()),
@@ -292,9 +293,9 @@ fn put_below(out: &mut Vec<u8>, slot: &Slot) -> Result<(), AllocError>
 #[tactic(auto, unfolding(crate::specs::Laid::laid_all))]
 #[cycle(put)]
 fn put_references(out: &mut Vec<u8>, nodes: &[Node]) -> Result<(), AllocError>
-    requires fits { FitsAll (nodes_of (map node_of nodes.now)) }
-    requires small { end_at (length out.old.items) (references (nodes_of (map node_of nodes.now))) < 2 ^ 31 }
-    ensures { OnOk result (out.new.items ≡ out.old.items ++ laid (length out.old.items) (references (nodes_of (map node_of nodes.now)))) }
+    requires fits { FitsAll (all_nodes nodes.now) }
+    requires small { end_at (length out.old.items) (references (all_nodes nodes.now)) < 2 ^ 31 }
+    ensures { OnOk result (out.new.items ≡ out.old.items ++ laid (length out.old.items) (references (all_nodes nodes.now))) }
 {
     put_vector(out, nodes)?;
     for node in nodes {

@@ -2,6 +2,13 @@
 //!
 //! A reading call gives what the slot has by the look-up of the format, or the first thing that is out of bounds, and
 //! takes no memory. [`Writer`] gives one layout for each tree, and what it wrote is read again.
+//!
+//! ```
+//! // The byte of slot 1 of the root table, 0 where it is absent.
+//! let mut budget = Budget::new();
+//! let root = Buf::new(bytes).root(&mut budget)?;
+//! let kind = root.scalar_u8(1, 0)?;
+//! ```
 #![tactic(auto)]
 
 ghost use Rattle.std.specs.Prelude.{ℕ, ◌≡◌, ◌<◌, ◌^◌, ◌%◌, ◌+◌, List, length};
@@ -31,8 +38,6 @@ mod numbers;
 mod references;
 mod sizes;
 mod table;
-#[cfg(test)]
-mod tests;
 mod writer;
 
 pub use buf::{Budget, Buf};
@@ -44,7 +49,7 @@ pub use writer::Writer;
 
 /// What is written is read back: wherever the bytes of a tree stand, a reader finds that tree.
 pub fn written_is_read()
-    ensures anywhere { (bytes : List ℕ) (cursor : ℕ) (n : Tree) → length bytes < 2 ^ 31 → Fits n → At bytes cursor (laid cursor n) → Has bytes (start cursor n) n }
+    ensures anywhere { (bytes : List ℕ) (at : ℕ) (n : Tree) → length bytes < 2 ^ 31 → Fits n → At bytes at (laid at n) → Has bytes (start at n) n }
     ensures size { (n : Tree) → length (metadata n) ≡ end_at 4 n + gap 8 (end_at 4 n) }
     ensures whole { (n : Tree) → length (metadata n) % 8 ≡ 0 }
     ensures root { (n : Tree) → length (metadata n) < 2 ^ 31 → Fits n → Has (metadata n) (target (metadata n) 0) n }

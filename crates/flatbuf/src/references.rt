@@ -22,7 +22,8 @@ impl<'a> References<'a> {
     ghost use Rattle.std.specs.Prelude.{ℕ, ◌<◌, ◌-◌, ◌^◌, [], IfOk, Some, slice_index};
     ghost use Rattle.flatbuf.specs.Lookup.{target, table_at, elements};
     ghost use Rattle.flatbuf.specs.Seen.{tables_in, bytes_of, place_of, levels_of, bytes_behind, places_in, levels_behind};
-    ghost use Rattle.flatbuf.specs.Walk.{run, reported, table_things, vector_at};
+    ghost use Rattle.flatbuf.specs.Walk.{run, reported, vector_at};
+    ghost use Rattle.flatbuf.specs.Walked.{Walks, child_things};
 
     /// No references.
     pub(crate) fn none(bytes: &'a [u8], left: u8) -> References<'a>
@@ -69,7 +70,7 @@ impl<'a> References<'a> {
     #[tactic(auto, using(crate::proofs::Elements::length_targets, crate::proofs::Elements::target_at))]
     pub fn table(&self, i: usize, budget: &mut Budget) -> Result<Table<'a>, FlatError>
         requires { i < length (places_in self.now) }
-        ensures walked { run (bytes_behind self.now) (table_things (levels_behind self.now) (bytes_behind self.now) (slice_index (places_in self.now) i)) (tables_in budget.old) ≡ reported (tables_in budget.new) result }
+        ensures walked { Walks (bytes_behind self.now) (child_things self.now i) budget.old budget.new result }
         ensures same { IfOk result (λ t. bytes_of t ≡ bytes_behind self.now) }
         ensures here { IfOk result (λ t. place_of t ≡ table_at (bytes_behind self.now) (slice_index (places_in self.now) i)) }
         ensures levels { IfOk result (λ t. levels_of t ≡ levels_behind self.now - 1) }

@@ -1,15 +1,15 @@
 // Where the parts of a tree stand and end, before any byte of it is written.
-ghost use Rattle.std.specs.Prelude.{ℕ, ◌≡◌, ◌<◌, ◌≤◌, ◌^◌, ◌+◌, ◌*◌, ◌++◌, length, map, IfSome, MatchOption};
-ghost use Rattle.byteorder.specs.Endian.{little_bytes};
+ghost use Rattle.std.specs.Prelude.{ℕ, ◌≡◌, ◌<◌, ◌≤◌, ◌^◌, ◌+◌, ◌*◌, IfSome, length};
 ghost use Rattle.flatbuf.specs.Tree.{Slots, no_slot, table, text, references, structs};
 ghost use Rattle.flatbuf.specs.Laid.{gap, inline_end, distances, table_start, start};
 ghost use Rattle.flatbuf.specs.Ends.{end_at, below_ends_at};
-ghost use Rattle.flatbuf.specs.View.{node_of, nodes_of, slot_of, slots_in};
+ghost use Rattle.flatbuf.specs.inner.Steps.{after_slot, then_distances};
+ghost use Rattle.flatbuf.specs.View.{node_of, all_nodes, slot_before, all_slots};
 
 use crate::nodes::{Node, Slot};
 
 /// The next multiple at or after a position.
-pub fn aligned(multiple: u8, at: usize) -> usize
+pub(crate) fn aligned(multiple: u8, at: usize) -> usize
     requires positive { 0 < multiple }
     requires small { at < 2 ^ 62 }
     ensures { result ≡ at + gap multiple at }
@@ -19,9 +19,9 @@ pub fn aligned(multiple: u8, at: usize) -> usize
 }
 
 /// The size of a slot's inline content, if it is present.
-pub fn width(slot: &Slot) -> Option<u8>
-    ensures inline { (offset : ℕ) (rest : Slots) → MatchOption result (inline_end offset (slot_of slot.now rest) ≡ inline_end offset rest) (λ w. inline_end offset (slot_of slot.now rest) ≡ inline_end (offset + gap w offset + w) rest) }
-    ensures vtable { (offset : ℕ) (rest : Slots) → MatchOption result (distances offset (slot_of slot.now rest) ≡ little_bytes 2 0 ++ distances offset rest) (λ w. distances offset (slot_of slot.now rest) ≡ little_bytes 2 (offset + gap w offset) ++ distances (offset + gap w offset + w) rest) }
+pub(crate) fn width(slot: &Slot) -> Option<u8>
+    ensures inline { (offset : ℕ) (rest : Slots) → inline_end offset (slot_before slot.now rest) ≡ inline_end (after_slot offset result) rest }
+    ensures vtable { (offset : ℕ) (rest : Slots) → distances offset (slot_before slot.now rest) ≡ then_distances offset result rest }
     ensures low { IfSome result (λ w. 0 < w) }
     ensures high { IfSome result (λ w. w ≤ 8) }
 {
@@ -37,9 +37,9 @@ pub fn width(slot: &Slot) -> Option<u8>
 
 /// The size of a table's inline part.
 #[tactic(auto, using(crate::proofs::ReadBack::inline_le_end))]
-pub fn inline_end(slots: &[Slot]) -> usize
-    requires small { inline_end 4 (slots_in (map slot_of slots.now)) < 2 ^ 31 }
-    ensures { result ≡ inline_end 4 (slots_in (map slot_of slots.now)) }
+pub(crate) fn inline_end(slots: &[Slot]) -> usize
+    requires small { inline_end 4 (all_slots slots.now) < 2 ^ 31 }
+    ensures { result ≡ inline_end 4 (all_slots slots.now) }
 {
     let mut offset = 4;
     for slot in slots {
@@ -53,15 +53,15 @@ pub fn inline_end(slots: &[Slot]) -> usize
 
 /// Where a table stands that is written at a cursor.
 #[tactic(auto, using(crate::proofs::Cases::count_slots))]
-pub fn table_start(cursor: usize, slots: &[Slot]) -> usize
-    requires small { table_start cursor (slots_in (map slot_of slots.now)) < 2 ^ 31 }
-    ensures { result ≡ table_start cursor (slots_in (map slot_of slots.now)) }
+pub(crate) fn table_start(cursor: usize, slots: &[Slot]) -> usize
+    requires small { table_start cursor (all_slots slots.now) < 2 ^ 31 }
+    ensures { result ≡ table_start cursor (all_slots slots.now) }
 {
     aligned(8, cursor + 4 + 2 * slots.len())
 }
 
 /// Where a node stands that is written at a cursor.
-pub fn start_of(cursor: usize, node: &Node) -> usize
+pub(crate) fn start_of(cursor: usize, node: &Node) -> usize
     requires small { start cursor (node_of node.now) < 2 ^ 31 }
     ensures { result ≡ start cursor (node_of node.now) }
 {
@@ -91,7 +91,7 @@ fn structs_end(cursor: usize, pairs: &[(u64, u64)]) -> usize
 
 /// Where all of a node ends that is written at a cursor.
 #[cycle(ends)]
-pub fn end_of(cursor: usize, node: &Node) -> usize
+pub(crate) fn end_of(cursor: usize, node: &Node) -> usize
     requires small { end_at cursor (node_of node.now) < 2 ^ 31 }
     ensures { result ≡ end_at cursor (node_of node.now) }
 {
@@ -107,8 +107,8 @@ pub fn end_of(cursor: usize, node: &Node) -> usize
 #[tactic(auto, using(crate::proofs::Ends::below_le, crate::proofs::Cases::slot_fits, crate::proofs::ReadBack::inline_le_end))]
 #[cycle(ends)]
 fn table_end(cursor: usize, slots: &[Slot]) -> usize
-    requires small { end_at cursor (table (slots_in (map slot_of slots.now))) < 2 ^ 31 }
-    ensures { result ≡ end_at cursor (table (slots_in (map slot_of slots.now))) }
+    requires small { end_at cursor (table (all_slots slots.now)) < 2 ^ 31 }
+    ensures { result ≡ end_at cursor (table (all_slots slots.now)) }
 {
     let mut end = table_start(cursor, slots) + inline_end(slots);
     for slot in slots {
@@ -121,8 +121,8 @@ fn table_end(cursor: usize, slots: &[Slot]) -> usize
 #[tactic(auto, using(crate::proofs::Ends::ends_le, crate::proofs::Cases::node_fits, crate::proofs::Cases::count_nodes))]
 #[cycle(ends)]
 fn references_end(cursor: usize, nodes: &[Node]) -> usize
-    requires small { end_at cursor (references (nodes_of (map node_of nodes.now))) < 2 ^ 31 }
-    ensures { result ≡ end_at cursor (references (nodes_of (map node_of nodes.now))) }
+    requires small { end_at cursor (references (all_nodes nodes.now)) < 2 ^ 31 }
+    ensures { result ≡ end_at cursor (references (all_nodes nodes.now)) }
 {
     let mut end = aligned(4, cursor) + 4 + 4 * nodes.len();
     for node in nodes {
@@ -133,9 +133,9 @@ fn references_end(cursor: usize, nodes: &[Node]) -> usize
 
 /// Where all ends that a slot refers to, if it is written at a cursor.
 #[cycle(ends)]
-pub fn slot_end(cursor: usize, slot: &Slot) -> usize
-    requires small { below_ends_at cursor (slot_of slot.now no_slot) < 2 ^ 31 }
-    ensures { (rest : Slots) → below_ends_at result rest ≡ below_ends_at cursor (slot_of slot.now rest) }
+pub(crate) fn slot_end(cursor: usize, slot: &Slot) -> usize
+    requires small { below_ends_at cursor (slot_before slot.now no_slot) < 2 ^ 31 }
+    ensures { (rest : Slots) → below_ends_at result rest ≡ below_ends_at cursor (slot_before slot.now rest) }
 {
     match slot {
         Slot::Absent | Slot::Byte(_) | Slot::Short(_) | Slot::Word(_) | Slot::Long(_) => cursor,

@@ -33,7 +33,8 @@ impl<'a> Table<'a> {
     ghost use Rattle.std.specs.Prelude.{ℕ, ◌*◌, ◌-◌, IfOk, OnOk, IfSome, Some, option_map, is_some};
     ghost use Rattle.flatbuf.specs.Lookup.{slot, target, table_at, table_behind, union_behind, text_of, structs_of, elements, scalar_of, is_set};
     ghost use Rattle.flatbuf.specs.Seen.{tables_in, bytes_of, place_of, levels_of, slot_of, bytes_behind, places_in, levels_behind};
-    ghost use Rattle.flatbuf.specs.Walk.{run, reported, table_things, reference_things, union_things, spans, vector_at};
+    ghost use Rattle.flatbuf.specs.Walked.{Walks, slot_things};
+    ghost use Rattle.flatbuf.specs.Walk.{run, reported, table_things, union_things, spans, vector_at};
 
     /// The table at a position, with so many levels left.
     #[tactic(auto, unfolding(crate::specs::Walk::run, crate::specs::Walk::table_things, crate::specs::Walk::head_things))]
@@ -45,7 +46,7 @@ impl<'a> Table<'a> {
     ) -> Result<Table<'a>, FlatError>
         requires small { length bytes.now ≤ MAX_BUFFER_BYTES }
         requires near { at < 2 ^ 40 }
-        ensures walked { run bytes.now (table_things left bytes.now at) (tables_in budget.old) ≡ reported (tables_in budget.new) result }
+        ensures walked { Walks bytes.now (table_things left bytes.now at) budget.old budget.new result }
         ensures counted { OnOk result (tables_in budget.new ≡ tables_in budget.old + 1) }
         ensures same { IfOk result (λ t. bytes_of t ≡ bytes.now) }
         ensures here { IfOk result (λ t. place_of t ≡ table_at bytes.now at) }
@@ -203,7 +204,7 @@ impl<'a> Table<'a> {
     /// The table that the reference of slot `k` leads to, unless it is absent.
     #[tactic(auto, using(crate::proofs::FirstThing::first_err, crate::proofs::FirstThing::first_ok), unfolding(crate::specs::Walk::run, crate::specs::Lookup::target))]
     pub fn reference(&self, k: u16, budget: &mut Budget) -> Result<Option<Table<'a>>, FlatError>
-        ensures walked { run (bytes_of self.now) (reference_things (levels_of self.now) (bytes_of self.now) (slot_of self.now k)) (tables_in budget.old) ≡ reported (tables_in budget.new) result }
+        ensures walked { Walks (bytes_of self.now) (slot_things self.now k) budget.old budget.new result }
         ensures same { IfOk result (λ found. IfSome found (λ t. bytes_of t ≡ bytes_of self.now)) }
         ensures here { IfOk result (λ found. option_map place_of found ≡ table_behind (bytes_of self.now) (slot_of self.now k)) }
         ensures levels { IfOk result (λ found. IfSome found (λ t. levels_of t ≡ levels_of self.now - 1)) }
@@ -220,10 +221,10 @@ impl<'a> Table<'a> {
     }
 
     /// The union whose kind stands in slot `k` and whose reference in the next: nothing is entered where the kind is 0.
-    #[tactic(auto, using(crate::specs::WalkLaws::run_append), unfolding(crate::specs::Walk::run))]
+    #[tactic(auto, using(crate::specs::laws::Walk::run_append), unfolding(crate::specs::Walk::run))]
     pub fn union(&self, k: u16, budget: &mut Budget) -> Result<Union<'a>, FlatError>
         requires { k + 1 < 2 ^ 16 }
-        ensures walked { run (bytes_of self.now) (union_things (levels_of self.now) (bytes_of self.now) (place_of self.now) k) (tables_in budget.old) ≡ reported (tables_in budget.new) result }
+        ensures walked { Walks (bytes_of self.now) (union_things (levels_of self.now) (bytes_of self.now) (place_of self.now) k) budget.old budget.new result }
         ensures kind { IfOk result (λ u. u.kind ≡ scalar_of 1 0 (bytes_of self.now) (slot_of self.now k)) }
         ensures same { IfOk result (λ u. IfSome u.table (λ t. bytes_of t ≡ bytes_of self.now)) }
         ensures here { IfOk result (λ u. option_map place_of u.table ≡ union_behind (bytes_of self.now) (place_of self.now) k) }

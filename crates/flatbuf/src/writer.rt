@@ -40,32 +40,3 @@ impl Writer {
         Ok(out)
     }
 }
-
-#[cfg(test)]
-mod tests {
-    use super::*;
-    use crate::nodes::Slot;
-    use std::test::Fail;
-
-    // The header of a record batch of two rows: its length, one field node, two buffers.
-    #[test]
-    fn a_record_batch(rt: HostRuntime) -> Result<(), Fail> {
-        let alloc = rt.alloc();
-        let nodes = Node::Structs(vec![in alloc; (2, 1)]?);
-        let buffers = Node::Structs(vec![in alloc; (0, 1), (8, 8)]?);
-        let root = Node::Table(vec![in alloc;
-            Slot::Long(2),
-            Slot::Refers(nodes),
-            Slot::Refers(buffers),
-        ]?);
-        let bytes = Writer::new(alloc).write(&root)?;
-        let expected = [
-            16, 0, 0, 0, 0, 0, 10, 0, 24, 0, 8, 0, 16, 0, 20, 0, 10, 0, 0, 0, 0, 0, 0, 0, 2, 0, 0,
-            0, 0, 0, 0, 0, 12, 0, 0, 0, 32, 0, 0, 0, 0, 0, 0, 0, 1, 0, 0, 0, 2, 0, 0, 0, 0, 0, 0,
-            0, 1, 0, 0, 0, 0, 0, 0, 0, 0, 0, 0, 0, 2, 0, 0, 0, 0, 0, 0, 0, 0, 0, 0, 0, 1, 0, 0, 0,
-            0, 0, 0, 0, 8, 0, 0, 0, 0, 0, 0, 0, 8, 0, 0, 0, 0, 0, 0, 0,
-        ];
-        assert_eq!(rt; bytes.as_slice(), expected.as_slice());
-        Ok(())
-    }
-}

@@ -1,16 +1,14 @@
--- When a type with so many children is decoded.
-use Rattle.std.proofs.Common.{◌≡◌, ℕ, suc, Bool, true, false, ◌&&◌, List, [], ◌∷◌, length, refl, ap, ◌∙◌, arith}
+-- Whether a type is decoded, by the number of its children.
+use Rattle.std.proofs.Common.{◌≡◌, ℕ, suc, Bool, true, false, ◌&&◌, List, [], ◌∷◌, length, refl, ap, ◌∙◌, map, arith}
 use Rattle.std.specs.Prelude.{nat_eq, Option, Some, None, is_some, if◌then◌else◌}
 use Rattle.std.proofs.lemmas.Bool.Decides.{nat_tests}
 use Rattle.std.proofs.lemmas.List.{length-map}
 use Rattle.arrow_schema.specs.Column.{Kind, Column, lists, large_lists}
-use Rattle.ipc_message.specs.declared.fault.TypeName.{TypeName}
-use Rattle.ipc_message.specs.declared.fault.TypeName.TheVariants as types
-use Rattle.ipc_message.specs.declared.raw.RawField.{RawField, out-RawField}
-use Rattle.ipc_message.specs.declared.raw.RawField.TheFolds.{fold_out-RawField}
+use Rattle.ipc_message.specs.declared.raw_header.RawField.{RawField, out-RawField}
+use Rattle.ipc_message.specs.declared.raw_header.RawField.TheFolds.{fold_out-RawField}
 use Rattle.ipc_message.specs.Raw as raw
 use Rattle.ipc_message.specs.Raw.{RawParameters, no_parameters, integer_parameters, byte_width, list_size, date_unit, timestamp_parameters, raw_fields_of}
-use Rattle.ipc_message.specs.Types.{type_name, without_children, with_item, is_size, integer, date, timestamp, fixed_binary, has_list_size, fixed_list, decoded_type, is_decoded}
+use Rattle.ipc_message.specs.Types.{type_name, without_children, with_item, is_size, has_list_size, fixed_list, decoded_type}
 use Rattle.ipc_message.specs.Convert.{columns_of_fields}
 use Rattle.ipc_message.specs.Checks.{has_type}
 use Rattle.ipc_message.specs.View.{raw_field_of, raw_field_step, parameters_of}
@@ -29,7 +27,7 @@ and_true : (a : Bool) → (a && true) ≡ a
 and_true true = refl
 and_true false = refl
 
-leaf_supported : (kind : Kind) (cs : List Column) → is_some (without_children (Some kind) cs) ≡ nat_eq (length cs) 0
+pub leaf_supported : (kind : Kind) (cs : List Column) → is_some (without_children (Some kind) cs) ≡ nat_eq (length cs) 0
 leaf_supported kind cs = leaf_type (Some kind) cs ∙ and_true _
 
 pub item_type : (kind : Column → Option Kind) (b : Bool) → ((c : Column) → is_some (kind c) ≡ b) → (cs : List Column) → is_some (with_item kind cs) ≡ (nat_eq (length cs) 1 && b)
@@ -49,41 +47,28 @@ sized_list (byte_width n) c = refl
 sized_list (date_unit n) c = refl
 sized_list (timestamp_parameters n z) c = refl
 
-pub decoded_by_count : (name : TypeName) (p : RawParameters) (cs : List Column) → is_some (decoded_type name p cs) ≡ is_decoded name p (length cs)
-unfolding decoded_type is_decoded
-decoded_by_count types.Null p cs = leaf_supported _ cs
-decoded_by_count types.Int p cs = leaf_type (integer p) cs
-decoded_by_count types.Binary p cs = leaf_supported _ cs
-decoded_by_count types.Utf8 p cs = leaf_supported _ cs
-decoded_by_count types.Bool p cs = leaf_supported _ cs
-decoded_by_count types.Date p cs = leaf_type (date p) cs
-decoded_by_count types.Timestamp p cs = leaf_type (timestamp p) cs
-decoded_by_count types.List p cs = item_type (λ item. Some (lists item)) true (λ c. refl) cs ∙ and_true _
-decoded_by_count types.Struct p cs = refl
-decoded_by_count types.FixedSizeBinary p cs = leaf_type (fixed_binary p) cs
-decoded_by_count types.FixedSizeList p cs = item_type (fixed_list p) (has_list_size p) (sized_list p) cs
-decoded_by_count types.LargeBinary p cs = leaf_supported _ cs
-decoded_by_count types.LargeUtf8 p cs = leaf_supported _ cs
-decoded_by_count types.LargeList p cs = item_type (λ item. Some (large_lists item)) true (λ c. refl) cs ∙ and_true _
-decoded_by_count types.FloatingPoint p cs = refl
-decoded_by_count types.Decimal p cs = refl
-decoded_by_count types.Time p cs = refl
-decoded_by_count types.Interval p cs = refl
-decoded_by_count types.Union p cs = refl
-decoded_by_count types.Map p cs = refl
-decoded_by_count types.Duration p cs = refl
-decoded_by_count types.RunEndEncoded p cs = refl
-decoded_by_count types.BinaryView p cs = refl
-decoded_by_count types.Utf8View p cs = refl
-decoded_by_count types.ListView p cs = refl
-decoded_by_count types.LargeListView p cs = refl
-decoded_by_count types.Unknown p cs = refl
+pub one_list : (cs : List Column) → is_some (with_item (λ item. Some (lists item)) cs) ≡ nat_eq (length cs) 1
+one_list cs = item_type (λ item. Some (lists item)) true (λ c. refl) cs ∙ and_true _
+
+pub one_large_list : (cs : List Column) → is_some (with_item (λ item. Some (large_lists item)) cs) ≡ nat_eq (length cs) 1
+one_large_list cs = item_type (λ item. Some (large_lists item)) true (λ c. refl) cs ∙ and_true _
+
+pub one_fixed_list : (p : RawParameters) (cs : List Column) → is_some (with_item (fixed_list p) cs) ≡ (nat_eq (length cs) 1 && has_list_size p)
+one_fixed_list p cs = item_type (fixed_list p) (has_list_size p) (sized_list p) cs
+
+pub ruleset child_rules = (leaf_supported, leaf_type, one_list, one_large_list, one_fixed_list)
 
 count_of_fields : (fs : List raw.RawField) → length (columns_of_fields (raw_fields_of fs)) ≡ length fs
 unfolding columns_of_fields
 count_of_fields [] = refl
 count_of_fields (f ∷ fs) = ap suc (count_of_fields fs)
 
-pub has_type_by_count : (f : RawField) → has_type (raw_field_of f) ≡ is_decoded (type_name (out-RawField f).code) (parameters_of (out-RawField f).parameters) (length (out-RawField f).children.items)
-has_type_by_count f =
-    rw (fold_out-RawField raw.RawField raw_field_step f) (decoded_by_count _ _ _ ∙ ap (is_decoded _ _) (count_of_fields _ ∙ length-map (out-RawField f).children.items raw_field_of))
+-- the children of a field of the code, as columns
+abbrev pub child_columns : RawField → List Column
+child_columns f = columns_of_fields (raw_fields_of (map raw_field_of (out-RawField f).children.items))
+
+pub count_of_children : (f : RawField) → length (child_columns f) ≡ length (out-RawField f).children.items
+count_of_children f = count_of_fields _ ∙ length-map (out-RawField f).children.items raw_field_of
+
+pub has_type_opened : (f : RawField) → has_type (raw_field_of f) ≡ is_some (decoded_type (type_name (out-RawField f).code) (parameters_of (out-RawField f).parameters) (child_columns f))
+has_type_opened f = ap has_type (fold_out-RawField raw.RawField raw_field_step f)

@@ -19,8 +19,8 @@ use Rattle.ipc_message.specs.Fields.{preorder, preorder_all, every_field, depth,
 use Rattle.ipc_message.specs.Types.{type_name, decoded_type}
 use Rattle.ipc_message.specs.Convert.{index_of, column_of_field, columns_of_fields, plain_schema_of}
 use Rattle.ipc_message.specs.Checks.{is_bad, is_index_type, timezone_of, texts_of_pairs, texts_of_field, texts_of, count_of_pairs, is_dictionary_of_nested}
-use Rattle.ipc_message.specs.Accepted.{IsAccepted}
-use Rattle.ipc_message.specs.Readable.{AreReadable}
+use Rattle.ipc_message.specs.laws.Accepted.{IsAccepted}
+use Rattle.ipc_message.specs.inner.Readable.{AreReadable}
 use Rattle.ipc_message.proofs.Shapes.{HasShape, decoded_shape}
 
 some_of : {A : Type 0} (o : Option A) (d : A) → is_some o ≡ true → o ≡ Some (unwrap_or o d)

@@ -8,15 +8,15 @@ use Rattle.ipc_message.specs.Types.{without_children, with_item, fixed_list, has
 use Rattle.std.specs.Prelude.{option_map}
 use Rattle.std.proofs.lemmas.Grind.{flat_map-append}
 use Rattle.std.proofs.lemmas.List.Folds.{list_any-append, list_all-append}
-use Rattle.ipc_message.specs.declared.raw.RawField as code
-use Rattle.ipc_message.specs.declared.raw.RawField.{out-RawField}
-use Rattle.ipc_message.specs.declared.raw.RawField.TheFolds.{fold_out-RawField}
+use Rattle.ipc_message.specs.declared.raw_header.RawField as code
+use Rattle.ipc_message.specs.declared.raw_header.RawField.{out-RawField}
+use Rattle.ipc_message.specs.declared.raw_header.RawField.TheFolds.{fold_out-RawField}
 use Rattle.ipc_message.specs.Raw.{RawParameters, RawField, raw_field, raw_fields_of}
 use Rattle.ipc_message.specs.Fields.{preorder, preorder_all}
 use Rattle.ipc_message.specs.Types.{type_name, decoded_type}
 use Rattle.ipc_message.specs.Convert.{column_of_field, columns_of_fields}
 use Rattle.ipc_message.specs.Checks.{has_type, is_bad, is_index_type, timezone_of, texts_of_pairs, texts_of_field}
-use Rattle.ipc_message.specs.Readable.{AreReadable}
+use Rattle.ipc_message.specs.inner.Readable.{AreReadable}
 use Rattle.ipc_message.specs.View.{raw_field_step, raw_field_of, parameters_of, encoding_of, key_value}
 use Rattle.std.proofs.lemmas.List.{length-map}
 use Rattle.ipc_message.proofs.Children.{sized_list}

@@ -5,10 +5,10 @@ use Rattle.std.proofs.Math.Seq.{drop-cons}
 use Rattle.std.proofs.lemmas.List.{drop_all}
 use Rattle.flatbuf.specs.declared.FlatError.{FlatError}
 use Rattle.flatbuf.specs.Walk.{Thing, run}
-use Rattle.flatbuf.specs.WalkLaws.{run_ok, run_err}
+use Rattle.flatbuf.specs.laws.Walk.{run_ok, run_err}
 use Rattle.ipc_message.specs.declared.walk_error.WalkError.{WalkError}
 use Rattle.ipc_message.specs.declared.walk_error.WalkError.TheVariants as errors
-use Rattle.ipc_message.specs.Walked.{Fails}
+use Rattle.ipc_message.specs.inner.Walked.{WalkFails}
 
 more : (places : List ℕ) (i : ℕ) → i < length places → drop i places ≡ slice_index places i ∷ drop (i + 1) places
 more places i lt = let e : i + 1 ≡ suc i = omega arith in rw e (drop-cons places i 0 lt)
@@ -21,7 +21,7 @@ element_err things bytes places i m e total lt so_far bad =
 
 -- the same, where memory may have run out
 pub element_fails : (e : WalkError) (things : ℕ → List Thing) (bytes : List ℕ) (places : List ℕ) (i m : ℕ) (total : Result ℕ FlatError) → i < length places
-    → run bytes (flat_map things (drop i places)) m ≡ total → Fails e (run bytes (things (slice_index places i)) m) → Fails e total
+    → run bytes (flat_map things (drop i places)) m ≡ total → WalkFails e (run bytes (things (slice_index places i)) m) → WalkFails e total
 element_fails errors.Memory things bytes places i m total lt so_far bad = tt
 element_fails (errors.Flat f) things bytes places i m total lt so_far bad = element_err things bytes places i m f total lt so_far bad
 

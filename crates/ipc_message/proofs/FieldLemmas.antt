@@ -5,24 +5,24 @@ use Rattle.std.proofs.Math.Dec.{eqb-suc-zero}
 use Rattle.flatbuf.specs.declared.FlatError.{FlatError}
 use Rattle.flatbuf.specs.Lookup.{Place, table_at, slot, elements}
 use Rattle.flatbuf.specs.Walk.{Thing, run, head_things, table_things}
-use Rattle.flatbuf.specs.WalkLaws.{run_ok, run_err}
+use Rattle.flatbuf.specs.laws.Walk.{run_ok, run_err}
 use Rattle.ipc_message.specs.declared.walk_error.WalkError.{WalkError}
 use Rattle.ipc_message.specs.declared.walk_error.WalkError.TheVariants as errors
 use Rattle.ipc_message.specs.Raw.{RawField}
 use Rattle.ipc_message.specs.Header.{supported_codes, field_things, field_slots, field_at, field_with}
-use Rattle.ipc_message.specs.Walked.{Fails}
+use Rattle.ipc_message.specs.inner.Walked.{WalkFails}
 
-fails_same : (e : WalkError) (r s : Result ℕ FlatError) → r ≡ s → Fails e s → Fails e r
+fails_same : (e : WalkError) (r s : Result ℕ FlatError) → r ≡ s → WalkFails e s → WalkFails e r
 fails_same errors.Memory r s h f = tt
 fails_same (errors.Flat d) r s h f = h ∙ f
 
 -- of two lists of things the first is bad
-pub fails_first : (e : WalkError) (bytes : List ℕ) (xs ys : List Thing) (n : ℕ) → Fails e (run bytes xs n) → Fails e (run bytes (xs ++ ys) n)
+pub fails_first : (e : WalkError) (bytes : List ℕ) (xs ys : List Thing) (n : ℕ) → WalkFails e (run bytes xs n) → WalkFails e (run bytes (xs ++ ys) n)
 fails_first errors.Memory bytes xs ys n f = tt
 fails_first (errors.Flat d) bytes xs ys n f = run_err bytes xs ys n d f
 
 -- the first is fine, and the second is bad
-pub fails_then : (e : WalkError) (bytes : List ℕ) (xs ys : List Thing) (n m : ℕ) → run bytes xs n ≡ Ok m → Fails e (run bytes ys m) → Fails e (run bytes (xs ++ ys) n)
+pub fails_then : (e : WalkError) (bytes : List ℕ) (xs ys : List Thing) (n m : ℕ) → run bytes xs n ≡ Ok m → WalkFails e (run bytes ys m) → WalkFails e (run bytes (xs ++ ys) n)
 fails_then e bytes xs ys n m fine f = fails_same e _ _ (run_ok bytes xs ys n m fine) f
 
 -- both are fine
@@ -49,7 +49,7 @@ table_bad bytes zero at n e bad = bad
 table_bad bytes (suc left) at n e bad = run_err bytes (head_things bytes at) _ n e (rw (eqb-suc-zero left) at bad)
 
 pub field_fails : (e : WalkError) (bytes : List ℕ) (left at n m : ℕ) → 0 < left → run bytes (table_things left bytes at) n ≡ Ok m
-    → Fails e (run bytes (field_slots supported_codes (left - 1) bytes (table_at bytes at)) m) → Fails e (run bytes (field_things supported_codes left bytes at) n)
+    → WalkFails e (run bytes (field_slots supported_codes (left - 1) bytes (table_at bytes at)) m) → WalkFails e (run bytes (field_things supported_codes left bytes at) n)
 field_fails e bytes left at n m lt fine f = fails_same e _ _ (ap (λ ts. run bytes ts n) (enters bytes left at lt) ∙ run_ok bytes _ _ n m fine) f
 
 pub field_ok : (bytes : List ℕ) (left at n m k : ℕ) → 0 < left → run bytes (table_things left bytes at) n ≡ Ok m
@@ -70,11 +70,11 @@ field_read bytes (suc left) at lt =
 -- ---- the same, said of a table of the code
 
 pub fails_there : (e : WalkError) (bytes there : List ℕ) (left below m : ℕ) (t u : Place) → there ≡ bytes → below ≡ left → t ≡ u
-    → Fails e (run there (field_slots supported_codes below there t) m) → Fails e (run bytes (field_slots supported_codes left bytes u) m)
+    → WalkFails e (run there (field_slots supported_codes below there t) m) → WalkFails e (run bytes (field_slots supported_codes left bytes u) m)
 fails_there e bytes there left below m t u same lower here f =
-    subst (λ p. Fails e (run bytes (field_slots supported_codes left bytes p) m)) here
-    (subst (λ l. Fails e (run bytes (field_slots supported_codes l bytes t) m)) lower
-    (subst (λ b. Fails e (run b (field_slots supported_codes below b t) m)) same f))
+    subst (λ p. WalkFails e (run bytes (field_slots supported_codes left bytes p) m)) here
+    (subst (λ l. WalkFails e (run bytes (field_slots supported_codes l bytes t) m)) lower
+    (subst (λ b. WalkFails e (run b (field_slots supported_codes below b t) m)) same f))
 
 pub runs_there : (bytes there : List ℕ) (left below m : ℕ) (t u : Place) → there ≡ bytes → below ≡ left → t ≡ u
     → run there (field_slots supported_codes below there t) m ≡ run bytes (field_slots supported_codes left bytes u) m
@@ -90,11 +90,11 @@ read_there bytes there left below t u same lower here =
 -- ---- the children, said of the references of the code
 
 pub children_fail : (e : WalkError) (bytes there : List ℕ) (left below m : ℕ) (places children : List ℕ) → there ≡ bytes → below ≡ left → places ≡ children
-    → Fails e (run there (flat_map (field_things supported_codes below there) places) m) → Fails e (run bytes (flat_map (field_things supported_codes left bytes) children) m)
+    → WalkFails e (run there (flat_map (field_things supported_codes below there) places) m) → WalkFails e (run bytes (flat_map (field_things supported_codes left bytes) children) m)
 children_fail e bytes there left below m places children same lower here f =
-    subst (λ (ps : List ℕ). Fails e (run bytes (flat_map (field_things supported_codes left bytes) ps) m)) here
-    (subst (λ l. Fails e (run bytes (flat_map (field_things supported_codes l bytes) places) m)) lower
-    (subst (λ b. Fails e (run b (flat_map (field_things supported_codes below b) places) m)) same f))
+    subst (λ (ps : List ℕ). WalkFails e (run bytes (flat_map (field_things supported_codes left bytes) ps) m)) here
+    (subst (λ l. WalkFails e (run bytes (flat_map (field_things supported_codes l bytes) places) m)) lower
+    (subst (λ b. WalkFails e (run b (flat_map (field_things supported_codes below b) places) m)) same f))
 
 pub children_run : (bytes there : List ℕ) (left below m : ℕ) (places children : List ℕ) → there ≡ bytes → below ≡ left → places ≡ children
     → run there (flat_map (field_things supported_codes below there) places) m ≡ run bytes (flat_map (field_things supported_codes left bytes) children) m

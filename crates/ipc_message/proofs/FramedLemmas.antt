@@ -14,7 +14,7 @@ use Rattle.flatbuf.specs.Walk.{run}
 use Rattle.ipc_message.specs.declared.fault.Fault.{Fault}
 use Rattle.ipc_message.specs.declared.fault.Fault.TheVariants.{Truncated, NoContinuation, MetadataSize, MetadataVersion, HeaderKind, BodyLength}
 use Rattle.std.proofs.lemmas.Bool.{not-false}
-use Rattle.ipc_message.specs.Accepted.{all_none, when_none}
+use Rattle.ipc_message.specs.laws.Accepted.{first_none, when_none}
 use Rattle.ipc_message.specs.Framing.{Envelope, NextMessage, message, end_of_stream, taken, continuation_marker, next_message, unless, first_some, when, walk_fault, message_things, version_of, type_of, header_type, marker_faults, size_faults, message_faults, metadata_size, metadata_in, after_metadata, message_with, body_length, IsMessage, Framed}
 use Rattle.ipc_message.proofs.NextMessageLemmas.{first_pass}
 
@@ -44,10 +44,12 @@ record HasMarker (bytes : List ℕ) : Type 0 where
 marker_passed : (bytes : List ℕ) → first_some (marker_faults bytes) ≡ None → HasMarker bytes
 unfolding marker_faults
 marker_passed bytes h =
-    let found = all_none (marker_faults bytes) h in
+    let four = first_none (when (nat_lt (length bytes) 4) Truncated) (when (not (starts_with nat_eq bytes continuation_marker)) NoContinuation ∷ when (nat_lt (length bytes) 8) Truncated ∷ []) h in
+    let marker = first_none (when (not (starts_with nat_eq bytes continuation_marker)) NoContinuation) (when (nat_lt (length bytes) 8) Truncated ∷ []) four.1 in
+    let eight = first_none (when (nat_lt (length bytes) 8) Truncated) [] marker.1 in
     record {
-      long = lt_false (length bytes) 8 (when_none (nat_lt (length bytes) 8) Truncated found.1.1.0);
-      starts = (starts_is Decides-eqb bytes continuation_marker (starts_with nat_eq bytes continuation_marker) refl).0 (not-false (starts_with nat_eq bytes continuation_marker) (when_none (not (starts_with nat_eq bytes continuation_marker)) NoContinuation found.1.0));
+      long = lt_false (length bytes) 8 (when_none (nat_lt (length bytes) 8) Truncated eight.0);
+      starts = (starts_is Decides-eqb bytes continuation_marker (starts_with nat_eq bytes continuation_marker) refl).0 (not-false (starts_with nat_eq bytes continuation_marker) (when_none (not (starts_with nat_eq bytes continuation_marker)) NoContinuation marker.0));
     }
 
 record IsSized (bytes : List ℕ) : Type 0 where
@@ -57,10 +59,11 @@ record IsSized (bytes : List ℕ) : Type 0 where
 size_passed : (bytes : List ℕ) → first_some (size_faults bytes) ≡ None → IsSized bytes
 unfolding size_faults
 size_passed bytes h =
-    let found = all_none (size_faults bytes) h in
+    let small = first_none _ _ h in
+    let room = first_none _ _ small.1 in
     record {
-      small = lt_false MAX_BUFFER_BYTES (metadata_size bytes) (when_none (nat_lt MAX_BUFFER_BYTES (metadata_size bytes)) MetadataSize found.0);
-      room = lt_false (length bytes) (8 + metadata_size bytes) (when_none (nat_lt (length bytes) (8 + metadata_size bytes)) Truncated found.1.0);
+      small = lt_false MAX_BUFFER_BYTES (metadata_size bytes) (when_none (nat_lt MAX_BUFFER_BYTES (metadata_size bytes)) MetadataSize small.0);
+      room = lt_false (length bytes) (8 + metadata_size bytes) (when_none (nat_lt (length bytes) (8 + metadata_size bytes)) Truncated room.0);
     }
 
 -- the tests of the metadata alone, before that of its body's length
@@ -76,7 +79,7 @@ message_passed : (metadata : List ℕ) (following : ℕ) → first_some (message
 unfolding message_faults
 message_passed metadata following h =
     let a = both_passed (table_faults metadata) (when (nat_lt following (body_length metadata)) Truncated ∷ []) h in
-    (a.0, lt_false following (body_length metadata) (when_none (nat_lt following (body_length metadata)) Truncated (all_none (when (nat_lt following (body_length metadata)) Truncated ∷ []) a.1).0))
+    (a.0, lt_false following (body_length metadata) (when_none (nat_lt following (body_length metadata)) Truncated (first_none (when (nat_lt following (body_length metadata)) Truncated) [] a.1).0))
 
 message_passes : (metadata : List ℕ) (following : ℕ) → first_some (table_faults metadata) ≡ None → body_length metadata ≤ following → first_some (message_faults metadata following) ≡ None
 unfolding message_faults

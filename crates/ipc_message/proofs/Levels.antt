@@ -2,8 +2,8 @@
 use Rattle.std.proofs.Common.{◌≡◌, ◌≢◌, ℕ, ◌+◌, ◌-◌, max, false, ◌&&◌, ap, map, ◌∙◌, arith}
 use Rattle.std.specs.Prelude.{nat_le}
 use Rattle.std.proofs.lemmas.Bool.Decides.{nat_tests}
-use Rattle.ipc_message.specs.declared.raw.RawField.{RawField, out-RawField}
-use Rattle.ipc_message.specs.declared.raw.RawField.TheFolds.{fold_out-RawField}
+use Rattle.ipc_message.specs.declared.raw_header.RawField.{RawField, out-RawField}
+use Rattle.ipc_message.specs.declared.raw_header.RawField.TheFolds.{fold_out-RawField}
 use Rattle.ipc_message.specs.Raw as raw
 use Rattle.ipc_message.specs.Raw.{raw_fields_of}
 use Rattle.ipc_message.specs.Fields.{depth, depth_all}

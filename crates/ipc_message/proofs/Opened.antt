@@ -1,7 +1,7 @@
 -- The parts of a field of the code, seen as a plain field.
 use Rattle.std.proofs.Common.{◌≡◌, ap, map}
-use Rattle.ipc_message.specs.declared.raw.RawField.{RawField, out-RawField}
-use Rattle.ipc_message.specs.declared.raw.RawField.TheFolds.{fold_out-RawField}
+use Rattle.ipc_message.specs.declared.raw_header.RawField.{RawField, out-RawField}
+use Rattle.ipc_message.specs.declared.raw_header.RawField.TheFolds.{fold_out-RawField}
 use Rattle.ipc_message.specs.Raw as raw
 use Rattle.ipc_message.specs.Raw.{raw_fields_of}
 use Rattle.ipc_message.specs.Fields.{children_of}

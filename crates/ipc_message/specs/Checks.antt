@@ -4,6 +4,7 @@ use Rattle.std.specs.List.{list_any, list_all}
 use Rattle.std.specs.Str.{is_utf8}
 use Rattle.ipc_message.specs.declared.fault.TypeName.{TypeName}
 use Rattle.ipc_message.specs.declared.fault.TypeName.TheVariants as types
+use Rattle.ipc_message.specs.declared.type_codes.TheConstants.{NONE, INT}
 use Rattle.ipc_message.specs.declared.fault.Fault.{Fault}
 use Rattle.ipc_message.specs.declared.fault.Fault.TheVariants.{NotYet, BigEndian, TypeNotHeld, BadParameter, SchemaLimit, NotUtf8, DictionaryId, DictionaryOfNested}
 use Rattle.arrow_schema.specs.declared.limits.TheConstants.{MAX_FIELDS, MAX_DEPTH, MAX_PAIRS, MAX_TEXT_BYTES}
@@ -19,7 +20,7 @@ use Rattle.ipc_message.specs.Same.{one_id, same_value_type}
 
 -- F12: a type that is not supported
 abbrev pub is_unsupported : (ℕ → Bool) → RawField → Bool
-is_unsupported supported f = not (code_of f == 0) && not (supported (code_of f))
+is_unsupported supported f = not (code_of f == NONE) && not (supported (code_of f))
 
 abbrev pub name_of_type : RawField → TypeName
 name_of_type f = type_name (code_of f)
@@ -83,7 +84,7 @@ is_dictionary_of_nested f = is_some (dictionary_of f) && is_nested (name_of_type
 
 -- F0: another type than an integer, a dictionary, or a pair
 abbrev pub is_not_yet : RawField → Bool
-is_not_yet f = not (code_of f == 2) || is_some (dictionary_of f) || not (length (pairs_of f) == 0)
+is_not_yet f = not (code_of f == INT) || is_some (dictionary_of f) || not (length (pairs_of f) == 0)
 
 -- the tests of a schema, where the codes with `supported` are of types that are supported
 unfoldable pub schema_checks : (ℕ → Bool) → RawSchema → List (Option Fault)

@@ -7,8 +7,10 @@ use Rattle.flatbuf.specs.declared.FlatError.TheVariants.{Bounds, VtableSize, Bud
 use Rattle.flatbuf.specs.declared.limits.TheConstants.{MAX_BUFFER_BYTES}
 use Rattle.flatbuf.specs.Lookup.{number, Place, slot, target, table_at, scalar_of}
 use Rattle.flatbuf.specs.Walk.{Thing, run, root_things, spans}
-use Rattle.ipc_message.specs.declared.envelope.HeaderType.{HeaderType}
-use Rattle.ipc_message.specs.declared.envelope.HeaderType.TheVariants.{Schema, DictionaryBatch, RecordBatch}
+use Rattle.ipc_message.specs.declared.header_type.TheConstants.{SCHEMA, DICTIONARY_BATCH, RECORD_BATCH}
+use Rattle.ipc_message.specs.declared.header_type.HeaderType.{HeaderType}
+use Rattle.ipc_message.specs.declared.header_type.HeaderType.TheVariants.{Schema, DictionaryBatch, RecordBatch}
+use Rattle.ipc_message.specs.declared.message.TheConstants.{V5}
 use Rattle.ipc_message.specs.declared.fault.Fault.{Fault}
 use Rattle.ipc_message.specs.declared.fault.Fault.TheVariants.{Truncated, NoContinuation, MetadataSize, FlatBounds, FlatBudget, MetadataVersion, HeaderKind, BodyLength}
 
@@ -16,9 +18,13 @@ use Rattle.ipc_message.specs.declared.fault.Fault.TheVariants.{Truncated, NoCont
 abbrev pub continuation_marker : List ℕ
 continuation_marker = 255 ∷ 255 ∷ 255 ∷ 255 ∷ []
 
+-- what follows it at the end of a stream
+abbrev pub no_size : List ℕ
+no_size = 0 ∷ 0 ∷ 0 ∷ 0 ∷ []
+
 -- what the header of a message is, by its number (Message.fbs, `MessageHeader`); others are not read
 abbrev pub header_type : ℕ → Option HeaderType
-header_type n = if n == 1 then Some Schema else if n == 2 then Some DictionaryBatch else if n == 3 then Some RecordBatch else None
+header_type n = if n == SCHEMA then Some Schema else if n == DICTIONARY_BATCH then Some DictionaryBatch else if n == RECORD_BATCH then Some RecordBatch else None
 
 -- a message as it stands: its metadata and its body
 pub record Envelope : Type 0 where
@@ -109,7 +115,7 @@ size_faults bytes =
 unfoldable pub message_faults : List ℕ → ℕ → List (Option Fault)
 message_faults metadata following =
     walk_fault (run metadata (message_things metadata) 0)
-    ∷ when (not (version_of metadata == 4)) MetadataVersion
+    ∷ when (not (version_of metadata == V5)) MetadataVersion
     ∷ when (is_none (header_type (type_of metadata))) HeaderKind
     ∷ when (not (nat_lt (body_length metadata) (2 ^ 63))) BodyLength
     ∷ when (nat_lt following (body_length metadata)) Truncated

@@ -4,19 +4,22 @@
 use Rattle.std.specs.Prelude.{ℕ, zero, suc, ◌-◌, Bool, true, false, ◌&&◌, ◌||◌, ◌==◌, if◌then◌else◌, List, [], ◌∷◌, ◌++◌, map, Option, Some, None, option_map, is_some, unwrap_or, Result, Ok, Err}
 use Rattle.std.specs.List.{flat_map, list_any}
 use Rattle.flatbuf.specs.declared.FlatError.{FlatError}
+use Rattle.flatbuf.specs.declared.limits.TheConstants.{MAX_LEVELS}
 use Rattle.flatbuf.specs.Lookup.{Place, table_at, slot, elements, text_of, structs_of, scalar_of, is_set, table_behind}
 use Rattle.flatbuf.specs.Walk.{Thing, too_deep, missing, run, head_things, table_things, reference_things, spans, vector_at}
 use Rattle.arrow_schema.specs.Column.{Pair}
-use Rattle.ipc_message.specs.declared.envelope.HeaderType.{HeaderType}
-use Rattle.ipc_message.specs.declared.envelope.HeaderType.TheVariants.{Schema, DictionaryBatch, RecordBatch}
+use Rattle.ipc_message.specs.declared.header_type.HeaderType.{HeaderType}
+use Rattle.ipc_message.specs.declared.header_type.HeaderType.TheVariants.{Schema, DictionaryBatch, RecordBatch}
+use Rattle.ipc_message.specs.declared.type_codes.TheConstants.{NULL, INT, BINARY, UTF8, BOOL, DATE, TIMESTAMP, LIST, STRUCT, FIXED_SIZE_BINARY, FIXED_SIZE_LIST, LARGE_BINARY, LARGE_UTF8, LARGE_LIST}
 use Rattle.ipc_message.specs.declared.fault.Fault.{Fault}
-use Rattle.ipc_message.specs.Raw.{RawParameters, no_parameters, integer_parameters, byte_width, list_size, date_unit, timestamp_parameters, RawEncoding, RawField, raw_field, no_raw_field, raw_fields_of, RawSchema, RawBatch, RawDictionaryBatch, RawHeader, schema_header, dictionary_header, batch_header}
-use Rattle.ipc_message.specs.View.{nodes_in, buffers_in}
+use Rattle.ipc_message.specs.Raw.{RawParameters, no_parameters, integer_parameters, byte_width, list_size, date_unit, timestamp_parameters, RawEncoding, RawField, raw_field, no_raw_field, raw_fields_of, RawSchema, RawBatch, RawDictionaryBatch, RawHeader, schema_header, dictionary_header, batch_header, nodes_in, buffers_in}
 use Rattle.ipc_message.specs.Framing.{message_table, type_of, header_type, flat_fault}
 
 -- the type codes that are supported
 abbrev pub supported_codes : ℕ → Bool
-supported_codes code = list_any (λ n. n == code) (1 ∷ 2 ∷ 4 ∷ 5 ∷ 6 ∷ 8 ∷ 10 ∷ 12 ∷ 13 ∷ 15 ∷ 16 ∷ 19 ∷ 20 ∷ 21 ∷ [])
+supported_codes code = list_any (λ n. n == code) (
+    NULL ∷ INT ∷ BINARY ∷ UTF8 ∷ BOOL ∷ DATE ∷ TIMESTAMP
+    ∷ LIST ∷ STRUCT ∷ FIXED_SIZE_BINARY ∷ FIXED_SIZE_LIST ∷ LARGE_BINARY ∷ LARGE_UTF8 ∷ LARGE_LIST ∷ [])
 
 -- slot k of a table that may be absent
 abbrev pub slot_in : List ℕ → Option Place → ℕ → Option ℕ
@@ -48,10 +51,10 @@ timestamp_things left bytes v =
 -- the table of a type, by its code: those of other types are not read
 unfoldable pub type_things : (ℕ → Bool) → ℕ → List ℕ → ℕ → Option ℕ → List Thing
 type_things supported left bytes code v =
-    if code == 2 then int_things left bytes v
-    else if code == 15 || code == 16 then size_things left bytes v
-    else if code == 8 && supported 8 then date_things left bytes v
-    else if code == 10 && supported 10 then timestamp_things left bytes v
+    if code == INT then int_things left bytes v
+    else if code == FIXED_SIZE_BINARY || code == FIXED_SIZE_LIST then size_things left bytes v
+    else if code == DATE && supported DATE then date_things left bytes v
+    else if code == TIMESTAMP && supported TIMESTAMP then timestamp_things left bytes v
     else []
 
 -- a DictionaryEncoding: its id, indexType, isOrdered and dictionaryKind
@@ -75,8 +78,8 @@ unfoldable pub pairs_things : ℕ → List ℕ → Option ℕ → List Thing
 pairs_things left bytes v = vector_at 4 bytes v ++ flat_map (pair_things left bytes) (elements bytes v)
 
 -- a field's own table: its name, nullable, type, dictionary, and the vector of its children
-unfoldable pub own_things : (ℕ → Bool) → ℕ → List ℕ → Place → List Thing
-own_things supported left bytes t =
+unfoldable pub field_table_things : (ℕ → Bool) → ℕ → List ℕ → Place → List Thing
+field_table_things supported left bytes t =
     vector_at 1 bytes (slot bytes t 0)
     ++ spans 1 (slot bytes t 1)
     ++ spans 1 (slot bytes t 2)
@@ -87,7 +90,7 @@ own_things supported left bytes t =
 -- a field's slots: its own table, its children by the walk over a child, its custom_metadata
 abbrev pub slots_by : (ℕ → List Thing) → (ℕ → Bool) → ℕ → List ℕ → Place → List Thing
 slots_by child_things supported left bytes t =
-    own_things supported left bytes t
+    field_table_things supported left bytes t
     ++ flat_map child_things (elements bytes (slot bytes t 5))
     ++ pairs_things left bytes (slot bytes t 6)
 
@@ -139,11 +142,11 @@ things_by_type supported left bytes t Schema = schema_things supported left byte
 things_by_type supported left bytes t DictionaryBatch = dictionary_things left bytes t
 things_by_type supported left bytes t RecordBatch = batch_things bytes t
 
--- the header of a message: the walk that comes after the Message's own things. 39 levels are left from the header on
+-- the header of a message: the walk that comes after the Message's own things, one level below it
 unfoldable pub header_things : (ℕ → Bool) → List ℕ → List Thing
 header_things supported metadata =
-    needed_things 39 metadata (header_slot metadata)
-    ++ things_by_type supported 38 metadata (table_behind metadata (header_slot metadata)) (type_in metadata)
+    needed_things (MAX_LEVELS - 1) metadata (header_slot metadata)
+    ++ things_by_type supported (MAX_LEVELS - 2) metadata (table_behind metadata (header_slot metadata)) (type_in metadata)
 
 -- ---- what it decodes to
 
@@ -158,11 +161,11 @@ int_of bytes t = int_or (0, false) bytes t
 -- what the table of a type decodes to; a Date without a unit has milliseconds, 1
 unfoldable pub parameters_in : (ℕ → Bool) → List ℕ → ℕ → Option Place → RawParameters
 parameters_in supported bytes code t =
-    if code == 2 then (let i = int_of bytes t in integer_parameters i.0 i.1)
-    else if code == 15 then byte_width (scalar_of 4 0 bytes (slot_in bytes t 0))
-    else if code == 16 then list_size (scalar_of 4 0 bytes (slot_in bytes t 0))
-    else if code == 8 && supported 8 then date_unit (scalar_of 2 1 bytes (slot_in bytes t 0))
-    else if code == 10 && supported 10 then timestamp_parameters (scalar_of 2 0 bytes (slot_in bytes t 0)) (text_of bytes (slot_in bytes t 1))
+    if code == INT then (let i = int_of bytes t in integer_parameters i.0 i.1)
+    else if code == FIXED_SIZE_BINARY then byte_width (scalar_of 4 0 bytes (slot_in bytes t 0))
+    else if code == FIXED_SIZE_LIST then list_size (scalar_of 4 0 bytes (slot_in bytes t 0))
+    else if code == DATE && supported DATE then date_unit (scalar_of 2 1 bytes (slot_in bytes t 0))
+    else if code == TIMESTAMP && supported TIMESTAMP then timestamp_parameters (scalar_of 2 0 bytes (slot_in bytes t 0)) (text_of bytes (slot_in bytes t 1))
     else no_parameters
 
 -- a DictionaryEncoding; an absent index type is signed with 32 bits
@@ -227,7 +230,7 @@ header_by_type supported left bytes t RecordBatch = batch_header (batch_in bytes
 
 -- what the header of a message decodes to, whatever its metadata is
 unfoldable pub header_of : (ℕ → Bool) → List ℕ → RawHeader
-header_of supported metadata = header_by_type supported 38 metadata (table_behind metadata (header_slot metadata)) (type_in metadata)
+header_of supported metadata = header_by_type supported (MAX_LEVELS - 2) metadata (table_behind metadata (header_slot metadata)) (type_in metadata)
 
 -- ---- the test of the header
 

@@ -9,8 +9,6 @@ pub mod Types
 pub mod Convert
 pub mod Same
 pub mod Checks
-pub mod Listed
 pub mod Outcome
-pub mod Walked
-pub mod Readable
-pub mod Accepted
+pub mod laws
+pub mod inner

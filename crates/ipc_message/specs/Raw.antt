@@ -1,5 +1,6 @@
 -- What the metadata of a message decodes to, before any test: a text is its bytes, a number its unsigned value (Message.fbs, Schema.fbs).
-use Rattle.std.specs.Prelude.{ℕ, Bool, List, [], ◌∷◌, Option}
+use Rattle.std.specs.Prelude.{ℕ, zero, suc, ◌/◌, Bool, List, [], ◌∷◌, Option, drop, length as count}
+use Rattle.byteorder.specs.Endian.{little_number}
 use Rattle.arrow_schema.specs.Column.{Pair}
 
 -- what stands in the table of a field's type
@@ -48,6 +49,23 @@ pub record RawNode : Type 0 where
 pub record RawBuffer : Type 0 where
   pub offset : ℕ
   pub length : ℕ
+
+-- the field nodes that stand in bytes, sixteen bytes each
+abbrev pub nodes_from : ℕ → List ℕ → List RawNode
+nodes_from zero bytes = []
+nodes_from (suc n) bytes = record { length = little_number 8 bytes; null_count = little_number 8 (drop 8 bytes) } ∷ nodes_from n (drop 16 bytes)
+
+-- the buffers that stand in bytes, sixteen bytes each
+abbrev pub buffers_from : ℕ → List ℕ → List RawBuffer
+buffers_from zero bytes = []
+buffers_from (suc n) bytes = record { offset = little_number 8 bytes; length = little_number 8 (drop 8 bytes) } ∷ buffers_from n (drop 16 bytes)
+
+-- all of them
+abbrev pub nodes_in : List ℕ → List RawNode
+nodes_in bytes = nodes_from (count bytes / 16) bytes
+
+abbrev pub buffers_in : List ℕ → List RawBuffer
+buffers_in bytes = buffers_from (count bytes / 16) bytes
 
 pub record RawBatch : Type 0 where
   pub length : ℕ

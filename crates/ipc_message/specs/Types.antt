@@ -1,5 +1,6 @@
 -- The type that a field's code, its table and its children decode to (Schema.fbs, the union Type), where they decode to one.
-use Rattle.std.specs.Prelude.{ℕ, ◌^◌, Bool, true, false, ◌&&◌, ◌==◌, is_some, nat_lt, if◌then◌else◌, List, [], ◌∷◌, Option, Some, None, option_map}
+use Rattle.std.specs.Prelude.{ℕ, ◌^◌, Bool, false, ◌==◌, nat_lt, if◌then◌else◌, List, [], ◌∷◌, Option, Some, None, option_map}
+use Rattle.ipc_message.specs.declared.type_codes.TheConstants.{NULL, INT, FLOATING_POINT, BINARY, UTF8, BOOL, DECIMAL, DATE, TIME, TIMESTAMP, INTERVAL, LIST, STRUCT, UNION, FIXED_SIZE_BINARY, FIXED_SIZE_LIST, MAP, DURATION, LARGE_BINARY, LARGE_UTF8, LARGE_LIST, RUN_END_ENCODED, BINARY_VIEW, UTF8_VIEW, LIST_VIEW, LARGE_LIST_VIEW}
 use Rattle.ipc_message.specs.declared.fault.TypeName.{TypeName}
 use Rattle.ipc_message.specs.declared.fault.TypeName.TheVariants as types
 use Rattle.arrow_schema.specs.Column.{Kind, Column, DateKind, days, date_milliseconds, TimeKind, seconds, milliseconds, microseconds, nanoseconds, nulls, booleans, integers, dates, timestamps, texts, large_texts, binaries, large_binaries, fixed_binaries, lists, large_lists, fixed_lists, structs, columns_of}
@@ -9,32 +10,32 @@ use Rattle.ipc_message.specs.Raw.{RawParameters, integer_parameters, byte_width,
 -- the name of a type code
 unfoldable pub type_name : ℕ → TypeName
 type_name code =
-    if code == 1 then types.Null
-    else if code == 2 then types.Int
-    else if code == 3 then types.FloatingPoint
-    else if code == 4 then types.Binary
-    else if code == 5 then types.Utf8
-    else if code == 6 then types.Bool
-    else if code == 7 then types.Decimal
-    else if code == 8 then types.Date
-    else if code == 9 then types.Time
-    else if code == 10 then types.Timestamp
-    else if code == 11 then types.Interval
-    else if code == 12 then types.List
-    else if code == 13 then types.Struct
-    else if code == 14 then types.Union
-    else if code == 15 then types.FixedSizeBinary
-    else if code == 16 then types.FixedSizeList
-    else if code == 17 then types.Map
-    else if code == 18 then types.Duration
-    else if code == 19 then types.LargeBinary
-    else if code == 20 then types.LargeUtf8
-    else if code == 21 then types.LargeList
-    else if code == 22 then types.RunEndEncoded
-    else if code == 23 then types.BinaryView
-    else if code == 24 then types.Utf8View
-    else if code == 25 then types.ListView
-    else if code == 26 then types.LargeListView
+    if code == NULL then types.Null
+    else if code == INT then types.Int
+    else if code == FLOATING_POINT then types.FloatingPoint
+    else if code == BINARY then types.Binary
+    else if code == UTF8 then types.Utf8
+    else if code == BOOL then types.Bool
+    else if code == DECIMAL then types.Decimal
+    else if code == DATE then types.Date
+    else if code == TIME then types.Time
+    else if code == TIMESTAMP then types.Timestamp
+    else if code == INTERVAL then types.Interval
+    else if code == LIST then types.List
+    else if code == STRUCT then types.Struct
+    else if code == UNION then types.Union
+    else if code == FIXED_SIZE_BINARY then types.FixedSizeBinary
+    else if code == FIXED_SIZE_LIST then types.FixedSizeList
+    else if code == MAP then types.Map
+    else if code == DURATION then types.Duration
+    else if code == LARGE_BINARY then types.LargeBinary
+    else if code == LARGE_UTF8 then types.LargeUtf8
+    else if code == LARGE_LIST then types.LargeList
+    else if code == RUN_END_ENCODED then types.RunEndEncoded
+    else if code == BINARY_VIEW then types.BinaryView
+    else if code == UTF8_VIEW then types.Utf8View
+    else if code == LIST_VIEW then types.ListView
+    else if code == LARGE_LIST_VIEW then types.LargeListView
     else types.Unknown
 
 -- a size of 32 bits with a sign, that is not negative
@@ -100,21 +101,3 @@ decoded_type types.LargeBinary p children = without_children (Some large_binarie
 decoded_type types.LargeUtf8 p children = without_children (Some large_texts) children
 decoded_type types.LargeList p children = with_item (λ item. Some (large_lists item)) children
 decoded_type _ p children = None
-
--- the same as a test, by the number of children
-unfoldable pub is_decoded : TypeName → RawParameters → ℕ → Bool
-is_decoded types.Null p n = n == 0
-is_decoded types.Int p n = n == 0 && is_some (integer p)
-is_decoded types.Binary p n = n == 0
-is_decoded types.Utf8 p n = n == 0
-is_decoded types.Bool p n = n == 0
-is_decoded types.Date p n = n == 0 && is_some (date p)
-is_decoded types.Timestamp p n = n == 0 && is_some (timestamp p)
-is_decoded types.List p n = n == 1
-is_decoded types.Struct p n = true
-is_decoded types.FixedSizeBinary p n = n == 0 && is_some (fixed_binary p)
-is_decoded types.FixedSizeList p n = n == 1 && has_list_size p
-is_decoded types.LargeBinary p n = n == 0
-is_decoded types.LargeUtf8 p n = n == 0
-is_decoded types.LargeList p n = n == 1
-is_decoded _ p n = false

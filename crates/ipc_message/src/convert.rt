@@ -12,18 +12,18 @@ ghost use Rattle.ipc_message.specs.Types as decoded;
 ghost use Rattle.ipc_message.specs.Convert.{column_of_field, columns_of_fields, plain_schema_of};
 ghost use Rattle.ipc_message.specs.Convert as convert;
 ghost use Rattle.arrow_schema.specs.Limits.{IsWithinLimits};
-ghost use Rattle.ipc_message.specs.Accepted.{IsAccepted};
+ghost use Rattle.ipc_message.specs.laws.Accepted.{IsAccepted};
 ghost use Rattle.ipc_message.specs.Header.{supported_codes};
 ghost use Rattle.ipc_message.specs.Outcome.{Gives};
-ghost use Rattle.ipc_message.specs.Readable.{AreReadable};
+ghost use Rattle.ipc_message.specs.inner.Readable.{AreReadable};
 ghost use Rattle.ipc_message.specs.Checks.{timezone_of, texts_of_pairs, is_index_type, checked_schema};
 ghost use Rattle.ipc_message.specs.View.{raw_field_of, raw_schema_of, key_value, parameters_of, encoding_of};
 
-use crate::checks::check_schema;
 use crate::error::ImportError;
 use crate::fault::TypeName;
-use crate::raw::{Encoding, KeyValue, Parameters, RawField, RawSchema};
-use crate::supported::type_name;
+use crate::raw_header::{Encoding, KeyValue, Parameters, RawField, RawSchema};
+use crate::schema_checks::check_schema;
+use crate::type_codes::type_name;
 use arrow_schema::{BitWidth, DataType, DateUnit, DictSpec, Field, IntegerType, Schema, TimeUnit};
 use std::alloc::{AllocError, Global};
 
@@ -235,7 +235,7 @@ fn copy_schema(alloc: Global, raw: &RawSchema) -> Result<Schema, AllocError>
 
 /// The schema that a header decodes to, or the fault of the first of its tests that finds something. Texts are copied once all
 /// tests have passed.
-#[tactic(auto, using(crate::specs::Accepted::accepted_outcome, crate::proofs::Columns::accepted_within), unfolding(crate::specs::Checks::checked_schema))]
+#[tactic(auto, using(crate::specs::laws::Accepted::accepted_outcome, crate::proofs::Columns::accepted_within), unfolding(crate::specs::Checks::checked_schema))]
 pub fn read_schema(alloc: Global, raw: &RawSchema) -> Result<Schema, ImportError>
     ensures exact { Gives schema_of result (checked_schema supported_codes (raw_schema_of raw.now)) }
     ensures within { IfOk result (λ schema. IsWithinLimits (schema_of schema)) }

@@ -3,9 +3,9 @@ ghost use Rattle.std.specs.Prelude.{◌≡◌, ◌++◌, map, OnOk, IfOk};
 ghost use Rattle.ipc_message.specs.Raw.{raw_fields_of};
 ghost use Rattle.ipc_message.specs.Fields.{preorder, preorder_all};
 ghost use Rattle.ipc_message.specs.View.{raw_field_of};
-ghost use Rattle.ipc_message.specs.Listed.{listed};
+ghost use Rattle.ipc_message.specs.inner.Listed.{listed};
 
-use crate::raw::RawField;
+use crate::raw_header::RawField;
 
 /// A field of a schema, wherever it stands.
 #[derive(Clone, Copy)]

@@ -2,37 +2,45 @@
 //!
 //! A message is read without memory up to its header, and refused by the first test that fails; its header is
 //! a tree that borrows its texts, so that hostile metadata cannot make a reader copy more than it was given.
+//!
+//! ```
+//! // The schema of a stream, where a schema stands first.
+//! let (next, taken) = read_message(bytes)?;
+//! if let NextMessage::Message(message) = next {
+//!     if let Header::Schema(raw) = message.header(alloc)? {
+//!         return read_schema(alloc, &raw);
+//!     }
+//! }
+//! ```
 #![tactic(auto)]
 
-mod allowed;
-mod checks;
 mod convert;
-mod envelope;
 mod error;
 mod fault;
 mod fault_text;
 mod fields;
-mod header;
+mod header_type;
 mod laws;
 mod message;
 mod next_message;
-mod parts;
-mod raw;
+mod raw_header;
+mod read_fields;
+mod read_header;
+mod read_tables;
 mod same;
-mod supported;
+mod schema_checks;
 mod texts;
-mod walk;
+mod type_checks;
+mod type_codes;
 mod walk_error;
 
-pub use checks::check_schema;
 pub use convert::read_schema;
-pub use envelope::HeaderType;
 pub use error::ImportError;
 pub use fault::{Fault, TypeName};
+pub use header_type::HeaderType;
 pub use laws::next_message_is_framed;
 pub use message::{Message, NextMessage};
 pub use next_message::read_message;
-pub use raw::{
+pub use raw_header::{
     Encoding, Header, KeyValue, Parameters, RawBatch, RawDictionaryBatch, RawField, RawSchema,
 };
-pub use supported::{is_supported, type_name};

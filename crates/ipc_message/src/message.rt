@@ -1,14 +1,15 @@
 // The front of a stream of messages: one message, or the end of stream.
 
-ghost use Rattle.std.specs.Prelude.{◌≡◌, Some};
+ghost use Rattle.std.specs.Prelude.{◌≡◌, ◌-◌, Some};
+ghost use Rattle.flatbuf.specs.declared.limits.TheConstants.{MAX_LEVELS};
 ghost use Rattle.flatbuf.specs.Seen.{tables_in, bytes_of, place_of, levels_of};
 ghost use Rattle.ipc_message.specs.Framing.{message_table, header_type, type_of};
 
-use crate::envelope::header_type;
-use crate::header::{header_by_type, needed};
+use crate::header_type::header_type;
+use crate::read_header::{header_by_type, needed};
 use crate::walk_error::WalkError;
 use crate::{Fault, Header, HeaderType, ImportError};
-use flatbuf::{Budget, Buf, FlatError, MAX_BUFFER_BYTES, Table};
+use flatbuf::{Budget, Buf, FlatError, MAX_BUFFER_BYTES, MAX_LEVELS, Table};
 use std::alloc::Global;
 
 /// The version of the metadata that is read (Message.fbs, `MetadataVersion`).
@@ -22,7 +23,7 @@ pub struct Message<'a> {
     budget: Budget,
     body: &'a [u8],
     ghost root: { place_of table ≡ message_table (bytes_of table) },
-    ghost levels: { levels_of table ≡ 39 },
+    ghost levels: { levels_of table ≡ MAX_LEVELS - 1 },
     ghost entered: { tables_in budget ≡ 1 },
     ghost type_is: { header_type (type_of (bytes_of table)) ≡ Some kind },
 }
@@ -52,7 +53,7 @@ impl<'a> Message<'a> {
     ghost use Rattle.ipc_message.specs.Messages.{envelope_of};
     ghost use Rattle.ipc_message.specs.Outcome.{Gives};
     ghost use Rattle.ipc_message.specs.View.{raw_header_of};
-    ghost use Rattle.ipc_message.specs.Walked.{Decodes};
+    ghost use Rattle.ipc_message.specs.inner.Walked.{Decodes};
 
     /// The message whose metadata this is, where these bytes follow it, or the first of these faults: F4 where the
     /// Message table or its first four slots are out of bounds, F6 a version that is not V5, F7 a header that is none
@@ -122,19 +123,18 @@ impl<'a> Message<'a> {
 }
 
 impl<'a> MessageHead<'a> {
-    ghost use Rattle.std.specs.Prelude.{IfOk};
-    ghost use Rattle.std.specs.Prelude.{◌≤◌, length};
+    ghost use Rattle.std.specs.Prelude.{◌≤◌, length, IfOk};
     ghost use Rattle.flatbuf.specs.Walk.{run, reported};
     ghost use Rattle.ipc_message.specs.Framing.{message_things, version_of, body_length};
 
     /// The Message table, and the content of its slots 0 to 3: where the header's reference leads is not looked at.
-    #[tactic(auto, using(flatbuf::specs::WalkLaws::run_append), unfolding(crate::specs::Framing::message_things, crate::specs::Framing::version_of, crate::specs::Framing::type_of, crate::specs::Framing::body_length))]
+    #[tactic(auto, using(flatbuf::specs::laws::Walk::run_append), unfolding(crate::specs::Framing::message_things, crate::specs::Framing::version_of, crate::specs::Framing::type_of, crate::specs::Framing::body_length))]
     fn read(metadata: &'a [u8]) -> Result<MessageHead<'a>, FlatError>
         requires small { length metadata.now ≤ MAX_BUFFER_BYTES }
         ensures walked { run metadata.now (message_things metadata.now) 0 ≡ reported 1 result }
         ensures same { IfOk result (λ h. bytes_of h.table ≡ metadata.now) }
         ensures root { IfOk result (λ h. place_of h.table ≡ message_table metadata.now) }
-        ensures levels { IfOk result (λ h. levels_of h.table ≡ 39) }
+        ensures levels { IfOk result (λ h. levels_of h.table ≡ MAX_LEVELS - 1) }
         ensures entered { IfOk result (λ h. tables_in h.budget ≡ 1) }
         ensures version { IfOk result (λ h. h.version ≡ version_of metadata.now) }
         ensures header_type { IfOk result (λ h. h.header_type ≡ type_of metadata.now) }

@@ -6,7 +6,7 @@ ghost use Rattle.ipc_message.specs.Fields.{dictionary_of};
 ghost use Rattle.ipc_message.specs.View.{raw_field_of, key_value, parameters_of, encoding_of};
 ghost use Rattle.std.specs.Prelude.{option_map};
 
-use crate::raw::{Encoding, KeyValue, Parameters, RawField};
+use crate::raw_header::{Encoding, KeyValue, Parameters, RawField};
 
 /// Whether both have a dictionary, of one id.
 pub(crate) fn have_one_id(one: &RawField, other: &RawField) -> bool

@@ -6,10 +6,10 @@ ghost use Rattle.ipc_message.specs.Raw.{raw_fields_of};
 ghost use Rattle.ipc_message.specs.Fields.{preorder_all};
 ghost use Rattle.ipc_message.specs.Checks.{texts_of_pairs, texts_of_field, texts_of, timezone_of};
 ghost use Rattle.ipc_message.specs.View.{raw_field_of, raw_schema_of, key_value, parameters_of};
-ghost use Rattle.ipc_message.specs.Listed.{listed, text_list};
+ghost use Rattle.ipc_message.specs.inner.Listed.{listed, text_list};
 
 use crate::fields::FieldRef;
-use crate::raw::{KeyValue, Parameters, RawField};
+use crate::raw_header::{KeyValue, Parameters, RawField};
 use std::alloc::{AllocError, Global};
 
 fn timezone<'a>(parameters: &Parameters<'a>) -> &'a [u8]

@@ -11,10 +11,10 @@ use Rattle.arrow_schema.specs.declared.types.Schema.{Schema}
 use Rattle.ipc_message.specs.declared.fault.Fault.{Fault}
 use Rattle.ipc_message.specs.declared.fault.Fault.TheVariants.{NotYet, Compressed, LayoutCount, BufferRange, BufferShort, RowCount, NullCount, TooHeavy}
 use Rattle.ipc_message.specs.Framing.{first_some, when}
-use Rattle.ipc_message.specs.Raw.{RawNode, RawBuffer}
+use Rattle.ipc_message.specs.Raw.{RawNode, RawBuffer, nodes_in, buffers_in}
 use Rattle.ipc_message.specs.Raw as raw
-use Rattle.ipc_message.specs.declared.raw.RawBatch.{RawBatch}
-use Rattle.ipc_message.specs.View.{raw_batch_of, nodes_in, buffers_in}
+use Rattle.ipc_message.specs.declared.raw_header.RawBatch.{RawBatch}
+use Rattle.ipc_message.specs.View.{raw_batch_of}
 use Rattle.values.specs.Columns.{IntegerColumn, rows_from}
 use Rattle.values.specs.IntegerTable.{have_rows, integer_columns}
 use Rattle.ipc_stream.specs.Batch.{Array, arrays_of, arrays_in, is_negative, is_bad_length, has_bad_length, has_other_layout, is_outside, is_short, has_validity, counts_nulls, are_too_heavy, bytes_of, batch_rows, batch_checks}

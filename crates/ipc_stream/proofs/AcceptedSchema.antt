@@ -12,7 +12,7 @@ use Rattle.ipc_message.specs.Types.{type_name, integer, without_children, decode
 use Rattle.ipc_message.specs.Convert.{column_of_field, columns_of_fields, plain_schema_of}
 use Rattle.ipc_message.specs.Checks.{is_bad, is_not_yet}
 use Rattle.ipc_message.specs.Same.{has_id}
-use Rattle.ipc_message.specs.Accepted.{IsAccepted}
+use Rattle.ipc_message.specs.laws.Accepted.{IsAccepted}
 use Rattle.arrow_schema.specs.Integers.{is_bit_width, is_integer_kind, is_empty, is_integer_column, is_integer_schema}
 
 no_pairs : (pairs : List Pair) → (length pairs == 0) ≡ true → is_empty pairs ≡ true

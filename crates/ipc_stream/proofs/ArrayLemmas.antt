@@ -6,8 +6,7 @@ use Rattle.std.proofs.lemmas.List.{drop_all, drop-drop}
 use Rattle.std.proofs.Math.Seq.{drop-nil}
 use Rattle.byteorder.specs.Endian.{little_number}
 use Rattle.flatbuf.specs.Lookup.{number}
-use Rattle.ipc_message.specs.Raw.{RawNode, RawBuffer}
-use Rattle.ipc_message.specs.View.{nodes_from, buffers_from, nodes_in, buffers_in}
+use Rattle.ipc_message.specs.Raw.{RawNode, RawBuffer, nodes_from, buffers_from, nodes_in, buffers_in}
 use Rattle.values.specs.Columns.{IntegerColumn}
 use Rattle.ipc_stream.specs.Batch.{Array, arrays_of}
 

@@ -12,9 +12,9 @@ use Rattle.arrow_schema.specs.Column.{Column, PlainSchema}
 use Rattle.values.specs.Cell.{Cell}
 use Rattle.arrow_schema.specs.declared.types.Schema.{Schema}
 use Rattle.arrow_schema.specs.declared.types.Field.{Field}
-use Rattle.ipc_message.specs.Raw.{RawNode}
-use Rattle.ipc_message.specs.declared.raw.RawBatch.{RawBatch}
-use Rattle.ipc_message.specs.View.{raw_batch_of, nodes_in, buffers_in}
+use Rattle.ipc_message.specs.Raw.{RawNode, nodes_in, buffers_in}
+use Rattle.ipc_message.specs.declared.raw_header.RawBatch.{RawBatch}
+use Rattle.ipc_message.specs.View.{raw_batch_of}
 use Rattle.values.specs.Columns.{IntegerColumn}
 use Rattle.values.specs.IntegerTable.{integer_column, integer_columns}
 use Rattle.ipc_stream.specs.Batch.{is_negative, is_bad_length, has_bad_length, has_other_layout, arrays_in, are_too_heavy, batch_rows, bytes_of}

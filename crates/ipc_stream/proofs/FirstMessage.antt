@@ -3,8 +3,8 @@ use Rattle.std.proofs.Common.{◌≡◌, ℕ, true, false, List, [], ◌∷◌, 
 use Rattle.std.proofs.lemmas.Bool.{eqb-true}
 use Rattle.std.specs.Prelude.{Option, Some, None, ◌==◌}
 use Rattle.arrow_schema.specs.Column.{PlainSchema}
-use Rattle.ipc_message.specs.declared.envelope.HeaderType.{HeaderType}
-use Rattle.ipc_message.specs.declared.envelope.HeaderType.TheVariants.{Schema}
+use Rattle.ipc_message.specs.declared.header_type.HeaderType.{HeaderType}
+use Rattle.ipc_message.specs.declared.header_type.HeaderType.TheVariants.{Schema}
 use Rattle.ipc_message.specs.declared.error.ImportError.{ImportError}
 use Rattle.ipc_message.specs.declared.error.ImportError.TheVariants as errors
 use Rattle.ipc_message.specs.declared.fault.Fault.{Fault}
@@ -12,7 +12,7 @@ use Rattle.ipc_message.specs.declared.fault.Fault.TheVariants.{NoSchema}
 use Rattle.ipc_message.specs.Raw.{RawSchema, schema_header}
 use Rattle.ipc_message.specs.Framing.{Envelope, NextMessage, end_of_stream, message, next_message, taken, header_type, type_of, first_some}
 use Rattle.ipc_message.specs.Header.{supported_codes, header}
-use Rattle.ipc_message.specs.Accepted.{accepted_outcome}
+use Rattle.ipc_message.specs.laws.Accepted.{accepted_outcome}
 use Rattle.ipc_message.specs.Checks.{outcome, schema_checks, checked_schema}
 use Rattle.ipc_message.specs.Convert.{plain_schema_of}
 use Rattle.ipc_message.specs.Outcome.{Fails}

@@ -13,11 +13,11 @@ use Rattle.flatbuf.specs.declared.FlatError.{FlatError}
 use Rattle.flatbuf.specs.Lookup.{Place, table_behind}
 use Rattle.flatbuf.specs.Walk.{run}
 use Rattle.values.specs.Cell.{Cell, number, PlainTable}
-use Rattle.ipc_message.specs.declared.envelope.HeaderType.{HeaderType}
-use Rattle.ipc_message.specs.declared.envelope.HeaderType.TheVariants.{Schema, DictionaryBatch, RecordBatch}
+use Rattle.ipc_message.specs.declared.header_type.HeaderType.{HeaderType}
+use Rattle.ipc_message.specs.declared.header_type.HeaderType.TheVariants.{Schema, DictionaryBatch, RecordBatch}
 use Rattle.ipc_message.specs.declared.fault.Fault.TheVariants.{NoSchema, SecondSchema, DictionaryId}
-use Rattle.ipc_message.specs.Accepted.{IsAccepted}
-use Rattle.ipc_message.specs.Accepted as schemas
+use Rattle.ipc_message.specs.laws.Accepted.{IsAccepted}
+use Rattle.ipc_message.specs.laws.Accepted as schemas
 use Rattle.ipc_message.specs.Convert.{plain_schema_of}
 use Rattle.ipc_message.specs.Fields.{every_field, dictionary_of}
 use Rattle.ipc_message.specs.Framing.{Envelope, Frames, type_of, first_some, when}

@@ -5,8 +5,8 @@ use Rattle.std.proofs.lemmas.Grind.{flat_map-append}
 use Rattle.std.proofs.lemmas.List.{append-nil}
 use Rattle.flatbuf.specs.declared.FlatError.{FlatError}
 use Rattle.values.specs.Cell.{Cell, PlainTable}
-use Rattle.ipc_message.specs.declared.envelope.HeaderType.{HeaderType}
-use Rattle.ipc_message.specs.declared.envelope.HeaderType.TheVariants.{Schema, DictionaryBatch, RecordBatch}
+use Rattle.ipc_message.specs.declared.header_type.HeaderType.{HeaderType}
+use Rattle.ipc_message.specs.declared.header_type.HeaderType.TheVariants.{Schema, DictionaryBatch, RecordBatch}
 use Rattle.ipc_message.specs.declared.error.ImportError.{ImportError}
 use Rattle.ipc_message.specs.declared.error.ImportError.TheVariants as errors
 use Rattle.ipc_message.specs.declared.fault.Fault.{Fault}
@@ -15,14 +15,14 @@ use Rattle.ipc_message.specs.Raw.{RawSchema, RawBatch, RawDictionaryBatch, RawHe
 use Rattle.ipc_message.specs.declared.message.Message as code_message
 use Rattle.ipc_message.specs.declared.message.NextMessage as code_next_message
 use Rattle.ipc_message.specs.declared.message.NextMessage.TheVariants as next_messages
-use Rattle.ipc_message.specs.declared.raw.RawSchema as code_schema
-use Rattle.ipc_message.specs.declared.raw.Header as code_header
-use Rattle.ipc_message.specs.declared.raw.Header.TheVariants as headers
+use Rattle.ipc_message.specs.declared.raw_header.RawSchema as code_schema
+use Rattle.ipc_message.specs.declared.raw_header.Header as code_header
+use Rattle.ipc_message.specs.declared.raw_header.Header.TheVariants as headers
 use Rattle.ipc_message.specs.Messages.{next_message_of}
 use Rattle.ipc_message.specs.View.{raw_header_of}
 use Rattle.ipc_message.specs.Framing.{Envelope, end_of_stream, header_type, type_of, first_some}
 use Rattle.ipc_message.specs.Header.{supported_codes, decoded, header_of, header}
-use Rattle.ipc_message.specs.Accepted.{IsAccepted}
+use Rattle.ipc_message.specs.laws.Accepted.{IsAccepted}
 use Rattle.ipc_message.specs.Checks.{schema_checks}
 use Rattle.ipc_message.specs.Convert.{plain_schema_of}
 use Rattle.ipc_message.specs.Outcome.{Gives, Fails}

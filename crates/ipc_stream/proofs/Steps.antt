@@ -10,7 +10,7 @@ use Rattle.ipc_message.specs.declared.fault.Fault.{Fault}
 use Rattle.ipc_message.specs.declared.fault.Fault.TheVariants.{NoSchema, AfterEnd}
 use Rattle.ipc_message.specs.Framing.{Envelope, NextMessage, end_of_stream, message, next_message, taken}
 use Rattle.ipc_message.specs.Header.{supported_codes}
-use Rattle.ipc_message.specs.Accepted.{IsAccepted}
+use Rattle.ipc_message.specs.laws.Accepted.{IsAccepted}
 use Rattle.ipc_message.specs.Outcome.{Fails}
 use Rattle.ipc_stream.specs.declared.gathered.Gathered.{Gathered}
 use Rattle.ipc_stream.specs.Meaning.{Message, schema_in, accepted, at_end, at_end_of_stream, messages, meaning, table_in, ◌>>=◌}

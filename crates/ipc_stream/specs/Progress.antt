@@ -5,7 +5,7 @@ use Rattle.values.specs.Cell.{PlainTable}
 use Rattle.ipc_message.specs.declared.error.ImportError.{ImportError}
 use Rattle.ipc_message.specs.Framing.{Envelope}
 use Rattle.ipc_message.specs.Header.{supported_codes}
-use Rattle.ipc_message.specs.Accepted.{IsAccepted}
+use Rattle.ipc_message.specs.laws.Accepted.{IsAccepted}
 use Rattle.ipc_message.specs.Outcome.{Gives}
 use Rattle.ipc_stream.specs.declared.gathered.Gathered.{Gathered}
 use Rattle.ipc_stream.specs.Meaning.{Message, schema_in, table_in, accepted, messages, meaning, ◌>>=◌}

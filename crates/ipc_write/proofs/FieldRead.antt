@@ -10,7 +10,7 @@ use Rattle.flatbuf.specs.Tree.{text, references, scalar, refers}
 use Rattle.arrow_schema.specs.Column.{Kind, Column, Columns, nulls, booleans, integers, dates, timestamps, texts, large_texts, binaries, large_binaries, fixed_binaries, lists, large_lists, fixed_lists, structs, column, no_column, and_column}
 use Rattle.arrow_schema.specs.Preorder.{depth, depth_below, depth_all}
 use Rattle.ipc_message.specs.Raw.{raw_fields_of, raw_field}
-use Rattle.ipc_message.specs.Header.{type_things, encoding_things, pairs_things, own_things, field_things, parameters_in, pairs_in, field_with, field_at}
+use Rattle.ipc_message.specs.Header.{type_things, encoding_things, pairs_things, field_table_things, field_things, parameters_in, pairs_in, field_with, field_at}
 use Rattle.ipc_write.specs.Trees.{bit, code_of, type_tree, pairs_slot, dictionary_slot, ids_for, ids_of, field_tree, child_nodes, field_nodes}
 use Rattle.ipc_write.specs.Decoded.{parameters_of, raw_of, raw_below, raw_of_all}
 use Rattle.ipc_write.specs.Walked.{Holds, type_tables, encoding_tables, tables_of, tables_below, tables_of_all}
@@ -63,7 +63,7 @@ mutual
       rw (field_read supported left bytes (target bytes first) id c holds (omega arith) has.0, fields_read supported left bytes (first + 4) (id + ids_of c) cs holds (omega arith) has.1) refl
 
 mutual
-  unfolding field_things own_things field_tree child_nodes field_nodes depth depth_below depth_all
+  unfolding field_things field_table_things field_tree child_nodes field_nodes depth depth_below depth_all
 
   pub field_fine : (supported : ℕ → Bool) (left : ℕ) (bytes : List ℕ) (at id n : ℕ) (c : Column) → Holds supported → depth c + 2 ≤ left → n + tables_of c ≤ MAX_TABLES → Has bytes at (field_tree id c)
       → Fine bytes (field_things supported left bytes at) n (n + tables_of c)
@@ -96,10 +96,10 @@ mutual
       let a2 = fine_after bytes (vector_at 1 bytes (slot bytes t 0) ++ spans 1 (slot bytes t 1)) (spans 1 (slot bytes t 2)) n1 n1 a1 code_fine in
       let a3 = fine_append bytes (vector_at 1 bytes (slot bytes t 0) ++ spans 1 (slot bytes t 1) ++ spans 1 (slot bytes t 2)) (type_things supported left bytes (scalar_of 1 0 bytes (slot bytes t 2)) (slot bytes t 3)) n1 n1 n2 a2 type_here in
       let a4 = fine_append bytes (vector_at 1 bytes (slot bytes t 0) ++ spans 1 (slot bytes t 1) ++ spans 1 (slot bytes t 2) ++ type_things supported left bytes (scalar_of 1 0 bytes (slot bytes t 2)) (slot bytes t 3)) (encoding_things left bytes (slot bytes t 4)) n1 n2 n3 a3 dictionary_here in
-      let own : Fine bytes (own_things supported left bytes t) n1 n3 = fine_append bytes (vector_at 1 bytes (slot bytes t 0) ++ spans 1 (slot bytes t 1) ++ spans 1 (slot bytes t 2) ++ type_things supported left bytes (scalar_of 1 0 bytes (slot bytes t 2)) (slot bytes t 3) ++ encoding_things left bytes (slot bytes t 4)) (vector_at 4 bytes (slot bytes t 5)) n1 n3 n3 a4 vector_here in
-      let b1 = fine_append bytes (own_things supported left bytes t) (flat_map (field_things supported left bytes) (elements bytes (slot bytes t 5))) n1 n3 n4 own children_here in
-      let b2 = fine_append bytes (own_things supported left bytes t ++ flat_map (field_things supported left bytes) (elements bytes (slot bytes t 5))) (pairs_things left bytes (slot bytes t 6)) n1 n4 (n4 + length pairs) b1 pairs_here in
-      rw all (fine_append bytes (head_things bytes at) (own_things supported left bytes t ++ flat_map (field_things supported left bytes) (elements bytes (slot bytes t 5)) ++ pairs_things left bytes (slot bytes t 6)) n n1 (n4 + length pairs) head b2)
+      let own : Fine bytes (field_table_things supported left bytes t) n1 n3 = fine_append bytes (vector_at 1 bytes (slot bytes t 0) ++ spans 1 (slot bytes t 1) ++ spans 1 (slot bytes t 2) ++ type_things supported left bytes (scalar_of 1 0 bytes (slot bytes t 2)) (slot bytes t 3) ++ encoding_things left bytes (slot bytes t 4)) (vector_at 4 bytes (slot bytes t 5)) n1 n3 n3 a4 vector_here in
+      let b1 = fine_append bytes (field_table_things supported left bytes t) (flat_map (field_things supported left bytes) (elements bytes (slot bytes t 5))) n1 n3 n4 own children_here in
+      let b2 = fine_append bytes (field_table_things supported left bytes t ++ flat_map (field_things supported left bytes) (elements bytes (slot bytes t 5))) (pairs_things left bytes (slot bytes t 6)) n1 n4 (n4 + length pairs) b1 pairs_here in
+      rw all (fine_append bytes (head_things bytes at) (field_table_things supported left bytes t ++ flat_map (field_things supported left bytes) (elements bytes (slot bytes t 5)) ++ pairs_things left bytes (slot bytes t 6)) n n1 (n4 + length pairs) head b2)
 
   children_fine : (supported : ℕ → Bool) (left : ℕ) (bytes : List ℕ) (first id n : ℕ) (kind : Kind) → Holds supported → depth_below kind + 2 ≤ left → n + tables_below kind ≤ MAX_TABLES → HasAll bytes first (child_nodes id kind)
       → Fine bytes (flat_map (field_things supported left bytes) (targets (count_of (child_nodes id kind)) bytes first)) n (n + tables_below kind)

@@ -7,7 +7,7 @@ use Rattle.flatbuf.specs.Walk.{Thing, span, run, spans, vector_at, head_things, 
 use Rattle.flatbuf.specs.Held.{Has, HasHead}
 use Rattle.flatbuf.specs.Laid.{count_of}
 use Rattle.flatbuf.specs.Tree.{Nodes, text, references, structs}
-use Rattle.flatbuf.specs.WalkLaws.{run_ok}
+use Rattle.flatbuf.specs.laws.Walk.{run_ok}
 
 -- a walk that has met n tables has met m after these things, and none was bad
 abbrev pub Fine : List ℕ → List Thing → ℕ → ℕ → Type 0

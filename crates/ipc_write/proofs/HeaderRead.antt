@@ -13,8 +13,7 @@ use Rattle.flatbuf.specs.Tree.{structs}
 use Rattle.arrow_schema.specs.Column.{columns_of, PlainSchema}
 use Rattle.arrow_schema.specs.Preorder.{depth_all}
 use Rattle.ipc_message.specs.Framing.{message_table}
-use Rattle.ipc_message.specs.Raw.{RawNode, RawBuffer, RawField, RawBatch, RawDictionaryBatch, raw_fields_of, raw_list_of, schema_header, dictionary_header, batch_header}
-use Rattle.ipc_message.specs.View.{nodes_from, buffers_from, nodes_in, buffers_in}
+use Rattle.ipc_message.specs.Raw.{RawNode, RawBuffer, RawField, RawBatch, RawDictionaryBatch, raw_fields_of, raw_list_of, schema_header, dictionary_header, batch_header, nodes_from, buffers_from, nodes_in, buffers_in}
 use Rattle.ipc_message.specs.Header.{schema_in, batch_in, dictionary_in, schema_things, batch_things, dictionary_things, pairs_things, needed_things, field_things, field_at, pairs_in, header_things, header_of, header}
 use Rattle.ipc_write.specs.Trees.{node_pair, buffer_pair, field_nodes, schema_tree, batch_tree, dictionary_tree, message_tree}
 use Rattle.ipc_write.specs.Decoded.{raw_of_all, raw_schema}

@@ -1,6 +1,6 @@
 use Rattle.std.proofs.Common.{◌+◌, map, drop, length, arith, rules}
 use Rattle.flatbuf.specs.declared.nodes.Node.{the_lemmas}
-use Rattle.flatbuf.specs.View.{node_of, nodes_of, slot_of, slots_in}
+use Rattle.flatbuf.specs.View.{node_of, nodes_of, slot_before, slots_in}
 use Rattle.facts.specs.laws.Lists.{drop-item}
 use Rattle.flatbuf.proofs.Cases.{node_fits, slot_fits, fits_split}
 use Rattle.flatbuf.proofs.Puts.{below_kept, ends_kept, slot_put}
@@ -28,15 +28,15 @@ pub put_table-put_below-requires : goal.put_table-put_below-requires
 put_table-put_below-requires t c =
     let ss = c.args.slots.now in
     let i = c.loop-slot.slot-index in
-    let rest = slots_in (map slot_of (drop i ss)) in
+    let rest = slots_in (map slot_before (drop i ss)) in
     let fits = rw (drop-item ss i c.slot-item.result (omega arith) c.slot-item.is) at c.loop-slot.invariant.fits in (
       search (rules, the_lemmas),
       (
-        (fits_split c.slot-item.result (slots_in (map slot_of (drop (i + 1) ss))) fits).0,
+        (fits_split c.slot-item.result (slots_in (map slot_before (drop (i + 1) ss))) fits).0,
         omega (
           arith,
           slot_fits ss i c.slot-item.result (length c.loop-slot.out.items) (omega arith) c.slot-item.is,
-          below_kept c.args.out.now.items c.loop-slot.out.items rest (slots_in (map slot_of ss)) c.loop-slot.invariant.bytes,
+          below_kept c.args.out.now.items c.loop-slot.out.items rest (slots_in (map slot_before ss)) c.loop-slot.invariant.bytes,
           c.requires.small,
         ),
       ),
@@ -49,5 +49,5 @@ put_table-loop-slot-preserved t c =
     let fits = rw (drop-item ss i c.slot-item.result (omega arith) c.slot-item.is) at c.loop-slot.invariant.fits in
     record {
       bytes = slot_put c.loop-slot.out.items c.put_below.new.out.items _ i ss c.slot-item.result (omega arith) c.slot-item.is c.in_ok-put_below.ensures c.loop-slot.invariant.bytes;
-      fits = (fits_split c.slot-item.result (slots_in (map slot_of (drop (i + 1) ss))) fits).1;
+      fits = (fits_split c.slot-item.result (slots_in (map slot_before (drop (i + 1) ss))) fits).1;
     }

@@ -2,7 +2,7 @@ use Rattle.std.proofs.Common.{◌≡◌, ◌<◌, ◌+◌, ◌^◌, ◌++◌, �
 use Rattle.flatbuf.specs.Ends.{below_ends_at}
 use Rattle.flatbuf.specs.Laid.{inline, inline_end, slot_starts}
 use Rattle.flatbuf.specs.Tree.{Slots}
-use Rattle.flatbuf.specs.View.{slot_of, slots_in}
+use Rattle.flatbuf.specs.View.{slot_before, slots_in}
 use Rattle.facts.specs.laws.Lists.{drop-item}
 use Rattle.flatbuf.proofs.Ends.{below_le}
 use Rattle.flatbuf.proofs.Puts.{inline_len}
@@ -23,7 +23,7 @@ pub put_slot-requires-clause-room : goal.put_slot-requires-clause-room
 put_slot-requires-clause-room c =
     let slots = c.args.slots.now in
     let end = rw (drop-item slots c.loop-slot.slot-index c.slot-item.result (omega arith) c.slot-item.is) at c.loop-slot.invariant.end in
-    (slots_in (map slot_of (drop (c.loop-slot.slot-index + 1) slots)), omega (arith, end, c.loop-slot.invariant.low))
+    (slots_in (map slot_before (drop (c.loop-slot.slot-index + 1) slots)), omega (arith, end, c.loop-slot.invariant.low))
 
 pub pad-requires-clause-small : goal.pad-requires-clause-small
 pad-requires-clause-small c =

@@ -4,7 +4,7 @@ use Rattle.flatbuf.specs.declared.nodes.Node.{the_lemmas}
 use Rattle.flatbuf.specs.Tree.{Slots, scalar, refers}
 use Rattle.flatbuf.specs.Laid.{slot_starts, inline_end, gap}
 use Rattle.flatbuf.specs.Ends.{end_at}
-use Rattle.flatbuf.specs.View.{slot_of, node_of}
+use Rattle.flatbuf.specs.View.{slot_before, node_of}
 use Rattle.flatbuf.proofs.Ends.{start_le, end_le}
 use Rattle.flatbuf.proofs.ReadBack.{inline_le_end, start_ge}
 use Rattle.flatbuf.proofs.Puts.{scalar_put, refers_put}
@@ -12,19 +12,19 @@ use Rattle.flatbuf.proofs.emit.put_slot.Goals as goal
 
 pub start_of-requires : goal.start_of-requires
 start_of-requires c =
-    let seen : slot_of c.args.slot.now ≡ (λ (others : Slots). refers (node_of c.in-Refers.node) others) = search (rules, the_lemmas) in
+    let seen : slot_before c.args.slot.now ≡ (λ (others : Slots). refers (node_of c.in-Refers.node) others) = search (rules, the_lemmas) in
     let low : end_at c.args.reached.cursor (node_of c.in-Refers.node) < 2 ^ 31 = rw seen at c.requires.low in
     record { small = omega (arith, low, start_le c.args.reached.cursor (node_of c.in-Refers.node)) }
 
 pub overflow_cast-distance : goal.overflow_cast-distance
 overflow_cast-distance c =
-    let seen : slot_of c.args.slot.now ≡ (λ (others : Slots). refers (node_of c.in-Refers.node) others) = search (rules, the_lemmas) in
+    let seen : slot_before c.args.slot.now ≡ (λ (others : Slots). refers (node_of c.in-Refers.node) others) = search (rules, the_lemmas) in
     let low : end_at c.args.reached.cursor (node_of c.in-Refers.node) < 2 ^ 31 = rw seen at c.requires.low in
     omega (arith, low, start_le c.args.reached.cursor (node_of c.in-Refers.node), c.start_of.ensures)
 
 pub overflow_add-distance : goal.overflow_add-distance
 overflow_add-distance c =
-    let seen : slot_of c.args.slot.now ≡ (λ (others : Slots). refers (node_of c.in-Refers.node) others) = search (rules, the_lemmas) in
+    let seen : slot_before c.args.slot.now ≡ (λ (others : Slots). refers (node_of c.in-Refers.node) others) = search (rules, the_lemmas) in
     let low : end_at c.args.reached.cursor (node_of c.in-Refers.node) < 2 ^ 31 = rw seen at c.requires.low in
     let offset = c.args.reached.offset in
     let room : c.args.at + inline_end (offset + gap 4 offset + 4) c.requires.room.0 ≤ c.args.reached.cursor = rw seen at c.requires.room.1 in
@@ -32,7 +32,7 @@ overflow_add-distance c =
 
 pub overflow_sub-distance : goal.overflow_sub-distance
 overflow_sub-distance c =
-    let seen : slot_of c.args.slot.now ≡ (λ (others : Slots). refers (node_of c.in-Refers.node) others) = search (rules, the_lemmas) in
+    let seen : slot_before c.args.slot.now ≡ (λ (others : Slots). refers (node_of c.in-Refers.node) others) = search (rules, the_lemmas) in
     let offset = c.args.reached.offset in
     let room : c.args.at + inline_end (offset + gap 4 offset + 4) c.requires.room.0 ≤ c.args.reached.cursor = rw seen at c.requires.room.1 in
     omega (arith, start_ge c.args.reached.cursor (node_of c.in-Refers.node), c.start_of.ensures, room, inline_le_end (offset + gap 4 offset + 4) c.requires.room.0, c.aligned.ensures)
@@ -40,28 +40,28 @@ overflow_sub-distance c =
 pub returns-in_ok-offset-in-Byte-clause-bytes : goal.returns-in_ok-offset-in-Byte-clause-bytes
 unfolding slot_starts
 returns-in_ok-offset-in-Byte-clause-bytes c = λ rest.
-    let seen : slot_of c.args.slot.now ≡ (λ (others : Slots). scalar 1 c.in-Byte.n others) = search (rules, the_lemmas) in
+    let seen : slot_before c.args.slot.now ≡ (λ (others : Slots). scalar 1 c.in-Byte.n others) = search (rules, the_lemmas) in
     rw seen (scalar_put c.args.out.now.items _ (little_bytes 1 c.in-Byte.n) c.args.at c.args.reached.offset _ 1 c.in-Byte.n (slot_starts c.args.reached.cursor rest) rest refl c.in_ok-offset-in-Byte.ensures.bytes c.in_ok-offset-in-Byte.ensures.end)
 
 pub returns-in_ok-offset-in-Short-clause-bytes : goal.returns-in_ok-offset-in-Short-clause-bytes
 unfolding slot_starts
 returns-in_ok-offset-in-Short-clause-bytes c = λ rest.
-    let seen : slot_of c.args.slot.now ≡ (λ (others : Slots). scalar 2 c.in-Short.n others) = search (rules, the_lemmas) in
+    let seen : slot_before c.args.slot.now ≡ (λ (others : Slots). scalar 2 c.in-Short.n others) = search (rules, the_lemmas) in
     rw seen (scalar_put c.args.out.now.items _ c.to_le_bytes.result c.args.at c.args.reached.offset _ 2 c.in-Short.n (slot_starts c.args.reached.cursor rest) rest c.to_le_bytes.ensures c.in_ok-offset-in-Short.ensures.bytes c.in_ok-offset-in-Short.ensures.end)
 
 pub returns-in_ok-offset-in-Word-clause-bytes : goal.returns-in_ok-offset-in-Word-clause-bytes
 unfolding slot_starts
 returns-in_ok-offset-in-Word-clause-bytes c = λ rest.
-    let seen : slot_of c.args.slot.now ≡ (λ (others : Slots). scalar 4 c.in-Word.n others) = search (rules, the_lemmas) in
+    let seen : slot_before c.args.slot.now ≡ (λ (others : Slots). scalar 4 c.in-Word.n others) = search (rules, the_lemmas) in
     rw seen (scalar_put c.args.out.now.items _ c.to_le_bytes-in-Word.result c.args.at c.args.reached.offset _ 4 c.in-Word.n (slot_starts c.args.reached.cursor rest) rest c.to_le_bytes-in-Word.ensures c.in_ok-offset-in-Word.ensures.bytes c.in_ok-offset-in-Word.ensures.end)
 
 pub returns-in_ok-offset-in-Long-clause-bytes : goal.returns-in_ok-offset-in-Long-clause-bytes
 unfolding slot_starts
 returns-in_ok-offset-in-Long-clause-bytes c = λ rest.
-    let seen : slot_of c.args.slot.now ≡ (λ (others : Slots). scalar 8 c.in-Long.n others) = search (rules, the_lemmas) in
+    let seen : slot_before c.args.slot.now ≡ (λ (others : Slots). scalar 8 c.in-Long.n others) = search (rules, the_lemmas) in
     rw seen (scalar_put c.args.out.now.items _ c.to_le_bytes-in-Long.result c.args.at c.args.reached.offset _ 8 c.in-Long.n (slot_starts c.args.reached.cursor rest) rest c.to_le_bytes-in-Long.ensures c.in_ok-offset-in-Long.ensures.bytes c.in_ok-offset-in-Long.ensures.end)
 
 pub returns-in_ok-offset-in-Refers-clause-bytes : goal.returns-in_ok-offset-in-Refers-clause-bytes
 returns-in_ok-offset-in-Refers-clause-bytes c = λ rest.
-    let seen : slot_of c.args.slot.now ≡ (λ (others : Slots). refers (node_of c.in-Refers.node) others) = search (rules, the_lemmas) in
+    let seen : slot_before c.args.slot.now ≡ (λ (others : Slots). refers (node_of c.in-Refers.node) others) = search (rules, the_lemmas) in
     rw seen (refers_put c.args.out.now.items _ c.to_le_bytes-in-Refers.result c.args.at c.args.reached.offset _ _ c.args.reached.cursor _ (node_of c.in-Refers.node) rest c.to_le_bytes-in-Refers.ensures c.in_ok-offset-in-Refers.ensures.bytes c.in_ok-offset-in-Refers.ensures.end (omega arith) c.end_of.ensures)

@@ -3,8 +3,8 @@ use Rattle.std.specs.Prelude.{unwrap_or, Option}
 use Rattle.arrow_schema.specs.Column.{Column, Kind, nulls}
 use Rattle.arrow_schema.specs.View.{kind_step, column_step}
 use Rattle.arrow_schema.specs.declared.types.Field.{fold-roll-Field}
-use Rattle.ipc_message.specs.declared.raw.RawField.{RawField}
-use Rattle.ipc_message.specs.declared.raw.RawField.TheViews.{the_lemmas}
+use Rattle.ipc_message.specs.declared.raw_header.RawField.{RawField}
+use Rattle.ipc_message.specs.declared.raw_header.RawField.TheViews.{the_lemmas}
 use Rattle.ipc_message.specs.Fields.{preorder, preorder_all}
 use Rattle.ipc_message.specs.Convert.{column_of_field}
 use Rattle.ipc_message.specs.View.{raw_field_of}

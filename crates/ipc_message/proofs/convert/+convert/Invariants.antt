@@ -3,7 +3,7 @@ use Rattle.arrow_schema.specs.View.{column_of}
 use Rattle.ipc_message.specs.Raw.{raw_fields_of}
 use Rattle.ipc_message.specs.Fields.{preorder_all}
 use Rattle.ipc_message.specs.Convert.{columns_of_fields}
-use Rattle.ipc_message.specs.Readable.{AreReadable}
+use Rattle.ipc_message.specs.inner.Readable.{AreReadable}
 use Rattle.ipc_message.specs.View.{raw_field_of}
 use Rattle.ipc_message.proofs.convert.+convert.Given as goal
 

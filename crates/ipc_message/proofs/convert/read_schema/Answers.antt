@@ -1,6 +1,6 @@
 use Rattle.std.proofs.Common.{sym, subst}
 use Rattle.arrow_schema.specs.Limits.{IsWithinLimits}
-use Rattle.ipc_message.specs.Accepted.{accepted_outcome}
+use Rattle.ipc_message.specs.laws.Accepted.{accepted_outcome}
 use Rattle.ipc_message.specs.Header.{supported_codes}
 use Rattle.ipc_message.specs.View.{raw_schema_of}
 use Rattle.ipc_message.proofs.Columns.{accepted_within}

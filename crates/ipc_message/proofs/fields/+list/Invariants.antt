@@ -2,7 +2,7 @@ use Rattle.std.proofs.Common.{◌≡◌, ◌++◌, map, drop}
 use Rattle.ipc_message.specs.Raw.{raw_fields_of}
 use Rattle.ipc_message.specs.Fields.{preorder_all}
 use Rattle.ipc_message.specs.View.{raw_field_of}
-use Rattle.ipc_message.specs.Listed.{listed}
+use Rattle.ipc_message.specs.inner.Listed.{listed}
 use Rattle.ipc_message.proofs.fields.+list.Given as goal
 
 -- the fields so far and those that are left are all

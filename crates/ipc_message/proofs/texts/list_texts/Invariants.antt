@@ -2,7 +2,7 @@ use Rattle.std.proofs.Common.{◌≡◌, ◌++◌, drop, map}
 use Rattle.std.specs.Prelude.{flat_map}
 use Rattle.ipc_message.specs.Checks.{texts_of_pairs, texts_of_field}
 use Rattle.ipc_message.specs.View.{key_value}
-use Rattle.ipc_message.specs.Listed.{listed, text_list}
+use Rattle.ipc_message.specs.inner.Listed.{listed, text_list}
 use Rattle.ipc_message.proofs.texts.list_texts.Given as goal
 
 abbrev pub invariant-loop-place : goal.invariant-loop-place

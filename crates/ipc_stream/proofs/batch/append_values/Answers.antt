@@ -3,7 +3,7 @@ use Rattle.std.specs.Global.{Global}
 use Rattle.std.proofs.lemmas.List.{length-map, length-set, map-set, get_or-map}
 use Rattle.arrow_schema.specs.declared.types.Schema.{Schema}
 use Rattle.arrow_schema.specs.View.{schema_of}
-use Rattle.ipc_message.specs.declared.raw.RawBatch.{RawBatch}
+use Rattle.ipc_message.specs.declared.raw_header.RawBatch.{RawBatch}
 use Rattle.ipc_message.specs.View.{raw_batch_of}
 use Rattle.ipc_stream.specs.Batch.{Array, arrays_in}
 use Rattle.ipc_stream.proofs.ArrayLemmas.{array_at}

@@ -4,7 +4,7 @@ use Rattle.std.proofs.lemmas.List.{length-map}
 use Rattle.arrow_schema.specs.declared.types.Schema.{Schema}
 use Rattle.arrow_schema.specs.Column.{PlainSchema}
 use Rattle.arrow_schema.specs.View.{schema_of, column_of}
-use Rattle.ipc_message.specs.declared.raw.RawBatch.{RawBatch}
+use Rattle.ipc_message.specs.declared.raw_header.RawBatch.{RawBatch}
 use Rattle.ipc_stream.specs.Batch.{batch_checks, batch_rows}
 use Rattle.ipc_stream.proofs.RowWeights.{WeighAlike}
 use Rattle.ipc_stream.proofs.BatchLemmas.{heavy_is, few_rows, weight_fits}

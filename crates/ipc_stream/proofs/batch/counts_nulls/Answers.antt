@@ -3,7 +3,7 @@ use Rattle.std.proofs.Common.{◌≡◌, ◌<◌, ℕ, true, false, length, arit
 use Rattle.std.proofs.lemmas.Bool.{eq-eqb, ne_eqb}
 use Rattle.arrow_schema.specs.declared.types.Schema.{Schema}
 use Rattle.arrow_schema.specs.View.{schema_of}
-use Rattle.ipc_message.specs.declared.raw.RawBatch.{RawBatch}
+use Rattle.ipc_message.specs.declared.raw_header.RawBatch.{RawBatch}
 use Rattle.ipc_message.specs.View.{raw_batch_of}
 use Rattle.ipc_stream.specs.Batch.{counts_nulls, arrays_in}
 use Rattle.ipc_stream.proofs.ArrayLemmas.{any_here, any_later, any_end, array_at}

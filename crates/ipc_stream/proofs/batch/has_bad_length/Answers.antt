@@ -1,5 +1,5 @@
 use Rattle.std.proofs.Common.{◌≡◌, ℕ, true, false, List, arith, sym, ◌∙◌}
-use Rattle.ipc_message.specs.View.{nodes_in}
+use Rattle.ipc_message.specs.Raw.{nodes_in}
 use Rattle.ipc_stream.specs.Batch.{is_bad_length}
 use Rattle.ipc_stream.proofs.ArrayLemmas.{any_here, any_later, any_end, node_at, next_node, count_nodes}
 use Rattle.ipc_stream.proofs.BatchLemmas.{has_other_length, other_length, same_length}

@@ -1,6 +1,6 @@
 use Rattle.std.proofs.Common.{◌≡◌, drop}
 use Rattle.std.specs.List.{list_any}
-use Rattle.ipc_message.specs.View.{nodes_in}
+use Rattle.ipc_message.specs.Raw.{nodes_in}
 use Rattle.ipc_stream.proofs.BatchLemmas.{has_other_length}
 use Rattle.ipc_stream.proofs.batch.has_bad_length.Given as goal
 

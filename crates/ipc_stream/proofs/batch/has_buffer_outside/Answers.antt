@@ -1,5 +1,5 @@
 use Rattle.std.proofs.Common.{◌≡◌, ℕ, true, false, List, arith, sym, ◌∙◌}
-use Rattle.ipc_message.specs.View.{buffers_in}
+use Rattle.ipc_message.specs.Raw.{buffers_in}
 use Rattle.ipc_stream.specs.Batch.{is_outside}
 use Rattle.ipc_stream.proofs.ArrayLemmas.{any_here, any_later, any_end, buffer_at, next_buffer, count_buffers}
 use Rattle.ipc_stream.proofs.batch.has_buffer_outside.Goals as goal

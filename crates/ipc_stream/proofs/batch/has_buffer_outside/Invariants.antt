@@ -1,6 +1,6 @@
 use Rattle.std.proofs.Common.{◌≡◌, drop}
 use Rattle.std.specs.List.{list_any}
-use Rattle.ipc_message.specs.View.{buffers_in}
+use Rattle.ipc_message.specs.Raw.{buffers_in}
 use Rattle.ipc_stream.specs.Batch.{is_outside}
 use Rattle.ipc_stream.proofs.batch.has_buffer_outside.Given as goal
 

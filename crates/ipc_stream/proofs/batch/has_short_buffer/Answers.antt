@@ -2,7 +2,7 @@ use Rattle.std.specs.Prelude.{◌||◌, ◌&&◌, ◌/◌, nat_lt}
 use Rattle.std.proofs.Common.{◌≡◌, ◌<◌, ◌+◌, ◌*◌, ℕ, true, false, length, arith, sym, ◌∙◌}
 use Rattle.arrow_schema.specs.declared.types.Schema.{Schema}
 use Rattle.arrow_schema.specs.View.{schema_of}
-use Rattle.ipc_message.specs.declared.raw.RawBatch.{RawBatch}
+use Rattle.ipc_message.specs.declared.raw_header.RawBatch.{RawBatch}
 use Rattle.ipc_message.specs.View.{raw_batch_of}
 use Rattle.flatbuf.specs.Lookup.{number}
 use Rattle.ipc_stream.specs.Batch.{is_short, arrays_in}

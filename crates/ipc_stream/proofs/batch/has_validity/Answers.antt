@@ -2,7 +2,7 @@ use Rattle.std.proofs.Common.{◌≡◌, ◌<◌, ℕ, true, false, length, arit
 use Rattle.std.proofs.lemmas.Bool.{le-ltb, lt-ltb}
 use Rattle.arrow_schema.specs.declared.types.Schema.{Schema}
 use Rattle.arrow_schema.specs.View.{schema_of}
-use Rattle.ipc_message.specs.declared.raw.RawBatch.{RawBatch}
+use Rattle.ipc_message.specs.declared.raw_header.RawBatch.{RawBatch}
 use Rattle.ipc_message.specs.View.{raw_batch_of}
 use Rattle.ipc_stream.specs.Batch.{has_validity, arrays_in}
 use Rattle.ipc_stream.proofs.ArrayLemmas.{any_here, any_later, any_end, array_at}

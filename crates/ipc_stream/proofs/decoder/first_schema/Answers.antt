@@ -1,6 +1,6 @@
 use Rattle.std.proofs.Common.{sym, ◌∙◌, ap, Ok}
 use Rattle.std.proofs.lemmas.Result.{err_from_is_err_and}
-use Rattle.ipc_message.specs.declared.envelope.HeaderType.TheVariants.{Schema}
+use Rattle.ipc_message.specs.declared.header_type.HeaderType.TheVariants.{Schema}
 use Rattle.ipc_message.specs.Messages.{envelope_of, next_message_of}
 use Rattle.ipc_message.specs.Header.{supported_codes}
 use Rattle.ipc_message.specs.View.{raw_header_of, raw_schema_of}

@@ -1,0 +1,4 @@
+pub mod Listed
+pub mod Readable
+pub mod Tables
+pub mod Walked

@@ -1,0 +1,33 @@
+-- What a function that keeps what it reads says of the walk.
+use Rattle.std.specs.Prelude.{◌≡◌, ℕ, List, Result, Ok, Err, ⊤}
+use Rattle.flatbuf.specs.declared.FlatError.{FlatError}
+use Rattle.flatbuf.specs.declared.buf.Budget.{Budget}
+use Rattle.flatbuf.specs.Seen.{tables_in}
+use Rattle.flatbuf.specs.Walk.{Thing, run}
+use Rattle.ipc_message.specs.declared.fault.Fault.{Fault}
+use Rattle.ipc_message.specs.declared.raw_header.Header.{Header}
+use Rattle.ipc_message.specs.declared.walk_error.WalkError.{WalkError}
+use Rattle.ipc_message.specs.declared.walk_error.WalkError.TheVariants as errors
+use Rattle.ipc_message.specs.Framing.{flat_fault}
+use Rattle.ipc_message.specs.Raw.{RawHeader}
+use Rattle.ipc_message.specs.View.{raw_header_of}
+
+-- the error is the walk's, unless memory ran out
+abbrev pub WalkFails : WalkError → Result ℕ FlatError → Type 0
+WalkFails errors.Memory walked = ⊤
+WalkFails (errors.Flat f) walked = walked ≡ Err f
+
+-- from so many tables to so many, what a result tells of the walk over the things
+abbrev pub Tells : {X : Type 0} → List ℕ → List Thing → ℕ → ℕ → Result X WalkError → Type 0
+Tells bytes things old new (Ok x) = run bytes things old ≡ Ok new
+Tells bytes things old new (Err e) = WalkFails e (run bytes things old)
+
+-- the same of a call that enters tables
+abbrev pub WalksUnlessRefused : {X : Type 0} → List ℕ → List Thing → Budget → Budget → Result X WalkError → Type 0
+WalksUnlessRefused bytes things old new result = Tells bytes things (tables_in old) (tables_in new) result
+
+-- the header is the one that is decoded, or the error the one that is reported, unless memory ran out
+abbrev pub Decodes : Result Header WalkError → Result RawHeader Fault → Type 0
+Decodes (Ok h) decoded = decoded ≡ Ok (raw_header_of h)
+Decodes (Err errors.Memory) decoded = ⊤
+Decodes (Err (errors.Flat f)) decoded = decoded ≡ Err (flat_fault f)

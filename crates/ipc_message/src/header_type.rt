@@ -1,0 +1,30 @@
+// What a message is about.
+
+ghost use Rattle.std.specs.Prelude.{◌≡◌};
+ghost use Rattle.ipc_message.specs.Framing.{header_type};
+
+const SCHEMA: u8 = 1;
+
+const DICTIONARY_BATCH: u8 = 2;
+
+const RECORD_BATCH: u8 = 3;
+
+/// What the header of a message is (Message.fbs, the union `MessageHeader`).
+#[derive(Clone, Copy, Debug, PartialEq, Eq)]
+pub enum HeaderType {
+    Schema,
+    DictionaryBatch,
+    RecordBatch,
+}
+
+/// The header type of this number.
+pub(crate) fn header_type(number: u8) -> Option<HeaderType>
+    ensures { result ≡ header_type number }
+{
+    match number {
+        SCHEMA => Some(HeaderType::Schema),
+        DICTIONARY_BATCH => Some(HeaderType::DictionaryBatch),
+        RECORD_BATCH => Some(HeaderType::RecordBatch),
+        _ => None,
+    }
+}
