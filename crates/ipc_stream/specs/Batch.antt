@@ -3,8 +3,8 @@
 use Rattle.std.specs.Prelude.{ℕ, ◌+◌, ◌*◌, ◌/◌, ◌^◌, Bool, not, ◌&&◌, ◌||◌, ◌==◌, nat_lt, List, [], ◌∷◌, ◌++◌, map, length, take, drop, Option}
 use Rattle.std.specs.List.{list_any}
 use Rattle.arrow_schema.specs.Column.{PlainSchema}
-use Rattle.values.specs.Cell.{Cell}
-use Rattle.values.specs.Weight.{row_weight, table_weight}
+use Rattle.cells.specs.Cell.{Cell}
+use Rattle.cells.specs.Weight.{row_weight, table_weight}
 use Rattle.ipc_message.specs.declared.fault.Fault.{Fault}
 use Rattle.ipc_message.specs.declared.fault.Fault.TheVariants.{NotYet, Compressed, LayoutCount, BufferRange, BufferShort, RowCount, NullCount, TooHeavy}
 use Rattle.ipc_message.specs.Framing.{when}

@@ -2,8 +2,8 @@
 use Rattle.std.specs.Prelude.{ℕ, Bool, List, [], ◌∷◌, ◌++◌, map, length}
 use Rattle.std.specs.List.{flat_map}
 use Rattle.arrow_schema.specs.Column.{PlainSchema}
-use Rattle.values.specs.Cell.{Cell, PlainTable}
-use Rattle.values.specs.Weight.{row_weight}
+use Rattle.cells.specs.Cell.{Cell, PlainTable}
+use Rattle.cells.specs.Weight.{row_weight}
 use Rattle.ipc_message.specs.Raw.{RawNode}
 use Rattle.ipc_write.specs.Written.{schema_message, batch_message, end_of_stream}
 use Rattle.values.specs.Columns.{IntegerColumn, values_of, first_cell, other_cells}

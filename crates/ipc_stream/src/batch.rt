@@ -4,7 +4,7 @@ ghost use Rattle.std.specs.List.{list_any};
 ghost use Rattle.flatbuf.specs.Lookup.{number};
 ghost use Rattle.arrow_schema.specs.View.{schema_of};
 ghost use Rattle.arrow_schema.specs.Limits.{IsWithinLimits};
-ghost use Rattle.values.specs.Cell.{Cell};
+ghost use Rattle.cells.specs.Cell.{Cell};
 ghost use Rattle.ipc_message.specs.Framing.{first_some};
 ghost use Rattle.ipc_message.specs.Outcome.{Gives};
 ghost use Rattle.ipc_message.specs.View.{raw_batch_of, nodes_in, buffers_in};

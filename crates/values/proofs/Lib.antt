@@ -1,7 +1,3 @@
-mod CellLemmas
-mod WeightLemmas
-mod EntryLemmas
-mod HoldingLemmas
 mod RowLemmas
 mod AcceptLemmas
 mod TableLemmas
@@ -10,4 +6,3 @@ mod IntegerRows
 mod IntegerTables
 mod ContentLemmas
 mod IntegerCells
-mod DistinctEntries

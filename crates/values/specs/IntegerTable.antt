@@ -3,7 +3,7 @@ use Rattle.std.specs.Prelude.{ℕ, ◌*◌, ◌/◌, Bool, true, false, ◌==◌
 use Rattle.std.specs.List.{list_all}
 use Rattle.arrow_schema.specs.Column.{Kind, Column, column, integers, PlainSchema}
 use Rattle.arrow_schema.specs.Integers.{is_integer_schema}
-use Rattle.values.specs.Cell.{Cell, number, PlainTable}
+use Rattle.cells.specs.Cell.{Cell, number, PlainTable}
 use Rattle.values.specs.Columns.{IntegerColumn, rows_from}
 
 abbrev pub integer_kind : Kind → IntegerColumn

@@ -8,33 +8,22 @@
 mod accept;
 mod borrowed;
 mod content;
-mod entry;
 mod errors;
-mod fit;
-mod holding;
 mod integers;
+mod join;
 mod laws;
-mod limited;
-mod row;
 mod rows;
 mod table;
-mod value;
-mod weigh;
 
 pub use borrowed::{ValueRef, Values, ValuesIter, borrow_value};
-pub use entry::{Entry, entry_of, note};
-pub use errors::TableError;
-pub use fit::fits;
-pub use holding::entry_limit;
-pub use laws::{
-    entries_are_the_distinct_values, integer_columns_are_integer_tables, integer_rows_weigh_alike,
-    one_entry_is_one_value,
+pub use cells::{
+    Entry, MAX_ROW_WEIGHT, MAX_TABLE_WEIGHT, Row, TOO_HEAVY, Value, entry_limit, entry_of, fits,
+    note, row_weight, weight,
 };
-pub use row::Row;
+pub use errors::TableError;
+pub use laws::{integer_columns_are_integer_tables, integer_rows_weigh_alike};
 pub use rows::Rows;
 pub use table::Table;
-pub use value::Value;
-pub use weigh::{MAX_ROW_WEIGHT, MAX_TABLE_WEIGHT, TOO_HEAVY, row_weight, weight};
 
 #[cfg(test)]
 mod tests;

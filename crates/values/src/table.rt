@@ -8,11 +8,10 @@ use crate::borrowed::{Form, Values};
 use crate::content::Content;
 use crate::errors::TableError;
 use crate::integers::{IntegerRow, are_integers, columns_are_bytes, have_rows, is_integer_schema};
-use crate::row::{Row, join};
+use crate::join::join;
 use crate::rows::{Rows, row_at};
-use crate::value::Value;
-use crate::weigh::MAX_TABLE_WEIGHT;
 use arrow_schema::Schema;
+use cells::{MAX_TABLE_WEIGHT, Row, Value};
 use std::alloc::Global;
 
 /// A table: its schema, and its rows in order. Contracts see nothing else of it. Its cells stand in one vector, row
@@ -35,7 +34,8 @@ impl Table {
     ghost use Rattle.values.specs.IntegerTable.{integer_columns, have_rows, plain_table, IsIntegerTable};
     ghost use Rattle.values.specs.Rows.{table_in};
     ghost use Rattle.values.specs.Table.{table_from};
-    ghost use Rattle.values.specs.TableView.{row_of, table_of, rows_left, Reports};
+    ghost use Rattle.cells.specs.Row.{row_of};
+    ghost use Rattle.values.specs.TableView.{table_of, rows_left, Reports};
 
     /// The table of these rows. It refuses the first row, counted from 0, that does not fit, weighs more than
     /// `MAX_ROW_WEIGHT` or fills a dictionary (`Unfit`), or else rows that weigh more than `MAX_TABLE_WEIGHT` together
