@@ -2,6 +2,7 @@
 use Rattle.std.specs.Prelude.{ℕ, ◌+◌, ◌*◌, List, [], ◌∷◌, ◌++◌, length, Result, Ok, Err, nat_le, nat_lt, ◌==◌, ◌&&◌, ◌%◌, if◌then◌else◌, Option, Some, None}
 use Rattle.flatbuf.specs.declared.FlatError.{FlatError}
 use Rattle.flatbuf.specs.declared.FlatError.TheVariants.{Bounds, VtableSize, Budget}
+use Rattle.flatbuf.specs.declared.limits.TheConstants.{MAX_TABLES, MAX_LEVELS}
 use Rattle.flatbuf.specs.Lookup.{number, Place, vtable_of, slot, target, scalar_of}
 
 -- a table that is entered, one that would be too deep, bytes that are read, a vtable before the first byte, a vtable's
@@ -14,18 +15,10 @@ pub data Thing : Type 0 where
   vtable_size : ℕ → Thing
   missing : Thing
 
--- how many tables may be entered
-abbrev pub most_tables : ℕ
-most_tables = 20000
-
--- how deep tables may stand: the root is one deep
-abbrev pub most_levels : ℕ
-most_levels = 40
-
 -- after n tables, how many tables the things make it, or the first bad thing
 unfoldable pub run : List ℕ → List Thing → ℕ → Result ℕ FlatError
 run bytes [] n = Ok n
-run bytes (table ∷ things) n = if nat_lt n most_tables then run bytes things (n + 1) else Err Budget
+run bytes (table ∷ things) n = if nat_lt n MAX_TABLES then run bytes things (n + 1) else Err Budget
 run bytes (too_deep ∷ things) n = Err Budget
 run bytes (span at len ∷ things) n = if nat_le (at + len) (length bytes) then run bytes things n else Err Bounds
 run bytes (before_all ∷ things) n = Err Bounds
@@ -33,9 +26,9 @@ run bytes (vtable_size size ∷ things) n = if nat_le 4 size && size % 2 == 0 th
 run bytes (missing ∷ things) n = Err Bounds
 
 -- what a function that returned this says of a walk that has met n tables
-abbrev pub told : {X : Type 0} → ℕ → Result X FlatError → Result ℕ FlatError
-told n (Ok x) = Ok n
-told n (Err f) = Err f
+abbrev pub reported : {X : Type 0} → ℕ → Result X FlatError → Result ℕ FlatError
+reported n (Ok x) = Ok n
+reported n (Err f) = Err f
 
 -- a vtable, where it reads
 abbrev pub head_at : Option ℕ → List ℕ → List Thing
@@ -73,4 +66,4 @@ union_things left bytes t k =
 
 -- the root offset, and the root table
 unfoldable pub root_things : List ℕ → List Thing
-root_things bytes = span 0 4 ∷ table_things most_levels bytes (target bytes 0)
+root_things bytes = span 0 4 ∷ table_things MAX_LEVELS bytes (target bytes 0)

@@ -1,37 +1,30 @@
 // The bytes that are read, and how many of their tables may be entered.
 
 ghost use Rattle.std.specs.Prelude.{◌≡◌, ◌≤◌, length, IfOk};
+ghost use Rattle.flatbuf.specs.declared.limits.TheConstants.{MAX_BUFFER_BYTES, MAX_TABLES};
 
+use crate::limits::{MAX_BUFFER_BYTES, MAX_LEVELS, MAX_TABLES};
 use crate::numbers::u32_at;
 use crate::{FlatError, Table};
-
-/// The most bytes that a buffer may have.
-pub const MAX_BYTES: usize = 16_777_216;
-
-/// How many tables may be entered, each visit counted.
-pub const MAX_TABLES: u32 = 20_000;
-
-/// How deep tables may stand: the root is one deep.
-pub const MAX_LEVELS: u8 = 40;
 
 /// The bytes of a FlatBuffers buffer, whatever they are.
 #[derive(Clone, Copy, Debug)]
 pub struct Buf<'a> {
     bytes: &'a [u8],
-    ghost small: { length bytes.now ≤ 16777216 },
+    ghost small: { length bytes.now ≤ MAX_BUFFER_BYTES },
 }
 
 /// How many tables were entered.
 #[derive(Clone, Copy, Debug)]
 pub struct Budget {
     entered: u32,
-    ghost within: { entered ≤ 20000 },
+    ghost within: { entered ≤ MAX_TABLES },
 }
 
 impl Budget {
     ghost use Rattle.std.specs.Prelude.{◌≡◌, ◌+◌, Ok, Err, OnOk, nat_lt, if◌then◌else◌};
     ghost use Rattle.flatbuf.specs.Seen.{tables_in};
-    ghost use Rattle.flatbuf.specs.Walk.{told, most_tables};
+    ghost use Rattle.flatbuf.specs.Walk.{reported};
 
     /// No table was entered.
     pub fn new() -> Budget
@@ -42,7 +35,7 @@ impl Budget {
 
     /// Counts a visit.
     pub(crate) fn enter(&mut self) -> Result<(), FlatError>
-        ensures walked { told (tables_in self.new) result ≡ (if nat_lt (tables_in self.old) most_tables then Ok (tables_in self.old + 1) else Err FlatError.Budget) }
+        ensures walked { reported (tables_in self.new) result ≡ (if nat_lt (tables_in self.old) MAX_TABLES then Ok (tables_in self.old + 1) else Err FlatError.Budget) }
         ensures counted { OnOk result (tables_in self.new ≡ tables_in self.old + 1) }
     {
         if self.entered >= MAX_TABLES {
@@ -54,14 +47,14 @@ impl Budget {
 }
 
 impl<'a> Buf<'a> {
-    ghost use Rattle.std.specs.Prelude.{◌+◌, OnOk};
+    ghost use Rattle.std.specs.Prelude.{◌+◌, ◌-◌, OnOk};
     ghost use Rattle.flatbuf.specs.Lookup.{target, table_at};
     ghost use Rattle.flatbuf.specs.Seen.{buffer_bytes, tables_in, bytes_of, place_of, levels_of};
-    ghost use Rattle.flatbuf.specs.Walk.{run, told, root_things};
+    ghost use Rattle.flatbuf.specs.Walk.{run, reported, root_things};
 
-    /// A buffer of these bytes, of which there are at most `MAX_BYTES`.
+    /// A buffer of these bytes, of which there are at most `MAX_BUFFER_BYTES`.
     pub fn new(bytes: &'a [u8]) -> Buf<'a>
-        requires { length bytes.now ≤ 16777216 }
+        requires { length bytes.now ≤ MAX_BUFFER_BYTES }
         ensures { buffer_bytes result ≡ bytes.now }
     {
         Buf { bytes }
@@ -70,11 +63,11 @@ impl<'a> Buf<'a> {
     /// The root table: the first four bytes say where it stands.
     #[tactic(auto, using(crate::specs::WalkLaws::run_append), unfolding(crate::specs::Walk::run, crate::specs::Walk::root_things, crate::specs::Lookup::target))]
     pub fn root(&self, budget: &mut Budget) -> Result<Table<'a>, FlatError>
-        ensures walked { run (buffer_bytes self.now) (root_things (buffer_bytes self.now)) (tables_in budget.old) ≡ told (tables_in budget.new) result }
+        ensures walked { run (buffer_bytes self.now) (root_things (buffer_bytes self.now)) (tables_in budget.old) ≡ reported (tables_in budget.new) result }
         ensures counted { OnOk result (tables_in budget.new ≡ tables_in budget.old + 1) }
         ensures same { IfOk result (λ t. bytes_of t ≡ buffer_bytes self.now) }
         ensures here { IfOk result (λ t. place_of t ≡ table_at (buffer_bytes self.now) (target (buffer_bytes self.now) 0)) }
-        ensures levels { IfOk result (λ t. levels_of t ≡ 39) }
+        ensures levels { IfOk result (λ t. levels_of t ≡ MAX_LEVELS - 1) }
     {
         let at = u32_at(self.bytes, 0)? as usize;
         Table::enter(self.bytes, at, MAX_LEVELS, budget)

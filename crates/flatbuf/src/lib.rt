@@ -25,6 +25,7 @@ pub enum FlatError {
 
 mod buf;
 mod emit;
+mod limits;
 mod nodes;
 mod numbers;
 mod references;
@@ -34,7 +35,8 @@ mod table;
 mod tests;
 mod writer;
 
-pub use buf::{Budget, Buf, MAX_BYTES, MAX_LEVELS, MAX_TABLES};
+pub use buf::{Budget, Buf};
+pub use limits::{MAX_BUFFER_BYTES, MAX_LEVELS, MAX_TABLES};
 pub use nodes::{Node, Slot};
 pub use references::References;
 pub use table::{Table, Union};

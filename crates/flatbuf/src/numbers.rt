@@ -2,7 +2,7 @@
 
 ghost use Rattle.std.specs.Prelude.{◌≡◌, ◌≤◌, ◌<◌, ◌+◌, ◌*◌, ◌^◌, length, IfOk, OnOk, Some, ℕ, [], ◌∷◌};
 ghost use Rattle.flatbuf.specs.Lookup.{number, back, target, vector_of};
-ghost use Rattle.flatbuf.specs.Walk.{run, told, span, vector_at};
+ghost use Rattle.flatbuf.specs.Walk.{run, reported, span, vector_at};
 
 use crate::FlatError;
 use byteorder::{ByteOrder, LittleEndian};
@@ -10,7 +10,7 @@ use byteorder::{ByteOrder, LittleEndian};
 /// The byte at a position.
 #[tactic(auto, unfolding(crate::specs::Walk::run, crate::specs::Lookup::number))]
 pub(crate) fn u8_at(bytes: &[u8], at: usize) -> Result<u8, FlatError>
-    ensures walked { (n : ℕ) → run bytes.now (span at 1 ∷ []) n ≡ told n result }
+    ensures walked { (n : ℕ) → run bytes.now (span at 1 ∷ []) n ≡ reported n result }
     ensures value { IfOk result (λ x. x ≡ number 1 bytes.now at) }
 {
     bytes.get(at).copied().ok_or(FlatError::Bounds)
@@ -19,7 +19,7 @@ pub(crate) fn u8_at(bytes: &[u8], at: usize) -> Result<u8, FlatError>
 /// The number in the two bytes at a position.
 #[tactic(auto, unfolding(crate::specs::Walk::run, crate::specs::Lookup::number))]
 pub(crate) fn u16_at(bytes: &[u8], at: usize) -> Result<u16, FlatError>
-    ensures walked { (n : ℕ) → run bytes.now (span at 2 ∷ []) n ≡ told n result }
+    ensures walked { (n : ℕ) → run bytes.now (span at 2 ∷ []) n ≡ reported n result }
     ensures value { IfOk result (λ x. x ≡ number 2 bytes.now at) }
 {
     if bytes.len() < 2 || at > bytes.len() - 2 {
@@ -31,7 +31,7 @@ pub(crate) fn u16_at(bytes: &[u8], at: usize) -> Result<u16, FlatError>
 /// The number in the four bytes at a position.
 #[tactic(auto, unfolding(crate::specs::Walk::run, crate::specs::Lookup::number))]
 pub(crate) fn u32_at(bytes: &[u8], at: usize) -> Result<u32, FlatError>
-    ensures walked { (n : ℕ) → run bytes.now (span at 4 ∷ []) n ≡ told n result }
+    ensures walked { (n : ℕ) → run bytes.now (span at 4 ∷ []) n ≡ reported n result }
     ensures value { IfOk result (λ x. x ≡ number 4 bytes.now at) }
     ensures within { OnOk result (at + 4 ≤ length bytes.now) }
 {
@@ -44,7 +44,7 @@ pub(crate) fn u32_at(bytes: &[u8], at: usize) -> Result<u32, FlatError>
 /// The number in the eight bytes at a position.
 #[tactic(auto, unfolding(crate::specs::Walk::run, crate::specs::Lookup::number))]
 pub(crate) fn u64_at(bytes: &[u8], at: usize) -> Result<u64, FlatError>
-    ensures walked { (n : ℕ) → run bytes.now (span at 8 ∷ []) n ≡ told n result }
+    ensures walked { (n : ℕ) → run bytes.now (span at 8 ∷ []) n ≡ reported n result }
     ensures value { IfOk result (λ x. x ≡ number 8 bytes.now at) }
 {
     if bytes.len() < 8 || at > bytes.len() - 8 {
@@ -57,7 +57,7 @@ pub(crate) fn u64_at(bytes: &[u8], at: usize) -> Result<u64, FlatError>
 #[tactic(auto, using(crate::proofs::FirstThing::first_err, crate::proofs::FirstThing::first_ok), unfolding(crate::specs::Walk::run, crate::specs::Lookup::target))]
 pub(crate) fn vector_from(bytes: &[u8], at: usize, width: u8) -> Result<(usize, usize), FlatError>
     requires small { length bytes.now < 2 ^ 32 }
-    ensures walked { (n : ℕ) → run bytes.now (vector_at width bytes.now (Some at)) n ≡ told n result }
+    ensures walked { (n : ℕ) → run bytes.now (vector_at width bytes.now (Some at)) n ≡ reported n result }
     ensures value { IfOk result (λ x. (x.0, x.1) ≡ vector_of bytes.now (Some at)) }
     ensures within { IfOk result (λ x. x.0 + width * x.1 ≤ length bytes.now) }
 {

@@ -1,7 +1,9 @@
 // A vector of references to tables.
 
 ghost use Rattle.std.specs.Prelude.{◌≡◌, ◌≤◌, ◌+◌, ◌*◌, length};
+ghost use Rattle.flatbuf.specs.declared.limits.TheConstants.{MAX_BUFFER_BYTES};
 
+use crate::limits::MAX_BUFFER_BYTES;
 use crate::numbers::{target_of, vector_from};
 use crate::{Budget, FlatError, Table};
 
@@ -12,7 +14,7 @@ pub struct References<'a> {
     first: usize,
     count: usize,
     left: u8,
-    ghost small: { length bytes.now ≤ 16777216 },
+    ghost small: { length bytes.now ≤ MAX_BUFFER_BYTES },
     ghost within: { first + 4 * count ≤ length bytes.now },
 }
 
@@ -20,11 +22,11 @@ impl<'a> References<'a> {
     ghost use Rattle.std.specs.Prelude.{ℕ, ◌<◌, ◌-◌, ◌^◌, [], IfOk, Some, slice_index};
     ghost use Rattle.flatbuf.specs.Lookup.{target, table_at, elements};
     ghost use Rattle.flatbuf.specs.Seen.{tables_in, bytes_of, place_of, levels_of, bytes_behind, places_in, levels_behind};
-    ghost use Rattle.flatbuf.specs.Walk.{run, told, table_things, vector_at};
+    ghost use Rattle.flatbuf.specs.Walk.{run, reported, table_things, vector_at};
 
     /// No references.
     pub(crate) fn none(bytes: &'a [u8], left: u8) -> References<'a>
-        requires small { length bytes.now ≤ 16777216 }
+        requires small { length bytes.now ≤ MAX_BUFFER_BYTES }
         ensures same { bytes_behind result ≡ bytes.now }
         ensures places { places_in result ≡ [] }
         ensures levels { levels_behind result ≡ left }
@@ -40,8 +42,8 @@ impl<'a> References<'a> {
     /// The vector behind the reference at a position.
     #[tactic(auto, unfolding(crate::specs::Lookup::elements))]
     pub(crate) fn from(bytes: &'a [u8], at: usize, left: u8) -> Result<References<'a>, FlatError>
-        requires small { length bytes.now ≤ 16777216 }
-        ensures walked { (n : ℕ) → run bytes.now (vector_at 4 bytes.now (Some at)) n ≡ told n result }
+        requires small { length bytes.now ≤ MAX_BUFFER_BYTES }
+        ensures walked { (n : ℕ) → run bytes.now (vector_at 4 bytes.now (Some at)) n ≡ reported n result }
         ensures same { IfOk result (λ r. bytes_behind r ≡ bytes.now) }
         ensures places { IfOk result (λ r. places_in r ≡ elements bytes.now (Some at)) }
         ensures levels { IfOk result (λ r. levels_behind r ≡ left) }
@@ -67,7 +69,7 @@ impl<'a> References<'a> {
     #[tactic(auto, using(crate::proofs::Elements::length_targets, crate::proofs::Elements::target_at))]
     pub fn table(&self, i: usize, budget: &mut Budget) -> Result<Table<'a>, FlatError>
         requires { i < length (places_in self.now) }
-        ensures walked { run (bytes_behind self.now) (table_things (levels_behind self.now) (bytes_behind self.now) (slice_index (places_in self.now) i)) (tables_in budget.old) ≡ told (tables_in budget.new) result }
+        ensures walked { run (bytes_behind self.now) (table_things (levels_behind self.now) (bytes_behind self.now) (slice_index (places_in self.now) i)) (tables_in budget.old) ≡ reported (tables_in budget.new) result }
         ensures same { IfOk result (λ t. bytes_of t ≡ bytes_behind self.now) }
         ensures here { IfOk result (λ t. place_of t ≡ table_at (bytes_behind self.now) (slice_index (places_in self.now) i)) }
         ensures levels { IfOk result (λ t. levels_of t ≡ levels_behind self.now - 1) }

@@ -1,5 +1,5 @@
 // Where the parts of a tree stand and end, before any byte of it is written.
-ghost use Rattle.std.specs.Prelude.{ℕ, ◌≡◌, ◌<◌, ◌≤◌, ◌^◌, ◌+◌, ◌*◌, ◌++◌, length, map, MatchOption};
+ghost use Rattle.std.specs.Prelude.{ℕ, ◌≡◌, ◌<◌, ◌≤◌, ◌^◌, ◌+◌, ◌*◌, ◌++◌, length, map, IfSome, MatchOption};
 ghost use Rattle.byteorder.specs.Endian.{little_bytes};
 ghost use Rattle.flatbuf.specs.Tree.{Slots, no_slot, table, text, references, structs};
 ghost use Rattle.flatbuf.specs.Laid.{gap, inline_end, distances, table_start, start};
@@ -22,8 +22,8 @@ pub fn aligned(multiple: u8, at: usize) -> usize
 pub fn width(slot: &Slot) -> Option<u8>
     ensures inline { (offset : ℕ) (rest : Slots) → MatchOption result (inline_end offset (slot_of slot.now rest) ≡ inline_end offset rest) (λ w. inline_end offset (slot_of slot.now rest) ≡ inline_end (offset + gap w offset + w) rest) }
     ensures vtable { (offset : ℕ) (rest : Slots) → MatchOption result (distances offset (slot_of slot.now rest) ≡ little_bytes 2 0 ++ distances offset rest) (λ w. distances offset (slot_of slot.now rest) ≡ little_bytes 2 (offset + gap w offset) ++ distances (offset + gap w offset + w) rest) }
-    ensures low { MatchOption result (0 ≤ 0) (λ w. (0 < w)) }
-    ensures high { MatchOption result (0 ≤ 0) (λ w. (w ≤ 8)) }
+    ensures low { IfSome result (λ w. 0 < w) }
+    ensures high { IfSome result (λ w. w ≤ 8) }
 {
     match slot {
         Slot::Absent => None,

@@ -1,7 +1,9 @@
 // A table, and the content of its slots.
 
 ghost use Rattle.std.specs.Prelude.{◌≡◌, ◌≤◌, ◌<◌, ◌+◌, ◌^◌, length};
+ghost use Rattle.flatbuf.specs.declared.limits.TheConstants.{MAX_BUFFER_BYTES};
 
+use crate::limits::MAX_BUFFER_BYTES;
 use crate::numbers::{position_before, u8_at, u16_at, u32_at, u64_at, vector_from};
 use crate::{Budget, FlatError, References};
 use byteorder::{ByteOrder, LittleEndian};
@@ -14,7 +16,7 @@ pub struct Table<'a> {
     vtable: usize,
     size: usize,
     left: u8,
-    ghost small: { length bytes.now ≤ 16777216 },
+    ghost small: { length bytes.now ≤ MAX_BUFFER_BYTES },
     ghost at_in: { at + 4 ≤ length bytes.now },
     ghost vtable_in: { vtable + size ≤ length bytes.now },
     ghost size_is: { size < 2 ^ 16 },
@@ -31,7 +33,7 @@ impl<'a> Table<'a> {
     ghost use Rattle.std.specs.Prelude.{ℕ, ◌*◌, ◌-◌, IfOk, OnOk, IfSome, Some, option_map, is_some};
     ghost use Rattle.flatbuf.specs.Lookup.{slot, target, table_at, table_behind, union_behind, text_of, structs_of, elements, scalar_of, is_set};
     ghost use Rattle.flatbuf.specs.Seen.{tables_in, bytes_of, place_of, levels_of, slot_of, bytes_behind, places_in, levels_behind};
-    ghost use Rattle.flatbuf.specs.Walk.{run, told, table_things, reference_things, union_things, spans, vector_at};
+    ghost use Rattle.flatbuf.specs.Walk.{run, reported, table_things, reference_things, union_things, spans, vector_at};
 
     /// The table at a position, with so many levels left.
     #[tactic(auto, unfolding(crate::specs::Walk::run, crate::specs::Walk::table_things, crate::specs::Walk::head_things))]
@@ -41,9 +43,9 @@ impl<'a> Table<'a> {
         left: u8,
         budget: &mut Budget,
     ) -> Result<Table<'a>, FlatError>
-        requires small { length bytes.now ≤ 16777216 }
+        requires small { length bytes.now ≤ MAX_BUFFER_BYTES }
         requires near { at < 2 ^ 40 }
-        ensures walked { run bytes.now (table_things left bytes.now at) (tables_in budget.old) ≡ told (tables_in budget.new) result }
+        ensures walked { run bytes.now (table_things left bytes.now at) (tables_in budget.old) ≡ reported (tables_in budget.new) result }
         ensures counted { OnOk result (tables_in budget.new ≡ tables_in budget.old + 1) }
         ensures same { IfOk result (λ t. bytes_of t ≡ bytes.now) }
         ensures here { IfOk result (λ t. place_of t ≡ table_at bytes.now at) }
@@ -101,7 +103,7 @@ impl<'a> Table<'a> {
     /// The byte of slot `k`, or the default where it is absent.
     #[tactic(auto, unfolding(crate::specs::Walk::run))]
     pub fn scalar_u8(&self, k: u16, default: u8) -> Result<u8, FlatError>
-        ensures walked { (n : ℕ) → run (bytes_of self.now) (spans 1 (slot_of self.now k)) n ≡ told n result }
+        ensures walked { (n : ℕ) → run (bytes_of self.now) (spans 1 (slot_of self.now k)) n ≡ reported n result }
         ensures value { IfOk result (λ x. x ≡ scalar_of 1 default (bytes_of self.now) (slot_of self.now k)) }
     {
         match self.slot(k) {
@@ -113,7 +115,7 @@ impl<'a> Table<'a> {
     /// The number of 16 bits of slot `k`, or the default where it is absent.
     #[tactic(auto, unfolding(crate::specs::Walk::run))]
     pub fn scalar_u16(&self, k: u16, default: u16) -> Result<u16, FlatError>
-        ensures walked { (n : ℕ) → run (bytes_of self.now) (spans 2 (slot_of self.now k)) n ≡ told n result }
+        ensures walked { (n : ℕ) → run (bytes_of self.now) (spans 2 (slot_of self.now k)) n ≡ reported n result }
         ensures value { IfOk result (λ x. x ≡ scalar_of 2 default (bytes_of self.now) (slot_of self.now k)) }
     {
         match self.slot(k) {
@@ -125,7 +127,7 @@ impl<'a> Table<'a> {
     /// The number of 32 bits of slot `k`, or the default where it is absent.
     #[tactic(auto, unfolding(crate::specs::Walk::run))]
     pub fn scalar_u32(&self, k: u16, default: u32) -> Result<u32, FlatError>
-        ensures walked { (n : ℕ) → run (bytes_of self.now) (spans 4 (slot_of self.now k)) n ≡ told n result }
+        ensures walked { (n : ℕ) → run (bytes_of self.now) (spans 4 (slot_of self.now k)) n ≡ reported n result }
         ensures value { IfOk result (λ x. x ≡ scalar_of 4 default (bytes_of self.now) (slot_of self.now k)) }
     {
         match self.slot(k) {
@@ -137,7 +139,7 @@ impl<'a> Table<'a> {
     /// The number of 64 bits of slot `k`, or the default where it is absent.
     #[tactic(auto, unfolding(crate::specs::Walk::run))]
     pub fn scalar_u64(&self, k: u16, default: u64) -> Result<u64, FlatError>
-        ensures walked { (n : ℕ) → run (bytes_of self.now) (spans 8 (slot_of self.now k)) n ≡ told n result }
+        ensures walked { (n : ℕ) → run (bytes_of self.now) (spans 8 (slot_of self.now k)) n ≡ reported n result }
         ensures value { IfOk result (λ x. x ≡ scalar_of 8 default (bytes_of self.now) (slot_of self.now k)) }
     {
         match self.slot(k) {
@@ -148,7 +150,7 @@ impl<'a> Table<'a> {
 
     /// The bool of slot `k`, false where it is absent.
     pub fn flag(&self, k: u16) -> Result<bool, FlatError>
-        ensures walked { (n : ℕ) → run (bytes_of self.now) (spans 1 (slot_of self.now k)) n ≡ told n result }
+        ensures walked { (n : ℕ) → run (bytes_of self.now) (spans 1 (slot_of self.now k)) n ≡ reported n result }
         ensures value { IfOk result (λ x. x ≡ is_set (scalar_of 1 0 (bytes_of self.now) (slot_of self.now k))) }
     {
         Ok(self.scalar_u8(k, 0)? != 0)
@@ -157,7 +159,7 @@ impl<'a> Table<'a> {
     /// The bytes of the text of slot `k`, empty where it is absent.
     #[tactic(auto, unfolding(crate::specs::Walk::run))]
     pub fn text(&self, k: u16) -> Result<&'a [u8], FlatError>
-        ensures walked { (n : ℕ) → run (bytes_of self.now) (vector_at 1 (bytes_of self.now) (slot_of self.now k)) n ≡ told n result }
+        ensures walked { (n : ℕ) → run (bytes_of self.now) (vector_at 1 (bytes_of self.now) (slot_of self.now k)) n ≡ reported n result }
         ensures value { IfOk result (λ x. x.now ≡ text_of (bytes_of self.now) (slot_of self.now k)) }
     {
         match self.slot(k) {
@@ -172,7 +174,7 @@ impl<'a> Table<'a> {
     /// The elements, of `width` bytes each, of the vector of structs of slot `k`, one after another; none where it is absent.
     #[tactic(auto, unfolding(crate::specs::Walk::run))]
     pub fn vector(&self, k: u16, width: u8) -> Result<&'a [u8], FlatError>
-        ensures walked { (n : ℕ) → run (bytes_of self.now) (vector_at width (bytes_of self.now) (slot_of self.now k)) n ≡ told n result }
+        ensures walked { (n : ℕ) → run (bytes_of self.now) (vector_at width (bytes_of self.now) (slot_of self.now k)) n ≡ reported n result }
         ensures value { IfOk result (λ x. x.now ≡ structs_of width (bytes_of self.now) (slot_of self.now k)) }
     {
         match self.slot(k) {
@@ -187,7 +189,7 @@ impl<'a> Table<'a> {
     /// The vector of references to tables of slot `k`, empty where it is absent.
     #[tactic(auto, unfolding(crate::specs::Walk::run, crate::specs::Lookup::elements))]
     pub fn references(&self, k: u16) -> Result<References<'a>, FlatError>
-        ensures walked { (n : ℕ) → run (bytes_of self.now) (vector_at 4 (bytes_of self.now) (slot_of self.now k)) n ≡ told n result }
+        ensures walked { (n : ℕ) → run (bytes_of self.now) (vector_at 4 (bytes_of self.now) (slot_of self.now k)) n ≡ reported n result }
         ensures same { IfOk result (λ r. bytes_behind r ≡ bytes_of self.now) }
         ensures places { IfOk result (λ r. places_in r ≡ elements (bytes_of self.now) (slot_of self.now k)) }
         ensures levels { IfOk result (λ r. levels_behind r ≡ levels_of self.now) }
@@ -201,7 +203,7 @@ impl<'a> Table<'a> {
     /// The table that the reference of slot `k` leads to, unless it is absent.
     #[tactic(auto, using(crate::proofs::FirstThing::first_err, crate::proofs::FirstThing::first_ok), unfolding(crate::specs::Walk::run, crate::specs::Lookup::target))]
     pub fn reference(&self, k: u16, budget: &mut Budget) -> Result<Option<Table<'a>>, FlatError>
-        ensures walked { run (bytes_of self.now) (reference_things (levels_of self.now) (bytes_of self.now) (slot_of self.now k)) (tables_in budget.old) ≡ told (tables_in budget.new) result }
+        ensures walked { run (bytes_of self.now) (reference_things (levels_of self.now) (bytes_of self.now) (slot_of self.now k)) (tables_in budget.old) ≡ reported (tables_in budget.new) result }
         ensures same { IfOk result (λ found. IfSome found (λ t. bytes_of t ≡ bytes_of self.now)) }
         ensures here { IfOk result (λ found. option_map place_of found ≡ table_behind (bytes_of self.now) (slot_of self.now k)) }
         ensures levels { IfOk result (λ found. IfSome found (λ t. levels_of t ≡ levels_of self.now - 1)) }
@@ -221,7 +223,7 @@ impl<'a> Table<'a> {
     #[tactic(auto, using(crate::specs::WalkLaws::run_append), unfolding(crate::specs::Walk::run))]
     pub fn union(&self, k: u16, budget: &mut Budget) -> Result<Union<'a>, FlatError>
         requires { k + 1 < 2 ^ 16 }
-        ensures walked { run (bytes_of self.now) (union_things (levels_of self.now) (bytes_of self.now) (place_of self.now) k) (tables_in budget.old) ≡ told (tables_in budget.new) result }
+        ensures walked { run (bytes_of self.now) (union_things (levels_of self.now) (bytes_of self.now) (place_of self.now) k) (tables_in budget.old) ≡ reported (tables_in budget.new) result }
         ensures kind { IfOk result (λ u. u.kind ≡ scalar_of 1 0 (bytes_of self.now) (slot_of self.now k)) }
         ensures same { IfOk result (λ u. IfSome u.table (λ t. bytes_of t ≡ bytes_of self.now)) }
         ensures here { IfOk result (λ u. option_map place_of u.table ≡ union_behind (bytes_of self.now) (place_of self.now) k) }

@@ -65,7 +65,7 @@ fn each_way_leads_to_the_table(rt: HostRuntime) -> Result<(), FlatError> {
 }
 
 #[test]
-fn bytes_that_end_early_are_told(rt: HostRuntime) -> Result<(), FlatError> {
+fn bytes_that_end_early_are_refused(rt: HostRuntime) -> Result<(), FlatError> {
     for length in 0..36 {
         let mut budget = Budget::new();
         let root = Buf::new(&EACH_KIND[..length]).root(&mut budget);
@@ -85,7 +85,7 @@ fn bytes_that_end_early_are_told(rt: HostRuntime) -> Result<(), FlatError> {
 }
 
 #[test]
-fn a_visit_past_the_last_is_told(rt: HostRuntime) -> Result<(), FlatError> {
+fn a_visit_past_the_last_is_refused(rt: HostRuntime) -> Result<(), FlatError> {
     let mut budget = Budget::new();
     for _ in 0..MAX_TABLES {
         let _root = Buf::new(&EACH_KIND).root(&mut budget)?;
@@ -96,7 +96,7 @@ fn a_visit_past_the_last_is_told(rt: HostRuntime) -> Result<(), FlatError> {
 }
 
 #[test]
-fn odd_and_small_vtables_are_told(rt: HostRuntime) {
+fn odd_and_small_vtables_are_refused(rt: HostRuntime) {
     for size in [0, 2, 3, 5, 7] {
         let bytes = [8, 0, 0, 0, size, 0, 0, 0, 4, 0, 0, 0];
         let mut budget = Budget::new();

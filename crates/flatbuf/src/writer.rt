@@ -1,3 +1,5 @@
+// Trees of tables as the metadata of messages.
+
 ghost use Rattle.std.specs.Prelude.{◌≡◌, ◌<◌, ◌^◌, length, IfOk};
 ghost use Rattle.flatbuf.specs.Laid.{metadata};
 ghost use Rattle.flatbuf.specs.Held.{Fits};

@@ -8,6 +8,7 @@ use Rattle.std.proofs.lemmas.List.{take-append-drop, drop-drop, length-take-le, 
 use Rattle.std.proofs.lemmas.Slice.Eq.{starts_is}
 use Rattle.byteorder.specs.Endian.{little_number}
 use Rattle.byteorder.specs.Numbers.{little_from-append, little_from-take}
+use Rattle.flatbuf.specs.declared.limits.TheConstants.{MAX_BUFFER_BYTES}
 use Rattle.flatbuf.specs.Lookup.{number}
 use Rattle.flatbuf.specs.Walk.{run}
 use Rattle.ipc_message.specs.declared.fault.Fault.{Fault}
@@ -50,7 +51,7 @@ marker_passed bytes h =
     }
 
 record IsSized (bytes : List ℕ) : Type 0 where
-  small : metadata_size bytes ≤ 16777216
+  small : metadata_size bytes ≤ MAX_BUFFER_BYTES
   room : 8 + metadata_size bytes ≤ length bytes
 
 size_passed : (bytes : List ℕ) → first_some (size_faults bytes) ≡ None → IsSized bytes
@@ -58,7 +59,7 @@ unfolding size_faults
 size_passed bytes h =
     let found = all_none (size_faults bytes) h in
     record {
-      small = lt_false 16777216 (metadata_size bytes) (when_none (nat_lt 16777216 (metadata_size bytes)) MetadataSize found.0);
+      small = lt_false MAX_BUFFER_BYTES (metadata_size bytes) (when_none (nat_lt MAX_BUFFER_BYTES (metadata_size bytes)) MetadataSize found.0);
       room = lt_false (length bytes) (8 + metadata_size bytes) (when_none (nat_lt (length bytes) (8 + metadata_size bytes)) Truncated found.1.0);
     }
 
@@ -170,7 +171,7 @@ found_framed bytes m p =
     let n : length metadata ≡ metadata_size bytes = metadata_long bytes p.sized in
     let b : length body ≡ body_length metadata = length-take-le (body_length metadata) (after_metadata bytes) p.room in
     let some : 0 < metadata_size bytes = not_zero (metadata_size bytes) p.some in
-    let small : metadata_size bytes ≤ 16777216 = p.sized.small in
+    let small : metadata_size bytes ≤ MAX_BUFFER_BYTES = p.sized.small in
     let long : 8 ≤ length bytes = p.marked.long in (
       record { small = omega (arith, n, small); some = omega (arith, n, some); sound = message_passes metadata (length body) p.table (omega (arith, b)); whole = b },
       record {
@@ -214,9 +215,9 @@ marker_passes size others four =
     let short : 4 ≤ length (continuation_marker ++ (size ++ others)) = omega arith in
     rw (no_lt (length (continuation_marker ++ (size ++ others))) 4 short, no_lt (length (continuation_marker ++ (size ++ others))) 8 long) refl
 
-size_passes : (bytes : List ℕ) (n : ℕ) → metadata_size bytes ≡ n → n ≤ 16777216 → 8 + n ≤ length bytes → first_some (size_faults bytes) ≡ None
+size_passes : (bytes : List ℕ) (n : ℕ) → metadata_size bytes ≡ n → n ≤ MAX_BUFFER_BYTES → 8 + n ≤ length bytes → first_some (size_faults bytes) ≡ None
 unfolding size_faults
-size_passes bytes n is small room = rw (is, no_lt 16777216 n small, no_lt (length bytes) (8 + n) room) refl
+size_passes bytes n is small room = rw (is, no_lt MAX_BUFFER_BYTES n small, no_lt (length bytes) (8 + n) room) refl
 
 no_zero : (n : ℕ) → 0 < n → eqb n 0 ≡ false
 no_zero n h = grind arith
@@ -229,7 +230,7 @@ written_next_message size m others four is good =
     let n : metadata_size bytes ≡ length m.metadata = size_written size (m.metadata ++ (m.body ++ others)) (length m.metadata) four is in
     let here : metadata_in bytes ≡ m.metadata = metadata_written size m.metadata (m.body ++ others) four n in
     let after : after_metadata bytes ≡ m.body ++ others = after_written size m.metadata (m.body ++ others) four n in
-    let small : length m.metadata ≤ 16777216 = good.small in
+    let small : length m.metadata ≤ MAX_BUFFER_BYTES = good.small in
     let whole : length m.body ≡ body_length m.metadata = good.whole in
     let room : 8 + length m.metadata ≤ length bytes = omega (arith, length-append size (m.metadata ++ (m.body ++ others)), length-append m.metadata (m.body ++ others)) in
     let table = (message_passed m.metadata (length m.body) good.sound).0 in

@@ -4,6 +4,7 @@ use Rattle.std.specs.List.{starts_with}
 use Rattle.byteorder.specs.Endian.{little_number}
 use Rattle.flatbuf.specs.declared.FlatError.{FlatError}
 use Rattle.flatbuf.specs.declared.FlatError.TheVariants.{Bounds, VtableSize, Budget}
+use Rattle.flatbuf.specs.declared.limits.TheConstants.{MAX_BUFFER_BYTES}
 use Rattle.flatbuf.specs.Lookup.{number, Place, slot, target, table_at, scalar_of}
 use Rattle.flatbuf.specs.Walk.{Thing, run, root_things, spans}
 use Rattle.ipc_message.specs.declared.envelope.HeaderType.{HeaderType}
@@ -14,10 +15,6 @@ use Rattle.ipc_message.specs.declared.fault.Fault.TheVariants.{Truncated, NoCont
 -- the continuation marker that each message begins with
 abbrev pub continuation_marker : List ℕ
 continuation_marker = 255 ∷ 255 ∷ 255 ∷ 255 ∷ []
-
--- the most bytes that the metadata of a message may have
-abbrev pub most_metadata : ℕ
-most_metadata = 16777216
 
 -- what the header of a message is, by its number (Message.fbs, `MessageHeader`); others are not read
 abbrev pub header_type : ℕ → Option HeaderType
@@ -104,7 +101,7 @@ after_metadata bytes = drop (metadata_size bytes) (drop 8 bytes)
 -- the metadata and the body
 unfoldable pub size_faults : List ℕ → List (Option Fault)
 size_faults bytes =
-    when (nat_lt most_metadata (metadata_size bytes)) MetadataSize
+    when (nat_lt MAX_BUFFER_BYTES (metadata_size bytes)) MetadataSize
     ∷ when (nat_lt (length bytes) (8 + metadata_size bytes)) Truncated
     ∷ []
 
@@ -144,7 +141,7 @@ fault_of (Err f) = Some f
 
 -- a message that may stand: its metadata passes the tests above, and its body is as long as they say
 pub record IsMessage (m : Envelope) : Type 0 where
-  pub small : length m.metadata ≤ most_metadata
+  pub small : length m.metadata ≤ MAX_BUFFER_BYTES
   pub some : 0 < length m.metadata
   pub sound : first_some (message_faults m.metadata (length m.body)) ≡ None
   pub whole : length m.body ≡ body_length m.metadata

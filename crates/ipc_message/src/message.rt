@@ -8,7 +8,7 @@ use crate::envelope::header_type;
 use crate::header::{header_by_type, needed};
 use crate::walk_error::WalkError;
 use crate::{Fault, Header, HeaderType, ImportError};
-use flatbuf::{Budget, Buf, FlatError, Table};
+use flatbuf::{Budget, Buf, FlatError, MAX_BUFFER_BYTES, Table};
 use std::alloc::Global;
 
 /// The version of the metadata that is read (Message.fbs, `MetadataVersion`).
@@ -59,7 +59,7 @@ impl<'a> Message<'a> {
     /// of the three, F8 a negative length of the body, F1 where fewer bytes follow than that.
     #[tactic(auto, unfolding(crate::specs::Framing::message_faults))]
     pub(crate) fn read(metadata: &'a [u8], following: &'a [u8]) -> Result<Message<'a>, Fault>
-        requires small { length metadata.now ≤ 16777216 }
+        requires small { length metadata.now ≤ MAX_BUFFER_BYTES }
         ensures faults { first_some (message_faults metadata.now (length following.now)) ≡ fault_of result }
         ensures value { IfOk result (λ m. message (envelope_of m) ≡ message_with metadata.now following.now) }
         ensures metadata { IfOk result (λ m. (envelope_of m).metadata ≡ metadata.now) }
@@ -130,7 +130,7 @@ impl<'a> MessageHead<'a> {
     /// The Message table, and the content of its slots 0 to 3: where the header's reference leads is not looked at.
     #[tactic(auto, using(flatbuf::specs::WalkLaws::run_append), unfolding(crate::specs::Framing::message_things, crate::specs::Framing::version_of, crate::specs::Framing::type_of, crate::specs::Framing::body_length))]
     fn read(metadata: &'a [u8]) -> Result<MessageHead<'a>, FlatError>
-        requires small { length metadata.now ≤ 16777216 }
+        requires small { length metadata.now ≤ MAX_BUFFER_BYTES }
         ensures walked { run metadata.now (message_things metadata.now) 0 ≡ reported 1 result }
         ensures same { IfOk result (λ h. bytes_of h.table ≡ metadata.now) }
         ensures root { IfOk result (λ h. place_of h.table ≡ message_table metadata.now) }

@@ -6,7 +6,7 @@ ghost use Rattle.ipc_message.specs.Messages.{next_message_of, seen_by};
 
 use crate::{Fault, Message, NextMessage};
 use byteorder::{ByteOrder, LittleEndian};
-use flatbuf::MAX_BYTES;
+use flatbuf::MAX_BUFFER_BYTES;
 
 /// What every message begins with.
 const CONTINUATION_MARKER: [u8; 4] = [0xff; 4];
@@ -59,10 +59,10 @@ fn marker_size(bytes: &[u8]) -> Result<usize, Fault>
 fn test_size(bytes: &[u8], size: usize) -> Result<(), Fault>
     requires { size ≡ metadata_size bytes.now }
     ensures faults { first_some (size_faults bytes.now) ≡ fault_of result }
-    ensures small { OnOk result (size ≤ 16777216) }
+    ensures small { OnOk result (size ≤ MAX_BUFFER_BYTES) }
     ensures room { OnOk result (8 + size ≤ length bytes.now) }
 {
-    if size > MAX_BYTES {
+    if size > MAX_BUFFER_BYTES {
         return Err(Fault::MetadataSize);
     }
     if bytes.len() < 8 + size {

@@ -4,8 +4,9 @@ use Rattle.std.proofs.Common.{◌≡◌, ℕ, ◌^◌, ◌<◌, ◌≤◌, true,
 use Rattle.std.proofs.lemmas.List.{append-nil}
 use Rattle.byteorder.specs.Endian.{little_number, little_bytes}
 use Rattle.byteorder.specs.Numbers.{little_number-reads_back, length-bytes_low_first}
+use Rattle.flatbuf.specs.declared.limits.TheConstants.{MAX_LEVELS}
 use Rattle.flatbuf.specs.Lookup.{target, slot, Place}
-use Rattle.flatbuf.specs.Walk.{span, spans, table_things, root_things, most_levels}
+use Rattle.flatbuf.specs.Walk.{span, spans, table_things, root_things}
 use Rattle.flatbuf.specs.Held.{Has}
 use Rattle.flatbuf.specs.Tree.{Tree}
 use Rattle.ipc_message.specs.Framing.{Envelope, IsMessage, Framed, continuation_marker, message, next_message, message_things, message_table, version_of, type_of, body_length, message_faults, first_some}
@@ -20,7 +21,7 @@ unfolding message_things root_things
 message_fine metadata type body_len header long has =
     let t : Place = message_table metadata in
     let s = has.1 in
-    let root = fine_more metadata (span 0 4 ∷ []) (table_things most_levels metadata (target metadata 0)) 0 1 (fine_span metadata 0 4 0 (omega arith)) (fine_table metadata most_levels (target metadata 0) 4 0 has.0 (omega arith) (omega arith)) in
+    let root = fine_more metadata (span 0 4 ∷ []) (table_things MAX_LEVELS metadata (target metadata 0)) 0 1 (fine_span metadata 0 4 0 (omega arith)) (fine_table metadata MAX_LEVELS (target metadata 0) 4 0 has.0 (omega arith) (omega arith)) in
     let a1 = fine_after metadata (root_things metadata) (spans 2 (slot metadata t 0)) 0 1 root (fine_spans metadata 2 (slot metadata t 0) s.0.0 1 s.0.1 s.0.3) in
     let a2 = fine_after metadata (root_things metadata ++ spans 2 (slot metadata t 0)) (spans 1 (slot metadata t 1)) 0 1 a1 (fine_spans metadata 1 (slot metadata t 1) s.1.0.0 1 s.1.0.1 s.1.0.3) in
     let a3 = fine_after metadata (root_things metadata ++ spans 2 (slot metadata t 0) ++ spans 1 (slot metadata t 1)) (spans 4 (slot metadata t 2)) 0 1 a2 (fine_spans metadata 4 (slot metadata t 2) s.1.1.0.0 1 s.1.1.0.1 s.1.1.0.2) in

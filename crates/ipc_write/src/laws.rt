@@ -4,13 +4,14 @@ ghost use Rattle.arrow_schema.specs.Column.{Column, columns_of, PlainSchema};
 ghost use Rattle.arrow_schema.specs.Integers.{is_integer_schema};
 ghost use Rattle.arrow_schema.specs.Limits.{IsWithinLimits};
 ghost use Rattle.arrow_schema.specs.Preorder.{depth, depth_all};
+ghost use Rattle.flatbuf.specs.declared.limits.TheConstants.{MAX_TABLES, MAX_BUFFER_BYTES};
 ghost use Rattle.flatbuf.specs.Held.{Has, FitsStructs};
 ghost use Rattle.flatbuf.specs.Lookup.{target};
 ghost use Rattle.flatbuf.specs.Tree.{Tree};
-ghost use Rattle.flatbuf.specs.Walk.{run, most_tables};
+ghost use Rattle.flatbuf.specs.Walk.{run};
 ghost use Rattle.ipc_message.specs.Header.{field_at, field_things, header};
 ghost use Rattle.ipc_message.specs.Raw.{RawNode, RawBatch, RawDictionaryBatch, schema_header, dictionary_header, batch_header};
-ghost use Rattle.ipc_message.specs.Framing.{next_message, message, taken, type_of, most_metadata};
+ghost use Rattle.ipc_message.specs.Framing.{next_message, message, taken, type_of};
 ghost use Rattle.ipc_write.specs.Trees.{field_tree, schema_tree, dictionary_tree, batch_tree, message_tree, node_pair, buffer_pair};
 ghost use Rattle.ipc_write.specs.Written.{framed, schema_message, batch_message, batch_of, schema_envelope, batch_envelope, IsWritableBatch};
 ghost use Rattle.ipc_write.specs.Decoded.{raw_of, raw_schema};
@@ -21,7 +22,7 @@ ghost use Rattle.ipc_write.specs.Walked.{Holds, tables_of, tables_of_all, IsHead
 pub fn field_is_read_again()
     ensures read { (supported : ℕ → Bool) (left : ℕ) (bytes : List ℕ) (at id : ℕ) (c : Column) → Holds supported → depth c + 2 ≤ left → Has bytes at (field_tree id c)
         → field_at supported left bytes at ≡ raw_of id c }
-    ensures walked { (supported : ℕ → Bool) (left : ℕ) (bytes : List ℕ) (at id n : ℕ) (c : Column) → Holds supported → depth c + 2 ≤ left → n + tables_of c ≤ most_tables → Has bytes at (field_tree id c)
+    ensures walked { (supported : ℕ → Bool) (left : ℕ) (bytes : List ℕ) (at id n : ℕ) (c : Column) → Holds supported → depth c + 2 ≤ left → n + tables_of c ≤ MAX_TABLES → Has bytes at (field_tree id c)
         → run bytes (field_things supported left bytes at) n ≡ Ok (n + tables_of c) }
 {}
 
@@ -36,7 +37,7 @@ pub fn message_is_read_again()
 
 /// The header of a schema message that was written is the schema that was written.
 pub fn schema_is_read_again()
-    ensures { (supported : ℕ → Bool) (metadata : List ℕ) (body_len : ℕ) (s : PlainSchema) → Holds supported → depth_all (columns_of s.columns) ≤ 36 → 2 + tables_of_all (columns_of s.columns) + length s.pairs ≤ most_tables
+    ensures { (supported : ℕ → Bool) (metadata : List ℕ) (body_len : ℕ) (s : PlainSchema) → Holds supported → depth_all (columns_of s.columns) ≤ 36 → 2 + tables_of_all (columns_of s.columns) + length s.pairs ≤ MAX_TABLES
         → Has metadata (target metadata 0) (message_tree 1 (schema_tree s) body_len) → header supported metadata ≡ Ok (schema_header (raw_schema s)) }
 {}
 
@@ -54,8 +55,8 @@ pub fn batch_is_read_again()
 
 /// The metadata of a schema of integer columns within the limits, and that of a batch, are no longer than a reader takes.
 pub fn metadata_is_within_its_limit()
-    ensures schema { (s : PlainSchema) → IsTrue (is_integer_schema s) → IsWithinLimits s → length (schema_envelope s).metadata ≤ most_metadata }
-    ensures batch { (rows : ℕ) (nodes : List RawNode) (buffers : List (List ℕ)) → IsWritableBatch rows nodes buffers → length (batch_envelope rows nodes buffers).metadata ≤ most_metadata }
+    ensures schema { (s : PlainSchema) → IsTrue (is_integer_schema s) → IsWithinLimits s → length (schema_envelope s).metadata ≤ MAX_BUFFER_BYTES }
+    ensures batch { (rows : ℕ) (nodes : List RawNode) (buffers : List (List ℕ)) → IsWritableBatch rows nodes buffers → length (batch_envelope rows nodes buffers).metadata ≤ MAX_BUFFER_BYTES }
 {
     arrow_schema::limits_bound_columns();
     flatbuf::written_is_read();

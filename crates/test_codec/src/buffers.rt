@@ -1,0 +1,1 @@
+// FlatBuffers that are read and written (flatbuf).

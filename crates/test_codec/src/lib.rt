@@ -1,0 +1,22 @@
+//! Tests of the public calls of the codec's crates: a module for each crate, each case a row of data.
+//!
+//! A test here stands on the crates' contracts alone, so no library is proved again for it. What needs the private
+//! parts of a crate is tested in that crate. `docs/gate.md` says which forms of a test are cheap.
+#![tactic(auto)]
+
+#[cfg(test)]
+mod bitmaps;
+#[cfg(test)]
+mod buffers;
+#[cfg(test)]
+mod messages;
+#[cfg(test)]
+mod program;
+#[cfg(test)]
+mod schemas;
+#[cfg(test)]
+mod stream_bytes;
+#[cfg(test)]
+mod streams;
+#[cfg(test)]
+mod tables;

@@ -1,0 +1,1 @@
+// Messages that are read and written (ipc_message, ipc_write).

@@ -1,0 +1,1 @@
+// Schemas, their limits and field texts (arrow_schema).

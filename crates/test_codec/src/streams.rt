@@ -1,0 +1,1 @@
+// Streams that are read and written (ipc_stream).
