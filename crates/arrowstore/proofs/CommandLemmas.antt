@@ -2,7 +2,7 @@
 use Rattle.std.proofs.Common.{◌≡◌, List, [], ◌∷◌, Option, Some, None, option_map, codes, true, refl, ap, ap₂, ◌∙◌, sym}
 use Rattle.std.specs.Prelude.{Box}
 use Rattle.std.specs.Box.{box_value}
-use Rattle.clap.specs.Arguments.{App, Text, HasMatchesOf, subcommand_of, subcommand_name_of, takes, is_simple}
+use Rattle.clap.specs.Words.{App, Text, HasMatchesOf, subcommand_of, subcommand_name_of, takes, is_simple}
 use Rattle.clap.specs.Simple.{subcommand_rows}
 use Rattle.clap.specs.declared.error.kind.ErrorKind.{ErrorKind}
 use Rattle.clap.specs.declared.error.kind.ErrorKind.TheVariants.{OutOfMemory}

@@ -1,6 +1,6 @@
 -- What the command line knows: one command `recode`, without arguments.
 use Rattle.std.specs.Prelude.{List, [], ◌∷◌, ◌≡◌, codes, true, Some, option_map}
-use Rattle.clap.specs.Arguments.{App, Text, new_app, subcommand_of, with_subcommand}
+use Rattle.clap.specs.Words.{App, Text, new_app, subcommand_of, with_subcommand}
 
 abbrev pub recode_command : App
 recode_command = new_app (codes "recode")

@@ -1,6 +1,6 @@
 // The words of a command line.
 ghost use Rattle.std.specs.Prelude.{◌≡◌, map, codes, Some, IfOk, IfSome, OnOk, MatchResult};
-ghost use Rattle.clap.specs.Arguments.{app_of, kind_of, subcommand_name_of};
+ghost use Rattle.clap.specs.Words.{app_of, kind_of, subcommand_name_of};
 ghost use Rattle.clap.specs.declared.error.kind.ErrorKind.TheVariants.{OutOfMemory};
 ghost use Rattle.arrowstore.specs.Arguments.{program_command, AreRecode, NameRecode};
 

@@ -1,6 +1,6 @@
 // How a run ended, and what is reported of it.
 ghost use Rattle.std.specs.Prelude.{◌≡◌, IsOk, IsErr};
-ghost use Rattle.clap.specs.Arguments.{kind_of};
+ghost use Rattle.clap.specs.Words.{kind_of};
 ghost use Rattle.clap.specs.declared.error.kind.ErrorKind.TheVariants.{OutOfMemory};
 ghost use Rattle.arrowstore.specs.Reported.{status_code};
 

@@ -1,5 +1,6 @@
 -- Which values a field takes (Arrow columnar format, "Logical types"; Schema.fbs).
 use Rattle.std.specs.Prelude.{ℕ, ◌+◌, ◌-◌, ◌^◌, ℤ, pos, neg_ℤ, int_lt, int_le, Bool, true, false, ◌&&◌, ◌==◌, List, length}
+use Rattle.std.specs.Str.{is_utf8}
 use Rattle.arrow_schema.specs.Column.{DateKind, days, date_milliseconds, Kind, Column, Columns, nulls, booleans, integers, dates, timestamps, texts, large_texts, binaries, large_binaries, fixed_binaries, lists, large_lists, fixed_lists, structs, column, no_column, and_column}
 use Rattle.cells.specs.Cell.{Cell, Cells, null, boolean, number, text, bytes, items, parts, no_cell, and_cell}
 
@@ -26,9 +27,9 @@ abbrev pub is_boolean : Cell → Bool
 is_boolean (boolean b) = true
 is_boolean _ = false
 
-abbrev pub is_text : Cell → Bool
-is_text (text t) = true
-is_text _ = false
+abbrev pub text_where : (List ℕ → Bool) → Cell → Bool
+text_where p (text t) = p t
+text_where p _ = false
 
 abbrev pub number_where : (ℤ → Bool) → Cell → Bool
 number_where p (number n) = p n
@@ -62,8 +63,8 @@ unfoldable mutual
   fits_kind (integers bits signed) = number_where (in_range bits signed)
   fits_kind (dates unit) = number_where (in_range (date_bits unit) true)
   fits_kind (timestamps unit timezone) = number_where (in_range 64 true)
-  fits_kind texts = is_text
-  fits_kind large_texts = is_text
+  fits_kind texts = text_where is_utf8
+  fits_kind large_texts = text_where is_utf8
   fits_kind binaries = bytes_where (λ t. true)
   fits_kind large_binaries = bytes_where (λ t. true)
   fits_kind (fixed_binaries width) = bytes_where (λ t. length t == width)

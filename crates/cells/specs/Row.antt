@@ -1,6 +1,7 @@
 -- What a table asks of each of its rows.
 use Rattle.std.specs.Prelude.{ℕ, Bool, ◌&&◌, nat_le, List, [], ◌∷◌, map, Option, Some, None, if◌then◌else◌}
 use Rattle.arrow_schema.specs.Column.{columns_of, PlainSchema}
+use Rattle.cells.specs.declared.limits.TheConstants.{MAX_ROW_WEIGHT}
 use Rattle.cells.specs.declared.row.Row.{Row}
 use Rattle.cells.specs.Cell.{Cell, cells_of}
 use Rattle.cells.specs.View.{cell}
@@ -16,9 +17,9 @@ row_of r = map cell r.cells.items
 abbrev pub row_fits : PlainSchema → List Cell → Bool
 row_fits s row = each_fits (columns_of s.columns) (cells_of row)
 
--- a row that a table takes: it fits, weighs at most 16,777,216, and fills no dictionary
+-- a row that a table takes: it fits, weighs at most `MAX_ROW_WEIGHT`, and fills no dictionary
 unfoldable pub is_row : PlainSchema → List Cell → Bool
-is_row s row = row_fits s row && (nat_le (row_weight s row) 16777216 && dictionaries_fit s (row ∷ []))
+is_row s row = row_fits s row && (nat_le (row_weight s row) MAX_ROW_WEIGHT && dictionaries_fit s (row ∷ []))
 
 -- the weight of a row that a table takes
 abbrev pub accepted_weight : PlainSchema → List Cell → Option ℕ

@@ -1,6 +1,7 @@
 -- How much a value weighs, by its type and never by its dictionary: about the bytes and the cells that it takes in memory.
 use Rattle.std.specs.Prelude.{ℕ, ◌+◌, ◌*◌, min, List, length, sum_by}
 use Rattle.arrow_schema.specs.Column.{Kind, Column, Columns, nulls, booleans, integers, dates, timestamps, texts, large_texts, binaries, large_binaries, fixed_binaries, lists, large_lists, fixed_lists, structs, column, no_column, and_column, columns_of, PlainSchema}
+use Rattle.cells.specs.declared.limits.TheConstants.{TOO_HEAVY}
 use Rattle.cells.specs.Cell.{Cell, Cells, null, text, bytes, items, parts, no_cell, and_cell, cells_of}
 
 -- the bytes of a text or a binary
@@ -71,4 +72,4 @@ table_weight s rows = sum_by (row_weight s) rows
 
 -- a weight as it is reported: every weight that a table may have is reported exactly, and all greater ones as one
 abbrev pub capped_weight : ℕ → ℕ
-capped_weight w = min w 268435457
+capped_weight w = min w TOO_HEAVY

@@ -8,8 +8,9 @@ ghost use Rattle.cells.specs.Dictionary.{is_any_limited};
 
 use crate::fit::each_fits;
 use crate::holding::row_entries_fit;
+use crate::limits::MAX_ROW_WEIGHT;
 use crate::value::Value;
-use crate::weigh::{MAX_ROW_WEIGHT, row_weight};
+use crate::weigh::row_weight;
 use arrow_schema::Schema;
 use std::alloc::{AllocError, Global};
 

@@ -1,10 +1,11 @@
 // Whether a value is one of a field's.
 ghost use Rattle.std.specs.Prelude.{◌≡◌, ◌≤◌, ◌<◌, ◌==◌, ◌&&◌, true, map};
+ghost use Rattle.std.specs.Str.{is_utf8};
 ghost use Rattle.arrow_schema.specs.Column.{columns_of};
 ghost use Rattle.arrow_schema.specs.View.{kind_of, column_of, bits_of, date_kind};
 ghost use Rattle.cells.specs.Cell.{cells_of};
 ghost use Rattle.cells.specs.View.{cell};
-ghost use Rattle.cells.specs.Fit.{fits, fits_kind, each_fits, all_cells, in_range, date_bits, count_of};
+ghost use Rattle.cells.specs.Fit.{fits, fits_kind, text_where, each_fits, all_cells, in_range, date_bits, count_of};
 
 use crate::value::Value;
 use arrow_schema::{DataType, DateUnit, Field, IntegerType};
@@ -34,6 +35,22 @@ fn date_fits(unit: DateUnit, n: i128) -> bool
     match unit {
         DateUnit::Day => number_fits(32, true, n),
         DateUnit::Millisecond => number_fits(64, true, n),
+    }
+}
+
+// A text is UTF-8 by its type.
+fn is_utf8(text: &str) -> bool
+    ensures { result ≡ is_utf8 text.now }
+{
+    true
+}
+
+fn text_fits(value: &Value) -> bool
+    ensures { result ≡ text_where is_utf8 (cell value.now) }
+{
+    match value {
+        Value::Text(text) => is_utf8(text.as_str()),
+        _ => false,
     }
 }
 
@@ -76,8 +93,8 @@ fn fits_type(data_type: &DataType, value: &Value) -> bool
             Value::Int(n) => number_fits(64, true, *n),
             _ => false,
         },
-        DataType::Utf8 => matches!(value, Value::Text(_)),
-        DataType::LargeUtf8 => matches!(value, Value::Text(_)),
+        DataType::Utf8 => text_fits(value),
+        DataType::LargeUtf8 => text_fits(value),
         DataType::Binary => matches!(value, Value::Bytes(_)),
         DataType::LargeBinary => matches!(value, Value::Bytes(_)),
         DataType::FixedSizeBinary(width) => match value {

@@ -6,15 +6,9 @@ ghost use Rattle.cells.specs.Cell.{cells_of, null};
 ghost use Rattle.cells.specs.View.{cell};
 ghost use Rattle.cells.specs.Weight.{weight, row_weight, kind_weight, parts_weight, sum_of, fixed_sum, byte_count, items_in, parts_in, capped_weight};
 
+use crate::limits::TOO_HEAVY;
 use crate::value::Value;
 use arrow_schema::{DataType, Field, Schema};
-
-/// The most that a row may weigh.
-pub const MAX_ROW_WEIGHT: u64 = 16_777_216;
-/// The most that all rows of a table may weigh.
-pub const MAX_TABLE_WEIGHT: u64 = 268_435_456;
-/// What weighs more than a table may is reported as this.
-pub const TOO_HEAVY: u64 = MAX_TABLE_WEIGHT + 1;
 
 /// The sum of two weights, as weights are reported.
 pub fn add_weights(a: u64, b: u64) -> u64
