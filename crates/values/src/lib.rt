@@ -24,4 +24,3 @@ pub use errors::TableError;
 pub use laws::{integer_columns_are_integer_tables, integer_rows_weigh_alike};
 pub use rows::Rows;
 pub use table::Table;
-
