@@ -19,6 +19,7 @@ use crate::decoder::width_of;
 use crate::gathered::Gathered;
 use arrow_schema::{Schema, limits_bound_columns};
 use byteorder::{ByteOrder, LittleEndian};
+use cells::MAX_TABLE_WEIGHT;
 use ipc_message::{Fault, ImportError, RawBatch};
 use std::alloc::AllocError;
 use values::integer_rows_weigh_alike;
@@ -26,7 +27,7 @@ use values::integer_rows_weigh_alike;
 /// The most rows of a batch.
 const MAX_LENGTH: u64 = 16_777_216;
 /// The most that all rows of a table may weigh.
-const MAX_WEIGHT: usize = 268_435_456;
+const MAX_WEIGHT: usize = MAX_TABLE_WEIGHT as usize;
 
 /// The number in the eight bytes at a position.
 #[tactic(auto, unfolding(flatbuf::specs::Lookup::number))]
@@ -159,7 +160,7 @@ fn counts_nulls(schema: &Schema, batch: &RawBatch) -> bool
 fn batch_fault(schema: &Schema, before: usize, batch: &RawBatch, body: &[u8]) -> Option<Fault>
     requires integers { IsTrue (is_integer_schema (schema_of schema.now)) }
     requires limits { IsWithinLimits (schema_of schema.now) }
-    requires light { before ≤ 268435456 }
+    requires light { before ≤ MAX_TABLE_WEIGHT }
     ensures { (rows : List (List Cell)) → length rows ≡ before → result ≡ first_some (batch_checks (schema_of schema.now) rows (raw_batch_of batch.now) body.now) }
 {
     limits_bound_columns();
