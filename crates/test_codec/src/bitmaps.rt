@@ -42,7 +42,9 @@ fn counts_from_any_bit(rt: HostRuntime) -> Result<(), Fail> {
     }
     for (byte, size, from, len, want) in COUNTS {
         let bytes = Vec::from_elem(rt.alloc(), byte, size)?;
-        assert!(rt; bytes.len() == size && size <= 200 && from <= 8 * size && len <= 8 * size - from);
+        assert!(rt;
+            bytes.len() == size && size <= 200 && from <= 8 * size && len <= 8 * size - from
+        );
         let found = count_set(&bytes, from, len);
         assert!(rt; found == want, "{len} bits from bit {from}");
     }
@@ -74,7 +76,10 @@ const PACKED: [(&[bool], &[u8]); 5] = [
     (&[true, false, true, true], &[0x0d]),
     (&[false, true], &[0x02]),
     (&[], &[]),
-    (&[true; 73], &[0xff, 0xff, 0xff, 0xff, 0xff, 0xff, 0xff, 0xff, 0xff, 0x01]),
+    (
+        &[true; 73],
+        &[0xff, 0xff, 0xff, 0xff, 0xff, 0xff, 0xff, 0xff, 0xff, 0x01],
+    ),
 ];
 
 #[test]

@@ -8,7 +8,14 @@ use values::{Row, Table, Value, ValueRef, Values};
 
 // Columns of each width, signed and then not.
 const COLUMNS: &[&str] = &[
-    "a:int8?", "a:int16?", "a:int32?", "a:int64?", "a:uint8?", "a:uint16?", "a:uint32?", "a:uint64?",
+    "a:int8?",
+    "a:int16?",
+    "a:int32?",
+    "a:int64?",
+    "a:uint8?",
+    "a:uint16?",
+    "a:uint32?",
+    "a:uint64?",
 ];
 
 // Four numbers of each width: the upper half's first, the lower half's last, all bits set, and one of different bytes.
@@ -27,16 +34,44 @@ const BYTES: [&[u8]; 4] = [
 // The same numbers, row by row.
 const NUMBERS: [[i128; 8]; 4] = [
     [
-        -128, -32_768, -2_147_483_648, -9_223_372_036_854_775_808, 128, 32_768, 2_147_483_648, 9_223_372_036_854_775_808,
+        -128,
+        -32_768,
+        -2_147_483_648,
+        -9_223_372_036_854_775_808,
+        128,
+        32_768,
+        2_147_483_648,
+        9_223_372_036_854_775_808,
     ],
     [
-        127, 32_767, 2_147_483_647, 9_223_372_036_854_775_807, 127, 32_767, 2_147_483_647, 9_223_372_036_854_775_807,
+        127,
+        32_767,
+        2_147_483_647,
+        9_223_372_036_854_775_807,
+        127,
+        32_767,
+        2_147_483_647,
+        9_223_372_036_854_775_807,
     ],
     [
-        -1, -1, -1, -1, 255, 65_535, 4_294_967_295, 18_446_744_073_709_551_615,
+        -1,
+        -1,
+        -1,
+        -1,
+        255,
+        65_535,
+        4_294_967_295,
+        18_446_744_073_709_551_615,
     ],
     [
-        2, 513, 67_305_985, 578_437_695_752_307_201, 2, 513, 67_305_985, 578_437_695_752_307_201,
+        2,
+        513,
+        67_305_985,
+        578_437_695_752_307_201,
+        2,
+        513,
+        67_305_985,
+        578_437_695_752_307_201,
     ],
 ];
 
@@ -177,7 +212,9 @@ fn only_integers_without_a_null_are_told(rt: HostRuntime) -> Result<(), Fail> {
 fn pairs_are_no_integers(rt: HostRuntime) -> Result<(), Fail> {
     let alloc = rt.alloc();
     let mut schema = schema_of(alloc, &["a:int32?"])?;
-    schema.pairs.push((String::from_str(alloc, "k")?, String::new(alloc)))?;
+    schema
+        .pairs
+        .push((String::from_str(alloc, "k")?, String::new(alloc)))?;
     let checked = schema.check().is_ok();
     assert!(rt; checked);
     let mut rows = Vec::new(alloc);

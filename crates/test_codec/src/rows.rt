@@ -2,6 +2,8 @@
 use super::made::{nested, row_of, schema_of, value_of};
 use arrow_schema::{BitWidth, IntegerType, parse_fields};
 use indexmap::IndexSet;
+use std::alloc::Global;
+use std::process::Abort;
 use std::test::Fail;
 use values::{Entry, TOO_HEAVY, entry_limit, entry_of, fits, note, row_weight, weight};
 
@@ -52,14 +54,26 @@ const FITS: [(&str, &str, bool); 41] = [
 
 #[test]
 fn values_fit_their_fields(rt: HostRuntime) -> Result<(), Fail> {
-    let alloc = rt.alloc();
     for (column, text, want) in FITS {
-        let fields = parse_fields(alloc, &[column])?;
-        let value = value_of(alloc, text)?;
-        let found = fields.first().map(|field| fits(field, &value));
-        let well = found == Some(want) && value.is_null() == (text == "null");
-        assert!(rt; well, "{column} {text}");
+        assert_fits(&rt, rt.alloc(), column, text, want)?;
     }
+    Ok(())
+}
+
+fn assert_fits(
+    rt: &impl Abort,
+    alloc: Global,
+    column: &str,
+    text: &str,
+    want: bool,
+) -> Result<(), Fail> {
+    let fields = parse_fields(alloc, &[column])?;
+    let value = value_of(alloc, text)?;
+    let found = fields.first().map(|field| fits(field, &value));
+    assert!(rt;
+        found == Some(want) && value.is_null() == (text == "null"),
+        "{column} {text}"
+    );
     Ok(())
 }
 

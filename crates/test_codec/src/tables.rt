@@ -1,7 +1,7 @@
 // Tables: what they take, and what they give back (values).
 use super::made::{
-    NotMade,
-    joined_texts, nested, reported, row_of, rows_of, schema_of, table_of, text_of, texts_of, value_of,
+    NotMade, joined_texts, nested, reported, row_of, rows_of, schema_of, table_of, text_of,
+    texts_of, value_of,
 };
 use std::alloc::Global;
 use std::process::Abort;
@@ -17,8 +17,18 @@ const ENTRIES: &[&str] = &["a:list<dict<int8,utf8>?>?"];
 const TABLES: [(&[&str], &[&[&str]]); 4] = [
     (TWO, &[&["7", "'x"], &["null", "'"], &["-1", "'é"]]),
     (TWO, &[]),
-    (&["a:list<binary?>?"], &[&["[#10 255,null,#]"], &["[]"], &["null"]]),
-    (&["a:struct<x:bool,y:uint64?>?"], &[&["(true,null)"], &["null"], &["(false,18446744073709551615)"]]),
+    (
+        &["a:list<binary?>?"],
+        &[&["[#10 255,null,#]"], &["[]"], &["null"]],
+    ),
+    (
+        &["a:struct<x:bool,y:uint64?>?"],
+        &[
+            &["(true,null)"],
+            &["null"],
+            &["(false,18446744073709551615)"],
+        ],
+    ),
 ];
 
 // The rows, in order, by each way to a row.
@@ -64,7 +74,11 @@ fn rows_are_given_back_in_order(rt: HostRuntime) -> Result<(), Fail> {
 
 // Columns, rows, and the first that does not fit.
 const UNFIT: [(&[&str], &[&[&str]], usize); 3] = [
-    (TWO, &[&["7", "'x"], &["2147483648", "'x"], &["7", "null"]], 1),
+    (
+        TWO,
+        &[&["7", "'x"], &["2147483648", "'x"], &["7", "null"]],
+        1,
+    ),
     (TWO, &[&["7", "'x"], &["8", "'x"], &["7"]], 2),
     (&[], &[&[], &["7"]], 1),
 ];

@@ -69,10 +69,13 @@ pub all_rows : (s : PlainSchema) (rows : List (List Cell)) → first_unfit s row
 unfolding first_unfit
 all_rows s rows h = all_from_none s 0 rows (sym (position_from-zero (λ row. not (is_row s row)) rows) ∙ h)
 
+pub none_unfit : (s : PlainSchema) (rows : List (List Cell)) → list_all (is_row s) rows ≡ true → first_unfit s rows ≡ None
+unfolding first_unfit
+none_unfit s rows all = position_from-zero (λ row. not (is_row s row)) rows ∙ none_found s 0 rows all
+
 -- the answer of a loop over all rows
 pub no_unfit : (s : PlainSchema) (w : ℕ) (rows : List (List Cell)) → reported_from s 0 0 rows ≡ Ok w → first_unfit s rows ≡ None
-unfolding first_unfit
-no_unfit s w rows h = position_from-zero (λ row. not (is_row s row)) rows ∙ none_found s 0 rows (all_taken s 0 0 w rows h)
+no_unfit s w rows h = none_unfit s rows (all_taken s 0 0 w rows h)
 
 pub reported_all : (s : PlainSchema) (w : ℕ) (rows : List (List Cell)) → reported_from s 0 0 rows ≡ Ok w → w ≡ capped_weight (table_weight s rows)
 reported_all s w rows h = omega (arith, capped_sum s 0 0 w rows (omega arith) h)

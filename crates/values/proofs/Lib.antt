@@ -1,6 +1,7 @@
 mod RowLemmas
 mod AcceptLemmas
 mod TableLemmas
+mod TableLaws
 mod RangeLemmas
 mod IntegerRows
 mod IntegerTables

@@ -40,7 +40,8 @@ pub(crate) fn weigh_cells(
 ) -> Result<u64, TableError>
     requires { length cells.now ≡ length schema.now.fields.items * rows }
     ensures taken { IfOk result (λ _. first_unfit (schema_of schema.now) (rows_in (length schema.now.fields.items) rows (map cell cells.now)) ≡ None) }
-    ensures weight { IfOk result (λ w. w ≡ capped_weight (table_weight (schema_of schema.now) (rows_in (length schema.now.fields.items) rows (map cell cells.now)))) }
+    ensures weight { IfOk result (λ w.
+        w ≡ capped_weight (table_weight (schema_of schema.now) (rows_in (length schema.now.fields.items) rows (map cell cells.now)))) }
     ensures refused { IfErr result (λ e. Reports e (table_from (schema_of schema.now) (rows_in (length schema.now.fields.items) rows (map cell cells.now)))) }
 {
     let limited = has_limits(schema);

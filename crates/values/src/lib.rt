@@ -1,8 +1,16 @@
-//! Values, rows and tables.
+//! Tables in memory.
 //!
-//! A [`Value`] is one cell of a table. Contracts see values as the plain trees of `specs/Cell.antt`, and of a [`Table`]
-//! its schema and its rows alone, however it keeps them. A table's rows fit its schema, and they and the whole are within
-//! the limits of weight and of dictionaries; whoever makes one is reported the first row that is not.
+//! Contracts see of a [`Table`] its schema and its rows alone, however it keeps them. A table's rows fit its schema, and
+//! they and the whole are within the limits of weight and of dictionaries; whoever makes one is told the first row that
+//! is not. Values and rows are those of `cells`.
+//!
+//! ```
+//! let row = Row { cells: vec![in alloc; Value::Int(7)]? };
+//! let table = Table::new(alloc, schema, vec![in alloc; row]?)?;
+//! ```
+//!
+//! gives a table of one row, where `schema`, which is within the limits, has one column and 7 is one of its values; else
+//! `Unfit(0)`.
 #![tactic(auto)]
 
 mod accept;
@@ -21,6 +29,9 @@ pub use cells::{
     note, row_weight, weight,
 };
 pub use errors::TableError;
-pub use laws::{integer_columns_are_integer_tables, integer_rows_weigh_alike};
+pub use laws::{
+    accepted_rows_are_a_table, integer_columns_are_integer_tables, integer_rows_weigh_alike,
+    tables_are_joined_and_cut,
+};
 pub use rows::Rows;
 pub use table::Table;
