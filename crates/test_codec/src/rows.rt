@@ -2,10 +2,8 @@
 use super::made::{nested, row_of, schema_of, value_of};
 use arrow_schema::{BitWidth, IntegerType, parse_fields};
 use indexmap::IndexSet;
-use std::alloc::Global;
-use std::process::Abort;
 use std::test::Fail;
-use values::{Entry, TOO_HEAVY, entry_limit, entry_of, fits, note, row_weight, weight};
+use values::{Entry, TOO_HEAVY, Value, entry_limit, entry_of, fits, note, row_weight, weight};
 
 // A field, a value, and whether it fits.
 const FITS: [(&str, &str, bool); 41] = [
@@ -54,27 +52,19 @@ const FITS: [(&str, &str, bool); 41] = [
 
 #[test]
 fn values_fit_their_fields(rt: HostRuntime) -> Result<(), Fail> {
+    let alloc = rt.alloc();
     for (column, text, want) in FITS {
-        assert_fits(&rt, rt.alloc(), column, text, want)?;
+        let fields = parse_fields(alloc, &[column])?;
+        let value = value_of(alloc, text)?;
+        let found = fields.first().map(|field| fits(field, &value));
+        assert!(rt; found == Some(want), "{column} {text}");
     }
     Ok(())
 }
 
-fn assert_fits(
-    rt: &impl Abort,
-    alloc: Global,
-    column: &str,
-    text: &str,
-    want: bool,
-) -> Result<(), Fail> {
-    let fields = parse_fields(alloc, &[column])?;
-    let value = value_of(alloc, text)?;
-    let found = fields.first().map(|field| fits(field, &value));
-    assert!(rt;
-        found == Some(want) && value.is_null() == (text == "null"),
-        "{column} {text}"
-    );
-    Ok(())
+#[test]
+fn a_null_alone_is_null(rt: HostRuntime) {
+    assert!(rt; Value::Null.is_null() && !Value::Bool(false).is_null());
 }
 
 // A field, a value, and its weight.
@@ -130,7 +120,7 @@ fn a_null_of_31_levels_is_weighed_at_once(rt: HostRuntime) -> Result<(), Fail> {
     for (outermost, size, levels, want) in NULLS_BELOW_LISTS {
         let column = nested(alloc, outermost, size, levels)?;
         let schema = schema_of(alloc, &[&column])?;
-        let found = row_weight(&schema, &[values::Value::Null]);
+        let found = row_weight(&schema, &[Value::Null]);
         assert_eq!(rt; found, want, "{levels} levels");
     }
     Ok(())
