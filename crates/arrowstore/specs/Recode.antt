@@ -1,7 +1,7 @@
 -- What recoding answers and writes.
 use Rattle.std.specs.Prelude.{◌≡◌, ℕ, List, Option, Result, Ok, Err}
 use Rattle.std.specs.Io.KnownBytes.{Appends}
-use Rattle.values.specs.Cell.{PlainTable}
+use Rattle.cells.specs.Cell.{PlainTable}
 use Rattle.ipc_message.specs.Header.{supported_codes}
 use Rattle.ipc_stream.specs.Meaning.{meaning}
 use Rattle.ipc_stream.specs.Canonical.{canonical}

@@ -5,7 +5,7 @@ use Rattle.std.proofs.Common.{◌≡◌, ℕ, zero, suc, ◌+◌, ◌*◌, ◌�
 use Rattle.std.proofs.lemmas.Bool.{and_parts, eqb-true, ltb-false, not-false, or_parts}
 use Rattle.flatbuf.specs.Lookup.{number}
 use Rattle.arrow_schema.specs.Column.{PlainSchema}
-use Rattle.values.specs.Cell.{Cell}
+use Rattle.cells.specs.Cell.{Cell}
 use Rattle.arrow_schema.specs.View.{schema_of}
 use Rattle.arrow_schema.specs.declared.types.Schema.{Schema}
 use Rattle.ipc_message.specs.declared.fault.Fault.{Fault}

@@ -9,7 +9,7 @@ use Rattle.std.proofs.Math.Bool.{or-true}
 use Rattle.std.proofs.Math.Nat.{mul-le-mul}
 use Rattle.std.proofs.lemmas.Bool.{and_parts, eq-eqb, eqb-true, ltb-false, ne_eqb, not-false, or_parts}
 use Rattle.arrow_schema.specs.Column.{Column, PlainSchema}
-use Rattle.values.specs.Cell.{Cell}
+use Rattle.cells.specs.Cell.{Cell}
 use Rattle.arrow_schema.specs.declared.types.Schema.{Schema}
 use Rattle.arrow_schema.specs.declared.types.Field.{Field}
 use Rattle.ipc_message.specs.Raw.{RawNode, nodes_in, buffers_in}

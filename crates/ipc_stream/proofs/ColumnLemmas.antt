@@ -8,8 +8,8 @@ use Rattle.std.proofs.lemmas.List.{map-append, length-map}
 use Rattle.std.proofs.lemmas.List.{length-replicate}
 use Rattle.byteorder.specs.Endian.{little_number, little_bytes}
 use Rattle.byteorder.specs.Numbers.{little_number-reads_back, length-bytes_low_first}
-use Rattle.values.specs.Cell.{Cell, null, boolean, number, text, bytes, items, parts}
-use Rattle.values.specs.Integers.{integer_of, number_of}
+use Rattle.cells.specs.Cell.{Cell, null, boolean, number, text, bytes, items, parts}
+use Rattle.cells.specs.Integers.{integer_of, number_of}
 use Rattle.values.specs.Columns.{IntegerColumn, integer_bytes, values_of, first_cell, other_cells, values_of_all, cell_at, row_at, rows_from}
 
 -- an integer of the column

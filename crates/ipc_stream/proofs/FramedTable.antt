@@ -12,7 +12,7 @@ use Rattle.arrow_schema.specs.Column.{PlainSchema}
 use Rattle.flatbuf.specs.declared.FlatError.{FlatError}
 use Rattle.flatbuf.specs.Lookup.{Place, table_behind}
 use Rattle.flatbuf.specs.Walk.{run}
-use Rattle.values.specs.Cell.{Cell, number, PlainTable}
+use Rattle.cells.specs.Cell.{Cell, number, PlainTable}
 use Rattle.ipc_message.specs.declared.header_type.HeaderType.{HeaderType}
 use Rattle.ipc_message.specs.declared.header_type.HeaderType.TheVariants.{Schema, DictionaryBatch, RecordBatch}
 use Rattle.ipc_message.specs.declared.fault.Fault.TheVariants.{NoSchema, SecondSchema, DictionaryId}
@@ -28,7 +28,7 @@ use Rattle.ipc_stream.specs.Batch.{Array, arrays_of, bytes_of, batch_rows, batch
 use Rattle.values.specs.Columns.{IntegerColumn, cell_at, row_at, rows_from}
 use Rattle.ipc_stream.specs.FramedFault.{AreAccepted}
 use Rattle.ipc_stream.specs.FramedTable.{IsEnd, row_in, HaveValues, IsBatchOf, AreBatchesOf, StreamEncodes}
-use Rattle.values.specs.Integers.{integer_of}
+use Rattle.cells.specs.Integers.{integer_of}
 use Rattle.ipc_stream.specs.Meaning.{Message, dictionary_checks, header_checks, schema_in, rows_in, rows_of_header, table_in, messages, meaning}
 use Rattle.arrow_schema.specs.Integers.{is_empty}
 use Rattle.values.specs.IntegerTable.{integer_columns}

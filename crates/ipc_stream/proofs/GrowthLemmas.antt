@@ -7,8 +7,8 @@ use Rattle.std.proofs.Math.Nat.{mul-le-mul_left}
 use Rattle.std.proofs.lemmas.Bool.{eq-eqb}
 use Rattle.byteorder.specs.Endian.{little_number}
 use Rattle.byteorder.specs.Numbers.{little_from-take}
-use Rattle.values.specs.Cell.{Cell, number}
-use Rattle.values.specs.Integers.{integer_of}
+use Rattle.cells.specs.Cell.{Cell, number}
+use Rattle.cells.specs.Integers.{integer_of}
 use Rattle.values.specs.Columns.{IntegerColumn, cell_at, row_at, rows_from}
 use Rattle.ipc_stream.specs.Batch.{Array, bytes_of}
 use Rattle.values.specs.IntegerTable.{have_rows}

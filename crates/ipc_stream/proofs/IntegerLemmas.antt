@@ -5,7 +5,7 @@ use Rattle.std.proofs.lemmas.Bool.{cases_lt, le-ltb, lt-ltb}
 use Rattle.std.proofs.lemmas.Int.{ints}
 use Rattle.std.proofs.lemmas.Nat.{pow-add}
 use Rattle.std.proofs.Math.Nat.{pow-suc}
-use Rattle.values.specs.Integers.{integer_of, number_of}
+use Rattle.cells.specs.Integers.{integer_of, number_of}
 
 -- bits and bytes
 pub powers : (w : ℕ) → 2 ^ (8 * w) ≡ 256 ^ w

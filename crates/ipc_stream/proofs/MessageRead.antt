@@ -4,7 +4,7 @@ use Rattle.std.specs.Prelude.{Option, Some, None, if◌then◌else◌, ◌==◌,
 use Rattle.std.proofs.lemmas.Grind.{flat_map-append}
 use Rattle.std.proofs.lemmas.List.{append-nil}
 use Rattle.flatbuf.specs.declared.FlatError.{FlatError}
-use Rattle.values.specs.Cell.{Cell, PlainTable}
+use Rattle.cells.specs.Cell.{Cell, PlainTable}
 use Rattle.ipc_message.specs.declared.header_type.HeaderType.{HeaderType}
 use Rattle.ipc_message.specs.declared.header_type.HeaderType.TheVariants.{Schema, DictionaryBatch, RecordBatch}
 use Rattle.ipc_message.specs.declared.error.ImportError.{ImportError}

@@ -11,10 +11,10 @@ use Rattle.arrow_schema.specs.Column.{Column, column, integers, columns_of}
 use Rattle.arrow_schema.specs.Integers.{is_bit_width, is_integer_column}
 use Rattle.arrow_schema.specs.laws.IntegerCases.{integer_case}
 use Rattle.ipc_stream.specs.Packed.{IsLow, HasIntegerAt}
-use Rattle.values.specs.Cell.{Cell, null, boolean, number, text, bytes, items, parts, cells_of}
+use Rattle.cells.specs.Cell.{Cell, null, boolean, number, text, bytes, items, parts, cells_of}
 use Rattle.values.specs.Columns.{IntegerColumn, first_cell, other_cells, integer_bytes, values_of, values_of_all}
-use Rattle.values.specs.Dictionary.{cells_at}
-use Rattle.values.specs.Fit.{fits, fits_kind, each_fits}
+use Rattle.cells.specs.Dictionary.{cells_at}
+use Rattle.cells.specs.Fit.{fits, fits_kind, each_fits}
 use Rattle.values.specs.IntegerTable.{integer_column, is_number}
 use Rattle.ipc_stream.proofs.PackLemmas.{AllFit, low_is, width_cases}
 

@@ -14,12 +14,13 @@ use Rattle.byteorder.specs.Endian.{low_bytes}
 use Rattle.arrow_schema.specs.Column.{Column, column, integers, columns_of, PlainSchema}
 use Rattle.arrow_schema.specs.Integers.{is_bit_width, is_integer_column, is_empty}
 use Rattle.arrow_schema.specs.laws.IntegerCases.{integer_case}
-use Rattle.values.specs.Cell.{Cell, null, boolean, number, text, bytes, items, parts, cells_of, PlainTable}
+use Rattle.cells.specs.Cell.{Cell, null, boolean, number, text, bytes, items, parts, cells_of, PlainTable}
 use Rattle.values.specs.Columns.{IntegerColumn, first_cell, other_cells, values_of, values_of_all}
-use Rattle.values.specs.Fit.{in_range, fits, fits_kind, each_fits}
+use Rattle.cells.specs.Fit.{in_range, fits, fits_kind, each_fits}
 use Rattle.values.specs.IntegerTable.{integer_column, integer_columns, have_rows, is_number, plain_table, IsIntegerTable}
-use Rattle.values.specs.Integers.{integer_of, number_of}
-use Rattle.values.specs.Table.{is_row, row_fits, IsTable}
+use Rattle.cells.specs.Integers.{integer_of, number_of}
+use Rattle.cells.specs.Row.{is_row, row_fits}
+use Rattle.values.specs.Table.{IsTable}
 use Rattle.ipc_stream.proofs.ColumnLemmas.{IsIntegerOf, IsRowOf, AreRowsOf, length-values, rows_again}
 use Rattle.ipc_stream.proofs.IntegerLemmas.{powers, double, signed_again}
 

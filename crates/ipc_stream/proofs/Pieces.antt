@@ -6,8 +6,8 @@ use Rattle.std.proofs.lemmas.List.Concat.{flat_map-cons}
 use Rattle.std.proofs.lemmas.List.{take_min, drop_min}
 use Rattle.std.proofs.lemmas.Bool.{and_parts}
 use Rattle.arrow_schema.specs.Column.{Column, PlainSchema}
-use Rattle.values.specs.Cell.{Cell}
-use Rattle.values.specs.Weight.{row_weight}
+use Rattle.cells.specs.Cell.{Cell}
+use Rattle.cells.specs.Weight.{row_weight}
 use Rattle.ipc_write.specs.Written.{schema_message, end_of_stream}
 use Rattle.ipc_stream.specs.Canonical.{canonical, piece_message}
 use Rattle.values.specs.Columns.{IntegerColumn, row_at, rows_from}

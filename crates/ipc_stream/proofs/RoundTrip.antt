@@ -7,7 +7,7 @@ use Rattle.std.proofs.Math.Nat.{mul-le-mul_right}
 use Rattle.flatbuf.specs.Lookup.{number}
 use Rattle.arrow_schema.specs.Column.{PlainSchema}
 use Rattle.arrow_schema.specs.Limits.{name_len}
-use Rattle.values.specs.Cell.{Cell, PlainTable}
+use Rattle.cells.specs.Cell.{Cell, PlainTable}
 use Rattle.ipc_message.specs.declared.fault.Fault.{Fault}
 use Rattle.ipc_message.specs.Framing.{Envelope, message, next_message, marker_faults, metadata_size, taken, first_some, type_of}
 use Rattle.ipc_message.specs.Framing as framing

@@ -7,7 +7,7 @@ use Rattle.std.proofs.Math.Nat.{mul-le-mul, le_refl}
 use Rattle.std.proofs.Math.Seq.{drop-append_seam, take-append_seam}
 use Rattle.std.proofs.lemmas.Bool.{eq-eqb, le-ltb, lt-ltb, or_from}
 use Rattle.arrow_schema.specs.Column.{Column, PlainSchema}
-use Rattle.values.specs.Cell.{Cell}
+use Rattle.cells.specs.Cell.{Cell}
 use Rattle.ipc_message.specs.Framing.{first_some}
 use Rattle.ipc_message.specs.Raw.{RawNode, RawBatch}
 use Rattle.flatbuf.specs.Held.{FitsStructs}

@@ -6,13 +6,13 @@ use Rattle.std.proofs.lemmas.Bool.{and_parts}
 use Rattle.byteorder.specs.Endian.{little_number}
 use Rattle.byteorder.specs.Numbers.{little_from-lt}
 use Rattle.arrow_schema.specs.Column.{Column, column, integers}
-use Rattle.values.specs.Cell.{Cell}
+use Rattle.cells.specs.Cell.{Cell}
 use Rattle.arrow_schema.specs.Integers.{is_integer_column, is_bit_width}
 use Rattle.arrow_schema.specs.laws.IntegerCases.{integer_case}
 use Rattle.ipc_stream.proofs.Pieces.{AreIntegers}
 use Rattle.values.specs.IntegerRows.{AllBytes}
 use Rattle.values.specs.Columns.{IntegerColumn, cell_at, row_at, rows_from}
-use Rattle.values.specs.Integers.{integer_of, number_of}
+use Rattle.cells.specs.Integers.{integer_of, number_of}
 use Rattle.values.specs.IntegerTable.{integer_column, have_rows}
 use Rattle.ipc_stream.proofs.ByteLemmas.{AreBytes, drop-bytes}
 use Rattle.ipc_stream.proofs.ColumnLemmas.{IsIntegerOf, IsRowOf, AreRowsOf}

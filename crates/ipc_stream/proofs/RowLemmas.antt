@@ -1,6 +1,6 @@
 -- Rows read from columns.
 use Rattle.std.proofs.Common.{◌≡◌, ℕ, zero, suc, ◌+◌, ◌-◌, ◌≤◌, List, ◌∷◌, take, drop, length, refl, arith, ap}
-use Rattle.values.specs.Cell.{Cell}
+use Rattle.cells.specs.Cell.{Cell}
 use Rattle.values.specs.Columns.{IntegerColumn, row_at, rows_from}
 
 pub length_rows : (cs : List IntegerColumn) (vs : List (List ℕ)) (i n : ℕ) → length (rows_from cs vs i n) ≡ n

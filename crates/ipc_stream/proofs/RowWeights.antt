@@ -4,8 +4,8 @@ use Rattle.std.specs.List.{list_any}
 use Rattle.std.proofs.Common.{◌≡◌, ℕ, ◌+◌, ◌*◌, ◌≤◌, false, List, [], ◌∷◌, ◌++◌, length, refl, arith, ap, ◌∙◌, length-append}
 use Rattle.std.proofs.lemmas.Bool.{le-ltb}
 use Rattle.arrow_schema.specs.Column.{PlainSchema}
-use Rattle.values.specs.Cell.{Cell}
-use Rattle.values.specs.Weight.{row_weight, table_weight}
+use Rattle.cells.specs.Cell.{Cell}
+use Rattle.cells.specs.Weight.{row_weight, table_weight}
 use Rattle.ipc_stream.specs.Batch.{are_too_heavy}
 
 -- what is known of it: the clauses of `values::integer_rows_weigh_alike`, of one schema

@@ -3,7 +3,7 @@ use Rattle.std.specs.Prelude.{Result, ◌==◌}
 use Rattle.std.proofs.Common.{◌≡◌, ℕ, zero, suc, ◌<◌, ◌≤◌, Bool, true, false, List, [], ◌∷◌, ◌++◌, length, drop, Ok, Err, refl, ap, sym, ◌∙◌, subst, arith}
 use Rattle.std.proofs.lemmas.Bool.{eqb-true}
 use Rattle.std.proofs.lemmas.List.{length-drop}
-use Rattle.values.specs.Cell.{PlainTable}
+use Rattle.cells.specs.Cell.{PlainTable}
 use Rattle.ipc_message.specs.declared.error.ImportError.{ImportError}
 use Rattle.ipc_message.specs.declared.error.ImportError.TheVariants as errors
 use Rattle.ipc_message.specs.declared.fault.Fault.{Fault}

@@ -1,6 +1,6 @@
 -- A table after a record batch: the rows of the batch follow its own, or the first fault of the batch is reported.
 use Rattle.std.specs.Prelude.{ℕ, List, ◌++◌, Result, Ok}
-use Rattle.values.specs.Cell.{PlainTable}
+use Rattle.cells.specs.Cell.{PlainTable}
 use Rattle.ipc_message.specs.declared.fault.Fault.{Fault}
 use Rattle.ipc_message.specs.Framing.{first_some}
 use Rattle.ipc_message.specs.Raw.{RawBatch}

@@ -3,8 +3,9 @@
 use Rattle.std.specs.Prelude.{ℕ, ◌+◌, ◌*◌, ◌/◌, ◌^◌, Bool, not, ◌&&◌, ◌||◌, ◌==◌, nat_lt, List, [], ◌∷◌, ◌++◌, map, length, take, drop, Option}
 use Rattle.std.specs.List.{list_any}
 use Rattle.arrow_schema.specs.Column.{PlainSchema}
-use Rattle.values.specs.Cell.{Cell}
-use Rattle.values.specs.Weight.{row_weight, table_weight}
+use Rattle.cells.specs.declared.limits.TheConstants.{MAX_ROW_WEIGHT, MAX_TABLE_WEIGHT}
+use Rattle.cells.specs.Cell.{Cell}
+use Rattle.cells.specs.Weight.{row_weight, table_weight}
 use Rattle.ipc_message.specs.declared.fault.Fault.{Fault}
 use Rattle.ipc_message.specs.declared.fault.Fault.TheVariants.{NotYet, Compressed, LayoutCount, BufferRange, BufferShort, RowCount, NullCount, TooHeavy}
 use Rattle.ipc_message.specs.Framing.{when}
@@ -77,7 +78,7 @@ batch_rows s b body = rows_from (integer_columns s) (map (λ a. bytes_of body a.
 
 -- F28: a row weighs over 16,777,216, or all rows so far over 268,435,456
 abbrev pub are_too_heavy : PlainSchema → List (List Cell) → List (List Cell) → Bool
-are_too_heavy s before rows = list_any (λ row. nat_lt 16777216 (row_weight s row)) rows || nat_lt 268435456 (table_weight s (before ++ rows))
+are_too_heavy s before rows = list_any (λ row. nat_lt MAX_ROW_WEIGHT (row_weight s row)) rows || nat_lt MAX_TABLE_WEIGHT (table_weight s (before ++ rows))
 
 -- the tests of a batch after these rows; offsets, indices, texts and nulls have no test where all columns are integers without nulls
 unfoldable pub batch_checks : PlainSchema → List (List Cell) → RawBatch → List ℕ → List (Option Fault)

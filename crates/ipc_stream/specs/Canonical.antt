@@ -2,8 +2,9 @@
 use Rattle.std.specs.Prelude.{ℕ, Bool, List, [], ◌∷◌, ◌++◌, map, length}
 use Rattle.std.specs.List.{flat_map}
 use Rattle.arrow_schema.specs.Column.{PlainSchema}
-use Rattle.values.specs.Cell.{Cell, PlainTable}
-use Rattle.values.specs.Weight.{row_weight}
+use Rattle.cells.specs.declared.limits.TheConstants.{MAX_PIECE_ROWS, MAX_PIECE_WEIGHT}
+use Rattle.cells.specs.Cell.{Cell, PlainTable}
+use Rattle.cells.specs.Weight.{row_weight}
 use Rattle.ipc_message.specs.Raw.{RawNode}
 use Rattle.ipc_write.specs.Written.{schema_message, batch_message, end_of_stream}
 use Rattle.values.specs.Columns.{IntegerColumn, values_of, first_cell, other_cells}
@@ -25,7 +26,7 @@ piece_message s rows = batch_message (length rows) (full_nodes s.columns (length
 
 -- a piece has at most 4,096 rows and a weight of 16,777,216
 abbrev pub within_piece : PlainSchema → List (List Cell) → Bool
-within_piece s rows = within_limits (row_weight s) 4096 16777216 rows
+within_piece s rows = within_limits (row_weight s) MAX_PIECE_ROWS MAX_PIECE_WEIGHT rows
 
 abbrev pub pieces_of : PlainTable → List (List (List Cell))
 pieces_of t = pieces (within_piece t.schema) t.rows

@@ -2,13 +2,13 @@
 -- record batches, and then nothing or the end of stream (Arrow columnar format, "IPC Streaming Format" and "Fixed-size Primitive Layout").
 use Rattle.std.specs.Prelude.{◌≡◌, ◌≤◌, ◌<◌, ◌⊎◌, ℕ, ◌+◌, ◌*◌, Bool, true, List, [], ◌∷◌, ◌++◌, length, drop, get_or, Ok}
 use Rattle.byteorder.specs.Endian.{little_number}
-use Rattle.values.specs.Cell.{Cell, number, PlainTable}
+use Rattle.cells.specs.Cell.{Cell, number, PlainTable}
 use Rattle.ipc_message.specs.Framing.{Envelope, Frames, continuation_marker}
 use Rattle.ipc_message.specs.Raw.{RawSchema, RawBuffer, RawBatch, schema_header, batch_header}
 use Rattle.ipc_message.specs.Header.{header}
 use Rattle.ipc_message.specs.Convert.{plain_schema_of}
 use Rattle.values.specs.Columns.{IntegerColumn}
-use Rattle.values.specs.Integers.{integer_of}
+use Rattle.cells.specs.Integers.{integer_of}
 use Rattle.arrow_schema.specs.Integers.{is_integer_schema}
 use Rattle.values.specs.IntegerTable.{integer_columns}
 

@@ -2,7 +2,7 @@
 -- type codes are supported.
 use Rattle.std.specs.Prelude.{ℕ, zero, suc, Bool, not, ◌==◌, List, [], ◌∷◌, ◌++◌, length, drop, flat_map, Option, Some, None, Result, Ok, Err, if◌then◌else◌}
 use Rattle.std.specs.List.{list_any}
-use Rattle.values.specs.Cell.{Cell, PlainTable}
+use Rattle.cells.specs.Cell.{Cell, PlainTable}
 use Rattle.arrow_schema.specs.Column.{PlainSchema}
 use Rattle.ipc_message.specs.declared.fault.Fault.{Fault}
 use Rattle.ipc_message.specs.declared.fault.Fault.TheVariants.{Truncated, NoSchema, SecondSchema, DictionaryId, AfterEnd}

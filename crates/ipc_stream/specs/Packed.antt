@@ -2,8 +2,8 @@
 use Rattle.std.specs.Prelude.{◌≡◌, ℕ, ℤ, List, Some, slice_get}
 use Rattle.std.specs.Int.{w128}
 use Rattle.byteorder.specs.Endian.{low_bytes}
-use Rattle.values.specs.Cell.{Cell, number}
-use Rattle.values.specs.Integers.{number_of}
+use Rattle.cells.specs.Cell.{Cell, number}
+use Rattle.cells.specs.Integers.{number_of}
 
 -- the number that stands for an integer in so many bytes is in as many low bytes of its 128 bits
 abbrev pub IsLow : ℕ → ℤ → Type 0

@@ -1,7 +1,7 @@
 -- In the middle of a stream: what was read of it so far, and what the rest adds.
 use Rattle.std.specs.Prelude.{◌≡◌, ◌<◌, ℕ, false, List, [], ◌∷◌, ◌++◌, length, Result, Ok}
 use Rattle.arrow_schema.specs.Column.{PlainSchema}
-use Rattle.values.specs.Cell.{PlainTable}
+use Rattle.cells.specs.Cell.{PlainTable}
 use Rattle.ipc_message.specs.declared.error.ImportError.{ImportError}
 use Rattle.ipc_message.specs.Framing.{Envelope}
 use Rattle.ipc_message.specs.Header.{supported_codes}

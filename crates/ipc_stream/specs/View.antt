@@ -1,7 +1,7 @@
 -- The table that gathered columns are.
 use Rattle.std.specs.Prelude.{map}
 use Rattle.arrow_schema.specs.View.{schema_of}
-use Rattle.values.specs.Cell.{PlainTable}
+use Rattle.cells.specs.Cell.{PlainTable}
 use Rattle.ipc_stream.specs.declared.gathered.Gathered.{Gathered}
 use Rattle.values.specs.IntegerTable.{plain_table}
 

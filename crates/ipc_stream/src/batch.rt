@@ -4,7 +4,7 @@ ghost use Rattle.std.specs.List.{list_any};
 ghost use Rattle.flatbuf.specs.Lookup.{number};
 ghost use Rattle.arrow_schema.specs.View.{schema_of};
 ghost use Rattle.arrow_schema.specs.Limits.{IsWithinLimits};
-ghost use Rattle.values.specs.Cell.{Cell};
+ghost use Rattle.cells.specs.Cell.{Cell};
 ghost use Rattle.ipc_message.specs.Framing.{first_some};
 ghost use Rattle.ipc_message.specs.Outcome.{Gives};
 ghost use Rattle.ipc_message.specs.Raw.{nodes_in, buffers_in};
@@ -20,6 +20,7 @@ use crate::decoder::width_of;
 use crate::gathered::Gathered;
 use arrow_schema::{Schema, limits_bound_columns};
 use byteorder::{ByteOrder, LittleEndian};
+use cells::MAX_TABLE_WEIGHT;
 use ipc_message::{Fault, ImportError, RawBatch};
 use std::alloc::AllocError;
 use values::integer_rows_weigh_alike;
@@ -27,7 +28,7 @@ use values::integer_rows_weigh_alike;
 /// The most rows of a batch.
 const MAX_LENGTH: u64 = 16_777_216;
 /// The most that all rows of a table may weigh.
-const MAX_WEIGHT: usize = 268_435_456;
+const MAX_WEIGHT: usize = MAX_TABLE_WEIGHT as usize;
 
 /// The number in the eight bytes at a position.
 #[tactic(auto, unfolding(flatbuf::specs::Lookup::number))]
@@ -160,7 +161,7 @@ fn counts_nulls(schema: &Schema, batch: &RawBatch) -> bool
 fn batch_fault(schema: &Schema, before: usize, batch: &RawBatch, body: &[u8]) -> Option<Fault>
     requires integers { IsTrue (is_integer_schema (schema_of schema.now)) }
     requires limits { IsWithinLimits (schema_of schema.now) }
-    requires light { before ≤ 268435456 }
+    requires light { before ≤ MAX_TABLE_WEIGHT }
     ensures { (rows : List (List Cell)) → length rows ≡ before → result ≡ first_some (batch_checks (schema_of schema.now) rows (raw_batch_of batch.now) body.now) }
 {
     limits_bound_columns();

@@ -11,16 +11,14 @@ ghost use Rattle.values.specs.TableView.{table_of};
 use crate::decoder::width_of;
 use crate::pack::pack;
 use arrow_schema::{Schema, limits_bound_columns};
+use cells::MAX_PIECE_ROWS;
 use ipc_write::{write_batch, write_end, write_schema};
 use std::alloc::{AllocError, Global};
 use values::{Table, integer_rows_weigh_alike};
 
-/// The most rows of a piece. Rows of integers are too light for the limit of weight to count.
-const PIECE_ROWS: usize = 4096;
-
 /// The values of some rows of a column: they are the same whatever other columns there are.
 fn values_in(column: &[u8], width: usize, from: usize, count: usize) -> &[u8]
-    requires few { count ≤ 4096 }
+    requires few { count ≤ MAX_PIECE_ROWS }
     requires narrow { width ≤ 8 }
     requires within { (from + count) * width ≤ length column.now }
     ensures values { (c : IntegerColumn) (cs : List IntegerColumn) (vs : List (List ℕ)) → c.width ≡ width
@@ -42,7 +40,7 @@ fn write_piece(
     count: usize,
 ) -> Result<(), AllocError>
     requires within { from + count ≤ rows }
-    requires few { count ≤ 4096 }
+    requires few { count ≤ MAX_PIECE_ROWS }
     requires columns { length schema.now.fields.items ≤ 2048 }
     requires filled { IsTrue (have_rows (integer_columns (schema_of schema.now)) (map (λ v. v.items) columns.now) rows) }
     ensures { OnOk result (out.new.items ≡ out.old.items ++ piece_message (schema_of schema.now)
@@ -77,7 +75,8 @@ fn encode_columns(
     write_schema(alloc, &mut out, schema)?;
     let mut from = 0;
     while from < rows {
-        let count = PIECE_ROWS.min(rows - from);
+        // rows of integers are too light for the limit of weight to count
+        let count = MAX_PIECE_ROWS.min(rows - from);
         write_piece(alloc, &mut out, schema, columns, rows, from, count)?;
         from += count;
     }

@@ -1,7 +1,7 @@
 // Laws of streams: what `meaning` is in the words of the format, the round trip, and what the cut is. The functions are
 // there for their contracts; they call the laws of lower crates that their proofs use.
 ghost use Rattle.std.specs.Prelude.{◌≡◌, ◌≢◌, ℕ, Bool, List, [], Ok, Err};
-ghost use Rattle.values.specs.Cell.{Cell, PlainTable};
+ghost use Rattle.cells.specs.Cell.{Cell, PlainTable};
 ghost use Rattle.ipc_message.specs.declared.fault.Fault.{Fault};
 ghost use Rattle.ipc_message.specs.Framing.{Envelope, Frames};
 ghost use Rattle.ipc_message.specs.Header.{supported_codes};

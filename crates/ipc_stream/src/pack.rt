@@ -2,9 +2,9 @@
 ghost use Rattle.std.specs.Prelude.{◌≡◌, ◌≤◌, ◌++◌, ℕ, ℤ, List, Some, slice_get, IfOk, OnOk, IsTrue, length, map};
 ghost use Rattle.std.specs.Int.{w128};
 ghost use Rattle.byteorder.specs.Endian.{low_bytes, little_bytes};
-ghost use Rattle.values.specs.Cell.{Cell, number};
+ghost use Rattle.cells.specs.Cell.{Cell, number};
 ghost use Rattle.values.specs.Columns.{values_of};
-ghost use Rattle.values.specs.Dictionary.{cells_at};
+ghost use Rattle.cells.specs.Dictionary.{cells_at};
 ghost use Rattle.values.specs.IntegerTable.{integer_columns, have_rows, plain_table, IsIntegerTable};
 ghost use Rattle.values.specs.TableView.{table_of};
 ghost use Rattle.ipc_stream.specs.Packed.{HasIntegerAt};

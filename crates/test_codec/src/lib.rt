@@ -9,9 +9,15 @@ mod bitmaps;
 #[cfg(test)]
 mod buffers;
 #[cfg(test)]
+mod integer_tables;
+#[cfg(test)]
+mod made;
+#[cfg(test)]
 mod messages;
 #[cfg(test)]
 mod program;
+#[cfg(test)]
+mod rows;
 #[cfg(test)]
 mod schemas;
 #[cfg(test)]

@@ -8,9 +8,10 @@ use Rattle.std.proofs.lemmas.List.Sums.{sum_by-cons, AllPass-from_list_all}
 use Rattle.std.proofs.lemmas.Iterator.Adapters.{position_from-zero}
 use Rattle.arrow_schema.specs.Column.{PlainSchema}
 use Rattle.arrow_schema.specs.Limits.{IsWithinLimits}
-use Rattle.values.specs.Cell.{Cell}
-use Rattle.values.specs.Weight.{row_weight, table_weight, capped_weight}
-use Rattle.values.specs.Table.{is_row, taken_weight, first_unfit, weighed, table_from, IsTable, too_heavy, unfit}
+use Rattle.cells.specs.Cell.{Cell}
+use Rattle.cells.specs.Weight.{row_weight, table_weight, capped_weight}
+use Rattle.cells.specs.Row.{is_row, accepted_weight}
+use Rattle.values.specs.Table.{first_unfit, weighed, table_from, IsTable, too_heavy, unfit}
 
 -- what a loop answers from here: the weight of all rows as it is reported, or the first that is not taken
 abbrev pub reported_from : PlainSchema → ℕ → ℕ → List (List Cell) → Result ℕ ℕ
@@ -68,10 +69,13 @@ pub all_rows : (s : PlainSchema) (rows : List (List Cell)) → first_unfit s row
 unfolding first_unfit
 all_rows s rows h = all_from_none s 0 rows (sym (position_from-zero (λ row. not (is_row s row)) rows) ∙ h)
 
+pub none_unfit : (s : PlainSchema) (rows : List (List Cell)) → list_all (is_row s) rows ≡ true → first_unfit s rows ≡ None
+unfolding first_unfit
+none_unfit s rows all = position_from-zero (λ row. not (is_row s row)) rows ∙ none_found s 0 rows all
+
 -- the answer of a loop over all rows
 pub no_unfit : (s : PlainSchema) (w : ℕ) (rows : List (List Cell)) → reported_from s 0 0 rows ≡ Ok w → first_unfit s rows ≡ None
-unfolding first_unfit
-no_unfit s w rows h = position_from-zero (λ row. not (is_row s row)) rows ∙ none_found s 0 rows (all_taken s 0 0 w rows h)
+no_unfit s w rows h = none_unfit s rows (all_taken s 0 0 w rows h)
 
 pub reported_all : (s : PlainSchema) (w : ℕ) (rows : List (List Cell)) → reported_from s 0 0 rows ≡ Ok w → w ≡ capped_weight (table_weight s rows)
 reported_all s w rows h = omega (arith, capped_sum s 0 0 w rows (omega arith) h)
@@ -81,23 +85,23 @@ unfolding first_unfit table_from
 is_unfit s k rows h = ap (weighed s rows) (position_from-zero (λ row. not (is_row s row)) rows ∙ first_found s 0 0 k rows h)
 
 -- the loop goes on behind a row that is taken, and stops at one that is not
-step_on : (s : PlainSchema) (i t w : ℕ) (row : List Cell) (rows : List (List Cell)) → Some w ≡ taken_weight s row → reported_from s i t (row ∷ rows) ≡ reported_from s (i + 1) (capped_weight (t + w)) rows
+step_on : (s : PlainSchema) (i t w : ℕ) (row : List Cell) (rows : List (List Cell)) → Some w ≡ accepted_weight s row → reported_from s i t (row ∷ rows) ≡ reported_from s (i + 1) (capped_weight (t + w)) rows
 step_on s i t w row rows h = on (is_row s row) (row_weight s row) h where
   on : (b : Bool) (v : ℕ) → Some w ≡ (if b then Some v else None) → (if b then reported_from s (i + 1) (capped_weight (t + v)) rows else Err i) ≡ reported_from s (i + 1) (capped_weight (t + w)) rows
   on true v e = let same : v ≡ w = cc in ap (λ (u : ℕ). reported_from s (i + 1) (capped_weight (t + u)) rows) same
   on false v e = cc
 
-step_off : (s : PlainSchema) (i t : ℕ) (row : List Cell) (rows : List (List Cell)) → None ≡ taken_weight s row → reported_from s i t (row ∷ rows) ≡ Err i
+step_off : (s : PlainSchema) (i t : ℕ) (row : List Cell) (rows : List (List Cell)) → None ≡ accepted_weight s row → reported_from s i t (row ∷ rows) ≡ Err i
 step_off s i t row rows h = off (is_row s row) (row_weight s row) h where
   off : (b : Bool) (v : ℕ) → None ≡ (if b then Some v else None) → (if b then reported_from s (i + 1) (capped_weight (t + v)) rows else Err i) ≡ Err i
   off true v e = cc
   off false v e = refl
 
-pub goes_on : (s : PlainSchema) (all : List (List Cell)) (i t w : ℕ) (row : List Cell) → drop i all ≡ row ∷ drop (i + 1) all → Some w ≡ taken_weight s row
+pub goes_on : (s : PlainSchema) (all : List (List Cell)) (i t w : ℕ) (row : List Cell) → drop i all ≡ row ∷ drop (i + 1) all → Some w ≡ accepted_weight s row
     → reported_from s i t (drop i all) ≡ reported_from s (i + 1) (capped_weight (t + w)) (drop (i + 1) all)
 goes_on s all i t w row d h = ap (reported_from s i t) d ∙ step_on s i t w row (drop (i + 1) all) h
 
-pub stops : (s : PlainSchema) (all : List (List Cell)) (i t : ℕ) (row : List Cell) → drop i all ≡ row ∷ drop (i + 1) all → None ≡ taken_weight s row
+pub stops : (s : PlainSchema) (all : List (List Cell)) (i t : ℕ) (row : List Cell) → drop i all ≡ row ∷ drop (i + 1) all → None ≡ accepted_weight s row
     → reported_from s i t (drop i all) ≡ Err i
 stops s all i t row d h = ap (reported_from s i t) d ∙ step_off s i t row (drop (i + 1) all) h
 

@@ -12,14 +12,14 @@ use Rattle.arrow_schema.specs.Integers.{is_integer_schema}
 use Rattle.arrow_schema.specs.View.{schema_of}
 use Rattle.values.specs.declared.content.Content.{Content}
 use Rattle.values.specs.declared.content.Content.TheVariants.{Cells, Integers}
-use Rattle.values.specs.declared.value.Value.{Value}
-use Rattle.values.specs.Cell.{Cell}
+use Rattle.cells.specs.declared.value.Value.{Value}
+use Rattle.cells.specs.Cell.{Cell}
 use Rattle.values.specs.Columns.{row_at}
 use Rattle.values.specs.Content.{rows_of, table_with, is_filled}
 use Rattle.values.specs.IntegerTable.{integer_columns, have_rows, plain_table}
 use Rattle.values.specs.IntegerRows.{have_row}
-use Rattle.values.specs.View.{cell}
-use Rattle.values.specs.Weight.{row_weight, table_weight}
+use Rattle.cells.specs.View.{cell}
+use Rattle.cells.specs.Weight.{row_weight, table_weight}
 use Rattle.values.proofs.IntegerRows.{count_rows, has_row}
 use Rattle.values.proofs.IntegerRows as integers
 use Rattle.values.proofs.RowLemmas.{length_rows, row_within}

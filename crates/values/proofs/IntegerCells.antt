@@ -12,12 +12,12 @@ use Rattle.arrow_schema.specs.Integers.{is_integer_schema}
 use Rattle.arrow_schema.specs.View.{schema_of}
 use Rattle.values.specs.declared.content.Content.{Content}
 use Rattle.values.specs.declared.content.Content.TheVariants.{Cells, Integers}
-use Rattle.values.specs.declared.value.Value.{Value}
+use Rattle.cells.specs.declared.value.Value.{Value}
 use Rattle.values.specs.Columns.{IntegerColumn, row_at, rows_from}
 use Rattle.values.specs.Content.{table_with, is_filled}
 use Rattle.values.specs.IntegerTable.{integer_columns, have_rows, is_number, plain_table, IsIntegerTable}
 use Rattle.values.specs.Rows.{rows_in}
-use Rattle.values.specs.View.{cell}
+use Rattle.cells.specs.View.{cell}
 
 -- what holds of each cell of each row holds of all cells, and the other way round
 all_rows : {X : Type 0} (p : X → Bool) (width n : ℕ) (cells : List X) → length cells ≡ width * n → list_all (list_all p) (rows_in width n cells) ≡ list_all p cells

@@ -11,14 +11,15 @@ use Rattle.arrow_schema.specs.Integers.{is_integer_column, is_integer_schema, is
 use Rattle.arrow_schema.specs.Limits.{IsWithinLimits}
 use Rattle.arrow_schema.specs.Preorder.{preorder, preorder_below, preorder_all}
 use Rattle.arrow_schema.specs.laws.IntegerCases.{integer_case}
-use Rattle.values.specs.Cell.{Cell, Cells, cells_of}
+use Rattle.cells.specs.Cell.{Cell, Cells, cells_of}
 use Rattle.values.specs.Columns.{cell_at, row_at, rows_from}
-use Rattle.values.specs.Dictionary.{holdings, holdings_below, holdings_from}
-use Rattle.values.specs.Fit.{fits, fits_kind, each_fits}
+use Rattle.cells.specs.Dictionary.{holdings, holdings_below, holdings_from}
+use Rattle.cells.specs.Fit.{fits, fits_kind, each_fits}
 use Rattle.values.specs.IntegerTable.{integer_column, integer_columns, have_rows, plain_table}
 use Rattle.values.specs.IntegerRows.{AllBytes}
-use Rattle.values.specs.Table.{is_row, IsTable}
-use Rattle.values.specs.Weight.{weight, kind_weight, parts_weight, first_part, other_parts, row_weight, table_weight}
+use Rattle.cells.specs.Row.{is_row}
+use Rattle.values.specs.Table.{IsTable}
+use Rattle.cells.specs.Weight.{weight, kind_weight, parts_weight, first_part, other_parts, row_weight, table_weight}
 use Rattle.values.proofs.IntegerRows.{count_rows}
 use Rattle.values.proofs.RangeLemmas.{integer_fits}
 

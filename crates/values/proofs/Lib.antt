@@ -1,13 +1,9 @@
-mod CellLemmas
-mod WeightLemmas
-mod EntryLemmas
-mod HoldingLemmas
 mod RowLemmas
 mod AcceptLemmas
 mod TableLemmas
+mod TableLaws
 mod RangeLemmas
 mod IntegerRows
 mod IntegerTables
 mod ContentLemmas
 mod IntegerCells
-mod DistinctEntries

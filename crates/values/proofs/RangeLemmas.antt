@@ -5,8 +5,8 @@ use Rattle.std.proofs.lemmas.Bool.{cases_lt, and_from, le-ltb, lt-ltb}
 use Rattle.std.proofs.lemmas.Bool.Decides.{nat_tests}
 use Rattle.std.proofs.lemmas.Int.{ints}
 use Rattle.arrow_schema.specs.Integers.{is_bit_width}
-use Rattle.values.specs.Fit.{in_range}
-use Rattle.values.specs.Integers.{integer_of}
+use Rattle.cells.specs.Fit.{in_range}
+use Rattle.cells.specs.Integers.{integer_of}
 
 within : (low high : ℤ) (z : ℤ) → low ≤ℤ z → z <ℤ high → int_le low z ≡ true
 within low high z a b = grind (arith, ints)

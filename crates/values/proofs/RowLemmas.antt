@@ -7,9 +7,9 @@ use Rattle.std.proofs.Math.Seq.{take-append_seam, drop-append_seam}
 use Rattle.std.proofs.lemmas.List.{drop-drop, take-map, drop-map}
 use Rattle.std.proofs.lemmas.Bool.{and_parts}
 use Rattle.arrow_schema.specs.Column.{Column, columns_of, PlainSchema}
-use Rattle.values.specs.Cell.{Cell, cells_of}
-use Rattle.values.specs.Fit.{fits, each_fits}
-use Rattle.values.specs.Table.{is_row}
+use Rattle.cells.specs.Cell.{Cell, cells_of}
+use Rattle.cells.specs.Fit.{fits, each_fits}
+use Rattle.cells.specs.Row.{is_row}
 use Rattle.values.specs.Rows.{rows_in}
 
 pub length_rows : {X : Type 0} (width n : ℕ) (cells : List X) → length (rows_in width n cells) ≡ n

@@ -5,13 +5,13 @@ use Rattle.std.specs.List.{flat_map}
 use Rattle.std.proofs.lemmas.List.{length-map}
 use Rattle.arrow_schema.specs.declared.types.Schema.{Schema}
 use Rattle.arrow_schema.specs.View.{schema_of, column_of}
-use Rattle.values.specs.declared.value.Value.{Value}
-use Rattle.values.specs.declared.row.Row.{Row}
-use Rattle.values.specs.Cell.{Cell, PlainTable}
-use Rattle.values.specs.View.{cell}
+use Rattle.cells.specs.declared.value.Value.{Value}
+use Rattle.cells.specs.declared.row.Row.{Row}
+use Rattle.cells.specs.Cell.{Cell, PlainTable}
+use Rattle.cells.specs.View.{cell}
 use Rattle.values.specs.Table.{first_unfit, IsTable, Refusal}
 use Rattle.values.specs.Rows.{rows_in, table_in}
-use Rattle.values.specs.TableView.{row_of}
+use Rattle.cells.specs.Row.{row_of}
 use Rattle.values.proofs.RowLemmas.{rows_joined, length_joined}
 use Rattle.values.proofs.AcceptLemmas.{all_rows}
 

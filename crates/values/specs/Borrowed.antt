@@ -7,10 +7,10 @@ use Rattle.values.specs.declared.borrowed.Values.{Values}
 use Rattle.values.specs.declared.borrowed.ValuesIter.{ValuesIter}
 use Rattle.values.specs.declared.borrowed.ValueRef.{ValueRef}
 use Rattle.values.specs.declared.borrowed.ValueRef.TheVariants.{Null, Bool as Boolean, Int, Text, Bytes, List as Items, Struct}
-use Rattle.values.specs.Cell.{Cell, null, boolean, number, text, bytes, items, parts, cells_of}
+use Rattle.cells.specs.Cell.{Cell, null, boolean, number, text, bytes, items, parts, cells_of}
 use Rattle.values.specs.Columns.{row_at}
 use Rattle.values.specs.IntegerRows.{columns_in}
-use Rattle.values.specs.View.{cell}
+use Rattle.cells.specs.View.{cell}
 
 -- the cells of a row of integer columns
 abbrev pub integer_cells : IntegerRow → List Cell

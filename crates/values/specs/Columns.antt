@@ -2,8 +2,8 @@
 use Rattle.std.specs.Prelude.{ℕ, zero, suc, ◌+◌, ◌*◌, Bool, List, [], ◌∷◌, map, drop, replicate}
 use Rattle.std.specs.List.{flat_map}
 use Rattle.byteorder.specs.Endian.{little_number, little_bytes}
-use Rattle.values.specs.Cell.{Cell, null, number}
-use Rattle.values.specs.Integers.{integer_of, number_of}
+use Rattle.cells.specs.Cell.{Cell, null, number}
+use Rattle.cells.specs.Integers.{integer_of, number_of}
 
 -- a column of integers: its width in bytes, and whether it is signed
 pub record IntegerColumn : Type 0 where

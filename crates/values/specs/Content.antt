@@ -5,11 +5,11 @@ use Rattle.arrow_schema.specs.Integers.{is_integer_schema}
 use Rattle.arrow_schema.specs.declared.types.Schema.{Schema}
 use Rattle.values.specs.declared.content.Content.{Content}
 use Rattle.values.specs.declared.content.Content.TheVariants.{Cells, Integers}
-use Rattle.values.specs.Cell.{Cell, PlainTable}
+use Rattle.cells.specs.Cell.{Cell, PlainTable}
 use Rattle.values.specs.Columns.{rows_from}
 use Rattle.values.specs.IntegerTable.{integer_columns, have_rows}
 use Rattle.values.specs.Rows.{rows_in}
-use Rattle.values.specs.View.{cell}
+use Rattle.cells.specs.View.{cell}
 
 abbrev pub rows_of : Schema → ℕ → Content → List (List Cell)
 rows_of schema n (Cells cells) = rows_in (length schema.fields.items) n (map cell cells.items)

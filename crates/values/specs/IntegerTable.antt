@@ -3,7 +3,8 @@ use Rattle.std.specs.Prelude.{ℕ, ◌*◌, ◌/◌, Bool, true, false, ◌==◌
 use Rattle.std.specs.List.{list_all}
 use Rattle.arrow_schema.specs.Column.{Kind, Column, column, integers, PlainSchema}
 use Rattle.arrow_schema.specs.Integers.{is_integer_schema}
-use Rattle.values.specs.Cell.{Cell, number, PlainTable}
+use Rattle.cells.specs.declared.limits.TheConstants.{MAX_TABLE_WEIGHT}
+use Rattle.cells.specs.Cell.{Cell, number, PlainTable}
 use Rattle.values.specs.Columns.{IntegerColumn, rows_from}
 
 abbrev pub integer_kind : Kind → IntegerColumn
@@ -25,7 +26,7 @@ have_rows (c ∷ cs) (v ∷ vs) rows = length v == rows * c.width && have_rows c
 
 -- the most that all rows together may weigh: each weighs 1, and 1 for each integer
 abbrev pub most_weight : ℕ
-most_weight = 268435456
+most_weight = MAX_TABLE_WEIGHT
 
 abbrev pub plain_table : PlainSchema → List (List ℕ) → ℕ → PlainTable
 plain_table s values rows = record { schema = s; rows = rows_from (integer_columns s) values 0 rows }

@@ -2,9 +2,9 @@
 use Rattle.std.specs.Prelude.{ℕ, zero, suc, List, [], ◌∷◌, map, length, take, drop}
 use Rattle.arrow_schema.specs.View.{schema_of}
 use Rattle.arrow_schema.specs.declared.types.Schema.{Schema}
-use Rattle.values.specs.declared.value.Value.{Value}
-use Rattle.values.specs.Cell.{PlainTable}
-use Rattle.values.specs.View.{cell}
+use Rattle.cells.specs.declared.value.Value.{Value}
+use Rattle.cells.specs.Cell.{PlainTable}
+use Rattle.cells.specs.View.{cell}
 
 -- so many rows of this width
 abbrev pub rows_in : {X : Type 0} → ℕ → ℕ → List X → List (List X)

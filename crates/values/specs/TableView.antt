@@ -1,17 +1,12 @@
--- What a row and a table of the code are, and how an answer tells a refusal.
-use Rattle.std.specs.Prelude.{◌≡◌, List, map, drop, Result, Err}
-use Rattle.values.specs.declared.row.Row.{Row}
+-- What a table of the code is, and how an answer tells a refusal.
+use Rattle.std.specs.Prelude.{◌≡◌, List, drop, Result, Err}
 use Rattle.values.specs.declared.table.Table.{Table}
 use Rattle.values.specs.declared.rows.Rows.{Rows}
 use Rattle.values.specs.declared.errors.TableError.{TableError}
 use Rattle.values.specs.declared.errors.TableError.TheVariants.{Unfit, Weight, OutOfMemory}
-use Rattle.values.specs.Cell.{Cell, PlainTable}
-use Rattle.values.specs.View.{cell}
+use Rattle.cells.specs.Cell.{Cell, PlainTable}
 use Rattle.values.specs.Table.{Refusal, unfit, too_heavy}
 use Rattle.values.specs.Content.{table_with}
-
-abbrev pub row_of : Row → List Cell
-row_of r = map cell r.cells.items
 
 abbrev pub table_of : Table → PlainTable
 table_of t = table_with t.schema t.rows t.content

@@ -1,10 +1,10 @@
 // Values of a table, as they are borrowed.
 ghost use Rattle.std.specs.Prelude.{◌≡◌};
-ghost use Rattle.values.specs.View.{cell};
+ghost use Rattle.cells.specs.View.{cell};
 ghost use Rattle.values.specs.Borrowed.{borrowed_cell};
 
 use crate::integers::IntegerRow;
-use crate::value::Value;
+use cells::Value;
 
 /// A value that is borrowed. Integers, dates and timestamps are `Int`; texts and binaries of either width are `Text` and
 /// `Bytes`; a null of any type is `Null`.

@@ -1,5 +1,5 @@
 // How a table keeps its rows.
-use crate::value::Value;
+use cells::Value;
 
 /// The rows of a table: cells one after another, row after row, or the little-endian values of each column one after
 /// another, where all columns are of integers without a null.

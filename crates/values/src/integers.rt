@@ -4,16 +4,16 @@ ghost use Rattle.std.specs.List.{list_all};
 ghost use Rattle.byteorder.specs.Endian.{little_number};
 ghost use Rattle.arrow_schema.specs.Integers.{is_integer_column, is_integer_schema};
 ghost use Rattle.arrow_schema.specs.View.{bits_of, column_of, schema_of};
-ghost use Rattle.values.specs.Cell.{number};
-ghost use Rattle.values.specs.View.{cell};
-ghost use Rattle.values.specs.Integers.{integer_of};
+ghost use Rattle.cells.specs.Cell.{number};
+ghost use Rattle.cells.specs.View.{cell};
+ghost use Rattle.cells.specs.Integers.{integer_of};
 ghost use Rattle.values.specs.Columns.{cell_at};
 ghost use Rattle.values.specs.IntegerTable.{integer_column, have_rows, is_number};
 ghost use Rattle.values.specs.IntegerRows.{columns_in, have_row, AllBytes};
 
-use crate::value::Value;
 use arrow_schema::{DataType, Field, IntegerType, Schema};
 use byteorder::{ByteOrder, LittleEndian};
+use cells::Value;
 
 // The integer at the front of some bytes.
 fn read_integer(integer: IntegerType, bytes: &[u8]) -> i128

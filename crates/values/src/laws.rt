@@ -1,25 +1,29 @@
 // What the definitions say. The functions do nothing: their contracts are the laws.
-ghost use Rattle.std.specs.Prelude.{◌≡◌, ◌≢◌, ◌↔◌, ℕ, ◌+◌, ◌*◌, List, length, Some, IsTrue};
-ghost use Rattle.std.specs.List.{AllPairs};
+ghost use Rattle.std.specs.Prelude.{◌≡◌, ◌≤◌, ℕ, ◌+◌, ◌*◌, ◌++◌, List, length, Ok, IsTrue};
 ghost use Rattle.arrow_schema.specs.Column.{PlainSchema};
 ghost use Rattle.arrow_schema.specs.Integers.{is_integer_schema};
-ghost use Rattle.values.specs.Cell.{Cell};
-ghost use Rattle.values.specs.Dictionary.{is_entry, entry_in, entries_of};
-ghost use Rattle.values.specs.Entries.{AreEntries};
+ghost use Rattle.arrow_schema.specs.Limits.{IsWithinLimits};
+ghost use Rattle.cells.specs.Cell.{Cell, PlainTable};
+ghost use Rattle.values.specs.Table.{IsTable, table_from};
 ghost use Rattle.values.specs.IntegerTable.{plain_table, IsIntegerTable};
-ghost use Rattle.values.specs.Weight.{row_weight, table_weight};
+ghost use Rattle.cells.specs.Weight.{row_weight, table_weight};
 
-/// Two values, of which one is no null, list or struct, are one entry of a dictionary exactly where they are equal.
-pub fn one_entry_is_one_value()
-    ensures { (a b : Cell) → entry_in a ≡ Some a → (IsTrue (is_entry a b) ↔ (a ≡ b)) }
+use cells::MAX_TABLE_WEIGHT;
+
+/// Rows of a schema within the limits are accepted just where they are a table, and that table is they.
+pub fn accepted_rows_are_a_table()
+    ensures accepted { (t : PlainTable) → IsTable t → table_from t.schema t.rows ≡ Ok t }
+    ensures kept { (s : PlainSchema) (rows : List (List Cell)) (t : PlainTable) → IsWithinLimits s
+        → table_from s rows ≡ Ok t → (t ≡ record { schema = s; rows = rows }) × IsTable t }
 {}
 
-/// The entries of a dictionary column are its distinct values in the order in which they are first seen, and no other
-/// list is.
-pub fn entries_are_the_distinct_values()
-    ensures values { (cells : List Cell) → AreEntries cells (entries_of cells) }
-    ensures distinct { (cells : List Cell) → AllPairs (λ a b. a ≢ b) (entries_of cells) }
-    ensures only { (cells entries : List Cell) → AreEntries cells entries → entries ≡ entries_of cells }
+/// The rows of two tables of one schema are a table where they are not too heavy together, and the first and the last rows of a
+/// table are tables.
+pub fn tables_are_joined_and_cut()
+    ensures joined { (s : PlainSchema) (a b : List (List Cell)) → IsTable (record { schema = s; rows = a }) → IsTable (record { schema = s; rows = b })
+        → table_weight s (a ++ b) ≤ MAX_TABLE_WEIGHT → IsTable (record { schema = s; rows = a ++ b }) }
+    ensures cut { (s : PlainSchema) (a b : List (List Cell)) → IsTable (record { schema = s; rows = a ++ b })
+        → IsTable (record { schema = s; rows = a }) × IsTable (record { schema = s; rows = b }) }
 {}
 
 /// A table that is kept as integer columns is one of integers alone.

@@ -1,40 +1,37 @@
-//! Values, rows and tables.
+//! Tables in memory.
 //!
-//! A [`Value`] is one cell of a table. Contracts see values as the plain trees of `specs/Cell.antt`, and of a [`Table`]
-//! its schema and its rows alone, however it keeps them. A table's rows fit its schema, and they and the whole are within
-//! the limits of weight and of dictionaries; whoever makes one is reported the first row that is not.
+//! Contracts see of a [`Table`] its schema and its rows alone, however it keeps them. A table's rows fit its schema, and
+//! they and the whole are within the limits of weight and of dictionaries; whoever makes one is told the first row that
+//! is not. Values and rows are those of `cells`.
+//!
+//! ```
+//! let row = Row { cells: vec![in alloc; Value::Int(7)]? };
+//! let table = Table::new(alloc, schema, vec![in alloc; row]?)?;
+//! ```
+//!
+//! gives a table of one row, where `schema`, which is within the limits, has one column and 7 is one of its values; else
+//! `Unfit(0)`.
 #![tactic(auto)]
 
 mod accept;
 mod borrowed;
 mod content;
-mod entry;
 mod errors;
-mod fit;
-mod holding;
 mod integers;
+mod join;
 mod laws;
-mod limited;
-mod row;
 mod rows;
 mod table;
-mod value;
-mod weigh;
 
 pub use borrowed::{ValueRef, Values, ValuesIter, borrow_value};
-pub use entry::{Entry, entry_of, note};
-pub use errors::TableError;
-pub use fit::fits;
-pub use holding::entry_limit;
-pub use laws::{
-    entries_are_the_distinct_values, integer_columns_are_integer_tables, integer_rows_weigh_alike,
-    one_entry_is_one_value,
+pub use cells::{
+    Entry, MAX_ROW_WEIGHT, MAX_TABLE_WEIGHT, Row, TOO_HEAVY, Value, entry_limit, entry_of, fits,
+    note, row_weight, weight,
 };
-pub use row::Row;
+pub use errors::TableError;
+pub use laws::{
+    accepted_rows_are_a_table, integer_columns_are_integer_tables, integer_rows_weigh_alike,
+    tables_are_joined_and_cut,
+};
 pub use rows::Rows;
 pub use table::Table;
-pub use value::Value;
-pub use weigh::{MAX_ROW_WEIGHT, MAX_TABLE_WEIGHT, TOO_HEAVY, row_weight, weight};
-
-#[cfg(test)]
-mod tests;

@@ -1,10 +1,10 @@
 // The rows of a table, one after another.
 ghost use Rattle.std.specs.Prelude.{◌≡◌, ◌+◌, ◌*◌, ◌≤◌, map, take, drop, length};
-ghost use Rattle.values.specs.View.{cell};
+ghost use Rattle.cells.specs.View.{cell};
 
 use crate::borrowed::Values;
 use crate::table::Table;
-use crate::value::Value;
+use cells::Value;
 
 /// Gives the rows of a table in order.
 #[derive(Debug, Drop)]

@@ -8,11 +8,10 @@ use crate::borrowed::{Form, Values};
 use crate::content::Content;
 use crate::errors::TableError;
 use crate::integers::{IntegerRow, are_integers, columns_are_bytes, have_rows, is_integer_schema};
-use crate::row::{Row, join};
+use crate::join::join;
 use crate::rows::{Rows, row_at};
-use crate::value::Value;
-use crate::weigh::MAX_TABLE_WEIGHT;
 use arrow_schema::Schema;
+use cells::{MAX_TABLE_WEIGHT, Row, Value};
 use std::alloc::Global;
 
 /// A table: its schema, and its rows in order. Contracts see nothing else of it. Its cells stand in one vector, row
@@ -35,7 +34,8 @@ impl Table {
     ghost use Rattle.values.specs.IntegerTable.{integer_columns, have_rows, plain_table, IsIntegerTable};
     ghost use Rattle.values.specs.Rows.{table_in};
     ghost use Rattle.values.specs.Table.{table_from};
-    ghost use Rattle.values.specs.TableView.{row_of, table_of, rows_left, Reports};
+    ghost use Rattle.cells.specs.Row.{row_of};
+    ghost use Rattle.values.specs.TableView.{table_of, rows_left, Reports};
 
     /// The table of these rows. It refuses the first row, counted from 0, that does not fit, weighs more than
     /// `MAX_ROW_WEIGHT` or fills a dictionary (`Unfit`), or else rows that weigh more than `MAX_TABLE_WEIGHT` together
@@ -86,7 +86,9 @@ impl Table {
     /// Whether `from_integers` takes these: columns of integers alone, the bytes of so many rows for each of them, and no
     /// more rows than a table may have.
     pub fn takes_integers(schema: &Schema, columns: &[Vec<u8>], rows: usize) -> bool
-        ensures { IsTrue result ↔ (IsTrue (is_integer_schema (schema_of schema.now)) × IsTrue (have_rows (integer_columns (schema_of schema.now)) (map (λ v. v.items) columns.now) rows) × (rows * (1 + length schema.now.fields.items) ≤ 268435456)) }
+        ensures { IsTrue result ↔ (IsTrue (is_integer_schema (schema_of schema.now))
+            × IsTrue (have_rows (integer_columns (schema_of schema.now)) (map (λ v. v.items) columns.now) rows)
+            × (rows * (1 + length schema.now.fields.items) ≤ MAX_TABLE_WEIGHT)) }
     {
         is_integer_schema(schema)
             && have_rows(&schema.fields, columns, rows)
@@ -99,7 +101,7 @@ impl Table {
         requires limits { IsWithinLimits (schema_of schema) }
         requires integers { IsTrue (is_integer_schema (schema_of schema)) }
         requires filled { IsTrue (have_rows (integer_columns (schema_of schema)) (map (λ v. v.items) columns.items) rows) }
-        requires light { rows * (1 + length schema.fields.items) ≤ 268435456 }
+        requires light { rows * (1 + length schema.fields.items) ≤ MAX_TABLE_WEIGHT }
         ensures { table_of result ≡ plain_table (schema_of schema) (map (λ v. v.items) columns.items) rows }
     {
         columns_are_bytes(&columns);
@@ -113,8 +115,10 @@ impl Table {
     /// The little-endian values of each column, one after another, where the table is kept so.
     pub fn integers(&self) -> Option<&[Vec<u8>]>
         ensures schema { IfSome result (λ _. IsTrue (is_integer_schema (table_of self.now).schema)) }
-        ensures filled { IfSome result (λ columns. IsTrue (have_rows (integer_columns (table_of self.now).schema) (map (λ v. v.items) columns.now) (length (table_of self.now).rows))) }
-        ensures values { IfSome result (λ columns. table_of self.now ≡ plain_table (table_of self.now).schema (map (λ v. v.items) columns.now) (length (table_of self.now).rows)) }
+        ensures filled { IfSome result (λ columns.
+            IsTrue (have_rows (integer_columns (table_of self.now).schema) (map (λ v. v.items) columns.now) (length (table_of self.now).rows))) }
+        ensures values { IfSome result (λ columns.
+            table_of self.now ≡ plain_table (table_of self.now).schema (map (λ v. v.items) columns.now) (length (table_of self.now).rows)) }
     {
         match &self.content {
             Content::Cells(_) => None,

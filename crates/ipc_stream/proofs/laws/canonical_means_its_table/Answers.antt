@@ -1,7 +1,7 @@
 use Rattle.std.specs.Prelude.{Ok}
 use Rattle.std.proofs.Common.{◌≡◌, ◌≤◌, ◌+◌, ◌*◌, ℕ, List, length, arith, refl, subst}
 use Rattle.arrow_schema.specs.Column.{PlainSchema}
-use Rattle.values.specs.Cell.{PlainTable}
+use Rattle.cells.specs.Cell.{PlainTable}
 use Rattle.values.specs.Columns.{values_of_all}
 use Rattle.values.specs.IntegerTable.{integer_columns}
 use Rattle.values.specs.TableView.{table_of}

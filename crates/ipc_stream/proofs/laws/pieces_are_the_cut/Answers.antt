@@ -1,4 +1,4 @@
-use Rattle.values.specs.Weight.{row_weight}
+use Rattle.cells.specs.Weight.{row_weight}
 use Rattle.ipc_stream.specs.Canonical.{within_piece}
 use Rattle.ipc_stream.proofs.CutRows.{is_cut, only_cut, limits_next_messages}
 use Rattle.ipc_stream.proofs.laws.pieces_are_the_cut.Goals as goal

@@ -3,9 +3,9 @@ use Rattle.std.proofs.Common.{◌≡◌, ◌<◌, ◌+◌, ◌++◌, ℕ, suc, L
 use Rattle.std.specs.Int.{w128}
 use Rattle.std.proofs.lemmas.Int.{to_z-of_z}
 use Rattle.byteorder.specs.Endian.{little_bytes, low_bytes}
-use Rattle.values.specs.Cell.{Cell, number}
+use Rattle.cells.specs.Cell.{Cell, number}
 use Rattle.values.specs.Columns.{values_of}
-use Rattle.values.specs.Dictionary.{cells_at}
+use Rattle.cells.specs.Dictionary.{cells_at}
 use Rattle.values.specs.TableView.{table_of}
 use Rattle.ipc_stream.proofs.PackColumns.{some_row, cell_more}
 use Rattle.ipc_stream.proofs.pack.column_values.Goals as goal

@@ -1,6 +1,6 @@
 use Rattle.std.proofs.Common.{◌≡◌, ◌++◌, drop}
 use Rattle.values.specs.Columns.{values_of}
-use Rattle.values.specs.Dictionary.{cells_at}
+use Rattle.cells.specs.Dictionary.{cells_at}
 use Rattle.values.specs.TableView.{table_of}
 use Rattle.ipc_stream.proofs.pack.column_values.Given as goal
 

@@ -5,9 +5,9 @@ use Rattle.std.proofs.lemmas.List.{length-map, map-append}
 use Rattle.arrow_schema.specs.Column.{Column, PlainSchema}
 use Rattle.arrow_schema.specs.Integers.{is_integer_column}
 use Rattle.arrow_schema.specs.View.{column_of}
-use Rattle.values.specs.Cell.{Cell, PlainTable}
+use Rattle.cells.specs.Cell.{Cell, PlainTable}
 use Rattle.values.specs.Columns.{values_of, values_of_all}
-use Rattle.values.specs.Dictionary.{cells_at}
+use Rattle.cells.specs.Dictionary.{cells_at}
 use Rattle.values.specs.IntegerTable.{integer_column, integer_columns, have_rows}
 use Rattle.values.specs.TableView.{table_of}
 use Rattle.ipc_stream.specs.Packed.{HasIntegerAt}

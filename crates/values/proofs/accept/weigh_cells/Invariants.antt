@@ -1,7 +1,7 @@
 use Rattle.std.proofs.Common.{◌≡◌, map, drop}
 use Rattle.arrow_schema.specs.View.{schema_of}
-use Rattle.values.specs.View.{cell}
-use Rattle.values.specs.Weight.{capped_weight}
+use Rattle.cells.specs.View.{cell}
+use Rattle.cells.specs.Weight.{capped_weight}
 use Rattle.values.specs.Rows.{rows_in}
 use Rattle.values.proofs.AcceptLemmas.{reported_from}
 use Rattle.values.proofs.accept.weigh_cells.Given as goal

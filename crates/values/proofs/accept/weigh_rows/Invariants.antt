@@ -1,7 +1,7 @@
 use Rattle.std.proofs.Common.{◌≡◌, map, drop}
 use Rattle.arrow_schema.specs.View.{schema_of}
-use Rattle.values.specs.Weight.{capped_weight}
-use Rattle.values.specs.TableView.{row_of}
+use Rattle.cells.specs.Weight.{capped_weight}
+use Rattle.cells.specs.Row.{row_of}
 use Rattle.values.proofs.AcceptLemmas.{reported_from}
 use Rattle.values.proofs.accept.weigh_rows.Given as goal
 

@@ -1,7 +1,7 @@
 use Rattle.std.proofs.Common.{◌≡◌, map, drop}
 use Rattle.std.specs.List.{list_all}
 use Rattle.values.specs.IntegerTable.{is_number}
-use Rattle.values.specs.View.{cell}
+use Rattle.cells.specs.View.{cell}
 use Rattle.values.proofs.integers.are_integers.Given as goal
 
 abbrev pub invariant-loop-value : goal.invariant-loop-value

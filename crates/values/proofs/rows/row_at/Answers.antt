@@ -1,5 +1,5 @@
 use Rattle.std.proofs.Common.{◌+◌, ◌-◌, ◌*◌, arith}
-use Rattle.values.specs.View.{cell}
+use Rattle.cells.specs.View.{cell}
 use Rattle.values.proofs.RowLemmas.{part_of}
 use Rattle.values.proofs.rows.row_at.Goals as goal
 

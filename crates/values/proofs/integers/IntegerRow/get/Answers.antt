@@ -2,7 +2,7 @@ use Rattle.std.proofs.Common.{◌≡◌, ◌<◌, map, length, Some, ap, sym, �
 use Rattle.std.specs.Prelude.{slice_get}
 use Rattle.std.proofs.lemmas.Option.{slice_get_past}
 use Rattle.arrow_schema.specs.View.{column_of}
-use Rattle.values.specs.Cell.{number}
+use Rattle.cells.specs.Cell.{number}
 use Rattle.values.specs.Columns.{cell_at}
 use Rattle.values.specs.IntegerTable.{integer_column}
 use Rattle.values.specs.Borrowed.{integer_cells}

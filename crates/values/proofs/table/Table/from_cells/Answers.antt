@@ -1,7 +1,7 @@
 use Rattle.std.proofs.Common.{map, length}
 use Rattle.std.proofs.lemmas.Bool.{eq-eqb}
 use Rattle.arrow_schema.specs.View.{schema_of}
-use Rattle.values.specs.View.{cell}
+use Rattle.cells.specs.View.{cell}
 use Rattle.values.specs.Rows.{rows_in}
 use Rattle.values.proofs.AcceptLemmas.{is_heavy, is_light, is_table}
 use Rattle.values.proofs.table.Table.from_cells.Goals as goal

@@ -1,7 +1,7 @@
 use Rattle.std.proofs.Common.{◌≡◌, map, length, rules}
 use Rattle.std.proofs.lemmas.Bool.{eq-eqb}
 use Rattle.arrow_schema.specs.View.{schema_of}
-use Rattle.values.specs.TableView.{row_of}
+use Rattle.cells.specs.Row.{row_of}
 use Rattle.values.proofs.AcceptLemmas.{is_heavy, is_light, is_table}
 use Rattle.values.proofs.TableLemmas.{joined_table, joined_cells, is_table_of, answers_table}
 use Rattle.values.proofs.table.Table.new.Goals as goal

@@ -1,0 +1,5 @@
+mod CellLemmas
+mod DistinctEntries
+mod EntryLemmas
+mod HoldingLemmas
+mod WeightLemmas

@@ -1,0 +1,18 @@
+-- The entries of a dictionary column, in the words of its values.
+use Rattle.std.specs.Prelude.{◌≡◌, ◌↔◌, Some, List, ◌++◌}
+use Rattle.std.specs.List.{Contains, AllPairs}
+use Rattle.cells.specs.Cell.{Cell}
+use Rattle.cells.specs.Dictionary.{entry_in}
+
+-- the cells begin with some among which is the one value, and not the other
+pub record IsSeenBefore (cells : List Cell) (one other : Cell) : Type 0 where
+  pub front : List Cell
+  pub behind : List Cell
+  pub begins : front ++ behind ≡ cells
+  pub has : Contains front one
+  pub lacks : ¬ Contains front other
+
+-- the values among the cells that are no null, list or struct, in the order in which they are first seen, and so each once
+pub record AreEntries (cells entries : List Cell) : Type 0 where
+  pub values : (c : Cell) → Contains entries c ↔ ((entry_in c ≡ Some c) × Contains cells c)
+  pub order : AllPairs (IsSeenBefore cells) entries

@@ -1,0 +1,9 @@
+pub mod Cell
+pub mod View
+pub mod Fit
+pub mod Weight
+pub mod Dictionary
+pub mod Row
+pub mod Entry
+pub mod Entries
+pub mod Integers

@@ -1,0 +1,39 @@
+// Which rows a table takes.
+ghost use Rattle.std.specs.Prelude.{◌≡◌, map, IfOk};
+ghost use Rattle.arrow_schema.specs.Column.{columns_of};
+ghost use Rattle.arrow_schema.specs.View.{schema_of};
+ghost use Rattle.cells.specs.View.{cell};
+ghost use Rattle.cells.specs.Row.{accepted_weight};
+ghost use Rattle.cells.specs.Dictionary.{is_any_limited};
+
+use crate::fit::each_fits;
+use crate::holding::row_entries_fit;
+use crate::limits::MAX_ROW_WEIGHT;
+use crate::value::Value;
+use crate::weigh::row_weight;
+use arrow_schema::Schema;
+use std::alloc::{AllocError, Global};
+
+/// The weight of a row, where a table takes it. `limited` is what [`crate::has_limits`] tells of the schema: it is asked once for many rows.
+#[tactic(auto, using(crate::proofs::HoldingLemmas::from_unlimited), unfolding(crate::specs::Row::is_row))]
+pub fn accepted_weight(
+    schema: &Schema,
+    row: &[Value],
+    limited: bool,
+    alloc: Global,
+) -> Result<Option<u64>, AllocError>
+    requires { limited ≡ is_any_limited (columns_of (schema_of schema.now).columns) }
+    ensures { IfOk result (λ w. w ≡ accepted_weight (schema_of schema.now) (map cell row.now)) }
+{
+    if !each_fits(&schema.fields, row) {
+        return Ok(None);
+    }
+    let weight = row_weight(schema, row);
+    if weight > MAX_ROW_WEIGHT {
+        return Ok(None);
+    }
+    if limited && !row_entries_fit(&schema.fields, row, alloc)? {
+        return Ok(None);
+    }
+    Ok(Some(weight))
+}

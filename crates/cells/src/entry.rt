@@ -1,0 +1,44 @@
+// What a dictionary may hold.
+ghost use Rattle.std.specs.Prelude.{◌≡◌, map, OnOk, OnErr};
+ghost use Rattle.cells.specs.View.{cell};
+ghost use Rattle.cells.specs.Entry.{entry_cell, entry_cell_of};
+ghost use Rattle.cells.specs.Dictionary.{with_entry, entry_in};
+
+use crate::value::Value;
+use indexmap::IndexSet;
+use std::alloc::AllocError;
+
+/// An entry of a dictionary: a value that is not null, and neither a list nor a struct. It borrows texts and bytes.
+#[derive(Clone, Copy, Debug, PartialEq, Eq, Hash)]
+pub enum Entry<'a> {
+    Bool(bool),
+    Int(i128),
+    Text(&'a str),
+    Bytes(&'a [u8]),
+}
+
+/// The entry that a value would be.
+pub fn entry_of(value: &Value) -> Option<Entry<'_>>
+    ensures { entry_cell_of result ≡ entry_in (cell value.now) }
+{
+    match value {
+        Value::Bool(boolean) => Some(Entry::Bool(*boolean)),
+        Value::Int(number) => Some(Entry::Int(*number)),
+        Value::Text(text) => Some(Entry::Text(text.as_str())),
+        Value::Bytes(bytes) => Some(Entry::Bytes(bytes)),
+        Value::Null => None,
+        Value::List(_) => None,
+        Value::Struct(_) => None,
+    }
+}
+
+/// Adds a value to the entries, where it can be one and is not among them. Where memory is refused they stay as they were.
+pub fn note<'a>(entries: &mut IndexSet<Entry<'a>>, value: &'a Value) -> Result<(), AllocError>
+    ensures noted { OnOk result (map entry_cell entries.new.keys ≡ with_entry (map entry_cell entries.old.keys) (cell value.now)) }
+    ensures unchanged { OnErr result (entries.new.keys ≡ entries.old.keys) }
+{
+    if let Some(entry) = entry_of(value) {
+        entries.insert(entry)?;
+    }
+    Ok(())
+}

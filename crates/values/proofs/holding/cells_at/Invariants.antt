@@ -1,8 +1,0 @@
-use Rattle.std.proofs.Common.{◌≡◌, ◌++◌, map, drop}
-use Rattle.values.specs.View.{cell_behind, row_behind}
-use Rattle.values.specs.Dictionary.{cells_at}
-use Rattle.values.proofs.holding.cells_at.Given as goal
-
-abbrev pub invariant-loop-row : goal.invariant-loop-row
-invariant-loop-row l =
-    map cell_behind l.cells.items ++ cells_at l.i (map row_behind (drop l.row-index l.rows)) ≡ cells_at l.i (map row_behind l.rows)
