@@ -1,0 +1,15 @@
+pub mod Array
+pub mod CellAt
+pub mod Visible
+pub mod Tests
+pub mod Sound
+pub mod Buffers
+pub mod Built
+pub mod Texts
+pub mod Readable
+pub mod Places
+pub mod Offsets
+pub mod View
+pub mod Borrowed
+pub mod Located
+pub mod laws
