@@ -5,11 +5,10 @@ pub mod Tests
 pub mod Sound
 pub mod Buffers
 pub mod Built
+pub mod FromBuffers
 pub mod Texts
-pub mod Readable
 pub mod Places
-pub mod Offsets
 pub mod View
 pub mod Borrowed
-pub mod Located
 pub mod laws
+pub mod inner

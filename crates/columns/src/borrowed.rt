@@ -1,13 +1,13 @@
 // Values of arrays, as they are borrowed.
 ghost use Rattle.std.specs.Prelude.{◌≡◌, true};
 ghost use Rattle.arrow_schema.specs.View.{column_of};
-ghost use Rattle.columns.specs.Readable.{are_readable, are_parts_readable};
+ghost use Rattle.columns.specs.inner.Readable.{are_readable, are_parts_readable};
 ghost use Rattle.columns.specs.View.{view_array, placed_arrays, fields_of};
 
 use crate::array::{Dictionary, PlacedArray};
 use crate::view::ArrayView;
 use arrow_schema::Field;
-use cells::Value;
+use values::Value;
 
 /// Slots of an array that follow one another, as values of a field.
 #[derive(Clone, Copy, Debug)]

@@ -1,5 +1,5 @@
 // What the definitions say.
-ghost use Rattle.columns.specs.laws.WorkedCases.{Integers, PaddedBuffers, RightCount, WrongCount, Texts, Booleans, FixedBinaries, LargeTexts, Dates, Timestamps, Lists, SoundLists, FixedLists, Structs, HiddenNull, VisibleNull, Dictionaries, Replaced, Appended, NullBeforeDictionary, IndexBeforeDictionary, NegativeIndex, NullEntry, WrittenLists, WrittenFixedLists, WrittenStructs, WrittenDictionaries, WrittenWithoutEntries};
+ghost use Rattle.columns.specs.laws.WorkedCases.{Integers, PaddedBuffers, RightCount, WrongCount, Texts, Booleans, FixedBinaries, LargeTexts, Dates, Timestamps, Lists, SoundLists, FixedLists, Structs, HiddenNull, VisibleNull, Dictionaries, Replaced, Appended, NullBeforeDictionary, IndexBeforeDictionary, NegativeIndex, NullEntry, WrittenLists, WrittenFixedLists, WrittenStructs, WrittenDictionaries, WrittenWithoutEntries, ReadAgain};
 
 /// The worked cases of the definitions.
 #[tactic(auto, unfolding(crate::specs::CellAt::cell_at, crate::specs::CellAt::kind_cell, crate::specs::CellAt::part_cells, crate::specs::Visible::visible, crate::specs::Visible::visible_below, crate::specs::Visible::visible_parts, crate::specs::Visible::visible_in, crate::specs::Sound::is_sound, crate::specs::Sound::has_sound_children, crate::specs::Tests::arrays_at, crate::specs::Built::built))]
@@ -32,4 +32,5 @@ pub fn worked_cases()
     ensures written_structs { WrittenStructs }
     ensures written_dictionaries { WrittenDictionaries }
     ensures written_without_entries { WrittenWithoutEntries }
+    ensures read_again { ReadAgain }
 {}

@@ -13,18 +13,18 @@
 
 mod array;
 mod borrowed;
+mod borrowing;
 mod entry;
 mod laws;
 mod numbers;
 mod read;
 mod span;
-mod values;
 mod view;
 
 pub use array::{Dictionary, DictionaryPart, PlacedArray, PlacedLayout};
 pub use borrowed::{ValueRef, Values, ValuesIter};
+pub use borrowing::borrow_value;
 pub use laws::worked_cases;
 pub use read::{row, value};
 pub use span::Span;
-pub use values::borrow_value;
 pub use view::ArrayView;

@@ -2,17 +2,17 @@
 ghost use Rattle.std.specs.Prelude.{◌≡◌, ◌≤◌, ◌<◌, ◌+◌, ◌*◌, ◌/◌, ◌-◌, nat_lt, nat_le, true, false, not, ◌==◌, ◌&&◌, length, map, ℕ};
 ghost use Rattle.bitmap.specs.Bits.{bit, bytes_of};
 ghost use Rattle.arrow_schema.specs.View.{kind_of, column_of, bits_of, index_of};
-ghost use Rattle.cells.specs.Cell.{cells_of, null};
+ghost use Rattle.values.specs.Cell.{cells_of, null};
 ghost use Rattle.columns.specs.Array.{slots_in, array_list, dictionary_in, bits_in, values_in, offsets_in, contents_in, items_in, children_in, indices_in};
 ghost use Rattle.columns.specs.CellAt.{integer_at as plain_integer_at, indexed_cell, unless_null, row_at, cell_at, kind_cell, part_cells, contents_at, value_at, span_start, span_size, span_cells, item_at, cells_from};
 ghost use Rattle.columns.specs.Tests.{are_few, are_few_offsets, are_unordered, has_short_validity};
 ghost use Rattle.columns.specs.Sound.{is_sound, is_kind_sound, are_sound};
 ghost use Rattle.columns.specs.Texts.{has_utf8_texts, have_utf8_texts};
-ghost use Rattle.columns.specs.Readable.{are_readable, are_parts_readable};
-ghost use Rattle.columns.specs.Offsets.{width_of};
+ghost use Rattle.columns.specs.inner.Readable.{are_readable, are_parts_readable};
+ghost use Rattle.columns.specs.inner.Offsets.{width_of};
 ghost use Rattle.columns.specs.View.{view_array, placed_arrays, fields_of};
 ghost use Rattle.columns.specs.Borrowed.{borrowed_cell, borrowed_cells};
-ghost use Rattle.columns.specs.Located.{located_cell, IsSoundPlace};
+ghost use Rattle.columns.specs.inner.Located.{located_cell, IsSoundPlace};
 ghost use Rattle.std.specs.List.{list_all};
 ghost use Rattle.std.specs.Str.{is_utf8};
 

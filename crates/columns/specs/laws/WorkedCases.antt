@@ -2,14 +2,15 @@
 use Rattle.std.specs.Prelude.{◌≡◌, ℕ, ◌++◌, Bool, true, false, pos, negsuc, List, [], ◌∷◌, codes, replicate, map, Option, Some, None}
 use Rattle.std.specs.List.{list_any}
 use Rattle.arrow_schema.specs.Column.{Kind, Column, seconds, days, booleans, integers, dates, timestamps, texts, large_texts, fixed_binaries, lists, fixed_lists, structs, column, columns_of}
-use Rattle.cells.specs.Cell.{Cell, null, boolean, number, text, bytes, items, parts, cells_of}
-use Rattle.columns.specs.Array.{Array, array, arrays_of, no_array, null_layout, bit_layout, fixed_layout, binary_layout, list_layout, fixed_list_layout, struct_layout, dictionary_layout}
+use Rattle.values.specs.Cell.{Cell, null, boolean, number, text, bytes, items, parts, cells_of}
+use Rattle.columns.specs.Array.{Array, Arrays, array, arrays_of, no_array, null_layout, bit_layout, fixed_layout, binary_layout, list_layout, fixed_list_layout, struct_layout, dictionary_layout}
 use Rattle.columns.specs.CellAt.{cell_at, cells_in}
 use Rattle.columns.specs.Visible.{visible_in, is_forbidden, names_no_entry}
 use Rattle.columns.specs.Tests.{counts_wrong, is_short, is_unordered}
 use Rattle.columns.specs.Sound.{is_sound}
-use Rattle.columns.specs.Buffers.{buffers_of}
-use Rattle.columns.specs.Built.{built}
+use Rattle.columns.specs.Buffers.{nodes_of, buffers_of, dictionaries_of}
+use Rattle.columns.specs.Built.{built, built_parts}
+use Rattle.columns.specs.FromBuffers.{arrays_from}
 
 -- a column of this type without a dictionary, and one with indices of 8 signed bits
 abbrev pub plain : Bool → Kind → Column
@@ -180,3 +181,16 @@ WrittenDictionaries = built (encoded texts) (text (codes "b") ∷ text (codes "a
 abbrev pub WrittenWithoutEntries : Type 0
 WrittenWithoutEntries =
     built (encoded texts) (null ∷ []) ≡ array 1 (0 ∷ []) (dictionary_layout (0 ∷ []) (arrays_of (array 0 [] (binary_layout (0 ∷ 0 ∷ 0 ∷ 0 ∷ []) []) ∷ [])))
+
+-- what rows are written as is read as the same arrays, each dictionary by itself
+abbrev pub IsReadAgain : List Column → List (List Cell) → Type 0
+IsReadAgain columns rows =
+    let arrays : Arrays = built_parts (columns_of columns) rows in
+    let dictionaries : List (List Array) = map (λ t. t.array ∷ []) (dictionaries_of (columns_of columns) arrays) in
+    arrays_from (columns_of columns) (nodes_of (columns_of columns) arrays) (buffers_of (columns_of columns) arrays) dictionaries ≡ arrays
+
+-- [null, "b", [1, null]] and [[5], null, null]
+abbrev pub ReadAgain : Type 0
+ReadAgain =
+    IsReadAgain (struct_column ∷ encoded texts ∷ plain true (lists (plain true (integers 32 true))) ∷ [])
+    ((null ∷ text (codes "b") ∷ items (cells_of (int 1 ∷ null ∷ [])) ∷ []) ∷ (parts (cells_of (int 5 ∷ [])) ∷ null ∷ null ∷ []) ∷ [])

@@ -1,6 +1,6 @@
 use Rattle.std.proofs.Common.{◌≡◌}
 use Rattle.columns.specs.Array.{slots_in, items_in}
-use Rattle.columns.specs.Offsets.{width_of}
+use Rattle.columns.specs.inner.Offsets.{width_of}
 use Rattle.columns.specs.View.{view_array}
 use Rattle.columns.proofs.Sounds.{spans_fit}
 use Rattle.columns.proofs.read.list_at.Goals as goal

@@ -14,7 +14,7 @@ use Rattle.columns.specs.Texts.{have_utf8_texts}
 use Rattle.columns.specs.Borrowed.{parts_cells}
 use Rattle.columns.specs.View.{array_in, arrays_in}
 use Rattle.columns.proofs.Runs.{count_parts, part_there, PartAt, part_at}
-use Rattle.columns.proofs.values.parts_get.Goals as goal
+use Rattle.columns.proofs.borrowing.parts_get.Goals as goal
 
 inside : (p : PartsAt)
     → (are_sound (columns_of (map column_of p.fields.now)) p.slots (arrays_of (map (array_in p.bytes.now (arrays_in p.bytes.now p.dictionaries.now)) p.arrays.now)) ≡ true) × (p.place < p.slots)

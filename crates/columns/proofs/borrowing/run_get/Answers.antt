@@ -3,7 +3,7 @@ use Rattle.std.specs.Prelude.{slice_get, nat_le, ◌&&◌}
 use Rattle.std.proofs.lemmas.Bool.{and_parts, leb-true}
 use Rattle.std.proofs.lemmas.Option.{slice_get_past}
 use Rattle.arrow_schema.specs.View.{column_of}
-use Rattle.cells.specs.Cell.{Cell, cells_of}
+use Rattle.values.specs.Cell.{Cell, cells_of}
 use Rattle.columns.specs.declared.borrowed.SlotRun.{SlotRun}
 use Rattle.columns.specs.Array.{slots_in}
 use Rattle.columns.specs.CellAt.{cell_at, cells_from}
@@ -13,7 +13,7 @@ use Rattle.columns.specs.Borrowed.{run_cells}
 use Rattle.columns.specs.View.{view_array}
 use Rattle.columns.proofs.Texts.{text_at}
 use Rattle.columns.proofs.Runs.{count_cells, cell_in}
-use Rattle.columns.proofs.values.run_get.Goals as goal
+use Rattle.columns.proofs.borrowing.run_get.Goals as goal
 
 inside : (r : SlotRun) → (is_sound (column_of r.field.now) (view_array r.view) ≡ true) × (r.start + r.count ≤ slots_in (view_array r.view))
     × (have_utf8_texts (cells_of (cells_from (cell_at (column_of r.field.now) (view_array r.view)) r.start r.count)) ≡ true)
