@@ -1,0 +1,77 @@
+-- The entries of a dictionary, array by array.
+use Rattle.std.specs.Prelude.{nat_lt, ◌&&◌}
+use Rattle.std.proofs.Common.{◌≡◌, ℕ, zero, suc, ◌+◌, ◌-◌, ◌≤◌, ◌<◌, Bool, true, List, [], ◌∷◌, ◌++◌, length, get_or, map, drop, refl, ap, arith, sym, ◌∙◌}
+use Rattle.std.specs.List.{list_all}
+use Rattle.std.proofs.Math.Seq.{drop-cons}
+use Rattle.std.proofs.lemmas.Bool.{and_parts}
+use Rattle.std.proofs.lemmas.List.{get_or_append_left, get_or-append_right}
+use Rattle.std.proofs.lemmas.List.FromFn.{length-map-range_with_len, get_or-map-range_with_len}
+use Rattle.arrow_schema.specs.Column.{Kind}
+use Rattle.values.specs.Cell.{Cell, null}
+use Rattle.columns.specs.declared.array.PlacedArray.{PlacedArray}
+use Rattle.columns.specs.declared.array.DictionaryPart.{DictionaryPart}
+use Rattle.columns.specs.declared.array.PlacedLayout.TheFolds.{fold_out-PlacedArray}
+use Rattle.columns.specs.Array.{Array, Arrays, Layout, arrays_of, array_list, slots_in}
+use Rattle.columns.specs.CellAt.{cells_from, unless_null, kind_cell, entries_of_kind}
+use Rattle.columns.specs.View.{layout_step, array_step, array_in, no_dictionary}
+
+pub listed : (arrays : List Array) → array_list (arrays_of arrays) ≡ arrays
+listed [] = refl
+listed (a ∷ arrays) = ap (λ (others : List Array). a ∷ others) (listed arrays)
+
+-- an entry of the first array, and one of the others
+entry_here : (f : ℕ → Cell) (n i : ℕ) (others : List Cell) → i < n → get_or (cells_from f 0 n ++ others) i null ≡ f i
+entry_here f n i others lt =
+    let long : length (cells_from f 0 n) ≡ n = length-map-range_with_len f 0 n in
+    let e : 0 + i ≡ i = omega arith in
+    let left : get_or (cells_from f 0 n ++ others) i null ≡ get_or (cells_from f 0 n) i null = grind (arith, get_or_append_left) in
+    left ∙ get_or-map-range_with_len f 0 n i i null lt e
+
+entry_later : (f : ℕ → Cell) (n i : ℕ) (others : List Cell) → n ≤ i → get_or (cells_from f 0 n ++ others) i null ≡ get_or others (i - n) null
+entry_later f n i others le = get_or-append_right (cells_from f 0 n) others n i null (length-map-range_with_len f 0 n) le
+
+abbrev pub entries : List ℕ → Kind → List PlacedArray → List Cell
+entries bytes kind arrays = entries_of_kind kind (arrays_of (map (array_in bytes no_dictionary) arrays))
+
+from_place : (xs : List PlacedArray) (i : ℕ) (x : PlacedArray) → i < length xs → x ≡ get_or xs i x → drop i xs ≡ x ∷ drop (i + 1) xs
+from_place xs i x lt is =
+    let e : i + 1 ≡ suc i = omega arith in
+    rw e (drop-cons xs i x lt ∙ ap (λ (y : PlacedArray). y ∷ drop (suc i) xs) (sym is))
+
+-- an array in bytes has as many slots as it says
+pub slots_is : (bytes : List ℕ) (arrays_known : DictionaryPart → List Array) (x : PlacedArray) → slots_in (array_in bytes arrays_known x) ≡ x.slots
+slots_is bytes arrays_known x = ap slots_in (fold_out-PlacedArray Layout Array (layout_step bytes arrays_known) (array_step bytes) x)
+
+pub found_here : (bytes : List ℕ) (kind : Kind) (xs : List PlacedArray) (i r : ℕ) (x : PlacedArray) → i < length xs → x ≡ get_or xs i x → r < x.slots
+    → unless_null (kind_cell kind) (array_in bytes no_dictionary x) r ≡ get_or (entries bytes kind (drop i xs)) r null
+found_here bytes kind xs i r x lt is below =
+    let a : Array = array_in bytes no_dictionary x in
+    let e = slots_is bytes no_dictionary x in
+    let within : r < slots_in a = rw e below in
+    rw (from_place xs i x lt is) (sym (entry_here (unless_null (kind_cell kind) a) (slots_in a) r (entries bytes kind (drop (i + 1) xs)) within))
+
+pub found_later : (bytes : List ℕ) (kind : Kind) (xs : List PlacedArray) (i r : ℕ) (x : PlacedArray) → i < length xs → x ≡ get_or xs i x → x.slots ≤ r
+    → get_or (entries bytes kind (drop (i + 1) xs)) (r - x.slots) null ≡ get_or (entries bytes kind (drop i xs)) r null
+found_later bytes kind xs i r x lt is above =
+    let a : Array = array_in bytes no_dictionary x in
+    let e = slots_is bytes no_dictionary x in
+    let past : slots_in a ≤ r = rw e above in
+    ap (λ (n : ℕ). get_or (entries bytes kind (drop (i + 1) xs)) (r - n) null) (sym e)
+    ∙ rw (from_place xs i x lt is) (sym (entry_later (unless_null (kind_cell kind) a) (slots_in a) r (entries bytes kind (drop (i + 1) xs)) past))
+
+ended : (xs : List PlacedArray) (i : ℕ) → length xs ≤ i → drop i xs ≡ []
+ended [] zero le = refl
+ended [] (suc i) le = refl
+ended (x ∷ xs) zero le = absurd (omega arith)
+ended (x ∷ xs) (suc i) le = ended xs i (omega arith)
+
+pub found_nowhere : (bytes : List ℕ) (kind : Kind) (xs : List PlacedArray) (i r : ℕ) → length xs ≤ i → null ≡ get_or (entries bytes kind (drop i xs)) r null
+found_nowhere bytes kind xs i r le = rw (ended xs i le) refl
+
+-- a test that holds of all holds of the next
+pub sound_here : (p : Array → Bool) (g : PlacedArray → Array) (xs : List PlacedArray) (i : ℕ) (x : PlacedArray) → i < length xs → x ≡ get_or xs i x
+    → list_all p (map g (drop i xs)) ≡ true → (p (g x) ≡ true) × (list_all p (map g (drop (i + 1) xs)) ≡ true)
+sound_here p g xs i x lt is h =
+    let all : list_all p (map g (x ∷ drop (i + 1) xs)) ≡ true = rw (from_place xs i x lt is) at h in
+    let parts = and_parts (p (g x)) (list_all p (map g (drop (i + 1) xs))) all in
+    (parts.0, parts.1)

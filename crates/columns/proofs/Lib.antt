@@ -1,0 +1,5 @@
+pub mod Sounds
+pub mod Texts
+pub mod Entries
+pub mod Runs
+pub mod Left

@@ -1,0 +1,14 @@
+pub mod Array
+pub mod CellAt
+pub mod Visible
+pub mod Tests
+pub mod Sound
+pub mod Buffers
+pub mod Built
+pub mod FromBuffers
+pub mod Texts
+pub mod Places
+pub mod View
+pub mod Borrowed
+pub mod laws
+pub mod inner

@@ -1,0 +1,8 @@
+-- How many bytes an offset has.
+use Rattle.std.specs.Prelude.{ℕ}
+use Rattle.columns.specs.declared.numbers.OffsetWidth.{OffsetWidth}
+use Rattle.columns.specs.declared.numbers.OffsetWidth.TheVariants.{Four, Eight}
+
+abbrev pub width_of : OffsetWidth → ℕ
+width_of Four = 4
+width_of Eight = 8

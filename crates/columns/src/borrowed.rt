@@ -1,0 +1,66 @@
+// Values of arrays, as they are borrowed.
+ghost use Rattle.std.specs.Prelude.{◌≡◌, true};
+ghost use Rattle.arrow_schema.specs.View.{column_of};
+ghost use Rattle.columns.specs.inner.Readable.{are_readable, are_parts_readable};
+ghost use Rattle.columns.specs.View.{view_array, placed_arrays, fields_of};
+
+use crate::array::{Dictionary, PlacedArray};
+use crate::view::ArrayView;
+use arrow_schema::Field;
+use values::Value;
+
+/// Slots of an array that follow one another, as values of a field.
+#[derive(Clone, Copy, Debug)]
+pub(crate) struct SlotRun<'a> {
+    pub(crate) field: &'a Field,
+    pub(crate) view: ArrayView<'a>,
+    pub(crate) start: usize,
+    pub(crate) count: usize,
+    ghost readable: { are_readable (column_of field.now) (view_array view) start count ≡ true },
+}
+
+/// A slot of each of some arrays, as values of some fields.
+#[derive(Clone, Copy, Debug)]
+pub(crate) struct PartsAt<'a> {
+    pub(crate) fields: &'a [Field],
+    pub(crate) arrays: &'a [PlacedArray],
+    pub(crate) bytes: &'a [u8],
+    pub(crate) dictionaries: &'a [Dictionary],
+    pub(crate) slots: usize,
+    pub(crate) place: usize,
+    ghost readable: { are_parts_readable (fields_of fields.now) (placed_arrays bytes.now dictionaries.now arrays.now) slots place ≡ true },
+}
+
+/// How values that are borrowed are kept: as they stand, or in arrays.
+#[derive(Clone, Copy, Debug)]
+pub(crate) enum Form<'a> {
+    Cells(&'a [Value]),
+    Slots(SlotRun<'a>),
+    Parts(PartsAt<'a>),
+}
+
+/// Values that are borrowed, in order: the cells of a row, the items of a list or the parts of a struct.
+#[derive(Clone, Copy, Debug)]
+pub struct Values<'a> {
+    pub(crate) form: Form<'a>,
+}
+
+/// A value that is borrowed. Integers, dates and timestamps are `Int`; texts and binaries of either width are `Text` and
+/// `Bytes`; a null of any type is `Null`.
+#[derive(Clone, Copy, Debug)]
+pub enum ValueRef<'a> {
+    Null,
+    Bool(bool),
+    Int(i128),
+    Text(&'a str),
+    Bytes(&'a [u8]),
+    List(Values<'a>),
+    Struct(Values<'a>),
+}
+
+/// Gives values in order.
+#[derive(Debug, Drop)]
+pub struct ValuesIter<'a> {
+    pub(crate) values: Values<'a>,
+    pub(crate) next: usize,
+}

@@ -1,0 +1,131 @@
+// Values that are borrowed, in order.
+ghost use Rattle.std.specs.Prelude.{◌≡◌, ◌==◌, length, slice_get, option_map};
+ghost use Rattle.values.specs.View.{cell};
+ghost use Rattle.columns.specs.Borrowed.{borrowed_cell, borrowed_cells, run_cells, parts_cells, values_left};
+
+use crate::borrowed::{Form, PartsAt, SlotRun, ValueRef, Values, ValuesIter};
+use crate::read::value;
+use crate::view::ArrayView;
+use values::Value;
+
+/// A value, borrowed.
+pub fn borrow_value(value: &Value) -> ValueRef<'_>
+    ensures { borrowed_cell result ≡ cell value.now }
+{
+    match value {
+        Value::Null => ValueRef::Null,
+        Value::Bool(boolean) => ValueRef::Bool(*boolean),
+        Value::Int(number) => ValueRef::Int(*number),
+        Value::Text(text) => ValueRef::Text(text.as_str()),
+        Value::Bytes(bytes) => ValueRef::Bytes(bytes),
+        Value::List(items) => ValueRef::List(Values {
+            form: Form::Cells(items),
+        }),
+        Value::Struct(parts) => ValueRef::Struct(Values {
+            form: Form::Cells(parts),
+        }),
+    }
+}
+
+#[tactic(auto, using(crate::proofs::Runs::count_cells))]
+fn run_len(run: &SlotRun<'_>) -> usize
+    ensures { result ≡ length (run_cells run.now) }
+{
+    run.count
+}
+
+fn run_get<'a>(run: &SlotRun<'a>, i: usize) -> Option<ValueRef<'a>>
+    ensures { option_map borrowed_cell result ≡ slice_get (run_cells run.now) i }
+{
+    // a number of the code is below 2^64, so that the place is too
+    let _slots = run.view.slots();
+    if i >= run.count {
+        return None;
+    }
+    Some(value(run.field, run.view, run.start + i))
+}
+
+#[tactic(auto, using(crate::proofs::Runs::count_parts))]
+fn parts_len(parts: &PartsAt<'_>) -> usize
+    ensures { result ≡ length (parts_cells parts.now) }
+{
+    parts.fields.len()
+}
+
+fn parts_get<'a>(parts: &PartsAt<'a>, i: usize) -> Option<ValueRef<'a>>
+    ensures { option_map borrowed_cell result ≡ slice_get (parts_cells parts.now) i }
+{
+    if i >= parts.fields.len() {
+        return None;
+    }
+    let field = &parts.fields[i];
+    let view = ArrayView {
+        array: &parts.arrays[i],
+        bytes: parts.bytes,
+        dictionaries: parts.dictionaries,
+    };
+    Some(value(field, view, parts.place))
+}
+
+impl<'a> Values<'a> {
+    /// How many there are.
+    pub fn len(&self) -> usize
+        ensures { result ≡ length (borrowed_cells self.now) }
+    {
+        match &self.form {
+            Form::Cells(cells) => cells.len(),
+            Form::Slots(run) => run_len(run),
+            Form::Parts(parts) => parts_len(parts),
+        }
+    }
+
+    /// Whether there are none.
+    pub fn is_empty(&self) -> bool
+        ensures { result ≡ (length (borrowed_cells self.now) == 0) }
+    {
+        self.len() == 0
+    }
+
+    /// The value at a place, counted from 0.
+    pub fn get(&self, i: usize) -> Option<ValueRef<'a>>
+        ensures { option_map borrowed_cell result ≡ slice_get (borrowed_cells self.now) i }
+    {
+        match &self.form {
+            Form::Cells(cells) => Some(borrow_value(cells.get(i)?)),
+            Form::Slots(run) => run_get(run, i),
+            Form::Parts(parts) => parts_get(parts, i),
+        }
+    }
+
+    /// The values, in order.
+    pub fn iter(&self) -> ValuesIter<'a>
+        ensures { values_left result ≡ borrowed_cells self.now }
+    {
+        ValuesIter {
+            values: *self,
+            next: 0,
+        }
+    }
+}
+
+impl<'a> Iterator for ValuesIter<'a> {
+    ghost use Rattle.std.specs.Iterator.{YieldsFirstBy, item_count};
+
+    type Item = ValueRef<'a>;
+
+    ghost next_gives = { YieldsFirstBy borrowed_cell values_left };
+
+    ghost remaining = { item_count values_left };
+
+    fn next(&mut self) -> Option<ValueRef<'a>> {
+        // a number of the code is below 2^64, so that the next place is too
+        let _len = self.values.len();
+        match self.values.get(self.next) {
+            None => None,
+            Some(value) => {
+                self.next += 1;
+                Some(value)
+            }
+        }
+    }
+}

@@ -1,0 +1,36 @@
+// What the definitions say.
+ghost use Rattle.columns.specs.laws.WorkedCases.{Integers, PaddedBuffers, RightCount, WrongCount, Texts, Booleans, FixedBinaries, LargeTexts, Dates, Timestamps, Lists, SoundLists, FixedLists, Structs, HiddenNull, VisibleNull, Dictionaries, Replaced, Appended, NullBeforeDictionary, IndexBeforeDictionary, NegativeIndex, NullEntry, WrittenLists, WrittenFixedLists, WrittenStructs, WrittenDictionaries, WrittenWithoutEntries, ReadAgain};
+
+/// The worked cases of the definitions.
+#[tactic(auto, unfolding(crate::specs::CellAt::cell_at, crate::specs::CellAt::kind_cell, crate::specs::CellAt::part_cells, crate::specs::Visible::visible, crate::specs::Visible::visible_below, crate::specs::Visible::visible_parts, crate::specs::Visible::visible_in, crate::specs::Sound::is_sound, crate::specs::Sound::has_sound_children, crate::specs::Tests::arrays_at, crate::specs::Built::built))]
+pub fn worked_cases()
+    ensures integers { Integers }
+    ensures padded_buffers { PaddedBuffers }
+    ensures right_count { RightCount }
+    ensures wrong_count { WrongCount }
+    ensures texts { Texts }
+    ensures booleans { Booleans }
+    ensures fixed_binaries { FixedBinaries }
+    ensures large_texts { LargeTexts }
+    ensures dates { Dates }
+    ensures timestamps { Timestamps }
+    ensures lists { Lists }
+    ensures sound_lists { SoundLists }
+    ensures fixed_lists { FixedLists }
+    ensures structs { Structs }
+    ensures hidden_null { HiddenNull }
+    ensures visible_null { VisibleNull }
+    ensures dictionaries { Dictionaries }
+    ensures replaced { Replaced }
+    ensures appended { Appended }
+    ensures null_before_dictionary { NullBeforeDictionary }
+    ensures index_before_dictionary { IndexBeforeDictionary }
+    ensures negative_index { NegativeIndex }
+    ensures null_entry { NullEntry }
+    ensures written_lists { WrittenLists }
+    ensures written_fixed_lists { WrittenFixedLists }
+    ensures written_structs { WrittenStructs }
+    ensures written_dictionaries { WrittenDictionaries }
+    ensures written_without_entries { WrittenWithoutEntries }
+    ensures read_again { ReadAgain }
+{}

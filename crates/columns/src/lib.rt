@@ -1,0 +1,30 @@
+//! Arrays: the columns of record batches, as places in the bytes of a stream (Arrow columnar format, "Physical Memory Layout").
+//!
+//! A [`PlacedArray`] keeps where its buffers stand and holds no bytes. With the bytes, an [`ArrayView`], it is one of the plain arrays of
+//! `specs/Array.antt`, and [`value`] is the cell that the format finds at a slot; [`row`] has the cells at a slot of several arrays. Neither takes
+//! memory: a list's items and a struct's parts are found where they are asked for.
+//!
+//! ```ignore
+//! let values = PlacedArray { slots: 2, validity, layout: PlacedLayout::Fixed(numbers) };
+//! let view = ArrayView { array: &values, bytes, dictionaries: &[] };
+//! let second = value(&field, view, 1);
+//! ```
+#![tactic(auto)]
+
+mod array;
+mod borrowed;
+mod borrowing;
+mod entry;
+mod laws;
+mod numbers;
+mod read;
+mod span;
+mod view;
+
+pub use array::{Dictionary, DictionaryPart, PlacedArray, PlacedLayout};
+pub use borrowed::{ValueRef, Values, ValuesIter};
+pub use borrowing::borrow_value;
+pub use laws::worked_cases;
+pub use read::{row, value};
+pub use span::Span;
+pub use view::ArrayView;

@@ -1,0 +1,110 @@
+// Little-endian numbers one after another.
+ghost use Rattle.std.specs.Prelude.{◌≡◌, ◌≤◌, ◌<◌, ◌+◌, ◌*◌, ◌/◌, true, false, length, drop, nat_lt};
+ghost use Rattle.byteorder.specs.Endian.{little_number};
+ghost use Rattle.arrow_schema.specs.View.{bits_of, date_kind};
+ghost use Rattle.values.specs.Fit.{date_bits};
+ghost use Rattle.values.specs.Integers.{integer_of};
+ghost use Rattle.columns.specs.CellAt.{number_at, integer_at};
+ghost use Rattle.columns.specs.inner.Offsets.{width_of};
+
+use arrow_schema::{BitWidth, DateUnit, IntegerType};
+use byteorder::{ByteOrder, LittleEndian};
+
+/// How wide offsets are: the large types have offsets of 64 bits.
+#[derive(Clone, Copy, Debug)]
+pub(crate) enum OffsetWidth {
+    Four,
+    Eight,
+}
+
+impl OffsetWidth {
+    pub(crate) fn bytes(self) -> usize
+        ensures value { result ≡ width_of self }
+        ensures low { 1 ≤ result }
+        ensures high { result ≤ 8 }
+    {
+        match self {
+            OffsetWidth::Four => 4,
+            OffsetWidth::Eight => 8,
+        }
+    }
+}
+
+// From a place of values of one width on, of which there are as many as slots.
+pub(crate) fn from_place(values: &[u8], width: usize, slots: usize, i: usize) -> &[u8]
+    requires long { nat_lt (length values.now) (slots * width) ≡ false }
+    requires within { i < slots }
+    ensures rest { result.now ≡ drop (i * width) values.now }
+    ensures room { width ≤ length result.now }
+{
+    let start = i * width;
+    &values[start..]
+}
+
+fn first_number(width: OffsetWidth, bytes: &[u8]) -> u64
+    requires { width_of width ≤ length bytes.now }
+    ensures { result ≡ little_number (width_of width) bytes.now }
+{
+    match width {
+        OffsetWidth::Four => u64::from(LittleEndian::read_u32(bytes)),
+        OffsetWidth::Eight => LittleEndian::read_u64(bytes),
+    }
+}
+
+// An offset, of which there is one more than slots.
+pub(crate) fn offset_at(width: OffsetWidth, offsets: &[u8], slots: usize, i: usize) -> usize
+    requires long { nat_lt (length offsets.now) ((slots + 1) * width_of width) ≡ false }
+    requires within { i ≤ slots }
+    requires few { slots + 1 < 18446744073709551616 }
+    ensures { result ≡ number_at (width_of width) offsets.now i }
+{
+    let rest = from_place(offsets, width.bytes(), slots + 1, i);
+    first_number(width, rest) as usize
+}
+
+fn first_integer(integer: IntegerType, bytes: &[u8]) -> i128
+    requires { bits_of integer.width / 8 ≤ length bytes.now }
+    ensures { result ≡ integer_of (bits_of integer.width / 8) integer.signed (little_number (bits_of integer.width / 8) bytes.now) }
+{
+    let width = integer.width.bytes();
+    if integer.signed {
+        i128::from(LittleEndian::read_int(bytes, width))
+    } else {
+        i128::from(LittleEndian::read_uint(bytes, width))
+    }
+}
+
+// An integer, of which there are as many as slots.
+pub(crate) fn integer_at(integer: IntegerType, values: &[u8], slots: usize, i: usize) -> i128
+    requires long { nat_lt (length values.now) (slots * (bits_of integer.width / 8)) ≡ false }
+    requires within { i < slots }
+    ensures { result ≡ integer_at (bits_of integer.width / 8) integer.signed values.now i }
+{
+    let rest = from_place(values, integer.width.bytes(), slots, i);
+    first_integer(integer, rest)
+}
+
+// The integers that dates and timestamps are.
+pub(crate) fn date_integer(unit: DateUnit) -> IntegerType
+    ensures bits { bits_of result.width ≡ date_bits (date_kind unit) }
+    ensures signed { result.signed ≡ true }
+{
+    let width = match unit {
+        DateUnit::Day => BitWidth::ThirtyTwo,
+        DateUnit::Millisecond => BitWidth::SixtyFour,
+    };
+    IntegerType {
+        width,
+        signed: true,
+    }
+}
+
+pub(crate) fn timestamp_integer() -> IntegerType
+    ensures bytes { bits_of result.width / 8 ≡ 8 }
+    ensures signed { result.signed ≡ true }
+{
+    IntegerType {
+        width: BitWidth::SixtyFour,
+        signed: true,
+    }
+}
