@@ -9,6 +9,8 @@ mod bitmaps;
 #[cfg(test)]
 mod buffers;
 #[cfg(test)]
+mod fakes;
+#[cfg(test)]
 mod messages;
 #[cfg(test)]
 mod program;
