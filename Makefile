@@ -5,7 +5,7 @@ SOURCES := $(shell find crates.txt crates -name out -prune -o -type f -print)
 REFUSING := $(sort $(shell grep -rl _also_without_memory crates/*/src | cut -d/ -f2))
 TESTS := $(foreach crate,$(REFUSING),crates/$(crate)/out/$(crate)_tests)
 
-.PHONY: all test memory vectors bench bench-recode bench-device bench-bitmap
+.PHONY: all test gate-cost memory vectors bench bench-recode bench-device bench-bitmap
 .DELETE_ON_ERROR:
 
 # Builds the program and runs it once, on the stream of examples/.
@@ -33,6 +33,10 @@ test:
 	@echo "The gate proves every crate from nothing: on two processors that takes about an hour."
 	rt ci
 	@$(MAKE) --no-print-directory memory vectors
+
+# The same, and what it cost crate by crate (docs/gate.md).
+gate-cost:
+	tests/gate_cost $(MAKE) --no-print-directory test
 
 # Calls of single crates with each allocation refused.
 memory: $(TESTS)

@@ -1,0 +1,4 @@
+pub mod Bytes
+pub mod Checks
+pub mod Levels
+pub mod Lists
