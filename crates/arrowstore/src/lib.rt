@@ -17,10 +17,11 @@ mod reports;
 mod running;
 mod status;
 mod stream;
+mod unreadable;
 
 pub use input::{LARGEST_INPUT, read_at_most};
 pub use refusal::Refusal;
-pub use reports::report_unreadable_arguments;
 pub use running::run;
 pub use status::{Ended, Status};
 pub use stream::recode;
+pub use unreadable::report_unreadable_arguments;

@@ -1,13 +1,11 @@
 // What is reported of a run that was refused, of wrong arguments and of a request for help.
-ghost use Rattle.std.specs.Prelude.{◌≡◌, ◌≢◌, ◌⊎◌, IsOk, IfErr, IsTrue};
+ghost use Rattle.std.specs.Prelude.{◌≡◌, ◌⊎◌, IsOk, IfErr, IsTrue};
 ghost use Rattle.std.specs.Io.KnownBytes.{Appends};
-ghost use Rattle.std.specs.IoError.{error_kind};
 ghost use Rattle.clap.specs.Words.{kind_of};
 ghost use Rattle.arrowstore.specs.Reported.{refusal_line, IfRefused, IsRequest, IsWrong};
 
 use crate::{Ended, Refusal, Status};
 use clap::error::ErrorKind;
-use std::io;
 use std::io::Write;
 
 /// Reports why the arguments ask for nothing: what is wrong with them goes to `errors`, and help to `output`.
@@ -32,22 +30,6 @@ pub(crate) fn report_arguments<W: Write, E: Write>(
             status: Status::WrongArguments,
             is_reported: write!(errors, "{error}").is_ok(),
         },
-    }
-}
-
-/// Reports that the arguments could not be read: memory is out, or one is not UTF-8.
-pub fn report_unreadable_arguments<E: Write>(error: &io::Error, errors: &mut E) -> Ended
-    ensures memory { error_kind error.now ≡ io.ErrorKind.OutOfMemory → result.status ≡ Status.Refused Refusal.OutOfMemory }
-    ensures text { error_kind error.now ≢ io.ErrorKind.OutOfMemory → result.status ≡ Status.WrongArguments }
-    ensures line { IfRefused result.status (λ refusal. IsTrue result.is_reported
-        → Appends (E.contents errors.old) (E.contents errors.new) (refusal_line refusal)) }
-{
-    if error.kind() == io::ErrorKind::OutOfMemory {
-        return end(Err(Refusal::OutOfMemory), errors);
-    }
-    Ended {
-        status: Status::WrongArguments,
-        is_reported: writeln!(errors, "error: an argument is not UTF-8").is_ok(),
     }
 }
 

@@ -5,6 +5,7 @@ ghost use Rattle.ipc_message.specs.Header.{supported_codes};
 ghost use Rattle.ipc_stream.specs.Meaning.{meaning};
 ghost use Rattle.arrowstore.specs.Recode.{AppendsCanonical, IsTrueFault};
 ghost use Rattle.arrowstore.specs.Arguments.{AreRecode, AskForHelp};
+ghost use Rattle.arrowstore.specs.declared.status.Status.TheVariants.{Done, WrongArguments};
 ghost use Rattle.arrowstore.specs.Reported.{refusal_line, IfRefused, IsRefused, IsWrong};
 
 use crate::command_line::{Action, action_of};
@@ -23,10 +24,10 @@ pub fn run<S: AsStr, R: Read, W: Write, E: Write>(
     errors: &mut E,
 ) -> Ended
     // Done: the command was right, or help was asked for, and nothing is reported on `errors`.
-    ensures done { result.status ≡ Status.Done → AreRecode (map S.text arguments.now) ⊎ AskForHelp (map S.text arguments.now) }
-    ensures silent { result.status ≡ Status.Done → errors.new ≡ errors.old }
+    ensures done { result.status ≡ Done → AreRecode (map S.text arguments.now) ⊎ AskForHelp (map S.text arguments.now) }
+    ensures silent { result.status ≡ Done → errors.new ≡ errors.old }
     // The output has been given the canonical stream of what the input means, and nothing else.
-    ensures recoded { AreRecode (map S.text arguments.now) → result.status ≡ Status.Done
+    ensures recoded { AreRecode (map S.text arguments.now) → result.status ≡ Done
         → IfSome (R.remaining input.old) (AppendsCanonical (W.contents output.old) (W.contents output.new)) }
     // An input that has no meaning or too many bytes is refused, and nothing is written.
     ensures meaningless { AreRecode (map S.text arguments.now)
@@ -37,11 +38,11 @@ pub fn run<S: AsStr, R: Read, W: Write, E: Write>(
     ensures fault { AreRecode (map S.text arguments.now)
         → IfRefused result.status (λ refusal. IfSome (R.remaining input.old) (IsTrueFault refusal)) }
     // Right arguments are taken. Wrong ones are told to be wrong, unless memory is out: nothing is read, nothing is written.
-    ensures right_arguments { AreRecode (map S.text arguments.now) → result.status ≢ Status.WrongArguments }
+    ensures right_arguments { AreRecode (map S.text arguments.now) → result.status ≢ WrongArguments }
     ensures wrong_arguments { AreRecode (map S.text arguments.now) ⊎ AskForHelp (map S.text arguments.now)
         ⊎ (IsWrong result.status × (output.new ≡ output.old)) }
     ensures only_recode_reads { AreRecode (map S.text arguments.now) ⊎ (input.new ≡ input.old) }
-    ensures nothing_written { result.status ≡ Status.WrongArguments → output.new ≡ output.old }
+    ensures nothing_written { result.status ≡ WrongArguments → output.new ≡ output.old }
     // The refusal's line, where `errors` takes what it is given.
     ensures line { IfRefused result.status (λ refusal. IsTrue result.is_reported
         → Appends (E.contents errors.old) (E.contents errors.new) (refusal_line refusal)) }

@@ -170,7 +170,11 @@ fn calls_may_take_little_fail_or_be_interrupted(rt: HostRuntime) -> Result<(), F
         ((512, never), (512, never), None),
     ];
     for (reads, writes, kept) in cases {
-        let answer = if kept.is_none() { Ok(()) } else { Err(Refusal::Io) };
+        let answer = if kept.is_none() {
+            Ok(())
+        } else {
+            Err(Refusal::Io)
+        };
         let output = stream.get(..kept.unwrap_or(320)).unwrap_or_default();
         let input = &stream;
         let case = Recoding {
@@ -245,14 +249,9 @@ fn assert_run(rt: &impl Abort, alloc: Global, case: &Run<'_>) -> Result<(), Allo
     let mut input = Pieces::new(case.input, case.reads.0, case.reads.1);
     let mut output = Kept::new(alloc, case.writes.0, case.writes.1)?;
     let mut errors = Kept::new(alloc, case.reports.0, case.reports.1)?;
-    let ended = run(
-        alloc,
-        case.arguments,
-        &mut input,
-        &mut output,
-        &mut errors,
-    );
-    let is_status = ended.status == case.status && ended.is_reported == matches!(case.reports.1, Moment::Never);
+    let ended = run(alloc, case.arguments, &mut input, &mut output, &mut errors);
+    let is_status = ended.status == case.status
+        && ended.is_reported == matches!(case.reports.1, Moment::Never);
     let well = is_status && output.bytes() == case.output && errors.bytes() == case.errors;
     assert!(rt; well, "{ended:?} and {} bytes", output.bytes().len());
     Ok(())
@@ -385,7 +384,10 @@ fn wrong_arguments_and_help_read_nothing(rt: HostRuntime) {
         (&["arrowstore"], Status::WrongArguments),
         (&["arrowstore", "store"], Status::WrongArguments),
         (&["arrowstore", "recode", "now"], Status::WrongArguments),
-        (&["arrowstore", "recode", "--", "now"], Status::WrongArguments),
+        (
+            &["arrowstore", "recode", "--", "now"],
+            Status::WrongArguments,
+        ),
         (&["arrowstore", "--", "recode"], Status::WrongArguments),
         (&["arrowstore", "help"], Status::Done),
         (&["arrowstore", "--help"], Status::Done),
@@ -442,7 +444,11 @@ fn reads(alloc: Global, piece: usize, moment: Moment, largest: usize) -> (bool, 
 fn inputs_are_read_up_to_a_limit(rt: HostRuntime) {
     let mut failing = [(4, Moment::Never, 13, 13); 10];
     for (call, case) in failing.iter_mut().enumerate() {
-        let moment = if call < 5 { Moment::Fails(call) } else { Moment::IsInterrupted(call - 5) };
+        let moment = if call < 5 {
+            Moment::Fails(call)
+        } else {
+            Moment::IsInterrupted(call - 5)
+        };
         *case = (4, moment, 2_147_483_647, 13.min(4 * call));
     }
     let limits = [
@@ -457,7 +463,10 @@ fn inputs_are_read_up_to_a_limit(rt: HostRuntime) {
     ];
     for (piece, moment, largest, given) in limits.iter().chain(failing.iter()).copied() {
         let (well, taken) = reads(rt.alloc(), piece, moment, largest);
-        assert!(rt; well && taken == given, "{taken} bytes in pieces of {piece}");
+        assert!(rt;
+            well && taken == given,
+            "{taken} bytes in pieces of {piece}"
+        );
     }
 }
 
