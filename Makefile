@@ -13,13 +13,13 @@ all: bin/arrowstore
 	@examples/run bin/arrowstore
 
 # What the gate has built is taken, and built here only where a source is newer.
-crates/arrowstore/out/arrowstore: $(SOURCES)
+crates/program/out/program: $(SOURCES)
 	@echo "Proving and building arrowstore. The first build proves every crate: on four processors that takes"
 	@echo "some ten minutes. A line comes for each crate and function; later builds prove only what changed."
-	cd crates/arrowstore && rt run -- recode < stdin > /dev/null
+	cd crates/program && rt run -- recode < stdin > /dev/null
 	@touch $@
 
-bin/arrowstore: crates/arrowstore/out/arrowstore
+bin/arrowstore: crates/program/out/program
 	@mkdir -p bin
 	@cp $< $@
 

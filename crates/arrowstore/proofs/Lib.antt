@@ -1,1 +1,3 @@
+mod ArgumentLemmas
 mod CommandLemmas
+mod GivenLemmas

@@ -1,6 +1,7 @@
--- What the command line knows: one command `recode`, without arguments.
-use Rattle.std.specs.Prelude.{List, [], ◌∷◌, ◌≡◌, codes, true, Some, option_map}
-use Rattle.clap.specs.Words.{App, Text, new_app, subcommand_of, with_subcommand}
+-- The arguments of the program: the command `recode`, which takes none of its own, and requests for help.
+use Rattle.std.specs.Prelude.{◌≡◌, ◌⊎◌, List, [], ◌∷◌, codes, true, Some, slice_get}
+use Rattle.std.specs.Str.{chars}
+use Rattle.clap.specs.Words.{App, Text, new_app, with_subcommand}
 
 abbrev pub recode_command : App
 recode_command = new_app (codes "recode")
@@ -9,10 +10,18 @@ recode_command = new_app (codes "recode")
 abbrev pub program_command : App
 program_command = with_subcommand (record { top = record (new_app (codes "arrowstore")).top { subcommand_required = true }; subs = [] }) recode_command.top
 
--- the words are the program's name, whatever it is, and `recode`
+-- the program's name, whatever it is, and `recode`; a `--` may end the arguments
 abbrev pub AreRecode : List Text → Type 0
-AreRecode arguments = (name : Text) × (arguments ≡ name ∷ codes "recode" ∷ [])
+AreRecode arguments =
+    (name : Text) × ((arguments ≡ name ∷ codes "recode" ∷ []) ⊎ (arguments ≡ name ∷ codes "recode" ∷ codes "--" ∷ []))
 
--- the words name the command `recode`, rightly or wrongly used
-abbrev pub NameRecode : List Text → Type 0
-NameRecode arguments = option_map (λ p. p.0) (subcommand_of program_command arguments) ≡ Some (codes "recode")
+-- `--help`, or `-h` and whatever follows it in the word
+pub data IsHelpFlag (word : Text) : Type 0 where
+  long : word ≡ codes "--help" → IsHelpFlag word
+  short : (letters : Text) → word ≡ 45 ∷ letters → slice_get (chars letters) 0 ≡ Some 104 → IsHelpFlag word
+
+-- the command `help`, or a flag that asks for help, of the program or of `recode`
+pub data AskForHelp (arguments : List Text) : Type 0 where
+  command : (name : Text) (rest : List Text) → arguments ≡ name ∷ codes "help" ∷ rest → AskForHelp arguments
+  flag : (name word : Text) (rest : List Text) → arguments ≡ name ∷ word ∷ rest → IsHelpFlag word → AskForHelp arguments
+  flag_of_recode : (name word : Text) (rest : List Text) → arguments ≡ name ∷ codes "recode" ∷ word ∷ rest → IsHelpFlag word → AskForHelp arguments

@@ -1,7 +1,21 @@
 -- What a reader has given.
-use Rattle.std.specs.Prelude.{ℕ, List, ◌≡◌, length, Option}
+use Rattle.std.specs.Prelude.{ℕ, List, ◌≡◌, ◌≤◌, length, Option, Result, Ok, Err}
 use Rattle.std.specs.Io.KnownBytes.{Consumes}
+use Rattle.arrowstore.specs.declared.refusal.Refusal.{Refusal}
+use Rattle.arrowstore.specs.declared.refusal.Refusal.TheVariants.{Fault, TooManyBytes, Io, OutOfMemory}
 
 -- the reader has given its next n bytes
 abbrev pub HasGiven : Option (List ℕ) → Option (List ℕ) → ℕ → Type 0
 HasGiven old new n = (bytes : List ℕ) × Consumes old new bytes × (length bytes ≡ n)
+
+-- it has given no more than n bytes
+abbrev pub HasGivenAtMost : Option (List ℕ) → Option (List ℕ) → ℕ → Type 0
+HasGivenAtMost old new n = (bytes : List ℕ) × Consumes old new bytes × (length bytes ≤ n)
+
+-- of every answer but the refusal of too many bytes
+abbrev pub UnlessTooManyBytes : {A : Type 0} → Result A Refusal → Type 0 → Type 0
+UnlessTooManyBytes (Ok x) P = P
+UnlessTooManyBytes (Err (Fault fault)) P = P
+UnlessTooManyBytes (Err TooManyBytes) P = Unit {0}
+UnlessTooManyBytes (Err Io) P = P
+UnlessTooManyBytes (Err OutOfMemory) P = P

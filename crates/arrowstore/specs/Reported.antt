@@ -1,12 +1,14 @@
--- What is reported of a refusal: its code, its name and what it carries, split by spaces.
-use Rattle.std.specs.Prelude.{ℕ, List, codes}
+-- What is reported of a run: its exit status, and of a refusal its code, its name and what it carries, split by spaces.
+use Rattle.std.specs.Prelude.{◌≡◌, ◌⊎◌, ℕ, List, [], ◌∷◌, ◌++◌, codes}
 use Rattle.ipc_message.specs.FaultText.{fault_text}
 use Rattle.ipc_message.specs.declared.error.ImportError.{ImportError}
 use Rattle.ipc_message.specs.declared.error.ImportError.TheVariants as errors
+use Rattle.clap.specs.declared.error.kind.ErrorKind.{ErrorKind}
+use Rattle.clap.specs.declared.error.kind.ErrorKind.TheVariants as kinds
 use Rattle.arrowstore.specs.declared.refusal.Refusal.{Refusal}
 use Rattle.arrowstore.specs.declared.refusal.Refusal.TheVariants.{Fault, TooManyBytes, Io, OutOfMemory}
-use Rattle.arrowstore.specs.declared.outcome.Status.{Status}
-use Rattle.arrowstore.specs.declared.outcome.Status.TheVariants.{Done, Refused, WrongArguments}
+use Rattle.arrowstore.specs.declared.status.Status.{Status}
+use Rattle.arrowstore.specs.declared.status.Status.TheVariants.{Done, Refused, WrongArguments}
 
 -- what an import that failed is reported as
 abbrev pub refusal_of : ImportError → Refusal
@@ -19,8 +21,28 @@ refusal_text TooManyBytes = codes "S7 TooMany Bytes"
 refusal_text Io = codes "G1 Io"
 refusal_text OutOfMemory = codes "OutOfMemory"
 
+-- the line of a refusal on standard error
+abbrev pub refusal_line : Refusal → List ℕ
+refusal_line refusal = codes "refused " ++ refusal_text refusal ++ 10 ∷ []
+
 -- the exit status
 abbrev pub status_code : Status → ℕ
 status_code Done = 0
-status_code Refused = 1
+status_code (Refused refusal) = 1
 status_code WrongArguments = 2
+
+abbrev pub IfRefused : Status → (Refusal → Type 0) → Type 0
+IfRefused Done P = Unit {0}
+IfRefused (Refused refusal) P = P refusal
+IfRefused WrongArguments P = Unit {0}
+
+abbrev pub IsRefused : Status → Type 0
+IsRefused status = (refusal : Refusal) × (status ≡ Refused refusal)
+
+-- the arguments are told to be wrong, unless memory is out
+abbrev pub IsWrong : Status → Type 0
+IsWrong status = (status ≡ WrongArguments) ⊎ (status ≡ Refused OutOfMemory)
+
+-- the arguments ask for a text of the program's own
+abbrev pub IsRequest : ErrorKind → Type 0
+IsRequest kind = (kind ≡ kinds.DisplayHelp) ⊎ (kind ≡ kinds.DisplayVersion)

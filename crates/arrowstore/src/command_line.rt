@@ -1,41 +1,39 @@
-// The words of a command line.
-ghost use Rattle.std.specs.Prelude.{◌≡◌, map, codes, Some, IfOk, IfSome, OnOk, MatchResult};
+// What the arguments of a command line ask for.
+ghost use Rattle.std.specs.Prelude.{◌≡◌, map, codes, Some, IfOk, IfErr, OnOk, MatchResult};
 ghost use Rattle.clap.specs.Words.{app_of, kind_of, subcommand_name_of};
 ghost use Rattle.clap.specs.declared.error.kind.ErrorKind.TheVariants.{OutOfMemory};
-ghost use Rattle.arrowstore.specs.Arguments.{program_command, AreRecode, NameRecode};
+ghost use Rattle.arrowstore.specs.Arguments.{program_command, AreRecode, AskForHelp};
+ghost use Rattle.arrowstore.specs.Reported.{IsRequest};
 
-use clap::error::ErrorKind;
 use clap::{ArgMatches, Command, Error};
 use std::alloc::{AllocError, Global};
 use std::convert::AsStr;
 
 /// What a command line asks for.
 #[derive(Clone, Copy, Debug, PartialEq, Eq)]
-pub enum Action {
+pub(crate) enum Action {
     /// A stream from standard input, in its canonical form to standard output.
     Recode,
 }
 
-/// Reads the words of a command line, the program's name the first. An `Err` is a mistake in them, or asks for help.
-pub fn action_of<S: AsStr>(alloc: Global, arguments: &[S]) -> Result<Action, Error>
+/// Reads a command line, of which the program's name is the first argument. An `Err` is a mistake in it, or asks for help.
+pub(crate) fn action_of<S: AsStr>(alloc: Global, arguments: &[S]) -> Result<Action, Error>
     ensures understood { AreRecode (map S.text arguments.now)
         → MatchResult result (λ action. action ≡ Action.Recode) (λ error. kind_of error ≡ OutOfMemory) }
-    ensures asked { OnOk result (NameRecode (map S.text arguments.now)) }
+    ensures asked { OnOk result (AreRecode (map S.text arguments.now)) }
+    ensures request { IfErr result (λ error. IsRequest (kind_of error) → AskForHelp (map S.text arguments.now)) }
 {
     let matches = program(alloc)?.try_get_matches_from(arguments)?;
-    match named(&matches) {
-        Some(action) => Ok(action),
-        None => Err(program(alloc)?.error(ErrorKind::MissingSubcommand, "a command is wanted")?),
-    }
+    Ok(named(&matches))
 }
 
-fn named(matches: &ArgMatches<'_>) -> Option<Action>
-    ensures known { subcommand_name_of matches.now ≡ Some (codes "recode") → result ≡ Some Action.Recode }
-    ensures asked { IfSome result (λ _. subcommand_name_of matches.now ≡ Some (codes "recode")) }
+fn named(matches: &ArgMatches<'_>) -> Action
+    requires { subcommand_name_of matches.now ≡ Some (codes "recode") }
+    ensures { result ≡ Action.Recode }
 {
     match matches.subcommand_name() {
-        Some("recode") => Some(Action::Recode),
-        _ => None,
+        Some("recode") => Action::Recode,
+        _ => unreachable!(),
     }
 }
 

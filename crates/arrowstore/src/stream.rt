@@ -5,10 +5,11 @@ ghost use Rattle.ipc_message.specs.Header.{supported_codes};
 ghost use Rattle.ipc_stream.specs.Meaning.{meaning};
 ghost use Rattle.values.specs.IntegerTable.{IsIntegerTable};
 ghost use Rattle.values.specs.TableView.{table_of};
-ghost use Rattle.arrowstore.specs.Given.{HasGiven};
+ghost use Rattle.arrowstore.specs.Given.{HasGiven, HasGivenAtMost, UnlessTooManyBytes};
 ghost use Rattle.arrowstore.specs.Recode.{IsVerdict, AppendsCanonical, IsTrueFault};
 
-use crate::{LARGEST_INPUT, Refusal, read_input, write_whole};
+use crate::output::write_whole;
+use crate::{LARGEST_INPUT, Refusal, read_at_most};
 use ipc_stream::{Table, decode, encode};
 use std::alloc::Global;
 use std::io::{Read, Write};
@@ -17,7 +18,7 @@ use std::io::{Read, Write};
 ///
 /// Refused by `TooManyBytes` where the input has more than `LARGEST_INPUT` bytes, and else by the fault of a stream
 /// without a meaning; then nothing is written. `OutOfMemory` comes only where a growth was refused, before anything is
-/// written, and `Io` where a read or a write fails.
+/// written and before the byte that is one too many was read, and `Io` where a read or a write fails.
 pub fn recode<R: Read, W: Write>(
     alloc: Global,
     reader: &mut R,
@@ -33,6 +34,8 @@ pub fn recode<R: Read, W: Write>(
     // Too many bytes: one more than the most was read.
     ensures too_many { IsErrOf result Refusal.TooManyBytes
         → HasGiven (R.remaining reader.old) (R.remaining reader.new) (LARGEST_INPUT + 1) }
+    // Every other answer comes before the byte that is one too many.
+    ensures few { UnlessTooManyBytes result (HasGivenAtMost (R.remaining reader.old) (R.remaining reader.new) LARGEST_INPUT) }
     // Of an input that has no meaning or too many bytes nothing is written, whatever fails.
     ensures meaningless { IfSome (R.remaining reader.old) (λ input. IsErr (meaning supported_codes input) → writer.new ≡ writer.old) }
     ensures too_long { IfSome (R.remaining reader.old) (λ input. LARGEST_INPUT < length input → writer.new ≡ writer.old) }
@@ -53,7 +56,8 @@ fn read_table<R: Read>(alloc: Global, reader: &mut R) -> Result<Table, Refusal>
     ensures within { IsVerdict result → IfSome (R.remaining reader.old) (λ input. length input ≤ LARGEST_INPUT) }
     ensures too_many { IsErrOf result Refusal.TooManyBytes
         → HasGiven (R.remaining reader.old) (R.remaining reader.new) (LARGEST_INPUT + 1) }
+    ensures few { UnlessTooManyBytes result (HasGivenAtMost (R.remaining reader.old) (R.remaining reader.new) LARGEST_INPUT) }
 {
-    let input = read_input(alloc, reader)?;
+    let input = read_at_most(alloc, reader, LARGEST_INPUT)?;
     Ok(decode(alloc, input.as_slice())?)
 }

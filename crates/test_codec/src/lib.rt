@@ -9,6 +9,8 @@ mod bitmaps;
 #[cfg(test)]
 mod buffers;
 #[cfg(test)]
+mod fakes;
+#[cfg(test)]
 mod integer_tables;
 #[cfg(test)]
 mod made;

@@ -1,0 +1,27 @@
+//! What the program `arrowstore` does, over any reader and writer: its contracts say which bytes are taken and given.
+//!
+//! [`run`] does what a command line asks for, and [`recode`] reads a stream and writes its canonical form. The crate
+//! `program` hands them the process's arguments, standard input and standard output.
+//!
+//! ```
+//! let mut output = Vec::new(alloc);
+//! recode(alloc, &mut stream.as_slice(), &mut output)?; // `output` has the canonical stream of `stream`
+//! ```
+#![tactic(auto)]
+
+mod command_line;
+mod input;
+mod output;
+mod refusal;
+mod reports;
+mod running;
+mod status;
+mod stream;
+mod unreadable;
+
+pub use input::{LARGEST_INPUT, read_at_most};
+pub use refusal::Refusal;
+pub use running::run;
+pub use status::{Ended, Status};
+pub use stream::recode;
+pub use unreadable::report_unreadable_arguments;

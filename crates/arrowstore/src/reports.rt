@@ -1,0 +1,53 @@
+// What is reported of a run that was refused, of wrong arguments and of a request for help.
+ghost use Rattle.std.specs.Prelude.{◌≡◌, ◌⊎◌, IsOk, IfErr, IsTrue};
+ghost use Rattle.std.specs.Io.KnownBytes.{Appends};
+ghost use Rattle.clap.specs.Words.{kind_of};
+ghost use Rattle.arrowstore.specs.Reported.{refusal_line, IfRefused, IsRequest, IsWrong};
+
+use crate::{Ended, Refusal, Status};
+use clap::error::ErrorKind;
+use std::io::Write;
+
+/// Reports why the arguments ask for nothing: what is wrong with them goes to `errors`, and help to `output`.
+pub(crate) fn report_arguments<W: Write, E: Write>(
+    error: &clap::Error,
+    output: &mut W,
+    errors: &mut E,
+) -> Ended
+    ensures request { IsRequest (kind_of error.now) ⊎ (IsWrong result.status × (output.new ≡ output.old)) }
+    ensures memory { kind_of error.now ≡ ErrorKind.OutOfMemory → (result.status ≡ Status.Refused Refusal.OutOfMemory) × (output.new ≡ output.old) }
+    ensures done { result.status ≡ Status.Done → errors.new ≡ errors.old }
+    ensures wrong { result.status ≡ Status.WrongArguments → output.new ≡ output.old }
+    ensures line { IfRefused result.status (λ refusal. IsTrue result.is_reported
+        → Appends (E.contents errors.old) (E.contents errors.new) (refusal_line refusal)) }
+{
+    match error.kind() {
+        ErrorKind::OutOfMemory => end(Err(Refusal::OutOfMemory), errors),
+        ErrorKind::DisplayHelp | ErrorKind::DisplayVersion => {
+            end(write!(output, "{error}").map_err(|_| Refusal::Io), errors)
+        }
+        _ => Ended {
+            status: Status::WrongArguments,
+            is_reported: write!(errors, "{error}").is_ok(),
+        },
+    }
+}
+
+/// Reports a refusal on one line.
+pub(crate) fn end<E: Write>(done: Result<(), Refusal>, errors: &mut E) -> Ended
+    ensures done { IsOk done → (result.status ≡ Status.Done) × (errors.new ≡ errors.old) }
+    ensures refused { IfErr done (λ refusal. result.status ≡ Status.Refused refusal) }
+    ensures line { IfRefused result.status (λ refusal. IsTrue result.is_reported
+        → Appends (E.contents errors.old) (E.contents errors.new) (refusal_line refusal)) }
+{
+    match done {
+        Ok(()) => Ended {
+            status: Status::Done,
+            is_reported: true,
+        },
+        Err(refusal) => Ended {
+            status: Status::Refused(refusal),
+            is_reported: writeln!(errors, "refused {refusal}").is_ok(),
+        },
+    }
+}

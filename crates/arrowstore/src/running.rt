@@ -1,0 +1,54 @@
+// The program over any input and output.
+ghost use Rattle.std.specs.Prelude.{◌≡◌, ◌≢◌, ◌⊎◌, ◌<◌, length, map, IfSome, IsErr, IsTrue};
+ghost use Rattle.std.specs.Io.KnownBytes.{Appends};
+ghost use Rattle.ipc_message.specs.Header.{supported_codes};
+ghost use Rattle.ipc_stream.specs.Meaning.{meaning};
+ghost use Rattle.arrowstore.specs.Recode.{AppendsCanonical, IsTrueFault};
+ghost use Rattle.arrowstore.specs.Arguments.{AreRecode, AskForHelp};
+ghost use Rattle.arrowstore.specs.declared.status.Status.TheVariants.{Done, WrongArguments};
+ghost use Rattle.arrowstore.specs.Reported.{refusal_line, IfRefused, IsRefused, IsWrong};
+
+use crate::command_line::{Action, action_of};
+use crate::reports::{end, report_arguments};
+use crate::{Ended, LARGEST_INPUT, recode};
+use std::alloc::Global;
+use std::convert::AsStr;
+use std::io::{Read, Write};
+
+/// Does what the arguments ask for, of which the first is the program's name, and reports on `errors` why not.
+pub fn run<S: AsStr, R: Read, W: Write, E: Write>(
+    alloc: Global,
+    arguments: &[S],
+    input: &mut R,
+    output: &mut W,
+    errors: &mut E,
+) -> Ended
+    // Done: the command was right, or help was asked for, and nothing is reported on `errors`.
+    ensures done { result.status ≡ Done → AreRecode (map S.text arguments.now) ⊎ AskForHelp (map S.text arguments.now) }
+    ensures silent { result.status ≡ Done → errors.new ≡ errors.old }
+    // The output has been given the canonical stream of what the input means, and nothing else.
+    ensures recoded { AreRecode (map S.text arguments.now) → result.status ≡ Done
+        → IfSome (R.remaining input.old) (AppendsCanonical (W.contents output.old) (W.contents output.new)) }
+    // An input that has no meaning or too many bytes is refused, and nothing is written.
+    ensures meaningless { AreRecode (map S.text arguments.now)
+        → IfSome (R.remaining input.old) (λ bytes. IsErr (meaning supported_codes bytes) → IsRefused result.status × (output.new ≡ output.old)) }
+    ensures too_long { AreRecode (map S.text arguments.now)
+        → IfSome (R.remaining input.old) (λ bytes. LARGEST_INPUT < length bytes → IsRefused result.status × (output.new ≡ output.old)) }
+    // A fault that is reported is the fault of the input.
+    ensures fault { AreRecode (map S.text arguments.now)
+        → IfRefused result.status (λ refusal. IfSome (R.remaining input.old) (IsTrueFault refusal)) }
+    // Right arguments are taken. Wrong ones are told to be wrong, unless memory is out: nothing is read, nothing is written.
+    ensures right_arguments { AreRecode (map S.text arguments.now) → result.status ≢ WrongArguments }
+    ensures wrong_arguments { AreRecode (map S.text arguments.now) ⊎ AskForHelp (map S.text arguments.now)
+        ⊎ (IsWrong result.status × (output.new ≡ output.old)) }
+    ensures only_recode_reads { AreRecode (map S.text arguments.now) ⊎ (input.new ≡ input.old) }
+    ensures nothing_written { result.status ≡ WrongArguments → output.new ≡ output.old }
+    // The refusal's line, where `errors` takes what it is given.
+    ensures line { IfRefused result.status (λ refusal. IsTrue result.is_reported
+        → Appends (E.contents errors.old) (E.contents errors.new) (refusal_line refusal)) }
+{
+    match action_of(alloc, arguments) {
+        Ok(Action::Recode) => end(recode(alloc, input, output), errors),
+        Err(error) => report_arguments(&error, output, errors),
+    }
+}

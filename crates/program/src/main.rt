@@ -1,0 +1,26 @@
+//! The program `arrowstore`: hands the process's arguments and streams to the library of that name, and exits with its status.
+//!
+//! Status 0 is done, 1 refused, with one line `refused CODE NAME ..` on standard error, and 2 wrong arguments.
+#![tactic(auto)]
+
+use arrowstore::{report_unreadable_arguments, run};
+use std::process::ExitCode;
+use std::{env, io};
+
+fn main(rt: HostRuntime) -> ExitCode {
+    let ended = match arguments_of(&rt) {
+        Ok(arguments) => run(
+            rt.alloc(),
+            arguments.as_slice(),
+            &mut rt.reader(),
+            &mut rt.stdout(),
+            &mut rt.stderr(),
+        ),
+        Err(error) => report_unreadable_arguments(&error, &mut rt.stderr()),
+    };
+    ExitCode::from(ended.status.code())
+}
+
+fn arguments_of(rt: &HostRuntime) -> io::Result<Vec<String>> {
+    Ok(env::args(rt)?.collect(rt.alloc())?)
+}
