@@ -6,7 +6,7 @@ use Rattle.std.proofs.lemmas.List.FromFn.{length-map-range_with_len}
 use Rattle.arrow_schema.specs.declared.types.Field.{Field}
 use Rattle.arrow_schema.specs.Column.{columns_of}
 use Rattle.arrow_schema.specs.View.{column_of}
-use Rattle.values.specs.Cell.{Cell}
+use Rattle.cells.specs.Cell.{Cell}
 use Rattle.columns.specs.declared.array.PlacedArray.{PlacedArray}
 use Rattle.columns.specs.Array.{Array, Arrays, arrays_of, slots_in, other_arrays}
 use Rattle.columns.specs.CellAt.{cells_from, cell_at, part_cells, row_at}

@@ -5,7 +5,7 @@ use Rattle.std.proofs.Common.{◌≡◌, ℕ, zero, suc, ◌+◌, ◌<◌, Bool,
 use Rattle.std.proofs.lemmas.Bool.{and_parts}
 use Rattle.std.proofs.lemmas.Str.{IsUtf8-from_is_utf8}
 use Rattle.std.specs.List.{range_with_len}
-use Rattle.values.specs.Cell.{Cell, Cells, no_cell, and_cell, cells_of, cell_list}
+use Rattle.cells.specs.Cell.{Cell, Cells, no_cell, and_cell, cells_of, cell_list}
 use Rattle.columns.specs.CellAt.{cells_from}
 use Rattle.columns.specs.Texts.{has_utf8_texts, have_utf8_texts}
 

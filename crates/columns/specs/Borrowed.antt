@@ -9,8 +9,8 @@ use Rattle.columns.specs.declared.borrowed.Values.{Values}
 use Rattle.columns.specs.declared.borrowed.ValuesIter.{ValuesIter}
 use Rattle.columns.specs.declared.borrowed.ValueRef.{ValueRef}
 use Rattle.columns.specs.declared.borrowed.ValueRef.TheVariants.{Null, Bool as Boolean, Int, Text, Bytes, List as Items, Struct}
-use Rattle.values.specs.Cell.{Cell, null, boolean, number, text, bytes, items, parts, cells_of}
-use Rattle.values.specs.View as values
+use Rattle.cells.specs.Cell.{Cell, null, boolean, number, text, bytes, items, parts, cells_of}
+use Rattle.cells.specs.View as values
 use Rattle.columns.specs.CellAt.{cell_at, cells_from, row_at}
 use Rattle.columns.specs.View.{view_array, placed_arrays, fields_of}
 

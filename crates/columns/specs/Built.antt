@@ -5,10 +5,10 @@ use Rattle.std.specs.List.{flat_map, list_all}
 use Rattle.byteorder.specs.Endian.{little_bytes}
 use Rattle.arrow_schema.specs.Column.{Index, Kind, Column, Columns, nulls, booleans, integers, dates, timestamps, texts, large_texts, binaries, large_binaries, fixed_binaries, lists, large_lists, fixed_lists, structs, column, no_column, and_column}
 use Rattle.bitmap.specs.Bits.{packed}
-use Rattle.values.specs.Cell.{Cell, null, boolean, number, text, bytes}
-use Rattle.values.specs.Dictionary.{is_entry, entries_of, item_list, part_list}
-use Rattle.values.specs.Fit.{date_bits}
-use Rattle.values.specs.Integers.{number_of}
+use Rattle.cells.specs.Cell.{Cell, null, boolean, number, text, bytes}
+use Rattle.cells.specs.Dictionary.{is_entry, entries_of, item_list, part_list}
+use Rattle.cells.specs.Fit.{date_bits}
+use Rattle.cells.specs.Integers.{number_of}
 use Rattle.columns.specs.Array.{Array, Arrays, Layout, array, no_array, and_array, null_layout, bit_layout, fixed_layout, binary_layout, list_layout, fixed_list_layout, struct_layout, dictionary_layout}
 
 abbrev pub is_there : Cell → Bool

@@ -4,9 +4,9 @@ use Rattle.std.specs.List.{flat_map, range_with_len}
 use Rattle.byteorder.specs.Endian.{little_number}
 use Rattle.arrow_schema.specs.Column.{Index, Kind, Column, Columns, nulls, booleans, integers, dates, timestamps, texts, large_texts, binaries, large_binaries, fixed_binaries, lists, large_lists, fixed_lists, structs, column, no_column, and_column}
 use Rattle.bitmap.specs.Bits.{bit}
-use Rattle.values.specs.Cell.{Cell, Cells, null, boolean, number, text, bytes, items, parts, no_cell, and_cell, cells_of, cell_list}
-use Rattle.values.specs.Fit.{date_bits}
-use Rattle.values.specs.Integers.{integer_of}
+use Rattle.cells.specs.Cell.{Cell, Cells, null, boolean, number, text, bytes, items, parts, no_cell, and_cell, cells_of, cell_list}
+use Rattle.cells.specs.Fit.{date_bits}
+use Rattle.cells.specs.Integers.{integer_of}
 use Rattle.columns.specs.Array.{Array, Arrays, slots_in, validity_in, bits_in, values_in, offsets_in, contents_in, items_in, children_in, indices_in, dictionary_in, array_list, first_array, other_arrays}
 
 -- "Validity bitmaps": a slot is valid where its bit is set, and each is where the bitmap is empty

@@ -1,7 +1,7 @@
 -- Cells all of whose texts are UTF-8, at every level.
 use Rattle.std.specs.Prelude.{ℕ, Bool, true, ◌&&◌, List}
 use Rattle.std.specs.Str.{is_utf8}
-use Rattle.values.specs.Cell.{Cell, Cells, null, boolean, number, text, bytes, items, parts, no_cell, and_cell}
+use Rattle.cells.specs.Cell.{Cell, Cells, null, boolean, number, text, bytes, items, parts, no_cell, and_cell}
 
 unfoldable mutual
   pub has_utf8_texts : Cell → Bool

@@ -7,7 +7,7 @@ ghost use Rattle.columns.specs.View.{view_array, placed_arrays, fields_of};
 use crate::array::{Dictionary, PlacedArray};
 use crate::view::ArrayView;
 use arrow_schema::Field;
-use values::Value;
+use cells::Value;
 
 /// Slots of an array that follow one another, as values of a field.
 #[derive(Clone, Copy, Debug)]

@@ -1,12 +1,12 @@
 // Values that are borrowed, in order.
 ghost use Rattle.std.specs.Prelude.{◌≡◌, ◌==◌, length, slice_get, option_map};
-ghost use Rattle.values.specs.View.{cell};
+ghost use Rattle.cells.specs.View.{cell};
 ghost use Rattle.columns.specs.Borrowed.{borrowed_cell, borrowed_cells, run_cells, parts_cells, values_left};
 
 use crate::borrowed::{Form, PartsAt, SlotRun, ValueRef, Values, ValuesIter};
 use crate::read::value;
 use crate::view::ArrayView;
-use values::Value;
+use cells::Value;
 
 /// A value, borrowed.
 pub fn borrow_value(value: &Value) -> ValueRef<'_>

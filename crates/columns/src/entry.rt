@@ -2,7 +2,7 @@
 ghost use Rattle.std.specs.Prelude.{◌≡◌, true, map, get_or};
 ghost use Rattle.std.specs.List.{list_all};
 ghost use Rattle.arrow_schema.specs.Column.{Kind};
-ghost use Rattle.values.specs.Cell.{null};
+ghost use Rattle.cells.specs.Cell.{null};
 ghost use Rattle.columns.specs.CellAt.{entries_of_kind};
 ghost use Rattle.columns.specs.Sound.{is_kind_sound};
 ghost use Rattle.columns.specs.View.{view_array, array_in, no_dictionary, placed_dictionary};

@@ -2,8 +2,8 @@
 ghost use Rattle.std.specs.Prelude.{◌≡◌, ◌≤◌, ◌<◌, ◌+◌, ◌*◌, ◌/◌, true, false, length, drop, nat_lt};
 ghost use Rattle.byteorder.specs.Endian.{little_number};
 ghost use Rattle.arrow_schema.specs.View.{bits_of, date_kind};
-ghost use Rattle.values.specs.Fit.{date_bits};
-ghost use Rattle.values.specs.Integers.{integer_of};
+ghost use Rattle.cells.specs.Fit.{date_bits};
+ghost use Rattle.cells.specs.Integers.{integer_of};
 ghost use Rattle.columns.specs.CellAt.{number_at, integer_at};
 ghost use Rattle.columns.specs.inner.Offsets.{width_of};
 

@@ -2,7 +2,7 @@
 ghost use Rattle.std.specs.Prelude.{◌≡◌, ◌≤◌, ◌<◌, ◌+◌, ◌*◌, ◌/◌, ◌-◌, nat_lt, nat_le, true, false, not, ◌==◌, ◌&&◌, length, map, ℕ};
 ghost use Rattle.bitmap.specs.Bits.{bit, bytes_of};
 ghost use Rattle.arrow_schema.specs.View.{kind_of, column_of, bits_of, index_of};
-ghost use Rattle.values.specs.Cell.{cells_of, null};
+ghost use Rattle.cells.specs.Cell.{cells_of, null};
 ghost use Rattle.columns.specs.Array.{slots_in, array_list, dictionary_in, bits_in, values_in, offsets_in, contents_in, items_in, children_in, indices_in};
 ghost use Rattle.columns.specs.CellAt.{integer_at as plain_integer_at, indexed_cell, unless_null, row_at, cell_at, kind_cell, part_cells, contents_at, value_at, span_start, span_size, span_cells, item_at, cells_from};
 ghost use Rattle.columns.specs.Tests.{are_few, are_few_offsets, are_unordered, has_short_validity};

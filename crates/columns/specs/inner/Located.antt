@@ -1,7 +1,7 @@
 -- The cell of an entry, by the array that it stands in and its place there.
 use Rattle.std.specs.Prelude.{◌≡◌, ◌<◌, true, Option, Some, None}
 use Rattle.arrow_schema.specs.Column.{Kind}
-use Rattle.values.specs.Cell.{Cell, null}
+use Rattle.cells.specs.Cell.{Cell, null}
 use Rattle.columns.specs.declared.entry.EntryPlace.{EntryPlace}
 use Rattle.columns.specs.Array.{slots_in}
 use Rattle.columns.specs.CellAt.{unless_null, kind_cell}

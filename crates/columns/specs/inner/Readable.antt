@@ -1,7 +1,7 @@
 -- Slots whose cells can be borrowed: their arrays are sound, they are within them, and their texts are UTF-8.
 use Rattle.std.specs.Prelude.{ℕ, ◌+◌, Bool, ◌&&◌, nat_le, nat_lt}
 use Rattle.arrow_schema.specs.Column.{Column, Columns}
-use Rattle.values.specs.Cell.{cells_of}
+use Rattle.cells.specs.Cell.{cells_of}
 use Rattle.columns.specs.Array.{Array, Arrays, slots_in}
 use Rattle.columns.specs.CellAt.{cell_at, cells_from, part_cells}
 use Rattle.columns.specs.Sound.{is_sound, are_sound}

@@ -1,7 +1,7 @@
 use Rattle.std.proofs.Common.{◌≡◌, true, drop, map, get_or}
 use Rattle.std.specs.List.{list_all}
 use Rattle.arrow_schema.specs.Column.{Kind}
-use Rattle.values.specs.Cell.{null}
+use Rattle.cells.specs.Cell.{null}
 use Rattle.columns.specs.Array.{arrays_of}
 use Rattle.columns.specs.CellAt.{entries_of_kind}
 use Rattle.columns.specs.Sound.{is_kind_sound}

@@ -1,5 +1,5 @@
 use Rattle.std.proofs.Common.{refl}
-use Rattle.values.specs.Dictionary.{with_entries}
+use Rattle.cells.specs.Dictionary.{with_entries}
 use Rattle.columns.specs.Built.{built}
 use Rattle.columns.specs.FromBuffers.{arrays_from}
 use Rattle.columns.specs.Tests.{arrays_at}

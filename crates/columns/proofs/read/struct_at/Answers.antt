@@ -1,7 +1,7 @@
 use Rattle.std.proofs.Common.{◌≡◌, map, ap, ◌∙◌, rules}
 use Rattle.arrow_schema.specs.Column.{columns_of}
 use Rattle.arrow_schema.specs.View.{column_of}
-use Rattle.values.specs.Cell.{cells_of}
+use Rattle.cells.specs.Cell.{cells_of}
 use Rattle.columns.specs.Array.{children_in}
 use Rattle.columns.specs.CellAt.{part_cells, row_at}
 use Rattle.columns.specs.Borrowed.{borrowed_cells}
