@@ -3,10 +3,17 @@
 //! `FreeMap` knows the runs in use, and gives the lowest free run that fits. `write_runs` touches no sector outside its
 //! runs, and after it each run reads as its bytes. `read_run` gives the bytes of a run, and tells an unreadable sector
 //! from a failing device.
+//!
+//! ```
+//! let run = free_map.take(3)?;
+//! write_run(&mut device, run.start, &bytes)?;
+//! let same = read_run(alloc, &mut device, run.start, bytes.len())?;
+//! ```
 #![tactic(auto)]
 
 mod entries;
 mod errors;
+mod extent;
 mod free_map;
 mod piece;
 mod reading;
@@ -15,6 +22,7 @@ mod writing;
 
 pub use entries::{Usage, UsageEntry};
 pub use errors::{EnterError, TakeError};
+pub use extent::Extent;
 pub use free_map::FreeMap;
 pub use piece::Piece;
 pub use reading::{ReadError, read_run};
