@@ -11,7 +11,7 @@ use Rattle.flatbuf.specs.Held.{Has, Fits, FitsStructs}
 use Rattle.flatbuf.specs.Laid.{metadata, start, laid, gap}
 use Rattle.arrow_schema.specs.Column.{Pair, Column, column, integers, columns_of, PlainSchema}
 use Rattle.arrow_schema.specs.Integers.{is_integer_column, is_bit_width, is_empty, is_integer_schema}
-use Rattle.arrow_schema.specs.IntegerCases.{integer_case}
+use Rattle.arrow_schema.specs.laws.IntegerCases.{integer_case}
 use Rattle.arrow_schema.specs.Limits.{IsWithinLimits}
 use Rattle.ipc_message.specs.Framing.{continuation_marker, message, next_message, taken, type_of}
 use Rattle.ipc_message.specs.Raw.{RawNode, schema_header, batch_header}

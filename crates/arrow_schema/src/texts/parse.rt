@@ -1,15 +1,15 @@
 // Fields from the texts that are typed in.
-ghost use Rattle.std.specs.Prelude.{◌≡◌, ℕ, true, List, map};
+ghost use Rattle.std.specs.Prelude.{◌≡◌, map};
 ghost use Rattle.std.specs.Result.{result_map_both};
-ghost use Rattle.arrow_schema.specs.Column.{Column};
 ghost use Rattle.arrow_schema.specs.View.{column_of};
-ghost use Rattle.arrow_schema.specs.Typed.{IsTextOf};
-ghost use Rattle.arrow_schema.specs.Build.{Builds, columns_at};
-ghost use Rattle.arrow_schema.specs.Told.{IsTold, Tests, TestsOne};
+ghost use Rattle.arrow_schema.specs.inner.Build.{Builds, columns_at};
+ghost use Rattle.arrow_schema.specs.Reported.{IsReported};
+ghost use Rattle.arrow_schema.specs.inner.Tested.{Tests, TestsOne};
 ghost use Rattle.arrow_schema.specs.declared.texts.parse.ParseError.TheVariants.{OutOfMemory};
 
 use super::build::{BuildError, build_field};
 use super::grammar::is_field_text;
+use crate::limits::MAX_DEPTH;
 use crate::types::{Field, Schema};
 use std::alloc::{AllocError, AllocFailed, Global};
 
@@ -39,9 +39,6 @@ impl<T: Drop> From<AllocFailed<T>> for ParseError {
     }
 }
 
-// As deep as a schema may be.
-const LEVELS: u32 = 32;
-
 fn test_text(alloc: Global, number: usize, text: &str) -> Result<(), ParseError>
     ensures { TestsOne number text.now result }
 {
@@ -64,27 +61,22 @@ fn test_texts(alloc: Global, texts: &[&str]) -> Result<(), ParseError>
 }
 
 fn build_texts(alloc: Global, texts: &[&str]) -> Result<Vec<Field>, BuildError>
-    ensures { Builds (λ v. map column_of v.items) result (columns_at 32 (map (λ t. t.now) texts.now)) }
+    ensures { Builds (λ v. map column_of v.items) result (columns_at MAX_DEPTH (map (λ t. t.now) texts.now)) }
 {
     let mut fields = Vec::new(alloc);
     for text in texts {
-        let (field, _) = build_field(alloc, LEVELS, text)?;
+        let (field, _) = build_field(alloc, MAX_DEPTH, text)?;
         fields.push(field)?;
     }
     Ok(fields)
 }
 
-/// One text is that of at most one column.
-pub fn one_column_of_a_text()
-    ensures { (text : List ℕ) (c d : Column) → IsTextOf true text c → IsTextOf true text d → c ≡ d }
-{}
-
 /// The fields that the texts state, within a schema's limits (docs/formats/field_texts.md).
 ///
-/// The first text that is refused is told: `BadText` where it is not that of a field, else `Limit`. The limits of the
+/// The first text that is refused is reported: `BadText` where it is not that of a field, else `Limit`. The limits of the
 /// schema come last. Nesting of any depth runs out of no stack.
 pub fn parse_fields(alloc: Global, texts: &[&str]) -> Result<Vec<Field>, ParseError>
-    ensures told { IsTold (map (λ t. t.now) texts.now) (result_map_both (λ v. map column_of v.items) (λ e. e) result) }
+    ensures reported { IsReported (map (λ t. t.now) texts.now) (result_map_both (λ v. map column_of v.items) (λ e. e) result) }
 {
     test_texts(alloc, texts)?;
     let fields = match build_texts(alloc, texts) {

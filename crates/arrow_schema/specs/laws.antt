@@ -1,0 +1,3 @@
+-- Laws of the definitions, for the crates above.
+pub mod IntegerCases
+pub mod Widths

@@ -1,0 +1,4 @@
+pub mod Texts
+pub mod Rules
+pub mod Moments
+pub mod Formatted

@@ -1,0 +1,38 @@
+use Rattle.std.proofs.Common.{◌∙◌, ap, sym, refl, subst, arith}
+use Rattle.sector_dev.specs.Disk.{now}
+use Rattle.sector_dev.specs.Time.{LeavesOnly}
+use Rattle.sector_dev.specs.laws.Time.{goes_on, now_has, passed, two}
+use Rattle.commit.specs.Sector.{commit_text}
+use Rattle.commit.specs.Formatting.{IsNoneOrEmpty, IsFormatted, first_commit}
+use Rattle.commit.proofs.Formatted.{first_found, at_rest, begin_put, begin_failed, begin_done}
+use Rattle.commit.proofs.formatting.begin.Goals as goal
+
+pub returns-in_err-write-clause-moments : goal.returns-in_err-write-clause-moments
+returns-in_err-write-clause-moments g c = λ told p.
+    let D = g.D.SectorDevice in
+    let text = first_found (D.size c.args.device.now) _ (omega arith) (omega arith) (c.commit_sector-sector.ensures ∙ ap commit_text (c.first_commit-first.ensures ∙ ap first_commit c.sectors.ensures)) in
+    begin_failed (D.size c.args.device.now) _ p _ text _ _ refl (c.in_err-write.ensures.err told)
+
+pub returns-in_err-sync-clause-moments : goal.returns-in_err-sync-clause-moments
+returns-in_err-sync-clause-moments g c = λ told p.
+    let D = g.D.SectorDevice in
+    let text = first_found (D.size c.args.device.now) _ (omega arith) (omega arith) (c.commit_sector-sector.ensures ∙ ap commit_text (c.first_commit-first.ensures ∙ ap first_commit c.sectors.ensures)) in
+    let put = begin_put (D.size c.args.device.now) _ p _ text _ _ _ refl (c.in_ok-write.ensures.ok told) in
+    goes_on put (passed _ _ _ (now_has (at_rest (D.size c.args.device.now) _ p _ text) put) (c.in_err-sync.ensures.err told))
+
+pub returns-clause-moments : goal.returns-clause-moments
+returns-clause-moments g c = λ told p.
+    let D = g.D.SectorDevice in
+    let size = D.size c.args.device.now in
+    let text = first_found (D.size c.args.device.now) _ (omega arith) (omega arith) (c.commit_sector-sector.ensures ∙ ap commit_text (c.first_commit-first.ensures ∙ ap first_commit c.sectors.ensures)) in
+    let put = begin_put size _ p _ text _ _ _ refl (c.in_ok-write.ensures.ok told) in
+    let both = begin_done size _ p _ text (now (D.story c.write.new.self)) (ap now (c.in_ok-write.ensures.ok told)) in
+    goes_on put (two (LeavesOnly (IsNoneOrEmpty size)) _ _ _ _ (c.in_ok-sync.ensures.ok told) both.0 (now_has (at_rest size _ p _ text) put))
+
+pub returns-clause-formatted : goal.returns-clause-formatted
+returns-clause-formatted g c = λ told p.
+    let D = g.D.SectorDevice in
+    let size = D.size c.args.device.now in
+    let text = first_found (D.size c.args.device.now) _ (omega arith) (omega arith) (c.commit_sector-sector.ensures ∙ ap commit_text (c.first_commit-first.ensures ∙ ap first_commit c.sectors.ensures)) in
+    let both = begin_done size _ p _ text (now (D.story c.write.new.self)) (ap now (c.in_ok-write.ensures.ok told)) in
+    subst (IsFormatted size (now (D.story c.args.device.now))) (sym (ap now (c.in_ok-sync.ensures.ok told))) both.1

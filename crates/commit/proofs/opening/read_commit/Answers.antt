@@ -1,0 +1,20 @@
+use Rattle.std.proofs.Common.{◌∙◌, ap, sym, Err}
+use Rattle.sector_dev.specs.laws.Time.{only_read}
+use Rattle.commit.specs.Sector.{commit_at}
+use Rattle.commit.specs.laws.Sectors.{none_unreadable}
+use Rattle.commit.proofs.opening.read_commit.Goals as goal
+
+pub returns-in-Ok-clause-moments : goal.returns-in-Ok-clause-moments
+returns-in-Ok-clause-moments g c = λ told. only_read _ _ (c.in-Ok.ensures.story told)
+
+pub returns-in-Ok-clause-found : goal.returns-in-Ok-clause-found
+returns-in-Ok-clause-found g c = λ told. ap (commit_at c.args.n) (c.in-Ok.ensures.content told) ∙ sym c.commit_in.ensures
+
+pub returns-in-Err-Unreadable-clause-moments : goal.returns-in-Err-Unreadable-clause-moments
+returns-in-Err-Unreadable-clause-moments g c = λ told. only_read _ _ (c.in-Err-Unreadable.ensures.story told)
+
+pub returns-in-Err-Unreadable-clause-found : goal.returns-in-Err-Unreadable-clause-found
+returns-in-Err-Unreadable-clause-found g c = λ told. none_unreadable c.args.n _ (c.in-Err-Unreadable.ensures.unreadable (ap Err c.in-Err-Unreadable.field-0-is) told)
+
+pub returns-in-Err-Failed-clause-moments : goal.returns-in-Err-Failed-clause-moments
+returns-in-Err-Failed-clause-moments g c = λ told. only_read _ _ (c.in-Err-Failed.ensures.story told)

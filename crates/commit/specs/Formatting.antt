@@ -1,0 +1,61 @@
+-- What may lie on a disk while it is formatted.
+use Rattle.std.specs.Prelude.{◌≡◌, ◌⊎◌, ◌<◌, ◌+◌, ◌-◌, ◌^◌, ℕ, min, List, [], ◌∷◌, Some, None, Result, Ok, Err}
+use Rattle.sector_dev.specs.Disk.{Disk, Image, synced_image}
+use Rattle.sector_dev.specs.Time.{LeavesOnly}
+use Rattle.segments.specs.Sectors.{bytes_at}
+use Rattle.commit.specs.declared.sector.CatalogueKind.TheVariants.{Whole}
+use Rattle.commit.specs.declared.sector.FormatVersion.TheVariants.{One}
+use Rattle.commit.specs.declared.sector.Commit.{Commit}
+use Rattle.commit.specs.declared.formatting.FormatError.{FormatError}
+use Rattle.commit.specs.declared.formatting.FormatError.TheVariants.{AlreadyAStore, Damaged, Device, OutOfMemory}
+use Rattle.commit.specs.Sector.{commit_at}
+use Rattle.commit.specs.Ruling.{ruling, Rests}
+
+-- neither commit sector holds a commit
+abbrev pub HoldsNoCommit : Image → Type 0
+HoldsNoCommit image = (commit_at 0 (image 0) ≡ None) × (commit_at 1 (image 1) ≡ None)
+
+-- no stop leaves a commit
+abbrev pub HasNoCommit : Disk → Type 0
+HasNoCommit d = LeavesOnly HoldsNoCommit d
+
+-- the text of a catalogue without tables: their number, 0, in four bytes
+abbrev pub empty_text : List ℕ
+empty_text = 0 ∷ 0 ∷ 0 ∷ 0 ∷ []
+
+-- the commit of an empty store on a device of this size: epoch 1, its catalogue in sector 2
+abbrev pub first_commit : ℕ → Commit
+first_commit size = record {
+  epoch = 1;
+  catalogue = record { run = record { start = 2; count = 1 }; bytes = 4 };
+  device_sectors = size;
+  version = One;
+  kind = Whole;
+}
+
+-- the empty store: its commit rules and its catalogue has no table
+pub record IsEmptyStore (size : ℕ) (image : Image) : Type 0 where
+  pub rules : ruling image ≡ Some (first_commit size)
+  pub text : bytes_at image 2 4 ≡ Some empty_text
+
+-- no store, or the empty one
+abbrev pub IsNoneOrEmpty : ℕ → Image → Type 0
+IsNoneOrEmpty size image = HoldsNoCommit image ⊎ IsEmptyStore size image
+
+-- at a moment of the formatting: the disk is as it was, or each image that a stop may leave is no store or the empty one
+abbrev pub IsFormatting : ℕ → Disk → Disk → Type 0
+IsFormatting size before d = (d ≡ before) ⊎ LeavesOnly (IsNoneOrEmpty size) d
+
+-- after the formatting: all is synced, it is the empty store, and a write had begun
+pub record IsFormatted (size : ℕ) (before d : Disk) : Type 0 where
+  pub rests : Rests d (first_commit size)
+  pub text : bytes_at (synced_image d) 2 4 ≡ Some empty_text
+  pub begun : before.writes < d.writes
+
+-- a failed call of the device is counted, up to the greatest number; no other answer is
+abbrev pub CountsFormat : {T : Type 0} → ℕ → ℕ → Result T FormatError → Type 0
+CountsFormat before after (Ok x) = after ≡ before
+CountsFormat before after (Err AlreadyAStore) = after ≡ before
+CountsFormat before after (Err (Damaged cause)) = after ≡ before
+CountsFormat before after (Err Device) = after ≡ min (before + 1) (2 ^ 64 - 1)
+CountsFormat before after (Err OutOfMemory) = after ≡ before

@@ -1,0 +1,37 @@
+-- Runs are taken for what is to be written, each the lowest that is free.
+use Rattle.std.specs.Prelude.{◌≡◌, ◌⊎◌, ◌+◌, ℕ, Bool, false, ◌||◌, if◌then◌else◌, List, [], ◌∷◌, Some, None, Result, Ok, Err}
+use Rattle.segments.specs.declared.run.Run.{Run}
+use Rattle.segments.specs.declared.entries.Usage.{Usage}
+use Rattle.segments.specs.declared.entries.UsageEntry.{UsageEntry}
+use Rattle.segments.specs.Runs.{IsLowest}
+use Rattle.segments.specs.Usages.{same_run, usage_of}
+
+-- the run is one of these
+abbrev pub is_among : List Run → Run → Bool
+is_among [] run = false
+is_among (r ∷ rs) run = same_run r run || is_among rs run
+
+-- how often it is
+abbrev pub times_among : List Run → Run → ℕ
+times_among [] run = 0
+times_among (r ∷ rs) run = (if same_run r run then 1 else 0) + times_among rs run
+
+-- what a run is used for where these runs are the ruling catalogue's, and those are pinned, each as often as it is listed
+abbrev pub usage_by : List Run → List Run → Run → Usage
+usage_by ruling pinned run = record { taken = is_among ruling run; pins = times_among pinned run }
+
+-- the entries are those of these runs
+abbrev pub Uses : List UsageEntry → List Run → List Run → Type 0
+Uses entries ruling pinned = (run : Run) → usage_of entries run ≡ usage_by ruling pinned run
+
+-- a run before those that were taken after it
+abbrev pub in_front : Run → Result (List Run) ℕ → Result (List Run) ℕ
+in_front run (Ok runs) = Ok (run ∷ runs)
+in_front run (Err count) = Err count
+
+-- runs of these numbers of sectors are taken in order, each the lowest that is free then; or one of so many sectors is nowhere free
+abbrev pub Takes : ℕ → (Run → Type 0) → List ℕ → Result (List Run) ℕ → Type 0
+Takes size used [] taken = taken ≡ Ok []
+Takes size used (count ∷ counts) taken =
+    (IsLowest size used count None × (taken ≡ Err count))
+    ⊎ ((run : Run) × IsLowest size used count (Some run) × ((rest : Result (List Run) ℕ) × Takes size (λ other. used other ⊎ (other ≡ run)) counts rest × (taken ≡ in_front run rest)))

@@ -1,0 +1,62 @@
+-- The text of a commit sector (docs/formats/store.md).
+use Rattle.std.specs.Prelude.{◌≤◌, ◌<◌, ◌%◌, ◌^◌, ◌==◌, ◌&&◌, ℕ, Bool, nat_eq, nat_lt, if◌then◌else◌, List, [], ◌∷◌, ◌++◌, drop, Option, Some, None}
+use Rattle.std.specs.Cmp.Lexicographic.{pointwise}
+use Rattle.byteorder.specs.Endian.{little_bytes, little_number}
+use Rattle.segments.specs.Sectors.{filled}
+use Rattle.commit.specs.declared.sector.CatalogueKind.{CatalogueKind}
+use Rattle.commit.specs.declared.sector.CatalogueKind.TheVariants.{Whole}
+use Rattle.commit.specs.declared.sector.FormatVersion.{FormatVersion}
+use Rattle.commit.specs.declared.sector.FormatVersion.TheVariants.{One}
+use Rattle.commit.specs.declared.sector.Commit.{Commit}
+
+-- "ARWSTOR1"
+abbrev pub letters : List ℕ
+letters = 65 ∷ 82 ∷ 87 ∷ 83 ∷ 84 ∷ 79 ∷ 82 ∷ 49 ∷ []
+
+abbrev pub version_number : FormatVersion → ℕ
+version_number One = 1
+
+abbrev pub kind_number : CatalogueKind → ℕ
+kind_number Whole = 0
+
+-- the fields of the sector one behind the other
+abbrev pub fields_text : Commit → List ℕ
+fields_text c =
+    letters ++ (little_bytes 8 c.epoch ++ (little_bytes 8 c.catalogue.run.start ++ (little_bytes 8 c.catalogue.run.count ++ (little_bytes 8 c.catalogue.bytes
+    ++ (little_bytes 8 c.device_sectors ++ (little_bytes 4 (version_number c.version) ++ little_bytes 4 (kind_number c.kind)))))))
+
+-- the text of a commit: zeros behind its fields
+unfoldable pub commit_text : Commit → List ℕ
+commit_text c = filled (fields_text c)
+
+-- a number of 64 bits at this byte
+abbrev pub number_at : ℕ → List ℕ → ℕ
+number_at at bytes = little_number 8 (drop at bytes)
+
+-- the commit that a sector spells, if it spells one
+abbrev pub fields_of : List ℕ → Commit
+fields_of bytes = record {
+  epoch = number_at 8 bytes;
+  catalogue = record { run = record { start = number_at 16 bytes; count = number_at 24 bytes }; bytes = number_at 32 bytes };
+  device_sectors = number_at 40 bytes;
+  version = One;
+  kind = Whole;
+}
+
+-- a commit of an epoch stands in the sector of its number: even epochs in sector 0, odd ones in sector 1; epochs count from 1
+abbrev pub is_placed : ℕ → Commit → Bool
+is_placed n c = nat_lt 0 c.epoch && (c.epoch % 2 == n)
+
+-- the commit that stands in a sector of this number: its fields, written again, give these very bytes. None stands in one that can't be read
+unfoldable pub commit_at : ℕ → Option (List ℕ) → Option Commit
+commit_at n None = None
+commit_at n (Some bytes) = if is_placed n (fields_of bytes) && pointwise nat_eq bytes (commit_text (fields_of bytes)) then Some (fields_of bytes) else None
+
+-- a commit that can be written: its epoch counts from 1, and each number has 64 bits
+pub record IsCommit (c : Commit) : Type 0 where
+  pub epoch : 1 ≤ c.epoch
+  pub epoch_fits : c.epoch < 2 ^ 64
+  pub start_fits : c.catalogue.run.start < 2 ^ 64
+  pub count_fits : c.catalogue.run.count < 2 ^ 64
+  pub bytes_fit : c.catalogue.bytes < 2 ^ 64
+  pub sectors_fit : c.device_sectors < 2 ^ 64

@@ -1,0 +1,27 @@
+-- A disk on which only the first commit is missing.
+use Rattle.std.specs.Prelude.{◌≡◌, ℕ, Some}
+use Rattle.sector_dev.specs.Disk.{Disk, Story, now, synced_image, shown_image}
+use Rattle.sector_dev.specs.Time.{Grows, LeavesOnly}
+use Rattle.segments.specs.Sectors.{bytes_at}
+use Rattle.commit.specs.Ruling.{IsQuiet}
+use Rattle.commit.specs.Formatting.{HoldsNoCommit, IsNoneOrEmpty, IsFormatting, IsFormatted, empty_text}
+
+-- all is synced, there is no commit, and the empty catalogue lies in its sector
+pub record IsPrepared (d : Disk) : Type 0 where
+  pub quiet : IsQuiet d
+  pub none : HoldsNoCommit (synced_image d)
+  pub text : bytes_at (synced_image d) 2 4 ≡ Some empty_text
+
+-- the first commit is written over such a disk: at each moment, and at the end
+abbrev pub Begins : ℕ → Story → Story → Type 0
+Begins size before after = IsPrepared (now before) → Grows (LeavesOnly (IsNoneOrEmpty size)) before after
+
+abbrev pub EndsBegun : ℕ → Story → Story → Type 0
+EndsBegun size before after = IsPrepared (now before) → IsFormatted size (now before) (now after)
+
+-- a disk on which reads give no commit is formatted: at each moment, and at the end
+abbrev pub Clears : ℕ → Story → Story → Type 0
+Clears size before after = HoldsNoCommit (shown_image (now before)) → Grows (IsFormatting size (now before)) before after
+
+abbrev pub EndsCleared : ℕ → Story → Story → Type 0
+EndsCleared size before after = HoldsNoCommit (shown_image (now before)) → IsFormatted size (now before) (now after)

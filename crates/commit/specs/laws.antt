@@ -1,0 +1,4 @@
+pub mod Sectors
+pub mod Frame
+pub mod Taking
+pub mod Apart

@@ -1,0 +1,188 @@
+-- What one who opens finds depends on the commit sectors and on the runs in use alone.
+use Rattle.std.specs.Prelude.{◌≡◌, ◌⊎◌, ◌≤◌, ◌<◌, ◌+◌, ◌%◌, ◌==◌, ◌&&◌, ℕ, Bool, true, false, nat_le, if◌then◌else◌, List, [], ◌∷◌, Option, Some, None, Result, Ok, Err, refl}
+use Rattle.std.proofs.Common.{inl, inr, ⊎_elim, sym, ap, ◌∙◌, subst, arith}
+use Rattle.std.proofs.lemmas.Bool.{eq-eqb}
+use Rattle.std.proofs.lemmas.Bool.Decides.{nat_tests}
+use Rattle.sector_dev.specs.Disk.{Disk, Image, synced_image}
+use Rattle.segments.specs.Runs.{OutOf}
+use Rattle.segments.specs.Sectors.{sector_count, bytes_at}
+use Rattle.segments.specs.laws.ReadBack.{same_bytes}
+use Rattle.segments.specs.Writing.{runs_of, HoldsEach}
+use Rattle.segments.specs.declared.run.Run.{Run}
+use Rattle.segments.specs.declared.piece.Piece.{Piece}
+use Rattle.commit.specs.declared.sector.Commit.{Commit}
+use Rattle.commit.specs.declared.cause.Cause.{Cause}
+use Rattle.commit.specs.declared.cause.Cause.TheVariants.{DeviceSize, CatalogueRange, CatalogueUnreadable, RunRange, RunOverlap}
+use Rattle.commit.specs.Ruling.{ruling}
+use Rattle.commit.specs.Publishing.{IsOldOrNew}
+use Rattle.commit.specs.Standing.{Reading, damaged, rules, is_size, is_on_device, is_extent, all_on_device, are_apart, used_runs, readable, text_at, runs_fault, by_runs, by_catalogue, by_text, by_commit, standing, InSome, IsLocal}
+
+both : (x y : Bool) → (x && y) ≡ true → (x ≡ true) × (y ≡ true)
+both true true is = (refl, refl)
+both true false is = absurd (cc is)
+both false y is = absurd (cc is)
+
+-- a text that is found: the tests before it passed
+pub record HasText (size : ℕ) (image : Image) (k : Commit) (text : List ℕ) : Type 0 where
+  pub device : (k.device_sectors == size) ≡ true
+  pub extent : is_extent size 4 k.catalogue ≡ true
+  pub read : bytes_at image k.catalogue.run.start k.catalogue.bytes ≡ Some text
+
+pub text_is : (size : ℕ) (image : Image) (k : Commit) (text : List ℕ) → text_at size image k ≡ Ok text → HasText size image k text
+unfolding text_at
+text_is size image k text is = by_tests (k.device_sectors == size) (is_extent size 4 k.catalogue) (bytes_at image k.catalogue.run.start k.catalogue.bytes) refl refl refl is
+  where
+    by_tests : (x y : Bool) (o : Option (List ℕ)) → (k.device_sectors == size) ≡ x → is_extent size 4 k.catalogue ≡ y → bytes_at image k.catalogue.run.start k.catalogue.bytes ≡ o
+        → (if x then (if y then readable o else Err CatalogueRange) else Err DeviceSize) ≡ Ok text → HasText size image k text
+    by_tests true true (Some found) d e r is = let same : found ≡ text = cc is in record { device = d; extent = e; read = r ∙ ap Some same }
+    by_tests true true None d e r is = absurd (cc is)
+    by_tests true false o d e r is = absurd (cc is)
+    by_tests false y o d e r is = absurd (cc is)
+
+pub has_text : (size : ℕ) (image : Image) (k : Commit) (text : List ℕ) → HasText size image k text → text_at size image k ≡ Ok text
+unfolding text_at
+has_text size image k text h = λ i. if h.device i then (if h.extent i then readable (h.read i) else Err CatalogueRange) else Err DeviceSize
+
+-- each answer of the tests of a text
+pub text_found : (size : ℕ) (image : Image) (k : Commit) (text : List ℕ) → k.device_sectors ≡ size → is_extent size 4 k.catalogue ≡ true → bytes_at image k.catalogue.run.start k.catalogue.bytes ≡ Some text → text_at size image k ≡ Ok text
+text_found size image k text device extent read = has_text size image k text (record { device = eq-eqb k.device_sectors size device; extent = extent; read = read })
+
+pub text_lost : (size : ℕ) (image : Image) (k : Commit) → k.device_sectors ≡ size → is_extent size 4 k.catalogue ≡ true → bytes_at image k.catalogue.run.start k.catalogue.bytes ≡ None → text_at size image k ≡ Err CatalogueUnreadable
+unfolding text_at
+text_lost size image k device extent read = λ i. if eq-eqb k.device_sectors size device i then (if extent i then readable (read i) else Err CatalogueRange) else Err DeviceSize
+
+pub text_outside : (size : ℕ) (image : Image) (k : Commit) → k.device_sectors ≡ size → is_extent size 4 k.catalogue ≡ false → text_at size image k ≡ Err CatalogueRange
+unfolding text_at
+text_outside size image k device extent = λ i. if eq-eqb k.device_sectors size device i then (if extent i then readable (bytes_at image k.catalogue.run.start k.catalogue.bytes) else Err CatalogueRange) else Err DeviceSize
+
+pub text_elsewhere : (size : ℕ) (image : Image) (k : Commit) → (k.device_sectors ≡ size → ⊥) → text_at size image k ≡ Err DeviceSize
+unfolding text_at
+text_elsewhere size image k other =
+    let no : (k.device_sectors == size) ≡ false = grind (arith, nat_tests) in
+    λ i. if no i then (if is_extent size 4 k.catalogue then readable (bytes_at image k.catalogue.run.start k.catalogue.bytes) else Err CatalogueRange) else Err DeviceSize
+
+-- runs that can be in use: each lies on the device, and no two of them share a sector
+pub fault_none : (size : ℕ) (text : Run) (runs : List Run) → runs_fault size text runs ≡ None → (all_on_device size runs ≡ true) × (are_apart (text ∷ runs) ≡ true)
+unfolding runs_fault
+fault_none size text runs is = by_tests (all_on_device size runs) (are_apart (text ∷ runs)) refl refl is
+  where
+    by_tests : (x y : Bool) → all_on_device size runs ≡ x → are_apart (text ∷ runs) ≡ y → (if x then (if y then None else Some RunOverlap) else Some RunRange) ≡ None
+        → (all_on_device size runs ≡ true) × (are_apart (text ∷ runs) ≡ true)
+    by_tests true true a b is = (a, b)
+    by_tests true false a b is = absurd (cc is)
+    by_tests false y a b is = absurd (cc is)
+
+module _ {C : Type 0} (reading : Reading C) (size : ℕ) where
+  -- all tests passed
+  pub record IsFound (image : Image) (k : Commit) (c : C) : Type 0 where
+    pub size_is : is_size size ≡ true
+    pub ruled : ruling image ≡ Some k
+    pub text : List ℕ
+    pub found : text_at size image k ≡ Ok text
+    pub spelled : reading.at size image k text ≡ Ok c
+    pub fit : runs_fault size k.catalogue.run (reading.runs c) ≡ None
+
+  -- then it rules
+  pub found_rules : (image : Image) (k : Commit) (c : C) → IsFound image k c → standing reading size image ≡ rules k c
+  unfolding standing
+  found_rules image k c f =
+      (λ i. if f.size_is i then by_commit reading size image (f.ruled i) else damaged DeviceSize)
+      ∙ ap (by_text reading size image k) f.found
+      ∙ ap (by_catalogue reading size k) f.spelled
+      ∙ ap (by_runs k c) f.fit
+
+  -- and where one rules all tests passed
+  pub rules_found : (image : Image) (k : Commit) (c : C) → standing reading size image ≡ rules k c → IsFound image k c
+  unfolding standing
+  rules_found image k c is = by_size (is_size size) refl is
+    where
+      by_fault : (k' : Commit) (text : List ℕ) (c' : C) → ruling image ≡ Some k' → is_size size ≡ true → text_at size image k' ≡ Ok text → reading.at size image k' text ≡ Ok c'
+          → (o : Option Cause) → runs_fault size k'.catalogue.run (reading.runs c') ≡ o → by_runs k' c' o ≡ rules k c → IsFound image k c
+      by_fault k' text c' r s t u None f same =
+          let ks : k' ≡ k = cc same in let cs : c' ≡ c = cc same in
+          subst (λ (z : C). IsFound image k z) cs (subst (λ (z : Commit). IsFound image z c') ks (record { size_is = s; ruled = r; text = text; found = t; spelled = u; fit = f }))
+      by_fault k' text c' r s t u (Some cause) f same = absurd (cc same)
+
+      by_spelled : (k' : Commit) (text : List ℕ) → ruling image ≡ Some k' → is_size size ≡ true → text_at size image k' ≡ Ok text
+          → (o : Result C Cause) → reading.at size image k' text ≡ o → by_catalogue reading size k' o ≡ rules k c → IsFound image k c
+      by_spelled k' text r s t (Err cause) u same = absurd (cc same)
+      by_spelled k' text r s t (Ok c') u same = by_fault k' text c' r s t u (runs_fault size k'.catalogue.run (reading.runs c')) refl same
+
+      by_read : (k' : Commit) → ruling image ≡ Some k' → is_size size ≡ true → (o : Result (List ℕ) Cause) → text_at size image k' ≡ o → by_text reading size image k' o ≡ rules k c → IsFound image k c
+      by_read k' r s (Err cause) t same = absurd (cc same)
+      by_read k' r s (Ok text) t same = by_spelled k' text r s t (reading.at size image k' text) refl same
+
+      by_ruling : is_size size ≡ true → (o : Option Commit) → ruling image ≡ o → by_commit reading size image o ≡ rules k c → IsFound image k c
+      by_ruling s None r same = absurd (cc same)
+      by_ruling s (Some k') r same = by_read k' r s (text_at size image k') refl same
+
+      by_size : (x : Bool) → is_size size ≡ x → (if x then by_commit reading size image (ruling image) else damaged DeviceSize) ≡ rules k c → IsFound image k c
+      by_size true s same = by_ruling s (ruling image) refl same
+      by_size false s same = absurd (cc same)
+
+  -- the sectors of the catalogue's text lie in its run
+  text_sector : (k : Commit) (j : ℕ) → is_extent size 4 k.catalogue ≡ true → j < sector_count k.catalogue.bytes → (k.catalogue.run.start ≤ k.catalogue.run.start + j) × (k.catalogue.run.start + j < k.catalogue.run.start + k.catalogue.run.count)
+  text_sector k j extent lt =
+      let parts = both (nat_le 4 k.catalogue.bytes) ((k.catalogue.run.count == sector_count k.catalogue.bytes) && is_on_device size k.catalogue.run) extent in
+      let count = (both (k.catalogue.run.count == sector_count k.catalogue.bytes) (is_on_device size k.catalogue.run) parts.1).0 in
+      let same : k.catalogue.run.count ≡ sector_count k.catalogue.bytes = grind (arith, nat_tests) in
+      (omega arith, omega arith)
+
+  -- the frame: an image with the same ruling commit and the same runs in use is the same to one who opens it
+  pub same_standing : IsLocal reading → (a b : Image) (k : Commit) (c : C) → standing reading size a ≡ rules k c → ruling b ≡ ruling a
+      → ((n : ℕ) → InSome (used_runs reading k c) n → b n ≡ a n) → standing reading size b ≡ rules k c
+  same_standing local a b k c is ruled same =
+      let f = rules_found a k c is in
+      let h = text_is size a k f.text f.found in
+      found_rules b k c (record {
+        size_is = f.size_is;
+        ruled = ruled ∙ f.ruled;
+        text = f.text;
+        found = has_text size b k f.text (record {
+          device = h.device;
+          extent = h.extent;
+          read = same_bytes b a k.catalogue.run.start k.catalogue.bytes (λ j lt. same (k.catalogue.run.start + j) (inl (text_sector k j h.extent lt))) ∙ h.read;
+        });
+        spelled = local size a b k f.text c f.spelled (λ n within. same n (inr within));
+        fit = f.fit;
+      })
+
+  -- each sector of a run in use lies behind the commit sectors
+  above_run : (r : Run) (n : ℕ) → is_on_device size r ≡ true → (r.start ≤ n) × (n < r.start + r.count) → 2 ≤ n
+  above_run r n is within =
+      let low = (both (nat_le 2 r.start) (nat_le 1 r.count && nat_le (r.start + r.count) size) is).0 in
+      let le : 2 ≤ r.start = grind (arith, nat_tests) in omega (arith, within.0)
+
+  above_each : (rs : List Run) (n : ℕ) → all_on_device size rs ≡ true → InSome rs n → 2 ≤ n
+  above_each [] n is within = absurd within
+  above_each (r ∷ rs) n is (inl here) = above_run r n (both (is_on_device size r) (all_on_device size rs) is).0 here
+  above_each (r ∷ rs) n is (inr later) = above_each rs n (both (is_on_device size r) (all_on_device size rs) is).1 later
+
+  pub above_used : (image : Image) (k : Commit) (c : C) (n : ℕ) → standing reading size image ≡ rules k c → InSome (used_runs reading k c) n → 2 ≤ n
+  above_used image k c n is (inl here) =
+      let f = rules_found image k c is in
+      let extent = (text_is size image k f.text f.found).extent in
+      let parts = both (nat_le 4 k.catalogue.bytes) ((k.catalogue.run.count == sector_count k.catalogue.bytes) && is_on_device size k.catalogue.run) extent in
+      above_run k.catalogue.run n (both (k.catalogue.run.count == sector_count k.catalogue.bytes) (is_on_device size k.catalogue.run) parts.1).1 here
+  above_used image k c n is (inr later) = let f = rules_found image k c is in above_each (reading.runs c) n (fault_none size k.catalogue.run (reading.runs c) f.fit).0 later
+
+  -- the pieces make this catalogue: whatever image the new commit rules that holds them, and behind the commit sectors holds elsewhere
+  -- what lay there, has it
+  pub record Makes (before : Image) (new : Commit) (c : C) (pieces : List Piece) : Type 0 where
+    pub spells : (image : Image) → ruling image ≡ Some new → HoldsEach image pieces → ((n : ℕ) → 2 ≤ n → OutOf (runs_of pieces) n → image n ≡ before n) → standing reading size image ≡ rules new c
+
+  low : (n : ℕ) → n % 2 < 2
+  low n = omega arith
+
+  -- an image that is old or new opens as the old state, or as the new one, where no piece lies over a run in use
+  pub opens_old_or_new : IsLocal reading → (before : Disk) (old new : Commit) (was will : C) (pieces : List Piece) (image : Image)
+      → standing reading size (synced_image before) ≡ rules old was → ruling (synced_image before) ≡ Some old
+      → ((n : ℕ) → InSome (used_runs reading old was) n → OutOf (runs_of pieces) n)
+      → Makes (synced_image before) new will pieces → IsOldOrNew before old new pieces image
+      → (standing reading size image ≡ rules old was) ⊎ (standing reading size image ≡ rules new will)
+  opens_old_or_new local before old new was will pieces image stands ruled free makes is =
+      let outside : (n : ℕ) → 2 ≤ n → OutOf (runs_of pieces) n → image n ≡ synced_image before n = λ n le out. is.outside n (out, λ e. omega (arith, low new.epoch)) in
+      ⊎_elim
+      (λ (rule : ruling image ≡ Some old). inl (same_standing local (synced_image before) image old was stands (rule ∙ sym ruled) (λ n within. outside n (above_used (synced_image before) old was n stands within) (free n within))))
+      (λ (both : (ruling image ≡ Some new) × HoldsEach image pieces). inr (makes.spells image both.0 both.1 outside))
+      is.rules

@@ -1,0 +1,77 @@
+// The runs of a catalogue come into use.
+ghost use Rattle.std.specs.Prelude.{◌≡◌, ◌≢◌, ◌∷◌, [], true, None, Some, OnOk, IfOk, IfErr};
+ghost use Rattle.commit.specs.Placing.{Uses};
+ghost use Rattle.commit.specs.Standing.{is_on_device, all_on_device, runs_fault};
+ghost use Rattle.commit.specs.laws.Apart.{HasEntered};
+
+use crate::reading::is_on_device;
+use crate::{Cause, OpenError};
+use segments::{EnterError, FreeMap, Run};
+use std::alloc::Global;
+
+// Whether each run lies on the device.
+fn are_on_device(size: u64, runs: &[Run]) -> bool
+    ensures { result ≡ all_on_device size runs.now }
+{
+    for run in runs {
+        if !is_on_device(size, *run) {
+            return false;
+        }
+    }
+    true
+}
+
+// A map in which this run alone is in use.
+fn map_of(alloc: Global, sectors: u64, text: Run) -> Result<FreeMap, OpenError>
+    requires { is_on_device sectors text ≡ true }
+    ensures entered { IfOk result (λ map. HasEntered sectors map (text ∷ [])) }
+    ensures err { IfErr result (λ e. e ≡ OpenError.OutOfMemory) }
+{
+    let mut map = FreeMap::new(alloc, sectors);
+    match map.occupy(text) {
+        Ok(()) => Ok(map),
+        Err(_) => Err(OpenError::OutOfMemory),
+    }
+}
+
+/// The map in which the run of a catalogue's text is in use, and those that the catalogue names.
+///
+/// # Errors
+/// `Damaged(RunRange)` where one lies outside the device, then `Damaged(RunOverlap)` where two share a sector.
+pub fn occupy_runs(
+    alloc: Global,
+    sectors: u64,
+    text: Run,
+    runs: &[Run],
+) -> Result<FreeMap, OpenError>
+    requires { is_on_device sectors text ≡ true }
+    ensures size { IfOk result (λ map. map.size ≡ sectors) }
+    ensures uses { IfOk result (λ map. Uses map.entries (text ∷ runs.now) []) }
+    ensures fit { OnOk result (runs_fault sectors text runs.now ≡ None) }
+    ensures damaged { IfErr result (λ e. (cause : Cause) → e ≡ OpenError.Damaged cause → runs_fault sectors text runs.now ≡ Some cause) }
+    ensures errors { IfErr result (λ e. (e ≢ OpenError.NotAStore) × (e ≢ OpenError.Device)) }
+{
+    if !are_on_device(sectors, runs) {
+        return Err(OpenError::Damaged(Cause::RunRange));
+    }
+    let mut map = map_of(alloc, sectors, text)?;
+    for run in runs {
+        map.occupy(*run)?;
+    }
+    Ok(map)
+}
+
+impl From<EnterError> for OpenError {
+    ghost use Rattle.std.specs.Prelude.{◌≡◌};
+    ghost use Rattle.commit.specs.Opening.{open_error};
+
+    ghost from_gives = { λ e r. r ≡ open_error e };
+
+    fn from(error: EnterError) -> Self {
+        match error {
+            EnterError::Range => OpenError::Damaged(Cause::RunRange),
+            EnterError::Overlap | EnterError::TooManyPins => OpenError::Damaged(Cause::RunOverlap),
+            EnterError::OutOfMemory => OpenError::OutOfMemory,
+        }
+    }
+}

@@ -1,0 +1,163 @@
+// A device becomes an empty store.
+ghost use Rattle.std.specs.Prelude.{◌≡◌, ◌≢◌, ◌≤◌, ◌+◌, ◌∷◌, [], true, false, None, Err, OnOk, OnErr, IfOk, IfErr, IsErrOf};
+ghost use Rattle.sector_dev.specs.Disk.{now, shown_image, Counts};
+ghost use Rattle.sector_dev.specs.Time.{Grows};
+ghost use Rattle.commit.specs.Ruling.{ruling};
+ghost use Rattle.commit.specs.Standing.{is_size};
+ghost use Rattle.commit.specs.Formatting.{HasNoCommit, IsFormatting, IsFormatted, CountsFormat, first_commit};
+ghost use Rattle.commit.specs.Placing.{Uses};
+ghost use Rattle.commit.specs.inner.Prepared.{IsPrepared, Begins, EndsBegun, Clears, EndsCleared};
+
+use crate::opening::read_ruling;
+use crate::sector::commit_sector;
+use crate::{CatalogueKind, Cause, Commit, FormatVersion};
+use sector_dev::{DevError, LEAST_SECTORS, MOST_SECTORS, SectorDevice};
+use segments::{Extent, FreeMap, Run};
+use std::alloc::Global;
+use thiserror::Error;
+
+/// Why a device was not formatted.
+#[derive(Clone, Copy, Debug, PartialEq, Eq, Error)]
+pub enum FormatError {
+    /// C2: a commit rules already.
+    #[error("a store already")]
+    AlreadyAStore,
+    /// C3: the device has a size that no store has.
+    #[error("a device of a size that no store has")]
+    Damaged(Cause),
+    /// C4: the device failed.
+    #[error("the device failed")]
+    Device,
+    #[error("out of memory")]
+    OutOfMemory,
+}
+
+const FIRST_RUN: Run = Run { start: 2, count: 1 };
+
+// The commit of an empty store.
+fn first_commit(sectors: u64) -> Commit
+    ensures { result ≡ first_commit sectors }
+{
+    Commit {
+        epoch: 1,
+        catalogue: Extent {
+            run: FIRST_RUN,
+            bytes: 4,
+        },
+        device_sectors: sectors,
+        version: FormatVersion::One,
+        kind: CatalogueKind::Whole,
+    }
+}
+
+// Writes zeros over the first commit sector, and the empty catalogue, whose text is zeros too, and syncs.
+fn prepare<D: SectorDevice>(device: &mut D) -> Result<(), DevError>
+    requires room { 16 ≤ D.size device.old }
+    ensures size { D.size device.new ≡ D.size device.old }
+    ensures count { Counts (D.failed device.old) (D.failed device.new) result }
+    ensures error { IfErr result (λ e. e ≡ DevError.Failed) }
+    ensures moments { D.tells ≡ true → HasNoCommit (now (D.story device.old)) → Grows HasNoCommit (D.story device.old) (D.story device.new) }
+    ensures prepared { OnOk result (D.tells ≡ true → HasNoCommit (now (D.story device.old)) → IsPrepared (now (D.story device.new))) }
+    ensures begun { OnOk result (D.tells ≡ true → (now (D.story device.old)).writes ≤ (now (D.story device.new)).writes) }
+{
+    let zeros = [0u8; 512];
+    device.write(0, &zeros)?;
+    device.write(2, &zeros)?;
+    device.sync()?;
+    Ok(())
+}
+
+// Writes the first commit, and syncs.
+fn begin<D: SectorDevice>(device: &mut D) -> Result<(), DevError>
+    requires room { 16 ≤ D.size device.old }
+    requires most { D.size device.old ≤ 4194304 }
+    ensures size { D.size device.new ≡ D.size device.old }
+    ensures count { Counts (D.failed device.old) (D.failed device.new) result }
+    ensures error { IfErr result (λ e. e ≡ DevError.Failed) }
+    ensures moments { D.tells ≡ true → Begins (D.size device.old) (D.story device.old) (D.story device.new) }
+    ensures formatted { OnOk result (D.tells ≡ true → EndsBegun (D.size device.old) (D.story device.old) (D.story device.new)) }
+{
+    let first = first_commit(device.sectors());
+    let sector = commit_sector(first);
+    device.write(1, &sector)?;
+    device.sync()?;
+    Ok(())
+}
+
+// Makes what reads give safe, so that no stop brings back an older commit, and then writes the empty store.
+fn clear_and_begin<D: SectorDevice>(device: &mut D) -> Result<(), DevError>
+    requires room { 16 ≤ D.size device.old }
+    requires most { D.size device.old ≤ 4194304 }
+    ensures size { D.size device.new ≡ D.size device.old }
+    ensures count { Counts (D.failed device.old) (D.failed device.new) result }
+    ensures error { IfErr result (λ e. e ≡ DevError.Failed) }
+    ensures moments { D.tells ≡ true → Clears (D.size device.old) (D.story device.old) (D.story device.new) }
+    ensures formatted { OnOk result (D.tells ≡ true → EndsCleared (D.size device.old) (D.story device.old) (D.story device.new)) }
+{
+    device.sync()?;
+    prepare(device)?;
+    begin(device)?;
+    Ok(())
+}
+
+// A map in which the first catalogue's run is in use.
+fn first_map(alloc: Global, sectors: u64) -> Result<FreeMap, FormatError>
+    requires { 16 ≤ sectors }
+    ensures size { IfOk result (λ map. map.size ≡ sectors) }
+    ensures uses { IfOk result (λ map. Uses map.entries ((first_commit sectors).catalogue.run ∷ []) []) }
+    ensures err { IfErr result (λ e. e ≡ FormatError.OutOfMemory) }
+{
+    let mut map = FreeMap::new(alloc, sectors);
+    match map.occupy(FIRST_RUN) {
+        Ok(()) => Ok(map),
+        Err(_) => Err(FormatError::OutOfMemory),
+    }
+}
+
+/// Makes an empty store of a device on which none is: its commit, and the runs in use.
+///
+/// At each moment a stop leaves the disk as it was, or no store, or the empty one.
+///
+/// # Errors
+/// `Damaged(DeviceSize)` without a read; `AlreadyAStore` where a commit rules; `Device` where the device failed. After any
+/// other error nothing has changed.
+pub fn format<D: SectorDevice>(
+    alloc: Global,
+    device: &mut D,
+) -> Result<(Commit, FreeMap), FormatError>
+    ensures size { D.size device.new ≡ D.size device.old }
+    ensures count { CountsFormat (D.failed device.old) (D.failed device.new) result }
+    ensures limits { is_size (D.size device.old) ≡ false → (result ≡ Err (FormatError.Damaged Cause.DeviceSize)) × (D.story device.new ≡ D.story device.old) }
+    ensures damaged { IfErr result (λ e. (cause : Cause) → e ≡ FormatError.Damaged cause → is_size (D.size device.old) ≡ false) }
+    ensures already { IsErrOf result FormatError.AlreadyAStore → D.tells ≡ true → ruling (shown_image (now (D.story device.old))) ≢ None }
+    ensures none_before { OnOk result (D.tells ≡ true → ruling (shown_image (now (D.story device.old))) ≡ None) }
+    ensures moments { D.tells ≡ true → Grows (IsFormatting (D.size device.old) (now (D.story device.old))) (D.story device.old) (D.story device.new) }
+    ensures quiet { IfErr result (λ e. e ≢ FormatError.Device → D.tells ≡ true → now (D.story device.new) ≡ now (D.story device.old)) }
+    ensures commit { IfOk result (λ store. store.0 ≡ first_commit (D.size device.old)) }
+    ensures formatted { OnOk result (D.tells ≡ true → IsFormatted (D.size device.old) (now (D.story device.old)) (now (D.story device.new))) }
+    ensures map_size { IfOk result (λ store. store.1.size ≡ D.size device.old) }
+    ensures uses { IfOk result (λ store. Uses store.1.entries (store.0.catalogue.run ∷ []) []) }
+{
+    let sectors = device.sectors();
+    if sectors < LEAST_SECTORS || sectors > MOST_SECTORS {
+        return Err(FormatError::Damaged(Cause::DeviceSize));
+    }
+    let ruling = read_ruling(device)?;
+    if ruling.is_some() {
+        return Err(FormatError::AlreadyAStore);
+    }
+    let map = first_map(alloc, sectors)?;
+    clear_and_begin(device)?;
+    Ok((first_commit(sectors), map))
+}
+
+impl From<DevError> for FormatError {
+    ghost use Rattle.std.specs.Prelude.{◌≡◌};
+    ghost use Rattle.commit.specs.declared.formatting.FormatError.TheVariants.{Device};
+
+    ghost from_gives = { λ _ e. e ≡ Device };
+
+    fn from(_: DevError) -> Self {
+        FormatError::Device
+    }
+}

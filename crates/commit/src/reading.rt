@@ -1,0 +1,81 @@
+// The text of a catalogue is read.
+ghost use Rattle.std.specs.Prelude.{◌≡◌, ◌≢◌, ◌≤◌, ◌+◌, ◌*◌, ◌<◌, ◌^◌, true, false, Ok, Err, OnOk, IfOk, IfErr};
+ghost use Rattle.sector_dev.specs.Time.{OnlyReads};
+ghost use Rattle.commit.specs.Standing.{is_on_device, is_extent};
+ghost use Rattle.commit.specs.Opening.{CountsOpen, text_shown, TellsText};
+
+use crate::{Cause, Commit};
+use sector_dev::{SECTOR_BYTES, SectorDevice};
+use segments::{Extent, ReadError, Run, read_run};
+use std::alloc::Global;
+use thiserror::Error;
+
+/// Why a store was not opened.
+#[derive(Clone, Copy, Debug, PartialEq, Eq, Error)]
+pub enum OpenError {
+    /// C1: no commit rules.
+    #[error("no store")]
+    NotAStore,
+    /// C3: the store is damaged.
+    #[error("a damaged store")]
+    Damaged(Cause),
+    /// C4: the device failed.
+    #[error("the device failed")]
+    Device,
+    #[error("out of memory")]
+    OutOfMemory,
+}
+
+// Whether the run has a sector, begins behind the commit sectors and ends on the device.
+pub(crate) fn is_on_device(size: u64, run: Run) -> bool
+    ensures { result ≡ is_on_device size run }
+{
+    run.start >= 2 && run.count >= 1 && run.start <= size && run.count <= size - run.start
+}
+
+// Whether it lies on the device with at least so many bytes, and has just the sectors that they need.
+fn is_extent(size: u64, least: u64, extent: Extent) -> bool
+    requires { size ≤ 4194304 }
+    ensures { result ≡ is_extent size least extent }
+{
+    extent.bytes >= least
+        && extent.run.count == extent.bytes.div_ceil(SECTOR_BYTES as u64)
+        && is_on_device(size, extent.run)
+}
+
+/// The text of the catalogue that a commit names. Nothing changes.
+///
+/// # Errors
+/// `Damaged` where the commit is of another device, its run can't be a catalogue's, or a sector of it can't be read.
+pub fn read_text<D: SectorDevice>(
+    alloc: Global,
+    device: &mut D,
+    commit: Commit,
+) -> Result<Vec<u8>, OpenError>
+    requires { D.size device.old ≤ 4194304 }
+    ensures size { D.size device.new ≡ D.size device.old }
+    ensures count { CountsOpen (D.failed device.old) (D.failed device.new) result }
+    ensures moments { D.tells ≡ true → OnlyReads (D.story device.old) (D.story device.new) }
+    ensures found { IfOk result (λ text. D.tells ≡ true → text_shown (D.size device.old) (D.story device.old) commit ≡ Ok text.items) }
+    ensures damaged { IfErr result (λ e. D.tells ≡ true → TellsText e (text_shown (D.size device.old) (D.story device.old) commit)) }
+    ensures a_store { IfErr result (λ e. e ≢ OpenError.NotAStore) }
+{
+    let sectors = device.sectors();
+    if commit.device_sectors != sectors {
+        return Err(OpenError::Damaged(Cause::DeviceSize));
+    }
+    if !is_extent(sectors, 4, commit.catalogue) {
+        return Err(OpenError::Damaged(Cause::CatalogueRange));
+    }
+    match read_run(
+        alloc,
+        device,
+        commit.catalogue.run.start,
+        commit.catalogue.bytes as usize,
+    ) {
+        Ok(text) => Ok(text),
+        Err(ReadError::Unreadable) => Err(OpenError::Damaged(Cause::CatalogueUnreadable)),
+        Err(ReadError::Failed) => Err(OpenError::Device),
+        Err(ReadError::OutOfMemory) => Err(OpenError::OutOfMemory),
+    }
+}

@@ -1,0 +1,126 @@
+// The commit sector and its text.
+ghost use Rattle.std.specs.Prelude.{◌≡◌, ◌+◌, ◌≤◌, ◌<◌, ◌^◌, ◌%◌, ◌++◌, ℕ, List, length, Option, Some};
+ghost use Rattle.segments.specs.Sectors.{filled};
+ghost use Rattle.commit.specs.Sector.{version_number, kind_number, commit_text, number_at, fields_of, commit_at, IsCommit};
+ghost use Rattle.commit.specs.laws.Sectors.{IsFoundAt};
+
+use byteorder::{ByteOrder, LittleEndian};
+use segments::{Extent, Run};
+
+/// How the catalogue is kept that a commit names.
+#[derive(Clone, Copy, Debug, PartialEq, Eq)]
+pub enum CatalogueKind {
+    /// One text has all of it.
+    Whole,
+}
+
+/// The version of the store's format.
+#[derive(Clone, Copy, Debug, PartialEq, Eq)]
+pub enum FormatVersion {
+    One,
+}
+
+/// A state of the store: where its catalogue lies. The newest one rules.
+#[derive(Clone, Copy, Debug, PartialEq, Eq)]
+pub struct Commit {
+    /// Counted from 1.
+    pub epoch: u64,
+    pub catalogue: Extent,
+    /// The number of sectors of the whole device.
+    pub device_sectors: u64,
+    pub version: FormatVersion,
+    pub kind: CatalogueKind,
+}
+
+const LETTERS: [u8; 8] = *b"ARWSTOR1";
+
+impl FormatVersion {
+    fn number(self) -> u32
+        ensures { result ≡ version_number self }
+    {
+        match self {
+            FormatVersion::One => 1,
+        }
+    }
+}
+
+impl CatalogueKind {
+    fn number(self) -> u32
+        ensures { result ≡ kind_number self }
+    {
+        match self {
+            CatalogueKind::Whole => 0,
+        }
+    }
+}
+
+// Writes the next field of a sector.
+fn put(sector: &mut [u8; 512], at: usize, bytes: &[u8])
+    requires { at + length bytes.now ≤ 512 }
+    ensures { (front : List ℕ) → length front ≡ at → sector.old ≡ filled front → sector.new ≡ filled (front ++ bytes.now) }
+{
+    sector[at..at + bytes.len()].copy_from_slice(bytes);
+}
+
+// The sector that spells a commit.
+pub(crate) fn commit_sector(commit: Commit) -> [u8; 512]
+    ensures { result ≡ commit_text commit }
+{
+    let mut sector = [0u8; 512];
+    put(&mut sector, 0, &LETTERS);
+    put(&mut sector, 8, &commit.epoch.to_le_bytes());
+    put(&mut sector, 16, &commit.catalogue.run.start.to_le_bytes());
+    put(&mut sector, 24, &commit.catalogue.run.count.to_le_bytes());
+    put(&mut sector, 32, &commit.catalogue.bytes.to_le_bytes());
+    put(&mut sector, 40, &commit.device_sectors.to_le_bytes());
+    put(&mut sector, 48, &commit.version.number().to_le_bytes());
+    put(&mut sector, 52, &commit.kind.number().to_le_bytes());
+    sector
+}
+
+// The number at this byte.
+fn number_at(sector: &[u8; 512], at: usize) -> u64
+    requires { at + 8 ≤ 512 }
+    ensures { result ≡ number_at at sector.now }
+{
+    LittleEndian::read_u64(&sector[at..])
+}
+
+// The commit whose fields stand here, if the sector spells one.
+fn fields(sector: &[u8; 512]) -> Commit
+    ensures { result ≡ fields_of sector.now }
+{
+    let start = number_at(sector, 16);
+    let count = number_at(sector, 24);
+    let bytes = number_at(sector, 32);
+    Commit {
+        epoch: number_at(sector, 8),
+        catalogue: Extent {
+            run: Run { start, count },
+            bytes,
+        },
+        device_sectors: number_at(sector, 40),
+        version: FormatVersion::One,
+        kind: CatalogueKind::Whole,
+    }
+}
+
+// The commit that stands in the sector of this number.
+pub(crate) fn commit_in(n: u64, sector: &[u8; 512]) -> Option<Commit>
+    ensures { result ≡ commit_at n (Some sector.now) }
+{
+    let commit = fields(sector);
+    if commit.epoch > 0 && commit.epoch % 2 == n && *sector == commit_sector(commit) {
+        Some(commit)
+    } else {
+        None
+    }
+}
+
+/// One text for each commit, and one commit for each text. A commit is found only in a sector whose 512 bytes are its text, so
+/// the version, the kind and the zeros behind them are tested too; none is found in a sector that can't be read.
+#[tactic(auto, using(crate::specs::laws::Sectors::found_again, crate::specs::laws::Sectors::found_is))]
+pub fn one_text_each()
+    ensures again { (c : Commit) → IsCommit c → commit_at (c.epoch % 2) (Some (commit_text c)) ≡ Some c }
+    ensures found { (n : ℕ) (x : Option (List ℕ)) (c : Commit) → commit_at n x ≡ Some c → IsFoundAt n x c }
+{}
