@@ -51,6 +51,10 @@ failures_of d = d.failed
 abbrev pub IsDeviceLength : ℕ → Type 0
 IsDeviceLength bytes = (bytes % 512 ≡ 0) × (512 * 16 ≤ bytes) × (bytes ≤ 512 * 4194304)
 
+-- a file whose position and bytes are known is no device, by its length
+abbrev pub HasOtherLength : {F : Type 0} → SeekGhosts F → F → Type 0
+HasOtherLength s file = IfSome (s.stream_position file) (λ _. IfSome (s.stream_bytes file) (λ bytes. ¬ IsDeviceLength (length bytes)))
+
 -- the device has all sectors of this file, and holds the file as it is, where its position and bytes are known
 abbrev pub IsOver : {F : Type 0} {r : ReadGhosts F} {w : WriteGhosts F} {s : SeekGhosts F} → F → FileDevice F r w s → Type 0
 IsOver {s = s} file d = IfSome (s.stream_position file) (λ _. IfSome (s.stream_bytes file) (λ bytes. length bytes ≡ 512 * d.sectors)) × Keeps (s.stream_bytes file) (s.stream_bytes d.file)

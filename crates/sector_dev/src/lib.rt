@@ -2,6 +2,13 @@
 //!
 //! `SectorDevice` promises what a read gives, what a crash may leave, and that failed calls are counted.
 //! `ModelDevice` is proved to keep all of it. A `FileDevice` is trusted for what its file holds.
+//!
+//! ```
+//! let mut device = FileDevice::create(&rt, "tables.store", 1024)?;
+//! device.write(7, &[1; 512])?;
+//! // only now it is safe from a crash
+//! device.sync()?;
+//! ```
 #![tactic(auto)]
 
 mod buffer;

@@ -3,6 +3,12 @@
 //! `FreeMap` knows the runs in use, and gives the lowest free run that fits. `write_runs` touches no sector outside its
 //! runs, and after it each run reads as its bytes. `read_run` gives the bytes of a run, and tells an unreadable sector
 //! from a failing device.
+//!
+//! ```
+//! let run = free_map.take(3)?;
+//! write_run(&mut device, run.start, &bytes)?;
+//! let same = read_run(alloc, &mut device, run.start, bytes.len())?;
+//! ```
 #![tactic(auto)]
 
 mod entries;

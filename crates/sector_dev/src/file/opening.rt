@@ -1,6 +1,6 @@
 // A file is opened or made as a device.
 ghost use Rattle.std.specs.Prelude.{◌≡◌, ◌≤◌, ◌↔◌, length, IfOk, IfSome, IsErrOf, IsTrue};
-ghost use Rattle.sector_dev.specs.View.{sectors_of, failures_of, IsDeviceLength, IsOver};
+ghost use Rattle.sector_dev.specs.View.{sectors_of, failures_of, HasOtherLength, IsOver};
 ghost use Rattle.sector_dev.specs.Written.{IsEmpty};
 
 use super::{FileDevice, FileError, LEAST_SECTORS, MOST_SECTORS};
@@ -69,7 +69,7 @@ impl<F: Read + Write + Seek + OpenFile + Drop> FileDevice<F> {
     pub fn from_file(alloc: Global, mut file: F) -> Result<FileDevice<F>, FileError>
         ensures size { IfOk result (λ d. (16 ≤ sectors_of d) × (sectors_of d ≤ 4194304)) }
         ensures length { IfOk result (λ d. IsOver file d) }
-        ensures bad_size { IsErrOf result FileError.BadSize → IfSome (F.stream_position file) (λ _. IfSome (F.stream_bytes file) (λ bytes. ¬ IsDeviceLength (length bytes))) }
+        ensures bad_size { IsErrOf result FileError.BadSize → HasOtherLength ⟦<F as Seek>⟧ file }
         ensures failed { IfOk result (λ d. failures_of d ≡ 0) }
         ensures empty { IfOk result (λ d. IsEmpty d) }
     {

@@ -4,7 +4,7 @@ ghost use Rattle.std.specs.Bool.{OnTrue, OnFalse};
 ghost use Rattle.sector_dev.specs.Disk.{now, Watches, Passes, Puts, FailsToPut, Flushes, Counts, Each, IsWhole};
 ghost use Rattle.sector_dev.specs.Faults.{CallFails, ReadFails, after_call, after_read};
 ghost use Rattle.sector_dev.specs.inner.Stored.{stored_at};
-ghost use Rattle.sector_dev.specs.History.{story_of};
+ghost use Rattle.sector_dev.specs.inner.Recording.{InEachStory};
 ghost use Rattle.sector_dev.specs.inner.Newest.{story_shows, story_begun};
 ghost use Rattle.sector_dev.specs.View.{size_of, failed_of, recorded_of, faults_of, history_of};
 
@@ -31,8 +31,8 @@ fn make_room(
 ) -> bool
     ensures same { (k : ℕ) → stored_at stored.new.items k ≡ stored_at stored.old.items k }
     ensures reached { OnTrue result (n < length stored.new.items) }
-    ensures recorded { OnTrue result ((start : List (Option (List ℕ))) → Puts (story_of start log.old.items) n content.now (Some content.now) (story_of start log.new.items)) }
-    ensures contents { (start : List (Option (List ℕ))) → Each IsWhole (story_of start log.old.items) → Each IsWhole (story_of start log.new.items) }
+    ensures recorded { OnTrue result (InEachStory (λ old new. Puts old n content.now (Some content.now) new) log.old.items log.new.items) }
+    ensures contents { InEachStory (λ old new. Each IsWhole old → Each IsWhole new) log.old.items log.new.items }
     ensures full { OnFalse result (log.new.items ≡ log.old.items) }
 {
     let Some(count) = (n as usize).checked_add(1) else {
