@@ -1,5 +1,6 @@
 -- A slot of the code is absent, a number, or a reference; and how many slots and nodes a vector holds.
 use Rattle.std.proofs.Common.{◌≡◌, ◌≤◌, ◌<◌, ◌+◌, ℕ, suc, get_or, drop, add-one, drop-cons, List, [], ◌∷◌, map, length, refl, sym, ap, subst, ◌∙◌}
+use Rattle.facts.specs.laws.Lists.{drop-item}
 use Rattle.flatbuf.specs.declared.nodes.Slot.{Slot}
 use Rattle.flatbuf.specs.declared.nodes.Node.{Node}
 use Rattle.flatbuf.specs.declared.nodes.Node.TheOpen.{Slot-F, Absent, Byte, Short, Word, Long, Refers}
@@ -47,17 +48,13 @@ below_one s =
     (λ t rest cursor. below_le (end_at cursor t) rest)
     s
 
--- the item that a loop is at, before what is left
-pub item_at : {X : Type 0} (xs : List X) (i : ℕ) (x : X) → i < length xs → x ≡ get_or xs i x → drop i xs ≡ x ∷ drop (i + 1) xs
-item_at xs i x lt e = rw (add-one, drop-cons xs i x) (ap (λ y. y ∷ drop (suc i) xs) (sym e))
-
 pub node_fits : (ns : List Node) (i : ℕ) (n : Node) (cursor : ℕ) → i < length ns → n ≡ get_or ns i n → end_at cursor (node_of n) ≤ ends_at cursor (nodes_of (map node_of (drop i ns)))
 node_fits ns i n cursor lt e =
-    rw (item_at ns i n lt e) (ends_le (end_at cursor (node_of n)) (nodes_of (map node_of (drop (i + 1) ns))))
+    rw (drop-item ns i n lt e) (ends_le (end_at cursor (node_of n)) (nodes_of (map node_of (drop (i + 1) ns))))
 
 pub slot_fits : (ss : List Slot) (i : ℕ) (s : Slot) (cursor : ℕ) → i < length ss → s ≡ get_or ss i s → below_ends_at cursor (slot_of s no_slot) ≤ below_ends_at cursor (slots_in (map slot_of (drop i ss)))
-slot_fits ss i s cursor lt e = rw (item_at ss i s lt e) (below_one s (slots_in (map slot_of (drop (i + 1) ss))) cursor)
+slot_fits ss i s cursor lt e = rw (drop-item ss i s lt e) (below_one s (slots_in (map slot_of (drop (i + 1) ss))) cursor)
 
 pub node_ends : (ns : List Node) (i : ℕ) (n : Node) (cursor next whole : ℕ) → i < length ns → n ≡ get_or ns i n → next ≡ end_at cursor (node_of n) → ends_at cursor (nodes_of (map node_of (drop i ns))) ≡ whole
     → ends_at next (nodes_of (map node_of (drop (i + 1) ns))) ≡ whole
-node_ends ns i n cursor next whole lt is e h = rw e (rw (item_at ns i n lt is) at h)
+node_ends ns i n cursor next whole lt is e h = rw e (rw (drop-item ns i n lt is) at h)

@@ -7,7 +7,8 @@ use Rattle.byteorder.specs.Numbers.{length-bytes_low_first}
 use Rattle.flatbuf.specs.Tree.{Tree, Nodes, Slots, table, text, references, structs, no_node, and_node, no_slot, absent, scalar, refers}
 use Rattle.flatbuf.specs.Laid.{gap, count_of, vtable_len, struct_bytes, inline, inline_end, links, vtable, laid, laid_all, laid_slots, starts, slot_starts, table_start, start, metadata}
 use Rattle.flatbuf.specs.Ends.{end_at, ends_at, below_ends_at}
-use Rattle.flatbuf.proofs.ReadBack.{length-struct_bytes, length-links, length-starts, length-vtable, length-inline}
+use Rattle.flatbuf.specs.laws.Laid.{length-struct_bytes}
+use Rattle.flatbuf.proofs.ReadBack.{length-links, length-starts, length-vtable, length-inline}
 
 mutual
   unfolding laid laid_all laid_slots

@@ -9,7 +9,7 @@ use Rattle.flatbuf.specs.Tree.{Tree, Nodes, Slots, table, references, scalar, re
 use Rattle.flatbuf.specs.Laid.{gap, count_of, table_start, inline, inline_end, vtable, vtable_len, distances, links, laid, laid_all, laid_slots, starts, slot_starts, start, struct_bytes, metadata}
 use Rattle.flatbuf.specs.Ends.{end_at, ends_at, below_ends_at}
 use Rattle.flatbuf.specs.View.{node_of, nodes_of, slot_of, slots_in}
-use Rattle.flatbuf.proofs.Cases.{item_at}
+use Rattle.facts.specs.laws.Lists.{drop-item}
 use Rattle.flatbuf.proofs.Ends.{end_is, ends_is, below_is}
 use Rattle.flatbuf.proofs.ReadBack.{length-inline, length-links, length-starts, length-vtable}
 use Rattle.std.proofs.lemmas.List.{length-replicate}
@@ -45,7 +45,7 @@ unfolding links starts
 links_put old new whole d cursor next i ns n lt is e f g h =
     let to : next ≡ cursor + length (laid cursor (node_of n)) = g ∙ sym (end_is cursor (node_of n)) in
     let len : length new ≡ length old + 4 = ap length e ∙ length-append old (little_bytes 4 d) in
-    let left = rw (item_at ns i n lt is) at h in
+    let left = rw (drop-item ns i n lt is) at h in
     next_part old new (little_bytes 4 d) _ whole e (rw (f, to, len) left)
 
 pub pairs_put : (old new whole : List ℕ) (i : ℕ) (ps : List (ℕ × ℕ)) (d : ℕ × ℕ) → i < length ps → new ≡ old ++ (little_bytes 8 (get_or ps i d).0 ++ little_bytes 8 (get_or ps i d).1)
@@ -128,14 +128,14 @@ pub node_put : (old new whole : List ℕ) (i : ℕ) (ns : List Node) (n : Node) 
     → old ++ laid_all (length old) (nodes_of (map node_of (drop i ns))) ≡ whole → new ++ laid_all (length new) (nodes_of (map node_of (drop (i + 1) ns))) ≡ whole
 unfolding laid_all
 node_put old new whole i ns n lt is e h =
-    let left = rw (item_at ns i n lt is) at h in
+    let left = rw (drop-item ns i n lt is) at h in
     let len = length_more old new (laid (length old) (node_of n)) e in
     next_part old new _ _ whole e (rw len left)
 
 pub slot_put : (old new whole : List ℕ) (i : ℕ) (ss : List Slot) (s : Slot) → i < length ss → s ≡ get_or ss i s
     → ((rest : Slots) → new ++ laid_slots (length new) rest ≡ old ++ laid_slots (length old) (slot_of s rest))
     → old ++ laid_slots (length old) (slots_in (map slot_of (drop i ss))) ≡ whole → new ++ laid_slots (length new) (slots_in (map slot_of (drop (i + 1) ss))) ≡ whole
-slot_put old new whole i ss s lt is e h = e (slots_in (map slot_of (drop (i + 1) ss))) ∙ (rw (item_at ss i s lt is) at h)
+slot_put old new whole i ss s lt is e h = e (slots_in (map slot_of (drop (i + 1) ss))) ∙ (rw (drop-item ss i s lt is) at h)
 
 pub metadata_put : (a b c : List ℕ) (end : ℕ) (n : Tree) → a ≡ little_bytes 4 (start 4 n) → b ≡ a ++ laid (length a) n → end ≡ end_at 4 n → c ≡ b ++ replicate (gap 8 end) 0 → c ≡ metadata n
 unfolding metadata

@@ -10,6 +10,7 @@ use Rattle.flatbuf.specs.Tree.{Tree, Nodes, Slots, table, text, references, stru
 use Rattle.flatbuf.specs.Laid.{gap, count_of, struct_bytes, metadata, slots_of, inline_end, distances, inline, links, vtable_len, table_start, start, vtable, laid, laid_all, starts, laid_slots, slot_starts}
 use Rattle.flatbuf.specs.Held.{Has, HasAll, HasSlots, HasStructs, HasHead, Fits, FitsAll, FitsSlots, FitsStructs}
 use Rattle.flatbuf.specs.Stands.{At}
+use Rattle.flatbuf.specs.laws.Laid.{length-struct_bytes}
 use Rattle.flatbuf.proofs.Places.{At-left, At-right, At-take, At-within, At-field}
 
 pub At-skip : (bytes : List ℕ) (at g : ℕ) (ys : List ℕ) → At bytes at (replicate g 0 ++ ys) → At bytes (at + g) ys
@@ -144,12 +145,6 @@ length-inline at offset cursor (refers n rest) =
     let s = start cursor n - (at + offset + g) in
     let more = inline at (offset + g + 4) (slot_starts (cursor + length (laid cursor n)) rest) rest in
     omega (arith, length-append (replicate g 0) (little_bytes 4 s ++ more), length-replicate {A = ℕ} g 0, length-append (little_bytes 4 s) more, length-bytes_low_first 0 4 s, length-inline at (offset + g + 4) (cursor + length (laid cursor n)) rest)
-
-pub length-struct_bytes : (ps : List (ℕ × ℕ)) → length (struct_bytes ps) ≡ 16 * length ps
-unfolding struct_bytes
-length-struct_bytes [] = refl
-length-struct_bytes (p ∷ ps) =
-    omega (arith, length-append (little_bytes 8 p.0) (little_bytes 8 p.1 ++ struct_bytes ps), length-append (little_bytes 8 p.1) (struct_bytes ps), length-bytes_low_first 0 8 p.0, length-bytes_low_first 0 8 p.1, length-struct_bytes ps)
 
 has_structs : (bytes : List ℕ) (at : ℕ) (ps : List (ℕ × ℕ)) → FitsStructs ps → At bytes at (struct_bytes ps) → HasStructs bytes at ps
 unfolding struct_bytes

@@ -8,3 +8,4 @@ pub mod Ends
 pub mod Held
 pub mod Stands
 pub mod View
+pub mod laws

@@ -1,7 +1,8 @@
 use Rattle.std.proofs.Common.{◌+◌, map, drop, length, arith, rules}
 use Rattle.flatbuf.specs.declared.nodes.Node.{the_lemmas}
 use Rattle.flatbuf.specs.View.{node_of, nodes_of, slot_of, slots_in}
-use Rattle.flatbuf.proofs.Cases.{item_at, node_fits, slot_fits, fits_split}
+use Rattle.facts.specs.laws.Lists.{drop-item}
+use Rattle.flatbuf.proofs.Cases.{node_fits, slot_fits, fits_split}
 use Rattle.flatbuf.proofs.Puts.{below_kept, ends_kept, slot_put}
 use Rattle.flatbuf.proofs.emit.+put.Goals as goal
 
@@ -10,7 +11,7 @@ put_references-put-requires t c =
     let ns = c.args.nodes.now in
     let i = c.loop-node.node-index in
     let rest = nodes_of (map node_of (drop i ns)) in
-    let fits = rw (item_at ns i c.node-item.result (omega arith) c.node-item.is) at c.loop-node.invariant.fits in (
+    let fits = rw (drop-item ns i c.node-item.result (omega arith) c.node-item.is) at c.loop-node.invariant.fits in (
       search (rules, the_lemmas),
       (
         fits.0,
@@ -28,7 +29,7 @@ put_table-put_below-requires t c =
     let ss = c.args.slots.now in
     let i = c.loop-slot.slot-index in
     let rest = slots_in (map slot_of (drop i ss)) in
-    let fits = rw (item_at ss i c.slot-item.result (omega arith) c.slot-item.is) at c.loop-slot.invariant.fits in (
+    let fits = rw (drop-item ss i c.slot-item.result (omega arith) c.slot-item.is) at c.loop-slot.invariant.fits in (
       search (rules, the_lemmas),
       (
         (fits_split c.slot-item.result (slots_in (map slot_of (drop (i + 1) ss))) fits).0,
@@ -45,7 +46,7 @@ pub put_table-loop-slot-preserved : goal.put_table-loop-slot-preserved
 put_table-loop-slot-preserved t c =
     let ss = c.args.slots.now in
     let i = c.loop-slot.slot-index in
-    let fits = rw (item_at ss i c.slot-item.result (omega arith) c.slot-item.is) at c.loop-slot.invariant.fits in
+    let fits = rw (drop-item ss i c.slot-item.result (omega arith) c.slot-item.is) at c.loop-slot.invariant.fits in
     record {
       bytes = slot_put c.loop-slot.out.items c.put_below.new.out.items _ i ss c.slot-item.result (omega arith) c.slot-item.is c.in_ok-put_below.ensures c.loop-slot.invariant.bytes;
       fits = (fits_split c.slot-item.result (slots_in (map slot_of (drop (i + 1) ss))) fits).1;

@@ -3,7 +3,7 @@ use Rattle.flatbuf.specs.Ends.{below_ends_at}
 use Rattle.flatbuf.specs.Laid.{inline, inline_end, slot_starts}
 use Rattle.flatbuf.specs.Tree.{Slots}
 use Rattle.flatbuf.specs.View.{slot_of, slots_in}
-use Rattle.flatbuf.proofs.Cases.{item_at}
+use Rattle.facts.specs.laws.Lists.{drop-item}
 use Rattle.flatbuf.proofs.Ends.{below_le}
 use Rattle.flatbuf.proofs.Puts.{inline_len}
 use Rattle.flatbuf.proofs.ReadBack.{inline_le_end}
@@ -22,7 +22,7 @@ put_slot-requires-clause-small c =
 pub put_slot-requires-clause-room : goal.put_slot-requires-clause-room
 put_slot-requires-clause-room c =
     let slots = c.args.slots.now in
-    let end = rw (item_at slots c.loop-slot.slot-index c.slot-item.result (omega arith) c.slot-item.is) at c.loop-slot.invariant.end in
+    let end = rw (drop-item slots c.loop-slot.slot-index c.slot-item.result (omega arith) c.slot-item.is) at c.loop-slot.invariant.end in
     (slots_in (map slot_of (drop (c.loop-slot.slot-index + 1) slots)), omega (arith, end, c.loop-slot.invariant.low))
 
 pub pad-requires-clause-small : goal.pad-requires-clause-small
