@@ -4,14 +4,8 @@ use Rattle.std.proofs.Common.{◌≤◌, List, [], ◌∷◌, ◌++◌, length, 
 use Rattle.std.proofs.lemmas.List.Sums.{sum_by-cons, sum_by-append}
 use Rattle.arrow_schema.specs.Column.{Column, column, columns_of, PlainSchema}
 use Rattle.arrow_schema.specs.Preorder.{preorder, preorder_below, preorder_all}
+use Rattle.arrow_schema.specs.laws.Columns.{columns_few}
 use Rattle.arrow_schema.specs.Limits.{IsWithinLimits, bytes_in, name_len}
-
-columns_few : (cs : List Column) → length cs ≤ length (preorder_all (columns_of cs))
-unfolding preorder preorder_all
-columns_few [] = omega arith
-columns_few (column name nullable kind dictionary pairs ∷ cs) =
-    let rest = columns_few cs in
-    omega (arith, rest, length-append (preorder_below kind) (preorder_all (columns_of cs)))
 
 names_few : (cs : List Column) → sum_by name_len cs ≤ sum_by bytes_in (preorder_all (columns_of cs))
 unfolding preorder preorder_all

@@ -15,3 +15,4 @@ pub mod Fronts
 pub mod Build
 pub mod Standing
 pub mod Told
+pub mod laws

@@ -5,6 +5,7 @@ use Rattle.std.proofs.Common.{◌≡◌, ℕ, zero, suc, ◌+◌, ◌*◌, ◌�
 use Rattle.std.proofs.lemmas.Bool.{and_from, and_parts, le-leb}
 use Rattle.std.proofs.lemmas.List.{get_or-drop}
 use Rattle.std.proofs.lemmas.List.Sums.{sum_by-cons, AllPass-from_list_all}
+use Rattle.arrow_schema.specs.laws.Columns.{columns_few}
 use Rattle.byteorder.specs.Numbers.{little_from-lt}
 use Rattle.arrow_schema.specs.Column.{Column, column, integers, columns_of, PlainSchema}
 use Rattle.arrow_schema.specs.Integers.{is_integer_column, is_integer_schema, is_bit_width, is_empty}
@@ -73,14 +74,6 @@ rows_weigh s (row ∷ rows) ints =
     let w : ℕ = 1 + length s.columns in
     let more : suc (length rows) * w ≡ w + length rows * w = omega arith in
     sum_by-cons (row_weight s) row rows ∙ (λ j. row_weighs s row ints j + rows_weigh s rows ints j) ∙ sym more
-
--- there are no more columns than columns with all their children
-columns_few : (cs : List Column) → length cs ≤ length (preorder_all (columns_of cs))
-unfolding preorder preorder_all
-columns_few [] = omega arith
-columns_few (column name nullable kind dictionary pairs ∷ cs) =
-    let rest = columns_few cs in
-    omega (arith, rest, length-append (preorder_below kind) (preorder_all (columns_of cs)))
 
 -- ---- they have no dictionary
 
