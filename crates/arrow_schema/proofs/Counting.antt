@@ -5,6 +5,7 @@ use Rattle.std.specs.Prelude.{nat_le, not, sum_by, Result, Ok, Err, IsOk, if◌t
 use Rattle.std.proofs.lemmas.Bool.{lt-leb, le-leb, leb-true, false≢true}
 use Rattle.std.specs.List.{list_all}
 use Rattle.std.proofs.lemmas.Bool.Decides.{nat_tests}
+use Rattle.arrow_schema.specs.declared.limits.TheConstants.{MAX_FIELDS, MAX_DEPTH, MAX_PAIRS, MAX_TEXT_BYTES}
 use Rattle.arrow_schema.specs.declared.limits.Tally.{Tally}
 use Rattle.arrow_schema.specs.declared.types.Field.{Field}
 use Rattle.arrow_schema.specs.declared.limits.SchemaError.{SchemaError}
@@ -12,8 +13,9 @@ use Rattle.arrow_schema.specs.declared.limits.SchemaError.TheVariants.{Depth, Fi
 use Rattle.arrow_schema.specs.Column.{Column, columns_of, PlainSchema}
 use Rattle.arrow_schema.specs.View.{column_of}
 use Rattle.arrow_schema.specs.Preorder.{preorder, preorder_all, depth_all, every_column}
-use Rattle.arrow_schema.specs.Limits.{IsWithinLimits, first_passed, count_of_pairs, count_of_bytes, pairs_in, bytes_in, has_number_in_range, has_flat_dictionary}
+use Rattle.arrow_schema.specs.Limits.{IsWithinLimits, first_exceeded, count_of_pairs, count_of_bytes, pairs_in, bytes_in, has_number_in_range, has_flat_dictionary}
 use Rattle.arrow_schema.specs.Tally.{saturated, tallied, tallied_one}
+use Rattle.arrow_schema.proofs.Sound.{IsSound}
 use Rattle.std.proofs.lemmas.List.Sums.{sum_by-cons, AllPass-from_list_all, list_all-from_AllPass}
 use Rattle.facts.specs.laws.Levels.{nat_le_max}
 
@@ -70,41 +72,41 @@ next_field t u fields i x lt is e =
     rw (next, e) (sym (tallied-append t (preorder (column_of x)) (preorder_all (columns_of (map column_of (drop (i + 1) fields))))))
 
 -- the tests in their order
-pub first_depth : (s : PlainSchema) → nat_le (depth_all (columns_of s.columns)) 32 ≡ false → Err Depth ≡ first_passed s
-unfolding first_passed
+pub first_depth : (s : PlainSchema) → nat_le (depth_all (columns_of s.columns)) MAX_DEPTH ≡ false → Err Depth ≡ first_exceeded s
+unfolding first_exceeded
 first_depth s d = rw d refl
 
-pub first_fields : (s : PlainSchema) → nat_le (depth_all (columns_of s.columns)) 32 ≡ true → 2048 < length (every_column s) → Err Fields ≡ first_passed s
-unfolding first_passed
+pub first_fields : (s : PlainSchema) → nat_le (depth_all (columns_of s.columns)) MAX_DEPTH ≡ true → MAX_FIELDS < length (every_column s) → Err Fields ≡ first_exceeded s
+unfolding first_exceeded
 first_fields s d f =
-    let f' : nat_le (length (every_column s)) 2048 ≡ false = lt-leb _ _ f in
+    let f' : nat_le (length (every_column s)) MAX_FIELDS ≡ false = lt-leb _ _ f in
     rw (d, f') refl
 
-pub first_pairs : (s : PlainSchema) → nat_le (depth_all (columns_of s.columns)) 32 ≡ true → length (every_column s) ≤ 2048 → 4096 < count_of_pairs s → Err Pairs ≡ first_passed s
-unfolding first_passed
+pub first_pairs : (s : PlainSchema) → nat_le (depth_all (columns_of s.columns)) MAX_DEPTH ≡ true → length (every_column s) ≤ MAX_FIELDS → MAX_PAIRS < count_of_pairs s → Err Pairs ≡ first_exceeded s
+unfolding first_exceeded
 first_pairs s d f p =
-    let f' : nat_le (length (every_column s)) 2048 ≡ true = le-leb _ _ f in
-    let p' : nat_le (count_of_pairs s) 4096 ≡ false = lt-leb _ _ p in
+    let f' : nat_le (length (every_column s)) MAX_FIELDS ≡ true = le-leb _ _ f in
+    let p' : nat_le (count_of_pairs s) MAX_PAIRS ≡ false = lt-leb _ _ p in
     rw (d, f', p') refl
 
-pub first_bytes : (s : PlainSchema) → nat_le (depth_all (columns_of s.columns)) 32 ≡ true → length (every_column s) ≤ 2048 → count_of_pairs s ≤ 4096 → 4194304 < count_of_bytes s → Err Bytes ≡ first_passed s
-unfolding first_passed
+pub first_bytes : (s : PlainSchema) → nat_le (depth_all (columns_of s.columns)) MAX_DEPTH ≡ true → length (every_column s) ≤ MAX_FIELDS → count_of_pairs s ≤ MAX_PAIRS → MAX_TEXT_BYTES < count_of_bytes s → Err Bytes ≡ first_exceeded s
+unfolding first_exceeded
 first_bytes s d f p b =
-    let f' : nat_le (length (every_column s)) 2048 ≡ true = le-leb _ _ f in
-    let p' : nat_le (count_of_pairs s) 4096 ≡ true = le-leb _ _ p in
-    let b' : nat_le (count_of_bytes s) 4194304 ≡ false = lt-leb _ _ b in
+    let f' : nat_le (length (every_column s)) MAX_FIELDS ≡ true = le-leb _ _ f in
+    let p' : nat_le (count_of_pairs s) MAX_PAIRS ≡ true = le-leb _ _ p in
+    let b' : nat_le (count_of_bytes s) MAX_TEXT_BYTES ≡ false = lt-leb _ _ b in
     rw (d, f', p', b') refl
 
 -- what is told after the counts
 abbrev pub after_counts : Bool → Bool → Result (Unit {0}) SchemaError
 after_counts numbers dictionaries = if not numbers then Err Number else if not dictionaries then Err Dictionary else Ok tt
 
-pub first_after : (s : PlainSchema) (n k : Bool) → nat_le (depth_all (columns_of s.columns)) 32 ≡ true → length (every_column s) ≤ 2048 → count_of_pairs s ≤ 4096 → count_of_bytes s ≤ 4194304 → list_all has_number_in_range (every_column s) ≡ n → list_all has_flat_dictionary (every_column s) ≡ k → after_counts n k ≡ first_passed s
-unfolding first_passed
+pub first_after : (s : PlainSchema) (n k : Bool) → nat_le (depth_all (columns_of s.columns)) MAX_DEPTH ≡ true → length (every_column s) ≤ MAX_FIELDS → count_of_pairs s ≤ MAX_PAIRS → count_of_bytes s ≤ MAX_TEXT_BYTES → list_all has_number_in_range (every_column s) ≡ n → list_all has_flat_dictionary (every_column s) ≡ k → after_counts n k ≡ first_exceeded s
+unfolding first_exceeded
 first_after s n k d f p b ns ks =
-    let f' : nat_le (length (every_column s)) 2048 ≡ true = le-leb _ _ f in
-    let p' : nat_le (count_of_pairs s) 4096 ≡ true = le-leb _ _ p in
-    let b' : nat_le (count_of_bytes s) 4194304 ≡ true = le-leb _ _ b in
+    let f' : nat_le (length (every_column s)) MAX_FIELDS ≡ true = le-leb _ _ f in
+    let p' : nat_le (count_of_pairs s) MAX_PAIRS ≡ true = le-leb _ _ p in
+    let b' : nat_le (count_of_bytes s) MAX_TEXT_BYTES ≡ true = le-leb _ _ b in
     rw (d, f', p', b', ns, ks) refl
 
 -- the tests in their order and the facts agree
@@ -112,13 +114,13 @@ step_back : (b : Bool) (e : SchemaError) (rest : Result (Unit {0}) SchemaError) 
 step_back true e rest h = (refl, h)
 step_back false e rest h = absurd (false≢true h)
 
-facts_from_tests : (s : PlainSchema) → IsOk (first_passed s) → IsWithinLimits s
-unfolding first_passed
-facts_from_tests s h =
-    let d = step_back (nat_le (depth_all (columns_of s.columns)) 32) Depth _ h in
-    let f = step_back (nat_le (length (every_column s)) 2048) Fields _ d.1 in
-    let p = step_back (nat_le (count_of_pairs s) 4096) Pairs _ f.1 in
-    let b = step_back (nat_le (count_of_bytes s) 4194304) Bytes _ p.1 in
+facts_from_tests : (s : PlainSchema) → IsSound s → IsOk (first_exceeded s) → IsWithinLimits s
+unfolding first_exceeded
+facts_from_tests s sound h =
+    let d = step_back (nat_le (depth_all (columns_of s.columns)) MAX_DEPTH) Depth _ h in
+    let f = step_back (nat_le (length (every_column s)) MAX_FIELDS) Fields _ d.1 in
+    let p = step_back (nat_le (count_of_pairs s) MAX_PAIRS) Pairs _ f.1 in
+    let b = step_back (nat_le (count_of_bytes s) MAX_TEXT_BYTES) Bytes _ p.1 in
     let n = step_back (list_all has_number_in_range (every_column s)) Number _ b.1 in
     let k = step_back (list_all has_flat_dictionary (every_column s)) Dictionary _ n.1 in
     record {
@@ -128,10 +130,13 @@ facts_from_tests s h =
       bytes = leb-true _ _ b.0;
       numbers = AllPass-from_list_all _ _ n.0;
       dictionaries = AllPass-from_list_all _ _ k.0;
+      widths = AllPass-from_list_all _ _ sound.widths;
+      texts = AllPass-from_list_all _ _ sound.texts;
+      own_texts = AllPass-from_list_all _ _ sound.own_texts;
     }
 
-tests_from_facts : (s : PlainSchema) → IsWithinLimits s → Ok tt ≡ first_passed s
+tests_from_facts : (s : PlainSchema) → IsWithinLimits s → Ok tt ≡ first_exceeded s
 tests_from_facts s w = first_after s true true (le-leb _ _ w.levels) w.fields w.pairs w.bytes (list_all-from_AllPass _ _ w.numbers) (list_all-from_AllPass _ _ w.dictionaries)
 
-pub within_from_first : (s : PlainSchema) (r : Result (Unit {0}) SchemaError) → r ≡ first_passed s → IsOk r ↔ IsWithinLimits s
-within_from_first s r e = (λ h. facts_from_tests s (rw (← e) h), λ w. rw (e, ← tests_from_facts s w) refl)
+pub within_from_first : (s : PlainSchema) (r : Result (Unit {0}) SchemaError) → IsSound s → r ≡ first_exceeded s → IsOk r ↔ IsWithinLimits s
+within_from_first s r sound e = (λ h. facts_from_tests s sound (rw (← e) h), λ w. rw (e, ← tests_from_facts s w) refl)

@@ -2,6 +2,7 @@
 use Rattle.std.specs.Prelude.{sum_by}
 use Rattle.std.proofs.Common.{◌≤◌, List, [], ◌∷◌, ◌++◌, length, arith, length-append}
 use Rattle.std.proofs.lemmas.List.Sums.{sum_by-cons, sum_by-append}
+use Rattle.arrow_schema.specs.declared.limits.TheConstants.{MAX_FIELDS, MAX_TEXT_BYTES}
 use Rattle.arrow_schema.specs.Column.{Column, column, columns_of, PlainSchema}
 use Rattle.arrow_schema.specs.Preorder.{preorder, preorder_below, preorder_all}
 use Rattle.arrow_schema.specs.laws.Columns.{columns_few}
@@ -18,8 +19,8 @@ names_few (column name nullable kind dictionary pairs ∷ cs) =
     let d = sum_by-append bytes_in (preorder_below kind) (preorder_all (columns_of cs)) in
     omega (arith, rest, a, b, d)
 
-pub own_columns : (s : PlainSchema) → IsWithinLimits s → length s.columns ≤ 2048
+pub own_columns : (s : PlainSchema) → IsWithinLimits s → length s.columns ≤ MAX_FIELDS
 own_columns s limits = omega (arith, columns_few s.columns, limits.fields)
 
-pub own_names : (s : PlainSchema) → IsWithinLimits s → sum_by name_len s.columns ≤ 4194304
+pub own_names : (s : PlainSchema) → IsWithinLimits s → sum_by name_len s.columns ≤ MAX_TEXT_BYTES
 own_names s limits = omega (arith, names_few s.columns, limits.bytes)

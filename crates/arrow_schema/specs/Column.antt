@@ -1,5 +1,9 @@
 -- Types, fields and schemas as plain trees, without where they lie in memory (Arrow columnar format, "Logical types"; Schema.fbs).
-use Rattle.std.specs.Prelude.{ℕ, Bool, List, [], ◌∷◌, Option}
+use Rattle.std.specs.Prelude.{ℕ, Bool, ◌==◌, ◌||◌, List, [], ◌∷◌, Option}
+
+-- how many bits an integer may have
+abbrev pub is_bit_width : ℕ → Bool
+is_bit_width bits = bits == 8 || bits == 16 || bits == 32 || bits == 64
 
 -- an integer of so many bits: the index type of a dictionary
 pub record Index : Type 0 where

@@ -1,11 +1,8 @@
 -- Columns of integers, without a dictionary or pairs.
-use Rattle.std.specs.Prelude.{◌≡◌, ℕ, Bool, true, false, ◌==◌, ◌||◌, ◌&&◌, List, [], ◌∷◌, Some, None}
+use Rattle.std.specs.Prelude.{◌≡◌, Bool, true, false, ◌&&◌, List, [], ◌∷◌, Some, None}
 use Rattle.std.specs.List.{list_all}
 use Rattle.arrow_schema.specs.Column.{Kind, Column, column, integers, PlainSchema}
-
--- the widths of integers
-abbrev pub is_bit_width : ℕ → Bool
-is_bit_width bits = bits == 8 || bits == 16 || bits == 32 || bits == 64
+pub use Rattle.arrow_schema.specs.Column.{is_bit_width}
 
 abbrev pub is_integer_kind : Kind → Bool
 is_integer_kind (integers bits signed) = is_bit_width bits

@@ -12,10 +12,7 @@ mod types;
 
 pub use compare::{one_shape_is_an_equivalence, same_shape};
 pub use limits::{
-    MAX_BYTES, MAX_DEPTH, MAX_FIELDS, MAX_PAIRS, NUMBER_END, SchemaError, limits_bound_columns,
+    MAX_DEPTH, MAX_FIELDS, MAX_PAIRS, MAX_TEXT_BYTES, NUMBER_END, SchemaError, limits_bound_columns,
 };
 pub use texts::{ParseError, field_text, one_column_of_a_text, parse_fields};
 pub use types::{BitWidth, DataType, DateUnit, DictSpec, Field, IntegerType, Schema, TimeUnit};
-
-#[cfg(test)]
-mod tests;

@@ -4,7 +4,7 @@ ghost use Rattle.std.specs.List.{list_all};
 ghost use Rattle.arrow_schema.specs.Column.{columns_of, PlainSchema};
 ghost use Rattle.arrow_schema.specs.View.{schema_of, kind_of, column_of, pair_of};
 ghost use Rattle.arrow_schema.specs.Preorder.{preorder, preorder_below, preorder_all, depth, depth_below, depth_all, every_column};
-ghost use Rattle.arrow_schema.specs.Limits.{IsWithinLimits, first_passed, number_of, is_nested, timezone_of, bytes_of_pairs, count_of_pairs, count_of_bytes, has_number_in_range, has_flat_dictionary, name_len};
+ghost use Rattle.arrow_schema.specs.Limits.{IsWithinLimits, first_exceeded, number_of, is_nested, timezone_of, bytes_of_pairs, count_of_pairs, count_of_bytes, has_number_in_range, has_flat_dictionary, name_len};
 ghost use Rattle.arrow_schema.specs.Tally.{saturated, tallied, tallied_one, tally_of_pairs};
 
 use crate::types::{DataType, Field, Schema};
@@ -16,7 +16,7 @@ pub const MAX_DEPTH: u64 = 32;
 /// The most key/value pairs of a schema and all its fields together.
 pub const MAX_PAIRS: u64 = 4096;
 /// The most bytes of names, keys, values and timezones together.
-pub const MAX_BYTES: u64 = 4_194_304;
+pub const MAX_TEXT_BYTES: u64 = 4_194_304;
 /// Widths and sizes stay below it.
 pub const NUMBER_END: u32 = 1 << 31;
 
@@ -29,7 +29,7 @@ pub enum SchemaError {
     Fields,
     /// More pairs than `MAX_PAIRS`.
     Pairs,
-    /// More bytes of text than `MAX_BYTES`.
+    /// More bytes of text than `MAX_TEXT_BYTES`.
     Bytes,
     /// A width or a size past `NUMBER_END`.
     Number,
@@ -199,8 +199,8 @@ fn tally_of(schema: &Schema) -> Tally
     tally
 }
 
-fn first_passed(schema: &Schema) -> Result<(), SchemaError>
-    ensures { result ≡ first_passed (schema_of schema.now) }
+fn first_exceeded(schema: &Schema) -> Result<(), SchemaError>
+    ensures { result ≡ first_exceeded (schema_of schema.now) }
 {
     if !are_within_depth(MAX_DEPTH, &schema.fields) {
         return Err(SchemaError::Depth);
@@ -210,7 +210,7 @@ fn first_passed(schema: &Schema) -> Result<(), SchemaError>
         Err(SchemaError::Fields)
     } else if tally.pairs > MAX_PAIRS {
         Err(SchemaError::Pairs)
-    } else if tally.bytes > MAX_BYTES {
+    } else if tally.bytes > MAX_TEXT_BYTES {
         Err(SchemaError::Bytes)
     } else if !tally.numbers_fit {
         Err(SchemaError::Number)
@@ -224,10 +224,10 @@ fn first_passed(schema: &Schema) -> Result<(), SchemaError>
 impl Schema {
     /// Whether it is within the limits, and else the first that it passes.
     pub fn check(&self) -> Result<(), SchemaError>
-        ensures told { result ≡ first_passed (schema_of self.now) }
+        ensures told { result ≡ first_exceeded (schema_of self.now) }
         ensures within { IsOk result ↔ IsWithinLimits (schema_of self.now) }
     {
-        first_passed(self)
+        first_exceeded(self)
     }
 }
 

@@ -9,8 +9,3 @@ mod scan;
 
 pub use parse::{ParseError, one_column_of_a_text, parse_fields};
 pub use print::field_text;
-
-#[cfg(test)]
-mod parse_tests;
-#[cfg(test)]
-mod tests;

@@ -7,7 +7,8 @@ use Rattle.std.proofs.lemmas.List.{length-map, map-append}
 use Rattle.std.proofs.lemmas.List.Concat.{flat_map-cons}
 use Rattle.std.proofs.lemmas.List.Sums.{sum_by-cons, sum_by-append, AllPass-from_list_all}
 use Rattle.std.proofs.lemmas.List.Folds.{list_any-append, list_all-append}
-use Rattle.arrow_schema.specs.Column.{Pair, Column, nulls, columns_of}
+use Rattle.arrow_schema.specs.declared.limits.TheConstants.{MAX_FIELDS, MAX_DEPTH, MAX_PAIRS, MAX_TEXT_BYTES}
+use Rattle.arrow_schema.specs.Column.{Pair, Column, nulls, columns_of, is_bit_width}
 use Rattle.arrow_schema.specs.Preorder as columns
 use Rattle.arrow_schema.specs.Preorder.{every_column, preorder_below, depth_below}
 use Rattle.arrow_schema.specs.Limits as limits
@@ -17,7 +18,7 @@ use Rattle.ipc_message.specs.Raw.{RawParameters, RawEncoding, RawField, RawField
 use Rattle.ipc_message.specs.Fields.{preorder, preorder_all, every_field, depth, depth_all, pairs_of}
 use Rattle.ipc_message.specs.Types.{type_name, decoded_type}
 use Rattle.ipc_message.specs.Convert.{index_of, column_of_field, columns_of_fields, plain_schema_of}
-use Rattle.ipc_message.specs.Checks.{is_bad, timezone_of, texts_of_pairs, texts_of_field, texts_of, count_of_pairs, is_dictionary_of_nested}
+use Rattle.ipc_message.specs.Checks.{is_bad, is_index_type, timezone_of, texts_of_pairs, texts_of_field, texts_of, count_of_pairs, is_dictionary_of_nested}
 use Rattle.ipc_message.specs.Accepted.{IsAccepted}
 use Rattle.ipc_message.specs.Readable.{AreReadable}
 use Rattle.ipc_message.proofs.Shapes.{HasShape, decoded_shape}
@@ -99,14 +100,14 @@ count_bytes (f ∷ fs) h =
     let whole = ap (sum_by length) (flat_map-cons texts_of_field f fs) in
     omega (arith, whole, here, rest, sum_by-cons limits.bytes_in (column_of_field f) (map column_of_field fs), sum_by-append length (texts_of_field f) (flat_map texts_of_field fs))
 
+both : {a b : Bool} → a ≡ true → b ≡ true → (a && b) ≡ true
+both x y = rw x y
+
 numbers_fit : (fs : List RawField) → list_any is_bad fs ≡ false → list_all limits.has_number_in_range (map column_of_field fs) ≡ true
 unfolding column_of_field
 numbers_fit [] h = refl
 numbers_fit (raw_field name nullable code p d children pairs ∷ fs) h =
     both (field_shape name nullable code p d children pairs ((or_parts _ _ h).0)).number (numbers_fit fs ((or_parts _ _ h).1))
-  where
-    both : {a b : Bool} → a ≡ true → b ≡ true → (a && b) ≡ true
-    both x y = rw x y
 
 same_some : (d : Option RawEncoding) → is_some (option_map index_of d) ≡ is_some d
 same_some None = refl
@@ -120,6 +121,27 @@ dictionaries_fit (raw_field name nullable code p d children pairs ∷ fs) h g =
     let here : not (is_some (option_map index_of d) && limits.is_nested (unwrap_or (decoded_type (type_name code) p (columns_of_fields children)) nulls)) ≡ true = rw (same_some d, s.nested) (ap not ((or_parts _ _ g).0)) in
     rw here (dictionaries_fit fs ((or_parts _ _ h).1) ((or_parts _ _ g).1))
 
+index_width : (d : Option RawEncoding) → is_index_type d ≡ true → limits.is_index_of_width (option_map index_of d) ≡ true
+index_width None h = refl
+index_width (Some e) h = (and_parts (is_bit_width e.width) _ h).0
+
+widths_fit : (fs : List RawField) → list_any is_bad fs ≡ false → list_all limits.has_bit_widths (map column_of_field fs) ≡ true
+unfolding column_of_field
+widths_fit [] h = refl
+widths_fit (raw_field name nullable code p d children pairs ∷ fs) h =
+    let good = not-false _ ((or_parts (is_bad (raw_field name nullable code p d children pairs)) _ h).0) in
+    both (both (field_shape name nullable code p d children pairs ((or_parts _ _ h).0)).width (index_width d (and_parts _ _ good).1)) (widths_fit fs ((or_parts _ _ h).1))
+
+texts_fit : (fs : List RawField) → list_any is_bad fs ≡ false → list_all is_utf8 (flat_map texts_of_field fs) ≡ true → list_all limits.has_utf8_texts (map column_of_field fs) ≡ true
+unfolding column_of_field
+texts_fit [] h u = refl
+texts_fit (raw_field name nullable code p d children pairs ∷ fs) h u =
+    let f = raw_field name nullable code p d children pairs in
+    let all = and_parts (list_all is_utf8 (texts_of_field f)) _ (sym (list_all-append is_utf8 (texts_of_field f) (flat_map texts_of_field fs)) ∙ ap (list_all is_utf8) (sym (flat_map-cons texts_of_field f fs)) ∙ u) in
+    let own = and_parts (is_utf8 name) _ all.0 in
+    let rest = and_parts (is_utf8 (timezone_of p)) _ own.1 in
+    both (both own.0 (both ((field_shape name nullable code p d children pairs ((or_parts _ _ h).0)).utf8 rest.0) rest.1)) (texts_fit fs ((or_parts _ _ h).1) all.1)
+
 -- an accepted schema is within the limits
 pub accepted_within : (s : RawSchema) → IsAccepted s → IsWithinLimits (plain_schema_of s)
 accepted_within s a =
@@ -127,15 +149,16 @@ accepted_within s a =
     ap (λ (cs : List Column). columns.preorder_all (columns_of cs)) (sym (columns_of_list s.fields)) ∙ all_columns_listed (raw_fields_of s.fields) a.decoded in
     let deep : columns.depth_all (columns_of (map column_of_field s.fields)) ≡ depth_all (raw_fields_of s.fields) =
     ap (λ (cs : List Column). columns.depth_all (columns_of cs)) (sym (columns_of_list s.fields)) ∙ all_same_depth (raw_fields_of s.fields) a.decoded in
-    let many = nat_lt 2048 (length (every_field s)) in
-    let deeper = nat_lt 32 (depth_all (raw_fields_of s.fields)) in
-    let paired = nat_lt 4096 (count_of_pairs s) in
-    let long = nat_lt 4194304 (sum_by length (texts_of s)) in
+    let many = nat_lt MAX_FIELDS (length (every_field s)) in
+    let deeper = nat_lt MAX_DEPTH (depth_all (raw_fields_of s.fields)) in
+    let paired = nat_lt MAX_PAIRS (count_of_pairs s) in
+    let long = nat_lt MAX_TEXT_BYTES (sum_by length (texts_of s)) in
     let rest : ((many || deeper) || paired) ≡ false = (or_parts ((many || deeper) || paired) long a.small).0 in
-    let bytes : sum_by length (texts_of s) ≤ 4194304 = ltb-false _ _ ((or_parts ((many || deeper) || paired) long a.small).1) in
-    let pairs : count_of_pairs s ≤ 4096 = ltb-false _ _ ((or_parts (many || deeper) paired rest).1) in
-    let few : length (every_field s) ≤ 2048 = ltb-false _ _ ((or_parts many deeper ((or_parts (many || deeper) paired rest).0)).0) in
-    let low : depth_all (raw_fields_of s.fields) ≤ 32 = ltb-false _ _ ((or_parts many deeper ((or_parts (many || deeper) paired rest).0)).1) in
+    let bytes : sum_by length (texts_of s) ≤ MAX_TEXT_BYTES = ltb-false _ _ ((or_parts ((many || deeper) || paired) long a.small).1) in
+    let pairs : count_of_pairs s ≤ MAX_PAIRS = ltb-false _ _ ((or_parts (many || deeper) paired rest).1) in
+    let few : length (every_field s) ≤ MAX_FIELDS = ltb-false _ _ ((or_parts many deeper ((or_parts (many || deeper) paired rest).0)).0) in
+    let utf8 = and_parts (list_all is_utf8 (texts_of_pairs s.pairs)) _ (sym (list_all-append is_utf8 (texts_of_pairs s.pairs) (flat_map texts_of_field (every_field s))) ∙ a.utf8) in
+    let low : depth_all (raw_fields_of s.fields) ≤ MAX_DEPTH = ltb-false _ _ ((or_parts many deeper ((or_parts (many || deeper) paired rest).0)).1) in
     record {
       levels = omega (arith, deep, low);
       fields = rw listed (omega (arith, length-map (every_field s) column_of_field, few));
@@ -143,6 +166,9 @@ accepted_within s a =
       bytes = rw listed (omega (arith, count_bytes (every_field s) a.decoded, pairs_bytes s.pairs, sum_by-append length (texts_of_pairs s.pairs) (flat_map texts_of_field (every_field s)), bytes));
       numbers = rw listed (AllPass-from_list_all limits.has_number_in_range _ (numbers_fit (every_field s) a.decoded));
       dictionaries = rw listed (AllPass-from_list_all limits.has_flat_dictionary _ (dictionaries_fit (every_field s) a.decoded a.flat));
+      widths = rw listed (AllPass-from_list_all limits.has_bit_widths _ (widths_fit (every_field s) a.decoded));
+      texts = rw listed (AllPass-from_list_all limits.has_utf8_texts _ (texts_fit (every_field s) a.decoded utf8.1));
+      own_texts = AllPass-from_list_all is_utf8 _ utf8.0;
     }
 
 pub accepted_readable : (s : RawSchema) → IsAccepted s → AreReadable (preorder_all (raw_fields_of s.fields))

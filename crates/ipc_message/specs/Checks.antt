@@ -6,7 +6,9 @@ use Rattle.ipc_message.specs.declared.fault.TypeName.{TypeName}
 use Rattle.ipc_message.specs.declared.fault.TypeName.TheVariants as types
 use Rattle.ipc_message.specs.declared.fault.Fault.{Fault}
 use Rattle.ipc_message.specs.declared.fault.Fault.TheVariants.{NotYet, BigEndian, TypeNotHeld, BadParameter, SchemaLimit, NotUtf8, DictionaryId, DictionaryOfNested}
+use Rattle.arrow_schema.specs.declared.limits.TheConstants.{MAX_FIELDS, MAX_DEPTH, MAX_PAIRS, MAX_TEXT_BYTES}
 use Rattle.arrow_schema.specs.Column.{Pair, PlainSchema}
+pub use Rattle.arrow_schema.specs.Limits.{texts_of_pairs}
 use Rattle.arrow_schema.specs.Integers.{is_bit_width}
 use Rattle.ipc_message.specs.Raw.{RawParameters, RawEncoding, RawField, raw_fields_of, timestamp_parameters, RawSchema}
 use Rattle.ipc_message.specs.Framing.{first_some, unless, when}
@@ -38,9 +40,6 @@ abbrev pub timezone_of : RawParameters → List ℕ
 timezone_of (timestamp_parameters unit timezone) = timezone
 timezone_of _ = []
 
-abbrev pub texts_of_pairs : List Pair → List (List ℕ)
-texts_of_pairs pairs = flat_map (λ p. p.0 ∷ p.1 ∷ []) pairs
-
 abbrev pub texts_of_field : RawField → List (List ℕ)
 texts_of_field f = name_of f ∷ timezone_of (parameters_of f) ∷ texts_of_pairs (pairs_of f)
 
@@ -53,7 +52,10 @@ count_of_pairs s = length s.pairs + sum_by (λ f. length (pairs_of f)) (every_fi
 
 abbrev pub exceeds_limit : RawSchema → Bool
 exceeds_limit s =
-    nat_lt 2048 (length (every_field s)) || nat_lt 32 (depth_all (raw_fields_of s.fields)) || nat_lt 4096 (count_of_pairs s) || nat_lt 4194304 (sum_by length (texts_of s))
+    nat_lt MAX_FIELDS (length (every_field s))
+    || nat_lt MAX_DEPTH (depth_all (raw_fields_of s.fields))
+    || nat_lt MAX_PAIRS (count_of_pairs s)
+    || nat_lt MAX_TEXT_BYTES (sum_by length (texts_of s))
 
 -- F24: two fields of one dictionary with different value types
 abbrev pub have_one_id : RawField → RawField → Bool

@@ -18,7 +18,7 @@ use crate::raw::{RawField, RawSchema};
 use crate::same::{have_one_id, have_same_value_type};
 use crate::supported::{is_supported, type_name};
 use crate::texts::{are_longer, are_utf8, list_texts};
-use arrow_schema::{MAX_BYTES, MAX_DEPTH, MAX_FIELDS, MAX_PAIRS};
+use arrow_schema::{MAX_DEPTH, MAX_FIELDS, MAX_PAIRS, MAX_TEXT_BYTES};
 use std::alloc::Global;
 
 fn unsupported_type(fields: &[FieldRef]) -> Option<TypeName>
@@ -91,7 +91,7 @@ fn exceeds_limit(schema: &RawSchema, fields: &[FieldRef], texts: &[&[u8]]) -> bo
     fields.len() as u64 > MAX_FIELDS
         || !are_within_depth(&schema.fields, MAX_DEPTH)
         || has_more_pairs(schema.pairs.len(), fields, MAX_PAIRS)
-        || are_longer(texts, MAX_BYTES)
+        || are_longer(texts, MAX_TEXT_BYTES)
 }
 
 #[tactic(auto, unfolding(crate::specs::Checks::has_other_type))]

@@ -2,7 +2,7 @@ use Rattle.std.proofs.Common.{◌∙◌, refl, sym, true, false, arith}
 use Rattle.std.proofs.lemmas.Bool.{not-true, not-false}
 use Rattle.arrow_schema.specs.View.{schema_of}
 use Rattle.arrow_schema.proofs.Counting.{first_depth, first_fields, first_pairs, first_bytes, first_after}
-use Rattle.arrow_schema.proofs.limits.first_passed.Goals as goal
+use Rattle.arrow_schema.proofs.limits.first_exceeded.Goals as goal
 
 pub returns-then-not-are_within_depth : goal.returns-then-not-are_within_depth
 returns-then-not-are_within_depth c =
@@ -19,8 +19,8 @@ returns-then-tally-gt-MAX_PAIRS c =
     let d = rw c.deref.ensures.value at c.are_within_depth.ensures in
     first_pairs _ (sym d ∙ c.if-not-are_within_depth.false) (omega arith) (omega arith)
 
-pub returns-then-tally-gt-MAX_BYTES : goal.returns-then-tally-gt-MAX_BYTES
-returns-then-tally-gt-MAX_BYTES c =
+pub returns-then-tally-gt-MAX_TEXT_BYTES : goal.returns-then-tally-gt-MAX_TEXT_BYTES
+returns-then-tally-gt-MAX_TEXT_BYTES c =
     let d = rw c.deref.ensures.value at c.are_within_depth.ensures in
     first_bytes _ (sym d ∙ c.if-not-are_within_depth.false) (omega arith) (omega arith) (omega arith)
 
