@@ -1,17 +1,17 @@
--- What a choice leaves in the cells is what it leaves of the disk.
+-- What a choice leaves in the stored is what it leaves of the disk.
 use Rattle.std.proofs.Common.{◌≡◌, ◌+◌, ℕ, zero, suc, Bool, true, false, if◌then◌else◌, List, [], ◌∷◌, Option, Some, None, refl, ap, sym, ◌∙◌, subst, inl, inr, arith, add-one, add-zero}
 use Rattle.std.specs.Prelude.{is_some, slice_get}
 use Rattle.std.specs.List.{filter, range_with_len}
 use Rattle.sector_dev.specs.Disk.{Disk, Sector, Image, MayHold, MayLeave}
 use Rattle.sector_dev.specs.Chosen.{newest_of, is_pending, has_bit, chosen, IsChosen}
-use Rattle.sector_dev.specs.Cells.{cell_at, cell_of, waiting_below, left_in}
-use Rattle.sector_dev.specs.declared.cells.Cell.{Cell}
+use Rattle.sector_dev.specs.inner.Stored.{stored_at, stored_of, unsynced_below, left_in}
+use Rattle.sector_dev.specs.declared.stored.StoredSector.{StoredSector}
 use Rattle.sector_dev.specs.declared.choice.Choice.{Choice}
 use Rattle.sector_dev.specs.declared.choice.Choice.TheVariants.{Old, New, Bits, Lost}
 use Rattle.sector_dev.proofs.Agreement.{Agrees}
 
 -- a crash may leave it
-left_may : (choice : Choice) (k : ℕ) (synced : Option (List ℕ)) (pending : List (List ℕ)) (shown : Option (List ℕ)) → MayHold (record { synced = synced; pending = pending; shown = shown }) (left_in choice k (cell_of (record { synced = synced; pending = pending; shown = shown })))
+left_may : (choice : Choice) (k : ℕ) (synced : Option (List ℕ)) (pending : List (List ℕ)) (shown : Option (List ℕ)) → MayHold (record { synced = synced; pending = pending; shown = shown }) (left_in choice k (stored_of (record { synced = synced; pending = pending; shown = shown })))
 left_may choice k synced [] shown = inl refl
 left_may Old k synced (w ∷ ws) shown = inl refl
 left_may New k synced (w ∷ ws) shown = inr (inl refl)
@@ -29,7 +29,7 @@ left_chosen (Bits bits) k synced (w ∷ ws) shown is = refl
 left_chosen (Lost bits) k synced (w ∷ ws) shown is = refl
 
 -- and else what was synced
-left_synced : (choice : Choice) (k : ℕ) (s : Sector) → s.pending ≡ [] → left_in choice k (cell_of s) ≡ s.synced
+left_synced : (choice : Choice) (k : ℕ) (s : Sector) → s.pending ≡ [] → left_in choice k (stored_of s) ≡ s.synced
 left_synced choice k s none = ap (λ (ws : List (List ℕ)). left_in choice k (record { synced = s.synced; newest = newest_of ws })) none
 
 -- how many numbers below n pass
@@ -57,33 +57,33 @@ rank_of : (p : ℕ → Bool) (a k i n : ℕ) → slice_get (filter p (range_with
 rank_of p a zero i n is = absurd (cc is)
 rank_of p a (suc k) i n is = rank_step p a n (filter p (range_with_len (a + 1) k)) (p a) refl (λ j later. rank_of p (a + 1) k j n later) i is
 
--- what the choice leaves in the cells
-abbrev pub Leaves : Choice → List Cell → Image → Type 0
-Leaves choice cells image = (n : ℕ) → image n ≡ left_in choice (waiting_below cells n) (cell_at cells n)
+-- what the choice leaves in the stored
+abbrev pub Leaves : Choice → List StoredSector → Image → Type 0
+Leaves choice stored image = (n : ℕ) → image n ≡ left_in choice (unsynced_below stored n) (stored_at stored n)
 
-leaves_sector : (choice : Choice) (cells : List Cell) (d : Disk) (image : Image) → Agrees cells d → Leaves choice cells image → (n : ℕ) → image n ≡ left_in choice (waiting_below cells n) (cell_of (d.at n))
-leaves_sector choice cells d image agrees leaves n = leaves n ∙ ap (left_in choice (waiting_below cells n)) (agrees n)
+leaves_sector : (choice : Choice) (stored : List StoredSector) (d : Disk) (image : Image) → Agrees stored d → Leaves choice stored image → (n : ℕ) → image n ≡ left_in choice (unsynced_below stored n) (stored_of (d.at n))
+leaves_sector choice stored d image agrees leaves n = leaves n ∙ ap (left_in choice (unsynced_below stored n)) (agrees n)
 
-pub leaves_allowed : (choice : Choice) (cells : List Cell) (d : Disk) (image : Image) → Agrees cells d → Leaves choice cells image → MayLeave d image
+pub leaves_allowed : (choice : Choice) (stored : List StoredSector) (d : Disk) (image : Image) → Agrees stored d → Leaves choice stored image → MayLeave d image
 unfolding MayLeave
-leaves_allowed choice cells d image agrees leaves n =
-    subst (λ c. MayHold (d.at n) c) (sym (leaves_sector choice cells d image agrees leaves n)) (left_may choice (waiting_below cells n) (d.at n).synced (d.at n).pending (d.at n).shown)
+leaves_allowed choice stored d image agrees leaves n =
+    subst (λ c. MayHold (d.at n) c) (sym (leaves_sector choice stored d image agrees leaves n)) (left_may choice (unsynced_below stored n) (d.at n).synced (d.at n).pending (d.at n).shown)
 
-rank_waiting : (cells : List Cell) (d : Disk) (n : ℕ) → Agrees cells d → waiting_below cells n ≡ rank (λ k. is_pending (d.at k)) n
+rank_waiting : (stored : List StoredSector) (d : Disk) (n : ℕ) → Agrees stored d → unsynced_below stored n ≡ rank (λ k. is_pending (d.at k)) n
 unfolding rank
-rank_waiting cells d zero agrees = refl
-rank_waiting cells d (suc n) agrees =
-    (λ i. rank_waiting cells d n agrees i + (if is_some (agrees n i).newest then 1 else 0))
+rank_waiting stored d zero agrees = refl
+rank_waiting stored d (suc n) agrees =
+    (λ i. rank_waiting stored d n agrees i + (if is_some (agrees n i).newest then 1 else 0))
 
-pub leaves_chosen : (choice : Choice) (cells : List Cell) (d : Disk) (size : ℕ) (image : Image) → Agrees cells d → Leaves choice cells image → IsChosen choice d size image
+pub leaves_chosen : (choice : Choice) (stored : List StoredSector) (d : Disk) (size : ℕ) (image : Image) → Agrees stored d → Leaves choice stored image → IsChosen choice d size image
 unfolding rank
-leaves_chosen choice cells d size image agrees leaves = record {
+leaves_chosen choice stored d size image agrees leaves = record {
   pending = λ i n is.
       let p : ℕ → Bool = λ k. is_pending (d.at k) in
       let both = rank_of p 0 size i n is in
-      let below : waiting_below cells n ≡ i = omega (arith, rank_waiting cells d n agrees, both.1) in
-      leaves_sector choice cells d image agrees leaves n
-      ∙ ap (λ (k : ℕ). left_in choice k (cell_of (d.at n))) below
+      let below : unsynced_below stored n ≡ i = omega (arith, rank_waiting stored d n agrees, both.1) in
+      leaves_sector choice stored d image agrees leaves n
+      ∙ ap (λ (k : ℕ). left_in choice k (stored_of (d.at n))) below
       ∙ left_chosen choice i (d.at n).synced (d.at n).pending (d.at n).shown both.0;
-  synced = λ n none. leaves_sector choice cells d image agrees leaves n ∙ left_synced choice (waiting_below cells n) (d.at n) none;
+  synced = λ n none. leaves_sector choice stored d image agrees leaves n ∙ left_synced choice (unsynced_below stored n) (d.at n) none;
 }

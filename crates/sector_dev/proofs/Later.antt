@@ -10,16 +10,16 @@ fail_later zero f = omega arith
 fail_later (suc n) f = let later = fail_later n (after_call f) in omega (arith, later)
 
 -- the k-th write or sync from now
-pub call_due : (k : ℕ) (f : Faults) → f.fail ≡ k → 1 ≤ k → CallFails (calls_later (k - 1) f)
-call_due k f is low = inr (inl (let later = fail_later (k - 1) f in omega (arith, later)))
+pub call_scheduled : (k : ℕ) (f : Faults) → f.fail ≡ k → 1 ≤ k → CallFails (calls_later (k - 1) f)
+call_scheduled k f is low = inr (inl (let later = fail_later (k - 1) f in omega (arith, later)))
 
 read_later : (n : ℕ) (f : Faults) → (reads_later n f).fail_read ≡ f.fail_read - n
 read_later zero f = omega arith
 read_later (suc n) f = let later = read_later n (after_read f) in omega (arith, later)
 
 -- the k-th read from now
-pub read_due : (k : ℕ) (f : Faults) → f.fail_read ≡ k → 1 ≤ k → ReadFails (reads_later (k - 1) f)
-read_due k f is low = inr (let later = read_later (k - 1) f in omega (arith, later))
+pub read_scheduled : (k : ℕ) (f : Faults) → f.fail_read ≡ k → 1 ≤ k → ReadFails (reads_later (k - 1) f)
+read_scheduled k f is low = inr (let later = read_later (k - 1) f in omega (arith, later))
 
 stays_stopped : (n : ℕ) (f : Faults) → f.stopped ≡ true → (calls_later n f).stopped ≡ true
 stays_stopped zero f on = on
@@ -43,8 +43,8 @@ stop_later zero f = omega arith
 stop_later (suc n) f = let later = stop_later n (after_call f) in omega (arith, later)
 
 -- the k-th write or sync from now fails, and each one after it
-pub stop_due : (k : ℕ) (f : Faults) → f.stop ≡ k → 1 ≤ k → (n : ℕ) → k ≤ n + 1 → CallFails (calls_later n f)
-stop_due k f is low n high =
+pub stop_scheduled : (k : ℕ) (f : Faults) → f.stop ≡ k → 1 ≤ k → (n : ℕ) → k ≤ n + 1 → CallFails (calls_later n f)
+stop_scheduled k f is low n high =
     ⊎_elim
     (λ (at : k ≡ n + 1). inr (inr (let later = stop_later n f in omega (arith, later))))
     (λ (past : k ≢ n + 1). inl (stopped_after n f (omega arith) (omega arith)))

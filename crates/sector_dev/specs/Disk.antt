@@ -1,5 +1,5 @@
 -- A disk of sectors over time: what each sector holds for sure, what was written to it since, and what a read gives.
-use Rattle.std.specs.Prelude.{◌≡◌, ◌⊎◌, ◌-◌, ◌+◌, ◌^◌, ◌==◌, ℕ, if◌then◌else◌, List, [], ◌∷◌, length, take, min, Option, Some, None, Result, Ok, Err}
+use Rattle.std.specs.Prelude.{◌≡◌, ◌⊎◌, ◌<◌, ◌-◌, ◌+◌, ◌^◌, ◌==◌, ℕ, if◌then◌else◌, List, [], ◌∷◌, length, get_or, take, min, Option, Some, None, IfSome, Result, Ok, Err}
 use Rattle.sector_dev.specs.declared.device.DevError.{DevError}
 use Rattle.sector_dev.specs.declared.device.DevError.TheVariants.{Failed, Unreadable}
 
@@ -10,10 +10,26 @@ pub record Sector : Type 0 where
   pub pending : List (List ℕ)
   pub shown : Option (List ℕ)
 
+-- the content of a sector: 512 bytes
+abbrev pub IsContent : List ℕ → Type 0
+IsContent c = (length c ≡ 512) × ((k : ℕ) → get_or c k 0 < 256)
+
+abbrev pub AreContents : List (List ℕ) → Type 0
+AreContents [] = Unit {0}
+AreContents (c ∷ cs) = IsContent c × AreContents cs
+
+-- all that a sector holds are such contents: what is synced, what is pending, and what a read gives
+abbrev pub HoldsContents : Sector → Type 0
+HoldsContents s = IfSome s.synced IsContent × (AreContents s.pending × IfSome s.shown IsContent)
+
 -- the sectors at one moment, and the number of writes begun
 pub record Disk : Type 0 where
   pub at : ℕ → Sector
   pub writes : ℕ
+
+-- each sector holds contents of sectors
+unfoldable pub IsWhole : Disk → Type 0
+IsWhole d = (n : ℕ) → HoldsContents (d.at n)
 
 -- what lies on a disk: the content of each sector, `None` where it can't be read
 abbrev pub Image : Type 0
@@ -68,6 +84,11 @@ blank = record { at = λ _. record { synced = None; pending = []; shown = None }
 abbrev pub now : Story → Disk
 now [] = blank
 now (d ∷ ds) = d
+
+-- P holds of each of these disks
+abbrev pub Each : (Disk → Type 0) → Story → Type 0
+Each P [] = Unit {0}
+Each P (d ∷ ds) = P d × Each P ds
 
 -- it held at some moment
 abbrev pub Somewhere : (Disk → Type 0) → Story → Type 0

@@ -1,11 +1,10 @@
 pub mod Disk
 pub mod Time
-pub mod Crash
 pub mod Chosen
 pub mod Faults
 pub mod History
-pub mod Cells
-pub mod Newest
-pub mod Run
+pub mod Buffer
 pub mod Written
 pub mod View
+pub mod laws
+pub mod inner

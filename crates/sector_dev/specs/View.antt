@@ -1,5 +1,6 @@
 -- What contracts see of a device in memory, and of one that is a file.
-use Rattle.std.specs.Prelude.{ℕ, Bool}
+use Rattle.std.specs.Prelude.{◌≡◌, ◌≤◌, ◌*◌, ◌%◌, ℕ, Bool, length, IfSome}
+use Rattle.std.specs.Io.KnownBytes.{Keeps}
 use Rattle.sector_dev.specs.Disk.{Story}
 use Rattle.sector_dev.specs.History.{story_of}
 use Rattle.sector_dev.specs.declared.faults.Faults.{Faults}
@@ -7,7 +8,7 @@ use Rattle.sector_dev.specs.declared.model.ModelDevice.{ModelDevice}
 use Rattle.std.specs.declared.io.traits.Read.{Ghosts as ReadGhosts}
 use Rattle.std.specs.declared.io.traits.Write.{Ghosts as WriteGhosts}
 use Rattle.std.specs.declared.io.traits.Seek.{Ghosts as SeekGhosts}
-use Rattle.sector_dev.specs.declared.run.Run.{Run}
+use Rattle.sector_dev.specs.declared.buffer.Buffer.{Buffer}
 use Rattle.sector_dev.specs.declared.file.FileDevice.{FileDevice}
 
 -- the number of its sectors
@@ -18,9 +19,9 @@ size_of d = d.sectors
 abbrev pub failed_of : ModelDevice → ℕ
 failed_of d = d.failed
 
--- there was memory to keep the last call
-abbrev pub kept_of : ModelDevice → Bool
-kept_of d = d.kept
+-- there was memory to record the last call
+abbrev pub recorded_of : ModelDevice → Bool
+recorded_of d = d.recorded
 
 -- which calls are to fail
 abbrev pub faults_of : ModelDevice → Faults
@@ -30,10 +31,26 @@ faults_of d = d.faults
 abbrev pub history_of : ModelDevice → Story
 history_of d = story_of d.start.items d.log.items
 
--- the sectors that wait in memory to be written to the file
-abbrev pub waiting_of : {F : Type 0} {r : ReadGhosts F} {w : WriteGhosts F} {s : SeekGhosts F} → FileDevice F r w s → Run
-waiting_of d = d.behind
+-- the buffered writes: neighbouring sectors that are not yet in the file
+abbrev pub buffer_of : {F : Type 0} {r : ReadGhosts F} {w : WriteGhosts F} {s : SeekGhosts F} → FileDevice F r w s → Buffer
+buffer_of d = d.writes
 
 -- the file
 abbrev pub file_of : {F : Type 0} {r : ReadGhosts F} {w : WriteGhosts F} {s : SeekGhosts F} → FileDevice F r w s → F
 file_of d = d.file
+
+-- the number of its sectors
+abbrev pub sectors_of : {F : Type 0} {r : ReadGhosts F} {w : WriteGhosts F} {s : SeekGhosts F} → FileDevice F r w s → ℕ
+sectors_of d = d.sectors
+
+-- how many of its calls have failed
+abbrev pub failures_of : {F : Type 0} {r : ReadGhosts F} {w : WriteGhosts F} {s : SeekGhosts F} → FileDevice F r w s → ℕ
+failures_of d = d.failed
+
+-- a file of so many bytes is a device: a whole number of sectors, and not too few or too many
+abbrev pub IsDeviceLength : ℕ → Type 0
+IsDeviceLength bytes = (bytes % 512 ≡ 0) × (512 * 16 ≤ bytes) × (bytes ≤ 512 * 4194304)
+
+-- the device has all sectors of this file, and holds the file as it is, where its position and bytes are known
+abbrev pub IsOver : {F : Type 0} {r : ReadGhosts F} {w : WriteGhosts F} {s : SeekGhosts F} → F → FileDevice F r w s → Type 0
+IsOver {s = s} file d = IfSome (s.stream_position file) (λ _. IfSome (s.stream_bytes file) (λ bytes. length bytes ≡ 512 * d.sectors)) × Keeps (s.stream_bytes file) (s.stream_bytes d.file)

@@ -1,30 +1,51 @@
--- What the writer of a device's file was given.
+-- What the file of a device is given, and which writes stay buffered.
 use Rattle.std.specs.Prelude.{◌≡◌, ◌⊎◌, ◌*◌, ◌==◌, ℕ, if◌then◌else◌, List, [], ◌∷◌, Option, Some, None, IfSome}
 use Rattle.std.specs.Io.KnownBytes.{Appends, Keeps}
 use Rattle.std.specs.List.{flat_map}
-use Rattle.sector_dev.specs.Run.{held_at}
-use Rattle.sector_dev.specs.declared.run.Run.{Run}
+use Rattle.std.specs.declared.io.traits.Read.{Ghosts as ReadGhosts}
+use Rattle.std.specs.declared.io.traits.Write.{Ghosts as WriteGhosts}
+use Rattle.std.specs.declared.io.traits.Seek.{Ghosts as SeekGhosts}
+use Rattle.sector_dev.specs.Buffer.{content_in}
+use Rattle.sector_dev.specs.declared.buffer.Buffer.{Buffer}
+use Rattle.sector_dev.specs.declared.file.FileDevice.{FileDevice}
 
 -- a seek to this place, and then one write of all these sectors; of a file's position and bytes what is known
-abbrev pub Writes : {F : Type 0} → (F → Option ℕ) → (F → Option (List ℕ)) → (F → Option (List ℕ)) → ℕ → List (List ℕ) → F → F → Type 0
-Writes {F} position bytes contents place sectors old new = (there : F) × Keeps (bytes old) (bytes there) × IfSome (position old) (λ _. position there ≡ Some place) × Appends (contents there) (contents new) (flat_map (λ x. x) sectors)
+abbrev pub Writes : {F : Type 0} → WriteGhosts F → SeekGhosts F → ℕ → List (List ℕ) → F → F → Type 0
+Writes {F} w s place sectors old new =
+    (there : F) × Keeps (s.stream_bytes old) (s.stream_bytes there) × IfSome (s.stream_position old) (λ _. s.stream_position there ≡ Some place)
+    × Appends (w.contents there) (w.contents new) (flat_map (λ x. x) sectors)
 
--- this run was written in its place; where it is empty the file is as it was
-abbrev pub WritesRun : {F : Type 0} → (F → Option ℕ) → (F → Option (List ℕ)) → (F → Option (List ℕ)) → Run → F → F → Type 0
-WritesRun position bytes contents run old new = ((run.contents.items ≡ []) × (new ≡ old)) ⊎ (¬ (run.contents.items ≡ []) × Writes position bytes contents (run.start * 512) run.contents.items old new)
+-- this buffer was written in its place; where it is empty the file is as it was
+abbrev pub WritesBuffer : {F : Type 0} → WriteGhosts F → SeekGhosts F → Buffer → F → F → Type 0
+WritesBuffer w s buffer old new =
+    ((buffer.contents.items ≡ []) × (new ≡ old)) ⊎ (¬ (buffer.contents.items ≡ []) × Writes w s (buffer.start * 512) buffer.contents.items old new)
 
--- no sector waits
-abbrev pub IsEmpty : Run → Type 0
-IsEmpty run = (k : ℕ) → held_at run k ≡ None
+-- the buffered write of a sector, if it has one
+abbrev pub buffered : {F : Type 0} {r : ReadGhosts F} {w : WriteGhosts F} {s : SeekGhosts F} → FileDevice F r w s → ℕ → Option (List ℕ)
+buffered d n = content_in d.writes n
 
--- this sector waits with this content, the others as they did, and the file is as it was
-abbrev pub Joins : {F : Type 0} → Run → ℕ → List ℕ → Run → F → F → Type 0
-Joins old n c new before after = (after ≡ before) × ((k : ℕ) → held_at new k ≡ (if k == n then Some c else held_at old k))
+-- no sector has a content
+abbrev pub IsEmptyBuffer : Buffer → Type 0
+IsEmptyBuffer buffer = (n : ℕ) → content_in buffer n ≡ None
 
--- what waited was written, and then this sector waits alone or was written after it
-abbrev pub MakesRoom : {F : Type 0} → (F → Option ℕ) → (F → Option (List ℕ)) → (F → Option (List ℕ)) → Run → ℕ → List ℕ → Run → F → F → Type 0
-MakesRoom {F} position bytes contents old n c new before after = (between : F) × WritesRun position bytes contents old before between × (((after ≡ between) × ((k : ℕ) → held_at new k ≡ (if k == n then Some c else None))) ⊎ (IsEmpty new × Writes position bytes contents (n * 512) (c ∷ []) between after))
+-- no write is buffered
+abbrev pub IsEmpty : {F : Type 0} {r : ReadGhosts F} {w : WriteGhosts F} {s : SeekGhosts F} → FileDevice F r w s → Type 0
+IsEmpty d = IsEmptyBuffer d.writes
 
--- what waited still waits, or was written and waits no more
-abbrev pub Saves : {F : Type 0} → (F → Option ℕ) → (F → Option (List ℕ)) → (F → Option (List ℕ)) → Run → Run → F → Type 0
-Saves {F} position bytes contents old new before = ((k : ℕ) → held_at new k ≡ held_at old k) ⊎ ((between : F) × WritesRun position bytes contents old before between × IsEmpty new)
+-- all buffered writes were written in their places, in one piece; then the file is this
+abbrev pub Empties : {F : Type 0} {r : ReadGhosts F} {w : WriteGhosts F} {s : SeekGhosts F} → FileDevice F r w s → F → Type 0
+Empties {w = w} {s = s} d file = WritesBuffer w s d.writes d.file file
+
+-- this write is buffered, the others as they were, and the file is as it was
+abbrev pub Buffers : {F : Type 0} {r : ReadGhosts F} {w : WriteGhosts F} {s : SeekGhosts F} → FileDevice F r w s → ℕ → List ℕ → FileDevice F r w s → Type 0
+Buffers old n c new = (new.file ≡ old.file) × ((k : ℕ) → buffered new k ≡ (if k == n then Some c else buffered old k))
+
+-- the buffered writes were written, and then this one is buffered alone or was written after them
+abbrev pub BuffersAnew : {F : Type 0} {r : ReadGhosts F} {w : WriteGhosts F} {s : SeekGhosts F} → FileDevice F r w s → ℕ → List ℕ → FileDevice F r w s → Type 0
+BuffersAnew {F} {w = w} {s = s} old n c new =
+    (between : F) × Empties old between
+    × (((new.file ≡ between) × ((k : ℕ) → buffered new k ≡ (if k == n then Some c else None))) ⊎ (IsEmpty new × Writes w s (n * 512) (c ∷ []) between new.file))
+
+-- the buffered writes are as they were, or were written and are buffered no more
+abbrev pub LosesNone : {F : Type 0} {r : ReadGhosts F} {w : WriteGhosts F} {s : SeekGhosts F} → FileDevice F r w s → FileDevice F r w s → Type 0
+LosesNone {F} old new = ((k : ℕ) → buffered new k ≡ buffered old k) ⊎ ((between : F) × Empties old between × IsEmpty new)

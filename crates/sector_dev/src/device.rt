@@ -1,6 +1,6 @@
 // A device of sectors of 512 bytes.
-ghost use Rattle.std.specs.Prelude.{◌≡◌, ◌<◌, ◌+◌, ℕ, Bool, true, Some, None, OnOk, OnErr, IfErr, IsErrOf};
-ghost use Rattle.sector_dev.specs.Disk.{Story, now, moment, ShowsImage, Watches, Passes, Puts, FailsToPut, Flushes, Counts};
+ghost use Rattle.std.specs.Prelude.{◌≡◌, ◌≢◌, ◌<◌, ◌+◌, ℕ, Bool, true, [], Some, None, OnOk, OnErr, IfErr, IsErrOf};
+ghost use Rattle.sector_dev.specs.Disk.{Story, now, moment, ShowsImage, Watches, Passes, Puts, FailsToPut, Flushes, Counts, Each, IsWhole};
 
 /// The number of bytes of a sector.
 pub const SECTOR_BYTES: usize = 512;
@@ -78,4 +78,10 @@ pub trait SectorDevice {
 
     /// What reads give is what a crash may leave.
     ghost shows: { (device : Self) → tells ≡ true → ShowsImage (now (story device)) };
+
+    /// Its story has a moment.
+    ghost begun: { (device : Self) → tells ≡ true → story device ≢ [] };
+
+    /// Each content of which its story speaks is 512 bytes.
+    ghost contents: { (device : Self) → tells ≡ true → Each IsWhole (story device) };
 }

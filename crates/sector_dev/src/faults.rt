@@ -16,13 +16,13 @@ pub(crate) struct Faults {
 }
 
 // Counts down to 0, and says when it comes there.
-fn is_due(left: &mut u64) -> bool
-    ensures due { IsTrue result ↔ (left.old ≡ 1) }
+fn comes_now(left: &mut u64) -> bool
+    ensures comes { IsTrue result ↔ (left.old ≡ 1) }
     ensures counted { left.new ≡ left.old - 1 }
 {
-    let due = *left == 1;
+    let comes = *left == 1;
     *left = left.saturating_sub(1);
-    due
+    comes
 }
 
 impl Faults {
@@ -44,8 +44,8 @@ impl Faults {
         ensures counted { self.new ≡ after_call self.old }
     {
         let was_stopped = self.stopped;
-        let fails = is_due(&mut self.fail);
-        let stops = is_due(&mut self.stop);
+        let fails = comes_now(&mut self.fail);
+        let stops = comes_now(&mut self.stop);
         self.stopped = was_stopped || stops;
         was_stopped || fails || stops
     }
@@ -55,7 +55,7 @@ impl Faults {
         ensures fails { IsTrue result ↔ ReadFails self.old }
         ensures counted { self.new ≡ after_read self.old }
     {
-        let fails = is_due(&mut self.fail_read);
+        let fails = comes_now(&mut self.fail_read);
         self.stopped || fails
     }
 }

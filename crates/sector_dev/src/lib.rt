@@ -4,19 +4,16 @@
 //! `ModelDevice` is proved to keep all of it. A `FileDevice` is trusted for what its file holds.
 #![tactic(auto)]
 
-mod cells;
+mod buffer;
 mod choice;
 mod device;
 mod faults;
 mod file;
 mod log;
 mod model;
-mod run;
+mod stored;
 
 pub use choice::Choice;
 pub use device::{DevError, SECTOR_BYTES, SectorDevice};
 pub use file::{FileDevice, FileError, LEAST_SECTORS, MOST_SECTORS};
 pub use model::ModelDevice;
-
-#[cfg(test)]
-mod tests;

@@ -1,7 +1,7 @@
 // The calls that a device in memory has had.
 ghost use Rattle.std.specs.Prelude.{◌≡◌, List, Option, Some, ℕ};
 ghost use Rattle.std.specs.Bool.{OnTrue, OnFalse};
-ghost use Rattle.sector_dev.specs.Disk.{Watches, Puts, Flushes};
+ghost use Rattle.sector_dev.specs.Disk.{Watches, Puts, Flushes, Each, IsWhole};
 ghost use Rattle.sector_dev.specs.History.{story_of};
 
 // A call that began and returned. One that failed before it began is none.
@@ -15,17 +15,19 @@ pub(crate) enum Event {
     Synced,
 }
 
-// Keeps a call that changed nothing. `false`: there was no memory for it.
-pub(crate) fn keep_passed(log: &mut Vec<Event>) -> bool
-    ensures kept { OnTrue result ((start : List (Option (List ℕ))) → Watches (story_of start log.old.items) (story_of start log.new.items)) }
+// Records a call that changed nothing. `false`: there was no memory for it.
+pub(crate) fn record_passed(log: &mut Vec<Event>) -> bool
+    ensures recorded { OnTrue result ((start : List (Option (List ℕ))) → Watches (story_of start log.old.items) (story_of start log.new.items)) }
+    ensures contents { (start : List (Option (List ℕ))) → Each IsWhole (story_of start log.old.items) → Each IsWhole (story_of start log.new.items) }
     ensures full { OnFalse result (log.new.items ≡ log.old.items) }
 {
     log.push(Event::Passed).is_ok()
 }
 
-// Keeps a write.
-pub(crate) fn keep_wrote(log: &mut Vec<Event>, n: u64, content: &[u8; 512]) -> bool
-    ensures kept { OnTrue result ((start : List (Option (List ℕ))) → Puts (story_of start log.old.items) n content.now (Some content.now) (story_of start log.new.items)) }
+// Records a write.
+pub(crate) fn record_write(log: &mut Vec<Event>, n: u64, content: &[u8; 512]) -> bool
+    ensures recorded { OnTrue result ((start : List (Option (List ℕ))) → Puts (story_of start log.old.items) n content.now (Some content.now) (story_of start log.new.items)) }
+    ensures contents { (start : List (Option (List ℕ))) → Each IsWhole (story_of start log.old.items) → Each IsWhole (story_of start log.new.items) }
     ensures full { OnFalse result (log.new.items ≡ log.old.items) }
 {
     let alloc = *log.allocator();
@@ -35,9 +37,10 @@ pub(crate) fn keep_wrote(log: &mut Vec<Event>, n: u64, content: &[u8; 512]) -> b
     log.push(Event::Wrote(n, content)).is_ok()
 }
 
-// Keeps a sync.
-pub(crate) fn keep_synced(log: &mut Vec<Event>) -> bool
-    ensures kept { OnTrue result ((start : List (Option (List ℕ))) → Flushes (story_of start log.old.items) (story_of start log.new.items)) }
+// Records a sync.
+pub(crate) fn record_sync(log: &mut Vec<Event>) -> bool
+    ensures recorded { OnTrue result ((start : List (Option (List ℕ))) → Flushes (story_of start log.old.items) (story_of start log.new.items)) }
+    ensures contents { (start : List (Option (List ℕ))) → Each IsWhole (story_of start log.old.items) → Each IsWhole (story_of start log.new.items) }
     ensures full { OnFalse result (log.new.items ≡ log.old.items) }
 {
     log.push(Event::Synced).is_ok()

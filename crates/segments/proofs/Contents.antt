@@ -3,9 +3,9 @@ use Rattle.std.proofs.Common.{◌≡◌, ◌≢◌, ⊎_elim, ◌≤◌, ◌<◌
 use Rattle.std.proofs.lemmas.Bool.{cases_lt}
 use Rattle.std.specs.Simd.{first_chunks}
 use Rattle.sector_dev.specs.Disk.{Sector, Story, Image, now, put, shown_image, Puts}
-use Rattle.sector_dev.specs.Crash.{put_other, put_same}
+use Rattle.sector_dev.specs.laws.Crash.{put_other, put_same}
 use Rattle.segments.specs.Sectors.{filled, sector_of, Holds}
-use Rattle.segments.specs.Writing.{ShowsSectors}
+use Rattle.segments.specs.inner.Rows.{ShowsSectors}
 
 -- a whole chunk of some bytes
 pub chunk_at : (count : ℕ) (bytes : List ℕ) (j : ℕ) → j < count → get_or (first_chunks 512 count bytes) j [] ≡ take 512 (drop (512 * j) bytes)

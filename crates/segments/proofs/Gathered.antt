@@ -9,7 +9,7 @@ use Rattle.sector_dev.specs.declared.device.DevError.TheVariants.{Failed as Devi
 use Rattle.segments.specs.declared.reading.ReadError.TheVariants.{Unreadable}
 use Rattle.segments.specs.declared.reading.ReadError.{ReadError}
 use Rattle.segments.specs.Reading.{read_error, EndsAtSector}
-use Rattle.segments.specs.ReadBack.{none_joined}
+use Rattle.segments.specs.laws.ReadBack.{none_joined}
 use Rattle.segments.specs.Sectors.{sector_count, joined, bytes_at, appended}
 
 -- so many sectors, as the code counts them

@@ -6,7 +6,7 @@ use Rattle.segments.specs.declared.run.Run.{Run}
 use Rattle.segments.specs.declared.piece.Piece.{Piece}
 use Rattle.segments.specs.Runs.{OutOf, IsApart, ApartFrom, AreApart}
 use Rattle.segments.specs.Sectors.{sector_count, Holds}
-use Rattle.segments.specs.ReadBack.{same_holds}
+use Rattle.segments.specs.laws.ReadBack.{same_holds}
 use Rattle.segments.specs.Writing.{WritesOnly, run_for, runs_of, AllFit, HoldsEach}
 
 -- a piece fits

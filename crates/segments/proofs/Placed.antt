@@ -2,88 +2,80 @@
 use Rattle.std.proofs.Common.{◌≡◌, ◌⊎◌, ◌↔◌, inl, inr, ⊎_elim, ◌≤◌, ◌<◌, ◌+◌, ◌==◌, ltb, ℕ, zero, suc, Bool, true, false, List, [], ◌∷◌, length, get_or, refl, sym, ap, ◌∙◌, subst, arith}
 use Rattle.std.proofs.lemmas.Bool.{cond_both, cond-true, cond-false, ltb-true, ltb-false, and_parts, and_from, eqb-true, eq-eqb, false_from_ne_true, cases_Bool, cases_lt, true≢false}
 use Rattle.segments.specs.declared.run.Run.{Run}
-use Rattle.segments.specs.declared.entries.Entry.{Entry}
+use Rattle.segments.specs.declared.entries.UsageEntry.{UsageEntry}
 use Rattle.segments.specs.Runs.{IsApart}
-use Rattle.segments.specs.Usages.{Ordered, EndBy, ApartEach, place_of, same_run}
-
-pub same_run-true : (a b : Run) → same_run a b ≡ true → a ≡ b
-same_run-true a b is =
-    let parts = and_parts (a.start == b.start) (a.count == b.count) is in
-    let starts = eqb-true a.start b.start parts.0 in
-    let counts = eqb-true a.count b.count parts.1 in
-    λ i. record { start = starts i; count = counts i }
-
-pub same_run-refl : (a : Run) → same_run a a ≡ true
-same_run-refl a = and_from (a.start == a.start) (a.count == a.count) (eq-eqb a.start a.start refl) (eq-eqb a.count a.count refl)
+use Rattle.segments.specs.Usages.{Ordered, EndBy, same_run}
+use Rattle.segments.specs.laws.Usages.{same_run_is, same_itself}
+use Rattle.segments.specs.inner.Places.{ApartEach, place_of}
 
 pub same_run-eq : (a b : Run) → a ≡ b → same_run a b ≡ true
-same_run-eq a b is = subst (λ (r : Run). same_run a r ≡ true) is (same_run-refl a)
+same_run-eq a b is = subst (λ (r : Run). same_run a r ≡ true) is (same_itself a)
 
 pub same_run-false : (a b : Run) → (a ≡ b → ⊥) → same_run a b ≡ false
-same_run-false a b other = false_from_ne_true (same_run a b) (λ is. other (same_run-true a b is))
+same_run-false a b other = false_from_ne_true (same_run a b) (λ is. other (same_run_is a b is))
 
 -- runs that start apart differ
 pub starts_differ : (a b : Run) → (a.start ≡ b.start → ⊥) → same_run a b ≡ false
 starts_differ a b other = same_run-false a b (λ is. other (ap (λ (r : Run). r.start) is))
 
 -- what stands before the place starts below, and what stands there doesn't
-pub below_place : (start : ℕ) (es : List Entry) (k : ℕ) (d : Entry) → k < place_of start es → (get_or es k d).run.start < start
+pub below_place : (start : ℕ) (es : List UsageEntry) (k : ℕ) (d : UsageEntry) → k < place_of start es → (get_or es k d).run.start < start
 below_place start [] k d lt = absurd (omega arith)
 below_place start (e ∷ es) zero d lt =
     cond_both (ltb e.run.start start) (suc (place_of start es)) 0 (λ p. 0 < p → e.run.start < start) (λ t _. ltb-true _ _ t) (λ _ lt. absurd (omega arith)) lt
 below_place start (e ∷ es) (suc k) d lt =
     cond_both (ltb e.run.start start) (suc (place_of start es)) 0 (λ p. suc k < p → (get_or es k d).run.start < start) (λ _ lt. below_place start es k d (omega arith)) (λ _ lt. absurd (omega arith)) lt
 
-pub at_place : (start : ℕ) (es : List Entry) (d : Entry) → place_of start es < length es → start ≤ (get_or es (place_of start es) d).run.start
+pub at_place : (start : ℕ) (es : List UsageEntry) (d : UsageEntry) → place_of start es < length es → start ≤ (get_or es (place_of start es) d).run.start
 at_place start [] d lt = absurd (omega arith)
 at_place start (e ∷ es) d lt =
     cond_both (ltb e.run.start start) (suc (place_of start es)) 0 (λ p. p < suc (length es) → start ≤ (get_or (e ∷ es) p d).run.start) (λ _ lt. at_place start es d (omega arith)) (λ f _. ltb-false _ _ f) lt
 
 -- a partition by the start is at the place
-pub place_is : (start : ℕ) (es : List Entry) (i : ℕ) → i ≤ length es → ((k : ℕ) (d : Entry) → 0 ≤ k → k < i → ltb (get_or es k d).run.start start ≡ true) → ((k : ℕ) (d : Entry) → i ≤ k → k < length es → ltb (get_or es k d).run.start start ≡ false) → i ≡ place_of start es
+pub place_is : (start : ℕ) (es : List UsageEntry) (i : ℕ) → i ≤ length es → ((k : ℕ) (d : UsageEntry) → 0 ≤ k → k < i → ltb (get_or es k d).run.start start ≡ true) → ((k : ℕ) (d : UsageEntry) → i ≤ k → k < length es → ltb (get_or es k d).run.start start ≡ false) → i ≡ place_of start es
 place_is start [] i le before after = omega arith
 place_is start (e ∷ es) zero le before after = sym (cond-false (ltb e.run.start start) (suc (place_of start es)) 0 (after 0 e (omega arith) (omega arith)))
 place_is start (e ∷ es) (suc i) le before after =
     ap suc (place_is start es i (omega arith) (λ k d low lt. before (suc k) d (omega arith) (omega arith)) (λ k d ge lt. after (suc k) d (omega arith) (omega arith)))
     ∙ sym (cond-true (ltb e.run.start start) (suc (place_of start es)) 0 (before 0 e (omega arith) (omega arith)))
 
-pub ordered_from : (from low : ℕ) (es : List Entry) → low ≤ from → Ordered from es → Ordered low es
+pub ordered_from : (from low : ℕ) (es : List UsageEntry) → low ≤ from → Ordered from es → Ordered low es
 ordered_from from low [] le o = tt
 ordered_from from low (e ∷ es) le o = (omega (arith, o.0), o.1, o.2, o.3)
 
 -- each entry starts at the least start or behind it
-pub ordered_at : (from : ℕ) (es : List Entry) (k : ℕ) (d : Entry) → Ordered from es → k < length es → from ≤ (get_or es k d).run.start
+pub ordered_at : (from : ℕ) (es : List UsageEntry) (k : ℕ) (d : UsageEntry) → Ordered from es → k < length es → from ≤ (get_or es k d).run.start
 ordered_at from [] k d o lt = absurd (omega arith)
 ordered_at from (e ∷ es) zero d o lt = o.0
 ordered_at from (e ∷ es) (suc k) d o lt = let later = ordered_at (e.run.start + e.run.count) es k d o.3 (omega arith) in omega (arith, o.0, later)
 
-pub some_at : (from : ℕ) (es : List Entry) (k : ℕ) (d : Entry) → Ordered from es → k < length es → 1 ≤ (get_or es k d).run.count
+pub some_at : (from : ℕ) (es : List UsageEntry) (k : ℕ) (d : UsageEntry) → Ordered from es → k < length es → 1 ≤ (get_or es k d).run.count
 some_at from [] k d o lt = absurd (omega arith)
 some_at from (e ∷ es) zero d o lt = o.1
 some_at from (e ∷ es) (suc k) d o lt = some_at (e.run.start + e.run.count) es k d o.3 (omega arith)
 
-pub ends_at : (size : ℕ) (es : List Entry) (k : ℕ) (d : Entry) → EndBy size es → k < length es → (get_or es k d).run.start + (get_or es k d).run.count ≤ size
+pub ends_at : (size : ℕ) (es : List UsageEntry) (k : ℕ) (d : UsageEntry) → EndBy size es → k < length es → (get_or es k d).run.start + (get_or es k d).run.count ≤ size
 ends_at size [] k d ends lt = absurd (omega arith)
 ends_at size (e ∷ es) zero d ends lt = ends.0
 ends_at size (e ∷ es) (suc k) d ends lt = ends_at size es k d ends.1 (omega arith)
 
 -- a run that ends before the entries meets none
-pub apart_before : (run : Run) (from : ℕ) (es : List Entry) → Ordered from es → run.start + run.count ≤ from → ApartEach run es
+pub apart_before : (run : Run) (from : ℕ) (es : List UsageEntry) → Ordered from es → run.start + run.count ≤ from → ApartEach run es
 apart_before run from [] o le = tt
 apart_before run from (e ∷ es) o le = (inl (omega (arith, o.0)), apart_before run (e.run.start + e.run.count) es o.3 (omega (arith, o.0)))
 
-pub apart_at : (run : Run) (es : List Entry) (k : ℕ) (d : Entry) → ApartEach run es → k < length es → IsApart run (get_or es k d).run
+pub apart_at : (run : Run) (es : List UsageEntry) (k : ℕ) (d : UsageEntry) → ApartEach run es → k < length es → IsApart run (get_or es k d).run
 apart_at run [] k d apart lt = absurd (omega arith)
 apart_at run (e ∷ es) zero d apart lt = apart.0
 apart_at run (e ∷ es) (suc k) d apart lt = apart_at run es k d apart.1 (omega arith)
 
 -- entries of which one starts below
-reaches : (start from : ℕ) (es : List Entry) → Ordered from es → 0 < place_of start es → from < start
+reaches : (start from : ℕ) (es : List UsageEntry) → Ordered from es → 0 < place_of start es → from < start
 reaches start from [] o lt = absurd (omega arith)
 reaches start from (e ∷ es) o lt = let first = below_place start (e ∷ es) 0 e lt in omega (arith, o.0, first)
 
 -- a run that begins behind the entry before its place, and ends before the one there, meets none
-pub gap_apart : (run : Run) (from : ℕ) (es : List Entry) (d : Entry) → Ordered from es → ((k : ℕ) → suc k ≡ place_of run.start es → (get_or es k d).run.start + (get_or es k d).run.count ≤ run.start) → ((k : ℕ) → k ≡ place_of run.start es → k < length es → run.start + run.count ≤ (get_or es k d).run.start) → ApartEach run es
+pub gap_apart : (run : Run) (from : ℕ) (es : List UsageEntry) (d : UsageEntry) → Ordered from es → ((k : ℕ) → suc k ≡ place_of run.start es → (get_or es k d).run.start + (get_or es k d).run.count ≤ run.start) → ((k : ℕ) → k ≡ place_of run.start es → k < length es → run.start + run.count ≤ (get_or es k d).run.start) → ApartEach run es
 gap_apart run from [] d o before after = tt
 gap_apart run from (e ∷ es) d o before after =
     ⊎_elim
@@ -104,7 +96,7 @@ gap_apart run from (e ∷ es) d o before after =
     zero_or_more zero = inl refl
     zero_or_more (suc n) = inr (omega arith)
 
-pub ordered_rises : (from : ℕ) (es : List Entry) → Ordered from es → (i j : ℕ) (d : Entry) → i ≤ j → j < length es → (get_or es i d).run.start ≤ (get_or es j d).run.start
+pub ordered_rises : (from : ℕ) (es : List UsageEntry) → Ordered from es → (i j : ℕ) (d : UsageEntry) → i ≤ j → j < length es → (get_or es i d).run.start ≤ (get_or es j d).run.start
 ordered_rises from [] o i j d le lt = absurd (omega arith)
 ordered_rises from (e ∷ es) o zero zero d le lt = omega arith
 ordered_rises from (e ∷ es) o zero (suc j) d le lt = let later = ordered_at (e.run.start + e.run.count) es j d o.3 (omega arith) in omega (arith, later)

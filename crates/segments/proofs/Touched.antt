@@ -2,11 +2,13 @@
 use Rattle.std.proofs.Common.{◌≡◌, ◌≢◌, inl, inr, ⊎_elim, ◌≤◌, ◌<◌, ◌+◌, ℕ, List, [], length, Option, Some, get_or, refl, sym, ap, ◌∙◌, subst, arith}
 use Rattle.std.proofs.lemmas.Bool.{cases_eq}
 use Rattle.sector_dev.specs.Disk.{Disk, Sector, Story, Image, now, put, shown_image, MayHold, MayLeave, Puts, FailsToPut}
-use Rattle.sector_dev.specs.Time.{Grows, two, goes_on, weaken, now_has, left_since}
-use Rattle.sector_dev.specs.Crash.{put_other, put_same}
+use Rattle.sector_dev.specs.Time.{Grows}
+use Rattle.sector_dev.specs.laws.Time.{two, goes_on, weaken, now_has, left_since}
+use Rattle.sector_dev.specs.laws.Crash.{put_other, put_same}
 use Rattle.segments.specs.declared.run.Run.{Run}
 use Rattle.segments.specs.Runs.{OutOf}
-use Rattle.segments.specs.Writing.{WritesOnly, LeavesOthers, ShowsSectors, sectors_from}
+use Rattle.segments.specs.Writing.{WritesOnly, LeavesOthers}
+use Rattle.segments.specs.inner.Rows.{ShowsSectors, sectors_from}
 
 pub writes_none : (runs : List Run) (d : Disk) → WritesOnly runs d d
 writes_none runs d = record { outside = λ n out. refl; begun = inl refl }

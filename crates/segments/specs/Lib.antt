@@ -3,4 +3,5 @@ pub mod Usages
 pub mod Sectors
 pub mod Writing
 pub mod Reading
-pub mod ReadBack
+pub mod laws
+pub mod inner

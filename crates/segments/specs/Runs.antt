@@ -37,3 +37,8 @@ ApartFrom run (r ∷ rs) = IsApart run r × ApartFrom run rs
 abbrev pub AreApart : List Run → Type 0
 AreApart [] = Unit {0}
 AreApart (r ∷ rs) = ApartFrom r rs × AreApart rs
+
+-- each of these runs starts at this sector or behind it
+abbrev pub StartFrom : ℕ → List Run → Type 0
+StartFrom low [] = Unit {0}
+StartFrom low (r ∷ rs) = (low ≤ r.start) × StartFrom low rs

@@ -1,14 +1,13 @@
 -- What the runs of a device are used for.
-use Rattle.std.specs.Prelude.{◌≡◌, ◌≢◌, ◌≤◌, ◌<◌, ◌+◌, ◌-◌, ◌==◌, ◌&&◌, ◌||◌, ℕ, suc, Bool, true, false, nat_lt, if◌then◌else◌, List, [], ◌∷◌, length, get_or}
+use Rattle.std.specs.Prelude.{◌≡◌, ◌≢◌, ◌≤◌, ◌+◌, ◌-◌, ◌==◌, ◌&&◌, ◌||◌, ℕ, Bool, true, false, nat_lt, if◌then◌else◌, List, [], ◌∷◌}
 use Rattle.segments.specs.declared.run.Run.{Run}
 use Rattle.segments.specs.declared.entries.Usage.{Usage}
-use Rattle.segments.specs.declared.entries.Entry.{Entry}
-use Rattle.segments.specs.Runs.{IsApart}
+use Rattle.segments.specs.declared.entries.UsageEntry.{UsageEntry}
 
 -- the size of a device in sectors, and its runs in use in order
 pub record Space : Type 0 where
   pub size : ℕ
-  pub entries : List Entry
+  pub entries : List UsageEntry
 
 -- a run is used while it is taken or pinned
 abbrev pub is_used : Usage → Bool
@@ -34,19 +33,19 @@ abbrev pub same_run : Run → Run → Bool
 same_run a b = (a.start == b.start) && (a.count == b.count)
 
 -- what a run is used for: a run without an entry is unused
-abbrev pub usage_of : List Entry → Run → Usage
+abbrev pub usage_of : List UsageEntry → Run → Usage
 usage_of [] run = UNUSED
 usage_of (e ∷ es) run = if same_run e.run run then e.usage else usage_of es run
 
-abbrev pub IsUsedIn : List Entry → Run → Type 0
+abbrev pub IsUsedIn : List UsageEntry → Run → Type 0
 IsUsedIn es run = is_used (usage_of es run) ≡ true
 
 -- an entry before these, where the run is used
-abbrev pub entry_before : Run → Usage → List Entry → List Entry
+abbrev pub entry_before : Run → Usage → List UsageEntry → List UsageEntry
 entry_before run usage es = if is_used usage then record { run = run; usage = usage } ∷ es else es
 
 -- the entries in order, now that the run has this usage
-abbrev pub with_usage : Run → Usage → List Entry → List Entry
+abbrev pub with_usage : Run → Usage → List UsageEntry → List UsageEntry
 with_usage run usage [] = entry_before run usage []
 with_usage run usage (e ∷ es) =
     if nat_lt e.run.start run.start then e ∷ with_usage run usage es else entry_before run usage (if same_run e.run run then es else e ∷ es)
@@ -62,12 +61,12 @@ pub record Changes (old new : Space) (run : Run) (usage : Usage) : Type 0 where
   pub others : (other : Run) → other ≢ run → usage_of new.entries other ≡ usage_of old.entries other
 
 -- the entries stand in order from this sector on, none in another, and each is used
-abbrev pub Ordered : ℕ → List Entry → Type 0
+abbrev pub Ordered : ℕ → List UsageEntry → Type 0
 Ordered from [] = Unit {0}
 Ordered from (e ∷ es) = (from ≤ e.run.start) × (1 ≤ e.run.count) × (is_used e.usage ≡ true) × Ordered (e.run.start + e.run.count) es
 
 -- each ends on the device
-abbrev pub EndBy : ℕ → List Entry → Type 0
+abbrev pub EndBy : ℕ → List UsageEntry → Type 0
 EndBy size [] = Unit {0}
 EndBy size (e ∷ es) = (e.run.start + e.run.count ≤ size) × EndBy size es
 
@@ -75,18 +74,6 @@ pub record IsSound (space : Space) : Type 0 where
   pub ordered : Ordered 2 space.entries
   pub within : EndBy space.size space.entries
 
--- how many entries stand before one that starts here
-abbrev pub place_of : ℕ → List Entry → ℕ
-place_of start [] = 0
-place_of start (e ∷ es) = if nat_lt e.run.start start then suc (place_of start es) else 0
-
--- a run meets none of these
-abbrev pub ApartEach : Run → List Entry → Type 0
-ApartEach run [] = Unit {0}
-ApartEach run (e ∷ es) = IsApart run e.run × ApartEach run es
-
--- the entry at a place is the run's
-pub record HasEntryAt (es : List Entry) (run : Run) (place : ℕ) : Type 0 where
-  pub within : place < length es
-  pub is : (get_or es place (record { run = run; usage = UNUSED })).run ≡ run
-  pub usage : (get_or es place (record { run = run; usage = UNUSED })).usage ≡ usage_of es run
+-- each run is used for the same
+abbrev pub SameUsages : List UsageEntry → List UsageEntry → Type 0
+SameUsages old new = (run : Run) → usage_of new run ≡ usage_of old run

@@ -1,5 +1,5 @@
 -- What the writing of runs may touch.
-use Rattle.std.specs.Prelude.{◌≡◌, ◌⊎◌, ◌≤◌, ◌<◌, ◌+◌, ℕ, List, [], ◌∷◌, length, get_or, map, Some}
+use Rattle.std.specs.Prelude.{◌≡◌, ◌⊎◌, ◌≤◌, ◌<◌, ◌+◌, ℕ, List, [], ◌∷◌, length, map}
 use Rattle.sector_dev.specs.Disk.{Disk, Story, Image, now, moment, LeftSince, MayHold}
 use Rattle.segments.specs.declared.run.Run.{Run}
 use Rattle.segments.specs.declared.piece.Piece.{Piece}
@@ -31,11 +31,3 @@ AllFit size (p ∷ ps) = (p.run.start + p.run.count ≤ size) × (sector_count (
 abbrev pub HoldsEach : Image → List Piece → Type 0
 HoldsEach image [] = Unit {0}
 HoldsEach image (p ∷ ps) = Holds image p.run.start p.bytes.items × HoldsEach image ps
-
--- so many sectors from one on
-abbrev pub sectors_from : ℕ → ℕ → List Run
-sectors_from start count = record { start = start; count = count } ∷ []
-
--- sectors in a row have these contents
-unfoldable pub ShowsSectors : Image → ℕ → List (List ℕ) → Type 0
-ShowsSectors image start contents = (j : ℕ) → j < length contents → image (start + j) ≡ Some (get_or contents j [])

@@ -1,7 +1,8 @@
 // The runs in use, as a list in order.
 ghost use Rattle.std.specs.Prelude.{◌≡◌, ◌≤◌, ◌↔◌, IsTrue, IfNone, IfSome, length};
 ghost use Rattle.segments.specs.Runs.{IsLowest};
-ghost use Rattle.segments.specs.Usages.{is_used, usage_of, with_usage, place_of, UNUSED, Ordered, EndBy, ApartEach, IsUsedIn, HasEntryAt};
+ghost use Rattle.segments.specs.Usages.{is_used, usage_of, with_usage, UNUSED, Ordered, EndBy, IsUsedIn};
+ghost use Rattle.segments.specs.inner.Places.{place_of, ApartEach, HasEntryAt};
 
 use crate::Run;
 
@@ -14,7 +15,7 @@ pub struct Usage {
 
 /// A run in use.
 #[derive(Clone, Copy, Debug, PartialEq, Eq)]
-pub struct Entry {
+pub struct UsageEntry {
     pub run: Run,
     pub usage: Usage,
 }
@@ -28,7 +29,7 @@ impl Usage {
 }
 
 // How many entries stand before one that starts here.
-pub(crate) fn place_of_start(entries: &[Entry], start: u64) -> usize
+pub(crate) fn place_of_start(entries: &[UsageEntry], start: u64) -> usize
     requires { Ordered 2 entries.now }
     ensures place { result ≡ place_of start entries.now }
     ensures within { result ≤ length entries.now }
@@ -37,7 +38,7 @@ pub(crate) fn place_of_start(entries: &[Entry], start: u64) -> usize
 }
 
 // The place of the run's entry, if it has one.
-pub(crate) fn place_of_run(entries: &[Entry], run: Run) -> Option<usize>
+pub(crate) fn place_of_run(entries: &[UsageEntry], run: Run) -> Option<usize>
     requires { Ordered 2 entries.now }
     ensures none { IfNone result (usage_of entries.now run ≡ UNUSED) }
     ensures place { IfSome result (λ i. i ≡ place_of run.start entries.now) }
@@ -52,7 +53,7 @@ pub(crate) fn place_of_run(entries: &[Entry], run: Run) -> Option<usize>
 }
 
 // Whether the run meets none of the entries.
-pub(crate) fn is_apart(entries: &[Entry], run: Run) -> bool
+pub(crate) fn is_apart(entries: &[UsageEntry], run: Run) -> bool
     requires ordered { Ordered 2 entries.now }
     requires some { 1 ≤ run.count }
     ensures { IsTrue result ↔ ApartEach run entries.now }
@@ -68,7 +69,7 @@ pub(crate) fn is_apart(entries: &[Entry], run: Run) -> bool
 }
 
 // The lowest free run, going up.
-pub(crate) fn lowest(size: u64, entries: &[Entry], count: u64) -> Option<Run>
+pub(crate) fn lowest(size: u64, entries: &[UsageEntry], count: u64) -> Option<Run>
     requires ordered { Ordered 2 entries.now }
     requires within { EndBy size entries.now }
     requires some { 1 ≤ count }
@@ -89,13 +90,13 @@ pub(crate) fn lowest(size: u64, entries: &[Entry], count: u64) -> Option<Run>
 }
 
 // Gives the run, whose entry stands at this place, another usage.
-pub(crate) fn change(entries: &mut Vec<Entry>, run: Run, place: usize, usage: Usage)
+pub(crate) fn change(entries: &mut Vec<UsageEntry>, run: Run, place: usize, usage: Usage)
     requires place { place ≡ place_of run.start entries.old.items }
     requires found { HasEntryAt entries.old.items run place }
     ensures { entries.new.items ≡ with_usage run usage entries.old.items }
 {
     if usage.is_used() {
-        entries[place] = Entry { run, usage };
+        entries[place] = UsageEntry { run, usage };
     } else {
         entries.remove(place);
     }

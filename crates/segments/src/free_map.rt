@@ -4,7 +4,7 @@ ghost use Rattle.segments.specs.Runs.{IsOnDevice, IsFree, IsLowest};
 ghost use Rattle.segments.specs.Usages.{UNUSED, TAKEN, given, pinned, unpinned, is_used, usage_of, with_run, IsUsedIn, Changes};
 
 use crate::entries::{change, is_apart, lowest, place_of_run, place_of_start};
-use crate::{EnterError, Entry, Run, TakeError, Usage};
+use crate::{EnterError, Run, TakeError, Usage, UsageEntry};
 use std::alloc::{AllocError, Global};
 use std::marker::Model;
 
@@ -13,7 +13,7 @@ use std::marker::Model;
 #[derive(Drop)]
 pub struct FreeMap {
     size: u64,
-    entries: Vec<Entry>,
+    entries: Vec<UsageEntry>,
 }
 
 impl Model for FreeMap {
@@ -186,7 +186,7 @@ impl FreeMap {
         ensures err { OnErr result (self.new ≡ self.old) }
     {
         let place = place_of_start(&self.entries, run.start);
-        self.entries.insert(place, Entry { run, usage })?;
+        self.entries.insert(place, UsageEntry { run, usage })?;
         Ok(())
     }
 }

@@ -13,13 +13,10 @@ mod reading;
 mod run;
 mod writing;
 
-pub use entries::{Entry, Usage};
+pub use entries::{Usage, UsageEntry};
 pub use errors::{EnterError, TakeError};
 pub use free_map::FreeMap;
 pub use piece::Piece;
 pub use reading::{ReadError, read_run};
 pub use run::Run;
 pub use writing::{write_run, write_runs};
-
-#[cfg(test)]
-mod tests;

@@ -4,7 +4,8 @@ ghost use Rattle.sector_dev.specs.Disk.{now, shown_image, Counts};
 ghost use Rattle.sector_dev.specs.Time.{Grows};
 ghost use Rattle.segments.specs.Runs.{AreApart};
 ghost use Rattle.segments.specs.Sectors.{sector_count, filled, Holds, bytes_at};
-ghost use Rattle.segments.specs.Writing.{run_for, runs_of, WritesOnly, LeavesOthers, AllFit, HoldsEach, ShowsSectors, sectors_from};
+ghost use Rattle.segments.specs.Writing.{run_for, runs_of, WritesOnly, LeavesOthers, AllFit, HoldsEach};
+ghost use Rattle.segments.specs.inner.Rows.{ShowsSectors, sectors_from};
 
 use crate::Piece;
 use sector_dev::{DevError, SECTOR_BYTES, SectorDevice};

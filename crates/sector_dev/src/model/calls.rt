@@ -1,16 +1,16 @@
 // The calls of a device in memory.
 ghost use Rattle.std.specs.Prelude.{◌≡◌, ◌<◌, ◌⊎◌, ◌+◌, ◌-◌, ◌^◌, min, true, false, Some, None, Err, OnOk, OnErr, IfErr, IsErrOf, ℕ, List, Option, length};
 ghost use Rattle.std.specs.Bool.{OnTrue, OnFalse};
-ghost use Rattle.sector_dev.specs.Disk.{now, Watches, Passes, Puts, FailsToPut, Flushes, Counts};
+ghost use Rattle.sector_dev.specs.Disk.{now, Watches, Passes, Puts, FailsToPut, Flushes, Counts, Each, IsWhole};
 ghost use Rattle.sector_dev.specs.Faults.{CallFails, ReadFails, after_call, after_read};
-ghost use Rattle.sector_dev.specs.Cells.{cell_at};
+ghost use Rattle.sector_dev.specs.inner.Stored.{stored_at};
 ghost use Rattle.sector_dev.specs.History.{story_of};
-ghost use Rattle.sector_dev.specs.Newest.{story_shows};
-ghost use Rattle.sector_dev.specs.View.{size_of, failed_of, kept_of, faults_of, history_of};
+ghost use Rattle.sector_dev.specs.inner.Newest.{story_shows, story_begun};
+ghost use Rattle.sector_dev.specs.View.{size_of, failed_of, recorded_of, faults_of, history_of};
 
 use super::ModelDevice;
-use crate::cells::{Cell, reach, read_cell, settle};
-use crate::log::{Event, keep_passed, keep_synced, keep_wrote};
+use crate::log::{Event, record_passed, record_sync, record_write};
+use crate::stored::{StoredSector, make_durable, reach, read_stored};
 use crate::{DevError, SectorDevice};
 
 // One more call has failed.
@@ -22,17 +22,23 @@ fn failed_once(failed: &mut u64) -> DevError
     DevError::Failed
 }
 
-// Makes room for a sector, and keeps a write of it. `false`: there was no memory for that.
-fn make_room(cells: &mut Vec<Cell>, log: &mut Vec<Event>, n: u64, content: &[u8; 512]) -> bool
-    ensures same { (k : ℕ) → cell_at cells.new.items k ≡ cell_at cells.old.items k }
-    ensures reached { OnTrue result (n < length cells.new.items) }
-    ensures kept { OnTrue result ((start : List (Option (List ℕ))) → Puts (story_of start log.old.items) n content.now (Some content.now) (story_of start log.new.items)) }
+// Makes room for a sector, and records a write of it. `false`: there was no memory for that.
+fn make_room(
+    stored: &mut Vec<StoredSector>,
+    log: &mut Vec<Event>,
+    n: u64,
+    content: &[u8; 512],
+) -> bool
+    ensures same { (k : ℕ) → stored_at stored.new.items k ≡ stored_at stored.old.items k }
+    ensures reached { OnTrue result (n < length stored.new.items) }
+    ensures recorded { OnTrue result ((start : List (Option (List ℕ))) → Puts (story_of start log.old.items) n content.now (Some content.now) (story_of start log.new.items)) }
+    ensures contents { (start : List (Option (List ℕ))) → Each IsWhole (story_of start log.old.items) → Each IsWhole (story_of start log.new.items) }
     ensures full { OnFalse result (log.new.items ≡ log.old.items) }
 {
     let Some(count) = (n as usize).checked_add(1) else {
         return false;
     };
-    reach(cells, count) && keep_wrote(log, n, content)
+    reach(stored, count) && record_write(log, n, content)
 }
 
 impl SectorDevice for ModelDevice {
@@ -45,6 +51,10 @@ impl SectorDevice for ModelDevice {
     ghost story = { history_of };
 
     ghost shows = { λ d told. story_shows d.start.items d.log.items };
+
+    ghost begun = { λ d told. story_begun d.start.items d.log.items };
+
+    ghost contents = { λ d told. d.contents };
 
     fn sectors(&self) -> u64 {
         self.sectors
@@ -63,18 +73,18 @@ impl SectorDevice for ModelDevice {
         ensures content { OnOk result (((now (history_of self.old)).at n).shown ≡ Some to.new) }
         ensures unreadable { IsErrOf result DevError.Unreadable → ((now (history_of self.old)).at n).shown ≡ None }
         ensures faults { faults_of self.new ≡ after_read (faults_of self.old) }
-        ensures due { ReadFails (faults_of self.old) → result ≡ Err DevError.Failed }
-        ensures kept { OnTrue (kept_of self.new) (Watches (history_of self.old) (history_of self.new)) }
-        ensures not_kept { OnFalse (kept_of self.new) ((history_of self.new ≡ history_of self.old) × (result ≡ Err DevError.Failed)) }
+        ensures scheduled { ReadFails (faults_of self.old) → result ≡ Err DevError.Failed }
+        ensures recorded { OnTrue (recorded_of self.new) (Watches (history_of self.old) (history_of self.new)) }
+        ensures not_recorded { OnFalse (recorded_of self.new) ((history_of self.new ≡ history_of self.old) × (result ≡ Err DevError.Failed)) }
         // Any other failure is for want of memory.
-        ensures not_due { ¬ ReadFails (faults_of self.old) → IsErrOf result DevError.Failed → kept_of self.new ≡ false }
+        ensures unscheduled { ¬ ReadFails (faults_of self.old) → IsErrOf result DevError.Failed → recorded_of self.new ≡ false }
     {
         let fails = self.faults.fails_read();
-        self.kept = keep_passed(&mut self.log);
-        if !self.kept || fails {
+        self.recorded = record_passed(&mut self.log);
+        if !self.recorded || fails {
             return Err(failed_once(&mut self.failed));
         }
-        if read_cell(&self.cells, n as usize, to) {
+        if read_stored(&self.stored, n as usize, to) {
             Ok(())
         } else {
             Err(DevError::Unreadable)
@@ -90,20 +100,20 @@ impl SectorDevice for ModelDevice {
         // After a failed write a read gives the new content.
         ensures err { OnErr result ((history_of self.new ≡ history_of self.old) ⊎ Puts (history_of self.old) n from.now (Some from.now) (history_of self.new)) }
         ensures faults { faults_of self.new ≡ after_call (faults_of self.old) }
-        ensures due { CallFails (faults_of self.old) → result ≡ Err DevError.Failed }
-        // A call that is due to fail is kept as well.
-        ensures kept { OnTrue (kept_of self.new) (Puts (history_of self.old) n from.now (Some from.now) (history_of self.new)) }
-        ensures not_kept { OnFalse (kept_of self.new) ((history_of self.new ≡ history_of self.old) × (result ≡ Err DevError.Failed)) }
+        ensures scheduled { CallFails (faults_of self.old) → result ≡ Err DevError.Failed }
+        // A scheduled fault is recorded too.
+        ensures recorded { OnTrue (recorded_of self.new) (Puts (history_of self.old) n from.now (Some from.now) (history_of self.new)) }
+        ensures not_recorded { OnFalse (recorded_of self.new) ((history_of self.new ≡ history_of self.old) × (result ≡ Err DevError.Failed)) }
         // Any other failure is for want of memory.
-        ensures not_due { ¬ CallFails (faults_of self.old) → OnErr result (kept_of self.new ≡ false) }
+        ensures unscheduled { ¬ CallFails (faults_of self.old) → OnErr result (recorded_of self.new ≡ false) }
     {
         let fails = self.faults.fails_call();
-        let kept = make_room(&mut self.cells, &mut self.log, n, from);
-        self.kept = kept;
-        if !kept {
+        let recorded = make_room(&mut self.stored, &mut self.log, n, from);
+        self.recorded = recorded;
+        if !recorded {
             return Err(failed_once(&mut self.failed));
         }
-        self.cells[n as usize].newest = Some(*from);
+        self.stored[n as usize].newest = Some(*from);
         if fails {
             return Err(failed_once(&mut self.failed));
         }
@@ -117,22 +127,22 @@ impl SectorDevice for ModelDevice {
         ensures ok { OnOk result (Flushes (history_of self.old) (history_of self.new)) }
         ensures err { OnErr result (Passes (history_of self.old) (history_of self.new)) }
         ensures faults { faults_of self.new ≡ after_call (faults_of self.old) }
-        ensures due { CallFails (faults_of self.old) → result ≡ Err DevError.Failed }
-        ensures kept_due { CallFails (faults_of self.old) → OnTrue (kept_of self.new) (Watches (history_of self.old) (history_of self.new)) }
-        ensures not_kept { OnFalse (kept_of self.new) ((history_of self.new ≡ history_of self.old) × (result ≡ Err DevError.Failed)) }
+        ensures scheduled { CallFails (faults_of self.old) → result ≡ Err DevError.Failed }
+        ensures recorded_scheduled { CallFails (faults_of self.old) → OnTrue (recorded_of self.new) (Watches (history_of self.old) (history_of self.new)) }
+        ensures not_recorded { OnFalse (recorded_of self.new) ((history_of self.new ≡ history_of self.old) × (result ≡ Err DevError.Failed)) }
         // Any other failure is for want of memory.
-        ensures not_due { ¬ CallFails (faults_of self.old) → OnErr result (kept_of self.new ≡ false) }
+        ensures unscheduled { ¬ CallFails (faults_of self.old) → OnErr result (recorded_of self.new ≡ false) }
     {
         if self.faults.fails_call() {
-            self.kept = keep_passed(&mut self.log);
+            self.recorded = record_passed(&mut self.log);
             return Err(failed_once(&mut self.failed));
         }
-        let kept = keep_synced(&mut self.log);
-        self.kept = kept;
-        if !kept {
+        let recorded = record_sync(&mut self.log);
+        self.recorded = recorded;
+        if !recorded {
             return Err(failed_once(&mut self.failed));
         }
-        settle(&mut self.cells);
+        make_durable(&mut self.stored);
         Ok(())
     }
 }

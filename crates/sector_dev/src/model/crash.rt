@@ -4,13 +4,13 @@ ghost use Rattle.sector_dev.specs.Disk.{now, MayLeave, shown_image};
 ghost use Rattle.sector_dev.specs.Chosen.{has_bit, IsChosen};
 ghost use Rattle.sector_dev.specs.Faults.{no_faults};
 ghost use Rattle.sector_dev.specs.History.{all_synced, content_at};
-ghost use Rattle.sector_dev.specs.Cells.{cell_at, waiting_below, left_in};
-ghost use Rattle.sector_dev.specs.View.{size_of, failed_of, kept_of, faults_of, history_of};
+ghost use Rattle.sector_dev.specs.inner.Stored.{stored_at, unsynced_below, left_in};
+ghost use Rattle.sector_dev.specs.View.{size_of, failed_of, recorded_of, faults_of, history_of};
 
 use super::ModelDevice;
 use crate::Choice;
-use crate::cells::Cell;
 use crate::faults::Faults;
+use crate::stored::StoredSector;
 use std::alloc::{AllocError, Global};
 
 // Whether the choice's bit of the i-th sector is 1.
@@ -21,24 +21,24 @@ fn has_bit(bits: u64, i: usize) -> bool
 }
 
 // What the choice leaves in a sector, where so many below it are not yet synced.
-fn left(choice: Choice, below: usize, cell: &Cell) -> Option<[u8; 512]>
-    ensures { result ≡ left_in choice below cell.now }
+fn left(choice: Choice, below: usize, sector: &StoredSector) -> Option<[u8; 512]>
+    ensures { result ≡ left_in choice below sector.now }
 {
-    let Some(newest) = cell.newest else {
-        return cell.synced;
+    let Some(newest) = sector.newest else {
+        return sector.synced;
     };
     match choice {
-        Choice::Old => cell.synced,
+        Choice::Old => sector.synced,
         Choice::New => Some(newest),
         Choice::Bits(bits) => if has_bit(bits, below) {
             Some(newest)
         } else {
-            cell.synced
+            sector.synced
         },
         Choice::Lost(bits) => if has_bit(bits, below) {
             None
         } else {
-            cell.synced
+            sector.synced
         },
     }
 }
@@ -47,15 +47,15 @@ fn left(choice: Choice, below: usize, cell: &Cell) -> Option<[u8; 512]>
 fn left_in_all(
     alloc: Global,
     choice: Choice,
-    cells: &[Cell],
+    stored: &[StoredSector],
 ) -> Result<Vec<Option<[u8; 512]>>, AllocError>
-    ensures { IfOk result (λ contents. (n : ℕ) → content_at contents.items n ≡ left_in choice (waiting_below cells.now n) (cell_at cells.now n)) }
+    ensures { IfOk result (λ contents. (n : ℕ) → content_at contents.items n ≡ left_in choice (unsynced_below stored.now n) (stored_at stored.now n)) }
 {
-    let mut contents = Vec::with_capacity(alloc, cells.len())?;
+    let mut contents = Vec::with_capacity(alloc, stored.len())?;
     let mut below = 0;
-    for cell in cells {
-        contents.push(left(choice, below, cell))?;
-        if cell.newest.is_some() {
+    for sector in stored {
+        contents.push(left(choice, below, sector))?;
+        if sector.newest.is_some() {
             below += 1;
         }
     }
@@ -63,17 +63,20 @@ fn left_in_all(
 }
 
 // Cells that hold this, all synced.
-fn synced_cells(alloc: Global, contents: &[Option<[u8; 512]>]) -> Result<Vec<Cell>, AllocError>
-    ensures { IfOk result (λ cells. (n : ℕ) → cell_at cells.items n ≡ record { synced = content_at contents.now n; newest = None }) }
+fn stored_as_synced(
+    alloc: Global,
+    contents: &[Option<[u8; 512]>],
+) -> Result<Vec<StoredSector>, AllocError>
+    ensures { IfOk result (λ stored. (n : ℕ) → stored_at stored.items n ≡ record { synced = content_at contents.now n; newest = None }) }
 {
-    let mut cells = Vec::with_capacity(alloc, contents.len())?;
+    let mut stored = Vec::with_capacity(alloc, contents.len())?;
     for content in contents {
-        cells.push(Cell {
+        stored.push(StoredSector {
             synced: *content,
             newest: None,
         })?;
     }
-    Ok(cells)
+    Ok(stored)
 }
 
 impl ModelDevice {
@@ -88,19 +91,19 @@ impl ModelDevice {
         ensures allowed { IfOk result (λ d. MayLeave (now (history_of self.now)) (shown_image (now (history_of d)))) }
         ensures chosen { IfOk result (λ d. IsChosen choice (now (history_of self.now)) (size_of self.now) (shown_image (now (history_of d)))) }
         ensures failed { IfOk result (λ d. failed_of d ≡ 0) }
-        ensures kept { IfOk result (λ d. kept_of d ≡ true) }
+        ensures recorded { IfOk result (λ d. recorded_of d ≡ true) }
         ensures faults { IfOk result (λ d. faults_of d ≡ no_faults) }
     {
-        let alloc = *self.cells.allocator();
-        let start = left_in_all(alloc, choice, &self.cells)?;
-        let cells = synced_cells(alloc, &start)?;
+        let alloc = *self.stored.allocator();
+        let start = left_in_all(alloc, choice, &self.stored)?;
+        let stored = stored_as_synced(alloc, &start)?;
         Ok(ModelDevice {
             sectors: self.sectors,
             start,
             log: Vec::new(alloc),
-            cells,
+            stored,
             failed: 0,
-            kept: true,
+            recorded: true,
             faults: Faults::none(),
         })
     }

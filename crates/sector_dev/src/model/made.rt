@@ -2,7 +2,7 @@
 ghost use Rattle.std.specs.Prelude.{◌≡◌, ◌≤◌, ◌+◌, ◌-◌, ◌∷◌, [], ℕ, Some, true, IfOk};
 ghost use Rattle.sector_dev.specs.Faults.{no_faults, CallFails, ReadFails, calls_later, reads_later};
 ghost use Rattle.sector_dev.specs.History.{all_synced, zeros};
-ghost use Rattle.sector_dev.specs.View.{size_of, failed_of, kept_of, faults_of, history_of};
+ghost use Rattle.sector_dev.specs.View.{size_of, failed_of, recorded_of, faults_of, history_of};
 
 use super::ModelDevice;
 use crate::faults::Faults;
@@ -17,36 +17,36 @@ impl ModelDevice {
         ensures size { IfOk result (λ d. size_of d ≡ sectors) }
         ensures zeros { IfOk result (λ d. history_of d ≡ all_synced (λ _. Some zeros) ∷ []) }
         ensures failed { IfOk result (λ d. failed_of d ≡ 0) }
-        ensures kept { IfOk result (λ d. kept_of d ≡ true) }
+        ensures recorded { IfOk result (λ d. recorded_of d ≡ true) }
         ensures faults { IfOk result (λ d. faults_of d ≡ no_faults) }
     {
         Ok(ModelDevice {
             sectors,
             start: Vec::new(alloc),
             log: Vec::new(alloc),
-            cells: Vec::new(alloc),
+            stored: Vec::new(alloc),
             failed: 0,
-            kept: true,
+            recorded: true,
             faults: Faults::none(),
         })
     }
 
-    /// Whether there was memory to keep the last read, write or sync; `true` before the first. Where there was none the
+    /// Whether there was memory to record the last read, write or sync; `true` before the first. Where there was none the
     /// call failed before it began.
-    pub fn is_kept(&self) -> bool
-        ensures { result ≡ kept_of self.now }
+    pub fn is_recorded(&self) -> bool
+        ensures { result ≡ recorded_of self.now }
     {
-        self.kept
+        self.recorded
     }
 
     /// Makes the k-th write or sync from now fail once; 0: none.
     pub fn fail_at(&mut self, k: u64)
         ensures faults { faults_of self.new ≡ record (faults_of self.old) { fail = k } }
-        ensures due { 1 ≤ k → CallFails (calls_later (k - 1) (faults_of self.new)) }
+        ensures scheduled { 1 ≤ k → CallFails (calls_later (k - 1) (faults_of self.new)) }
         ensures size { size_of self.new ≡ size_of self.old }
         ensures history { history_of self.new ≡ history_of self.old }
         ensures failed { failed_of self.new ≡ failed_of self.old }
-        ensures kept { kept_of self.new ≡ kept_of self.old }
+        ensures recorded { recorded_of self.new ≡ recorded_of self.old }
     {
         self.faults.fail = k;
     }
@@ -55,12 +55,12 @@ impl ModelDevice {
     /// 0: none.
     pub fn stop_at(&mut self, k: u64)
         ensures faults { faults_of self.new ≡ record (faults_of self.old) { stop = k } }
-        ensures due { 1 ≤ k → (n : ℕ) → k ≤ n + 1 → CallFails (calls_later n (faults_of self.new)) }
+        ensures scheduled { 1 ≤ k → (n : ℕ) → k ≤ n + 1 → CallFails (calls_later n (faults_of self.new)) }
         ensures reads_too { 1 ≤ k → (n : ℕ) → k ≤ n → ReadFails (calls_later n (faults_of self.new)) }
         ensures size { size_of self.new ≡ size_of self.old }
         ensures history { history_of self.new ≡ history_of self.old }
         ensures failed { failed_of self.new ≡ failed_of self.old }
-        ensures kept { kept_of self.new ≡ kept_of self.old }
+        ensures recorded { recorded_of self.new ≡ recorded_of self.old }
     {
         self.faults.stop = k;
     }
@@ -68,11 +68,11 @@ impl ModelDevice {
     /// Makes the k-th read from now fail once; 0: none.
     pub fn fail_read_at(&mut self, k: u64)
         ensures faults { faults_of self.new ≡ record (faults_of self.old) { fail_read = k } }
-        ensures due { 1 ≤ k → ReadFails (reads_later (k - 1) (faults_of self.new)) }
+        ensures scheduled { 1 ≤ k → ReadFails (reads_later (k - 1) (faults_of self.new)) }
         ensures size { size_of self.new ≡ size_of self.old }
         ensures history { history_of self.new ≡ history_of self.old }
         ensures failed { failed_of self.new ≡ failed_of self.old }
-        ensures kept { kept_of self.new ≡ kept_of self.old }
+        ensures recorded { recorded_of self.new ≡ recorded_of self.old }
     {
         self.faults.fail_read = k;
     }

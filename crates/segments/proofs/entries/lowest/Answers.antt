@@ -1,12 +1,12 @@
 use Rattle.std.proofs.Common.{◌+◌, Some, None, false, List, Option, drop, get_or, arith, sym, subst}
 use Rattle.std.proofs.lemmas.List.{drop_more, drop_all}
-use Rattle.segments.specs.declared.entries.Entry.{Entry}
+use Rattle.segments.specs.declared.entries.UsageEntry.{UsageEntry}
 use Rattle.segments.specs.declared.run.Run.{Run}
 use Rattle.segments.specs.Usages.{Ordered, EndBy}
 use Rattle.segments.proofs.Lowest.{IsLowestFrom, room_before, no_room, room_behind, none_behind, lowest_of_all}
 use Rattle.segments.proofs.entries.lowest.Goals as goal
 
-abbrev none : Entry
+abbrev none : UsageEntry
 none = record { run = record { start = 0; count = 0 }; usage = record { taken = false; pins = 0 } }
 
 pub overflow_sub-entry : goal.overflow_sub-entry
@@ -24,7 +24,7 @@ returns-then-count-entry c =
     let ends = subst (EndBy c.args.size) here c.loop-entry.invariant.within in
     let found : Option Run = Some (record { start = from; count = c.args.count }) in
     lowest_of_all c.args.size c.args.entries.now c.args.count found c.requires.ordered
-    (c.loop-entry.invariant.lowest found (subst (λ (es : List Entry). IsLowestFrom from c.args.size es c.args.count found) (sym here)
+    (c.loop-entry.invariant.lowest found (subst (λ (es : List UsageEntry). IsLowestFrom from c.args.size es c.args.count found) (sym here)
     (room_before from c.args.size (get_or c.args.entries.now i none) (drop (i + 1) c.args.entries.now) c.args.count o ends (omega (arith, o.0, c.if-count-entry.true, c.requires.some)))))
 
 pub end-start-requires : goal.end-start-requires
@@ -46,7 +46,7 @@ loop-entry-preserved c =
       ordered = subst (λ n. Ordered n rest) (sym c.end-start.ensures) o.3;
       within = ends.1;
       lowest = λ found is.
-          c.loop-entry.invariant.lowest found (subst (λ (es : List Entry). IsLowestFrom from c.args.size es c.args.count found) (sym here)
+          c.loop-entry.invariant.lowest found (subst (λ (es : List UsageEntry). IsLowestFrom from c.args.size es c.args.count found) (sym here)
           (no_room from c.args.size e rest c.args.count found o (omega (arith, o.0, c.if-count-entry.false))
           (subst (λ n. IsLowestFrom n c.args.size rest c.args.count found) c.end-start.ensures is)));
     }
@@ -56,7 +56,7 @@ returns-then-count-saturating_sub c =
     let over = drop_all c.loop-entry.entry-index c.args.entries.now c.loop-entry-test.false in
     let found : Option Run = Some (record { start = c.loop-entry.start; count = c.args.count }) in
     lowest_of_all c.args.size c.args.entries.now c.args.count found c.requires.ordered
-    (c.loop-entry.invariant.lowest found (subst (λ (es : List Entry). IsLowestFrom c.loop-entry.start c.args.size es c.args.count found) (sym over)
+    (c.loop-entry.invariant.lowest found (subst (λ (es : List UsageEntry). IsLowestFrom c.loop-entry.start c.args.size es c.args.count found) (sym over)
     (room_behind c.loop-entry.start c.args.size c.args.count (omega arith))))
 
 pub returns-else-count-saturating_sub : goal.returns-else-count-saturating_sub
@@ -64,5 +64,5 @@ returns-else-count-saturating_sub c =
     let over = drop_all c.loop-entry.entry-index c.args.entries.now c.loop-entry-test.false in
     let found : Option Run = None in
     lowest_of_all c.args.size c.args.entries.now c.args.count found c.requires.ordered
-    (c.loop-entry.invariant.lowest found (subst (λ (es : List Entry). IsLowestFrom c.loop-entry.start c.args.size es c.args.count found) (sym over)
+    (c.loop-entry.invariant.lowest found (subst (λ (es : List UsageEntry). IsLowestFrom c.loop-entry.start c.args.size es c.args.count found) (sym over)
     (none_behind c.loop-entry.start c.args.size c.args.count (omega arith))))

@@ -1,24 +1,25 @@
 use Rattle.std.proofs.Common.{◌≡◌, ◌<◌, ◌∙◌, length, get_or, false, sym, ap, subst, arith}
 use Rattle.std.proofs.lemmas.Bool.{true≢false}
 use Rattle.std.proofs.lemmas.List.{get_or_default}
-use Rattle.segments.specs.declared.entries.Entry.{Entry}
+use Rattle.segments.specs.declared.entries.UsageEntry.{UsageEntry}
 use Rattle.segments.specs.Usages.{UNUSED}
 use Rattle.segments.proofs.Used.{unused_without, usage_at}
-use Rattle.segments.proofs.Placed.{same_run-true, same_run-eq}
+use Rattle.segments.proofs.Placed.{same_run-eq}
+use Rattle.segments.specs.laws.Usages.{same_run_is}
 use Rattle.segments.proofs.entries.place_of_run.Goals as goal
 use Rattle.segments.proofs.entries.place_of_run.Goals.{else-place-entries-via-then-place-entries+else-eq, else-place-entries-via-else-place-entries}
 
-abbrev none : Entry
+abbrev none : UsageEntry
 none = record { run = record { start = 0; count = 0 }; usage = record { taken = false; pins = 0 } }
 
 pub returns-then-eq-clause-found : goal.returns-then-eq-clause-found
 returns-then-eq-clause-found c =
     let es = c.args.entries.now in
     let i = c.place_of_start-place.result in
-    let own : Entry = record { run = c.args.run; usage = UNUSED } in
+    let own : UsageEntry = record { run = c.args.run; usage = UNUSED } in
     let within : i < length es = omega arith in
-    let is = same_run-true (get_or es i none).run c.args.run (sym c.eq.ensures ∙ c.if-eq.true) in
-    let here : (get_or es i own).run ≡ c.args.run = ap (λ (e : Entry). e.run) (get_or_default es i own none within) ∙ is in
+    let is = same_run_is (get_or es i none).run c.args.run (sym c.eq.ensures ∙ c.if-eq.true) in
+    let here : (get_or es i own).run ≡ c.args.run = ap (λ (e : UsageEntry). e.run) (get_or_default es i own none within) ∙ is in
     record { within = within; is = here; usage = usage_at 2 es c.args.run i own c.requires within here }
 
 pub returns-else-place-entries-clause-none : goal.returns-else-place-entries-clause-none

@@ -3,8 +3,8 @@ use Rattle.std.proofs.lemmas.Bool.{cond-true}
 use Rattle.std.proofs.lemmas.Result.{err_from_is_err_and}
 use Rattle.segments.specs.declared.reading.ReadError.TheVariants.{Unreadable}
 use Rattle.sector_dev.specs.Disk.{Disk, now, shown_image}
-use Rattle.sector_dev.specs.Time.{only_read, read_on, now_read}
-use Rattle.segments.specs.ReadBack.{none_at}
+use Rattle.sector_dev.specs.laws.Time.{only_read, read_on, now_read}
+use Rattle.segments.specs.laws.ReadBack.{none_at}
 use Rattle.segments.specs.Sectors.{sector_count}
 use Rattle.segments.proofs.Gathered.{counted, joined_more, gathered, told_unreadable, same_error, told_of, watched_length, ends_at}
 use Rattle.segments.proofs.reading.read_run.Goals as goal

@@ -2,7 +2,7 @@ use Rattle.std.proofs.Common.{◌≡◌, ◌≢◌, ◌<◌, ◌%◌, ◌∷◌,
 use Rattle.std.proofs.lemmas.Bool.{eqb-false}
 use Rattle.segments.specs.Sectors.{sector_count}
 use Rattle.segments.specs.Writing.{run_for}
-use Rattle.segments.specs.ReadBack.{read_back}
+use Rattle.segments.specs.laws.ReadBack.{read_back}
 use Rattle.segments.proofs.Contents.{holds_whole, holds_last}
 use Rattle.segments.proofs.Touched.{leaves_others, front_written, next_written}
 use Rattle.segments.proofs.writing.write_run.Goals as goal

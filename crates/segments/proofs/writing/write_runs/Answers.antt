@@ -1,6 +1,6 @@
 use Rattle.std.proofs.Common.{◌≤◌, ◌∷◌, [], ◌∙◌, length, refl, sym, subst, arith}
 use Rattle.sector_dev.specs.Disk.{now}
-use Rattle.sector_dev.specs.Time.{stays}
+use Rattle.sector_dev.specs.laws.Time.{stays}
 use Rattle.segments.specs.Sectors.{sector_count}
 use Rattle.segments.specs.Writing.{run_for, runs_of}
 use Rattle.segments.proofs.Pieces.{fit_of, out_of, written_more}

@@ -1,6 +1,6 @@
 use Rattle.std.proofs.Common.{◌+◌, length, ◌∙◌, refl, arith}
-use Rattle.sector_dev.specs.Time.{stays, goes_on}
-use Rattle.segments.specs.Writing.{sectors_from}
+use Rattle.sector_dev.specs.laws.Time.{stays, goes_on}
+use Rattle.segments.specs.inner.Rows.{sectors_from}
 use Rattle.segments.proofs.Touched.{inside_run, written_now, write_done, write_failed, shows_none, shows_more, shows_all}
 use Rattle.segments.proofs.writing.write_sectors.Goals as goal
 

@@ -1,7 +1,8 @@
 use Rattle.std.proofs.Common.{◌≡◌, length, true}
 use Rattle.sector_dev.specs.Disk.{now, shown_image}
 use Rattle.sector_dev.specs.Time.{Grows}
-use Rattle.segments.specs.Writing.{WritesOnly, sectors_from}
+use Rattle.segments.specs.Writing.{WritesOnly}
+use Rattle.segments.specs.inner.Rows.{sectors_from}
 use Rattle.segments.proofs.Touched.{ShowsBelow}
 use Rattle.segments.proofs.writing.write_sectors.Given as goal
 

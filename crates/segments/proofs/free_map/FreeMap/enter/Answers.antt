@@ -2,7 +2,8 @@ use Rattle.std.proofs.Common.{◌≡◌, ◌∙◌, sym, subst}
 use Rattle.std.proofs.lemmas.Bool.{true≢false}
 use Rattle.segments.specs.declared.run.Run.{Run}
 use Rattle.segments.specs.Runs.{IsFree, IsOnDevice}
-use Rattle.segments.specs.Usages.{Space, IsUsedIn, ApartEach}
+use Rattle.segments.specs.Usages.{Space, IsUsedIn}
+use Rattle.segments.specs.inner.Places.{ApartEach}
 use Rattle.segments.proofs.Changed.{free_apart, apart_free}
 use Rattle.segments.proofs.free_map.FreeMap.enter.Goals as goal
 

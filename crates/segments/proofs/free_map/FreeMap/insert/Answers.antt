@@ -1,6 +1,7 @@
 use Rattle.std.proofs.Common.{◌∙◌, ap, sym, subst, arith}
 use Rattle.segments.specs.Runs.{IsFree}
-use Rattle.segments.specs.Usages.{Space, IsUsedIn, place_of, with_run, Changes}
+use Rattle.segments.specs.Usages.{Space, IsUsedIn, with_run, Changes}
+use Rattle.segments.specs.inner.Places.{place_of}
 use Rattle.segments.proofs.Changed.{enters}
 use Rattle.segments.proofs.free_map.FreeMap.insert.Goals as goal
 

@@ -1,0 +1,26 @@
+-- That a story speaks of contents alone has one proof at most.
+use Rattle.std.specs.Prelude.{ℕ, List, [], ◌∷◌, length, Option, Some, None, IfSome}
+use Rattle.std.specs.Coded.{Coded-set, coded_ℕ, ×_prop, Π_prop, Unit-prop, le_prop}
+use Rattle.sector_dev.specs.Disk.{Disk, Sector, Story, IsContent, AreContents, HoldsContents, IsWhole, Each}
+
+content_prop : (c : List ℕ) → IsProp (IsContent c)
+content_prop c = ×_prop (Coded-set coded_ℕ (length c) 512) (Π_prop (λ k. le_prop))
+
+contents_prop : (cs : List (List ℕ)) → IsProp (AreContents cs)
+contents_prop [] = Unit-prop
+contents_prop (c ∷ cs) = ×_prop (content_prop c) (contents_prop cs)
+
+some_prop : (o : Option (List ℕ)) → IsProp (IfSome o IsContent)
+some_prop None = Unit-prop
+some_prop (Some c) = content_prop c
+
+holds_prop : (s : Sector) → IsProp (HoldsContents s)
+holds_prop s = ×_prop (some_prop s.synced) (×_prop (contents_prop s.pending) (some_prop s.shown))
+
+whole_prop : (d : Disk) → IsProp (IsWhole d)
+unfolding IsWhole
+whole_prop d = Π_prop (λ n. holds_prop (d.at n))
+
+pub each_prop : (s : Story) → IsProp (Each IsWhole s)
+each_prop [] = Unit-prop
+each_prop (d ∷ ds) = ×_prop (whole_prop d) (each_prop ds)

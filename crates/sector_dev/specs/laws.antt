@@ -1,0 +1,4 @@
+-- Laws that the crates above use.
+pub mod Crash
+pub mod Time
+pub mod Stories

@@ -1,0 +1,127 @@
+// A file is opened or made as a device.
+ghost use Rattle.std.specs.Prelude.{◌≡◌, ◌≤◌, ◌↔◌, length, IfOk, IfSome, IsErrOf, IsTrue};
+ghost use Rattle.sector_dev.specs.View.{sectors_of, failures_of, IsDeviceLength, IsOver};
+ghost use Rattle.sector_dev.specs.Written.{IsEmpty};
+
+use super::{FileDevice, FileError, LEAST_SECTORS, MOST_SECTORS};
+use crate::buffer::Buffer;
+use std::alloc::Global;
+use std::fs::{self, File, OpenFile, OpenOptions};
+use std::io::{self, ErrorKind, Read, Seek, SeekFrom, Write};
+use std::path::Path;
+use std::rt::Files;
+
+// Whether a device can have so many sectors.
+fn is_size(sectors: u64) -> bool
+    ensures { IsTrue result ↔ ((16 ≤ sectors) × (sectors ≤ 4194304)) }
+{
+    (LEAST_SECTORS..=MOST_SECTORS).contains(&sectors)
+}
+
+// Has the system bring a new file's name to the disk, where a directory can be opened and synced.
+fn sync_name<R: Files>(rt: &R, path: &str) -> io::Result<()> {
+    let parent = match Path::new(path).parent() {
+        Some(parent) if !parent.as_str().is_empty() => parent,
+        _ => Path::new("."),
+    };
+    let Ok(directory) = File::open(rt, parent) else {
+        return Ok(());
+    };
+    match directory.sync_all() {
+        Err(e) if e.kind() != ErrorKind::InvalidInput => Err(e),
+        _ => Ok(()),
+    }
+}
+
+// Gives a new file its length, and has the system bring it to the disk.
+fn prepare<R: Files>(rt: &R, path: &str, file: &R::File, sectors: u64) -> io::Result<()>
+    requires { sectors ≤ 4194304 }
+{
+    file.set_len(sectors * 512)?;
+    file.sync_all()?;
+    sync_name(rt, path)
+}
+
+impl<F: Read + Write + Seek + OpenFile + Drop> FileDevice<F> {
+    /// Opens a file as a device.
+    ///
+    /// # Errors
+    /// `Io` where the system refuses; `BadSize` where its length is no multiple of 512, or is outside 16 to 4,194,304
+    /// sectors.
+    pub fn open<R: Files<File = F> + AllocGlobal>(
+        rt: &R,
+        path: &str,
+    ) -> Result<FileDevice<F>, FileError>
+        ensures size { IfOk result (λ d. (16 ≤ sectors_of d) × (sectors_of d ≤ 4194304)) }
+        ensures length { IfOk result (λ d. (opened : F) × IsOver opened d) }
+        ensures failed { IfOk result (λ d. failures_of d ≡ 0) }
+        ensures empty { IfOk result (λ d. IsEmpty d) }
+    {
+        let file = OpenOptions::new().read(true).write(true).open(rt, path)?;
+        FileDevice::from_file(rt.alloc(), file)
+    }
+
+    /// A device over a file that is open for reading and writing. Its sectors are all of the file.
+    ///
+    /// # Errors
+    /// `Io` where the system refuses; `BadSize` where its length is no multiple of 512, or is outside 16 to 4,194,304
+    /// sectors.
+    pub fn from_file(alloc: Global, mut file: F) -> Result<FileDevice<F>, FileError>
+        ensures size { IfOk result (λ d. (16 ≤ sectors_of d) × (sectors_of d ≤ 4194304)) }
+        ensures length { IfOk result (λ d. IsOver file d) }
+        ensures bad_size { IsErrOf result FileError.BadSize → IfSome (F.stream_position file) (λ _. IfSome (F.stream_bytes file) (λ bytes. ¬ IsDeviceLength (length bytes))) }
+        ensures failed { IfOk result (λ d. failures_of d ≡ 0) }
+        ensures empty { IfOk result (λ d. IsEmpty d) }
+    {
+        let bytes = file.seek(SeekFrom::End(0))?;
+        let sectors = bytes / 512;
+        if bytes % 512 != 0 || !is_size(sectors) {
+            return Err(FileError::BadSize);
+        }
+        Ok(FileDevice::over(alloc, file, sectors))
+    }
+
+    /// Makes a file of so many sectors of zeros, and opens it as a device.
+    ///
+    /// # Errors
+    /// `BadSize` where that is outside 16 to 4,194,304, told first; `Io` where something is at the path already, or the
+    /// system refuses: then no file is left, unless the system refuses to remove it too.
+    pub fn create<R: Files<File = F> + AllocGlobal>(
+        rt: &R,
+        path: &str,
+        sectors: u64,
+    ) -> Result<FileDevice<F>, FileError>
+        ensures size { IfOk result (λ d. sectors_of d ≡ sectors) }
+        ensures failed { IfOk result (λ d. failures_of d ≡ 0) }
+        ensures empty { IfOk result (λ d. IsEmpty d) }
+        ensures bad_size { IsErrOf result FileError.BadSize ↔ ¬ ((16 ≤ sectors) × (sectors ≤ 4194304)) }
+    {
+        if !is_size(sectors) {
+            return Err(FileError::BadSize);
+        }
+        let file = File::create_new(rt, path)?;
+        if prepare(rt, path, &file, sectors).is_err() {
+            drop(file);
+            let _removed = fs::remove_file(rt, path);
+            return Err(FileError::Io);
+        }
+        Ok(FileDevice::over(rt.alloc(), file, sectors))
+    }
+
+    // A device over a file of this many sectors.
+    pub(crate) fn over(alloc: Global, file: F, sectors: u64) -> FileDevice<F>
+        requires { sectors ≤ 4194304 }
+        ensures size { result.sectors ≡ sectors }
+        ensures failed { result.failed ≡ 0 }
+        ensures empty { IsEmpty result }
+        ensures file { result.file ≡ file }
+    {
+        FileDevice {
+            file,
+            sectors,
+            failed: 0,
+            writes: Buffer::empty(alloc),
+            ahead: Buffer::empty(alloc),
+        }
+    }
+}

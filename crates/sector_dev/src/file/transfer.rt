@@ -1,0 +1,140 @@
+// What a device that is a file reads and writes.
+ghost use Rattle.std.specs.Prelude.{◌≡◌, ◌<◌, ◌⊎◌, ◌*◌, [], IfErr, OnOk, OnErr, IfSome, is_ok, true};
+ghost use Rattle.sector_dev.specs.Disk.{Counts};
+ghost use Rattle.sector_dev.specs.Written.{Writes, buffered, IsEmpty, Empties, Buffers, BuffersAnew, LosesNone};
+
+use super::FileDevice;
+use crate::DevError;
+use crate::buffer::MOST;
+use std::fs::OpenFile;
+use std::io::{self, Read, Seek, SeekFrom, Write};
+
+// how many sectors a read that follows no other takes from the file
+const FIRST_READ: usize = 8;
+
+// Reads sectors from the file.
+fn read_at<F: Read + Seek>(file: &mut F, start: u64, contents: &mut [[u8; 512]]) -> io::Result<()>
+    requires { start < 4194304 }
+{
+    file.seek(SeekFrom::Start(start * 512))?;
+    file.read_exact(contents.as_flattened_mut())
+}
+
+// Writes sectors to the file.
+fn write_at<F: Write + Seek>(file: &mut F, start: u64, contents: &[[u8; 512]]) -> io::Result<()>
+    requires { start < 4194304 }
+    ensures { OnOk result (Writes ⟦<F as Write>⟧ ⟦<F as Seek>⟧ (start * 512) contents.now file.old file.new) }
+{
+    file.seek(SeekFrom::Start(start * 512))?;
+    file.write_all(contents.as_flattened())
+}
+
+impl<F: Read + Write + Seek + OpenFile + Drop> FileDevice<F> {
+    // Writes the buffered writes to the file. On an error they stay buffered.
+    fn flush(&mut self) -> io::Result<()>
+        ensures sectors { self.new.sectors ≡ self.old.sectors }
+        ensures failed { self.new.failed ≡ self.old.failed }
+        ensures buffer { OnErr result (self.new.writes ≡ self.old.writes) }
+        ensures written { OnOk result (Empties self.old self.new.file) }
+        ensures emptied { OnOk result (IsEmpty self.new) }
+        ensures none { OnOk result (self.new.writes.contents.items ≡ []) }
+    {
+        if self.writes.contents.is_empty() {
+            return Ok(());
+        }
+        self.ahead.clear();
+        write_at(&mut self.file, self.writes.start, &self.writes.contents)?;
+        self.writes.clear();
+        Ok(())
+    }
+
+    pub(super) fn put(&mut self, n: u64, from: &[u8; 512]) -> io::Result<()>
+        requires { n < self.old.sectors }
+        ensures sectors { self.new.sectors ≡ self.old.sectors }
+        ensures failed { self.new.failed ≡ self.old.failed }
+        ensures ok { OnOk result (Buffers self.old n from.now self.new ⊎ BuffersAnew self.old n from.now self.new) }
+        ensures err { OnErr result (LosesNone self.old self.new) }
+    {
+        if self.writes.replace(n, from) || self.writes.append(n, from) {
+            return Ok(());
+        }
+        self.flush()?;
+        if self.writes.append(n, from) {
+            return Ok(());
+        }
+        // there is no memory for it
+        self.ahead.clear();
+        write_at(&mut self.file, n, &[*from])
+    }
+
+    pub(super) fn get(&mut self, n: u64, to: &mut [u8; 512]) -> io::Result<()>
+        requires { n < self.old.sectors }
+        ensures sectors { self.new.sectors ≡ self.old.sectors }
+        ensures failed { self.new.failed ≡ self.old.failed }
+        ensures writes { self.new.writes ≡ self.old.writes }
+        ensures buffered { IfSome (buffered self.old n) (λ c. (is_ok result ≡ true) × (to.new ≡ c) × (self.new.file ≡ self.old.file)) }
+    {
+        if self.writes.get(n).is_none() && self.ahead.get(n).is_none() {
+            self.read_ahead(n);
+        }
+        match self.writes.get(n).or(self.ahead.get(n)) {
+            Some(content) => *to = *content,
+            None => {
+                let mut contents = [[0; 512]];
+                read_at(&mut self.file, n, &mut contents)?;
+                *to = contents[0];
+            }
+        }
+        Ok(())
+    }
+
+    // Reads this sector and some after it, if there is memory for them and the file gives them.
+    fn read_ahead(&mut self, n: u64)
+        requires { n < self.old.sectors }
+        ensures sectors { self.new.sectors ≡ self.old.sectors }
+        ensures failed { self.new.failed ≡ self.old.failed }
+        ensures writes { self.new.writes ≡ self.old.writes }
+    {
+        let count = if self.ahead.ends_before(n) {
+            (2 * self.ahead.contents.len()).clamp(FIRST_READ, MOST)
+        } else {
+            FIRST_READ
+        };
+        let count = count.min((self.sectors - n) as usize);
+        self.ahead.start = n;
+        if self.ahead.contents.resize(count, [0; 512]).is_err()
+            || read_at(&mut self.file, n, &mut self.ahead.contents).is_err()
+        {
+            self.ahead.clear();
+        }
+    }
+
+    // Has the system bring all that was written to the disk.
+    pub(super) fn sync_file(&mut self) -> io::Result<()>
+        ensures sectors { self.new.sectors ≡ self.old.sectors }
+        ensures failed { self.new.failed ≡ self.old.failed }
+        ensures written { OnOk result (Empties self.old self.new.file) }
+        ensures emptied { OnOk result (IsEmpty self.new) }
+        ensures err { OnErr result (LosesNone self.old self.new) }
+    {
+        self.flush()?;
+        self.file.sync_data()
+    }
+
+    pub(super) fn counted(&mut self, done: io::Result<()>) -> Result<(), DevError>
+        ensures sectors { self.new.sectors ≡ self.old.sectors }
+        ensures writes { self.new.writes ≡ self.old.writes }
+        ensures file { self.new.file ≡ self.old.file }
+        ensures ok { is_ok result ≡ is_ok done }
+        ensures count { Counts self.old.failed self.new.failed result }
+        ensures error { IfErr result (λ e. e ≡ DevError.Failed) }
+    {
+        match done {
+            Ok(()) => Ok(()),
+            Err(_) => {
+                self.failed = self.failed.saturating_add(1);
+                Err(DevError::Failed)
+            }
+        }
+    }
+}

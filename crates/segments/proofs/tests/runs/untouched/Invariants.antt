@@ -1,6 +1,0 @@
-use Rattle.std.proofs.Common.{◌≡◌}
-use Rattle.sector_dev.specs.View.{size_of}
-use Rattle.segments.proofs.tests.runs.untouched.Given as goal
-
-abbrev pub invariant-loop-n : goal.invariant-loop-n
-invariant-loop-n l = size_of l.device ≡ 16

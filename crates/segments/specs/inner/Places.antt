@@ -1,0 +1,22 @@
+-- Where the entry of a run stands among those in order.
+use Rattle.std.specs.Prelude.{◌≡◌, ◌<◌, ℕ, suc, nat_lt, if◌then◌else◌, List, [], ◌∷◌, length, get_or}
+use Rattle.segments.specs.declared.run.Run.{Run}
+use Rattle.segments.specs.declared.entries.UsageEntry.{UsageEntry}
+use Rattle.segments.specs.Runs.{IsApart}
+use Rattle.segments.specs.Usages.{UNUSED, usage_of}
+
+-- how many entries stand before one that starts here
+abbrev pub place_of : ℕ → List UsageEntry → ℕ
+place_of start [] = 0
+place_of start (e ∷ es) = if nat_lt e.run.start start then suc (place_of start es) else 0
+
+-- a run meets none of these
+abbrev pub ApartEach : Run → List UsageEntry → Type 0
+ApartEach run [] = Unit {0}
+ApartEach run (e ∷ es) = IsApart run e.run × ApartEach run es
+
+-- the entry at a place is the run's
+pub record HasEntryAt (es : List UsageEntry) (run : Run) (place : ℕ) : Type 0 where
+  pub within : place < length es
+  pub is : (get_or es place (record { run = run; usage = UNUSED })).run ≡ run
+  pub usage : (get_or es place (record { run = run; usage = UNUSED })).usage ≡ usage_of es run

@@ -1,0 +1,263 @@
+// Other devices that keep the laws: one that tells nothing, two that tell all, and one that tells what another one does.
+ghost use Rattle.std.specs.Prelude.{◌≡◌, ◌+◌, ◌-◌, ◌^◌, min, Err, false, true, [], ◌∷◌};
+ghost use Rattle.std.proofs.Common.{sym};
+ghost use Rattle.std.proofs.lemmas.Bool.{true≢false};
+ghost use Rattle.sector_dev.specs.Disk.{blank};
+ghost use Rattle.sector_dev.specs.laws.Crash.{blank_shows, blank_whole};
+ghost use Rattle.test_device.specs.Life.{story_of, story_shows, story_begun, story_whole, SpeaksOfContents, speaks_prop};
+
+use crate::calls::{byte_of, fill, read};
+use sector_dev::{DevError, ModelDevice, SectorDevice};
+use std::process::Abort;
+use std::test::Fail;
+
+// It tells nothing, and forgets what is written.
+#[derive(Drop)]
+struct Silent;
+
+impl SectorDevice for Silent {
+    ghost size = { λ _. 16 };
+
+    ghost failed = { λ _. 0 };
+
+    ghost tells = { false };
+
+    ghost story = { λ _. [] };
+
+    ghost shows = { λ _ told. blank_shows };
+
+    ghost begun = { λ _ told. absurd (true≢false (sym told)) };
+
+    ghost contents = { λ _ told. tt };
+
+    fn sectors(&self) -> u64 {
+        16
+    }
+
+    fn failures(&self) -> u64 {
+        0
+    }
+
+    fn read(&mut self, _n: u64, _to: &mut [u8; 512]) -> Result<(), DevError> {
+        Err(DevError::Unreadable)
+    }
+
+    fn write(&mut self, _n: u64, _from: &[u8; 512]) -> Result<(), DevError> {
+        Ok(())
+    }
+
+    fn sync(&mut self) -> Result<(), DevError> {
+        Ok(())
+    }
+}
+
+// No call of it begins, so that its disk stays as it is. It counts them up to the greatest number.
+#[derive(Drop)]
+struct Broken {
+    failed: u64,
+}
+
+impl Broken {
+    fn refuse(&mut self) -> Result<(), DevError>
+        ensures { (result ≡ Err DevError.Failed) × (self.new.failed ≡ min (self.old.failed + 1) (2 ^ 64 - 1)) }
+    {
+        self.failed = self.failed.saturating_add(1);
+        Err(DevError::Failed)
+    }
+}
+
+impl SectorDevice for Broken {
+    ghost size = { λ _. 16 };
+
+    ghost failed = { λ b. b.failed };
+
+    ghost tells = { true };
+
+    ghost story = { λ _. blank ∷ [] };
+
+    ghost shows = { λ _ told. blank_shows };
+
+    ghost begun = { λ _ told none. cc none };
+
+    ghost contents = { λ _ told. (blank_whole, tt) };
+
+    fn sectors(&self) -> u64 {
+        16
+    }
+
+    fn failures(&self) -> u64 {
+        self.failed
+    }
+
+    fn read(&mut self, _n: u64, _to: &mut [u8; 512]) -> Result<(), DevError> {
+        self.refuse()
+    }
+
+    fn write(&mut self, _n: u64, _from: &[u8; 512]) -> Result<(), DevError> {
+        self.refuse()
+    }
+
+    fn sync(&mut self) -> Result<(), DevError> {
+        self.refuse()
+    }
+}
+
+// The one write and the one read that a device has room for.
+#[derive(Clone, Copy)]
+enum Life {
+    Fresh,
+    Written(u64, [u8; 512]),
+    Read(u64, [u8; 512]),
+}
+
+// No other call of it begins. A sector that was not written can't be read.
+#[derive(Drop)]
+struct Brief {
+    life: Life,
+    failed: u64,
+    ghost content: { SpeaksOfContents life } by { speaks_prop life },
+}
+
+impl Brief {
+    fn refuse(&mut self) -> Result<(), DevError>
+        ensures error { result ≡ Err DevError.Failed }
+        ensures count { self.new.failed ≡ min (self.old.failed + 1) (2 ^ 64 - 1) }
+        ensures life { self.new.life ≡ self.old.life }
+    {
+        self.failed = self.failed.saturating_add(1);
+        Err(DevError::Failed)
+    }
+}
+
+impl SectorDevice for Brief {
+    ghost size = { λ _. 16 };
+
+    ghost failed = { λ b. b.failed };
+
+    ghost tells = { true };
+
+    ghost story = { λ b. story_of b.life };
+
+    ghost shows = { λ b told. story_shows b.life };
+
+    ghost begun = { λ b told. story_begun b.life };
+
+    ghost contents = { λ b told. story_whole b.life b.content };
+
+    fn sectors(&self) -> u64 {
+        16
+    }
+
+    fn failures(&self) -> u64 {
+        self.failed
+    }
+
+    fn read(&mut self, n: u64, to: &mut [u8; 512]) -> Result<(), DevError> {
+        match self.life {
+            Life::Written(at, content) if at == n => {
+                *to = content;
+                self.life = Life::Read(at, content);
+                Ok(())
+            }
+            _ => self.refuse(),
+        }
+    }
+
+    fn write(&mut self, n: u64, from: &[u8; 512]) -> Result<(), DevError> {
+        match self.life {
+            Life::Fresh => {
+                self.life = Life::Written(n, *from);
+                Ok(())
+            }
+            _ => self.refuse(),
+        }
+    }
+
+    fn sync(&mut self) -> Result<(), DevError> {
+        self.refuse()
+    }
+}
+
+// It counts the calls of another device.
+#[derive(Drop)]
+struct Counting<D: SectorDevice + Drop> {
+    device: D,
+    calls: u64,
+}
+
+impl<D: SectorDevice + Drop> SectorDevice for Counting<D> {
+    ghost size = { λ c. D.size c.device };
+
+    ghost failed = { λ c. D.failed c.device };
+
+    ghost tells = { D.tells };
+
+    ghost story = { λ c. D.story c.device };
+
+    ghost shows = { λ c told. D.shows c.device told };
+
+    ghost begun = { λ c told. D.begun c.device told };
+
+    ghost contents = { λ c told. D.contents c.device told };
+
+    fn sectors(&self) -> u64 {
+        self.device.sectors()
+    }
+
+    fn failures(&self) -> u64 {
+        self.device.failures()
+    }
+
+    fn read(&mut self, n: u64, to: &mut [u8; 512]) -> Result<(), DevError> {
+        self.calls = self.calls.wrapping_add(1);
+        self.device.read(n, to)
+    }
+
+    fn write(&mut self, n: u64, from: &[u8; 512]) -> Result<(), DevError> {
+        self.calls = self.calls.wrapping_add(1);
+        self.device.write(n, from)
+    }
+
+    fn sync(&mut self) -> Result<(), DevError> {
+        self.calls = self.calls.wrapping_add(1);
+        self.device.sync()
+    }
+}
+
+// Writes, syncs and reads a sector.
+fn use_once<D: SectorDevice>(rt: &impl Abort, device: &mut D) -> [Result<(), DevError>; 3] {
+    let written = fill(rt, device, 3, 1);
+    let synced = device.sync();
+    [written, synced, read(rt, device, 3, &mut [0; 512])]
+}
+
+// Whether a fresh device that can be written once and read once answers as it is to.
+fn is_brief(rt: &impl Abort) -> bool {
+    let mut brief = Brief {
+        life: Life::Fresh,
+        failed: 0,
+    };
+    fill(rt, &mut brief, 5, 7).is_ok()
+        && byte_of(rt, &mut brief, 5) == Ok(7)
+        && use_once(rt, &mut brief) == [Err(DevError::Failed); 3]
+        && brief.failures() == 3
+}
+
+// Whether a device near the greatest count stays there.
+fn is_broken(rt: &impl Abort) -> bool {
+    let mut broken = Broken {
+        failed: u64::MAX - 1,
+    };
+    use_once(rt, &mut broken) == [Err(DevError::Failed); 3] && broken.failures() == u64::MAX
+}
+
+#[test]
+fn each_kind_of_device_is_called(rt: HostRuntime) -> Result<(), Fail> {
+    let silent = use_once(&rt, &mut Silent) == [Ok(()), Ok(()), Err(DevError::Unreadable)];
+    assert!(&rt; silent && is_broken(&rt) && is_brief(&rt));
+    let device = ModelDevice::new(rt.alloc(), 16)?;
+    let mut counting = Counting { device, calls: 0 };
+    let counted = use_once(&rt, &mut counting) == [Ok(()); 3] && counting.calls == 3;
+    assert!(&rt; counted);
+    Ok(())
+}
