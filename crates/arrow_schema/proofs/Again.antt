@@ -6,19 +6,19 @@ use Rattle.std.proofs.lemmas.List.{append_assoc, append-nil}
 use Rattle.std.proofs.lemmas.Bool.{both_ways}
 use Rattle.std.proofs.lemmas.Bool.Decides.{nat_tests}
 use Rattle.facts.specs.laws.Levels.{nat_le_max}
-use Rattle.arrow_schema.specs.declared.texts.keyword.Keyword.TheVariants as words
+use Rattle.arrow_schema.specs.declared.texts.keyword.Keyword.TheVariants as keywords
 use Rattle.arrow_schema.specs.Column.{Index, Pair, Kind, nulls, booleans, integers, dates, timestamps, texts, large_texts, binaries, large_binaries, fixed_binaries, lists, large_lists, fixed_lists, structs, Column, Columns, column, no_column, and_column, columns_of, list_of}
 use Rattle.arrow_schema.specs.Limits.{is_nested}
 use Rattle.arrow_schema.specs.Preorder.{depth, depth_below, depth_all}
 use Rattle.arrow_schema.specs.Keywords.{number_text, keyword_text}
-use Rattle.arrow_schema.specs.FieldText.{plain, mark, with_dictionary, type_text, item_text, field_text, fields_text, more_text}
+use Rattle.arrow_schema.specs.FieldText.{plain, nullable_suffix, with_dictionary, type_text, item_text, field_text, fields_text, more_text}
 use Rattle.arrow_schema.specs.Typed.{IsSize, IsTypedDictionary, IsTypedKind, IsTypedItem, IsTypedField, AreTyped}
-use Rattle.arrow_schema.specs.Scan.{stripped, within_word, is_marked, after_mark}
-use Rattle.arrow_schema.specs.Build.{Reader, item_from, field_from, more_from, fields_from, parts_from, column_from, column_at}
-use Rattle.arrow_schema.proofs.Words.{bracket, parenthesis}
-use Rattle.arrow_schema.proofs.Fronts.{name_again}
-use Rattle.arrow_schema.proofs.Flats.{three, within_kind, list_front, large_list_front, fixed_list_front, struct_front}
-use Rattle.arrow_schema.proofs.Steps.{four, Stops, marked, unmarked, flat_read, more_stops, stops_at_end, stops_at, stops_at_parenthesis, name_of, field_name, field_is}
+use Rattle.arrow_schema.specs.inner.Scan.{stripped, capped_number, has_nullable_suffix, after_nullable_suffix}
+use Rattle.arrow_schema.specs.inner.Build.{Reader, item_from, field_from, more_from, fields_from, parts_from, column_from, column_at}
+use Rattle.arrow_schema.proofs.Keywords.{bracket, parenthesis}
+use Rattle.arrow_schema.proofs.Openings.{name_again}
+use Rattle.arrow_schema.proofs.Flats.{three, within_kind, list_opening, large_list_opening, fixed_list_opening, struct_opening}
+use Rattle.arrow_schema.proofs.Steps.{four, Stops, with_suffix, without_suffix, flat_read, more_stops, stops_at_end, stops_at, stops_at_parenthesis, name_of, field_name, field_is}
 use Rattle.arrow_schema.proofs.Moves.{not_closed}
 
 no_level : (d : ℕ) → nat_le (1 + d) 0 ≡ false
@@ -30,7 +30,7 @@ level d n = grind (arith, nat_tests)
 pub always : (n : ℕ) → nat_le 0 n ≡ true
 always n = grind (arith, nat_tests)
 
-within_same : (n : ℕ) → IsSize true n → within_word n ≡ n
+within_same : (n : ℕ) → IsSize true n → capped_number n ≡ n
 within_same n h = let small : n < 2 ^ 31 = h refl in omega (arith, small)
 
 kind_same : (k : Kind) → IsTypedKind true k → within_kind k ≡ k
@@ -52,12 +52,12 @@ kind_same (structs parts) h = refl
 
 -- what the code makes of the parts of a column
 abbrev finished : List ℕ → (Kind × Option Index) × List ℕ → Column × List ℕ
-finished name q = (column name (is_marked q.1) q.0.0 q.0.1 [], after_mark q.1)
+finished name q = (column name (has_nullable_suffix q.1) q.0.0 q.0.1 [], after_nullable_suffix q.1)
 
 flat_built : (read : Reader) (name : List ℕ) (m : Bool) (k : Kind) (d : Option Index) (rest : List ℕ) → IsTypedKind true k → is_nested k ≡ false → IsTypedDictionary d k → Stops rest
-    → column_from read name (with_dictionary d (type_text plain k) ++ mark m ++ rest) ≡ Some (column name m k d [], rest)
+    → column_from read name (with_dictionary d (type_text plain k) ++ nullable_suffix m ++ rest) ≡ Some (column name m k d [], rest)
 unfolding column_from parts_from
-flat_built read name m k d rest typed e dict s = rw (flat_read true m k d rest typed e dict s, marked m rest s, unmarked m rest s, kind_same k typed) refl
+flat_built read name m k d rest typed e dict s = rw (flat_read true m k d rest typed e dict s, with_suffix m rest s, without_suffix m rest s, kind_same k typed) refl
 
 abbrev wrapped : (Column → Kind) → Column × List ℕ → (Kind × Option Index) × List ℕ
 wrapped wrap p = ((wrap p.0, None), p.1)
@@ -71,10 +71,10 @@ grouped p = ((structs (columns_of p.0), None), p.1)
 abbrev preceded : Column → List Column × List ℕ → List Column × List ℕ
 preceded c q = (c ∷ q.0, q.1)
 
-item_by : (wrap : Column → Kind) (name : List ℕ) (item : Column) (m fits : Bool) (close rest : List ℕ) (o : Option (Column × List ℕ)) → Stops rest → stripped close (close ++ (mark m ++ rest)) ≡ Some (mark m ++ rest)
-    → o ≡ cond fits (Some (item, close ++ (mark m ++ rest))) None
+item_by : (wrap : Column → Kind) (name : List ℕ) (item : Column) (m fits : Bool) (close rest : List ℕ) (o : Option (Column × List ℕ)) → Stops rest → stripped close (close ++ (nullable_suffix m ++ rest)) ≡ Some (nullable_suffix m ++ rest)
+    → o ≡ cond fits (Some (item, close ++ (nullable_suffix m ++ rest))) None
     → option_map (finished name) (option_map (wrapped wrap) (option_and_then (bracketed close) o)) ≡ cond fits (Some (column name m (wrap item) None [], rest)) None
-item_by wrap name item m true close rest o s back e = rw (e, back, marked m rest s, unmarked m rest s) refl
+item_by wrap name item m true close rest o s back e = rw (e, back, with_suffix m rest s, without_suffix m rest s) refl
 item_by wrap name item m false close rest o s back e = rw e refl
 
 -- a column under another name, without pairs
@@ -122,9 +122,9 @@ columns_list : (cs : Columns) → columns_of (list_of cs) ≡ cs
 columns_list no_column = refl
 columns_list (and_column c cs) = ap (and_column c) (columns_list cs)
 
-struct_by : (name : List ℕ) (m fits : Bool) (parts : Columns) (rest : List ℕ) (o : Option (List Column × List ℕ)) → Stops rest → o ≡ cond fits (Some (list_of parts, mark m ++ rest)) None
+struct_by : (name : List ℕ) (m fits : Bool) (parts : Columns) (rest : List ℕ) (o : Option (List Column × List ℕ)) → Stops rest → o ≡ cond fits (Some (list_of parts, nullable_suffix m ++ rest)) None
     → option_map (finished name) (option_map grouped o) ≡ cond fits (Some (column name m (structs parts) None [], rest)) None
-struct_by name m true parts rest o s e = rw (e, marked m rest s, unmarked m rest s, columns_list parts) refl
+struct_by name m true parts rest o s e = rw (e, with_suffix m rest s, without_suffix m rest s, columns_list parts) refl
 struct_by name m false parts rest o s e = rw e refl
 
 count_more : (cs : Columns) → length (list_of cs) ≤ length (more_text plain cs)
@@ -155,26 +155,26 @@ fields_one read text e = rw e refl
 field_open : (c : Column) (rest : List ℕ) → IsTypedField true c → stripped (codes ">") (field_text plain c ++ rest) ≡ None
 field_open c rest typed = ap (stripped (codes ">")) (field_text_is c rest) ∙ not_closed (name_of c) (58 ∷ (item_text plain c ++ rest)) (field_name true c typed)
 
-list_built : (read : Reader) (name after : List ℕ) (m fits : Bool) (item : Column) (rest : List ℕ) → Stops rest → read (codes "item") after ≡ cond fits (Some (item, 62 ∷ (mark m ++ rest))) None
-    → column_from read name (keyword_text words.List ++ after) ≡ cond fits (Some (column name m (lists item) None [], rest)) None
+list_built : (read : Reader) (name after : List ℕ) (m fits : Bool) (item : Column) (rest : List ℕ) → Stops rest → read (codes "item") after ≡ cond fits (Some (item, 62 ∷ (nullable_suffix m ++ rest))) None
+    → column_from read name (keyword_text keywords.List ++ after) ≡ cond fits (Some (column name m (lists item) None [], rest)) None
 unfolding column_from parts_from item_from
-list_built read name after m fits item rest s e = rw (list_front true after) (item_by lists name item m fits (62 ∷ []) rest (read (codes "item") after) s (bracket (mark m ++ rest)) e)
+list_built read name after m fits item rest s e = rw (list_opening true after) (item_by lists name item m fits (62 ∷ []) rest (read (codes "item") after) s (bracket (nullable_suffix m ++ rest)) e)
 
-large_list_built : (read : Reader) (name after : List ℕ) (m fits : Bool) (item : Column) (rest : List ℕ) → Stops rest → read (codes "item") after ≡ cond fits (Some (item, 62 ∷ (mark m ++ rest))) None
-    → column_from read name (keyword_text words.LargeList ++ after) ≡ cond fits (Some (column name m (large_lists item) None [], rest)) None
+large_list_built : (read : Reader) (name after : List ℕ) (m fits : Bool) (item : Column) (rest : List ℕ) → Stops rest → read (codes "item") after ≡ cond fits (Some (item, 62 ∷ (nullable_suffix m ++ rest))) None
+    → column_from read name (keyword_text keywords.LargeList ++ after) ≡ cond fits (Some (column name m (large_lists item) None [], rest)) None
 unfolding column_from parts_from item_from
-large_list_built read name after m fits item rest s e = rw (large_list_front true after) (item_by large_lists name item m fits (62 ∷ []) rest (read (codes "item") after) s (bracket (mark m ++ rest)) e)
+large_list_built read name after m fits item rest s e = rw (large_list_opening true after) (item_by large_lists name item m fits (62 ∷ []) rest (read (codes "item") after) s (bracket (nullable_suffix m ++ rest)) e)
 
-fixed_list_built : (read : Reader) (n : ℕ) (name after : List ℕ) (m fits : Bool) (item : Column) (rest : List ℕ) → IsSize true n → Stops rest → read (codes "item") after ≡ cond fits (Some (item, 41 ∷ (mark m ++ rest))) None
-    → column_from read name (keyword_text words.FixedList ++ (number_text n ++ 44 ∷ after)) ≡ cond fits (Some (column name m (fixed_lists n item) None [], rest)) None
+fixed_list_built : (read : Reader) (n : ℕ) (name after : List ℕ) (m fits : Bool) (item : Column) (rest : List ℕ) → IsSize true n → Stops rest → read (codes "item") after ≡ cond fits (Some (item, 41 ∷ (nullable_suffix m ++ rest))) None
+    → column_from read name (keyword_text keywords.FixedList ++ (number_text n ++ 44 ∷ after)) ≡ cond fits (Some (column name m (fixed_lists n item) None [], rest)) None
 unfolding column_from parts_from item_from
 fixed_list_built read n name after m fits item rest small s e =
-    rw (fixed_list_front true n after small, within_same n small) (item_by (fixed_lists n) name item m fits (41 ∷ []) rest (read (codes "item") after) s (parenthesis (mark m ++ rest)) e)
+    rw (fixed_list_opening true n after small, within_same n small) (item_by (fixed_lists n) name item m fits (41 ∷ []) rest (read (codes "item") after) s (parenthesis (nullable_suffix m ++ rest)) e)
 
-struct_built : (read : Reader) (name after : List ℕ) (m fits : Bool) (parts : Columns) (rest : List ℕ) → Stops rest → fields_from read after ≡ cond fits (Some (list_of parts, mark m ++ rest)) None
-    → column_from read name (keyword_text words.Struct ++ after) ≡ cond fits (Some (column name m (structs parts) None [], rest)) None
+struct_built : (read : Reader) (name after : List ℕ) (m fits : Bool) (parts : Columns) (rest : List ℕ) → Stops rest → fields_from read after ≡ cond fits (Some (list_of parts, nullable_suffix m ++ rest)) None
+    → column_from read name (keyword_text keywords.Struct ++ after) ≡ cond fits (Some (column name m (structs parts) None [], rest)) None
 unfolding column_from parts_from
-struct_built read name after m fits parts rest s e = rw (struct_front true after) (struct_by name m fits parts rest (fields_from read after) s e)
+struct_built read name after m fits parts rest s e = rw (struct_opening true after) (struct_by name m fits parts rest (fields_from read after) s e)
 
 item_kept : (item : Column) (l : ℕ) (rest : List ℕ) (o : Option (Column × List ℕ)) → IsTypedItem true item → o ≡ cond (nat_le (depth item) l) (Some (bare (codes "item") item, rest)) None → o ≡ cond (nat_le (depth item) l) (Some (item, rest)) None
 item_kept item l rest o typed e = e ∙ ap (λ (c : Column). cond (nat_le (depth item) l) (Some (c, rest)) None) (bare_item item typed)
@@ -187,7 +187,7 @@ mutual
   column_again (column old m k d pairs) (suc l) name rest h s = rw (level (depth_below k) l) (kind_again k l name m d rest h.0 h.1 s)
 
   kind_again : (k : Kind) (l : ℕ) (name : List ℕ) (m : Bool) (d : Option Index) (rest : List ℕ) → IsTypedDictionary d k → IsTypedKind true k → Stops rest
-      → column_from (column_at l) name (with_dictionary d (type_text plain k) ++ mark m ++ rest) ≡ cond (nat_le (depth_below k) l) (Some (column name m k d [], rest)) None
+      → column_from (column_at l) name (with_dictionary d (type_text plain k) ++ nullable_suffix m ++ rest) ≡ cond (nat_le (depth_below k) l) (Some (column name m k d [], rest)) None
   kind_again nulls l name m d rest dict typed s = rw (always l) (flat_built (column_at l) name m nulls d rest typed refl dict s)
   kind_again booleans l name m d rest dict typed s = rw (always l) (flat_built (column_at l) name m booleans d rest typed refl dict s)
   kind_again (integers bits signed) l name m d rest dict typed s = rw (always l) (flat_built (column_at l) name m (integers bits signed) d rest typed refl dict s)
@@ -203,21 +203,21 @@ mutual
   kind_again (fixed_lists n item) l name m (Some index) rest dict typed s = absurd (both_ways true dict.1 refl)
   kind_again (structs parts) l name m (Some index) rest dict typed s = absurd (both_ways true dict.1 refl)
   kind_again (lists item) l name m None rest dict typed s =
-      let close : List ℕ = 62 ∷ (mark m ++ rest) in
-      ap (column_from (column_at l) name) (four (keyword_text words.List) (item_text plain item) (62 ∷ []) (mark m) rest)
-      ∙ list_built (column_at l) name (item_text plain item ++ close) m (nat_le (depth item) l) item rest s (item_kept item l close _ typed (column_again item l (codes "item") close (item_body item typed) (stops_at close (mark m ++ rest) refl)))
+      let close : List ℕ = 62 ∷ (nullable_suffix m ++ rest) in
+      ap (column_from (column_at l) name) (four (keyword_text keywords.List) (item_text plain item) (62 ∷ []) (nullable_suffix m) rest)
+      ∙ list_built (column_at l) name (item_text plain item ++ close) m (nat_le (depth item) l) item rest s (item_kept item l close _ typed (column_again item l (codes "item") close (item_body item typed) (stops_at close (nullable_suffix m ++ rest) refl)))
   kind_again (large_lists item) l name m None rest dict typed s =
-      let close : List ℕ = 62 ∷ (mark m ++ rest) in
-      ap (column_from (column_at l) name) (four (keyword_text words.LargeList) (item_text plain item) (62 ∷ []) (mark m) rest)
-      ∙ large_list_built (column_at l) name (item_text plain item ++ close) m (nat_le (depth item) l) item rest s (item_kept item l close _ typed (column_again item l (codes "item") close (item_body item typed) (stops_at close (mark m ++ rest) refl)))
+      let close : List ℕ = 62 ∷ (nullable_suffix m ++ rest) in
+      ap (column_from (column_at l) name) (four (keyword_text keywords.LargeList) (item_text plain item) (62 ∷ []) (nullable_suffix m) rest)
+      ∙ large_list_built (column_at l) name (item_text plain item ++ close) m (nat_le (depth item) l) item rest s (item_kept item l close _ typed (column_again item l (codes "item") close (item_body item typed) (stops_at close (nullable_suffix m ++ rest) refl)))
   kind_again (fixed_lists n item) l name m None rest dict typed s =
-      let close : List ℕ = 41 ∷ (mark m ++ rest) in
-      ap (column_from (column_at l) name) (four (keyword_text words.FixedList ++ number_text n ++ codes ",") (item_text plain item) (41 ∷ []) (mark m) rest ∙ three (keyword_text words.FixedList) (number_text n) (44 ∷ []) (item_text plain item ++ close))
+      let close : List ℕ = 41 ∷ (nullable_suffix m ++ rest) in
+      ap (column_from (column_at l) name) (four (keyword_text keywords.FixedList ++ number_text n ++ codes ",") (item_text plain item) (41 ∷ []) (nullable_suffix m) rest ∙ three (keyword_text keywords.FixedList) (number_text n) (44 ∷ []) (item_text plain item ++ close))
       ∙ fixed_list_built (column_at l) n name (item_text plain item ++ close) m (nat_le (depth item) l) item rest typed.0 s
-      (item_kept item l close _ typed.1 (column_again item l (codes "item") close (item_body item typed.1) (stops_at_parenthesis close (mark m ++ rest) refl)))
+      (item_kept item l close _ typed.1 (column_again item l (codes "item") close (item_body item typed.1) (stops_at_parenthesis close (nullable_suffix m ++ rest) refl)))
   kind_again (structs parts) l name m None rest dict typed s =
-      ap (column_from (column_at l) name) (four (keyword_text words.Struct) (fields_text plain parts) (62 ∷ []) (mark m) rest)
-      ∙ struct_built (column_at l) name (fields_text plain parts ++ 62 ∷ (mark m ++ rest)) m (nat_le (depth_all parts) l) parts rest s (fields_again parts l (mark m ++ rest) typed)
+      ap (column_from (column_at l) name) (four (keyword_text keywords.Struct) (fields_text plain parts) (62 ∷ []) (nullable_suffix m) rest)
+      ∙ struct_built (column_at l) name (fields_text plain parts ++ 62 ∷ (nullable_suffix m ++ rest)) m (nat_le (depth_all parts) l) parts rest s (fields_again parts l (nullable_suffix m ++ rest) typed)
 
   fields_again : (parts : Columns) (l : ℕ) (rest : List ℕ) → AreTyped true parts → fields_from (column_at l) (fields_text plain parts ++ 62 ∷ rest) ≡ cond (nat_le (depth_all parts) l) (Some (list_of parts, rest)) None
   fields_again no_column l rest typed = rw (always l) (fields_none (column_at l) rest)

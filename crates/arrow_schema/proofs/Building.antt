@@ -5,8 +5,8 @@ use Rattle.std.proofs.lemmas.List.{append-nil, append_assoc}
 use Rattle.arrow_schema.specs.declared.texts.build.BuildError.{BuildError}
 use Rattle.arrow_schema.specs.declared.texts.build.BuildError.TheVariants.{Unread, Memory}
 use Rattle.arrow_schema.specs.Column.{Column}
-use Rattle.arrow_schema.specs.Scan.{stripped}
-use Rattle.arrow_schema.specs.Build.{Builds, Reader, field_from, more_from, with_front, column_from, column_at}
+use Rattle.arrow_schema.specs.inner.Scan.{stripped}
+use Rattle.arrow_schema.specs.inner.Build.{Builds, Reader, field_from, more_from, with_first, column_from, column_at}
 
 pub column_none : (levels : ℕ) (name text : List ℕ) → levels ≡ 0 → column_at levels name text ≡ None
 unfolding column_at
@@ -20,36 +20,36 @@ column_step (suc n) name text some = let down : suc n - 1 ≡ n = omega arith in
 step_of : (turns i : ℕ) → i < turns → turns - i ≡ suc (turns - (i + 1))
 step_of turns i h = omega (arith, h)
 
-pub more_closed : (read : Reader) (front : List Column) (turns i : ℕ) (text rest : List ℕ) → i < turns → stripped (codes ">") text ≡ Some rest
-    → with_front front (more_from read (turns - i) text) ≡ Some (front, rest)
+pub more_closed : (read : Reader) (opening : List Column) (turns i : ℕ) (text rest : List ℕ) → i < turns → stripped (codes ">") text ≡ Some rest
+    → with_first opening (more_from read (turns - i) text) ≡ Some (opening, rest)
 unfolding more_from
-more_closed read front turns i text rest h e = rw (step_of turns i h, e) (ap (λ (cs : List Column). Some (cs, rest)) (append-nil front))
+more_closed read opening turns i text rest h e = rw (step_of turns i h, e) (ap (λ (cs : List Column). Some (cs, rest)) (append-nil opening))
 
-pub more_ended : (read : Reader) (front : List Column) (turns i : ℕ) (text : List ℕ) → turns ≤ i → with_front front (more_from read (turns - i) text) ≡ None
+pub more_ended : (read : Reader) (opening : List Column) (turns i : ℕ) (text : List ℕ) → turns ≤ i → with_first opening (more_from read (turns - i) text) ≡ None
 unfolding more_from
-more_ended read front turns i text h = let none : turns - i ≡ 0 = omega (arith, h) in rw none refl
+more_ended read opening turns i text h = let none : turns - i ≡ 0 = omega (arith, h) in rw none refl
 
-pub more_lacks : (read : Reader) (front : List Column) (turns i : ℕ) (text : List ℕ) → i < turns → stripped (codes ">") text ≡ None → stripped (codes ",") text ≡ None
-    → with_front front (more_from read (turns - i) text) ≡ None
+pub more_lacks : (read : Reader) (opening : List Column) (turns i : ℕ) (text : List ℕ) → i < turns → stripped (codes ">") text ≡ None → stripped (codes ",") text ≡ None
+    → with_first opening (more_from read (turns - i) text) ≡ None
 unfolding more_from
-more_lacks read front turns i text h e f = rw (step_of turns i h, e, f) refl
+more_lacks read opening turns i text h e f = rw (step_of turns i h, e, f) refl
 
-unread : (read : Reader) (front : List Column) (turns i : ℕ) (text next : List ℕ) → i < turns → stripped (codes ">") text ≡ None → stripped (codes ",") text ≡ Some next
-    → field_from read next ≡ None → with_front front (more_from read (turns - i) text) ≡ None
+unread : (read : Reader) (opening : List Column) (turns i : ℕ) (text next : List ℕ) → i < turns → stripped (codes ">") text ≡ None → stripped (codes ",") text ≡ Some next
+    → field_from read next ≡ None → with_first opening (more_from read (turns - i) text) ≡ None
 unfolding more_from
-unread read front turns i text next h e f g = rw (step_of turns i h, e, f, g) refl
+unread read opening turns i text next h e f g = rw (step_of turns i h, e, f, g) refl
 
-pub more_fails : {X Y : Type 0} (view : X → Column × List ℕ) (views : Y → List Column × List ℕ) (err : BuildError) (read : Reader) (front : List Column) (turns i : ℕ) (text next : List ℕ) (all : Option (List Column × List ℕ))
+pub more_fails : {X Y : Type 0} (view : X → Column × List ℕ) (views : Y → List Column × List ℕ) (err : BuildError) (read : Reader) (opening : List Column) (turns i : ℕ) (text next : List ℕ) (all : Option (List Column × List ℕ))
     → i < turns → stripped (codes ">") text ≡ None → stripped (codes ",") text ≡ Some next → Builds view (Err err) (field_from read next)
-    → with_front front (more_from read (turns - i) text) ≡ all → Builds views (Err err) all
-more_fails view views Unread read front turns i text next all h e f g was = sym was ∙ unread read front turns i text next h e f g
-more_fails view views Memory read front turns i text next all h e f g was = tt
+    → with_first opening (more_from read (turns - i) text) ≡ all → Builds views (Err err) all
+more_fails view views Unread read opening turns i text next all h e f g was = sym was ∙ unread read opening turns i text next h e f g
+more_fails view views Memory read opening turns i text next all h e f g was = tt
 
-fused : (front : List Column) (c : Column) (o : Option (List Column × List ℕ)) → with_front front (option_map (λ q. (c ∷ q.0, q.1)) o) ≡ with_front (front ++ c ∷ []) o
-fused front c None = refl
-fused front c (Some q) = ap (λ (cs : List Column). Some (cs, q.1)) (sym (append_assoc front (c ∷ []) q.0))
+fused : (opening : List Column) (c : Column) (o : Option (List Column × List ℕ)) → with_first opening (option_map (λ q. (c ∷ q.0, q.1)) o) ≡ with_first (opening ++ c ∷ []) o
+fused opening c None = refl
+fused opening c (Some q) = ap (λ (cs : List Column). Some (cs, q.1)) (sym (append_assoc opening (c ∷ []) q.0))
 
-pub more_field : (read : Reader) (front : List Column) (turns i : ℕ) (text next after : List ℕ) (c : Column) → i < turns → stripped (codes ">") text ≡ None → stripped (codes ",") text ≡ Some next
-    → field_from read next ≡ Some (c, after) → with_front (front ++ c ∷ []) (more_from read (turns - (i + 1)) after) ≡ with_front front (more_from read (turns - i) text)
+pub more_field : (read : Reader) (opening : List Column) (turns i : ℕ) (text next after : List ℕ) (c : Column) → i < turns → stripped (codes ">") text ≡ None → stripped (codes ",") text ≡ Some next
+    → field_from read next ≡ Some (c, after) → with_first (opening ++ c ∷ []) (more_from read (turns - (i + 1)) after) ≡ with_first opening (more_from read (turns - i) text)
 unfolding more_from
-more_field read front turns i text next after c h e f g = sym (rw (step_of turns i h, e, f, g) (fused front c (more_from read (turns - (i + 1)) after)))
+more_field read opening turns i text next after c h e f g = sym (rw (step_of turns i h, e, f, g) (fused opening c (more_from read (turns - (i + 1)) after)))

@@ -7,7 +7,7 @@ use Rattle.arrow_schema.specs.declared.types.Field.{Field}
 use Rattle.arrow_schema.specs.declared.compare.Detail.{Detail}
 use Rattle.arrow_schema.specs.Column.{columns_of}
 use Rattle.arrow_schema.specs.View.{pair_of, column_of}
-use Rattle.arrow_schema.specs.Alike.{pairs_eq, pair_eq, alike, alike_all}
+use Rattle.arrow_schema.specs.inner.Alike.{pairs_eq, pair_eq, alike, alike_all}
 
 -- `==` of pairs of texts
 pub pairs-map : (xs ys : List (String Global × String Global)) → pointwise (λ p q. string_eq p.0 q.0 && string_eq p.1 q.1) xs ys ≡ pairs_eq (map pair_of xs) (map pair_of ys)

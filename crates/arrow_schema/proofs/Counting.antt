@@ -14,7 +14,7 @@ use Rattle.arrow_schema.specs.Column.{Column, columns_of, PlainSchema}
 use Rattle.arrow_schema.specs.View.{column_of}
 use Rattle.arrow_schema.specs.Preorder.{preorder, preorder_all, depth_all, every_column}
 use Rattle.arrow_schema.specs.Limits.{IsWithinLimits, first_exceeded, count_of_pairs, count_of_bytes, pairs_in, bytes_in, has_number_in_range, has_flat_dictionary}
-use Rattle.arrow_schema.specs.Tally.{saturated, tallied, tallied_one}
+use Rattle.arrow_schema.specs.inner.Tally.{saturated, tallied, tallied_one}
 use Rattle.arrow_schema.proofs.Sound.{IsSound}
 use Rattle.std.proofs.lemmas.List.Sums.{sum_by-cons, AllPass-from_list_all, list_all-from_AllPass}
 use Rattle.facts.specs.laws.Levels.{nat_le_max}
@@ -97,7 +97,7 @@ first_bytes s d f p b =
     let b' : nat_le (count_of_bytes s) MAX_TEXT_BYTES ≡ false = lt-leb _ _ b in
     rw (d, f', p', b') refl
 
--- what is told after the counts
+-- what is reported after the counts
 abbrev pub after_counts : Bool → Bool → Result (Unit {0}) SchemaError
 after_counts numbers dictionaries = if not numbers then Err Number else if not dictionaries then Err Dictionary else Ok tt
 

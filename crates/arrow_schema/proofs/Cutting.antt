@@ -5,7 +5,7 @@ use Rattle.std.proofs.lemmas.Bool.{ne_eqb, eq-eqb, eqb-true}
 use Rattle.std.proofs.lemmas.Bool.Decides.{nat_tests}
 use Rattle.std.proofs.lemmas.Str.Pattern.{split_parts, IsSplitOnceResult}
 use Rattle.std.specs.Str.Pattern.{FindsTextPrefix, StripsPrefix}
-use Rattle.arrow_schema.specs.Scan.{Reads, stripped, cut_at}
+use Rattle.arrow_schema.specs.inner.Scan.{Reads, stripped, cut_at}
 
 -- what a choice gave
 pub chosen : {A : Type 0} (b : Bool) (o : Option A) (r : A) → cond b o None ≡ Some r → (b ≡ true) × (o ≡ Some r)
@@ -27,19 +27,19 @@ stripped_is (x ∷ xs) (y ∷ ys) rest e =
     (λ k. sym (eqb-true x y both.0) k ∷ stripped_is xs ys rest both.1 k)
 
 -- where the byte is nowhere
-pub cut_none : (mark : ℕ) (xs : List ℕ) → ((i : ℕ) → i < length xs → get_or xs i 0 ≢ mark) → cut_at mark xs ≡ None
+pub cut_none : (delimiter : ℕ) (xs : List ℕ) → ((i : ℕ) → i < length xs → get_or xs i 0 ≢ delimiter) → cut_at delimiter xs ≡ None
 unfolding cut_at
-cut_none mark [] free = refl
-cut_none mark (x ∷ xs) free =
-    let other : (x == mark) ≡ false = ne_eqb x mark (free 0 (omega arith)) in
-    rw (other, cut_none mark xs (λ i h. free (suc i) (omega (arith, h)))) refl
+cut_none delimiter [] free = refl
+cut_none delimiter (x ∷ xs) free =
+    let other : (x == delimiter) ≡ false = ne_eqb x delimiter (free 0 (omega arith)) in
+    rw (other, cut_none delimiter xs (λ i h. free (suc i) (omega (arith, h)))) refl
 
-pub cut_some : (mark : ℕ) (xs ys : List ℕ) → ((i : ℕ) → i < length xs → get_or xs i 0 ≢ mark) → cut_at mark (xs ++ mark ∷ ys) ≡ Some (xs, ys)
+pub cut_some : (delimiter : ℕ) (xs ys : List ℕ) → ((i : ℕ) → i < length xs → get_or xs i 0 ≢ delimiter) → cut_at delimiter (xs ++ delimiter ∷ ys) ≡ Some (xs, ys)
 unfolding cut_at
-cut_some mark [] ys free = rw (eq-eqb mark mark refl) refl
-cut_some mark (x ∷ xs) ys free =
-    let other : (x == mark) ≡ false = ne_eqb x mark (free 0 (omega arith)) in
-    rw (other, cut_some mark xs ys (λ i h. free (suc i) (omega (arith, h)))) refl
+cut_some delimiter [] ys free = rw (eq-eqb delimiter delimiter refl) refl
+cut_some delimiter (x ∷ xs) ys free =
+    let other : (x == delimiter) ≡ false = ne_eqb x delimiter (free 0 (omega arith)) in
+    rw (other, cut_some delimiter xs ys (λ i h. free (suc i) (omega (arith, h)))) refl
 
 -- what the code's searches answer
 pub strip_reads : (xs text : List ℕ) (r : Option (Bor (List ℕ))) → MatchOption r ((rest : List ℕ) → text ≢ xs ++ rest) (λ x. text ≡ xs ++ x.now) → Reads (λ x. x.now) r (stripped xs text)
@@ -50,9 +50,9 @@ strip_reads xs text None h = strip_none (stripped xs text) refl
     strip_none (Some rest) e = absurd (h rest (stripped_is xs text rest (sym e)))
 strip_reads xs text (Some x) h = ap (stripped xs) h ∙ stripped-append xs x.now
 
-pub cut_reads : (mark : ℕ) (text : List ℕ) (r : Option (Bor (List ℕ) × Bor (List ℕ))) → IsSplitOnceResult mark text r → mark < 128 → Reads (λ p. (p.0.now, p.1.now)) r (cut_at mark text)
-cut_reads mark text None h low = cut_none mark text (split_parts mark text None h low)
-cut_reads mark text (Some x) h low = let k = split_parts mark text (Some x) h low in ap (cut_at mark) k.0 ∙ cut_some mark x.0.now x.1.now k.1
+pub cut_reads : (delimiter : ℕ) (text : List ℕ) (r : Option (Bor (List ℕ) × Bor (List ℕ))) → IsSplitOnceResult delimiter text r → delimiter < 128 → Reads (λ p. (p.0.now, p.1.now)) r (cut_at delimiter text)
+cut_reads delimiter text None h low = cut_none delimiter text (split_parts delimiter text None h low)
+cut_reads delimiter text (Some x) h low = let k = split_parts delimiter text (Some x) h low in ap (cut_at delimiter) k.0 ∙ cut_some delimiter x.0.now x.1.now k.1
 
 -- the clause of `strip_prefix` at a text
 pub found : (xs text : List ℕ) (r : Option (Bor (List ℕ))) → MatchOption r (FindsTextPrefix xs text None) (λ x. StripsPrefix (FindsTextPrefix xs) text x.now) → MatchOption r ((rest : List ℕ) → text ≢ xs ++ rest) (λ x. text ≡ xs ++ x.now)

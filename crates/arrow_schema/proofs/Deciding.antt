@@ -10,7 +10,7 @@ use Rattle.arrow_schema.specs.declared.compare.Detail.{Detail}
 use Rattle.arrow_schema.specs.declared.compare.Detail.TheVariants.{Shape, Whole}
 use Rattle.arrow_schema.specs.Column.{Index, Pair, DateKind, days, date_milliseconds, TimeKind, seconds, milliseconds, microseconds, nanoseconds, Kind, Column, Columns, nulls, booleans, integers, dates, timestamps, texts, large_texts, binaries, large_binaries, fixed_binaries, lists, large_lists, fixed_lists, structs, column, no_column, and_column, columns_of, PlainSchema}
 use Rattle.arrow_schema.specs.Shape.{seen, seen_kind, seen_all, seen_dictionary, seen_pairs, shape_of, HaveOneShape}
-use Rattle.arrow_schema.specs.Alike.{index_eq, dictionary_eq, pair_eq, pairs_eq, date_eq, time_number, alike, alike_kind, alike_all}
+use Rattle.arrow_schema.specs.inner.Alike.{index_eq, dictionary_eq, pair_eq, pairs_eq, date_eq, time_number, alike, alike_kind, alike_all}
 
 index_from_parts : (a b : Index) → a.bits ≡ b.bits → a.signed ≡ b.signed → a ≡ b
 index_from_parts a b p q =
@@ -118,14 +118,14 @@ mutual
   seen_whole_all no_column = refl
   seen_whole_all (and_column c cs) = ap (λ (x : Column). and_column x (seen_all Whole cs)) (seen_whole c) ∙ ap (λ (xs : Columns). and_column c xs) (seen_whole_all cs)
 
-pub shape_told : (r : Bool) (a b : PlainSchema) → r ≡ alike_all Shape (columns_of a.columns) (columns_of b.columns) → (r ≡ true) ↔ HaveOneShape a b
+pub shape_decided : (r : Bool) (a b : PlainSchema) → r ≡ alike_all Shape (columns_of a.columns) (columns_of b.columns) → (r ≡ true) ↔ HaveOneShape a b
 unfolding shape_of
-shape_told r a b e = Decides-at r _ e (alike_all_decides Shape (columns_of a.columns) (columns_of b.columns))
+shape_decided r a b e = Decides-at r _ e (alike_all_decides Shape (columns_of a.columns) (columns_of b.columns))
 
-pub equal_told : (r : Bool) (a b : Column) → r ≡ alike Whole a b → (r ≡ true) ↔ (a ≡ b)
-equal_told r a b e =
+pub equal_decided : (r : Bool) (a b : Column) → r ≡ alike Whole a b → (r ≡ true) ↔ (a ≡ b)
+equal_decided r a b e =
     Decides-like r (λ h. sym (seen_whole a) ∙ h ∙ seen_whole b) (λ h. seen_whole a ∙ h ∙ sym (seen_whole b)) (Decides-at r _ e (alike_decides Whole a b))
 
-pub equal_kind_told : (r : Bool) (a b : Kind) → r ≡ alike_kind Whole a b → (r ≡ true) ↔ (a ≡ b)
-equal_kind_told r a b e =
+pub equal_kind_decided : (r : Bool) (a b : Kind) → r ≡ alike_kind Whole a b → (r ≡ true) ↔ (a ≡ b)
+equal_kind_decided r a b e =
     Decides-like r (λ h. sym (seen_whole_kind a) ∙ h ∙ seen_whole_kind b) (λ h. seen_whole_kind a ∙ h ∙ sym (seen_whole_kind b)) (Decides-at r _ e (alike_kind_decides Whole a b))

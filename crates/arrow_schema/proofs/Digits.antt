@@ -8,7 +8,7 @@ use Rattle.std.proofs.lemmas.Bool.{ne_eqb, and_parts}
 use Rattle.std.proofs.lemmas.Bool.Decides.{nat_tests}
 use Rattle.std.proofs.lemmas.List.{append_assoc, append-nil}
 use Rattle.arrow_schema.specs.Keywords.{number_text}
-use Rattle.arrow_schema.specs.Scan.{is_digit, has_one_form, is_numeral, value, within_word}
+use Rattle.arrow_schema.specs.inner.Scan.{is_digit, has_one_form, is_numeral, value, capped_number}
 
 plus_back : (ds : List ℕ) → map (λ d. d - 48) (map (λ d. 48 + d) ds) ≡ ds
 plus_back [] = refl
@@ -86,27 +86,27 @@ below_ten (d ∷ ds) e =
 more_digits : (n : ℕ) (ds : List ℕ) → 0 < n → AllByRecursion (λ d. d < 10) ds → digits_of 10 (number_from_digits_after 10 n ds) ≡ digits_of 10 n ++ ds
 more_digits n [] some h = sym (append-nil (digits_of 10 n))
 more_digits n (d ∷ ds) some h =
-    let front : (n * 10 + d) / 10 ≡ n = omega (arith, h.0) in
+    let opening : (n * 10 + d) / 10 ≡ n = omega (arith, h.0) in
     let last : (n * 10 + d) % 10 ≡ d = omega (arith, h.0) in
-    more_digits (n * 10 + d) ds (omega (arith, some)) h.1 ∙ ap (λ (xs : List ℕ). xs ++ ds) (digits_of_step 10 (n * 10 + d) (omega arith) (omega (arith, some)) ∙ ap (λ m. digits_of 10 m ++ (n * 10 + d) % 10 ∷ []) front ∙ ap (λ m. digits_of 10 n ++ m ∷ []) last)
+    more_digits (n * 10 + d) ds (omega (arith, some)) h.1 ∙ ap (λ (xs : List ℕ). xs ++ ds) (digits_of_step 10 (n * 10 + d) (omega arith) (omega (arith, some)) ∙ ap (λ m. digits_of 10 m ++ (n * 10 + d) % 10 ∷ []) opening ∙ ap (λ m. digits_of 10 n ++ m ∷ []) last)
     ∙ append_assoc (digits_of 10 n) (d ∷ []) ds
 
 alone : (d : ℕ) → 0 < d → d < 10 → digits_of 10 d ≡ d ∷ []
 alone d some low =
-    let front : d / 10 ≡ 0 = omega arith in let last : d % 10 ≡ d = omega arith in
-    digits_of_step 10 d (omega arith) some ∙ ap (λ m. digits_of 10 m ++ d % 10 ∷ []) front ∙ ap (λ m. m ∷ []) last
+    let opening : d / 10 ≡ 0 = omega arith in let last : d % 10 ≡ d = omega arith in
+    digits_of_step 10 d (omega arith) some ∙ ap (λ m. digits_of 10 m ++ d % 10 ∷ []) opening ∙ ap (λ m. m ∷ []) last
 
 pub digits_again : (d : ℕ) (ds : List ℕ) → 0 < d → AllByRecursion (λ d. d < 10) (d ∷ ds) → digits_of 10 (number_from_digits 10 (d ∷ ds)) ≡ d ∷ ds
 digits_again d ds some h = let start : 0 * 10 + d ≡ d = omega arith in ap (λ n. digits_of 10 (number_from_digits_after 10 n ds)) start ∙ more_digits d ds some h.1 ∙ ap (λ (xs : List ℕ). xs ++ ds) (alone d some h.0)
 
 -- digits past 32 bits stay past them
-pub within_after : (ds : List ℕ) (m n : ℕ) → within_word m ≡ within_word n → within_word (number_from_digits_after 10 m ds) ≡ within_word (number_from_digits_after 10 n ds)
+pub within_after : (ds : List ℕ) (m n : ℕ) → capped_number m ≡ capped_number n → capped_number (number_from_digits_after 10 m ds) ≡ capped_number (number_from_digits_after 10 n ds)
 within_after [] m n h = h
 within_after (d ∷ ds) m n h = within_after ds (m * 10 + d) (n * 10 + d) (omega (arith, h))
 
 -- one digit more
-pub next_digit : (ds : List ℕ) (i n m : ℕ) → i < length ds → m ≡ within_word (n * 10 + (get_or ds i 0 - 48))
-    → within_word (number_from_digits_after 10 m (map (λ d. d - 48) (drop (i + 1) ds))) ≡ within_word (number_from_digits_after 10 n (map (λ d. d - 48) (drop i ds)))
+pub next_digit : (ds : List ℕ) (i n m : ℕ) → i < length ds → m ≡ capped_number (n * 10 + (get_or ds i 0 - 48))
+    → capped_number (number_from_digits_after 10 m (map (λ d. d - 48) (drop (i + 1) ds))) ≡ capped_number (number_from_digits_after 10 n (map (λ d. d - 48) (drop i ds)))
 next_digit ds i n m h e =
     let next : drop i ds ≡ get_or ds i 0 ∷ drop (i + 1) ds = rw (add-one i) (drop-cons ds i 0 h) in
     rw next (within_after (map (λ d. d - 48) (drop (i + 1) ds)) m (n * 10 + (get_or ds i 0 - 48)) (omega (arith, e)))

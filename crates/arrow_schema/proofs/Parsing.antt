@@ -1,4 +1,4 @@
--- What reading field texts tells.
+-- What parsing field texts reports.
 use Rattle.std.proofs.Common.{◌≡◌, ◌⊎◌, ◌<◌, ◌≤◌, ◌+◌, ℕ, suc, Bool, true, false, ◌&&◌, List, [], ◌∷◌, ◌++◌, length, get_or, map, drop, drop-cons, add-one, Bor, refl, sym, ap, ◌∙◌, subst, arith, cond, inl, inr, ⊎_elim}
 use Rattle.std.specs.Prelude.{Option, None, Some, option_map, nat_le, Ok, Err}
 use Rattle.std.specs.Prelude.{String}
@@ -16,8 +16,9 @@ use Rattle.arrow_schema.specs.View.{pair_of}
 use Rattle.arrow_schema.specs.Preorder.{depth, depth_all}
 use Rattle.arrow_schema.specs.Limits.{IsWithinLimits}
 use Rattle.arrow_schema.specs.Typed.{IsTextOf, IsFieldText}
-use Rattle.arrow_schema.specs.Build.{field_from, column_at, Builds, columns_at, before_columns}
-use Rattle.arrow_schema.specs.Told.{AreTextsOf, schema_with, IsTold, TestsOne, Tests}
+use Rattle.arrow_schema.specs.inner.Build.{field_from, column_at, Builds, columns_at, before_columns}
+use Rattle.arrow_schema.specs.Reported.{AreTextsOf, schema_with, IsReported}
+use Rattle.arrow_schema.specs.inner.Tested.{TestsOne, Tests}
 use Rattle.arrow_schema.proofs.Options.{some_eq, none_some}
 use Rattle.arrow_schema.proofs.Again.{always, field_again}
 
@@ -57,14 +58,14 @@ texts_of_built texts cs good e =
     let all : Columns texts = all_columns texts good in
     subst (AreTextsOf texts) (sym (built_same (nat_le (depth_all (columns_of all.columns)) 32) cs all.columns (sym e ∙ columns_again texts all.columns 32 all.texts_of))) all.texts_of
 
-pub told_ok : (texts : List (List ℕ)) (cs : List Column) (s : PlainSchema) → Tests texts (Ok tt) → columns_at 32 texts ≡ Some cs → s ≡ schema_with cs → IsWithinLimits s → IsTold texts (Ok cs)
-told_ok texts cs s good e is within = (texts_of_built texts cs good e, subst IsWithinLimits is within)
+pub reported_ok : (texts : List (List ℕ)) (cs : List Column) (s : PlainSchema) → Tests texts (Ok tt) → columns_at 32 texts ≡ Some cs → s ≡ schema_with cs → IsWithinLimits s → IsReported texts (Ok cs)
+reported_ok texts cs s good e is within = (texts_of_built texts cs good e, subst IsWithinLimits is within)
 
-pub told_past : (texts : List (List ℕ)) (cs : List Column) (s : PlainSchema) → Tests texts (Ok tt) → columns_at 32 texts ≡ Some cs → s ≡ schema_with cs → (IsWithinLimits s → ⊥) → IsTold texts (Err Limit)
-told_past texts cs s good e is past = inr (record { columns = cs; texts_of = texts_of_built texts cs good e; past = λ within. past (subst IsWithinLimits (sym is) within) })
+pub reported_past : (texts : List (List ℕ)) (cs : List Column) (s : PlainSchema) → Tests texts (Ok tt) → columns_at 32 texts ≡ Some cs → s ≡ schema_with cs → (IsWithinLimits s → ⊥) → IsReported texts (Err Limit)
+reported_past texts cs s good e is past = inr (record { columns = cs; texts_of = texts_of_built texts cs good e; past = λ within. past (subst IsWithinLimits (sym is) within) })
 
-pub told_deep : (texts : List (List ℕ)) → Tests texts (Ok tt) → columns_at 32 texts ≡ None → IsTold texts (Err Limit)
-told_deep texts good e =
+pub reported_deep : (texts : List (List ℕ)) → Tests texts (Ok tt) → columns_at 32 texts ≡ None → IsReported texts (Err Limit)
+reported_deep texts good e =
     let all : Columns texts = all_columns texts good in
     inr (record {
       columns = all.columns;
@@ -74,10 +75,10 @@ told_deep texts good e =
           none_some (sym e ∙ columns_again texts all.columns 32 all.texts_of ∙ ap (λ (b : Bool). cond b (Some all.columns) None) shallow);
     })
 
-pub told_err : (texts : List (List ℕ)) (e : ParseError) → Tests texts (Err e) → IsTold texts (Err e)
-told_err texts (BadText n) h = h
-told_err texts Limit h = inl h
-told_err texts OutOfMemory h = tt
+pub reported_err : (texts : List (List ℕ)) (e : ParseError) → Tests texts (Err e) → IsReported texts (Err e)
+reported_err texts (BadText n) h = h
+reported_err texts Limit h = inl h
+reported_err texts OutOfMemory h = tt
 
 -- the test of each text in turn
 pub next_good : (texts : List (List ℕ)) (i : ℕ) → ((k : ℕ) → k < i → IsFieldText true (get_or texts k [])) → IsFieldText true (get_or texts i []) → (k : ℕ) → k < i + 1 → IsFieldText true (get_or texts k [])
@@ -93,22 +94,22 @@ one_refused texts i Limit among before h = record { index = i; first = record { 
 one_refused texts i OutOfMemory among before h = tt
 
 -- the columns of each text in turn
-pub next_column : (front cs : List Column) (c : Column) (l : ℕ) (text : List ℕ) (texts : List (List ℕ)) (rest : List ℕ) → field_from (column_at l) text ≡ Some (c, rest)
-    → before_columns (front ++ c ∷ []) (columns_at l texts) ≡ before_columns front (columns_at l (text ∷ texts))
+pub next_column : (opening cs : List Column) (c : Column) (l : ℕ) (text : List ℕ) (texts : List (List ℕ)) (rest : List ℕ) → field_from (column_at l) text ≡ Some (c, rest)
+    → before_columns (opening ++ c ∷ []) (columns_at l texts) ≡ before_columns opening (columns_at l (text ∷ texts))
 unfolding columns_at
-next_column front cs c l text texts rest e = rw e (shift (columns_at l texts))
+next_column opening cs c l text texts rest e = rw e (shift (columns_at l texts))
   where
-    shift : (o : Option (List Column)) → before_columns (front ++ c ∷ []) o ≡ before_columns front (option_map (λ cs. c ∷ cs) o)
+    shift : (o : Option (List Column)) → before_columns (opening ++ c ∷ []) o ≡ before_columns opening (option_map (λ cs. c ∷ cs) o)
     shift None = refl
-    shift (Some cs) = ap Some (append_assoc front (c ∷ []) cs)
+    shift (Some cs) = ap Some (append_assoc opening (c ∷ []) cs)
 
-pub no_column : (front : List Column) (l : ℕ) (text : List ℕ) (texts : List (List ℕ)) → field_from (column_at l) text ≡ None → before_columns front (columns_at l (text ∷ texts)) ≡ None
+pub no_column : (opening : List Column) (l : ℕ) (text : List ℕ) (texts : List (List ℕ)) → field_from (column_at l) text ≡ None → before_columns opening (columns_at l (text ∷ texts)) ≡ None
 unfolding columns_at
-no_column front l text texts e = rw e refl
+no_column opening l text texts e = rw e refl
 
-pub all_built : (front : List Column) (l : ℕ) → before_columns front (columns_at l []) ≡ Some front
+pub all_built : (opening : List Column) (l : ℕ) → before_columns opening (columns_at l []) ≡ Some opening
 unfolding columns_at
-all_built front l = ap Some (append-nil front)
+all_built opening l = ap Some (append-nil opening)
 
 -- one text is that of one column
 pub one_column : (text : List ℕ) (c d : Column) → IsTextOf true text c → IsTextOf true text d → c ≡ d
@@ -119,26 +120,26 @@ one_column text c d h k =
     ap (λ (p : Column × List ℕ). p.0) (some_eq {X = Column × List ℕ} (c, []) (d, []) (sym first ∙ second))
 
 -- over the texts as the code keeps them
-pub next_text : (xs : List (Bor (List ℕ))) (i : ℕ) (d : Bor (List ℕ)) (front : List Column) (c : Column) (rest : List ℕ) → i < length xs → field_from (column_at 32) (get_or xs i d).now ≡ Some (c, rest)
-    → before_columns (front ++ c ∷ []) (columns_at 32 (map (λ t. t.now) (drop (i + 1) xs))) ≡ before_columns front (columns_at 32 (map (λ t. t.now) (drop i xs)))
-next_text xs i d front c rest h e =
+pub next_text : (xs : List (Bor (List ℕ))) (i : ℕ) (d : Bor (List ℕ)) (opening : List Column) (c : Column) (rest : List ℕ) → i < length xs → field_from (column_at 32) (get_or xs i d).now ≡ Some (c, rest)
+    → before_columns (opening ++ c ∷ []) (columns_at 32 (map (λ t. t.now) (drop (i + 1) xs))) ≡ before_columns opening (columns_at 32 (map (λ t. t.now) (drop i xs)))
+next_text xs i d opening c rest h e =
     let next : drop i xs ≡ get_or xs i d ∷ drop (i + 1) xs = rw (add-one i) (drop-cons xs i d h) in
-    rw next (next_column front [] c 32 (get_or xs i d).now (map (λ t. t.now) (drop (i + 1) xs)) rest e)
+    rw next (next_column opening [] c 32 (get_or xs i d).now (map (λ t. t.now) (drop (i + 1) xs)) rest e)
 
-no_text : (xs : List (Bor (List ℕ))) (i : ℕ) (d : Bor (List ℕ)) (front : List Column) → i < length xs → field_from (column_at 32) (get_or xs i d).now ≡ None → before_columns front (columns_at 32 (map (λ t. t.now) (drop i xs))) ≡ None
-no_text xs i d front h e =
+no_text : (xs : List (Bor (List ℕ))) (i : ℕ) (d : Bor (List ℕ)) (opening : List Column) → i < length xs → field_from (column_at 32) (get_or xs i d).now ≡ None → before_columns opening (columns_at 32 (map (λ t. t.now) (drop i xs))) ≡ None
+no_text xs i d opening h e =
     let next : drop i xs ≡ get_or xs i d ∷ drop (i + 1) xs = rw (add-one i) (drop-cons xs i d h) in
-    rw next (no_column front 32 (get_or xs i d).now (map (λ t. t.now) (drop (i + 1) xs)) e)
+    rw next (no_column opening 32 (get_or xs i d).now (map (λ t. t.now) (drop (i + 1) xs)) e)
 
-pub text_fails : {X Y : Type 0} (view : X → Column × List ℕ) (views : Y → List Column) (err : BuildError) (xs : List (Bor (List ℕ))) (i : ℕ) (d : Bor (List ℕ)) (front : List Column) (all : Option (List Column))
-    → i < length xs → Builds view (Err err) (field_from (column_at 32) (get_or xs i d).now) → before_columns front (columns_at 32 (map (λ t. t.now) (drop i xs))) ≡ all → Builds views (Err err) all
-text_fails view views Unread xs i d front all h e was = sym was ∙ no_text xs i d front h e
-text_fails view views Memory xs i d front all h e was = tt
+pub text_fails : {X Y : Type 0} (view : X → Column × List ℕ) (views : Y → List Column) (err : BuildError) (xs : List (Bor (List ℕ))) (i : ℕ) (d : Bor (List ℕ)) (opening : List Column) (all : Option (List Column))
+    → i < length xs → Builds view (Err err) (field_from (column_at 32) (get_or xs i d).now) → before_columns opening (columns_at 32 (map (λ t. t.now) (drop i xs))) ≡ all → Builds views (Err err) all
+text_fails view views Unread xs i d opening all h e was = sym was ∙ no_text xs i d opening h e
+text_fails view views Memory xs i d opening all h e was = tt
 
-pub texts_done : (xs : List (Bor (List ℕ))) (i : ℕ) (front : List Column) (all : Option (List Column)) → length xs ≤ i → before_columns front (columns_at 32 (map (λ t. t.now) (drop i xs))) ≡ all → all ≡ Some front
-texts_done xs i front all h was =
+pub texts_done : (xs : List (Bor (List ℕ))) (i : ℕ) (opening : List Column) (all : Option (List Column)) → length xs ≤ i → before_columns opening (columns_at 32 (map (λ t. t.now) (drop i xs))) ≡ all → all ≡ Some opening
+texts_done xs i opening all h was =
     let none : drop i xs ≡ [] = drop_all i xs h in
-    sym was ∙ rw none (all_built front 32)
+    sym was ∙ rw none (all_built opening 32)
 
 pub good_at : (xs : List (Bor (List ℕ))) (i : ℕ) (d : Bor (List ℕ)) → i < length xs → IsFieldText true (get_or xs i d).now → IsFieldText true (get_or (map (λ t. t.now) xs) i [])
 good_at xs i d h good = subst (IsFieldText true) (sym (get_or-map (λ t. t.now) xs i d [] h)) good

@@ -1,10 +1,10 @@
--- The words of field texts (docs/definitions/field_texts.md).
+-- The keywords of field texts (docs/definitions/field_texts.md).
 use Rattle.std.specs.Prelude.{ℕ, ◌+◌, Bool, ◌==◌, List, ◌++◌, map, codes, if◌then◌else◌}
 use Rattle.std.specs.Int.Digits.{digits_of}
 use Rattle.arrow_schema.specs.Column.{DateKind, days, date_milliseconds, TimeKind, seconds, milliseconds, microseconds, nanoseconds}
 use Rattle.arrow_schema.specs.View.{bits_of, date_kind, time_kind}
 use Rattle.arrow_schema.specs.declared.texts.keyword.Keyword.{Keyword}
-use Rattle.arrow_schema.specs.declared.texts.keyword.Keyword.TheVariants as words
+use Rattle.arrow_schema.specs.declared.texts.keyword.Keyword.TheVariants as keywords
 
 -- a number in decimal digits, without leading zeros
 unfoldable pub number_text : ℕ → List ℕ
@@ -25,20 +25,20 @@ time_text milliseconds = codes "timestamp_ms"
 time_text microseconds = codes "timestamp_us"
 time_text nanoseconds = codes "timestamp_ns"
 
--- the word that begins a type, and the bracket after it
+-- the keyword that begins a type, and the bracket after it
 unfoldable pub keyword_text : Keyword → List ℕ
-keyword_text words.Null = codes "null"
-keyword_text words.Bool = codes "bool"
-keyword_text (words.Int integer) = integer_text (bits_of integer.width) integer.signed
-keyword_text (words.Date unit) = date_text (date_kind unit)
-keyword_text (words.Timestamp unit) = time_text (time_kind unit)
-keyword_text words.Utf8 = codes "utf8"
-keyword_text words.LargeUtf8 = codes "large_utf8"
-keyword_text words.Binary = codes "binary"
-keyword_text words.LargeBinary = codes "large_binary"
-keyword_text words.FixedBinary = codes "fixed_binary("
-keyword_text words.List = codes "list<"
-keyword_text words.LargeList = codes "large_list<"
-keyword_text words.FixedList = codes "fixed_list("
-keyword_text words.Struct = codes "struct<"
-keyword_text words.Dictionary = codes "dict<"
+keyword_text keywords.Null = codes "null"
+keyword_text keywords.Bool = codes "bool"
+keyword_text (keywords.Int integer) = integer_text (bits_of integer.width) integer.signed
+keyword_text (keywords.Date unit) = date_text (date_kind unit)
+keyword_text (keywords.Timestamp unit) = time_text (time_kind unit)
+keyword_text keywords.Utf8 = codes "utf8"
+keyword_text keywords.LargeUtf8 = codes "large_utf8"
+keyword_text keywords.Binary = codes "binary"
+keyword_text keywords.LargeBinary = codes "large_binary"
+keyword_text keywords.FixedBinary = codes "fixed_binary("
+keyword_text keywords.List = codes "list<"
+keyword_text keywords.LargeList = codes "large_list<"
+keyword_text keywords.FixedList = codes "fixed_list("
+keyword_text keywords.Struct = codes "struct<"
+keyword_text keywords.Dictionary = codes "dict<"

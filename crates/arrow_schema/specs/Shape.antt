@@ -2,7 +2,7 @@
 use Rattle.std.specs.Prelude.{◌≡◌, List, [], Option, None}
 use Rattle.arrow_schema.specs.declared.compare.Detail.{Detail}
 use Rattle.arrow_schema.specs.declared.compare.Detail.TheVariants.{Shape, Whole}
-use Rattle.arrow_schema.specs.Column.{Index, Pair, Kind, Column, Columns, nulls, booleans, integers, dates, timestamps, texts, large_texts, binaries, large_binaries, fixed_binaries, lists, large_lists, fixed_lists, structs, column, no_column, and_column, columns_of, PlainSchema}
+use Rattle.arrow_schema.specs.Column.{Index, Pair, Kind, Column, Columns, lists, large_lists, fixed_lists, structs, column, no_column, and_column, columns_of, PlainSchema}
 
 abbrev pub seen_dictionary : Detail → Option Index → Option Index
 seen_dictionary Whole d = d
@@ -17,20 +17,11 @@ unfoldable mutual
   seen detail (column name nullable kind dictionary pairs) = column name nullable (seen_kind detail kind) (seen_dictionary detail dictionary) (seen_pairs detail pairs)
 
   pub seen_kind : Detail → Kind → Kind
-  seen_kind detail nulls = nulls
-  seen_kind detail booleans = booleans
-  seen_kind detail (integers bits signed) = integers bits signed
-  seen_kind detail (dates unit) = dates unit
-  seen_kind detail (timestamps unit timezone) = timestamps unit timezone
-  seen_kind detail texts = texts
-  seen_kind detail large_texts = large_texts
-  seen_kind detail binaries = binaries
-  seen_kind detail large_binaries = large_binaries
-  seen_kind detail (fixed_binaries width) = fixed_binaries width
   seen_kind detail (lists item) = lists (seen detail item)
   seen_kind detail (large_lists item) = large_lists (seen detail item)
   seen_kind detail (fixed_lists size item) = fixed_lists size (seen detail item)
   seen_kind detail (structs parts) = structs (seen_all detail parts)
+  seen_kind detail kind = kind
 
   pub seen_all : Detail → Columns → Columns
   seen_all detail no_column = no_column

@@ -2,7 +2,7 @@
 use Rattle.std.specs.Prelude.{◌≡◌, ℕ, ◌<◌, ◌^◌, ◌==◌, Bool, true, false, not, ◌&&◌, ◌||◌, length, List, [], ◌∷◌, codes, Option, None, Some}
 use Rattle.std.specs.List.{list_all}
 use Rattle.arrow_schema.specs.declared.types.BitWidth.{BitWidth}
-use Rattle.arrow_schema.specs.Column.{Index, Kind, Column, Columns, nulls, booleans, integers, dates, timestamps, texts, large_texts, binaries, large_binaries, fixed_binaries, lists, large_lists, fixed_lists, structs, column, no_column, and_column}
+use Rattle.arrow_schema.specs.Column.{Index, Kind, Column, Columns, integers, timestamps, fixed_binaries, lists, large_lists, fixed_lists, structs, column, no_column, and_column}
 use Rattle.arrow_schema.specs.View.{bits_of}
 use Rattle.arrow_schema.specs.Limits.{is_nested}
 use Rattle.arrow_schema.specs.FieldText.{plain, field_text}
@@ -37,20 +37,14 @@ IsTypedDictionary (Some index) kind = IsBits index.bits × (is_nested kind ≡ f
 
 unfoldable mutual
   pub IsTypedKind : Bool → Kind → Type 0
-  IsTypedKind limited nulls = Unit {0}
-  IsTypedKind limited booleans = Unit {0}
   IsTypedKind limited (integers bits signed) = IsBits bits
-  IsTypedKind limited (dates unit) = Unit {0}
   IsTypedKind limited (timestamps unit timezone) = list_all is_timezone_byte timezone ≡ true
-  IsTypedKind limited texts = Unit {0}
-  IsTypedKind limited large_texts = Unit {0}
-  IsTypedKind limited binaries = Unit {0}
-  IsTypedKind limited large_binaries = Unit {0}
   IsTypedKind limited (fixed_binaries width) = IsSize limited width
   IsTypedKind limited (lists item) = IsTypedItem limited item
   IsTypedKind limited (large_lists item) = IsTypedItem limited item
   IsTypedKind limited (fixed_lists size item) = IsSize limited size × IsTypedItem limited item
   IsTypedKind limited (structs parts) = AreTyped limited parts
+  IsTypedKind limited _ = Unit {0}
 
   -- an item has the name `item`
   pub IsTypedItem : Bool → Column → Type 0

@@ -1,10 +1,10 @@
 // Whether two schemas have one shape, and whether two fields are equal.
 ghost use Rattle.std.specs.Prelude.{◌≡◌, ◌↔◌, ◌==◌, ◌&&◌, IsTrue, map, option_map, length};
-ghost use Rattle.arrow_schema.specs.Column.{columns_of, PlainSchema};
+ghost use Rattle.arrow_schema.specs.Column.{columns_of};
 ghost use Rattle.arrow_schema.specs.View.{schema_of, kind_of, column_of, pair_of, index_of, bits_of, date_kind, time_kind};
 ghost use Rattle.arrow_schema.specs.Shape.{seen_dictionary, seen_pairs, HaveOneShape};
 ghost use Rattle.std.specs.Bool.{beq};
-ghost use Rattle.arrow_schema.specs.Alike.{dictionary_eq, pairs_eq, date_eq, time_number, alike, alike_kind, alike_all};
+ghost use Rattle.arrow_schema.specs.inner.Alike.{dictionary_eq, pairs_eq, date_eq, time_number, alike, alike_kind, alike_all};
 
 use crate::types::{DataType, DateUnit, DictSpec, Field, IntegerType, Schema, TimeUnit};
 
@@ -61,7 +61,7 @@ fn same_field_pairs(detail: Detail, a: &[(String, String)], b: &[(String, String
     }
 }
 
-#[tactic(auto, unfolding(crate::specs::Alike::alike))]
+#[tactic(auto, unfolding(crate::specs::inner::Alike::alike))]
 #[cycle(same)]
 fn same_field(detail: Detail, a: &Field, b: &Field) -> bool
     ensures { result ≡ alike detail (column_of a.now) (column_of b.now) }
@@ -73,7 +73,7 @@ fn same_field(detail: Detail, a: &Field, b: &Field) -> bool
         && same_type(detail, &a.data_type, &b.data_type)
 }
 
-#[tactic(auto, unfolding(crate::specs::Alike::alike_kind))]
+#[tactic(auto, unfolding(crate::specs::inner::Alike::alike_kind))]
 #[cycle(same)]
 fn same_type(detail: Detail, a: &DataType, b: &DataType) -> bool
     ensures { result ≡ alike_kind detail (kind_of a.now) (kind_of b.now) }
@@ -104,7 +104,7 @@ fn same_type(detail: Detail, a: &DataType, b: &DataType) -> bool
     }
 }
 
-#[tactic(auto, using(crate::proofs::Compared::alike_of_other_length), unfolding(crate::specs::Alike::alike_all))]
+#[tactic(auto, using(crate::proofs::Compared::alike_of_other_length), unfolding(crate::specs::inner::Alike::alike_all))]
 #[cycle(same)]
 fn same_fields(detail: Detail, xs: &[Field], ys: &[Field]) -> bool
     ensures { result ≡ alike_all detail (columns_of (map column_of xs.now)) (columns_of (map column_of ys.now)) }
@@ -145,10 +145,3 @@ impl Field {
         same_field(Detail::Whole, self, other)
     }
 }
-
-/// To have one shape is an equivalence of schemas.
-pub fn one_shape_is_an_equivalence()
-    ensures reflexive { (a : PlainSchema) → HaveOneShape a a }
-    ensures symmetric { (a b : PlainSchema) → HaveOneShape a b → HaveOneShape b a }
-    ensures transitive { (a b c : PlainSchema) → HaveOneShape a b → HaveOneShape b c → HaveOneShape a c }
-{}

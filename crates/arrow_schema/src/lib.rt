@@ -1,18 +1,25 @@
-//! Arrow schemas: types, fields and their limits.
+//! Arrow schemas: types, fields and their limits, and field texts.
 //!
-//! A [`Schema`] is a list of fields and of key/value pairs. Contracts see fields as the plain trees of
-//! `specs/Column.antt`, whatever memory they take.
+//! A [`Schema`] is a list of fields and of key/value pairs. Promised are, exactly: whether it is within the limits and
+//! else the first that it exceeds, whether two schemas have one shape, what a field prints as, and which fields texts
+//! state. Contracts see fields as the plain trees of `specs/Column.antt`, whatever memory they take.
+//!
+//! ```
+//! let fields = parse_fields(alloc, &["id:uint64", "tags:list<utf8?>?"])?;
+//! let schema = Schema { fields, pairs: Vec::new(alloc) };
+//! assert!(schema.check().is_ok() && schema.width() == 2);
+//! ```
 #![tactic(auto)]
 
 mod compare;
 mod copy;
+mod laws;
 mod limits;
 mod texts;
 mod types;
 
-pub use compare::{one_shape_is_an_equivalence, same_shape};
-pub use limits::{
-    MAX_DEPTH, MAX_FIELDS, MAX_PAIRS, MAX_TEXT_BYTES, NUMBER_END, SchemaError, limits_bound_columns,
-};
-pub use texts::{ParseError, field_text, one_column_of_a_text, parse_fields};
+pub use compare::same_shape;
+pub use laws::{limits_bound_columns, one_column_of_a_text, one_shape_is_an_equivalence};
+pub use limits::{MAX_DEPTH, MAX_FIELDS, MAX_PAIRS, MAX_TEXT_BYTES, NUMBER_END, SchemaError};
+pub use texts::{ParseError, field_text, parse_fields};
 pub use types::{BitWidth, DataType, DateUnit, DictSpec, Field, IntegerType, Schema, TimeUnit};

@@ -1,11 +1,11 @@
 // The limits that a schema keeps.
-ghost use Rattle.std.specs.Prelude.{◌≡◌, ◌↔◌, ◌+◌, ◌≤◌, IsOk, map, length, nat_le, sum_by};
+ghost use Rattle.std.specs.Prelude.{◌≡◌, ◌↔◌, IsOk, map, length, nat_le};
 ghost use Rattle.std.specs.List.{list_all};
-ghost use Rattle.arrow_schema.specs.Column.{columns_of, PlainSchema};
+ghost use Rattle.arrow_schema.specs.Column.{columns_of};
 ghost use Rattle.arrow_schema.specs.View.{schema_of, kind_of, column_of, pair_of};
 ghost use Rattle.arrow_schema.specs.Preorder.{preorder, preorder_below, preorder_all, depth, depth_below, depth_all, every_column};
-ghost use Rattle.arrow_schema.specs.Limits.{IsWithinLimits, first_exceeded, number_of, is_nested, timezone_of, bytes_of_pairs, count_of_pairs, count_of_bytes, has_number_in_range, has_flat_dictionary, name_len};
-ghost use Rattle.arrow_schema.specs.Tally.{saturated, tallied, tallied_one, tally_of_pairs};
+ghost use Rattle.arrow_schema.specs.Limits.{IsWithinLimits, first_exceeded, number_of, is_nested, timezone_of, bytes_of_pairs, count_of_pairs, count_of_bytes, has_number_in_range, has_flat_dictionary};
+ghost use Rattle.arrow_schema.specs.inner.Tally.{saturated, tallied, tallied_one, tally_of_pairs};
 
 use crate::types::{DataType, Field, Schema};
 
@@ -131,7 +131,7 @@ fn bytes_of_pairs(pairs: &[(String, String)]) -> u64
 }
 
 impl Tally {
-    #[tactic(auto, unfolding(crate::specs::Tally::tallied_one))]
+    #[tactic(auto, unfolding(crate::specs::inner::Tally::tallied_one))]
     fn add(&mut self, field: &Field)
         ensures { self.new ≡ tallied_one self.old (column_of field.now) }
     {
@@ -148,7 +148,7 @@ impl Tally {
     }
 }
 
-#[tactic(auto, unfolding(crate::specs::Preorder::preorder, crate::specs::Tally::tallied))]
+#[tactic(auto, unfolding(crate::specs::Preorder::preorder, crate::specs::inner::Tally::tallied))]
 #[cycle(tally)]
 fn tally_field(tally: &mut Tally, field: &Field)
     ensures { tally.new ≡ tallied tally.old (preorder (column_of field.now)) }
@@ -157,7 +157,7 @@ fn tally_field(tally: &mut Tally, field: &Field)
     tally_type(tally, &field.data_type);
 }
 
-#[tactic(auto, unfolding(crate::specs::Preorder::preorder_below, crate::specs::Tally::tallied))]
+#[tactic(auto, unfolding(crate::specs::Preorder::preorder_below, crate::specs::inner::Tally::tallied))]
 #[cycle(tally)]
 fn tally_type(tally: &mut Tally, data_type: &DataType)
     ensures { tally.new ≡ tallied tally.old (preorder_below (kind_of data_type.now)) }
@@ -171,7 +171,7 @@ fn tally_type(tally: &mut Tally, data_type: &DataType)
     }
 }
 
-#[tactic(auto, using(crate::proofs::Counting::tally_rules), unfolding(crate::specs::Preorder::preorder_all, crate::specs::Tally::tallied))]
+#[tactic(auto, using(crate::proofs::Counting::tally_rules), unfolding(crate::specs::Preorder::preorder_all, crate::specs::inner::Tally::tallied))]
 #[cycle(tally)]
 fn tally_fields(tally: &mut Tally, fields: &[Field])
     ensures { tally.new ≡ tallied tally.old (preorder_all (columns_of (map column_of fields.now))) }
@@ -224,15 +224,9 @@ fn first_exceeded(schema: &Schema) -> Result<(), SchemaError>
 impl Schema {
     /// Whether it is within the limits, and else the first that it passes.
     pub fn check(&self) -> Result<(), SchemaError>
-        ensures told { result ≡ first_exceeded (schema_of self.now) }
+        ensures reported { result ≡ first_exceeded (schema_of self.now) }
         ensures within { IsOk result ↔ IsWithinLimits (schema_of self.now) }
     {
         first_exceeded(self)
     }
 }
-
-/// What the limits say of a schema's own columns, their children left out.
-pub fn limits_bound_columns()
-    ensures fields { (s : PlainSchema) → IsWithinLimits s → length s.columns ≤ 2048 }
-    ensures names { (s : PlainSchema) → IsWithinLimits s → sum_by name_len s.columns ≤ 4194304 }
-{}

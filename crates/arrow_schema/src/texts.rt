@@ -7,5 +7,5 @@ mod parse;
 mod print;
 mod scan;
 
-pub use parse::{ParseError, one_column_of_a_text, parse_fields};
+pub use parse::{ParseError, parse_fields};
 pub use print::field_text;

@@ -9,7 +9,7 @@ use Rattle.arrow_schema.specs.declared.types.Field.{Field}
 use Rattle.arrow_schema.specs.View.{column_of}
 use Rattle.arrow_schema.specs.Column.{Column, column, integers, columns_of}
 use Rattle.arrow_schema.specs.Integers.{is_bit_width, is_integer_column}
-use Rattle.arrow_schema.specs.IntegerCases.{integer_case}
+use Rattle.arrow_schema.specs.laws.IntegerCases.{integer_case}
 use Rattle.ipc_stream.specs.Packed.{IsLow, HasIntegerAt}
 use Rattle.values.specs.Cell.{Cell, null, boolean, number, text, bytes, items, parts, cells_of}
 use Rattle.values.specs.Columns.{IntegerColumn, first_cell, other_cells, integer_bytes, values_of, values_of_all}

@@ -13,7 +13,7 @@ use Rattle.std.proofs.Math.Pow.{not_mod}
 use Rattle.byteorder.specs.Endian.{low_bytes}
 use Rattle.arrow_schema.specs.Column.{Column, column, integers, columns_of, PlainSchema}
 use Rattle.arrow_schema.specs.Integers.{is_bit_width, is_integer_column, is_empty}
-use Rattle.arrow_schema.specs.IntegerCases.{integer_case}
+use Rattle.arrow_schema.specs.laws.IntegerCases.{integer_case}
 use Rattle.values.specs.Cell.{Cell, null, boolean, number, text, bytes, items, parts, cells_of, PlainTable}
 use Rattle.values.specs.Columns.{IntegerColumn, first_cell, other_cells, values_of, values_of_all}
 use Rattle.values.specs.Fit.{in_range, fits, fits_kind, each_fits}

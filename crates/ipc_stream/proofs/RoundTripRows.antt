@@ -10,7 +10,7 @@ use Rattle.byteorder.specs.Numbers.{little_from-lt}
 use Rattle.arrow_schema.specs.Column.{Column, column, integers}
 use Rattle.values.specs.Cell.{Cell}
 use Rattle.arrow_schema.specs.Integers.{is_integer_column, is_bit_width, AreIntegers}
-use Rattle.arrow_schema.specs.IntegerCases.{integer_case}
+use Rattle.arrow_schema.specs.laws.IntegerCases.{integer_case}
 use Rattle.values.specs.IntegerRows.{AllBytes}
 use Rattle.values.specs.Columns.{IntegerColumn, cell_at, row_at, rows_from}
 use Rattle.values.specs.Integers.{integer_of, number_of}

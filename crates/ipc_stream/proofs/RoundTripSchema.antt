@@ -24,7 +24,7 @@ use Rattle.ipc_message.specs.Checks.{is_unsupported, is_bad, exceeds_limit, text
 use Rattle.ipc_write.specs.Trees.{code_of, ids_of}
 use Rattle.arrow_schema.specs.Integers.{is_integer_column, is_bit_width, is_empty, is_integer_schema, AreIntegers}
 use Rattle.ipc_write.specs.Decoded.{parameters_of, raw_of, raw_below, raw_of_all, raw_schema}
-use Rattle.arrow_schema.specs.IntegerCases.{integer_case}
+use Rattle.arrow_schema.specs.laws.IntegerCases.{integer_case}
 
 -- the field of a column without a dictionary or children
 abbrev pub plain_field : Column → RawField

@@ -4,7 +4,7 @@ use Rattle.flatbuf.specs.Tree.{Tree, table, text, references, no_node, no_slot, 
 use Rattle.arrow_schema.specs.Column.{Kind, Column, column, integers}
 use Rattle.ipc_write.specs.Trees.{bit, type_tree, field_tree, child_nodes}
 use Rattle.arrow_schema.specs.Integers.{is_integer_column, is_integer_kind, is_bit_width}
-use Rattle.arrow_schema.specs.IntegerCases.{integer_case}
+use Rattle.arrow_schema.specs.laws.IntegerCases.{integer_case}
 
 abbrev pub kind_in : Column → Kind
 kind_in (column name nullable kind dictionary pairs) = kind

@@ -13,7 +13,7 @@ use Rattle.arrow_schema.specs.Column.{Pair, Column, column, integers, columns_of
 use Rattle.arrow_schema.specs.Limits.{name_len}
 use Rattle.ipc_write.specs.Trees.{bit, pairs_slot, field_tree, field_nodes, child_nodes, schema_tree, message_tree, ids_of}
 use Rattle.arrow_schema.specs.Integers.{is_integer_column, is_bit_width, is_empty, is_integer_schema, AreIntegers}
-use Rattle.arrow_schema.specs.IntegerCases.{integer_case}
+use Rattle.arrow_schema.specs.laws.IntegerCases.{integer_case}
 use Rattle.std.proofs.lemmas.Bool.{and_parts}
 
 gap_small : (m c : ℕ) → gap m c ≤ m

@@ -11,7 +11,7 @@ use Rattle.flatbuf.specs.Held.{Has, Fits, FitsStructs}
 use Rattle.flatbuf.specs.Laid.{metadata, start, laid, gap}
 use Rattle.arrow_schema.specs.Column.{Pair, Column, column, integers, columns_of, PlainSchema}
 use Rattle.arrow_schema.specs.Integers.{is_integer_column, is_bit_width, is_empty, is_integer_schema, AreIntegers}
-use Rattle.arrow_schema.specs.IntegerCases.{integer_case}
+use Rattle.arrow_schema.specs.laws.IntegerCases.{integer_case}
 use Rattle.arrow_schema.specs.Limits.{IsWithinLimits}
 use Rattle.ipc_message.specs.Framing.{continuation_marker, message, next_message, taken, type_of}
 use Rattle.ipc_message.specs.Raw.{RawNode, schema_header, batch_header}
@@ -19,9 +19,9 @@ use Rattle.ipc_message.specs.Header.{header}
 use Rattle.ipc_write.specs.Decoded.{raw_schema}
 use Rattle.ipc_write.specs.Trees.{schema_tree, batch_tree, message_tree, node_pair, buffer_pair}
 use Rattle.ipc_write.specs.Walked.{Holds, tables_of, tables_of_all}
-use Rattle.ipc_write.specs.laws.Written.{length-placed}
 use Rattle.ipc_write.specs.Written.{framed, padded, body, placed, batch_of, schema_message, batch_message, schema_envelope, batch_envelope, IsWritableBatch}
 use Rattle.std.proofs.lemmas.Bool.{and_parts}
+use Rattle.ipc_write.specs.laws.Written.{length-placed}
 use Rattle.ipc_write.proofs.Room.{Sizes, schema_fits, batch_fits, batch_room}
 use Rattle.ipc_write.proofs.MessageRead.{NextMessages, next_message_again, type_read}
 use Rattle.ipc_write.proofs.HeaderRead.{schema_header_read, batch_header_read}

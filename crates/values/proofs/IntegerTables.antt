@@ -14,7 +14,7 @@ use Rattle.arrow_schema.specs.Column.{Column, column, integers, columns_of, Plai
 use Rattle.arrow_schema.specs.Integers.{is_integer_column, is_integer_schema, is_bit_width, is_empty, AreIntegers}
 use Rattle.arrow_schema.specs.Limits.{IsWithinLimits}
 use Rattle.arrow_schema.specs.Preorder.{preorder, preorder_below, preorder_all}
-use Rattle.arrow_schema.specs.IntegerCases.{integer_case}
+use Rattle.arrow_schema.specs.laws.IntegerCases.{integer_case}
 use Rattle.values.specs.Cell.{Cell, Cells, cells_of}
 use Rattle.values.specs.Columns.{cell_at, row_at, rows_from}
 use Rattle.values.specs.Dictionary.{holdings, holdings_below, holdings_from}

@@ -1,11 +1,11 @@
 // Fields from their texts, to a depth.
 ghost use Rattle.std.specs.Prelude.{◌≡◌, IfOk, map, option_map};
 ghost use Rattle.arrow_schema.specs.View.{kind_of, column_of, index_of};
-ghost use Rattle.arrow_schema.specs.Fronts.{flat_kind, front_of};
-ghost use Rattle.arrow_schema.specs.Build.{Builds, column_at, item_from, field_from, more_from, with_front, fields_from, parts_from, column_from};
+ghost use Rattle.arrow_schema.specs.inner.OpeningView.{flat_kind, opening_view};
+ghost use Rattle.arrow_schema.specs.inner.Build.{Builds, column_at, item_from, field_from, more_from, with_first, fields_from, parts_from, column_from};
 ghost use Rattle.arrow_schema.specs.declared.texts.build.BuildError.TheVariants.{Memory};
 
-use super::scan::{Flat, Front, front_of, mark_of, name_of, strip};
+use super::scan::{Flat, Opening, name_of, nullable_suffix_of, opening_of, strip};
 use crate::types::{DataType, DictSpec, Field};
 use std::alloc::{AllocError, AllocFailed, Global};
 
@@ -52,7 +52,7 @@ fn flat_type(alloc: Global, flat: Flat) -> Result<DataType, AllocError>
 }
 
 // The item of a list, and what follows the bracket after it.
-#[tactic(auto, unfolding(crate::specs::Build::item_from))]
+#[tactic(auto, unfolding(crate::specs::inner::Build::item_from))]
 #[cycle(build)]
 fn build_item<'a>(
     alloc: Global,
@@ -69,7 +69,7 @@ fn build_item<'a>(
     Ok((Box::new(alloc, item)?, rest))
 }
 
-#[tactic(auto, unfolding(crate::specs::Build::field_from))]
+#[tactic(auto, unfolding(crate::specs::inner::Build::field_from))]
 #[cycle(build)]
 pub(crate) fn build_field(
     alloc: Global,
@@ -85,7 +85,7 @@ pub(crate) fn build_field(
 }
 
 // Further fields, at most so many, and what follows the bracket after them.
-#[tactic(auto, unfolding(crate::specs::Build::more_from))]
+#[tactic(auto, unfolding(crate::specs::inner::Build::more_from))]
 #[cycle(build)]
 fn build_more(
     alloc: Global,
@@ -94,7 +94,7 @@ fn build_more(
     text: &str,
     turns: usize,
 ) -> Result<(Vec<Field>, &str), BuildError>
-    ensures { Builds (λ p. (map column_of p.0.items, p.1.now)) result (with_front (map column_of fields.items) (more_from (column_at levels) turns text.now)) }
+    ensures { Builds (λ p. (map column_of p.0.items, p.1.now)) result (with_first (map column_of fields.items) (more_from (column_at levels) turns text.now)) }
 {
     let mut rest = text;
     for _turn in 0..turns {
@@ -112,7 +112,7 @@ fn build_more(
 }
 
 // The fields of a struct, and what follows the bracket after them.
-#[tactic(auto, unfolding(crate::specs::Build::fields_from))]
+#[tactic(auto, unfolding(crate::specs::inner::Build::fields_from))]
 #[cycle(build)]
 fn build_fields(alloc: Global, levels: u32, text: &str) -> Result<(Vec<Field>, &str), BuildError>
     ensures { Builds (λ p. (map column_of p.0.items, p.1.now)) result (fields_from (column_at levels) text.now) }
@@ -126,32 +126,32 @@ fn build_fields(alloc: Global, levels: u32, text: &str) -> Result<(Vec<Field>, &
     build_more(alloc, levels, fields, rest, text.len())
 }
 
-// The parts of a type, after its front.
-#[tactic(auto, unfolding(crate::specs::Build::parts_from))]
+// The parts of a type, after its opening.
+#[tactic(auto, unfolding(crate::specs::inner::Build::parts_from))]
 #[cycle(build)]
 fn build_parts<'a>(
     alloc: Global,
     levels: u32,
-    front: Front,
+    opening: Opening,
     text: &'a str,
 ) -> Result<(DataType, Option<DictSpec>, &'a str), BuildError>
-    ensures { Builds (λ p. ((kind_of p.0, option_map index_of p.1), p.2.now)) result (parts_from (column_at levels) (front_of front.entry) text.now) }
+    ensures { Builds (λ p. ((kind_of p.0, option_map index_of p.1), p.2.now)) result (parts_from (column_at levels) (opening_view opening.entry) text.now) }
 {
-    match front {
-        Front::Flat(flat, dictionary) => Ok((flat_type(alloc, flat)?, dictionary, text)),
-        Front::List => {
+    match opening {
+        Opening::Flat(flat, dictionary) => Ok((flat_type(alloc, flat)?, dictionary, text)),
+        Opening::List => {
             let (item, rest) = build_item(alloc, levels, text, ">")?;
             Ok((DataType::List(item), None, rest))
         }
-        Front::LargeList => {
+        Opening::LargeList => {
             let (item, rest) = build_item(alloc, levels, text, ">")?;
             Ok((DataType::LargeList(item), None, rest))
         }
-        Front::FixedList(size) => {
+        Opening::FixedList(size) => {
             let (item, rest) = build_item(alloc, levels, text, ")")?;
             Ok((DataType::FixedSizeList(size, item), None, rest))
         }
-        Front::Struct => {
+        Opening::Struct => {
             let (fields, rest) = build_fields(alloc, levels, text)?;
             Ok((DataType::Struct(fields), None, rest))
         }
@@ -159,7 +159,7 @@ fn build_parts<'a>(
 }
 
 // The column of a name whose parts have at most so many levels, and what follows it.
-#[tactic(auto, unfolding(crate::specs::Build::column_from))]
+#[tactic(auto, unfolding(crate::specs::inner::Build::column_from))]
 #[cycle(build)]
 fn build_above<'a>(
     alloc: Global,
@@ -169,11 +169,11 @@ fn build_above<'a>(
 ) -> Result<(Field, &'a str), BuildError>
     ensures { Builds (λ p. (column_of p.0, p.1.now)) result (column_from (column_at levels) name.now text.now) }
 {
-    let Some((front, rest)) = front_of(text, true) else {
+    let Some((opening, rest)) = opening_of(text, true) else {
         return Err(BuildError::Unread);
     };
-    let (data_type, dictionary, rest) = build_parts(alloc, levels, front, rest)?;
-    let (nullable, rest) = mark_of(rest);
+    let (data_type, dictionary, rest) = build_parts(alloc, levels, opening, rest)?;
+    let (nullable, rest) = nullable_suffix_of(rest);
     let field = Field {
         name: String::from_str(alloc, name)?,
         nullable,

@@ -1,17 +1,17 @@
 // Whether a text is that of a field. What is open stands on the heap: no nesting runs out of stack.
 ghost use Rattle.std.specs.Prelude.{◌≡◌, ◌↔◌, IfOk, Bool, reverse, true};
 ghost use Rattle.arrow_schema.specs.Typed.{IsFieldText};
-ghost use Rattle.arrow_schema.specs.Fronts.{front_of};
-ghost use Rattle.arrow_schema.specs.Scan.{Reads};
-ghost use Rattle.arrow_schema.specs.Standing.{close_of, begun, continued, is_over, step};
+ghost use Rattle.arrow_schema.specs.inner.OpeningView.{opening_view};
+ghost use Rattle.arrow_schema.specs.inner.Scan.{Reads};
+ghost use Rattle.arrow_schema.specs.inner.Standing.{close_of, begun, continued, is_over, step};
 ghost use Rattle.arrow_schema.specs.declared.texts.grammar.Place.TheVariants.{BeforeType, AfterType};
 
-use super::scan::{Front, front_of, mark_of, name_of, strip};
+use super::scan::{Opening, name_of, nullable_suffix_of, opening_of, strip};
 use std::alloc::{AllocError, Global};
 
 /// What a type stands in.
 #[derive(Clone, Copy)]
-pub(crate) enum Open {
+pub(crate) enum Enclosure {
     List,
     FixedList,
     Struct,
@@ -24,63 +24,63 @@ pub(crate) enum Place {
     AfterType,
 }
 
-impl Open {
+impl Enclosure {
     fn close(self) -> &'static str
         ensures { result.now ≡ close_of self }
     {
         match self {
-            Open::List | Open::Struct => ">",
-            Open::FixedList => ")",
+            Enclosure::List | Enclosure::Struct => ">",
+            Enclosure::FixedList => ")",
         }
     }
 }
 
-// After the front of a type: what it opens, or none where the type ends there.
-#[tactic(auto, unfolding(crate::specs::Standing::begun))]
-fn begin<'a>(front: Front, text: &'a str) -> Option<(Option<Open>, &'a str)>
-    ensures { Reads (λ p. (p.0, p.1.now)) result (begun (front_of front.entry) text.now) }
+// After the opening of a type: the enclosure that it begins, or none where the type ends there.
+#[tactic(auto, unfolding(crate::specs::inner::Standing::begun))]
+fn begin<'a>(opening: Opening, text: &'a str) -> Option<(Option<Enclosure>, &'a str)>
+    ensures { Reads (λ p. (p.0, p.1.now)) result (begun (opening_view opening.entry) text.now) }
 {
-    match front {
-        Front::Flat(_, _) => Some((None, mark_of(text).1)),
-        Front::List | Front::LargeList => Some((Some(Open::List), text)),
-        Front::FixedList(_) => Some((Some(Open::FixedList), text)),
-        Front::Struct => {
+    match opening {
+        Opening::Flat(_, _) => Some((None, nullable_suffix_of(text).1)),
+        Opening::List | Opening::LargeList => Some((Some(Enclosure::List), text)),
+        Opening::FixedList(_) => Some((Some(Enclosure::FixedList), text)),
+        Opening::Struct => {
             if let Some(rest) = strip(text, ">") {
-                return Some((None, mark_of(rest).1));
+                return Some((None, nullable_suffix_of(rest).1));
             }
             let (_, rest) = name_of(text)?;
-            Some((Some(Open::Struct), rest))
+            Some((Some(Enclosure::Struct), rest))
         }
     }
 }
 
 // After a type: whether what it stands in is closed, or has a field more.
-#[tactic(auto, unfolding(crate::specs::Standing::continued))]
-fn go_on(innermost: Open, text: &str) -> Option<(bool, &str)>
+#[tactic(auto, unfolding(crate::specs::inner::Standing::continued))]
+fn go_on(innermost: Enclosure, text: &str) -> Option<(bool, &str)>
     ensures { Reads (λ p. (p.0, p.1.now)) result (continued innermost text.now) }
 {
     if let Some(rest) = strip(text, innermost.close()) {
-        return Some((true, mark_of(rest).1));
+        return Some((true, nullable_suffix_of(rest).1));
     }
-    let Open::Struct = innermost else {
+    let Enclosure::Struct = innermost else {
         return None;
     };
     let (_, rest) = name_of(strip(text, ",")?)?;
     Some((false, rest))
 }
 
-#[tactic(auto, unfolding(crate::specs::Standing::step))]
+#[tactic(auto, unfolding(crate::specs::inner::Standing::step))]
 fn before_type<'a>(
-    around: &mut Vec<Open>,
+    around: &mut Vec<Enclosure>,
     text: &'a str,
     limited: bool,
 ) -> Result<Option<(Place, &'a str)>, AllocError>
     ensures { IfOk result (λ next. Reads (λ p. (p.0, reverse around.new.items, p.1.now)) next (step limited BeforeType (reverse around.old.items) text.now)) }
 {
-    let Some((front, rest)) = front_of(text, limited) else {
+    let Some((opening, rest)) = opening_of(text, limited) else {
         return Ok(None);
     };
-    let Some((opened, rest)) = begin(front, rest) else {
+    let Some((opened, rest)) = begin(opening, rest) else {
         return Ok(None);
     };
     let Some(opened) = opened else {
@@ -90,8 +90,8 @@ fn before_type<'a>(
     Ok(Some((Place::BeforeType, rest)))
 }
 
-#[tactic(auto, unfolding(crate::specs::Standing::step))]
-fn after_type<'a>(around: &mut Vec<Open>, text: &'a str) -> Option<(Place, &'a str)>
+#[tactic(auto, unfolding(crate::specs::inner::Standing::step))]
+fn after_type<'a>(around: &mut Vec<Enclosure>, text: &'a str) -> Option<(Place, &'a str)>
     ensures { (limited : Bool) → Reads (λ p. (p.0, reverse around.new.items, p.1.now)) result (step limited AfterType (reverse around.old.items) text.now) }
 {
     let innermost = *around.last()?;
@@ -104,7 +104,7 @@ fn after_type<'a>(around: &mut Vec<Open>, text: &'a str) -> Option<(Place, &'a s
 }
 
 fn take_step<'a>(
-    around: &mut Vec<Open>,
+    around: &mut Vec<Enclosure>,
     place: Place,
     text: &'a str,
     limited: bool,
@@ -118,7 +118,7 @@ fn take_step<'a>(
 }
 
 // A type was read, and nothing is open around it.
-fn is_over(place: Place, around: &[Open]) -> bool
+fn is_over(place: Place, around: &[Enclosure]) -> bool
     ensures { result ≡ is_over place around.now }
 {
     match place {

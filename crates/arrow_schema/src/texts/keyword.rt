@@ -1,4 +1,4 @@
-// The words that begin a type, with the bracket that opens what follows.
+// The keywords that begin a type, with the bracket that follows some of them.
 ghost use Rattle.std.specs.Prelude.{◌≡◌};
 ghost use Rattle.arrow_schema.specs.View.{bits_of, date_kind, time_kind};
 ghost use Rattle.arrow_schema.specs.Keywords.{integer_text, date_text, time_text, keyword_text};
@@ -24,7 +24,7 @@ pub(crate) enum Keyword {
     Dictionary,
 }
 
-/// Each word once. None of them begins another.
+/// Each keyword once. None of them begins another.
 pub(crate) const KEYWORDS: [Keyword; 26] = [
     Keyword::Null,
     Keyword::Bool,
@@ -79,7 +79,7 @@ pub(crate) const KEYWORDS: [Keyword; 26] = [
 ];
 
 #[tactic(auto, unfolding(crate::specs::Keywords::integer_text))]
-fn integer_word(integer: IntegerType) -> &'static str
+fn integer_keyword(integer: IntegerType) -> &'static str
     ensures { result.now ≡ integer_text (bits_of integer.width) integer.signed }
 {
     if integer.signed {
@@ -100,7 +100,7 @@ fn integer_word(integer: IntegerType) -> &'static str
 }
 
 #[tactic(auto, unfolding(crate::specs::Keywords::date_text))]
-fn date_word(unit: DateUnit) -> &'static str
+fn date_keyword(unit: DateUnit) -> &'static str
     ensures { result.now ≡ date_text (date_kind unit) }
 {
     match unit {
@@ -110,7 +110,7 @@ fn date_word(unit: DateUnit) -> &'static str
 }
 
 #[tactic(auto, unfolding(crate::specs::Keywords::time_text))]
-fn time_word(unit: TimeUnit) -> &'static str
+fn time_keyword(unit: TimeUnit) -> &'static str
     ensures { result.now ≡ time_text (time_kind unit) }
 {
     match unit {
@@ -129,9 +129,9 @@ impl Keyword {
         match self {
             Keyword::Null => "null",
             Keyword::Bool => "bool",
-            Keyword::Int(integer) => integer_word(integer),
-            Keyword::Date(unit) => date_word(unit),
-            Keyword::Timestamp(unit) => time_word(unit),
+            Keyword::Int(integer) => integer_keyword(integer),
+            Keyword::Date(unit) => date_keyword(unit),
+            Keyword::Timestamp(unit) => time_keyword(unit),
             Keyword::Utf8 => "utf8",
             Keyword::LargeUtf8 => "large_utf8",
             Keyword::Binary => "binary",

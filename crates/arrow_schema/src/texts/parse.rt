@@ -1,11 +1,10 @@
 // Fields from the texts that are typed in.
-ghost use Rattle.std.specs.Prelude.{◌≡◌, ℕ, true, List, map};
+ghost use Rattle.std.specs.Prelude.{◌≡◌, map};
 ghost use Rattle.std.specs.Result.{result_map_both};
-ghost use Rattle.arrow_schema.specs.Column.{Column};
 ghost use Rattle.arrow_schema.specs.View.{column_of};
-ghost use Rattle.arrow_schema.specs.Typed.{IsTextOf};
-ghost use Rattle.arrow_schema.specs.Build.{Builds, columns_at};
-ghost use Rattle.arrow_schema.specs.Told.{IsTold, Tests, TestsOne};
+ghost use Rattle.arrow_schema.specs.inner.Build.{Builds, columns_at};
+ghost use Rattle.arrow_schema.specs.Reported.{IsReported};
+ghost use Rattle.arrow_schema.specs.inner.Tested.{Tests, TestsOne};
 ghost use Rattle.arrow_schema.specs.declared.texts.parse.ParseError.TheVariants.{OutOfMemory};
 
 use super::build::{BuildError, build_field};
@@ -74,17 +73,12 @@ fn build_texts(alloc: Global, texts: &[&str]) -> Result<Vec<Field>, BuildError>
     Ok(fields)
 }
 
-/// One text is that of at most one column.
-pub fn one_column_of_a_text()
-    ensures { (text : List ℕ) (c d : Column) → IsTextOf true text c → IsTextOf true text d → c ≡ d }
-{}
-
 /// The fields that the texts state, within a schema's limits (docs/formats/field_texts.md).
 ///
-/// The first text that is refused is told: `BadText` where it is not that of a field, else `Limit`. The limits of the
+/// The first text that is refused is reported: `BadText` where it is not that of a field, else `Limit`. The limits of the
 /// schema come last. Nesting of any depth runs out of no stack.
 pub fn parse_fields(alloc: Global, texts: &[&str]) -> Result<Vec<Field>, ParseError>
-    ensures told { IsTold (map (λ t. t.now) texts.now) (result_map_both (λ v. map column_of v.items) (λ e. e) result) }
+    ensures reported { IsReported (map (λ t. t.now) texts.now) (result_map_both (λ v. map column_of v.items) (λ e. e) result) }
 {
     test_texts(alloc, texts)?;
     let fields = match build_texts(alloc, texts) {

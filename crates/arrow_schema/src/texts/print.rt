@@ -36,10 +36,14 @@ fn push_number(text: &mut String, number: u32) -> Result<(), AllocError>
     write!(text, "{number}")
 }
 
-fn push_word_and_number(text: &mut String, word: Keyword, number: u32) -> Result<(), AllocError>
-    ensures { OnOk result (string_bytes text.new ≡ string_bytes text.old ++ (keyword_text word ++ number_text number)) }
+fn push_keyword_and_number(
+    text: &mut String,
+    keyword: Keyword,
+    number: u32,
+) -> Result<(), AllocError>
+    ensures { OnOk result (string_bytes text.new ≡ string_bytes text.old ++ (keyword_text keyword ++ number_text number)) }
 {
-    text.push_str(word.text())?;
+    text.push_str(keyword.text())?;
     push_number(text, number)
 }
 
@@ -114,13 +118,13 @@ fn push_type(alloc: Global, text: &mut String, data_type: &DataType) -> Result<(
         DataType::Binary => text.push_str(Keyword::Binary.text()),
         DataType::LargeBinary => text.push_str(Keyword::LargeBinary.text()),
         DataType::FixedSizeBinary(width) => {
-            push_word_and_number(text, Keyword::FixedBinary, *width)?;
+            push_keyword_and_number(text, Keyword::FixedBinary, *width)?;
             text.push_str(")")
         }
         DataType::List(item) => push_item(alloc, text, Keyword::List, item),
         DataType::LargeList(item) => push_item(alloc, text, Keyword::LargeList, item),
         DataType::FixedSizeList(size, item) => {
-            push_word_and_number(text, Keyword::FixedList, *size)?;
+            push_keyword_and_number(text, Keyword::FixedList, *size)?;
             text.push_str(",")?;
             push_field(alloc, text, item)?;
             text.push_str(")")

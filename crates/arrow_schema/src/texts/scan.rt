@@ -1,9 +1,9 @@
-// What stands at the front of a field text, and what follows it. No call here takes memory.
+// What a field text begins with, and what follows it. No call here takes memory.
 ghost use Rattle.std.specs.Prelude.{◌≡◌, ◌<◌};
 ghost use Rattle.std.specs.List.{list_all};
 ghost use Rattle.arrow_schema.specs.Typed.{is_name_byte, is_timezone_byte, is_name};
-ghost use Rattle.arrow_schema.specs.Scan.{Reads, stripped, cut_at, keyword_in, keyword_at, is_numeral, value, within_word, is_size, size_at, is_timezone, timezone_at, flat_at, dictionary_at, front_at, name_at, is_marked, after_mark};
-ghost use Rattle.arrow_schema.specs.Fronts.{flat_kind, front_of};
+ghost use Rattle.arrow_schema.specs.inner.Scan.{Reads, stripped, cut_at, keyword_in, keyword_at, is_numeral, value, capped_number, is_size, size_at, is_timezone, timezone_at, flat_at, dictionary_at, opening_at, name_at, has_nullable_suffix, after_nullable_suffix};
+ghost use Rattle.arrow_schema.specs.inner.OpeningView.{flat_kind, opening_view};
 
 use super::keyword::{KEYWORDS, Keyword};
 use crate::limits::NUMBER_END;
@@ -24,9 +24,9 @@ pub(crate) enum Flat<'a> {
     FixedBinary(u32),
 }
 
-/// How a type begins: all of a flat type, or what opens one with parts. Numbers past 32 bits are the greatest of 32 bits.
+/// How a type begins: all of a flat type, or what stands before the parts of a nested one. Numbers past 32 bits are the greatest of 32 bits.
 #[derive(Clone, Copy)]
-pub(crate) enum Front<'a> {
+pub(crate) enum Opening<'a> {
     Flat(Flat<'a>, Option<DictSpec>),
     List,
     LargeList,
@@ -40,29 +40,29 @@ pub(crate) fn strip<'a>(text: &'a str, beginning: &str) -> Option<&'a str>
     text.strip_prefix(beginning)
 }
 
-// The mark is ASCII.
-fn cut(text: &str, mark: char) -> Option<(&str, &str)>
-    requires { mark < 128 }
-    ensures { Reads (λ p. (p.0.now, p.1.now)) result (cut_at mark text.now) }
+// The delimiter is ASCII.
+fn cut(text: &str, delimiter: char) -> Option<(&str, &str)>
+    requires { delimiter < 128 }
+    ensures { Reads (λ p. (p.0.now, p.1.now)) result (cut_at delimiter text.now) }
 {
-    text.split_once(mark)
+    text.split_once(delimiter)
 }
 
-// The first of the words that is at the front.
-#[tactic(auto, unfolding(crate::specs::Scan::keyword_in))]
-fn keyword_among<'a>(words: &[Keyword], text: &'a str) -> Option<(Keyword, &'a str)>
-    ensures { Reads (λ p. (p.0, p.1.now)) result (keyword_in words.now text.now) }
+// The first of the keywords that the text begins with.
+#[tactic(auto, unfolding(crate::specs::inner::Scan::keyword_in))]
+fn keyword_among<'a>(keywords: &[Keyword], text: &'a str) -> Option<(Keyword, &'a str)>
+    ensures { Reads (λ p. (p.0, p.1.now)) result (keyword_in keywords.now text.now) }
 {
-    for word in words {
-        if let Some(rest) = strip(text, word.text()) {
-            return Some((*word, rest));
+    for keyword in keywords {
+        if let Some(rest) = strip(text, keyword.text()) {
+            return Some((*keyword, rest));
         }
     }
     None
 }
 
-// The word at the front.
-#[tactic(auto, unfolding(crate::specs::Scan::keyword_at, crate::specs::Scan::every_keyword))]
+// The keyword that the text begins with.
+#[tactic(auto, unfolding(crate::specs::inner::Scan::keyword_at, crate::specs::inner::Scan::every_keyword))]
 fn keyword_of(text: &str) -> Option<(Keyword, &str)>
     ensures { Reads (λ p. (p.0, p.1.now)) result (keyword_at text.now) }
 {
@@ -107,7 +107,7 @@ fn is_timezone(text: &str) -> bool
 }
 
 // Decimal digits without leading zeros.
-#[tactic(auto, unfolding(crate::specs::Scan::is_numeral))]
+#[tactic(auto, unfolding(crate::specs::inner::Scan::is_numeral))]
 fn is_numeral(digits: &str) -> bool
     ensures { result ≡ is_numeral digits.now }
 {
@@ -121,9 +121,9 @@ fn is_numeral(digits: &str) -> bool
 }
 
 // The number that digits write.
-#[tactic(auto, unfolding(crate::specs::Scan::value))]
+#[tactic(auto, unfolding(crate::specs::inner::Scan::value))]
 fn number_of(digits: &str) -> u32
-    ensures { result ≡ within_word (value digits.now) }
+    ensures { result ≡ capped_number (value digits.now) }
 {
     let mut number = 0u32;
     for digit in digits.as_bytes() {
@@ -134,20 +134,20 @@ fn number_of(digits: &str) -> u32
     number
 }
 
-// A number, and what follows the mark after it. Where limited, it is below `NUMBER_END`.
-#[tactic(auto, unfolding(crate::specs::Scan::size_at))]
-fn size_of(text: &str, mark: char, limited: bool) -> Option<(u32, &str)>
-    requires { mark < 128 }
-    ensures { Reads (λ p. (p.0, p.1.now)) result (size_at limited mark text.now) }
+// A number, and what follows its delimiter. Where limited, it is below `NUMBER_END`.
+#[tactic(auto, unfolding(crate::specs::inner::Scan::size_at))]
+fn size_of(text: &str, delimiter: char, limited: bool) -> Option<(u32, &str)>
+    requires { delimiter < 128 }
+    ensures { Reads (λ p. (p.0, p.1.now)) result (size_at limited delimiter text.now) }
 {
-    let (digits, rest) = cut(text, mark)?;
+    let (digits, rest) = cut(text, delimiter)?;
     let number = number_of(digits);
     let fits = is_numeral(digits) && (!limited || number < NUMBER_END);
     fits.then_some((number, rest))
 }
 
-// The timezone of a timestamp: none where no parenthesis opens.
-#[tactic(auto, unfolding(crate::specs::Scan::timezone_at, crate::specs::Scan::timezone_within))]
+// The timezone of a timestamp: none where no parenthesis enclosures.
+#[tactic(auto, unfolding(crate::specs::inner::Scan::timezone_at, crate::specs::inner::Scan::timezone_within))]
 fn timezone_of(text: &str) -> Option<(&str, &str)>
     ensures { Reads (λ p. (p.0.now, p.1.now)) result (timezone_at text.now) }
 {
@@ -158,12 +158,12 @@ fn timezone_of(text: &str) -> Option<(&str, &str)>
     is_timezone(timezone).then_some((timezone, rest))
 }
 
-// A type without parts, after its word.
-#[tactic(auto, unfolding(crate::specs::Scan::flat_at))]
-fn flat_of(word: Keyword, text: &str, limited: bool) -> Option<(Flat<'_>, &str)>
-    ensures { Reads (λ p. (flat_kind p.0, p.1.now)) result (flat_at limited word text.now) }
+// A type without parts, after its keyword.
+#[tactic(auto, unfolding(crate::specs::inner::Scan::flat_at))]
+fn flat_of(keyword: Keyword, text: &str, limited: bool) -> Option<(Flat<'_>, &str)>
+    ensures { Reads (λ p. (flat_kind p.0, p.1.now)) result (flat_at limited keyword text.now) }
 {
-    let flat = match word {
+    let flat = match keyword {
         Keyword::Null => Flat::Null,
         Keyword::Bool => Flat::Bool,
         Keyword::Int(integer) => Flat::Int(integer),
@@ -190,45 +190,45 @@ fn flat_of(word: Keyword, text: &str, limited: bool) -> Option<(Flat<'_>, &str)>
 }
 
 // The index type, the type of the values, and the bracket that closes a dictionary.
-#[tactic(auto, unfolding(crate::specs::Scan::dictionary_at, crate::specs::Scan::values_at))]
-fn dictionary_of(text: &str, limited: bool) -> Option<(Front<'_>, &str)>
-    ensures { Reads (λ p. (front_of p.0, p.1.now)) result (dictionary_at limited text.now) }
+#[tactic(auto, unfolding(crate::specs::inner::Scan::dictionary_at, crate::specs::inner::Scan::values_at))]
+fn dictionary_of(text: &str, limited: bool) -> Option<(Opening<'_>, &str)>
+    ensures { Reads (λ p. (opening_view p.0, p.1.now)) result (dictionary_at limited text.now) }
 {
     let (Keyword::Int(index), rest) = keyword_of(text)? else {
         return None;
     };
-    let (word, rest) = keyword_of(strip(rest, ",")?)?;
-    let (values, rest) = flat_of(word, rest, limited)?;
+    let (keyword, rest) = keyword_of(strip(rest, ",")?)?;
+    let (values, rest) = flat_of(keyword, rest, limited)?;
     Some((
-        Front::Flat(values, Some(DictSpec { index })),
+        Opening::Flat(values, Some(DictSpec { index })),
         strip(rest, ">")?,
     ))
 }
 
 /// How a type begins. Where limited, its numbers are below `NUMBER_END`.
-#[tactic(auto, unfolding(crate::specs::Scan::front_at, crate::specs::Scan::front_after))]
-pub(crate) fn front_of(text: &str, limited: bool) -> Option<(Front<'_>, &str)>
-    ensures { Reads (λ p. (front_of p.0, p.1.now)) result (front_at limited text.now) }
+#[tactic(auto, unfolding(crate::specs::inner::Scan::opening_at, crate::specs::inner::Scan::opening_after))]
+pub(crate) fn opening_of(text: &str, limited: bool) -> Option<(Opening<'_>, &str)>
+    ensures { Reads (λ p. (opening_view p.0, p.1.now)) result (opening_at limited text.now) }
 {
-    let (word, rest) = keyword_of(text)?;
-    match word {
-        Keyword::List => Some((Front::List, rest)),
-        Keyword::LargeList => Some((Front::LargeList, rest)),
+    let (keyword, rest) = keyword_of(text)?;
+    match keyword {
+        Keyword::List => Some((Opening::List, rest)),
+        Keyword::LargeList => Some((Opening::LargeList, rest)),
         Keyword::FixedList => {
             let (size, rest) = size_of(rest, ',', limited)?;
-            Some((Front::FixedList(size), rest))
+            Some((Opening::FixedList(size), rest))
         }
-        Keyword::Struct => Some((Front::Struct, rest)),
+        Keyword::Struct => Some((Opening::Struct, rest)),
         Keyword::Dictionary => dictionary_of(rest, limited),
         _ => {
-            let (flat, rest) = flat_of(word, rest, limited)?;
-            Some((Front::Flat(flat, None), rest))
+            let (flat, rest) = flat_of(keyword, rest, limited)?;
+            Some((Opening::Flat(flat, None), rest))
         }
     }
 }
 
 /// The name of a field, and what follows its colon.
-#[tactic(auto, unfolding(crate::specs::Scan::name_at))]
+#[tactic(auto, unfolding(crate::specs::inner::Scan::name_at))]
 pub(crate) fn name_of(text: &str) -> Option<(&str, &str)>
     ensures { Reads (λ p. (p.0.now, p.1.now)) result (name_at text.now) }
 {
@@ -236,10 +236,10 @@ pub(crate) fn name_of(text: &str) -> Option<(&str, &str)>
     is_name(name).then_some((name, rest))
 }
 
-/// Whether what was just read is nullable, and what follows the mark.
-pub(crate) fn mark_of(text: &str) -> (bool, &str)
-    ensures nullable { result.0 ≡ is_marked text.now }
-    ensures rest { result.1.now ≡ after_mark text.now }
+/// Whether the nullable suffix `?` comes next, and what follows it.
+pub(crate) fn nullable_suffix_of(text: &str) -> (bool, &str)
+    ensures nullable { result.0 ≡ has_nullable_suffix text.now }
+    ensures rest { result.1.now ≡ after_nullable_suffix text.now }
 {
     match strip(text, "?") {
         Some(rest) => (true, rest),

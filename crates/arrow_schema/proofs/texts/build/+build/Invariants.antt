@@ -2,7 +2,7 @@ use Rattle.std.proofs.Common.{◌≡◌, ◌+◌, ◌-◌, ◌*◌, map}
 use denote.Shadow.{shadow}
 use denote.Text.{Utf8}
 use Rattle.arrow_schema.specs.View.{column_of}
-use Rattle.arrow_schema.specs.Build.{column_at, more_from, with_front}
+use Rattle.arrow_schema.specs.inner.Build.{column_at, more_from, with_first}
 use Rattle.arrow_schema.proofs.texts.build.+build.Given as goal
 
 -- how far a call is above the levels that are left
@@ -29,7 +29,7 @@ decreases-build_parts l = 10 * l.levels + 4
 
 abbrev pub invariant-build_more-loop-turn : goal.invariant-build_more-loop-turn
 invariant-build_more-loop-turn l = record {
-  built : with_front (map column_of l.fields.items) (more_from (column_at l.levels) (l.turns - l._turn) l.rest)
-      ≡ with_front (map column_of l.fn.fields.items) (more_from (column_at l.levels) l.turns l.text);
+  built : with_first (map column_of l.fields.items) (more_from (column_at l.levels) (l.turns - l._turn) l.rest)
+      ≡ with_first (map column_of l.fn.fields.items) (more_from (column_at l.levels) l.turns l.text);
   text : shadow (Utf8 l.rest);
 }

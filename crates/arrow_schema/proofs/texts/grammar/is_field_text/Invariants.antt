@@ -3,7 +3,7 @@ use Rattle.std.specs.Prelude.{reverse}
 use denote.Shadow.{shadow}
 use denote.Text.{Utf8}
 use Rattle.arrow_schema.specs.Typed.{IsFieldText}
-use Rattle.arrow_schema.specs.Standing.{Stands}
+use Rattle.arrow_schema.specs.inner.Standing.{Stands}
 use Rattle.arrow_schema.proofs.Shorter.{weight}
 use Rattle.arrow_schema.proofs.texts.grammar.is_field_text.Given as goal
 

@@ -1,6 +1,6 @@
 use Rattle.std.proofs.Common.{◌≡◌, map, drop}
 use Rattle.arrow_schema.specs.View.{column_of}
-use Rattle.arrow_schema.specs.Build.{columns_at, before_columns}
+use Rattle.arrow_schema.specs.inner.Build.{columns_at, before_columns}
 use Rattle.arrow_schema.proofs.texts.parse.build_texts.Given as goal
 
 abbrev pub invariant-loop-text : goal.invariant-loop-text

@@ -1,6 +1,6 @@
 use Rattle.std.proofs.Common.{◌≡◌, drop}
 use Rattle.std.specs.List.{list_all}
-use Rattle.arrow_schema.specs.Scan.{is_digit}
+use Rattle.arrow_schema.specs.inner.Scan.{is_digit}
 use Rattle.arrow_schema.proofs.texts.scan.is_numeral.Given as goal
 
 abbrev pub invariant-loop-digit : goal.invariant-loop-digit

@@ -1,10 +1,10 @@
 use Rattle.std.proofs.Common.{◌≡◌, ◌<◌, ◌^◌, drop, map, ◌-◌}
 use Rattle.std.specs.Int.Digits.{number_from_digits_after}
-use Rattle.arrow_schema.specs.Scan.{within_word, value}
+use Rattle.arrow_schema.specs.inner.Scan.{capped_number, value}
 use Rattle.arrow_schema.proofs.texts.scan.number_of.Given as goal
 
 abbrev pub invariant-loop-digit : goal.invariant-loop-digit
 invariant-loop-digit l = record {
-  told : within_word (number_from_digits_after 10 l.number (map (λ d. d - 48) (drop l.digit-index l.digit-items))) ≡ within_word (value l.digits);
+  known : capped_number (number_from_digits_after 10 l.number (map (λ d. d - 48) (drop l.digit-index l.digit-items))) ≡ capped_number (value l.digits);
   small : l.number < 2 ^ 32;
 }

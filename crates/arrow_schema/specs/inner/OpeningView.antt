@@ -1,12 +1,12 @@
--- How the code's fronts of types are seen.
+-- How the code's openings of types are seen.
 use Rattle.std.specs.Prelude.{option_map}
 use Rattle.arrow_schema.specs.declared.texts.scan.Flat.{Flat}
 use Rattle.arrow_schema.specs.declared.texts.scan.Flat.TheVariants as flats
-use Rattle.arrow_schema.specs.declared.texts.scan.Front.{Front}
-use Rattle.arrow_schema.specs.declared.texts.scan.Front.TheVariants as fronts
+use Rattle.arrow_schema.specs.declared.texts.scan.Opening.{Opening}
+use Rattle.arrow_schema.specs.declared.texts.scan.Opening.TheVariants as openings
 use Rattle.arrow_schema.specs.Column.{Kind, nulls, booleans, integers, dates, timestamps, texts, large_texts, binaries, large_binaries, fixed_binaries}
 use Rattle.arrow_schema.specs.View.{bits_of, date_kind, time_kind, index_of}
-use Rattle.arrow_schema.specs.Scan as scan
+use Rattle.arrow_schema.specs.inner.Scan as scan
 
 abbrev pub flat_kind : Flat → Kind
 flat_kind flats.Null = nulls
@@ -20,9 +20,9 @@ flat_kind flats.Binary = binaries
 flat_kind flats.LargeBinary = large_binaries
 flat_kind (flats.FixedBinary width) = fixed_binaries width
 
-abbrev pub front_of : Front → scan.Front
-front_of (fronts.Flat f index) = scan.flat (flat_kind f) (option_map index_of index)
-front_of fronts.List = scan.list
-front_of fronts.LargeList = scan.large_list
-front_of (fronts.FixedList size) = scan.fixed_list size
-front_of fronts.Struct = scan.struct
+abbrev pub opening_view : Opening → scan.Opening
+opening_view (openings.Flat f index) = scan.flat (flat_kind f) (option_map index_of index)
+opening_view openings.List = scan.list
+opening_view openings.LargeList = scan.large_list
+opening_view (openings.FixedList size) = scan.fixed_list size
+opening_view openings.Struct = scan.struct

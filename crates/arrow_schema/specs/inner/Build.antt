@@ -1,10 +1,10 @@
--- Columns as they are built from the front of a text, so many levels deep.
+-- Columns as they are built from the beginning of a text, so many levels deep.
 use Rattle.std.specs.Prelude.{◌≡◌, ℕ, suc, true, Result, Ok, Err, zero, List, [], ◌∷◌, ◌++◌, length, codes, Option, None, Some, option_map}
 use Rattle.arrow_schema.specs.declared.texts.build.BuildError.{BuildError}
 use Rattle.arrow_schema.specs.declared.texts.build.BuildError.TheVariants.{Unread, Memory}
 use Rattle.std.specs.Option.{option_and_then, option_or}
 use Rattle.arrow_schema.specs.Column.{Index, Kind, Column, lists, large_lists, fixed_lists, structs, column, columns_of}
-use Rattle.arrow_schema.specs.Scan.{stripped, Front, flat, list, large_list, fixed_list, struct, front_at, name_at, is_marked, after_mark}
+use Rattle.arrow_schema.specs.inner.Scan.{stripped, Opening, flat, list, large_list, fixed_list, struct, opening_at, name_at, has_nullable_suffix, after_nullable_suffix}
 
 -- what the code built is what reading the bytes gives, unless memory ran out
 abbrev pub Builds : {X Y : Type 0} → (X → Y) → Result X BuildError → Option Y → Type 0
@@ -31,14 +31,14 @@ unfoldable pub more_from : Reader → ℕ → List ℕ → Option (List Column �
 more_from read zero text = None
 more_from read (suc turns) text = option_or (closed text) (option_and_then (λ next. option_and_then (λ p. option_map (λ q. (p.0 ∷ q.0, q.1)) (more_from read turns p.1)) (field_from read next)) (stripped (codes ",") text))
 
-abbrev pub with_front : List Column → Option (List Column × List ℕ) → Option (List Column × List ℕ)
-with_front front read = option_map (λ q. (front ++ q.0, q.1)) read
+abbrev pub with_first : List Column → Option (List Column × List ℕ) → Option (List Column × List ℕ)
+with_first opening read = option_map (λ q. (opening ++ q.0, q.1)) read
 
 unfoldable pub fields_from : Reader → List ℕ → Option (List Column × List ℕ)
 fields_from read text = option_or (closed text) (option_and_then (λ p. option_map (λ q. (p.0 ∷ q.0, q.1)) (more_from read (length text) p.1)) (field_from read text))
 
--- the parts of a type, after its front
-unfoldable pub parts_from : Reader → Front → List ℕ → Option ((Kind × Option Index) × List ℕ)
+-- the parts of a type, after its opening
+unfoldable pub parts_from : Reader → Opening → List ℕ → Option ((Kind × Option Index) × List ℕ)
 parts_from read (flat kind index) text = Some ((kind, index), text)
 parts_from read list text = option_map (λ p. ((lists p.0, None), p.1)) (item_from read (codes ">") text)
 parts_from read large_list text = option_map (λ p. ((large_lists p.0, None), p.1)) (item_from read (codes ">") text)
@@ -46,7 +46,7 @@ parts_from read (fixed_list size) text = option_map (λ p. ((fixed_lists size p.
 parts_from read struct text = option_map (λ p. ((structs (columns_of p.0), None), p.1)) (fields_from read text)
 
 unfoldable pub column_from : Reader → Reader
-column_from read name text = option_and_then (λ p. option_map (λ q. (column name (is_marked q.1) q.0.0 q.0.1 [], after_mark q.1)) (parts_from read p.0 p.1)) (front_at true text)
+column_from read name text = option_and_then (λ p. option_map (λ q. (column name (has_nullable_suffix q.1) q.0.0 q.0.1 [], after_nullable_suffix q.1)) (parts_from read p.0 p.1)) (opening_at true text)
 
 -- a column of so many levels
 unfoldable pub column_at : ℕ → Reader
@@ -59,4 +59,4 @@ columns_at levels [] = Some []
 columns_at levels (text ∷ texts) = option_and_then (λ p. option_map (λ cs. p.0 ∷ cs) (columns_at levels texts)) (field_from (column_at levels) text)
 
 abbrev pub before_columns : List Column → Option (List Column) → Option (List Column)
-before_columns front read = option_map (λ cs. front ++ cs) read
+before_columns opening read = option_map (λ cs. opening ++ cs) read

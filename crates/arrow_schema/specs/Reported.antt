@@ -1,4 +1,4 @@
--- What reading field texts tells (docs/definitions/field_texts.md).
+-- What parsing field texts reports (docs/definitions/field_texts.md).
 use Rattle.std.specs.Prelude.{◌≡◌, ◌⊎◌, ℕ, ◌+◌, ◌<◌, true, false, List, [], ◌∷◌, length, get_or, Result, Ok, Err}
 use Rattle.arrow_schema.specs.declared.texts.parse.ParseError.{ParseError}
 use Rattle.arrow_schema.specs.declared.texts.parse.ParseError.TheVariants.{BadText, Limit, OutOfMemory}
@@ -40,22 +40,9 @@ pub record IsPastLimits (texts : List (List ℕ)) : Type 0 where
   pub texts_of : AreTextsOf texts columns
   pub past : IsWithinLimits (schema_with columns) → ⊥
 
--- what is told is so
-abbrev pub IsTold : List (List ℕ) → Result (List Column) ParseError → Type 0
-IsTold texts (Ok columns) = AreTextsOf texts columns × IsWithinLimits (schema_with columns)
-IsTold texts (Err (BadText number)) = IsBadText texts number
-IsTold texts (Err Limit) = IsPastNumber texts ⊎ IsPastLimits texts
-IsTold texts (Err OutOfMemory) = Unit {0}
-
--- what the test of one text answers, and that of all in turn
-abbrev pub TestsOne : ℕ → List ℕ → Result (Unit {0}) ParseError → Type 0
-TestsOne number text (Ok _) = IsFieldText true text
-TestsOne number text (Err (BadText n)) = (n ≡ number) × (IsFieldText true text → ⊥) × (IsFieldText false text → ⊥)
-TestsOne number text (Err Limit) = (IsFieldText true text → ⊥) × IsFieldText false text
-TestsOne number text (Err OutOfMemory) = Unit {0}
-
-abbrev pub Tests : List (List ℕ) → Result (Unit {0}) ParseError → Type 0
-Tests texts (Ok _) = (k : ℕ) → k < length texts → IsFieldText true (get_or texts k [])
-Tests texts (Err (BadText n)) = IsBadText texts n
-Tests texts (Err Limit) = IsPastNumber texts
-Tests texts (Err OutOfMemory) = Unit {0}
+-- what is reported is so
+abbrev pub IsReported : List (List ℕ) → Result (List Column) ParseError → Type 0
+IsReported texts (Ok columns) = AreTextsOf texts columns × IsWithinLimits (schema_with columns)
+IsReported texts (Err (BadText number)) = IsBadText texts number
+IsReported texts (Err Limit) = IsPastNumber texts ⊎ IsPastLimits texts
+IsReported texts (Err OutOfMemory) = Unit {0}

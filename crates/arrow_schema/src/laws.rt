@@ -1,0 +1,28 @@
+// Laws of the definitions, for the crates above: each call does nothing, and its contract is the law.
+ghost use Rattle.std.specs.Prelude.{◌≡◌, ◌≤◌, ℕ, true, List, length, sum_by};
+ghost use Rattle.std.specs.List.{AllPass};
+ghost use Rattle.arrow_schema.specs.Column.{Column, PlainSchema};
+ghost use Rattle.arrow_schema.specs.Limits.{IsWithinLimits, name_len, has_utf8_texts};
+ghost use Rattle.arrow_schema.specs.Shape.{HaveOneShape};
+ghost use Rattle.arrow_schema.specs.Typed.{IsTextOf};
+
+use crate::limits::{MAX_FIELDS, MAX_TEXT_BYTES};
+
+/// What the limits say of a schema's own columns, their children left out.
+pub fn limits_bound_columns()
+    ensures fields { (s : PlainSchema) → IsWithinLimits s → length s.columns ≤ MAX_FIELDS }
+    ensures names { (s : PlainSchema) → IsWithinLimits s → sum_by name_len s.columns ≤ MAX_TEXT_BYTES }
+    ensures texts { (s : PlainSchema) → IsWithinLimits s → AllPass has_utf8_texts s.columns }
+{}
+
+/// To have one shape is an equivalence of schemas.
+pub fn one_shape_is_an_equivalence()
+    ensures reflexive { (a : PlainSchema) → HaveOneShape a a }
+    ensures symmetric { (a b : PlainSchema) → HaveOneShape a b → HaveOneShape b a }
+    ensures transitive { (a b c : PlainSchema) → HaveOneShape a b → HaveOneShape b c → HaveOneShape a c }
+{}
+
+/// One text is that of at most one column.
+pub fn one_column_of_a_text()
+    ensures { (text : List ℕ) (c d : Column) → IsTextOf true text c → IsTextOf true text d → c ≡ d }
+{}
