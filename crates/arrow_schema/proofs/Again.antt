@@ -6,6 +6,7 @@ use Rattle.std.proofs.lemmas.List.{append_assoc, append-nil}
 use Rattle.std.proofs.lemmas.Bool.{both_ways}
 use Rattle.std.proofs.lemmas.Bool.Decides.{nat_tests}
 use Rattle.facts.specs.laws.Levels.{nat_le_max}
+use Rattle.arrow_schema.specs.declared.limits.TheConstants.{NUMBER_END}
 use Rattle.arrow_schema.specs.declared.texts.keyword.Keyword.TheVariants as keywords
 use Rattle.arrow_schema.specs.Column.{Index, Pair, Kind, nulls, booleans, integers, dates, timestamps, texts, large_texts, binaries, large_binaries, fixed_binaries, lists, large_lists, fixed_lists, structs, Column, Columns, column, no_column, and_column, columns_of, list_of}
 use Rattle.arrow_schema.specs.Limits.{is_nested}
@@ -15,7 +16,7 @@ use Rattle.arrow_schema.specs.FieldText.{plain, nullable_suffix, with_dictionary
 use Rattle.arrow_schema.specs.Typed.{IsSize, IsTypedDictionary, IsTypedKind, IsTypedItem, IsTypedField, AreTyped}
 use Rattle.arrow_schema.specs.inner.Scan.{stripped, capped_number, has_nullable_suffix, after_nullable_suffix}
 use Rattle.arrow_schema.specs.inner.Build.{Reader, item_from, field_from, more_from, fields_from, parts_from, column_from, column_at}
-use Rattle.arrow_schema.proofs.Keywords.{bracket, parenthesis}
+use Rattle.arrow_schema.proofs.KeywordLemmas.{bracket, parenthesis}
 use Rattle.arrow_schema.proofs.Openings.{name_again}
 use Rattle.arrow_schema.proofs.Flats.{three, within_kind, list_opening, large_list_opening, fixed_list_opening, struct_opening}
 use Rattle.arrow_schema.proofs.Steps.{four, Stops, with_suffix, without_suffix, flat_read, more_stops, stops_at_end, stops_at, stops_at_parenthesis, name_of, field_name, field_is}
@@ -31,7 +32,7 @@ pub always : (n : ℕ) → nat_le 0 n ≡ true
 always n = grind (arith, nat_tests)
 
 within_same : (n : ℕ) → IsSize true n → capped_number n ≡ n
-within_same n h = let small : n < 2 ^ 31 = h refl in omega (arith, small)
+within_same n h = let small : n < NUMBER_END = h refl in omega (arith, small)
 
 kind_same : (k : Kind) → IsTypedKind true k → within_kind k ≡ k
 unfolding IsTypedKind

@@ -20,36 +20,36 @@ column_step (suc n) name text some = let down : suc n - 1 ≡ n = omega arith in
 step_of : (turns i : ℕ) → i < turns → turns - i ≡ suc (turns - (i + 1))
 step_of turns i h = omega (arith, h)
 
-pub more_closed : (read : Reader) (opening : List Column) (turns i : ℕ) (text rest : List ℕ) → i < turns → stripped (codes ">") text ≡ Some rest
-    → with_first opening (more_from read (turns - i) text) ≡ Some (opening, rest)
+pub more_closed : (read : Reader) (earlier : List Column) (turns i : ℕ) (text rest : List ℕ) → i < turns → stripped (codes ">") text ≡ Some rest
+    → with_first earlier (more_from read (turns - i) text) ≡ Some (earlier, rest)
 unfolding more_from
-more_closed read opening turns i text rest h e = rw (step_of turns i h, e) (ap (λ (cs : List Column). Some (cs, rest)) (append-nil opening))
+more_closed read earlier turns i text rest h e = rw (step_of turns i h, e) (ap (λ (cs : List Column). Some (cs, rest)) (append-nil earlier))
 
-pub more_ended : (read : Reader) (opening : List Column) (turns i : ℕ) (text : List ℕ) → turns ≤ i → with_first opening (more_from read (turns - i) text) ≡ None
+pub more_ended : (read : Reader) (earlier : List Column) (turns i : ℕ) (text : List ℕ) → turns ≤ i → with_first earlier (more_from read (turns - i) text) ≡ None
 unfolding more_from
-more_ended read opening turns i text h = let none : turns - i ≡ 0 = omega (arith, h) in rw none refl
+more_ended read earlier turns i text h = let none : turns - i ≡ 0 = omega (arith, h) in rw none refl
 
-pub more_lacks : (read : Reader) (opening : List Column) (turns i : ℕ) (text : List ℕ) → i < turns → stripped (codes ">") text ≡ None → stripped (codes ",") text ≡ None
-    → with_first opening (more_from read (turns - i) text) ≡ None
+pub more_lacks : (read : Reader) (earlier : List Column) (turns i : ℕ) (text : List ℕ) → i < turns → stripped (codes ">") text ≡ None → stripped (codes ",") text ≡ None
+    → with_first earlier (more_from read (turns - i) text) ≡ None
 unfolding more_from
-more_lacks read opening turns i text h e f = rw (step_of turns i h, e, f) refl
+more_lacks read earlier turns i text h e f = rw (step_of turns i h, e, f) refl
 
-unread : (read : Reader) (opening : List Column) (turns i : ℕ) (text next : List ℕ) → i < turns → stripped (codes ">") text ≡ None → stripped (codes ",") text ≡ Some next
-    → field_from read next ≡ None → with_first opening (more_from read (turns - i) text) ≡ None
+unread : (read : Reader) (earlier : List Column) (turns i : ℕ) (text next : List ℕ) → i < turns → stripped (codes ">") text ≡ None → stripped (codes ",") text ≡ Some next
+    → field_from read next ≡ None → with_first earlier (more_from read (turns - i) text) ≡ None
 unfolding more_from
-unread read opening turns i text next h e f g = rw (step_of turns i h, e, f, g) refl
+unread read earlier turns i text next h e f g = rw (step_of turns i h, e, f, g) refl
 
-pub more_fails : {X Y : Type 0} (view : X → Column × List ℕ) (views : Y → List Column × List ℕ) (err : BuildError) (read : Reader) (opening : List Column) (turns i : ℕ) (text next : List ℕ) (all : Option (List Column × List ℕ))
+pub more_fails : {X Y : Type 0} (view : X → Column × List ℕ) (views : Y → List Column × List ℕ) (err : BuildError) (read : Reader) (earlier : List Column) (turns i : ℕ) (text next : List ℕ) (all : Option (List Column × List ℕ))
     → i < turns → stripped (codes ">") text ≡ None → stripped (codes ",") text ≡ Some next → Builds view (Err err) (field_from read next)
-    → with_first opening (more_from read (turns - i) text) ≡ all → Builds views (Err err) all
-more_fails view views Unread read opening turns i text next all h e f g was = sym was ∙ unread read opening turns i text next h e f g
-more_fails view views Memory read opening turns i text next all h e f g was = tt
+    → with_first earlier (more_from read (turns - i) text) ≡ all → Builds views (Err err) all
+more_fails view views Unread read earlier turns i text next all h e f g was = sym was ∙ unread read earlier turns i text next h e f g
+more_fails view views Memory read earlier turns i text next all h e f g was = tt
 
-fused : (opening : List Column) (c : Column) (o : Option (List Column × List ℕ)) → with_first opening (option_map (λ q. (c ∷ q.0, q.1)) o) ≡ with_first (opening ++ c ∷ []) o
-fused opening c None = refl
-fused opening c (Some q) = ap (λ (cs : List Column). Some (cs, q.1)) (sym (append_assoc opening (c ∷ []) q.0))
+fused : (earlier : List Column) (c : Column) (o : Option (List Column × List ℕ)) → with_first earlier (option_map (λ q. (c ∷ q.0, q.1)) o) ≡ with_first (earlier ++ c ∷ []) o
+fused earlier c None = refl
+fused earlier c (Some q) = ap (λ (cs : List Column). Some (cs, q.1)) (sym (append_assoc earlier (c ∷ []) q.0))
 
-pub more_field : (read : Reader) (opening : List Column) (turns i : ℕ) (text next after : List ℕ) (c : Column) → i < turns → stripped (codes ">") text ≡ None → stripped (codes ",") text ≡ Some next
-    → field_from read next ≡ Some (c, after) → with_first (opening ++ c ∷ []) (more_from read (turns - (i + 1)) after) ≡ with_first opening (more_from read (turns - i) text)
+pub more_field : (read : Reader) (earlier : List Column) (turns i : ℕ) (text next after : List ℕ) (c : Column) → i < turns → stripped (codes ">") text ≡ None → stripped (codes ",") text ≡ Some next
+    → field_from read next ≡ Some (c, after) → with_first (earlier ++ c ∷ []) (more_from read (turns - (i + 1)) after) ≡ with_first earlier (more_from read (turns - i) text)
 unfolding more_from
-more_field read opening turns i text next after c h e f g = sym (rw (step_of turns i h, e, f, g) (fused opening c (more_from read (turns - (i + 1)) after)))
+more_field read earlier turns i text next after c h e f g = sym (rw (step_of turns i h, e, f, g) (fused earlier c (more_from read (turns - (i + 1)) after)))

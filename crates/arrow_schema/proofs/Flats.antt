@@ -10,15 +10,16 @@ use Rattle.arrow_schema.specs.declared.types.TimeUnit.{TimeUnit}
 use Rattle.arrow_schema.specs.declared.types.TimeUnit.TheVariants as time_units
 use Rattle.arrow_schema.specs.declared.texts.keyword.Keyword.{Keyword}
 use Rattle.arrow_schema.specs.declared.texts.keyword.Keyword.TheVariants as keywords
-use Rattle.arrow_schema.specs.Column.{Index, days, date_milliseconds, seconds, milliseconds, microseconds, nanoseconds, Kind, nulls, booleans, integers, dates, timestamps, texts, large_texts, binaries, large_binaries, fixed_binaries, lists, large_lists, fixed_lists, structs}
+use Rattle.arrow_schema.specs.Column.{Index, days, date_milliseconds, seconds, milliseconds, microseconds, nanoseconds, Kind, nulls, booleans, integers, dates, timestamps, texts, large_texts, binaries, large_binaries, fixed_binaries, lists, large_lists, fixed_lists, structs, is_bit_width}
 use Rattle.arrow_schema.specs.View.{bits_of, date_kind, time_kind}
 use Rattle.arrow_schema.specs.Limits.{is_nested}
 use Rattle.arrow_schema.specs.Keywords.{number_text, integer_text, time_text, keyword_text}
 use Rattle.arrow_schema.specs.FieldText.{plain, timezone_text, dictionary_text, with_dictionary, type_text}
-use Rattle.arrow_schema.specs.Typed.{IsBits, IsSize, IsTypedDictionary, IsTypedKind, is_timezone_byte}
+use Rattle.arrow_schema.specs.laws.Widths.{is_bit_width-bits_of, width_of}
+use Rattle.arrow_schema.specs.Typed.{IsSize, IsTypedDictionary, IsTypedKind, is_timezone_byte}
 use Rattle.arrow_schema.specs.inner.Scan.{stripped, keyword_at, capped_number, size_at, timezone_at, flat_at, Opening, flat, list, large_list, fixed_list, struct, index_in, values_at, dictionary_at, opening_after, opening_at}
 use Rattle.arrow_schema.proofs.Options.{some_map, some_then}
-use Rattle.arrow_schema.proofs.Keywords.{keyword_again, keyword_read, stripped_read}
+use Rattle.arrow_schema.proofs.KeywordLemmas.{keyword_again, keyword_read, stripped_read}
 use Rattle.arrow_schema.proofs.Openings.{size_again, size_read, timezone_again, IsTimezoneText, timezone_read}
 
 pub three : (a b c d : List ℕ) → a ++ b ++ c ++ d ≡ a ++ (b ++ (c ++ d))
@@ -42,7 +43,8 @@ unfolding IsTypedKind type_text flat_at keyword_text
 flat_starts limited nulls rest h e none = (keywords.Null, rest, refl, refl)
 flat_starts limited booleans rest h e none = (keywords.Bool, rest, refl, refl)
 flat_starts limited (integers bits signed) rest h e none =
-    (keywords.Int (record { width = h.0; signed = signed }), rest, ap (λ b. integer_text b signed ++ rest) h.1, ap (λ b. Some (integers b signed, rest)) (sym h.1))
+    let w = width_of bits h in
+    (keywords.Int (record { width = w.0; signed = signed }), rest, ap (λ b. integer_text b signed ++ rest) w.1, ap (λ b. Some (integers b signed, rest)) (sym w.1))
 flat_starts limited (dates days) rest h e none = (keywords.Date date_units.Day, rest, refl, refl)
 flat_starts limited (dates date_milliseconds) rest h e none = (keywords.Date date_units.Millisecond, rest, refl, refl)
 flat_starts limited (timestamps seconds timezone) rest h e none = time_starts limited time_units.Second timezone rest h none
@@ -67,7 +69,7 @@ pub flat_read : (limited : Bool) (keyword : Keyword) (text : List ℕ) → IfSom
 unfolding IsTypedKind type_text flat_at keyword_text
 flat_read limited keywords.Null text = (nulls, tt, refl, refl)
 flat_read limited keywords.Bool text = (booleans, tt, refl, refl)
-flat_read limited (keywords.Int i) text = (integers (bits_of i.width) i.signed, (i.width, refl), refl, refl)
+flat_read limited (keywords.Int i) text = (integers (bits_of i.width) i.signed, is_bit_width-bits_of i.width, refl, refl)
 flat_read limited (keywords.Date unit) text = (dates (date_kind unit), tt, refl, refl)
 flat_read limited (keywords.Timestamp unit) text =
     some_map (λ p. (timestamps (time_kind unit) p.0, p.1)) (timezone_at text) (IsTimezoneText text) (IsFlatText limited (keyword_text (keywords.Timestamp unit) ++ text)) (timezone_read text)
@@ -96,7 +98,7 @@ IsOpeningText limited text struct rest = text ≡ keyword_text keywords.Struct +
 abbrev pub IsOpening : Bool → List ℕ → Opening × List ℕ → Type 0
 IsOpening limited text p = IsOpeningText limited text p.0 p.1
 
-values_read : (limited : Bool) (index : Index) (text : List ℕ) → IsBits index.bits → IfSome (values_at limited index text) (IsOpening limited (dictionary_text index ++ text))
+values_read : (limited : Bool) (index : Index) (text : List ℕ) → is_bit_width index.bits ≡ true → IfSome (values_at limited index text) (IsOpening limited (dictionary_text index ++ text))
 unfolding values_at
 values_read limited index text bits =
     some_then _ (keyword_at text) (λ q. text ≡ keyword_text q.0 ++ q.1) (IsOpening limited (dictionary_text index ++ text)) (keyword_read text) (λ q e.
@@ -105,11 +107,11 @@ values_read limited index text bits =
     (f.0, f.1, (bits, f.2), f.2, ap (λ (ys : List ℕ). dictionary_text index ++ ys) (e ∙ f.3 ∙ ap (λ (ys : List ℕ). type_text plain f.0 ++ ys) g) ∙ sym (three (dictionary_text index) (type_text plain f.0) (62 ∷ []) rest)))))
 
 abbrev IsIndexKeyword : Keyword → Index → Type 0
-IsIndexKeyword keyword index = IsBits index.bits × (keyword_text keyword ≡ integer_text index.bits index.signed)
+IsIndexKeyword keyword index = (is_bit_width index.bits ≡ true) × (keyword_text keyword ≡ integer_text index.bits index.signed)
 
 index_read : (keyword : Keyword) → IfSome (index_in keyword) (IsIndexKeyword keyword)
 unfolding keyword_text
-index_read (keywords.Int i) = ((i.width, refl), refl)
+index_read (keywords.Int i) = (is_bit_width-bits_of i.width, refl)
 index_read keywords.Null = tt
 index_read keywords.Bool = tt
 index_read (keywords.Date unit) = tt

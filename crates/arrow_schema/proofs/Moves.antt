@@ -14,7 +14,7 @@ use Rattle.arrow_schema.specs.Typed.{is_name_byte, is_name, IsTypedItem, IsTyped
 use Rattle.arrow_schema.specs.inner.Scan.{stripped, name_at, Opening, flat, list, large_list, fixed_list, struct, opening_at, has_nullable_suffix, after_nullable_suffix}
 use Rattle.arrow_schema.specs.inner.Standing.{close_of, IsInside, Closing, Closes, Goes, Stands, begun, after_opening, step}
 use Rattle.arrow_schema.proofs.Options.{some_eq, none_some}
-use Rattle.arrow_schema.proofs.Keywords.{stripped_read}
+use Rattle.arrow_schema.proofs.KeywordLemmas.{stripped_read}
 use Rattle.arrow_schema.proofs.Openings.{lacks, name_again, name_read}
 use Rattle.arrow_schema.proofs.Flats.{three, IsOpening, opening_read}
 use Rattle.arrow_schema.proofs.Steps.{Stops, without_suffix, suffix_split, closes_stop, renamed, item_from_field, field_from_item, name_of, field_name, field_is, renamed_is, Inside, Item, joined, Starts, item_starts}

@@ -5,6 +5,7 @@ use Rattle.std.specs.List.{list_all}
 use Rattle.std.proofs.lemmas.List.{append_assoc}
 use Rattle.std.proofs.lemmas.Bool.{ne_eqb, both_ways, and_parts}
 use Rattle.std.proofs.lemmas.Bool.Decides.{nat_tests}
+use Rattle.arrow_schema.specs.declared.limits.TheConstants.{NUMBER_END}
 use Rattle.arrow_schema.specs.Keywords.{number_text}
 use Rattle.arrow_schema.specs.FieldText.{plain, timezone_text}
 use Rattle.arrow_schema.specs.Typed.{IsSize, is_name_byte, is_timezone_byte, is_name}
@@ -12,7 +13,7 @@ use Rattle.arrow_schema.specs.inner.Scan.{stripped, cut_at, is_digit, has_one_fo
 use Rattle.arrow_schema.proofs.Cutting.{cut_some}
 use Rattle.arrow_schema.proofs.Digits.{value_text, numeral_text, text_value}
 use Rattle.arrow_schema.proofs.Options.{some_map, some_then, some_if}
-use Rattle.arrow_schema.proofs.Keywords.{stripped_read}
+use Rattle.arrow_schema.proofs.KeywordLemmas.{stripped_read}
 
 -- what is refused everywhere does not stand there
 pub lacks : (p : ℕ → Bool) (delimiter : ℕ) (xs : List ℕ) → p delimiter ≡ false → list_all p xs ≡ true → (i : ℕ) → i < length xs → get_or xs i 0 ≢ delimiter
@@ -31,11 +32,11 @@ cut_read delimiter [] = tt
 cut_read delimiter (x ∷ xs) = cut_step delimiter x xs (x == delimiter) refl (cut_read delimiter xs)
 
 -- sizes
-sized : (limited : Bool) (n : ℕ) → IsSize limited n → (not limited || nat_lt n (2 ^ 31)) ≡ true
-sized true n h = let small : n < 2 ^ 31 = h refl in grind (arith, nat_tests)
+sized : (limited : Bool) (n : ℕ) → IsSize limited n → (not limited || nat_lt n NUMBER_END) ≡ true
+sized true n h = let small : n < NUMBER_END = h refl in grind (arith, nat_tests)
 sized false n h = refl
 
-unsized : (limited : Bool) (n : ℕ) → (not limited || nat_lt n (2 ^ 31)) ≡ true → IsSize limited n
+unsized : (limited : Bool) (n : ℕ) → (not limited || nat_lt n NUMBER_END) ≡ true → IsSize limited n
 unsized true n e = λ _. grind (arith, nat_tests)
 unsized false n e = λ never. absurd (both_ways false refl never)
 

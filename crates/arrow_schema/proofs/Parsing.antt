@@ -7,6 +7,7 @@ use Rattle.std.specs.Option.{option_and_then}
 use Rattle.std.proofs.lemmas.Bool.{le-leb}
 use Rattle.std.proofs.lemmas.List.{append-nil, append_assoc, drop_all, get_or-map}
 use Rattle.facts.specs.laws.Levels.{nat_le_max}
+use Rattle.arrow_schema.specs.declared.limits.TheConstants.{MAX_DEPTH}
 use Rattle.arrow_schema.specs.declared.texts.build.BuildError.{BuildError}
 use Rattle.arrow_schema.specs.declared.texts.build.BuildError.TheVariants.{Unread, Memory}
 use Rattle.arrow_schema.specs.declared.texts.parse.ParseError.{ParseError}
@@ -53,26 +54,26 @@ built_same : (b : Bool) (cs columns : List Column) → Some cs ≡ cond b (Some 
 built_same true cs columns e = cc
 built_same false cs columns e = cc
 
-texts_of_built : (texts : List (List ℕ)) (cs : List Column) → ((k : ℕ) → k < length texts → IsFieldText true (get_or texts k [])) → columns_at 32 texts ≡ Some cs → AreTextsOf texts cs
+texts_of_built : (texts : List (List ℕ)) (cs : List Column) → ((k : ℕ) → k < length texts → IsFieldText true (get_or texts k [])) → columns_at MAX_DEPTH texts ≡ Some cs → AreTextsOf texts cs
 texts_of_built texts cs good e =
     let all : Columns texts = all_columns texts good in
-    subst (AreTextsOf texts) (sym (built_same (nat_le (depth_all (columns_of all.columns)) 32) cs all.columns (sym e ∙ columns_again texts all.columns 32 all.texts_of))) all.texts_of
+    subst (AreTextsOf texts) (sym (built_same (nat_le (depth_all (columns_of all.columns)) MAX_DEPTH) cs all.columns (sym e ∙ columns_again texts all.columns MAX_DEPTH all.texts_of))) all.texts_of
 
-pub reported_ok : (texts : List (List ℕ)) (cs : List Column) (s : PlainSchema) → Tests texts (Ok tt) → columns_at 32 texts ≡ Some cs → s ≡ schema_with cs → IsWithinLimits s → IsReported texts (Ok cs)
+pub reported_ok : (texts : List (List ℕ)) (cs : List Column) (s : PlainSchema) → Tests texts (Ok tt) → columns_at MAX_DEPTH texts ≡ Some cs → s ≡ schema_with cs → IsWithinLimits s → IsReported texts (Ok cs)
 reported_ok texts cs s good e is within = (texts_of_built texts cs good e, subst IsWithinLimits is within)
 
-pub reported_past : (texts : List (List ℕ)) (cs : List Column) (s : PlainSchema) → Tests texts (Ok tt) → columns_at 32 texts ≡ Some cs → s ≡ schema_with cs → (IsWithinLimits s → ⊥) → IsReported texts (Err Limit)
+pub reported_past : (texts : List (List ℕ)) (cs : List Column) (s : PlainSchema) → Tests texts (Ok tt) → columns_at MAX_DEPTH texts ≡ Some cs → s ≡ schema_with cs → (IsWithinLimits s → ⊥) → IsReported texts (Err Limit)
 reported_past texts cs s good e is past = inr (record { columns = cs; texts_of = texts_of_built texts cs good e; past = λ within. past (subst IsWithinLimits (sym is) within) })
 
-pub reported_deep : (texts : List (List ℕ)) → Tests texts (Ok tt) → columns_at 32 texts ≡ None → IsReported texts (Err Limit)
+pub reported_deep : (texts : List (List ℕ)) → Tests texts (Ok tt) → columns_at MAX_DEPTH texts ≡ None → IsReported texts (Err Limit)
 reported_deep texts good e =
     let all : Columns texts = all_columns texts good in
     inr (record {
       columns = all.columns;
       texts_of = all.texts_of;
       past = λ within.
-          let shallow : nat_le (depth_all (columns_of all.columns)) 32 ≡ true = le-leb _ _ within.levels in
-          none_some (sym e ∙ columns_again texts all.columns 32 all.texts_of ∙ ap (λ (b : Bool). cond b (Some all.columns) None) shallow);
+          let shallow : nat_le (depth_all (columns_of all.columns)) MAX_DEPTH ≡ true = le-leb _ _ within.levels in
+          none_some (sym e ∙ columns_again texts all.columns MAX_DEPTH all.texts_of ∙ ap (λ (b : Bool). cond b (Some all.columns) None) shallow);
     })
 
 pub reported_err : (texts : List (List ℕ)) (e : ParseError) → Tests texts (Err e) → IsReported texts (Err e)
@@ -94,22 +95,22 @@ one_refused texts i Limit among before h = record { index = i; first = record { 
 one_refused texts i OutOfMemory among before h = tt
 
 -- the columns of each text in turn
-pub next_column : (opening cs : List Column) (c : Column) (l : ℕ) (text : List ℕ) (texts : List (List ℕ)) (rest : List ℕ) → field_from (column_at l) text ≡ Some (c, rest)
-    → before_columns (opening ++ c ∷ []) (columns_at l texts) ≡ before_columns opening (columns_at l (text ∷ texts))
+pub next_column : (earlier cs : List Column) (c : Column) (l : ℕ) (text : List ℕ) (texts : List (List ℕ)) (rest : List ℕ) → field_from (column_at l) text ≡ Some (c, rest)
+    → before_columns (earlier ++ c ∷ []) (columns_at l texts) ≡ before_columns earlier (columns_at l (text ∷ texts))
 unfolding columns_at
-next_column opening cs c l text texts rest e = rw e (shift (columns_at l texts))
+next_column earlier cs c l text texts rest e = rw e (shift (columns_at l texts))
   where
-    shift : (o : Option (List Column)) → before_columns (opening ++ c ∷ []) o ≡ before_columns opening (option_map (λ cs. c ∷ cs) o)
+    shift : (o : Option (List Column)) → before_columns (earlier ++ c ∷ []) o ≡ before_columns earlier (option_map (λ cs. c ∷ cs) o)
     shift None = refl
-    shift (Some cs) = ap Some (append_assoc opening (c ∷ []) cs)
+    shift (Some cs) = ap Some (append_assoc earlier (c ∷ []) cs)
 
-pub no_column : (opening : List Column) (l : ℕ) (text : List ℕ) (texts : List (List ℕ)) → field_from (column_at l) text ≡ None → before_columns opening (columns_at l (text ∷ texts)) ≡ None
+pub no_column : (earlier : List Column) (l : ℕ) (text : List ℕ) (texts : List (List ℕ)) → field_from (column_at l) text ≡ None → before_columns earlier (columns_at l (text ∷ texts)) ≡ None
 unfolding columns_at
-no_column opening l text texts e = rw e refl
+no_column earlier l text texts e = rw e refl
 
-pub all_built : (opening : List Column) (l : ℕ) → before_columns opening (columns_at l []) ≡ Some opening
+pub all_built : (earlier : List Column) (l : ℕ) → before_columns earlier (columns_at l []) ≡ Some earlier
 unfolding columns_at
-all_built opening l = ap Some (append-nil opening)
+all_built earlier l = ap Some (append-nil earlier)
 
 -- one text is that of one column
 pub one_column : (text : List ℕ) (c d : Column) → IsTextOf true text c → IsTextOf true text d → c ≡ d
@@ -120,26 +121,26 @@ one_column text c d h k =
     ap (λ (p : Column × List ℕ). p.0) (some_eq {X = Column × List ℕ} (c, []) (d, []) (sym first ∙ second))
 
 -- over the texts as the code keeps them
-pub next_text : (xs : List (Bor (List ℕ))) (i : ℕ) (d : Bor (List ℕ)) (opening : List Column) (c : Column) (rest : List ℕ) → i < length xs → field_from (column_at 32) (get_or xs i d).now ≡ Some (c, rest)
-    → before_columns (opening ++ c ∷ []) (columns_at 32 (map (λ t. t.now) (drop (i + 1) xs))) ≡ before_columns opening (columns_at 32 (map (λ t. t.now) (drop i xs)))
-next_text xs i d opening c rest h e =
+pub next_text : (xs : List (Bor (List ℕ))) (i : ℕ) (d : Bor (List ℕ)) (earlier : List Column) (c : Column) (rest : List ℕ) → i < length xs → field_from (column_at MAX_DEPTH) (get_or xs i d).now ≡ Some (c, rest)
+    → before_columns (earlier ++ c ∷ []) (columns_at MAX_DEPTH (map (λ t. t.now) (drop (i + 1) xs))) ≡ before_columns earlier (columns_at MAX_DEPTH (map (λ t. t.now) (drop i xs)))
+next_text xs i d earlier c rest h e =
     let next : drop i xs ≡ get_or xs i d ∷ drop (i + 1) xs = rw (add-one i) (drop-cons xs i d h) in
-    rw next (next_column opening [] c 32 (get_or xs i d).now (map (λ t. t.now) (drop (i + 1) xs)) rest e)
+    rw next (next_column earlier [] c MAX_DEPTH (get_or xs i d).now (map (λ t. t.now) (drop (i + 1) xs)) rest e)
 
-no_text : (xs : List (Bor (List ℕ))) (i : ℕ) (d : Bor (List ℕ)) (opening : List Column) → i < length xs → field_from (column_at 32) (get_or xs i d).now ≡ None → before_columns opening (columns_at 32 (map (λ t. t.now) (drop i xs))) ≡ None
-no_text xs i d opening h e =
+no_text : (xs : List (Bor (List ℕ))) (i : ℕ) (d : Bor (List ℕ)) (earlier : List Column) → i < length xs → field_from (column_at MAX_DEPTH) (get_or xs i d).now ≡ None → before_columns earlier (columns_at MAX_DEPTH (map (λ t. t.now) (drop i xs))) ≡ None
+no_text xs i d earlier h e =
     let next : drop i xs ≡ get_or xs i d ∷ drop (i + 1) xs = rw (add-one i) (drop-cons xs i d h) in
-    rw next (no_column opening 32 (get_or xs i d).now (map (λ t. t.now) (drop (i + 1) xs)) e)
+    rw next (no_column earlier MAX_DEPTH (get_or xs i d).now (map (λ t. t.now) (drop (i + 1) xs)) e)
 
-pub text_fails : {X Y : Type 0} (view : X → Column × List ℕ) (views : Y → List Column) (err : BuildError) (xs : List (Bor (List ℕ))) (i : ℕ) (d : Bor (List ℕ)) (opening : List Column) (all : Option (List Column))
-    → i < length xs → Builds view (Err err) (field_from (column_at 32) (get_or xs i d).now) → before_columns opening (columns_at 32 (map (λ t. t.now) (drop i xs))) ≡ all → Builds views (Err err) all
-text_fails view views Unread xs i d opening all h e was = sym was ∙ no_text xs i d opening h e
-text_fails view views Memory xs i d opening all h e was = tt
+pub text_fails : {X Y : Type 0} (view : X → Column × List ℕ) (views : Y → List Column) (err : BuildError) (xs : List (Bor (List ℕ))) (i : ℕ) (d : Bor (List ℕ)) (earlier : List Column) (all : Option (List Column))
+    → i < length xs → Builds view (Err err) (field_from (column_at MAX_DEPTH) (get_or xs i d).now) → before_columns earlier (columns_at MAX_DEPTH (map (λ t. t.now) (drop i xs))) ≡ all → Builds views (Err err) all
+text_fails view views Unread xs i d earlier all h e was = sym was ∙ no_text xs i d earlier h e
+text_fails view views Memory xs i d earlier all h e was = tt
 
-pub texts_done : (xs : List (Bor (List ℕ))) (i : ℕ) (opening : List Column) (all : Option (List Column)) → length xs ≤ i → before_columns opening (columns_at 32 (map (λ t. t.now) (drop i xs))) ≡ all → all ≡ Some opening
-texts_done xs i opening all h was =
+pub texts_done : (xs : List (Bor (List ℕ))) (i : ℕ) (earlier : List Column) (all : Option (List Column)) → length xs ≤ i → before_columns earlier (columns_at MAX_DEPTH (map (λ t. t.now) (drop i xs))) ≡ all → all ≡ Some earlier
+texts_done xs i earlier all h was =
     let none : drop i xs ≡ [] = drop_all i xs h in
-    sym was ∙ rw none (all_built opening 32)
+    sym was ∙ rw none (all_built earlier MAX_DEPTH)
 
 pub good_at : (xs : List (Bor (List ℕ))) (i : ℕ) (d : Bor (List ℕ)) → i < length xs → IsFieldText true (get_or xs i d).now → IsFieldText true (get_or (map (λ t. t.now) xs) i [])
 good_at xs i d h good = subst (IsFieldText true) (sym (get_or-map (λ t. t.now) xs i d [] h)) good

@@ -12,7 +12,7 @@ use Rattle.arrow_schema.specs.Typed.{is_name, AreTyped, IsFieldText}
 use Rattle.arrow_schema.specs.inner.Scan.{stripped, name_at, has_nullable_suffix, after_nullable_suffix}
 use Rattle.arrow_schema.specs.inner.Standing.{close_of, IsInside, Closing, Closes, Goes, next_in, continued, after_part, step}
 use Rattle.arrow_schema.proofs.Options.{some_eq, none_some}
-use Rattle.arrow_schema.proofs.Keywords.{bracket, parenthesis, stripped_read}
+use Rattle.arrow_schema.proofs.KeywordLemmas.{bracket, parenthesis, stripped_read}
 use Rattle.arrow_schema.proofs.Openings.{name_read}
 use Rattle.arrow_schema.proofs.Steps.{four, suffix_split, closes_stop, renamed, item_from_field, field_from_item, name_of, renamed_is}
 use Rattle.arrow_schema.proofs.Moves.{match_map, match_iff, snd_eq, named, FieldThen, field_moves, StandsAt, suffix_again}

@@ -13,7 +13,7 @@ use Rattle.arrow_schema.specs.Typed.{is_name}
 use Rattle.arrow_schema.specs.inner.Scan.{stripped, name_at, Opening, flat, list, large_list, fixed_list, struct, opening_at, has_nullable_suffix, after_nullable_suffix}
 use Rattle.arrow_schema.specs.inner.Standing.{close_of, begun, next_in, continued, after_opening, after_part, step}
 use Rattle.arrow_schema.proofs.Options.{some_map, some_then, some_or}
-use Rattle.arrow_schema.proofs.Keywords.{stripped_read}
+use Rattle.arrow_schema.proofs.KeywordLemmas.{stripped_read}
 use Rattle.arrow_schema.proofs.Openings.{name_read}
 use Rattle.arrow_schema.proofs.Flats.{IsOpening, opening_read}
 use Rattle.arrow_schema.proofs.Steps.{suffix_split}

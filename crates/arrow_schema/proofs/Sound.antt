@@ -6,8 +6,6 @@ use Rattle.std.specs.Str.{is_utf8}
 use Rattle.std.specs.Global.{Global}
 use Rattle.std.proofs.lemmas.Str.{is_utf8-from_IsUtf8, IsUtf8-string_bytes, IsUtf8-nil}
 use Rattle.std.proofs.lemmas.List.Folds.{list_all-append}
-use Rattle.arrow_schema.specs.declared.types.BitWidth.{BitWidth}
-use Rattle.arrow_schema.specs.declared.types.BitWidth.TheVariants.{Eight, Sixteen, ThirtyTwo, SixtyFour}
 use Rattle.arrow_schema.specs.declared.types.DictSpec.{DictSpec}
 use Rattle.arrow_schema.specs.declared.types.DataType.{DataType}
 use Rattle.arrow_schema.specs.declared.types.Field.{Field}
@@ -15,9 +13,10 @@ use Rattle.arrow_schema.specs.declared.types.Schema.{Schema}
 use Rattle.arrow_schema.specs.declared.types.DataType.TheOpen.{DataType-F, Field-F}
 use Rattle.arrow_schema.specs.declared.types.DataType.TheOpen as types
 use Rattle.arrow_schema.specs.declared.types.DataType.TheFolds.{ind-DataType, ind-Field, map-DataType, map-Field, fold-roll-DataType, fold-roll-Field}
-use Rattle.arrow_schema.specs.Column.{Kind, Column, columns_of, PlainSchema, is_bit_width}
-use Rattle.arrow_schema.specs.View.{bits_of, index_of, pair_of, kind_step, column_step, kind_of, column_of, schema_of}
+use Rattle.arrow_schema.specs.Column.{Kind, Column, columns_of, PlainSchema}
+use Rattle.arrow_schema.specs.View.{index_of, pair_of, kind_step, column_step, kind_of, column_of, schema_of}
 use Rattle.arrow_schema.specs.Preorder.{preorder, preorder_below, preorder_all, every_column}
+use Rattle.arrow_schema.specs.laws.Widths.{is_bit_width-bits_of}
 use Rattle.arrow_schema.specs.Limits.{timezone_of, is_kind_of_width, is_index_of_width, has_bit_widths, texts_of_pairs, has_utf8_texts}
 
 pub record IsSound (s : PlainSchema) : Type 0 where
@@ -28,15 +27,9 @@ pub record IsSound (s : PlainSchema) : Type 0 where
 both : {a b : Bool} → a ≡ true → b ≡ true → (a && b) ≡ true
 both x y = rw x y
 
-width_is : (w : BitWidth) → is_bit_width (bits_of w) ≡ true
-width_is Eight = refl
-width_is Sixteen = refl
-width_is ThirtyTwo = refl
-width_is SixtyFour = refl
-
 index_is : (d : Option DictSpec) → is_index_of_width (option_map index_of d) ≡ true
 index_is None = refl
-index_is (Some d) = width_is d.index.width
+index_is (Some d) = is_bit_width-bits_of d.index.width
 
 text_is : (s : String Global) → is_utf8 (string_bytes s) ≡ true
 text_is s = is_utf8-from_IsUtf8 _ (IsUtf8-string_bytes s)
@@ -79,7 +72,7 @@ kind_sound : (y : DataType-F SoundType SoundField) → KindIsSound (kind_step (m
 unfolding preorder_below
 kind_sound types.Null = record { width = refl; timezone = no_timezone; widths = refl; texts = refl }
 kind_sound types.Bool = record { width = refl; timezone = no_timezone; widths = refl; texts = refl }
-kind_sound (types.Int i) = record { width = width_is i.width; timezone = no_timezone; widths = refl; texts = refl }
+kind_sound (types.Int i) = record { width = is_bit_width-bits_of i.width; timezone = no_timezone; widths = refl; texts = refl }
 kind_sound (types.Date u) = record { width = refl; timezone = no_timezone; widths = refl; texts = refl }
 kind_sound (types.Timestamp u timezone) = record { width = refl; timezone = text_is timezone; widths = refl; texts = refl }
 kind_sound types.Utf8 = record { width = refl; timezone = no_timezone; widths = refl; texts = refl }

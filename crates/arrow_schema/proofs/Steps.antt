@@ -10,10 +10,11 @@ use Rattle.arrow_schema.specs.Column.{Index, Kind, nulls, booleans, integers, da
 use Rattle.arrow_schema.specs.Limits.{is_nested}
 use Rattle.arrow_schema.specs.Keywords.{number_text, keyword_text}
 use Rattle.arrow_schema.specs.FieldText.{plain, nullable_suffix, with_dictionary, type_text, item_text, field_text, fields_text, more_text}
+use Rattle.arrow_schema.specs.laws.Widths.{width_of}
 use Rattle.arrow_schema.specs.Typed.{is_name, IsTypedDictionary, IsTypedKind, IsTypedItem, IsTypedField, AreTyped}
 use Rattle.arrow_schema.specs.inner.Scan.{stripped, capped_number, Opening, flat, list, large_list, fixed_list, struct, opening_at, has_nullable_suffix, after_nullable_suffix}
 use Rattle.arrow_schema.specs.inner.Standing.{Closes}
-use Rattle.arrow_schema.proofs.Keywords.{stripped_read}
+use Rattle.arrow_schema.proofs.KeywordLemmas.{stripped_read}
 use Rattle.arrow_schema.proofs.Flats.{three, within_kind, IsOpeningText, flat_opening, dictionary_opening, list_opening, large_list_opening, fixed_list_opening, struct_opening}
 
 pub four : (a b c d e : List ℕ) → a ++ b ++ c ++ d ++ e ≡ a ++ (b ++ (c ++ (d ++ e)))
@@ -160,9 +161,10 @@ pub flat_read : (limited m : Bool) (k : Kind) (d : Option Index) (rest : List �
     → opening_at limited (with_dictionary d (type_text plain k) ++ nullable_suffix m ++ rest) ≡ Some (flat (within_kind k) d, nullable_suffix m ++ rest)
 flat_read limited m k None rest typed e d s = ap (opening_at limited) (append_assoc (type_text plain k) (nullable_suffix m) rest) ∙ flat_opening limited k (nullable_suffix m ++ rest) typed e (no_timezone m rest s)
 flat_read limited m k (Some index) rest typed e d s =
+    let w = width_of index.bits d.0 in
     ap (opening_at limited) (append_assoc (with_dictionary (Some index) (type_text plain k)) (nullable_suffix m) rest)
     ∙ subst (λ bits. opening_at limited (with_dictionary (Some (record { bits = bits; signed = index.signed })) (type_text plain k) ++ (nullable_suffix m ++ rest)) ≡ Some (flat (within_kind k) (Some (record { bits = bits; signed = index.signed })), nullable_suffix m ++ rest))
-    (sym d.0.1) (dictionary_opening limited d.0.0 index.signed k (nullable_suffix m ++ rest) typed e)
+    (sym w.1) (dictionary_opening limited w.0 index.signed k (nullable_suffix m ++ rest) typed e)
 
 flat_item : (limited m : Bool) (k : Kind) (d : Option Index) (rest : List ℕ) → IsTypedKind limited k → is_nested k ≡ false → IsTypedDictionary d k → Stops rest
     → Starts limited (with_dictionary d (type_text plain k) ++ nullable_suffix m ++ rest) rest

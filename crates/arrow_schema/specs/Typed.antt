@@ -1,9 +1,8 @@
 -- Which columns can be typed in: what their names, types and timezones hold (docs/definitions/field_texts.md).
-use Rattle.std.specs.Prelude.{◌≡◌, ℕ, ◌<◌, ◌^◌, ◌==◌, Bool, true, false, not, ◌&&◌, ◌||◌, length, List, [], ◌∷◌, codes, Option, None, Some}
+use Rattle.std.specs.Prelude.{◌≡◌, ℕ, ◌<◌, ◌==◌, Bool, true, false, not, ◌&&◌, ◌||◌, length, List, [], ◌∷◌, codes, Option, None, Some}
 use Rattle.std.specs.List.{list_all}
-use Rattle.arrow_schema.specs.declared.types.BitWidth.{BitWidth}
-use Rattle.arrow_schema.specs.Column.{Index, Kind, Column, Columns, integers, timestamps, fixed_binaries, lists, large_lists, fixed_lists, structs, column, no_column, and_column}
-use Rattle.arrow_schema.specs.View.{bits_of}
+use Rattle.arrow_schema.specs.declared.limits.TheConstants.{NUMBER_END}
+use Rattle.arrow_schema.specs.Column.{Index, Kind, Column, Columns, integers, timestamps, fixed_binaries, lists, large_lists, fixed_lists, structs, column, no_column, and_column, is_bit_width}
 use Rattle.arrow_schema.specs.Limits.{is_nested}
 use Rattle.arrow_schema.specs.FieldText.{plain, field_text}
 
@@ -22,22 +21,18 @@ is_timezone_byte b = not (is_one_of (codes " ()\"") b)
 abbrev pub is_name : List ℕ → Bool
 is_name name = list_all is_name_byte name && not (length name == 0)
 
--- an integer has 8, 16, 32 or 64 bits
-abbrev pub IsBits : ℕ → Type 0
-IsBits bits = (width : BitWidth) × (bits ≡ bits_of width)
-
--- any number can be typed in; where limited, those below 2^31
+-- any number can be typed in; where limited, those below `NUMBER_END`
 abbrev pub IsSize : Bool → ℕ → Type 0
-IsSize limited n = limited ≡ true → n < 2 ^ 31
+IsSize limited n = limited ≡ true → n < NUMBER_END
 
 -- a dictionary holds no lists and no structs
 abbrev pub IsTypedDictionary : Option Index → Kind → Type 0
 IsTypedDictionary None kind = Unit {0}
-IsTypedDictionary (Some index) kind = IsBits index.bits × (is_nested kind ≡ false)
+IsTypedDictionary (Some index) kind = (is_bit_width index.bits ≡ true) × (is_nested kind ≡ false)
 
 unfoldable mutual
   pub IsTypedKind : Bool → Kind → Type 0
-  IsTypedKind limited (integers bits signed) = IsBits bits
+  IsTypedKind limited (integers bits signed) = is_bit_width bits ≡ true
   IsTypedKind limited (timestamps unit timezone) = list_all is_timezone_byte timezone ≡ true
   IsTypedKind limited (fixed_binaries width) = IsSize limited width
   IsTypedKind limited (lists item) = IsTypedItem limited item
@@ -57,7 +52,7 @@ unfoldable mutual
   AreTyped limited no_column = Unit {0}
   AreTyped limited (and_column c cs) = IsTypedField limited c × AreTyped limited cs
 
--- a text is that of a field; where limited, its numbers are below 2^31
+-- a text is that of a field; where limited, its numbers are below `NUMBER_END`
 abbrev pub IsTextOf : Bool → List ℕ → Column → Type 0
 IsTextOf limited text c = IsTypedField limited c × (text ≡ field_text plain c)
 

@@ -32,7 +32,7 @@ more_from read zero text = None
 more_from read (suc turns) text = option_or (closed text) (option_and_then (λ next. option_and_then (λ p. option_map (λ q. (p.0 ∷ q.0, q.1)) (more_from read turns p.1)) (field_from read next)) (stripped (codes ",") text))
 
 abbrev pub with_first : List Column → Option (List Column × List ℕ) → Option (List Column × List ℕ)
-with_first opening read = option_map (λ q. (opening ++ q.0, q.1)) read
+with_first earlier read = option_map (λ q. (earlier ++ q.0, q.1)) read
 
 unfoldable pub fields_from : Reader → List ℕ → Option (List Column × List ℕ)
 fields_from read text = option_or (closed text) (option_and_then (λ p. option_map (λ q. (p.0 ∷ q.0, q.1)) (more_from read (length text) p.1)) (field_from read text))
@@ -59,4 +59,4 @@ columns_at levels [] = Some []
 columns_at levels (text ∷ texts) = option_and_then (λ p. option_map (λ cs. p.0 ∷ cs) (columns_at levels texts)) (field_from (column_at levels) text)
 
 abbrev pub before_columns : List Column → Option (List Column) → Option (List Column)
-before_columns opening read = option_map (λ cs. opening ++ cs) read
+before_columns earlier read = option_map (λ cs. earlier ++ cs) read

@@ -3,6 +3,7 @@ use Rattle.std.specs.Prelude.{◌≡◌, ℕ, ◌-◌, ◌^◌, ◌==◌, min, B
 use Rattle.std.specs.List.{list_all}
 use Rattle.std.specs.Option.{option_and_then, option_or, unwrap_or}
 use Rattle.std.specs.Int.Digits.{number_from_digits}
+use Rattle.arrow_schema.specs.declared.limits.TheConstants.{NUMBER_END}
 use Rattle.arrow_schema.specs.declared.types.BitWidth.TheVariants.{Eight, Sixteen, ThirtyTwo, SixtyFour}
 use Rattle.arrow_schema.specs.declared.types.DateUnit.TheVariants as days
 use Rattle.arrow_schema.specs.declared.types.TimeUnit.TheVariants as times
@@ -66,9 +67,9 @@ value ds = number_from_digits 10 (map (λ d. d - 48) ds)
 abbrev pub capped_number : ℕ → ℕ
 capped_number n = min n (2 ^ 32 - 1)
 
--- a number; where limited, one below 2^31
+-- a number; where limited, one below `NUMBER_END`
 abbrev pub is_size : Bool → List ℕ → Bool
-is_size limited ds = is_numeral ds && (not limited || nat_lt (value ds) (2 ^ 31))
+is_size limited ds = is_numeral ds && (not limited || nat_lt (value ds) NUMBER_END)
 
 unfoldable pub size_at : Bool → ℕ → List ℕ → Option (ℕ × List ℕ)
 size_at limited delimiter text = option_and_then (λ p. if is_size limited p.0 then Some (capped_number (value p.0), p.1) else None) (cut_at delimiter text)

@@ -56,7 +56,7 @@ fn flat_type(alloc: Global, flat: Flat) -> Result<DataType, AllocError>
 #[cycle(build)]
 fn build_item<'a>(
     alloc: Global,
-    levels: u32,
+    levels: u64,
     text: &'a str,
     close: &str,
 ) -> Result<(Box<Field>, &'a str), BuildError>
@@ -73,7 +73,7 @@ fn build_item<'a>(
 #[cycle(build)]
 pub(crate) fn build_field(
     alloc: Global,
-    levels: u32,
+    levels: u64,
     text: &str,
 ) -> Result<(Field, &str), BuildError>
     ensures { Builds (λ p. (column_of p.0, p.1.now)) result (field_from (column_at levels) text.now) }
@@ -89,7 +89,7 @@ pub(crate) fn build_field(
 #[cycle(build)]
 fn build_more(
     alloc: Global,
-    levels: u32,
+    levels: u64,
     mut fields: Vec<Field>,
     text: &str,
     turns: usize,
@@ -114,7 +114,7 @@ fn build_more(
 // The fields of a struct, and what follows the bracket after them.
 #[tactic(auto, unfolding(crate::specs::inner::Build::fields_from))]
 #[cycle(build)]
-fn build_fields(alloc: Global, levels: u32, text: &str) -> Result<(Vec<Field>, &str), BuildError>
+fn build_fields(alloc: Global, levels: u64, text: &str) -> Result<(Vec<Field>, &str), BuildError>
     ensures { Builds (λ p. (map column_of p.0.items, p.1.now)) result (fields_from (column_at levels) text.now) }
 {
     let mut fields = Vec::new(alloc);
@@ -131,7 +131,7 @@ fn build_fields(alloc: Global, levels: u32, text: &str) -> Result<(Vec<Field>, &
 #[cycle(build)]
 fn build_parts<'a>(
     alloc: Global,
-    levels: u32,
+    levels: u64,
     opening: Opening,
     text: &'a str,
 ) -> Result<(DataType, Option<DictSpec>, &'a str), BuildError>
@@ -163,7 +163,7 @@ fn build_parts<'a>(
 #[cycle(build)]
 fn build_above<'a>(
     alloc: Global,
-    levels: u32,
+    levels: u64,
     name: &str,
     text: &'a str,
 ) -> Result<(Field, &'a str), BuildError>
@@ -188,7 +188,7 @@ fn build_above<'a>(
 #[cycle(build)]
 fn build_column<'a>(
     alloc: Global,
-    levels: u32,
+    levels: u64,
     name: &str,
     text: &'a str,
 ) -> Result<(Field, &'a str), BuildError>

@@ -9,6 +9,7 @@ ghost use Rattle.arrow_schema.specs.declared.texts.parse.ParseError.TheVariants.
 
 use super::build::{BuildError, build_field};
 use super::grammar::is_field_text;
+use crate::limits::MAX_DEPTH;
 use crate::types::{Field, Schema};
 use std::alloc::{AllocError, AllocFailed, Global};
 
@@ -38,9 +39,6 @@ impl<T: Drop> From<AllocFailed<T>> for ParseError {
     }
 }
 
-// As deep as a schema may be.
-const LEVELS: u32 = 32;
-
 fn test_text(alloc: Global, number: usize, text: &str) -> Result<(), ParseError>
     ensures { TestsOne number text.now result }
 {
@@ -63,11 +61,11 @@ fn test_texts(alloc: Global, texts: &[&str]) -> Result<(), ParseError>
 }
 
 fn build_texts(alloc: Global, texts: &[&str]) -> Result<Vec<Field>, BuildError>
-    ensures { Builds (λ v. map column_of v.items) result (columns_at 32 (map (λ t. t.now) texts.now)) }
+    ensures { Builds (λ v. map column_of v.items) result (columns_at MAX_DEPTH (map (λ t. t.now) texts.now)) }
 {
     let mut fields = Vec::new(alloc);
     for text in texts {
-        let (field, _) = build_field(alloc, LEVELS, text)?;
+        let (field, _) = build_field(alloc, MAX_DEPTH, text)?;
         fields.push(field)?;
     }
     Ok(fields)
