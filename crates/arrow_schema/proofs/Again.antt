@@ -5,6 +5,7 @@ use Rattle.std.specs.Option.{option_and_then}
 use Rattle.std.proofs.lemmas.List.{append_assoc, append-nil}
 use Rattle.std.proofs.lemmas.Bool.{both_ways}
 use Rattle.std.proofs.lemmas.Bool.Decides.{nat_tests}
+use Rattle.facts.specs.laws.Levels.{nat_le_max}
 use Rattle.arrow_schema.specs.declared.limits.TheConstants.{NUMBER_END}
 use Rattle.arrow_schema.specs.declared.texts.keyword.Keyword.TheVariants as keywords
 use Rattle.arrow_schema.specs.Column.{Index, Pair, Kind, nulls, booleans, integers, dates, timestamps, texts, large_texts, binaries, large_binaries, fixed_binaries, lists, large_lists, fixed_lists, structs, Column, Columns, column, no_column, and_column, columns_of, list_of}
@@ -15,7 +16,6 @@ use Rattle.arrow_schema.specs.FieldText.{plain, nullable_suffix, with_dictionary
 use Rattle.arrow_schema.specs.Typed.{IsSize, IsTypedDictionary, IsTypedKind, IsTypedItem, IsTypedField, AreTyped}
 use Rattle.arrow_schema.specs.inner.Scan.{stripped, capped_number, has_nullable_suffix, after_nullable_suffix}
 use Rattle.arrow_schema.specs.inner.Build.{Reader, item_from, field_from, more_from, fields_from, parts_from, column_from, column_at}
-use Rattle.arrow_schema.proofs.Counting.{nat_le-max}
 use Rattle.arrow_schema.proofs.KeywordLemmas.{bracket, parenthesis}
 use Rattle.arrow_schema.proofs.Openings.{name_again}
 use Rattle.arrow_schema.proofs.Flats.{three, within_kind, list_opening, large_list_opening, fixed_list_opening, struct_opening}
@@ -227,7 +227,7 @@ mutual
       let text : List ℕ = field_text plain c ++ more in
       ap (fields_from (column_at l)) (append_assoc (field_text plain c) (more_text plain cs) (62 ∷ rest))
       ∙ fields_one (column_at l) text (field_open c more typed.0)
-      ∙ rw (field_by c l more typed.0 (column_again c l (name_of c) more (field_body c typed.0) (more_stop cs rest)), nat_le-max (depth c) (depth_all cs) l)
+      ∙ rw (field_by c l more typed.0 (column_again c l (name_of c) more (field_body c typed.0) (more_stop cs rest)), nat_le_max (depth c) (depth_all cs) l)
       (pair_by (nat_le (depth c) l) (nat_le (depth_all cs) l) c (list_of cs) more rest (more_from (column_at l) (length text))
       (more_again cs l (length text) rest typed.1 (omega (arith, count_more cs, length-append (field_text plain c) more, length-append (more_text plain cs) (62 ∷ rest)))))
 
@@ -237,7 +237,7 @@ mutual
   more_again (and_column c cs) l (suc turns) rest typed h =
       let more : List ℕ = more_text plain cs ++ 62 ∷ rest in
       more_one (column_at l) turns (field_text plain c ++ more_text plain cs ++ 62 ∷ rest)
-      ∙ rw (append_assoc (field_text plain c) (more_text plain cs) (62 ∷ rest), field_by c l more typed.0 (column_again c l (name_of c) more (field_body c typed.0) (more_stop cs rest)), nat_le-max (depth c) (depth_all cs) l)
+      ∙ rw (append_assoc (field_text plain c) (more_text plain cs) (62 ∷ rest), field_by c l more typed.0 (column_again c l (name_of c) more (field_body c typed.0) (more_stop cs rest)), nat_le_max (depth c) (depth_all cs) l)
       (pair_by (nat_le (depth c) l) (nat_le (depth_all cs) l) c (list_of cs) more rest (more_from (column_at l) turns) (more_again cs l turns rest typed.1 (omega (arith, h))))
 
 -- a whole field

@@ -17,17 +17,7 @@ use Rattle.arrow_schema.specs.Limits.{IsWithinLimits, first_exceeded, count_of_p
 use Rattle.arrow_schema.specs.inner.Tally.{saturated, tallied, tallied_one}
 use Rattle.arrow_schema.proofs.Sound.{IsSound}
 use Rattle.std.proofs.lemmas.List.Sums.{sum_by-cons, AllPass-from_list_all, list_all-from_AllPass}
-
--- the larger of two is within n where both are
-pub nat_le-max : (a b n : ℕ) → nat_le (max a b) n ≡ (nat_le a n && nat_le b n)
-nat_le-max a b n = grind (arith, nat_tests)
-
--- a level down
-pub nat_le_down : (d n : ℕ) → n ≢ 0 → nat_le (1 + d) n ≡ nat_le d (n - 1)
-nat_le_down d n h = grind (arith, nat_tests)
-
-pub nat_le_none : (d n : ℕ) → n ≡ 0 → nat_le (1 + d) n ≡ false
-nat_le_none d n h = grind (arith, nat_tests)
+use Rattle.facts.specs.laws.Levels.{nat_le_max}
 
 -- after two lists in turn
 pub tallied-append : (t : Tally) (xs ys : List Column) → tallied t (xs ++ ys) ≡ tallied (tallied t xs) ys
@@ -69,7 +59,7 @@ unfolding tallied tallied_one
 tallied_dictionaries t [] = and_true t.dictionaries_fit
 tallied_dictionaries t (c ∷ cs) = tallied_dictionaries (tallied_one t c) cs ∙ and_assoc t.dictionaries_fit (has_flat_dictionary c) (list_all has_flat_dictionary cs)
 
-pub ruleset depth_rules = nat_le-max
+pub ruleset depth_rules = nat_le_max
 
 pub ruleset tally_rules = tallied-append
 

@@ -1,17 +1,11 @@
 -- What begins a text, and where a byte first stands in it.
 use Rattle.std.proofs.Common.{◌≡◌, ◌≢◌, ◌<◌, ℕ, suc, ◌==◌, cond, Bool, true, false, List, [], ◌∷◌, ◌++◌, length, get_or, refl, sym, ap, ◌∙◌, Bor, arith}
 use Rattle.std.specs.Prelude.{Option, None, Some, MatchOption}
-use Rattle.std.proofs.lemmas.Bool.{ne_eqb}
+use Rattle.std.proofs.lemmas.Bool.{ne_eqb, eq-eqb, eqb-true}
 use Rattle.std.proofs.lemmas.Bool.Decides.{nat_tests}
 use Rattle.std.proofs.lemmas.Str.Pattern.{split_parts, IsSplitOnceResult}
 use Rattle.std.specs.Str.Pattern.{FindsTextPrefix, StripsPrefix}
 use Rattle.arrow_schema.specs.inner.Scan.{Reads, stripped, cut_at}
-
-same : (x : ℕ) → (x == x) ≡ true
-same x = grind (arith, nat_tests)
-
-one : (x y : ℕ) → (x == y) ≡ true → x ≡ y
-one x y e = grind (arith, nat_tests)
 
 -- what a choice gave
 pub chosen : {A : Type 0} (b : Bool) (o : Option A) (r : A) → cond b o None ≡ Some r → (b ≡ true) × (o ≡ Some r)
@@ -22,7 +16,7 @@ chosen false o r e = cc
 pub stripped-append : (xs ys : List ℕ) → stripped xs (xs ++ ys) ≡ Some ys
 unfolding stripped
 stripped-append [] ys = refl
-stripped-append (x ∷ xs) ys = rw (same x) (stripped-append xs ys)
+stripped-append (x ∷ xs) ys = rw (eq-eqb x x refl) (stripped-append xs ys)
 
 pub stripped_is : (xs text rest : List ℕ) → stripped xs text ≡ Some rest → text ≡ xs ++ rest
 unfolding stripped
@@ -30,7 +24,7 @@ stripped_is [] text rest e = cc
 stripped_is (x ∷ xs) [] rest e = cc
 stripped_is (x ∷ xs) (y ∷ ys) rest e =
     let both : ((x == y) ≡ true) × (stripped xs ys ≡ Some rest) = chosen (x == y) (stripped xs ys) rest e in
-    (λ k. sym (one x y both.0) k ∷ stripped_is xs ys rest both.1 k)
+    (λ k. sym (eqb-true x y both.0) k ∷ stripped_is xs ys rest both.1 k)
 
 -- where the byte is nowhere
 pub cut_none : (delimiter : ℕ) (xs : List ℕ) → ((i : ℕ) → i < length xs → get_or xs i 0 ≢ delimiter) → cut_at delimiter xs ≡ None
@@ -42,7 +36,7 @@ cut_none delimiter (x ∷ xs) free =
 
 pub cut_some : (delimiter : ℕ) (xs ys : List ℕ) → ((i : ℕ) → i < length xs → get_or xs i 0 ≢ delimiter) → cut_at delimiter (xs ++ delimiter ∷ ys) ≡ Some (xs, ys)
 unfolding cut_at
-cut_some delimiter [] ys free = rw (same delimiter) refl
+cut_some delimiter [] ys free = rw (eq-eqb delimiter delimiter refl) refl
 cut_some delimiter (x ∷ xs) ys free =
     let other : (x == delimiter) ≡ false = ne_eqb x delimiter (free 0 (omega arith)) in
     rw (other, cut_some delimiter xs ys (λ i h. free (suc i) (omega (arith, h)))) refl

@@ -5,17 +5,12 @@ use Rattle.std.specs.Bool.{Decides}
 use Rattle.std.proofs.lemmas.Bool.{false≢true}
 use Rattle.std.proofs.lemmas.Bool.Decides.{Decides-and, Decides-like, Decides-eqb, Decides-at}
 use Rattle.std.proofs.lemmas.Slice.Eq.{bytes_eq-Decides, slice_eq-Decides}
+use Rattle.std.specs.Cmp.{booleans_Decides}
 use Rattle.arrow_schema.specs.declared.compare.Detail.{Detail}
 use Rattle.arrow_schema.specs.declared.compare.Detail.TheVariants.{Shape, Whole}
 use Rattle.arrow_schema.specs.Column.{Index, Pair, DateKind, days, date_milliseconds, TimeKind, seconds, milliseconds, microseconds, nanoseconds, Kind, Column, Columns, nulls, booleans, integers, dates, timestamps, texts, large_texts, binaries, large_binaries, fixed_binaries, lists, large_lists, fixed_lists, structs, column, no_column, and_column, columns_of, PlainSchema}
 use Rattle.arrow_schema.specs.Shape.{seen, seen_kind, seen_all, seen_dictionary, seen_pairs, shape_of, HaveOneShape}
-use Rattle.arrow_schema.specs.inner.Alike.{bool_eq, index_eq, dictionary_eq, pair_eq, pairs_eq, date_eq, time_number, alike, alike_kind, alike_all}
-
-pub bool_decides : (a b : Bool) → Decides (bool_eq a b) (a ≡ b)
-bool_decides true true = (λ h. refl, λ e. refl)
-bool_decides true false = (λ h. absurd (false≢true h), λ e. sym e)
-bool_decides false true = (λ h. absurd (false≢true h), λ e. e)
-bool_decides false false = (λ h. refl, λ e. refl)
+use Rattle.arrow_schema.specs.inner.Alike.{index_eq, dictionary_eq, pair_eq, pairs_eq, date_eq, time_number, alike, alike_kind, alike_all}
 
 index_from_parts : (a b : Index) → a.bits ≡ b.bits → a.signed ≡ b.signed → a ≡ b
 index_from_parts a b p q =
@@ -23,7 +18,7 @@ index_from_parts a b p q =
 
 index_decides : (a b : Index) → Decides (index_eq a b) (a ≡ b)
 index_decides a b =
-    Decides-like (index_eq a b) (λ h. index_from_parts a b h.0 h.1) (λ e. (ap (λ (i : Index). i.bits) e, ap (λ (i : Index). i.signed) e)) (Decides-and _ _ (Decides-eqb a.bits b.bits) (bool_decides a.signed b.signed))
+    Decides-like (index_eq a b) (λ h. index_from_parts a b h.0 h.1) (λ e. (ap (λ (i : Index). i.bits) e, ap (λ (i : Index). i.signed) e)) (Decides-and _ _ (Decides-eqb a.bits b.bits) (booleans_Decides a.signed b.signed))
 
 dictionary_decides : (a b : Option Index) → Decides (dictionary_eq a b) (a ≡ b)
 dictionary_decides None None = (λ h. refl, λ e. refl)
@@ -65,7 +60,7 @@ mutual
   alike_decides detail (column n b k d p) (column n' b' k' d' p') =
       Decides-like _ (λ h. cc) (λ e. (cc, (cc, (cc, (cc, cc)))))
       (Decides-and _ _ (bytes_eq-Decides n n')
-      (Decides-and _ _ (bool_decides b b')
+      (Decides-and _ _ (booleans_Decides b b')
       (Decides-and _ _ (dictionary_decides (seen_dictionary detail d) (seen_dictionary detail d'))
       (Decides-and _ _ (pairs_decides (seen_pairs detail p) (seen_pairs detail p')) (alike_kind_decides detail k k')))))
 
@@ -82,7 +77,7 @@ mutual
   alike_kind_decides detail binaries _ = (λ h. absurd (false≢true h), λ e. absurd (cc))
   alike_kind_decides detail large_binaries large_binaries = (λ h. refl, λ e. refl)
   alike_kind_decides detail large_binaries _ = (λ h. absurd (false≢true h), λ e. absurd (cc))
-  alike_kind_decides detail (integers bits signed) (integers b s) = Decides-like _ (λ h. cc) (λ e. (cc, cc)) (Decides-and _ _ (Decides-eqb bits b) (bool_decides signed s))
+  alike_kind_decides detail (integers bits signed) (integers b s) = Decides-like _ (λ h. cc) (λ e. (cc, cc)) (Decides-and _ _ (Decides-eqb bits b) (booleans_Decides signed s))
   alike_kind_decides detail (integers bits signed) _ = (λ h. absurd (false≢true h), λ e. absurd (cc))
   alike_kind_decides detail (dates unit) (dates u) = Decides-like _ (λ h. cc) (λ e. cc) (date_decides unit u)
   alike_kind_decides detail (dates unit) _ = (λ h. absurd (false≢true h), λ e. absurd (cc))

@@ -4,19 +4,11 @@ use Rattle.std.specs.Prelude.{nat_le, not, ◌||◌}
 use Rattle.std.specs.List.{list_all, AllByRecursion}
 use Rattle.std.specs.Int.Digits.{digits_of, number_from_digits, number_from_digits_after}
 use Rattle.std.proofs.lemmas.Int.Digits.{digits_of_step, number_digits_of, all_below_base_digits_of, first_digits_of, number_after_ge}
-use Rattle.std.proofs.lemmas.Bool.{ne_eqb}
+use Rattle.std.proofs.lemmas.Bool.{ne_eqb, and_parts}
 use Rattle.std.proofs.lemmas.Bool.Decides.{nat_tests}
 use Rattle.std.proofs.lemmas.List.{append_assoc, append-nil}
 use Rattle.arrow_schema.specs.Keywords.{number_text}
 use Rattle.arrow_schema.specs.inner.Scan.{is_digit, has_one_form, is_numeral, value, capped_number}
-
-pub and_left : (a b : Bool) → (a && b) ≡ true → a ≡ true
-and_left true b e = refl
-and_left false b e = cc
-
-pub and_right : (a b : Bool) → (a && b) ≡ true → b ≡ true
-and_right true b e = e
-and_right false b e = cc
 
 plus_back : (ds : List ℕ) → map (λ d. d - 48) (map (λ d. 48 + d) ds) ≡ ds
 plus_back [] = refl
@@ -81,15 +73,15 @@ digit_range d e = grind (arith, nat_tests)
 back_plus : (ds : List ℕ) → list_all is_digit ds ≡ true → map (λ d. 48 + d) (map (λ d. d - 48) ds) ≡ ds
 back_plus [] e = refl
 back_plus (d ∷ ds) e =
-    let range : (48 ≤ d) × (d ≤ 57) = digit_range d (and_left (is_digit d) (list_all is_digit ds) e) in
+    let range : (48 ≤ d) × (d ≤ 57) = digit_range d ((and_parts (is_digit d) (list_all is_digit ds) e).0) in
     let same : 48 + (d - 48) ≡ d = omega (arith, range.0) in
-    rw (same, back_plus ds (and_right (is_digit d) (list_all is_digit ds) e)) refl
+    rw (same, back_plus ds ((and_parts (is_digit d) (list_all is_digit ds) e).1)) refl
 
 below_ten : (ds : List ℕ) → list_all is_digit ds ≡ true → AllByRecursion (λ d. d < 10) (map (λ d. d - 48) ds)
 below_ten [] e = tt
 below_ten (d ∷ ds) e =
-    let range : (48 ≤ d) × (d ≤ 57) = digit_range d (and_left (is_digit d) (list_all is_digit ds) e) in
-    (omega (arith, range.1), below_ten ds (and_right (is_digit d) (list_all is_digit ds) e))
+    let range : (48 ≤ d) × (d ≤ 57) = digit_range d ((and_parts (is_digit d) (list_all is_digit ds) e).0) in
+    (omega (arith, range.1), below_ten ds ((and_parts (is_digit d) (list_all is_digit ds) e).1))
 
 more_digits : (n : ℕ) (ds : List ℕ) → 0 < n → AllByRecursion (λ d. d < 10) ds → digits_of 10 (number_from_digits_after 10 n ds) ≡ digits_of 10 n ++ ds
 more_digits n [] some h = sym (append-nil (digits_of 10 n))
@@ -138,9 +130,9 @@ unfolding value
 text_from true d [] e all form = let zero : d ≡ 48 = grind (arith, nat_tests) in rw zero text_zero
 text_from true d (x ∷ xs) e all form =
     let two : (length (d ∷ x ∷ xs) == 1) ≡ false = ne_eqb (length (d ∷ x ∷ xs)) 1 (omega arith) in
-    let none : false ≡ true = and_right (not (length (d ∷ x ∷ xs) == 0)) false (rw (two, e) at form) in cc
+    let none : false ≡ true = (and_parts (not (length (d ∷ x ∷ xs) == 0)) false (rw (two, e) at form)).1 in cc
 text_from false d ds e all form =
-    let range : (48 ≤ d) × (d ≤ 57) = digit_range d (and_left (is_digit d) (list_all is_digit ds) all) in
+    let range : (48 ≤ d) × (d ≤ 57) = digit_range d ((and_parts (is_digit d) (list_all is_digit ds) all).0) in
     let other : d ≢ 48 = λ same. cc in
     let some : 0 < d - 48 = omega (arith, range.0, other) in
     text_some _ (d ∷ ds) (number_some (d - 48) (map (λ d. d - 48) ds) some) (digits_again (d - 48) (map (λ d. d - 48) ds) some (below_ten (d ∷ ds) all)) all
@@ -148,4 +140,4 @@ text_from false d ds e all form =
 pub text_value : (ds : List ℕ) → is_numeral ds ≡ true → number_text (value ds) ≡ ds
 unfolding is_numeral
 text_value [] h = cc
-text_value (d ∷ ds) h = text_from (d == 48) d ds refl (and_left _ (has_one_form (d ∷ ds)) h) (and_right (list_all is_digit (d ∷ ds)) _ h)
+text_value (d ∷ ds) h = text_from (d == 48) d ds refl ((and_parts _ (has_one_form (d ∷ ds)) h).0) ((and_parts (list_all is_digit (d ∷ ds)) _ h).1)

@@ -3,7 +3,7 @@ use Rattle.std.proofs.Common.{◌≡◌, ◌↔◌, ℕ, ◌==◌, Bool, true, f
 use Rattle.std.specs.Prelude.{Option, None, Some, MatchOption, IfSome, option_map, codes}
 use Rattle.std.specs.Option.{option_and_then, option_or}
 use Rattle.std.proofs.lemmas.List.{append_assoc}
-use Rattle.std.proofs.lemmas.Bool.{ne_eqb}
+use Rattle.std.proofs.lemmas.Bool.{ne_eqb, and_parts}
 use Rattle.arrow_schema.specs.declared.texts.grammar.Enclosure.{Enclosure}
 use Rattle.arrow_schema.specs.declared.texts.grammar.Enclosure.TheVariants as enclosures
 use Rattle.arrow_schema.specs.declared.texts.grammar.Place.{Place}
@@ -13,7 +13,6 @@ use Rattle.arrow_schema.specs.FieldText.{plain, nullable_suffix, item_text, fiel
 use Rattle.arrow_schema.specs.Typed.{is_name_byte, is_name, IsTypedItem, IsTypedField, AreTyped}
 use Rattle.arrow_schema.specs.inner.Scan.{stripped, name_at, Opening, flat, list, large_list, fixed_list, struct, opening_at, has_nullable_suffix, after_nullable_suffix}
 use Rattle.arrow_schema.specs.inner.Standing.{close_of, IsInside, Closing, Closes, Goes, Stands, begun, after_opening, step}
-use Rattle.arrow_schema.proofs.Digits.{and_left}
 use Rattle.arrow_schema.proofs.Options.{some_eq, none_some}
 use Rattle.arrow_schema.proofs.KeywordLemmas.{stripped_read}
 use Rattle.arrow_schema.proofs.Openings.{lacks, name_again, name_read}
@@ -103,7 +102,7 @@ pub not_closed : (name rest : List ℕ) → is_name name ≡ true → stripped (
 unfolding stripped
 not_closed [] rest e = cc
 not_closed (b ∷ bs) rest e =
-    let all = and_left _ _ e in
+    let all = (and_parts _ _ e).0 in
     let other : (62 == b) ≡ false = ne_eqb 62 b (λ same. lacks is_name_byte 62 (b ∷ bs) refl all 0 (omega arith) (sym same)) in
     rw other refl
 

@@ -3,7 +3,7 @@ use Rattle.std.proofs.Common.{◌≡◌, ◌≢◌, ◌<◌, ℕ, zero, suc, ◌
 use Rattle.std.specs.Prelude.{Option, None, Some, option_map, IfSome, codes, not, ◌||◌, nat_lt}
 use Rattle.std.specs.List.{list_all}
 use Rattle.std.proofs.lemmas.List.{append_assoc}
-use Rattle.std.proofs.lemmas.Bool.{ne_eqb, both_ways}
+use Rattle.std.proofs.lemmas.Bool.{ne_eqb, both_ways, and_parts}
 use Rattle.std.proofs.lemmas.Bool.Decides.{nat_tests}
 use Rattle.arrow_schema.specs.declared.limits.TheConstants.{NUMBER_END}
 use Rattle.arrow_schema.specs.Keywords.{number_text}
@@ -11,15 +11,15 @@ use Rattle.arrow_schema.specs.FieldText.{plain, timezone_text}
 use Rattle.arrow_schema.specs.Typed.{IsSize, is_name_byte, is_timezone_byte, is_name}
 use Rattle.arrow_schema.specs.inner.Scan.{stripped, cut_at, is_digit, has_one_form, is_numeral, value, capped_number, is_size, size_at, is_timezone, timezone_within, timezone_or, timezone_at, name_at}
 use Rattle.arrow_schema.proofs.Cutting.{cut_some}
-use Rattle.arrow_schema.proofs.Digits.{and_left, and_right, value_text, numeral_text, text_value}
+use Rattle.arrow_schema.proofs.Digits.{value_text, numeral_text, text_value}
 use Rattle.arrow_schema.proofs.Options.{some_map, some_then, some_if}
 use Rattle.arrow_schema.proofs.KeywordLemmas.{stripped_read}
 
 -- what is refused everywhere does not stand there
 pub lacks : (p : ℕ → Bool) (delimiter : ℕ) (xs : List ℕ) → p delimiter ≡ false → list_all p xs ≡ true → (i : ℕ) → i < length xs → get_or xs i 0 ≢ delimiter
 lacks p delimiter [] out all i h = absurd (omega (arith, h))
-lacks p delimiter (x ∷ xs) out all zero h = λ same. both_ways (p x) (ap p same ∙ out) (and_left (p x) (list_all p xs) all)
-lacks p delimiter (x ∷ xs) out all (suc i) h = lacks p delimiter xs out (and_right (p x) (list_all p xs) all) i (omega (arith, h))
+lacks p delimiter (x ∷ xs) out all zero h = λ same. both_ways (p x) (ap p same ∙ out) ((and_parts (p x) (list_all p xs) all).0)
+lacks p delimiter (x ∷ xs) out all (suc i) h = lacks p delimiter xs out ((and_parts (p x) (list_all p xs) all).1) i (omega (arith, h))
 
 cut_step : (delimiter x : ℕ) (xs : List ℕ) (b : Bool) → (x == delimiter) ≡ b → IfSome (cut_at delimiter xs) (λ p. xs ≡ p.0 ++ delimiter ∷ p.1)
     → IfSome {T = List ℕ × List ℕ} (cond b (Some ([], xs)) (option_map (λ p. (x ∷ p.0, p.1)) (cut_at delimiter xs))) (λ p. x ∷ xs ≡ p.0 ++ delimiter ∷ p.1)
@@ -42,7 +42,7 @@ unsized false n e = λ never. absurd (both_ways false refl never)
 
 digits_only : (n delimiter : ℕ) → is_digit delimiter ≡ false → (i : ℕ) → i < length (number_text n) → get_or (number_text n) i 0 ≢ delimiter
 unfolding is_numeral
-digits_only n delimiter out = lacks is_digit delimiter (number_text n) out (and_left _ (has_one_form (number_text n)) (numeral_text n))
+digits_only n delimiter out = lacks is_digit delimiter (number_text n) out ((and_parts _ (has_one_form (number_text n)) (numeral_text n)).0)
 
 pub size_again : (limited : Bool) (delimiter n : ℕ) (rest : List ℕ) → is_digit delimiter ≡ false → IsSize limited n → size_at limited delimiter (number_text n ++ delimiter ∷ rest) ≡ Some (capped_number n, rest)
 unfolding size_at
@@ -54,7 +54,7 @@ size_read limited delimiter text =
     some_then (λ p. cond (is_size limited p.0) (Some (capped_number (value p.0), p.1)) None) (cut_at delimiter text) (λ p. text ≡ p.0 ++ delimiter ∷ p.1) (λ p. (n : ℕ) × IsSize limited n × (text ≡ number_text n ++ delimiter ∷ p.1))
     (cut_read delimiter text)
     (λ p h. some_if (is_size limited p.0) (capped_number (value p.0), p.1) (λ p. (n : ℕ) × IsSize limited n × (text ≡ number_text n ++ delimiter ∷ p.1))
-    (λ e. (value p.0, unsized limited (value p.0) (and_right (is_numeral p.0) _ e), h ∙ ap (λ (ds : List ℕ). ds ++ delimiter ∷ p.1) (sym (text_value p.0 (and_left (is_numeral p.0) _ e))))))
+    (λ e. (value p.0, unsized limited (value p.0) ((and_parts (is_numeral p.0) _ e).1), h ∙ ap (λ (ds : List ℕ). ds ++ delimiter ∷ p.1) (sym (text_value p.0 ((and_parts (is_numeral p.0) _ e).0))))))
 
 -- timezones
 within_again : (timezone rest : List ℕ) → (length timezone == 0) ≡ false → list_all is_timezone_byte timezone ≡ true → timezone_within (timezone ++ 41 ∷ rest) ≡ Some (timezone, rest)
@@ -89,12 +89,12 @@ timezone_read text = known (stripped (codes "(") text) (stripped_read (codes "("
     known (Some inside) h =
         some_then (λ p. cond (is_timezone p.0) (Some p) None) (cut_at 41 inside) (λ p. inside ≡ p.0 ++ 41 ∷ p.1) (IsTimezoneText text) (cut_read 41 inside)
         (λ p e. some_if (is_timezone p.0) p (IsTimezoneText text)
-        (λ all. (and_left _ _ all, h ∙ ap (λ (ys : List ℕ). 40 ∷ ys) e ∙ sym (text_of_timezone p.0 p.1 (and_right (list_all is_timezone_byte p.0) _ all)))))
+        (λ all. ((and_parts _ _ all).0, h ∙ ap (λ (ys : List ℕ). 40 ∷ ys) e ∙ sym (text_of_timezone p.0 p.1 ((and_parts (list_all is_timezone_byte p.0) _ all).1)))))
 
 -- names
 pub name_again : (name rest : List ℕ) → is_name name ≡ true → name_at (name ++ 58 ∷ rest) ≡ Some (name, rest)
 unfolding name_at
-name_again name rest e = rw (cut_some 58 name rest (lacks is_name_byte 58 name refl (and_left _ (not (length name == 0)) e)), e) refl
+name_again name rest e = rw (cut_some 58 name rest (lacks is_name_byte 58 name refl ((and_parts _ (not (length name == 0)) e).0)), e) refl
 
 pub name_read : (text : List ℕ) → IfSome (name_at text) (λ p. (is_name p.0 ≡ true) × (text ≡ p.0 ++ 58 ∷ p.1))
 unfolding name_at

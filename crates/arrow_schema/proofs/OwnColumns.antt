@@ -5,17 +5,11 @@ use Rattle.std.proofs.Common.{◌≡◌, ◌≤◌, Bool, true, ◌&&◌, List, 
 use Rattle.std.proofs.lemmas.Bool.{and_parts}
 use Rattle.std.proofs.lemmas.List.Folds.{list_all-append}
 use Rattle.std.proofs.lemmas.List.Sums.{sum_by-cons, sum_by-append, AllPass-from_list_all, list_all-from_AllPass}
+use Rattle.arrow_schema.specs.laws.Columns.{columns_few}
 use Rattle.arrow_schema.specs.declared.limits.TheConstants.{MAX_FIELDS, MAX_TEXT_BYTES}
 use Rattle.arrow_schema.specs.Column.{Column, column, columns_of, PlainSchema}
 use Rattle.arrow_schema.specs.Preorder.{preorder, preorder_below, preorder_all}
 use Rattle.arrow_schema.specs.Limits.{IsWithinLimits, bytes_in, name_len, has_utf8_texts}
-
-columns_few : (cs : List Column) → length cs ≤ length (preorder_all (columns_of cs))
-unfolding preorder preorder_all
-columns_few [] = omega arith
-columns_few (column name nullable kind dictionary pairs ∷ cs) =
-    let rest = columns_few cs in
-    omega (arith, rest, length-append (preorder_below kind) (preorder_all (columns_of cs)))
 
 names_few : (cs : List Column) → sum_by name_len cs ≤ sum_by bytes_in (preorder_all (columns_of cs))
 unfolding preorder preorder_all

@@ -6,6 +6,7 @@ use Rattle.std.specs.Global.{Global}
 use Rattle.std.specs.Option.{option_and_then}
 use Rattle.std.proofs.lemmas.Bool.{le-leb}
 use Rattle.std.proofs.lemmas.List.{append-nil, append_assoc, drop_all, get_or-map}
+use Rattle.facts.specs.laws.Levels.{nat_le_max}
 use Rattle.arrow_schema.specs.declared.limits.TheConstants.{MAX_DEPTH}
 use Rattle.arrow_schema.specs.declared.texts.build.BuildError.{BuildError}
 use Rattle.arrow_schema.specs.declared.texts.build.BuildError.TheVariants.{Unread, Memory}
@@ -19,7 +20,6 @@ use Rattle.arrow_schema.specs.Typed.{IsTextOf, IsFieldText}
 use Rattle.arrow_schema.specs.inner.Build.{field_from, column_at, Builds, columns_at, before_columns}
 use Rattle.arrow_schema.specs.Reported.{AreTextsOf, schema_with, IsReported}
 use Rattle.arrow_schema.specs.inner.Tested.{TestsOne, Tests}
-use Rattle.arrow_schema.proofs.Counting.{nat_le-max}
 use Rattle.arrow_schema.proofs.Options.{some_eq, none_some}
 use Rattle.arrow_schema.proofs.Again.{always, field_again}
 
@@ -36,7 +36,7 @@ columns_again [] [] l h = rw (always l) refl
 columns_again [] (c ∷ cs) l h = absurd h
 columns_again (t ∷ ts) [] l h = absurd h
 columns_again (t ∷ ts) (c ∷ cs) l h =
-    rw (field_again c l t h.0.0 h.0.1, nat_le-max (depth c) (depth_all (columns_of cs)) l)
+    rw (field_again c l t h.0.0 h.0.1, nat_le_max (depth c) (depth_all (columns_of cs)) l)
     (both_by (nat_le (depth c) l) (nat_le (depth_all (columns_of cs)) l) c cs (columns_at l ts) (columns_again ts cs l h.1))
 
 pub record Columns (texts : List (List ℕ)) : Type 0 where

@@ -1,5 +1,5 @@
 -- Columns of integers, without a dictionary or pairs.
-use Rattle.std.specs.Prelude.{Bool, true, false, ◌&&◌, List, [], ◌∷◌, Some, None}
+use Rattle.std.specs.Prelude.{◌≡◌, Bool, true, false, ◌&&◌, List, [], ◌∷◌, Some, None}
 use Rattle.std.specs.List.{list_all}
 use Rattle.arrow_schema.specs.Column.{Kind, Column, column, integers, PlainSchema}
 pub use Rattle.arrow_schema.specs.Column.{is_bit_width}
@@ -15,6 +15,9 @@ is_empty (x ∷ xs) = false
 abbrev pub is_integer_column : Column → Bool
 is_integer_column (column name nullable kind None pairs) = is_integer_kind kind && is_empty pairs
 is_integer_column (column name nullable kind (Some index) pairs) = false
+
+abbrev pub AreIntegers : List Column → Type 0
+AreIntegers columns = list_all is_integer_column columns ≡ true
 
 -- a schema of such columns, without pairs
 abbrev pub is_integer_schema : PlainSchema → Bool

@@ -3,7 +3,8 @@ ghost use Rattle.std.specs.Prelude.{◌≡◌, ◌↔◌, ◌==◌, ◌&&◌, Is
 ghost use Rattle.arrow_schema.specs.Column.{columns_of};
 ghost use Rattle.arrow_schema.specs.View.{schema_of, kind_of, column_of, pair_of, index_of, bits_of, date_kind, time_kind};
 ghost use Rattle.arrow_schema.specs.Shape.{seen_dictionary, seen_pairs, HaveOneShape};
-ghost use Rattle.arrow_schema.specs.inner.Alike.{bool_eq, dictionary_eq, pairs_eq, date_eq, time_number, alike, alike_kind, alike_all};
+ghost use Rattle.std.specs.Bool.{beq};
+ghost use Rattle.arrow_schema.specs.inner.Alike.{dictionary_eq, pairs_eq, date_eq, time_number, alike, alike_kind, alike_all};
 
 use crate::types::{DataType, DateUnit, DictSpec, Field, IntegerType, Schema, TimeUnit};
 
@@ -15,7 +16,7 @@ pub(crate) enum Detail {
 }
 
 fn same_integer(a: IntegerType, b: IntegerType) -> bool
-    ensures { result ≡ (bits_of a.width == bits_of b.width && bool_eq a.signed b.signed) }
+    ensures { result ≡ (bits_of a.width == bits_of b.width && beq a.signed b.signed) }
 {
     a.width.bits() == b.width.bits() && a.signed == b.signed
 }

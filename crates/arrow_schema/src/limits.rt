@@ -47,7 +47,7 @@ pub(crate) struct Tally {
     pub(crate) dictionaries_fit: bool,
 }
 
-#[tactic(auto, using(crate::proofs::Counting::nat_le_down, crate::proofs::Counting::nat_le_none), unfolding(crate::specs::Preorder::depth))]
+#[tactic(auto, using(facts::specs::laws::Levels::nat_le_down, facts::specs::laws::Levels::nat_le_none), unfolding(crate::specs::Preorder::depth))]
 #[cycle(depth)]
 fn is_within_depth(levels: u64, field: &Field) -> bool
     ensures { result ≡ nat_le (depth (column_of field.now)) levels }

@@ -13,7 +13,7 @@ use Rattle.arrow_schema.specs.Preorder as columns
 use Rattle.arrow_schema.specs.Preorder.{every_column, preorder_below, depth_below}
 use Rattle.arrow_schema.specs.Limits as limits
 use Rattle.arrow_schema.specs.Limits.{IsWithinLimits}
-use Rattle.std.proofs.lemmas.Bool.{and_parts, not-false}
+use Rattle.std.proofs.lemmas.Bool.{and_parts, not-false, or_parts, ltb-false}
 use Rattle.ipc_message.specs.Raw.{RawParameters, RawEncoding, RawField, RawFields, raw_field, no_raw_field, and_raw_field, raw_fields_of, RawSchema}
 use Rattle.ipc_message.specs.Fields.{preorder, preorder_all, every_field, depth, depth_all, pairs_of}
 use Rattle.ipc_message.specs.Types.{type_name, decoded_type}
@@ -33,29 +33,21 @@ pub field_shape : (name : List ℕ) (nullable : Bool) (code : ℕ) (p : RawParam
 field_shape name nullable code p d fs pairs h =
     decoded_shape (type_name code) p (columns_of_fields fs) _ (some_of _ nulls (and_parts _ _ (not-false _ h)).0)
 
-or_left : (a b : Bool) → (a || b) ≡ false → a ≡ false
-or_left true b h = h
-or_left false b h = refl
-
-or_right : (a b : Bool) → (a || b) ≡ false → b ≡ false
-or_right true b h = absurd cc
-or_right false b h = h
-
 mutual
   unfolding preorder preorder_all columns.preorder columns.preorder_all column_of_field columns_of_fields
 
   -- the columns in preorder are those of the fields in preorder
   pub columns_listed : (f : RawField) → list_any is_bad (preorder f) ≡ false → columns.preorder (column_of_field f) ≡ map column_of_field (preorder f)
   columns_listed (raw_field name nullable code p d fs pairs) h =
-      let s = field_shape name nullable code p d fs pairs (or_left _ _ h) in
-      ap (λ (cs : List Column). column_of_field (raw_field name nullable code p d fs pairs) ∷ cs) (s.below ∙ all_columns_listed fs (or_right _ _ h))
+      let s = field_shape name nullable code p d fs pairs ((or_parts _ _ h).0) in
+      ap (λ (cs : List Column). column_of_field (raw_field name nullable code p d fs pairs) ∷ cs) (s.below ∙ all_columns_listed fs ((or_parts _ _ h).1))
 
   pub all_columns_listed : (fs : RawFields) → list_any is_bad (preorder_all fs) ≡ false → columns.preorder_all (columns_of (columns_of_fields fs)) ≡ map column_of_field (preorder_all fs)
   all_columns_listed no_raw_field h = refl
   all_columns_listed (and_raw_field f fs) h =
       let split = sym (list_any-append is_bad (preorder f) (preorder_all fs)) ∙ h in
-      ap (λ (cs : List Column). cs ++ columns.preorder_all (columns_of (columns_of_fields fs))) (columns_listed f (or_left _ _ split))
-      ∙ ap (λ (cs : List Column). map column_of_field (preorder f) ++ cs) (all_columns_listed fs (or_right _ _ split))
+      ap (λ (cs : List Column). cs ++ columns.preorder_all (columns_of (columns_of_fields fs))) (columns_listed f ((or_parts _ _ split).0))
+      ∙ ap (λ (cs : List Column). map column_of_field (preorder f) ++ cs) (all_columns_listed fs ((or_parts _ _ split).1))
       ∙ sym (map-append column_of_field (preorder f) (preorder_all fs))
 
 mutual
@@ -64,14 +56,14 @@ mutual
   -- they go as deep
   pub same_depth : (f : RawField) → list_any is_bad (preorder f) ≡ false → columns.depth (column_of_field f) ≡ depth f
   same_depth (raw_field name nullable code p d fs pairs) h =
-      let s = field_shape name nullable code p d fs pairs (or_left _ _ h) in
-      ap (λ n. 1 + n) (s.depth ∙ all_same_depth fs (or_right _ _ h))
+      let s = field_shape name nullable code p d fs pairs ((or_parts _ _ h).0) in
+      ap (λ n. 1 + n) (s.depth ∙ all_same_depth fs ((or_parts _ _ h).1))
 
   pub all_same_depth : (fs : RawFields) → list_any is_bad (preorder_all fs) ≡ false → columns.depth_all (columns_of (columns_of_fields fs)) ≡ depth_all fs
   all_same_depth no_raw_field h = refl
   all_same_depth (and_raw_field f fs) h =
       let split = sym (list_any-append is_bad (preorder f) (preorder_all fs)) ∙ h in
-      ap (λ n. max n (columns.depth_all (columns_of (columns_of_fields fs)))) (same_depth f (or_left _ _ split)) ∙ ap (λ n. max (depth f) n) (all_same_depth fs (or_right _ _ split))
+      ap (λ n. max n (columns.depth_all (columns_of (columns_of_fields fs)))) (same_depth f ((or_parts _ _ split).0)) ∙ ap (λ n. max (depth f) n) (all_same_depth fs ((or_parts _ _ split).1))
 
 pub columns_of_list : (fs : List RawField) → columns_of_fields (raw_fields_of fs) ≡ map column_of_field fs
 unfolding columns_of_fields
@@ -103,8 +95,8 @@ field_bytes (raw_field name nullable code p d children pairs) h =
 count_bytes : (fs : List RawField) → list_any is_bad fs ≡ false → sum_by limits.bytes_in (map column_of_field fs) ≤ sum_by length (flat_map texts_of_field fs)
 count_bytes [] h = omega arith
 count_bytes (f ∷ fs) h =
-    let here = field_bytes f (or_left (is_bad f) (list_any is_bad fs) h) in
-    let rest = count_bytes fs (or_right (is_bad f) (list_any is_bad fs) h) in
+    let here = field_bytes f ((or_parts (is_bad f) (list_any is_bad fs) h).0) in
+    let rest = count_bytes fs ((or_parts (is_bad f) (list_any is_bad fs) h).1) in
     let whole = ap (sum_by length) (flat_map-cons texts_of_field f fs) in
     omega (arith, whole, here, rest, sum_by-cons limits.bytes_in (column_of_field f) (map column_of_field fs), sum_by-append length (texts_of_field f) (flat_map texts_of_field fs))
 
@@ -115,7 +107,7 @@ numbers_fit : (fs : List RawField) → list_any is_bad fs ≡ false → list_all
 unfolding column_of_field
 numbers_fit [] h = refl
 numbers_fit (raw_field name nullable code p d children pairs ∷ fs) h =
-    both (field_shape name nullable code p d children pairs (or_left _ _ h)).number (numbers_fit fs (or_right _ _ h))
+    both (field_shape name nullable code p d children pairs ((or_parts _ _ h).0)).number (numbers_fit fs ((or_parts _ _ h).1))
 
 same_some : (d : Option RawEncoding) → is_some (option_map index_of d) ≡ is_some d
 same_some None = refl
@@ -125,9 +117,9 @@ dictionaries_fit : (fs : List RawField) → list_any is_bad fs ≡ false → lis
 unfolding column_of_field
 dictionaries_fit [] h g = refl
 dictionaries_fit (raw_field name nullable code p d children pairs ∷ fs) h g =
-    let s = field_shape name nullable code p d children pairs (or_left _ _ h) in
-    let here : not (is_some (option_map index_of d) && limits.is_nested (unwrap_or (decoded_type (type_name code) p (columns_of_fields children)) nulls)) ≡ true = rw (same_some d, s.nested) (ap not (or_left _ _ g)) in
-    rw here (dictionaries_fit fs (or_right _ _ h) (or_right _ _ g))
+    let s = field_shape name nullable code p d children pairs ((or_parts _ _ h).0) in
+    let here : not (is_some (option_map index_of d) && limits.is_nested (unwrap_or (decoded_type (type_name code) p (columns_of_fields children)) nulls)) ≡ true = rw (same_some d, s.nested) (ap not ((or_parts _ _ g).0)) in
+    rw here (dictionaries_fit fs ((or_parts _ _ h).1) ((or_parts _ _ g).1))
 
 index_width : (d : Option RawEncoding) → is_index_type d ≡ true → limits.is_index_of_width (option_map index_of d) ≡ true
 index_width None h = refl
@@ -137,8 +129,8 @@ widths_fit : (fs : List RawField) → list_any is_bad fs ≡ false → list_all 
 unfolding column_of_field
 widths_fit [] h = refl
 widths_fit (raw_field name nullable code p d children pairs ∷ fs) h =
-    let good = not-false _ (or_left (is_bad (raw_field name nullable code p d children pairs)) _ h) in
-    both (both (field_shape name nullable code p d children pairs (or_left _ _ h)).width (index_width d (and_parts _ _ good).1)) (widths_fit fs (or_right _ _ h))
+    let good = not-false _ ((or_parts (is_bad (raw_field name nullable code p d children pairs)) _ h).0) in
+    both (both (field_shape name nullable code p d children pairs ((or_parts _ _ h).0)).width (index_width d (and_parts _ _ good).1)) (widths_fit fs ((or_parts _ _ h).1))
 
 texts_fit : (fs : List RawField) → list_any is_bad fs ≡ false → list_all is_utf8 (flat_map texts_of_field fs) ≡ true → list_all limits.has_utf8_texts (map column_of_field fs) ≡ true
 unfolding column_of_field
@@ -148,10 +140,7 @@ texts_fit (raw_field name nullable code p d children pairs ∷ fs) h u =
     let all = and_parts (list_all is_utf8 (texts_of_field f)) _ (sym (list_all-append is_utf8 (texts_of_field f) (flat_map texts_of_field fs)) ∙ ap (list_all is_utf8) (sym (flat_map-cons texts_of_field f fs)) ∙ u) in
     let own = and_parts (is_utf8 name) _ all.0 in
     let rest = and_parts (is_utf8 (timezone_of p)) _ own.1 in
-    both (both own.0 (both ((field_shape name nullable code p d children pairs (or_left _ _ h)).utf8 rest.0) rest.1)) (texts_fit fs (or_right _ _ h) all.1)
-
-le_of : (a b : ℕ) → nat_lt b a ≡ false → a ≤ b
-le_of a b h = grind arith
+    both (both own.0 (both ((field_shape name nullable code p d children pairs ((or_parts _ _ h).0)).utf8 rest.0) rest.1)) (texts_fit fs ((or_parts _ _ h).1) all.1)
 
 -- an accepted schema is within the limits
 pub accepted_within : (s : RawSchema) → IsAccepted s → IsWithinLimits (plain_schema_of s)
@@ -164,12 +153,12 @@ accepted_within s a =
     let deeper = nat_lt MAX_DEPTH (depth_all (raw_fields_of s.fields)) in
     let paired = nat_lt MAX_PAIRS (count_of_pairs s) in
     let long = nat_lt MAX_TEXT_BYTES (sum_by length (texts_of s)) in
-    let rest : ((many || deeper) || paired) ≡ false = or_left ((many || deeper) || paired) long a.small in
-    let bytes : sum_by length (texts_of s) ≤ MAX_TEXT_BYTES = le_of _ _ (or_right ((many || deeper) || paired) long a.small) in
-    let pairs : count_of_pairs s ≤ MAX_PAIRS = le_of _ _ (or_right (many || deeper) paired rest) in
-    let few : length (every_field s) ≤ MAX_FIELDS = le_of _ _ (or_left many deeper (or_left (many || deeper) paired rest)) in
+    let rest : ((many || deeper) || paired) ≡ false = (or_parts ((many || deeper) || paired) long a.small).0 in
+    let bytes : sum_by length (texts_of s) ≤ MAX_TEXT_BYTES = ltb-false _ _ ((or_parts ((many || deeper) || paired) long a.small).1) in
+    let pairs : count_of_pairs s ≤ MAX_PAIRS = ltb-false _ _ ((or_parts (many || deeper) paired rest).1) in
+    let few : length (every_field s) ≤ MAX_FIELDS = ltb-false _ _ ((or_parts many deeper ((or_parts (many || deeper) paired rest).0)).0) in
     let utf8 = and_parts (list_all is_utf8 (texts_of_pairs s.pairs)) _ (sym (list_all-append is_utf8 (texts_of_pairs s.pairs) (flat_map texts_of_field (every_field s))) ∙ a.utf8) in
-    let low : depth_all (raw_fields_of s.fields) ≤ MAX_DEPTH = le_of _ _ (or_right many deeper (or_left (many || deeper) paired rest)) in
+    let low : depth_all (raw_fields_of s.fields) ≤ MAX_DEPTH = ltb-false _ _ ((or_parts many deeper ((or_parts (many || deeper) paired rest).0)).1) in
     record {
       levels = omega (arith, deep, low);
       fields = rw listed (omega (arith, length-map (every_field s) column_of_field, few));
@@ -183,15 +172,7 @@ accepted_within s a =
     }
 
 pub accepted_readable : (s : RawSchema) → IsAccepted s → AreReadable (preorder_all (raw_fields_of s.fields))
-accepted_readable s a = record { decoded = a.decoded; utf8 = and_right _ _ (sym (list_all-append is_utf8 (texts_of_pairs s.pairs) _) ∙ a.utf8) }
-  where
-    and_right : (a b : Bool) → (a && b) ≡ true → b ≡ true
-    and_right true b h = h
-    and_right false b h = absurd cc
+accepted_readable s a = record { decoded = a.decoded; utf8 = (and_parts _ _ (sym (list_all-append is_utf8 (texts_of_pairs s.pairs) _) ∙ a.utf8)).1 }
 
 pub accepted_pairs : (s : RawSchema) → IsAccepted s → list_all is_utf8 (texts_of_pairs s.pairs) ≡ true
-accepted_pairs s a = and_left _ _ (sym (list_all-append is_utf8 (texts_of_pairs s.pairs) _) ∙ a.utf8)
-  where
-    and_left : (a b : Bool) → (a && b) ≡ true → a ≡ true
-    and_left true b h = refl
-    and_left false b h = h
+accepted_pairs s a = (and_parts _ _ (sym (list_all-append is_utf8 (texts_of_pairs s.pairs) _) ∙ a.utf8)).0

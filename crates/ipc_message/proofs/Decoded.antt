@@ -19,6 +19,7 @@ use Rattle.ipc_message.specs.Checks.{has_type, is_bad, is_index_type, timezone_o
 use Rattle.ipc_message.specs.inner.Readable.{AreReadable}
 use Rattle.ipc_message.specs.View.{raw_field_step, raw_field_of, parameters_of, encoding_of, key_value}
 use Rattle.std.proofs.lemmas.List.{length-map}
+use Rattle.std.proofs.lemmas.Bool.{and_parts, or_parts, not-false}
 use Rattle.ipc_message.proofs.Children.{sized_list}
 
 pub leaf_is : (kind : Option Kind) (cs : List Column) → is_some (without_children kind cs) ≡ true → without_children kind cs ≡ kind
@@ -43,37 +44,17 @@ pub ruleset decoded_rules = (leaf_is, leaf_some, item_one, sized, length-map)
 
 -- ---- a field, and all below it
 
-and_left : (a b : Bool) → (a && b) ≡ true → a ≡ true
-and_left true b h = refl
-and_left false b h = h
-
-and_right : (a b : Bool) → (a && b) ≡ true → b ≡ true
-and_right true b h = h
-and_right false b h = absurd cc
-
-or_left : (a b : Bool) → (a || b) ≡ false → a ≡ false
-or_left true b h = h
-or_left false b h = refl
-
-or_right : (a b : Bool) → (a || b) ≡ false → b ≡ false
-or_right true b h = absurd cc
-or_right false b h = h
-
-not_not : (a : Bool) → not a ≡ false → a ≡ true
-not_not true h = refl
-not_not false h = absurd cc
-
 any_left : {A : Type 0} (p : A → Bool) (xs ys : List A) → list_any p (xs ++ ys) ≡ false → list_any p xs ≡ false
-any_left p xs ys h = or_left _ _ (sym (list_any-append p xs ys) ∙ h)
+any_left p xs ys h = (or_parts _ _ (sym (list_any-append p xs ys) ∙ h)).0
 
 any_right : {A : Type 0} (p : A → Bool) (xs ys : List A) → list_any p (xs ++ ys) ≡ false → list_any p ys ≡ false
-any_right p xs ys h = or_right _ _ (sym (list_any-append p xs ys) ∙ h)
+any_right p xs ys h = (or_parts _ _ (sym (list_any-append p xs ys) ∙ h)).1
 
 all_left : {A : Type 0} (p : A → Bool) (xs ys : List A) → list_all p (xs ++ ys) ≡ true → list_all p xs ≡ true
-all_left p xs ys h = and_left _ _ (sym (list_all-append p xs ys) ∙ h)
+all_left p xs ys h = (and_parts _ _ (sym (list_all-append p xs ys) ∙ h)).0
 
 all_right : {A : Type 0} (p : A → Bool) (xs ys : List A) → list_all p (xs ++ ys) ≡ true → list_all p ys ≡ true
-all_right p xs ys h = and_right _ _ (sym (list_all-append p xs ys) ∙ h)
+all_right p xs ys h = (and_parts _ _ (sym (list_all-append p xs ys) ∙ h)).1
 
 texts-append : (xs ys : List RawField) → flat_map texts_of_field (xs ++ ys) ≡ flat_map texts_of_field xs ++ flat_map texts_of_field ys
 texts-append xs ys = flat_map-append texts_of_field xs ys
@@ -111,15 +92,15 @@ parts_readable f h =
     let g = rw (opened f) at h in
     let rest = right_readable (_ ∷ []) _ g in
     let own = left_readable (_ ∷ []) _ g in
-    let type : (has_type (opened_field f) && is_index_type (option_map encoding_of (out-RawField f).dictionary)) ≡ true = not_not _ (or_left _ false own.decoded) in
+    let type : (has_type (opened_field f) && is_index_type (option_map encoding_of (out-RawField f).dictionary)) ≡ true = not-false _ ((or_parts _ false own.decoded).0) in
     let texts : (is_utf8 (out-RawField f).name.now && (is_utf8 (timezone_of (parameters_of (out-RawField f).parameters)) && list_all is_utf8 (texts_of_pairs (map key_value (out-RawField f).pairs.items) ++ []))) ≡ true = own.utf8 in
-    let others = and_right _ _ texts in
+    let others = (and_parts _ _ texts).1 in
     record {
-      name = and_left _ _ texts;
-      timezone = and_left _ _ others;
-      pairs = all_left is_utf8 _ [] (and_right _ _ others);
-      decoded = and_left _ _ type;
-      index = and_right _ _ type;
+      name = (and_parts _ _ texts).0;
+      timezone = (and_parts _ _ others).0;
+      pairs = all_left is_utf8 _ [] ((and_parts _ _ others).1);
+      decoded = (and_parts _ _ type).0;
+      index = (and_parts _ _ type).1;
       below = rest;
     }
 

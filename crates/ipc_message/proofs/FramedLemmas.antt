@@ -13,27 +13,10 @@ use Rattle.flatbuf.specs.Lookup.{number}
 use Rattle.flatbuf.specs.Walk.{run}
 use Rattle.ipc_message.specs.declared.fault.Fault.{Fault}
 use Rattle.ipc_message.specs.declared.fault.Fault.TheVariants.{Truncated, NoContinuation, MetadataSize, MetadataVersion, HeaderKind, BodyLength}
-use Rattle.std.proofs.lemmas.Bool.{not-false}
+use Rattle.std.proofs.lemmas.Bool.{not-false, ltb-false, le-ltb, eqb-true}
+use Rattle.facts.specs.laws.Checks.{first_some-after, first_some-both, unless_passed}
 use Rattle.ipc_message.specs.laws.Accepted.{first_none, when_none}
 use Rattle.ipc_message.specs.Framing.{Envelope, NextMessage, message, end_of_stream, taken, continuation_marker, next_message, unless, first_some, when, walk_fault, message_things, version_of, type_of, header_type, marker_faults, size_faults, message_faults, metadata_size, metadata_in, after_metadata, message_with, body_length, IsMessage, Framed}
-use Rattle.ipc_message.proofs.NextMessageLemmas.{first_pass}
-
--- ---- tests of which none found a fault
-
-lt_false : (a b : ℕ) → nat_lt a b ≡ false → b ≤ a
-lt_false a b h = grind arith
-
-no_lt : (a b : ℕ) → b ≤ a → nat_lt a b ≡ false
-no_lt a b h = grind arith
-
-both_passed : (xs ys : List (Option Fault)) → first_some (xs ++ ys) ≡ None → (first_some xs ≡ None) × (first_some ys ≡ None)
-both_passed [] ys h = (refl, h)
-both_passed (None ∷ xs) ys h = both_passed xs ys h
-both_passed (Some f ∷ xs) ys h = absurd (cc)
-
-unless_passed : (o : Option Fault) (r : Result NextMessage Fault) (x : NextMessage) → unless o r ≡ Ok x → (o ≡ None) × (r ≡ Ok x)
-unless_passed None r x h = (refl, h)
-unless_passed (Some f) r x h = absurd (cc)
 
 -- ---- the tests of the front, passed
 
@@ -48,7 +31,7 @@ marker_passed bytes h =
     let marker = first_none (when (not (starts_with nat_eq bytes continuation_marker)) NoContinuation) (when (nat_lt (length bytes) 8) Truncated ∷ []) four.1 in
     let eight = first_none (when (nat_lt (length bytes) 8) Truncated) [] marker.1 in
     record {
-      long = lt_false (length bytes) 8 (when_none (nat_lt (length bytes) 8) Truncated eight.0);
+      long = ltb-false (length bytes) 8 (when_none (nat_lt (length bytes) 8) Truncated eight.0);
       starts = (starts_is Decides-eqb bytes continuation_marker (starts_with nat_eq bytes continuation_marker) refl).0 (not-false (starts_with nat_eq bytes continuation_marker) (when_none (not (starts_with nat_eq bytes continuation_marker)) NoContinuation marker.0));
     }
 
@@ -62,8 +45,8 @@ size_passed bytes h =
     let small = first_none _ _ h in
     let room = first_none _ _ small.1 in
     record {
-      small = lt_false MAX_BUFFER_BYTES (metadata_size bytes) (when_none (nat_lt MAX_BUFFER_BYTES (metadata_size bytes)) MetadataSize small.0);
-      room = lt_false (length bytes) (8 + metadata_size bytes) (when_none (nat_lt (length bytes) (8 + metadata_size bytes)) Truncated room.0);
+      small = ltb-false MAX_BUFFER_BYTES (metadata_size bytes) (when_none (nat_lt MAX_BUFFER_BYTES (metadata_size bytes)) MetadataSize small.0);
+      room = ltb-false (length bytes) (8 + metadata_size bytes) (when_none (nat_lt (length bytes) (8 + metadata_size bytes)) Truncated room.0);
     }
 
 -- the tests of the metadata alone, before that of its body's length
@@ -78,14 +61,14 @@ table_faults metadata =
 message_passed : (metadata : List ℕ) (following : ℕ) → first_some (message_faults metadata following) ≡ None → (first_some (table_faults metadata) ≡ None) × (body_length metadata ≤ following)
 unfolding message_faults
 message_passed metadata following h =
-    let a = both_passed (table_faults metadata) (when (nat_lt following (body_length metadata)) Truncated ∷ []) h in
-    (a.0, lt_false following (body_length metadata) (when_none (nat_lt following (body_length metadata)) Truncated (first_none (when (nat_lt following (body_length metadata)) Truncated) [] a.1).0))
+    let a = first_some-both (table_faults metadata) (when (nat_lt following (body_length metadata)) Truncated ∷ []) h in
+    (a.0, ltb-false following (body_length metadata) (when_none (nat_lt following (body_length metadata)) Truncated (first_none (when (nat_lt following (body_length metadata)) Truncated) [] a.1).0))
 
 message_passes : (metadata : List ℕ) (following : ℕ) → first_some (table_faults metadata) ≡ None → body_length metadata ≤ following → first_some (message_faults metadata following) ≡ None
 unfolding message_faults
 message_passes metadata following h room =
-    first_pass (table_faults metadata) (when (nat_lt following (body_length metadata)) Truncated ∷ []) h
-    ∙ rw (no_lt following (body_length metadata) room) refl
+    first_some-after (table_faults metadata) (when (nat_lt following (body_length metadata)) Truncated ∷ []) h
+    ∙ rw (le-ltb following (body_length metadata) room) refl
 
 -- ---- what stands at the front is framed
 
@@ -123,7 +106,7 @@ passed bytes m h =
     let a = unless_passed (first_some (marker_faults bytes)) (if eqb (metadata_size bytes) 0 then Ok end_of_stream else unless (first_some all) found) (message m) h in
     let b = chosen_message (eqb (metadata_size bytes) 0) (unless (first_some all) found) m a.1 in
     let d = unless_passed (first_some all) found (message m) b.1 in
-    let e = both_passed (size_faults bytes) (message_faults (metadata_in bytes) (length (after_metadata bytes))) d.0 in
+    let e = first_some-both (size_faults bytes) (message_faults (metadata_in bytes) (length (after_metadata bytes))) d.0 in
     let t = message_passed (metadata_in bytes) (length (after_metadata bytes)) e.1 in
     record { marked = marker_passed bytes a.0; sized = size_passed bytes e.0; some = b.0; table = t.0; room = t.1; is = cc (d.1) }
 
@@ -146,9 +129,6 @@ metadata_long bytes sized =
 
 not_zero : (n : ℕ) → eqb n 0 ≡ false → 0 < n
 not_zero n h = grind arith
-
-is_zero : (n : ℕ) → eqb n 0 ≡ true → n ≡ 0
-is_zero n h = grind arith
 
 abbrev found : List ℕ → Envelope
 found bytes = record { metadata = metadata_in bytes; body = take (body_length (metadata_in bytes)) (after_metadata bytes) }
@@ -216,11 +196,11 @@ unfolding marker_faults
 marker_passes size others four =
     let long : 8 ≤ length (continuation_marker ++ (size ++ others)) = omega (arith, length-append size others) in
     let short : 4 ≤ length (continuation_marker ++ (size ++ others)) = omega arith in
-    rw (no_lt (length (continuation_marker ++ (size ++ others))) 4 short, no_lt (length (continuation_marker ++ (size ++ others))) 8 long) refl
+    rw (le-ltb (length (continuation_marker ++ (size ++ others))) 4 short, le-ltb (length (continuation_marker ++ (size ++ others))) 8 long) refl
 
 size_passes : (bytes : List ℕ) (n : ℕ) → metadata_size bytes ≡ n → n ≤ MAX_BUFFER_BYTES → 8 + n ≤ length bytes → first_some (size_faults bytes) ≡ None
 unfolding size_faults
-size_passes bytes n is small room = rw (is, no_lt MAX_BUFFER_BYTES n small, no_lt (length bytes) (8 + n) room) refl
+size_passes bytes n is small room = rw (is, le-ltb MAX_BUFFER_BYTES n small, le-ltb (length bytes) (8 + n) room) refl
 
 no_zero : (n : ℕ) → 0 < n → eqb n 0 ≡ false
 no_zero n h = grind arith
@@ -239,7 +219,7 @@ written_next_message size m others four is good =
     let table = (message_passed m.metadata (length m.body) good.sound).0 in
     let sound : first_some (message_faults m.metadata (length (m.body ++ others))) ≡ None = message_passes m.metadata (length (m.body ++ others)) table (omega (arith, length-append m.body others)) in
     let all : first_some (size_faults bytes ++ message_faults (metadata_in bytes) (length (after_metadata bytes))) ≡ None =
-    first_pass (size_faults bytes) (message_faults (metadata_in bytes) (length (after_metadata bytes))) (size_passes bytes (length m.metadata) n small room) ∙ rw (here, after) sound in
+    first_some-after (size_faults bytes) (message_faults (metadata_in bytes) (length (after_metadata bytes))) (size_passes bytes (length m.metadata) n small room) ∙ rw (here, after) sound in
     rw (marker_passes size (m.metadata ++ (m.body ++ others)) four, all, n, no_zero (length m.metadata) good.some, here, after, sym whole, take-append_seam m.body others) refl
 
 pub next_message_framed : (bytes others : List ℕ) (m : Envelope) → IsMessage m → Framed bytes m others → next_message bytes ≡ Ok (message m)
@@ -267,7 +247,7 @@ marked_next_message bytes h =
     let found : Envelope = record { metadata = metadata_in bytes; body = take (body_length (metadata_in bytes)) (after_metadata bytes) } in
     let a = unless_passed (first_some (marker_faults bytes)) (if eqb (metadata_size bytes) 0 then Ok end_of_stream else unless all (Ok (message found))) end_of_stream h in
     let marked : HasMarker bytes = marker_passed bytes a.0 in
-    let none : metadata_size bytes ≡ 0 = is_zero (metadata_size bytes) (chosen_marker (eqb (metadata_size bytes) 0) all found a.1) in
+    let none : metadata_size bytes ≡ 0 = eqb-true (metadata_size bytes) 0 (chosen_marker (eqb (metadata_size bytes) 0) all found a.1) in
     let long : 8 ≤ length bytes = marked.long in
     let zeros : take 4 (drop 4 bytes) ≡ 0 ∷ 0 ∷ 0 ∷ 0 ∷ [] =
     four_zeros (take 4 (drop 4 bytes)) (length-take-le 4 (drop 4 bytes) (omega (arith, length-drop 4 bytes))) (size_read bytes ∙ none) in

@@ -12,7 +12,7 @@ use Rattle.arrow_schema.specs.Column.{Pair, PlainSchema}
 pub use Rattle.arrow_schema.specs.Limits.{texts_of_pairs}
 use Rattle.arrow_schema.specs.Integers.{is_bit_width}
 use Rattle.ipc_message.specs.Raw.{RawParameters, RawEncoding, RawField, raw_fields_of, timestamp_parameters, RawSchema}
-use Rattle.ipc_message.specs.Framing.{first_some, when}
+use Rattle.ipc_message.specs.Framing.{first_some, unless, when}
 use Rattle.ipc_message.specs.Fields.{every_field, depth_all, name_of, code_of, parameters_of, dictionary_of, children_of, pairs_of}
 use Rattle.ipc_message.specs.Types.{type_name, decoded_type}
 use Rattle.ipc_message.specs.Convert.{columns_of_fields, plain_schema_of}
@@ -99,11 +99,6 @@ schema_checks supported s =
     ∷ when (not (length s.pairs == 0) || list_any is_not_yet (every_field s)) NotYet
     ∷ []
 
--- a fault, or else this
-abbrev pub outcome : {A : Type 0} → Option Fault → A → Result A Fault
-outcome None x = Ok x
-outcome (Some fault) x = Err fault
-
 -- the schema that is read, or the fault of the first test that finds something
 unfoldable pub checked_schema : (ℕ → Bool) → RawSchema → Result PlainSchema Fault
-checked_schema supported s = outcome (first_some (schema_checks supported s)) (plain_schema_of s)
+checked_schema supported s = unless (first_some (schema_checks supported s)) (Ok (plain_schema_of s))

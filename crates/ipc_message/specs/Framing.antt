@@ -2,6 +2,7 @@
 use Rattle.std.specs.Prelude.{◌≡◌, ℕ, ◌+◌, ◌^◌, Bool, not, List, [], ◌∷◌, ◌++◌, length, drop, take, Option, Some, None, Result, Ok, Err, nat_lt, nat_eq, ◌==◌, if◌then◌else◌, is_none, ◌≤◌, ◌<◌}
 use Rattle.std.specs.List.{starts_with}
 use Rattle.byteorder.specs.Endian.{little_number}
+pub use Rattle.facts.specs.Checks.{when, first_some, unless}
 use Rattle.flatbuf.specs.declared.FlatError.{FlatError}
 use Rattle.flatbuf.specs.declared.FlatError.TheVariants.{Bounds, VtableSize, Budget}
 use Rattle.flatbuf.specs.declared.limits.TheConstants.{MAX_BUFFER_BYTES}
@@ -65,16 +66,6 @@ body_length metadata = scalar_of 8 0 metadata (slot metadata (message_table meta
 
 -- ---- the tests of the front, in order
 
--- the first of some options that is there
-abbrev pub first_some : {X : Type 0} → List (Option X) → Option X
-first_some [] = None
-first_some (Some x ∷ rest) = Some x
-first_some (None ∷ rest) = first_some rest
-
--- a fault where a test holds
-abbrev pub when : Bool → Fault → Option Fault
-when b f = if b then Some f else None
-
 -- the fault of something bad that a walk met
 abbrev pub flat_fault : FlatError → Fault
 flat_fault Bounds = FlatBounds
@@ -120,11 +111,6 @@ message_faults metadata following =
     ∷ when (not (nat_lt (body_length metadata) (2 ^ 63))) BodyLength
     ∷ when (nat_lt following (body_length metadata)) Truncated
     ∷ []
-
--- the fault, where there is one
-abbrev pub unless : Option Fault → Result NextMessage Fault → Result NextMessage Fault
-unless None r = r
-unless (Some f) r = Err f
 
 -- the message whose metadata this is, where these bytes follow it
 abbrev pub message_with : List ℕ → List ℕ → NextMessage

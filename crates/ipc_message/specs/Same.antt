@@ -1,5 +1,6 @@
 -- Whether two fields have one dictionary id, and whether they have one type: its parameters, and its children in full, ids apart.
 use Rattle.std.specs.Prelude.{ℕ, Bool, true, false, not, ◌&&◌, ◌==◌, bytes_eq, List, [], ◌∷◌, Option, Some, None, is_none}
+use Rattle.std.specs.Bool.{beq}
 use Rattle.arrow_schema.specs.Column.{Pair}
 use Rattle.ipc_message.specs.Raw.{RawParameters, no_parameters, integer_parameters, byte_width, list_size, date_unit, timestamp_parameters, RawEncoding, RawField, RawFields, raw_field, no_raw_field, and_raw_field}
 use Rattle.ipc_message.specs.Fields.{name_of, is_nullable, code_of, parameters_of, dictionary_of, children_of, pairs_of}
@@ -12,13 +13,9 @@ abbrev pub one_id : Option RawEncoding → Option RawEncoding → Bool
 one_id None other = false
 one_id (Some e) other = has_id e.id other
 
-abbrev pub same_flag : Bool → Bool → Bool
-same_flag true b = b
-same_flag false b = not b
-
 abbrev pub same_parameters : RawParameters → RawParameters → Bool
 same_parameters no_parameters no_parameters = true
-same_parameters (integer_parameters m a) (integer_parameters n b) = m == n && same_flag a b
+same_parameters (integer_parameters m a) (integer_parameters n b) = m == n && beq a b
 same_parameters (byte_width m) (byte_width n) = m == n
 same_parameters (list_size m) (list_size n) = m == n
 same_parameters (date_unit m) (date_unit n) = m == n
@@ -27,7 +24,7 @@ same_parameters _ _ = false
 
 abbrev pub has_index : RawEncoding → Option RawEncoding → Bool
 has_index d None = false
-has_index d (Some e) = d.width == e.width && same_flag d.signed e.signed
+has_index d (Some e) = d.width == e.width && beq d.signed e.signed
 
 abbrev pub same_index : Option RawEncoding → Option RawEncoding → Bool
 same_index None other = is_none other
@@ -53,7 +50,7 @@ others_of (and_raw_field f fs) = fs
 -- all but their children
 unfoldable pub same_parts : RawField → RawField → Bool
 same_parts f g =
-    bytes_eq (name_of f) (name_of g) && same_flag (is_nullable f) (is_nullable g) && code_of f == code_of g && same_parameters (parameters_of f) (parameters_of g) && same_index (dictionary_of f) (dictionary_of g) && same_pairs (pairs_of f) (pairs_of g)
+    bytes_eq (name_of f) (name_of g) && beq (is_nullable f) (is_nullable g) && code_of f == code_of g && same_parameters (parameters_of f) (parameters_of g) && same_index (dictionary_of f) (dictionary_of g) && same_pairs (pairs_of f) (pairs_of g)
 
 unfoldable mutual
   pub same_field : RawField → RawField → Bool

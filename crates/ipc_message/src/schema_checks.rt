@@ -4,8 +4,8 @@ ghost use Rattle.std.specs.List.{list_any};
 ghost use Rattle.ipc_message.specs.Raw.{raw_fields_of};
 ghost use Rattle.ipc_message.specs.Fields.{every_field, depth, depth_all, pairs_of, dictionary_of};
 ghost use Rattle.ipc_message.specs.Header.{supported_codes};
-ghost use Rattle.ipc_message.specs.Framing.{first_some};
-ghost use Rattle.ipc_message.specs.Checks.{is_unsupported, name_of_type, is_bad, texts_of, count_of_pairs, exceeds_limit, has_other_type, has_two_types, is_nested, is_dictionary_of_nested, is_not_yet, schema_checks, outcome};
+ghost use Rattle.ipc_message.specs.Framing.{first_some, unless};
+ghost use Rattle.ipc_message.specs.Checks.{is_unsupported, name_of_type, is_bad, texts_of, count_of_pairs, exceeds_limit, has_other_type, has_two_types, is_nested, is_dictionary_of_nested, is_not_yet, schema_checks};
 ghost use Rattle.ipc_message.specs.View.{raw_field_of, raw_schema_of};
 ghost use Rattle.ipc_message.specs.inner.Listed.{listed, text_list};
 ghost use Rattle.ipc_message.specs.Outcome.{Gives};
@@ -180,7 +180,7 @@ fn first_fault(schema: &RawSchema, fields: &[FieldRef], texts: &[&[u8]]) -> Opti
 
 /// Whether a schema passes its tests, and else the fault of the first that it fails. It copies no text.
 pub(crate) fn check_schema(alloc: Global, schema: &RawSchema) -> Result<(), ImportError>
-    ensures { Gives (λ x. x) result (outcome (first_some (schema_checks supported_codes (raw_schema_of schema.now))) tt) }
+    ensures { Gives (λ x. x) result (unless (first_some (schema_checks supported_codes (raw_schema_of schema.now))) (Ok tt)) }
 {
     let fields = every_field(alloc, &schema.fields)?;
     let texts = list_texts(alloc, &schema.pairs, &fields)?;

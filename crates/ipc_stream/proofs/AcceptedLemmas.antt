@@ -10,7 +10,7 @@ use Rattle.arrow_schema.specs.View.{schema_of}
 use Rattle.arrow_schema.specs.declared.types.Schema.{Schema}
 use Rattle.ipc_message.specs.declared.fault.Fault.{Fault}
 use Rattle.ipc_message.specs.declared.fault.Fault.TheVariants.{NotYet, Compressed, LayoutCount, BufferRange, BufferShort, RowCount, NullCount, TooHeavy}
-use Rattle.ipc_message.specs.Framing.{first_some, when}
+use Rattle.ipc_message.specs.Framing.{first_some, when, unless}
 use Rattle.ipc_message.specs.Raw.{RawNode, RawBuffer, nodes_in, buffers_in}
 use Rattle.ipc_message.specs.Raw as raw
 use Rattle.ipc_message.specs.declared.raw_header.RawBatch.{RawBatch}
@@ -18,7 +18,6 @@ use Rattle.ipc_message.specs.View.{raw_batch_of}
 use Rattle.values.specs.Columns.{IntegerColumn, rows_from}
 use Rattle.values.specs.IntegerTable.{have_rows, integer_columns}
 use Rattle.ipc_stream.specs.Batch.{Array, arrays_of, arrays_in, is_negative, is_bad_length, has_bad_length, has_other_layout, is_outside, is_short, has_validity, counts_nulls, are_too_heavy, bytes_of, batch_rows, batch_checks}
-use Rattle.ipc_stream.specs.Meaning.{or_else}
 use Rattle.ipc_stream.proofs.ArrayLemmas.{count_nodes, count_buffers, buffer_at, node_at, next_node, next_buffer, array_at, array_columns}
 use Rattle.ipc_stream.proofs.BatchLemmas.{has_other_length, layout_fits, array_here, column_at, count_columns}
 use Rattle.ipc_stream.proofs.GrowthLemmas.{Grows, grown, rows_grown, have_grown}
@@ -159,8 +158,8 @@ fine_of s before b body h =
     let r8 = not_reported (are_too_heavy s before (batch_rows s b body)) TooHeavy _ r7.1 in
     record { layout = r2.0; lengths = r3.0; inside = r4.0; long = r5.0; light = r8.0 }
 
-pub or_fault : {A : Type 0} (o : Option Fault) (f : Fault) (r : Result A Fault) → o ≡ Some f → or_else o r ≡ Err f
-or_fault o f r is = ap (λ (x : Option Fault). or_else x r) is
+pub or_fault : {A : Type 0} (o : Option Fault) (f : Fault) (r : Result A Fault) → o ≡ Some f → unless o r ≡ Err f
+or_fault o f r is = ap (λ (x : Option Fault). unless x r) is
 
-pub or_none : {A : Type 0} (o : Option Fault) (r : Result A Fault) → o ≡ None → or_else o r ≡ r
-or_none o r is = ap (λ (x : Option Fault). or_else x r) is
+pub or_none : {A : Type 0} (o : Option Fault) (r : Result A Fault) → o ≡ None → unless o r ≡ r
+or_none o r is = ap (λ (x : Option Fault). unless x r) is

@@ -8,6 +8,7 @@ use Rattle.arrow_schema.specs.View.{schema_of, column_of}
 use Rattle.std.proofs.Math.Bool.{or-true}
 use Rattle.std.proofs.Math.Nat.{mul-le-mul}
 use Rattle.std.proofs.lemmas.Bool.{and_parts, eq-eqb, eqb-true, ltb-false, ne_eqb, not-false, or_parts}
+use Rattle.values.specs.laws.IntegerRows.{length_rows_from}
 use Rattle.arrow_schema.specs.Column.{Column, PlainSchema}
 use Rattle.cells.specs.Cell.{Cell}
 use Rattle.arrow_schema.specs.declared.types.Schema.{Schema}
@@ -18,7 +19,6 @@ use Rattle.ipc_message.specs.View.{raw_batch_of}
 use Rattle.values.specs.Columns.{IntegerColumn}
 use Rattle.values.specs.IntegerTable.{integer_column, integer_columns}
 use Rattle.ipc_stream.specs.Batch.{is_negative, is_bad_length, has_bad_length, has_other_layout, arrays_in, are_too_heavy, batch_rows, bytes_of}
-use Rattle.ipc_stream.proofs.RowLemmas.{length_rows}
 use Rattle.ipc_stream.proofs.RowWeights.{WeighAlike, too_heavy}
 use Rattle.ipc_stream.proofs.ArrayLemmas.{count_nodes, count_buffers, count_arrays, array_at, next_array}
 
@@ -93,7 +93,7 @@ pub heavy_is : (schema : Schema) (b : RawBatch) (body : List ℕ) (rows : List (
 unfolding batch_rows
 heavy_is schema b body rows before columns alike few len is =
     let s : PlainSchema = schema_of schema in
-    let many : length (batch_rows s (raw_batch_of b) body) ≡ b.length = length_rows (integer_columns s) (map (λ a. bytes_of body a.values) (arrays_in s (raw_batch_of b))) 0 b.length in
+    let many : length (batch_rows s (raw_batch_of b) body) ≡ b.length = length_rows_from (integer_columns s) (map (λ a. bytes_of body a.values) (arrays_in s (raw_batch_of b))) 0 b.length in
     let count : length s.columns ≡ columns = length-map schema.fields.items column_of ∙ sym is in
     too_heavy s rows (batch_rows s (raw_batch_of b) body) alike few ∙ λ j. nat_lt 268435456 ((len j + many j) * (1 + count j))
 

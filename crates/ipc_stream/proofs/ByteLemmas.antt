@@ -3,19 +3,14 @@ use Rattle.std.specs.Prelude.{slice_index}
 use Rattle.std.proofs.Common.{◌≡◌, ℕ, zero, suc, ◌+◌, ◌*◌, ◌^◌, ◌<◌, ◌≤◌, List, [], ◌∷◌, length, take, drop, refl, arith, ◌∙◌, ap, sym, append-nil}
 use Rattle.std.proofs.lemmas.List.{length-take-le}
 use Rattle.std.specs.Int.{byte_at, bytes_low_first}
+use Rattle.facts.specs.laws.Bytes.{cons-bytes, take-bytes}
+use Rattle.facts.specs.Bytes.{AreBytes}
 use Rattle.byteorder.specs.Endian.{little_number, little_bytes}
 use Rattle.byteorder.specs.Numbers.{little_number-reads_back, length-bytes_low_first, little_from-cons, little_from-take, little_from-lt}
-
-abbrev pub AreBytes : List ℕ → Type 0
-AreBytes xs = (k : ℕ) → slice_index xs k < 256
 
 byte_at-small : (k x : ℕ) → byte_at k x < 256
 byte_at-small zero x = omega arith
 byte_at-small (suc k) x = omega arith
-
-pub cons-bytes : (x : ℕ) (xs : List ℕ) → x < 256 → AreBytes xs → AreBytes (x ∷ xs)
-cons-bytes x xs here rest zero = here
-cons-bytes x xs here rest (suc k) = rest k
 
 pub low_first-bytes : (j k x : ℕ) → AreBytes (bytes_low_first j k x)
 low_first-bytes j zero x = λ i. omega arith
@@ -36,16 +31,6 @@ one_decoding (a ∷ xs) (b ∷ ys) small small' len is =
     let tails : little_number (length xs) xs ≡ little_number (length xs) ys = omega arith in
     let rest = one_decoding xs ys (λ k. small (suc k)) (λ k. small' (suc k)) (omega arith) tails in
     cc
-
-pub take-bytes : (n : ℕ) (xs : List ℕ) → AreBytes xs → AreBytes (take n xs)
-take-bytes zero xs small = λ k. omega arith
-take-bytes (suc n) [] small = λ k. omega arith
-take-bytes (suc n) (x ∷ xs) small = cons-bytes x (take n xs) (small 0) (take-bytes n xs (λ i. small (suc i)))
-
-pub drop-bytes : (n : ℕ) (xs : List ℕ) → AreBytes xs → AreBytes (drop n xs)
-drop-bytes zero xs small = small
-drop-bytes (suc n) [] small = small
-drop-bytes (suc n) (x ∷ xs) small = drop-bytes n xs (λ k. small (suc k))
 
 -- the bytes of the number that stands in them
 pub bytes_again : (n : ℕ) (xs : List ℕ) → AreBytes xs → n ≤ length xs → little_bytes n (little_number n xs) ≡ take n xs

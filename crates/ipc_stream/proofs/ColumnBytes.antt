@@ -2,11 +2,13 @@
 use Rattle.std.specs.Prelude.{replicate}
 use Rattle.std.proofs.Common.{ℕ, zero, suc, List, [], ◌∷◌, ◌++◌, map, arith}
 use Rattle.std.proofs.lemmas.List.Concat.{flat_map-cons}
+use Rattle.facts.specs.Bytes.{AreBytes}
+use Rattle.facts.specs.laws.Bytes.{cons-bytes}
 use Rattle.cells.specs.Cell.{Cell, null, boolean, number, text, bytes, items, parts}
 use Rattle.values.specs.Columns.{IntegerColumn, integer_bytes, values_of, first_cell, other_cells, values_of_all}
 use Rattle.cells.specs.Integers.{number_of}
 use Rattle.values.specs.IntegerRows.{AllBytes}
-use Rattle.ipc_stream.proofs.ByteLemmas.{AreBytes, cons-bytes, low_first-bytes}
+use Rattle.ipc_stream.proofs.ByteLemmas.{low_first-bytes}
 
 zeros : (n : ℕ) → AreBytes (replicate n 0)
 zeros zero = λ k. omega arith

@@ -10,13 +10,13 @@ use Rattle.ipc_message.specs.declared.error.ImportError.TheVariants as errors
 use Rattle.ipc_message.specs.declared.fault.Fault.{Fault}
 use Rattle.ipc_message.specs.declared.fault.Fault.TheVariants.{NoSchema}
 use Rattle.ipc_message.specs.Raw.{RawSchema, schema_header}
-use Rattle.ipc_message.specs.Framing.{Envelope, NextMessage, end_of_stream, message, next_message, taken, header_type, type_of, first_some}
+use Rattle.ipc_message.specs.Framing.{Envelope, NextMessage, end_of_stream, message, next_message, taken, header_type, type_of, first_some, unless}
 use Rattle.ipc_message.specs.Header.{supported_codes, header}
 use Rattle.ipc_message.specs.laws.Accepted.{accepted_outcome}
-use Rattle.ipc_message.specs.Checks.{outcome, schema_checks, checked_schema}
+use Rattle.ipc_message.specs.Checks.{schema_checks, checked_schema}
 use Rattle.ipc_message.specs.Convert.{plain_schema_of}
 use Rattle.ipc_message.specs.Outcome.{Fails}
-use Rattle.ipc_stream.specs.Meaning.{Message, or_else, accepted, table_in, meaning}
+use Rattle.ipc_stream.specs.Meaning.{Message, accepted, table_in, meaning}
 use Rattle.arrow_schema.specs.Integers.{is_empty}
 use Rattle.ipc_stream.specs.Progress.{without_rows, IsRead}
 use Rattle.ipc_stream.proofs.Steps.{meaning_none, meaning_fault, meaning_end_of_stream, meaning_refused, read_first}
@@ -44,11 +44,11 @@ unread_first bytes m (errors.Fault fault) some e typed read = meaning_refused su
 
 -- ---- the tests of the schema
 
-reported_err : (o : Option Fault) (p : PlainSchema) (fault : Fault) → outcome o p ≡ Err fault → o ≡ Some fault
+reported_err : (o : Option Fault) (p : PlainSchema) (fault : Fault) → unless o (Ok p) ≡ Err fault → o ≡ Some fault
 reported_err None p fault h = absurd cc
 reported_err (Some f) p fault h = cc
 
-reported_ok : (o : Option Fault) (p q : PlainSchema) → outcome o p ≡ Ok q → (o ≡ None) × (p ≡ q)
+reported_ok : (o : Option Fault) (p q : PlainSchema) → unless o (Ok p) ≡ Ok q → (o ≡ None) × (p ≡ q)
 reported_ok None p q h = (refl, (cc))
 reported_ok (Some f) p q h = absurd cc
 
@@ -60,7 +60,7 @@ unreported_first bytes m s (errors.Fault fault) some e typed read reported =
     let found : first_some (schema_checks supported_codes s) ≡ Some fault = reported_err (first_some (schema_checks supported_codes s)) (plain_schema_of s) fault reported in
     let a : Message = record { header = schema_header s; body = m.body } in
     meaning_refused supported_codes bytes m fault some e
-    (first_schema supported_codes m s (is_schema _ typed) read ∙ ap (λ (o : Option Fault). or_else o (Ok a)) found)
+    (first_schema supported_codes m s (is_schema _ typed) read ∙ ap (λ (o : Option Fault). unless o (Ok a)) found)
 
 schema_alone : (s : RawSchema) (body : List ℕ) → table_in (record { header = schema_header s; body = body } ∷ []) ≡ without_rows (plain_schema_of s)
 unfolding table_in
@@ -72,5 +72,5 @@ unfolding checked_schema
 schema_read bytes m s p some e typed read reported =
     let found = reported_ok (first_some (schema_checks supported_codes s)) (plain_schema_of s) p reported in
     let a : Message = record { header = schema_header s; body = m.body } in
-    let goes : accepted supported_codes [] m ≡ Ok a = first_schema supported_codes m s (is_schema _ typed) read ∙ ap (λ (o : Option Fault). or_else o (Ok a)) found.0 in
-    read_first bytes m a (without_rows p) some e goes (accepted_outcome supported_codes s s (ap (λ (o : Option Fault). outcome o s) found.0)) (schema_alone s m.body ∙ ap without_rows found.1)
+    let goes : accepted supported_codes [] m ≡ Ok a = first_schema supported_codes m s (is_schema _ typed) read ∙ ap (λ (o : Option Fault). unless o (Ok a)) found.0 in
+    read_first bytes m a (without_rows p) some e goes (accepted_outcome supported_codes s s (ap (λ (o : Option Fault). unless o (Ok s)) found.0)) (schema_alone s m.body ∙ ap without_rows found.1)

@@ -2,14 +2,15 @@
 use Rattle.std.specs.Prelude.{◌⊎◌, ◌≢◌}
 use Rattle.std.proofs.Common.{◌≡◌, ℕ, zero, suc, ◌+◌, ◌<◌, Bool, true, false, List, [], ◌∷◌, ◌++◌, length, drop, Option, None, Some, Result, Ok, Err, inl, inr, refl, sym, ap, ◌∙◌, arith, append_assoc}
 use Rattle.std.proofs.lemmas.List.{length-drop, append-nil}
+use Rattle.facts.specs.laws.Checks.{unless_passed}
 use Rattle.ipc_message.specs.declared.fault.Fault.{Fault}
-use Rattle.ipc_message.specs.Framing.{Envelope, NextMessage, Frames, next_message, end_of_stream, message, taken, continuation_marker, first_some, type_of}
+use Rattle.ipc_message.specs.Framing.{Envelope, NextMessage, Frames, next_message, end_of_stream, message, taken, continuation_marker, first_some, type_of, unless}
 use Rattle.ipc_message.specs.Header.{header}
 use Rattle.ipc_message.specs.Raw.{RawHeader}
 use Rattle.ipc_stream.proofs.NextMessageLaw.{NextMessageLaw}
 use Rattle.ipc_stream.specs.FramedFault.{AreAccepted, IsRefused, no_next_message, bad_message, nothing, only_end_of_stream, after_end_of_stream, FaultStands}
 use Rattle.ipc_stream.specs.FramedTable.{IsEnd}
-use Rattle.ipc_stream.specs.Meaning.{◌>>=◌, or_else, Message, table_in, order_fault, header_checks, accepted, at_end, at_end_of_stream, by_next_message, messages, meaning}
+use Rattle.ipc_stream.specs.Meaning.{◌>>=◌, Message, table_in, order_fault, header_checks, accepted, at_end, at_end_of_stream, by_next_message, messages, meaning}
 use Rattle.arrow_schema.specs.Integers.{is_empty}
 
 -- ---- results in a row
@@ -21,10 +22,6 @@ bind_ok (Err e) f y h = absurd (cc)
 bind_err : {A B : Type 0} (r : Result A Fault) (f : A → Result B Fault) (e : Fault) → (r >>= f) ≡ Err e → (r ≡ Err e) ⊎ ((x : A) × (r ≡ Ok x) × (f x ≡ Err e))
 bind_err (Ok x) f e h = inr (x, refl, h)
 bind_err (Err d) f e h = let same : d ≡ e = cc h in inl (ap Err same)
-
-pub else_ok : {A : Type 0} (o : Option Fault) (r : Result A Fault) (y : A) → or_else o r ≡ Ok y → (o ≡ None) × (r ≡ Ok y)
-else_ok None r y h = (refl, h)
-else_ok (Some f) r y h = absurd (cc)
 
 -- ---- an accepted message
 
@@ -41,10 +38,10 @@ message_of h body = record { header = h; body = body }
 pub accepted_passes : (supported : ℕ → Bool) (before : List Message) (m : Envelope) (a : Message) → accepted supported before m ≡ Ok a → Passes supported before m a
 unfolding accepted
 accepted_passes supported before m a h =
-    let f = λ (x : RawHeader). or_else (first_some (header_checks supported before m.body x)) (Ok (message_of x m.body)) in
-    let o = else_ok (order_fault before (type_of m.metadata)) (header supported m.metadata >>= f) a h in
+    let f = λ (x : RawHeader). unless (first_some (header_checks supported before m.body x)) (Ok (message_of x m.body)) in
+    let o = unless_passed (order_fault before (type_of m.metadata)) (header supported m.metadata >>= f) a h in
     let b = bind_ok (header supported m.metadata) f a o.1 in
-    let r = else_ok (first_some (header_checks supported before m.body b.0)) (Ok (message_of b.0 m.body)) a b.2 in
+    let r = unless_passed (first_some (header_checks supported before m.body b.0)) (Ok (message_of b.0 m.body)) a b.2 in
     let is : message_of b.0 m.body ≡ a = cc (r.1) in
     let same : b.0 ≡ a.header = ap (λ (x : Message). x.header) is in
     record {

@@ -6,6 +6,7 @@ use Rattle.std.proofs.Math.Nat.{mul-le-mul_right}
 use Rattle.std.proofs.lemmas.List.{drop-drop, drop-take}
 use Rattle.std.proofs.lemmas.List.Concat.{flat_map-cons}
 use Rattle.std.proofs.lemmas.Bool.{and_parts, eqb-true, ltb-false, not-false, or_parts}
+use Rattle.values.specs.laws.IntegerRows.{length_rows_from}
 use Rattle.byteorder.specs.Endian.{little_number}
 use Rattle.byteorder.specs.Numbers.{little_from-take}
 use Rattle.arrow_schema.specs.Column.{PlainSchema}
@@ -36,7 +37,6 @@ use Rattle.ipc_stream.proofs.AcceptedSchema.{accepted_integer, accepted_lacks_id
 use Rattle.ipc_stream.proofs.BatchLemmas.{has_other_length}
 use Rattle.ipc_stream.proofs.NextMessageLaw.{NextMessageLaw}
 use Rattle.ipc_stream.proofs.FramedMessages.{bind_ok, message_of, Passes, accepted_passes, Reads, messages_framed}
-use Rattle.ipc_stream.proofs.RowLemmas.{length_rows}
 use Rattle.ipc_stream.proofs.Steps.{same_schema, still_some}
 
 -- ---- what a header is, by the type that its message has
@@ -165,7 +165,7 @@ batch_is supported s before m b is passed =
       batch = b;
       decoded = is;
       whole = same.whole;
-      count = length_rows cs values 0 b.length;
+      count = length_rows_from cs values 0 b.length;
       each = λ j below. get_row cs values 0 b.length j below ∙ (let e : 0 + j ≡ j = omega arith in ap (row_at cs values) e) ∙ same.same j below;
     }
 

@@ -20,7 +20,7 @@ use Rattle.ipc_message.specs.declared.raw_header.Header as code_header
 use Rattle.ipc_message.specs.declared.raw_header.Header.TheVariants as headers
 use Rattle.ipc_message.specs.Messages.{next_message_of}
 use Rattle.ipc_message.specs.View.{raw_header_of}
-use Rattle.ipc_message.specs.Framing.{Envelope, end_of_stream, header_type, type_of, first_some}
+use Rattle.ipc_message.specs.Framing.{Envelope, end_of_stream, header_type, type_of, first_some, unless}
 use Rattle.ipc_message.specs.Header.{supported_codes, decoded, header_of, header}
 use Rattle.ipc_message.specs.laws.Accepted.{IsAccepted}
 use Rattle.ipc_message.specs.Checks.{schema_checks}
@@ -28,7 +28,7 @@ use Rattle.ipc_message.specs.Convert.{plain_schema_of}
 use Rattle.ipc_message.specs.Outcome.{Gives, Fails}
 use Rattle.ipc_stream.specs.declared.gathered.Gathered.{Gathered}
 use Rattle.ipc_stream.specs.Batch.{batch_checks}
-use Rattle.ipc_stream.specs.Meaning.{Message, schema_in, rows_of_header, rows_in, table_in, or_else, accepted, ◌>>=◌}
+use Rattle.ipc_stream.specs.Meaning.{Message, schema_in, rows_of_header, rows_in, table_in, accepted, ◌>>=◌}
 use Rattle.arrow_schema.specs.Integers.{is_empty}
 use Rattle.ipc_stream.specs.Added.{added}
 use Rattle.ipc_stream.specs.View.{gathered_table}
@@ -104,7 +104,7 @@ unfolding accepted
 first_unread supported m fault one read = rw (one, read) refl
 
 pub first_schema : (supported : ℕ → Bool) (m : Envelope) (s : RawSchema) → (type_of m.metadata == 1) ≡ true → header supported m.metadata ≡ Ok (schema_header s)
-    → accepted supported [] m ≡ or_else (first_some (schema_checks supported s)) (Ok (record { header = schema_header s; body = m.body }))
+    → accepted supported [] m ≡ unless (first_some (schema_checks supported s)) (Ok (record { header = schema_header s; body = m.body }))
 unfolding accepted
 first_schema supported m s one read = rw (one, read) refl
 
@@ -137,12 +137,12 @@ table_more (m ∷ ms) a some =
     flat_map-append (λ (x : Message). rows_of_header s x.body x.header) (m ∷ ms) (a ∷ []) ∙ ap (λ (rows : List (List Cell)). rows_in s (m ∷ ms) ++ rows) (append-nil (rows_of_header s a.body a.header)) in
     ap (λ (rows : List (List Cell)). record { schema = s; rows = rows }) joined
 
-or_else_on : {A B : Type 0} (o : Option Fault) (x : A) (f : A → Result B Fault) → (or_else o (Ok x) >>= f) ≡ or_else o (f x)
-or_else_on None x f = refl
-or_else_on (Some fault) x f = refl
+unless_on : {A B : Type 0} (o : Option Fault) (x : A) (f : A → Result B Fault) → (unless o (Ok x) >>= f) ≡ unless o (f x)
+unless_on None x f = refl
+unless_on (Some fault) x f = refl
 
 batch_tested : (supported : ℕ → Bool) (before : List Message) (m : Envelope) (b : RawBatch) → is_empty before ≡ false → (type_of m.metadata == 1) ≡ false → header supported m.metadata ≡ Ok (batch_header b)
-    → accepted supported before m ≡ or_else (first_some (batch_checks (table_in before).schema (table_in before).rows b m.body)) (Ok (record { header = batch_header b; body = m.body }))
+    → accepted supported before m ≡ unless (first_some (batch_checks (table_in before).schema (table_in before).rows b m.body)) (Ok (record { header = batch_header b; body = m.body }))
 unfolding accepted table_in
 batch_tested supported before m b some other read = rw (some, other, read) refl
 
@@ -153,8 +153,8 @@ batch_gives supported before m b some other read =
     let a : Message = record { header = batch_header b; body = m.body } in
     let fault = first_some (batch_checks (table_in before).schema (table_in before).rows b m.body) in
     ap (λ (r : Result Message Fault). r >>= λ x. Ok (table_in (before ++ x ∷ []))) (batch_tested supported before m b some other read)
-    ∙ or_else_on fault a (λ x. Ok (table_in (before ++ x ∷ [])))
-    ∙ ap (λ (t : PlainTable). or_else fault (Ok t)) (table_more before a some)
+    ∙ unless_on fault a (λ x. Ok (table_in (before ++ x ∷ [])))
+    ∙ ap (λ (t : PlainTable). unless fault (Ok t)) (table_more before a some)
 
 -- ---- the same of a result
 

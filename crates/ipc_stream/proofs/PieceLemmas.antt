@@ -2,6 +2,7 @@
 use Rattle.std.proofs.Common.{◌≡◌, ℕ, ◌+◌, ◌*◌, ◌≤◌, ◌<◌, ◌==◌, IsTrue, List, [], ◌∷◌, ◌++◌, Bor, map, drop, get_or, length, eqb-true, subst, refl, arith, sym, ap, ◌∙◌, append_assoc}
 use Rattle.std.proofs.lemmas.List.{drop_more, map-append}
 use Rattle.std.proofs.lemmas.Bool.{and_parts}
+use Rattle.values.specs.laws.IntegerRows.{length_rows_from}
 use Rattle.arrow_schema.specs.Column.{Column, PlainSchema}
 use Rattle.cells.specs.Cell.{Cell}
 use Rattle.ipc_message.specs.Raw.{RawNode}
@@ -11,7 +12,6 @@ use Rattle.ipc_stream.specs.Canonical.{piece_message, full_nodes, integer_buffer
 use Rattle.values.specs.Columns.{IntegerColumn, rows_from, first_cell, values_of}
 use Rattle.values.specs.IntegerTable.{integer_columns, have_rows}
 use Rattle.ipc_stream.proofs.PieceSize.{body_more}
-use Rattle.ipc_stream.proofs.RowLemmas.{length_rows}
 use Rattle.ipc_stream.proofs.SliceLemmas.{other_rows}
 
 -- a piece is a batch with these nodes and buffers
@@ -19,12 +19,9 @@ pub piece_is : (s : PlainSchema) (vs : List (List ℕ)) (from n : ℕ) (nodes : 
     → nodes ≡ full_nodes s.columns n → buffers ≡ integer_buffers (integer_columns s) (rows_from (integer_columns s) vs from n)
     → batch_message n nodes buffers ≡ piece_message s (rows_from (integer_columns s) vs from n)
 unfolding piece_message
-piece_is s vs from n nodes buffers ns bs = rw (length_rows (integer_columns s) vs from n, ns, bs) refl
+piece_is s vs from n nodes buffers ns bs = rw (length_rows_from (integer_columns s) vs from n, ns, bs) refl
 
 -- ---- one column more
-
-pub next : {X : Type 0} (xs : List X) (i : ℕ) (x : X) → i < length xs → x ≡ get_or xs i x → drop i xs ≡ x ∷ drop (i + 1) xs
-next xs i x lt is = drop_more xs i x lt ∙ ap (λ y. y ∷ drop (i + 1) xs) (sym is)
 
 pub left_more : (c : IntegerColumn) (cs cs' : List IntegerColumn) (v : List ℕ) (vs vs' : List (List ℕ)) (rows : ℕ) → cs ≡ c ∷ cs' → vs ≡ v ∷ vs' → IsTrue (have_rows cs vs rows)
     → (length v ≡ rows * c.width) × IsTrue (have_rows cs' vs' rows)

@@ -5,6 +5,7 @@ use Rattle.std.proofs.Common.{◌≡◌, ℕ, zero, suc, ◌+◌, ◌-◌, ◌�
 use Rattle.std.proofs.lemmas.List.Concat.{flat_map-cons}
 use Rattle.std.proofs.lemmas.List.{take_min, drop_min}
 use Rattle.std.proofs.lemmas.Bool.{and_parts}
+use Rattle.values.specs.laws.IntegerRows.{length_rows_from}
 use Rattle.arrow_schema.specs.Column.{Column, PlainSchema}
 use Rattle.cells.specs.Cell.{Cell}
 use Rattle.cells.specs.Weight.{row_weight}
@@ -12,14 +13,11 @@ use Rattle.ipc_write.specs.Written.{schema_message, end_of_stream}
 use Rattle.ipc_stream.specs.Canonical.{canonical, piece_message}
 use Rattle.values.specs.Columns.{IntegerColumn, row_at, rows_from}
 use Rattle.ipc_stream.specs.Cut.{pieces, within_limits}
-use Rattle.arrow_schema.specs.Integers.{is_integer_schema, is_integer_column, is_empty}
+use Rattle.arrow_schema.specs.Integers.{is_integer_schema, is_integer_column, is_empty, AreIntegers}
 use Rattle.values.specs.IntegerTable.{integer_columns, plain_table}
 use Rattle.ipc_stream.proofs.CutLemmas.{AllLight, first_piece}
 use Rattle.ipc_stream.proofs.RowWeights.{WeighAlike}
-use Rattle.ipc_stream.proofs.RowLemmas.{take_rows, drop_rows, length_rows}
-
-abbrev pub AreIntegers : List Column → Type 0
-AreIntegers columns = list_all is_integer_column columns ≡ true
+use Rattle.ipc_stream.proofs.RowLemmas.{take_rows, drop_rows}
 
 rows_light : (s : PlainSchema) (most : ℕ) (cs : List IntegerColumn) (vs : List (List ℕ)) (i n : ℕ) → ((row : List Cell) → row_weight s row ≤ most) → AllLight (row_weight s) most (rows_from cs vs i n)
 rows_light s most cs vs i zero light = tt
@@ -41,7 +39,7 @@ next_piece s vs from n k alike few some is =
     let rows : List (List Cell) = rows_from cs vs from n in
     let W = within_limits (row_weight s) 4096 16777216 in
     let light : AllLight (row_weight s) 2049 rows = rows_light s 2049 cs vs from n (λ row. let w = alike.row row in omega (arith, w, few)) in
-    let len : length rows ≡ n = length_rows cs vs from n in
+    let len : length rows ≡ n = length_rows_from cs vs from n in
     let first : pieces W rows ≡ take 4096 rows ∷ pieces W (drop 4096 rows) = first_piece (row_weight s) 2049 4096 16777216 rows (omega arith) (omega arith) light (omega arith) in
     let least : k ≡ min 4096 (length rows) = is ∙ ap (min 4096) (sym len) in
     let inside : k ≤ n = omega arith in

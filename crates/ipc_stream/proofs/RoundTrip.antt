@@ -4,6 +4,7 @@ use Rattle.std.proofs.Common.{◌≡◌, ℕ, zero, suc, ◌+◌, ◌-◌, ◌*�
 use Rattle.std.proofs.lemmas.Grind.{flat_map-append}
 use Rattle.std.proofs.lemmas.List.{append-nil, length-map}
 use Rattle.std.proofs.Math.Nat.{mul-le-mul_right}
+use Rattle.values.specs.laws.IntegerRows.{length_rows_from}
 use Rattle.flatbuf.specs.Lookup.{number}
 use Rattle.arrow_schema.specs.Column.{PlainSchema}
 use Rattle.arrow_schema.specs.Limits.{name_len}
@@ -24,7 +25,6 @@ use Rattle.arrow_schema.specs.Integers.{is_integer_schema, is_empty}
 use Rattle.values.specs.IntegerTable.{integer_column, integer_columns, have_rows, plain_table}
 use Rattle.ipc_stream.proofs.Pieces.{integers_of, messages_of, next_piece, no_piece, canonical_is}
 use Rattle.ipc_stream.proofs.RowWeights.{WeighAlike}
-use Rattle.ipc_stream.proofs.RowLemmas.{length_rows}
 use Rattle.ipc_stream.proofs.FramedBack.{some_next_message}
 use Rattle.ipc_stream.proofs.FramedMessages.{message_of}
 use Rattle.ipc_stream.proofs.Steps.{shorter, step_on, still_some, same_schema}
@@ -129,8 +129,8 @@ piece_sound s vs total from k before supported is some inside =
     let rows : List (List Cell) = rows_from cs vs from k in
     let old : List (List Cell) = rows_from cs vs 0 from in
     let bytes : List ℕ = body (piece_buffers s rows) in
-    let count : length rows ≡ k = length_rows cs vs from k in
-    let count_old : length old ≡ from = length_rows cs vs 0 from in
+    let count : length rows ≡ k = length_rows_from cs vs from k in
+    let count_old : length old ≡ from = length_rows_from cs vs 0 from in
     let all : length old + length rows ≤ total = omega (arith, inside, count, count_old) in
     let product : (length old + length rows) * (1 + length s.columns) ≤ total * (1 + length s.columns) = mul-le-mul_right (1 + length s.columns) all in
     let light : (length old + length rows) * (1 + length s.columns) ≤ 268435456 = omega (arith, product, supported.light) in
@@ -146,7 +146,7 @@ unfolding piece_envelope piece_read
 piece_accepted law s vs total from k before supported is some inside =
     let rows : List (List Cell) = rows_from (integer_columns s) vs from k in
     let nodes : List RawNode = full_nodes s.columns (length rows) in
-    let count : length rows ≡ k = length_rows (integer_columns s) vs from k in
+    let count : length rows ≡ k = length_rows_from (integer_columns s) vs from k in
     let small = piece_writable s vs total rows supported (omega (arith, some, count)) in
     accepts supported_codes before (batch_envelope (length rows) nodes (piece_buffers s rows)) (batch_header (piece_batch s rows))
     (order_none before _ is.some (law.kind (length rows) nodes (piece_buffers s rows) small))
@@ -207,7 +207,7 @@ read_on law (suc steps) s vs total from (suc m) before supported is all enough =
     let here : List ℕ = piece_message s rows ++ rest in
     let some : k ≤ 4096 = omega arith in
     let inside : from + k ≤ total = omega (arith, all) in
-    let count : length rows ≡ k = length_rows (integer_columns s) vs from k in
+    let count : length rows ≡ k = length_rows_from (integer_columns s) vs from k in
     let cut : messages_of s vs from (suc m) ≡ piece_message s rows ++ others = next_piece s vs from (suc m) k supported.weigh supported.few (omega arith) refl in
     let bytes : messages_of s vs from (suc m) ++ end_of_stream ≡ here = ap (λ (xs : List ℕ). xs ++ end_of_stream) cut ∙ append_assoc (piece_message s rows) others end_of_stream in
     let stands = piece_front law s vs total rows rest supported (omega (arith, some, count)) in

@@ -12,6 +12,7 @@ use Rattle.ipc_message.specs.Framing.{first_some}
 use Rattle.ipc_message.specs.Raw.{RawNode, RawBatch}
 use Rattle.flatbuf.specs.Held.{FitsStructs}
 use Rattle.ipc_write.specs.Trees.{node_pair}
+use Rattle.ipc_write.specs.laws.Written.{length-placed}
 use Rattle.ipc_write.specs.Written.{padded, body, placed, batch_of}
 use Rattle.ipc_stream.specs.Batch.{Array, arrays_of, is_bad_length, is_outside, is_short, has_validity, counts_nulls, has_other_layout, has_bad_length, bytes_of, batch_rows, batch_checks}
 use Rattle.ipc_stream.specs.Canonical.{integer_buffers, full_nodes}
@@ -33,10 +34,6 @@ piece_batch s rows = batch_of (length rows) (full_nodes s.columns (length rows))
 pub full_nodes_fit : {A : Type 0} (columns : List A) (rows : ℕ) → rows < 2 ^ 64 → FitsStructs (map node_pair (full_nodes columns rows))
 full_nodes_fit [] rows small = tt
 full_nodes_fit (c ∷ cs) rows small = (small, omega arith, full_nodes_fit cs rows small)
-
-length_placed : (at : ℕ) (buffers : List (List ℕ)) → length (placed at buffers) ≡ length buffers
-length_placed at [] = refl
-length_placed at (b ∷ bs) = ap suc (length_placed (at + length (padded b)) bs)
 
 full_again : (cs : List Column) (n : ℕ) → full_nodes cs n ≡ full_nodes (map integer_column cs) n
 full_again [] n = refl
@@ -164,7 +161,7 @@ layout_fair : (s : PlainSchema) (rows : List (List Cell)) → has_other_layout (
 layout_fair s rows =
     let cs : List IntegerColumn = integer_columns s in
     let a : length (full_nodes s.columns (length rows)) ≡ length cs = length_full s.columns (length rows) ∙ sym (length-map s.columns integer_column) in
-    let b : length (placed 0 (integer_buffers cs rows)) ≡ 2 * length cs = length_placed 0 (integer_buffers cs rows) ∙ length_buffers cs rows in
+    let b : length (placed 0 (integer_buffers cs rows)) ≡ 2 * length cs = length-placed 0 (integer_buffers cs rows) ∙ length_buffers cs rows in
     rw (a, b, eq-eqb (length cs) (length cs) refl, eq-eqb (2 * length cs) (2 * length cs) refl) refl
 
 lengths_fair : (s : PlainSchema) (rows : List (List Cell)) → length rows ≤ 4096 → has_bad_length (piece_batch s rows) ≡ false

@@ -3,18 +3,18 @@ use Rattle.std.specs.List.{list_all}
 use Rattle.std.proofs.Common.{◌≡◌, ℕ, zero, suc, ◌+◌, ◌*◌, ◌^◌, ◌<◌, ◌≤◌, Bool, true, ◌==◌, List, [], ◌∷◌, ◌++◌, None, map, length, drop, refl, arith, sym, ap, ◌∙◌}
 use Rattle.std.proofs.lemmas.Bool.Decides.{nat_tests}
 use Rattle.std.proofs.lemmas.Bool.{and_parts}
+use Rattle.facts.specs.laws.Bytes.{drop-bytes}
+use Rattle.facts.specs.Bytes.{AreBytes}
 use Rattle.byteorder.specs.Endian.{little_number}
 use Rattle.byteorder.specs.Numbers.{little_from-lt}
 use Rattle.arrow_schema.specs.Column.{Column, column, integers}
 use Rattle.cells.specs.Cell.{Cell}
-use Rattle.arrow_schema.specs.Integers.{is_integer_column, is_bit_width}
+use Rattle.arrow_schema.specs.Integers.{is_integer_column, is_bit_width, AreIntegers}
 use Rattle.arrow_schema.specs.laws.IntegerCases.{integer_case}
-use Rattle.ipc_stream.proofs.Pieces.{AreIntegers}
 use Rattle.values.specs.IntegerRows.{AllBytes}
 use Rattle.values.specs.Columns.{IntegerColumn, cell_at, row_at, rows_from}
 use Rattle.cells.specs.Integers.{integer_of, number_of}
 use Rattle.values.specs.IntegerTable.{integer_column, have_rows}
-use Rattle.ipc_stream.proofs.ByteLemmas.{AreBytes, drop-bytes}
 use Rattle.ipc_stream.proofs.ColumnLemmas.{IsIntegerOf, IsRowOf, AreRowsOf}
 use Rattle.ipc_stream.proofs.IntegerLemmas.{powers, number_again}
 use Rattle.ipc_stream.proofs.RoundTripBatch.{AreNarrow}

@@ -22,10 +22,9 @@ use Rattle.ipc_message.specs.Framing.{first_some}
 use Rattle.ipc_message.specs.Header.{supported_codes}
 use Rattle.ipc_message.specs.Checks.{is_unsupported, is_bad, exceeds_limit, texts_of_field, are_at_odds, has_other_type, is_dictionary_of_nested, is_not_yet, schema_checks}
 use Rattle.ipc_write.specs.Trees.{code_of, ids_of}
-use Rattle.arrow_schema.specs.Integers.{is_integer_column, is_bit_width, is_empty, is_integer_schema}
+use Rattle.arrow_schema.specs.Integers.{is_integer_column, is_bit_width, is_empty, is_integer_schema, AreIntegers}
 use Rattle.ipc_write.specs.Decoded.{parameters_of, raw_of, raw_below, raw_of_all, raw_schema}
 use Rattle.arrow_schema.specs.laws.IntegerCases.{integer_case}
-use Rattle.ipc_stream.proofs.Pieces.{AreIntegers}
 
 -- the field of a column without a dictionary or children
 abbrev pub plain_field : Column → RawField

@@ -3,10 +3,6 @@ use Rattle.std.proofs.Common.{◌≡◌, ℕ, zero, suc, ◌+◌, ◌-◌, ◌�
 use Rattle.cells.specs.Cell.{Cell}
 use Rattle.values.specs.Columns.{IntegerColumn, row_at, rows_from}
 
-pub length_rows : (cs : List IntegerColumn) (vs : List (List ℕ)) (i n : ℕ) → length (rows_from cs vs i n) ≡ n
-length_rows cs vs i zero = refl
-length_rows cs vs i (suc n) = let h = length_rows cs vs (i + 1) n in omega (arith, h)
-
 -- some of the rows, and the others
 pub take_rows : (k : ℕ) (cs : List IntegerColumn) (vs : List (List ℕ)) (i n : ℕ) → k ≤ n → take k (rows_from cs vs i n) ≡ rows_from cs vs i k
 take_rows zero cs vs i n few = refl

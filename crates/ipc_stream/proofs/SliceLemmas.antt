@@ -3,11 +3,13 @@ use Rattle.std.proofs.Common.{◌≡◌, ℕ, zero, suc, ◌+◌, ◌*◌, ◌^�
 use Rattle.std.proofs.lemmas.List.Concat.{flat_map-cons}
 use Rattle.std.proofs.lemmas.List.{length-drop, drop-drop}
 use Rattle.std.proofs.Math.Seq.{take-add}
+use Rattle.facts.specs.laws.Bytes.{drop-bytes}
+use Rattle.facts.specs.Bytes.{AreBytes}
 use Rattle.byteorder.specs.Endian.{little_number, little_bytes}
 use Rattle.byteorder.specs.Numbers.{little_from-lt}
 use Rattle.cells.specs.Cell.{Cell}
 use Rattle.values.specs.Columns.{IntegerColumn, integer_bytes, values_of, first_cell, other_cells, cell_at, row_at, rows_from}
-use Rattle.ipc_stream.proofs.ByteLemmas.{AreBytes, bytes_again, drop-bytes}
+use Rattle.ipc_stream.proofs.ByteLemmas.{bytes_again}
 use Rattle.ipc_stream.proofs.IntegerLemmas.{number_again, powers}
 
 -- the bytes of the cell at a place are those that stand there

@@ -7,7 +7,7 @@ use Rattle.arrow_schema.specs.Column.{PlainSchema}
 use Rattle.ipc_message.specs.declared.fault.Fault.{Fault}
 use Rattle.ipc_message.specs.declared.fault.Fault.TheVariants.{Truncated, NoSchema, SecondSchema, DictionaryId, AfterEnd}
 use Rattle.ipc_message.specs.Raw.{RawSchema, RawDictionaryBatch, RawHeader, schema_header, dictionary_header, batch_header}
-use Rattle.ipc_message.specs.Framing.{NextMessage, end_of_stream, message, Envelope, next_message, taken, first_some, when, type_of}
+use Rattle.ipc_message.specs.Framing.{NextMessage, end_of_stream, message, Envelope, next_message, taken, first_some, unless, when, type_of}
 use Rattle.ipc_message.specs.Header.{header}
 use Rattle.ipc_message.specs.Fields.{every_field, dictionary_of}
 use Rattle.ipc_message.specs.Same.{has_id}
@@ -20,11 +20,6 @@ infixl 10 ◌>>=◌
 abbrev pub ◌>>=◌ : {A B : Type 0} → Result A Fault → (A → Result B Fault) → Result B Fault
 (Ok x) >>= f = f x
 (Err e) >>= f = Err e
-
--- a fault, or else what follows
-abbrev pub or_else : {A : Type 0} → Option Fault → Result A Fault → Result A Fault
-or_else (Some fault) r = Err fault
-or_else None r = r
 
 -- a message that was accepted: its header and its body
 pub record Message : Type 0 where
@@ -72,8 +67,8 @@ header_checks supported before body (batch_header b) =
 
 unfoldable pub accepted : (ℕ → Bool) → List Message → Envelope → Result Message Fault
 accepted supported before m =
-    or_else (order_fault before (type_of m.metadata))
-    (header supported m.metadata >>= λ h. or_else (first_some (header_checks supported before m.body h)) (Ok (record { header = h; body = m.body })))
+    unless (order_fault before (type_of m.metadata))
+    (header supported m.metadata >>= λ h. unless (first_some (header_checks supported before m.body h)) (Ok (record { header = h; body = m.body })))
 
 -- ---- the stream
 

@@ -1,6 +1,7 @@
 -- A walk over what was written finds nothing bad.
 use Rattle.std.specs.Prelude.{nat_le, nat_lt}
 use Rattle.std.proofs.Common.{◌≡◌, ℕ, ◌+◌, ◌*◌, ◌%◌, ◌<◌, ◌≤◌, true, false, List, [], ◌∷◌, ◌++◌, length, Option, Some, None, Ok, refl, ◌∙◌, arith, eqb}
+use Rattle.std.proofs.lemmas.Bool.{le-leb, lt-ltb}
 use Rattle.flatbuf.specs.declared.limits.TheConstants.{MAX_TABLES}
 use Rattle.flatbuf.specs.Lookup.{number, target, text_of, elements, targets}
 use Rattle.flatbuf.specs.Walk.{Thing, span, run, spans, vector_at, head_things, table_things, reference_things}
@@ -28,15 +29,9 @@ fine_more bytes xs ys n m first second = fine_append bytes xs ys n n m first sec
 pub fine_after : (bytes : List ℕ) (xs ys : List Thing) (n m : ℕ) → Fine bytes xs n m → Fine bytes ys m m → Fine bytes (xs ++ ys) n m
 fine_after bytes xs ys n m first second = fine_append bytes xs ys n m m first second
 
-le_true : (a b : ℕ) → a ≤ b → nat_le a b ≡ true
-le_true a b h = grind arith
-
-lt_true : (a b : ℕ) → a < b → nat_lt a b ≡ true
-lt_true a b h = grind arith
-
 pub fine_span : (bytes : List ℕ) (at len n : ℕ) → at + len ≤ length bytes → Fine bytes (span at len ∷ []) n n
 unfolding run
-fine_span bytes at len n h = rw (le_true (at + len) (length bytes) h) refl
+fine_span bytes at len n h = rw (le-leb (at + len) (length bytes) h) refl
 
 pub fine_spans : (bytes : List ℕ) (w : ℕ) (s : Option ℕ) (p n : ℕ) → s ≡ Some p → p + w ≤ length bytes → Fine bytes (spans w s) n n
 fine_spans bytes w s p n e h = rw e (fine_span bytes p w n h)
@@ -80,14 +75,14 @@ fine_head bytes at slots n has room =
     let size : has.vtable + 2 ≤ length bytes = omega arith in
     let least : 4 ≤ 4 + 2 * slots = omega arith in
     rw (
-      lt_true n 20000 room,
-      le_true (at + 4) (length bytes) has.head_in,
+      lt-ltb n 20000 room,
+      le-leb (at + 4) (length bytes) has.head_in,
       has.found,
       has.size,
       even slots,
-      le_true (has.vtable + 2) (length bytes) size,
-      le_true 4 (4 + 2 * slots) least,
-      le_true (has.vtable + (4 + 2 * slots)) (length bytes) inside,
+      le-leb (has.vtable + 2) (length bytes) size,
+      le-leb 4 (4 + 2 * slots) least,
+      le-leb (has.vtable + (4 + 2 * slots)) (length bytes) inside,
     ) refl
 
 pub fine_table : (bytes : List ℕ) (left at slots n : ℕ) → HasHead bytes at slots → 0 < left → n < MAX_TABLES → Fine bytes (table_things left bytes at) n (n + 1)

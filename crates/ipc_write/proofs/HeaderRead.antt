@@ -10,6 +10,7 @@ use Rattle.flatbuf.specs.Walk.{spans, vector_at}
 use Rattle.flatbuf.specs.Held.{Has, HasHead, FitsStructs}
 use Rattle.flatbuf.specs.Laid.{struct_bytes, count_of}
 use Rattle.flatbuf.specs.Tree.{structs}
+use Rattle.flatbuf.specs.laws.Laid.{length-struct_bytes}
 use Rattle.arrow_schema.specs.Column.{columns_of, PlainSchema}
 use Rattle.arrow_schema.specs.Preorder.{depth_all}
 use Rattle.ipc_message.specs.Framing.{message_table}
@@ -88,16 +89,11 @@ buffers_read (b ∷ bs) fits =
     let p = pair_reads b.offset b.length (struct_bytes (map buffer_pair bs)) fits.0 fits.1 in
     rw (p.0, p.1, p.2, buffers_read bs fits.2) refl
 
-length_structs : (ps : List (ℕ × ℕ)) → length (struct_bytes ps) ≡ 16 * length ps
-unfolding struct_bytes
-length_structs [] = refl
-length_structs (p ∷ ps) = omega (arith, length_structs ps)
-
 structs_read : (bytes : List ℕ) (s : Option ℕ) (p : ℕ) (ps : List (ℕ × ℕ)) → s ≡ Some p → Has bytes (target bytes p) (structs ps) → structs_of 16 bytes s ≡ struct_bytes ps
 structs_read bytes s p ps e has = rw (e, has.0) has.1
 
 count_structs : (ps : List (ℕ × ℕ)) (n : ℕ) → length ps ≡ n → length (struct_bytes ps) / 16 ≡ n
-count_structs ps n e = omega (arith, length_structs ps, e)
+count_structs ps n e = omega (arith, length-struct_bytes ps, e)
 
 pub batch_read : (bytes : List ℕ) (at : ℕ) (b : RawBatch) → b.compressed ≡ false → FitsStructs (map node_pair b.nodes) → FitsStructs (map buffer_pair b.buffers) → Has bytes at (batch_tree b)
     → batch_in bytes (Some (table_at bytes at)) ≡ b

@@ -1,6 +1,7 @@
 -- A message that was written stands at the front of what follows, with its Message table and its header.
 use Rattle.std.specs.Prelude.{nat_lt}
 use Rattle.std.proofs.Common.{◌≡◌, ℕ, ◌^◌, ◌<◌, ◌≤◌, true, false, List, [], ◌∷◌, ◌++◌, length, None, Ok, refl, sym, ap, ◌∙◌, arith, append_assoc}
+use Rattle.std.proofs.lemmas.Bool.{le-ltb, lt-ltb}
 use Rattle.std.proofs.lemmas.List.{append-nil}
 use Rattle.byteorder.specs.Endian.{little_number, little_bytes}
 use Rattle.byteorder.specs.Numbers.{little_number-reads_back, length-bytes_low_first}
@@ -39,12 +40,6 @@ pub body_read : (metadata : List ℕ) (type body_len : ℕ) (header : Tree) → 
 unfolding body_length
 body_read metadata type body_len header has = rw (has.1.1.1.1.0.1) has.1.1.1.1.0.2
 
-lt_false : (a b : ℕ) → b ≤ a → nat_lt a b ≡ false
-lt_false a b h = grind arith
-
-lt_true : (a b : ℕ) → a < b → nat_lt a b ≡ true
-lt_true a b h = grind arith
-
 pub message_sound : (metadata : List ℕ) (type body_len following : ℕ) (header : Tree) → IsHeaderType type → 4 ≤ length metadata → body_len < 2 ^ 63 → body_len ≤ following
     → Has metadata (target metadata 0) (message_tree type header body_len) → first_some (message_faults metadata following) ≡ None
 unfolding message_faults
@@ -55,8 +50,8 @@ message_sound metadata type body_len following header known long small whole has
       type_read metadata type body_len header has,
       known,
       body_read metadata type body_len header has,
-      lt_true body_len (2 ^ 63) small,
-      lt_false following body_len whole,
+      lt-ltb body_len (2 ^ 63) small,
+      le-ltb following body_len whole,
     ) refl
 
 -- a framed message stands at the front, as ipc_message tells it

@@ -12,7 +12,7 @@ use Rattle.flatbuf.specs.View.{nodes_of}
 use Rattle.arrow_schema.specs.Column.{Pair, Column, column, integers, columns_of, PlainSchema}
 use Rattle.arrow_schema.specs.Limits.{name_len}
 use Rattle.ipc_write.specs.Trees.{bit, pairs_slot, field_tree, field_nodes, child_nodes, schema_tree, message_tree, ids_of}
-use Rattle.arrow_schema.specs.Integers.{is_integer_column, is_bit_width, is_empty, is_integer_schema}
+use Rattle.arrow_schema.specs.Integers.{is_integer_column, is_bit_width, is_empty, is_integer_schema, AreIntegers}
 use Rattle.arrow_schema.specs.laws.IntegerCases.{integer_case}
 use Rattle.std.proofs.lemmas.Bool.{and_parts}
 
@@ -77,9 +77,6 @@ metadata_small : Sizes → (t : Tree) → length (metadata t) ≤ 12 + room t
 metadata_small size t = omega (arith, size t, room_holds 4 t, gap_small 8 (end_at 4 t))
 
 -- ---- the fields of integers
-
-abbrev pub AreIntegers : List Column → Type 0
-AreIntegers cs = list_all is_integer_column cs ≡ true
 
 one_room : (id : ℕ) (name : List ℕ) (nullable : Bool) (bits : ℕ) (signed : Bool) → is_bit_width bits ≡ true → room (field_tree id (column name nullable (integers bits signed) None [])) ≤ 150 + name_len (column name nullable (integers bits signed) None [])
 unfolding field_tree child_nodes

@@ -10,7 +10,7 @@ use Rattle.flatbuf.specs.Tree.{Tree}
 use Rattle.flatbuf.specs.Held.{Has, Fits, FitsStructs}
 use Rattle.flatbuf.specs.Laid.{metadata, start, laid, gap}
 use Rattle.arrow_schema.specs.Column.{Pair, Column, column, integers, columns_of, PlainSchema}
-use Rattle.arrow_schema.specs.Integers.{is_integer_column, is_bit_width, is_empty, is_integer_schema}
+use Rattle.arrow_schema.specs.Integers.{is_integer_column, is_bit_width, is_empty, is_integer_schema, AreIntegers}
 use Rattle.arrow_schema.specs.laws.IntegerCases.{integer_case}
 use Rattle.arrow_schema.specs.Limits.{IsWithinLimits}
 use Rattle.ipc_message.specs.Framing.{continuation_marker, message, next_message, taken, type_of}
@@ -21,7 +21,8 @@ use Rattle.ipc_write.specs.Trees.{schema_tree, batch_tree, message_tree, node_pa
 use Rattle.ipc_write.specs.Walked.{Holds, tables_of, tables_of_all}
 use Rattle.ipc_write.specs.Written.{framed, padded, body, placed, batch_of, schema_message, batch_message, schema_envelope, batch_envelope, IsWritableBatch}
 use Rattle.std.proofs.lemmas.Bool.{and_parts}
-use Rattle.ipc_write.proofs.Room.{AreIntegers, Sizes, schema_fits, batch_fits, batch_room}
+use Rattle.ipc_write.specs.laws.Written.{length-placed}
+use Rattle.ipc_write.proofs.Room.{Sizes, schema_fits, batch_fits, batch_room}
 use Rattle.ipc_write.proofs.MessageRead.{NextMessages, next_message_again, type_read}
 use Rattle.ipc_write.proofs.HeaderRead.{schema_header_read, batch_header_read}
 
@@ -105,16 +106,12 @@ placed_fit at (b ∷ bs) small =
     let filled = length-append b (replicate ((8 - length b % 8) % 8) 0) in
     (omega (arith, small, whole), omega (arith, small, whole, filled), placed_fit (at + length (padded b)) bs (omega (arith, small, whole)))
 
-length_placed : (at : ℕ) (buffers : List (List ℕ)) → length (placed at buffers) ≡ length buffers
-length_placed at [] = refl
-length_placed at (b ∷ bs) = ap suc (length_placed (at + length (padded b)) bs)
-
 pub batch_small : Sizes → (rows : ℕ) (nodes : List RawNode) (buffers : List (List ℕ)) → IsWritableBatch rows nodes buffers → length (batch_envelope rows nodes buffers).metadata ≤ 16777216
 batch_small size rows nodes buffers fits =
     let room = batch_room size rows (length (body buffers)) (map node_pair nodes) (map buffer_pair (placed 0 buffers)) in
     let a = length-map nodes node_pair in
     let b = length-map (placed 0 buffers) buffer_pair in
-    let c = length_placed 0 buffers in
+    let c = length-placed 0 buffers in
     omega (arith, room, a, b, c, fits.few_nodes, fits.few_buffers)
 
 pub batch_tree_fits : (rows : ℕ) (nodes : List RawNode) (buffers : List (List ℕ)) → IsWritableBatch rows nodes buffers → Fits (message_tree 3 (batch_tree (batch_of rows nodes buffers)) (length (body buffers)))

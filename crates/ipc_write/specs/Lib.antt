@@ -2,3 +2,4 @@ pub mod Trees
 pub mod Decoded
 pub mod Written
 pub mod Walked
+pub mod laws

@@ -6,6 +6,7 @@ use Rattle.std.proofs.lemmas.Bool.{and_parts, eqb-true}
 use Rattle.std.proofs.lemmas.List.{drop_all, drop_more}
 use Rattle.std.proofs.lemmas.List.Sums.{sum_by-cons}
 use Rattle.std.proofs.lemmas.Option.{slice_get_past, slice_get_cases, slice_get_within, get_or_from_slice_get}
+use Rattle.values.specs.laws.IntegerRows.{length_rows_from}
 use Rattle.arrow_schema.specs.Column.{PlainSchema}
 use Rattle.arrow_schema.specs.declared.types.Schema.{Schema}
 use Rattle.arrow_schema.specs.Integers.{is_integer_schema}
@@ -20,14 +21,14 @@ use Rattle.values.specs.IntegerTable.{integer_columns, have_rows, plain_table}
 use Rattle.values.specs.IntegerRows.{have_row}
 use Rattle.cells.specs.View.{cell}
 use Rattle.cells.specs.Weight.{row_weight, table_weight}
-use Rattle.values.proofs.IntegerRows.{count_rows, has_row}
+use Rattle.values.proofs.IntegerRows.{has_row}
 use Rattle.values.proofs.IntegerRows as integers
 use Rattle.values.proofs.RowLemmas.{length_rows, row_within}
 use Rattle.values.proofs.RowLemmas as cells
 
 pub length_content : (s : Schema) (n : ℕ) (content : Content) → length (rows_of s n content) ≡ n
 length_content s n (Cells values) = length_rows (length s.fields.items) n (map cell values.items)
-length_content s n (Integers columns) = count_rows (integer_columns (schema_of s)) (map (λ v. v.items) columns.items) 0 n
+length_content s n (Integers columns) = length_rows_from (integer_columns (schema_of s)) (map (λ v. v.items) columns.items) 0 n
 
 -- no row past the last
 pub none_past : (s : Schema) (n : ℕ) (content : Content) (i : ℕ) → n ≤ i → None ≡ slice_get (rows_of s n content) i

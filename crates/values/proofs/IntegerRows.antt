@@ -10,10 +10,6 @@ use Rattle.values.specs.Columns.{IntegerColumn, cell_at, row_at, rows_from}
 use Rattle.values.specs.IntegerTable.{integer_column, have_rows}
 use Rattle.values.specs.IntegerRows.{columns_in, have_row}
 
-pub count_rows : (cs : List IntegerColumn) (vs : List (List ℕ)) (i n : ℕ) → length (rows_from cs vs i n) ≡ n
-count_rows cs vs i zero = refl
-count_rows cs vs i (suc n) = let h = count_rows cs vs (i + 1) n in omega (arith, h)
-
 -- the row at a place
 pub row_in : (cs : List IntegerColumn) (vs : List (List ℕ)) (from n i : ℕ) → i < n → slice_get (rows_from cs vs from n) i ≡ Some (row_at cs vs (from + i))
 row_in cs vs from zero i lt = absurd (omega arith)

@@ -5,9 +5,13 @@ use Rattle.std.proofs.Common.{◌≡◌, ℕ, zero, suc, ◌+◌, ◌*◌, ◌�
 use Rattle.std.proofs.lemmas.Bool.{and_from, and_parts, le-leb}
 use Rattle.std.proofs.lemmas.List.{get_or-drop}
 use Rattle.std.proofs.lemmas.List.Sums.{sum_by-cons, AllPass-from_list_all}
+use Rattle.facts.specs.laws.Bytes.{drop-bytes}
+use Rattle.facts.specs.Bytes.{AreBytes}
+use Rattle.values.specs.laws.IntegerRows.{length_rows_from}
+use Rattle.arrow_schema.specs.laws.Columns.{columns_few}
 use Rattle.byteorder.specs.Numbers.{little_from-lt}
 use Rattle.arrow_schema.specs.Column.{Column, column, integers, columns_of, PlainSchema}
-use Rattle.arrow_schema.specs.Integers.{is_integer_column, is_integer_schema, is_bit_width, is_empty}
+use Rattle.arrow_schema.specs.Integers.{is_integer_column, is_integer_schema, is_bit_width, is_empty, AreIntegers}
 use Rattle.arrow_schema.specs.Limits.{IsWithinLimits}
 use Rattle.arrow_schema.specs.Preorder.{preorder, preorder_below, preorder_all}
 use Rattle.arrow_schema.specs.laws.IntegerCases.{integer_case}
@@ -20,17 +24,7 @@ use Rattle.values.specs.IntegerRows.{AllBytes}
 use Rattle.cells.specs.Row.{is_row}
 use Rattle.values.specs.Table.{IsTable}
 use Rattle.cells.specs.Weight.{weight, kind_weight, parts_weight, first_part, other_parts, row_weight, table_weight}
-use Rattle.values.proofs.IntegerRows.{count_rows}
 use Rattle.values.proofs.RangeLemmas.{integer_fits}
-
-abbrev AreBytes : List ℕ → Type 0
-AreBytes xs = (k : ℕ) → slice_index xs k < 256
-
-abbrev AreIntegers : List Column → Type 0
-AreIntegers columns = list_all is_integer_column columns ≡ true
-
-drop_bytes : (n : ℕ) (xs : List ℕ) → AreBytes xs → AreBytes (drop n xs)
-drop_bytes n xs small = λ k. rw (get_or-drop n xs k 0) (small (n + k))
 
 -- ---- each cell fits its column
 
@@ -38,7 +32,7 @@ kind_fits : (v : List ℕ) (i : ℕ) → AreBytes v → (name : List ℕ) (nulla
     → fits (column name nullable (integers bits signed) None []) (cell_at (integer_column (column name nullable (integers bits signed) None [])) v i) ≡ true
 unfolding fits fits_kind
 kind_fits v i small name nullable bits signed w =
-    integer_fits bits signed _ w (little_from-lt 0 _ _ (drop_bytes _ v small))
+    integer_fits bits signed _ w (little_from-lt 0 _ _ (drop-bytes _ v small))
 
 row_fits_at : (cs : List Column) (vs : List (List ℕ)) (n i : ℕ) → AreIntegers cs → have_rows (map integer_column cs) vs n ≡ true → AllBytes vs
     → each_fits (columns_of cs) (cells_of (row_at (map integer_column cs) vs i)) ≡ true
@@ -75,14 +69,6 @@ rows_weigh s (row ∷ rows) ints =
     let more : suc (length rows) * w ≡ w + length rows * w = omega arith in
     sum_by-cons (row_weight s) row rows ∙ (λ j. row_weighs s row ints j + rows_weigh s rows ints j) ∙ sym more
 
--- there are no more columns than columns with all their children
-columns_few : (cs : List Column) → length cs ≤ length (preorder_all (columns_of cs))
-unfolding preorder preorder_all
-columns_few [] = omega arith
-columns_few (column name nullable kind dictionary pairs ∷ cs) =
-    let rest = columns_few cs in
-    omega (arith, rest, length-append (preorder_below kind) (preorder_all (columns_of cs)))
-
 -- ---- they have no dictionary
 
 no_own : (cells : List Cell) (name : List ℕ) (nullable : Bool) (bits : ℕ) (signed : Bool) → is_bit_width bits ≡ true → holdings (column name nullable (integers bits signed) None []) cells ≡ []
@@ -117,7 +103,7 @@ integers_table s vs n limits ints have small light =
     let columns = (and_parts (list_all is_integer_column s.columns) (is_empty s.pairs) ints).0 in
     let few : length s.columns ≤ 2048 = omega (arith, limits.fields, columns_few s.columns) in
     let rows = rows_from (integer_columns s) vs 0 n in
-    let count : length rows ≡ n = count_rows (integer_columns s) vs 0 n in
+    let count : length rows ≡ n = length_rows_from (integer_columns s) vs 0 n in
     let weighs : table_weight s rows ≡ n * (1 + length s.columns) = rows_weigh s rows ints ∙ ap (λ (k : ℕ). k * (1 + length s.columns)) count in
     record {
       schema = limits;

@@ -1,17 +1,13 @@
 -- The comparison of two columns as a test, by recursion on the first.
 use Rattle.std.specs.Prelude.{ℕ, Bool, true, false, ◌==◌, ◌&&◌, List, bytes_eq, Option, Some, None}
 use Rattle.std.specs.Cmp.Lexicographic.{pointwise}
+use Rattle.std.specs.Bool.{beq}
 use Rattle.arrow_schema.specs.declared.compare.Detail.{Detail}
 use Rattle.arrow_schema.specs.Column.{Index, Pair, DateKind, days, date_milliseconds, TimeKind, seconds, milliseconds, microseconds, nanoseconds, Kind, Column, Columns, nulls, booleans, integers, dates, timestamps, texts, large_texts, binaries, large_binaries, fixed_binaries, lists, large_lists, fixed_lists, structs, column, no_column, and_column}
 use Rattle.arrow_schema.specs.Shape.{seen_dictionary, seen_pairs}
 
-abbrev pub bool_eq : Bool → Bool → Bool
-bool_eq true b = b
-bool_eq false true = false
-bool_eq false false = true
-
 abbrev pub index_eq : Index → Index → Bool
-index_eq a b = a.bits == b.bits && bool_eq a.signed b.signed
+index_eq a b = a.bits == b.bits && beq a.signed b.signed
 
 abbrev pub dictionary_eq : Option Index → Option Index → Bool
 dictionary_eq None None = true
@@ -108,12 +104,12 @@ is_no_column (and_column c cs) = false
 unfoldable mutual
   pub alike : Detail → Column → Column → Bool
   alike detail (column name nullable kind dictionary pairs) =
-      column_where (λ n b k d p. bytes_eq name n && (bool_eq nullable b && (dictionary_eq (seen_dictionary detail dictionary) (seen_dictionary detail d) && (pairs_eq (seen_pairs detail pairs) (seen_pairs detail p) && alike_kind detail kind k))))
+      column_where (λ n b k d p. bytes_eq name n && (beq nullable b && (dictionary_eq (seen_dictionary detail dictionary) (seen_dictionary detail d) && (pairs_eq (seen_pairs detail pairs) (seen_pairs detail p) && alike_kind detail kind k))))
 
   pub alike_kind : Detail → Kind → Kind → Bool
   alike_kind detail nulls = is_nulls
   alike_kind detail booleans = is_booleans
-  alike_kind detail (integers bits signed) = integers_where (λ b s. bits == b && bool_eq signed s)
+  alike_kind detail (integers bits signed) = integers_where (λ b s. bits == b && beq signed s)
   alike_kind detail (dates unit) = dates_where (date_eq unit)
   alike_kind detail (timestamps unit timezone) = timestamps_where (λ u z. time_number unit == time_number u && bytes_eq timezone z)
   alike_kind detail texts = is_texts

@@ -4,12 +4,13 @@ use Rattle.std.specs.List.{list_any, list_all}
 use Rattle.std.specs.Str.{is_utf8}
 use Rattle.std.proofs.Common.{refl}
 use Rattle.std.proofs.lemmas.Bool.{not-false}
+use Rattle.facts.specs.laws.Checks.{unless_passed}
 use Rattle.ipc_message.specs.declared.fault.Fault.{Fault}
 use Rattle.ipc_message.specs.declared.fault.Fault.TheVariants.{BigEndian, TypeNotHeld, BadParameter, SchemaLimit, NotUtf8, DictionaryId, DictionaryOfNested, NotYet}
 use Rattle.ipc_message.specs.Raw.{RawField, RawSchema}
 use Rattle.ipc_message.specs.Fields.{every_field}
-use Rattle.ipc_message.specs.Framing.{first_some, when}
-use Rattle.ipc_message.specs.Checks.{is_unsupported, name_of_type, is_bad, exceeds_limit, texts_of, has_two_types, is_dictionary_of_nested, is_not_yet, schema_checks, outcome}
+use Rattle.ipc_message.specs.Framing.{first_some, when, unless}
+use Rattle.ipc_message.specs.Checks.{is_unsupported, name_of_type, is_bad, exceeds_limit, texts_of, has_two_types, is_dictionary_of_nested, is_not_yet, schema_checks}
 
 pub record IsAccepted (s : RawSchema) : Type 0 where
   pub decoded : list_any is_bad (every_field s) ≡ false
@@ -79,9 +80,5 @@ accepted supported s h =
     let found = finds_nothing supported s h in
     record { decoded = found.bad; small = found.large; utf8 = not-false _ found.not_utf8; flat = found.nested; read = found.not_yet }
 
-pub accepted_outcome : {A : Type 0} (supported : ℕ → Bool) (s : RawSchema) (x : A) → outcome (first_some (schema_checks supported s)) x ≡ Ok x → IsAccepted s
-accepted_outcome supported s x h = accepted supported s (none_of _ x h)
-  where
-    none_of : {A : Type 0} (o : Option Fault) (x : A) → outcome o x ≡ Ok x → o ≡ None
-    none_of None x h = refl
-    none_of (Some f) x h = absurd cc
+pub accepted_outcome : {A : Type 0} (supported : ℕ → Bool) (s : RawSchema) (x : A) → unless (first_some (schema_checks supported s)) (Ok x) ≡ Ok x → IsAccepted s
+accepted_outcome supported s x h = accepted supported s (unless_passed _ (Ok x) x h).0

@@ -2,6 +2,7 @@ use Rattle.std.specs.Prelude.{Ok}
 use Rattle.std.proofs.Common.{◌≡◌, ◌≤◌, ◌+◌, ◌*◌, ℕ, true, List, [], ◌∷◌, None, length, map, arith, refl, sym, ap, ◌∙◌}
 use Rattle.std.proofs.lemmas.List.{length-map}
 use Rattle.std.proofs.lemmas.Bool.{and_parts, ltb-false}
+use Rattle.values.specs.laws.IntegerRows.{length_rows_from}
 use Rattle.arrow_schema.specs.Column.{PlainSchema}
 use Rattle.arrow_schema.specs.View.{schema_of}
 use Rattle.cells.specs.Cell.{Cell}
@@ -14,7 +15,6 @@ use Rattle.values.specs.IntegerTable.{integer_columns, have_rows}
 use Rattle.ipc_stream.specs.Batch.{batch_checks}
 use Rattle.ipc_stream.specs.View.{gathered_table}
 use Rattle.ipc_stream.specs.Added.{added}
-use Rattle.ipc_stream.proofs.RowLemmas.{length_rows}
 use Rattle.ipc_stream.proofs.RowWeights.{WeighAlike}
 use Rattle.ipc_stream.proofs.BatchLemmas.{count_columns, few_rows, heavy_is}
 use Rattle.ipc_stream.proofs.AcceptedLemmas.{IsFine, fine_of, or_fault, or_none}
@@ -22,7 +22,7 @@ use Rattle.ipc_stream.proofs.batch.add_batch.Goals as goal
 
 -- as many rows as the table counts
 count_rows : (t : Gathered) → length (gathered_table t).rows ≡ t.rows
-count_rows t = length_rows (integer_columns (schema_of t.schema)) (map (λ v. v.items) t.columns.items) 0 t.rows
+count_rows t = length_rows_from (integer_columns (schema_of t.schema)) (map (λ v. v.items) t.columns.items) 0 t.rows
 
 same_count : (cs : List IntegerColumn) (vs : List (List ℕ)) (rows : ℕ) → have_rows cs vs rows ≡ true → length vs ≡ length cs
 same_count [] [] rows h = refl

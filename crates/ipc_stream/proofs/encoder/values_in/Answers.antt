@@ -1,5 +1,5 @@
 use Rattle.std.proofs.Common.{◌≡◌, ◌+◌, ◌-◌, ◌*◌, ◌≤◌, List, ℕ, take, drop, length, arith, ap, sym, ◌∙◌}
-use Rattle.ipc_stream.proofs.ByteLemmas.{AreBytes}
+use Rattle.facts.specs.Bytes.{AreBytes}
 use Rattle.ipc_stream.proofs.SliceLemmas.{first_values}
 use Rattle.ipc_stream.proofs.encoder.values_in.Goals as goal
 

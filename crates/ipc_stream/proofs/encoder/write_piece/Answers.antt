@@ -1,13 +1,14 @@
 use Rattle.std.proofs.Common.{◌≡◌, ◌<◌, ◌+◌, ◌++◌, [], ◌∷◌, List, ℕ, Bor, map, length, drop, arith, refl, ap, sym, ◌∙◌, length-append, append-nil}
 use Rattle.std.proofs.lemmas.List.{drop_all, length-map, length-drop}
 use Rattle.std.proofs.lemmas.Result.{on_ok_weaker}
+use Rattle.facts.specs.laws.Lists.{drop-item}
 use Rattle.arrow_schema.specs.declared.types.Field.{Field}
 use Rattle.arrow_schema.specs.View.{column_of, schema_of}
 use Rattle.ipc_write.specs.Trees.{raw_node}
 use Rattle.ipc_stream.specs.Canonical.{full_nodes, integer_buffers}
 use Rattle.values.specs.Columns.{IntegerColumn, rows_from, values_of, first_cell}
 use Rattle.values.specs.IntegerTable.{integer_column}
-use Rattle.ipc_stream.proofs.PieceLemmas.{next, left_more, column_left, nodes_more, two_more, size_more, buffers_more, piece_is}
+use Rattle.ipc_stream.proofs.PieceLemmas.{left_more, column_left, nodes_more, two_more, size_more, buffers_more, piece_is}
 use Rattle.ipc_stream.proofs.encoder.write_piece.Goals as goal
 
 pub loop-i-preserved : goal.loop-i-preserved
@@ -17,11 +18,11 @@ loop-i-preserved c =
     let column : IntegerColumn = integer_column (column_of c.index.result.now) in
     let values : List ℕ = c.index-columns-i.result.items in
     let b : Bor (List ℕ) = c.values_in.result in
-    let fields = ap (map column_of) (next c.args.schema.now.fields.items i c.index.result.now (omega arith) c.index.ensures) in
+    let fields = ap (map column_of) (drop-item c.args.schema.now.fields.items i c.index.result.now (omega arith) c.index.ensures) in
     let columns = ap (map integer_column) fields in
     let some = column_left column _ _ _ _ columns is.left in
     let inside : i < length c.args.columns.now = omega (arith, some, length-map (drop i c.args.columns.now) (λ v. v.items), length-drop i c.args.columns.now) in
-    let all_values = ap (map (λ v. v.items)) (next c.args.columns.now i c.index-columns-i.result inside c.index-columns-i.is) in
+    let all_values = ap (map (λ v. v.items)) (drop-item c.args.columns.now i c.index-columns-i.result inside c.index-columns-i.is) in
     let pushed : c.push.new.self.items ≡ c.loop-i.nodes.items ++ (c.args.count, 0) ∷ [] = c.in_ok-push.ensures.items in
     let columns_left = map integer_column (map column_of (drop (i + 1) c.args.schema.now.fields.items)) in
     let values_left = map (λ v. v.items) (drop (i + 1) c.args.columns.now) in
