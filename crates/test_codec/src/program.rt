@@ -17,6 +17,7 @@ type Calls = (usize, Moment);
 const WHOLE: Calls = (512, Moment::Never);
 
 /// A stream that is recoded: by which calls it is read and written, the answer, and what is written.
+#[derive(Drop)]
 struct Recoding<'a> {
     input: &'a [u8],
     reads: Calls,
@@ -234,6 +235,7 @@ fn streams_are_recoded_also_without_memory(rt: HostRuntime) -> Result<(), Fail> 
 }
 
 /// A run: its arguments and its input, the calls that read, write and report, its status, and what is written and reported.
+#[derive(Drop)]
 struct Run<'a> {
     arguments: &'a [&'a str],
     input: &'a [u8],
