@@ -1,7 +1,7 @@
 //! Values and rows: what fits a field, what it weighs, and what a dictionary may hold.
 //!
 //! A [`Value`] is one cell of a table. Contracts see values as the plain trees of `specs/Cell.antt`. [`fits`] tells which
-//! values a //! values a field takes and [`weight`] how heavy they are; [`accepted_weight`] asks a whole row what a table asks of it.
+//! values a field takes and [`weight`] how heavy they are; [`accepted_weight`] asks a whole row what a table asks of it.
 //!
 //! ```
 //! let fields = arrow_schema::parse_fields(alloc, &["a:int8?"])?;

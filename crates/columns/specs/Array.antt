@@ -1,5 +1,5 @@
--- Arrays others plain trees whose buffers are lists of bytes (Arrow columnar format, "Physical Memory Layout"). An array does not know its type: what it
--- holds is said by the column that it belongs to. An array that does not have the layout of its column reads others one whose buffers are empty.
+-- Arrays as plain trees whose buffers are lists of bytes (Arrow columnar format, "Physical Memory Layout"). An array does not know its type: what it
+-- holds is said by the column that it belongs to. An array that does not have the layout of its column reads as one whose buffers are empty.
 use Rattle.std.specs.Prelude.{ℕ, List, [], ◌∷◌}
 
 mutual
