@@ -17,6 +17,3 @@ pub use encoder::encode;
 pub use ipc_message::ImportError;
 pub use laws::{canonical_means_its_table, meaning_is_framed, pieces_are_the_cut};
 pub use values::Table;
-
-#[cfg(test)]
-mod tests;

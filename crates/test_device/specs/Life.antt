@@ -3,8 +3,8 @@ use Rattle.std.specs.Prelude.{◌≢◌, ℕ, List, [], ◌∷◌, Some, None, l
 use Rattle.std.specs.Coded.{Coded-set, coded_ℕ, ×_prop, Π_prop, Unit-prop, le_prop}
 use Rattle.sector_dev.specs.Disk.{Story, ShowsImage, now, put, blank, IsContent, IsWhole, Each}
 use Rattle.sector_dev.specs.laws.Crash.{blank_shows, blank_whole, put_shows, put_whole}
-use Rattle.test_device.specs.declared.other_devices.Life.{Life}
-use Rattle.test_device.specs.declared.other_devices.Life.TheVariants.{Fresh, Written, Read}
+use Rattle.test_device.specs.declared.life.Life.{Life}
+use Rattle.test_device.specs.declared.life.Life.TheVariants.{Fresh, Written, Read}
 
 abbrev pub story_of : Life → Story
 story_of Fresh = blank ∷ []

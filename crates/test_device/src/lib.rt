@@ -11,9 +11,12 @@ mod failing_file;
 mod file_device;
 #[cfg(test)]
 mod free_map;
+mod life;
 #[cfg(test)]
 mod model_device;
 #[cfg(test)]
 mod other_devices;
 #[cfg(test)]
 mod runs;
+
+pub use life::Life;

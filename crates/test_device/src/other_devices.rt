@@ -7,6 +7,7 @@ ghost use Rattle.sector_dev.specs.laws.Crash.{blank_shows, blank_whole};
 ghost use Rattle.test_device.specs.Life.{story_of, story_shows, story_begun, story_whole, SpeaksOfContents, speaks_prop};
 
 use crate::calls::{byte_of, fill, read};
+use crate::life::Life;
 use sector_dev::{DevError, ModelDevice, SectorDevice};
 use std::process::Abort;
 use std::test::Fail;
@@ -100,14 +101,6 @@ impl SectorDevice for Broken {
     fn sync(&mut self) -> Result<(), DevError> {
         self.refuse()
     }
-}
-
-// The one write and the one read that a device has room for.
-#[derive(Clone, Copy)]
-enum Life {
-    Fresh,
-    Written(u64, [u8; 512]),
-    Read(u64, [u8; 512]),
 }
 
 // No other call of it begins. A sector that was not written can't be read.
