@@ -428,14 +428,14 @@ fn the_program_runs_also_without_memory(rt: HostRuntime) -> Result<(), Fail> {
 }
 
 /// Thirteen bytes that are read in pieces: whether all are given where `largest` allows them, and else one too many.
-fn reads(alloc: Global, piece: usize, moment: Moment, largest: usize) -> (bool, usize) {
+fn reads(alloc: Global, piece: usize, moment: Moment, largest: u32) -> (bool, usize) {
     let mut reader = Pieces::new(b"four and more", piece, moment);
     let wanted = match (largest, moment) {
         (_, Moment::Fails(_)) => Err(Refusal::Io),
         (0..=12, _) => Err(Refusal::TooManyBytes),
         _ => Ok(()),
     };
-    let well = match read_at_most(alloc, &mut reader, largest) {
+    let well = match read_at_most(alloc, &mut reader, largest as usize) {
         Ok(bytes) => wanted == Ok(()) && bytes.as_slice() == b"four and more".as_slice(),
         Err(refusal) => wanted == Err(refusal),
     };

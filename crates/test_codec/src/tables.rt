@@ -209,6 +209,7 @@ fn a_table_without_columns_has_rows(rt: HostRuntime) -> Result<(), Fail> {
         panic!(rt; "refused");
     };
     assert_has(&rt, alloc, &made, &[&[], &[], &[]])?;
+    assert_eq!(rt; made.len(), 3);
     let well = made.rows().count() == 3 && made.row(2).is_some_and(|row| row.is_empty());
     assert!(rt; well && made.has_only_integers());
     Ok(())
