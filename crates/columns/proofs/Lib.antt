@@ -3,3 +3,8 @@ pub mod Texts
 pub mod Entries
 pub mod Runs
 pub mod Left
+pub mod Spans
+pub mod ReadBack
+pub mod Integers
+pub mod Found
+pub mod BuiltCells

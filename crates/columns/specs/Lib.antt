@@ -5,6 +5,7 @@ pub mod Tests
 pub mod Sound
 pub mod Buffers
 pub mod Built
+pub mod Buildable
 pub mod FromBuffers
 pub mod Texts
 pub mod Places

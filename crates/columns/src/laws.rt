@@ -1,4 +1,10 @@
 // What the definitions say.
+ghost use Rattle.std.specs.Prelude.{◌≡◌, true, List, length};
+ghost use Rattle.arrow_schema.specs.Column.{Column, Columns};
+ghost use Rattle.cells.specs.Cell.{Cell};
+ghost use Rattle.columns.specs.Buildable.{can_build, can_build_rows};
+ghost use Rattle.columns.specs.Built.{built, built_parts};
+ghost use Rattle.columns.specs.CellAt.{cells_in, rows_in};
 ghost use Rattle.columns.specs.laws.WorkedCases.{Integers, PaddedBuffers, RightCount, WrongCount, Texts, Booleans, FixedBinaries, LargeTexts, Dates, Timestamps, Lists, SoundLists, FixedLists, Structs, HiddenNull, VisibleNull, Dictionaries, Replaced, Appended, NullBeforeDictionary, IndexBeforeDictionary, NegativeIndex, NullEntry, WrittenLists, WrittenFixedLists, WrittenStructs, WrittenDictionaries, WrittenWithoutEntries, ReadAgain};
 
 /// The worked cases of the definitions.
@@ -34,3 +40,13 @@ pub fn worked_cases()
     ensures written_without_entries { WrittenWithoutEntries }
     ensures read_again { ReadAgain }
 {}
+
+/// The one array that cells are written as has these cells; and the arrays of a batch of rows have these rows.
+pub fn built_reads_back()
+    ensures cells { (c : Column) (cells : List Cell) → can_build c cells ≡ true → cells_in c (built c cells) ≡ cells }
+    ensures rows { (columns : Columns) (rows : List (List Cell)) → can_build_rows columns rows ≡ true → rows_in columns (built_parts columns rows) (length rows) ≡ rows }
+{
+    bitmap::packed_reads_back();
+    cells::entries_are_the_distinct_values();
+    cells::one_entry_is_one_value();
+}
