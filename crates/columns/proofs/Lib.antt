@@ -8,3 +8,4 @@ pub mod ReadBack
 pub mod Integers
 pub mod Found
 pub mod BuiltCells
+pub mod ReadArrays

@@ -2,6 +2,10 @@
 ghost use Rattle.std.specs.Prelude.{◌≡◌, true, List, length};
 ghost use Rattle.arrow_schema.specs.Column.{Column, Columns};
 ghost use Rattle.cells.specs.Cell.{Cell};
+ghost use Rattle.columns.specs.Array.{Arrays};
+ghost use Rattle.columns.specs.Buffers.{nodes_of, buffers_of};
+ghost use Rattle.columns.specs.FromBuffers.{arrays_from};
+ghost use Rattle.columns.specs.Layouts.{HaveLayouts, dictionary_arrays};
 ghost use Rattle.columns.specs.Buildable.{can_build, can_build_rows};
 ghost use Rattle.columns.specs.Built.{built, built_parts};
 ghost use Rattle.columns.specs.CellAt.{cells_in, rows_in};
@@ -50,3 +54,11 @@ pub fn built_reads_back()
     cells::entries_are_the_distinct_values();
     cells::one_entry_is_one_value();
 }
+
+/// Nodes, buffers and dictionaries that were listed of arrays are read as these arrays, where each has the layout of its column; and those that are
+/// written have it.
+pub fn listed_reads_back()
+    ensures arrays { (columns : Columns) (arrays : Arrays) → HaveLayouts columns arrays
+        → arrays_from columns (nodes_of columns arrays) (buffers_of columns arrays) (dictionary_arrays columns arrays) ≡ arrays }
+    ensures written { (columns : Columns) (rows : List (List Cell)) → HaveLayouts columns (built_parts columns rows) }
+{}
