@@ -3,11 +3,14 @@
 ghost use Rattle.std.specs.Prelude.{◌≡◌};
 ghost use Rattle.ipc_message.specs.Framing.{header_type};
 
-const SCHEMA: u8 = 1;
+/// The header type of a schema.
+pub const SCHEMA: u8 = 1;
 
-const DICTIONARY_BATCH: u8 = 2;
+/// The header type of a dictionary batch.
+pub const DICTIONARY_BATCH: u8 = 2;
 
-const RECORD_BATCH: u8 = 3;
+/// The header type of a record batch.
+pub const RECORD_BATCH: u8 = 3;
 
 /// What the header of a message is (Message.fbs, the union `MessageHeader`).
 #[derive(Clone, Copy, Debug, PartialEq, Eq)]

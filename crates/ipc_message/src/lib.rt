@@ -31,16 +31,16 @@ mod same;
 mod schema_checks;
 mod texts;
 mod type_checks;
-mod type_codes;
+pub mod type_codes;
 mod walk_error;
 
 pub use convert::read_schema;
 pub use error::ImportError;
 pub use fault::{Fault, TypeName};
-pub use header_type::HeaderType;
+pub use header_type::{DICTIONARY_BATCH, HeaderType, RECORD_BATCH, SCHEMA};
 pub use laws::next_message_is_framed;
-pub use message::{Message, NextMessage};
-pub use next_message::read_message;
+pub use message::{Message, NextMessage, V5};
+pub use next_message::{CONTINUATION_MARKER, read_message};
 pub use raw_header::{
     Encoding, Header, KeyValue, Parameters, RawBatch, RawDictionaryBatch, RawField, RawSchema,
 };

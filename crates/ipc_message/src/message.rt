@@ -12,8 +12,8 @@ use crate::{Fault, Header, HeaderType, ImportError};
 use flatbuf::{Budget, Buf, FlatError, MAX_BUFFER_BYTES, MAX_LEVELS, Table};
 use std::alloc::Global;
 
-/// The version of the metadata that is read (Message.fbs, `MetadataVersion`).
-const V5: u16 = 4;
+/// The version of the metadata that is read and written (Message.fbs, `MetadataVersion`).
+pub const V5: u16 = 4;
 
 /// A message whose Message table was read: its header is not, and its body is as many bytes as it says.
 #[derive(Clone, Copy, Debug)]

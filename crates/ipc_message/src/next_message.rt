@@ -9,7 +9,7 @@ use byteorder::{ByteOrder, LittleEndian};
 use flatbuf::MAX_BUFFER_BYTES;
 
 /// What every message begins with.
-const CONTINUATION_MARKER: [u8; 4] = [0xff; 4];
+pub const CONTINUATION_MARKER: [u8; 4] = [0xff; 4];
 
 /// What stands at the front of the bytes, a message or the end of stream, and how many bytes it takes; or the first fault:
 /// F1 where the bytes end within it, F2 where they do not begin with the continuation marker, F3 where the size of the metadata is

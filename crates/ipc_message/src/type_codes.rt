@@ -6,59 +6,59 @@ ghost use Rattle.ipc_message.specs.Types.{type_name};
 use crate::fault::TypeName;
 
 /// No type.
-pub(crate) const NONE: u8 = 0;
+pub const NONE: u8 = 0;
 
-pub(crate) const NULL: u8 = 1;
+pub const NULL: u8 = 1;
 
-pub(crate) const INT: u8 = 2;
+pub const INT: u8 = 2;
 
-pub(crate) const FLOATING_POINT: u8 = 3;
+pub const FLOATING_POINT: u8 = 3;
 
-pub(crate) const BINARY: u8 = 4;
+pub const BINARY: u8 = 4;
 
-pub(crate) const UTF8: u8 = 5;
+pub const UTF8: u8 = 5;
 
-pub(crate) const BOOL: u8 = 6;
+pub const BOOL: u8 = 6;
 
-pub(crate) const DECIMAL: u8 = 7;
+pub const DECIMAL: u8 = 7;
 
-pub(crate) const DATE: u8 = 8;
+pub const DATE: u8 = 8;
 
-pub(crate) const TIME: u8 = 9;
+pub const TIME: u8 = 9;
 
-pub(crate) const TIMESTAMP: u8 = 10;
+pub const TIMESTAMP: u8 = 10;
 
-pub(crate) const INTERVAL: u8 = 11;
+pub const INTERVAL: u8 = 11;
 
-pub(crate) const LIST: u8 = 12;
+pub const LIST: u8 = 12;
 
-pub(crate) const STRUCT: u8 = 13;
+pub const STRUCT: u8 = 13;
 
-pub(crate) const UNION: u8 = 14;
+pub const UNION: u8 = 14;
 
-pub(crate) const FIXED_SIZE_BINARY: u8 = 15;
+pub const FIXED_SIZE_BINARY: u8 = 15;
 
-pub(crate) const FIXED_SIZE_LIST: u8 = 16;
+pub const FIXED_SIZE_LIST: u8 = 16;
 
-pub(crate) const MAP: u8 = 17;
+pub const MAP: u8 = 17;
 
-pub(crate) const DURATION: u8 = 18;
+pub const DURATION: u8 = 18;
 
-pub(crate) const LARGE_BINARY: u8 = 19;
+pub const LARGE_BINARY: u8 = 19;
 
-pub(crate) const LARGE_UTF8: u8 = 20;
+pub const LARGE_UTF8: u8 = 20;
 
-pub(crate) const LARGE_LIST: u8 = 21;
+pub const LARGE_LIST: u8 = 21;
 
-pub(crate) const RUN_END_ENCODED: u8 = 22;
+pub const RUN_END_ENCODED: u8 = 22;
 
-pub(crate) const BINARY_VIEW: u8 = 23;
+pub const BINARY_VIEW: u8 = 23;
 
-pub(crate) const UTF8_VIEW: u8 = 24;
+pub const UTF8_VIEW: u8 = 24;
 
-pub(crate) const LIST_VIEW: u8 = 25;
+pub const LIST_VIEW: u8 = 25;
 
-pub(crate) const LARGE_LIST_VIEW: u8 = 26;
+pub const LARGE_LIST_VIEW: u8 = 26;
 
 /// The name of a type code.
 #[tactic(auto, unfolding(crate::specs::Types::type_name))]

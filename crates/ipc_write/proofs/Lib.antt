@@ -3,8 +3,11 @@ mod Fine
 mod TypeRead
 mod FieldRead
 mod MessageRead
-mod FieldNode
+mod TreeSteps
 mod Room
 mod HeaderRead
 mod BatchNode
 mod WrittenMessages
+mod Numbered
+mod Decoding
+mod Checked

@@ -3,3 +3,4 @@ pub mod Decoded
 pub mod Written
 pub mod Walked
 pub mod laws
+pub mod inner

@@ -3,6 +3,8 @@
 use Rattle.std.specs.Prelude.{ℕ, ◌+◌, Bool, true, false, List, [], ◌∷◌, map, Option, Some, None}
 use Rattle.flatbuf.specs.Tree.{Tree, Nodes, Slots, table, text, references, structs, no_node, and_node, no_slot, absent, scalar, refers}
 use Rattle.arrow_schema.specs.Column.{Index, Pair, DateKind, days, date_milliseconds, TimeKind, seconds, milliseconds, microseconds, nanoseconds, Kind, Column, Columns, nulls, booleans, integers, dates, timestamps, texts, large_texts, binaries, large_binaries, fixed_binaries, lists, large_lists, fixed_lists, structs as struct_kind, column, no_column, and_column, columns_of, PlainSchema}
+use Rattle.ipc_message.specs.declared.type_codes.TheConstants.{NULL, INT, BINARY, UTF8, BOOL, DATE, TIMESTAMP, LIST, STRUCT, FIXED_SIZE_BINARY, FIXED_SIZE_LIST, LARGE_BINARY, LARGE_UTF8, LARGE_LIST}
+use Rattle.ipc_message.specs.declared.message.TheConstants.{V5}
 use Rattle.ipc_message.specs.Raw.{RawNode, RawBuffer, RawBatch, RawDictionaryBatch}
 
 abbrev pub bit : Bool → ℕ
@@ -11,20 +13,20 @@ bit false = 0
 
 -- the code of a type
 abbrev pub code_of : Kind → ℕ
-code_of nulls = 1
-code_of (integers bits signed) = 2
-code_of binaries = 4
-code_of texts = 5
-code_of booleans = 6
-code_of (dates unit) = 8
-code_of (timestamps unit timezone) = 10
-code_of (lists item) = 12
-code_of (struct_kind parts) = 13
-code_of (fixed_binaries width) = 15
-code_of (fixed_lists size item) = 16
-code_of large_binaries = 19
-code_of large_texts = 20
-code_of (large_lists item) = 21
+code_of nulls = NULL
+code_of (integers bits signed) = INT
+code_of binaries = BINARY
+code_of texts = UTF8
+code_of booleans = BOOL
+code_of (dates unit) = DATE
+code_of (timestamps unit timezone) = TIMESTAMP
+code_of (lists item) = LIST
+code_of (struct_kind parts) = STRUCT
+code_of (fixed_binaries width) = FIXED_SIZE_BINARY
+code_of (fixed_lists size item) = FIXED_SIZE_LIST
+code_of large_binaries = LARGE_BINARY
+code_of large_texts = LARGE_UTF8
+code_of (large_lists item) = LARGE_LIST
 
 abbrev pub date_unit_of : DateKind → ℕ
 date_unit_of days = 0
@@ -163,4 +165,4 @@ dictionary_tree d = table (scalar 8 d.id (refers (batch_tree d.batch) (scalar 1 
 
 -- a Message: version V5, header type, header, bodyLength
 abbrev pub message_tree : ℕ → Tree → ℕ → Tree
-message_tree type header body_length = table (scalar 2 4 (scalar 1 type (refers header (scalar 8 body_length no_slot))))
+message_tree type header body_length = table (scalar 2 V5 (scalar 1 type (refers header (scalar 8 body_length no_slot))))

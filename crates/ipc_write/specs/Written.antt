@@ -1,19 +1,24 @@
 -- The bytes of the messages of a stream (Arrow columnar format, "Encapsulated message format").
-use Rattle.std.specs.Prelude.{ℕ, ◌+◌, ◌-◌, ◌%◌, ◌^◌, ◌<◌, ◌≤◌, false, List, [], ◌∷◌, ◌++◌, map, length, replicate}
+use Rattle.std.specs.Prelude.{ℕ, ◌+◌, ◌-◌, ◌%◌, ◌^◌, ◌<◌, ◌≤◌, Bool, false, List, [], ◌∷◌, ◌++◌, map, length, replicate}
 use Rattle.byteorder.specs.Endian.{little_bytes}
 use Rattle.flatbuf.specs.Tree.{Tree}
 use Rattle.flatbuf.specs.Laid.{metadata}
 use Rattle.flatbuf.specs.Held.{FitsStructs}
 use Rattle.arrow_schema.specs.Column.{PlainSchema}
-use Rattle.ipc_message.specs.Framing.{continuation_marker, Envelope}
-use Rattle.ipc_message.specs.Raw.{RawNode, RawBuffer, RawBatch}
+use Rattle.ipc_message.specs.declared.header_type.TheConstants.{SCHEMA, DICTIONARY_BATCH, RECORD_BATCH}
+use Rattle.ipc_message.specs.Framing.{continuation_marker, no_size, Envelope}
+use Rattle.ipc_message.specs.Raw.{RawNode, RawBuffer, RawBatch, RawDictionaryBatch}
 use Rattle.ipc_write.specs.Trees.{schema_tree, batch_tree, dictionary_tree, message_tree, node_pair}
 
 -- the continuation marker, the size of the metadata, the metadata, the body
 abbrev pub framed : List ℕ → List ℕ → List ℕ
 framed metadata body = continuation_marker ++ (little_bytes 4 (length metadata) ++ (metadata ++ body))
 
--- a message with a header of this type
+-- a message with a header of this type, as a reader finds it
+abbrev pub envelope : ℕ → Tree → List ℕ → Envelope
+envelope type header body = record { metadata = metadata (message_tree type header (length body)); body = body }
+
+-- its bytes
 abbrev pub message_bytes : ℕ → Tree → List ℕ → List ℕ
 message_bytes type header body = framed (metadata (message_tree type header (length body))) body
 
@@ -35,23 +40,29 @@ placed at (buffer ∷ buffers) = record { offset = at; length = length buffer } 
 abbrev pub batch_of : ℕ → List RawNode → List (List ℕ) → RawBatch
 batch_of rows nodes buffers = record { length = rows; nodes = nodes; buffers = placed 0 buffers; compressed = false }
 
--- a schema message has no body
-unfoldable pub schema_message : PlainSchema → List ℕ
-schema_message s = message_bytes 1 (schema_tree s) []
+-- the entries of the dictionary with this id: all of them, or more
+abbrev pub dictionary_of : ℕ → Bool → ℕ → List RawNode → List (List ℕ) → RawDictionaryBatch
+dictionary_of id is_delta rows nodes buffers = record { id = id; batch = batch_of rows nodes buffers; is_delta = is_delta }
 
--- a dictionary batch, which replaces the entries of its id
-unfoldable pub dictionary_message : ℕ → ℕ → List RawNode → List (List ℕ) → List ℕ
-dictionary_message id rows nodes buffers = message_bytes 2 (dictionary_tree (record { id = id; batch = batch_of rows nodes buffers; is_delta = false })) (body buffers)
+-- the messages of a schema, which has no body, of a dictionary batch and of a record batch
+unfoldable pub schema_message : PlainSchema → List ℕ
+schema_message s = message_bytes SCHEMA (schema_tree s) []
+
+unfoldable pub dictionary_message : ℕ → Bool → ℕ → List RawNode → List (List ℕ) → List ℕ
+dictionary_message id is_delta rows nodes buffers = message_bytes DICTIONARY_BATCH (dictionary_tree (dictionary_of id is_delta rows nodes buffers)) (body buffers)
 
 unfoldable pub batch_message : ℕ → List RawNode → List (List ℕ) → List ℕ
-batch_message rows nodes buffers = message_bytes 3 (batch_tree (batch_of rows nodes buffers)) (body buffers)
+batch_message rows nodes buffers = message_bytes RECORD_BATCH (batch_tree (batch_of rows nodes buffers)) (body buffers)
 
--- the message of a schema, and that of a record batch, as a reader finds them
+-- these messages as a reader finds them
 abbrev pub schema_envelope : PlainSchema → Envelope
-schema_envelope s = record { metadata = metadata (message_tree 1 (schema_tree s) 0); body = [] }
+schema_envelope s = envelope SCHEMA (schema_tree s) []
+
+abbrev pub dictionary_envelope : ℕ → Bool → ℕ → List RawNode → List (List ℕ) → Envelope
+dictionary_envelope id is_delta rows nodes buffers = envelope DICTIONARY_BATCH (dictionary_tree (dictionary_of id is_delta rows nodes buffers)) (body buffers)
 
 abbrev pub batch_envelope : ℕ → List RawNode → List (List ℕ) → Envelope
-batch_envelope rows nodes buffers = record { metadata = metadata (message_tree 3 (batch_tree (batch_of rows nodes buffers)) (length (body buffers))); body = body buffers }
+batch_envelope rows nodes buffers = envelope RECORD_BATCH (batch_tree (batch_of rows nodes buffers)) (body buffers)
 
 -- a batch whose numbers fit 64 bits, with no more nodes than a schema has columns, and whose metadata and body stay in their limits
 pub record IsWritableBatch (rows : ℕ) (nodes : List RawNode) (buffers : List (List ℕ)) : Type 0 where
@@ -63,4 +74,4 @@ pub record IsWritableBatch (rows : ℕ) (nodes : List RawNode) (buffers : List (
 
 -- the end of stream
 abbrev pub end_of_stream : List ℕ
-end_of_stream = continuation_marker ++ (0 ∷ 0 ∷ 0 ∷ 0 ∷ [])
+end_of_stream = continuation_marker ++ no_size

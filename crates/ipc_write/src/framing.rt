@@ -1,18 +1,20 @@
 // The messages of a stream, as bytes.
-ghost use Rattle.std.specs.Prelude.{◌≡◌, ◌≤◌, ◌<◌, ◌+◌, ◌^◌, ◌++◌, [], ◌∷◌, ℕ, List, map, length, take, OnOk, OnErr, IfOk, IsTrue, replicate};
+ghost use Rattle.std.specs.Prelude.{◌≡◌, ◌≤◌, ◌<◌, ◌+◌, ◌^◌, ◌++◌, [], ◌∷◌, ℕ, List, map, length, take, OnOk, OnErr, IfOk, replicate};
 ghost use Rattle.byteorder.specs.Endian.{little_bytes};
 ghost use Rattle.arrow_schema.specs.View.{schema_of};
 ghost use Rattle.arrow_schema.specs.Limits.{IsWithinLimits};
-ghost use Rattle.flatbuf.specs.Held.{FitsStructs};
+ghost use Rattle.flatbuf.specs.Held.{Fits, FitsStructs};
+ghost use Rattle.flatbuf.specs.Laid.{metadata};
+ghost use Rattle.flatbuf.specs.View.{node_of};
 ghost use Rattle.ipc_message.specs.Framing.{continuation_marker};
-ghost use Rattle.arrow_schema.specs.Integers.{is_integer_schema};
-ghost use Rattle.ipc_write.specs.Trees.{buffer_pair, raw_node};
-ghost use Rattle.ipc_write.specs.Written.{framed, schema_message, batch_message, end_of_stream, padded, body, placed};
+ghost use Rattle.ipc_write.specs.Trees.{batch_tree, message_tree, buffer_pair, raw_node};
+ghost use Rattle.ipc_write.specs.Written.{framed, message_bytes, schema_message, dictionary_message, batch_message, batch_of, IsWritableBatch, end_of_stream, padded, body, placed};
 
 use crate::laws::metadata_is_within_its_limit;
-use crate::trees::{batch_node, message_node, schema_node};
+use crate::trees::{batch_node, dictionary_node, message_node, schema_node};
 use arrow_schema::Schema;
-use flatbuf::Writer;
+use flatbuf::{MAX_BUFFER_BYTES, Node, Writer};
+use ipc_message::{CONTINUATION_MARKER, DICTIONARY_BATCH, RECORD_BATCH, SCHEMA};
 use std::alloc::{AllocError, Global};
 
 /// Appends the continuation marker, the size of the metadata, and the metadata.
@@ -21,7 +23,7 @@ fn put_metadata(out: &mut Vec<u8>, metadata: &[u8]) -> Result<(), AllocError>
     ensures appended { OnOk result (out.new.items ≡ out.old.items ++ (continuation_marker ++ (little_bytes 4 (length metadata.now) ++ metadata.now))) }
     ensures begins { take (length out.old.items) out.new.items ≡ out.old.items }
 {
-    out.extend_from_slice(&[255, 255, 255, 255])?;
+    out.extend_from_slice(&CONTINUATION_MARKER)?;
     out.extend_from_slice(&(metadata.len() as u32).to_le_bytes())?;
     out.extend_from_slice(metadata)
 }
@@ -70,19 +72,35 @@ fn put_message(out: &mut Vec<u8>, metadata: &[u8], buffers: &[&[u8]]) -> Result<
     put
 }
 
-/// Appends the message of a schema of integer columns (docs/formats/writing.md), or nothing where memory is refused.
-#[tactic(auto, unfolding(crate::specs::Written::schema_message))]
+/// Appends a message with a header of this type and the body of these buffers, or nothing where memory is refused.
+fn write_message(
+    alloc: Global,
+    out: &mut Vec<u8>,
+    header_type: u8,
+    header: Node,
+    body_length: u64,
+    buffers: &[&[u8]],
+) -> Result<(), AllocError>
+    requires length { body_length ≡ length (body (map (λ b. b.now) buffers.now)) }
+    requires fits { Fits (message_tree header_type (node_of header) body_length) }
+    requires small { length (metadata (message_tree header_type (node_of header) body_length)) ≤ MAX_BUFFER_BYTES }
+    ensures appended { OnOk result (out.new.items ≡ out.old.items ++ message_bytes header_type (node_of header) (body (map (λ b. b.now) buffers.now))) }
+    ensures kept { OnErr result (out.new.items ≡ out.old.items) }
+{
+    let root = message_node(alloc, header_type, header, body_length)?;
+    let metadata = Writer::new(alloc).write(&root)?;
+    put_message(out, &metadata, buffers)
+}
+
+/// Appends the message of a schema (docs/formats/writing.md), or nothing where memory is refused.
 pub fn write_schema(alloc: Global, out: &mut Vec<u8>, schema: &Schema) -> Result<(), AllocError>
-    requires integers { IsTrue (is_integer_schema (schema_of schema.now)) }
-    requires limits { IsWithinLimits (schema_of schema.now) }
+    requires { IsWithinLimits (schema_of schema.now) }
     ensures appended { OnOk result (out.new.items ≡ out.old.items ++ schema_message (schema_of schema.now)) }
     ensures kept { OnErr result (out.new.items ≡ out.old.items) }
 {
     metadata_is_within_its_limit();
     let header = schema_node(alloc, schema)?;
-    let root = message_node(alloc, 1, header, 0)?;
-    let metadata = Writer::new(alloc).write(&root)?;
-    put_message(out, &metadata, &[])
+    write_message(alloc, out, SCHEMA, header, 0, &[])
 }
 
 /// Where each buffer stands in the body, and how long the body is.
@@ -112,11 +130,56 @@ fn numbers_fit(nodes: &[(u64, u64)])
     }
 }
 
+/// The RecordBatch of so many rows with these nodes and buffers, and how long its body is.
+fn batch_header(
+    alloc: Global,
+    rows: u64,
+    nodes: Vec<(u64, u64)>,
+    buffers: &[&[u8]],
+) -> Result<(Node, u64), AllocError>
+    requires nodes { length nodes.items ≤ 2048 }
+    requires buffers { length buffers.now ≤ 65536 }
+    requires body { length (body (map (λ b. b.now) buffers.now)) < 2 ^ 62 }
+    ensures node { IfOk result (λ r. node_of r.0 ≡ batch_tree (batch_of rows (map raw_node nodes.items) (map (λ b. b.now) buffers.now))) }
+    ensures length { IfOk result (λ r. r.1 ≡ length (body (map (λ b. b.now) buffers.now))) }
+    ensures writable { IfOk result (λ _. IsWritableBatch rows (map raw_node nodes.items) (map (λ b. b.now) buffers.now)) }
+{
+    numbers_fit(&nodes);
+    let (ranges, body_length) = ranges_of(alloc, buffers)?;
+    let header = batch_node(alloc, rows, nodes, ranges)?;
+    Ok((header, body_length))
+}
+
+/// Appends a dictionary batch of so many entries, with a node for each array and these buffers, or nothing where memory
+/// is refused: they replace the entries of this id, or a delta is appended to them.
+///
+/// The caller sees to it that there are at most 2,048 nodes and 65,536 buffers, and that the body is below 2^62 bytes.
+pub fn write_dictionary(
+    alloc: Global,
+    out: &mut Vec<u8>,
+    id: u64,
+    is_delta: bool,
+    rows: u64,
+    nodes: Vec<(u64, u64)>,
+    buffers: &[&[u8]],
+) -> Result<(), AllocError>
+    requires nodes { length nodes.items ≤ 2048 }
+    requires buffers { length buffers.now ≤ 65536 }
+    requires body { length (body (map (λ b. b.now) buffers.now)) < 2 ^ 62 }
+    ensures appended { OnOk result (out.new.items ≡ out.old.items
+        ++ dictionary_message id is_delta rows (map raw_node nodes.items) (map (λ b. b.now) buffers.now)) }
+    ensures kept { OnErr result (out.new.items ≡ out.old.items) }
+{
+    metadata_is_within_its_limit();
+    let (batch, body_length) = batch_header(alloc, rows, nodes, buffers)?;
+    let header = dictionary_node(alloc, id, batch, is_delta)?;
+    write_message(alloc, out, DICTIONARY_BATCH, header, body_length, buffers)
+}
+
 /// Appends a record batch of so many rows, with a node for each array (its length and null count) and these buffers, or
 /// nothing where memory is refused.
 ///
 /// The caller sees to it that there are at most 2,048 nodes and 65,536 buffers, and that the body is below 2^62 bytes.
-#[tactic(auto, unfolding(crate::specs::Written::batch_message))]
 pub fn write_batch(
     alloc: Global,
     out: &mut Vec<u8>,
@@ -131,18 +194,17 @@ pub fn write_batch(
     ensures kept { OnErr result (out.new.items ≡ out.old.items) }
 {
     metadata_is_within_its_limit();
-    numbers_fit(&nodes);
-    let (ranges, body_length) = ranges_of(alloc, buffers)?;
-    let header = batch_node(alloc, rows, nodes, ranges)?;
-    let root = message_node(alloc, 3, header, body_length)?;
-    let metadata = Writer::new(alloc).write(&root)?;
-    put_message(out, &metadata, buffers)
+    let (header, body_length) = batch_header(alloc, rows, nodes, buffers)?;
+    write_message(alloc, out, RECORD_BATCH, header, body_length, buffers)
 }
+
+/// The continuation marker, and a size of 0.
+const END_OF_STREAM: [u8; 8] = [0xff, 0xff, 0xff, 0xff, 0, 0, 0, 0];
 
 /// Appends the end of stream, or nothing where memory is refused.
 pub fn write_end(out: &mut Vec<u8>) -> Result<(), AllocError>
     ensures appended { OnOk result (out.new.items ≡ out.old.items ++ end_of_stream) }
     ensures kept { OnErr result (out.new.items ≡ out.old.items) }
 {
-    out.extend_from_slice(&[255, 255, 255, 255, 0, 0, 0, 0])
+    out.extend_from_slice(&END_OF_STREAM)
 }

@@ -1,18 +1,26 @@
 //! Writing Arrow IPC messages: the one way in which each schema, dictionary batch and record batch is written.
 //!
-//! The bytes are definitions (`specs/Trees.antt`, `specs/Written.antt`), and the laws below say that a reader finds in
-//! them what was written.
+//! A message is appended whole, or nothing is where memory is refused. Every schema within the limits may be written. Its
+//! bytes are definitions (`specs/Trees.antt`, `specs/Written.antt`), and the laws below say that a reader finds in them
+//! what was written.
+//!
+//! ```
+//! // A stream of one column of 32-bit integers, with the rows 7 and -1.
+//! write_schema(alloc, &mut out, &schema)?;
+//! let nodes = vec![in alloc; (2, 0)]?;
+//! write_batch(alloc, &mut out, 2, nodes, &[&[], &[7, 0, 0, 0, 255, 255, 255, 255]])?;
+//! write_end(&mut out)?;
+//! ```
 #![tactic(auto)]
 
+mod fields;
 mod framing;
 mod laws;
-#[cfg(test)]
-mod tests;
 mod trees;
 
-pub use framing::{write_batch, write_end, write_schema};
+pub use framing::{write_batch, write_dictionary, write_end, write_schema};
 pub use laws::{
-    batch_is_read_again, batch_message_is_read_again, dictionary_is_read_again,
+    batch_is_read_again, batch_message_is_read_again, dictionary_is_read_again, dictionary_message_is_read_again,
     field_is_read_again, message_is_read_again, metadata_is_within_its_limit, schema_is_read_again,
     schema_message_is_read_again,
 };

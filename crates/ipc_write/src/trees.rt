@@ -1,15 +1,21 @@
 // The tables of a message, as trees that are yet to be written (docs/formats/writing.md).
-ghost use Rattle.std.specs.Prelude.{◌≡◌, ◌++◌, ◌+◌, [], ◌∷◌, ℕ, List, map, IfOk, IsTrue};
-ghost use Rattle.std.specs.List.{list_all};
-ghost use Rattle.arrow_schema.specs.View.{schema_of, kind_of, column_of};
+ghost use Rattle.std.specs.Prelude.{◌≡◌, ◌+◌, ◌^◌, ◌<◌, map, option_map, string_bytes, IfOk, OnOk};
+ghost use Rattle.arrow_schema.specs.View.{schema_of, kind_of, column_of, pair_of, index_of, date_kind, time_kind, bits_of};
 ghost use Rattle.arrow_schema.specs.Column.{columns_of};
-ghost use Rattle.flatbuf.specs.Tree.{table, references, structs, scalar, refers, no_slot};
-ghost use Rattle.flatbuf.specs.View.{node_of, nodes_of};
-ghost use Rattle.ipc_write.specs.Trees.{bit, int_tree, type_tree, field_tree, field_nodes, schema_tree, message_tree};
-ghost use Rattle.arrow_schema.specs.Integers.{is_integer_column, is_integer_kind, is_integer_schema};
+ghost use Rattle.arrow_schema.specs.Limits.{IsWithinLimits};
+ghost use Rattle.flatbuf.specs.Tree.{Slots, table, text, references, structs, scalar, refers, no_slot};
+ghost use Rattle.flatbuf.specs.View.{node_of, slot_before, nodes_of};
+ghost use Rattle.ipc_write.specs.Trees.{bit, code_of, date_unit_of, time_unit_of, int_tree, timezone_slot, type_tree, pair_tree, pair_nodes, pairs_slot, encoding_tree, dictionary_slot, ids_for, schema_tree, message_tree};
+ghost use Rattle.ipc_write.specs.inner.Steps.{slots_then, field_table};
 
-use arrow_schema::{DataType, Field, IntegerType, Schema};
+use crate::fields::field_nodes;
+use arrow_schema::{DataType, DateUnit, DictSpec, Field, IntegerType, Schema, TimeUnit};
 use flatbuf::{Node, Slot};
+use ipc_message::V5;
+use ipc_message::type_codes::{
+    BINARY, BOOL, DATE, FIXED_SIZE_BINARY, FIXED_SIZE_LIST, INT, LARGE_BINARY, LARGE_LIST,
+    LARGE_UTF8, LIST, NULL, STRUCT, TIMESTAMP, UTF8,
+};
 use std::alloc::{AllocError, Global};
 
 /// A flag as a byte.
@@ -17,6 +23,56 @@ fn flag(b: bool) -> u8
     ensures { result ≡ bit b }
 {
     if b { 1 } else { 0 }
+}
+
+/// The code of a type.
+fn type_code(data_type: &DataType) -> u8
+    ensures { result ≡ code_of (kind_of data_type.now) }
+{
+    match data_type {
+        DataType::Null => NULL,
+        DataType::Bool => BOOL,
+        DataType::Int(_) => INT,
+        DataType::Date(_) => DATE,
+        DataType::Timestamp(_, _) => TIMESTAMP,
+        DataType::Utf8 => UTF8,
+        DataType::LargeUtf8 => LARGE_UTF8,
+        DataType::Binary => BINARY,
+        DataType::LargeBinary => LARGE_BINARY,
+        DataType::FixedSizeBinary(_) => FIXED_SIZE_BINARY,
+        DataType::List(_) => LIST,
+        DataType::LargeList(_) => LARGE_LIST,
+        DataType::FixedSizeList(_, _) => FIXED_SIZE_LIST,
+        DataType::Struct(_) => STRUCT,
+    }
+}
+
+/// The number of a unit of dates (Schema.fbs, `DateUnit`).
+fn date_unit(unit: DateUnit) -> u16
+    ensures { result ≡ date_unit_of (date_kind unit) }
+{
+    match unit {
+        DateUnit::Day => 0,
+        DateUnit::Millisecond => 1,
+    }
+}
+
+/// The number of a unit of time (Schema.fbs, `TimeUnit`).
+fn time_unit(unit: TimeUnit) -> u16
+    ensures { result ≡ time_unit_of (time_kind unit) }
+{
+    match unit {
+        TimeUnit::Second => 0,
+        TimeUnit::Millisecond => 1,
+        TimeUnit::Microsecond => 2,
+        TimeUnit::Nanosecond => 3,
+    }
+}
+
+fn text_node(alloc: Global, content: &str) -> Result<Node, AllocError>
+    ensures { IfOk result (λ n. node_of n ≡ text content.now) }
+{
+    Ok(Node::Text(Vec::from_slice(alloc, content.as_bytes())?))
 }
 
 /// An Int: its width in bits, and whether it is signed.
@@ -27,73 +83,181 @@ fn int_node(alloc: Global, bits: u32, signed: bool) -> Result<Node, AllocError>
     Ok(Node::Table(slots))
 }
 
-/// The table of an integer type, and a table without slots for any other.
+/// A table of one slot: the unit of a date, or a width or a size.
+fn one_slot(alloc: Global, slot: Slot) -> Result<Node, AllocError>
+    ensures { IfOk result (λ n. node_of n ≡ table (slot_before slot no_slot)) }
+{
+    let slots = vec![in alloc; slot]?;
+    Ok(Node::Table(slots))
+}
+
+/// A Timestamp: its unit, and its timezone where it has one.
+fn timestamp_node(alloc: Global, unit: TimeUnit, timezone: &str) -> Result<Node, AllocError>
+    ensures { IfOk result (λ n. node_of n ≡ table (scalar 2 (time_unit_of (time_kind unit)) (timezone_slot timezone.now))) }
+{
+    let unit = Slot::Short(time_unit(unit));
+    if timezone.is_empty() {
+        return one_slot(alloc, unit);
+    }
+    let timezone = text_node(alloc, timezone)?;
+    let slots = vec![in alloc; unit, Slot::Refers(timezone)]?;
+    Ok(Node::Table(slots))
+}
+
+/// The table of a type: it has no slot where the type has no parameters.
 fn type_node(alloc: Global, data_type: &DataType) -> Result<Node, AllocError>
-    ensures { IfOk result (λ n. IsTrue (is_integer_kind (kind_of data_type.now)) → node_of n ≡ type_tree (kind_of data_type.now)) }
+    ensures { IfOk result (λ n. node_of n ≡ type_tree (kind_of data_type.now)) }
 {
     match data_type {
         DataType::Int(IntegerType { width, signed }) => int_node(alloc, width.bits(), *signed),
+        DataType::Date(unit) => one_slot(alloc, Slot::Short(date_unit(*unit))),
+        DataType::Timestamp(unit, timezone) => timestamp_node(alloc, *unit, timezone),
+        DataType::FixedSizeBinary(width) => one_slot(alloc, Slot::Word(*width)),
+        DataType::FixedSizeList(size, _) => one_slot(alloc, Slot::Word(*size)),
         _ => Ok(Node::Table(Vec::new(alloc))),
     }
 }
 
-/// The code of an integer type.
-const INT_CODE: u8 = 2;
-
-/// A Field of an integer column.
-fn field_node(alloc: Global, field: &Field) -> Result<Node, AllocError>
-    ensures { IfOk result (λ n. IsTrue (is_integer_column (column_of field.now)) → (id : ℕ) → node_of n ≡ field_tree id (column_of field.now)) }
+/// A KeyValue.
+fn pair_node(alloc: Global, key: &str, value: &str) -> Result<Node, AllocError>
+    ensures { IfOk result (λ n. node_of n ≡ pair_tree (key.now, value.now)) }
 {
-    let name = Node::Text(Vec::from_slice(alloc, field.name.as_bytes())?);
-    let kind = type_node(alloc, &field.data_type)?;
-    let children = Node::References(Vec::new(alloc));
-    let slots = vec![in alloc;
-        Slot::Refers(name),
-        Slot::Byte(flag(field.nullable)),
-        Slot::Byte(INT_CODE),
-        Slot::Refers(kind),
-        Slot::Absent,
-        Slot::Refers(children),
-    ]?;
+    let key = text_node(alloc, key)?;
+    let value = text_node(alloc, value)?;
+    let slots = vec![in alloc; Slot::Refers(key), Slot::Refers(value)]?;
     Ok(Node::Table(slots))
 }
 
-/// The fields of a schema of integer columns.
-fn field_nodes(alloc: Global, fields: &[Field]) -> Result<Vec<Node>, AllocError>
-    requires { IsTrue (list_all is_integer_column (map column_of fields.now)) }
-    ensures { IfOk result (λ v. map node_of v.items ≡ map (λ f. field_tree 0 (column_of f)) fields.now) }
+fn pair_nodes(alloc: Global, pairs: &[(String, String)]) -> Result<Vec<Node>, AllocError>
+    ensures { IfOk result (λ v. map node_of v.items ≡ map (λ p. pair_tree (pair_of p)) pairs.now) }
 {
     let mut nodes = Vec::new(alloc);
-    for field in fields {
-        nodes.push(field_node(alloc, field)?)?;
+    for (key, value) in pairs {
+        nodes.push(pair_node(alloc, key, value)?)?;
     }
     Ok(nodes)
 }
 
-/// The Schema of integer columns.
-pub fn schema_node(alloc: Global, schema: &Schema) -> Result<Node, AllocError>
-    requires { IsTrue (is_integer_schema (schema_of schema.now)) }
-    ensures { IfOk result (λ n. node_of n ≡ schema_tree (schema_of schema.now)) }
+/// A table with these slots, and then that of its key/value pairs, where it has some.
+fn table_with_pairs(
+    alloc: Global,
+    mut slots: Vec<Slot>,
+    pairs: &[(String, String)],
+) -> Result<Node, AllocError>
+    ensures { IfOk result (λ n. node_of n ≡ table (slots_then (map slot_before slots.items) (pairs_slot (map pair_of pairs.now)))) }
 {
-    let fields = Node::References(field_nodes(alloc, &schema.fields)?);
-    let slots = vec![in alloc; Slot::Short(0), Slot::Refers(fields)]?;
+    if pairs.is_empty() {
+        return Ok(Node::Table(slots));
+    }
+    let nodes = pair_nodes(alloc, pairs)?;
+    slots.push(Slot::Refers(Node::References(nodes)))?;
     Ok(Node::Table(slots))
 }
 
-/// A Message with this header.
+/// A DictionaryEncoding: its id, its index type, and that it is dense and not ordered.
+fn encoding_node(alloc: Global, id: u64, index: IntegerType) -> Result<Node, AllocError>
+    ensures { IfOk result (λ n. node_of n ≡ encoding_tree id (record { bits = bits_of index.width; signed = index.signed })) }
+{
+    let index_type = int_node(alloc, index.width.bits(), index.signed)?;
+    let slots = vec![in alloc;
+        Slot::Long(id),
+        Slot::Refers(index_type),
+        Slot::Byte(0),
+        Slot::Short(0),
+    ]?;
+    Ok(Node::Table(slots))
+}
+
+/// The slot of a field's dictionary, which takes the next id.
+pub(crate) fn dictionary_slot(
+    alloc: Global,
+    dictionary: Option<DictSpec>,
+    next_id: &mut u64,
+) -> Result<Slot, AllocError>
+    requires { next_id.old + ids_for (option_map index_of dictionary) < 2 ^ 64 }
+    ensures slot { IfOk result (λ s. (rest : Slots) → slot_before s rest ≡ dictionary_slot next_id.old (option_map index_of dictionary) rest) }
+    ensures next { OnOk result (next_id.new ≡ next_id.old + ids_for (option_map index_of dictionary)) }
+{
+    match dictionary {
+        None => Ok(Slot::Absent),
+        Some(spec) => {
+            let node = encoding_node(alloc, *next_id, spec.index)?;
+            *next_id += 1;
+            Ok(Slot::Refers(node))
+        }
+    }
+}
+
+/// A Field with this slot of its dictionary and these children.
+pub(crate) fn field_table(
+    alloc: Global,
+    field: &Field,
+    dictionary: Slot,
+    children: Vec<Node>,
+) -> Result<Node, AllocError>
+    ensures { IfOk result (λ n. node_of n ≡ field_table (column_of field.now) (slot_before dictionary) (nodes_of (map node_of children.items))) }
+{
+    let name = text_node(alloc, &field.name)?;
+    let data_type = type_node(alloc, &field.data_type)?;
+    let slots = vec![in alloc;
+        Slot::Refers(name),
+        Slot::Byte(flag(field.nullable)),
+        Slot::Byte(type_code(&field.data_type)),
+        Slot::Refers(data_type),
+        dictionary,
+        Slot::Refers(Node::References(children)),
+    ]?;
+    table_with_pairs(alloc, slots, &field.pairs)
+}
+
+/// The byte order of the values: little-endian (Schema.fbs, `Endianness`).
+const LITTLE: u16 = 0;
+
+/// The Schema.
+pub fn schema_node(alloc: Global, schema: &Schema) -> Result<Node, AllocError>
+    requires { IsWithinLimits (schema_of schema.now) }
+    ensures { IfOk result (λ n. node_of n ≡ schema_tree (schema_of schema.now)) }
+{
+    let mut next_id = 0;
+    let fields = field_nodes(alloc, &schema.fields, &mut next_id)?;
+    let slots = vec![in alloc;
+        Slot::Short(LITTLE),
+        Slot::Refers(Node::References(fields)),
+    ]?;
+    table_with_pairs(alloc, slots, &schema.pairs)
+}
+
+/// A Message with a header of this type.
 pub fn message_node(
     alloc: Global,
-    kind: u8,
+    header_type: u8,
     header: Node,
     body_length: u64,
 ) -> Result<Node, AllocError>
-    ensures { IfOk result (λ n. node_of n ≡ message_tree kind (node_of header) body_length) }
+    ensures { IfOk result (λ n. node_of n ≡ message_tree header_type (node_of header) body_length) }
 {
     let slots = vec![in alloc;
-        Slot::Short(4),
-        Slot::Byte(kind),
+        Slot::Short(V5),
+        Slot::Byte(header_type),
         Slot::Refers(header),
         Slot::Long(body_length),
+    ]?;
+    Ok(Node::Table(slots))
+}
+
+/// A DictionaryBatch: the id, the batch of the entries, and whether they are appended to those that there are.
+pub fn dictionary_node(
+    alloc: Global,
+    id: u64,
+    batch: Node,
+    is_delta: bool,
+) -> Result<Node, AllocError>
+    ensures { IfOk result (λ n. node_of n ≡ table (scalar 8 id (refers (node_of batch) (scalar 1 (bit is_delta) no_slot)))) }
+{
+    let slots = vec![in alloc;
+        Slot::Long(id),
+        Slot::Refers(batch),
+        Slot::Byte(flag(is_delta)),
     ]?;
     Ok(Node::Table(slots))
 }

@@ -27,9 +27,9 @@ returns c =
     subst (λ (x : PlainTable). meaning supported_codes (canonical x) ≡ Ok x) (table_again t values is c.requires refl)
     (canonical_read t.schema values (length t.rows)
     (record {
-      stands = λ rest. schema.next_message t.schema rest c.requires.schema is.schema;
-      kind = schema.kind t.schema c.requires.schema is.schema;
-      decoded = schema.header supported_codes t.schema (refl, refl) c.requires.schema is.schema;
+      stands = λ rest. schema.next_message t.schema rest is.schema;
+      kind = schema.kind t.schema is.schema;
+      decoded = schema.header supported_codes t.schema (refl, refl) is.schema;
       after = schema.after t.schema;
     })
     (record { stands = batch.next_message; kind = batch.kind; decoded = batch.header supported_codes; after = batch.after })

@@ -1,33 +1,27 @@
-use Rattle.std.proofs.Common.{◌≡◌, length, sym, ap, ◌∙◌, arith, subst}
+use Rattle.std.proofs.Common.{ℕ, List, ◌++◌, refl, ap, ◌∙◌}
+use Rattle.std.proofs.lemmas.Result.{on_ok_weaker}
 use Rattle.arrow_schema.specs.Column.{PlainSchema}
 use Rattle.arrow_schema.specs.View.{schema_of}
-use Rattle.flatbuf.specs.Laid.{metadata}
-use Rattle.flatbuf.specs.Tree.{Tree}
-use Rattle.flatbuf.specs.Held.{Fits}
 use Rattle.flatbuf.specs.View.{node_of}
-use Rattle.ipc_write.specs.Trees.{schema_tree, message_tree}
-use Rattle.ipc_write.proofs.Room.{schema_fits, root_small}
+use Rattle.ipc_message.specs.declared.header_type.TheConstants.{SCHEMA}
+use Rattle.ipc_write.specs.Trees.{schema_tree}
+use Rattle.ipc_write.proofs.BatchNode.{schema_is}
+use Rattle.ipc_write.proofs.Room.{schema_fits, same_fits, same_size}
 use Rattle.ipc_write.proofs.framing.write_schema.Goals as goal
 
--- the tree that is written
-tree_is : (root header : Tree) (s : PlainSchema) → root ≡ message_tree 1 header 0 → header ≡ schema_tree s → root ≡ message_tree 1 (schema_tree s) 0
-tree_is root header s a b = a ∙ ap (λ (t : Tree). message_tree 1 t 0) b
-
-pub write-requires-clause-fits : goal.write-requires-clause-fits
-write-requires-clause-fits c =
+pub write_message-requires-clause-fits : goal.write_message-requires-clause-fits
+write_message-requires-clause-fits c =
     let s : PlainSchema = schema_of c.args.schema.now in
-    subst Fits (sym (tree_is (node_of c.in_ok-root.root) (node_of c.in_ok-header.header) s c.in_ok-root.ensures c.in_ok-header.ensures)) (schema_fits s c.requires.integers)
+    same_fits SCHEMA (node_of c.in_ok-header.header) (schema_tree s) 0 0 c.in_ok-header.ensures refl (schema_fits s c.requires)
 
-pub write-requires-clause-small : goal.write-requires-clause-small
-write-requires-clause-small c =
+pub write_message-requires-clause-small : goal.write_message-requires-clause-small
+write_message-requires-clause-small c =
     let s : PlainSchema = schema_of c.args.schema.now in
-    root_small (node_of c.in_ok-root.root) (message_tree 1 (schema_tree s) 0) (tree_is (node_of c.in_ok-root.root) (node_of c.in_ok-header.header) s c.in_ok-root.ensures c.in_ok-header.ensures)
-    (c.metadata_is_within_its_limit.ensures.schema s c.requires.integers c.requires.limits)
+    same_size SCHEMA (node_of c.in_ok-header.header) (schema_tree s) 0 0 c.in_ok-header.ensures refl (c.metadata_is_within_its_limit.ensures.schema s c.requires)
 
-pub put_message-requires : goal.put_message-requires
-put_message-requires c =
+pub returns-clause-appended : goal.returns-clause-appended
+returns-clause-appended c =
     let s : PlainSchema = schema_of c.args.schema.now in
-    let small = root_small (node_of c.in_ok-root.root) (message_tree 1 (schema_tree s) 0) (tree_is (node_of c.in_ok-root.root) (node_of c.in_ok-header.header) s c.in_ok-root.ensures c.in_ok-header.ensures)
-    (c.metadata_is_within_its_limit.ensures.schema s c.requires.integers c.requires.limits) in
-    let is : length c.deref.result.now ≡ length (metadata (node_of c.in_ok-root.root)) = ap length (c.deref.ensures.value ∙ c.in_ok-metadata.ensures) in
-    omega (arith, small, is)
+    on_ok_weaker c.write_message.result
+    (λ done. done ∙ ap (λ (bytes : List ℕ). c.args.out.now.items ++ bytes) (schema_is (node_of c.in_ok-header.header) s c.in_ok-header.ensures))
+    c.write_message.ensures.appended

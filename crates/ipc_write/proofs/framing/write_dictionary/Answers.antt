@@ -1,0 +1,33 @@
+use Rattle.std.proofs.Common.{◌≡◌, ℕ, List, ◌++◌, map, arith, ap, ◌∙◌}
+use Rattle.std.proofs.lemmas.Result.{on_ok_weaker}
+use Rattle.flatbuf.specs.View.{node_of}
+use Rattle.ipc_message.specs.declared.header_type.TheConstants.{DICTIONARY_BATCH}
+use Rattle.ipc_message.specs.Raw.{RawNode}
+use Rattle.ipc_write.specs.Trees.{raw_node, dictionary_tree}
+use Rattle.ipc_write.specs.Written.{dictionary_of}
+use Rattle.ipc_write.proofs.BatchNode.{dictionary_header, dictionary_is}
+use Rattle.ipc_write.proofs.Room.{same_fits, same_size}
+use Rattle.ipc_write.proofs.WrittenMessages.{dictionary_tree_fits}
+use Rattle.ipc_write.proofs.framing.write_dictionary.Goals as goal
+
+pub write_message-requires-clause-fits : goal.write_message-requires-clause-fits
+write_message-requires-clause-fits c =
+    let made = c.in_ok-batch.ensures in
+    let is = dictionary_header _ _ c.args.id c.args.is_delta c.args.rows _ _ c.in_ok-header.ensures made.node in
+    same_fits DICTIONARY_BATCH _ _ _ _ is made.length (dictionary_tree_fits c.args.id c.args.is_delta _ _ _ (omega arith) made.writable)
+
+pub write_message-requires-clause-small : goal.write_message-requires-clause-small
+write_message-requires-clause-small c =
+    let made = c.in_ok-batch.ensures in
+    let is = dictionary_header _ _ c.args.id c.args.is_delta c.args.rows _ _ c.in_ok-header.ensures made.node in
+    same_size DICTIONARY_BATCH _ _ _ _ is made.length (c.metadata_is_within_its_limit.ensures.dictionary c.args.id c.args.is_delta _ _ _ made.writable)
+
+pub returns-clause-appended : goal.returns-clause-appended
+returns-clause-appended c =
+    let nodes : List RawNode = map raw_node c.args.nodes.items in
+    let buffers : List (List ℕ) = map (λ b. b.now) c.args.buffers.now in
+    let is : node_of c.in_ok-header.header ≡ dictionary_tree (dictionary_of c.args.id c.args.is_delta c.args.rows nodes buffers) =
+    dictionary_header _ _ c.args.id c.args.is_delta c.args.rows nodes buffers c.in_ok-header.ensures c.in_ok-batch.ensures.node in
+    on_ok_weaker c.write_message.result
+    (λ done. done ∙ ap (λ (bytes : List ℕ). c.args.out.now.items ++ bytes) (dictionary_is (node_of c.in_ok-header.header) c.args.id c.args.is_delta c.args.rows nodes buffers is))
+    c.write_message.ensures.appended
