@@ -293,12 +293,22 @@ mutual
       let below : Slots = refers (references (child_nodes (id + ids_for dictionary) kind)) (pairs_slot pairs) in
       let slots : Slots = refers (text name) (scalar 1 (bit nullable) (scalar 1 (code_of kind) (refers (type_tree kind) (dictionary_slot id dictionary below)))) in
       let count = dictionary_count id dictionary below in
-      let room = dictionary_inline id dictionary below in
-      (
+      let room = dictionary_inline id dictionary below in (
         omega (arith, inline_small 4 slots, room, pairs_inline pairs),
         omega (arith, count, pairs_count pairs),
-        (tt, (bit_small nullable, (code_small kind, (type_fits kind own.0 widths.0,
-        dictionary_fits id dictionary below (omega (arith, few)) widths.1 (children_fit (id + ids_for dictionary) kind (omega (arith, few)) parts.1, pairs_fit pairs))))),
+        (
+          tt,
+          (
+            bit_small nullable,
+            (
+              code_small kind,
+              (
+                type_fits kind own.0 widths.0,
+                dictionary_fits id dictionary below (omega (arith, few)) widths.1 (children_fit (id + ids_for dictionary) kind (omega (arith, few)) parts.1, pairs_fit pairs),
+              ),
+            ),
+          ),
+        ),
       )
 
   children_fit : (id : ℕ) (kind : Kind) → id + ids_below kind < 2 ^ 64 → list_all has_numbers (preorder_below kind) ≡ true → FitsAll (child_nodes id kind)
@@ -336,10 +346,20 @@ schema_numbers s limits = both_all (every_column s) (list_all-from_AllPass _ _ l
 
 pub schema_fits : (s : PlainSchema) → IsWithinLimits s → Fits (message_tree SCHEMA (schema_tree s) 0)
 schema_fits s limits =
-    let fields = fields_fit 0 (columns_of s.columns) (omega (arith, schema_ids s limits)) (schema_numbers s limits) in
-    (omega arith, omega arith, (omega arith, (omega arith, (
-      (omega (arith, inline_small 4 (scalar 2 0 (refers (references (field_nodes 0 (columns_of s.columns))) (pairs_slot s.pairs))), pairs_inline s.pairs), omega (arith, pairs_count s.pairs), (omega arith, (fields, pairs_fit s.pairs))),
-      (omega arith, tt)))))
+    let fields = fields_fit 0 (columns_of s.columns) (omega (arith, schema_ids s limits)) (schema_numbers s limits) in (
+      omega arith,
+      omega arith,
+      (
+        omega arith,
+        (
+          omega arith,
+          (
+            (omega (arith, inline_small 4 (scalar 2 0 (refers (references (field_nodes 0 (columns_of s.columns))) (pairs_slot s.pairs))), pairs_inline s.pairs), omega (arith, pairs_count s.pairs), (omega arith, (fields, pairs_fit s.pairs))),
+            (omega arith, tt),
+          ),
+        ),
+      ),
+    )
 
 -- ---- messages
 

@@ -220,10 +220,7 @@ pub fn schema_node(alloc: Global, schema: &Schema) -> Result<Node, AllocError>
 {
     let mut next_id = 0;
     let fields = field_nodes(alloc, &schema.fields, &mut next_id)?;
-    let slots = vec![in alloc;
-        Slot::Short(LITTLE),
-        Slot::Refers(Node::References(fields)),
-    ]?;
+    let slots = vec![in alloc; Slot::Short(LITTLE), Slot::Refers(Node::References(fields))]?;
     table_with_pairs(alloc, slots, &schema.pairs)
 }
 

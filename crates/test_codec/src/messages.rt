@@ -182,7 +182,10 @@ fn assert_written(
         assert!(rt; out.as_slice() == before.as_slice(), "{wanted:?}");
         put(alloc, &mut out, wanted)?;
     }
-    assert!(rt; out.starts_with(&before) && out.get(3..) == Some(bytes), "{wanted:?}");
+    assert!(rt;
+        out.starts_with(&before) && out.get(3..) == Some(bytes),
+        "{wanted:?}"
+    );
     Ok(())
 }
 

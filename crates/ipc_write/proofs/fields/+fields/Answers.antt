@@ -23,11 +23,10 @@ field_node-returns-clause-node t c =
 pub field_nodes-loop-field-preserved : goal.field_nodes-loop-field-preserved
 field_nodes-loop-field-preserved t c =
     let was = c.loop-field.invariant in
-    let made = c.in_ok-field_node.ensures in
-    (
+    let made = c.in_ok-field_node.ensures in (
       nodes_after c.args.fields.now c.loop-field.field-index c.field-item.result c.loop-field.next_id c.field_node.new.next_id c.loop-field.nodes.items c.push.new.self.items c.in_ok-field_node.field-0
-      c.loop-field-test.true c.field-item.is c.in_ok-push.ensures.items made.node made.next
-      ∙ was.0,
+          c.loop-field-test.true c.field-item.is c.in_ok-push.ensures.items made.node made.next
+          ∙ was.0,
       ids_after c.args.fields.now c.loop-field.field-index c.field-item.result c.loop-field.next_id c.field_node.new.next_id c.loop-field-test.true c.field-item.is made.next ∙ was.1,
     )
 
