@@ -1,12 +1,13 @@
--- What reading a run counts and tells.
+-- What reading a run counts and reports.
 use Rattle.std.specs.Prelude.{◌≡◌, ◌≢◌, ◌≤◌, ◌<◌, ◌+◌, ◌-◌, ◌*◌, ◌^◌, ℕ, min, None, Result, Ok, Err}
-use Rattle.sector_dev.specs.Disk.{Image, Story, moment}
+use Rattle.sector_dev.specs.Disk.{Image, Story, moment, now, shown_image}
 use Rattle.sector_dev.specs.declared.device.DevError.{DevError}
 use Rattle.sector_dev.specs.declared.device.DevError.TheVariants.{Failed as DeviceFailed, Unreadable as SectorUnreadable}
 use Rattle.segments.specs.declared.reading.ReadError.{ReadError}
 use Rattle.segments.specs.declared.reading.ReadError.TheVariants.{Failed, Unreadable, OutOfMemory}
+use Rattle.segments.specs.Sectors.{sector_count}
 
--- what a device tells of a sector, as told of the run
+-- what a device reports of a sector, as reported of the run
 abbrev pub read_error : DevError → ReadError
 read_error DeviceFailed = Failed
 read_error SectorUnreadable = Unreadable
@@ -25,3 +26,7 @@ pub record EndsAtSector (error : ReadError) (image : Image) (start count : ℕ) 
   pub before : (j : ℕ) → j < at → image (start + j) ≢ None
   pub unreadable : error ≡ Unreadable → image (start + at) ≡ None
   pub begun : moment new ≤ moment old + 2 * (at + 1)
+
+-- the same of the sectors of so many bytes, as they were before
+abbrev pub EndsInRun : ReadError → ℕ → ℕ → Story → Story → Type 0
+EndsInRun error start bytes old new = EndsAtSector error (shown_image (now old)) start (sector_count bytes) old new

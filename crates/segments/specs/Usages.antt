@@ -3,6 +3,7 @@ use Rattle.std.specs.Prelude.{◌≡◌, ◌≢◌, ◌≤◌, ◌+◌, ◌-◌,
 use Rattle.segments.specs.declared.run.Run.{Run}
 use Rattle.segments.specs.declared.entries.Usage.{Usage}
 use Rattle.segments.specs.declared.entries.UsageEntry.{UsageEntry}
+use Rattle.segments.specs.Runs.{IsFree}
 
 -- the size of a device in sectors, and its runs in use in order
 pub record Space : Type 0 where
@@ -39,6 +40,13 @@ usage_of (e ∷ es) run = if same_run e.run run then e.usage else usage_of es ru
 
 abbrev pub IsUsedIn : List UsageEntry → Run → Type 0
 IsUsedIn es run = is_used (usage_of es run) ≡ true
+
+-- a run is not in use itself, and shares sectors with runs that are; or it is free
+abbrev pub Overlaps : Space → Run → Type 0
+Overlaps space run = (usage_of space.entries run ≡ UNUSED) × (IsFree space.size (IsUsedIn space.entries) run → ⊥)
+
+abbrev pub IsUnused : Space → Run → Type 0
+IsUnused space run = (usage_of space.entries run ≡ UNUSED) × IsFree space.size (IsUsedIn space.entries) run
 
 -- an entry before these, where the run is used
 abbrev pub entry_before : Run → Usage → List UsageEntry → List UsageEntry

@@ -1,6 +1,7 @@
 -- What the writing of runs may touch.
 use Rattle.std.specs.Prelude.{◌≡◌, ◌⊎◌, ◌≤◌, ◌<◌, ◌+◌, ℕ, List, [], ◌∷◌, length, map}
 use Rattle.sector_dev.specs.Disk.{Disk, Story, Image, now, moment, LeftSince, MayHold}
+use Rattle.sector_dev.specs.Time.{Grows}
 use Rattle.segments.specs.declared.run.Run.{Run}
 use Rattle.segments.specs.declared.piece.Piece.{Piece}
 use Rattle.segments.specs.Runs.{OutOf}
@@ -14,6 +15,10 @@ run_for start bytes = record { start = start; count = sector_count (length bytes
 pub record WritesOnly (runs : List Run) (old d : Disk) : Type 0 where
   pub outside : (n : ℕ) → OutOf runs n → d.at n ≡ old.at n
   pub begun : (d ≡ old) ⊎ (old.writes < d.writes)
+
+-- at each moment since then
+abbrev pub OnlyWrites : List Run → Story → Story → Type 0
+OnlyWrites runs old new = Grows (WritesOnly runs (now old)) old new
 
 -- no image left since then holds in a sector outside these runs what none could hold there before
 abbrev pub LeavesOthers : List Run → Story → Story → Type 0

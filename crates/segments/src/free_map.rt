@@ -1,7 +1,7 @@
 // The runs of a device that are in use, and the lowest free one.
 ghost use Rattle.std.specs.Prelude.{◌≡◌, ◌≤◌, ◌↔◌, ◌⊎◌, [], Err, None, Some, IfOk, IfErr, OnOk, OnErr, IsErrOf, IsTrue, true};
 ghost use Rattle.segments.specs.Runs.{IsOnDevice, IsFree, IsLowest};
-ghost use Rattle.segments.specs.Usages.{UNUSED, TAKEN, given, pinned, unpinned, is_used, usage_of, with_run, IsUsedIn, Changes};
+ghost use Rattle.segments.specs.Usages.{UNUSED, TAKEN, given, pinned, unpinned, is_used, usage_of, with_run, IsUsedIn, Overlaps, IsUnused, Changes};
 
 use crate::entries::{change, is_apart, lowest, place_of_run, place_of_start};
 use crate::{EnterError, Run, TakeError, Usage, UsageEntry};
@@ -115,9 +115,9 @@ impl FreeMap {
         ensures pinned { OnOk result (self.new ≡ with_run self.old run (pinned (usage_of self.old.entries run))) }
         ensures changes { OnOk result (Changes self.old self.new run (pinned (usage_of self.old.entries run))) }
         ensures range { IsErrOf result EnterError.Range ↔ (IsOnDevice self.old.size run → ⊥) }
-        ensures overlap { IsErrOf result EnterError.Overlap → (usage_of self.old.entries run ≡ UNUSED) × (IsFree self.old.size (IsUsedIn self.old.entries) run → ⊥) }
+        ensures overlap { IsErrOf result EnterError.Overlap → Overlaps self.old run }
         ensures pins { IsErrOf result EnterError.TooManyPins → (usage_of self.old.entries run).pins ≡ u32.MAX }
-        ensures memory { IsErrOf result EnterError.OutOfMemory → (usage_of self.old.entries run ≡ UNUSED) × IsFree self.old.size (IsUsedIn self.old.entries) run }
+        ensures memory { IsErrOf result EnterError.OutOfMemory → IsUnused self.old run }
         ensures err { OnErr result (self.new ≡ self.old) }
     {
         let usage = self.usage(run);

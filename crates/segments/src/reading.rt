@@ -3,7 +3,7 @@ ghost use Rattle.std.specs.Prelude.{◌≡◌, ◌≢◌, ◌+◌, ◌*◌, ◌�
 ghost use Rattle.sector_dev.specs.Disk.{now, shown_image};
 ghost use Rattle.sector_dev.specs.Time.{OnlyReads};
 ghost use Rattle.segments.specs.Sectors.{sector_count, bytes_at};
-ghost use Rattle.segments.specs.Reading.{CountsRead, EndsAtSector};
+ghost use Rattle.segments.specs.Reading.{CountsRead, EndsInRun};
 
 use sector_dev::{DevError, SECTOR_BYTES, SectorDevice};
 use std::alloc::{AllocError, Global};
@@ -40,7 +40,7 @@ pub fn read_run<D: SectorDevice>(
     ensures length { IfOk result (λ bytes. vec_len bytes ≡ byte_count) }
     ensures found { IfOk result (λ bytes. D.tells ≡ true → bytes_at (shown_image (now (D.story device.old))) start byte_count ≡ Some bytes.items) }
     ensures unreadable { IsErrOf result ReadError.Unreadable → D.tells ≡ true → bytes_at (shown_image (now (D.story device.old))) start byte_count ≡ None }
-    ensures first { IfErr result (λ e. e ≢ ReadError.OutOfMemory → D.tells ≡ true → EndsAtSector e (shown_image (now (D.story device.old))) start (sector_count byte_count) (D.story device.old) (D.story device.new)) }
+    ensures first { IfErr result (λ e. e ≢ ReadError.OutOfMemory → D.tells ≡ true → EndsInRun e start byte_count (D.story device.old) (D.story device.new)) }
     ensures memory { IsErrOf result ReadError.OutOfMemory → D.tells ≡ true → D.story device.new ≡ D.story device.old }
 {
     let count = byte_count.div_ceil(SECTOR_BYTES);

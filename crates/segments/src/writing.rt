@@ -1,10 +1,9 @@
 // Runs of sectors are written.
 ghost use Rattle.std.specs.Prelude.{◌≡◌, ◌+◌, ◌*◌, ◌≤◌, ◌<◌, ◌^◌, ◌∷◌, [], length, true, OnOk, IfErr, Some};
 ghost use Rattle.sector_dev.specs.Disk.{now, shown_image, Counts};
-ghost use Rattle.sector_dev.specs.Time.{Grows};
 ghost use Rattle.segments.specs.Runs.{AreApart};
 ghost use Rattle.segments.specs.Sectors.{sector_count, filled, Holds, bytes_at};
-ghost use Rattle.segments.specs.Writing.{run_for, runs_of, WritesOnly, LeavesOthers, AllFit, HoldsEach};
+ghost use Rattle.segments.specs.Writing.{run_for, runs_of, OnlyWrites, LeavesOthers, AllFit, HoldsEach};
 ghost use Rattle.segments.specs.inner.Rows.{ShowsSectors, sectors_from};
 
 use crate::Piece;
@@ -31,7 +30,7 @@ fn write_sectors<D: SectorDevice>(
     ensures size { D.size device.new ≡ D.size device.old }
     ensures count { Counts (D.failed device.old) (D.failed device.new) result }
     ensures error { IfErr result (λ e. e ≡ DevError.Failed) }
-    ensures moments { D.tells ≡ true → Grows (WritesOnly (sectors_from start (length contents.now)) (now (D.story device.old))) (D.story device.old) (D.story device.new) }
+    ensures moments { D.tells ≡ true → OnlyWrites (sectors_from start (length contents.now)) (D.story device.old) (D.story device.new) }
     ensures shows { OnOk result (D.tells ≡ true → ShowsSectors (shown_image (now (D.story device.new))) start contents.now) }
 {
     for (i, content) in contents.iter().enumerate() {
@@ -50,7 +49,7 @@ pub fn write_run<D: SectorDevice>(device: &mut D, start: u64, bytes: &[u8]) -> R
     ensures size { D.size device.new ≡ D.size device.old }
     ensures count { Counts (D.failed device.old) (D.failed device.new) result }
     ensures error { IfErr result (λ e. e ≡ DevError.Failed) }
-    ensures moments { D.tells ≡ true → Grows (WritesOnly (run_for start bytes.now ∷ []) (now (D.story device.old))) (D.story device.old) (D.story device.new) }
+    ensures moments { D.tells ≡ true → OnlyWrites (run_for start bytes.now ∷ []) (D.story device.old) (D.story device.new) }
     ensures others { D.tells ≡ true → LeavesOthers (run_for start bytes.now ∷ []) (D.story device.old) (D.story device.new) }
     ensures holds { OnOk result (D.tells ≡ true → Holds (shown_image (now (D.story device.new))) start bytes.now) }
     ensures reads { OnOk result (D.tells ≡ true → bytes_at (shown_image (now (D.story device.new))) start (length bytes.now) ≡ Some bytes.now) }
@@ -76,7 +75,7 @@ pub fn write_runs<D: SectorDevice>(device: &mut D, pieces: &[Piece]) -> Result<(
     ensures size { D.size device.new ≡ D.size device.old }
     ensures count { Counts (D.failed device.old) (D.failed device.new) result }
     ensures error { IfErr result (λ e. e ≡ DevError.Failed) }
-    ensures moments { D.tells ≡ true → Grows (WritesOnly (runs_of pieces.now) (now (D.story device.old))) (D.story device.old) (D.story device.new) }
+    ensures moments { D.tells ≡ true → OnlyWrites (runs_of pieces.now) (D.story device.old) (D.story device.new) }
     ensures others { D.tells ≡ true → LeavesOthers (runs_of pieces.now) (D.story device.old) (D.story device.new) }
     ensures holds { OnOk result (D.tells ≡ true → HoldsEach (shown_image (now (D.story device.new))) pieces.now) }
 {

@@ -84,7 +84,7 @@ impl<F: Read + Write + Seek + OpenFile + Drop> FileDevice<F> {
     /// Makes a file of so many sectors of zeros, and opens it as a device.
     ///
     /// # Errors
-    /// `BadSize` where that is outside 16 to 4,194,304, told first; `Io` where something is at the path already, or the
+    /// `BadSize` where that is outside 16 to 4,194,304, reported first; `Io` where something is at the path already, or the
     /// system refuses: then no file is left, unless the system refuses to remove it too.
     pub fn create<R: Files<File = F> + AllocGlobal>(
         rt: &R,

@@ -1,5 +1,5 @@
 -- Laws of runs that share no sector.
-use Rattle.std.proofs.Common.{◌≡◌, ◌⊎◌, inl, inr, ⊎_elim, ◌≤◌, ◌<◌, ◌+◌, ℕ, List, [], ◌∷◌, arith}
+use Rattle.std.proofs.Common.{inl, inr, ⊎_elim, ◌≤◌, ◌<◌, ◌+◌, ℕ, List, [], ◌∷◌, arith}
 use Rattle.segments.specs.Runs.{IsApart, ApartFrom, OutOf}
 use Rattle.segments.specs.declared.run.Run.{Run}
 
