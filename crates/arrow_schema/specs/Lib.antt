@@ -4,6 +4,7 @@ pub mod Preorder
 pub mod Limits
 pub mod Integers
 pub mod Shape
+pub mod OneShape
 pub mod Keywords
 pub mod FieldText
 pub mod Typed

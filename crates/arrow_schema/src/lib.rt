@@ -19,7 +19,9 @@ mod texts;
 mod types;
 
 pub use compare::same_shape;
-pub use laws::{limits_bound_columns, one_column_of_a_text, one_shape_is_an_equivalence};
+pub use laws::{
+    limits_bound_columns, one_column_of_a_text, one_shape_is_an_equivalence, one_shape_is_decided,
+};
 pub use limits::{MAX_DEPTH, MAX_FIELDS, MAX_PAIRS, MAX_TEXT_BYTES, NUMBER_END, SchemaError};
 pub use texts::{ParseError, field_text, parse_fields};
 pub use types::{BitWidth, DataType, DateUnit, DictSpec, Field, IntegerType, Schema, TimeUnit};

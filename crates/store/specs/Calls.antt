@@ -1,0 +1,64 @@
+-- What is asked of a place, which is an open store or a shut device, and what it answers, as plain data.
+use Rattle.std.specs.Prelude.{◌≡◌, ℕ, Bool, true, false, List, Option, Some, None}
+use Rattle.arrow_schema.specs.Column.{PlainSchema}
+use Rattle.cells.specs.Cell.{PlainTable}
+use Rattle.tables.specs.declared.refusal.Refusal.{Refusal}
+use Rattle.tables.specs.declared.refusal.Refusal.TheVariants as refusals
+use Rattle.tables.specs.Commands.{PlainCommand}
+use Rattle.store.specs.declared.opening_refusal.OpeningRefusal.{OpeningRefusal}
+use Rattle.store.specs.declared.opening_refusal.OpeningRefusal.TheVariants as openings
+
+pub data PlainCall : Type 0 where
+  apply_call : PlainCommand → PlainCall
+  format_call : PlainCall
+  open_call : PlainCall
+  close_call : PlainCall
+  tables_call : PlainCall
+  schema_call : (name : List ℕ) → PlainCall
+  read_call : (name : List ℕ) → PlainCall
+  export_call : (name : List ℕ) → PlainCall
+
+pub data PlainReply : Type 0 where
+  -- a command, a formatting, an opening or a closing that was done
+  done : PlainReply
+  -- the names of the tables and how many rows each has
+  counts : List (List ℕ × ℕ) → PlainReply
+  schema_is : PlainSchema → PlainReply
+  table_is : PlainTable → PlainReply
+  -- the bytes of a stream
+  bytes_are : List ℕ → PlainReply
+  refused : Refusal → PlainReply
+  -- a formatting or an opening that was refused: the place is shut
+  shut_by : OpeningRefusal → PlainReply
+
+-- the command that a call carries out
+abbrev pub command_in : PlainCall → Option PlainCommand
+command_in (apply_call c) = Some c
+command_in _ = None
+
+-- the device failed: no other answer counts a failure
+abbrev pub is_failure : Refusal → Bool
+is_failure refusals.Device = true
+is_failure _ = false
+
+abbrev pub is_failed_opening : OpeningRefusal → Bool
+is_failed_opening openings.Device = true
+is_failed_opening _ = false
+
+abbrev pub is_device_reply : PlainReply → Bool
+is_device_reply (refused refusal) = is_failure refusal
+is_device_reply (shut_by refusal) = is_failed_opening refusal
+is_device_reply _ = false
+
+-- after it a command may be done: it was acknowledged, or the device failed in it
+abbrev pub may_be_done : PlainReply → Bool
+may_be_done done = true
+may_be_done (refused refusal) = is_failure refusal
+may_be_done _ = false
+
+-- a call that may write or sync where it is done
+abbrev pub may_change : PlainCall → Bool
+may_change (apply_call c) = true
+may_change format_call = true
+may_change open_call = true
+may_change _ = false

@@ -1,0 +1,40 @@
+-- The commands of a run: those that were called, and those that were acknowledged.
+use Rattle.std.specs.Prelude.{◌≡◌, ◌⊎◌, List, [], ◌∷◌, ◌++◌, Option, Some, None}
+use Rattle.tables.specs.Commands.{PlainCommand}
+use Rattle.store.specs.Calls.{PlainCall, apply_call, format_call, open_call, close_call, tables_call, schema_call, read_call, export_call, PlainReply, done, counts, schema_is, table_is, bytes_are, refused, shut_by}
+
+-- these stand among those, in their order
+abbrev pub InOrder : List PlainCommand → List PlainCommand → Type 0
+InOrder [] ys = Unit {0}
+InOrder (x ∷ xs) [] = ⊥
+InOrder (x ∷ xs) (y ∷ ys) = ((x ≡ y) × InOrder xs ys) ⊎ InOrder (x ∷ xs) ys
+
+abbrev pub in_doubt : Option PlainCommand → List PlainCommand
+in_doubt None = []
+in_doubt (Some c) = c ∷ []
+
+-- the command of a call, if it has one
+abbrev pub called_by : PlainCall → List PlainCommand
+called_by (apply_call c) = c ∷ []
+called_by _ = []
+
+abbrev pub called : List PlainCall → List PlainCommand
+called [] = []
+called (call ∷ calls) = called_by call ++ called calls
+
+-- the command of a call that answered that it is done
+abbrev pub acknowledged_by : PlainCall → PlainReply → List PlainCommand
+acknowledged_by call done = called_by call
+acknowledged_by call _ = []
+
+abbrev pub acknowledged : List PlainCall → List PlainReply → List PlainCommand
+acknowledged [] replies = []
+acknowledged (call ∷ calls) [] = []
+acknowledged (call ∷ calls) (reply ∷ replies) = acknowledged_by call reply ++ acknowledged calls replies
+
+-- how the settled commands grew: by all that were acknowledged, and by none that was not called or in doubt before; with the one in doubt at the end
+pub record Settles (settled settled' : List PlainCommand) (doubt doubt' : Option PlainCommand) (acknowledged called : List PlainCommand) : Type 0 where
+  pub more : List PlainCommand
+  pub grew : settled' ≡ settled ++ more
+  pub kept : InOrder acknowledged more
+  pub only : InOrder (more ++ in_doubt doubt') (in_doubt doubt ++ called)

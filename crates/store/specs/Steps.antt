@@ -1,0 +1,103 @@
+-- What may be answered, by a call that began a write or none, and how the machine goes on. What never comes is impossible here.
+use Rattle.std.specs.Prelude.{◌≡◌, ◌≢◌, ◌⊎◌, ℕ, Bool, true, false, List, [], Option, Some, None, Result, Ok, Err, IsOk}
+use Rattle.cells.specs.Cell.{PlainTable}
+use Rattle.ipc_message.specs.Header.{supported_codes}
+use Rattle.ipc_stream.specs.Meaning.{meaning}
+use Rattle.tables.specs.declared.refusal.Refusal.{Refusal}
+use Rattle.tables.specs.declared.refusal.Refusal.TheVariants as refusals
+use Rattle.tables.specs.Refusals.{Origin, by_tables, by_room, by_memory, by_device, by_halt, elsewhere, origin_of}
+use Rattle.tables.specs.Tables.{table_at, row_counts}
+use Rattle.tables.specs.Commands.{PlainCommand}
+use Rattle.tables.specs.Verdict.{verdict}
+use Rattle.store.specs.declared.opening_refusal.OpeningRefusal.{OpeningRefusal}
+use Rattle.store.specs.declared.opening_refusal.OpeningRefusal.TheVariants as openings
+use Rattle.store.specs.Calls.{PlainCall, apply_call, format_call, open_call, close_call, tables_call, schema_call, read_call, export_call, PlainReply, done, counts, schema_is, table_is, bytes_are, refused, shut_by}
+use Rattle.store.specs.Machine.{Setting, Phase, shut, running, halted, Machine, with_doubt, tables_now, settle, opened, shut_down, halt}
+
+-- nothing was written, and the machine stays as it is
+abbrev pub Stays : Machine → Bool → Machine → Type 0
+Stays m wrote new = (wrote ≡ false) × (new ≡ m)
+
+-- a command, by where its refusal comes from
+abbrev pub RefusesFrom : Origin → Setting → Machine → PlainCommand → Refusal → Bool → Machine → Type 0
+RefusesFrom by_tables s m c r wrote new = (m.phase ≡ running) × (verdict (tables_now s m) c ≡ Err r) × Stays m wrote new
+RefusesFrom by_room s m c r wrote new = (m.phase ≡ running) × IsOk (verdict (tables_now s m) c) × Stays m wrote new
+RefusesFrom by_memory s m c r wrote new = (m.phase ≡ running) × Stays m wrote new
+RefusesFrom by_device s m c r wrote new = (m.phase ≡ running) × (new ≡ halt (apply_call c) wrote m)
+RefusesFrom by_halt s m c r wrote new = (m.phase ≢ running) × Stays m wrote new
+RefusesFrom elsewhere s m c r wrote new = ⊥
+
+abbrev pub StepApply : Setting → Machine → PlainCommand → PlainReply → Bool → Machine → Type 0
+StepApply s m c done wrote new = (m.phase ≡ running) × IsOk (verdict (tables_now s m) c) × (wrote ≡ true) × (new ≡ settle c m)
+StepApply s m c (refused r) wrote new = RefusesFrom (origin_of r) s m c r wrote new
+StepApply s m c _ wrote new = ⊥
+
+-- an opening keeps the doubtful command or drops it
+abbrev pub StepOpen : Setting → Machine → PlainReply → Bool → Machine → Type 0
+StepOpen s m done wrote new = (wrote ≡ false) × ((new ≡ opened m.settled) ⊎ (new ≡ opened (with_doubt m.settled m.doubt)))
+StepOpen s m (shut_by openings.NotAStore) wrote new = (m.started ≡ false) × (wrote ≡ false) × (new ≡ shut_down m)
+StepOpen s m (shut_by openings.Device) wrote new = (wrote ≡ false) × (new ≡ shut_down m)
+StepOpen s m (shut_by openings.OutOfMemory) wrote new = (wrote ≡ false) × (new ≡ shut_down m)
+StepOpen s m _ wrote new = ⊥
+
+abbrev pub StepFormat : Setting → Machine → PlainReply → Bool → Machine → Type 0
+StepFormat s m done wrote new = (m.started ≡ false) × (m.settled ≡ []) × (wrote ≡ true) × (new ≡ opened [])
+StepFormat s m (shut_by openings.AlreadyAStore) wrote new = (wrote ≡ false) × (new ≡ shut_down m)
+StepFormat s m (shut_by openings.OutOfMemory) wrote new = (wrote ≡ false) × (new ≡ shut_down m)
+StepFormat s m (shut_by openings.Device) wrote new = new ≡ shut_down m
+StepFormat s m _ wrote new = ⊥
+
+abbrev pub StepClose : Machine → PlainReply → Bool → Machine → Type 0
+StepClose m done wrote new = (m.phase ≢ shut) × (wrote ≡ false) × (new ≡ shut_down m)
+StepClose m (refused refusals.Halted) wrote new = (m.phase ≡ shut) × Stays m wrote new
+StepClose m _ wrote new = ⊥
+
+-- what a call that reads may be refused by, wherever it reads
+abbrev pub RefusesReading : Machine → PlainCall → Refusal → Bool → Machine → Type 0
+RefusesReading m call refusals.Halted wrote new = (m.phase ≢ running) × Stays m wrote new
+RefusesReading m call refusals.OutOfMemory wrote new = (m.phase ≡ running) × Stays m wrote new
+RefusesReading m call refusals.Device wrote new = (m.phase ≡ running) × (wrote ≡ false) × (new ≡ halt call false m)
+RefusesReading m call _ wrote new = ⊥
+
+-- the names come from what is in memory: no call of the device is made
+abbrev pub StepTables : Setting → Machine → PlainReply → Bool → Machine → Type 0
+StepTables s m (counts ns) wrote new = (m.phase ≡ running) × (ns ≡ row_counts (tables_now s m)) × Stays m wrote new
+StepTables s m (refused refusals.Halted) wrote new = (m.phase ≢ running) × Stays m wrote new
+StepTables s m (refused refusals.OutOfMemory) wrote new = (m.phase ≡ running) × Stays m wrote new
+StepTables s m _ wrote new = ⊥
+
+abbrev pub StepSchema : Setting → Machine → List ℕ → PlainReply → Bool → Machine → Type 0
+StepSchema s m name (schema_is schema) wrote new =
+    (m.phase ≡ running) × ((table : PlainTable) × (table_at (tables_now s m) name ≡ Some table) × (schema ≡ table.schema)) × Stays m wrote new
+StepSchema s m name (refused refusals.NoTable) wrote new = (m.phase ≡ running) × (table_at (tables_now s m) name ≡ None) × Stays m wrote new
+StepSchema s m name (refused refusals.Halted) wrote new = (m.phase ≢ running) × Stays m wrote new
+StepSchema s m name (refused refusals.OutOfMemory) wrote new = (m.phase ≡ running) × Stays m wrote new
+StepSchema s m name _ wrote new = ⊥
+
+abbrev pub StepRead : Setting → Machine → List ℕ → PlainReply → Bool → Machine → Type 0
+StepRead s m name (table_is table) wrote new = (m.phase ≡ running) × (table_at (tables_now s m) name ≡ Some table) × Stays m wrote new
+StepRead s m name (refused refusals.NoTable) wrote new = (m.phase ≡ running) × (table_at (tables_now s m) name ≡ None) × Stays m wrote new
+StepRead s m name (refused r) wrote new = RefusesReading m (read_call name) r wrote new
+StepRead s m name _ wrote new = ⊥
+
+-- the bytes are a stream that means the table
+abbrev pub StepExport : Setting → Machine → List ℕ → PlainReply → Bool → Machine → Type 0
+StepExport s m name (bytes_are bytes) wrote new =
+    (m.phase ≡ running)
+    × ((table : PlainTable) × (table_at (tables_now s m) name ≡ Some table) × (meaning supported_codes bytes ≡ Ok table))
+    × Stays m wrote new
+StepExport s m name (refused refusals.NoTable) wrote new = (m.phase ≡ running) × (table_at (tables_now s m) name ≡ None) × Stays m wrote new
+StepExport s m name (refused refusals.Write) wrote new =
+    (m.phase ≡ running) × ((table : PlainTable) × (table_at (tables_now s m) name ≡ Some table)) × Stays m wrote new
+StepExport s m name (refused r) wrote new = RefusesReading m (export_call name) r wrote new
+StepExport s m name _ wrote new = ⊥
+
+unfoldable pub Step : Setting → Machine → PlainCall → PlainReply → Bool → Machine → Type 0
+Step s m (apply_call c) reply wrote new = StepApply s m c reply wrote new
+Step s m format_call reply wrote new = StepFormat s m reply wrote new
+Step s m open_call reply wrote new = StepOpen s m reply wrote new
+Step s m close_call reply wrote new = StepClose m reply wrote new
+Step s m tables_call reply wrote new = StepTables s m reply wrote new
+Step s m (schema_call name) reply wrote new = StepSchema s m name reply wrote new
+Step s m (read_call name) reply wrote new = StepRead s m name reply wrote new
+Step s m (export_call name) reply wrote new = StepExport s m name reply wrote new

@@ -1,0 +1,4 @@
+pub mod Going
+pub mod Left
+pub mod Counted
+pub mod Settled

@@ -1,0 +1,185 @@
+-- The settled commands of a run: all that were acknowledged, and none that was not called.
+use Rattle.std.specs.Prelude.{◌≡◌, ◌⊎◌, ℕ, Bool, true, false, List, [], ◌∷◌, ◌++◌, Option, Some, None, refl}
+use Rattle.std.proofs.Common.{inl, inr, ap, sym, ◌∙◌, subst, append_assoc, append-nil}
+use Rattle.sector_dev.specs.Disk.{Story, now}
+use Rattle.tables.specs.declared.refusal.Refusal.{Refusal}
+use Rattle.tables.specs.declared.refusal.Refusal.TheVariants as refusals
+use Rattle.tables.specs.Refusals.{Origin, by_tables, by_room, by_memory, by_device, by_halt, elsewhere, origin_of}
+use Rattle.tables.specs.Commands.{PlainCommand}
+use Rattle.store.specs.declared.opening_refusal.OpeningRefusal.{OpeningRefusal}
+use Rattle.store.specs.declared.opening_refusal.OpeningRefusal.TheVariants as openings
+use Rattle.store.specs.Calls.{PlainCall, apply_call, format_call, open_call, close_call, tables_call, schema_call, read_call, export_call, PlainReply, done, counts, schema_is, table_is, bytes_are, refused, shut_by}
+use Rattle.store.specs.Machine.{Setting, Machine, with_doubt, settle, opened, shut_down, halt}
+use Rattle.store.specs.Steps.{RefusesFrom, Step}
+use Rattle.store.specs.Runs.{Goes, Then, Ends, Run}
+use Rattle.store.specs.History.{InOrder, in_doubt, called_by, called, acknowledged_by, acknowledged, Settles}
+
+-- ---- lists in order
+
+all_of : (xs : List PlainCommand) → InOrder xs xs
+all_of [] = tt
+all_of (x ∷ xs) = inl (refl, all_of xs)
+
+own_front : (xs ys : List PlainCommand) → InOrder xs (xs ++ ys)
+own_front [] ys = tt
+own_front (x ∷ xs) ys = inl (refl, own_front xs ys)
+
+skip : (xs : List PlainCommand) (y : PlainCommand) (ys : List PlainCommand) → InOrder xs ys → InOrder xs (y ∷ ys)
+skip [] y ys is = tt
+skip (x ∷ xs) y ys is = inr is
+
+later : (xs ys zs : List PlainCommand) → InOrder xs zs → InOrder xs (ys ++ zs)
+later xs [] zs is = is
+later xs (y ∷ ys) zs is = skip xs y (ys ++ zs) (later xs ys zs is)
+
+front : (zs xs ys : List PlainCommand) → InOrder xs ys → InOrder (zs ++ xs) (zs ++ ys)
+front [] xs ys is = is
+front (z ∷ zs) xs ys is = inl (refl, front zs xs ys is)
+
+behind : (xs ys zs : List PlainCommand) → InOrder xs ys → InOrder (xs ++ zs) (ys ++ zs)
+behind [] ys zs is = later zs ys zs (all_of zs)
+behind (x ∷ xs) [] zs is = absurd is
+behind (x ∷ xs) (y ∷ ys) zs (inl here) = inl (here.0, behind xs ys zs here.1)
+behind (x ∷ xs) (y ∷ ys) zs (inr rest) = inr (behind (x ∷ xs) ys zs rest)
+
+in_turn : (xs ys zs : List PlainCommand) → InOrder xs ys → InOrder ys zs → InOrder xs zs
+in_turn [] ys zs a b = tt
+in_turn (x ∷ xs) [] zs a b = absurd a
+in_turn (x ∷ xs) (y ∷ ys) [] a b = absurd b
+in_turn (x ∷ xs) (y ∷ ys) (z ∷ zs) a (inr b) = inr (in_turn (x ∷ xs) (y ∷ ys) zs a b)
+in_turn (x ∷ xs) (y ∷ ys) (z ∷ zs) (inl a) (inl b) = inl (a.0 ∙ b.0, in_turn xs ys zs a.1 b.1)
+in_turn (x ∷ xs) (y ∷ ys) (z ∷ zs) (inr a) (inl b) = inr (in_turn (x ∷ xs) ys zs a b.1)
+
+-- ---- one call
+
+abbrev Moves : Machine → PlainCall → PlainReply → Machine → Type 0
+Moves m call reply new = Settles m.settled new.settled m.doubt new.doubt (acknowledged_by call reply) (called_by call)
+
+moved : (m : Machine) (call : PlainCall) (reply : PlainReply) (new is : Machine) → new ≡ is → Moves m call reply is → Moves m call reply new
+moved m call reply new is same moves = subst (λ (k : Machine). Moves m call reply k) (sym same) moves
+
+-- the settled commands and the one in doubt are as they were
+same_list : (settled : List PlainCommand) (doubt : Option PlainCommand) (calls : List PlainCommand) → Settles settled settled doubt doubt [] calls
+same_list settled doubt calls = record { more = []; grew = sym (append-nil settled); kept = tt; only = own_front (in_doubt doubt) calls }
+
+-- the one in doubt is dropped
+dropped_list : (settled : List PlainCommand) (doubt : Option PlainCommand) (calls : List PlainCommand) → Settles settled settled doubt None [] calls
+dropped_list settled doubt calls = record { more = []; grew = sym (append-nil settled); kept = tt; only = tt }
+
+-- or settled
+kept_list : (settled : List PlainCommand) (doubt : Option PlainCommand) → Settles settled (with_doubt settled doubt) doubt None [] []
+kept_list settled None = dropped_list settled None []
+kept_list settled (Some c) = record { more = c ∷ []; grew = refl; kept = tt; only = inl (refl, tt) }
+
+settled_one : (settled : List PlainCommand) (doubt : Option PlainCommand) (c : PlainCommand) → Settles settled (settled ++ c ∷ []) doubt None (c ∷ []) (c ∷ [])
+settled_one settled doubt c = record { more = c ∷ []; grew = refl; kept = inl (refl, tt); only = later (c ∷ []) (in_doubt doubt) (c ∷ []) (inl (refl, tt)) }
+
+halted_one : (m : Machine) (c : PlainCommand) (r : Refusal) (wrote : Bool) → Moves m (apply_call c) (refused r) (halt (apply_call c) wrote m)
+halted_one m c r true = record { more = []; grew = sym (append-nil m.settled); kept = tt; only = later (c ∷ []) (in_doubt m.doubt) (c ∷ []) (inl (refl, tt)) }
+halted_one m c r false = same_list m.settled m.doubt (c ∷ [])
+
+formatted_list : (m : Machine) → m.settled ≡ [] → Settles m.settled [] m.doubt None [] []
+formatted_list m none = record { more = []; grew = sym (append-nil m.settled ∙ none); kept = tt; only = tt }
+
+by_origin : (o : Origin) (s : Setting) (m : Machine) (c : PlainCommand) (r : Refusal) (wrote : Bool) (new : Machine) → RefusesFrom o s m c r wrote new → Moves m (apply_call c) (refused r) new
+by_origin by_tables s m c r wrote new step = moved m (apply_call c) (refused r) new m step.2.1 (same_list m.settled m.doubt (c ∷ []))
+by_origin by_room s m c r wrote new step = moved m (apply_call c) (refused r) new m step.2.1 (same_list m.settled m.doubt (c ∷ []))
+by_origin by_memory s m c r wrote new step = moved m (apply_call c) (refused r) new m step.1.1 (same_list m.settled m.doubt (c ∷ []))
+by_origin by_device s m c r wrote new step = moved m (apply_call c) (refused r) new (halt (apply_call c) wrote m) step.1 (halted_one m c r wrote)
+by_origin by_halt s m c r wrote new step = moved m (apply_call c) (refused r) new m step.1.1 (same_list m.settled m.doubt (c ∷ []))
+by_origin elsewhere s m c r wrote new step = absurd step
+
+-- a call without a command, after which both are as they were
+module _ (m : Machine) (new : Machine) where
+  as_it_was : (call : PlainCall) (reply : PlainReply) → called_by call ≡ [] → acknowledged_by call reply ≡ [] → new.settled ≡ m.settled → new.doubt ≡ m.doubt → Moves m call reply new
+  as_it_was call reply none silent settled doubt =
+      record {
+        more = [];
+        grew = settled ∙ sym (append-nil m.settled);
+        kept = subst (λ (xs : List PlainCommand). InOrder xs []) (sym silent) tt;
+        only = subst (λ (d : Option PlainCommand). InOrder (in_doubt d) (in_doubt m.doubt ++ called_by call)) (sym doubt) (own_front (in_doubt m.doubt) (called_by call));
+      }
+
+  is_same : (call : PlainCall) (reply : PlainReply) → called_by call ≡ [] → acknowledged_by call reply ≡ [] → new ≡ m → Moves m call reply new
+  is_same call reply none silent is = as_it_was call reply none silent (ap (λ (k : Machine). k.settled) is) (ap (λ (k : Machine). k.doubt) is)
+
+  is_shut : (call : PlainCall) (reply : PlainReply) → called_by call ≡ [] → acknowledged_by call reply ≡ [] → new ≡ shut_down m → Moves m call reply new
+  is_shut call reply none silent is = as_it_was call reply none silent (ap (λ (k : Machine). k.settled) is) (ap (λ (k : Machine). k.doubt) is)
+
+  is_halted : (call : PlainCall) (reply : PlainReply) → called_by call ≡ [] → acknowledged_by call reply ≡ [] → new ≡ halt call false m → Moves m call reply new
+  is_halted call reply none silent is = as_it_was call reply none silent (ap (λ (k : Machine). k.settled) is) (ap (λ (k : Machine). k.doubt) is)
+
+one_step : (s : Setting) (m : Machine) (call : PlainCall) (reply : PlainReply) (wrote : Bool) (new : Machine) → Step s m call reply wrote new → Moves m call reply new
+unfolding Step
+one_step s m (apply_call c) done wrote new step = moved m (apply_call c) done new (settle c m) step.3 (settled_one m.settled m.doubt c)
+one_step s m (apply_call c) (refused r) wrote new step = by_origin (origin_of r) s m c r wrote new step
+one_step s m (apply_call c) _ wrote new step = absurd step
+one_step s m format_call done wrote new step = moved m format_call done new (opened []) step.3 (formatted_list m step.1)
+one_step s m format_call (shut_by openings.AlreadyAStore) wrote new step = is_shut m new format_call (shut_by openings.AlreadyAStore) refl refl step.1
+one_step s m format_call (shut_by openings.OutOfMemory) wrote new step = is_shut m new format_call (shut_by openings.OutOfMemory) refl refl step.1
+one_step s m format_call (shut_by openings.Device) wrote new step = is_shut m new format_call (shut_by openings.Device) refl refl step
+one_step s m format_call _ wrote new step = absurd step
+one_step s m open_call done wrote new step = by_choice step.1
+  where
+    by_choice : (new ≡ opened m.settled) ⊎ (new ≡ opened (with_doubt m.settled m.doubt)) → Moves m open_call done new
+    by_choice (inl is) = moved m open_call done new (opened m.settled) is (dropped_list m.settled m.doubt [])
+    by_choice (inr is) = moved m open_call done new (opened (with_doubt m.settled m.doubt)) is (kept_list m.settled m.doubt)
+one_step s m open_call (shut_by openings.NotAStore) wrote new step = is_shut m new open_call (shut_by openings.NotAStore) refl refl step.2
+one_step s m open_call (shut_by openings.Device) wrote new step = is_shut m new open_call (shut_by openings.Device) refl refl step.1
+one_step s m open_call (shut_by openings.OutOfMemory) wrote new step = is_shut m new open_call (shut_by openings.OutOfMemory) refl refl step.1
+one_step s m open_call _ wrote new step = absurd step
+one_step s m close_call done wrote new step = is_shut m new close_call done refl refl step.2
+one_step s m close_call (refused refusals.Halted) wrote new step = is_same m new close_call (refused refusals.Halted) refl refl step.1.1
+one_step s m close_call _ wrote new step = absurd step
+one_step s m tables_call (counts ns) wrote new step = is_same m new tables_call (counts ns) refl refl step.2.1
+one_step s m tables_call (refused refusals.Halted) wrote new step = is_same m new tables_call (refused refusals.Halted) refl refl step.1.1
+one_step s m tables_call (refused refusals.OutOfMemory) wrote new step = is_same m new tables_call (refused refusals.OutOfMemory) refl refl step.1.1
+one_step s m tables_call _ wrote new step = absurd step
+one_step s m (schema_call name) (schema_is schema) wrote new step = is_same m new (schema_call name) (schema_is schema) refl refl step.2.1
+one_step s m (schema_call name) (refused refusals.NoTable) wrote new step = is_same m new (schema_call name) (refused refusals.NoTable) refl refl step.2.1
+one_step s m (schema_call name) (refused refusals.Halted) wrote new step = is_same m new (schema_call name) (refused refusals.Halted) refl refl step.1.1
+one_step s m (schema_call name) (refused refusals.OutOfMemory) wrote new step = is_same m new (schema_call name) (refused refusals.OutOfMemory) refl refl step.1.1
+one_step s m (schema_call name) _ wrote new step = absurd step
+one_step s m (read_call name) (table_is table) wrote new step = is_same m new (read_call name) (table_is table) refl refl step.2.1
+one_step s m (read_call name) (refused refusals.NoTable) wrote new step = is_same m new (read_call name) (refused refusals.NoTable) refl refl step.2.1
+one_step s m (read_call name) (refused refusals.Halted) wrote new step = is_same m new (read_call name) (refused refusals.Halted) refl refl step.1.1
+one_step s m (read_call name) (refused refusals.OutOfMemory) wrote new step = is_same m new (read_call name) (refused refusals.OutOfMemory) refl refl step.1.1
+one_step s m (read_call name) (refused refusals.Device) wrote new step = is_halted m new (read_call name) (refused refusals.Device) refl refl step.2
+one_step s m (read_call name) _ wrote new step = absurd step
+one_step s m (export_call name) (bytes_are bytes) wrote new step = is_same m new (export_call name) (bytes_are bytes) refl refl step.2.1
+one_step s m (export_call name) (refused refusals.NoTable) wrote new step = is_same m new (export_call name) (refused refusals.NoTable) refl refl step.2.1
+one_step s m (export_call name) (refused refusals.Write) wrote new step = is_same m new (export_call name) (refused refusals.Write) refl refl step.2.1
+one_step s m (export_call name) (refused refusals.Halted) wrote new step = is_same m new (export_call name) (refused refusals.Halted) refl refl step.1.1
+one_step s m (export_call name) (refused refusals.OutOfMemory) wrote new step = is_same m new (export_call name) (refused refusals.OutOfMemory) refl refl step.1.1
+one_step s m (export_call name) (refused refusals.Device) wrote new step = is_halted m new (export_call name) (refused refusals.Device) refl refl step.2
+one_step s m (export_call name) _ wrote new step = absurd step
+
+-- ---- a run
+
+joined : (a b c : List PlainCommand) (d e f : Option PlainCommand) (ack others calls more : List PlainCommand)
+    → Settles a b d e ack calls → Settles b c e f others more → Settles a c d f (ack ++ others) (calls ++ more)
+joined a b c d e f ack others calls more one two =
+    let left : InOrder (one.more ++ (two.more ++ in_doubt f)) (one.more ++ (in_doubt e ++ more)) = front one.more (two.more ++ in_doubt f) (in_doubt e ++ more) two.only in
+    let right : InOrder ((one.more ++ in_doubt e) ++ more) ((in_doubt d ++ calls) ++ more) = behind (one.more ++ in_doubt e) (in_doubt d ++ calls) more one.only in
+    record {
+      more = one.more ++ two.more;
+      grew = two.grew ∙ ap (λ (xs : List PlainCommand). xs ++ two.more) one.grew ∙ append_assoc a one.more two.more;
+      kept = in_turn (ack ++ others) (one.more ++ others) (one.more ++ two.more) (behind ack one.more others one.kept) (front one.more others two.more two.kept);
+      only =
+          subst (λ (xs : List PlainCommand). InOrder xs (in_doubt d ++ (calls ++ more))) (sym (append_assoc one.more two.more (in_doubt f)))
+          (subst (λ (ys : List PlainCommand). InOrder (one.more ++ (two.more ++ in_doubt f)) ys) (append_assoc (in_doubt d) calls more)
+          (in_turn (one.more ++ (two.more ++ in_doubt f)) (one.more ++ (in_doubt e ++ more)) ((in_doubt d ++ calls) ++ more) left
+          (subst (λ (xs : List PlainCommand). InOrder xs ((in_doubt d ++ calls) ++ more)) (append_assoc one.more (in_doubt e) more) right)));
+    }
+
+pub run_settles : (s : Setting) (calls : List PlainCall) (replies : List PlainReply) (m : Machine) (old : Story) (failed : ℕ) (m' : Machine) (new : Story) (failed' : ℕ)
+    → Run s calls replies m old failed m' new failed' → Settles m.settled m'.settled m.doubt m'.doubt (acknowledged calls replies) (called calls)
+unfolding Run
+run_settles s [] [] m old failed m' new failed' run =
+    subst (λ (k : Machine). Settles m.settled k.settled m.doubt k.doubt [] []) (sym run.machine) (same_list m.settled m.doubt [])
+run_settles s (call ∷ calls) (reply ∷ replies) m old failed m' new failed' run =
+    joined m.settled run.machine.settled m'.settled m.doubt run.machine.doubt m'.doubt (acknowledged_by call reply) (acknowledged calls replies) (called_by call) (called calls)
+    (one_step s m call reply _ run.machine run.goes.step)
+    (run_settles s calls replies run.machine run.story run.failures m' new failed' run.others)
+run_settles s [] (reply ∷ replies) m old failed m' new failed' run = absurd run
+run_settles s (call ∷ calls) [] m old failed m' new failed' run = absurd run

@@ -1,0 +1,43 @@
+// Laws of runs. The functions do nothing: their contracts are the laws.
+ghost use Rattle.std.specs.Prelude.{◌≡◌, ◌<◌, ◌-◌, ◌^◌, ℕ, false, List, [], ◌∷◌, ◌++◌};
+ghost use Rattle.std.specs.List.{list_any};
+ghost use Rattle.sector_dev.specs.Disk.{Story, Image, now, moment, LeftSince};
+ghost use Rattle.sector_dev.specs.Time.{LeavesOnly};
+ghost use Rattle.store.specs.Calls.{PlainCall, PlainReply, is_device_reply};
+ghost use Rattle.store.specs.Machine.{Setting, Machine, Allows};
+ghost use Rattle.store.specs.Runs.{Goes, Run};
+ghost use Rattle.store.specs.Since.{story_at, IsLeftFrom};
+ghost use Rattle.store.specs.History.{called, acknowledged, Settles};
+
+/// An image that a stop may have left since some call of a run began was left before one of the calls from it on, at a moment
+/// of one of them or after the last, and is what the machine of that very moment allows.
+pub fn each_stop_is_allowed()
+    ensures { (s : Setting) (calls : List PlainCall) (replies : List PlainReply) (m : Machine) (old : Story) (failed : ℕ)
+        (m' : Machine) (new : Story) (failed' : ℕ) (run : Run s calls replies m old failed m' new failed') (i : ℕ) (image : Image)
+        → LeavesOnly (Allows s m) (now old) → LeftSince new (moment (story_at s calls replies m old failed m' new failed' run i)) image
+        → IsLeftFrom s calls replies m old failed m' new failed' run i image }
+{}
+
+/// A call by itself is a run, and a run goes on with another one.
+pub fn runs_go_on()
+    ensures one { (s : Setting) (call : PlainCall) (reply : PlainReply) (m next : Machine) (old new : Story) (failed failed' : ℕ)
+        → Goes s m call reply old new failed failed' next → Run s (call ∷ []) (reply ∷ []) m old failed next new failed' }
+    ensures joined { (s : Setting) (calls more : List PlainCall) (replies others : List PlainReply) (m mid m' : Machine) (old between new : Story)
+        (failed failures failed' : ℕ) → Run s calls replies m old failed mid between failures → Run s more others mid between failures m' new failed'
+        → Run s (calls ++ more) (replies ++ others) m old failed m' new failed' }
+{}
+
+/// Where no call of the device failed, no reply says that one did.
+pub fn undisturbed_runs_tell_no_failure()
+    ensures { (s : Setting) (calls : List PlainCall) (replies : List PlainReply) (m : Machine) (old : Story) (failed : ℕ)
+        (m' : Machine) (new : Story) (failed' : ℕ) → Run s calls replies m old failed m' new failed' → failed < 2 ^ 64 - 1
+        → failed' ≡ failed → list_any is_device_reply replies ≡ false }
+{}
+
+/// The settled commands of a run grow by every command that was acknowledged, in order, and by none that was not called; with
+/// the one in doubt at its end they still stand among those that were in doubt or called, in order.
+pub fn acknowledged_commands_are_settled()
+    ensures { (s : Setting) (calls : List PlainCall) (replies : List PlainReply) (m : Machine) (old : Story) (failed : ℕ)
+        (m' : Machine) (new : Story) (failed' : ℕ) → Run s calls replies m old failed m' new failed'
+        → Settles m.settled m'.settled m.doubt m'.doubt (acknowledged calls replies) (called calls) }
+{}

@@ -1,0 +1,27 @@
+-- Commands on tables as plain data.
+use Rattle.std.specs.Prelude.{◌≡◌, ℕ, List, [], ◌∷◌, Result}
+use Rattle.arrow_schema.specs.Column.{PlainSchema}
+use Rattle.arrow_schema.specs.Limits.{IsWithinLimits}
+use Rattle.cells.specs.Cell.{Cell, PlainTable}
+use Rattle.tables.specs.declared.refusal.QueryRefusal.{QueryRefusal}
+
+-- names and streams are bytes
+pub data PlainCommand : Type 0 where
+  create : (name : List ℕ) → PlainSchema → PlainCommand
+  import_stream : (name : List ℕ) → (bytes : List ℕ) → PlainCommand
+  append_stream : (name : List ℕ) → (bytes : List ℕ) → PlainCommand
+  append_rows : (name : List ℕ) → List (List Cell) → PlainCommand
+  -- the query is what it makes of a table, or why it makes nothing of it
+  save_as : (from to : List ℕ) → (PlainTable → Result PlainTable QueryRefusal) → PlainCommand
+  rename : (from to : List ℕ) → PlainCommand
+  drop_table : (name : List ℕ) → PlainCommand
+
+-- the names at which a command may change the tables
+abbrev pub changed_names : PlainCommand → List (List ℕ)
+changed_names (create name schema) = name ∷ []
+changed_names (import_stream name bytes) = name ∷ []
+changed_names (append_stream name bytes) = name ∷ []
+changed_names (append_rows name rows) = name ∷ []
+changed_names (save_as from to query) = to ∷ []
+changed_names (rename from to) = from ∷ to ∷ []
+changed_names (drop_table name) = name ∷ []

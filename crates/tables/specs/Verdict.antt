@@ -1,0 +1,124 @@
+-- What a command makes of the tables, or the first of its tests that fails.
+use Rattle.std.specs.Prelude.{ℕ, Bool, not, ◌&&◌, nat_le, nat_lt, List, [], ◌∷◌, ◌++◌, length, Option, Some, None, Result, Ok, Err, if◌then◌else◌}
+use Rattle.facts.specs.Checks.{when, first_some, unless}
+use Rattle.arrow_schema.specs.Column.{PlainSchema}
+use Rattle.arrow_schema.specs.OneShape.{have_one_shape}
+use Rattle.cells.specs.Cell.{Cell, PlainTable}
+use Rattle.cells.specs.Weight.{table_weight}
+use Rattle.cells.specs.declared.limits.TheConstants.{MAX_TABLE_WEIGHT}
+use Rattle.values.specs.Table.{first_unfit}
+use Rattle.ipc_message.specs.declared.fault.Fault.{Fault}
+use Rattle.ipc_message.specs.Header.{supported_codes}
+use Rattle.ipc_stream.specs.Meaning.{meaning}
+use Rattle.tables.specs.declared.limits.TheConstants.{MAX_TABLES, MAX_IMPORT_BYTES}
+use Rattle.tables.specs.declared.refusal.Limit.TheVariants as limits
+use Rattle.tables.specs.declared.refusal.QueryRefusal.{QueryRefusal}
+use Rattle.tables.specs.declared.refusal.Refusal.{Refusal}
+use Rattle.tables.specs.declared.refusal.Refusal.TheVariants.{NoTable, NameTaken, BadName, SchemaMismatch, Import, RowUnfit, TooMany, Query}
+use Rattle.tables.specs.Names.{is_name}
+use Rattle.tables.specs.Tables.{Tables, table_at, has_table, with_table, without_table, table_count}
+use Rattle.tables.specs.Commands.{PlainCommand, create, import_stream, append_stream, append_rows, save_as, rename, drop_table}
+
+-- ---- the tests
+
+abbrev pub bad_name : List ℕ → Option Refusal
+bad_name name = when (not (is_name name)) BadName
+
+abbrev pub name_taken : Tables → List ℕ → Option Refusal
+name_taken t name = when (has_table t name) NameTaken
+
+-- one table more is one too many, unless it takes the place of another
+abbrev pub too_many_tables : Tables → List ℕ → Option Refusal
+too_many_tables t name = when (not (has_table t name) && nat_le MAX_TABLES (table_count t)) (TooMany limits.Tables)
+
+abbrev pub too_many_bytes : List ℕ → Option Refusal
+too_many_bytes bytes = when (nat_lt MAX_IMPORT_BYTES (length bytes)) (TooMany limits.Bytes)
+
+abbrev pub other_shape : PlainSchema → PlainSchema → Option Refusal
+other_shape own new = when (not (have_one_shape own new)) SchemaMismatch
+
+-- the first row that the schema's tables don't take, counted from 0 among the new rows
+abbrev pub unfit_row : PlainSchema → List (List Cell) → Option Refusal
+unfit_row schema rows = elim (first_unfit schema rows) [ None ↦ None | Some i ↦ Some (RowUnfit i) ]
+
+abbrev pub too_heavy : PlainSchema → List (List Cell) → Option Refusal
+too_heavy schema rows = when (not (nat_le (table_weight schema rows) MAX_TABLE_WEIGHT)) (TooMany limits.Weight)
+
+-- ---- what is found before the effect
+
+-- the table of this name
+abbrev pub of_table : {A : Type 0} → Option PlainTable → (PlainTable → Result A Refusal) → Result A Refusal
+of_table None f = Err NoTable
+of_table (Some table) f = f table
+
+-- the table that a stream means
+abbrev pub of_meaning : {A : Type 0} → Result PlainTable Fault → (PlainTable → Result A Refusal) → Result A Refusal
+of_meaning (Err fault) f = Err (Import fault)
+of_meaning (Ok table) f = f table
+
+-- the table that a query makes
+abbrev pub of_query : {A : Type 0} → Result PlainTable QueryRefusal → (PlainTable → Result A Refusal) → Result A Refusal
+of_query (Err refusal) f = Err (Query refusal)
+of_query (Ok table) f = f table
+
+-- ---- effects
+
+abbrev pub empty_table : PlainSchema → PlainTable
+empty_table schema = record { schema = schema; rows = [] }
+
+-- the rows behind those of a table, under its own schema
+abbrev pub joined : PlainTable → List (List Cell) → PlainTable
+joined table rows = record { schema = table.schema; rows = table.rows ++ rows }
+
+-- a table at a name that is free
+abbrev pub made : Tables → List ℕ → PlainTable → Result Tables Refusal
+made t name table = unless (first_some (bad_name name ∷ name_taken t name ∷ too_many_tables t name ∷ [])) (Ok (with_table t name table))
+
+-- a table at a name, in place of one that stands there
+abbrev pub put : Tables → List ℕ → PlainTable → Result Tables Refusal
+put t name table = unless (too_many_tables t name) (Ok (with_table t name table))
+
+abbrev pub appended : Tables → List ℕ → List (List Cell) → PlainTable → Result Tables Refusal
+appended t name rows table =
+    unless (first_some (unfit_row table.schema rows ∷ too_heavy table.schema (table.rows ++ rows) ∷ [])) (Ok (with_table t name (joined table rows)))
+
+-- the rows of another table of the same shape
+abbrev pub appended_table : Tables → List ℕ → PlainTable → PlainTable → Result Tables Refusal
+appended_table t name table new = unless (other_shape table.schema new.schema) (appended t name new.rows table)
+
+abbrev pub appended_stream : Tables → List ℕ → List ℕ → PlainTable → Result Tables Refusal
+appended_stream t name bytes table = unless (too_many_bytes bytes) (of_meaning (meaning supported_codes bytes) (appended_table t name table))
+
+abbrev pub saved : Tables → List ℕ → (PlainTable → Result PlainTable QueryRefusal) → PlainTable → Result Tables Refusal
+saved t to query table = of_query (query table) (made t to)
+
+abbrev pub renamed : Tables → List ℕ → List ℕ → PlainTable → Result Tables Refusal
+renamed t from to table = unless (first_some (bad_name to ∷ name_taken t to ∷ [])) (Ok (with_table (without_table t from) to table))
+
+abbrev pub dropped : Tables → List ℕ → PlainTable → Result Tables Refusal
+dropped t name table = Ok (without_table t name)
+
+-- ---- the commands
+
+unfoldable pub verdict : Tables → PlainCommand → Result Tables Refusal
+verdict t (create name schema) = made t name (empty_table schema)
+verdict t (import_stream name bytes) =
+    unless (first_some (bad_name name ∷ too_many_bytes bytes ∷ [])) (of_meaning (meaning supported_codes bytes) (put t name))
+verdict t (append_stream name bytes) = of_table (table_at t name) (appended_stream t name bytes)
+verdict t (append_rows name rows) = of_table (table_at t name) (appended t name rows)
+verdict t (save_as from to query) = of_table (table_at t from) (saved t to query)
+verdict t (rename from to) = of_table (table_at t from) (renamed t from to)
+verdict t (drop_table name) = of_table (table_at t name) (dropped t name)
+
+-- the tables after a command: a refused one leaves them as they are
+abbrev pub after_verdict : Tables → Result Tables Refusal → Tables
+after_verdict t (Ok new) = new
+after_verdict t (Err refusal) = t
+
+abbrev pub step : Tables → PlainCommand → Tables
+step t c = after_verdict t (verdict t c)
+
+-- and after a list of commands
+unfoldable pub after : Tables → List PlainCommand → Tables
+after t [] = t
+after t (c ∷ cs) = after (step t c) cs

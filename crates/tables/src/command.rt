@@ -1,0 +1,31 @@
+// What may be asked of a store's tables.
+ghost use Rattle.arrow_schema.specs.View.{schema_of};
+ghost use Rattle.arrow_schema.specs.Limits.{IsWithinLimits};
+
+use arrow_schema::Schema;
+use cells::Row;
+
+/// A table to be made: its name, and its schema, which is within the limits.
+#[derive(Drop)]
+pub struct NewTable {
+    pub name: String,
+    pub schema: Schema,
+    pub ghost within: { IsWithinLimits (schema_of schema) },
+}
+
+/// A change of the tables, with the tests that are made of it in their order.
+#[derive(Drop)]
+pub enum Command {
+    /// A table without rows. S3, S2, S7 Tables.
+    Create(NewTable),
+    /// The table that a stream means, in place of one of this name. S3, S7 Bytes, S5, S7 Tables.
+    ImportStream { name: String, bytes: Vec<u8> },
+    /// The rows that a stream means, behind those of the table. S1, S7 Bytes, S5, S4, S6, S7 Weight.
+    AppendStream { name: String, bytes: Vec<u8> },
+    /// These rows, behind those of the table. S1, S6, S7 Weight.
+    AppendRows { name: String, rows: Vec<Row> },
+    /// S1, S3, S2, also where both names are equal.
+    Rename { from: String, to: String },
+    /// S1.
+    Drop { name: String },
+}

@@ -1,0 +1,50 @@
+// What the definitions say. The functions do nothing: their contracts are the laws.
+ghost use Rattle.std.specs.Prelude.{◌≡◌, ◌≢◌, ℕ, ◌+◌, List, [], ◌∷◌, ◌++◌, Option, Some, None, Result, Ok, Err, IfOk, codes};
+ghost use Rattle.std.specs.List.{Contains};
+ghost use Rattle.arrow_schema.specs.Column.{PlainSchema};
+ghost use Rattle.cells.specs.Cell.{Cell, PlainTable};
+ghost use Rattle.cells.specs.Weight.{table_weight};
+ghost use Rattle.tables.specs.declared.refusal.Refusal.{Refusal};
+ghost use Rattle.tables.specs.declared.refusal.Refusal.TheVariants.{NoTable, NameTaken, BadName};
+ghost use Rattle.tables.specs.Tables.{Tables, no_tables, table_at, with_table, without_table};
+ghost use Rattle.tables.specs.Commands.{PlainCommand, create, append_rows, rename, drop_table, changed_names};
+ghost use Rattle.tables.specs.Verdict.{verdict, step, after, joined, empty_table};
+ghost use Rattle.tables.specs.Refusals.{origin_of, by_tables};
+
+/// A command that is refused leaves the tables as they are.
+pub fn a_refused_command_changes_nothing()
+    ensures { (t : Tables) (c : PlainCommand) (r : Refusal) → verdict t c ≡ Err r → step t c ≡ t }
+{}
+
+/// No other name's table changes.
+pub fn a_command_changes_its_names_alone()
+    ensures { (t : Tables) (c : PlainCommand) (name : List ℕ) → ¬ Contains (changed_names c) name → table_at (step t c) name ≡ table_at t name }
+{}
+
+/// Commands one after another: those in front, and then the others.
+pub fn commands_in_turn()
+    ensures { (t : Tables) (cs ds : List PlainCommand) → after t (cs ++ ds) ≡ after (after t cs) ds }
+{}
+
+/// A command whose refusal the tables decide is never told one that they don't.
+pub fn refusals_of_the_tables()
+    ensures { (t : Tables) (c : PlainCommand) (r : Refusal) → verdict t c ≡ Err r → origin_of r ≡ by_tables }
+{}
+
+/// Rows that are joined weigh together what they weigh by themselves.
+pub fn joined_rows_weigh_together()
+    ensures { (s : PlainSchema) (a b : List (List Cell)) → table_weight s (a ++ b) ≡ table_weight s a + table_weight s b }
+{}
+
+/// Rows that are appended stand behind those of the table, all of them, and a table is found at the name that it was given.
+pub fn worked_commands()
+    ensures appended { (t u : Tables) (name : List ℕ) (table : PlainTable) (rows : List (List Cell)) → table_at t name ≡ Some table
+        → verdict t (append_rows name rows) ≡ Ok u → u ≡ with_table t name (joined table rows) }
+    ensures created { (t u : Tables) (name : List ℕ) (s : PlainSchema) → verdict t (create name s) ≡ Ok u → u ≡ with_table t name (empty_table s) }
+    ensures found { (t : Tables) (name : List ℕ) (table : PlainTable) → table_at (with_table t name table) name ≡ Some table }
+    ensures away { (t : Tables) (name : List ℕ) → table_at (without_table t name) name ≡ None }
+    ensures renamed_to_itself { (t : Tables) (table : PlainTable) → table_at t (codes "t") ≡ Some table
+        → verdict t (rename (codes "t") (codes "t")) ≡ Err NameTaken }
+    ensures dropped_twice { (t : Tables) → verdict (without_table t (codes "t")) (drop_table (codes "t")) ≡ Err NoTable }
+    ensures bad_name { (t : Tables) (s : PlainSchema) → verdict t (create (codes "a b") s) ≡ Err BadName }
+{}

@@ -1,0 +1,25 @@
+//! Named tables as a finite map, and what commands make of them. No device is known here.
+//!
+//! A command is judged by the tables alone: `verdict` (`specs/Verdict.antt`) is the tables after it, or the first of its
+//! tests that fails, and `after` goes over a list of commands. Promised are laws of these words for the crates above
+//! ([`a_refused_command_changes_nothing`], [`a_command_changes_its_names_alone`], [`commands_in_turn`]), and how a
+//! [`Refusal`] is reported.
+//!
+//! ```
+//! assert_eq!(format!(in alloc; "refused {}", Refusal::NoRoom(1))?, "refused S8 NoRoom 1");
+//! ```
+#![tactic(auto)]
+
+mod command;
+mod laws;
+mod limits;
+mod refusal;
+mod refusal_text;
+
+pub use command::{Command, NewTable};
+pub use laws::{
+    a_command_changes_its_names_alone, a_refused_command_changes_nothing, commands_in_turn,
+    joined_rows_weigh_together, refusals_of_the_tables, worked_commands,
+};
+pub use limits::{MAX_IMPORT_BYTES, MAX_TABLES};
+pub use refusal::{Limit, QueryRefusal, Refusal};
