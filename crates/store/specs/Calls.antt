@@ -1,5 +1,5 @@
 -- What is asked of a place, which is an open store or a shut device, and what it answers, as plain data.
-use Rattle.std.specs.Prelude.{◌≡◌, ℕ, Bool, true, false, List, Option, Some, None}
+use Rattle.std.specs.Prelude.{ℕ, Bool, true, false, List, Option, Some, None}
 use Rattle.arrow_schema.specs.Column.{PlainSchema}
 use Rattle.cells.specs.Cell.{PlainTable}
 use Rattle.tables.specs.declared.refusal.Refusal.{Refusal}

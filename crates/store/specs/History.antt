@@ -1,7 +1,7 @@
 -- The commands of a run: those that were called, and those that were acknowledged.
 use Rattle.std.specs.Prelude.{◌≡◌, ◌⊎◌, List, [], ◌∷◌, ◌++◌, Option, Some, None}
 use Rattle.tables.specs.Commands.{PlainCommand}
-use Rattle.store.specs.Calls.{PlainCall, apply_call, format_call, open_call, close_call, tables_call, schema_call, read_call, export_call, PlainReply, done, counts, schema_is, table_is, bytes_are, refused, shut_by}
+use Rattle.store.specs.Calls.{PlainCall, apply_call, PlainReply, done}
 
 -- these stand among those, in their order
 abbrev pub InOrder : List PlainCommand → List PlainCommand → Type 0

@@ -1,5 +1,5 @@
 -- How a run is judged: by the commands that are settled, at most one in doubt, and whether a store is open.
-use Rattle.std.specs.Prelude.{◌≡◌, ◌⊎◌, ◌++◌, ◌&&◌, ℕ, Bool, true, false, if◌then◌else◌, nat_lt, List, [], ◌∷◌, Option, Some, None}
+use Rattle.std.specs.Prelude.{◌≡◌, ◌⊎◌, ◌++◌, ◌&&◌, Bool, true, false, if◌then◌else◌, nat_lt, List, [], ◌∷◌, Option, Some, None}
 use Rattle.sector_dev.specs.Disk.{Disk, Image}
 use Rattle.sector_dev.specs.Time.{LeavesOnly}
 use Rattle.tables.specs.Tables.{Tables}

@@ -1,5 +1,5 @@
 -- Calls one after another.
-use Rattle.std.specs.Prelude.{◌≡◌, ◌+◌, ◌-◌, ◌^◌, ℕ, min, Bool, true, false, if◌then◌else◌, List, [], ◌∷◌}
+use Rattle.std.specs.Prelude.{◌≡◌, ◌+◌, ◌-◌, ◌^◌, ℕ, min, Bool, false, if◌then◌else◌, List, [], ◌∷◌}
 use Rattle.sector_dev.specs.Disk.{Story, now}
 use Rattle.sector_dev.specs.Time.{Grows, LeavesOnly}
 use Rattle.store.specs.Calls.{PlainCall, PlainReply, done, is_device_reply, may_change}

@@ -1,9 +1,9 @@
 -- What a stop at some moment of a run may leave. All is said of the one run: its machines, its stories and the moments of its calls.
-use Rattle.std.specs.Prelude.{◌≡◌, ◌⊎◌, ℕ, zero, suc, List, [], ◌∷◌}
+use Rattle.std.specs.Prelude.{◌⊎◌, ℕ, zero, suc, List, [], ◌∷◌}
 use Rattle.sector_dev.specs.Disk.{Disk, Story, Image, now, MayLeave, Somewhere}
 use Rattle.store.specs.Calls.{PlainCall, PlainReply}
 use Rattle.store.specs.Machine.{Setting, Machine, Allows, AllowsAt}
-use Rattle.store.specs.Runs.{Goes, Then, Ends, Run}
+use Rattle.store.specs.Runs.{Run}
 
 -- between two calls: the image is what the machine allows
 pub record IsBetween (s : Setting) (m : Machine) (story : Story) (image : Image) : Type 0 where

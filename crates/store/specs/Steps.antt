@@ -1,5 +1,5 @@
 -- What may be answered, by a call that began a write or none, and how the machine goes on. What never comes is impossible here.
-use Rattle.std.specs.Prelude.{◌≡◌, ◌≢◌, ◌⊎◌, ℕ, Bool, true, false, List, [], Option, Some, None, Result, Ok, Err, IsOk}
+use Rattle.std.specs.Prelude.{◌≡◌, ◌≢◌, ◌⊎◌, ℕ, Bool, true, false, List, [], Some, None, Ok, Err, IsOk}
 use Rattle.cells.specs.Cell.{PlainTable}
 use Rattle.ipc_message.specs.Header.{supported_codes}
 use Rattle.ipc_stream.specs.Meaning.{meaning}
@@ -9,10 +9,9 @@ use Rattle.tables.specs.Refusals.{Origin, by_tables, by_room, by_memory, by_devi
 use Rattle.tables.specs.Tables.{table_at, row_counts}
 use Rattle.tables.specs.Commands.{PlainCommand}
 use Rattle.tables.specs.Verdict.{verdict}
-use Rattle.store.specs.declared.opening_refusal.OpeningRefusal.{OpeningRefusal}
 use Rattle.store.specs.declared.opening_refusal.OpeningRefusal.TheVariants as openings
 use Rattle.store.specs.Calls.{PlainCall, apply_call, format_call, open_call, close_call, tables_call, schema_call, read_call, export_call, PlainReply, done, counts, schema_is, table_is, bytes_are, refused, shut_by}
-use Rattle.store.specs.Machine.{Setting, Phase, shut, running, halted, Machine, with_doubt, tables_now, settle, opened, shut_down, halt}
+use Rattle.store.specs.Machine.{Setting, shut, running, Machine, with_doubt, tables_now, settle, opened, shut_down, halt}
 
 -- nothing was written, and the machine stays as it is
 abbrev pub Stays : Machine → Bool → Machine → Type 0

@@ -1,7 +1,6 @@
 -- Commands on tables as plain data.
-use Rattle.std.specs.Prelude.{◌≡◌, ℕ, List, [], ◌∷◌, Result}
+use Rattle.std.specs.Prelude.{ℕ, List, [], ◌∷◌, Result}
 use Rattle.arrow_schema.specs.Column.{PlainSchema}
-use Rattle.arrow_schema.specs.Limits.{IsWithinLimits}
 use Rattle.cells.specs.Cell.{Cell, PlainTable}
 use Rattle.tables.specs.declared.refusal.QueryRefusal.{QueryRefusal}
 

@@ -1,11 +1,11 @@
 -- Where no call of the device failed, no reply says that one did.
 use Rattle.std.specs.Prelude.{◌≡◌, ◌≤◌, ◌<◌, ◌+◌, ◌-◌, ◌^◌, ◌||◌, ℕ, min, Bool, true, false, if◌then◌else◌, List, [], ◌∷◌, refl}
 use Rattle.std.specs.List.{list_any}
-use Rattle.std.proofs.Common.{ap, sym, ◌∙◌, subst, arith}
+use Rattle.std.proofs.Common.{sym, ◌∙◌, subst, arith}
 use Rattle.sector_dev.specs.Disk.{Story}
 use Rattle.store.specs.Calls.{PlainCall, PlainReply, is_device_reply}
 use Rattle.store.specs.Machine.{Setting, Machine}
-use Rattle.store.specs.Runs.{Goes, Then, Ends, counted, Run}
+use Rattle.store.specs.Runs.{Run}
 
 -- a number of failures that is counted up, or stays
 abbrev count_up : Bool → ℕ → ℕ

@@ -1,12 +1,12 @@
 -- Runs one after another.
-use Rattle.std.specs.Prelude.{◌≡◌, ℕ, List, [], ◌∷◌, ◌++◌, refl}
+use Rattle.std.specs.Prelude.{ℕ, List, [], ◌∷◌, ◌++◌, refl}
 use Rattle.std.proofs.Common.{sym, subst}
 use Rattle.sector_dev.specs.Disk.{Story}
 use Rattle.sector_dev.specs.Time.{Grows}
 use Rattle.sector_dev.specs.laws.Time.{stays, goes_on, weaken}
 use Rattle.store.specs.Calls.{PlainCall, PlainReply}
 use Rattle.store.specs.Machine.{Setting, Machine}
-use Rattle.store.specs.Runs.{Goes, Then, Ends, Run}
+use Rattle.store.specs.Runs.{Goes, Run}
 
 -- a run goes on with another one
 pub runs_joined : (s : Setting) (calls more : List PlainCall) (replies others : List PlainReply) (m mid m' : Machine) (old between new : Story) (failed failures failed' : ℕ)

@@ -2,11 +2,11 @@
 use Rattle.std.specs.Prelude.{◌≡◌, ◌⊎◌, ◌+◌, ◌-◌, ℕ, zero, suc, List, [], ◌∷◌, ◌++◌, length, take, refl}
 use Rattle.std.proofs.Common.{inl, inr, ⊎_elim, ap, sym, ◌∙◌, subst, arith, length-append}
 use Rattle.sector_dev.specs.Disk.{Disk, Story, Image, now, moment, MayLeave, Each, Somewhere, LeftSince}
-use Rattle.sector_dev.specs.Time.{Grows, LeavesOnly}
+use Rattle.sector_dev.specs.Time.{LeavesOnly}
 use Rattle.store.specs.Calls.{PlainCall, PlainReply}
 use Rattle.store.specs.Machine.{Setting, Machine, Allows, AllowsEach}
-use Rattle.store.specs.Runs.{Goes, Then, Ends, Run}
-use Rattle.store.specs.Since.{IsBetween, IsWithin, IsLeftIn, story_at, IsLeftFrom}
+use Rattle.store.specs.Runs.{Run}
+use Rattle.store.specs.Since.{IsWithin, IsLeftIn, story_at, IsLeftFrom}
 use Rattle.store.specs.laws.Going.{run_grows}
 
 -- ---- moments of two stretches of time

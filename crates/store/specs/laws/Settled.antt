@@ -1,17 +1,16 @@
 -- The settled commands of a run: all that were acknowledged, and none that was not called.
 use Rattle.std.specs.Prelude.{◌≡◌, ◌⊎◌, ℕ, Bool, true, false, List, [], ◌∷◌, ◌++◌, Option, Some, None, refl}
 use Rattle.std.proofs.Common.{inl, inr, ap, sym, ◌∙◌, subst, append_assoc, append-nil}
-use Rattle.sector_dev.specs.Disk.{Story, now}
+use Rattle.sector_dev.specs.Disk.{Story}
 use Rattle.tables.specs.declared.refusal.Refusal.{Refusal}
 use Rattle.tables.specs.declared.refusal.Refusal.TheVariants as refusals
 use Rattle.tables.specs.Refusals.{Origin, by_tables, by_room, by_memory, by_device, by_halt, elsewhere, origin_of}
 use Rattle.tables.specs.Commands.{PlainCommand}
-use Rattle.store.specs.declared.opening_refusal.OpeningRefusal.{OpeningRefusal}
 use Rattle.store.specs.declared.opening_refusal.OpeningRefusal.TheVariants as openings
 use Rattle.store.specs.Calls.{PlainCall, apply_call, format_call, open_call, close_call, tables_call, schema_call, read_call, export_call, PlainReply, done, counts, schema_is, table_is, bytes_are, refused, shut_by}
 use Rattle.store.specs.Machine.{Setting, Machine, with_doubt, settle, opened, shut_down, halt}
 use Rattle.store.specs.Steps.{RefusesFrom, Step}
-use Rattle.store.specs.Runs.{Goes, Then, Ends, Run}
+use Rattle.store.specs.Runs.{Run}
 use Rattle.store.specs.History.{InOrder, in_doubt, called_by, called, acknowledged_by, acknowledged, Settles}
 
 -- ---- lists in order

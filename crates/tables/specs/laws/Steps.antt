@@ -1,5 +1,5 @@
 -- What follows from a verdict.
-use Rattle.std.specs.Prelude.{◌≡◌, ◌≢◌, ◌<◌, ◌+◌, ◌&&◌, ℕ, Bool, true, false, not, nat_le, nat_lt, List, [], ◌∷◌, ◌++◌, length, Option, Some, None, IfSome, IfErr, Result, Ok, Err, Contains, if◌then◌else◌, refl}
+use Rattle.std.specs.Prelude.{◌≡◌, ◌≢◌, ◌&&◌, ℕ, Bool, true, false, not, nat_le, nat_lt, List, [], ◌∷◌, ◌++◌, length, Option, Some, None, IfSome, IfErr, Result, Ok, Err, Contains, refl}
 use Rattle.std.proofs.Common.{ap, ◌∙◌, sym, subst, arith}
 use Rattle.facts.specs.Checks.{when, first_some, unless}
 use Rattle.arrow_schema.specs.OneShape.{have_one_shape}
@@ -12,11 +12,11 @@ use Rattle.ipc_message.specs.Header.{supported_codes}
 use Rattle.ipc_stream.specs.Meaning.{meaning}
 use Rattle.tables.specs.declared.refusal.QueryRefusal.{QueryRefusal}
 use Rattle.tables.specs.declared.refusal.Refusal.{Refusal}
-use Rattle.tables.specs.declared.refusal.Refusal.TheVariants.{NoTable, NameTaken, BadName, SchemaMismatch, Import, Query, RowUnfit, TooMany}
+use Rattle.tables.specs.declared.refusal.Refusal.TheVariants.{NameTaken, BadName, SchemaMismatch, RowUnfit, TooMany}
 use Rattle.tables.specs.declared.refusal.Limit.TheVariants as limits
 use Rattle.tables.specs.declared.limits.TheConstants.{MAX_TABLES, MAX_IMPORT_BYTES}
 use Rattle.tables.specs.Names.{is_name}
-use Rattle.tables.specs.Refusals.{Origin, by_tables, origin_of}
+use Rattle.tables.specs.Refusals.{by_tables, origin_of}
 use Rattle.tables.specs.Tables.{Tables, table_at, has_table, with_table, without_table, table_count}
 use Rattle.tables.specs.Commands.{PlainCommand, create, import_stream, append_stream, append_rows, save_as, rename, drop_table, changed_names}
 use Rattle.tables.specs.Verdict.{bad_name, name_taken, too_many_tables, too_many_bytes, other_shape, unfit_row, too_heavy, of_table, of_meaning, of_query, empty_table, joined, made, put, appended, appended_table, appended_stream, saved, renamed, dropped, verdict, after_verdict, step, after}
