@@ -32,7 +32,7 @@ use Rattle.columns.proofs.Found.{fit_there, boolean_found, integer_found, text_f
 
 -- ---- parts
 
-has_parts : (fs : Columns) (cs : Cells) → each_fits fs cs ≡ true → has_each_part fs (cell_list cs) ≡ true
+pub has_parts : (fs : Columns) (cs : Cells) → each_fits fs cs ≡ true → has_each_part fs (cell_list cs) ≡ true
 unfolding fits
 has_parts no_column no_cell h = refl
 has_parts no_column (and_cell c cs) h = cc

@@ -9,3 +9,6 @@ pub mod Integers
 pub mod Found
 pub mod BuiltCells
 pub mod ReadArrays
+pub mod Weights
+pub mod Nulls
+pub mod Pieces

@@ -1,7 +1,12 @@
 // What the definitions say.
-ghost use Rattle.std.specs.Prelude.{◌≡◌, true, List, length};
-ghost use Rattle.arrow_schema.specs.Column.{Column, Columns};
+ghost use Rattle.std.specs.Prelude.{◌≡◌, ◌≤◌, true, List, length};
+ghost use Rattle.std.specs.List.{AllPass};
+ghost use Rattle.arrow_schema.specs.Column.{Column, Columns, PlainSchema, columns_of};
+ghost use Rattle.arrow_schema.specs.Limits.{IsWithinLimits};
 ghost use Rattle.cells.specs.Cell.{Cell};
+ghost use Rattle.cells.specs.Dictionary.{dictionaries_fit};
+ghost use Rattle.cells.specs.Row.{is_row};
+ghost use Rattle.cells.specs.Weight.{table_weight};
 ghost use Rattle.columns.specs.Array.{Arrays};
 ghost use Rattle.columns.specs.Buffers.{nodes_of, buffers_of};
 ghost use Rattle.columns.specs.FromBuffers.{arrays_from};
@@ -10,6 +15,8 @@ ghost use Rattle.columns.specs.Buildable.{can_build, can_build_rows};
 ghost use Rattle.columns.specs.Built.{built, built_parts};
 ghost use Rattle.columns.specs.CellAt.{cells_in, rows_in};
 ghost use Rattle.columns.specs.laws.WorkedCases.{Integers, PaddedBuffers, RightCount, WrongCount, Texts, Booleans, FixedBinaries, LargeTexts, Dates, Timestamps, Lists, SoundLists, FixedLists, Structs, HiddenNull, VisibleNull, Dictionaries, Replaced, Appended, NullBeforeDictionary, IndexBeforeDictionary, NegativeIndex, NullEntry, WrittenLists, WrittenFixedLists, WrittenStructs, WrittenDictionaries, WrittenWithoutEntries, ReadAgain};
+
+use cells::MAX_TABLE_WEIGHT;
 
 /// The worked cases of the definitions.
 #[tactic(auto, unfolding(crate::specs::CellAt::cell_at, crate::specs::CellAt::kind_cell, crate::specs::CellAt::part_cells, crate::specs::Visible::visible, crate::specs::Visible::visible_below, crate::specs::Visible::visible_parts, crate::specs::Visible::visible_in, crate::specs::Sound::is_sound, crate::specs::Sound::has_sound_children, crate::specs::Tests::arrays_at, crate::specs::Built::built))]
@@ -61,4 +68,10 @@ pub fn listed_reads_back()
     ensures arrays { (columns : Columns) (arrays : Arrays) → HaveLayouts columns arrays
         → arrays_from columns (nodes_of columns arrays) (buffers_of columns arrays) (dictionary_arrays columns arrays) ≡ arrays }
     ensures written { (columns : Columns) (rows : List (List Cell)) → HaveLayouts columns (built_parts columns rows) }
+{}
+
+/// Rows that a table takes can be built, where their dictionaries have room for the values of all of them.
+pub fn rows_can_be_built()
+    ensures { (s : PlainSchema) (rows : List (List Cell)) → IsWithinLimits s → AllPass (is_row s) rows → table_weight s rows ≤ MAX_TABLE_WEIGHT
+        → dictionaries_fit s rows ≡ true → can_build_rows (columns_of s.columns) rows ≡ true }
 {}
