@@ -1,6 +1,6 @@
 -- The columns of an accepted schema are those of its fields, and within the limits.
-use Rattle.std.proofs.Common.{◌≡◌, ℕ, ◌+◌, ◌≤◌, max, Bool, true, false, ◌&&◌, List, [], ◌∷◌, ◌++◌, length, refl, ap, sym, ◌∙◌, map, arith}
-use Rattle.std.specs.Prelude.{Option, Some, None, is_some, unwrap_or, option_map, nat_lt, not, ◌||◌, sum_by, flat_map}
+use Rattle.std.proofs.Common.{◌≡◌, ℕ, ◌+◌, ◌≤◌, max, Bool, true, false, ◌&&◌, List, [], ◌∷◌, ◌++◌, length, refl, ap, sym, ◌∙◌, subst, map, arith}
+use Rattle.std.specs.Prelude.{Option, Some, None, Ok, is_some, unwrap_or, option_map, nat_lt, not, ◌||◌, sum_by, flat_map}
 use Rattle.std.specs.List.{list_any, list_all}
 use Rattle.std.specs.Str.{is_utf8}
 use Rattle.std.proofs.lemmas.List.{length-map, map-append}
@@ -8,7 +8,8 @@ use Rattle.std.proofs.lemmas.List.Concat.{flat_map-cons}
 use Rattle.std.proofs.lemmas.List.Sums.{sum_by-cons, sum_by-append, AllPass-from_list_all}
 use Rattle.std.proofs.lemmas.List.Folds.{list_any-append, list_all-append}
 use Rattle.arrow_schema.specs.declared.limits.TheConstants.{MAX_FIELDS, MAX_DEPTH, MAX_PAIRS, MAX_TEXT_BYTES}
-use Rattle.arrow_schema.specs.Column.{Pair, Column, nulls, columns_of, is_bit_width}
+use Rattle.facts.specs.laws.Checks.{unless_passed}
+use Rattle.arrow_schema.specs.Column.{Pair, Column, PlainSchema, nulls, columns_of, is_bit_width}
 use Rattle.arrow_schema.specs.Preorder as columns
 use Rattle.arrow_schema.specs.Preorder.{every_column, preorder_below, depth_below}
 use Rattle.arrow_schema.specs.Limits as limits
@@ -18,8 +19,9 @@ use Rattle.ipc_message.specs.Raw.{RawParameters, RawEncoding, RawField, RawField
 use Rattle.ipc_message.specs.Fields.{preorder, preorder_all, every_field, depth, depth_all, pairs_of}
 use Rattle.ipc_message.specs.Types.{type_name, decoded_type}
 use Rattle.ipc_message.specs.Convert.{index_of, column_of_field, columns_of_fields, plain_schema_of}
-use Rattle.ipc_message.specs.Checks.{is_bad, is_index_type, timezone_of, texts_of_pairs, texts_of_field, texts_of, count_of_pairs, is_dictionary_of_nested}
-use Rattle.ipc_message.specs.laws.Accepted.{IsAccepted}
+use Rattle.ipc_message.specs.Checks.{is_bad, is_index_type, timezone_of, texts_of_pairs, texts_of_field, texts_of, count_of_pairs, is_dictionary_of_nested, schema_checks, checked_schema}
+use Rattle.ipc_message.specs.Framing.{first_some}
+use Rattle.ipc_message.specs.laws.Accepted.{IsAccepted, accepted}
 use Rattle.ipc_message.specs.inner.Readable.{AreReadable}
 use Rattle.ipc_message.proofs.Shapes.{HasShape, decoded_shape}
 
@@ -176,3 +178,11 @@ accepted_readable s a = record { decoded = a.decoded; utf8 = (and_parts _ _ (sym
 
 pub accepted_pairs : (s : RawSchema) → IsAccepted s → list_all is_utf8 (texts_of_pairs s.pairs) ≡ true
 accepted_pairs s a = (and_parts _ _ (sym (list_all-append is_utf8 (texts_of_pairs s.pairs) _) ∙ a.utf8)).0
+
+-- and so is the one that a schema that passes its checks decodes to
+pub checked_within : (supported : ℕ → Bool) (raw : RawSchema) (s : PlainSchema) → checked_schema supported raw ≡ Ok s → IsWithinLimits s
+unfolding checked_schema
+checked_within supported raw s h =
+    let passed = unless_passed (first_some (schema_checks supported raw)) (Ok (plain_schema_of raw)) s h in
+    let is : plain_schema_of raw ≡ s = cc (passed.1) in
+    subst IsWithinLimits is (accepted_within raw (accepted supported raw passed.0))

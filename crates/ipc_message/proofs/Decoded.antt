@@ -1,6 +1,6 @@
 -- What is known of a field that decodes to a type, and whose texts are UTF-8.
 use Rattle.std.proofs.Common.{◌≡◌, ℕ, Bool, true, false, ◌&&◌, List, [], ◌∷◌, ◌++◌, length, refl, ap, sym, ◌∙◌, map}
-use Rattle.std.specs.Prelude.{Option, is_some, not, flat_map, ◌||◌}
+use Rattle.std.specs.Prelude.{Option, is_some, flat_map}
 use Rattle.std.specs.List.{list_any, list_all}
 use Rattle.std.specs.Str.{is_utf8}
 use Rattle.arrow_schema.specs.Column.{Index, Pair, Kind, Column, column}

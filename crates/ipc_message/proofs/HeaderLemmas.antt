@@ -13,7 +13,7 @@ use Rattle.ipc_message.specs.declared.walk_error.WalkError.TheVariants as errors
 use Rattle.ipc_message.specs.Framing.{flat_fault, header_type, type_of, message_table}
 use Rattle.ipc_message.specs.Header.{supported_codes, header, header_of, header_slot, header_things, header_by_type, things_by_type, needed_things, decoded, type_in}
 use Rattle.ipc_message.specs.View.{raw_header_of}
-use Rattle.ipc_message.specs.inner.Walked.{Tells, Decodes}
+use Rattle.ipc_message.specs.inner.Walked.{ReportsWalk, Decodes}
 
 -- the header's table is bad
 pub header_absent : (metadata : List ℕ) (e : FlatError) → run metadata (needed_things (MAX_LEVELS - 1) metadata (header_slot metadata)) 1 ≡ Err e → header supported_codes metadata ≡ Err (flat_fault e)
@@ -22,7 +22,7 @@ header_absent metadata e bad = ap (λ r. decoded r (header_of supported_codes me
 
 -- what a walk over a header of this type says, where its table is fine
 after_table : (metadata : List ℕ) (m k : ℕ) (r : Result Header WalkError) → run metadata (needed_things (MAX_LEVELS - 1) metadata (header_slot metadata)) 1 ≡ Ok m
-    → Tells metadata (things_by_type supported_codes (MAX_LEVELS - 2) metadata (table_behind metadata (header_slot metadata)) (type_in metadata)) m k r
+    → ReportsWalk metadata (things_by_type supported_codes (MAX_LEVELS - 2) metadata (table_behind metadata (header_slot metadata)) (type_in metadata)) m k r
     → IfOk r (λ h. raw_header_of h ≡ header_of supported_codes metadata) → Decodes r (header supported_codes metadata)
 unfolding header header_things
 after_table metadata m k (Ok h) fine walked read = ap (λ r. decoded r (header_of supported_codes metadata)) (run_ok metadata _ _ 1 m fine ∙ walked) ∙ ap Ok (sym read)
@@ -32,12 +32,12 @@ after_table metadata m k (Err (errors.Flat f)) fine walked read = ap (λ r. deco
 -- the same, said of a table of the code
 pub header_there : (metadata there : List ℕ) (m k left : ℕ) (t : Place) (ty : HeaderType) (r : Result Header WalkError) → run metadata (needed_things (MAX_LEVELS - 1) metadata (header_slot metadata)) 1 ≡ Ok m
     → there ≡ metadata → left ≡ (MAX_LEVELS - 2) → table_behind metadata (header_slot metadata) ≡ Some t → header_type (type_of metadata) ≡ Some ty
-    → Tells there (things_by_type supported_codes left there (Some t) ty) m k r → IfOk r (λ h. raw_header_of h ≡ header_by_type supported_codes left there (Some t) ty)
+    → ReportsWalk there (things_by_type supported_codes left there (Some t) ty) m k r → IfOk r (λ h. raw_header_of h ≡ header_by_type supported_codes left there (Some t) ty)
     → Decodes r (header supported_codes metadata)
 unfolding header_of
 header_there metadata there m k left t ty r fine same levels here its_type walked read =
     let at_type : ty ≡ type_in metadata = sym (ap (λ o. unwrap_or o RecordBatch) its_type) in
-    let Walked : List ℕ → ℕ → Option Place → HeaderType → Type 0 = λ b l p y. Tells b (things_by_type supported_codes l b p y) m k r in
+    let Walked : List ℕ → ℕ → Option Place → HeaderType → Type 0 = λ b l p y. ReportsWalk b (things_by_type supported_codes l b p y) m k r in
     let Read : List ℕ → ℕ → Option Place → HeaderType → Type 0 = λ b l p y. IfOk r (λ h. raw_header_of h ≡ header_by_type supported_codes l b p y) in
     after_table metadata m k r fine
     (subst (Walked metadata (MAX_LEVELS - 2) (table_behind metadata (header_slot metadata))) at_type (subst (λ p. Walked metadata (MAX_LEVELS - 2) p ty) (sym here) (subst (λ l. Walked metadata l (Some t) ty) levels (subst (λ b. Walked b left (Some t) ty) same walked))))

@@ -1,7 +1,6 @@
 -- How deep fields go, against a number of levels.
-use Rattle.std.proofs.Common.{◌≡◌, ◌≢◌, ℕ, ◌+◌, ◌-◌, max, false, ◌&&◌, ap, map, ◌∙◌, arith}
+use Rattle.std.proofs.Common.{◌≡◌, ◌≢◌, ℕ, ◌+◌, ◌-◌, false, ap, map, ◌∙◌}
 use Rattle.std.specs.Prelude.{nat_le}
-use Rattle.std.proofs.lemmas.Bool.Decides.{nat_tests}
 use Rattle.facts.specs.laws.Levels.{nat_le_max, nat_le_down, nat_le_none}
 use Rattle.ipc_message.specs.declared.raw_header.RawField.{RawField, out-RawField}
 use Rattle.ipc_message.specs.declared.raw_header.RawField.TheFolds.{fold_out-RawField}

@@ -10,3 +10,5 @@ mod FramedLemmas
 mod Decoded
 mod Shapes
 mod Columns
+mod Deciding
+mod Firsts

@@ -1,5 +1,5 @@
 -- The front, where its mark and size pass, is what the metadata says.
-use Rattle.std.proofs.Common.{◌≡◌, ℕ, ◌+◌, ◌-◌, List, [], ◌∷◌, ◌++◌, length, take, drop, Option, None, Some, Ok, Err, false, eqb, refl, sym, ap, ◌∙◌, arith}
+use Rattle.std.proofs.Common.{◌≡◌, ℕ, ◌+◌, ◌-◌, List, length, take, drop, None, Some, Ok, Err, false, eqb, refl, sym, ap, ◌∙◌, arith}
 use Rattle.std.proofs.lemmas.List.{take_rest, drop-drop}
 use Rattle.facts.specs.laws.Checks.{first_some-after, first_some-before}
 use Rattle.ipc_message.specs.declared.fault.Fault.{Fault}

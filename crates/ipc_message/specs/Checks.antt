@@ -1,5 +1,5 @@
 -- The tests of a schema in their order: the first that finds something is reported (docs/definitions/streams.md).
-use Rattle.std.specs.Prelude.{ℕ, ◌+◌, Bool, true, false, not, ◌&&◌, ◌||◌, ◌==◌, nat_lt, List, [], ◌∷◌, ◌++◌, flat_map, length, sum_by, Option, Some, None, option_map, is_some, find, Result, Ok, Err}
+use Rattle.std.specs.Prelude.{ℕ, ◌+◌, Bool, true, false, not, ◌&&◌, ◌||◌, ◌==◌, nat_lt, List, [], ◌∷◌, ◌++◌, flat_map, length, sum_by, Option, Some, None, option_map, is_some, find, Result, Ok}
 use Rattle.std.specs.List.{list_any, list_all}
 use Rattle.std.specs.Str.{is_utf8}
 use Rattle.ipc_message.specs.declared.fault.TypeName.{TypeName}
@@ -8,7 +8,7 @@ use Rattle.ipc_message.specs.declared.type_codes.TheConstants.{NONE, INT}
 use Rattle.ipc_message.specs.declared.fault.Fault.{Fault}
 use Rattle.ipc_message.specs.declared.fault.Fault.TheVariants.{NotYet, BigEndian, TypeNotHeld, BadParameter, SchemaLimit, NotUtf8, DictionaryId, DictionaryOfNested}
 use Rattle.arrow_schema.specs.declared.limits.TheConstants.{MAX_FIELDS, MAX_DEPTH, MAX_PAIRS, MAX_TEXT_BYTES}
-use Rattle.arrow_schema.specs.Column.{Pair, PlainSchema}
+use Rattle.arrow_schema.specs.Column.{PlainSchema}
 pub use Rattle.arrow_schema.specs.Limits.{texts_of_pairs}
 use Rattle.arrow_schema.specs.Integers.{is_bit_width}
 use Rattle.ipc_message.specs.Raw.{RawParameters, RawEncoding, RawField, raw_fields_of, timestamp_parameters, RawSchema}

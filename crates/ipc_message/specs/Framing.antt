@@ -1,5 +1,5 @@
 -- How messages stand one after another (Arrow columnar format, "Encapsulated message format"; Message.fbs). Every number is little-endian.
-use Rattle.std.specs.Prelude.{◌≡◌, ℕ, ◌+◌, ◌^◌, Bool, not, List, [], ◌∷◌, ◌++◌, length, drop, take, Option, Some, None, Result, Ok, Err, nat_lt, nat_eq, ◌==◌, if◌then◌else◌, is_none, ◌≤◌, ◌<◌}
+use Rattle.std.specs.Prelude.{◌≡◌, ℕ, ◌+◌, ◌^◌, not, List, [], ◌∷◌, ◌++◌, length, drop, take, Option, Some, None, Result, Ok, Err, nat_lt, nat_eq, ◌==◌, if◌then◌else◌, is_none, ◌≤◌, ◌<◌}
 use Rattle.std.specs.List.{starts_with}
 use Rattle.byteorder.specs.Endian.{little_number}
 pub use Rattle.facts.specs.Checks.{when, first_some, unless}
@@ -124,7 +124,7 @@ next_message bytes =
     else unless (first_some (size_faults bytes ++ message_faults (metadata_in bytes) (length (after_metadata bytes))))
     (Ok (message_with (metadata_in bytes) (after_metadata bytes))))
 
--- the fault that a result tells
+-- the fault that a result reports
 abbrev pub fault_of : {X : Type 0} → Result X Fault → Option Fault
 fault_of (Ok x) = None
 fault_of (Err f) = Some f

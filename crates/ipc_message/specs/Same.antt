@@ -1,5 +1,5 @@
 -- Whether two fields have one dictionary id, and whether they have one type: its parameters, and its children in full, ids apart.
-use Rattle.std.specs.Prelude.{ℕ, Bool, true, false, not, ◌&&◌, ◌==◌, bytes_eq, List, [], ◌∷◌, Option, Some, None, is_none}
+use Rattle.std.specs.Prelude.{ℕ, Bool, true, false, ◌&&◌, ◌==◌, bytes_eq, List, [], ◌∷◌, Option, Some, None, is_none}
 use Rattle.std.specs.Bool.{beq}
 use Rattle.arrow_schema.specs.Column.{Pair}
 use Rattle.ipc_message.specs.Raw.{RawParameters, no_parameters, integer_parameters, byte_width, list_size, date_unit, timestamp_parameters, RawEncoding, RawField, RawFields, raw_field, no_raw_field, and_raw_field}

@@ -1,3 +1,4 @@
+pub mod Firsts
 pub mod Listed
 pub mod Readable
 pub mod Tables

@@ -1,22 +1,11 @@
 // Whether two fields have values of one type.
 ghost use Rattle.std.specs.Prelude.{◌≡◌, map};
 ghost use Rattle.ipc_message.specs.Raw.{raw_fields_of};
-ghost use Rattle.ipc_message.specs.Same.{one_id, same_parameters, same_index, same_pairs, same_parts, same_field, same_fields, same_value_type};
-ghost use Rattle.ipc_message.specs.Fields.{dictionary_of};
+ghost use Rattle.ipc_message.specs.Same.{same_parameters, same_index, same_pairs, same_parts, same_field, same_fields, same_value_type};
 ghost use Rattle.ipc_message.specs.View.{raw_field_of, key_value, parameters_of, encoding_of};
 ghost use Rattle.std.specs.Prelude.{option_map};
 
 use crate::raw_header::{Encoding, KeyValue, Parameters, RawField};
-
-/// Whether both have a dictionary, of one id.
-pub(crate) fn have_one_id(one: &RawField, other: &RawField) -> bool
-    ensures { result ≡ one_id (dictionary_of (raw_field_of one.now)) (dictionary_of (raw_field_of other.now)) }
-{
-    match (&one.dictionary, &other.dictionary) {
-        (Some(d), Some(e)) => d.id == e.id,
-        _ => false,
-    }
-}
 
 fn have_same_parameters(one: &Parameters, other: &Parameters) -> bool
     ensures { result ≡ same_parameters (parameters_of one.now) (parameters_of other.now) }

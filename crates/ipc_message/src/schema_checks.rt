@@ -1,12 +1,15 @@
 // The tests of a schema in their order, and the first that finds something.
-ghost use Rattle.std.specs.Prelude.{find, ◌≡◌, ◌+◌, ◌||◌, ◌==◌, not, map, length, sum_by, nat_le, nat_lt, option_map, is_some, Some};
+ghost use Rattle.std.specs.Prelude.{find, ◌≡◌, ◌+◌, ◌||◌, ◌==◌, not, map, length, sum_by, nat_le, nat_lt, option_map, is_some, IfOk};
+ghost use Rattle.std.specs.BTreeMap.{get};
 ghost use Rattle.std.specs.List.{list_any};
+ghost use Rattle.std.specs.Ordering.{nat_cmp};
 ghost use Rattle.ipc_message.specs.Raw.{raw_fields_of};
 ghost use Rattle.ipc_message.specs.Fields.{every_field, depth, depth_all, pairs_of, dictionary_of};
 ghost use Rattle.ipc_message.specs.Header.{supported_codes};
 ghost use Rattle.ipc_message.specs.Framing.{first_some, unless};
-ghost use Rattle.ipc_message.specs.Checks.{is_unsupported, name_of_type, is_bad, texts_of, count_of_pairs, exceeds_limit, has_other_type, has_two_types, is_nested, is_dictionary_of_nested, is_not_yet, schema_checks};
+ghost use Rattle.ipc_message.specs.Checks.{is_unsupported, name_of_type, is_bad, texts_of, count_of_pairs, exceeds_limit, has_two_types, is_nested, is_dictionary_of_nested, is_not_yet, schema_checks};
 ghost use Rattle.ipc_message.specs.View.{raw_field_of, raw_schema_of};
+ghost use Rattle.ipc_message.specs.inner.Firsts.{Adds};
 ghost use Rattle.ipc_message.specs.inner.Listed.{listed, text_list};
 ghost use Rattle.ipc_message.specs.Outcome.{Gives};
 
@@ -14,12 +17,13 @@ use crate::error::ImportError;
 use crate::fault::{Fault, TypeName};
 use crate::fields::{FieldRef, every_field};
 use crate::raw_header::{RawField, RawSchema};
-use crate::same::{have_one_id, have_same_value_type};
+use crate::same::have_same_value_type;
 use crate::texts::{are_longer, are_utf8, list_texts};
 use crate::type_checks::is_bad;
 use crate::type_codes::{INT, NONE, is_supported, type_name};
 use arrow_schema::{MAX_DEPTH, MAX_FIELDS, MAX_PAIRS, MAX_TEXT_BYTES};
-use std::alloc::Global;
+use std::alloc::{AllocError, Global};
+use std::collections::BTreeMap;
 
 fn unsupported_type(fields: &[FieldRef]) -> Option<TypeName>
     ensures { result ≡ option_map name_of_type (find (is_unsupported supported_codes) (listed fields.now)) }
@@ -94,28 +98,32 @@ fn exceeds_limit(schema: &RawSchema, fields: &[FieldRef], texts: &[&[u8]]) -> bo
         || are_longer(texts, MAX_TEXT_BYTES)
 }
 
-#[tactic(auto, unfolding(crate::specs::Checks::has_other_type))]
-fn has_other_type(field: &RawField, fields: &[FieldRef]) -> bool
-    ensures { result ≡ has_other_type (listed fields.now) (raw_field_of field.now) }
+// The place of the first field of a dictionary id: that of an earlier field, or this one's.
+fn first_of(firsts: &mut BTreeMap<u64, usize>, id: u64, place: usize) -> Result<usize, AllocError>
+    ensures { IfOk result (λ first. Adds (get nat_cmp firsts.old) (get nat_cmp firsts.new) id place first) }
 {
-    for place in fields {
-        let other = place.field;
-        if have_one_id(field, other) && !have_same_value_type(field, other) {
-            return true;
-        }
+    if let Some(first) = firsts.get(&id) {
+        return Ok(*first);
     }
-    false
+    firsts.insert(id, place)?;
+    Ok(place)
 }
 
-fn has_two_types(fields: &[FieldRef]) -> bool
-    ensures { result ≡ has_two_types (listed fields.now) }
+// Each field is compared with the first of its dictionary id alone.
+fn has_two_types(alloc: Global, fields: &[FieldRef]) -> Result<bool, AllocError>
+    ensures { IfOk result (λ b. b ≡ has_two_types (listed fields.now)) }
 {
-    for place in fields {
-        if has_other_type(place.field, fields) {
-            return true;
+    let mut firsts = BTreeMap::new(alloc);
+    for i in 0..fields.len() {
+        let field = fields[i].field;
+        if let Some(dictionary) = &field.dictionary {
+            let first = first_of(&mut firsts, dictionary.id, i)?;
+            if !have_same_value_type(fields[first].field, field) {
+                return Ok(true);
+            }
         }
     }
-    false
+    Ok(false)
 }
 
 fn is_nested(name: TypeName) -> bool
@@ -152,29 +160,34 @@ fn has_not_yet(fields: &[FieldRef]) -> bool
 }
 
 #[tactic(auto, unfolding(crate::specs::Checks::schema_checks))]
-fn first_fault(schema: &RawSchema, fields: &[FieldRef], texts: &[&[u8]]) -> Option<Fault>
+fn first_fault(
+    alloc: Global,
+    schema: &RawSchema,
+    fields: &[FieldRef],
+    texts: &[&[u8]],
+) -> Result<Option<Fault>, AllocError>
     requires every_field { listed fields.now ≡ every_field (raw_schema_of schema.now) }
     requires every_text { text_list texts.now ≡ texts_of (raw_schema_of schema.now) }
-    ensures { result ≡ first_some (schema_checks supported_codes (raw_schema_of schema.now)) }
+    ensures { IfOk result (λ fault. fault ≡ first_some (schema_checks supported_codes (raw_schema_of schema.now))) }
 {
     if schema.endianness != 0 {
-        Some(Fault::BigEndian)
+        Ok(Some(Fault::BigEndian))
     } else if let Some(name) = unsupported_type(fields) {
-        Some(Fault::TypeNotHeld(name))
+        Ok(Some(Fault::TypeNotHeld(name)))
     } else if has_bad(fields) {
-        Some(Fault::BadParameter)
+        Ok(Some(Fault::BadParameter))
     } else if exceeds_limit(schema, fields, texts) {
-        Some(Fault::SchemaLimit)
+        Ok(Some(Fault::SchemaLimit))
     } else if !are_utf8(texts) {
-        Some(Fault::NotUtf8)
-    } else if has_two_types(fields) {
-        Some(Fault::DictionaryId)
+        Ok(Some(Fault::NotUtf8))
+    } else if has_two_types(alloc, fields)? {
+        Ok(Some(Fault::DictionaryId))
     } else if has_dictionary_of_nested(fields) {
-        Some(Fault::DictionaryOfNested)
+        Ok(Some(Fault::DictionaryOfNested))
     } else if !schema.pairs.is_empty() || has_not_yet(fields) {
-        Some(Fault::NotYet)
+        Ok(Some(Fault::NotYet))
     } else {
-        None
+        Ok(None)
     }
 }
 
@@ -184,7 +197,7 @@ pub(crate) fn check_schema(alloc: Global, schema: &RawSchema) -> Result<(), Impo
 {
     let fields = every_field(alloc, &schema.fields)?;
     let texts = list_texts(alloc, &schema.pairs, &fields)?;
-    match first_fault(schema, &fields, &texts) {
+    match first_fault(alloc, schema, &fields, &texts)? {
         Some(fault) => Err(ImportError::Fault(fault)),
         None => Ok(()),
     }

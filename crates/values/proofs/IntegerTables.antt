@@ -1,9 +1,8 @@
 -- So many rows of integer columns are a table: they fit, and each weighs one and one for each column.
-use Rattle.std.specs.Prelude.{slice_index, ◌==◌, IsTrue}
+use Rattle.std.specs.Prelude.{◌==◌, IsTrue}
 use Rattle.std.specs.List.{list_all}
-use Rattle.std.proofs.Common.{◌≡◌, ℕ, zero, suc, ◌+◌, ◌*◌, ◌≤◌, ◌<◌, Bool, true, List, [], ◌∷◌, map, length, drop, None, refl, ap, sym, ◌∙◌, arith, length-append}
+use Rattle.std.proofs.Common.{◌≡◌, ℕ, zero, suc, ◌+◌, ◌*◌, ◌≤◌, Bool, true, List, [], ◌∷◌, map, length, None, refl, ap, sym, ◌∙◌, arith}
 use Rattle.std.proofs.lemmas.Bool.{and_from, and_parts, le-leb}
-use Rattle.std.proofs.lemmas.List.{get_or-drop}
 use Rattle.std.proofs.lemmas.List.Sums.{sum_by-cons, AllPass-from_list_all}
 use Rattle.facts.specs.laws.Bytes.{drop-bytes}
 use Rattle.facts.specs.Bytes.{AreBytes}
@@ -13,7 +12,6 @@ use Rattle.byteorder.specs.Numbers.{little_from-lt}
 use Rattle.arrow_schema.specs.Column.{Column, column, integers, columns_of, PlainSchema}
 use Rattle.arrow_schema.specs.Integers.{is_integer_column, is_integer_schema, is_bit_width, is_empty, AreIntegers}
 use Rattle.arrow_schema.specs.Limits.{IsWithinLimits}
-use Rattle.arrow_schema.specs.Preorder.{preorder, preorder_below, preorder_all}
 use Rattle.arrow_schema.specs.laws.IntegerCases.{integer_case}
 use Rattle.cells.specs.Cell.{Cell, Cells, cells_of}
 use Rattle.values.specs.Columns.{cell_at, row_at, rows_from}

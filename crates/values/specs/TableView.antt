@@ -1,4 +1,4 @@
--- What a table of the code is, and how an answer tells a refusal.
+-- What a table of the code is, and how a call reports a refusal.
 use Rattle.std.specs.Prelude.{◌≡◌, List, drop, Result, Err}
 use Rattle.values.specs.declared.table.Table.{Table}
 use Rattle.values.specs.declared.rows.Rows.{Rows}
@@ -15,7 +15,7 @@ table_of t = table_with t.schema t.rows t.content
 abbrev pub rows_left : Rows → List (List Cell)
 rows_left it = drop it.next (table_of it.table.now).rows
 
--- the code tells what is: memory may be wanting whatever it is
+-- the code reports what is: memory may be wanting whatever it is
 abbrev pub Reports : TableError → Result PlainTable Refusal → Type 0
 Reports (Unfit i) r = r ≡ Err (unfit i)
 Reports Weight r = r ≡ Err too_heavy

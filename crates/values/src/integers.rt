@@ -98,7 +98,7 @@ pub(crate) fn are_integers(cells: &[Value]) -> bool
     true
 }
 
-// Of 128 bits, so that the bytes of any number of rows can be told.
+// Of 128 bits, which hold the bytes of any number of rows.
 fn has_rows(field: &Field, values: &[u8], rows: usize) -> bool
     ensures { result ≡ (length values.now == rows * (integer_column (column_of field.now)).width) }
 {

@@ -5,7 +5,8 @@ ghost use Rattle.arrow_schema.specs.Integers.{is_integer_schema};
 ghost use Rattle.arrow_schema.specs.Limits.{IsWithinLimits};
 ghost use Rattle.cells.specs.Cell.{Cell, PlainTable};
 ghost use Rattle.values.specs.Table.{IsTable, table_from};
-ghost use Rattle.values.specs.IntegerTable.{plain_table, IsIntegerTable};
+ghost use Rattle.values.specs.IntegerRows.{AllBytes};
+ghost use Rattle.values.specs.IntegerTable.{integer_columns, have_rows, plain_table, IsIntegerTable};
 ghost use Rattle.cells.specs.Weight.{row_weight, table_weight};
 
 use cells::MAX_TABLE_WEIGHT;
@@ -29,6 +30,12 @@ pub fn tables_are_joined_and_cut()
 /// A table that is kept as integer columns is one of integers alone.
 pub fn integer_columns_are_integer_tables()
     ensures { (s : PlainSchema) (values : List (List ℕ)) (rows : ℕ) → IsTrue (is_integer_schema s) → IsIntegerTable (plain_table s values rows) }
+{}
+
+/// Integer columns that have the bytes of so many rows are a table, where the rows are not too heavy together.
+pub fn integer_columns_are_tables()
+    ensures { (s : PlainSchema) (values : List (List ℕ)) (rows : ℕ) → IsWithinLimits s → IsTrue (is_integer_schema s) → IsTrue (have_rows (integer_columns s) values rows)
+        → AllBytes values → rows * (1 + length s.columns) ≤ MAX_TABLE_WEIGHT → IsTable (plain_table s values rows) }
 {}
 
 /// Each row of integer columns weighs one, and one for each column.

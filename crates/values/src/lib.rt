@@ -1,8 +1,8 @@
 //! Tables in memory.
 //!
 //! Contracts see of a [`Table`] its schema and its rows alone, however it keeps them. A table's rows fit its schema, and
-//! they and the whole are within the limits of weight and of dictionaries; whoever makes one is told the first row that
-//! is not. Values and rows are those of `cells`.
+//! they and the whole are within the limits of weight and of dictionaries; where a row is not, the first such row is
+//! reported. Values and rows are those of `cells`.
 //!
 //! ```
 //! let row = Row { cells: vec![in alloc; Value::Int(7)]? };
@@ -30,8 +30,8 @@ pub use cells::{
 };
 pub use errors::TableError;
 pub use laws::{
-    accepted_rows_are_a_table, integer_columns_are_integer_tables, integer_rows_weigh_alike,
-    tables_are_joined_and_cut,
+    accepted_rows_are_a_table, integer_columns_are_integer_tables, integer_columns_are_tables,
+    integer_rows_weigh_alike, tables_are_joined_and_cut,
 };
 pub use rows::Rows;
 pub use table::Table;

@@ -17,14 +17,14 @@ abbrev pub WalkFails : WalkError → Result ℕ FlatError → Type 0
 WalkFails errors.Memory walked = ⊤
 WalkFails (errors.Flat f) walked = walked ≡ Err f
 
--- from so many tables to so many, what a result tells of the walk over the things
-abbrev pub Tells : {X : Type 0} → List ℕ → List Thing → ℕ → ℕ → Result X WalkError → Type 0
-Tells bytes things old new (Ok x) = run bytes things old ≡ Ok new
-Tells bytes things old new (Err e) = WalkFails e (run bytes things old)
+-- from so many tables to so many, what a result reports of the walk over the things
+abbrev pub ReportsWalk : {X : Type 0} → List ℕ → List Thing → ℕ → ℕ → Result X WalkError → Type 0
+ReportsWalk bytes things old new (Ok x) = run bytes things old ≡ Ok new
+ReportsWalk bytes things old new (Err e) = WalkFails e (run bytes things old)
 
 -- the same of a call that enters tables
 abbrev pub WalksUnlessRefused : {X : Type 0} → List ℕ → List Thing → Budget → Budget → Result X WalkError → Type 0
-WalksUnlessRefused bytes things old new result = Tells bytes things (tables_in old) (tables_in new) result
+WalksUnlessRefused bytes things old new result = ReportsWalk bytes things (tables_in old) (tables_in new) result
 
 -- the header is the one that is decoded, or the error the one that is reported, unless memory ran out
 abbrev pub Decodes : Result Header WalkError → Result RawHeader Fault → Type 0
