@@ -2,3 +2,5 @@ pub mod Texts
 pub mod Rules
 pub mod Moments
 pub mod Formatted
+pub mod Told
+pub mod Counted

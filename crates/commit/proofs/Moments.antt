@@ -12,7 +12,7 @@ use Rattle.segments.specs.declared.piece.Piece.{Piece}
 use Rattle.commit.specs.declared.sector.Commit.{Commit}
 use Rattle.commit.specs.Sector.{commit_at}
 use Rattle.commit.specs.Ruling.{ruling, Rests}
-use Rattle.commit.specs.Publishing.{IsOutside, IsOldOrNew, IsPublishing, IsPublished}
+use Rattle.commit.specs.Publishing.{IsOutside, IsOldOrNew, IsPublishing, IsPublished, IsRuledBy}
 use Rattle.commit.proofs.Rules.{same_rules, new_rules, old_rules}
 
 -- a commit sector lies in no run
@@ -25,7 +25,7 @@ slot_low n = omega arith
 
 module _ (old new : Commit) (pieces : List Piece) (d0 : Disk) (above : StartFrom 2 (runs_of pieces)) (next : new.epoch ≡ old.epoch + 1) (rests : Rests d0 old) where
   abbrev pub P : Disk → Type 0
-  P = IsPublishing d0 old new pieces
+  P = IsPublishing d0 new pieces (IsRuledBy old) (IsRuledBy new)
 
   abbrev slot : ℕ
   slot = new.epoch % 2
@@ -43,12 +43,12 @@ module _ (old new : Commit) (pieces : List Piece) (d0 : Disk) (above : StartFrom
         begun = w.begun;
         leaves = λ image may. record {
           outside = λ n out. outside image may n out.0;
-          rules = inl (same_rules (synced_image d0) image (outside image may 0 (out_of_commits pieces 0 (omega arith) above)) (outside image may 1 (out_of_commits pieces 1 (omega arith) above)) ∙ rests.rules);
+          which = inl (same_rules (synced_image d0) image (outside image may 0 (out_of_commits pieces 0 (omega arith) above)) (outside image may 1 (out_of_commits pieces 1 (omega arith) above)) ∙ rests.rules);
         };
       }
 
   -- what was left before is old
-  pub left_old_or_new : (s0 s : Story) → now s0 ≡ d0 → Grows P s0 s → (image : Image) → LeftSince s (moment s0) image → IsOldOrNew d0 old new pieces image
+  pub left_old_or_new : (s0 s : Story) → now s0 ≡ d0 → Grows P s0 s → (image : Image) → LeftSince s (moment s0) image → IsOldOrNew d0 new pieces (IsRuledBy old) (IsRuledBy new) image
   left_old_or_new s0 s is grows image left =
       let begins : P d0 = while_written d0 (record { outside = λ n out. refl; begun = inl refl }) in
       ⊎_elim (λ (may : MayLeave (now s0) image). begins.leaves image (subst (λ (d : Disk). MayLeave d image) is may))
@@ -105,7 +105,7 @@ module _ (old new : Commit) (pieces : List Piece) (d0 : Disk) (above : StartFrom
           begun = inr (⊎_elim (λ (is : d ≡ d0). let e = ap (λ (y : Disk). y.writes) is in omega arith) (λ (lt : d0.writes < d.writes). omega arith) s.begun);
           leaves = λ image may. record {
             outside = λ n out. others image may n out.1 ∙ ap (λ (z : Sector). z.synced) (s.same n out.0);
-            rules = rules d s image (others image may) (holds_one (d.at slot) c x (image slot) (s.quiet slot) (subst (λ (z : Sector). MayHold z (image slot)) (put_same d slot c x) (may slot)));
+            which = rules d s image (others image may) (holds_one (d.at slot) c x (image slot) (s.quiet slot) (subst (λ (z : Sector). MayHold z (image slot)) (put_same d slot c x) (may slot)));
           };
         }
       where
@@ -129,7 +129,7 @@ module _ (old new : Commit) (pieces : List Piece) (d0 : Disk) (above : StartFrom
         ⊎_elim (λ (same : d ≡ d0). let e = ap (λ (y : Disk). y.writes) same in omega arith) (λ (lt : d0.writes < d.writes). omega arith) s.begun
 
     -- the disk with the commit sector on it, synced
-    pub done : (d x : Disk) → Staged d → x ≡ put d slot c (Some c) → P (flushed x) × IsPublished d0 new pieces (flushed x)
+    pub done : (d x : Disk) → Staged d → x ≡ put d slot c (Some c) → P (flushed x) × IsPublished d0 new pieces (IsRuledBy new) (flushed x)
     unfolding flushed
     done d x s is =
         let shown : (n : ℕ) → n ≢ slot → (x.at n).shown ≡ (d.at n).synced = λ n other. ap (λ (y : Disk). (y.at n).shown) is ∙ ap (λ (z : Sector). z.shown) (put_other d slot c (Some c) n other) ∙ s.shown n in
@@ -145,23 +145,24 @@ module _ (old new : Commit) (pieces : List Piece) (d0 : Disk) (above : StartFrom
             begun = inr begun;
             leaves = λ image may. record {
               outside = λ n out. leaves_flushed x image n may ∙ shown n out.1 ∙ ap (λ (z : Sector). z.synced) (s.same n out.0);
-              rules = inr (committed d s image (λ n other. leaves_flushed x image n may ∙ shown n other) (leaves_flushed x image slot may ∙ here));
+              which = inr (committed d s image (λ n other. leaves_flushed x image n may ∙ shown n other) (leaves_flushed x image slot may ∙ here));
             };
           },
           record {
-            rests = record { quiet = record { pending = λ n. refl; shown = λ n. refl }; rules = both.0 };
+            quiet = record { pending = λ n. refl; shown = λ n. refl };
+            stands = both.0;
             holds = both.1;
             touches = touches;
             begun = begun;
           },
         )
 
-    pub sync_done : (s2 s3 s4 : Story) → Staged (now s2) → Puts s2 slot c (Some c) s3 → Flushes s3 s4 → Grows P s3 s4 × IsPublished d0 new pieces (now s4)
+    pub sync_done : (s2 s3 s4 : Story) → Staged (now s2) → Puts s2 slot c (Some c) s3 → Flushes s3 s4 → Grows P s3 s4 × IsPublished d0 new pieces (IsRuledBy new) (now s4)
     sync_done s2 s3 s4 s puts flushes =
         let is : now s3 ≡ put (now s2) slot c (Some c) = ap now puts in
         let both = done (now s2) (now s3) s is in (
           two P s3 s4 _ _ flushes both.0 (subst P (sym is) (while_committed (now s2) s (Some c))),
-          subst (IsPublished d0 new pieces) (sym (ap now flushes)) both.1,
+          subst (IsPublished d0 new pieces (IsRuledBy new)) (sym (ap now flushes)) both.1,
         )
 
   pub run_done : (s1 s2 : Story) → WritesOnly (runs_of pieces) d0 (now s1) → HoldsEach (shown_image (now s1)) pieces → Flushes s1 s2 → Grows P s1 s2 × Staged (now s2)

@@ -1,6 +1,7 @@
 pub mod Sector
 pub mod Ruling
 pub mod Publishing
+pub mod Replacing
 pub mod Standing
 pub mod Formatting
 pub mod Placing

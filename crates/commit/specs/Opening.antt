@@ -1,12 +1,12 @@
--- What opening a store counts and tells.
-use Rattle.std.specs.Prelude.{◌≡◌, ◌+◌, ◌-◌, ◌^◌, ℕ, min, List, Result, Ok, Err}
-use Rattle.sector_dev.specs.Disk.{Story, now, shown_image}
+-- What opening a store finds, counts and tells.
+use Rattle.std.specs.Prelude.{◌≡◌, ◌⊎◌, ◌+◌, ◌-◌, ◌^◌, ℕ, min, List, Result, Ok, Err}
+use Rattle.sector_dev.specs.Disk.{Disk, Story, now, shown_image, flushed}
 use Rattle.segments.specs.declared.errors.EnterError.{EnterError}
 use Rattle.segments.specs.declared.errors.EnterError.TheVariants.{Range as RangeError, Overlap as OverlapError, TooManyPins as PinsError, OutOfMemory as MemoryError}
 use Rattle.commit.specs.declared.cause.Cause.{Cause}
 use Rattle.commit.specs.declared.cause.Cause.TheVariants.{RunRange, RunOverlap}
 use Rattle.commit.specs.declared.sector.Commit.{Commit}
-use Rattle.commit.specs.Standing.{text_at}
+use Rattle.commit.specs.Standing.{Reading, Standing, no_store, damaged, text_at, named_by, standing}
 use Rattle.commit.specs.declared.reading.OpenError.{OpenError}
 use Rattle.commit.specs.declared.reading.OpenError.TheVariants.{NotAStore, Damaged, Device, OutOfMemory}
 
@@ -29,9 +29,31 @@ open_error MemoryError = OutOfMemory
 abbrev pub text_shown : ℕ → Story → Commit → Result (List ℕ) Cause
 text_shown size story k = text_at size (shown_image (now story)) k
 
--- a store that is told as damaged has this cause for its text
-abbrev pub TellsText : OpenError → Result (List ℕ) Cause → Type 0
-TellsText NotAStore text = Unit {0}
-TellsText (Damaged cause) text = text ≡ Err cause
-TellsText Device text = Unit {0}
-TellsText OutOfMemory text = Unit {0}
+-- the catalogue that this text spells, and the one that this commit names, as reads give them
+abbrev pub spelled_shown : {C : Type 0} → Reading C → ℕ → Story → Commit → List ℕ → Result C Cause
+spelled_shown reading size story k text = reading.at size (shown_image (now story)) k text
+
+abbrev pub named_shown : {C : Type 0} → Reading C → ℕ → Story → Commit → Result C Cause
+named_shown reading size story k = named_by reading size (shown_image (now story)) k
+
+-- what one who opens finds, as reads give it
+abbrev pub standing_shown : {C : Type 0} → Reading C → ℕ → Story → Standing C
+standing_shown reading size story = standing reading size (shown_image (now story))
+
+-- a store that is told as damaged has this cause
+abbrev pub TellsCause : {C : Type 0} → OpenError → Result C Cause → Type 0
+TellsCause NotAStore read = Unit {0}
+TellsCause (Damaged cause) read = read ≡ Err cause
+TellsCause Device read = Unit {0}
+TellsCause OutOfMemory read = Unit {0}
+
+-- and what is told of a store is so
+abbrev pub TellsStanding : {C : Type 0} → OpenError → Standing C → Type 0
+TellsStanding NotAStore found = found ≡ no_store
+TellsStanding (Damaged cause) found = found ≡ damaged cause
+TellsStanding Device found = Unit {0}
+TellsStanding OutOfMemory found = Unit {0}
+
+-- at a moment of the opening: the disk is as it was, or what reads gave is synced
+abbrev pub IsOpening : Disk → Disk → Type 0
+IsOpening before d = (d ≡ before) ⊎ (d ≡ flushed before)

@@ -1,9 +1,13 @@
 -- Runs are taken for what is to be written, each the lowest that is free.
-use Rattle.std.specs.Prelude.{◌≡◌, ◌⊎◌, ◌+◌, ℕ, Bool, false, ◌||◌, if◌then◌else◌, List, [], ◌∷◌, Some, None, Result, Ok, Err}
+use Rattle.std.specs.Prelude.{◌≡◌, ◌⊎◌, ◌≤◌, ◌+◌, ℕ, Bool, false, ◌||◌, if◌then◌else◌, List, [], ◌∷◌, ◌++◌, length, map, Some, None, Result, Ok, Err}
+use Rattle.std.specs.Global.{Vec}
+use Rattle.std.specs.List.{AllByRecursion}
 use Rattle.segments.specs.declared.run.Run.{Run}
+use Rattle.segments.specs.declared.piece.Piece.{Piece}
 use Rattle.segments.specs.declared.entries.Usage.{Usage}
 use Rattle.segments.specs.declared.entries.UsageEntry.{UsageEntry}
 use Rattle.segments.specs.Runs.{IsLowest}
+use Rattle.segments.specs.Sectors.{sector_count}
 use Rattle.segments.specs.Usages.{same_run, usage_of}
 
 -- the run is one of these
@@ -35,3 +39,19 @@ Takes size used [] taken = taken ≡ Ok []
 Takes size used (count ∷ counts) taken =
     (IsLowest size used count None × (taken ≡ Err count))
     ⊎ ((run : Run) × IsLowest size used count (Some run) × ((rest : Result (List Run) ℕ) × Takes size (λ other. used other ⊎ (other ≡ run)) counts rest × (taken ≡ in_front run rest)))
+
+-- the bytes of some pieces
+abbrev pub contents_of : List Piece → List (Vec ℕ)
+contents_of pieces = map (λ (p : Piece). p.bytes) pieces
+
+-- how many sectors some bytes take
+abbrev pub sectors_of : Vec ℕ → ℕ
+sectors_of bytes = sector_count (length bytes.items)
+
+-- how many sectors these contents take, and then a text of so many bytes
+abbrev pub counts_of : List (Vec ℕ) → ℕ → List ℕ
+counts_of contents bytes = map sectors_of contents ++ sector_count bytes ∷ []
+
+-- none of them is empty
+abbrev pub AreSome : List (Vec ℕ) → Type 0
+AreSome contents = AllByRecursion (λ (bytes : Vec ℕ). 1 ≤ length bytes.items) contents

@@ -1,44 +1,68 @@
 -- What may lie on a disk while a commit is published.
-use Rattle.std.specs.Prelude.{◌≡◌, ◌≢◌, ◌⊎◌, ◌<◌, ◌%◌, ℕ, List, Some}
-use Rattle.sector_dev.specs.Disk.{Disk, Image, Story, now, moment, synced_image, LeftSince}
+use Rattle.std.specs.Prelude.{◌≡◌, ◌≢◌, ◌⊎◌, ◌<◌, ◌+◌, ◌%◌, ℕ, true, List, Some}
+use Rattle.sector_dev.specs.Disk.{Disk, Image, Story, now, synced_image}
 use Rattle.sector_dev.specs.Time.{LeavesOnly, Grows}
-use Rattle.segments.specs.Runs.{OutOf}
-use Rattle.segments.specs.Writing.{runs_of, HoldsEach}
+use Rattle.segments.specs.Runs.{OutOf, AreApart, StartFrom}
+use Rattle.segments.specs.Writing.{AllFit, runs_of, HoldsEach}
+use Rattle.segments.specs.declared.run.Run.{Run}
 use Rattle.segments.specs.declared.piece.Piece.{Piece}
 use Rattle.commit.specs.declared.sector.Commit.{Commit}
-use Rattle.commit.specs.Ruling.{ruling, Rests}
+use Rattle.commit.specs.Sector.{IsCommit}
+use Rattle.commit.specs.Ruling.{ruling, IsQuiet, Rests}
+use Rattle.commit.specs.Standing.{is_size}
+
+-- the commit behind this one, with its catalogue's text of so many bytes in this run
+abbrev pub next_commit : Commit → Run → ℕ → Commit
+next_commit k run bytes = record {
+  epoch = k.epoch + 1;
+  catalogue = record { run = run; bytes = bytes };
+  device_sectors = k.device_sectors;
+  version = k.version;
+  kind = k.kind;
+}
+
+-- what can be published on a device of this size: pieces that fit into their runs, behind the commit sectors and apart from one
+-- another, and a commit of the next epoch
+pub record IsPlan (size : ℕ) (old new : Commit) (pieces : List Piece) : Type 0 where
+  pub limits : is_size size ≡ true
+  pub fit : AllFit size pieces
+  pub apart : AreApart (runs_of pieces)
+  pub above : StartFrom 2 (runs_of pieces)
+  pub next : new.epoch ≡ old.epoch + 1
+  pub writable : IsCommit new
 
 -- the sector lies in no piece's run, and is not the one of the new commit
 abbrev pub IsOutside : Commit → List Piece → ℕ → Type 0
 IsOutside new pieces n = OutOf (runs_of pieces) n × (n ≢ new.epoch % 2)
 
--- the old commit rules, or the new one does and each piece lies in its run; elsewhere lies what lay there
-pub record IsOldOrNew (before : Disk) (old new : Commit) (pieces : List Piece) (image : Image) : Type 0 where
+-- by these two words: the image is old, or it is new and each piece lies in its run; elsewhere lies what lay there
+pub record IsOldOrNew (before : Disk) (new : Commit) (pieces : List Piece) (Old New : Image → Type 0) (image : Image) : Type 0 where
   pub outside : (n : ℕ) → IsOutside new pieces n → image n ≡ (before.at n).synced
-  pub rules : (ruling image ≡ Some old) ⊎ ((ruling image ≡ Some new) × HoldsEach image pieces)
+  pub which : Old image ⊎ (New image × HoldsEach image pieces)
 
 -- at a moment of the publishing: no other sector was touched, the disk is as it was or a write has begun, and each image
 -- that a stop may leave is old or new
-pub record IsPublishing (before : Disk) (old new : Commit) (pieces : List Piece) (d : Disk) : Type 0 where
+pub record IsPublishing (before : Disk) (new : Commit) (pieces : List Piece) (Old New : Image → Type 0) (d : Disk) : Type 0 where
   pub touches : (n : ℕ) → IsOutside new pieces n → d.at n ≡ before.at n
   pub begun : (d ≡ before) ⊎ (before.writes < d.writes)
-  pub leaves : LeavesOnly (IsOldOrNew before old new pieces) d
+  pub leaves : LeavesOnly (IsOldOrNew before new pieces Old New) d
 
--- after the publishing: all is synced, the new commit rules and each piece lies in its run
-pub record IsPublished (before : Disk) (new : Commit) (pieces : List Piece) (d : Disk) : Type 0 where
-  pub rests : Rests d new
+-- after the publishing: all is synced, it is new and each piece lies in its run
+pub record IsPublished (before : Disk) (new : Commit) (pieces : List Piece) (New : Image → Type 0) (d : Disk) : Type 0 where
+  pub quiet : IsQuiet d
+  pub stands : New (synced_image d)
   pub holds : HoldsEach (synced_image d) pieces
   pub touches : (n : ℕ) → IsOutside new pieces n → d.at n ≡ before.at n
   pub begun : before.writes < d.writes
 
+-- this commit rules
+abbrev pub IsRuledBy : Commit → Image → Type 0
+IsRuledBy commit image = ruling image ≡ Some commit
+
 -- a publishing over a disk on which the old commit rests, at each moment
 abbrev pub Publishes : Commit → Commit → List Piece → Story → Story → Type 0
-Publishes old new pieces before after = Rests (now before) old → Grows (IsPublishing (now before) old new pieces) before after
-
--- each image that a stop may have left since its beginning is old or new
-abbrev pub LeavesOldOrNew : Commit → Commit → List Piece → Story → Story → Type 0
-LeavesOldOrNew old new pieces before after = Rests (now before) old → (image : Image) → LeftSince after (moment before) image → IsOldOrNew (now before) old new pieces image
+Publishes old new pieces before after = Rests (now before) old → Grows (IsPublishing (now before) new pieces (IsRuledBy old) (IsRuledBy new)) before after
 
 -- and its end, where it succeeded
 abbrev pub EndsPublished : Commit → Commit → List Piece → Story → Story → Type 0
-EndsPublished old new pieces before after = Rests (now before) old → IsPublished (now before) new pieces (now after)
+EndsPublished old new pieces before after = Rests (now before) old → IsPublished (now before) new pieces (IsRuledBy new) (now after)

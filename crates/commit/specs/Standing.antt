@@ -1,6 +1,7 @@
 -- What one who opens an image finds. How a catalogue is read is an argument here.
 use Rattle.std.specs.Prelude.{◌≡◌, ◌≤◌, ◌<◌, ◌+◌, ◌⊎◌, ◌==◌, ◌&&◌, ◌||◌, ℕ, Bool, true, nat_le, if◌then◌else◌, List, [], ◌∷◌, Option, Some, None, Result, Ok, Err}
 use Rattle.sector_dev.specs.Disk.{Disk, Image, synced_image}
+use Rattle.sector_dev.specs.declared.file.TheConstants.{LEAST_SECTORS, MOST_SECTORS}
 use Rattle.segments.specs.Sectors.{sector_count, bytes_at}
 use Rattle.segments.specs.declared.run.Run.{Run}
 use Rattle.segments.specs.declared.extent.Extent.{Extent}
@@ -11,7 +12,7 @@ use Rattle.commit.specs.Ruling.{ruling, IsQuiet}
 
 -- a device of a store has 16 to 4,194,304 sectors
 abbrev pub is_size : ℕ → Bool
-is_size size = nat_le 16 size && nat_le size 4194304
+is_size size = nat_le LEAST_SECTORS size && nat_le size MOST_SECTORS
 
 -- a run has a sector, begins behind the commit sectors and ends on the device
 abbrev pub is_on_device : ℕ → Run → Bool
@@ -76,13 +77,18 @@ abbrev pub by_catalogue : {C : Type 0} → Reading C → ℕ → Commit → Resu
 by_catalogue reading size k (Err cause) = damaged cause
 by_catalogue reading size k (Ok c) = by_runs k c (runs_fault size k.catalogue.run (reading.runs c))
 
-abbrev pub by_text : {C : Type 0} → Reading C → ℕ → Image → Commit → Result (List ℕ) Cause → Standing C
-by_text reading size image k (Err cause) = damaged cause
-by_text reading size image k (Ok text) = by_catalogue reading size k (reading.at size image k text)
+-- the catalogue that a text spells, where there is a text
+abbrev pub spelled_by : {C : Type 0} → Reading C → ℕ → Image → Commit → Result (List ℕ) Cause → Result C Cause
+spelled_by reading size image k (Err cause) = Err cause
+spelled_by reading size image k (Ok text) = reading.at size image k text
+
+-- the catalogue that a commit names, or why there is none
+abbrev pub named_by : {C : Type 0} → Reading C → ℕ → Image → Commit → Result C Cause
+named_by reading size image k = spelled_by reading size image k (text_at size image k)
 
 abbrev pub by_commit : {C : Type 0} → Reading C → ℕ → Image → Option Commit → Standing C
 by_commit reading size image None = no_store
-by_commit reading size image (Some k) = by_text reading size image k (text_at size image k)
+by_commit reading size image (Some k) = by_catalogue reading size k (named_by reading size image k)
 
 -- what one who opens finds
 unfoldable pub standing : {C : Type 0} → Reading C → ℕ → Image → Standing C

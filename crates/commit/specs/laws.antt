@@ -2,3 +2,4 @@ pub mod Sectors
 pub mod Frame
 pub mod Taking
 pub mod Apart
+pub mod Placed

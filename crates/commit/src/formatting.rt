@@ -1,7 +1,7 @@
 // A device becomes an empty store.
 ghost use Rattle.std.specs.Prelude.{◌≡◌, ◌≢◌, ◌≤◌, ◌+◌, ◌∷◌, [], true, false, None, Err, OnOk, OnErr, IfOk, IfErr, IsErrOf};
 ghost use Rattle.sector_dev.specs.Disk.{now, shown_image, Counts};
-ghost use Rattle.sector_dev.specs.Time.{Grows};
+ghost use Rattle.sector_dev.specs.Time.{Grows, OnlyReads};
 ghost use Rattle.commit.specs.Ruling.{ruling};
 ghost use Rattle.commit.specs.Standing.{is_size};
 ghost use Rattle.commit.specs.Formatting.{HasNoCommit, IsFormatting, IsFormatted, CountsFormat, first_commit};
@@ -131,6 +131,7 @@ pub fn format<D: SectorDevice>(
     ensures damaged { IfErr result (λ e. (cause : Cause) → e ≡ FormatError.Damaged cause → is_size (D.size device.old) ≡ false) }
     ensures already { IsErrOf result FormatError.AlreadyAStore → D.tells ≡ true → ruling (shown_image (now (D.story device.old))) ≢ None }
     ensures none_before { OnOk result (D.tells ≡ true → ruling (shown_image (now (D.story device.old))) ≡ None) }
+    ensures untouched { D.tells ≡ true → ruling (shown_image (now (D.story device.old))) ≢ None → OnlyReads (D.story device.old) (D.story device.new) }
     ensures moments { D.tells ≡ true → Grows (IsFormatting (D.size device.old) (now (D.story device.old))) (D.story device.old) (D.story device.new) }
     ensures quiet { IfErr result (λ e. e ≢ FormatError.Device → D.tells ≡ true → now (D.story device.new) ≡ now (D.story device.old)) }
     ensures commit { IfOk result (λ store. store.0 ≡ first_commit (D.size device.old)) }

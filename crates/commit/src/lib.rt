@@ -1,18 +1,19 @@
-//! Which catalogue rules a device: the two commit sectors, and how a new commit is published so that a stop at any
-//! moment leaves the old one or the new one whole.
+//! Which catalogue rules a device: opening and formatting a store, and how a new catalogue is published so that a stop at any
+//! moment leaves the old store or the new one whole. A catalogue is any type with the trait `ReadCatalogue`.
 //!
-//! A new device in memory becomes an empty store, and then one with another catalogue:
+//! A store is opened, and gets a segment and a catalogue that names it:
 //!
 //! ```
-//! let mut device = ModelDevice::new(alloc, 16)?;
-//! let (old, mut map) = format(alloc, &mut device)?;
-//! let run = take_runs(alloc, &mut map, &[1])?[0];
-//! let catalogue = Extent { run, bytes: text.len() as u64 };
-//! let new = Commit { epoch: old.epoch + 1, catalogue, ..old };
-//! publish(&mut device, old, new, &[Piece { run, bytes: text }])?;
+//! let mut store = recover::<Tables, _>(alloc, &mut device)?;
+//! let places = place(alloc, &mut store.map, contents, text_bytes)?;
+//! let (tables, text) = with_segment(&store.catalogue, &places)?;
+//! let plan = plan_next(store.commit, tables, places, text);
+//! publish(&mut device, &store, &plan)?;
+//! give_runs(&mut store.map, &given_up);
 //! ```
 #![tactic(auto)]
 
+mod catalogue;
 mod cause;
 mod entering;
 mod formatting;
@@ -20,13 +21,16 @@ mod opening;
 mod placing;
 mod publishing;
 mod reading;
+mod recovery;
 mod sector;
 
+pub use catalogue::ReadCatalogue;
 pub use cause::Cause;
 pub use entering::occupy_runs;
 pub use formatting::{FormatError, format};
 pub use opening::read_ruling;
-pub use placing::take_runs;
-pub use publishing::publish;
+pub use placing::{Places, give_runs, place, take_runs};
+pub use publishing::{Plan, plan_next, publish};
 pub use reading::{OpenError, read_text};
+pub use recovery::{Opened, recover};
 pub use sector::{CatalogueKind, Commit, FormatVersion, one_text_each};

@@ -1,15 +1,52 @@
 // A new commit takes the place of the one that rules.
-ghost use Rattle.std.specs.Prelude.{◌≡◌, ◌+◌, ◌≤◌, ◌<◌, ◌*◌, ◌^◌, true, OnOk, IfErr};
+ghost use Rattle.std.specs.Prelude.{◌≡◌, ◌<◌, ◌+◌, ◌^◌, ◌++◌, ◌∷◌, [], true, OnOk, IfErr, length, vec_len, vec_capacity};
 ghost use Rattle.sector_dev.specs.Disk.{Counts};
-ghost use Rattle.segments.specs.Runs.{AreApart, StartFrom};
-ghost use Rattle.segments.specs.Writing.{AllFit, runs_of};
-ghost use Rattle.commit.specs.Sector.{IsCommit};
-ghost use Rattle.commit.specs.Publishing.{Publishes, LeavesOldOrNew, EndsPublished};
+ghost use Rattle.commit.specs.Publishing.{IsPlan, next_commit, Publishes, EndsPublished};
+ghost use Rattle.commit.specs.Replacing.{change_of, Replaces, LeavesEither, EndsReplaced};
 
-use crate::Commit;
 use crate::sector::commit_sector;
+use crate::{Commit, Opened, Places, ReadCatalogue};
 use sector_dev::{DevError, SectorDevice};
-use segments::{Piece, write_runs};
+use segments::{Extent, Piece, write_runs};
+
+/// What is to be published: the next commit, its catalogue, and the bytes that are written for it.
+#[derive(Drop)]
+pub struct Plan<C> {
+    pub commit: Commit,
+    pub catalogue: C,
+    pub pieces: Vec<Piece>,
+}
+
+/// The plan of the next commit: what was placed, and behind it the text of its catalogue. It takes no memory.
+pub fn plan_next<C>(old: Commit, catalogue: C, places: Places, text: Vec<u8>) -> Plan<C>
+    requires epoch { old.epoch + 1 < 2 ^ 64 }
+    requires room { vec_len places.pieces < vec_capacity places.pieces }
+    ensures commit { result.commit ≡ next_commit old places.text (length text.items) }
+    ensures catalogue { result.catalogue ≡ catalogue }
+    ensures pieces { result.pieces.items ≡ places.pieces.items ++ record { run = places.text; bytes = text } ∷ [] }
+{
+    let extent = Extent {
+        run: places.text,
+        bytes: text.len() as u64,
+    };
+    let mut pieces = places.pieces;
+    pieces
+        .push(Piece {
+            run: extent.run,
+            bytes: text,
+        })
+        .unwrap();
+    let commit = Commit {
+        epoch: old.epoch + 1,
+        catalogue: extent,
+        ..old
+    };
+    Plan {
+        commit,
+        catalogue,
+        pieces,
+    }
+}
 
 // Writes and syncs the pieces, then the commit.
 fn write_and_commit<D: SectorDevice>(
@@ -18,13 +55,7 @@ fn write_and_commit<D: SectorDevice>(
     new: Commit,
     pieces: &[Piece],
 ) -> Result<(), DevError>
-    requires fit { AllFit (D.size device.old) pieces.now }
-    requires apart { AreApart (runs_of pieces.now) }
-    requires above { StartFrom 2 (runs_of pieces.now) }
-    requires room { 2 ≤ D.size device.old }
-    requires countable { 512 * D.size device.old < 2 ^ 64 }
-    requires next { new.epoch ≡ old.epoch + 1 }
-    requires writable { IsCommit new }
+    requires { IsPlan (D.size device.old) old new pieces.now }
     ensures size { D.size device.new ≡ D.size device.old }
     ensures count { Counts (D.failed device.old) (D.failed device.new) result }
     ensures error { IfErr result (λ e. e ≡ DevError.Failed) }
@@ -40,31 +71,27 @@ fn write_and_commit<D: SectorDevice>(
 }
 
 /// Writes the pieces into their runs, syncs, writes the new commit into the sector of its epoch, and syncs.
-/// A stop at any moment leaves the old commit, or the new one over all of its pieces.
+/// A stop at any moment leaves the store that stood, or the new one with all of its pieces.
 ///
 /// # Errors
-/// `Failed` alone: the device failed. The old commit rules or the new one.
-pub fn publish<D: SectorDevice>(
+/// `Failed` alone: the device failed. The old store stands, or the new one.
+pub fn publish<C: ReadCatalogue, D: SectorDevice>(
     device: &mut D,
-    old: Commit,
-    new: Commit,
-    pieces: &[Piece],
+    old: &Opened<C>,
+    plan: &Plan<C>,
 ) -> Result<(), DevError>
-    requires fit { AllFit (D.size device.old) pieces.now }
-    requires apart { AreApart (runs_of pieces.now) }
-    requires above { StartFrom 2 (runs_of pieces.now) }
-    requires room { 2 ≤ D.size device.old }
-    requires countable { 512 * D.size device.old < 2 ^ 64 }
-    requires next { new.epoch ≡ old.epoch + 1 }
-    requires writable { IsCommit new }
+    requires { IsPlan (D.size device.old) old.now.commit plan.now.commit plan.now.pieces.items }
     ensures size { D.size device.new ≡ D.size device.old }
     ensures count { Counts (D.failed device.old) (D.failed device.new) result }
     ensures error { IfErr result (λ e. e ≡ DevError.Failed) }
-    // At each moment a stop leaves the old commit, or the new one over all of its pieces, and nothing else is touched.
-    ensures moments { D.tells ≡ true → Publishes old new pieces.now (D.story device.old) (D.story device.new) }
-    ensures left { D.tells ≡ true → LeavesOldOrNew old new pieces.now (D.story device.old) (D.story device.new) }
-    // After Ok the new one rules, and all is synced.
-    ensures published { OnOk result (D.tells ≡ true → EndsPublished old new pieces.now (D.story device.old) (D.story device.new)) }
+    // At each moment a stop leaves the old store or the new one, and nothing else is touched.
+    ensures moments { D.tells ≡ true →
+        Replaces C.reading (D.size device.old) (change_of C.plain_of old.now plan.now) (D.story device.old) (D.story device.new) }
+    ensures left { D.tells ≡ true →
+        LeavesEither C.reading (D.size device.old) (change_of C.plain_of old.now plan.now) (D.story device.old) (D.story device.new) }
+    // After Ok the new one stands, and all is synced.
+    ensures published { OnOk result
+        (D.tells ≡ true → EndsReplaced C.reading (D.size device.old) (change_of C.plain_of old.now plan.now) (D.story device.old) (D.story device.new)) }
 {
-    write_and_commit(device, old, new, pieces)
+    write_and_commit(device, old.commit, plan.commit, &plan.pieces)
 }

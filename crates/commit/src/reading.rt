@@ -2,12 +2,12 @@
 ghost use Rattle.std.specs.Prelude.{◌≡◌, ◌≢◌, ◌≤◌, ◌+◌, ◌*◌, ◌<◌, ◌^◌, true, false, Ok, Err, OnOk, IfOk, IfErr};
 ghost use Rattle.sector_dev.specs.Time.{OnlyReads};
 ghost use Rattle.commit.specs.Standing.{is_on_device, is_extent};
-ghost use Rattle.commit.specs.Opening.{CountsOpen, text_shown, TellsText};
+ghost use Rattle.commit.specs.Opening.{CountsOpen, text_shown, TellsCause};
 
 use crate::{Cause, Commit};
-use sector_dev::{SECTOR_BYTES, SectorDevice};
+use sector_dev::{DevError, SECTOR_BYTES, SectorDevice};
 use segments::{Extent, ReadError, Run, read_run};
-use std::alloc::Global;
+use std::alloc::{AllocError, Global};
 use thiserror::Error;
 
 /// Why a store was not opened.
@@ -57,8 +57,11 @@ pub fn read_text<D: SectorDevice>(
     ensures count { CountsOpen (D.failed device.old) (D.failed device.new) result }
     ensures moments { D.tells ≡ true → OnlyReads (D.story device.old) (D.story device.new) }
     ensures found { IfOk result (λ text. D.tells ≡ true → text_shown (D.size device.old) (D.story device.old) commit ≡ Ok text.items) }
-    ensures damaged { IfErr result (λ e. D.tells ≡ true → TellsText e (text_shown (D.size device.old) (D.story device.old) commit)) }
+    ensures damaged { IfErr result (λ e. D.tells ≡ true → TellsCause e (text_shown (D.size device.old) (D.story device.old) commit)) }
     ensures a_store { IfErr result (λ e. e ≢ OpenError.NotAStore) }
+    // Also of a device that doesn't tell its story.
+    ensures device { OnOk result (commit.device_sectors ≡ D.size device.old) }
+    ensures extent { OnOk result (is_extent (D.size device.old) 4 commit.catalogue ≡ true) }
 {
     let sectors = device.sectors();
     if commit.device_sectors != sectors {
@@ -77,5 +80,27 @@ pub fn read_text<D: SectorDevice>(
         Err(ReadError::Unreadable) => Err(OpenError::Damaged(Cause::CatalogueUnreadable)),
         Err(ReadError::Failed) => Err(OpenError::Device),
         Err(ReadError::OutOfMemory) => Err(OpenError::OutOfMemory),
+    }
+}
+
+impl From<DevError> for OpenError {
+    ghost use Rattle.std.specs.Prelude.{◌≡◌};
+    ghost use Rattle.commit.specs.declared.reading.OpenError.TheVariants.{Device};
+
+    ghost from_gives = { λ _ e. e ≡ Device };
+
+    fn from(_: DevError) -> Self {
+        OpenError::Device
+    }
+}
+
+impl From<AllocError> for OpenError {
+    ghost use Rattle.std.specs.Prelude.{◌≡◌};
+    ghost use Rattle.commit.specs.declared.reading.OpenError.TheVariants.{OutOfMemory};
+
+    ghost from_gives = { λ _ e. e ≡ OutOfMemory };
+
+    fn from(_: AllocError) -> Self {
+        OpenError::OutOfMemory
     }
 }

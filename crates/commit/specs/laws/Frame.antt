@@ -1,21 +1,23 @@
 -- What one who opens finds depends on the commit sectors and on the runs in use alone.
-use Rattle.std.specs.Prelude.{◌≡◌, ◌⊎◌, ◌≤◌, ◌<◌, ◌+◌, ◌%◌, ◌==◌, ◌&&◌, ℕ, Bool, true, false, nat_le, if◌then◌else◌, List, [], ◌∷◌, Option, Some, None, Result, Ok, Err, refl}
+use Rattle.std.specs.Prelude.{◌≡◌, ◌≤◌, ◌<◌, ◌+◌, ◌%◌, ◌==◌, ◌&&◌, ℕ, Bool, true, false, nat_le, if◌then◌else◌, List, [], ◌∷◌, length, Option, Some, None, Result, Ok, Err, refl}
 use Rattle.std.proofs.Common.{inl, inr, ⊎_elim, sym, ap, ◌∙◌, subst, arith}
 use Rattle.std.proofs.lemmas.Bool.{eq-eqb}
 use Rattle.std.proofs.lemmas.Bool.Decides.{nat_tests}
-use Rattle.sector_dev.specs.Disk.{Disk, Image, synced_image}
+use Rattle.sector_dev.specs.Disk.{Disk, Sector, Image, synced_image}
 use Rattle.segments.specs.Runs.{OutOf}
-use Rattle.segments.specs.Sectors.{sector_count, bytes_at}
-use Rattle.segments.specs.laws.ReadBack.{same_bytes}
+use Rattle.segments.specs.Sectors.{sector_count, bytes_at, Holds}
+use Rattle.segments.specs.laws.ReadBack.{same_bytes, read_back}
 use Rattle.segments.specs.Writing.{runs_of, HoldsEach}
 use Rattle.segments.specs.declared.run.Run.{Run}
 use Rattle.segments.specs.declared.piece.Piece.{Piece}
 use Rattle.commit.specs.declared.sector.Commit.{Commit}
 use Rattle.commit.specs.declared.cause.Cause.{Cause}
 use Rattle.commit.specs.declared.cause.Cause.TheVariants.{DeviceSize, CatalogueRange, CatalogueUnreadable, RunRange, RunOverlap}
-use Rattle.commit.specs.Ruling.{ruling}
-use Rattle.commit.specs.Publishing.{IsOldOrNew}
-use Rattle.commit.specs.Standing.{Reading, damaged, rules, is_size, is_on_device, is_extent, all_on_device, are_apart, used_runs, readable, text_at, runs_fault, by_runs, by_catalogue, by_text, by_commit, standing, InSome, IsLocal}
+use Rattle.commit.specs.Ruling.{newer, ruling, Rests}
+use Rattle.commit.specs.Formatting.{HoldsNoCommit, IsEmptyStore, first_commit, empty_text}
+use Rattle.commit.specs.Publishing.{IsOldOrNew, IsPublishing, IsPublished, IsRuledBy}
+use Rattle.commit.specs.Replacing.{Change, IsPieceOf, IsMade, CanReplace, StandsAs, StandsAsEither}
+use Rattle.commit.specs.Standing.{Reading, no_store, damaged, rules, is_size, is_on_device, is_extent, all_on_device, are_apart, used_runs, readable, text_at, runs_fault, by_runs, by_catalogue, spelled_by, named_by, by_commit, standing, Stands, InSome, IsLocal}
 
 both : (x y : Bool) → (x && y) ≡ true → (x ≡ true) × (y ≡ true)
 both true true is = (refl, refl)
@@ -72,6 +74,16 @@ fault_none size text runs is = by_tests (all_on_device size runs) (are_apart (te
     by_tests true false a b is = absurd (cc is)
     by_tests false y a b is = absurd (cc is)
 
+-- a piece lies in its run
+pub piece_holds : (image : Image) (pieces : List Piece) (run : Run) (bytes : List ℕ) → HoldsEach image pieces → IsPieceOf pieces run bytes → Holds image run.start bytes
+piece_holds image [] run bytes holds is = absurd is
+piece_holds image (p ∷ ps) run bytes holds (inl is) = subst (λ (r : Run). Holds image r.start bytes) is.0 (subst (λ (b : List ℕ). Holds image p.run.start b) is.1 holds.0)
+piece_holds image (p ∷ ps) run bytes holds (inr later) = piece_holds image ps run bytes holds.1 later
+
+-- and is read back
+pub piece_read : (image : Image) (pieces : List Piece) (run : Run) (bytes : List ℕ) → HoldsEach image pieces → IsPieceOf pieces run bytes → bytes_at image run.start (length bytes) ≡ Some bytes
+piece_read image pieces run bytes holds is = read_back image run.start bytes (piece_holds image pieces run bytes holds is)
+
 module _ {C : Type 0} (reading : Reading C) (size : ℕ) where
   -- all tests passed
   pub record IsFound (image : Image) (k : Commit) (c : C) : Type 0 where
@@ -87,9 +99,31 @@ module _ {C : Type 0} (reading : Reading C) (size : ℕ) where
   unfolding standing
   found_rules image k c f =
       (λ i. if f.size_is i then by_commit reading size image (f.ruled i) else damaged DeviceSize)
-      ∙ ap (by_text reading size image k) f.found
-      ∙ ap (by_catalogue reading size k) f.spelled
+      ∙ ap (by_catalogue reading size k) (ap (spelled_by reading size image k) f.found ∙ f.spelled)
       ∙ ap (by_runs k c) f.fit
+
+  -- what is found where one commit rules, by the catalogue that it names
+  found_by : (image : Image) (k : Commit) → is_size size ≡ true → ruling image ≡ Some k → standing reading size image ≡ by_catalogue reading size k (named_by reading size image k)
+  unfolding standing
+  found_by image k size_is ruled = λ i. if size_is i then by_commit reading size image (ruled i) else damaged DeviceSize
+
+  -- each answer of the tests
+  pub stands_nowhere : (image : Image) → is_size size ≡ true → ruling image ≡ None → standing reading size image ≡ no_store
+  unfolding standing
+  stands_nowhere image size_is none = λ i. if size_is i then by_commit reading size image (none i) else damaged DeviceSize
+
+  pub stands_on_no_device : (image : Image) → is_size size ≡ false → standing reading size image ≡ damaged DeviceSize
+  unfolding standing
+  stands_on_no_device image size_is = λ i. if size_is i then by_commit reading size image (ruling image) else damaged DeviceSize
+
+  pub stands_as : (image : Image) (k : Commit) (c : C) → is_size size ≡ true → ruling image ≡ Some k → named_by reading size image k ≡ Ok c → runs_fault size k.catalogue.run (reading.runs c) ≡ None → standing reading size image ≡ rules k c
+  stands_as image k c size_is ruled named fit = found_by image k size_is ruled ∙ ap (by_catalogue reading size k) named ∙ ap (by_runs k c) fit
+
+  pub stands_misnamed : (image : Image) (k : Commit) (cause : Cause) → is_size size ≡ true → ruling image ≡ Some k → named_by reading size image k ≡ Err cause → standing reading size image ≡ damaged cause
+  stands_misnamed image k cause size_is ruled named = found_by image k size_is ruled ∙ ap (by_catalogue reading size k) named
+
+  pub stands_unfit : (image : Image) (k : Commit) (c : C) (cause : Cause) → is_size size ≡ true → ruling image ≡ Some k → named_by reading size image k ≡ Ok c → runs_fault size k.catalogue.run (reading.runs c) ≡ Some cause → standing reading size image ≡ damaged cause
+  stands_unfit image k c cause size_is ruled named fault = found_by image k size_is ruled ∙ ap (by_catalogue reading size k) named ∙ ap (by_runs k c) fault
 
   -- and where one rules all tests passed
   pub rules_found : (image : Image) (k : Commit) (c : C) → standing reading size image ≡ rules k c → IsFound image k c
@@ -108,7 +142,7 @@ module _ {C : Type 0} (reading : Reading C) (size : ℕ) where
       by_spelled k' text r s t (Err cause) u same = absurd (cc same)
       by_spelled k' text r s t (Ok c') u same = by_fault k' text c' r s t u (runs_fault size k'.catalogue.run (reading.runs c')) refl same
 
-      by_read : (k' : Commit) → ruling image ≡ Some k' → is_size size ≡ true → (o : Result (List ℕ) Cause) → text_at size image k' ≡ o → by_text reading size image k' o ≡ rules k c → IsFound image k c
+      by_read : (k' : Commit) → ruling image ≡ Some k' → is_size size ≡ true → (o : Result (List ℕ) Cause) → text_at size image k' ≡ o → by_catalogue reading size k' (spelled_by reading size image k' o) ≡ rules k c → IsFound image k c
       by_read k' r s (Err cause) t same = absurd (cc same)
       by_read k' r s (Ok text) t same = by_spelled k' text r s t (reading.at size image k' text) refl same
 
@@ -166,23 +200,74 @@ module _ {C : Type 0} (reading : Reading C) (size : ℕ) where
       above_run k.catalogue.run n (both (k.catalogue.run.count == sector_count k.catalogue.bytes) (is_on_device size k.catalogue.run) parts.1).1 here
   above_used image k c n is (inr later) = let f = rules_found image k c is in above_each (reading.runs c) n (fault_none size k.catalogue.run (reading.runs c) f.fit).0 later
 
-  -- the pieces make this catalogue: whatever image the new commit rules that holds them, and behind the commit sectors holds elsewhere
-  -- what lay there, has it
-  pub record Makes (before : Image) (new : Commit) (c : C) (pieces : List Piece) : Type 0 where
-    pub spells : (image : Image) → ruling image ≡ Some new → HoldsEach image pieces → ((n : ℕ) → 2 ≤ n → OutOf (runs_of pieces) n → image n ≡ before n) → standing reading size image ≡ rules new c
+  -- where the new commit rules an image that holds the pieces, the new catalogue is found
+  pub made_stands : (before : Image) (change : Change C) → is_size size ≡ true → IsMade reading size before change → (image : Image) → ruling image ≡ Some change.new → HoldsEach image change.pieces
+      → ((n : ℕ) → 2 ≤ n → OutOf (runs_of change.pieces) n → image n ≡ before n) → standing reading size image ≡ rules change.new change.will
+  made_stands before change limits made image ruled holds same =
+      let text = made.text in
+      let there = piece_holds image change.pieces change.new.catalogue.run text holds made.written in
+      found_rules image change.new change.will (record {
+        size_is = limits;
+        ruled = ruled;
+        text = text;
+        found = has_text size image change.new text (record {
+          device = eq-eqb change.new.device_sectors size made.device;
+          extent = made.extent;
+          read = ap (bytes_at image change.new.catalogue.run.start) (sym made.whole) ∙ read_back image change.new.catalogue.run.start text there;
+        });
+        spelled = made.read image holds same;
+        fit = made.fit;
+      })
 
   low : (n : ℕ) → n % 2 < 2
   low n = omega arith
 
-  -- an image that is old or new opens as the old state, or as the new one, where no piece lies over a run in use
-  pub opens_old_or_new : IsLocal reading → (before : Disk) (old new : Commit) (was will : C) (pieces : List Piece) (image : Image)
-      → standing reading size (synced_image before) ≡ rules old was → ruling (synced_image before) ≡ Some old
-      → ((n : ℕ) → InSome (used_runs reading old was) n → OutOf (runs_of pieces) n)
-      → Makes (synced_image before) new will pieces → IsOldOrNew before old new pieces image
-      → (standing reading size image ≡ rules old was) ⊎ (standing reading size image ≡ rules new will)
-  opens_old_or_new local before old new was will pieces image stands ruled free makes is =
-      let outside : (n : ℕ) → 2 ≤ n → OutOf (runs_of pieces) n → image n ≡ synced_image before n = λ n le out. is.outside n (out, λ e. omega (arith, low new.epoch)) in
-      ⊎_elim
-      (λ (rule : ruling image ≡ Some old). inl (same_standing local (synced_image before) image old was stands (rule ∙ sym ruled) (λ n within. outside n (above_used (synced_image before) old was n stands within) (free n within))))
-      (λ (both : (ruling image ≡ Some new) × HoldsEach image pieces). inr (makes.spells image both.0 both.1 outside))
-      is.rules
+  -- an image that is old or new by its commit stands as the old store, or as the new one
+  pub stands_as_either : IsLocal reading → (before : Disk) (change : Change C) → CanReplace reading size before change → (image : Image)
+      → IsOldOrNew before change.new change.pieces (IsRuledBy change.old) (IsRuledBy change.new) image → StandsAsEither reading size change before image
+  stands_as_either local before change can image is =
+      let outside : (n : ℕ) → 2 ≤ n → OutOf (runs_of change.pieces) n → image n ≡ synced_image before n = λ n le out. is.outside n (out, λ e. omega (arith, low change.new.epoch)) in
+      let found = rules_found (synced_image before) change.old change.was can.stands.found in
+      record {
+        outside = is.outside;
+        which =
+            ⊎_elim
+            (λ (rule : ruling image ≡ Some change.old).
+            inl (same_standing local (synced_image before) image change.old change.was can.stands.found (rule ∙ sym found.ruled) (λ n within. outside n (above_used (synced_image before) change.old change.was n can.stands.found within) (can.free n within))))
+            (λ (both : (ruling image ≡ Some change.new) × HoldsEach image change.pieces). inr (made_stands (synced_image before) change found.size_is can.made image both.0 both.1 outside, both.1))
+            is.which;
+      }
+
+  -- the commit that stands rests
+  pub stands_rests : (d : Disk) (k : Commit) (c : C) → Stands reading size d k c → Rests d k
+  stands_rests d k c s = record { quiet = s.quiet; rules = (rules_found (synced_image d) k c s.found).ruled }
+
+  -- at each moment of a publishing, and at its end
+  pub replaces : IsLocal reading → (before : Disk) (change : Change C) → CanReplace reading size before change → (d : Disk) → IsPublishing before change.new change.pieces (IsRuledBy change.old) (IsRuledBy change.new) d
+      → IsPublishing before change.new change.pieces (StandsAs reading size change.old change.was) (StandsAs reading size change.new change.will) d
+  replaces local before change can d p = record { touches = p.touches; begun = p.begun; leaves = λ image may. stands_as_either local before change can image (p.leaves image may) }
+
+  pub replaced : (before : Disk) (change : Change C) → CanReplace reading size before change → (d : Disk) → IsPublished before change.new change.pieces (IsRuledBy change.new) d
+      → IsPublished before change.new change.pieces (StandsAs reading size change.new change.will) d
+  replaced before change can d p = record {
+    quiet = p.quiet;
+    stands = made_stands (synced_image before) change (rules_found (synced_image before) change.old change.was can.stands.found).size_is can.made (synced_image d) p.stands p.holds
+        (λ n le out. ap (λ (s : Sector). s.synced) (p.touches n (out, λ e. omega (arith, low change.new.epoch))));
+    holds = p.holds;
+    touches = p.touches;
+    begun = p.begun;
+  }
+
+  -- a device without a commit holds no store
+  pub none_stands : (image : Image) → is_size size ≡ true → HoldsNoCommit image → standing reading size image ≡ no_store
+  unfolding ruling newer
+  none_stands image limits none = stands_nowhere image limits (λ i. newer (none.0 i) (none.1 i))
+
+  -- and the empty store stands, where its text spells a catalogue without runs
+  pub empty_stands : (image : Image) (c : C) → is_size size ≡ true → IsEmptyStore size image → reading.at size image (first_commit size) empty_text ≡ Ok c → reading.runs c ≡ [] → standing reading size image ≡ rules (first_commit size) c
+  unfolding runs_fault
+  empty_stands image c limits store spelled none =
+      let extent : is_extent size 4 (first_commit size).catalogue ≡ true = grind (arith, nat_tests) in
+      stands_as image (first_commit size) c limits store.rules
+      (ap (spelled_by reading size image (first_commit size)) (text_found size image (first_commit size) empty_text refl extent store.text) ∙ spelled)
+      (ap (runs_fault size (first_commit size).catalogue.run) none)

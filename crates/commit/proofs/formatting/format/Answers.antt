@@ -21,6 +21,12 @@ if_err (Err e) f = λ _ p. f p
 pub returns-then-is_some-clause-quiet : goal.returns-then-is_some-clause-quiet
 returns-then-is_some-clause-quiet g c = λ _ told. now_read _ _ (c.read_ruling.ensures.moments told)
 
+pub returns-in_err-clear_and_begin-clause-untouched : goal.returns-in_err-clear_and_begin-clause-untouched
+returns-in_err-clear_and_begin-clause-untouched g c = λ told some. absurd (some (c.in_ok-ruling.ensures.found told ∙ is_none _ (sym c.is_some.ensures ∙ c.if-is_some.false)))
+
+pub returns-clause-untouched : goal.returns-clause-untouched
+returns-clause-untouched g c = λ told some. absurd (some (c.in_ok-ruling.ensures.found told ∙ is_none _ (sym c.is_some.ensures ∙ c.if-is_some.false)))
+
 pub returns-in_err-map-clause-moments : goal.returns-in_err-map-clause-moments
 returns-in_err-map-clause-moments g c = λ told. weaken (λ d is. inl is) (c.read_ruling.ensures.moments told)
 

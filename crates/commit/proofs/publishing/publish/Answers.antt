@@ -1,9 +1,47 @@
-use Rattle.std.proofs.Common.{refl}
+use Rattle.std.proofs.Common.{◌≡◌, refl, subst, true, List, OnOk, Result, Ok, Err}
 use Rattle.sector_dev.specs.Disk.{now}
+use Rattle.sector_dev.specs.laws.Time.{weaken}
+use Rattle.segments.specs.declared.piece.Piece.{Piece}
+use Rattle.commit.specs.Publishing.{Publishes, EndsPublished}
+use Rattle.commit.specs.Replacing.{change_of, EndsReplaced}
+use Rattle.commit.specs.laws.Frame.{stands_as_either, stands_rests, replaces, replaced}
 use Rattle.commit.proofs.Moments.{left_old_or_new}
 use Rattle.commit.proofs.publishing.publish.Goals as goal
 
-pub returns-clause-left : goal.returns-clause-left
-returns-clause-left g c = λ told rests image left.
+on_ok : {T E P Q : Type 0} (r : Result T E) → (P → Q) → OnOk r P → OnOk r Q
+on_ok (Ok x) f p = f p
+on_ok (Err e) f p = tt
+
+pub returns-clause-moments : goal.returns-clause-moments
+returns-clause-moments g c = λ told can.
     let D = g.D.SectorDevice in
-    left_old_or_new c.args.old c.args.new c.args.pieces.now (now (D.story c.args.device.now)) c.requires.above c.requires.next rests _ _ refl (c.write_and_commit.ensures.moments told rests) image left
+    let R = g.C.ReadCatalogue in
+    let change = change_of R.plain_of c.args.old.now c.args.plan.now in
+    let rests = stands_rests R.reading (D.size c.args.device.now) _ change.old change.was can.stands in
+    let told_of = subst (λ (ps : List Piece). Publishes change.old change.new ps (D.story c.args.device.now) (D.story c.write_and_commit.new.device)) c.deref.ensures.value (c.write_and_commit.ensures.moments told) in
+    weaken (replaces R.reading (D.size c.args.device.now) g.met.C.ReadCatalogue.local (now (D.story c.args.device.now)) change can) (told_of rests)
+
+pub returns-clause-left : goal.returns-clause-left
+returns-clause-left g c = λ told can image left.
+    let D = g.D.SectorDevice in
+    let R = g.C.ReadCatalogue in
+    let change = change_of R.plain_of c.args.old.now c.args.plan.now in
+    let rests = stands_rests R.reading (D.size c.args.device.now) _ change.old change.was can.stands in
+    let told_of = subst (λ (ps : List Piece). Publishes change.old change.new ps (D.story c.args.device.now) (D.story c.write_and_commit.new.device)) c.deref.ensures.value (c.write_and_commit.ensures.moments told) in
+    stands_as_either R.reading (D.size c.args.device.now) g.met.C.ReadCatalogue.local (now (D.story c.args.device.now)) change can image
+    (left_old_or_new change.old change.new change.pieces (now (D.story c.args.device.now)) c.requires.above c.requires.next rests _ _ refl (told_of rests) image left)
+
+pub returns-clause-published : goal.returns-clause-published
+returns-clause-published g c =
+    let D = g.D.SectorDevice in
+    let R = g.C.ReadCatalogue in
+    let change = change_of R.plain_of c.args.old.now c.args.plan.now in
+    on_ok
+    {P = D.tells ≡ true → EndsPublished change.old change.new c.deref.result.now (D.story c.args.device.now) (D.story c.write_and_commit.new.device)}
+    {Q = D.tells ≡ true → EndsReplaced R.reading (D.size c.args.device.now) change (D.story c.args.device.now) (D.story c.write_and_commit.new.device)}
+    c.write_and_commit.result
+    (λ ends told can.
+    let rests = stands_rests R.reading (D.size c.args.device.now) _ change.old change.was can.stands in
+    let told_of = subst (λ (ps : List Piece). EndsPublished change.old change.new ps (D.story c.args.device.now) (D.story c.write_and_commit.new.device)) c.deref.ensures.value (ends told) in
+    replaced R.reading (D.size c.args.device.now) (now (D.story c.args.device.now)) change can _ (told_of rests))
+    c.write_and_commit.ensures.published

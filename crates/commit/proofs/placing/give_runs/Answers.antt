@@ -2,7 +2,7 @@ use Rattle.std.proofs.Common.{take, get_or, take_all, sym, subst}
 use Rattle.std.proofs.lemmas.List.{take_more}
 use Rattle.segments.specs.declared.run.Run.{Run}
 use Rattle.commit.specs.laws.Taking.{GivesAll, gives_none, gives_one_more}
-use Rattle.commit.proofs.placing.give_all.Goals as goal
+use Rattle.commit.proofs.placing.give_runs.Goals as goal
 
 abbrev none : Run
 none = record { start = 0; count = 0 }

@@ -1,0 +1,55 @@
+-- The answers of an opening.
+use Rattle.std.proofs.Common.{◌≡◌, ◌≤◌, ℕ, nat_le, true, false, List, Result, Ok, Err, IfOk, IfErr, Option, Some, refl, sym, ap, ◌∙◌, subst}
+use Rattle.std.proofs.lemmas.Bool.{and_parts, false_from_ne_true, leb-true}
+use Rattle.sector_dev.specs.Disk.{Disk, shown_image, flushed}
+use Rattle.commit.specs.declared.sector.Commit.{Commit}
+use Rattle.commit.specs.declared.cause.Cause.{Cause}
+use Rattle.commit.specs.declared.reading.OpenError.{OpenError}
+use Rattle.commit.specs.declared.reading.OpenError.TheVariants.{NotAStore, Damaged, Device, OutOfMemory}
+use Rattle.commit.specs.Standing.{Reading, Standing, Stands, is_size, text_at, spelled_by, named_by, damaged, rules, standing}
+use Rattle.commit.specs.Opening.{TellsCause, TellsStanding}
+
+-- a text that was read, and then its catalogue from the same disk
+pub named_then : {C : Type 0} (reading : Reading C) (size later : ℕ) (d e : Disk) (k : Commit) (text bytes : List ℕ) → later ≡ size → e ≡ d → bytes ≡ text → text_at size (shown_image d) k ≡ Ok text
+    → named_by reading size (shown_image d) k ≡ reading.at later (shown_image e) k bytes
+named_then reading size later d e k text bytes sizes disks texts found =
+    ap (spelled_by reading size (shown_image d) k) found ∙ (λ i. reading.at (sym sizes i) (shown_image (sym disks i)) k (sym texts i))
+
+-- the same of two readings that are equal
+pub ok_same : {T E C A : Type 0} (f : T → C) (x y : Result C Cause) (r : Result T E) → (A → x ≡ y) → IfOk r (λ c. A → y ≡ Ok (f c)) → IfOk r (λ c. A → x ≡ Ok (f c))
+ok_same f x y (Ok c) same h = λ a. same a ∙ h a
+ok_same f x y (Err e) same h = tt
+
+pub err_same : {T C A : Type 0} (x y : Result C Cause) (r : Result T OpenError) → (A → x ≡ y) → IfErr r (λ e. A → TellsCause e y) → IfErr r (λ e. A → TellsCause e x)
+err_same x y (Ok c) same h = tt
+err_same x y (Err e) same h = λ a. subst (TellsCause e) (sym (same a)) (h a)
+
+-- a cause that is told of a catalogue is told of the store
+pub told_of : {C : Type 0} (e : OpenError) (read : Result C Cause) (found : Standing C) → (e ≡ NotAStore → ⊥) → ((cause : Cause) → read ≡ Err cause → found ≡ damaged cause) → TellsCause e read → TellsStanding e found
+told_of NotAStore read found store is told = absurd (store refl)
+told_of (Damaged cause) read found store is told = is cause told
+told_of Device read found store is told = tt
+told_of OutOfMemory read found store is told = tt
+
+-- and so is one that is told of its runs
+pub told_by : {C : Type 0} (e : OpenError) (fault : Option Cause) (found : Standing C) → (e ≡ NotAStore → ⊥) → ((cause : Cause) → fault ≡ Some cause → found ≡ damaged cause) → ((cause : Cause) → e ≡ Damaged cause → fault ≡ Some cause) → TellsStanding e found
+told_by NotAStore fault found store is told = absurd (store refl)
+told_by (Damaged cause) fault found store is told = is cause (told cause refl)
+told_by Device fault found store is told = tt
+told_by OutOfMemory fault found store is told = tt
+
+-- the same disk under another name
+pub same_named : {C : Type 0} (reading : Reading C) (size later : ℕ) (d e : Disk) (k : Commit) → later ≡ size → e ≡ d → named_by reading size (shown_image d) k ≡ named_by reading later (shown_image e) k
+same_named reading size later d e k sizes disks = λ i. named_by reading (sym sizes i) (shown_image (sym disks i)) k
+
+-- what was found and then synced stands
+pub flushed_stands : {C : Type 0} (reading : Reading C) (size : ℕ) (d e : Disk) (k : Commit) (c : C) → e ≡ flushed d → standing reading size (shown_image d) ≡ rules k c → Stands reading size e k c
+unfolding flushed
+flushed_stands reading size d e k c is found = subst (λ (x : Disk). Stands reading size x k c) (sym is) (record { quiet = record { pending = λ n. refl; shown = λ n. refl }; found = found })
+
+-- a size outside the limits is none of a store
+pub no_size : (size : ℕ) → (is_size size ≡ true → ⊥) → is_size size ≡ false
+no_size size other = false_from_ne_true (is_size size) other
+
+pub within : (size : ℕ) → is_size size ≡ true → (16 ≤ size) × (size ≤ 4194304)
+within size is = let parts = and_parts (nat_le 16 size) (nat_le size 4194304) is in (leb-true _ _ parts.0, leb-true _ _ parts.1)

@@ -1,0 +1,183 @@
+-- Laws of runs that were taken for a plan: they are apart from one another and from those in use.
+use Rattle.std.specs.Prelude.{◌≡◌, ◌⊎◌, ◌≤◌, ◌<◌, ◌+◌, ◌^◌, ◌&&◌, ◌||◌, ℕ, Bool, nat_le, true, false, not, List, [], ◌∷◌, ◌++◌, length, map, refl}
+use Rattle.std.specs.Global.{Vec}
+use Rattle.std.proofs.Common.{inl, inr, sym, ap, ◌∙◌, subst, arith}
+use Rattle.std.proofs.lemmas.Bool.{and_parts, and_from, leb-true, le-leb, eq-eqb}
+use Rattle.segments.specs.declared.run.Run.{Run}
+use Rattle.segments.specs.declared.piece.Piece.{Piece}
+use Rattle.segments.specs.declared.entries.Usage.{Usage}
+use Rattle.segments.specs.declared.entries.UsageEntry.{UsageEntry}
+use Rattle.segments.specs.Runs.{OutOf, ApartFrom, AreApart, StartFrom}
+use Rattle.segments.specs.Sectors.{sector_count}
+use Rattle.segments.specs.Usages.{Space, TAKEN, is_used, given, usage_of, same_run, IsUsedIn}
+use Rattle.segments.specs.Writing.{AllFit, runs_of}
+use Rattle.segments.specs.laws.Runs.{swapped, out_of_apart}
+use Rattle.segments.specs.laws.Usages.{same_itself}
+use Rattle.commit.specs.declared.sector.Commit.{Commit}
+use Rattle.commit.specs.Placing.{is_among, times_among, Uses, sectors_of, counts_of, contents_of}
+use Rattle.commit.specs.Standing.{is_size, is_extent, InSome}
+use Rattle.commit.specs.Publishing.{IsPlan, next_commit}
+use Rattle.commit.specs.laws.Taking.{Took, TookAll, GivesAll, by_among}
+
+-- one run is taken for each number
+pub took_length : (size : ℕ) (used : Run → Type 0) (ns : List ℕ) (rs : List Run) → Took size used ns rs → length rs ≡ length ns
+took_length size used [] [] took = refl
+took_length size used [] (r ∷ rs) took = absurd took
+took_length size used (n ∷ ns) [] took = absurd took
+took_length size used (n ∷ ns) (r ∷ rs) took = let more = took_length size (λ other. used other ⊎ (other ≡ r)) ns rs took.1 in omega (arith, more)
+
+-- a run that was in use shares no sector with those that were taken then
+pub used_apart : (size : ℕ) (used : Run → Type 0) (ns : List ℕ) (rs : List Run) → Took size used ns rs → (run : Run) → used run → ApartFrom run rs
+used_apart size used ns [] took run is = tt
+used_apart size used [] (r ∷ rs) took run is = absurd took
+used_apart size used (n ∷ ns) (r ∷ rs) took run is = (swapped r run (took.0.1.apart run is), used_apart size (λ other. used other ⊎ (other ≡ r)) ns rs took.1 run (inl is))
+
+-- nor do two of these
+pub took_apart : (size : ℕ) (used : Run → Type 0) (ns : List ℕ) (rs : List Run) → Took size used ns rs → AreApart rs
+took_apart size used ns [] took = tt
+took_apart size used [] (r ∷ rs) took = absurd took
+took_apart size used (n ∷ ns) (r ∷ rs) took =
+    (used_apart size (λ other. used other ⊎ (other ≡ r)) ns rs took.1 r (inr refl), took_apart size (λ other. used other ⊎ (other ≡ r)) ns rs took.1)
+
+pub took_above : (size : ℕ) (used : Run → Type 0) (ns : List ℕ) (rs : List Run) → Took size used ns rs → StartFrom 2 rs
+took_above size used ns [] took = tt
+took_above size used [] (r ∷ rs) took = absurd took
+took_above size used (n ∷ ns) (r ∷ rs) took = (took.0.1.above, took_above size (λ other. used other ⊎ (other ≡ r)) ns rs took.1)
+
+-- pieces fit into runs that were taken for them
+pub took_fit : (size : ℕ) (used : Run → Type 0) (pieces : List Piece) → Took size used (map sectors_of (contents_of pieces)) (runs_of pieces) → AllFit size pieces
+took_fit size used [] took = tt
+took_fit size used (p ∷ ps) took = (took.0.1.within, omega (arith, took.0.0), took_fit size (λ other. used other ⊎ (other ≡ p.run)) ps took.1)
+
+counts_more : (pieces : List Piece) (run : Run) (text : Vec ℕ) (bytes : ℕ) → sector_count bytes ≡ sectors_of text → map sectors_of (contents_of (pieces ++ record { run = run; bytes = text } ∷ [])) ≡ counts_of (contents_of pieces) bytes
+counts_more [] run text bytes is = ap (λ (n : ℕ). n ∷ []) (sym is)
+counts_more (p ∷ ps) run text bytes is = ap (λ (ns : List ℕ). sectors_of p.bytes ∷ ns) (counts_more ps run text bytes is)
+
+runs_more : (pieces : List Piece) (run : Run) (text : Vec ℕ) → runs_of (pieces ++ record { run = run; bytes = text } ∷ []) ≡ runs_of pieces ++ run ∷ []
+runs_more [] run text = refl
+runs_more (p ∷ ps) run text = ap (λ (rs : List Run). p.run ∷ rs) (runs_more ps run text)
+
+fit_last : (size : ℕ) (pieces : List Piece) (p : Piece) → AllFit size (pieces ++ p ∷ []) → (p.run.start + p.run.count ≤ size) × (sectors_of p.bytes ≤ p.run.count)
+fit_last size [] p fit = (fit.0, fit.1)
+fit_last size (x ∷ xs) p fit = fit_last size xs p fit.2
+
+-- what was placed, with the text behind it, can be published as the next commit
+pub placed_plan : (old new : Space) (pieces : List Piece) (run : Run) (text : Vec ℕ) (bytes : ℕ) (k : Commit) → is_size old.size ≡ true → k.device_sectors ≡ old.size → k.epoch + 1 < 2 ^ 64
+    → TookAll old new (counts_of (contents_of pieces) bytes) (runs_of pieces ++ run ∷ []) → sector_count bytes ≡ sectors_of text
+    → IsPlan old.size k (next_commit k run (length text.items)) (pieces ++ record { run = run; bytes = text } ∷ [])
+placed_plan old new pieces run text bytes k limits device epoch all sectors =
+    let whole : List Piece = pieces ++ record { run = run; bytes = text } ∷ [] in
+    let runs : runs_of whole ≡ runs_of pieces ++ run ∷ [] = runs_more pieces run text in
+    let counts : map sectors_of (contents_of whole) ≡ counts_of (contents_of pieces) bytes = counts_more pieces run text bytes sectors in
+    let took : Took old.size (IsUsedIn old.entries) (map sectors_of (contents_of whole)) (runs_of whole) =
+    subst (λ (ns : List ℕ). Took old.size (IsUsedIn old.entries) ns (runs_of whole)) (sym counts)
+    (subst (λ (rs : List Run). Took old.size (IsUsedIn old.entries) (counts_of (contents_of pieces) bytes) rs) (sym runs) all.took) in
+    let fit : AllFit old.size whole = took_fit old.size (IsUsedIn old.entries) whole took in
+    let last = fit_last old.size pieces (record { run = run; bytes = text }) fit in
+    let most : old.size ≤ 4194304 = leb-true _ _ (and_parts (nat_le 16 old.size) (nat_le old.size 4194304) limits).1 in
+    record {
+      limits = limits;
+      fit = fit;
+      apart = took_apart old.size (IsUsedIn old.entries) (map sectors_of (contents_of whole)) (runs_of whole) took;
+      above = took_above old.size (IsUsedIn old.entries) (map sectors_of (contents_of whole)) (runs_of whole) took;
+      next = refl;
+      writable = record {
+        epoch = omega arith;
+        epoch_fits = epoch;
+        start_fits = omega (arith, last.0);
+        count_fits = omega (arith, last.0);
+        bytes_fit = omega (arith, last.0, last.1);
+        sectors_fit = omega arith;
+      };
+    }
+
+-- the same in the words of `place` and `plan_next`
+pub plan_follows : (old new : Space) (contents : List (Vec ℕ)) (bytes : ℕ) (pieces plan : List Piece) (runs : List Run) (run : Run) (text : Vec ℕ) (k next : Commit)
+    → is_size old.size ≡ true → k.device_sectors ≡ old.size → k.epoch + 1 < 2 ^ 64
+    → TookAll old new (counts_of contents bytes) runs → runs ≡ runs_of pieces ++ run ∷ [] → contents_of pieces ≡ contents → sector_count bytes ≡ sectors_of text
+    → next ≡ next_commit k run (length text.items) → plan ≡ pieces ++ record { run = run; bytes = text } ∷ [] → IsPlan old.size k next plan
+plan_follows old new contents bytes pieces plan runs run text k next limits device epoch all runs_are contents_are sectors next_is plan_is =
+    let took : TookAll old new (counts_of (contents_of pieces) bytes) (runs_of pieces ++ run ∷ []) =
+    subst (λ (vs : List (Vec ℕ)). TookAll old new (counts_of vs bytes) (runs_of pieces ++ run ∷ [])) (sym contents_are) (subst (λ (rs : List Run). TookAll old new (counts_of contents bytes) rs) runs_are all) in
+    subst (λ (ps : List Piece). IsPlan old.size k next ps) (sym plan_is)
+    (subst (λ (c : Commit). IsPlan old.size k c (pieces ++ record { run = run; bytes = text } ∷ [])) (sym next_is) (placed_plan old new pieces run text bytes k limits device epoch took sectors))
+
+-- the last run that was taken
+took_last : (size : ℕ) (used : Run → Type 0) (ns : List ℕ) (rs : List Run) (n : ℕ) (r : Run) → Took size used (ns ++ n ∷ []) (rs ++ r ∷ []) → (r.count ≡ n) × (2 ≤ r.start) × (r.start + r.count ≤ size)
+took_last size used [] [] n r took = (took.0.0, took.0.1.above, took.0.1.within)
+took_last size used [] (x ∷ []) n r took = absurd took.1
+took_last size used [] (x ∷ y ∷ ys) n r took = absurd took.1
+took_last size used (m ∷ []) [] n r took = absurd took.1
+took_last size used (m ∷ l ∷ ls) [] n r took = absurd took.1
+took_last size used (m ∷ ms) (x ∷ xs) n r took = took_last size (λ other. used other ⊎ (other ≡ x)) ms xs n r took.1
+
+-- the text's run is that of a catalogue
+pub placed_extent : (old new : Space) (counts : List ℕ) (taken : List Run) (run : Run) (bytes : ℕ) → 4 ≤ bytes → TookAll old new (counts ++ sector_count bytes ∷ []) (taken ++ run ∷ []) → is_extent old.size 4 (record { run = run; bytes = bytes }) ≡ true
+placed_extent old new counts taken run bytes least all =
+    let last = took_last old.size (IsUsedIn old.entries) counts taken (sector_count bytes) run all.took in
+    let some : 1 ≤ run.count = omega (arith, last.0) in
+    and_from _ _ (le-leb _ _ least) (and_from _ _ (eq-eqb _ _ last.0) (and_from _ _ (le-leb _ _ last.1) (and_from _ _ (le-leb _ _ some) (le-leb _ _ last.2))))
+
+-- no sector of a run in use lies in one that was taken
+pub taken_free : (old new : Space) (counts : List ℕ) (taken runs : List Run) → TookAll old new counts taken → ((run : Run) → is_among runs run ≡ true → IsUsedIn old.entries run) → (n : ℕ) → InSome runs n → OutOf taken n
+taken_free old new counts taken [] all used n within = absurd within
+taken_free old new counts taken (r ∷ rs) all used n (inl here) =
+    out_of_apart r taken n (used_apart old.size (IsUsedIn old.entries) counts taken all.took r (used r (ap (λ (t : Bool). t || is_among rs r) (same_itself r)))) here.0 here.1
+taken_free old new counts taken (r ∷ rs) all used n (inr later) = taken_free old new counts taken rs all (λ run is. used run (ap (λ (t : Bool). same_run r run || t) is ∙ last (same_run r run))) n later
+  where
+    last : (t : Bool) → (t || true) ≡ true
+    last true = refl
+    last false = refl
+
+-- the runs of a catalogue are in use
+pub uses_used : (entries : List UsageEntry) (runs pinned : List Run) → Uses entries runs pinned → (run : Run) → is_among runs run ≡ true → IsUsedIn entries run
+uses_used entries runs pinned uses run is = ap is_used (uses run) ∙ ap (λ (t : Bool). is_used (record { taken = t; pins = times_among pinned run })) is
+
+among_both : (xs ys : List Run) (run : Run) → is_among (xs ++ ys) run ≡ (is_among xs run || is_among ys run)
+among_both [] ys run = refl
+among_both (x ∷ xs) ys run = ap (λ (t : Bool). same_run x run || t) (among_both xs ys run) ∙ by_first (same_run x run)
+  where
+    by_first : (t : Bool) → (t || (is_among xs run || is_among ys run)) ≡ ((t || is_among xs run) || is_among ys run)
+    by_first true = refl
+    by_first false = refl
+
+-- after runs were taken, they are in use beside those that were
+pub taken_uses : (old new : Space) (counts : List ℕ) (taken runs pinned : List Run) → TookAll old new counts taken → Uses old.entries runs pinned → Uses new.entries (runs ++ taken) pinned
+taken_uses old new counts taken runs pinned all uses run = all.usages run ∙ by_run (is_among taken run) refl ∙ (λ i. record { taken = sym (among_both runs taken run) i; pins = times_among pinned run })
+  where
+    last : (t : Bool) → true ≡ (t || true)
+    last true = refl
+    last false = refl
+
+    first : (t : Bool) → t ≡ (t || false)
+    first true = refl
+    first false = refl
+
+    by_run : (t : Bool) → is_among taken run ≡ t → by_among TAKEN (usage_of old.entries run) (is_among taken run) ≡ record { taken = is_among runs run || is_among taken run; pins = times_among pinned run }
+    by_run true among =
+        let none : 0 ≡ times_among pinned run = ap (λ (u : Usage). u.pins) (sym (all.fresh run among) ∙ uses run) in
+        ap (by_among TAKEN (usage_of old.entries run)) among
+        ∙ (λ i. record { taken = (last (is_among runs run) ∙ ap (λ (t : Bool). is_among runs run || t) (sym among)) i; pins = none i })
+    by_run false among =
+        ap (by_among TAKEN (usage_of old.entries run)) among ∙ uses run
+        ∙ (λ i. record { taken = (first (is_among runs run) ∙ ap (λ (t : Bool). is_among runs run || t) (sym among)) i; pins = times_among pinned run })
+
+-- after runs were given back, those in use are the others
+pub given_uses : (old new : Space) (back runs left pinned : List Run) → GivesAll old new back → Uses old.entries runs pinned → ((run : Run) → is_among left run ≡ (is_among runs run && not (is_among back run))) → Uses new.entries left pinned
+given_uses old new back runs left pinned gives uses others run = gives.usages run ∙ by_run (is_among back run) refl ∙ (λ i. record { taken = sym (others run) i; pins = times_among pinned run })
+  where
+    last : (t : Bool) → false ≡ (t && false)
+    last true = refl
+    last false = refl
+
+    first : (t : Bool) → t ≡ (t && true)
+    first true = refl
+    first false = refl
+
+    by_run : (t : Bool) → is_among back run ≡ t → by_among (given (usage_of old.entries run)) (usage_of old.entries run) (is_among back run) ≡ record { taken = is_among runs run && not (is_among back run); pins = times_among pinned run }
+    by_run true among =
+        ap (by_among (given (usage_of old.entries run)) (usage_of old.entries run)) among ∙ ap given (uses run)
+        ∙ (λ i. record { taken = (last (is_among runs run) ∙ ap (λ (t : Bool). is_among runs run && not t) (sym among)) i; pins = times_among pinned run })
+    by_run false among =
+        ap (by_among (given (usage_of old.entries run)) (usage_of old.entries run)) among ∙ uses run
+        ∙ (λ i. record { taken = (first (is_among runs run) ∙ ap (λ (t : Bool). is_among runs run && not t) (sym among)) i; pins = times_among pinned run })
