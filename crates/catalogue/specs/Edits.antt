@@ -1,0 +1,42 @@
+-- Changes of a catalogue.
+use Rattle.std.specs.Prelude.{ℕ, if◌then◌else◌, List, [], ◌∷◌, ◌++◌, map, find, Option, Some, None}
+use Rattle.std.specs.Str.{bytes_eq}
+use Rattle.std.specs.Cmp.Lexicographic.{slice_cmp}
+use Rattle.std.specs.Ordering.{nat_cmp, match_ordering}
+use Rattle.catalogue.specs.Entries.{PlainEntry, PlainCatalogue, row_count}
+use Rattle.catalogue.specs.declared.entry.Segment.{Segment}
+
+-- the entry of a name
+abbrev pub entry_of : PlainCatalogue → List ℕ → Option PlainEntry
+entry_of c name = find (λ e. bytes_eq e.name name) c
+
+-- with this entry in its place, instead of the one of its name
+abbrev pub with_entry : PlainCatalogue → PlainEntry → PlainCatalogue
+with_entry [] e = e ∷ []
+with_entry (x ∷ xs) e = match_ordering (slice_cmp nat_cmp x.name e.name) (x ∷ with_entry xs e) (e ∷ xs) (e ∷ (x ∷ xs))
+
+-- without the entry of a name
+abbrev pub without : PlainCatalogue → List ℕ → PlainCatalogue
+without [] name = []
+without (x ∷ xs) name = if bytes_eq x.name name then xs else x ∷ without xs name
+
+-- the same entry under another name
+abbrev pub named : List ℕ → PlainEntry → PlainEntry
+named name e = record { name = name; schema = e.schema; segments = e.segments }
+
+-- with the entry of one name under another one
+abbrev pub renamed : PlainCatalogue → List ℕ → List ℕ → PlainCatalogue
+renamed c from to = elim (entry_of c from) [ None ↦ c | Some e ↦ with_entry (without c from) (named to e) ]
+
+-- with these segments for the table of a name; with more of them behind those that it has
+abbrev pub with_segments : PlainCatalogue → List ℕ → List Segment → PlainCatalogue
+with_segments [] name segments = []
+with_segments (x ∷ xs) name segments =
+    if bytes_eq x.name name then record { name = x.name; schema = x.schema; segments = segments } ∷ xs else x ∷ with_segments xs name segments
+
+abbrev pub with_more : PlainCatalogue → List ℕ → List Segment → PlainCatalogue
+with_more c name more = elim (entry_of c name) [ None ↦ c | Some e ↦ with_segments c name (e.segments ++ more) ]
+
+-- the name of each table and its rows
+abbrev pub tables_of : PlainCatalogue → List (List ℕ × ℕ)
+tables_of c = map (λ e. (e.name, row_count e)) c

@@ -1,0 +1,87 @@
+-- What a catalogue keeps: the name of each table, its schema and its segments (docs/formats/store.md).
+use Rattle.std.specs.Prelude.{◌≡◌, ◌≤◌, ◌^◌, ◌==◌, ◌&&◌, ◌||◌, ℕ, Bool, true, nat_le, nat_lt, List, [], ◌∷◌, length, map, flat_map, sum_by, string_bytes}
+use Rattle.std.specs.List.{list_all}
+use Rattle.std.specs.Cmp.Lexicographic.{slice_cmp}
+use Rattle.std.specs.Ordering.{nat_cmp, is_lt}
+use Rattle.arrow_schema.specs.Column.{PlainSchema}
+use Rattle.arrow_schema.specs.View.{schema_of}
+use Rattle.segments.specs.Sectors.{sector_count}
+use Rattle.segments.specs.declared.run.Run.{Run}
+use Rattle.catalogue.specs.Schemas.{is_within_limits}
+use Rattle.catalogue.specs.declared.limits.TheConstants.{MAX_NAME_BYTES, MAX_SEGMENT_ROWS, MAX_TABLES, MAX_SEGMENTS}
+use Rattle.catalogue.specs.declared.entry.Segment.{Segment}
+use Rattle.catalogue.specs.declared.entry.Entry.{Entry}
+
+-- a table as the catalogue keeps it
+pub record PlainEntry : Type 0 where
+  pub name : List ℕ
+  pub schema : PlainSchema
+  pub segments : List Segment
+
+-- the tables in order
+abbrev pub PlainCatalogue : Type 0
+PlainCatalogue = List PlainEntry
+
+-- what an entry of the code is
+abbrev pub plain_entry : Entry → PlainEntry
+plain_entry e = record { name = string_bytes e.name; schema = schema_of e.schema; segments = e.segments.items }
+
+-- a number from this one to that one
+abbrev pub is_between : ℕ → ℕ → ℕ → Bool
+is_between low high n = nat_le low n && nat_le n high
+
+-- an ASCII letter or digit, `_`, `-` or `.`
+abbrev pub is_name_byte : ℕ → Bool
+is_name_byte b = is_between 97 122 b || (is_between 65 90 b || (is_between 48 57 b || (b == 95 || (b == 45 || b == 46))))
+
+-- a name of a table: 1 to 64 such bytes
+abbrev pub is_name : List ℕ → Bool
+is_name name = is_between 1 MAX_NAME_BYTES (length name) && list_all is_name_byte name
+
+-- a segment has some bytes, just the sectors that they need, and 1 to 4,096 rows; its numbers have 64 bits
+abbrev pub is_segment : Segment → Bool
+is_segment s =
+    (nat_lt s.place.run.start (2 ^ 64) && nat_lt s.place.bytes (2 ^ 64))
+    && (nat_le 1 s.place.bytes && ((s.place.run.count == sector_count s.place.bytes) && is_between 1 MAX_SEGMENT_ROWS s.rows))
+
+-- an entry that may stand
+abbrev pub is_entry : PlainEntry → Bool
+is_entry e = is_name e.name && (is_within_limits e.schema && list_all is_segment e.segments)
+
+abbrev pub names_of : PlainCatalogue → List (List ℕ)
+names_of c = map (λ e. e.name) c
+
+-- the name comes before the first of these, byte by byte
+abbrev pub comes_before : List ℕ → List (List ℕ) → Bool
+comes_before name [] = true
+comes_before name (other ∷ others) = is_lt (slice_cmp nat_cmp name other)
+
+-- each name comes before the next, so none stands twice
+abbrev pub ascends : List (List ℕ) → Bool
+ascends [] = true
+ascends (name ∷ names) = comes_before name names && ascends names
+
+-- the rows of a table
+abbrev pub row_count : PlainEntry → ℕ
+row_count e = sum_by (λ (s : Segment). s.rows) e.segments
+
+abbrev pub segment_count : PlainCatalogue → ℕ
+segment_count c = sum_by (λ e. length e.segments) c
+
+-- the runs that it names, table after table
+abbrev pub runs_in : PlainEntry → List Run
+runs_in e = map (λ (s : Segment). s.place.run) e.segments
+
+abbrev pub runs_of : PlainCatalogue → List Run
+runs_of c = flat_map runs_in c
+
+-- a catalogue of a store: its entries in order of their names, within the limits of a store
+pub record IsCatalogue (c : PlainCatalogue) : Type 0 where
+  pub entries : list_all is_entry c ≡ true
+  pub order : ascends (names_of c) ≡ true
+  pub tables : length c ≤ MAX_TABLES
+  pub segments : segment_count c ≤ MAX_SEGMENTS
+
+-- the same as a test
+abbrev pub is_catalogue : PlainCatalogue → Bool
+is_catalogue c = (list_all is_entry c && ascends (names_of c)) && (nat_le (length c) MAX_TABLES && nat_le (segment_count c) MAX_SEGMENTS)

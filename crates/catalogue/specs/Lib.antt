@@ -1,0 +1,5 @@
+pub mod Schemas
+pub mod Entries
+pub mod Edits
+pub mod laws
+pub mod inner

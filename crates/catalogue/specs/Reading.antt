@@ -1,0 +1,118 @@
+-- The catalogue that a text spells. A part of a text is read as a value and the bytes behind it.
+use Rattle.std.specs.Prelude.{◌≡◌, ◌&&◌, ◌==◌, ℕ, zero, suc, nat_le, if◌then◌else◌, List, [], ◌∷◌, length, take, drop, Option, Some, None, Result, Ok, Err}
+use Rattle.std.specs.Str.{bytes_eq}
+use Rattle.byteorder.specs.Endian.{little_number}
+use Rattle.arrow_schema.specs.Column.{PlainSchema}
+use Rattle.ipc_message.specs.declared.fault.Fault.{Fault}
+use Rattle.ipc_message.specs.declared.error.ImportError.{ImportError}
+use Rattle.ipc_message.specs.declared.error.ImportError.TheVariants as errors
+use Rattle.ipc_message.specs.Raw.{RawHeader, RawSchema, schema_header, dictionary_header, batch_header}
+use Rattle.ipc_message.specs.Framing.{Envelope, NextMessage, next_message, end_of_stream, message}
+use Rattle.ipc_message.specs.Header.{supported_codes, header}
+use Rattle.ipc_message.specs.Checks.{checked_schema}
+use Rattle.ipc_write.specs.Written.{schema_message}
+use Rattle.catalogue.specs.Entries.{PlainEntry, PlainCatalogue, is_name, is_catalogue}
+use Rattle.catalogue.specs.declared.entry.Segment.{Segment}
+use Rattle.catalogue.specs.declared.decoding.DecodeError.{DecodeError}
+use Rattle.catalogue.specs.declared.decoding.DecodeError.TheVariants.{NoText, OutOfMemory}
+
+infixl 10 ◌>>=◌
+abbrev pub ◌>>=◌ : {A B : Type 0} → Option A → (A → Option B) → Option B
+None >>= f = None
+(Some x) >>= f = f x
+
+-- what a call answered, seen by `view`, is what is read, unless memory was refused
+abbrev pub Fails : {Y : Type 0} → DecodeError → Option Y → Type 0
+Fails OutOfMemory read = Unit {0}
+Fails NoText read = read ≡ None
+
+abbrev pub Gives : {X Y : Type 0} → (X → Y) → Result X DecodeError → Option Y → Type 0
+Gives view (Ok x) read = read ≡ Some (view x)
+Gives view (Err e) read = Fails e read
+
+-- why a message was not read, as told of the text
+abbrev pub decode_error : ImportError → DecodeError
+decode_error (errors.Fault f) = NoText
+decode_error errors.OutOfMemory = OutOfMemory
+
+-- a number of so many bytes
+abbrev pub number_at : ℕ → List ℕ → Option (ℕ × List ℕ)
+number_at size bytes = if nat_le size (length bytes) then Some (little_number size bytes, drop size bytes) else None
+
+-- four bytes of length, and so many bytes
+unfoldable pub sized_at : List ℕ → Option (List ℕ × List ℕ)
+sized_at bytes = do
+  size ← number_at 4 bytes
+  if nat_le size.0 (length size.1) then Some (take size.0 size.1, drop size.0 size.1) else None
+
+-- so many parts
+unfoldable pub many_at : {A : Type 0} → (List ℕ → Option (A × List ℕ)) → ℕ → List ℕ → Option (List A × List ℕ)
+many_at one_at zero bytes = Some ([], bytes)
+many_at one_at (suc count) bytes = do
+  first ← one_at bytes
+  others ← many_at one_at count first.1
+  Some (first.0 ∷ others.0, others.1)
+
+-- four bytes of number, and so many parts
+abbrev pub counted_at : {A : Type 0} → (List ℕ → Option (A × List ℕ)) → List ℕ → Option (List A × List ℕ)
+counted_at one_at bytes = do
+  count ← number_at 4 bytes
+  many_at one_at count.0 count.1
+
+unfoldable pub segment_at : List ℕ → Option (Segment × List ℕ)
+segment_at bytes = do
+  start ← number_at 8 bytes
+  count ← number_at 8 start.1
+  size ← number_at 8 count.1
+  rows ← number_at 8 size.1
+  Some (record { place = record { run = record { start = start.0; count = count.0 }; bytes = size.0 }; rows = rows.0 }, rows.1)
+
+-- ---- the schema that a message has
+
+abbrev pub unfaulted : {A : Type 0} → Result A Fault → Option A
+unfaulted (Ok x) = Some x
+unfaulted (Err f) = None
+
+abbrev pub message_in : NextMessage → Option Envelope
+message_in (message m) = Some m
+message_in end_of_stream = None
+
+abbrev pub schema_of_header : RawHeader → Option RawSchema
+schema_of_header (schema_header s) = Some s
+schema_of_header (dictionary_header d) = None
+schema_of_header (batch_header b) = None
+
+unfoldable pub raw_schema_in : List ℕ → Option RawSchema
+raw_schema_in bytes = do
+  next ← unfaulted (next_message bytes)
+  envelope ← message_in next
+  found ← unfaulted (header supported_codes envelope.metadata)
+  schema_of_header found
+
+-- only the bytes that a schema is written as are its message
+unfoldable pub schema_in : List ℕ → Option PlainSchema
+schema_in bytes = do
+  raw ← raw_schema_in bytes
+  schema ← unfaulted (checked_schema supported_codes raw)
+  if bytes_eq (schema_message schema) bytes then Some schema else None
+
+-- ---- the catalogue
+
+-- the table of this name
+unfoldable pub table_at : List ℕ → List ℕ → Option (PlainEntry × List ℕ)
+table_at name bytes = do
+  text ← sized_at bytes
+  schema ← schema_in text.0
+  segments ← counted_at segment_at text.1
+  Some (record { name = name; schema = schema; segments = segments.0 }, segments.1)
+
+unfoldable pub entry_at : List ℕ → Option (PlainEntry × List ℕ)
+entry_at bytes = do
+  name ← sized_at bytes
+  if is_name name.0 then table_at name.0 name.1 else None
+
+-- the catalogue whose text these bytes are: its entries, which may stand so, and nothing behind them
+unfoldable pub catalogue_at : List ℕ → Option PlainCatalogue
+catalogue_at bytes = do
+  entries ← counted_at entry_at bytes
+  if (length entries.1 == 0) && is_catalogue entries.0 then Some entries.0 else None

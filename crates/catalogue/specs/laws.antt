@@ -1,0 +1,2 @@
+-- Laws that the crates above use.
+pub mod Kept

@@ -1,0 +1,77 @@
+-- The tests of a catalogue say what they test.
+use Rattle.std.proofs.Common.{◌≡◌, ◌&&◌, true, length, arith}
+use Rattle.std.specs.Prelude.{nat_le}
+use Rattle.std.specs.List.{list_all}
+use Rattle.std.specs.Str.{is_utf8}
+use Rattle.std.proofs.lemmas.Bool.{and_parts, and_from, leb-true, le-leb}
+use Rattle.std.proofs.lemmas.List.Sums.{AllPass-from_list_all, list_all-from_AllPass}
+use Rattle.arrow_schema.specs.declared.limits.TheConstants.{MAX_FIELDS, MAX_DEPTH, MAX_PAIRS, MAX_TEXT_BYTES}
+use Rattle.arrow_schema.specs.Column.{columns_of, PlainSchema}
+use Rattle.arrow_schema.specs.Preorder.{every_column, depth_all}
+use Rattle.arrow_schema.specs.Limits.{count_of_pairs, count_of_bytes, has_number_in_range, has_flat_dictionary, has_bit_widths, has_utf8_texts, texts_of_pairs, IsWithinLimits}
+use Rattle.catalogue.specs.declared.limits.TheConstants.{MAX_TABLES, MAX_SEGMENTS}
+use Rattle.catalogue.specs.Schemas.{is_small, has_sound_columns, is_within_limits}
+use Rattle.catalogue.specs.Entries.{PlainEntry, PlainCatalogue, is_name, is_segment, is_entry, names_of, ascends, segment_count, IsCatalogue, is_catalogue}
+
+pub passes_limits : (s : PlainSchema) → IsWithinLimits s → is_within_limits s ≡ true
+unfolding is_within_limits
+passes_limits s w =
+    let small : is_small s ≡ true =
+      and_from _ _ (and_from _ _ (le-leb _ _ w.levels) (le-leb _ _ w.fields)) (and_from _ _ (le-leb _ _ w.pairs) (le-leb _ _ w.bytes)) in
+    let sound : has_sound_columns s ≡ true =
+      and_from _ _
+      (and_from _ _ (list_all-from_AllPass has_number_in_range (every_column s) w.numbers) (list_all-from_AllPass has_flat_dictionary (every_column s) w.dictionaries))
+      (and_from _ _ (list_all-from_AllPass has_bit_widths (every_column s) w.widths) (list_all-from_AllPass has_utf8_texts (every_column s) w.texts)) in
+    and_from (is_small s) _ small (and_from (has_sound_columns s) _ sound (list_all-from_AllPass is_utf8 (texts_of_pairs s.pairs) w.own_texts))
+
+pub is_within : (s : PlainSchema) → is_within_limits s ≡ true → IsWithinLimits s
+unfolding is_within_limits
+is_within s h =
+    let parts = and_parts (is_small s) (has_sound_columns s && list_all is_utf8 (texts_of_pairs s.pairs)) h in
+    let rest = and_parts (has_sound_columns s) (list_all is_utf8 (texts_of_pairs s.pairs)) parts.1 in
+    let small = and_parts (nat_le (depth_all (columns_of s.columns)) MAX_DEPTH && nat_le (length (every_column s)) MAX_FIELDS) (nat_le (count_of_pairs s) MAX_PAIRS && nat_le (count_of_bytes s) MAX_TEXT_BYTES) parts.0 in
+    let levels = and_parts (nat_le (depth_all (columns_of s.columns)) MAX_DEPTH) (nat_le (length (every_column s)) MAX_FIELDS) small.0 in
+    let pairs = and_parts (nat_le (count_of_pairs s) MAX_PAIRS) (nat_le (count_of_bytes s) MAX_TEXT_BYTES) small.1 in
+    let sound = and_parts (list_all has_number_in_range (every_column s) && list_all has_flat_dictionary (every_column s)) (list_all has_bit_widths (every_column s) && list_all has_utf8_texts (every_column s)) rest.0 in
+    let numbers = and_parts (list_all has_number_in_range (every_column s)) (list_all has_flat_dictionary (every_column s)) sound.0 in
+    let texts = and_parts (list_all has_bit_widths (every_column s)) (list_all has_utf8_texts (every_column s)) sound.1 in
+    record {
+      levels = leb-true _ _ levels.0;
+      fields = leb-true _ _ levels.1;
+      pairs = leb-true _ _ pairs.0;
+      bytes = leb-true _ _ pairs.1;
+      numbers = AllPass-from_list_all has_number_in_range (every_column s) numbers.0;
+      dictionaries = AllPass-from_list_all has_flat_dictionary (every_column s) numbers.1;
+      widths = AllPass-from_list_all has_bit_widths (every_column s) texts.0;
+      texts = AllPass-from_list_all has_utf8_texts (every_column s) texts.1;
+      own_texts = AllPass-from_list_all is_utf8 (texts_of_pairs s.pairs) rest.1;
+    }
+
+-- an entry of these parts may stand
+pub entry_stands : (e : PlainEntry) → is_name e.name ≡ true → IsWithinLimits e.schema → list_all is_segment e.segments ≡ true → is_entry e ≡ true
+entry_stands e name schema segments = and_from (is_name e.name) (is_within_limits e.schema && list_all is_segment e.segments) name (and_from (is_within_limits e.schema) (list_all is_segment e.segments) (passes_limits e.schema schema) segments)
+
+-- what is known of one that stands
+pub record IsEntry (e : PlainEntry) : Type 0 where
+  pub name : is_name e.name ≡ true
+  pub schema : IsWithinLimits e.schema
+  pub segments : list_all is_segment e.segments ≡ true
+
+pub entry_is : (e : PlainEntry) → is_entry e ≡ true → IsEntry e
+entry_is e h =
+    let parts = and_parts (is_name e.name) (is_within_limits e.schema && list_all is_segment e.segments) h in
+    let rest = and_parts (is_within_limits e.schema) (list_all is_segment e.segments) parts.1 in
+    record { name = parts.0; schema = is_within e.schema rest.0; segments = rest.1 }
+
+pub passes_catalogue : (c : PlainCatalogue) → IsCatalogue c → is_catalogue c ≡ true
+passes_catalogue c k =
+    and_from (list_all is_entry c && ascends (names_of c)) (nat_le (length c) MAX_TABLES && nat_le (segment_count c) MAX_SEGMENTS)
+    (and_from (list_all is_entry c) (ascends (names_of c)) k.entries k.order)
+    (and_from (nat_le (length c) MAX_TABLES) (nat_le (segment_count c) MAX_SEGMENTS) (le-leb _ _ k.tables) (le-leb _ _ k.segments))
+
+pub catalogue_is : (c : PlainCatalogue) → is_catalogue c ≡ true → IsCatalogue c
+catalogue_is c h =
+    let parts = and_parts (list_all is_entry c && ascends (names_of c)) (nat_le (length c) MAX_TABLES && nat_le (segment_count c) MAX_SEGMENTS) h in
+    let front = and_parts (list_all is_entry c) (ascends (names_of c)) parts.0 in
+    let back = and_parts (nat_le (length c) MAX_TABLES) (nat_le (segment_count c) MAX_SEGMENTS) parts.1 in
+    record { entries = front.0; order = front.1; tables = leb-true _ _ back.0; segments = leb-true _ _ back.1 }

@@ -1,0 +1,80 @@
+// A table as the catalogue keeps it.
+ghost use Rattle.std.specs.Prelude.{◌≡◌, ◌<◌, ◌^◌, IfOk};
+ghost use Rattle.std.specs.List.{list_all};
+ghost use Rattle.catalogue.specs.Entries.{is_segment, is_entry, plain_entry, row_count};
+
+use crate::limits::MAX_SEGMENT_ROWS;
+use crate::names::is_name;
+use arrow_schema::Schema;
+use segments::Extent;
+use std::alloc::{AllocError, Global};
+
+/// A run that holds one stream of a table, and how many rows it has.
+#[derive(Clone, Copy, Debug, PartialEq, Eq)]
+pub struct Segment {
+    pub place: Extent,
+    pub rows: u64,
+}
+
+/// A table: its name, its schema, and its rows in segments, in order.
+#[derive(Debug, Drop)]
+pub struct Entry {
+    pub name: String,
+    pub schema: Schema,
+    pub segments: Vec<Segment>,
+}
+
+impl Segment {
+    /// Whether a catalogue may name it: it has some bytes, just the sectors that they need, and 1 to 4,096 rows.
+    pub fn is_sound(self) -> bool
+        ensures { result ≡ is_segment self }
+    {
+        self.place.bytes >= 1
+            && self.place.run.count == self.place.bytes.div_ceil(512)
+            && self.rows >= 1
+            && self.rows <= MAX_SEGMENT_ROWS
+    }
+}
+
+fn are_sound(segments: &[Segment]) -> bool
+    ensures { result ≡ list_all is_segment segments.now }
+{
+    for segment in segments {
+        if !segment.is_sound() {
+            return false;
+        }
+    }
+    true
+}
+
+impl Entry {
+    /// Its rows, those of all its segments.
+    pub fn rows(&self) -> u64
+        requires { row_count (plain_entry self.now) < 2 ^ 64 }
+        ensures { result ≡ row_count (plain_entry self.now) }
+    {
+        let mut rows = 0;
+        for segment in &self.segments {
+            rows += segment.rows;
+        }
+        rows
+    }
+
+    /// Whether it may stand in a catalogue.
+    pub fn is_sound(&self) -> bool
+        ensures { result ≡ is_entry (plain_entry self.now) }
+    {
+        is_name(&self.name) && self.schema.check().is_ok() && are_sound(&self.segments)
+    }
+
+    /// The same entry in memory of its own.
+    pub fn copy(&self, alloc: Global) -> Result<Entry, AllocError>
+        ensures { IfOk result (λ e. plain_entry e ≡ plain_entry self.now) }
+    {
+        Ok(Entry {
+            name: self.name.clone()?,
+            schema: self.schema.copy(alloc)?,
+            segments: Vec::from_slice(alloc, &self.segments)?,
+        })
+    }
+}

@@ -1,0 +1,10 @@
+// The limits of a catalogue.
+
+/// The most bytes of a table's name.
+pub const MAX_NAME_BYTES: usize = 64;
+/// The most rows of a segment.
+pub const MAX_SEGMENT_ROWS: u64 = 4096;
+/// The most tables of a store.
+pub const MAX_TABLES: usize = 1024;
+/// The most segments of a store, all its tables together.
+pub const MAX_SEGMENTS: u64 = 65_536;

@@ -1,0 +1,33 @@
+// Where entries stand.
+ghost use Rattle.std.specs.Prelude.{◌≡◌, map};
+ghost use Rattle.catalogue.specs.Entries.{plain_entry};
+ghost use Rattle.catalogue.specs.inner.Places.{place_of, seat_of};
+
+use crate::Entry;
+use std::cmp::Ordering;
+
+// Where the entry of a name stands, if there is one.
+pub(crate) fn place_of(entries: &[Entry], name: &str) -> Option<usize>
+    ensures { result ≡ place_of name.now 0 (map plain_entry entries.now) }
+{
+    for (place, entry) in entries.iter().enumerate() {
+        if entry.name.as_str() == name {
+            return Some(place);
+        }
+    }
+    None
+}
+
+// Where an entry of this name is to stand: instead of one, or between the others.
+pub(crate) fn seat_of(entries: &[Entry], name: &str) -> Result<usize, usize>
+    ensures { result ≡ seat_of name.now 0 (map plain_entry entries.now) }
+{
+    for (place, entry) in entries.iter().enumerate() {
+        match entry.name.as_str().cmp(name) {
+            Ordering::Less => {}
+            Ordering::Equal => return Ok(place),
+            Ordering::Greater => return Err(place),
+        }
+    }
+    Err(entries.len())
+}
