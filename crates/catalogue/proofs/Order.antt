@@ -1,23 +1,24 @@
 -- Entries in order, and their places.
-use Rattle.std.proofs.Common.{◌≡◌, inl, inr, ◌≤◌, ◌<◌, ◌+◌, ◌&&◌, ℕ, zero, suc, Bool, true, false, cond, List, [], ◌∷◌, length, get_or, set, insert, remove, map, Option, Some, None, Result, Ok, Err, refl, sym, ap, subst, ◌∙◌, arith}
+use Rattle.std.proofs.Common.{◌≡◌, inl, inr, ◌≤◌, ◌<◌, ◌+◌, ◌&&◌, ℕ, zero, suc, Bool, true, false, cond, List, [], ◌∷◌, length, get_or, set, insert, remove, map, Option, Some, None, Result, Ok, Err, Ordering, Less, Equal, Greater, refl, sym, ap, subst, ◌∙◌, arith}
 use Rattle.std.specs.List.{list_all, find, sum_by}
 use Rattle.std.specs.Str.{bytes_eq}
 use Rattle.std.specs.Cmp.Lexicographic.{slice_cmp}
-use Rattle.std.specs.Ordering.{Ordering, Less, Equal, Greater, nat_cmp, match_ordering, ordering_reverse, is_lt, is_eq}
+use Rattle.std.specs.Ordering.{nat_cmp, match_ordering, ordering_reverse, is_lt, is_eq}
 use Rattle.std.proofs.lemmas.Bool.{cond_both, cond-true, cond-false, cases_Bool, and_parts, and_from, true≢false}
+use Rattle.std.proofs.lemmas.List.Sums.{sum_by-cons}
 use Rattle.std.proofs.lemmas.Cmp.{nat_list_cmp_total}
 use Rattle.std.proofs.lemmas.Map.Text.{is_eq-slice_cmp}
 use Rattle.catalogue.specs.Entries.{PlainEntry, PlainCatalogue, names_of, comes_before, ascends, is_entry, segment_count}
 use Rattle.catalogue.specs.Edits.{entry_of, with_entry, without}
 use Rattle.catalogue.specs.inner.Places.{place_of, seat_of}
 
-abbrev order : List ℕ → List ℕ → Ordering
+abbrev pub order : List ℕ → List ℕ → Ordering
 order = slice_cmp nat_cmp
 
 -- ---- three cases
 
 -- an ordering, and that it is so
-by_order : {G : Type 0} (o : Ordering) → (o ≡ Less → G) → (o ≡ Equal → G) → (o ≡ Greater → G) → G
+pub by_order : {G : Type 0} (o : Ordering) → (o ≡ Less → G) → (o ≡ Equal → G) → (o ≡ Greater → G) → G
 by_order Less l e g = l refl
 by_order Equal l e g = e refl
 by_order Greater l e g = g refl
@@ -55,10 +56,16 @@ pub record IsGap (c : PlainCatalogue) (e : PlainEntry) (at place : ℕ) : Type 0
   pub within : index ≤ length c
   pub put : insert c index e ≡ with_entry c e
 
-ok_is : (a b : ℕ) → Ok {ℕ} {ℕ} a ≡ Ok b → a ≡ b
+abbrev taken : ℕ → Result ℕ ℕ
+taken place = Ok place
+
+abbrev free : ℕ → Result ℕ ℕ
+free place = Err place
+
+ok_is : (a b : ℕ) → taken a ≡ taken b → a ≡ b
 ok_is a b h = cc
 
-err_is : (a b : ℕ) → Err {ℕ} {ℕ} a ≡ Err b → a ≡ b
+err_is : (a b : ℕ) → free a ≡ free b → a ≡ b
 err_is a b h = cc
 
 pub seated : (c : PlainCatalogue) (e : PlainEntry) (at place : ℕ) → seat_of e.name at c ≡ Ok place → IsSeat c e at place
@@ -82,7 +89,7 @@ seated (x ∷ xs) e at place h =
       put = sym (ap (λ o. match_ordering o (x ∷ with_entry xs e) (e ∷ xs) (e ∷ (x ∷ xs))) is);
       stood = λ d. cond-true (bytes_eq x.name e.name) (Some x) (entry_of xs e.name) (same_name x.name e.name is);
     })
-    (λ is. absurd (let p : Err at ≡ Ok place = sym (ap (λ o. match_ordering o (seat_of e.name (suc at) xs) (Ok at) (Err at)) is) ∙ h in cc))
+    (λ is. absurd (let p : free at ≡ taken place = sym (ap (λ o. match_ordering o (seat_of e.name (suc at) xs) (Ok at) (Err at)) is) ∙ h in cc))
 
 pub gap : (c : PlainCatalogue) (e : PlainEntry) (at place : ℕ) → seat_of e.name at c ≡ Err place → IsGap c e at place
 gap [] e at place h = record { index = 0; is = let p = err_is at place h in omega arith; within = omega arith; put = refl }
@@ -96,7 +103,7 @@ gap (x ∷ xs) e at place h =
       within = let p = later.within in omega arith;
       put = ap (λ ys. x ∷ ys) later.put ∙ sym (ap (λ o. match_ordering o (x ∷ with_entry xs e) (e ∷ xs) (e ∷ (x ∷ xs))) is);
     })
-    (λ is. absurd (let p : Ok at ≡ Err place = sym (ap (λ o. match_ordering o (seat_of e.name (suc at) xs) (Ok at) (Err at)) is) ∙ h in cc))
+    (λ is. absurd (let p : taken at ≡ free place = sym (ap (λ o. match_ordering o (seat_of e.name (suc at) xs) (Ok at) (Err at)) is) ∙ h in cc))
     (λ is.
     record {
       index = 0;
@@ -123,7 +130,7 @@ none_stood (x ∷ xs) name at place rises h =
     (λ is.
     cond-false (bytes_eq x.name name) (Some x) (entry_of xs name) (other_name x.name name Less is refl)
     ∙ none_stood xs name (suc at) place parts.1 (sym (ap (λ o. match_ordering o (seat_of name (suc at) xs) (Ok at) (Err at)) is) ∙ h))
-    (λ is. absurd (let p : Ok at ≡ Err place = sym (ap (λ o. match_ordering o (seat_of name (suc at) xs) (Ok at) (Err at)) is) ∙ h in cc))
+    (λ is. absurd (let p : taken at ≡ free place = sym (ap (λ o. match_ordering o (seat_of name (suc at) xs) (Ok at) (Err at)) is) ∙ h in cc))
     (λ is.
     cond-false (bytes_eq x.name name) (Some x) (entry_of xs name) (other_name x.name name Greater is refl)
     ∙ none_behind xs x.name name parts.0 parts.1 (turned x.name name Greater is))
@@ -241,13 +248,16 @@ without_all p (x ∷ xs) name all =
     let parts = and_parts (p x) (list_all p xs) all in
     cond_both (bytes_eq x.name name) xs (x ∷ without xs name) (λ c. list_all p c ≡ true) (λ _. parts.1) (λ _. and_from (p x) (list_all p (without xs name)) parts.0 (without_all p xs name parts.1))
 
+pub counted : (x : PlainEntry) (c : PlainCatalogue) → segment_count (x ∷ c) ≡ length x.segments + segment_count c
+counted x c = sum_by-cons (λ (e : PlainEntry). length e.segments) x c
+
 pub without_fewer : (c : PlainCatalogue) (name : List ℕ) → (length (without c name) ≤ length c) × (segment_count (without c name) ≤ segment_count c)
 without_fewer [] name = (omega arith, omega arith)
 without_fewer (x ∷ xs) name =
     let later = without_fewer xs name in
-    cond_both (bytes_eq x.name name) xs (x ∷ without xs name) (λ c. (length c ≤ suc (length xs)) × (segment_count c ≤ length x.segments + segment_count xs))
-    (λ _. (omega arith, omega arith))
-    (λ _. (omega (arith, later.0), omega (arith, later.1)))
+    cond_both (bytes_eq x.name name) xs (x ∷ without xs name) (λ c. (length c ≤ suc (length xs)) × (segment_count c ≤ segment_count (x ∷ xs)))
+    (λ _. (omega arith, omega (arith, counted x xs)))
+    (λ _. (omega (arith, later.0), omega (arith, later.1, counted x xs, counted x (without xs name))))
 
 -- ---- views of lists that change
 

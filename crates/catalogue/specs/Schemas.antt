@@ -5,6 +5,7 @@ use Rattle.std.specs.Str.{is_utf8}
 use Rattle.arrow_schema.specs.declared.limits.TheConstants.{MAX_FIELDS, MAX_DEPTH, MAX_PAIRS, MAX_TEXT_BYTES}
 use Rattle.arrow_schema.specs.Column.{columns_of, PlainSchema}
 use Rattle.arrow_schema.specs.Preorder.{every_column, depth_all}
+use Rattle.arrow_schema.specs.Integers.{is_integer_schema}
 use Rattle.arrow_schema.specs.Limits.{count_of_pairs, count_of_bytes, has_number_in_range, has_flat_dictionary, has_bit_widths, has_utf8_texts, texts_of_pairs}
 
 -- its levels, fields, pairs and bytes
@@ -21,3 +22,7 @@ has_sound_columns s =
 
 unfoldable pub is_within_limits : PlainSchema → Bool
 is_within_limits s = is_small s && (has_sound_columns s && list_all is_utf8 (texts_of_pairs s.pairs))
+
+-- a schema of which the reader of messages takes all
+abbrev pub is_read : PlainSchema → Bool
+is_read s = is_integer_schema s

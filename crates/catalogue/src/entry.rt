@@ -1,6 +1,8 @@
 // A table as the catalogue keeps it.
 ghost use Rattle.std.specs.Prelude.{◌≡◌, ◌<◌, ◌^◌, IfOk};
 ghost use Rattle.std.specs.List.{list_all};
+ghost use Rattle.arrow_schema.specs.View.{schema_of};
+ghost use Rattle.catalogue.specs.Schemas.{is_within_limits};
 ghost use Rattle.catalogue.specs.Entries.{is_segment, is_entry, plain_entry, row_count};
 
 use crate::limits::MAX_SEGMENT_ROWS;
@@ -36,6 +38,17 @@ impl Segment {
     }
 }
 
+// Whether it keeps the limits of schemas.
+#[tactic(auto, using(crate::specs::laws::Kept::passes_limits, crate::specs::laws::Kept::fails_limits))]
+fn is_within_limits(schema: &Schema) -> bool
+    ensures { result ≡ is_within_limits (schema_of schema.now) }
+{
+    match schema.check() {
+        Ok(()) => true,
+        Err(_) => false,
+    }
+}
+
 fn are_sound(segments: &[Segment]) -> bool
     ensures { result ≡ list_all is_segment segments.now }
 {
@@ -64,7 +77,7 @@ impl Entry {
     pub fn is_sound(&self) -> bool
         ensures { result ≡ is_entry (plain_entry self.now) }
     {
-        is_name(&self.name) && self.schema.check().is_ok() && are_sound(&self.segments)
+        is_name(&self.name) && is_within_limits(&self.schema) && are_sound(&self.segments)
     }
 
     /// The same entry in memory of its own.

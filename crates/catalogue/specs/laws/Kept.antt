@@ -1,9 +1,9 @@
 -- The tests of a catalogue say what they test.
-use Rattle.std.proofs.Common.{◌≡◌, ◌&&◌, true, length, arith}
+use Rattle.std.proofs.Common.{◌≡◌, ◌&&◌, true, false, length}
 use Rattle.std.specs.Prelude.{nat_le}
 use Rattle.std.specs.List.{list_all}
 use Rattle.std.specs.Str.{is_utf8}
-use Rattle.std.proofs.lemmas.Bool.{and_parts, and_from, leb-true, le-leb}
+use Rattle.std.proofs.lemmas.Bool.{and_parts, and_from, leb-true, le-leb, false_from_ne_true}
 use Rattle.std.proofs.lemmas.List.Sums.{AllPass-from_list_all, list_all-from_AllPass}
 use Rattle.arrow_schema.specs.declared.limits.TheConstants.{MAX_FIELDS, MAX_DEPTH, MAX_PAIRS, MAX_TEXT_BYTES}
 use Rattle.arrow_schema.specs.Column.{columns_of, PlainSchema}
@@ -46,6 +46,9 @@ is_within s h =
       texts = AllPass-from_list_all has_utf8_texts (every_column s) texts.1;
       own_texts = AllPass-from_list_all is_utf8 (texts_of_pairs s.pairs) rest.1;
     }
+
+pub fails_limits : (s : PlainSchema) → (IsWithinLimits s → ⊥) → is_within_limits s ≡ false
+fails_limits s past = false_from_ne_true (is_within_limits s) (λ h. past (is_within s h))
 
 -- an entry of these parts may stand
 pub entry_stands : (e : PlainEntry) → is_name e.name ≡ true → IsWithinLimits e.schema → list_all is_segment e.segments ≡ true → is_entry e ≡ true

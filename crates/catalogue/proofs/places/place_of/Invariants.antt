@@ -4,4 +4,4 @@ use Rattle.catalogue.specs.inner.Places.{place_of}
 use Rattle.catalogue.proofs.places.place_of.Given as goal
 
 abbrev pub invariant-loop-place : goal.invariant-loop-place
-invariant-loop-place l = place_of l.name l.place-index (map plain_entry (drop l.place-index l.entries)) ≡ place_of l.name 0 (map plain_entry l.entries)
+invariant-loop-place l = place_of l.name l.place (map plain_entry (drop l.place l.entries)) ≡ place_of l.name 0 (map plain_entry l.entries)

@@ -5,4 +5,4 @@ use Rattle.catalogue.specs.Edits.{tables_of}
 use Rattle.catalogue.proofs.catalogue.Catalogue.tables.Given as goal
 
 abbrev pub invariant-loop-entry : goal.invariant-loop-entry
-invariant-loop-entry l = map (λ t. (string_bytes t.0, t.1)) l.tables.items ≡ tables_of (map plain_entry (take l.entry-index l.self-inside.entries.items))
+invariant-loop-entry l = map (λ t. (string_bytes t.0, t.1)) l.tables.items ≡ tables_of (map plain_entry (take l.entry-index l.self.entries.items))

@@ -1,0 +1,68 @@
+-- Rows, segments and runs of entries that are gone over one after another.
+use Rattle.std.proofs.Common.{◌≡◌, ◌≤◌, ◌<◌, ◌+◌, ◌*◌, ◌^◌, ◌&&◌, ◌++◌, ltb, leb, eqb, ℕ, zero, suc, true, List, [], ◌∷◌, length, get_or, take, map, append-nil, refl, sym, ap, subst, ◌∙◌, arith}
+use Rattle.std.specs.List.{list_all, sum_by, flat_map}
+use Rattle.std.proofs.lemmas.Bool.{and_parts, leb-true}
+use Rattle.std.proofs.lemmas.List.{length-map, map-append, take-map, take_more}
+use Rattle.std.proofs.lemmas.Grind.{flat_map-append}
+use Rattle.std.proofs.lemmas.List.Sums.{sum_by-cons, sum_by_more_le, get_or-le-sum_by}
+use Rattle.segments.specs.Sectors.{sector_count}
+use Rattle.segments.specs.declared.run.Run.{Run}
+use Rattle.catalogue.specs.declared.entry.Segment.{Segment}
+use Rattle.catalogue.specs.declared.entry.Entry.{Entry}
+use Rattle.catalogue.specs.declared.limits.TheConstants.{MAX_SEGMENT_ROWS, MAX_SEGMENTS}
+use Rattle.catalogue.specs.Entries.{PlainEntry, PlainCatalogue, plain_entry, is_between, is_segment, is_entry, row_count, runs_in, runs_of, segment_count, is_catalogue}
+use Rattle.catalogue.specs.laws.Kept.{entry_is, catalogue_is}
+use Rattle.catalogue.proofs.Order.{map_at}
+
+few_rows : (s : Segment) → is_segment s ≡ true → s.rows ≤ 4096
+few_rows s h =
+    let parts = and_parts (ltb s.place.run.start (2 ^ 64) && ltb s.place.bytes (2 ^ 64)) (leb 1 s.place.bytes && (eqb s.place.run.count (sector_count s.place.bytes) && is_between 1 MAX_SEGMENT_ROWS s.rows)) h in
+    let some = and_parts (leb 1 s.place.bytes) (eqb s.place.run.count (sector_count s.place.bytes) && is_between 1 MAX_SEGMENT_ROWS s.rows) parts.1 in
+    let sectors = and_parts (eqb s.place.run.count (sector_count s.place.bytes)) (is_between 1 MAX_SEGMENT_ROWS s.rows) some.1 in
+    leb-true _ _ (and_parts (leb 1 s.rows) (leb s.rows MAX_SEGMENT_ROWS) sectors.1).1
+
+pub rows_le : (ss : List Segment) → list_all is_segment ss ≡ true → sum_by (λ (s : Segment). s.rows) ss ≤ 4096 * length ss
+rows_le [] all = omega arith
+rows_le (s ∷ ss) all =
+    let parts = and_parts (is_segment s) (list_all is_segment ss) all in
+    omega (arith, sum_by-cons (λ (x : Segment). x.rows) s ss, few_rows s parts.0, rows_le ss parts.1)
+
+pub passes_at : (c : PlainCatalogue) (k : ℕ) (d : PlainEntry) → list_all is_entry c ≡ true → k < length c → is_entry (get_or c k d) ≡ true
+passes_at [] k d all lt = absurd (omega arith)
+passes_at (x ∷ xs) zero d all lt = (and_parts (is_entry x) (list_all is_entry xs) all).0
+passes_at (x ∷ xs) (suc k) d all lt = passes_at xs k d (and_parts (is_entry x) (list_all is_entry xs) all).1 (omega arith)
+
+-- the segments so far and those of the next entry are among all
+pub counted_within : (es : List Entry) (i : ℕ) (x : Entry) → i < length es → x ≡ get_or es i x → segment_count (map plain_entry (take i es)) + length x.segments.items ≤ segment_count (map plain_entry es)
+counted_within es i x lt is =
+    let count : PlainEntry → ℕ = λ e. length e.segments in
+    let whole : sum_by count (take i (map plain_entry es)) + count (get_or (map plain_entry es) i (plain_entry x)) ≤ sum_by count (map plain_entry es) =
+      sum_by_more_le count (map plain_entry es) i (plain_entry x) (let len = length-map es plain_entry in omega arith) in
+    let here : count (get_or (map plain_entry es) i (plain_entry x)) ≡ length x.segments.items = ap count (map_at plain_entry es i x) ∙ ap (λ (e : Entry). length e.segments.items) (sym is) in
+    let front : sum_by count (take i (map plain_entry es)) ≡ segment_count (map plain_entry (take i es)) = ap (sum_by count) (take-map plain_entry i es) in
+    omega (arith, whole, here, front)
+
+pub few_segments : (es : List Entry) → is_catalogue (map plain_entry es) ≡ true → segment_count (map plain_entry es) ≤ 65536
+few_segments es kept = (catalogue_is (map plain_entry es) kept).segments
+
+-- the rows of an entry of a catalogue
+pub rows_fit : (es : List Entry) (i : ℕ) (x : Entry) → is_catalogue (map plain_entry es) ≡ true → i < length es → x ≡ get_or es i x → row_count (plain_entry x) < 2 ^ 64
+rows_fit es i x kept lt is =
+    let k = catalogue_is (map plain_entry es) kept in
+    let within : i < length (map plain_entry es) = let len = length-map es plain_entry in omega arith in
+    let at : get_or (map plain_entry es) i (plain_entry x) ≡ plain_entry x = map_at plain_entry es i x ∙ ap plain_entry (sym is) in
+    let stood = entry_is (plain_entry x) (subst (λ e. is_entry e ≡ true) at (passes_at (map plain_entry es) i (plain_entry x) k.entries within)) in
+    let front = counted_within es i x lt is in
+    let most = few_segments es kept in
+    omega (arith, rows_le x.segments.items stood.segments, front, most)
+
+-- the runs so far, and those of the next entry
+pub more_runs : (es : List Entry) (i : ℕ) (x : Entry) → i < length es → x ≡ get_or es i x
+    → runs_of (map plain_entry (take i es)) ++ map (λ (s : Segment). s.place.run) x.segments.items ≡ runs_of (map plain_entry (take (i + 1) es))
+more_runs es i x lt is =
+    let one : runs_of (plain_entry x ∷ []) ≡ runs_in (plain_entry x) = append-nil (runs_in (plain_entry x)) in
+    sym (ap (λ (xs : List Entry). runs_of (map plain_entry xs)) (take_more es i x lt)
+    ∙ ap (λ (y : Entry). runs_of (map plain_entry (take i es ++ y ∷ []))) (sym is)
+    ∙ ap runs_of (map-append plain_entry (take i es) (x ∷ []))
+    ∙ flat_map-append runs_in (map plain_entry (take i es)) (plain_entry x ∷ [])
+    ∙ ap (λ rs. runs_of (map plain_entry (take i es)) ++ rs) one)

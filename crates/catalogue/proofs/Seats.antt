@@ -1,0 +1,128 @@
+-- Entries of the code, and their places.
+use Rattle.std.proofs.Common.{◌≡◌, ◌≤◌, ◌<◌, ◌+◌, ◌++◌, ℕ, true, false, cond, List, length, get_or, set, insert, remove, take, map, Option, Some, None, Ok, Err, refl, sym, ap, subst, ◌∙◌, arith}
+use Rattle.std.specs.Prelude.{string_bytes, nat_le, Result, is_ok, OnOk, OnErr}
+use Rattle.std.specs.List.{list_all}
+use Rattle.std.proofs.lemmas.Bool.{lt-leb}
+use Rattle.std.proofs.lemmas.List.{length-map, map-set}
+use Rattle.std.proofs.Math.Seq.{map-set_same}
+use Rattle.catalogue.specs.declared.entry.Entry.{Entry}
+use Rattle.catalogue.specs.Entries.{PlainEntry, PlainCatalogue, plain_entry, is_name, is_segment, segment_count, is_catalogue}
+use Rattle.catalogue.specs.declared.entry.Segment.{Segment}
+use Rattle.catalogue.specs.declared.limits.TheConstants.{MAX_SEGMENTS}
+use Rattle.catalogue.specs.Edits.{entry_of, with_entry, without, named, renamed, with_segments, with_more}
+use Rattle.catalogue.specs.inner.Places.{place_of, seat_of}
+use Rattle.catalogue.proofs.Order.{IsSeat, IsGap, IsPlace, seated, gap, placed, map_insert, map_remove, map_at}
+use Rattle.catalogue.proofs.Rows.{counted_within}
+use Rattle.catalogue.proofs.Changed.{renamed_stands, more_stands, set_segments}
+
+pub record Seated (es : List Entry) (e : Entry) (place : ℕ) : Type 0 where
+  pub within : place < length es
+  pub put : map plain_entry (set es place e) ≡ with_entry (map plain_entry es) (plain_entry e)
+  pub stood : (d : Entry) → entry_of (map plain_entry es) (string_bytes e.name) ≡ Some (plain_entry (get_or es place d))
+
+pub seat_in : (es : List Entry) (e : Entry) (place : ℕ) → seat_of (string_bytes e.name) 0 (map plain_entry es) ≡ Ok place → Seated es e place
+seat_in es e place h =
+    let s = seated (map plain_entry es) (plain_entry e) 0 place h in
+    let at : s.index ≡ place = let p = s.is in omega arith in
+    let here = subst (λ k. set (map plain_entry es) k (plain_entry e) ≡ with_entry (map plain_entry es) (plain_entry e)) at s.put in
+    let len = length-map es plain_entry in
+    record {
+      within = let w = s.within in omega arith;
+      put = map-set plain_entry es place e ∙ here;
+      stood = λ d. s.stood (plain_entry d) ∙ ap (λ k. Some (get_or (map plain_entry es) k (plain_entry d))) at ∙ ap Some (map_at plain_entry es place d);
+    }
+
+pub record Gapped (es : List Entry) (e : Entry) (place : ℕ) : Type 0 where
+  pub within : place ≤ length es
+  pub put : map plain_entry (insert es place e) ≡ with_entry (map plain_entry es) (plain_entry e)
+
+pub gap_in : (es : List Entry) (e : Entry) (place : ℕ) → seat_of (string_bytes e.name) 0 (map plain_entry es) ≡ Err place → Gapped es e place
+gap_in es e place h =
+    let s = gap (map plain_entry es) (plain_entry e) 0 place h in
+    let at : s.index ≡ place = let p = s.is in omega arith in
+    let here = subst (λ k. insert (map plain_entry es) k (plain_entry e) ≡ with_entry (map plain_entry es) (plain_entry e)) at s.put in
+    let len = length-map es plain_entry in
+    let within : place ≤ length es = let w = s.within in omega arith in
+    record { within = within; put = map_insert plain_entry es place e within ∙ here }
+
+pub record Placed (es : List Entry) (name : List ℕ) (place : ℕ) : Type 0 where
+  pub within : place < length es
+  pub removed : map plain_entry (remove es place) ≡ without (map plain_entry es) name
+  pub stood : (d : Entry) → entry_of (map plain_entry es) name ≡ Some (plain_entry (get_or es place d))
+
+pub place_in : (es : List Entry) (name : List ℕ) (place : ℕ) → place_of name 0 (map plain_entry es) ≡ Some place → Placed es name place
+place_in es name place h =
+    let s = placed (map plain_entry es) name 0 place h in
+    let at : s.index ≡ place = let p = s.is in omega arith in
+    let here = subst (λ k. remove (map plain_entry es) k ≡ without (map plain_entry es) name) at s.removed in
+    let len = length-map es plain_entry in
+    let within : place < length es = let w = s.within in omega arith in
+    record {
+      within = within;
+      removed = map_remove plain_entry es place within ∙ here;
+      stood = λ d. s.stood (plain_entry d) ∙ ap (λ k. Some (get_or (map plain_entry es) k (plain_entry d))) at ∙ ap Some (map_at plain_entry es place d);
+    }
+
+-- one entry more than fits
+pub too_many : (es : List Entry) (i left most : ℕ) (x : Entry) → i < length es → x ≡ get_or es i x → segment_count (map plain_entry (take i es)) + left ≡ most → left < length x.segments.items → nat_le (segment_count (map plain_entry es)) most ≡ false
+too_many es i left most x lt is so_far more = lt-leb (segment_count (map plain_entry es)) most (let within = counted_within es i x lt is in omega (arith, within, so_far, more))
+
+-- ---- results of changes
+
+pub put_kept : {A B : Type 0} (r : Result A B) (old new : PlainCatalogue) (e : PlainEntry) → OnOk r (new ≡ with_entry old e) → OnErr r (new ≡ old) → is_catalogue old ≡ true → is_catalogue (with_entry old e) ≡ true → is_catalogue new ≡ true
+put_kept (Ok x) old new e put err kept stands = ap is_catalogue put ∙ stands
+put_kept (Err x) old new e put err kept stands = ap is_catalogue err ∙ kept
+
+pub renamed_kept : (c : PlainCatalogue) (from to : List ℕ) → is_catalogue c ≡ true → is_name to ≡ true → is_catalogue (renamed c from to) ≡ true
+renamed_kept c from to kept name = by_entry (entry_of c from) refl
+  where
+    by_entry : (o : Option PlainEntry) → entry_of c from ≡ o → is_catalogue (elim o [ None ↦ c | Some e ↦ with_entry (without c from) (named to e) ]) ≡ true
+    by_entry None h = kept
+    by_entry (Some e) h = renamed_stands c from to e kept name h
+
+pub more_kept : {A B : Type 0} (r : Result A B) (old new : PlainCatalogue) (name : List ℕ) (more : List Segment) → OnOk r (new ≡ with_more old name more) → OnErr r (new ≡ old) → is_catalogue old ≡ true → list_all is_segment more ≡ true
+    → segment_count old + length more ≤ MAX_SEGMENTS → is_catalogue new ≡ true
+more_kept (Ok x) old new name more put err kept each most = ap is_catalogue put ∙ by_entry (entry_of old name) refl
+  where
+    by_entry : (o : Option PlainEntry) → entry_of old name ≡ o → is_catalogue (elim o [ None ↦ old | Some e ↦ with_segments old name (e.segments ++ more) ]) ≡ true
+    by_entry None h = kept
+    by_entry (Some e) h = more_stands old name e more kept h each most
+more_kept (Err x) old new name more put err kept each most = ap is_catalogue err ∙ kept
+
+-- what a renaming and an appending make of the entry that was found
+pub renamed_is : (c : PlainCatalogue) (from to : List ℕ) (e : PlainEntry) → entry_of c from ≡ Some e → renamed c from to ≡ with_entry (without c from) (named to e)
+renamed_is c from to e h = ap (λ (o : Option PlainEntry). elim o [ None ↦ c | Some x ↦ with_entry (without c from) (named to x) ]) h
+
+pub renamed_none : (c : PlainCatalogue) (from to : List ℕ) → entry_of c from ≡ None → renamed c from to ≡ c
+renamed_none c from to h = ap (λ (o : Option PlainEntry). elim o [ None ↦ c | Some x ↦ with_entry (without c from) (named to x) ]) h
+
+pub more_none : (c : PlainCatalogue) (name : List ℕ) (more : List Segment) → entry_of c name ≡ None → with_more c name more ≡ c
+more_none c name more h = ap (λ (o : Option PlainEntry). elim o [ None ↦ c | Some x ↦ with_segments c name (x.segments ++ more) ]) h
+
+-- the entry at its place has more segments
+pub more_at : (es : List Entry) (name : List ℕ) (place : ℕ) (x new : Entry) (more : List Segment) → place_of name 0 (map plain_entry es) ≡ Some place → x ≡ get_or es place x
+    → plain_entry new ≡ record { name = string_bytes x.name; schema = (plain_entry x).schema; segments = x.segments.items ++ more } → map plain_entry (set es place new) ≡ with_more (map plain_entry es) name more
+more_at es name place x new more h is new_is =
+    let c = map plain_entry es in
+    let p = place_in es name place h in
+    let at : get_or c place (plain_entry x) ≡ plain_entry x = map_at plain_entry es place x ∙ ap plain_entry (sym is) in
+    let stood : entry_of c name ≡ Some (plain_entry x) = p.stood x ∙ ap (λ (e : Entry). Some (plain_entry e)) (sym is) in
+    let segments = x.segments.items ++ more in
+    map-set plain_entry es place new
+    ∙ ap (set c place) new_is
+    ∙ ap (λ (e : PlainEntry). set c place (record { name = e.name; schema = e.schema; segments = segments })) (sym at)
+    ∙ set_segments c name 0 place place (plain_entry x) segments h (omega arith)
+    ∙ sym (ap (λ (o : Option PlainEntry). elim o [ None ↦ c | Some y ↦ with_segments c name (y.segments ++ more) ]) stood)
+
+-- after `extend_from_slice`: the entry at its place has more segments, or all are as they were
+pub appended_at : {A B : Type 0} (r : Result A B) (es : List Entry) (name : List ℕ) (place : ℕ) (x new : Entry) (more : List Segment) → place_of name 0 (map plain_entry es) ≡ Some place → x ≡ get_or es place x
+    → plain_entry new ≡ record { name = string_bytes x.name; schema = (plain_entry x).schema; segments = cond (is_ok r) (x.segments.items ++ more) x.segments.items }
+    → OnOk r (map plain_entry (set es place new) ≡ with_more (map plain_entry es) name more)
+appended_at (Ok y) es name place x new more h is new_is = more_at es name place x new more h is new_is
+appended_at (Err y) es name place x new more h is new_is = tt
+
+pub unchanged_at : {A B : Type 0} (r : Result A B) (es : List Entry) (place : ℕ) (x new : Entry) (more : List Segment) → x ≡ get_or es place x
+    → plain_entry new ≡ record { name = string_bytes x.name; schema = (plain_entry x).schema; segments = cond (is_ok r) (x.segments.items ++ more) x.segments.items }
+    → OnErr r (map plain_entry (set es place new) ≡ map plain_entry es)
+unchanged_at (Ok y) es place x new more is new_is = tt
+unchanged_at (Err y) es place x new more is new_is = map-set_same plain_entry es place new x (new_is ∙ ap plain_entry is)

@@ -1,0 +1,73 @@
+-- How many bytes a text has, and what the limits say of rows and runs.
+use Rattle.std.proofs.Common.{◌≡◌, ◌≤◌, ◌<◌, ◌+◌, ◌*◌, ◌&&◌, ltb, leb, eqb, ◌^◌, ℕ, zero, suc, true, List, [], ◌∷◌, ◌++◌, length, get_or, map, refl, sym, ap, subst, ◌∙◌, arith}
+use Rattle.std.specs.List.{list_all, flat_map, sum_by, Contains}
+use Rattle.std.proofs.lemmas.Bool.{and_parts, leb-true}
+use Rattle.std.proofs.lemmas.List.{length-append, length-map}
+use Rattle.std.proofs.lemmas.List.Elements.{Contains-append_left, Contains-append_right}
+use Rattle.std.proofs.lemmas.List.Sums.{sum_by-cons, get_or-le-sum_by}
+use Rattle.byteorder.specs.Endian.{little_bytes}
+use Rattle.byteorder.specs.Numbers.{length-bytes_low_first}
+use Rattle.ipc_write.specs.Written.{schema_message}
+use Rattle.segments.specs.Sectors.{sector_count}
+use Rattle.segments.specs.declared.run.Run.{Run}
+use Rattle.catalogue.specs.declared.entry.Segment.{Segment}
+use Rattle.catalogue.specs.declared.limits.TheConstants.{MAX_SEGMENT_ROWS, MAX_SEGMENTS}
+use Rattle.catalogue.specs.Entries.{PlainEntry, PlainCatalogue, is_between, is_segment, is_entry, row_count, runs_in, runs_of, segment_count, IsCatalogue}
+use Rattle.catalogue.specs.Text.{sized, counted, segment_text, table_text, entry_text, entry_size, list_text, list_size}
+use Rattle.catalogue.specs.laws.Kept.{entry_is}
+use Rattle.catalogue.proofs.Order.{map_at}
+use Rattle.catalogue.proofs.Rows.{rows_le, passes_at}
+
+segment_size : (s : Segment) → length (segment_text s) ≡ 32
+segment_size s =
+    let a = little_bytes 8 s.place.run.start in
+    let b = little_bytes 8 s.place.run.count in
+    let c = little_bytes 8 s.place.bytes in
+    let d = little_bytes 8 s.rows in
+    omega (arith, length-append a (b ++ (c ++ d)), length-append b (c ++ d), length-append c d, length-bytes_low_first 0 8 s.place.run.start,
+      length-bytes_low_first 0 8 s.place.run.count, length-bytes_low_first 0 8 s.place.bytes, length-bytes_low_first 0 8 s.rows)
+
+segments_size : (ss : List Segment) → length (flat_map segment_text ss) ≡ 32 * length ss
+segments_size [] = omega arith
+segments_size (s ∷ ss) = omega (arith, length-append (segment_text s) (flat_map segment_text ss), segment_size s, segments_size ss)
+
+sized_size : (bytes : List ℕ) → length (sized bytes) ≡ 4 + length bytes
+sized_size bytes = omega (arith, length-append (little_bytes 4 (length bytes)) bytes, length-bytes_low_first 0 4 (length bytes))
+
+entry_has_size : (e : PlainEntry) → length (entry_text e) ≡ entry_size e
+unfolding table_text
+entry_has_size e =
+    let message = schema_message e.schema in
+    omega (arith, length-append (sized e.name) (sized message ++ counted segment_text e.segments), length-append (sized message) (counted segment_text e.segments), sized_size e.name, sized_size message,
+      length-append (little_bytes 4 (length e.segments)) (flat_map segment_text e.segments), length-bytes_low_first 0 4 (length e.segments), segments_size e.segments)
+
+entries_size : (c : PlainCatalogue) → length (flat_map entry_text c) ≡ sum_by entry_size c
+entries_size [] = refl
+entries_size (e ∷ es) = omega (arith, length-append (entry_text e) (flat_map entry_text es), entry_has_size e, entries_size es, sum_by-cons entry_size e es)
+
+pub text_has_size : (c : PlainCatalogue) → length (list_text c) ≡ list_size c
+text_has_size c = omega (arith, length-append (little_bytes 4 (length c)) (flat_map entry_text c), length-bytes_low_first 0 4 (length c), entries_size c)
+
+-- ---- runs
+
+run_in : (ss : List Segment) (s : Segment) → Contains ss s → Contains (map (λ (x : Segment). x.place.run) ss) s.place.run
+run_in ss s has =
+    let place : Segment → Run = λ x. x.place.run in
+    (has.0, (subst (λ n. has.0 < n) (sym (length-map ss place)) has.1, map_at place ss has.0 s ∙ ap place has.2))
+
+run_among : (c : PlainCatalogue) (e : PlainEntry) (s : Segment) (k : ℕ) → k < length c → get_or c k e ≡ e → Contains e.segments s → Contains (runs_of c) s.place.run
+run_among [] e s k lt is has = absurd (omega arith)
+run_among (x ∷ xs) e s zero lt is has = Contains-append_left (runs_in x) (runs_of xs) s.place.run (run_in x.segments s (subst (λ (y : PlainEntry). Contains y.segments s) (sym is) has))
+run_among (x ∷ xs) e s (suc k) lt is has = Contains-append_right (runs_in x) (runs_of xs) s.place.run (run_among xs e s k (omega arith) is has)
+
+pub run_is_named : (c : PlainCatalogue) (e : PlainEntry) (s : Segment) → Contains c e → Contains e.segments s → Contains (runs_of c) s.place.run
+run_is_named c e s at has = run_among c e s at.0 at.1 at.2 has
+
+-- ---- rows
+
+pub few_rows_in : (c : PlainCatalogue) (e : PlainEntry) → IsCatalogue c → Contains c e → row_count e ≤ 268435456
+few_rows_in c e k at =
+    let stood = entry_is e (subst (λ x. is_entry x ≡ true) at.2 (passes_at c at.0 e k.entries at.1)) in
+    let here : length e.segments ≤ segment_count c = subst (λ (x : PlainEntry). length x.segments ≤ segment_count c) at.2 (get_or-le-sum_by (λ (x : PlainEntry). length x.segments) c at.0 e at.1) in
+    let most = k.segments in
+    omega (arith, rows_le e.segments stood.segments, here, most)

@@ -1,0 +1,209 @@
+-- What is read was written so.
+use Rattle.std.proofs.Common.{◌≡◌, ◌≤◌, ◌<◌, ◌+◌, ◌*◌, ◌/◌, ◌%◌, ◌^◌, ◌&&◌, leb, eqb, ℕ, zero, suc, Bool, true, false, cond, List, [], ◌∷◌, ◌++◌, length, take, drop, get_or, Option, Some, None, refl, sym, ap, subst, ◌∙◌, append_assoc, arith}
+use Rattle.std.specs.Prelude.{slice_index}
+use Rattle.std.proofs.Math.Nat.{div-div-eq-div-mul, div-one, pow-suc}
+use Rattle.std.specs.Int.{byte_at, bytes_low_first}
+use Rattle.std.specs.List.{list_all, flat_map}
+use Rattle.std.specs.Str.{bytes_eq}
+use Rattle.std.proofs.lemmas.Bool.{and_parts, leb-true, eqb-true, cases_Bool}
+use Rattle.std.proofs.lemmas.List.{take-append-drop, length-take, append-nil, nil_from_length}
+use Rattle.std.proofs.lemmas.Slice.Eq.{bytes_eq-Decides}
+use Rattle.byteorder.specs.Endian.{little_bytes, little_number, little_from}
+use Rattle.byteorder.specs.Numbers.{little_from-cons, little_from-take}
+use Rattle.facts.specs.Bytes.{AreBytes}
+use Rattle.facts.specs.laws.Bytes.{take-bytes, drop-bytes}
+use Rattle.arrow_schema.specs.Column.{PlainSchema}
+use Rattle.ipc_message.specs.Header.{supported_codes}
+use Rattle.ipc_message.specs.Checks.{checked_schema}
+use Rattle.ipc_write.specs.Written.{schema_message}
+use Rattle.catalogue.specs.declared.entry.Segment.{Segment}
+use Rattle.catalogue.specs.Entries.{PlainEntry, PlainCatalogue, is_name, IsCatalogue, is_catalogue}
+use Rattle.catalogue.specs.Text.{sized, counted, segment_text, table_text, entry_text, list_text}
+use Rattle.catalogue.specs.Reading.{◌>>=◌, number_at, sized_at, many_at, counted_at, segment_at, raw_schema_in, schema_in, unfaulted, table_at, entry_at, catalogue_at}
+use Rattle.catalogue.specs.laws.Kept.{catalogue_is}
+
+-- ---- numbers
+
+byte_at-pow : (i x : ℕ) → byte_at i x ≡ x / 256 ^ i % 256
+byte_at-pow zero x = ap (λ (y : ℕ). y % 256) (sym (div-one x))
+byte_at-pow (suc i) x = refl
+
+-- a byte in front moves the others on
+byte_behind : (i b x : ℕ) → b < 256 → byte_at (suc i) (b + 256 * x) ≡ byte_at i x
+byte_behind i b x small =
+    let n = b + 256 * x in
+    let down : n / 256 ≡ x = omega (arith, small) in
+    byte_at-pow (suc i) n
+    ∙ ap (λ (y : ℕ). y % 256) (ap (λ (p : ℕ). n / p) (pow-suc 256 i) ∙ sym (div-div-eq-div-mul n 256 (256 ^ i)) ∙ ap (λ (y : ℕ). y / 256 ^ i) down)
+    ∙ sym (byte_at-pow i x)
+
+bytes_behind : (k i b x : ℕ) → b < 256 → bytes_low_first (suc i) k (b + 256 * x) ≡ bytes_low_first i k x
+bytes_behind zero i b x small = refl
+bytes_behind (suc k) i b x small = λ j. byte_behind i b x small j ∷ bytes_behind k (suc i) b x small j
+
+-- the bytes of the number that some bytes are
+number_back : (xs : List ℕ) → AreBytes xs → little_bytes (length xs) (little_number (length xs) xs) ≡ xs
+number_back [] small = refl
+number_back (x ∷ xs) small =
+    let here : x < 256 = small 0 in
+    let moved : little_number (suc (length xs)) (x ∷ xs) ≡ x + 256 * little_number (length xs) xs = ap (λ n. x + 256 * n) (little_from-cons 0 (length xs) x xs) in
+    let first : byte_at 0 (x + 256 * little_number (length xs) xs) ≡ x = byte_at-pow 0 (x + 256 * little_number (length xs) xs) ∙ omega (arith, here) in
+    let others : bytes_low_first 1 (length xs) (x + 256 * little_number (length xs) xs) ≡ xs =
+      bytes_behind (length xs) 0 x (little_number (length xs) xs) here ∙ number_back xs (λ i. small (suc i)) in
+    ap (little_bytes (suc (length xs))) moved ∙ (λ j. first j ∷ others j)
+
+-- what a reader took from the front, and that the others are bytes too
+pub record Takes (bytes text rest : List ℕ) : Type 0 where
+  pub parts : bytes ≡ text ++ rest
+  pub small : AreBytes rest
+
+then_takes : (a x b y c : List ℕ) → Takes a x b → Takes b y c → Takes a (x ++ y) c
+then_takes a x b y c p q = record { parts = p.parts ∙ ap (λ t. x ++ t) q.parts ∙ sym (append_assoc x y c); small = q.small }
+
+-- the value of a step that was made
+bound : {A B : Type 0} (o : Option A) (f : A → Option B) (y : B) → (o >>= f) ≡ Some y → (x : A) × (o ≡ Some x) × (f x ≡ Some y)
+bound (Some x) f y e = (x, refl, e)
+bound None f y e = absurd cc
+
+-- a test that was passed
+tested : {A : Type 0} (b : Bool) (x y : A) → cond b (Some x) None ≡ Some y → (b ≡ true) × (x ≡ y)
+tested true x y e = (refl, cc)
+tested false x y e = absurd cc
+
+number_takes : (size : ℕ) (bytes : List ℕ) (r : ℕ × List ℕ) → AreBytes bytes → number_at size bytes ≡ Some r → Takes bytes (little_bytes size r.0) r.1
+number_takes size bytes r small e =
+    let t = tested (leb size (length bytes)) (little_number size bytes, drop size bytes) r e in
+    let long : size ≤ length bytes = leb-true _ _ t.0 in
+    let front = take size bytes in
+    let len : length front ≡ size = omega (arith, length-take size bytes) in
+    let back : little_bytes size (little_number size front) ≡ front = subst (λ n. little_bytes n (little_number n front) ≡ front) len (number_back front (take-bytes size bytes small)) in
+    let value : little_bytes size (little_number size bytes) ≡ front = ap (little_bytes size) (sym (little_from-take 0 size size bytes (omega arith))) ∙ back in
+    subst (λ (p : ℕ × List ℕ). Takes bytes (little_bytes size p.0) p.1) t.1
+    (record { parts = sym (take-append-drop size bytes) ∙ ap (λ x. x ++ drop size bytes) (sym value); small = drop-bytes size bytes small })
+
+sized_takes : (bytes : List ℕ) (r : List ℕ × List ℕ) → AreBytes bytes → sized_at bytes ≡ Some r → Takes bytes (sized r.0) r.1 × AreBytes r.0
+unfolding sized_at
+sized_takes bytes r small e =
+    let a = bound (number_at 4 bytes) (λ size. cond (leb size.0 (length size.1)) (Some (take size.0 size.1, drop size.0 size.1)) None) r e in
+    let n = a.0 in
+    let p = number_takes 4 bytes n small a.1 in
+    let t = tested (leb n.0 (length n.1)) (take n.0 n.1, drop n.0 n.1) r a.2 in
+    let long : n.0 ≤ length n.1 = leb-true _ _ t.0 in
+    let len : length (take n.0 n.1) ≡ n.0 = omega (arith, length-take n.0 n.1) in
+    let second : Takes n.1 (take n.0 n.1) (drop n.0 n.1) = record { parts = sym (take-append-drop n.0 n.1); small = drop-bytes n.0 n.1 p.small } in
+    let both = then_takes bytes (little_bytes 4 n.0) n.1 (take n.0 n.1) (drop n.0 n.1) p second in
+    let whole : Takes bytes (sized (take n.0 n.1)) (drop n.0 n.1) = subst (λ k. Takes bytes (little_bytes 4 k ++ take n.0 n.1) (drop n.0 n.1)) (sym len) both in
+    subst (λ (q : List ℕ × List ℕ). Takes bytes (sized q.0) q.1 × AreBytes q.0) t.1 (whole, take-bytes n.0 n.1 p.small)
+
+-- ---- many parts
+
+abbrev TakesOne : {A : Type 0} → (List ℕ → Option (A × List ℕ)) → (A → List ℕ) → Type 0
+TakesOne {A = A} one_at text = (bytes : List ℕ) (r : A × List ℕ) → AreBytes bytes → one_at bytes ≡ Some r → Takes bytes (text r.0) r.1
+
+many_takes : {A : Type 0} (one_at : List ℕ → Option (A × List ℕ)) (text : A → List ℕ) → TakesOne one_at text → (count : ℕ) (bytes : List ℕ) (r : List A × List ℕ) → AreBytes bytes → many_at one_at count bytes ≡ Some r
+    → Takes bytes (flat_map text r.0) r.1 × (length r.0 ≡ count)
+unfolding many_at
+many_takes {A = A} one_at text one zero bytes r small e =
+    subst (λ (p : List A × List ℕ). Takes bytes (flat_map text p.0) p.1 × (length p.0 ≡ 0)) (some_is ([], bytes) r e) (record { parts = refl; small = small }, refl)
+  where
+    some_is : (x y : List A × List ℕ) → Some x ≡ Some y → x ≡ y
+    some_is x y h = cc
+many_takes {A = A} one_at text one (suc count) bytes r small e =
+    let a = bound (one_at bytes) (λ first. many_at one_at count first.1 >>= λ others. Some (first.0 ∷ others.0, others.1)) r e in
+    let b = bound (many_at one_at count a.0.1) (λ others. Some (a.0.0 ∷ others.0, others.1)) r a.2 in
+    let p = one bytes a.0 small a.1 in
+    let q = many_takes one_at text one count a.0.1 b.0 p.small b.1 in
+    subst (λ (x : List A × List ℕ). Takes bytes (flat_map text x.0) x.1 × (length x.0 ≡ suc count)) (some_is (a.0.0 ∷ b.0.0, b.0.1) r b.2)
+    (then_takes bytes (text a.0.0) a.0.1 (flat_map text b.0.0) b.0.1 p q.0, ap suc q.1)
+  where
+    some_is : (x y : List A × List ℕ) → Some x ≡ Some y → x ≡ y
+    some_is x y h = cc
+
+counted_takes : {A : Type 0} (one_at : List ℕ → Option (A × List ℕ)) (text : A → List ℕ) → TakesOne one_at text → TakesOne (counted_at one_at) (counted text)
+counted_takes one_at text one bytes r small e =
+    let a = bound (number_at 4 bytes) (λ count. many_at one_at count.0 count.1) r e in
+    let p = number_takes 4 bytes a.0 small a.1 in
+    let q = many_takes one_at text one a.0.0 a.0.1 r p.small a.2 in
+    subst (λ k. Takes bytes (little_bytes 4 k ++ flat_map text r.0) r.1) (sym q.1) (then_takes bytes (little_bytes 4 a.0.0) a.0.1 (flat_map text r.0) r.1 p q.0)
+
+segment_takes : TakesOne segment_at segment_text
+unfolding segment_at
+segment_takes bytes r small e =
+    let a = bound (number_at 8 bytes) (λ start. number_at 8 start.1 >>= λ count. number_at 8 count.1 >>= λ size. number_at 8 size.1 >>= λ rows.
+      Some (record { place = record { run = record { start = start.0; count = count.0 }; bytes = size.0 }; rows = rows.0 }, rows.1)) r e in
+    let b = bound (number_at 8 a.0.1) (λ count. number_at 8 count.1 >>= λ size. number_at 8 size.1 >>= λ rows.
+      Some (record { place = record { run = record { start = a.0.0; count = count.0 }; bytes = size.0 }; rows = rows.0 }, rows.1)) r a.2 in
+    let c = bound (number_at 8 b.0.1) (λ size. number_at 8 size.1 >>= λ rows.
+      Some (record { place = record { run = record { start = a.0.0; count = b.0.0 }; bytes = size.0 }; rows = rows.0 }, rows.1)) r b.2 in
+    let d = bound (number_at 8 c.0.1) (λ rows. Some (record { place = record { run = record { start = a.0.0; count = b.0.0 }; bytes = c.0.0 }; rows = rows.0 }, rows.1)) r c.2 in
+    let p = number_takes 8 bytes a.0 small a.1 in
+    let q = number_takes 8 a.0.1 b.0 p.small b.1 in
+    let s = number_takes 8 b.0.1 c.0 q.small c.1 in
+    let t = number_takes 8 c.0.1 d.0 s.small d.1 in
+    let st = then_takes b.0.1 (little_bytes 8 c.0.0) c.0.1 (little_bytes 8 d.0.0) d.0.1 s t in
+    let qst = then_takes a.0.1 (little_bytes 8 b.0.0) b.0.1 (little_bytes 8 c.0.0 ++ little_bytes 8 d.0.0) d.0.1 q st in
+    let all = then_takes bytes (little_bytes 8 a.0.0) a.0.1 (little_bytes 8 b.0.0 ++ (little_bytes 8 c.0.0 ++ little_bytes 8 d.0.0)) d.0.1 p qst in
+    subst (λ (x : Segment × List ℕ). Takes bytes (segment_text x.0) x.1) (some_is (record { place = record { run = record { start = a.0.0; count = b.0.0 }; bytes = c.0.0 }; rows = d.0.0 }, d.0.1) r d.2) all
+  where
+    some_is : (x y : Segment × List ℕ) → Some x ≡ Some y → x ≡ y
+    some_is x y h = cc
+
+-- ---- entries
+
+entry_is : (x y : PlainEntry × List ℕ) → Some x ≡ Some y → x ≡ y
+entry_is x y h = cc
+
+schema_takes : (bytes : List ℕ) (s : PlainSchema) → schema_in bytes ≡ Some s → bytes ≡ schema_message s
+unfolding schema_in
+schema_takes bytes s e =
+    let a = bound (raw_schema_in bytes) (λ raw. unfaulted (checked_schema supported_codes raw) >>= λ schema. cond (bytes_eq (schema_message schema) bytes) (Some schema) None) s e in
+    let b = bound (unfaulted (checked_schema supported_codes a.0)) (λ schema. cond (bytes_eq (schema_message schema) bytes) (Some schema) None) s a.2 in
+    let t = tested (bytes_eq (schema_message b.0) bytes) b.0 s b.2 in
+    sym ((bytes_eq-Decides (schema_message b.0) bytes).0 t.0) ∙ ap schema_message t.1
+
+table_takes : (name bytes : List ℕ) (r : PlainEntry × List ℕ) → AreBytes bytes → table_at name bytes ≡ Some r → Takes bytes (table_text r.0) r.1 × (r.0.name ≡ name)
+unfolding table_at table_text
+table_takes name bytes r small e =
+    let a = bound (sized_at bytes) (λ text. schema_in text.0 >>= λ schema. counted_at segment_at text.1 >>= λ segments. Some (record { name = name; schema = schema; segments = segments.0 }, segments.1)) r e in
+    let b = bound (schema_in a.0.0) (λ schema. counted_at segment_at a.0.1 >>= λ segments. Some (record { name = name; schema = schema; segments = segments.0 }, segments.1)) r a.2 in
+    let c = bound (counted_at segment_at a.0.1) (λ segments. Some (record { name = name; schema = b.0; segments = segments.0 }, segments.1)) r b.2 in
+    let p = sized_takes bytes a.0 small a.1 in
+    let q = counted_takes segment_at segment_text segment_takes a.0.1 c.0 p.0.small c.1 in
+    let message : Takes bytes (sized (schema_message b.0)) a.0.1 = subst (λ m. Takes bytes (sized m) a.0.1) (schema_takes a.0.0 b.0 b.1) p.0 in
+    let made : PlainEntry × List ℕ = (record { name = name; schema = b.0; segments = c.0.0 }, c.0.1) in
+    subst (λ (x : PlainEntry × List ℕ). Takes bytes (sized (schema_message x.0.schema) ++ counted segment_text x.0.segments) x.1 × (x.0.name ≡ name)) (entry_is made r c.2)
+    (then_takes bytes (sized (schema_message b.0)) a.0.1 (counted segment_text c.0.0) c.0.1 message q, refl)
+
+entry_takes : TakesOne entry_at entry_text
+unfolding entry_at
+entry_takes bytes r small e =
+    let a = bound (sized_at bytes) (λ name. cond (is_name name.0) (table_at name.0 name.1) None) r e in
+    let t = named_table (is_name a.0.0) (table_at a.0.0 a.0.1) r a.2 in
+    let p = sized_takes bytes a.0 small a.1 in
+    let q = table_takes a.0.0 a.0.1 r p.0.small t in
+    let front : Takes bytes (sized r.0.name) a.0.1 = subst (λ n. Takes bytes (sized n) a.0.1) (sym q.1) p.0 in
+    then_takes bytes (sized r.0.name) a.0.1 (table_text r.0) r.1 front q.0
+  where
+    named_table : (b : Bool) (o : Option (PlainEntry × List ℕ)) (x : PlainEntry × List ℕ) → cond b o None ≡ Some x → o ≡ Some x
+    named_table true o x h = h
+    named_table false o x h = absurd cc
+
+-- ---- the catalogue
+
+-- what is read of a text
+pub record IsSpelled (bytes : List ℕ) (c : PlainCatalogue) : Type 0 where
+  pub kept : IsCatalogue c
+  pub spelled : AreBytes bytes → bytes ≡ list_text c
+
+pub catalogue_spelled : (bytes : List ℕ) (c : PlainCatalogue) → catalogue_at bytes ≡ Some c → IsSpelled bytes c
+unfolding catalogue_at
+catalogue_spelled bytes c e =
+    let a = bound (counted_at entry_at bytes) (λ entries. cond (eqb (length entries.1) 0 && is_catalogue entries.0) (Some entries.0) None) c e in
+    let t = tested (eqb (length a.0.1) 0 && is_catalogue a.0.0) a.0.0 c a.2 in
+    let parts = and_parts (eqb (length a.0.1) 0) (is_catalogue a.0.0) t.0 in
+    record {
+      kept = subst IsCatalogue t.1 (catalogue_is a.0.0 parts.1);
+      spelled = λ small.
+        let p = counted_takes entry_at entry_text entry_takes bytes a.0 small a.1 in
+        p.parts ∙ ap (λ rest. list_text a.0.0 ++ rest) (nil_from_length a.0.1 (eqb-true (length a.0.1) 0 parts.0)) ∙ append-nil (list_text a.0.0) ∙ ap list_text t.1;
+    }

@@ -1,0 +1,7 @@
+-- What a catalogue of the code is, whatever memory it takes.
+use Rattle.std.specs.Prelude.{map}
+use Rattle.catalogue.specs.declared.catalogue.Catalogue.{Catalogue}
+use Rattle.catalogue.specs.Entries.{PlainCatalogue, plain_entry}
+
+abbrev pub catalogue_of : Catalogue → PlainCatalogue
+catalogue_of c = map plain_entry c.entries.items

@@ -1,0 +1,220 @@
+// A text is read.
+ghost use Rattle.std.specs.Prelude.{◌≡◌, true, map, string_bytes, IfOk};
+ghost use Rattle.catalogue.specs.Entries.{plain_entry, is_name};
+ghost use Rattle.catalogue.specs.Reading.{Gives, number_at, sized_at, many_at, segment_at, raw_schema_in, schema_in, table_at, entry_at, catalogue_at};
+ghost use Rattle.arrow_schema.specs.View.{schema_of};
+ghost use Rattle.ipc_message.specs.View.{raw_schema_of};
+ghost use Rattle.catalogue.specs.View.{catalogue_of};
+
+use crate::encoding::message_of;
+use crate::names::spell_name;
+use crate::{Catalogue, Entry, Segment};
+use arrow_schema::Schema;
+use byteorder::{ByteOrder, LittleEndian};
+use ipc_message::{Header, ImportError, NextMessage, RawSchema, read_message, read_schema};
+use segments::{Extent, Run};
+use std::alloc::{AllocError, AllocFailed, Global};
+use thiserror::Error;
+
+/// Why no catalogue was read.
+#[derive(Clone, Copy, Debug, PartialEq, Eq, Error)]
+pub enum DecodeError {
+    #[error("no text of a catalogue")]
+    NoText,
+    #[error("out of memory")]
+    OutOfMemory,
+}
+
+fn u32_at(bytes: &[u8]) -> Result<(u32, &[u8]), DecodeError>
+    ensures { Gives (λ x. (x.0, x.1.now)) result (number_at 4 bytes.now) }
+{
+    if bytes.len() < 4 {
+        return Err(DecodeError::NoText);
+    }
+    Ok((LittleEndian::read_u32(bytes), &bytes[4..]))
+}
+
+fn u64_at(bytes: &[u8]) -> Result<(u64, &[u8]), DecodeError>
+    ensures { Gives (λ x. (x.0, x.1.now)) result (number_at 8 bytes.now) }
+{
+    if bytes.len() < 8 {
+        return Err(DecodeError::NoText);
+    }
+    Ok((LittleEndian::read_u64(bytes), &bytes[8..]))
+}
+
+#[tactic(auto, unfolding(crate::specs::Reading::sized_at))]
+fn sized_at(bytes: &[u8]) -> Result<(&[u8], &[u8]), DecodeError>
+    ensures { Gives (λ x. (x.0.now, x.1.now)) result (sized_at bytes.now) }
+{
+    let (size, rest) = u32_at(bytes)?;
+    let size = size as usize;
+    if rest.len() < size {
+        return Err(DecodeError::NoText);
+    }
+    Ok(rest.split_at(size))
+}
+
+#[tactic(auto, unfolding(crate::specs::Reading::segment_at))]
+fn segment_at(bytes: &[u8]) -> Result<(Segment, &[u8]), DecodeError>
+    ensures { Gives (λ x. (x.0, x.1.now)) result (segment_at bytes.now) }
+{
+    let (start, rest) = u64_at(bytes)?;
+    let (count, rest) = u64_at(rest)?;
+    let (size, rest) = u64_at(rest)?;
+    let (rows, rest) = u64_at(rest)?;
+    let place = Extent {
+        run: Run { start, count },
+        bytes: size,
+    };
+    Ok((Segment { place, rows }, rest))
+}
+
+fn segments_at(
+    alloc: Global,
+    count: u32,
+    bytes: &[u8],
+) -> Result<(Vec<Segment>, &[u8]), DecodeError>
+    ensures { Gives (λ x. (x.0.items, x.1.now)) result (many_at segment_at count bytes.now) }
+{
+    let mut segments = Vec::new(alloc);
+    let mut rest = bytes;
+    for _ in 0..count {
+        let (segment, after) = segment_at(rest)?;
+        segments.push(segment)?;
+        rest = after;
+    }
+    Ok((segments, rest))
+}
+
+// A text that may be a name.
+#[tactic(auto, using(crate::proofs::Again::name_is_utf8))]
+fn text_of(alloc: Global, bytes: &[u8]) -> Result<String, AllocError>
+    requires { is_name bytes.now ≡ true }
+    ensures { IfOk result (λ text. string_bytes text ≡ bytes.now) }
+{
+    match std::str::from_utf8(bytes) {
+        Ok(text) => String::from_str(alloc, text),
+        Err(_) => unreachable!(),
+    }
+}
+
+#[tactic(auto, unfolding(crate::specs::Reading::raw_schema_in))]
+fn raw_schema_in(alloc: Global, bytes: &[u8]) -> Result<RawSchema<'_>, DecodeError>
+    ensures { Gives raw_schema_of result (raw_schema_in bytes.now) }
+{
+    let Ok((NextMessage::Message(message), _)) = read_message(bytes) else {
+        return Err(DecodeError::NoText);
+    };
+    match message.header(alloc)? {
+        Header::Schema(schema) => Ok(schema),
+        _ => Err(DecodeError::NoText),
+    }
+}
+
+#[tactic(auto, unfolding(crate::specs::Reading::schema_in))]
+fn schema_in(alloc: Global, bytes: &[u8]) -> Result<Schema, DecodeError>
+    ensures { Gives schema_of result (schema_in bytes.now) }
+{
+    let raw = raw_schema_in(alloc, bytes)?;
+    let schema = read_schema(alloc, &raw)?;
+    let message = message_of(alloc, &schema)?;
+    if message.as_slice() == bytes {
+        Ok(schema)
+    } else {
+        Err(DecodeError::NoText)
+    }
+}
+
+#[tactic(auto, unfolding(crate::specs::Reading::table_at))]
+fn table_at(alloc: Global, name: String, bytes: &[u8]) -> Result<(Entry, &[u8]), DecodeError>
+    ensures { Gives (λ x. (plain_entry x.0, x.1.now)) result (table_at (string_bytes name) bytes.now) }
+{
+    let (message, rest) = sized_at(bytes)?;
+    let schema = schema_in(alloc, message)?;
+    let (count, rest) = u32_at(rest)?;
+    let (segments, rest) = segments_at(alloc, count, rest)?;
+    let entry = Entry {
+        name,
+        schema,
+        segments,
+    };
+    Ok((entry, rest))
+}
+
+#[tactic(auto, unfolding(crate::specs::Reading::entry_at))]
+fn entry_at(alloc: Global, bytes: &[u8]) -> Result<(Entry, &[u8]), DecodeError>
+    ensures { Gives (λ x. (plain_entry x.0, x.1.now)) result (entry_at bytes.now) }
+{
+    let (name, rest) = sized_at(bytes)?;
+    if !spell_name(name) {
+        return Err(DecodeError::NoText);
+    }
+    let name = text_of(alloc, name)?;
+    table_at(alloc, name, rest)
+}
+
+fn entries_at(alloc: Global, count: u32, bytes: &[u8]) -> Result<(Vec<Entry>, &[u8]), DecodeError>
+    ensures { Gives (λ x. (map plain_entry x.0.items, x.1.now)) result (many_at entry_at count bytes.now) }
+{
+    let mut entries = Vec::new(alloc);
+    let mut rest = bytes;
+    for _ in 0..count {
+        let (entry, after) = entry_at(alloc, rest)?;
+        entries.push(entry)?;
+        rest = after;
+    }
+    Ok((entries, rest))
+}
+
+/// The catalogue whose text these bytes are.
+///
+/// # Errors
+/// `NoText` where they are the text of none.
+#[tactic(auto, unfolding(crate::specs::Reading::catalogue_at))]
+pub fn decode(alloc: Global, bytes: &[u8]) -> Result<Catalogue, DecodeError>
+    ensures exact { Gives catalogue_of result (catalogue_at bytes.now) }
+{
+    let (count, rest) = u32_at(bytes)?;
+    let (entries, rest) = entries_at(alloc, count, rest)?;
+    if !rest.is_empty() {
+        return Err(DecodeError::NoText);
+    }
+    Catalogue::of(entries).ok_or(DecodeError::NoText)
+}
+
+impl From<AllocError> for DecodeError {
+    ghost use Rattle.std.specs.Prelude.{◌≡◌};
+    ghost use Rattle.catalogue.specs.declared.decoding.DecodeError.TheVariants.{OutOfMemory};
+
+    ghost from_gives = { λ _ e. e ≡ OutOfMemory };
+
+    fn from(_: AllocError) -> Self {
+        DecodeError::OutOfMemory
+    }
+}
+
+impl<T: Drop> From<AllocFailed<T>> for DecodeError {
+    ghost use Rattle.std.specs.Prelude.{◌≡◌};
+    ghost use Rattle.catalogue.specs.declared.decoding.DecodeError.TheVariants.{OutOfMemory};
+
+    ghost from_gives = { λ _ e. e ≡ OutOfMemory };
+
+    fn from(_: AllocFailed<T>) -> Self {
+        DecodeError::OutOfMemory
+    }
+}
+
+impl From<ImportError> for DecodeError {
+    ghost use Rattle.std.specs.Prelude.{◌≡◌};
+    ghost use Rattle.catalogue.specs.Reading.{decode_error};
+
+    ghost from_gives = { λ e r. r ≡ decode_error e };
+
+    fn from(error: ImportError) -> Self {
+        match error {
+            ImportError::Fault(_) => DecodeError::NoText,
+            ImportError::OutOfMemory => DecodeError::OutOfMemory,
+        }
+    }
+}

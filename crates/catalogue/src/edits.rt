@@ -1,0 +1,96 @@
+// Changes of a list of entries, and copies of it.
+ghost use Rattle.std.specs.Prelude.{◌≡◌, ◌<◌, ◌++◌, true, map, option_map, string_bytes, vec_len, OnOk, OnErr, IfOk, IsOk, IsSome};
+ghost use Rattle.std.specs.Vec.{vec_capacity};
+ghost use Rattle.catalogue.specs.Entries.{plain_entry, names_of, ascends};
+ghost use Rattle.catalogue.specs.Edits.{entry_of, with_entry, without, renamed, with_more};
+ghost use Rattle.catalogue.specs.declared.entry.Segment.{Segment};
+
+use crate::places::{place_of, seat_of};
+use crate::{Entry, Segment};
+use segments::Run;
+use std::alloc::{AllocError, Global};
+
+// Puts an entry into its place, and gives the one that stood there. It fails only where there is no room.
+pub(crate) fn put_entry(
+    entries: &mut Vec<Entry>,
+    entry: Entry,
+) -> Result<Option<Entry>, AllocError>
+    requires { ascends (names_of (map plain_entry entries.old.items)) ≡ true }
+    ensures put { OnOk result (map plain_entry entries.new.items ≡ with_entry (map plain_entry entries.old.items) (plain_entry entry)) }
+    ensures stood { IfOk result (λ stood. option_map plain_entry stood ≡ entry_of (map plain_entry entries.old.items) (string_bytes entry.name)) }
+    ensures err { OnErr result (map plain_entry entries.new.items ≡ map plain_entry entries.old.items) }
+    ensures room { vec_len entries.old < vec_capacity entries.old → IsOk result }
+{
+    match seat_of(entries, &entry.name) {
+        Ok(place) => Ok(Some(std::mem::replace(&mut entries[place], entry))),
+        Err(place) => {
+            entries.insert(place, entry)?;
+            Ok(None)
+        }
+    }
+}
+
+// Takes the entry of a name out.
+pub(crate) fn take_entry(entries: &mut Vec<Entry>, name: &str) -> Option<Entry>
+    ensures removed { map plain_entry entries.new.items ≡ without (map plain_entry entries.old.items) name.now }
+    ensures stood { option_map plain_entry result ≡ entry_of (map plain_entry entries.old.items) name.now }
+    ensures room { IsSome result → vec_len entries.new < vec_capacity entries.new }
+{
+    match place_of(entries, name) {
+        Some(place) => Some(entries.remove(place)),
+        None => None,
+    }
+}
+
+// Gives the entry of a name another one.
+pub(crate) fn rename_entry(entries: &mut Vec<Entry>, from: &str, to: String)
+    requires { ascends (names_of (map plain_entry entries.old.items)) ≡ true }
+    ensures { map plain_entry entries.new.items ≡ renamed (map plain_entry entries.old.items) from.now (string_bytes to) }
+{
+    match take_entry(entries, from) {
+        Some(entry) => {
+            let renamed = Entry {
+                name: to,
+                schema: entry.schema,
+                segments: entry.segments,
+            };
+            put_entry(entries, renamed).unwrap();
+        }
+        None => {}
+    }
+}
+
+// Puts segments behind those of the entry of a name.
+pub(crate) fn append_to(
+    entries: &mut Vec<Entry>,
+    name: &str,
+    more: &[Segment],
+) -> Result<(), AllocError>
+    ensures appended { OnOk result (map plain_entry entries.new.items ≡ with_more (map plain_entry entries.old.items) name.now more.now) }
+    ensures err { OnErr result (map plain_entry entries.new.items ≡ map plain_entry entries.old.items) }
+{
+    match place_of(entries, name) {
+        Some(place) => entries[place].segments.extend_from_slice(more),
+        None => Ok(()),
+    }
+}
+
+// Appends the runs of these segments.
+pub(crate) fn put_runs(runs: &mut Vec<Run>, segments: &[Segment]) -> Result<(), AllocError>
+    ensures { OnOk result (runs.new.items ≡ runs.old.items ++ map (λ (s : Segment). s.place.run) segments.now) }
+{
+    for segment in segments {
+        runs.push(segment.place.run)?;
+    }
+    Ok(())
+}
+
+pub(crate) fn copy_entries(alloc: Global, entries: &[Entry]) -> Result<Vec<Entry>, AllocError>
+    ensures { IfOk result (λ copies. map plain_entry copies.items ≡ map plain_entry entries.now) }
+{
+    let mut copies = Vec::with_capacity(alloc, entries.len())?;
+    for entry in entries {
+        copies.push(entry.copy(alloc)?)?;
+    }
+    Ok(copies)
+}

@@ -1,0 +1,46 @@
+// Laws of the definitions, for the crates above: each call does nothing, and its contract is the law.
+ghost use Rattle.std.specs.Prelude.{◌≡◌, ◌≤◌, ◌++◌, ℕ, false, List, length, Some};
+ghost use Rattle.std.specs.List.{Contains};
+ghost use Rattle.arrow_schema.specs.Column.{PlainSchema};
+ghost use Rattle.arrow_schema.specs.Limits.{IsWithinLimits};
+ghost use Rattle.facts.specs.Bytes.{AreBytes};
+ghost use Rattle.segments.specs.declared.run.Run.{Run};
+ghost use Rattle.catalogue.specs.declared.entry.Segment.{Segment};
+ghost use Rattle.catalogue.specs.Entries.{PlainEntry, PlainCatalogue, row_count, runs_of, IsCatalogue, AreRead};
+ghost use Rattle.catalogue.specs.Text.{list_text, list_size};
+ghost use Rattle.catalogue.specs.Reading.{catalogue_at};
+ghost use Rattle.catalogue.specs.inner.Messages.{AllAgain};
+
+// The message of a schema is read again, and its length has 32 bits.
+fn schemas_are_read_again()
+    ensures { AllAgain }
+{
+    ipc_write::schema_message_is_read_again();
+    ipc_write::metadata_is_within_its_limit();
+}
+
+/// One text for each catalogue, and one catalogue for each text. `kept`: what is read is a catalogue; `found`: what is
+/// read was written so; `again`: what is written is read; `apart`: no text begins another one.
+pub fn one_text_each()
+    ensures kept { (bytes : List ℕ) (c : PlainCatalogue) → catalogue_at bytes ≡ Some c → IsCatalogue c }
+    ensures found { (bytes : List ℕ) (c : PlainCatalogue) → AreBytes bytes → catalogue_at bytes ≡ Some c → bytes ≡ list_text c }
+    ensures again { (c : PlainCatalogue) → IsCatalogue c → AreRead c → catalogue_at (list_text c) ≡ Some c }
+    ensures apart { (c d : PlainCatalogue) (x y : List ℕ) → IsCatalogue c → AreRead c → IsCatalogue d → AreRead d → list_text c ++ x ≡ list_text d ++ y → c ≡ d }
+{
+    schemas_are_read_again();
+}
+
+/// How many bytes a text has. Where runs start makes no difference.
+pub fn texts_have_these_sizes()
+    ensures { (c : PlainCatalogue) → length (list_text c) ≡ list_size c }
+{}
+
+/// The run of each segment is among those that the catalogue names.
+pub fn runs_are_named()
+    ensures { (c : PlainCatalogue) (e : PlainEntry) (s : Segment) → Contains c e → Contains e.segments s → Contains (runs_of c) s.place.run }
+{}
+
+/// The rows of a table are at most 268,435,456.
+pub fn rows_are_few()
+    ensures { (c : PlainCatalogue) (e : PlainEntry) → IsCatalogue c → Contains c e → row_count e ≤ 268435456 }
+{}
