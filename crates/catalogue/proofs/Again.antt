@@ -1,5 +1,5 @@
 -- What is written is read again.
-use Rattle.std.proofs.Common.{◌≡◌, ◌≤◌, ◌<◌, ◌+◌, ◌*◌, ◌^◌, ◌&&◌, ◌==◌, ltb, leb, eqb, ℕ, zero, suc, Bool, true, false, cond, List, [], ◌∷◌, ◌++◌, length, take, drop, get_or, Option, Some, None, refl, sym, ap, subst, ◌∙◌, append_assoc, arith}
+use Rattle.std.proofs.Common.{◌≡◌, ◌≤◌, ◌<◌, ◌+◌, ◌*◌, ◌/◌, ◌^◌, ◌&&◌, ltb, leb, eqb, ℕ, zero, suc, Bool, true, false, cond, List, [], ◌∷◌, ◌++◌, length, take, drop, get_or, Option, Some, None, refl, sym, ap, subst, ◌∙◌, append_assoc, arith}
 use Rattle.std.specs.Prelude.{slice_index}
 use Rattle.std.specs.List.{list_all, flat_map, sum_by, AllByRecursion}
 use Rattle.std.specs.Str.{bytes_eq, IsUtf8, IsAscii}
@@ -31,11 +31,19 @@ number_again size x rest lt =
     let long : leb size (length (little_bytes size x ++ rest)) ≡ true = le-leb _ _ (omega (arith, length-append (little_bytes size x) rest, len)) in
     rw (long, little_number-reads_back size x rest lt, drop_at (little_bytes size x) rest size len) refl
 
+-- a step that gives a value, and what follows it
+bound_is : {A B : Type 0} (o : Option A) (x : A) (f : A → Option B) (y : Option B) → o ≡ Some x → f x ≡ y → (o >>= f) ≡ y
+bound_is o x f y h k = ap (λ p. p >>= f) h ∙ k
+
 pub sized_again : (bytes rest : List ℕ) → length bytes < 2 ^ 32 → sized_at (sized bytes ++ rest) ≡ Some (bytes, rest)
 unfolding sized_at
 sized_again bytes rest lt =
+    let front : number_at 4 (sized bytes ++ rest) ≡ Some (length bytes, bytes ++ rest) =
+    ap (number_at 4) (append_assoc (little_bytes 4 (length bytes)) bytes rest) ∙ number_again 4 (length bytes) (bytes ++ rest) (omega (arith, lt)) in
     let long : leb (length bytes) (length (bytes ++ rest)) ≡ true = le-leb _ _ (omega (arith, length-append bytes rest)) in
-    rw (append_assoc (little_bytes 4 (length bytes)) bytes rest, number_again 4 (length bytes) (bytes ++ rest) (omega (arith, lt)), long, take_at bytes rest (length bytes) refl, drop_at bytes rest (length bytes) refl) refl
+    bound_is (number_at 4 (sized bytes ++ rest)) (length bytes, bytes ++ rest) (λ size. cond (leb size.0 (length size.1)) (Some (take size.0 size.1, drop size.0 size.1)) None) (Some (bytes, rest)) front
+    (cond-true (leb (length bytes) (length (bytes ++ rest))) (Some (take (length bytes) (bytes ++ rest), drop (length bytes) (bytes ++ rest))) None long
+    ∙ (λ i. Some (take_at bytes rest (length bytes) refl i, drop_at bytes rest (length bytes) refl i)))
 
 -- ---- many parts
 
@@ -84,8 +92,20 @@ segment_again s rest h =
     let c = little_bytes 8 s.place.bytes in
     let d = little_bytes 8 s.rows in
     let parts : (a ++ (b ++ (c ++ d))) ++ rest ≡ a ++ (b ++ (c ++ (d ++ rest))) =
-      append_assoc a (b ++ (c ++ d)) rest ∙ ap (λ x. a ++ x) (append_assoc b (c ++ d) rest ∙ ap (λ x. b ++ x) (append_assoc c d rest)) in
-    rw (parts, number_again 8 s.place.run.start (b ++ (c ++ (d ++ rest))) f.start, number_again 8 s.place.run.count (c ++ (d ++ rest)) f.count, number_again 8 s.place.bytes (d ++ rest) f.bytes, number_again 8 s.rows rest f.rows) refl
+    append_assoc a (b ++ (c ++ d)) rest ∙ ap (λ x. a ++ x) (append_assoc b (c ++ d) rest ∙ ap (λ x. b ++ x) (append_assoc c d rest)) in
+    let text = segment_text s ++ rest in
+    let e0 : number_at 8 text ≡ Some (s.place.run.start, b ++ (c ++ (d ++ rest))) = ap (number_at 8) parts ∙ number_again 8 s.place.run.start (b ++ (c ++ (d ++ rest))) f.start in
+    let e1 = number_again 8 s.place.run.count (c ++ (d ++ rest)) f.count in
+    let e2 = number_again 8 s.place.bytes (d ++ rest) f.bytes in
+    let e3 = number_again 8 s.rows rest f.rows in
+    bound_is (number_at 8 text) (s.place.run.start, b ++ (c ++ (d ++ rest))) (λ start. number_at 8 start.1 >>= λ count. number_at 8 count.1 >>= λ size. number_at 8 size.1 >>= λ rows.
+    Some (record { place = record { run = record { start = start.0; count = count.0 }; bytes = size.0 }; rows = rows.0 }, rows.1)) (Some (s, rest)) e0
+    (bound_is (number_at 8 (b ++ (c ++ (d ++ rest)))) (s.place.run.count, c ++ (d ++ rest)) (λ count. number_at 8 count.1 >>= λ size. number_at 8 size.1 >>= λ rows.
+    Some (record { place = record { run = record { start = s.place.run.start; count = count.0 }; bytes = size.0 }; rows = rows.0 }, rows.1)) (Some (s, rest)) e1
+    (bound_is (number_at 8 (c ++ (d ++ rest))) (s.place.bytes, d ++ rest) (λ size. number_at 8 size.1 >>= λ rows.
+    Some (record { place = record { run = record { start = s.place.run.start; count = s.place.run.count }; bytes = size.0 }; rows = rows.0 }, rows.1)) (Some (s, rest)) e2
+    (bound_is (number_at 8 (d ++ rest)) (s.rows, rest) (λ rows.
+    Some (record { place = record { run = record { start = s.place.run.start; count = s.place.run.count }; bytes = s.place.bytes }; rows = rows.0 }, rows.1)) (Some (s, rest)) e3 refl)))
 
 segments_again : (ss : List Segment) → list_all is_segment ss ≡ true → AllByRecursion (ReadAgain segment_at segment_text) ss
 segments_again [] all = tt
@@ -112,17 +132,25 @@ name_short bytes h =
 
 -- ---- entries
 
+table_again : AllAgain → (e : PlainEntry) (rest : List ℕ) → IsEntry e → is_read e.schema ≡ true → length e.segments ≤ MAX_SEGMENTS → table_at e.name (table_text e ++ rest) ≡ Some (e, rest)
+unfolding table_at table_text
+table_again schemas e rest known read few =
+    let message = schemas e.schema known.schema read in
+    let text = schema_message e.schema in
+    let after = counted segment_text e.segments ++ rest in
+    let e0 : sized_at (table_text e ++ rest) ≡ Some (text, after) = ap sized_at (append_assoc (sized text) (counted segment_text e.segments) rest) ∙ sized_again text after message.short in
+    let e2 = counted_again segment_at segment_text e.segments rest (omega (arith, few)) (segments_again e.segments known.segments) in
+    bound_is (sized_at (table_text e ++ rest)) (text, after) (λ text. schema_in text.0 >>= λ schema. counted_at segment_at text.1 >>= λ segments. Some (record { name = e.name; schema = schema; segments = segments.0 }, segments.1)) (Some (e, rest)) e0
+    (bound_is (schema_in text) e.schema (λ schema. counted_at segment_at after >>= λ segments. Some (record { name = e.name; schema = schema; segments = segments.0 }, segments.1)) (Some (e, rest)) message.read
+    (bound_is (counted_at segment_at after) (e.segments, rest) (λ segments. Some (record { name = e.name; schema = e.schema; segments = segments.0 }, segments.1)) (Some (e, rest)) e2 refl))
+
 entry_again : AllAgain → (e : PlainEntry) → is_entry e ≡ true → is_read e.schema ≡ true → length e.segments ≤ MAX_SEGMENTS → ReadAgain entry_at entry_text e
-unfolding entry_at table_at table_text
+unfolding entry_at
 entry_again schemas e h read few rest =
     let known = entry_is e h in
-    let message = schemas e.schema known.schema read in
-    let table = sized (schema_message e.schema) ++ counted segment_text e.segments in
-    let many : length e.segments < 2 ^ 32 = omega (arith, few) in
-    rw (append_assoc (sized e.name) table rest, sized_again e.name (table ++ rest) (name_short e.name known.name), known.name,
-      append_assoc (sized (schema_message e.schema)) (counted segment_text e.segments) rest,
-      sized_again (schema_message e.schema) (counted segment_text e.segments ++ rest) message.short, message.read,
-      counted_again segment_at segment_text e.segments rest many (segments_again e.segments known.segments)) refl
+    let e0 : sized_at (entry_text e ++ rest) ≡ Some (e.name, table_text e ++ rest) = ap sized_at (append_assoc (sized e.name) (table_text e) rest) ∙ sized_again e.name (table_text e ++ rest) (name_short e.name known.name) in
+    bound_is (sized_at (entry_text e ++ rest)) (e.name, table_text e ++ rest) (λ name. cond (is_name name.0) (table_at name.0 name.1) None) (Some (e, rest)) e0
+    (cond-true (is_name e.name) (table_at e.name (table_text e ++ rest)) None known.name ∙ table_again schemas e rest known read few)
 
 entries_again : AllAgain → (c : PlainCatalogue) → list_all is_entry c ≡ true → AreRead c → segment_count c ≤ MAX_SEGMENTS → AllByRecursion (ReadAgain entry_at entry_text) c
 entries_again schemas [] all read few = tt

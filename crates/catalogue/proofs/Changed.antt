@@ -17,11 +17,10 @@ use Rattle.catalogue.proofs.Order.{order, by_order, counted, with_rises, with_al
 
 -- ---- put
 
-pub put_stands : (c : PlainCatalogue) (e : PlainEntry) → is_catalogue c ≡ true → is_name e.name ≡ true → IsWithinLimits e.schema → list_all is_segment e.segments ≡ true → length (with_entry c e) ≤ MAX_TABLES → segment_count (with_entry c e) ≤ MAX_SEGMENTS
-    → is_catalogue (with_entry c e) ≡ true
-put_stands c e kept name schema segments tables most =
+pub put_stands : (c : PlainCatalogue) (e : PlainEntry) → is_catalogue c ≡ true → is_entry e ≡ true → length (with_entry c e) ≤ MAX_TABLES → segment_count (with_entry c e) ≤ MAX_SEGMENTS → is_catalogue (with_entry c e) ≡ true
+put_stands c e kept entry tables most =
     let k = catalogue_is c kept in
-    passes_catalogue (with_entry c e) (record { entries = with_all is_entry c e k.entries (entry_stands e name schema segments); order = with_rises c e k.order; tables = tables; segments = most })
+    passes_catalogue (with_entry c e) (record { entries = with_all is_entry c e k.entries entry; order = with_rises c e k.order; tables = tables; segments = most })
 
 -- ---- remove
 
@@ -36,10 +35,10 @@ removed_stands c name kept =
 -- ---- rename
 
 -- one entry more at most
-abbrev AtMost : PlainCatalogue → PlainEntry → PlainCatalogue → Type 0
+abbrev pub AtMost : PlainCatalogue → PlainEntry → PlainCatalogue → Type 0
 AtMost c e d = (length d ≤ suc (length c)) × (segment_count d ≤ segment_count c + length e.segments)
 
-with_one_more : (c : PlainCatalogue) (e : PlainEntry) → AtMost c e (with_entry c e)
+pub with_one_more : (c : PlainCatalogue) (e : PlainEntry) → AtMost c e (with_entry c e)
 with_one_more [] e = (omega arith, omega (arith, counted e []))
 with_one_more (x ∷ xs) e =
     let later = with_one_more xs e in
@@ -48,7 +47,7 @@ with_one_more (x ∷ xs) e =
     (λ is. subst (λ o. AtMost (x ∷ xs) e (match_ordering o (x ∷ with_entry xs e) (e ∷ xs) (e ∷ (x ∷ xs)))) (sym is) (omega arith, omega (arith, counted x xs, counted e xs)))
     (λ is. subst (λ o. AtMost (x ∷ xs) e (match_ordering o (x ∷ with_entry xs e) (e ∷ xs) (e ∷ (x ∷ xs)))) (sym is) (omega arith, omega (arith, counted e (x ∷ xs))))
 
-some_entry : (x e : PlainEntry) → Some x ≡ Some e → x ≡ e
+pub some_entry : (x e : PlainEntry) → Some x ≡ Some e → x ≡ e
 some_entry x e h = cc
 
 pub found_passes : (p : PlainEntry → Bool) (c : PlainCatalogue) (name : List ℕ) (e : PlainEntry) → list_all p c ≡ true → entry_of c name ≡ Some e → p e ≡ true
@@ -65,15 +64,16 @@ without_one [] name e h = absurd cc
 without_one (x ∷ xs) name e h =
     elim (cases_Bool (bytes_eq x.name name)) [
       | inl t ↦
-        let is = some_entry x e (sym (cond-true (bytes_eq x.name name) (Some x) (entry_of xs name) t) ∙ h) in
-        let rest : without (x ∷ xs) name ≡ xs = cond-true (bytes_eq x.name name) xs (x ∷ without xs name) t in
-        let len : length x.segments ≡ length e.segments = ap (λ (y : PlainEntry). length y.segments) is in
-        (ap (λ (d : PlainCatalogue). suc (length d)) rest, ap (λ (d : PlainCatalogue). segment_count d + length e.segments) rest ∙ omega (arith, len, counted x xs))
+          let is = some_entry x e (sym (cond-true (bytes_eq x.name name) (Some x) (entry_of xs name) t) ∙ h) in
+          let rest : without (x ∷ xs) name ≡ xs = cond-true (bytes_eq x.name name) xs (x ∷ without xs name) t in
+          let len : length x.segments ≡ length e.segments = ap (λ (y : PlainEntry). length y.segments) is in
+          (ap (λ (d : PlainCatalogue). suc (length d)) rest, ap (λ (d : PlainCatalogue). segment_count d + length e.segments) rest ∙ omega (arith, len, counted x xs))
       | inr f ↦
-        let later = without_one xs name e (sym (cond-false (bytes_eq x.name name) (Some x) (entry_of xs name) f) ∙ h) in
-        let rest : without (x ∷ xs) name ≡ x ∷ without xs name = cond-false (bytes_eq x.name name) xs (x ∷ without xs name) f in
-        (ap (λ (d : PlainCatalogue). suc (length d)) rest ∙ ap suc later.0,
-          ap (λ (d : PlainCatalogue). segment_count d + length e.segments) rest ∙ omega (arith, later.1, counted x xs, counted x (without xs name)))
+          let later = without_one xs name e (sym (cond-false (bytes_eq x.name name) (Some x) (entry_of xs name) f) ∙ h) in
+          let rest : without (x ∷ xs) name ≡ x ∷ without xs name = cond-false (bytes_eq x.name name) xs (x ∷ without xs name) f in (
+            ap (λ (d : PlainCatalogue). suc (length d)) rest ∙ ap suc later.0,
+            ap (λ (d : PlainCatalogue). segment_count d + length e.segments) rest ∙ omega (arith, later.1, counted x xs, counted x (without xs name)),
+          )
     ]
 
 pub renamed_stands : (c : PlainCatalogue) (from to : List ℕ) (e : PlainEntry) → is_catalogue c ≡ true → is_name to ≡ true → entry_of c from ≡ Some e → is_catalogue (with_entry (without c from) (named to e)) ≡ true
@@ -93,7 +93,6 @@ renamed_stands c from to e kept name found =
 
 -- ---- append
 
-
 -- the entry of a name with other segments
 pub record HasChanged (c : PlainCatalogue) (e : PlainEntry) (segments : List Segment) (d : PlainCatalogue) : Type 0 where
   pub names : names_of d ≡ names_of c
@@ -107,28 +106,28 @@ changed (x ∷ xs) name e segments h =
     let new : PlainEntry = record { name = x.name; schema = x.schema; segments = segments } in
     elim (cases_Bool (bytes_eq x.name name)) [
       | inl t ↦
-        let is = some_entry x e (sym (cond-true (bytes_eq x.name name) (Some x) (entry_of xs name) t) ∙ h) in
-        let len : length x.segments ≡ length e.segments = ap (λ (y : PlainEntry). length y.segments) is in
-        subst (HasChanged (x ∷ xs) e segments) (sym (cond-true (bytes_eq x.name name) (new ∷ xs) (x ∷ with_segments xs name segments) t)) (record {
-          names = refl;
-          size = refl;
-          count = omega (arith, len, counted x xs, counted new xs);
-          entries = λ all each.
-            let parts = and_parts (is_entry x) (list_all is_entry xs) all in
-            let stood = entry_is x parts.0 in
-            and_from (is_entry new) (list_all is_entry xs) (entry_stands new stood.name stood.schema each) parts.1;
-        })
+          let is = some_entry x e (sym (cond-true (bytes_eq x.name name) (Some x) (entry_of xs name) t) ∙ h) in
+          let len : length x.segments ≡ length e.segments = ap (λ (y : PlainEntry). length y.segments) is in
+          subst (HasChanged (x ∷ xs) e segments) (sym (cond-true (bytes_eq x.name name) (new ∷ xs) (x ∷ with_segments xs name segments) t)) (record {
+            names = refl;
+            size = refl;
+            count = omega (arith, len, counted x xs, counted new xs);
+            entries = λ all each.
+                let parts = and_parts (is_entry x) (list_all is_entry xs) all in
+                let stood = entry_is x parts.0 in
+                and_from (is_entry new) (list_all is_entry xs) (entry_stands new stood.name stood.schema each) parts.1;
+          })
       | inr f ↦
-        let later = changed xs name e segments (sym (cond-false (bytes_eq x.name name) (Some x) (entry_of xs name) f) ∙ h) in
-        let count = later.count in
-        subst (HasChanged (x ∷ xs) e segments) (sym (cond-false (bytes_eq x.name name) (new ∷ xs) (x ∷ with_segments xs name segments) f)) (record {
-          names = ap (λ ns. x.name ∷ ns) later.names;
-          size = ap suc later.size;
-          count = omega (arith, count, counted x xs, counted x (with_segments xs name segments));
-          entries = λ all each.
-            let parts = and_parts (is_entry x) (list_all is_entry xs) all in
-            and_from (is_entry x) (list_all is_entry (with_segments xs name segments)) parts.0 (later.entries parts.1 each);
-        })
+          let later = changed xs name e segments (sym (cond-false (bytes_eq x.name name) (Some x) (entry_of xs name) f) ∙ h) in
+          let count = later.count in
+          subst (HasChanged (x ∷ xs) e segments) (sym (cond-false (bytes_eq x.name name) (new ∷ xs) (x ∷ with_segments xs name segments) f)) (record {
+            names = ap (λ ns. x.name ∷ ns) later.names;
+            size = ap suc later.size;
+            count = omega (arith, count, counted x xs, counted x (with_segments xs name segments));
+            entries = λ all each.
+                let parts = and_parts (is_entry x) (list_all is_entry xs) all in
+                and_from (is_entry x) (list_all is_entry (with_segments xs name segments)) parts.0 (later.entries parts.1 each);
+          })
     ]
 
 pub more_stands : (c : PlainCatalogue) (name : List ℕ) (e : PlainEntry) (more : List Segment) → is_catalogue c ≡ true → entry_of c name ≡ Some e → list_all is_segment more ≡ true → segment_count c + length more ≤ MAX_SEGMENTS
@@ -175,8 +174,8 @@ set_segments (x ∷ xs) name at place (suc k) d segments h is =
     elim (cases_Bool (bytes_eq x.name name)) [
       | inl t ↦ absurd (let here = some_place at place (sym (cond-true (bytes_eq x.name name) (Some at) (place_of name (suc at) xs) t) ∙ h) in omega (arith, here, is))
       | inr f ↦
-        ap (λ ys. x ∷ ys) (set_segments xs name (suc at) place k d segments (sym (cond-false (bytes_eq x.name name) (Some at) (place_of name (suc at) xs) f) ∙ h) (omega (arith, is)))
-        ∙ sym (cond-false (bytes_eq x.name name) (record { name = x.name; schema = x.schema; segments = segments } ∷ xs) (x ∷ with_segments xs name segments) f)
+          ap (λ ys. x ∷ ys) (set_segments xs name (suc at) place k d segments (sym (cond-false (bytes_eq x.name name) (Some at) (place_of name (suc at) xs) f) ∙ h) (omega (arith, is)))
+          ∙ sym (cond-false (bytes_eq x.name name) (record { name = x.name; schema = x.schema; segments = segments } ∷ xs) (x ∷ with_segments xs name segments) f)
     ]
 
 -- where there is no such entry, none is taken out
@@ -186,6 +185,6 @@ without_none (x ∷ xs) name h =
     elim (cases_Bool (bytes_eq x.name name)) [
       | inl t ↦ absurd (let none : Some x ≡ None = sym (cond-true (bytes_eq x.name name) (Some x) (entry_of xs name) t) ∙ h in cc)
       | inr f ↦
-        cond-false (bytes_eq x.name name) xs (x ∷ without xs name) f
-        ∙ ap (λ ys. x ∷ ys) (without_none xs name (sym (cond-false (bytes_eq x.name name) (Some x) (entry_of xs name) f) ∙ h))
+          cond-false (bytes_eq x.name name) xs (x ∷ without xs name) f
+          ∙ ap (λ ys. x ∷ ys) (without_none xs name (sym (cond-false (bytes_eq x.name name) (Some x) (entry_of xs name) f) ∙ h))
     ]

@@ -28,16 +28,16 @@ less_is Less h = refl
 less_is Equal h = absurd cc
 less_is Greater h = absurd cc
 
-turned : (a b : List ℕ) (o : Ordering) → order a b ≡ o → order b a ≡ ordering_reverse o
+pub turned : (a b : List ℕ) (o : Ordering) → order a b ≡ o → order b a ≡ ordering_reverse o
 turned a b o h = nat_list_cmp_total.antisymm b a ∙ ap ordering_reverse h
 
 below_all : (a b c : List ℕ) → order a b ≡ Less → order b c ≡ Less → order a c ≡ Less
 below_all a b c = nat_list_cmp_total.trans a b c
 
-other_name : (a b : List ℕ) (o : Ordering) → order a b ≡ o → is_eq o ≡ false → bytes_eq a b ≡ false
+pub other_name : (a b : List ℕ) (o : Ordering) → order a b ≡ o → is_eq o ≡ false → bytes_eq a b ≡ false
 other_name a b o h f = sym (is_eq-slice_cmp a b) ∙ ap is_eq h ∙ f
 
-same_name : (a b : List ℕ) → order a b ≡ Equal → bytes_eq a b ≡ true
+pub same_name : (a b : List ℕ) → order a b ≡ Equal → bytes_eq a b ≡ true
 same_name a b h = sym (is_eq-slice_cmp a b) ∙ ap is_eq h
 
 -- ---- where an entry goes
@@ -113,7 +113,7 @@ gap (x ∷ xs) e at place h =
     })
 
 -- behind a name that comes later stands none of this name
-none_behind : (c : PlainCatalogue) (low name : List ℕ) → comes_before low (names_of c) ≡ true → ascends (names_of c) ≡ true → order name low ≡ Less → entry_of c name ≡ None
+pub none_behind : (c : PlainCatalogue) (low name : List ℕ) → comes_before low (names_of c) ≡ true → ascends (names_of c) ≡ true → order name low ≡ Less → entry_of c name ≡ None
 none_behind [] low name first rises lt = refl
 none_behind (x ∷ xs) low name first rises lt =
     let parts = and_parts (comes_before x.name (names_of xs)) (ascends (names_of xs)) rises in
@@ -198,14 +198,14 @@ placed (x ∷ xs) name at place h =
         stood = λ d. cond-true (bytes_eq x.name name) (Some x) (entry_of xs name) t;
       }
       | inr f ↦
-        let later = placed xs name (suc at) place (sym (cond-false (bytes_eq x.name name) (Some at) (place_of name (suc at) xs) f) ∙ h) in
-        record {
-          index = suc later.index;
-          is = let p = later.is in omega arith;
-          within = let p = later.within in omega arith;
-          removed = ap (λ ys. x ∷ ys) later.removed ∙ sym (cond-false (bytes_eq x.name name) xs (x ∷ without xs name) f);
-          stood = λ d. cond-false (bytes_eq x.name name) (Some x) (entry_of xs name) f ∙ later.stood d;
-        }
+          let later = placed xs name (suc at) place (sym (cond-false (bytes_eq x.name name) (Some at) (place_of name (suc at) xs) f) ∙ h) in
+          record {
+            index = suc later.index;
+            is = let p = later.is in omega arith;
+            within = let p = later.within in omega arith;
+            removed = ap (λ ys. x ∷ ys) later.removed ∙ sym (cond-false (bytes_eq x.name name) xs (x ∷ without xs name) f);
+            stood = λ d. cond-false (bytes_eq x.name name) (Some x) (entry_of xs name) f ∙ later.stood d;
+          }
     ]
 
 pub record IsAbsent (c : PlainCatalogue) (name : List ℕ) : Type 0 where
@@ -218,11 +218,11 @@ absent (x ∷ xs) name at h =
     elim (cases_Bool (bytes_eq x.name name)) [
       | inl t ↦ absurd (let p : Some at ≡ None = sym (cond-true (bytes_eq x.name name) (Some at) (place_of name (suc at) xs) t) ∙ h in cc)
       | inr f ↦
-        let later = absent xs name (suc at) (sym (cond-false (bytes_eq x.name name) (Some at) (place_of name (suc at) xs) f) ∙ h) in
-        record {
-          removed = cond-false (bytes_eq x.name name) xs (x ∷ without xs name) f ∙ ap (λ ys. x ∷ ys) later.removed;
-          stood = cond-false (bytes_eq x.name name) (Some x) (entry_of xs name) f ∙ later.stood;
-        }
+          let later = absent xs name (suc at) (sym (cond-false (bytes_eq x.name name) (Some at) (place_of name (suc at) xs) f) ∙ h) in
+          record {
+            removed = cond-false (bytes_eq x.name name) xs (x ∷ without xs name) f ∙ ap (λ ys. x ∷ ys) later.removed;
+            stood = cond-false (bytes_eq x.name name) (Some x) (entry_of xs name) f ∙ later.stood;
+          }
     ]
 
 before_next : (low : List ℕ) (x : PlainEntry) (c : PlainCatalogue) → comes_before low (names_of (x ∷ c)) ≡ true → comes_before x.name (names_of c) ≡ true → comes_before low (names_of c) ≡ true

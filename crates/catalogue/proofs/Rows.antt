@@ -37,7 +37,7 @@ pub counted_within : (es : List Entry) (i : ℕ) (x : Entry) → i < length es �
 counted_within es i x lt is =
     let count : PlainEntry → ℕ = λ e. length e.segments in
     let whole : sum_by count (take i (map plain_entry es)) + count (get_or (map plain_entry es) i (plain_entry x)) ≤ sum_by count (map plain_entry es) =
-      sum_by_more_le count (map plain_entry es) i (plain_entry x) (let len = length-map es plain_entry in omega arith) in
+    sum_by_more_le count (map plain_entry es) i (plain_entry x) (let len = length-map es plain_entry in omega arith) in
     let here : count (get_or (map plain_entry es) i (plain_entry x)) ≡ length x.segments.items = ap count (map_at plain_entry es i x) ∙ ap (λ (e : Entry). length e.segments.items) (sym is) in
     let front : sum_by count (take i (map plain_entry es)) ≡ segment_count (map plain_entry (take i es)) = ap (sum_by count) (take-map plain_entry i es) in
     omega (arith, whole, here, front)
@@ -66,3 +66,17 @@ more_runs es i x lt is =
     ∙ ap runs_of (map-append plain_entry (take i es) (x ∷ []))
     ∙ flat_map-append runs_in (map plain_entry (take i es)) (plain_entry x ∷ [])
     ∙ ap (λ rs. runs_of (map plain_entry (take i es)) ++ rs) one)
+
+-- what is known of an entry of a catalogue
+pub record StandsAt (x : Entry) : Type 0 where
+  pub sound : is_entry (plain_entry x) ≡ true
+  pub few : length x.segments.items ≤ 65536
+
+pub stands_at : (es : List Entry) (i : ℕ) (x : Entry) → is_catalogue (map plain_entry es) ≡ true → i < length es → x ≡ get_or es i x → StandsAt x
+stands_at es i x kept lt is =
+    let k = catalogue_is (map plain_entry es) kept in
+    let within : i < length (map plain_entry es) = let len = length-map es plain_entry in omega arith in
+    let at : get_or (map plain_entry es) i (plain_entry x) ≡ plain_entry x = map_at plain_entry es i x ∙ ap plain_entry (sym is) in
+    let front = counted_within es i x lt is in
+    let most = few_segments es kept in
+    record { sound = subst (λ e. is_entry e ≡ true) at (passes_at (map plain_entry es) i (plain_entry x) k.entries within); few = omega (arith, front, most) }

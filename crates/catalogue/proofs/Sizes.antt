@@ -24,8 +24,16 @@ segment_size s =
     let b = little_bytes 8 s.place.run.count in
     let c = little_bytes 8 s.place.bytes in
     let d = little_bytes 8 s.rows in
-    omega (arith, length-append a (b ++ (c ++ d)), length-append b (c ++ d), length-append c d, length-bytes_low_first 0 8 s.place.run.start,
-      length-bytes_low_first 0 8 s.place.run.count, length-bytes_low_first 0 8 s.place.bytes, length-bytes_low_first 0 8 s.rows)
+    omega (
+      arith,
+      length-append a (b ++ (c ++ d)),
+      length-append b (c ++ d),
+      length-append c d,
+      length-bytes_low_first 0 8 s.place.run.start,
+      length-bytes_low_first 0 8 s.place.run.count,
+      length-bytes_low_first 0 8 s.place.bytes,
+      length-bytes_low_first 0 8 s.rows,
+    )
 
 segments_size : (ss : List Segment) → length (flat_map segment_text ss) ≡ 32 * length ss
 segments_size [] = omega arith
@@ -38,8 +46,16 @@ entry_has_size : (e : PlainEntry) → length (entry_text e) ≡ entry_size e
 unfolding table_text
 entry_has_size e =
     let message = schema_message e.schema in
-    omega (arith, length-append (sized e.name) (sized message ++ counted segment_text e.segments), length-append (sized message) (counted segment_text e.segments), sized_size e.name, sized_size message,
-      length-append (little_bytes 4 (length e.segments)) (flat_map segment_text e.segments), length-bytes_low_first 0 4 (length e.segments), segments_size e.segments)
+    omega (
+      arith,
+      length-append (sized e.name) (sized message ++ counted segment_text e.segments),
+      length-append (sized message) (counted segment_text e.segments),
+      sized_size e.name,
+      sized_size message,
+      length-append (little_bytes 4 (length e.segments)) (flat_map segment_text e.segments),
+      length-bytes_low_first 0 4 (length e.segments),
+      segments_size e.segments,
+    )
 
 entries_size : (c : PlainCatalogue) → length (flat_map entry_text c) ≡ sum_by entry_size c
 entries_size [] = refl
@@ -53,7 +69,7 @@ text_has_size c = omega (arith, length-append (little_bytes 4 (length c)) (flat_
 run_in : (ss : List Segment) (s : Segment) → Contains ss s → Contains (map (λ (x : Segment). x.place.run) ss) s.place.run
 run_in ss s has =
     let place : Segment → Run = λ x. x.place.run in
-    (has.0, (subst (λ n. has.0 < n) (sym (length-map ss place)) has.1, map_at place ss has.0 s ∙ ap place has.2))
+    (has.0, subst (λ n. has.0 < n) (sym (length-map ss place)) has.1, map_at place ss has.0 s ∙ ap place has.2)
 
 run_among : (c : PlainCatalogue) (e : PlainEntry) (s : Segment) (k : ℕ) → k < length c → get_or c k e ≡ e → Contains e.segments s → Contains (runs_of c) s.place.run
 run_among [] e s k lt is has = absurd (omega arith)

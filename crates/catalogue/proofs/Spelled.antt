@@ -33,8 +33,9 @@ byte_behind : (i b x : ℕ) → b < 256 → byte_at (suc i) (b + 256 * x) ≡ by
 byte_behind i b x small =
     let n = b + 256 * x in
     let down : n / 256 ≡ x = omega (arith, small) in
+    let turned : 256 ^ suc i ≡ 256 * 256 ^ i = omega (arith, pow-suc 256 i) in
     byte_at-pow (suc i) n
-    ∙ ap (λ (y : ℕ). y % 256) (ap (λ (p : ℕ). n / p) (pow-suc 256 i) ∙ sym (div-div-eq-div-mul n 256 (256 ^ i)) ∙ ap (λ (y : ℕ). y / 256 ^ i) down)
+    ∙ ap (λ (y : ℕ). y % 256) (ap (λ (p : ℕ). n / p) turned ∙ sym (div-div-eq-div-mul n 256 (256 ^ i)) ∙ ap (λ (y : ℕ). y / 256 ^ i) down)
     ∙ sym (byte_at-pow i x)
 
 bytes_behind : (k i b x : ℕ) → b < 256 → bytes_low_first (suc i) k (b + 256 * x) ≡ bytes_low_first i k x
@@ -49,7 +50,7 @@ number_back (x ∷ xs) small =
     let moved : little_number (suc (length xs)) (x ∷ xs) ≡ x + 256 * little_number (length xs) xs = ap (λ n. x + 256 * n) (little_from-cons 0 (length xs) x xs) in
     let first : byte_at 0 (x + 256 * little_number (length xs) xs) ≡ x = byte_at-pow 0 (x + 256 * little_number (length xs) xs) ∙ omega (arith, here) in
     let others : bytes_low_first 1 (length xs) (x + 256 * little_number (length xs) xs) ≡ xs =
-      bytes_behind (length xs) 0 x (little_number (length xs) xs) here ∙ number_back xs (λ i. small (suc i)) in
+    bytes_behind (length xs) 0 x (little_number (length xs) xs) here ∙ number_back xs (λ i. small (suc i)) in
     ap (little_bytes (suc (length xs))) moved ∙ (λ j. first j ∷ others j)
 
 -- what a reader took from the front, and that the others are bytes too
@@ -130,11 +131,11 @@ segment_takes : TakesOne segment_at segment_text
 unfolding segment_at
 segment_takes bytes r small e =
     let a = bound (number_at 8 bytes) (λ start. number_at 8 start.1 >>= λ count. number_at 8 count.1 >>= λ size. number_at 8 size.1 >>= λ rows.
-      Some (record { place = record { run = record { start = start.0; count = count.0 }; bytes = size.0 }; rows = rows.0 }, rows.1)) r e in
+    Some (record { place = record { run = record { start = start.0; count = count.0 }; bytes = size.0 }; rows = rows.0 }, rows.1)) r e in
     let b = bound (number_at 8 a.0.1) (λ count. number_at 8 count.1 >>= λ size. number_at 8 size.1 >>= λ rows.
-      Some (record { place = record { run = record { start = a.0.0; count = count.0 }; bytes = size.0 }; rows = rows.0 }, rows.1)) r a.2 in
+    Some (record { place = record { run = record { start = a.0.0; count = count.0 }; bytes = size.0 }; rows = rows.0 }, rows.1)) r a.2 in
     let c = bound (number_at 8 b.0.1) (λ size. number_at 8 size.1 >>= λ rows.
-      Some (record { place = record { run = record { start = a.0.0; count = b.0.0 }; bytes = size.0 }; rows = rows.0 }, rows.1)) r b.2 in
+    Some (record { place = record { run = record { start = a.0.0; count = b.0.0 }; bytes = size.0 }; rows = rows.0 }, rows.1)) r b.2 in
     let d = bound (number_at 8 c.0.1) (λ rows. Some (record { place = record { run = record { start = a.0.0; count = b.0.0 }; bytes = c.0.0 }; rows = rows.0 }, rows.1)) r c.2 in
     let p = number_takes 8 bytes a.0 small a.1 in
     let q = number_takes 8 a.0.1 b.0 p.small b.1 in
@@ -204,6 +205,6 @@ catalogue_spelled bytes c e =
     record {
       kept = subst IsCatalogue t.1 (catalogue_is a.0.0 parts.1);
       spelled = λ small.
-        let p = counted_takes entry_at entry_text entry_takes bytes a.0 small a.1 in
-        p.parts ∙ ap (λ rest. list_text a.0.0 ++ rest) (nil_from_length a.0.1 (eqb-true (length a.0.1) 0 parts.0)) ∙ append-nil (list_text a.0.0) ∙ ap list_text t.1;
+          let p = counted_takes entry_at entry_text entry_takes bytes a.0 small a.1 in
+          p.parts ∙ ap (λ rest. list_text a.0.0 ++ rest) (nil_from_length a.0.1 (eqb-true (length a.0.1) 0 parts.0)) ∙ append-nil (list_text a.0.0) ∙ ap list_text t.1;
     }

@@ -4,5 +4,6 @@ pub mod View
 pub mod Text
 pub mod Reading
 pub mod Edits
+pub mod Counts
 pub mod laws
 pub mod inner

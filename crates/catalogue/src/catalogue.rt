@@ -20,10 +20,8 @@ pub struct Catalogue {
 impl Catalogue {
     ghost use Rattle.std.specs.Prelude.{◌≤◌, ◌+◌, [], Some, None, if◌then◌else◌, length, option_map, string_bytes, OnOk, OnErr, IfOk};
     ghost use Rattle.std.specs.List.{list_all};
-    ghost use Rattle.arrow_schema.specs.Limits.{IsWithinLimits};
-    ghost use Rattle.arrow_schema.specs.View.{schema_of};
     ghost use Rattle.catalogue.specs.declared.limits.TheConstants.{MAX_TABLES, MAX_SEGMENTS};
-    ghost use Rattle.catalogue.specs.Entries.{is_name, is_segment, IsCatalogue, segment_count, runs_of};
+    ghost use Rattle.catalogue.specs.Entries.{is_name, is_segment, is_entry, IsCatalogue, segment_count, runs_of};
     ghost use Rattle.catalogue.specs.Edits.{entry_of, with_entry, without, renamed, with_more, tables_of};
     ghost use Rattle.catalogue.specs.View.{catalogue_of};
 
@@ -78,11 +76,10 @@ impl Catalogue {
         }
     }
 
-    /// Puts a table into its place, instead of the one of its name, and hands back what stood there.
+    /// Puts a table into its place, instead of the one of its name, and hands back what stood there. What it asks for:
+    /// `Entry::is_sound` and the laws of [`crate::counts_after_changes`].
     pub fn put(&mut self, entry: Entry) -> Result<Option<Entry>, AllocError>
-        requires name { is_name (string_bytes entry.name) ≡ true }
-        requires schema { IsWithinLimits (schema_of entry.schema) }
-        requires segments { list_all is_segment entry.segments.items ≡ true }
+        requires entry { is_entry (plain_entry entry) ≡ true }
         requires tables { length (with_entry (catalogue_of self.old) (plain_entry entry)) ≤ MAX_TABLES }
         requires most { segment_count (with_entry (catalogue_of self.old) (plain_entry entry)) ≤ MAX_SEGMENTS }
         ensures put { OnOk result (catalogue_of self.new ≡ with_entry (catalogue_of self.old) (plain_entry entry)) }

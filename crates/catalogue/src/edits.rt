@@ -11,10 +11,7 @@ use segments::Run;
 use std::alloc::{AllocError, Global};
 
 // Puts an entry into its place, and gives the one that stood there. It fails only where there is no room.
-pub(crate) fn put_entry(
-    entries: &mut Vec<Entry>,
-    entry: Entry,
-) -> Result<Option<Entry>, AllocError>
+pub(crate) fn put_entry(entries: &mut Vec<Entry>, entry: Entry) -> Result<Option<Entry>, AllocError>
     requires { ascends (names_of (map plain_entry entries.old.items)) ≡ true }
     ensures put { OnOk result (map plain_entry entries.new.items ≡ with_entry (map plain_entry entries.old.items) (plain_entry entry)) }
     ensures stood { IfOk result (λ stood. option_map plain_entry stood ≡ entry_of (map plain_entry entries.old.items) (string_bytes entry.name)) }

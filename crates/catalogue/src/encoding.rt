@@ -10,7 +10,7 @@ ghost use Rattle.catalogue.specs.View.{catalogue_of};
 
 use crate::{Catalogue, Entry, Segment};
 use arrow_schema::Schema;
-use ipc_write::write_schema;
+use ipc_write::{metadata_is_within_its_limit, write_schema};
 use std::alloc::{AllocError, Global};
 
 fn put_number(out: &mut Vec<u8>, number: u64) -> Result<(), AllocError>
@@ -58,19 +58,23 @@ fn put_segments(out: &mut Vec<u8>, segments: &[Segment]) -> Result<(), AllocErro
 pub(crate) fn message_of(alloc: Global, schema: &Schema) -> Result<Vec<u8>, AllocError>
     requires { IsWithinLimits (schema_of schema.now) }
     ensures message { IfOk result (λ bytes. bytes.items ≡ schema_message (schema_of schema.now)) }
+    ensures short { IfOk result (λ bytes. length bytes.items < 2 ^ 32) }
 {
+    metadata_is_within_its_limit();
     let mut message = Vec::new(alloc);
     write_schema(alloc, &mut message, schema)?;
     Ok(message)
 }
 
+#[tactic(auto, unfolding(crate::specs::Text::table_text))]
 fn put_entry(alloc: Global, out: &mut Vec<u8>, entry: &Entry) -> Result<(), AllocError>
     requires sound { is_entry (plain_entry entry.now) ≡ true }
     requires segments { length entry.now.segments.items < 2 ^ 32 }
     ensures { OnOk result (out.new.items ≡ out.old.items ++ entry_text (plain_entry entry.now)) }
 {
     put_sized(out, entry.name.as_bytes())?;
-    put_sized(out, &message_of(alloc, &entry.schema)?)?;
+    let message = message_of(alloc, &entry.schema)?;
+    put_sized(out, &message)?;
     put_segments(out, &entry.segments)
 }
 

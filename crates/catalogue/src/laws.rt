@@ -1,12 +1,12 @@
 // Laws of the definitions, for the crates above: each call does nothing, and its contract is the law.
-ghost use Rattle.std.specs.Prelude.{◌≡◌, ◌≤◌, ◌++◌, ℕ, false, List, length, Some};
-ghost use Rattle.std.specs.List.{Contains};
-ghost use Rattle.arrow_schema.specs.Column.{PlainSchema};
+ghost use Rattle.std.specs.Prelude.{◌≡◌, ◌≤◌, ◌++◌, ℕ, true, List, length, Some};
+ghost use Rattle.std.specs.List.{list_all, Contains};
 ghost use Rattle.arrow_schema.specs.Limits.{IsWithinLimits};
 ghost use Rattle.facts.specs.Bytes.{AreBytes};
-ghost use Rattle.segments.specs.declared.run.Run.{Run};
 ghost use Rattle.catalogue.specs.declared.entry.Segment.{Segment};
-ghost use Rattle.catalogue.specs.Entries.{PlainEntry, PlainCatalogue, row_count, runs_of, IsCatalogue, AreRead};
+ghost use Rattle.catalogue.specs.Entries.{PlainEntry, PlainCatalogue, is_name, is_segment, is_entry, row_count, runs_of, IsCatalogue, AreRead};
+ghost use Rattle.catalogue.specs.Edits.{entry_of, with_entry, without};
+ghost use Rattle.catalogue.specs.Counts.{HasMore, HasSame, HasFewer};
 ghost use Rattle.catalogue.specs.Text.{list_text, list_size};
 ghost use Rattle.catalogue.specs.Reading.{catalogue_at};
 ghost use Rattle.catalogue.specs.inner.Messages.{AllAgain};
@@ -25,7 +25,8 @@ pub fn one_text_each()
     ensures kept { (bytes : List ℕ) (c : PlainCatalogue) → catalogue_at bytes ≡ Some c → IsCatalogue c }
     ensures found { (bytes : List ℕ) (c : PlainCatalogue) → AreBytes bytes → catalogue_at bytes ≡ Some c → bytes ≡ list_text c }
     ensures again { (c : PlainCatalogue) → IsCatalogue c → AreRead c → catalogue_at (list_text c) ≡ Some c }
-    ensures apart { (c d : PlainCatalogue) (x y : List ℕ) → IsCatalogue c → AreRead c → IsCatalogue d → AreRead d → list_text c ++ x ≡ list_text d ++ y → c ≡ d }
+    ensures apart { (c d : PlainCatalogue) (x y : List ℕ) → IsCatalogue c → AreRead c → IsCatalogue d → AreRead d
+        → list_text c ++ x ≡ list_text d ++ y → c ≡ d }
 {
     schemas_are_read_again();
 }
@@ -33,6 +34,18 @@ pub fn one_text_each()
 /// How many bytes a text has. Where runs start makes no difference.
 pub fn texts_have_these_sizes()
     ensures { (c : PlainCatalogue) → length (list_text c) ≡ list_size c }
+{}
+
+/// An entry may stand where each of its parts may.
+pub fn sound_parts_make_an_entry()
+    ensures { (e : PlainEntry) → is_name e.name ≡ true → IsWithinLimits e.schema → list_all is_segment e.segments ≡ true → is_entry e ≡ true }
+{}
+
+/// How many tables and segments there are after a change.
+pub fn counts_after_changes()
+    ensures put { (c : PlainCatalogue) (e : PlainEntry) → HasMore c e (with_entry c e) }
+    ensures replaced { (c : PlainCatalogue) (e old : PlainEntry) → IsCatalogue c → entry_of c e.name ≡ Some old → HasSame c old e (with_entry c e) }
+    ensures removed { (c : PlainCatalogue) (name : List ℕ) (e : PlainEntry) → entry_of c name ≡ Some e → HasFewer c e (without c name) }
 {}
 
 /// The run of each segment is among those that the catalogue names.

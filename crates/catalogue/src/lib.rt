@@ -26,6 +26,9 @@ pub use catalogue::Catalogue;
 pub use decoding::{DecodeError, decode};
 pub use encoding::encode;
 pub use entry::{Entry, Segment};
-pub use laws::{one_text_each, rows_are_few, runs_are_named, texts_have_these_sizes};
+pub use laws::{
+    counts_after_changes, one_text_each, rows_are_few, runs_are_named, sound_parts_make_an_entry,
+    texts_have_these_sizes,
+};
 pub use limits::{MAX_NAME_BYTES, MAX_SEGMENT_ROWS, MAX_SEGMENTS, MAX_TABLES};
 pub use names::is_name;

@@ -17,11 +17,11 @@ pub passes_limits : (s : PlainSchema) → IsWithinLimits s → is_within_limits 
 unfolding is_within_limits
 passes_limits s w =
     let small : is_small s ≡ true =
-      and_from _ _ (and_from _ _ (le-leb _ _ w.levels) (le-leb _ _ w.fields)) (and_from _ _ (le-leb _ _ w.pairs) (le-leb _ _ w.bytes)) in
+    and_from _ _ (and_from _ _ (le-leb _ _ w.levels) (le-leb _ _ w.fields)) (and_from _ _ (le-leb _ _ w.pairs) (le-leb _ _ w.bytes)) in
     let sound : has_sound_columns s ≡ true =
-      and_from _ _
-      (and_from _ _ (list_all-from_AllPass has_number_in_range (every_column s) w.numbers) (list_all-from_AllPass has_flat_dictionary (every_column s) w.dictionaries))
-      (and_from _ _ (list_all-from_AllPass has_bit_widths (every_column s) w.widths) (list_all-from_AllPass has_utf8_texts (every_column s) w.texts)) in
+    and_from _ _
+    (and_from _ _ (list_all-from_AllPass has_number_in_range (every_column s) w.numbers) (list_all-from_AllPass has_flat_dictionary (every_column s) w.dictionaries))
+    (and_from _ _ (list_all-from_AllPass has_bit_widths (every_column s) w.widths) (list_all-from_AllPass has_utf8_texts (every_column s) w.texts)) in
     and_from (is_small s) _ small (and_from (has_sound_columns s) _ sound (list_all-from_AllPass is_utf8 (texts_of_pairs s.pairs) w.own_texts))
 
 pub is_within : (s : PlainSchema) → is_within_limits s ≡ true → IsWithinLimits s

@@ -10,5 +10,5 @@ invariant_of-self c =
     let e = plain_entry c.args.entry in
     record {
       kept = put_kept c.put_entry.result old (map plain_entry c.put_entry.new.entries.items) e c.put_entry.ensures.put c.put_entry.ensures.err c.args.self.now.kept
-        (put_stands old e c.args.self.now.kept c.requires.name c.requires.schema c.requires.segments c.requires.tables c.requires.most);
+          (put_stands old e c.args.self.now.kept c.requires.entry c.requires.tables c.requires.most);
     }
