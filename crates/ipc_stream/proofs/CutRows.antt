@@ -80,8 +80,8 @@ one_cut within ((row ∷ rows) ∷ others) fronts longest =
 pub only_cut : {A : Type 0} (within : List A → Bool) (rows : List A) (ps : List (List A)) → IsOfFronts within → IsCut within rows ps → ps ≡ pieces within rows
 only_cut within rows ps fronts cut = one_cut within ps fronts cut.longest ∙ ap (pieces within) cut.whole
 
-pub limits_next_messages : {A : Type 0} (weight : A → ℕ) (count total : ℕ) (front others : List A) → within_limits weight count total (front ++ others) ≡ true → within_limits weight count total front ≡ true
-limits_next_messages weight count total front others h =
+pub limits_of_fronts : {A : Type 0} (weight : A → ℕ) (count total : ℕ) (front others : List A) → within_limits weight count total (front ++ others) ≡ true → within_limits weight count total front ≡ true
+limits_of_fronts weight count total front others h =
     let parts = and_parts (nat_le (length (front ++ others)) count) (nat_le (sum_by weight (front ++ others)) total) h in
     let few = leb-true (length (front ++ others)) count parts.0 in
     let light = leb-true (sum_by weight (front ++ others)) total parts.1 in

@@ -1,4 +1,4 @@
--- What the first message of a stream tells of all of it.
+-- What the first message of a stream says of all of it.
 use Rattle.std.proofs.Common.{◌≡◌, ℕ, true, false, List, [], ◌∷◌, length, drop, Ok, Err, refl, ap, ◌∙◌, arith}
 use Rattle.std.proofs.lemmas.Bool.{eqb-true}
 use Rattle.std.specs.Prelude.{Option, Some, None, ◌==◌}
@@ -18,7 +18,7 @@ use Rattle.ipc_message.specs.Convert.{plain_schema_of}
 use Rattle.ipc_message.specs.Outcome.{Fails}
 use Rattle.ipc_stream.specs.Meaning.{Message, accepted, table_in, meaning}
 use Rattle.arrow_schema.specs.Integers.{is_empty}
-use Rattle.ipc_stream.specs.Progress.{without_rows, IsRead}
+use Rattle.ipc_stream.specs.inner.Progress.{without_rows, IsRead}
 use Rattle.ipc_stream.proofs.Steps.{meaning_none, meaning_fault, meaning_end_of_stream, meaning_refused, read_first}
 use Rattle.ipc_stream.proofs.MessageRead.{is_schema, no_schema, no_schema_first, first_unread, first_schema}
 

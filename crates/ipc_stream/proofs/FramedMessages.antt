@@ -1,10 +1,10 @@
 -- The messages of a stream are framed in it, and a fault is reported of what follows them.
 use Rattle.std.specs.Prelude.{◌⊎◌, ◌≢◌}
-use Rattle.std.proofs.Common.{◌≡◌, ℕ, zero, suc, ◌+◌, ◌<◌, Bool, true, false, List, [], ◌∷◌, ◌++◌, length, drop, Option, None, Some, Result, Ok, Err, inl, inr, refl, sym, ap, ◌∙◌, arith, append_assoc}
+use Rattle.std.proofs.Common.{◌≡◌, ℕ, zero, suc, ◌+◌, ◌<◌, Bool, true, false, List, [], ◌∷◌, ◌++◌, length, drop, None, Result, Ok, Err, inl, inr, refl, sym, ap, ◌∙◌, arith, append_assoc}
 use Rattle.std.proofs.lemmas.List.{length-drop, append-nil}
 use Rattle.facts.specs.laws.Checks.{unless_passed}
 use Rattle.ipc_message.specs.declared.fault.Fault.{Fault}
-use Rattle.ipc_message.specs.Framing.{Envelope, NextMessage, Frames, next_message, end_of_stream, message, taken, continuation_marker, first_some, type_of, unless}
+use Rattle.ipc_message.specs.Framing.{Envelope, NextMessage, Frames, next_message, end_of_stream, message, taken, continuation_marker, no_size, first_some, type_of, unless}
 use Rattle.ipc_message.specs.Header.{header}
 use Rattle.ipc_message.specs.Raw.{RawHeader}
 use Rattle.ipc_stream.proofs.NextMessageLaw.{NextMessageLaw}
@@ -86,7 +86,7 @@ at_end_ok supported [] ms h = absurd (cc)
 at_end_ok supported (b ∷ bs) ms h = ends_here supported (b ∷ bs) [] ms (inl refl) refl (cc h)
 
 marked_end : NextMessageLaw → (bytes : List ℕ) → next_message bytes ≡ Ok end_of_stream → drop 8 bytes ≡ [] → IsEnd bytes
-marked_end law bytes h none = inr (law.marked bytes h ∙ ap (λ (x : List ℕ). continuation_marker ++ (0 ∷ 0 ∷ 0 ∷ 0 ∷ x)) none)
+marked_end law bytes h none = inr (law.marked bytes h ∙ ap (λ (x : List ℕ). continuation_marker ++ (no_size ++ x)) none)
 
 at_end_of_stream_ok : NextMessageLaw → (supported : ℕ → Bool) (before ms : List Message) (bytes others : List ℕ) → next_message bytes ≡ Ok end_of_stream → drop 8 bytes ≡ others → at_end_of_stream before others ≡ Ok ms → Reads supported before bytes ms
 at_end_of_stream_ok law supported [] ms bytes others h d e = absurd (cc)

@@ -49,7 +49,7 @@ decoded_is : (supported : ℕ → Bool) (metadata : List ℕ) (h : RawHeader) �
 unfolding header
 decoded_is supported metadata h e = header_is (run metadata (header_things supported metadata) 1) (header_of supported metadata) h e
 
-abbrev IsSchema : RawHeader → Type 0
+abbrev pub IsSchema : RawHeader → Type 0
 IsSchema (schema_header s) = Unit {0}
 IsSchema _ = ⊥
 
@@ -66,7 +66,7 @@ other_kind supported left metadata t true b = tt
 other_kind supported left metadata t false true = tt
 other_kind supported left metadata t false false = tt
 
-is_schema : (supported : ℕ → Bool) (metadata : List ℕ) (h : RawHeader) → header supported metadata ≡ Ok h → eqb (type_of metadata) 1 ≡ true → IsSchema h
+pub is_schema : (supported : ℕ → Bool) (metadata : List ℕ) (h : RawHeader) → header supported metadata ≡ Ok h → eqb (type_of metadata) 1 ≡ true → IsSchema h
 unfolding header_of
 is_schema supported metadata h e one =
     let kind : type_in metadata ≡ Schema = rw one refl in
@@ -176,7 +176,7 @@ not_schema true one some h = absurd (cc)
 not_schema false true some h = absurd (cc)
 not_schema false false some h = refl
 
-schema_first : (one : Bool) → when (not one) NoSchema ≡ None → one ≡ true
+pub schema_first : (one : Bool) → when (not one) NoSchema ≡ None → one ≡ true
 schema_first true h = refl
 schema_first false h = absurd (cc)
 

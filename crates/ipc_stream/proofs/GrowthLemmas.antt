@@ -13,15 +13,15 @@ use Rattle.values.specs.Columns.{IntegerColumn, cell_at, row_at, rows_from}
 use Rattle.ipc_stream.specs.Batch.{Array, bytes_of}
 use Rattle.values.specs.IntegerTable.{have_rows}
 
--- the values of n rows
-abbrev pub next_message_of : ℕ → List ℕ → Array → List ℕ
-next_message_of n body a = take (n * a.column.width) (drop a.values.offset body)
+-- the values of the first n rows
+abbrev pub values_in_rows : ℕ → List ℕ → Array → List ℕ
+values_in_rows n body a = take (n * a.column.width) (drop a.values.offset body)
 
 -- each column with the values of n rows of its array behind it
 abbrev pub grown : ℕ → List ℕ → List Array → List (List ℕ) → List (List ℕ)
 grown n body [] vs = []
 grown n body (a ∷ arrays) [] = []
-grown n body (a ∷ arrays) (v ∷ vs) = (v ++ next_message_of n body a) ∷ grown n body arrays vs
+grown n body (a ∷ arrays) (v ∷ vs) = (v ++ values_in_rows n body a) ∷ grown n body arrays vs
 
 -- the column has the values of so many rows, and the array those of n
 abbrev pub Grows : ℕ → ℕ → List ℕ → List Array → List (List ℕ) → Type 0
@@ -55,8 +55,8 @@ places : (i n w : ℕ) → i < n → i * w + w ≤ n * w
 places i n w few = let more : w * suc i ≤ w * n = mul-le-mul_left w few in omega (arith, more)
 
 -- bytes of a front are bytes of the whole
-next_message_seen : (k w m : ℕ) (xs : List ℕ) → k + w ≤ m → take w (drop k (take m xs)) ≡ take w (drop k xs)
-next_message_seen k w m xs inside =
+front_seen : (k w m : ℕ) (xs : List ℕ) → k + w ≤ m → take w (drop k (take m xs)) ≡ take w (drop k xs)
+front_seen k w m xs inside =
     let e : m ≡ k + (m - k) = omega arith in
     ap (λ (j : ℕ). take w (drop k (take j xs))) e ∙ ap (take w) (drop-take k (m - k) xs) ∙ take-take w (m - k) (drop k xs) (omega arith)
 
@@ -65,7 +65,7 @@ cell_of_front : (c : IntegerColumn) (xs : List ℕ) (n i m : ℕ) → i < n → 
 cell_of_front c xs n i m few long =
     let w : ℕ = c.width in
     let inside : i * w + w ≤ n * w = places i n w few in
-    cell_seen c (take (n * w) xs) (take m xs) i i (next_message_seen (i * w) w (n * w) xs inside ∙ sym (next_message_seen (i * w) w m xs (omega arith)))
+    cell_seen c (take (n * w) xs) (take m xs) i i (front_seen (i * w) w (n * w) xs inside ∙ sym (front_seen (i * w) w m xs (omega arith)))
 
 -- a cell of the rows after
 cell_after : (c : IntegerColumn) (v x : List ℕ) (before i : ℕ) → length v ≡ before * c.width → cell_at c (v ++ x) (before + i) ≡ cell_at c x i
@@ -82,7 +82,7 @@ row_before (a ∷ arrays) [] body before n i grows few = absurd grows
 row_before (a ∷ arrays) (v ∷ vs) body before n i grows few =
     let len : length v ≡ before * a.column.width = grows.0 in
     let inside : i * a.column.width + a.column.width ≤ length v = rw len (places i before a.column.width few) in
-    let first = cell_before a.column v (next_message_of n body a) i inside in
+    let first = cell_before a.column v (values_in_rows n body a) i inside in
     let others = row_before arrays vs body before n i grows.3 few in
     λ j. first j ∷ others j
 
@@ -92,7 +92,7 @@ row_after [] [] body before n i grows few = refl
 row_after [] (v ∷ vs) body before n i grows few = absurd grows
 row_after (a ∷ arrays) [] body before n i grows few = absurd grows
 row_after (a ∷ arrays) (v ∷ vs) body before n i grows few =
-    let first = cell_after a.column v (next_message_of n body a) before i grows.0 ∙ cell_of_front a.column (drop a.values.offset body) n i a.values.length few grows.1 in
+    let first = cell_after a.column v (values_in_rows n body a) before i grows.0 ∙ cell_of_front a.column (drop a.values.offset body) n i a.values.length few grows.1 in
     let others = row_after arrays vs body before n i grows.3 few in
     λ j. first j ∷ others j
 
@@ -135,10 +135,10 @@ rows_grown arrays vs body before n grows =
     split ∙ λ j. first j ++ others j
 
 length-grown : (a : Array) (v body : List ℕ) (before n : ℕ) → length v ≡ before * a.column.width → n * a.column.width ≤ a.values.length → a.values.offset + a.values.length ≤ length body
-    → length (v ++ next_message_of n body a) ≡ (before + n) * a.column.width
+    → length (v ++ values_in_rows n body a) ≡ (before + n) * a.column.width
 length-grown a v body before n len enough inside =
     let long : n * a.column.width ≤ length (drop a.values.offset body) = omega (arith, length-drop a.values.offset body) in
-    omega (arith, length-append v (next_message_of n body a), length-take-le (n * a.column.width) (drop a.values.offset body) long)
+    omega (arith, length-append v (values_in_rows n body a), length-take-le (n * a.column.width) (drop a.values.offset body) long)
 
 -- each has the values of all rows
 pub have_grown : (arrays : List Array) (vs : List (List ℕ)) (body : List ℕ) (before n : ℕ) → Grows before n body arrays vs
@@ -147,14 +147,14 @@ have_grown [] [] body before n grows = refl
 have_grown [] (v ∷ vs) body before n grows = absurd grows
 have_grown (a ∷ arrays) [] body before n grows = absurd grows
 have_grown (a ∷ arrays) (v ∷ vs) body before n grows =
-    let here : (length (v ++ next_message_of n body a) == (before + n) * a.column.width) ≡ true = eq-eqb _ _ (length-grown a v body before n grows.0 grows.1 grows.2) in
+    let here : (length (v ++ values_in_rows n body a) == (before + n) * a.column.width) ≡ true = eq-eqb _ _ (length-grown a v body before n grows.0 grows.1 grows.2) in
     rw here (have_grown arrays vs body before n grows.3)
 
 -- ---- growing column by column
 
 -- the first columns have grown, and the others are to grow
 pub grown_step : (n i : ℕ) (body : List ℕ) (arrays : List Array) (a : Array) (vs : List (List ℕ)) (v : List ℕ) (total : List (List ℕ)) → i < length vs
-    → drop i arrays ≡ a ∷ drop (i + 1) arrays → v ≡ get_or vs i [] ++ next_message_of n body a → take i vs ++ grown n body (drop i arrays) (drop i vs) ≡ total
+    → drop i arrays ≡ a ∷ drop (i + 1) arrays → v ≡ get_or vs i [] ++ values_in_rows n body a → take i vs ++ grown n body (drop i arrays) (drop i vs) ≡ total
     → take (i + 1) (set vs i v) ++ grown n body (drop (i + 1) arrays) (drop (i + 1) (set vs i v)) ≡ total
 grown_step n i body arrays a vs v total few here is so_far =
     let e : i + 1 ≡ suc i = omega arith in

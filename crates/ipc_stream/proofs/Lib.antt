@@ -31,3 +31,4 @@ mod Steps
 mod MessageRead
 mod FirstMessage
 mod EmptyColumns
+mod MeaningTable

@@ -30,9 +30,9 @@ use Rattle.ipc_stream.specs.declared.gathered.Gathered.{Gathered}
 use Rattle.ipc_stream.specs.Batch.{batch_checks}
 use Rattle.ipc_stream.specs.Meaning.{Message, schema_in, rows_of_header, rows_in, table_in, accepted, ◌>>=◌}
 use Rattle.arrow_schema.specs.Integers.{is_empty}
-use Rattle.ipc_stream.specs.Added.{added}
-use Rattle.ipc_stream.specs.View.{gathered_table}
-use Rattle.ipc_stream.specs.Progress.{Adds}
+use Rattle.ipc_stream.specs.inner.Added.{added}
+use Rattle.ipc_stream.specs.inner.View.{gathered_table}
+use Rattle.ipc_stream.specs.inner.Progress.{Adds}
 use Rattle.ipc_stream.proofs.AcceptedSchema.{accepted_lacks_id}
 
 -- ---- the type of a header

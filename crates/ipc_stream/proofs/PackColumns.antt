@@ -10,7 +10,7 @@ use Rattle.arrow_schema.specs.View.{column_of}
 use Rattle.arrow_schema.specs.Column.{Column, column, integers, columns_of}
 use Rattle.arrow_schema.specs.Integers.{is_bit_width, is_integer_column}
 use Rattle.arrow_schema.specs.laws.IntegerCases.{integer_case}
-use Rattle.ipc_stream.specs.Packed.{IsLow, HasIntegerAt}
+use Rattle.ipc_stream.specs.inner.Packed.{IsLow, HasIntegerAt}
 use Rattle.cells.specs.Cell.{Cell, null, boolean, number, text, bytes, items, parts, cells_of}
 use Rattle.values.specs.Columns.{IntegerColumn, first_cell, other_cells, integer_bytes, values_of, values_of_all}
 use Rattle.cells.specs.Dictionary.{cells_at}

@@ -1,6 +1,6 @@
 -- The record batch of a piece: a node and two buffers for each column.
-use Rattle.std.proofs.Common.{◌≡◌, ℕ, ◌+◌, ◌*◌, ◌≤◌, ◌<◌, ◌==◌, IsTrue, List, [], ◌∷◌, ◌++◌, Bor, map, drop, get_or, length, eqb-true, subst, refl, arith, sym, ap, ◌∙◌, append_assoc}
-use Rattle.std.proofs.lemmas.List.{drop_more, map-append}
+use Rattle.std.proofs.Common.{◌≡◌, ℕ, ◌+◌, ◌*◌, ◌≤◌, ◌<◌, ◌==◌, IsTrue, List, [], ◌∷◌, ◌++◌, Bor, map, length, eqb-true, subst, refl, arith, sym, ap, ◌∙◌, append_assoc}
+use Rattle.std.proofs.lemmas.List.{map-append}
 use Rattle.std.proofs.lemmas.Bool.{and_parts}
 use Rattle.values.specs.laws.IntegerRows.{length_rows_from}
 use Rattle.arrow_schema.specs.Column.{Column, PlainSchema}

@@ -60,7 +60,7 @@ end_step supported steps before some = rw (marker_stands, some) refl
 
 -- ---- what messages that were read hold
 
-rows_more : (s : PlainSchema) (before : List Message) (a : Message) → rows_in s (before ++ a ∷ []) ≡ rows_in s before ++ rows_of_header s a.body a.header
+pub rows_more : (s : PlainSchema) (before : List Message) (a : Message) → rows_in s (before ++ a ∷ []) ≡ rows_in s before ++ rows_of_header s a.body a.header
 rows_more s before a =
     flat_map-append (λ (m : Message). rows_of_header s m.body m.header) before (a ∷ []) ∙ ap (λ (rows : List (List Cell)). rows_in s before ++ rows) (append-nil (rows_of_header s a.body a.header))
 
@@ -118,7 +118,7 @@ piece_after : BatchLaw → (s : PlainSchema) (rows : List (List Cell)) (rest : L
 unfolding piece_message piece_envelope
 piece_after law s rows rest = law.after (length rows) (full_nodes s.columns (length rows)) (piece_buffers s rows) rest
 
--- the schema that the first message told
+-- the schema that the first message decodes to
 schema_of_read : (s : PlainSchema) (vs : List (List ℕ)) (total from : ℕ) (before : List Message) → HasColumns s vs total → IsReadTo s vs from before → plain_schema_of (schema_in before) ≡ s
 schema_of_read s vs total from before supported is = ap plain_schema_of is.schema ∙ schema_again s (integers_of s supported.integers)
 

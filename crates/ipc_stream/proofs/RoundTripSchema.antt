@@ -1,19 +1,16 @@
 -- A schema of integer columns that was written: what it decodes to is the schema, and no test of it finds anything.
-use Rattle.std.specs.Prelude.{sum_by, find, flat_map, nat_lt, string_bytes}
-use Rattle.std.specs.List.{list_any, list_all}
+use Rattle.std.specs.Prelude.{sum_by, find, flat_map, nat_lt}
+use Rattle.std.specs.List.{list_any, list_all, AllPass}
 use Rattle.std.specs.Str.{is_utf8}
 use Rattle.std.proofs.Common.{◌≡◌, ℕ, ◌+◌, ◌≤◌, Bool, true, false, List, [], ◌∷◌, ◌++◌, map, length, None, refl, arith, ap, ◌∙◌}
-use Rattle.std.proofs.lemmas.Str.{is_utf8-from_IsUtf8, IsUtf8-nil, IsUtf8-string_bytes}
+use Rattle.std.proofs.lemmas.Str.{is_utf8-from_IsUtf8, IsUtf8-nil}
 use Rattle.std.proofs.lemmas.List.{length-map}
 use Rattle.std.proofs.lemmas.List.Concat.{flat_map-cons}
-use Rattle.std.proofs.lemmas.List.Sums.{sum_by-cons, sum_by-append}
+use Rattle.std.proofs.lemmas.List.Sums.{sum_by-cons, sum_by-append, list_all-from_AllPass}
 use Rattle.std.proofs.lemmas.List.Folds.{list_all-append}
 use Rattle.std.proofs.lemmas.Bool.{and_from, and_parts, le-ltb, or_from}
-use Rattle.arrow_schema.specs.declared.types.Field.{Field, out-Field}
-use Rattle.arrow_schema.specs.declared.types.DataType.TheFolds.{fold_out-Field}
-use Rattle.arrow_schema.specs.View.{kind_step, column_step, column_of}
-use Rattle.arrow_schema.specs.Column.{Pair, Kind, Column, column, integers, columns_of, PlainSchema}
-use Rattle.arrow_schema.specs.Limits.{name_len}
+use Rattle.arrow_schema.specs.Column.{Pair, Column, column, integers, columns_of, PlainSchema}
+use Rattle.arrow_schema.specs.Limits.{name_len, has_utf8_texts}
 use Rattle.ipc_message.specs.Raw.{RawField, raw_field, no_raw_field, raw_fields_of, raw_list_of, RawSchema}
 use Rattle.ipc_message.specs.Fields.{preorder, preorder_all, depth, depth_all, dictionary_of, pairs_of}
 use Rattle.ipc_message.specs.Types.{type_name, decoded_type}
@@ -41,15 +38,16 @@ abbrev pub AreNamed : List Column → Type 0
 AreNamed [] = Unit {0}
 AreNamed (c ∷ cs) = (is_utf8 (name_of c) ≡ true) × AreNamed cs
 
--- the names of the code's fields are: each is a text
-named_one : (f : Field) → is_utf8 (name_of (column_of f)) ≡ true
-named_one f =
-    ap (λ (c : Column). is_utf8 (name_of c)) (fold_out-Field Kind Column kind_step column_step f)
-    ∙ is_utf8-from_IsUtf8 (string_bytes (out-Field f).name) (IsUtf8-string_bytes (out-Field f).name)
+-- as a schema within the limits has them
+name_is : (c : Column) → has_utf8_texts c ≡ true → is_utf8 (name_of c) ≡ true
+name_is (column name nullable kind dictionary pairs) h = (and_parts (is_utf8 name) _ h).0
 
-pub named : (fields : List Field) → AreNamed (map column_of fields)
-named [] = tt
-named (f ∷ fs) = (named_one f, named fs)
+names_are : (cs : List Column) → list_all has_utf8_texts cs ≡ true → AreNamed cs
+names_are [] h = tt
+names_are (c ∷ cs) h = let both = and_parts (has_utf8_texts c) (list_all has_utf8_texts cs) h in (name_is c both.0, names_are cs both.1)
+
+pub named : (cs : List Column) → AllPass has_utf8_texts cs → AreNamed cs
+named cs h = names_are cs (list_all-from_AllPass has_utf8_texts cs h)
 
 -- ---- what is decoded
 

@@ -1,5 +1,5 @@
 -- Rows read from columns.
-use Rattle.std.proofs.Common.{◌≡◌, ℕ, zero, suc, ◌+◌, ◌-◌, ◌≤◌, List, ◌∷◌, take, drop, length, refl, arith, ap}
+use Rattle.std.proofs.Common.{◌≡◌, ℕ, zero, suc, ◌+◌, ◌-◌, ◌≤◌, List, ◌∷◌, take, drop, refl, arith, ap}
 use Rattle.cells.specs.Cell.{Cell}
 use Rattle.values.specs.Columns.{IntegerColumn, row_at, rows_from}
 

@@ -1,4 +1,4 @@
--- A record batch of integer columns: its arrays, its tests in their order, and its rows (Message.fbs; Arrow columnar format,
+-- A record batch of integer columns: its arrays, its checks in their order, and its rows (Message.fbs; Arrow columnar format,
 -- "Fixed-size Primitive Layout" and "RecordBatch message").
 use Rattle.std.specs.Prelude.{ℕ, ◌+◌, ◌*◌, ◌/◌, ◌^◌, Bool, not, ◌&&◌, ◌||◌, ◌==◌, nat_lt, List, [], ◌∷◌, ◌++◌, map, length, take, drop, Option}
 use Rattle.std.specs.List.{list_any}
@@ -8,9 +8,10 @@ use Rattle.cells.specs.Cell.{Cell}
 use Rattle.cells.specs.Weight.{row_weight, table_weight}
 use Rattle.ipc_message.specs.declared.fault.Fault.{Fault}
 use Rattle.ipc_message.specs.declared.fault.Fault.TheVariants.{NotYet, Compressed, LayoutCount, BufferRange, BufferShort, RowCount, NullCount, TooHeavy}
-use Rattle.ipc_message.specs.Framing.{when}
+use Rattle.ipc_message.specs.Framing.{first_some, when}
 use Rattle.ipc_message.specs.Raw.{RawNode, RawBuffer, RawBatch}
 use Rattle.values.specs.Columns.{IntegerColumn, rows_from}
+use Rattle.ipc_stream.specs.declared.batch.TheConstants.{MAX_LENGTH}
 use Rattle.values.specs.IntegerTable.{integer_columns}
 
 -- the array of a column: its node, and its validity and values buffers
@@ -28,18 +29,14 @@ arrays_of _ _ _ = []
 abbrev pub arrays_in : PlainSchema → RawBatch → List Array
 arrays_in s b = arrays_of (integer_columns s) b.nodes b.buffers
 
--- ---- the tests
+-- ---- the checks
 
 -- numbers of 64 bits with a sign
 abbrev pub is_negative : ℕ → Bool
 is_negative n = not (nat_lt n (2 ^ 63))
 
--- the most rows of a batch, and of an array
-abbrev pub most_length : ℕ
-most_length = 16777216
-
 abbrev pub is_bad_length : ℕ → Bool
-is_bad_length n = is_negative n || nat_lt most_length n
+is_bad_length n = is_negative n || nat_lt MAX_LENGTH n
 
 -- F17: not one node and two buffers for each column
 abbrev pub has_other_layout : List IntegerColumn → RawBatch → Bool
@@ -80,7 +77,7 @@ batch_rows s b body = rows_from (integer_columns s) (map (λ a. bytes_of body a.
 abbrev pub are_too_heavy : PlainSchema → List (List Cell) → List (List Cell) → Bool
 are_too_heavy s before rows = list_any (λ row. nat_lt MAX_ROW_WEIGHT (row_weight s row)) rows || nat_lt MAX_TABLE_WEIGHT (table_weight s (before ++ rows))
 
--- the tests of a batch after these rows; offsets, indices, texts and nulls have no test where all columns are integers without nulls
+-- the checks of a batch after these rows; offsets, indices, texts and nulls have no check where all columns are integers without nulls
 unfoldable pub batch_checks : PlainSchema → List (List Cell) → RawBatch → List ℕ → List (Option Fault)
 batch_checks s before b body =
     let arrays = arrays_in s b in
@@ -93,3 +90,7 @@ batch_checks s before b body =
     ∷ when (list_any counts_nulls arrays) NullCount
     ∷ when (are_too_heavy s before (batch_rows s b body)) TooHeavy
     ∷ []
+
+-- the first fault of a batch after these rows
+abbrev pub batch_fault : PlainSchema → List (List Cell) → RawBatch → List ℕ → Option Fault
+batch_fault s before b body = first_some (batch_checks s before b body)

@@ -3,7 +3,7 @@
 use Rattle.std.specs.Prelude.{◌≡◌, ◌≤◌, ◌<◌, ◌⊎◌, ℕ, ◌+◌, ◌*◌, Bool, true, List, [], ◌∷◌, ◌++◌, length, drop, get_or, Ok}
 use Rattle.byteorder.specs.Endian.{little_number}
 use Rattle.cells.specs.Cell.{Cell, number, PlainTable}
-use Rattle.ipc_message.specs.Framing.{Envelope, Frames, continuation_marker}
+use Rattle.ipc_message.specs.Framing.{Envelope, Frames, continuation_marker, no_size}
 use Rattle.ipc_message.specs.Raw.{RawSchema, RawBuffer, RawBatch, schema_header, batch_header}
 use Rattle.ipc_message.specs.Header.{header}
 use Rattle.ipc_message.specs.Convert.{plain_schema_of}
@@ -14,7 +14,7 @@ use Rattle.values.specs.IntegerTable.{integer_columns}
 
 -- what may stand after the last message: nothing, or the end of stream alone
 abbrev pub IsEnd : List ℕ → Type 0
-IsEnd rest = (rest ≡ []) ⊎ (rest ≡ continuation_marker ++ (0 ∷ 0 ∷ 0 ∷ 0 ∷ []))
+IsEnd rest = (rest ≡ []) ⊎ (rest ≡ continuation_marker ++ no_size)
 
 -- row j of a batch: for each column in order, the integer at place j of its values. A column has two buffers: its validity bitmap, and
 -- its values

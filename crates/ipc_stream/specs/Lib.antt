@@ -1,11 +1,8 @@
 pub mod Cut
 pub mod CutRows
-pub mod View
 pub mod Batch
 pub mod Meaning
-pub mod Added
 pub mod Canonical
 pub mod FramedTable
 pub mod FramedFault
-pub mod Progress
-pub mod Packed
+pub mod inner

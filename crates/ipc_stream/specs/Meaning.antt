@@ -1,10 +1,11 @@
 -- What a stream of bytes means: a table, or the first fault (Arrow columnar format, "IPC Streaming Format"). `supported` says which
 -- type codes are supported.
-use Rattle.std.specs.Prelude.{ℕ, zero, suc, Bool, not, ◌==◌, List, [], ◌∷◌, ◌++◌, length, drop, flat_map, Option, Some, None, Result, Ok, Err, if◌then◌else◌}
+use Rattle.std.specs.Prelude.{ℕ, zero, suc, Bool, not, ◌==◌, List, [], ◌∷◌, ◌++◌, length, drop, flat_map, Option, Result, Ok, Err, if◌then◌else◌}
 use Rattle.std.specs.List.{list_any}
 use Rattle.cells.specs.Cell.{Cell, PlainTable}
 use Rattle.arrow_schema.specs.Column.{PlainSchema}
 use Rattle.ipc_message.specs.declared.fault.Fault.{Fault}
+use Rattle.ipc_message.specs.declared.header_type.TheConstants.{SCHEMA}
 use Rattle.ipc_message.specs.declared.fault.Fault.TheVariants.{Truncated, NoSchema, SecondSchema, DictionaryId, AfterEnd}
 use Rattle.ipc_message.specs.Raw.{RawSchema, RawDictionaryBatch, RawHeader, schema_header, dictionary_header, batch_header}
 use Rattle.ipc_message.specs.Framing.{NextMessage, end_of_stream, message, Envelope, next_message, taken, first_some, unless, when, type_of}
@@ -47,18 +48,18 @@ rows_in s ms = flat_map (λ m. rows_of_header s m.body m.header) ms
 unfoldable pub table_in : List Message → PlainTable
 table_in ms = let s = plain_schema_of (schema_in ms) in record { schema = s; rows = rows_in s ms }
 
--- ---- the tests of a message after those before it
+-- ---- the checks of a message after those before it
 
 -- F9, F10: a batch before the schema, and a schema after it
 abbrev pub order_fault : List Message → ℕ → Option Fault
 order_fault before header_type =
-    if is_empty before then when (not (header_type == 1)) NoSchema else when (header_type == 1) SecondSchema
+    if is_empty before then when (not (header_type == SCHEMA)) NoSchema else when (header_type == SCHEMA) SecondSchema
 
 -- F24: an id that no field has; dictionaries are not read yet, so that this is reported of each dictionary batch
 abbrev pub dictionary_checks : RawSchema → RawDictionaryBatch → List (Option Fault)
 dictionary_checks s d = when (not (list_any (λ f. has_id d.id (dictionary_of f)) (every_field s))) DictionaryId ∷ []
 
--- the tests of what a header decodes to
+-- the checks of what a header decodes to
 abbrev pub header_checks : (ℕ → Bool) → List Message → List ℕ → RawHeader → List (Option Fault)
 header_checks supported before body (schema_header s) = schema_checks supported s
 header_checks supported before body (dictionary_header d) = dictionary_checks (schema_in before) d

@@ -1,20 +1,19 @@
-// Adds the rows of a record batch to a table: the tests of a batch in their order, then its values (docs/definitions/streams.md).
-ghost use Rattle.std.specs.Prelude.{◌≡◌, ◌≤◌, ◌<◌, ◌+◌, ◌*◌, ◌/◌, ◌++◌, ◌||◌, ◌&&◌, nat_lt, ℕ, List, Bool, true, false, length, map, take, drop, IsTrue, OnOk};
+// Adds the rows of a record batch to a table: the checks of a batch in their order, then its values (docs/definitions/streams.md).
+ghost use Rattle.std.specs.Prelude.{◌≡◌, ◌≤◌, ◌<◌, ◌+◌, ◌*◌, ◌/◌, ◌||◌, ◌&&◌, nat_lt, ℕ, List, Bool, true, false, length, map, take, drop, IsTrue, OnOk};
 ghost use Rattle.std.specs.List.{list_any};
 ghost use Rattle.flatbuf.specs.Lookup.{number};
 ghost use Rattle.arrow_schema.specs.View.{schema_of};
 ghost use Rattle.arrow_schema.specs.Limits.{IsWithinLimits};
 ghost use Rattle.cells.specs.Cell.{Cell};
-ghost use Rattle.ipc_message.specs.Framing.{first_some};
 ghost use Rattle.ipc_message.specs.Outcome.{Gives};
 ghost use Rattle.ipc_message.specs.Raw.{nodes_in, buffers_in};
 ghost use Rattle.ipc_message.specs.View.{raw_batch_of};
-ghost use Rattle.values.specs.Columns.{rows_from};
 ghost use Rattle.arrow_schema.specs.Integers.{is_integer_schema};
 ghost use Rattle.values.specs.IntegerTable.{integer_columns, have_rows};
-ghost use Rattle.ipc_stream.specs.Batch.{is_negative, is_bad_length, has_bad_length, has_other_layout, is_outside, is_short, has_validity, counts_nulls, arrays_in, batch_rows, batch_checks};
-ghost use Rattle.ipc_stream.specs.View.{gathered_table};
-ghost use Rattle.ipc_stream.specs.Added.{added};
+ghost use Rattle.ipc_stream.specs.Batch.{is_negative, is_bad_length, has_bad_length, has_other_layout, is_outside, is_short, has_validity, counts_nulls, arrays_in, batch_fault};
+ghost use Rattle.ipc_stream.specs.inner.Columns.{AddsRows};
+ghost use Rattle.ipc_stream.specs.inner.View.{gathered_table};
+ghost use Rattle.ipc_stream.specs.inner.Added.{added};
 
 use crate::decoder::width_of;
 use crate::gathered::Gathered;
@@ -162,7 +161,7 @@ fn batch_fault(schema: &Schema, before: usize, batch: &RawBatch, body: &[u8]) ->
     requires integers { IsTrue (is_integer_schema (schema_of schema.now)) }
     requires limits { IsWithinLimits (schema_of schema.now) }
     requires light { before ≤ MAX_TABLE_WEIGHT }
-    ensures { (rows : List (List Cell)) → length rows ≡ before → result ≡ first_some (batch_checks (schema_of schema.now) rows (raw_batch_of batch.now) body.now) }
+    ensures { (rows : List (List Cell)) → length rows ≡ before → result ≡ batch_fault (schema_of schema.now) rows (raw_batch_of batch.now) body.now }
 {
     limits_bound_columns();
     integer_rows_weigh_alike();
@@ -193,8 +192,8 @@ fn batch_fault(schema: &Schema, before: usize, batch: &RawBatch, body: &[u8]) ->
     None
 }
 
-/// The first bytes of a buffer, so many.
-fn next_message_of<'a>(buffers: &[u8], i: usize, size: usize, body: &'a [u8]) -> &'a [u8]
+/// The first `size` bytes of buffer `i`.
+fn start_of_buffer<'a>(buffers: &[u8], i: usize, size: usize, body: &'a [u8]) -> &'a [u8]
     requires there { 16 * i + 16 ≤ length buffers.now }
     requires long { number 8 buffers.now (16 * i) + size ≤ length body.now }
     ensures { result.now ≡ take size (drop (number 8 buffers.now (16 * i)) body.now) }
@@ -203,7 +202,7 @@ fn next_message_of<'a>(buffers: &[u8], i: usize, size: usize, body: &'a [u8]) ->
     &body[start..start + size]
 }
 
-/// Appends the values of a batch, in which no test found a fault, to the columns.
+/// Appends the values of a batch, in which no check found a fault, to the columns.
 ///
 /// Each column's bytes are copied once. After an `Err` some columns may have grown.
 fn append_values(
@@ -218,14 +217,12 @@ fn append_values(
     requires inside { list_any (is_outside body.now) (buffers_in batch.now.buffers.now) ≡ false }
     requires long { list_any is_short (arrays_in (schema_of schema.now) (raw_batch_of batch.now)) ≡ false }
     ensures { (rows : ℕ) → IsTrue (have_rows (integer_columns (schema_of schema.now)) (map (λ v. v.items) columns.old.items) rows) → OnOk result (
-        IsTrue (have_rows (integer_columns (schema_of schema.now)) (map (λ v. v.items) columns.new.items) (rows + batch.now.length))
-        × (rows_from (integer_columns (schema_of schema.now)) (map (λ v. v.items) columns.new.items) 0 (rows + batch.now.length)
-        ≡ rows_from (integer_columns (schema_of schema.now)) (map (λ v. v.items) columns.old.items) 0 rows ++ batch_rows (schema_of schema.now) (raw_batch_of batch.now) body.now)) }
+        AddsRows (schema_of schema.now) (map (λ v. v.items) columns.old.items) (map (λ v. v.items) columns.new.items) rows (raw_batch_of batch.now) body.now) }
 {
     let rows = batch.length as usize;
     for i in 0..schema.fields.len() {
         let size = rows * width_of(&schema.fields[i]);
-        columns[i].extend_from_slice(next_message_of(batch.buffers, 2 * i + 1, size, body))?;
+        columns[i].extend_from_slice(start_of_buffer(batch.buffers, 2 * i + 1, size, body))?;
     }
     Ok(())
 }

@@ -8,10 +8,10 @@ ghost use Rattle.ipc_message.specs.Header.{supported_codes};
 ghost use Rattle.ipc_message.specs.Messages.{envelope_of, next_message_of};
 ghost use Rattle.ipc_message.specs.Outcome.{Gives, Fails};
 ghost use Rattle.ipc_stream.specs.Meaning.{meaning};
-ghost use Rattle.ipc_stream.specs.Progress.{without_rows, IsRead, Adds};
+ghost use Rattle.ipc_stream.specs.inner.Progress.{without_rows, IsRead, Adds};
 ghost use Rattle.arrow_schema.specs.Integers.{is_integer_schema};
 ghost use Rattle.values.specs.IntegerTable.{integer_column, IsIntegerTable};
-ghost use Rattle.ipc_stream.specs.View.{gathered_table};
+ghost use Rattle.ipc_stream.specs.inner.View.{gathered_table};
 ghost use Rattle.values.specs.TableView.{table_of};
 
 use crate::batch::add_batch;

@@ -10,7 +10,7 @@ ghost use Rattle.values.specs.TableView.{table_of};
 
 use crate::decoder::width_of;
 use crate::pack::pack;
-use arrow_schema::{Schema, limits_bound_columns};
+use arrow_schema::{MAX_FIELDS, Schema, limits_bound_columns};
 use cells::MAX_PIECE_ROWS;
 use ipc_write::{write_batch, write_end, write_schema};
 use std::alloc::{AllocError, Global};
@@ -23,7 +23,7 @@ fn values_in(column: &[u8], width: usize, from: usize, count: usize) -> &[u8]
     requires within { (from + count) * width ≤ length column.now }
     ensures values { (c : IntegerColumn) (cs : List IntegerColumn) (vs : List (List ℕ)) → c.width ≡ width
         → result.now ≡ values_of c.width (map first_cell (rows_from (c ∷ cs) (column.now ∷ vs) from count)) }
-    ensures small { length result.now ≤ 32768 }
+    ensures small { length result.now ≤ 8 * MAX_PIECE_ROWS }
 {
     let start = from * width;
     &column[start..start + count * width]
@@ -41,7 +41,7 @@ fn write_piece(
 ) -> Result<(), AllocError>
     requires within { from + count ≤ rows }
     requires few { count ≤ MAX_PIECE_ROWS }
-    requires columns { length schema.now.fields.items ≤ 2048 }
+    requires columns { length schema.now.fields.items ≤ MAX_FIELDS }
     requires filled { IsTrue (have_rows (integer_columns (schema_of schema.now)) (map (λ v. v.items) columns.now) rows) }
     ensures { OnOk result (out.new.items ≡ out.old.items ++ piece_message (schema_of schema.now)
         (rows_from (integer_columns (schema_of schema.now)) (map (λ v. v.items) columns.now) from count)) }

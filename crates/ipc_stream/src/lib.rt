@@ -3,6 +3,12 @@
 //! [`decode`] gives exactly the table that the bytes mean, or their first fault; [`encode`] gives exactly the canonical
 //! stream of a table, and that stream means the table ([`canonical_means_its_table`]). [`meaning_is_framed`] says in the
 //! words of the format what a meaning and a fault are. Columns of other types, and nulls, are refused until they are read.
+//!
+//! ```
+//! // The canonical stream of the table that a stream means.
+//! let table = decode(alloc, bytes)?;
+//! let written = encode(alloc, &table)?;
+//! ```
 #![tactic(auto)]
 
 mod batch;
@@ -15,5 +21,7 @@ mod pack;
 pub use decoder::decode;
 pub use encoder::encode;
 pub use ipc_message::ImportError;
-pub use laws::{canonical_means_its_table, meaning_is_framed, pieces_are_the_cut};
+pub use laws::{
+    canonical_means_its_table, meaning_is_a_table, meaning_is_framed, pieces_are_the_cut,
+};
 pub use values::Table;

@@ -1,13 +1,13 @@
 // The bytes of the columns of a table, whatever way its rows are kept.
-ghost use Rattle.std.specs.Prelude.{◌≡◌, ◌≤◌, ◌++◌, ℕ, ℤ, List, Some, slice_get, IfOk, OnOk, IsTrue, length, map};
+ghost use Rattle.std.specs.Prelude.{◌≡◌, ◌≤◌, ◌++◌, ℕ, ℤ, List, Some, slice_get, IfOk, OnOk, map};
 ghost use Rattle.std.specs.Int.{w128};
 ghost use Rattle.byteorder.specs.Endian.{low_bytes, little_bytes};
 ghost use Rattle.cells.specs.Cell.{Cell, number};
 ghost use Rattle.values.specs.Columns.{values_of};
 ghost use Rattle.cells.specs.Dictionary.{cells_at};
-ghost use Rattle.values.specs.IntegerTable.{integer_columns, have_rows, plain_table, IsIntegerTable};
+ghost use Rattle.values.specs.IntegerTable.{IsIntegerTable};
 ghost use Rattle.values.specs.TableView.{table_of};
-ghost use Rattle.ipc_stream.specs.Packed.{HasIntegerAt};
+ghost use Rattle.ipc_stream.specs.inner.Packed.{HasIntegerAt, HaveAllRows, AreColumnsOf};
 
 use crate::decoder::width_of;
 use byteorder::{ByteOrder, LittleEndian};
@@ -61,8 +61,8 @@ fn column_values(
 /// column, one after another.
 pub(crate) fn pack(alloc: Global, table: &Table) -> Result<Vec<Vec<u8>>, AllocError>
     requires { IsIntegerTable (table_of table.now) }
-    ensures filled { IfOk result (λ columns. IsTrue (have_rows (integer_columns (table_of table.now).schema) (map (λ v. v.items) columns.items) (length (table_of table.now).rows))) }
-    ensures values { IfOk result (λ columns. plain_table (table_of table.now).schema (map (λ v. v.items) columns.items) (length (table_of table.now).rows) ≡ table_of table.now) }
+    ensures filled { IfOk result (λ columns. HaveAllRows (table_of table.now) (map (λ v. v.items) columns.items)) }
+    ensures values { IfOk result (λ columns. AreColumnsOf (table_of table.now) (map (λ v. v.items) columns.items)) }
 {
     let fields = &table.schema().fields;
     let mut columns = Vec::new(alloc);

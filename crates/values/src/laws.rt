@@ -34,8 +34,9 @@ pub fn integer_columns_are_integer_tables()
 
 /// Integer columns that have the bytes of so many rows are a table, where the rows are not too heavy together.
 pub fn integer_columns_are_tables()
-    ensures { (s : PlainSchema) (values : List (List ℕ)) (rows : ℕ) → IsWithinLimits s → IsTrue (is_integer_schema s) → IsTrue (have_rows (integer_columns s) values rows)
-        → AllBytes values → rows * (1 + length s.columns) ≤ MAX_TABLE_WEIGHT → IsTable (plain_table s values rows) }
+    ensures { (s : PlainSchema) (values : List (List ℕ)) (rows : ℕ) → IsWithinLimits s → IsTrue (is_integer_schema s)
+        → IsTrue (have_rows (integer_columns s) values rows) → AllBytes values → rows * (1 + length s.columns) ≤ MAX_TABLE_WEIGHT
+        → IsTable (plain_table s values rows) }
 {}
 
 /// Each row of integer columns weighs one, and one for each column.

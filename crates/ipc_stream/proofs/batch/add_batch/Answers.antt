@@ -13,8 +13,8 @@ use Rattle.ipc_stream.specs.declared.gathered.Gathered.{Gathered}
 use Rattle.values.specs.Columns.{IntegerColumn}
 use Rattle.values.specs.IntegerTable.{integer_columns, have_rows}
 use Rattle.ipc_stream.specs.Batch.{batch_checks}
-use Rattle.ipc_stream.specs.View.{gathered_table}
-use Rattle.ipc_stream.specs.Added.{added}
+use Rattle.ipc_stream.specs.inner.View.{gathered_table}
+use Rattle.ipc_stream.specs.inner.Added.{added}
 use Rattle.ipc_stream.proofs.RowWeights.{WeighAlike}
 use Rattle.ipc_stream.proofs.BatchLemmas.{count_columns, few_rows, heavy_is}
 use Rattle.ipc_stream.proofs.AcceptedLemmas.{IsFine, fine_of, or_fault, or_none}

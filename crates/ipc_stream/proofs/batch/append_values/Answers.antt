@@ -8,15 +8,15 @@ use Rattle.ipc_message.specs.View.{raw_batch_of}
 use Rattle.ipc_stream.specs.Batch.{Array, arrays_in}
 use Rattle.ipc_stream.proofs.ArrayLemmas.{array_at}
 use Rattle.ipc_stream.proofs.BatchLemmas.{layout_fits, array_here, count_arrays_in, column_at, column_is}
-use Rattle.ipc_stream.proofs.GrowthLemmas.{next_message_of, grown_step, grown_end}
+use Rattle.ipc_stream.proofs.GrowthLemmas.{values_in_rows, grown_step, grown_end}
 use Rattle.ipc_stream.proofs.AcceptedLemmas.{values_within, batch_grown}
 use Rattle.ipc_stream.proofs.batch.append_values.Goals as goal
 
-pub next_message_of-requires-clause-there : goal.next_message_of-requires-clause-there
-next_message_of-requires-clause-there c = let fits = layout_fits c.args.schema.now c.args.batch.now c.requires.layout in omega (arith, fits.0, fits.1)
+pub start_of_buffer-requires-clause-there : goal.start_of_buffer-requires-clause-there
+start_of_buffer-requires-clause-there c = let fits = layout_fits c.args.schema.now c.args.batch.now c.requires.layout in omega (arith, fits.0, fits.1)
 
-pub next_message_of-requires-clause-long : goal.next_message_of-requires-clause-long
-next_message_of-requires-clause-long c =
+pub start_of_buffer-requires-clause-long : goal.start_of_buffer-requires-clause-long
+start_of_buffer-requires-clause-long c =
     let s : Schema = c.args.schema.now in
     let few : c.loop-i.i < length s.fields.items = omega arith in
     let width = c.width_of.ensures.value ∙ column_is s c.loop-i.i _ few c.index.ensures in
@@ -24,10 +24,10 @@ next_message_of-requires-clause-long c =
 
 -- a column with the values of its array behind it
 column_grown : (cols : List (Vec ℕ Global)) (v w : Vec ℕ Global) (i n width : ℕ) (body new : List ℕ) (a : Array) → i < length cols → v ≡ get_or cols i v → width ≡ a.column.width
-    → w.items ≡ v.items ++ new → new ≡ take (n * width) (drop a.values.offset body) → w.items ≡ get_or (map (λ x. x.items) cols) i [] ++ next_message_of n body a
-column_grown cols v w i n width body new a few is wide joined next_message =
+    → w.items ≡ v.items ++ new → new ≡ take (n * width) (drop a.values.offset body) → w.items ≡ get_or (map (λ x. x.items) cols) i [] ++ values_in_rows n body a
+column_grown cols v w i n width body new a few is wide joined front =
     let old : get_or (map (λ x. x.items) cols) i [] ≡ v.items = get_or-map (λ x. x.items) cols i v [] few ∙ ap (λ (x : Vec ℕ Global). x.items) (sym is) in
-    joined ∙ λ j. sym old j ++ (next_message ∙ ap (λ (k : ℕ). take (n * k) (drop a.values.offset body)) wide) j
+    joined ∙ λ j. sym old j ++ (front ∙ ap (λ (k : ℕ). take (n * k) (drop a.values.offset body)) wide) j
 
 pub loop-i-preserved : goal.loop-i-preserved
 loop-i-preserved c =
@@ -41,7 +41,7 @@ loop-i-preserved c =
     let a : Array = array_at (column_at s i) b.nodes.now b.buffers.now i in
     let w : Vec ℕ Global = c.extend_from_slice.new.self in
     let width = c.width_of.ensures.value ∙ column_is s i _ few c.index.ensures in
-    let is = column_grown cols c.index_mut.result.now w i b.length _ c.args.body.now _ a inside c.index_mut.ensures.value width c.in_ok-extend_from_slice.ensures.items c.next_message_of.ensures in
+    let is = column_grown cols c.index_mut.result.now w i b.length _ c.args.body.now _ a inside c.index_mut.ensures.value width c.in_ok-extend_from_slice.ensures.items c.start_of_buffer.ensures in
     let short : i < length vs = rw (length-map cols (λ v. v.items)) inside in
     let step = grown_step b.length i c.args.body.now (arrays_in (schema_of s) (raw_batch_of b)) a vs w.items _ short (array_here s b i c.requires.layout few) is c.loop-i.invariant.done in
     let changed : map (λ v. v.items) (set cols i w) ≡ set vs i w.items = map-set (λ v. v.items) cols i w in

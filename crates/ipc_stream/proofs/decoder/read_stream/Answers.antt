@@ -4,8 +4,8 @@ use Rattle.std.proofs.lemmas.Result.{err_from_is_err_and}
 use Rattle.arrow_schema.specs.View.{schema_of}
 use Rattle.ipc_message.specs.Framing.{taken}
 use Rattle.ipc_message.specs.Messages.{envelope_of, next_message_of}
-use Rattle.ipc_stream.specs.Progress.{without_rows, IsRead}
-use Rattle.ipc_stream.specs.View.{gathered_table}
+use Rattle.ipc_stream.specs.inner.Progress.{without_rows, IsRead}
+use Rattle.ipc_stream.specs.inner.View.{gathered_table}
 use Rattle.ipc_stream.proofs.Steps.{tested_some, tested_end, read_integer, read_end, read_fault, read_end_of_stream, read_past_end_of_stream, read_on, read_refused}
 use Rattle.ipc_stream.proofs.MessageRead.{is_end_of_stream}
 use Rattle.ipc_stream.proofs.decoder.read_stream.Goals as goal

@@ -9,4 +9,4 @@ pub returns : goal.returns
 returns c =
     let is = c.next_message_is_framed.ensures in
     let law : NextMessageLaw = record { framed = is.framed; read = is.read; marked = is.marked; ended = is.ended } in
-    record { table = table_decoded law; once = one_table law; means = accepted_mean law; fault = fault_stands law; reported = fault_reported law }
+    record { table = table_decoded law; once = one_table law; means = λ supported bytes found r. accepted_mean law supported bytes r.messages found r.rest r.framed r.ended r.accepted r.some; fault = fault_stands law; reported = fault_reported law }

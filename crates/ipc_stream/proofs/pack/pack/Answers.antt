@@ -10,7 +10,7 @@ use Rattle.values.specs.Columns.{values_of, values_of_all}
 use Rattle.cells.specs.Dictionary.{cells_at}
 use Rattle.values.specs.IntegerTable.{integer_column, integer_columns, have_rows}
 use Rattle.values.specs.TableView.{table_of}
-use Rattle.ipc_stream.specs.Packed.{HasIntegerAt}
+use Rattle.ipc_stream.specs.inner.Packed.{HasIntegerAt}
 use Rattle.ipc_stream.proofs.Pieces.{integers_of}
 use Rattle.ipc_stream.proofs.PackLemmas.{all_fit, table_again, values_fill}
 use Rattle.ipc_stream.proofs.PackColumns.{integers_there, some_width, from_map, all_left, column_more, none_left, values_left}

@@ -1,0 +1,5 @@
+pub mod Added
+pub mod Columns
+pub mod Packed
+pub mod Progress
+pub mod View
