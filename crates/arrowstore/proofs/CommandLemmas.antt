@@ -1,11 +1,11 @@
 -- What `clap` makes of the arguments that ask for `recode`, and of those that it refuses.
-use Rattle.std.proofs.Common.{◌≡◌, ◌⊎◌, ◌∙◌, List, [], ◌∷◌, Option, Some, None, option_map, codes, true, refl, ap, ap₂, sym, subst, inl, inr, true≢false, arith}
+use Rattle.std.proofs.Common.{◌≡◌, ◌⊎◌, ◌∙◌, List, [], ◌∷◌, Option, Some, None, option_map, codes, true, refl, ap, sym, subst, inl, inr, true≢false, arith}
 use Rattle.std.specs.Prelude.{Box}
 use Rattle.std.specs.Box.{box_value}
 use Rattle.clap.specs.Words.{App, Text, HasMatchesOf, subcommand_of, subcommand_name_of, takes, is_simple, fault_of, is_simple_and_free, IsAmong}
 use Rattle.clap.specs.Simple.{subcommand_rows}
 use Rattle.clap.specs.declared.error.kind.ErrorKind.{ErrorKind}
-use Rattle.clap.specs.declared.error.kind.ErrorKind.TheVariants.{OutOfMemory, DisplayHelp, DisplayVersion}
+use Rattle.clap.specs.declared.error.kind.ErrorKind.TheVariants.{OutOfMemory}
 use Rattle.clap.specs.declared.parser.matches.ArgMatches.{ArgMatches}
 use Rattle.clap.specs.declared.parser.matches.ArgMatches.TheViews.{out-ArgMatches, out-SubCommand}
 use Rattle.clap.specs.declared.parser.matches.SubCommand.{SubCommand}
@@ -14,7 +14,7 @@ use Rattle.arrowstore.specs.Arguments.{program_command, AreRecode, AskForHelp}
 use Rattle.arrowstore.specs.declared.status.Status.{Status}
 use Rattle.arrowstore.specs.declared.status.Status.TheVariants.{Done}
 use Rattle.arrowstore.specs.Reported.{IsRequest, IsWrong, status_code}
-use Rattle.arrowstore.proofs.ArgumentLemmas.{Judged, judged, is_help, is_version}
+use Rattle.arrowstore.proofs.ArgumentLemmas.{judged, is_help, is_version}
 
 recode_taken : (name : Text) → takes program_command (name ∷ codes "recode" ∷ []) ≡ true
 unfolding clap_on_literals
@@ -80,7 +80,7 @@ pub fault_asks : (app : App) (arguments : List Text) (kind : ErrorKind) → app 
 fault_asks app arguments kind same fails =
     request_asks arguments kind (subst (λ a. (kind ≡ OutOfMemory) ⊎ IsAmong kind (fault_of a arguments)) same (fails (ap is_simple_and_free same ∙ program_free)))
 
--- arguments that are told to be wrong are not done
+-- arguments that are reported as wrong are not done
 pub not_done : (status : Status) → IsWrong status → status ≡ Done → ⊥
 not_done status (inl wrong) done =
     let two : status_code status ≡ 2 = ap status_code wrong in

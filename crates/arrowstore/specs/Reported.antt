@@ -39,7 +39,7 @@ IfRefused WrongArguments P = Unit {0}
 abbrev pub IsRefused : Status → Type 0
 IsRefused status = (refusal : Refusal) × (status ≡ Refused refusal)
 
--- the arguments are told to be wrong, unless memory is out
+-- the arguments are reported as wrong, unless memory is out
 abbrev pub IsWrong : Status → Type 0
 IsWrong status = (status ≡ WrongArguments) ⊎ (status ≡ Refused OutOfMemory)
 

@@ -37,7 +37,7 @@ pub fn run<S: AsStr, R: Read, W: Write, E: Write>(
     // A fault that is reported is the fault of the input.
     ensures fault { AreRecode (map S.text arguments.now)
         → IfRefused result.status (λ refusal. IfSome (R.remaining input.old) (IsTrueFault refusal)) }
-    // Right arguments are taken. Wrong ones are told to be wrong, unless memory is out: nothing is read, nothing is written.
+    // Right arguments are taken. Wrong ones are reported, unless memory is out: nothing is read, nothing is written.
     ensures right_arguments { AreRecode (map S.text arguments.now) → result.status ≢ WrongArguments }
     ensures wrong_arguments { AreRecode (map S.text arguments.now) ⊎ AskForHelp (map S.text arguments.now)
         ⊎ (IsWrong result.status × (output.new ≡ output.old)) }

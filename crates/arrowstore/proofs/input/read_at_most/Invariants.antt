@@ -1,5 +1,5 @@
 -- What is kept so far is what the reader gave, in order, and the chunk has room.
-use Rattle.std.proofs.Common.{◌+◌, ◌-◌, ◌<◌, ◌≤◌, vec_len, vec_items}
+use Rattle.std.proofs.Common.{◌-◌, ◌<◌, ◌≤◌, vec_len, vec_items}
 use Rattle.std.specs.Io.KnownBytes.{Consumes}
 use Rattle.arrowstore.proofs.input.read_at_most.Given as goal
 
