@@ -102,7 +102,7 @@ date_width date_milliseconds = (refl, omega arith)
 
 -- ---- dictionaries
 
-slots_built : (kind : Kind) (cells : List Cell) → slots_in (built_kind kind cells) ≡ length cells
+pub slots_built : (kind : Kind) (cells : List Cell) → slots_in (built_kind kind cells) ≡ length cells
 unfolding built
 slots_built nulls cells = refl
 slots_built booleans cells = refl

@@ -42,7 +42,7 @@ boolean_found back cells i (parts cs) e lt h = cc
 
 -- ---- integers
 
-length-integer : (w : ℕ) (c : Cell) → length (integer_bytes w c) ≡ w
+pub length-integer : (w : ℕ) (c : Cell) → length (integer_bytes w c) ≡ w
 length-integer w null = length-replicate w 0
 length-integer w (boolean b) = length-replicate w 0
 length-integer w (number z) = length-bytes_low_first 0 w (number_of w z)
@@ -118,7 +118,7 @@ one_width width (bytes t) h = eqb-true _ _ h
 one_width width (items cs) h = length-replicate width 0
 one_width width (parts cs) h = length-replicate width 0
 
-every_width : (width : ℕ) (cells : List Cell) → list_all (null_or true (bytes_where (is_of_width width))) cells ≡ true → HaveWidth (fixed_bytes width) width cells
+pub every_width : (width : ℕ) (cells : List Cell) → list_all (null_or true (bytes_where (is_of_width width))) cells ≡ true → HaveWidth (fixed_bytes width) width cells
 every_width width [] h = tt
 every_width width (c ∷ cs) h =
     let p = and_parts (null_or true (bytes_where (is_of_width width)) c) (list_all (null_or true (bytes_where (is_of_width width))) cs) h in

@@ -12,3 +12,4 @@ pub mod ReadArrays
 pub mod Weights
 pub mod Nulls
 pub mod Pieces
+pub mod BuiltSound

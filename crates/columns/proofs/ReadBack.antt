@@ -38,7 +38,7 @@ bit_of back p cells i lt = back (map p cells) i ∙ there cells i lt
     there (x ∷ xs) zero lt = refl
     there (x ∷ xs) (suc k) lt = there xs k (omega arith)
 
-bytes_in : (n : ℕ) (bits : List Bool) → length (packed_in n bits) ≡ n
+pub bytes_in : (n : ℕ) (bits : List Bool) → length (packed_in n bits) ≡ n
 bytes_in zero bits = refl
 bytes_in (suc n) bits = ap suc (bytes_in n (drop 8 bits))
 

@@ -64,7 +64,7 @@ sum_at f sum (x ∷ xs) (suc k) le =
     let whole = ap length (flat_map-cons f x (take k xs)) ∙ length-append (f x) (flat_map f (take k xs)) in
     rest ∙ (let e : sum + length (f x) + before f xs k ≡ sum + before f (x ∷ xs) (suc k) = omega (arith, whole) in e)
 
-count_sums : (sum : ℕ) (ns : List ℕ) → length (sums_from sum ns) ≡ length ns + 1
+pub count_sums : (sum : ℕ) (ns : List ℕ) → length (sums_from sum ns) ≡ length ns + 1
 count_sums sum [] = refl
 count_sums sum (n ∷ ns) = let rest = count_sums (sum + n) ns in omega (arith, rest)
 

@@ -1,6 +1,6 @@
 // What the definitions say.
-ghost use Rattle.std.specs.Prelude.{◌≡◌, ◌≤◌, true, List, length};
-ghost use Rattle.std.specs.List.{AllPass};
+ghost use Rattle.std.specs.Prelude.{◌≡◌, ◌≤◌, true, false, List, length};
+ghost use Rattle.std.specs.List.{AllPass, list_any};
 ghost use Rattle.arrow_schema.specs.Column.{Column, Columns, PlainSchema, columns_of};
 ghost use Rattle.arrow_schema.specs.Limits.{IsWithinLimits};
 ghost use Rattle.cells.specs.Cell.{Cell};
@@ -8,12 +8,13 @@ ghost use Rattle.cells.specs.Dictionary.{dictionaries_fit};
 ghost use Rattle.cells.specs.Row.{is_row};
 ghost use Rattle.cells.specs.Weight.{table_weight};
 ghost use Rattle.columns.specs.Array.{Arrays};
-ghost use Rattle.columns.specs.Buffers.{nodes_of, buffers_of};
+ghost use Rattle.columns.specs.Buffers.{nodes_of, buffers_of, null_count};
 ghost use Rattle.columns.specs.FromBuffers.{arrays_from};
 ghost use Rattle.columns.specs.Layouts.{HaveLayouts, dictionary_arrays};
 ghost use Rattle.columns.specs.Buildable.{can_build, can_build_rows};
 ghost use Rattle.columns.specs.Built.{built, built_parts};
 ghost use Rattle.columns.specs.CellAt.{cells_in, rows_in};
+ghost use Rattle.columns.specs.Tests.{every_array, is_short, is_unordered, counts_wrong};
 ghost use Rattle.columns.specs.laws.WorkedCases.{Integers, PaddedBuffers, RightCount, WrongCount, Texts, Booleans, FixedBinaries, LargeTexts, Dates, Timestamps, Lists, SoundLists, FixedLists, Structs, HiddenNull, VisibleNull, Dictionaries, Replaced, Appended, NullBeforeDictionary, IndexBeforeDictionary, NegativeIndex, NullEntry, WrittenLists, WrittenFixedLists, WrittenStructs, WrittenDictionaries, WrittenWithoutEntries, ReadAgain};
 
 use cells::MAX_TABLE_WEIGHT;
@@ -74,4 +75,14 @@ pub fn listed_reads_back()
 pub fn rows_can_be_built()
     ensures { (s : PlainSchema) (rows : List (List Cell)) → IsWithinLimits s → AllPass (is_row s) rows → table_weight s rows ≤ MAX_TABLE_WEIGHT
         → dictionaries_fit s rows ≡ true → can_build_rows (columns_of s.columns) rows ≡ true }
+{}
+
+/// The arrays that rows are written as pass the tests of an array by itself: no buffer is short, no offset is out of order, and the null counts are right.
+pub fn written_arrays_pass()
+    ensures long { (columns : Columns) (rows : List (List Cell)) → can_build_rows columns rows ≡ true
+        → list_any (λ t. is_short t.column t.array) (every_array columns (built_parts columns rows)) ≡ false }
+    ensures ordered { (columns : Columns) (rows : List (List Cell)) → can_build_rows columns rows ≡ true
+        → list_any (λ t. is_unordered t.column t.array) (every_array columns (built_parts columns rows)) ≡ false }
+    ensures counted { (columns : Columns) (arrays : Arrays)
+        → list_any (λ t. counts_wrong (null_count t.column t.array) t.column t.array) (every_array columns arrays) ≡ false }
 {}

@@ -24,7 +24,9 @@ mod view;
 pub use array::{Dictionary, DictionaryPart, PlacedArray, PlacedLayout};
 pub use borrowed::{ValueRef, Values, ValuesIter};
 pub use borrowing::borrow_value;
-pub use laws::{built_reads_back, listed_reads_back, rows_can_be_built, worked_cases};
+pub use laws::{
+    built_reads_back, listed_reads_back, rows_can_be_built, worked_cases, written_arrays_pass,
+};
 pub use read::{row, value};
 pub use span::Span;
 pub use view::ArrayView;
