@@ -1,4 +1,4 @@
-//! Tests of the public calls of `sector_dev` and `segments`: what no clause says.
+//! Tests of the public calls of `sector_dev`, `segments` and `commit`: what no clause says.
 //!
 //! A test is a table of rows and one function that plays them.
 #![tactic(auto)]
@@ -6,7 +6,12 @@
 #[cfg(test)]
 mod calls;
 #[cfg(test)]
+mod commits;
+#[cfg(test)]
+mod damaged_stores;
+#[cfg(test)]
 mod failing_file;
+mod few;
 #[cfg(test)]
 mod file_device;
 #[cfg(test)]
@@ -19,4 +24,5 @@ mod other_devices;
 #[cfg(test)]
 mod runs;
 
+pub use few::Few;
 pub use life::Life;

@@ -1,0 +1,293 @@
+// A store on a device in memory that names one segment: each call fails or stops, and what a stop leaves is opened again.
+ghost use Rattle.std.specs.Prelude.{◌≡◌, IfOk, IfSome, length};
+ghost use Rattle.sector_dev.specs.View.{size_of};
+ghost use Rattle.commit.specs.Placing.{AreSome};
+ghost use Rattle.commit.specs.Publishing.{IsPlan};
+ghost use Rattle.test_device.specs.Few.{IsOn};
+
+use crate::few::Few;
+use commit::{OpenError, Opened, Plan, format, give_runs, place, plan_next, publish, recover};
+use sector_dev::{Choice, ModelDevice, SectorDevice};
+use segments::{Run, read_run};
+use std::alloc::{AllocError, Global};
+use std::process::Abort;
+
+// The store of a device that is formatted now.
+pub(crate) fn formatted(alloc: Global, device: &mut ModelDevice) -> Option<Opened<Few>>
+    ensures size { size_of device.new ≡ size_of device.old }
+    ensures on { IfSome result (λ store. IsOn (size_of device.new) store) }
+{
+    match format(alloc, device) {
+        Ok((commit, map)) => Some(Opened {
+            commit,
+            catalogue: Few::Nothing,
+            map,
+        }),
+        Err(_) => None,
+    }
+}
+
+// A segment that this byte fills.
+fn segment_of(alloc: Global, byte: u8) -> Result<Vec<Vec<u8>>, AllocError>
+    ensures { IfOk result (λ contents. AreSome contents.items) }
+{
+    let bytes = Vec::from_slice(alloc, &[byte; 600])?;
+    let mut contents = Vec::new(alloc);
+    contents.push(bytes)?;
+    Ok(contents)
+}
+
+// The text of a catalogue that names this run.
+fn text_of(alloc: Global, run: Run) -> Result<Vec<u8>, AllocError>
+    ensures { IfOk result (λ text. length text.items ≡ 6) }
+{
+    let start = u8::try_from(run.start).unwrap_or(0);
+    let count = u8::try_from(run.count).unwrap_or(0);
+    Vec::from_slice(alloc, &[1, 0, 0, 0, start, count])
+}
+
+// The plan of a store in which a segment that this byte fills stands alone.
+fn plan_one(alloc: Global, store: &mut Opened<Few>, byte: u8) -> Option<Plan<Few>>
+    requires { IsOn store.old.map.size store.old }
+    ensures plan { IfSome result (λ plan. IsPlan store.old.map.size store.old.commit plan.commit plan.pieces.items) }
+    ensures sectors { IfSome result (λ plan. plan.commit.device_sectors ≡ store.old.map.size) }
+    ensures commit { store.new.commit ≡ store.old.commit }
+    ensures size { store.new.map.size ≡ store.old.map.size }
+{
+    if store.commit.epoch == u64::MAX {
+        return None;
+    }
+    let Ok(contents) = segment_of(alloc, byte) else {
+        return None;
+    };
+    let Ok(places) = place(alloc, &mut store.map, contents, 6) else {
+        return None;
+    };
+    let run = places.runs.first().copied().unwrap_or(places.text);
+    let Ok(text) = text_of(alloc, run) else {
+        give_runs(&mut store.map, &places.runs);
+        return None;
+    };
+    Some(plan_next(store.commit, Few::One(run), places, text))
+}
+
+// Publishes a segment that this byte fills in place of the one before: whether that was acknowledged.
+fn replace(alloc: Global, device: &mut ModelDevice, store: &mut Opened<Few>, byte: u8) -> bool
+    requires { IsOn (size_of device.old) store.old }
+    ensures size { size_of device.new ≡ size_of device.old }
+    ensures on { IsOn (size_of device.new) store.new }
+{
+    let Some(plan) = plan_one(alloc, store, byte) else {
+        return false;
+    };
+    if publish(device, store, &plan).is_err() {
+        return false;
+    }
+    store.map.give(store.commit.catalogue.run);
+    if let Few::One(run) = store.catalogue {
+        store.map.give(run);
+    }
+    store.commit = plan.commit;
+    store.catalogue = plan.catalogue;
+    true
+}
+
+// Formats the device and publishes three segments: how many of these calls were acknowledged.
+pub(crate) fn run_script(alloc: Global, device: &mut ModelDevice) -> u64
+    ensures { size_of device.new ≡ size_of device.old }
+{
+    let Some(mut store) = formatted(alloc, device) else {
+        return 0;
+    };
+    if !replace(alloc, device, &mut store, 1) {
+        return 1;
+    }
+    if !replace(alloc, device, &mut store, 2) {
+        return 2;
+    }
+    if !replace(alloc, device, &mut store, 3) {
+        return 3;
+    }
+    4
+}
+
+// The first sectors of text and segment, by the epoch.
+const LAYOUT: [(u64, u64); 6] = [(0, 0), (2, 0), (5, 3), (2, 6), (5, 3), (2, 6)];
+
+// Whether 600 bytes from this sector on are this one.
+fn is_filled(rt: &impl Abort, alloc: Global, device: &mut ModelDevice, start: u64, byte: u8) -> bool
+    ensures { size_of device.new ≡ size_of device.old }
+{
+    assert!(rt; device.sectors() == 16 && start <= 14);
+    match read_run(alloc, device, start, 600) {
+        Ok(bytes) => bytes.iter().all(|b| *b == byte),
+        Err(_) => false,
+    }
+}
+
+// Whether a store has the runs of its epoch, and its segment the bytes.
+fn is_whole(rt: &impl Abort, alloc: Global, device: &mut ModelDevice, store: &Opened<Few>) -> bool
+    ensures { size_of device.new ≡ size_of device.old }
+{
+    let epoch = store.commit.epoch;
+    let (text, segment) = LAYOUT.get(epoch as usize).copied().unwrap_or((0, 0));
+    let there = store.commit.catalogue.run
+        == Run {
+            start: text,
+            count: 1,
+        };
+    match store.catalogue {
+        Few::Nothing => there && epoch == 1,
+        Few::One(run) => there
+            && run
+                == Run {
+                    start: segment,
+                    count: 2,
+                }
+            && is_filled(
+                rt,
+                alloc,
+                device,
+                segment,
+                u8::try_from(epoch.wrapping_sub(1)).unwrap_or(0),
+            ),
+        Few::Two(_, _) => false,
+    }
+}
+
+// Opens the store that so many acknowledged calls left, or one call more: its epoch, 0 where there is none.
+fn epoch_left(
+    rt: &impl Abort,
+    alloc: Global,
+    device: &mut ModelDevice,
+    acknowledged: u64,
+) -> Option<u64>
+    ensures { size_of device.new ≡ size_of device.old }
+{
+    let epoch = match recover::<Few, ModelDevice>(alloc, device) {
+        Ok(store) => {
+            assert!(rt; is_whole(rt, alloc, device, &store));
+            store.commit.epoch
+        }
+        Err(error) => {
+            assert!(rt; error == OpenError::NotAStore);
+            0
+        }
+    };
+    let well = epoch == acknowledged || epoch == acknowledged.wrapping_add(1);
+    if well { Some(epoch) } else { None }
+}
+
+// Opens what a choice leaves, and where there is a store publishes one more segment, and opens that.
+fn goes_on(
+    rt: &impl Abort,
+    alloc: Global,
+    device: &ModelDevice,
+    choice: Choice,
+    acknowledged: u64,
+) -> Result<bool, AllocError> {
+    let mut left = device.crash(choice)?;
+    let Some(epoch) = epoch_left(rt, alloc, &mut left, acknowledged) else {
+        return Ok(false);
+    };
+    let Ok(mut store) = recover::<Few, ModelDevice>(alloc, &mut left) else {
+        // none is there, and one can be made
+        return Ok(epoch == 0 && formatted(alloc, &mut left).is_some());
+    };
+    let next = replace(
+        alloc,
+        &mut left,
+        &mut store,
+        u8::try_from(epoch).unwrap_or(0),
+    );
+    let again = epoch_left(rt, alloc, &mut left, epoch.wrapping_add(1));
+    Ok(next && again == Some(epoch.wrapping_add(1)))
+}
+
+// Each choice, and each pattern of the three sectors that are not yet synced at the most.
+fn all_go_on(
+    rt: &impl Abort,
+    alloc: Global,
+    device: &ModelDevice,
+    acknowledged: u64,
+) -> Result<bool, AllocError> {
+    let mut well = goes_on(rt, alloc, device, Choice::Old, acknowledged)?
+        && goes_on(rt, alloc, device, Choice::New, acknowledged)?;
+    for bits in 0..8 {
+        well = well
+            && goes_on(rt, alloc, device, Choice::Bits(bits), acknowledged)?
+            && goes_on(rt, alloc, device, Choice::Lost(bits), acknowledged)?;
+    }
+    Ok(well)
+}
+
+// Which call of the script fails.
+#[derive(Clone, Copy, Debug)]
+enum Fault {
+    Fail(u64),
+    Stop(u64),
+    FailRead(u64),
+}
+
+fn set_fault(device: &mut ModelDevice, fault: Fault)
+    ensures { size_of device.new ≡ size_of device.old }
+{
+    match fault {
+        Fault::Fail(k) => device.fail_at(k),
+        Fault::Stop(k) => device.stop_at(k),
+        Fault::FailRead(k) => device.fail_read_at(k),
+    }
+}
+
+// Runs the script with this fault. After a stop, and after a failed call, what a crash leaves goes on.
+fn survives(rt: &impl Abort, alloc: Global, fault: Fault) -> Result<bool, AllocError> {
+    let mut device = ModelDevice::new(alloc, 16)?;
+    set_fault(&mut device, fault);
+    let acknowledged = run_script(alloc, &mut device);
+    all_go_on(rt, alloc, &device, acknowledged)
+}
+
+// What an opening has shown after a failed call stays.
+fn stays(rt: &impl Abort, alloc: Global, k: u64) -> Result<bool, AllocError> {
+    let mut device = ModelDevice::new(alloc, 16)?;
+    device.fail_at(k);
+    let acknowledged = run_script(alloc, &mut device);
+    let Some(shown) = epoch_left(rt, alloc, &mut device, acknowledged) else {
+        return Ok(false);
+    };
+    let mut left = device.crash(Choice::Old)?;
+    Ok(epoch_left(rt, alloc, &mut left, shown) == Some(shown))
+}
+
+// Six calls format, and five publish. With the number past the last one, none fails.
+#[test]
+fn each_call_fails_or_stops(rt: HostRuntime) {
+    for k in 1..=22 {
+        for fault in [Fault::Fail(k), Fault::Stop(k), Fault::FailRead(k)] {
+            let well = survives(&rt, rt.alloc(), fault).ok() == Some(true);
+            assert!(&rt; well, "{fault:?}");
+        }
+        let well = stays(&rt, rt.alloc(), k).ok() == Some(true);
+        assert!(&rt; well, "call {k}");
+    }
+}
+
+// One allocation at the most is refused, by tests/refused_memory_in_crates.
+#[test]
+fn a_store_is_made_and_opened_also_without_memory(rt: HostRuntime) {
+    let Ok(mut device) = ModelDevice::new(rt.alloc(), 16) else {
+        return;
+    };
+    let acknowledged = run_script(rt.alloc(), &mut device);
+    let first = recover::<Few, ModelDevice>(rt.alloc(), &mut device);
+    let store = match first {
+        Ok(store) => Ok(store),
+        Err(_) => recover::<Few, ModelDevice>(rt.alloc(), &mut device),
+    };
+    let epoch = match store {
+        Ok(store) => store.commit.epoch,
+        Err(_) => 0,
+    };
+    let well = epoch == acknowledged || epoch == acknowledged.wrapping_add(1);
+    assert!(&rt; well && device.failures() <= 1);
+}
