@@ -10,14 +10,10 @@ use Rattle.arrow_schema.specs.Column.{Kind}
 use Rattle.cells.specs.Cell.{Cell, null}
 use Rattle.columns.specs.declared.array.PlacedArray.{PlacedArray}
 use Rattle.columns.specs.declared.array.DictionaryPart.{DictionaryPart}
-use Rattle.columns.specs.declared.array.PlacedLayout.TheFolds.{fold_out-PlacedArray}
-use Rattle.columns.specs.Array.{Array, Arrays, Layout, arrays_of, array_list, slots_in}
+use Rattle.columns.specs.Array.{Array, arrays_of, slots_in}
 use Rattle.columns.specs.CellAt.{cells_from, unless_null, kind_cell, entries_of_kind}
-use Rattle.columns.specs.View.{layout_step, array_step, array_in, no_dictionary}
-
-pub listed : (arrays : List Array) → array_list (arrays_of arrays) ≡ arrays
-listed [] = refl
-listed (a ∷ arrays) = ap (λ (others : List Array). a ∷ others) (listed arrays)
+use Rattle.columns.specs.View.{array_in, no_dictionary}
+use Rattle.columns.specs.laws.Places.{slots_is}
 
 -- an entry of the first array, and one of the others
 entry_here : (f : ℕ → Cell) (n i : ℕ) (others : List Cell) → i < n → get_or (cells_from f 0 n ++ others) i null ≡ f i
@@ -37,10 +33,6 @@ from_place : (xs : List PlacedArray) (i : ℕ) (x : PlacedArray) → i < length 
 from_place xs i x lt is =
     let e : i + 1 ≡ suc i = omega arith in
     rw e (drop-cons xs i x lt ∙ ap (λ (y : PlacedArray). y ∷ drop (suc i) xs) (sym is))
-
--- an array in bytes has as many slots as it says
-pub slots_is : (bytes : List ℕ) (arrays_known : DictionaryPart → List Array) (x : PlacedArray) → slots_in (array_in bytes arrays_known x) ≡ x.slots
-slots_is bytes arrays_known x = ap slots_in (fold_out-PlacedArray Layout Array (layout_step bytes arrays_known) (array_step bytes) x)
 
 pub found_here : (bytes : List ℕ) (kind : Kind) (xs : List PlacedArray) (i r : ℕ) (x : PlacedArray) → i < length xs → x ≡ get_or xs i x → r < x.slots
     → unless_null (kind_cell kind) (array_in bytes no_dictionary x) r ≡ get_or (entries bytes kind (drop i xs)) r null

@@ -13,3 +13,5 @@ pub mod Weights
 pub mod Nulls
 pub mod Pieces
 pub mod BuiltSound
+pub mod Children
+pub mod Unordered

@@ -33,14 +33,14 @@ sound_children k a h = (and_parts (not (has_bad_offsets k a)) _ (rest_2 k a h)).
 
 -- ---- offsets
 
-none : (p : ℕ → Bool) (start n i : ℕ) → list_any p (range_with_len start n) ≡ false → i < n → p (start + i) ≡ false
+pub none : (p : ℕ → Bool) (start n i : ℕ) → list_any p (range_with_len start n) ≡ false → i < n → p (start + i) ≡ false
 none p start zero i h lt = absurd (omega arith)
 none p start (suc n) zero h lt = let e : start + 0 ≡ start = omega arith in rw e (or_parts (p start) (list_any p (range_with_len (start + 1) n)) h).0
 none p start (suc n) (suc i) h lt =
     let e : start + suc i ≡ start + 1 + i = omega arith in
     rw e (none p (start + 1) n i (or_parts (p start) (list_any p (range_with_len (start + 1) n)) h).1 (omega arith))
 
-ascend : (f : ℕ → ℕ) (i d : ℕ) → ((k : ℕ) → k < i + d → f k ≤ f (k + 1)) → f i ≤ f (i + d)
+pub ascend : (f : ℕ → ℕ) (i d : ℕ) → ((k : ℕ) → k < i + d → f k ≤ f (k + 1)) → f i ≤ f (i + d)
 ascend f i zero h = let e : i + 0 ≡ i = omega arith in rw e (omega arith)
 ascend f i (suc d) h =
     let first = ascend f i d (λ k lt. h k (omega arith)) in

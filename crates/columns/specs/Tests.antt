@@ -4,7 +4,7 @@ use Rattle.std.specs.List.{list_any, range_with_len}
 use Rattle.arrow_schema.specs.Column.{Index, Kind, Column, Columns, nulls, booleans, integers, dates, timestamps, texts, large_texts, binaries, large_binaries, fixed_binaries, lists, large_lists, fixed_lists, structs, column, no_column, and_column}
 use Rattle.bitmap.specs.Bits.{bytes_of, count_of}
 use Rattle.cells.specs.Fit.{date_bits}
-use Rattle.columns.specs.Array.{Array, Arrays, slots_in, validity_in, bits_in, values_in, offsets_in, contents_in, items_in, children_in, indices_in, first_array, other_arrays}
+use Rattle.columns.specs.Array.{Array, Arrays, slots_in, validity_in, bits_in, values_in, offsets_in, contents_in, items_in, children_in, indices_in, array_list, first_array, other_arrays}
 use Rattle.columns.specs.CellAt.{number_at}
 
 -- an array and its column
@@ -117,3 +117,13 @@ has_bad_offsets (structs columns) a = false
 abbrev pub is_unordered : Column → Array → Bool
 is_unordered (column name nullable kind None pairs) a = has_bad_offsets kind a
 is_unordered (column name nullable kind (Some index) pairs) a = false
+
+-- ---- F20: a struct has a child that is shorter than it, or a fixed list has fewer items than its slots times its size
+abbrev pub has_short_part : Kind → Array → Bool
+has_short_part (fixed_lists size item) a = nat_lt (slots_in (items_in a)) (slots_in a * size)
+has_short_part (structs columns) a = list_any (λ child. nat_lt (slots_in child) (slots_in a)) (array_list (children_in a))
+has_short_part _ a = false
+
+abbrev pub has_short_child : Column → Array → Bool
+has_short_child (column name nullable kind None pairs) a = has_short_part kind a
+has_short_child (column name nullable kind (Some index) pairs) a = false

@@ -1,5 +1,5 @@
 -- The plain array that an array of the code is, in the bytes that it stands in.
-use Rattle.std.specs.Prelude.{ℕ, List, [], ◌∷◌, map, take, get_or, Option, Some, None}
+use Rattle.std.specs.Prelude.{◌≡◌, ℕ, List, [], ◌∷◌, map, take, get_or, Option, Some, None}
 use Rattle.columns.specs.declared.array.PlacedArray.{PlacedArray}
 use Rattle.columns.specs.declared.array.PlacedLayout.TheOpen.{PlacedArray-F, PlacedLayout-F}
 use Rattle.columns.specs.declared.array.PlacedLayout.TheOpen as placed
@@ -60,3 +60,7 @@ fields_of fields = columns_of (map column_of fields)
 abbrev pub option_array : Option ArrayView → Array
 option_array None = empty_array
 option_array (Some v) = view_array v
+
+-- an array without slots or buffers, in whatever bytes it stands
+abbrev pub IsNoArray : PlacedArray → Type 0
+IsNoArray a = (bytes : List ℕ) (dictionaries : List Dictionary) → array_in bytes (arrays_in bytes dictionaries) a ≡ empty_array

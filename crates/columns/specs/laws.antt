@@ -1,1 +1,4 @@
 pub mod WorkedCases
+pub mod Places
+pub mod Everys
+pub mod Sounds

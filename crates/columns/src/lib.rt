@@ -19,6 +19,7 @@ mod laws;
 mod numbers;
 mod read;
 mod span;
+mod tests;
 mod view;
 
 pub use array::{Dictionary, DictionaryPart, PlacedArray, PlacedLayout};
@@ -28,5 +29,6 @@ pub use laws::{
     built_reads_back, listed_reads_back, rows_can_be_built, worked_cases, written_arrays_pass,
 };
 pub use read::{row, value};
-pub use span::Span;
-pub use view::ArrayView;
+pub use span::{Span, bytes_at};
+pub use tests::{counts_wrong, has_short_child, is_short, is_unordered};
+pub use view::{ArrayView, array_or, no_array};

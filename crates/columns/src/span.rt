@@ -9,8 +9,8 @@ pub struct Span {
     pub len: usize,
 }
 
-// The bytes of a buffer. What would stand past the end is not there.
-pub(crate) fn bytes_at(bytes: &[u8], span: Span) -> &[u8]
+/// The bytes of a buffer. What would stand past the end is not there.
+pub fn bytes_at(bytes: &[u8], span: Span) -> &[u8]
     ensures { result.now ≡ within bytes.now span }
 {
     let rest = &bytes[span.start.min(bytes.len())..];

@@ -1,12 +1,13 @@
 // Arrays in the bytes that they stand in.
-ghost use Rattle.std.specs.Prelude.{◌≡◌, ◌<◌, false, take};
-ghost use Rattle.columns.specs.Array.{slots_in, validity_in, bits_in, values_in, offsets_in, contents_in, items_in, children_in, indices_in, dictionary_in};
+ghost use Rattle.std.specs.Prelude.{◌≡◌, ◌<◌, ℕ, List, false, take, drop};
+ghost use Rattle.columns.specs.Array.{slots_in, validity_in, bits_in, values_in, offsets_in, contents_in, items_in, children_in, indices_in, dictionary_in, first_array};
 ghost use Rattle.columns.specs.CellAt.{is_valid};
 ghost use Rattle.columns.specs.Tests.{has_short_validity};
-ghost use Rattle.columns.specs.View.{view_array, option_array, array_in, arrays_in, arrays_numbered, placed_arrays, placed_dictionary};
+ghost use Rattle.columns.specs.declared.array.Dictionary.{Dictionary};
+ghost use Rattle.columns.specs.View.{view_array, option_array, IsNoArray, array_in, arrays_in, arrays_numbered, placed_arrays, placed_dictionary};
 
 use crate::array::{Dictionary, DictionaryPart, PlacedArray, PlacedLayout};
-use crate::span::bytes_at;
+use crate::span::{Span, bytes_at};
 
 /// An array with the bytes that it stands in, and the dictionaries.
 #[derive(Clone, Copy, Debug)]
@@ -14,6 +15,29 @@ pub struct ArrayView<'a> {
     pub array: &'a PlacedArray,
     pub bytes: &'a [u8],
     pub dictionaries: &'a [Dictionary],
+}
+
+/// An array without slots: it stands for what a layout does not have.
+pub fn no_array() -> PlacedArray
+    ensures { IsNoArray result }
+{
+    PlacedArray {
+        slots: 0,
+        validity: Span { start: 0, len: 0 },
+        layout: PlacedLayout::Null,
+    }
+}
+
+/// The array at a place, or else one without slots.
+pub fn array_or<'a>(arrays: &'a [PlacedArray], i: usize, none: &'a PlacedArray) -> &'a PlacedArray
+    requires { IsNoArray none.now }
+    ensures { (bytes : List ℕ) (all : List Dictionary)
+        → array_in bytes (arrays_in bytes all) result.now ≡ first_array (placed_arrays bytes all (drop i arrays.now)) }
+{
+    match arrays.get(i) {
+        Some(array) => array,
+        None => none,
+    }
 }
 
 fn first_arrays(arrays: &[PlacedArray], count: usize) -> &[PlacedArray]
@@ -38,22 +62,22 @@ fn known_arrays<'a>(dictionaries: &'a [Dictionary], part: &DictionaryPart) -> &'
 }
 
 impl<'a> ArrayView<'a> {
-    // How many slots it has.
-    pub(crate) fn slots(self) -> usize
+    /// How many slots it has.
+    pub fn slots(self) -> usize
         ensures { result ≡ slots_in (view_array self.entry) }
     {
         self.array.slots
     }
 
-    // Its validity bitmap: empty where each slot is valid.
-    pub(crate) fn validity(self) -> &'a [u8]
+    /// Its validity bitmap: empty where each slot is valid.
+    pub fn validity(self) -> &'a [u8]
         ensures { result.now ≡ validity_in (view_array self.entry) }
     {
         bytes_at(self.bytes, self.array.validity)
     }
 
-    // Whether a slot is valid.
-    pub(crate) fn is_valid(self, i: usize) -> bool
+    /// Whether a slot is valid.
+    pub fn is_valid(self, i: usize) -> bool
         requires long { has_short_validity (view_array self) ≡ false }
         requires within { i < slots_in (view_array self) }
         ensures { result ≡ is_valid (view_array self.entry) i }
@@ -62,8 +86,8 @@ impl<'a> ArrayView<'a> {
         validity.is_empty() || bitmap::get(validity, i)
     }
 
-    // The bits of booleans.
-    pub(crate) fn bits(self) -> &'a [u8]
+    /// The bits of booleans.
+    pub fn bits(self) -> &'a [u8]
         ensures { result.now ≡ bits_in (view_array self.entry) }
     {
         match &self.array.layout {
@@ -72,8 +96,8 @@ impl<'a> ArrayView<'a> {
         }
     }
 
-    // Values of one width.
-    pub(crate) fn values(self) -> &'a [u8]
+    /// Values of one width.
+    pub fn values(self) -> &'a [u8]
         ensures { result.now ≡ values_in (view_array self.entry) }
     {
         match &self.array.layout {
@@ -82,8 +106,8 @@ impl<'a> ArrayView<'a> {
         }
     }
 
-    // The offsets of binaries, texts or lists.
-    pub(crate) fn offsets(self) -> &'a [u8]
+    /// The offsets of binaries, texts or lists.
+    pub fn offsets(self) -> &'a [u8]
         ensures { result.now ≡ offsets_in (view_array self.entry) }
     {
         match &self.array.layout {
@@ -93,8 +117,8 @@ impl<'a> ArrayView<'a> {
         }
     }
 
-    // The bytes of all binaries or texts.
-    pub(crate) fn contents(self) -> &'a [u8]
+    /// The bytes of all binaries or texts.
+    pub fn contents(self) -> &'a [u8]
         ensures { result.now ≡ contents_in (view_array self.entry) }
     {
         match &self.array.layout {
@@ -103,8 +127,8 @@ impl<'a> ArrayView<'a> {
         }
     }
 
-    // The indices of a dictionary column.
-    pub(crate) fn indices(self) -> &'a [u8]
+    /// The indices of a dictionary column.
+    pub fn indices(self) -> &'a [u8]
         ensures { result.now ≡ indices_in (view_array self.entry) }
     {
         match &self.array.layout {
@@ -134,8 +158,19 @@ impl<'a> ArrayView<'a> {
         }
     }
 
-    // How many items there are.
-    pub(crate) fn item_slots(self) -> usize
+    /// The items of lists or fixed lists, or else an array without slots.
+    pub fn items_or(self, none: &'a PlacedArray) -> ArrayView<'a>
+        requires { IsNoArray none.now }
+        ensures { view_array result ≡ items_in (view_array self.entry) }
+    {
+        match self.items() {
+            Some(items) => items,
+            None => self.with(none),
+        }
+    }
+
+    /// How many items there are.
+    pub fn item_slots(self) -> usize
         ensures { result ≡ slots_in (items_in (view_array self.entry)) }
     {
         match self.items() {
@@ -144,8 +179,8 @@ impl<'a> ArrayView<'a> {
         }
     }
 
-    // The arrays of the fields of structs.
-    pub(crate) fn children(self) -> &'a [PlacedArray]
+    /// The arrays of the fields of structs.
+    pub fn children(self) -> &'a [PlacedArray]
         ensures { placed_arrays self.entry.bytes.now self.entry.dictionaries.now result.now ≡ children_in (view_array self.entry) }
     {
         match &self.array.layout {
@@ -154,8 +189,8 @@ impl<'a> ArrayView<'a> {
         }
     }
 
-    // The arrays of its dictionary that were there when it was read.
-    pub(crate) fn dictionary(self) -> &'a [PlacedArray]
+    /// The arrays of its dictionary that were there when it was read.
+    pub fn dictionary(self) -> &'a [PlacedArray]
         ensures { placed_dictionary self.entry.bytes.now result.now ≡ dictionary_in (view_array self.entry) }
     {
         match &self.array.layout {

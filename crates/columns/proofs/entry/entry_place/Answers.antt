@@ -2,7 +2,8 @@ use Rattle.std.proofs.Common.{◌≡◌, ◌<◌, ◌≤◌, ℕ, length, arith,
 use Rattle.columns.specs.Array.{slots_in}
 use Rattle.columns.specs.Sound.{is_kind_sound}
 use Rattle.columns.specs.View.{array_in, no_dictionary}
-use Rattle.columns.proofs.Entries.{slots_is, found_here, found_later, found_nowhere, sound_here}
+use Rattle.columns.proofs.Entries.{found_here, found_later, found_nowhere, sound_here}
+use Rattle.columns.specs.laws.Places.{slots_is}
 use Rattle.columns.proofs.entry.entry_place.Goals as goal
 
 pub returns-then-rest-slots-clause-cell : goal.returns-then-rest-slots-clause-cell

@@ -5,7 +5,7 @@ use Rattle.arrow_schema.specs.View.{kind_of}
 use Rattle.columns.specs.Array.{Array, Arrays, array_list}
 use Rattle.columns.specs.Sound.{is_kind_sound}
 use Rattle.columns.specs.View.{array_in, no_dictionary}
-use Rattle.columns.proofs.Entries.{listed}
+use Rattle.columns.specs.laws.Places.{listed}
 use Rattle.columns.proofs.read.entry_value.Goals as goal
 
 pub located_value-requires-clause-sound : goal.located_value-requires-clause-sound
