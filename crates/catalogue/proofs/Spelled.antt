@@ -62,12 +62,12 @@ then_takes : (a x b y c : List ℕ) → Takes a x b → Takes b y c → Takes a 
 then_takes a x b y c p q = record { parts = p.parts ∙ ap (λ t. x ++ t) q.parts ∙ sym (append_assoc x y c); small = q.small }
 
 -- the value of a step that was made
-bound : {A B : Type 0} (o : Option A) (f : A → Option B) (y : B) → (o >>= f) ≡ Some y → (x : A) × (o ≡ Some x) × (f x ≡ Some y)
+pub bound : {A B : Type 0} (o : Option A) (f : A → Option B) (y : B) → (o >>= f) ≡ Some y → (x : A) × (o ≡ Some x) × (f x ≡ Some y)
 bound (Some x) f y e = (x, refl, e)
 bound None f y e = absurd cc
 
 -- a test that was passed
-tested : {A : Type 0} (b : Bool) (x y : A) → cond b (Some x) None ≡ Some y → (b ≡ true) × (x ≡ y)
+pub tested : {A : Type 0} (b : Bool) (x y : A) → cond b (Some x) None ≡ Some y → (b ≡ true) × (x ≡ y)
 tested true x y e = (refl, cc)
 tested false x y e = absurd cc
 
@@ -154,7 +154,7 @@ segment_takes bytes r small e =
 entry_is : (x y : PlainEntry × List ℕ) → Some x ≡ Some y → x ≡ y
 entry_is x y h = cc
 
-schema_takes : (bytes : List ℕ) (s : PlainSchema) → schema_in bytes ≡ Some s → bytes ≡ schema_message s
+pub schema_takes : (bytes : List ℕ) (s : PlainSchema) → schema_in bytes ≡ Some s → bytes ≡ schema_message s
 unfolding schema_in
 schema_takes bytes s e =
     let a = bound (raw_schema_in bytes) (λ raw. unfaulted (checked_schema supported_codes raw) >>= λ schema. cond (bytes_eq (schema_message schema) bytes) (Some schema) None) s e in
@@ -175,6 +175,10 @@ table_takes name bytes r small e =
     subst (λ (x : PlainEntry × List ℕ). Takes bytes (sized (schema_message x.0.schema) ++ counted segment_text x.0.segments) x.1 × (x.0.name ≡ name)) (entry_is made r c.2)
     (then_takes bytes (sized (schema_message b.0)) a.0.1 (counted segment_text c.0.0) c.0.1 message q, refl)
 
+pub named_table : (b : Bool) (o : Option (PlainEntry × List ℕ)) (x : PlainEntry × List ℕ) → cond b o None ≡ Some x → o ≡ Some x
+named_table true o x h = h
+named_table false o x h = absurd cc
+
 entry_takes : TakesOne entry_at entry_text
 unfolding entry_at
 entry_takes bytes r small e =
@@ -184,10 +188,6 @@ entry_takes bytes r small e =
     let q = table_takes a.0.0 a.0.1 r p.0.small t in
     let front : Takes bytes (sized r.0.name) a.0.1 = subst (λ n. Takes bytes (sized n) a.0.1) (sym q.1) p.0 in
     then_takes bytes (sized r.0.name) a.0.1 (table_text r.0) r.1 front q.0
-  where
-    named_table : (b : Bool) (o : Option (PlainEntry × List ℕ)) (x : PlainEntry × List ℕ) → cond b o None ≡ Some x → o ≡ Some x
-    named_table true o x h = h
-    named_table false o x h = absurd cc
 
 -- ---- the catalogue
 
