@@ -29,14 +29,14 @@ no_fault : {A : Type 0} (o : Option Fault) (x y : A) → unless o (Ok x) ≡ Ok 
 no_fault None x y h = refl
 no_fault (Some f) x y h = absurd cc
 
-unfaulted_is : {A : Type 0} (r : Result A Fault) (x : A) → unfaulted r ≡ Some x → r ≡ Ok x
-unfaulted_is (Ok y) x h = ap ok (some_is y x h)
-  where
-    ok : A → Result A Fault
-    ok z = Ok z
+some_is : {A : Type 0} (x y : A) → Some x ≡ Some y → x ≡ y
+some_is x y h = cc
 
-    some_is : (y x : A) → Some y ≡ Some x → y ≡ x
-    some_is y x h = cc
+abbrev passed : {A : Type 0} → A → Result A Fault
+passed x = Ok x
+
+unfaulted_is : {A : Type 0} (r : Result A Fault) (x : A) → unfaulted r ≡ Some x → r ≡ passed x
+unfaulted_is (Ok y) x h = ap passed (some_is y x h)
 unfaulted_is (Err f) x h = absurd cc
 
 checked_read : (raw : RawSchema) (s : PlainSchema) → raw ≡ raw_schema s → checked_schema supported_codes raw ≡ Ok s → is_read s ≡ true
@@ -47,9 +47,6 @@ checked_read raw s is h =
     let a = accepted supported_codes (raw_schema s) own in
     ap not a.read
 
-raw_is : (a b : RawSchema) → Some a ≡ Some b → a ≡ b
-raw_is a b h = cc
-
 schema_read : AllFound → (bytes : List ℕ) (s : PlainSchema) → schema_in bytes ≡ Some s → is_read s ≡ true
 unfolding schema_in
 schema_read found bytes s e =
@@ -58,7 +55,7 @@ schema_read found bytes s e =
     let t = tested (bytes_eq (schema_message b.0) bytes) b.0 s b.2 in
     let checked : checked_schema supported_codes a.0 ≡ Ok s = unfaulted_is (checked_schema supported_codes a.0) s (b.1 ∙ ap some t.1) in
     let spelled = schema_takes bytes s e in
-    let is = raw_is a.0 (raw_schema s) (sym a.1 ∙ ap raw_schema_in spelled ∙ found.raw s (found.within a.0 s checked)) in
+    let is = some_is a.0 (raw_schema s) (sym a.1 ∙ ap raw_schema_in spelled ∙ found.raw s (found.within a.0 s checked)) in
     checked_read a.0 s is checked
   where
     some : PlainSchema → Option PlainSchema
@@ -70,16 +67,10 @@ many_pass : {A : Type 0} (one_at : List ℕ → Option (A × List ℕ)) (p : A �
     → list_all p r.0 ≡ true
 unfolding many_at
 many_pass {A = A} one_at p one zero bytes r e = subst (λ (x : List A × List ℕ). list_all p x.0 ≡ true) (some_is ([], bytes) r e) refl
-  where
-    some_is : (x y : List A × List ℕ) → Some x ≡ Some y → x ≡ y
-    some_is x y h = cc
 many_pass {A = A} one_at p one (suc count) bytes r e =
     let a = bound (one_at bytes) (λ first. many_at one_at count first.1 >>= λ others. Some (first.0 ∷ others.0, others.1)) r e in
     let b = bound (many_at one_at count a.0.1) (λ others. Some (a.0.0 ∷ others.0, others.1)) r a.2 in
     subst (λ (x : List A × List ℕ). list_all p x.0 ≡ true) (some_is (a.0.0 ∷ b.0.0, b.0.1) r b.2) (and_from (p a.0.0) (list_all p b.0.0) (one bytes a.0 a.1) (many_pass one_at p one count a.0.1 b.0 b.1))
-  where
-    some_is : (x y : List A × List ℕ) → Some x ≡ Some y → x ≡ y
-    some_is x y h = cc
 
 table_read : AllFound → (name bytes : List ℕ) (r : PlainEntry × List ℕ) → table_at name bytes ≡ Some r → is_read r.0.schema ≡ true
 unfolding table_at
@@ -87,10 +78,7 @@ table_read found name bytes r e =
     let a = bound (sized_at bytes) (λ text. schema_in text.0 >>= λ schema. counted_at segment_at text.1 >>= λ segments. Some (record { name = name; schema = schema; segments = segments.0 }, segments.1)) r e in
     let b = bound (schema_in a.0.0) (λ schema. counted_at segment_at a.0.1 >>= λ segments. Some (record { name = name; schema = schema; segments = segments.0 }, segments.1)) r a.2 in
     let c = bound (counted_at segment_at a.0.1) (λ segments. Some (record { name = name; schema = b.0; segments = segments.0 }, segments.1)) r b.2 in
-    subst (λ (x : PlainEntry × List ℕ). is_read x.0.schema ≡ true) (entry_is (record { name = name; schema = b.0; segments = c.0.0 }, c.0.1) r c.2) (schema_read found a.0.0 b.0 b.1)
-  where
-    entry_is : (x y : PlainEntry × List ℕ) → Some x ≡ Some y → x ≡ y
-    entry_is x y h = cc
+    subst (λ (x : PlainEntry × List ℕ). is_read x.0.schema ≡ true) (some_is (record { name = name; schema = b.0; segments = c.0.0 }, c.0.1) r c.2) (schema_read found a.0.0 b.0 b.1)
 
 entry_read : AllFound → (bytes : List ℕ) (r : PlainEntry × List ℕ) → entry_at bytes ≡ Some r → is_read r.0.schema ≡ true
 unfolding entry_at
