@@ -222,7 +222,7 @@ not_at_odds_with_itself : (f : RawField) → are_at_odds f f ≡ false
 not_at_odds_with_itself (raw_field name nullable code table dictionary children pairs) =
     not_one _ _ (and_from _ _ (and_from _ _ (equal_number code) (equal_parameters table)) (equal_fields children))
 
--- ids below a number, and from one on
+-- ids below a number
 abbrev IsBelow : ℕ → Option RawEncoding → Type 0
 IsBelow n None = Unit {0}
 IsBelow n (Some e) = e.id < n
@@ -231,29 +231,22 @@ below_more : (d : Option RawEncoding) (m n : ℕ) → m ≤ n → IsBelow m d �
 below_more None m n le h = tt
 below_more (Some e) m n le h = omega (arith, le, h)
 
-other_number : (a b : ℕ) → a < b → (a == b) ≡ false
-other_number a b lt = not_equal (a == b) refl
+unequal : (a b : ℕ) → (a ≡ b → ⊥) → (a == b) ≡ false
+unequal a b apart = decided (a == b) refl
   where
-    not_equal : (r : Bool) → r ≡ (a == b) → r ≡ false
-    not_equal false e = refl
-    not_equal true e = absurd (let same : a ≡ b = (Decides-eqb a b).0 (sym e) in omega (arith, lt, same))
+    decided : (r : Bool) → r ≡ (a == b) → r ≡ false
+    decided false e = refl
+    decided true e = absurd (apart ((Decides-eqb a b).0 (sym e)))
 
 apart : (d : Option RawEncoding) (n : ℕ) (dictionary : Option Index) → IsBelow n d → one_id d (encoding_of n dictionary) ≡ false
 apart None n dictionary h = refl
 apart (Some e) n None h = refl
-apart (Some e) n (Some index) h = other_number e.id n h
+apart (Some e) n (Some index) h = unequal e.id n (λ same. omega (arith, h, same))
 
 apart_too : (d : Option RawEncoding) (n : ℕ) (dictionary : Option Index) → IsBelow n d → one_id (encoding_of n dictionary) d ≡ false
 apart_too d n None h = refl
 apart_too None n (Some index) h = refl
-apart_too (Some e) n (Some index) h = let other : (n == e.id) ≡ false = other_way e.id n h in other
-  where
-    other_way : (a b : ℕ) → a < b → (b == a) ≡ false
-    other_way a b lt = not_equal (b == a) refl
-      where
-        not_equal : (r : Bool) → r ≡ (b == a) → r ≡ false
-        not_equal false e = refl
-        not_equal true e = absurd (let same : b ≡ a = (Decides-eqb b a).0 (sym e) in omega (arith, lt, same))
+apart_too (Some e) n (Some index) h = unequal n e.id (λ same. omega (arith, h, same))
 
 before_one : (f : RawField) (n : ℕ) (c : Column) → IsBelow n (dictionary_of f) → are_at_odds f (raw_of n c) ≡ false
 unfolding raw_of
