@@ -120,7 +120,7 @@ slots_built (fixed_lists size item) cells = refl
 slots_built (structs columns) cells = refl
 
 -- the entries read back as themselves
-entries_back : (kind : Kind) (entries : List Cell) → KindIsFound kind entries → entries_in (unless_null (kind_cell kind)) (and_array (built_kind kind entries) no_array) ≡ entries
+pub entries_back : (kind : Kind) (entries : List Cell) → KindIsFound kind entries → entries_in (unless_null (kind_cell kind)) (and_array (built_kind kind entries) no_array) ≡ entries
 entries_back kind entries found =
     let f : ℕ → Cell = unless_null (kind_cell kind) (built_kind kind entries) in
     flat_map-cons (λ (a : Array). cells_from (unless_null (kind_cell kind) a) 0 (slots_in a)) (built_kind kind entries) []
@@ -128,7 +128,7 @@ entries_back kind entries found =
     ∙ ap (cells_from f 0) (slots_built kind entries)
     ∙ run_all f entries found
 
-entry_of_cell : (c : Cell) → is_null_or_entry c ≡ true → is_there c ≡ true → entry_in c ≡ Some c
+pub entry_of_cell : (c : Cell) → is_null_or_entry c ≡ true → is_there c ≡ true → entry_in c ≡ Some c
 entry_of_cell null h there = cc
 entry_of_cell (boolean b) h there = refl
 entry_of_cell (number n) h there = refl
@@ -138,7 +138,7 @@ entry_of_cell (items cs) h there = cc
 entry_of_cell (parts cs) h there = cc
 
 -- an index within its type reads back
-index_there : (index : Index) (entries cells : List Cell) (i n : ℕ) → i < length cells → names_entries index n ≡ true → index_of entries (get_or cells i null) < n
+pub index_there : (index : Index) (entries cells : List Cell) (i n : ℕ) → i < length cells → names_entries index n ≡ true → index_of entries (get_or cells i null) < n
     → integer_at (index.bits / 8) index.signed (flat_map (index_bytes index entries) cells) i ≡ pos (index_of entries (get_or cells i null))
 index_there index entries cells i n lt names below =
     let w : ℕ = index.bits / 8 in
@@ -170,7 +170,7 @@ mutual
       ap (λ (xs : List Cell). entry_at xs (integer_at (index.bits / 8) index.signed (flat_map (index_bytes index es) cells) i)) back_again
       ∙ ap (entry_at es) (index_there index es cells i (length es) lt q.0 e.0) ∙ e.1)
 
-  kind_found : PackedReadsBack → EntriesAreFound → (kind : Kind) (cells : List Cell) → are_nulls_or_fit kind cells ≡ true → can_build_below kind cells ≡ true → KindIsFound kind cells
+  pub kind_found : PackedReadsBack → EntriesAreFound → (kind : Kind) (cells : List Cell) → are_nulls_or_fit kind cells ≡ true → can_build_below kind cells ≡ true → KindIsFound kind cells
   kind_found back entries nulls cells h can i lt = null_found cells i _ refl (all_at (null_or true (fits_kind nulls)) cells i null h lt)
   kind_found back entries booleans cells h can i lt =
       by_validity back cells (bit_layout (packed (map is_set cells))) (kind_cell booleans) i lt

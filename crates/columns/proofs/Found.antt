@@ -67,7 +67,7 @@ integer_found w signed cells i (parts cs) e lt one h = cc
 
 -- ---- texts and binaries
 
-size_is : {A : Type 0} (f : Cell → List A) (w : ℕ) (cells : List Cell) (i : ℕ) (a : Array) → i < length cells → length (flat_map f cells) < 256 ^ w
+pub size_is : {A : Type 0} (f : Cell → List A) (w : ℕ) (cells : List Cell) (i : ℕ) (a : Array) → i < length cells → length (flat_map f cells) < 256 ^ w
     → (span_start w (array (length cells) [] (binary_layout (offsets_of w (map (λ c. length (f c)) cells)) [])) i ≡ before f cells i)
     × (span_size w (array (length cells) [] (binary_layout (offsets_of w (map (λ c. length (f c)) cells)) [])) i ≡ length (f (get_or cells i null)))
 size_is f w cells i a lt small =
@@ -109,7 +109,7 @@ bytes_found w p cells i (parts cs) e lt small h = cc
 abbrev pub is_of_width : ℕ → List ℕ → Bool
 is_of_width width t = length t == width
 
-one_width : (width : ℕ) (c : Cell) → null_or true (bytes_where (is_of_width width)) c ≡ true → length (fixed_bytes width c) ≡ width
+pub one_width : (width : ℕ) (c : Cell) → null_or true (bytes_where (is_of_width width)) c ≡ true → length (fixed_bytes width c) ≡ width
 one_width width null h = length-replicate width 0
 one_width width (boolean b) h = length-replicate width 0
 one_width width (number z) h = length-replicate width 0
@@ -170,7 +170,7 @@ list_found w p cells i child g (parts cs) e lt small found h = cc
 
 -- ---- lists of one size
 
-count_list : (cs : Cells) → length (cell_list cs) ≡ count_of cs
+pub count_list : (cs : Cells) → length (cell_list cs) ≡ count_of cs
 count_list no_cell = refl
 count_list (and_cell c cs) = let rest = count_list cs in omega (arith, rest)
 
@@ -186,7 +186,7 @@ one_size size p (bytes t) h = cc
 one_size size p (items cs) h = count_list cs ∙ eqb-true _ _ (and_parts (count_of cs == size) (all_cells p cs) h).0
 one_size size p (parts cs) h = cc
 
-every_size : (size : ℕ) (p : Cell → Bool) (cells : List Cell) → list_all (null_or true (items_where (has_size size p))) cells ≡ true → HaveWidth (fixed_items size) size cells
+pub every_size : (size : ℕ) (p : Cell → Bool) (cells : List Cell) → list_all (null_or true (items_where (has_size size p))) cells ≡ true → HaveWidth (fixed_items size) size cells
 every_size size p [] h = tt
 every_size size p (c ∷ cs) h =
     let q = and_parts (null_or true (items_where (has_size size p)) c) (list_all (null_or true (items_where (has_size size p))) cs) h in

@@ -15,3 +15,4 @@ pub mod Pieces
 pub mod BuiltSound
 pub mod Children
 pub mod Unordered
+pub mod BuiltVisible

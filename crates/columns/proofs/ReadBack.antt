@@ -21,7 +21,7 @@ all_at p (x ∷ xs) (suc i) d h lt = all_at p xs i d (and_parts (p x) (list_all 
 
 -- ---- nulls
 
-absent_is_null : (c : Cell) → is_there c ≡ false → c ≡ null
+pub absent_is_null : (c : Cell) → is_there c ≡ false → c ≡ null
 absent_is_null null h = refl
 absent_is_null (boolean b) h = cc
 absent_is_null (number n) h = cc
@@ -48,7 +48,7 @@ some_bytes cells some =
     let same : length (map is_there cells) ≡ length cells = length-map cells is_there in
     ne_eqb _ _ (λ e. omega (arith, count, same))
 
-valid_is : PackedReadsBack → (cells : List Cell) (layout : Layout) (i : ℕ) → i < length cells → is_valid (with_validity cells layout) i ≡ is_there (get_or cells i null)
+pub valid_is : PackedReadsBack → (cells : List Cell) (layout : Layout) (i : ℕ) → i < length cells → is_valid (with_validity cells layout) i ≡ is_there (get_or cells i null)
 valid_is back cells layout i lt = by_all (list_all is_there cells) refl
   where
     by_all : (b : Bool) → list_all is_there cells ≡ b → is_valid (with_validity cells layout) i ≡ is_there (get_or cells i null)

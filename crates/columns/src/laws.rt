@@ -1,10 +1,11 @@
 // What the definitions say.
 ghost use Rattle.std.specs.Prelude.{◌≡◌, ◌≤◌, true, false, List, length};
-ghost use Rattle.std.specs.List.{AllPass, list_any};
+ghost use Rattle.std.specs.List.{AllPass, list_all, list_any};
 ghost use Rattle.arrow_schema.specs.Column.{Column, Columns, PlainSchema, columns_of};
 ghost use Rattle.arrow_schema.specs.Limits.{IsWithinLimits};
-ghost use Rattle.cells.specs.Cell.{Cell};
+ghost use Rattle.cells.specs.Cell.{Cell, cells_of};
 ghost use Rattle.cells.specs.Dictionary.{dictionaries_fit};
+ghost use Rattle.cells.specs.Fit.{each_fits};
 ghost use Rattle.cells.specs.Row.{is_row};
 ghost use Rattle.cells.specs.Weight.{table_weight};
 ghost use Rattle.columns.specs.Array.{Arrays};
@@ -15,6 +16,7 @@ ghost use Rattle.columns.specs.Buildable.{can_build, can_build_rows};
 ghost use Rattle.columns.specs.Built.{built, built_parts};
 ghost use Rattle.columns.specs.CellAt.{cells_in, rows_in};
 ghost use Rattle.columns.specs.Tests.{every_array, is_short, is_unordered, counts_wrong};
+ghost use Rattle.columns.specs.Visible.{visible_in, names_no_entry, is_no_text, is_forbidden};
 ghost use Rattle.columns.specs.laws.WorkedCases.{Integers, PaddedBuffers, RightCount, WrongCount, Texts, Booleans, FixedBinaries, LargeTexts, Dates, Timestamps, Lists, SoundLists, FixedLists, Structs, HiddenNull, VisibleNull, Dictionaries, Replaced, Appended, NullBeforeDictionary, IndexBeforeDictionary, NegativeIndex, NullEntry, WrittenLists, WrittenFixedLists, WrittenStructs, WrittenDictionaries, WrittenWithoutEntries, ReadAgain};
 
 use cells::MAX_TABLE_WEIGHT;
@@ -86,3 +88,17 @@ pub fn written_arrays_pass()
     ensures counted { (columns : Columns) (arrays : Arrays)
         → list_any (λ t. counts_wrong (null_count t.column t.array) t.column t.array) (every_array columns arrays) ≡ false }
 {}
+
+/// And of the visible slots of arrays of rows that fit none is refused: each valid index names an entry, each text is UTF-8, and no null stands where none is taken.
+pub fn written_slots_pass()
+    ensures indices { (columns : Columns) (rows : List (List Cell)) → can_build_rows columns rows ≡ true → list_all (λ row. each_fits columns (cells_of row)) rows ≡ true
+        → list_any names_no_entry (visible_in columns (built_parts columns rows) (length rows)) ≡ false }
+    ensures texts { (columns : Columns) (rows : List (List Cell)) → can_build_rows columns rows ≡ true → list_all (λ row. each_fits columns (cells_of row)) rows ≡ true
+        → list_any is_no_text (visible_in columns (built_parts columns rows) (length rows)) ≡ false }
+    ensures nulls { (columns : Columns) (rows : List (List Cell)) → can_build_rows columns rows ≡ true → list_all (λ row. each_fits columns (cells_of row)) rows ≡ true
+        → list_any is_forbidden (visible_in columns (built_parts columns rows) (length rows)) ≡ false }
+{
+    bitmap::packed_reads_back();
+    cells::entries_are_the_distinct_values();
+    cells::one_entry_is_one_value();
+}

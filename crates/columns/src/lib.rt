@@ -27,6 +27,7 @@ pub use borrowed::{ValueRef, Values, ValuesIter};
 pub use borrowing::borrow_value;
 pub use laws::{
     built_reads_back, listed_reads_back, rows_can_be_built, worked_cases, written_arrays_pass,
+    written_slots_pass,
 };
 pub use read::{row, value};
 pub use span::{Span, bytes_at};
