@@ -1,10 +1,10 @@
 // Which rows a table takes.
-ghost use Rattle.std.specs.Prelude.{◌≡◌, map, IfOk};
+ghost use Rattle.std.specs.Prelude.{◌≡◌, [], ◌∷◌, map, IfOk};
 ghost use Rattle.arrow_schema.specs.Column.{columns_of};
 ghost use Rattle.arrow_schema.specs.View.{schema_of};
 ghost use Rattle.cells.specs.View.{cell};
 ghost use Rattle.cells.specs.Row.{accepted_weight};
-ghost use Rattle.cells.specs.Dictionary.{is_any_limited};
+ghost use Rattle.cells.specs.Dictionary.{is_any_limited, dictionaries_fit};
 
 use crate::fit::each_fits;
 use crate::holding::row_entries_fit;
@@ -13,6 +13,24 @@ use crate::value::Value;
 use crate::weigh::row_weight;
 use arrow_schema::Schema;
 use std::alloc::{AllocError, Global};
+
+/// Whether a row leaves each dictionary within its index type. `limited` is what [`crate::has_limits`] tells of the schema: it
+/// is asked once for many rows.
+#[tactic(auto, using(crate::proofs::HoldingLemmas::from_unlimited))]
+pub fn dictionaries_fit(
+    schema: &Schema,
+    row: &[Value],
+    limited: bool,
+    alloc: Global,
+) -> Result<bool, AllocError>
+    requires { limited ≡ is_any_limited (columns_of (schema_of schema.now).columns) }
+    ensures { IfOk result (λ b. b ≡ dictionaries_fit (schema_of schema.now) (map cell row.now ∷ [])) }
+{
+    if !limited {
+        return Ok(true);
+    }
+    row_entries_fit(&schema.fields, row, alloc)
+}
 
 /// The weight of a row, where a table takes it. `limited` is what [`crate::has_limits`] tells of the schema: it is asked once for many rows.
 #[tactic(auto, using(crate::proofs::HoldingLemmas::from_unlimited), unfolding(crate::specs::Row::is_row))]
@@ -32,7 +50,7 @@ pub fn accepted_weight(
     if weight > MAX_ROW_WEIGHT {
         return Ok(None);
     }
-    if limited && !row_entries_fit(&schema.fields, row, alloc)? {
+    if !dictionaries_fit(schema, row, limited, alloc)? {
         return Ok(None);
     }
     Ok(Some(weight))

@@ -22,7 +22,7 @@ mod row;
 mod value;
 mod weigh;
 
-pub use accept::accepted_weight;
+pub use accept::{accepted_weight, dictionaries_fit};
 pub use entry::{Entry, entry_of, note};
 pub use fit::fits;
 pub use holding::entry_limit;
