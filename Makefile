@@ -42,12 +42,17 @@ gate-cost:
 memory: $(TESTS)
 	tests/refused_memory_in_crates $(REFUSING)
 
-# The program as it is built, on whole streams, with failing input and output, and with each allocation refused.
-vectors: bin/arrowstore
+# The program as it is built, on whole streams, with failing input and output, and with each allocation refused; then texts.
+vectors: bin/arrowstore crates/test_texts/out/test_texts
 	tests/program bin/arrowstore
 	tests/metadata bin/arrowstore
 	tests/refused_memory bin/arrowstore
 	tests/run_vectors bin/arrowstore tests/vectors/ints
+	tests/texts crates/test_texts/out/test_texts tests/vectors/texts.jsonl tests/vectors/texts_worked.jsonl
+
+crates/test_texts/out/test_texts: $(SOURCES)
+	cd crates/test_texts && rt run < /dev/null > /dev/null
+	@touch $@
 
 bench: bench-recode bench-device bench-bitmap
 

@@ -1,0 +1,4 @@
+pub mod NumberLemmas
+pub mod RecordLemmas
+pub mod RowLemmas
+pub mod ObjectLemmas

@@ -1,0 +1,142 @@
+-- Numbers that are capped are refused as those that they stand for.
+use Rattle.std.proofs.Common.{◌≡◌, ℕ, ◌+◌, ◌-◌, ◌*◌, ◌≤◌, ◌<◌, ◌^◌, Bool, true, false, List, [], ◌∷◌, length, min, refl, sym, ap, ◌∙◌, arith, inl, inr}
+use Rattle.std.specs.Prelude.{pos, neg_ℤ, Option, Some, None, option_map, if◌then◌else◌, ◌==◌}
+use Rattle.std.specs.Prelude.{int_lt, int_le, get_or, drop}
+use Rattle.std.proofs.lemmas.Bool.{cases_lt, false≢true, leb-true}
+use Rattle.std.proofs.lemmas.Int.{ints}
+use Rattle.std.proofs.lemmas.List.{drop_more}
+use Rattle.std.proofs.Math.Bool.{and-false}
+use Rattle.std.proofs.Math.Nat.{pow-le-pow_right}
+use Rattle.arrow_schema.specs.Column.{Kind, Column, column, integers, dates, timestamps, days, date_milliseconds}
+use Rattle.cells.specs.Cell.{Cell, null, number}
+use Rattle.cells.specs.Fit.{fits, fits_kind, in_range}
+use Rattle.text_import.specs.Flat.{is_digit, digits_behind, digits, integer_of, kind_of_column, number_cell}
+use Rattle.text_import.specs.inner.Capped.{capped, too_large, capped_integer, holds_numbers, is_value}
+
+capped_again : (n : ℕ) → capped n ≡ capped (capped n)
+capped_again n = omega arith
+
+capped_step : (n d : ℕ) → capped (n * 10 + d) ≡ capped (capped n * 10 + d)
+capped_step n d =
+    elim (cases_lt n too_large) [
+      | inl lt ↦ (let e : capped n ≡ n = omega arith in rw e refl)
+      | inr ge ↦ (let e : capped n ≡ too_large = omega arith in rw e (omega arith))
+    ]
+
+-- capping each step caps the whole
+pub capped_digits : (n : ℕ) (bs : List ℕ) → option_map capped (digits_behind n bs) ≡ option_map capped (digits_behind (capped n) bs)
+unfolding digits_behind
+capped_digits n [] = ap Some (capped_again n)
+capped_digits n (b ∷ bs) =
+    by (is_digit b)
+    (capped_digits (n * 10 + (b - 48)) bs
+    ∙ ap (λ k. option_map capped (digits_behind k bs)) (capped_step n (b - 48))
+    ∙ sym (capped_digits (capped n * 10 + (b - 48)) bs))
+  where
+    by : (d : Bool) → option_map capped (digits_behind (n * 10 + (b - 48)) bs) ≡ option_map capped (digits_behind (capped n * 10 + (b - 48)) bs)
+        → option_map capped (if d then digits_behind (n * 10 + (b - 48)) bs else None) ≡ option_map capped (if d then digits_behind (capped n * 10 + (b - 48)) bs else None)
+    by false e = refl
+    by true e = e
+
+-- the digits from a place on, where a number was kept for those before it
+pub digit_more : (n b : ℕ) (bs : List ℕ) → is_digit b ≡ true → option_map capped (digits_behind n (b ∷ bs)) ≡ option_map capped (digits_behind (min (n * 10 + (b - 48)) too_large) bs)
+unfolding digits_behind
+digit_more n b bs is = rw is (capped_digits (n * 10 + (b - 48)) bs)
+
+pub digit_none : (n b : ℕ) (bs : List ℕ) → is_digit b ≡ false → option_map capped (digits_behind n (b ∷ bs)) ≡ None
+unfolding digits_behind
+digit_none n b bs is = rw is refl
+
+pub digits_end : (n : ℕ) → n ≤ too_large → option_map capped (digits_behind n []) ≡ Some n
+unfolding digits_behind
+digits_end n le = ap Some (omega arith)
+
+pub digits_of_some : (bs : List ℕ) → (length bs == 0) ≡ false → digits bs ≡ digits_behind 0 bs
+digits_of_some [] e = absurd (false≢true (sym e))
+digits_of_some (b ∷ bs) e = refl
+
+-- the digits from a place on
+pub digit_none_at : (t : List ℕ) (n i : ℕ) → i < length t → is_digit (get_or t i 0) ≡ false → option_map capped (digits_behind n (drop i t)) ≡ None
+digit_none_at t n i lt is = rw (drop_more t i 0 lt) (digit_none n (get_or t i 0) (drop (i + 1) t) is)
+
+pub digit_more_at : (t : List ℕ) (n i : ℕ) → i < length t → is_digit (get_or t i 0) ≡ true
+    → option_map capped (digits_behind n (drop i t)) ≡ option_map capped (digits_behind (min (n * 10 + (get_or t i 0 - 48)) too_large) (drop (i + 1) t))
+digit_more_at t n i lt is = rw (drop_more t i 0 lt) (digit_more n (get_or t i 0) (drop (i + 1) t) is)
+
+-- a number that is too large is in no range
+above : (bits n : ℕ) (signed : Bool) → bits ≤ 64 → too_large ≤ n → in_range bits signed (pos n) ≡ false
+above bits n false l h =
+    let p : 2 ^ bits ≤ 2 ^ 64 = pow-le-pow_right (omega arith) l in
+    let e : int_lt (pos n) (pos (2 ^ bits)) ≡ false = grind (arith, ints) in
+    rw e (and-false _)
+above bits n true l h =
+    let q : bits - 1 ≤ 64 = omega arith in
+    let p : 2 ^ (bits - 1) ≤ 2 ^ 64 = pow-le-pow_right (omega arith) q in
+    let e : int_lt (pos n) (pos (2 ^ (bits - 1))) ≡ false = grind (arith, ints) in
+    rw e (and-false _)
+
+below : (bits n : ℕ) (signed : Bool) → bits ≤ 64 → too_large ≤ n → in_range bits signed (neg_ℤ (pos n)) ≡ false
+below bits n false l h =
+    let e : int_le (pos 0) (neg_ℤ (pos n)) ≡ false = grind (arith, ints) in
+    rw e refl
+below bits n true l h =
+    let q : bits - 1 ≤ 63 = omega arith in
+    let p : 2 ^ (bits - 1) ≤ 2 ^ 63 = pow-le-pow_right (omega arith) q in
+    let e : int_le (neg_ℤ (pos (2 ^ (bits - 1)))) (neg_ℤ (pos n)) ≡ false = grind (arith, ints) in
+    rw e refl
+
+fits_above : (k : Kind) (n : ℕ) → holds_numbers k ≡ true → too_large ≤ n → fits_kind k (number (pos n)) ≡ false
+unfolding fits_kind
+fits_above (integers bits signed) n h l = above bits n signed (leb-true bits 64 h) l
+fits_above (dates days) n h l = above 32 n true (omega arith) l
+fits_above (dates date_milliseconds) n h l = above 64 n true (omega arith) l
+fits_above (timestamps unit timezone) n h l = above 64 n true (omega arith) l
+fits_above _ n h l = absurd (false≢true h)
+
+fits_below : (k : Kind) (n : ℕ) → holds_numbers k ≡ true → too_large ≤ n → fits_kind k (number (neg_ℤ (pos n))) ≡ false
+unfolding fits_kind
+fits_below (integers bits signed) n h l = below bits n signed (leb-true bits 64 h) l
+fits_below (dates days) n h l = below 32 n true (omega arith) l
+fits_below (dates date_milliseconds) n h l = below 64 n true (omega arith) l
+fits_below (timestamps unit timezone) n h l = below 64 n true (omega arith) l
+fits_below _ n h l = absurd (false≢true h)
+
+capped_pos : (k : Kind) (n : ℕ) → holds_numbers k ≡ true → number_cell k (Some (pos (capped n))) ≡ number_cell k (Some (pos n))
+capped_pos k n h =
+    elim (cases_lt n too_large) [
+      | inl lt ↦ (let e : capped n ≡ n = omega arith in rw e refl)
+      | inr ge ↦ (let a = fits_above k n h ge in let b = fits_above k (capped n) h (omega arith) in rw (a, b) refl)
+    ]
+
+capped_neg : (k : Kind) (n : ℕ) → holds_numbers k ≡ true → number_cell k (Some (neg_ℤ (pos (capped n)))) ≡ number_cell k (Some (neg_ℤ (pos n)))
+capped_neg k n h =
+    elim (cases_lt n too_large) [
+      | inl lt ↦ (let e : capped n ≡ n = omega arith in rw e refl)
+      | inr ge ↦ (let a = fits_below k n h ge in let b = fits_below k (capped n) h (omega arith) in rw (a, b) refl)
+    ]
+
+capped_digits_pos : (k : Kind) (o : Option ℕ) → holds_numbers k ≡ true → number_cell k (option_map pos (option_map capped o)) ≡ number_cell k (option_map pos o)
+capped_digits_pos k None h = refl
+capped_digits_pos k (Some n) h = capped_pos k n h
+
+capped_digits_neg : (k : Kind) (o : Option ℕ) → holds_numbers k ≡ true
+    → number_cell k (option_map (λ n. neg_ℤ (pos n)) (option_map capped o)) ≡ number_cell k (option_map (λ n. neg_ℤ (pos n)) o)
+capped_digits_neg k None h = refl
+capped_digits_neg k (Some n) h = capped_neg k n h
+
+-- an integer that is capped is refused as the one that it stands for, and else is that one
+pub number_capped : (k : Kind) (t : List ℕ) → holds_numbers k ≡ true → number_cell k (capped_integer t) ≡ number_cell k (integer_of t)
+number_capped k [] h = refl
+number_capped k (b ∷ bs) h = by (b == 45)
+  where
+    by : (m : Bool)
+        → number_cell k (if m then option_map (λ n. neg_ℤ (pos n)) (option_map capped (digits bs)) else option_map pos (option_map capped (digits (b ∷ bs))))
+        ≡ number_cell k (if m then option_map (λ n. neg_ℤ (pos n)) (digits bs) else option_map pos (digits (b ∷ bs)))
+    by true = capped_digits_neg k (digits bs) h
+    by false = capped_digits_pos k (digits (b ∷ bs)) h
+
+-- a value fits a field where it fits the type
+pub fits_value : (f : Column) (x : Cell) → is_value x ≡ true → fits f x ≡ fits_kind (kind_of_column f) x
+unfolding fits
+fits_value (column name nullable kind dictionary pairs) null e = absurd (false≢true e)
+fits_value (column name nullable kind dictionary pairs) x e = refl

@@ -1,0 +1,17 @@
+use Rattle.std.proofs.Common.{◌≡◌, ◌+◌, map, drop}
+use Rattle.std.specs.Vec.{vec_len}
+use Rattle.std.specs.Prelude.{not}
+use Rattle.std.specs.List.{filter}
+use Rattle.arrow_schema.specs.View.{schema_of}
+use Rattle.cells.specs.Row.{row_of}
+use Rattle.text_import.specs.Rows.{rows_from}
+use Rattle.text_import.specs.Objects.{is_blank, line_row, jsonl_rows_of}
+use Rattle.text_import.specs.inner.Names.{text_list}
+use Rattle.text_import.proofs.RowLemmas.{behind}
+use Rattle.text_import.proofs.jsonl.jsonl_rows.Given as goal
+
+abbrev pub invariant-loop-line : goal.invariant-loop-line
+invariant-loop-line l =
+    behind (map row_of l.rows.items)
+    (rows_from (line_row (schema_of l.schema)) (vec_len l.rows + 1) (filter (λ line. not (is_blank line)) (text_list (drop l.line-index l.line-items))))
+    ≡ jsonl_rows_of (schema_of l.schema) l.text

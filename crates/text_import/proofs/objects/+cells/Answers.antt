@@ -1,0 +1,74 @@
+use Rattle.std.proofs.Common.{◌≡◌, ◌∙◌, ◌+◌, sym, [], ◌∷◌, map, drop, arith}
+use Rattle.std.proofs.lemmas.List.{drop_all, map-append}
+use Rattle.facts.specs.laws.Lists.{drop-item}
+use Rattle.serde_json.specs.View.{items_view, members_view}
+use Rattle.arrow_schema.specs.Column.{columns_of}
+use Rattle.arrow_schema.specs.View.{column_of}
+use Rattle.cells.specs.View.{cell}
+use Rattle.text_import.specs.Objects.{cell_in, each_item}
+use Rattle.text_import.proofs.ObjectLemmas.{sized_no, sized_yes, item_more, place_more, places_end, name_more, names_end}
+use Rattle.text_import.proofs.RowLemmas.{cells_behind_end}
+use Rattle.text_import.proofs.objects.+cells.Goals as goal
+
+pub each_item-loop-value-preserved : goal.each_item-loop-value-preserved
+each_item-loop-value-preserved t c =
+    let i = c.loop-value.value-index in
+    let item = drop-item c.args.values.now i c.value-item.result c.loop-value-test.true c.value-item.is in
+    let kept = rw item at c.loop-value.invariant in
+    let more =
+    item_more (cell_in (column_of c.args.item.now)) (map cell c.loop-value.cells.items) c.value-item.result (drop (i + 1) c.args.values.now) (cell c.in_ok-cell_in.field-0) c.in_ok-cell_in.ensures in
+    rw (c.in_ok-push.ensures.items, map-append cell c.loop-value.cells.items (c.in_ok-cell_in.field-0 ∷ [])) (sym more ∙ kept)
+
+pub each_item-returns : goal.each_item-returns
+each_item-returns t c =
+    let none : drop c.loop-value.value-index c.args.values.now ≡ [] = drop_all c.loop-value.value-index c.args.values.now (omega arith) in
+    sym (rw none at c.loop-value.invariant) ∙ cells_behind_end (map cell c.loop-value.cells.items)
+
+pub cells_by_place-loop-i-preserved : goal.cells_by_place-loop-i-preserved
+cells_by_place-loop-i-preserved t c =
+    let i = c.loop-i.i in
+    let f = c.index-fields-i.result in
+    let item = drop-item c.args.fields.now i f c.loop-i-test.true c.index-fields-i.is in
+    let value = drop-item c.args.values.now i c.index-values-i.result (omega arith) c.index-values-i.is in
+    let kept = rw (item, value) at c.loop-i.invariant in
+    let more =
+    place_more
+    (map cell c.loop-i.cells.items)
+    (column_of f)
+    (columns_of (map column_of (drop (i + 1) c.args.fields.now)))
+    c.index-values-i.result
+    (drop (i + 1) c.args.values.now)
+    (cell c.in_ok-cell_in.field-0)
+    c.in_ok-cell_in.ensures in
+    rw (c.in_ok-push.ensures.items, map-append cell c.loop-i.cells.items (c.in_ok-cell_in.field-0 ∷ [])) (sym more ∙ kept)
+
+pub cells_by_place-returns : goal.cells_by_place-returns
+cells_by_place-returns t c =
+    let none : drop c.loop-i.i c.args.fields.now ≡ [] = drop_all c.loop-i.i c.args.fields.now (omega arith) in
+    sym (rw none at c.loop-i.invariant) ∙ places_end (map cell c.loop-i.cells.items) (items_view (drop c.loop-i.i c.args.values.now))
+
+pub cells_by_name-loop-field-preserved : goal.cells_by_name-loop-field-preserved
+cells_by_name-loop-field-preserved t c =
+    let i = c.loop-field.field-index in
+    let item = drop-item c.args.fields.now i c.field-item.result c.loop-field-test.true c.field-item.is in
+    let kept = rw item at c.loop-field.invariant in
+    let more =
+    name_more
+    (map cell c.loop-field.cells.items)
+    (column_of c.field-item.result)
+    (columns_of (map column_of (drop (i + 1) c.args.fields.now)))
+    (members_view c.args.members.now.entries)
+    (cell c.in_ok-member_in.field-0)
+    c.in_ok-member_in.ensures in
+    rw (c.in_ok-push.ensures.items, map-append cell c.loop-field.cells.items (c.in_ok-member_in.field-0 ∷ [])) (sym more ∙ kept)
+
+pub cells_by_name-returns : goal.cells_by_name-returns
+cells_by_name-returns t c =
+    let none : drop c.loop-field.field-index c.args.fields.now ≡ [] = drop_all c.loop-field.field-index c.args.fields.now (omega arith) in
+    sym (rw none at c.loop-field.invariant) ∙ names_end (map cell c.loop-field.cells.items) (members_view c.args.members.now.entries)
+
+pub sized_items-returns-then-values-size : goal.sized_items-returns-then-values-size
+sized_items-returns-then-values-size t c = sized_no c.args.size (each_item (cell_in (column_of c.args.item.now))) c.args.values.now c.if-values-size.true
+
+pub sized_items-returns : goal.sized_items-returns
+sized_items-returns t c = rw (sized_yes c.args.size (each_item (cell_in (column_of c.args.item.now))) c.args.values.now c.if-values-size.false) c.each_item.ensures

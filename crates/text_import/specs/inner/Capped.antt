@@ -1,0 +1,26 @@
+-- Numbers of any size, as the code keeps them: past a size that no integer type holds they are one.
+use Rattle.std.specs.Prelude.{ℕ, ◌^◌, ◌==◌, ℤ, pos, neg_ℤ, min, Bool, true, false, nat_le, List, [], ◌∷◌, Option, None, option_map, if◌then◌else◌}
+use Rattle.arrow_schema.specs.Column.{Kind, integers, dates, timestamps}
+use Rattle.cells.specs.Cell.{Cell, null}
+use Rattle.text_import.specs.Flat.{digits}
+
+abbrev pub too_large : ℕ
+too_large = 2 ^ 64
+
+abbrev pub capped : ℕ → ℕ
+capped n = min n too_large
+
+abbrev pub capped_integer : List ℕ → Option ℤ
+capped_integer [] = None
+capped_integer (b ∷ bs) = if b == 45 then option_map (λ n. neg_ℤ (pos n)) (option_map capped (digits bs)) else option_map pos (option_map capped (digits (b ∷ bs)))
+
+-- types of integers of at most 64 bits
+abbrev pub holds_numbers : Kind → Bool
+holds_numbers (integers bits signed) = nat_le bits 64
+holds_numbers (dates unit) = true
+holds_numbers (timestamps unit timezone) = true
+holds_numbers _ = false
+
+abbrev pub is_value : Cell → Bool
+is_value null = false
+is_value _ = true

@@ -1,0 +1,171 @@
+// Numbers, and cells of the types without parts.
+ghost use Rattle.std.specs.Prelude.{◌≡◌, pos, neg_ℤ, true, false, option_map};
+ghost use Rattle.arrow_schema.specs.Column as kinds;
+ghost use Rattle.arrow_schema.specs.View.{column_of};
+ghost use Rattle.cells.specs.Cell as plain;
+ghost use Rattle.cells.specs.View.{cell};
+ghost use Rattle.text_import.specs.declared.refusal.Refusal.TheVariants.{NotUtf8};
+ghost use Rattle.text_import.specs.Refusals.{Gives, refusal_of};
+ghost use Rattle.text_import.specs.Flat.{is_digit, digits, integer_of, kind_of_column, fitting, number_cell, boolean_cell, hex_cell, cell_of_text, field_cell};
+ghost use Rattle.text_import.specs.inner.Capped.{capped, capped_integer, holds_numbers, is_value};
+
+use crate::refusal::{CellError, Refusal};
+use crate::texts::text_of;
+use arrow_schema::{DataType, Field};
+use cells::{Value, fits};
+use hex::FromHexError;
+use std::alloc::Global;
+
+// No integer type holds a number of this size.
+const TOO_LARGE: u128 = 1 << 64;
+
+fn is_digit(byte: u8) -> bool
+    ensures { result ≡ is_digit byte }
+{
+    b'0' <= byte && byte <= b'9'
+}
+
+// The number that digits spell, and `TOO_LARGE` where it is larger.
+fn digits(text: &[u8]) -> Option<u128>
+    ensures { result ≡ option_map capped (digits text.now) }
+{
+    if text.is_empty() {
+        return None;
+    }
+    let mut number = 0u128;
+    for byte in text {
+        if !is_digit(*byte) {
+            return None;
+        }
+        number = (number * 10 + u128::from(*byte - b'0')).min(TOO_LARGE);
+    }
+    Some(number)
+}
+
+fn negative(text: &[u8]) -> Option<i128>
+    ensures { result ≡ option_map (λ n. neg_ℤ (pos n)) (option_map capped (digits text.now)) }
+{
+    match digits(text) {
+        None => None,
+        Some(number) => Some(-(number as i128)),
+    }
+}
+
+fn positive(text: &[u8]) -> Option<i128>
+    ensures { result ≡ option_map pos (option_map capped (digits text.now)) }
+{
+    match digits(text) {
+        None => None,
+        Some(number) => Some(number as i128),
+    }
+}
+
+// The integer that a text spells, where one does.
+fn integer(text: &[u8]) -> Option<i128>
+    ensures { result ≡ capped_integer text.now }
+{
+    match text.first() {
+        None => None,
+        Some(b'-') => negative(&text[1..]),
+        Some(_) => positive(text),
+    }
+}
+
+// A value, where it is one of the field's.
+fn fitting(field: &Field, value: Value, refusal: Refusal) -> Result<Value, CellError>
+    requires { is_value (cell value) ≡ true }
+    ensures { Gives refusal_of cell result (fitting (kind_of_column (column_of field.now)) refusal (cell value)) }
+{
+    if fits(field, &value) {
+        Ok(value)
+    } else {
+        Err(CellError::Refused(refusal))
+    }
+}
+
+pub(crate) fn number_cell(field: &Field, number: Option<i128>) -> Result<Value, CellError>
+    ensures { Gives refusal_of cell result (number_cell (kind_of_column (column_of field.now)) number) }
+{
+    match number {
+        None => Err(CellError::Refused(Refusal::NotANumber)),
+        Some(number) => fitting(field, Value::Int(number), Refusal::OutOfRange),
+    }
+}
+
+fn integer_cell(field: &Field, text: &[u8]) -> Result<Value, CellError>
+    requires { holds_numbers (kind_of_column (column_of field.now)) ≡ true }
+    ensures { Gives refusal_of cell result (number_cell (kind_of_column (column_of field.now)) (integer_of text.now)) }
+{
+    number_cell(field, integer(text))
+}
+
+fn boolean_cell(text: &[u8]) -> Result<Value, CellError>
+    ensures { Gives refusal_of cell result (boolean_cell text.now) }
+{
+    if text == b"true".as_slice() {
+        Ok(Value::Bool(true))
+    } else if text == b"false".as_slice() {
+        Ok(Value::Bool(false))
+    } else {
+        Err(CellError::Refused(Refusal::NotABool))
+    }
+}
+
+#[tactic(auto, unfolding(cells::specs::Fit::fits_kind))]
+fn text_cell(alloc: Global, text: &[u8]) -> Result<Value, CellError>
+    ensures { Gives refusal_of cell result (fitting kinds.texts NotUtf8 (plain.text text.now)) }
+{
+    match text_of(text) {
+        Some(text) => Ok(Value::Text(String::from_str(alloc, text)?)),
+        None => Err(CellError::Refused(Refusal::NotUtf8)),
+    }
+}
+
+pub(crate) fn hex_cell(alloc: Global, field: &Field, digits: &[u8]) -> Result<Value, CellError>
+    ensures { Gives refusal_of cell result (hex_cell (kind_of_column (column_of field.now)) digits.now) }
+{
+    match hex::decode(alloc, digits) {
+        Ok(bytes) => fitting(field, Value::Bytes(bytes), Refusal::FixedWidth),
+        Err(FromHexError::OutOfMemory) => Err(CellError::OutOfMemory),
+        Err(_) => Err(CellError::Refused(Refusal::NotHex)),
+    }
+}
+
+#[tactic(auto, unfolding(crate::specs::Flat::cell_of_text, cells::specs::Fit::fits_kind))]
+fn typed_cell(alloc: Global, field: &Field, text: &[u8]) -> Result<Value, CellError>
+    ensures { Gives refusal_of cell result (cell_of_text (kind_of_column (column_of field.now)) text.now) }
+{
+    match &field.data_type {
+        DataType::Null => Err(CellError::Refused(Refusal::NullMismatch)),
+        DataType::Bool => boolean_cell(text),
+        DataType::Int(_) => integer_cell(field, text),
+        DataType::Date(_) => integer_cell(field, text),
+        DataType::Timestamp(_, _) => integer_cell(field, text),
+        DataType::Utf8 => text_cell(alloc, text),
+        DataType::LargeUtf8 => text_cell(alloc, text),
+        DataType::Binary => hex_cell(alloc, field, text),
+        DataType::LargeBinary => hex_cell(alloc, field, text),
+        DataType::FixedSizeBinary(_) => hex_cell(alloc, field, text),
+        DataType::List(_) => Err(CellError::Refused(Refusal::Nested)),
+        DataType::LargeList(_) => Err(CellError::Refused(Refusal::Nested)),
+        DataType::FixedSizeList(_, _) => Err(CellError::Refused(Refusal::Nested)),
+        DataType::Struct(_) => Err(CellError::Refused(Refusal::Nested)),
+    }
+}
+
+// The cell of a field of a CSV record.
+#[tactic(auto, unfolding(crate::specs::Flat::field_cell))]
+pub(crate) fn field_cell(
+    alloc: Global,
+    field: &Field,
+    null_text: &[u8],
+    text: &[u8],
+) -> Result<Value, CellError>
+    ensures { Gives refusal_of cell result (field_cell null_text.now (column_of field.now) text.now) }
+{
+    if field.nullable && text == null_text {
+        Ok(Value::Null)
+    } else {
+        typed_cell(alloc, field, text)
+    }
+}

@@ -1,0 +1,89 @@
+// Rows of texts of JSON Lines.
+ghost use Rattle.std.specs.Prelude.{◌≡◌, ◌==◌, map, IfOk};
+ghost use Rattle.std.specs.List.{slice_split};
+ghost use Rattle.serde_json.specs.View.{view};
+ghost use Rattle.arrow_schema.specs.Column.{columns_of};
+ghost use Rattle.arrow_schema.specs.View.{schema_of};
+ghost use Rattle.cells.specs.Row.{row_of};
+ghost use Rattle.cells.specs.Dictionary.{is_any_limited};
+ghost use Rattle.text_import.specs.Refusals.{Gives, refusal_of, refused_by};
+ghost use Rattle.text_import.specs.Objects.{is_blank, line_value, line_row, jsonl_rows_of};
+ghost use Rattle.text_import.specs.inner.Names.{text_list};
+
+use crate::objects::value_row;
+use crate::refusal::{CellError, Refusal, TextError};
+use crate::rows::numbered;
+use crate::texts::text_of;
+use arrow_schema::Schema;
+use cells::{Row, has_limits};
+use serde_json::Value;
+use std::alloc::{AllocError, Global};
+
+// The parts of a text before, between and behind its line feeds.
+fn parts_of(alloc: Global, text: &[u8]) -> Result<Vec<&[u8]>, AllocError>
+    ensures { IfOk result (λ v. text_list v.items ≡ slice_split (λ b. b == 10) text.now) }
+{
+    text.split(|byte| *byte == b'\n').collect(alloc)
+}
+
+fn is_blank(line: &[u8]) -> bool
+    ensures { result ≡ is_blank line.now }
+{
+    for byte in line {
+        if *byte != b' ' && *byte != b'\t' && *byte != b'\r' {
+            return false;
+        }
+    }
+    true
+}
+
+fn line_value(alloc: Global, line: &[u8]) -> Result<Value, CellError>
+    ensures { Gives refusal_of view result (line_value line.now) }
+{
+    let text = match text_of(line) {
+        Some(text) => text,
+        None => return Err(CellError::Refused(Refusal::NotUtf8)),
+    };
+    match Value::from_str(alloc, text) {
+        Ok(value) => Ok(value),
+        Err(error) => Err(if error.is_memory() {
+            CellError::OutOfMemory
+        } else {
+            CellError::Refused(Refusal::Json)
+        }),
+    }
+}
+
+fn line_row(alloc: Global, schema: &Schema, limited: bool, line: &[u8]) -> Result<Row, CellError>
+    requires { limited ≡ is_any_limited (columns_of (schema_of schema.now).columns) }
+    ensures { Gives refusal_of row_of result (line_row (schema_of schema.now) line.now) }
+{
+    let value = line_value(alloc, line)?;
+    value_row(alloc, schema, limited, &value)
+}
+
+/// The rows of a text of JSON Lines: each line is a row, an array by position or an object by name. Blank lines are
+/// skipped and not counted.
+///
+/// # Errors
+///
+/// The first line that is refused, with its number.
+pub fn jsonl_rows(alloc: Global, schema: &Schema, text: &[u8]) -> Result<Vec<Row>, TextError>
+    ensures exact { Gives refused_by (λ v. map row_of v.items) result (jsonl_rows_of (schema_of schema.now) text.now) }
+{
+    let limited = has_limits(schema);
+    let mut rows = Vec::new(alloc);
+    let parts = parts_of(alloc, text)?;
+    for line in &parts {
+        if is_blank(line) {
+            continue;
+        }
+        let number = rows.len() as u64 + 1;
+        let row = match numbered(number, line_row(alloc, schema, limited, line)) {
+            Ok(row) => row,
+            Err(error) => return Err(error),
+        };
+        rows.push(row)?;
+    }
+    Ok(rows)
+}

@@ -1,0 +1,26 @@
+//! Rows of texts: CSV and JSON Lines, under a schema.
+//!
+//! [`csv_rows`] and [`jsonl_rows`] answer the rows of a text, or the first refusal with the number of its record. Which
+//! records a text has is the word of the crate `csv`, and which values its lines have that of `serde_json`; what becomes
+//! of them, cell by cell, is stated in `specs/` and promised exactly, for every text.
+//!
+//! ```
+//! let fields = arrow_schema::parse_fields(alloc, &["a:int32?", "s:utf8"])?;
+//! let schema = arrow_schema::Schema { fields, pairs: Vec::new(alloc) };
+//! let rows = text_import::csv_rows(alloc, &schema, b"a,s\n1,x\n,\n", "")?;
+//! ```
+//!
+//! The rows are 1 and "x", and a null and "": a null text stands for null only where nulls are allowed.
+#![tactic(auto)]
+
+mod flat;
+mod jsonl;
+mod objects;
+mod records;
+mod refusal;
+mod rows;
+mod texts;
+
+pub use jsonl::jsonl_rows;
+pub use records::csv_rows;
+pub use refusal::{Refusal, Refused, TextError};

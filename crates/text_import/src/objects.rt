@@ -1,0 +1,295 @@
+// Cells and rows of JSON values.
+ghost use Rattle.std.specs.Prelude.{◌≡◌, [], ◌∷◌, ◌++◌, true, false, not, map, length, option_map, IfOk, MatchOption};
+ghost use Rattle.serde_json.specs.Find.{get_member};
+ghost use Rattle.serde_json.specs.View.{view, items_view, members_view};
+ghost use Rattle.arrow_schema.specs.Column.{columns_of};
+ghost use Rattle.arrow_schema.specs.View.{column_of, schema_of};
+ghost use Rattle.cells.specs.Cell.{cells_of};
+ghost use Rattle.cells.specs.View.{cell};
+ghost use Rattle.cells.specs.Row.{row_of};
+ghost use Rattle.cells.specs.Dictionary.{is_any_limited};
+ghost use Rattle.text_import.specs.Refusals.{Gives, refusal_of};
+ghost use Rattle.text_import.specs.Flat.{kind_of_column};
+ghost use Rattle.text_import.specs.Objects.{boolean_in, number_in, text_in, bytes_in, list_in, each_item, fixed_list_in, cell_in, kind_in, cells_by_place, cells_by_name, cells_in, absent, sized, column_count, is_nullable, is_among, names_of, keys_of, repeats, has_unknown, value_row};
+ghost use Rattle.text_import.specs.inner.Names.{text_list, member_of, tested};
+
+use crate::flat::{hex_cell, number_cell};
+use crate::refusal::{CellError, Refusal};
+use crate::rows::accepted;
+use crate::texts::name_of;
+use arrow_schema::{DataType, Field, Schema};
+use cells::{Row, Value};
+use indexmap::IndexSet;
+use serde_json::{Map, Value as Json};
+use std::alloc::{AllocError, Global};
+
+fn boolean_in(value: &Json) -> Result<Value, CellError>
+    ensures { Gives refusal_of cell result (boolean_in (view value.now)) }
+{
+    match value {
+        Json::Bool(boolean) => Ok(Value::Bool(*boolean)),
+        _ => Err(CellError::Refused(Refusal::NotABool)),
+    }
+}
+
+fn number_in(field: &Field, value: &Json) -> Result<Value, CellError>
+    ensures { Gives refusal_of cell result (number_in (kind_of_column (column_of field.now)) (view value.now)) }
+{
+    match value {
+        Json::Number(number) => number_cell(field, number.as_i128()),
+        _ => Err(CellError::Refused(Refusal::NotANumber)),
+    }
+}
+
+fn text_in(alloc: Global, value: &Json) -> Result<Value, CellError>
+    ensures { Gives refusal_of cell result (text_in (view value.now)) }
+{
+    match value {
+        Json::String(text) => Ok(Value::Text(String::from_str(alloc, text.as_str())?)),
+        _ => Err(CellError::Refused(Refusal::WrongKind)),
+    }
+}
+
+fn bytes_in(alloc: Global, field: &Field, value: &Json) -> Result<Value, CellError>
+    ensures { Gives refusal_of cell result (bytes_in (kind_of_column (column_of field.now)) (view value.now)) }
+{
+    match value {
+        Json::String(text) => hex_cell(alloc, field, text.as_bytes()),
+        _ => Err(CellError::Refused(Refusal::WrongKind)),
+    }
+}
+
+// Adds a name, and answers whether it was not among them.
+fn add_name<'a>(names: &mut IndexSet<&'a str>, name: &'a str) -> Result<bool, AllocError>
+    ensures added { IfOk result (λ added. added ≡ not (is_among (text_list names.old.keys) name.now)) }
+    ensures names { IfOk result (λ added. added ≡ true → text_list names.new.keys ≡ text_list names.old.keys ++ name.now ∷ []) }
+{
+    let (_, added) = names.insert_full(name)?;
+    Ok(added)
+}
+
+// The names of fields, where no two share one.
+fn names_of<'a>(alloc: Global, fields: &'a [Field]) -> Result<Option<IndexSet<&'a str>>, AllocError>
+    ensures { IfOk result (λ o. MatchOption o (repeats (names_of (columns_of (map column_of fields.now))) ≡ true)
+        (λ names. (repeats (names_of (columns_of (map column_of fields.now))) ≡ false)
+        × (text_list names.keys ≡ names_of (columns_of (map column_of fields.now))))) }
+{
+    let mut names = IndexSet::with_capacity(alloc, fields.len())?;
+    for field in fields {
+        if !add_name(&mut names, name_of(field))? {
+            return Ok(None);
+        }
+    }
+    Ok(Some(names))
+}
+
+fn has_unknown(names: &IndexSet<&str>, members: &Map<String, Json>) -> bool
+    ensures { result ≡ has_unknown (text_list names.now.keys) (keys_of (members_view members.now.entries)) }
+{
+    for key in members.keys() {
+        if !names.contains(key.as_str()) {
+            return true;
+        }
+    }
+    false
+}
+
+// Why the members of an object are not those of the fields.
+fn test_names(alloc: Global, fields: &[Field], members: &Map<String, Json>) -> Result<(), CellError>
+    ensures { Gives refusal_of (λ _. members_view members.now.entries) result
+        (tested (names_of (columns_of (map column_of fields.now))) (members_view members.now.entries)) }
+{
+    match names_of(alloc, fields)? {
+        None => Err(CellError::Refused(Refusal::AmbiguousNames)),
+        Some(names) => {
+            if has_unknown(&names, members) {
+                Err(CellError::Refused(Refusal::UnknownName))
+            } else {
+                Ok(())
+            }
+        }
+    }
+}
+
+fn member<'a>(members: &'a Map<String, Json>, name: &str) -> Option<&'a Json>
+    ensures { option_map (λ v. view v.now) result ≡ get_member name.now (members_view members.now.entries) }
+{
+    members.get(name)
+}
+
+// The cell of a field that an object does not have.
+fn absent(field: &Field) -> Result<Value, CellError>
+    ensures { Gives refusal_of cell result (absent (is_nullable (column_of field.now))) }
+{
+    if field.nullable {
+        Ok(Value::Null)
+    } else {
+        Err(CellError::Refused(Refusal::MissingName))
+    }
+}
+
+#[tactic(auto, unfolding(crate::specs::Objects::cell_in))]
+#[cycle(cells)]
+fn cell_in(alloc: Global, field: &Field, value: &Json) -> Result<Value, CellError>
+    ensures { Gives refusal_of cell result (cell_in (column_of field.now) (view value.now)) }
+{
+    match value {
+        Json::Null => {
+            if field.nullable {
+                Ok(Value::Null)
+            } else {
+                Err(CellError::Refused(Refusal::NullMismatch))
+            }
+        }
+        _ => typed_in(alloc, field, value),
+    }
+}
+
+#[tactic(auto, unfolding(crate::specs::Objects::kind_in))]
+#[cycle(cells)]
+fn typed_in(alloc: Global, field: &Field, value: &Json) -> Result<Value, CellError>
+    ensures { Gives refusal_of cell result (kind_in (kind_of_column (column_of field.now)) (view value.now)) }
+{
+    match &field.data_type {
+        DataType::Null => Err(CellError::Refused(Refusal::NullMismatch)),
+        DataType::Bool => boolean_in(value),
+        DataType::Int(_) => number_in(field, value),
+        DataType::Date(_) => number_in(field, value),
+        DataType::Timestamp(_, _) => number_in(field, value),
+        DataType::Utf8 => text_in(alloc, value),
+        DataType::LargeUtf8 => text_in(alloc, value),
+        DataType::Binary => bytes_in(alloc, field, value),
+        DataType::LargeBinary => bytes_in(alloc, field, value),
+        DataType::FixedSizeBinary(_) => bytes_in(alloc, field, value),
+        DataType::List(item) => list_in(alloc, item, value),
+        DataType::LargeList(item) => list_in(alloc, item, value),
+        DataType::FixedSizeList(size, item) => fixed_list_in(alloc, *size, item, value),
+        DataType::Struct(fields) => Ok(Value::Struct(cells_in(alloc, fields, value)?)),
+    }
+}
+
+#[cycle(cells)]
+fn list_in(alloc: Global, item: &Field, value: &Json) -> Result<Value, CellError>
+    ensures { Gives refusal_of cell result (list_in (cell_in (column_of item.now)) (view value.now)) }
+{
+    match value {
+        Json::Array(values) => Ok(Value::List(each_item(alloc, item, values)?)),
+        _ => Err(CellError::Refused(Refusal::WrongKind)),
+    }
+}
+
+#[cycle(cells)]
+fn fixed_list_in(alloc: Global, size: u32, item: &Field, value: &Json) -> Result<Value, CellError>
+    ensures { Gives refusal_of cell result (fixed_list_in size (cell_in (column_of item.now)) (view value.now)) }
+{
+    match value {
+        Json::Array(values) => Ok(Value::List(sized_items(alloc, size, item, values)?)),
+        _ => Err(CellError::Refused(Refusal::WrongKind)),
+    }
+}
+
+#[tactic(auto, using(crate::proofs::ObjectLemmas::sized_rules))]
+#[cycle(cells)]
+fn sized_items(
+    alloc: Global,
+    size: u32,
+    item: &Field,
+    values: &[Json],
+) -> Result<Vec<Value>, CellError>
+    ensures { Gives refusal_of (λ v. cells_of (map cell v.items)) result (sized size (each_item (cell_in (column_of item.now))) (items_view values.now)) }
+{
+    if values.len() != size as usize {
+        return Err(CellError::Refused(Refusal::Width));
+    }
+    each_item(alloc, item, values)
+}
+
+#[cycle(cells)]
+fn each_item(alloc: Global, item: &Field, values: &[Json]) -> Result<Vec<Value>, CellError>
+    ensures { Gives refusal_of (λ v. cells_of (map cell v.items)) result (each_item (cell_in (column_of item.now)) (items_view values.now)) }
+{
+    let mut cells = Vec::with_capacity(alloc, values.len())?;
+    for value in values {
+        cells.push(cell_in(alloc, item, value)?)?;
+    }
+    Ok(cells)
+}
+
+// The cells of fields: of an array by position, of an object by name.
+#[cycle(cells)]
+fn cells_in(alloc: Global, fields: &[Field], value: &Json) -> Result<Vec<Value>, CellError>
+    ensures { Gives refusal_of (λ v. cells_of (map cell v.items)) result (cells_in (columns_of (map column_of fields.now)) (view value.now)) }
+{
+    match value {
+        Json::Array(values) => sized_cells(alloc, fields, values),
+        Json::Object(members) => {
+            test_names(alloc, fields, members)?;
+            cells_by_name(alloc, fields, members)
+        }
+        _ => Err(CellError::Refused(Refusal::WrongKind)),
+    }
+}
+
+#[tactic(auto, using(crate::proofs::ObjectLemmas::sized_rules))]
+#[cycle(cells)]
+fn sized_cells(alloc: Global, fields: &[Field], values: &[Json]) -> Result<Vec<Value>, CellError>
+    ensures { Gives refusal_of (λ v. cells_of (map cell v.items)) result
+        (sized (column_count (columns_of (map column_of fields.now))) (cells_by_place (columns_of (map column_of fields.now))) (items_view values.now)) }
+{
+    if values.len() != fields.len() {
+        return Err(CellError::Refused(Refusal::Width));
+    }
+    cells_by_place(alloc, fields, values)
+}
+
+#[tactic(auto, unfolding(crate::specs::Objects::cells_by_place))]
+#[cycle(cells)]
+fn cells_by_place(alloc: Global, fields: &[Field], values: &[Json]) -> Result<Vec<Value>, CellError>
+    requires { length values.now ≡ length fields.now }
+    ensures { Gives refusal_of (λ v. cells_of (map cell v.items)) result (cells_by_place (columns_of (map column_of fields.now)) (items_view values.now)) }
+{
+    let mut cells = Vec::with_capacity(alloc, fields.len())?;
+    for (i, field) in fields.iter().enumerate() {
+        cells.push(cell_in(alloc, field, &values[i])?)?;
+    }
+    Ok(cells)
+}
+
+#[tactic(auto, unfolding(crate::specs::Objects::cells_by_name))]
+#[cycle(cells)]
+fn cells_by_name(
+    alloc: Global,
+    fields: &[Field],
+    members: &Map<String, Json>,
+) -> Result<Vec<Value>, CellError>
+    ensures { Gives refusal_of (λ v. cells_of (map cell v.items)) result (cells_by_name (columns_of (map column_of fields.now)) (members_view members.now.entries)) }
+{
+    let mut cells = Vec::with_capacity(alloc, fields.len())?;
+    for field in fields {
+        cells.push(member_in(alloc, field, members)?)?;
+    }
+    Ok(cells)
+}
+
+#[cycle(cells)]
+fn member_in(alloc: Global, field: &Field, members: &Map<String, Json>) -> Result<Value, CellError>
+    ensures { Gives refusal_of cell result (member_of (column_of field.now) (members_view members.now.entries)) }
+{
+    match member(members, name_of(field)) {
+        Some(value) => cell_in(alloc, field, value),
+        None => absent(field),
+    }
+}
+
+pub(crate) fn value_row(
+    alloc: Global,
+    schema: &Schema,
+    limited: bool,
+    value: &Json,
+) -> Result<Row, CellError>
+    requires { limited ≡ is_any_limited (columns_of (schema_of schema.now).columns) }
+    ensures { Gives refusal_of row_of result (value_row (schema_of schema.now) (view value.now)) }
+{
+    let cells = cells_in(alloc, &schema.fields, value)?;
+    accepted(alloc, schema, limited, cells)
+}

@@ -1,0 +1,143 @@
+// Why a text is refused.
+ghost use Rattle.std.specs.Prelude.{◌≡◌};
+ghost use Rattle.text_import.specs.declared.refusal.TextError.TheVariants.{OutOfMemory};
+ghost use Rattle.text_import.specs.declared.refusal.CellError.TheVariants as cell_errors;
+
+use std::alloc::{AllocError, AllocFailed};
+use std::fmt;
+
+/// What is wrong with a text.
+#[derive(Clone, Copy, Debug, PartialEq, Eq)]
+pub enum Refusal {
+    /// X1: the first record of a CSV text is not the names of the columns, or there is none.
+    Header,
+    /// X2: another number of fields or items than of columns, or than a fixed list has.
+    Width,
+    /// X3: a text is not UTF-8.
+    NotUtf8,
+    /// X4: not an integer.
+    NotANumber,
+    /// X5: an integer that its type does not hold.
+    OutOfRange,
+    /// X6: neither true nor false.
+    NotABool,
+    /// X7: not pairs of hexadecimal digits.
+    NotHex,
+    /// X8: a null where none is allowed, or something else in a column of nulls.
+    NullMismatch,
+    /// X9: a CSV text for a schema with lists or structs.
+    Nested,
+    /// X10: a line is not a JSON value.
+    Json,
+    /// X11: a member that is no field.
+    UnknownName,
+    /// X12: a field that is not nullable has no member.
+    MissingName,
+    /// X13: an object for fields of which two share a name.
+    AmbiguousNames,
+    /// X14: bytes of another number than the type has.
+    FixedWidth,
+    /// X15: a row that is too heavy.
+    TooHeavy,
+    /// X16: a row with more distinct values than a dictionary can name.
+    DictionaryFull,
+    /// X17: another kind of JSON value than the type takes.
+    WrongKind,
+}
+
+/// A refusal, and the number of its record: counted from 1 behind the header, and 0 where it is of no record.
+#[derive(Clone, Copy, Debug, PartialEq, Eq)]
+pub struct Refused {
+    pub refusal: Refusal,
+    pub number: u64,
+}
+
+/// Why a text was not read: it is refused, or memory was.
+#[derive(Clone, Copy, Debug, PartialEq, Eq)]
+pub enum TextError {
+    Refused(Refused),
+    OutOfMemory,
+}
+
+// The same of a part of a record, which does not know its number.
+#[derive(Clone, Copy, Debug, PartialEq, Eq)]
+pub enum CellError {
+    Refused(Refusal),
+    OutOfMemory,
+}
+
+impl From<AllocError> for TextError {
+    ghost from_gives = { λ _ e. e ≡ OutOfMemory };
+
+    fn from(_e: AllocError) -> TextError {
+        TextError::OutOfMemory
+    }
+}
+
+impl<T: Drop> From<AllocFailed<T>> for TextError {
+    ghost from_gives = { λ _ e. e ≡ OutOfMemory };
+
+    fn from(_e: AllocFailed<T>) -> TextError {
+        TextError::OutOfMemory
+    }
+}
+
+impl From<AllocError> for CellError {
+    ghost from_gives = { λ _ e. e ≡ cell_errors.OutOfMemory };
+
+    fn from(_e: AllocError) -> CellError {
+        CellError::OutOfMemory
+    }
+}
+
+impl<T: Drop> From<AllocFailed<T>> for CellError {
+    ghost from_gives = { λ _ e. e ≡ cell_errors.OutOfMemory };
+
+    fn from(_e: AllocFailed<T>) -> CellError {
+        CellError::OutOfMemory
+    }
+}
+
+/// Code and name, as `X4 NotANumber`.
+impl fmt::Display for Refusal {
+    ghost use Rattle.std.specs.Prelude.{Some};
+    ghost use Rattle.text_import.specs.RefusalText.{refusal_text};
+
+    ghost output = { λ refusal. Some (refusal_text refusal) };
+
+    fn fmt<W: fmt::Write>(&self, f: &mut fmt::Formatter<W>) -> fmt::Result {
+        f.write_str(match self {
+            Refusal::Header => "X1 Header",
+            Refusal::Width => "X2 Width",
+            Refusal::NotUtf8 => "X3 NotUtf8",
+            Refusal::NotANumber => "X4 NotANumber",
+            Refusal::OutOfRange => "X5 OutOfRange",
+            Refusal::NotABool => "X6 NotABool",
+            Refusal::NotHex => "X7 NotHex",
+            Refusal::NullMismatch => "X8 NullMismatch",
+            Refusal::Nested => "X9 Nested",
+            Refusal::Json => "X10 Json",
+            Refusal::UnknownName => "X11 UnknownName",
+            Refusal::MissingName => "X12 MissingName",
+            Refusal::AmbiguousNames => "X13 AmbiguousNames",
+            Refusal::FixedWidth => "X14 FixedWidth",
+            Refusal::TooHeavy => "X15 TooHeavy",
+            Refusal::DictionaryFull => "X16 DictionaryFull",
+            Refusal::WrongKind => "X17 WrongKind",
+        })
+    }
+}
+
+/// Code, name and number, as `X4 NotANumber 3`.
+impl fmt::Display for Refused {
+    ghost use Rattle.std.specs.Prelude.{Some};
+    ghost use Rattle.text_import.specs.RefusalText.{refused_text};
+
+    ghost output = { λ refused. Some (refused_text refused) };
+
+    fn fmt<W: fmt::Write>(&self, f: &mut fmt::Formatter<W>) -> fmt::Result {
+        write!(f, "{} {}", self.refusal, self.number)
+    }
+}
+
+impl std::error::Error for Refused {}
