@@ -58,7 +58,8 @@ pub fn worked_cases()
 /// The one array that cells are written as has these cells; and the arrays of a batch of rows have these rows.
 pub fn built_reads_back()
     ensures cells { (c : Column) (cells : List Cell) → can_build c cells ≡ true → cells_in c (built c cells) ≡ cells }
-    ensures rows { (columns : Columns) (rows : List (List Cell)) → can_build_rows columns rows ≡ true → rows_in columns (built_parts columns rows) (length rows) ≡ rows }
+    ensures rows { (columns : Columns) (rows : List (List Cell)) → can_build_rows columns rows ≡ true
+        → rows_in columns (built_parts columns rows) (length rows) ≡ rows }
 {
     bitmap::packed_reads_back();
     cells::entries_are_the_distinct_values();
@@ -89,13 +90,17 @@ pub fn written_arrays_pass()
         → list_any (λ t. counts_wrong (null_count t.column t.array) t.column t.array) (every_array columns arrays) ≡ false }
 {}
 
-/// And of the visible slots of arrays of rows that fit none is refused: each valid index names an entry, each text is UTF-8, and no null stands where none is taken.
+/// And of the visible slots of arrays of rows that fit none is refused: each valid index names an entry, each text is UTF-8, and no null stands where
+/// none is taken.
 pub fn written_slots_pass()
-    ensures indices { (columns : Columns) (rows : List (List Cell)) → can_build_rows columns rows ≡ true → list_all (λ row. each_fits columns (cells_of row)) rows ≡ true
+    ensures indices { (columns : Columns) (rows : List (List Cell)) → can_build_rows columns rows ≡ true
+        → list_all (λ row. each_fits columns (cells_of row)) rows ≡ true
         → list_any names_no_entry (visible_in columns (built_parts columns rows) (length rows)) ≡ false }
-    ensures texts { (columns : Columns) (rows : List (List Cell)) → can_build_rows columns rows ≡ true → list_all (λ row. each_fits columns (cells_of row)) rows ≡ true
+    ensures texts { (columns : Columns) (rows : List (List Cell)) → can_build_rows columns rows ≡ true
+        → list_all (λ row. each_fits columns (cells_of row)) rows ≡ true
         → list_any is_no_text (visible_in columns (built_parts columns rows) (length rows)) ≡ false }
-    ensures nulls { (columns : Columns) (rows : List (List Cell)) → can_build_rows columns rows ≡ true → list_all (λ row. each_fits columns (cells_of row)) rows ≡ true
+    ensures nulls { (columns : Columns) (rows : List (List Cell)) → can_build_rows columns rows ≡ true
+        → list_all (λ row. each_fits columns (cells_of row)) rows ≡ true
         → list_any is_forbidden (visible_in columns (built_parts columns rows) (length rows)) ≡ false }
 {
     bitmap::packed_reads_back();
