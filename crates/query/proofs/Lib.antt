@@ -1,0 +1,14 @@
+pub mod Nodes
+pub mod Picks
+pub mod PickedSchemas
+pub mod PickedRows
+pub mod SelectedTables
+pub mod Cutting
+pub mod Naming
+pub mod Joining
+pub mod Keeping
+pub mod Choosing
+pub mod Binding
+pub mod MadeTables
+pub mod Numbers
+pub mod Lines

@@ -1,0 +1,18 @@
+use Rattle.std.proofs.Common.{◌≡◌, ◌≤◌, ◌++◌, map}
+use Rattle.cells.specs.Cell.{cells_of}
+use Rattle.cells.specs.View.{cell}
+use Rattle.values.specs.Borrowed.{borrowed_cells, values_left}
+use Rattle.query.proofs.Nodes.{nodes_all, value_depth, values_depth}
+use Rattle.query.proofs.copying.+copy.Given as goal
+
+abbrev pub decreases-copy_value : goal.decreases-copy_value
+decreases-copy_value l = value_depth l.value
+
+abbrev pub decreases-copy_values : goal.decreases-copy_values
+decreases-copy_values l = values_depth l.values
+
+abbrev pub invariant-copy_values-loop-value : goal.invariant-copy_values-loop-value
+invariant-copy_values-loop-value l = record {
+  cells : map cell l.copies.items ++ values_left l.value-iterator ≡ borrowed_cells l.fn.values;
+  below : nodes_all (cells_of (values_left l.value-iterator)) ≤ nodes_all (cells_of (borrowed_cells l.fn.values));
+}

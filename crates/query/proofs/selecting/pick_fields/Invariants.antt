@@ -1,0 +1,7 @@
+use Rattle.std.proofs.Common.{◌≡◌, ◌++◌, map, drop}
+use Rattle.arrow_schema.specs.View.{column_of}
+use Rattle.query.specs.Selection.{pick}
+use Rattle.query.proofs.selecting.pick_fields.Given as goal
+
+abbrev pub invariant-loop-place : goal.invariant-loop-place
+invariant-loop-place l = map column_of l.picked.items ++ pick (drop l.place-index l.places) (map column_of l.fields) ≡ pick l.places (map column_of l.fields)

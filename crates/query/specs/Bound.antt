@@ -1,0 +1,97 @@
+-- A condition on the columns of a table, and whether it holds of a row.
+use Rattle.std.specs.Prelude.{ℕ, ◌==◌, Bool, true, false, not, List, [], ◌∷◌, position, count_by, slice_get, bytes_eq, Option, Some, None, Result, Ok, Err, if◌then◌else◌}
+use Rattle.std.specs.declared.cmp.Ordering.{Ordering}
+use Rattle.std.specs.Ordering.{nat_cmp, int_cmp, bool_cmp, is_eq, is_ne, is_lt, is_le, is_gt, is_ge, is_some_and}
+use Rattle.std.specs.Cmp.Lexicographic.{slice_cmp}
+use Rattle.arrow_schema.specs.Column.{Kind, Column, column}
+use Rattle.cells.specs.Cell.{Cell, null, boolean, number, text, bytes, items, parts}
+use Rattle.query.specs.declared.operator.Operator.{Operator}
+use Rattle.query.specs.declared.operator.Operator.TheVariants as operators
+use Rattle.query.specs.Query.{PlainTest, null_test, value_test, comparison, PlainCondition}
+use Rattle.query.specs.Literal.{is_comparable, literal_of}
+
+-- why a query is refused: a column that no table column is, or more than one, or that is asked for twice; a condition of
+-- another shape or with a bad literal; a comparison of a type that has none
+pub data Refusal : Type 0 where
+  unknown_column : Refusal
+  bad_condition : Refusal
+  not_comparable : Refusal
+
+abbrev pub has_name : List ℕ → Column → Bool
+has_name wanted (column name nullable kind dictionary pairs) = bytes_eq name wanted
+
+-- the place of the one column that has this name
+unfoldable pub place_of : List Column → List ℕ → Option ℕ
+place_of cs name = if count_by (has_name name) cs == 1 then position (has_name name) cs else None
+
+-- what is asked of the cell at a place of a row
+pub data Demand : Type 0 where
+  is_null : Demand
+  is_value : Demand
+  compares : Operator → Cell → Demand
+
+pub record Bound : Type 0 where
+  pub place : ℕ
+  pub demand : Demand
+
+abbrev pub against : Operator → Option Cell → Result Demand Refusal
+against o None = Err bad_condition
+against o (Some literal) = Ok (compares o literal)
+
+abbrev pub demand_of : Kind → PlainTest → Result Demand Refusal
+demand_of kind null_test = Ok is_null
+demand_of kind value_test = Ok is_value
+demand_of kind (comparison o literal) = if is_comparable kind then against o (literal_of kind literal) else Err not_comparable
+
+abbrev pub kind_in : Column → Kind
+kind_in (column name nullable kind dictionary pairs) = kind
+
+abbrev pub bound_at : ℕ → Result Demand Refusal → Result Bound Refusal
+bound_at place (Ok d) = Ok (record { place = place; demand = d })
+bound_at place (Err e) = Err e
+
+abbrev pub bound_in : ℕ → Option Column → PlainTest → Result Bound Refusal
+bound_in place None test = Err unknown_column
+bound_in place (Some c) test = bound_at place (demand_of (kind_in c) test)
+
+abbrev pub bound_to : List Column → Option ℕ → PlainTest → Result Bound Refusal
+bound_to cs None test = Err unknown_column
+bound_to cs (Some place) test = bound_in place (slice_get cs place) test
+
+-- a condition on these columns, or the first reason why there is none: its column, whether it is compared, its literal
+unfoldable pub bound : List Column → PlainCondition → Result Bound Refusal
+bound cs c = bound_to cs (place_of cs c.column) c.test
+
+-- false is less than true; texts and bytes are ordered byte by byte; a null, and a value of another form, has no order
+abbrev pub order : Cell → Cell → Option Ordering
+order (boolean a) (boolean b) = Some (bool_cmp a b)
+order (number a) (number b) = Some (int_cmp a b)
+order (text a) (text b) = Some (slice_cmp nat_cmp a b)
+order (bytes a) (bytes b) = Some (slice_cmp nat_cmp a b)
+order _ _ = None
+
+abbrev pub accepts : Operator → Ordering → Bool
+accepts operators.Equal = is_eq
+accepts operators.NotEqual = is_ne
+accepts operators.Less = is_lt
+accepts operators.AtMost = is_le
+accepts operators.Greater = is_gt
+accepts operators.AtLeast = is_ge
+
+abbrev pub is_null_cell : Cell → Bool
+is_null_cell null = true
+is_null_cell _ = false
+
+-- whether a cell meets a demand: a comparison with a null is false, whatever the operator
+abbrev pub meets : Demand → Cell → Bool
+meets is_null c = is_null_cell c
+meets is_value c = not (is_null_cell c)
+meets (compares o literal) c = is_some_and (accepts o) (order c literal)
+
+abbrev pub meets_at : Demand → Option Cell → Bool
+meets_at d None = false
+meets_at d (Some c) = meets d c
+
+-- whether a condition holds of a row
+abbrev pub holds : Bound → List Cell → Bool
+holds b row = meets_at b.demand (slice_get row b.place)

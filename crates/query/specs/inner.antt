@@ -1,0 +1,2 @@
+pub mod BoundView
+pub mod Masks

@@ -1,0 +1,152 @@
+// A condition on the columns of a table.
+ghost use Rattle.std.specs.Prelude.{◌≡◌, IfOk, IfErr, map, option_map, position, count_by, slice_get};
+ghost use Rattle.std.specs.Option.{option_copied};
+ghost use Rattle.arrow_schema.specs.View.{kind_of, column_of};
+ghost use Rattle.cells.specs.View.{cell};
+ghost use Rattle.values.specs.Borrowed.{borrowed_cell, borrowed_cells};
+ghost use Rattle.query.specs.Bound.{has_name, place_of, demand_of, bound, order, meets, holds};
+ghost use Rattle.query.specs.View.{test_in, condition_in, Reports};
+ghost use Rattle.query.specs.inner.BoundView.{demand_in, bound_in};
+
+use crate::condition::{Condition, Test};
+use crate::errors::QueryError;
+use crate::literal::{is_comparable, literal_of};
+use crate::operator::{Operator, accepts};
+use arrow_schema::{DataType, Field};
+use cells::Value;
+use std::alloc::Global;
+use std::cmp::Ordering;
+use values::{ValueRef, Values};
+
+/// What is asked of a value.
+#[derive(Debug, Drop)]
+pub(crate) enum Demand {
+    IsNull,
+    IsValue,
+    Compares(Operator, Value),
+}
+
+/// A condition whose column is known by its place, and whose literal by its value.
+#[derive(Debug, Drop)]
+pub(crate) struct Bound {
+    pub(crate) place: usize,
+    pub(crate) demand: Demand,
+}
+
+fn has_name(field: &Field, name: &str) -> bool
+    ensures { result ≡ has_name name.now (column_of field.now) }
+{
+    field.name.as_str() == name
+}
+
+fn count_named(fields: &[Field], name: &str) -> usize
+    ensures { result ≡ count_by (λ f. has_name name.now (column_of f)) fields.now }
+{
+    fields.iter().filter(|field| has_name(field, name)).count()
+}
+
+fn first_named(fields: &[Field], name: &str) -> Option<usize>
+    ensures { result ≡ position (λ f. has_name name.now (column_of f)) fields.now }
+{
+    fields.iter().position(|field| has_name(field, name))
+}
+
+/// The place of the one column that has this name.
+pub(crate) fn place_of(fields: &[Field], name: &str) -> Option<usize>
+    ensures { result ≡ place_of (map column_of fields.now) name.now }
+{
+    if count_named(fields, name) == 1 {
+        first_named(fields, name)
+    } else {
+        None
+    }
+}
+
+fn get_field(fields: &[Field], place: usize) -> Option<&Field>
+    ensures { option_copied result ≡ slice_get fields.now place }
+{
+    fields.get(place)
+}
+
+/// The field at a place.
+pub(crate) fn field_at(fields: &[Field], place: usize) -> Option<&Field>
+    ensures { option_map (λ f. column_of f.now) result ≡ slice_get (map column_of fields.now) place }
+{
+    get_field(fields, place)
+}
+
+fn demand_of(alloc: Global, data_type: &DataType, test: &Test) -> Result<Demand, QueryError>
+    ensures ok { IfOk result (λ d. demand_of (kind_of data_type.now) (test_in test.now) ≡ Ok (demand_in d)) }
+    ensures refused { IfErr result (λ e. Reports e (demand_of (kind_of data_type.now) (test_in test.now))) }
+{
+    match test {
+        Test::IsNull => Ok(Demand::IsNull),
+        Test::IsNotNull => Ok(Demand::IsValue),
+        Test::Compared(operator, literal) => {
+            if !is_comparable(data_type) {
+                return Err(QueryError::NotComparable);
+            }
+            match literal_of(alloc, data_type, literal.as_str())? {
+                None => Err(QueryError::BadCondition),
+                Some(literal) => Ok(Demand::Compares(*operator, literal)),
+            }
+        }
+    }
+}
+
+/// A condition on the columns of a table, or why there is none.
+#[tactic(auto, unfolding(crate::specs::Bound::bound))]
+pub(crate) fn bind(
+    alloc: Global,
+    fields: &[Field],
+    condition: &Condition,
+) -> Result<Bound, QueryError>
+    ensures ok { IfOk result (λ b. bound (map column_of fields.now) (condition_in condition.now) ≡ Ok (bound_in b)) }
+    ensures refused { IfErr result (λ e. Reports e (bound (map column_of fields.now) (condition_in condition.now))) }
+{
+    let Some(place) = place_of(fields, condition.column.as_str()) else {
+        return Err(QueryError::UnknownColumn);
+    };
+    let Some(field) = field_at(fields, place) else {
+        return Err(QueryError::UnknownColumn);
+    };
+    let demand = demand_of(alloc, &field.data_type, &condition.test)?;
+    Ok(Bound { place, demand })
+}
+
+// How a value compares with a literal, where both are of one form.
+fn order(value: ValueRef<'_>, literal: &Value) -> Option<Ordering>
+    ensures { result ≡ order (borrowed_cell value.entry) (cell literal.now) }
+{
+    match (value, literal) {
+        (ValueRef::Bool(a), Value::Bool(b)) => Some(a.cmp(b)),
+        (ValueRef::Int(a), Value::Int(b)) => Some(a.cmp(b)),
+        (ValueRef::Text(a), Value::Text(b)) => Some(a.cmp(b.as_str())),
+        (ValueRef::Bytes(a), Value::Bytes(b)) => Some(a.cmp(b.as_slice())),
+        _ => None,
+    }
+}
+
+// Whether a value meets a demand.
+fn meets(demand: &Demand, value: ValueRef<'_>) -> bool
+    ensures { result ≡ meets (demand_in demand.now) (borrowed_cell value.entry) }
+{
+    match demand {
+        Demand::IsNull => matches!(value, ValueRef::Null),
+        Demand::IsValue => !matches!(value, ValueRef::Null),
+        Demand::Compares(operator, literal) => match order(value, literal) {
+            None => false,
+            Some(order) => accepts(*operator, order),
+        },
+    }
+}
+
+/// Whether a condition holds of a row.
+pub(crate) fn holds(bound: &Bound, row: Values<'_>) -> bool
+    ensures { result ≡ holds (bound_in bound.now) (borrowed_cells row.entry) }
+{
+    match row.get(bound.place) {
+        None => false,
+        Some(value) => meets(&bound.demand, value),
+    }
+}

@@ -1,0 +1,35 @@
+// Copies of values that are borrowed.
+ghost use Rattle.std.specs.Prelude.{◌≡◌, IfOk, map};
+ghost use Rattle.cells.specs.View.{cell};
+ghost use Rattle.values.specs.Borrowed.{borrowed_cell, borrowed_cells};
+
+use cells::Value;
+use std::alloc::{AllocError, Global};
+use values::{ValueRef, Values};
+
+/// The value in memory of its own.
+#[cycle(copy)]
+pub(crate) fn copy_value(alloc: Global, value: ValueRef<'_>) -> Result<Value, AllocError>
+    ensures { IfOk result (λ v. cell v ≡ borrowed_cell value.entry) }
+{
+    match value {
+        ValueRef::Null => Ok(Value::Null),
+        ValueRef::Bool(boolean) => Ok(Value::Bool(boolean)),
+        ValueRef::Int(number) => Ok(Value::Int(number)),
+        ValueRef::Text(text) => Ok(Value::Text(String::from_str(alloc, text)?)),
+        ValueRef::Bytes(bytes) => Ok(Value::Bytes(Vec::from_slice(alloc, bytes)?)),
+        ValueRef::List(items) => Ok(Value::List(copy_values(alloc, items)?)),
+        ValueRef::Struct(parts) => Ok(Value::Struct(copy_values(alloc, parts)?)),
+    }
+}
+
+#[cycle(copy)]
+fn copy_values(alloc: Global, values: Values<'_>) -> Result<Vec<Value>, AllocError>
+    ensures { IfOk result (λ v. map cell v.items ≡ borrowed_cells values.entry) }
+{
+    let mut copies = Vec::with_capacity(alloc, values.len())?;
+    for value in values.iter() {
+        copies.push(copy_value(alloc, value)?)?;
+    }
+    Ok(copies)
+}

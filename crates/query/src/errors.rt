@@ -1,0 +1,30 @@
+// Why a query is refused.
+use std::alloc::AllocError;
+use thiserror::Error;
+
+/// Why a query is refused.
+#[derive(Clone, Copy, Debug, PartialEq, Eq, Error)]
+pub enum QueryError {
+    /// No column has this name, or more than one has, or it is asked for twice.
+    #[error("Q1 UnknownColumn")]
+    UnknownColumn,
+    /// The text of a condition has another shape, or its literal is none of the column's type.
+    #[error("Q2 BadCondition")]
+    BadCondition,
+    /// Values of the column's type are not compared.
+    #[error("Q3 NotComparable")]
+    NotComparable,
+    #[error("OutOfMemory")]
+    OutOfMemory,
+}
+
+impl From<AllocError> for QueryError {
+    ghost use Rattle.std.specs.Prelude.{◌≡◌};
+    ghost use Rattle.query.specs.declared.errors.QueryError.TheVariants.{OutOfMemory};
+
+    ghost from_gives = { λ _ e. e ≡ OutOfMemory };
+
+    fn from(_: AllocError) -> Self {
+        QueryError::OutOfMemory
+    }
+}

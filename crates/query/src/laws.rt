@@ -1,0 +1,11 @@
+// What the definitions say. The functions do nothing: their contracts are the laws.
+ghost use Rattle.std.specs.Prelude.{◌≡◌, Ok};
+ghost use Rattle.cells.specs.Cell.{PlainTable};
+ghost use Rattle.values.specs.Table.{IsTable};
+ghost use Rattle.query.specs.Query.{PlainQuery};
+ghost use Rattle.query.specs.Selection.{selection};
+
+/// The selection of a table is a table: it is within all limits.
+pub fn selection_is_a_table()
+    ensures { (t : PlainTable) (q : PlainQuery) (s : PlainTable) → IsTable t → selection t q ≡ Ok s → IsTable s }
+{}

@@ -1,0 +1,33 @@
+//! Queries: which rows and columns of a table, and a row as a line of JSON.
+//!
+//! A [`Query`] names columns, conditions that each row must meet, and how many rows at most. Promised are, exactly: which
+//! condition a text states, which table is the selection of another, or why there is none, and the line of a row.
+//! Contracts see tables, rows and queries as the plain trees of `specs/`, however they are kept.
+//!
+//! ```
+//! let condition = Condition::parse(alloc, "a >= 1")?;
+//! let query = Query { columns: Vec::new(alloc), conditions: vec![in alloc; condition]?, limit: Some(10) };
+//! let found = select(alloc, &table, &query)?;
+//! ```
+//!
+//! gives the first ten rows of `table` whose `a` is at least 1, with all columns; a null is not.
+#![tactic(auto)]
+
+mod bound;
+mod condition;
+mod copying;
+mod errors;
+mod laws;
+mod line;
+mod literal;
+mod operator;
+mod query;
+mod selecting;
+
+pub use condition::{Condition, Test};
+pub use errors::QueryError;
+pub use laws::selection_is_a_table;
+pub use line::json_line;
+pub use operator::Operator;
+pub use query::Query;
+pub use selecting::select;

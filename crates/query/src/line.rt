@@ -1,0 +1,113 @@
+// A row as a line of JSON.
+ghost use Rattle.std.specs.Prelude.{◌≡◌, ◌++◌, ◌^◌, ◌<◌, IfOk, OnOk, codes, slice_index};
+ghost use Rattle.std.specs.Fmt.{signed_decimal};
+ghost use Rattle.json.specs.Print.{quoted};
+ghost use Rattle.hex.specs.Hex.{encode_lower, lower_digits};
+ghost use Rattle.cells.specs.Cell.{cells_of};
+ghost use Rattle.values.specs.Borrowed.{borrowed_cell, borrowed_cells};
+ghost use Rattle.query.specs.Line.{json_of, json_of_all, line};
+
+use json::Writer;
+use std::alloc::{AllocError, Global};
+use std::mem;
+use values::{ValueRef, Values};
+
+/// The line of a row without its end: a JSON array of its values, without spaces. Bytes are texts of hexadecimal digits in
+/// lower case; lists and structs are arrays. No value takes memory of its own.
+pub fn json_line(alloc: Global, row: Values<'_>) -> Result<Vec<u8>, AllocError>
+    ensures { IfOk result (λ text. text.items ≡ line (borrowed_cells row.entry)) }
+{
+    let mut text = Vec::new(alloc);
+    push_array(alloc, &mut text, row)?;
+    Ok(text)
+}
+
+fn push_bytes(out: &mut Vec<u8>, bytes: &[u8]) -> Result<(), AllocError>
+    ensures { OnOk result (out.new.items ≡ out.old.items ++ bytes.now) }
+{
+    out.extend_from_slice(bytes)
+}
+
+fn push_number(out: &mut Vec<u8>, number: i128) -> Result<(), AllocError>
+    ensures { OnOk result (out.new.items ≡ out.old.items ++ signed_decimal number) }
+{
+    let mut digits = itoa::Buffer::new();
+    out.extend_from_slice(digits.format(number).as_bytes())
+}
+
+#[tactic(auto, unfolding(json::specs::Print::print_from))]
+fn push_text(alloc: Global, out: &mut Vec<u8>, text: &str) -> Result<(), AllocError>
+    ensures { OnOk result (out.new.items ≡ out.old.items ++ quoted text.now) }
+{
+    let mut writer = Writer::new(mem::replace(out, Vec::new(alloc)));
+    writer.string(text)?;
+    *out = writer.into_inner();
+    Ok(())
+}
+
+// The digit of four bits.
+fn digit(bits: u8) -> u8
+    requires { bits < 16 }
+    ensures { result ≡ slice_index lower_digits bits }
+{
+    b"0123456789abcdef"[usize::from(bits)]
+}
+
+#[tactic(auto, unfolding(hex::specs::Hex::encode_with))]
+fn push_hex(out: &mut Vec<u8>, bytes: &[u8]) -> Result<(), AllocError>
+    ensures { OnOk result (out.new.items ≡ out.old.items ++ encode_lower bytes.now) }
+{
+    for byte in bytes {
+        out.push(digit(byte / 16))?;
+        out.push(digit(byte % 16))?;
+    }
+    Ok(())
+}
+
+#[tactic(auto, unfolding(crate::specs::Line::json_of))]
+#[cycle(line)]
+fn push_value(alloc: Global, out: &mut Vec<u8>, value: ValueRef<'_>) -> Result<(), AllocError>
+    ensures { OnOk result (out.new.items ≡ out.old.items ++ json_of (borrowed_cell value.entry)) }
+{
+    match value {
+        ValueRef::Null => push_bytes(out, b"null"),
+        ValueRef::Bool(true) => push_bytes(out, b"true"),
+        ValueRef::Bool(false) => push_bytes(out, b"false"),
+        ValueRef::Int(number) => push_number(out, number),
+        ValueRef::Text(text) => push_text(alloc, out, text),
+        ValueRef::Bytes(bytes) => {
+            push_bytes(out, b"\"")?;
+            push_hex(out, bytes)?;
+            push_bytes(out, b"\"")
+        }
+        ValueRef::List(items) => push_array(alloc, out, items),
+        ValueRef::Struct(parts) => push_array(alloc, out, parts),
+    }
+}
+
+#[cycle(line)]
+fn push_array(alloc: Global, out: &mut Vec<u8>, values: Values<'_>) -> Result<(), AllocError>
+    ensures { OnOk result (out.new.items ≡ out.old.items ++ line (borrowed_cells values.entry)) }
+{
+    push_bytes(out, b"[")?;
+    push_values(alloc, out, values)?;
+    push_bytes(out, b"]")
+}
+
+// The values, with a comma between two.
+#[tactic(auto, unfolding(crate::specs::Line::json_of_all))]
+#[cycle(line)]
+fn push_values(alloc: Global, out: &mut Vec<u8>, values: Values<'_>) -> Result<(), AllocError>
+    ensures { OnOk result (out.new.items ≡ out.old.items ++ json_of_all (cells_of (borrowed_cells values.entry))) }
+{
+    let mut others = values.iter();
+    let Some(first) = others.next() else {
+        return Ok(());
+    };
+    push_value(alloc, out, first)?;
+    for value in others {
+        push_bytes(out, b",")?;
+        push_value(alloc, out, value)?;
+    }
+    Ok(())
+}

@@ -1,0 +1,216 @@
+// The selection of a table.
+ghost use Rattle.std.specs.Prelude.{◌≡◌, ◌≤◌, ◌<◌, ◌+◌, ◌*◌, ◌++◌, ◌&&◌, ℕ, Ok, Some, IfOk, IfErr, OnOk, map, filter, take, length, nat_lt, slice_get, string_bytes, slice_index_or, replicate, true, false, []};
+ghost use Rattle.std.specs.List.{flat_map, list_all, range_with_len};
+ghost use Rattle.arrow_schema.specs.Limits.{IsWithinLimits};
+ghost use Rattle.arrow_schema.specs.View.{column_of, schema_of, pair_of};
+ghost use Rattle.bitmap.specs.Bits.{bit, bytes_of};
+ghost use Rattle.cells.specs.View.{cell};
+ghost use Rattle.values.specs.Borrowed.{borrowed_cells};
+ghost use Rattle.values.specs.TableView.{table_of};
+ghost use Rattle.query.specs.Bound.{bound, holds};
+ghost use Rattle.query.specs.Selection.{pick, chosen, all_ok, limited, holds_all, selected, selection};
+ghost use Rattle.query.specs.View.{condition_in, query_in, Reports, Unchosen};
+ghost use Rattle.query.specs.inner.BoundView.{bound_in};
+ghost use Rattle.query.specs.inner.Masks.{IsMask};
+
+use crate::bound::{Bound, bind, field_at, holds, place_of};
+use crate::condition::Condition;
+use crate::copying::copy_value;
+use crate::errors::QueryError;
+use crate::query::Query;
+use arrow_schema::{Field, Schema};
+use cells::Value;
+use std::alloc::{AllocError, Global};
+use values::{Table, TableError, Values, accepted_rows_are_a_table};
+
+// The places of the columns asked for.
+#[tactic(auto, unfolding(crate::specs::Selection::chosen))]
+fn choose(alloc: Global, fields: &[Field], names: &[String]) -> Result<Vec<usize>, QueryError>
+    ensures ok { IfOk result (λ v. chosen (map column_of fields.now) (map string_bytes names.now) ≡ Some v.items) }
+    ensures refused { IfErr result (λ e. Unchosen e (chosen (map column_of fields.now) (map string_bytes names.now))) }
+{
+    if names.is_empty() {
+        return Ok(all_places(alloc, fields.len())?);
+    }
+    let mut places = Vec::with_capacity(alloc, fields.len())?;
+    for name in names {
+        let Some(place) = place_of(fields, name.as_str()) else {
+            return Err(QueryError::UnknownColumn);
+        };
+        if places.contains(&place) {
+            return Err(QueryError::UnknownColumn);
+        }
+        places.push(place).map_err(AllocError::from)?;
+    }
+    Ok(places)
+}
+
+fn all_places(alloc: Global, count: usize) -> Result<Vec<usize>, AllocError>
+    ensures { IfOk result (λ v. v.items ≡ range_with_len 0 count) }
+{
+    let mut places = Vec::with_capacity(alloc, count)?;
+    for place in 0..count {
+        places.push(place)?;
+    }
+    Ok(places)
+}
+
+// The conditions on the columns of a table, or the first reason why there is none.
+fn bind_all(
+    alloc: Global,
+    fields: &[Field],
+    conditions: &[Condition],
+) -> Result<Vec<Bound>, QueryError>
+    ensures ok { IfOk result (λ v. all_ok (map (bound (map column_of fields.now)) (map condition_in conditions.now)) ≡ Ok (map bound_in v.items)) }
+    ensures refused { IfErr result (λ e. Reports e (all_ok (map (bound (map column_of fields.now)) (map condition_in conditions.now)))) }
+{
+    let mut bounds = Vec::with_capacity(alloc, conditions.len())?;
+    for condition in conditions {
+        let bound = bind(alloc, fields, condition)?;
+        bounds.push(bound).map_err(AllocError::from)?;
+    }
+    Ok(bounds)
+}
+
+// A bit for each row, which is set where the condition holds.
+fn mask_of(alloc: Global, table: &Table, bound: &Bound) -> Result<Vec<u8>, AllocError>
+    ensures { IfOk result (λ mask. IsMask mask.items (map (holds (bound_in bound.now)) (table_of table.now).rows)) }
+{
+    let mut flags = Vec::with_capacity(alloc, table.len())?;
+    for row in table.rows() {
+        flags.push(holds(bound, row))?;
+    }
+    bitmap::pack(alloc, &flags)
+}
+
+// A bit that is set for each row.
+fn all_rows(alloc: Global, rows: usize) -> Result<Vec<u8>, AllocError>
+    ensures { IfOk result (λ mask. IsMask mask.items (replicate rows true)) }
+{
+    let mut flags = Vec::with_capacity(alloc, rows)?;
+    for row in 0..rows {
+        flags.push(row < rows)?;
+    }
+    let mask = bitmap::pack(alloc, &flags)?;
+    Ok(mask)
+}
+
+// The same where all conditions hold.
+fn mask_of_all(alloc: Global, table: &Table, bounds: &[Bound]) -> Result<Vec<u8>, AllocError>
+    ensures { IfOk result (λ mask. IsMask mask.items (map (holds_all (map bound_in bounds.now)) (table_of table.now).rows)) }
+{
+    let rows = table.len();
+    let mut mask = all_rows(alloc, rows)?;
+    for bound in bounds {
+        let own = mask_of(alloc, table, bound)?;
+        mask = bitmap::and(alloc, &mask, &own, rows)?;
+    }
+    Ok(mask)
+}
+
+// Adds the values at these places of a row.
+fn push_row(
+    alloc: Global,
+    cells: &mut Vec<Value>,
+    row: Values<'_>,
+    places: &[usize],
+) -> Result<(), AllocError>
+    ensures { OnOk result (map cell cells.new.items ≡ map cell cells.old.items ++ pick places.now (borrowed_cells row.entry)) }
+{
+    for place in places {
+        if let Some(value) = row.get(*place) {
+            cells.push(copy_value(alloc, value)?)?;
+        }
+    }
+    Ok(())
+}
+
+// The same of the row at a place of a table.
+fn push_row_at(
+    alloc: Global,
+    cells: &mut Vec<Value>,
+    table: &Table,
+    i: usize,
+    places: &[usize],
+) -> Result<(), AllocError>
+    requires { i < length (table_of table.now).rows }
+    ensures { OnOk result (map cell cells.new.items ≡ map cell cells.old.items ++ pick places.now (slice_index_or (table_of table.now).rows i [])) }
+{
+    match table.row(i) {
+        None => unreachable!(),
+        Some(row) => push_row(alloc, cells, row, places),
+    }
+}
+
+// The cells of some rows, one after another.
+#[derive(Debug, Drop)]
+struct Kept {
+    cells: Vec<Value>,
+    rows: usize,
+}
+
+// The rows of which all conditions hold, each with the values at these places, under a limit.
+fn keep_rows(
+    alloc: Global,
+    table: &Table,
+    places: &[usize],
+    bounds: &[Bound],
+    limit: Option<u64>,
+) -> Result<Kept, AllocError>
+    ensures cells { IfOk result (λ k. map cell k.cells.items
+        ≡ flat_map (λ row. row) (selected places.now (map bound_in bounds.now) limit (table_of table.now)).rows) }
+    ensures rows { IfOk result (λ k. k.rows ≡ length (selected places.now (map bound_in bounds.now) limit (table_of table.now)).rows) }
+{
+    let mask = mask_of_all(alloc, table, bounds)?;
+    let most = limit.unwrap_or(u64::MAX);
+    let mut cells = Vec::new(alloc);
+    let mut rows = 0usize;
+    for i in 0..table.len() {
+        if (rows as u64) < most && bitmap::get(&mask, i) {
+            push_row_at(alloc, &mut cells, table, i, places)?;
+            rows += 1;
+        }
+    }
+    Ok(Kept { cells, rows })
+}
+
+fn pick_fields(alloc: Global, fields: &[Field], places: &[usize]) -> Result<Vec<Field>, AllocError>
+    ensures { IfOk result (λ v. map column_of v.items ≡ pick places.now (map column_of fields.now)) }
+{
+    let mut picked = Vec::with_capacity(alloc, places.len())?;
+    for place in places {
+        if let Some(field) = field_at(fields, *place) {
+            picked.push(field.copy(alloc)?)?;
+        }
+    }
+    Ok(picked)
+}
+
+// A schema of the columns at some places.
+fn pick_schema(alloc: Global, schema: &Schema, places: &[usize]) -> Result<Schema, AllocError>
+    ensures { IfOk result (λ s. schema_of s ≡ record { columns = pick places.now (schema_of schema.now).columns; pairs = (schema_of schema.now).pairs }) }
+{
+    let mut picked = schema.copy(alloc)?;
+    picked.fields = pick_fields(alloc, &schema.fields, places)?;
+    Ok(picked)
+}
+
+/// The rows of a table of which all conditions hold, then the columns asked for, then the first rows; or the first reason
+/// why the query is refused: the columns asked for are looked at first, and then the conditions in order.
+pub fn select(alloc: Global, table: &Table, query: &Query) -> Result<Table, QueryError>
+    ensures ok { IfOk result (λ t. selection (table_of table.now) (query_in query.now) ≡ Ok (table_of t)) }
+    ensures refused { IfErr result (λ e. Reports e (selection (table_of table.now) (query_in query.now))) }
+{
+    let schema = table.schema();
+    let places = choose(alloc, &schema.fields, &query.columns)?;
+    let bounds = bind_all(alloc, &schema.fields, &query.conditions)?;
+    let kept = keep_rows(alloc, table, &places, &bounds, query.limit)?;
+    let schema = pick_schema(alloc, schema, &places)?;
+    accepted_rows_are_a_table();
+    match Table::from_cells(alloc, schema, kept.cells, kept.rows) {
+        Ok(selection) => Ok(selection),
+        Err(TableError::OutOfMemory) => Err(QueryError::OutOfMemory),
+        Err(TableError::Unfit(_)) => unreachable!(),
+        Err(TableError::Weight) => unreachable!(),
+    }
+}
