@@ -262,7 +262,8 @@ fn cells_by_name(
     fields: &[Field],
     members: &Map<String, Json>,
 ) -> Result<Vec<Value>, CellError>
-    ensures { Gives refusal_of (λ v. cells_of (map cell v.items)) result (cells_by_name (columns_of (map column_of fields.now)) (members_view members.now.entries)) }
+    ensures { Gives refusal_of (λ v. cells_of (map cell v.items)) result
+        (cells_by_name (columns_of (map column_of fields.now)) (members_view members.now.entries)) }
 {
     let mut cells = Vec::with_capacity(alloc, fields.len())?;
     for field in fields {

@@ -45,7 +45,8 @@ fn reader_of(alloc: Global, text: &[u8]) -> Reader<&[u8]>
 
 // Reads the next record, where there is one. A read of a slice fails for want of memory alone.
 fn read_next(reader: &mut Reader<&[u8]>, row: &mut ByteRecord) -> Result<bool, TextError>
-    ensures next { IfOk result (λ found. (s : State) (xs : List ℕ) → Stands reader.old s xs → Reads (next_record default_config s [] [] xs) found (fields_of row.new) reader.new) }
+    ensures next { IfOk result (λ found. (s : State) (xs : List ℕ) → Stands reader.old s xs
+        → Reads (next_record default_config s [] [] xs) found (fields_of row.new) reader.new) }
     ensures err { IfErr result (λ e. e ≡ errors.OutOfMemory) }
 {
     match reader.read_byte_record(row) {
