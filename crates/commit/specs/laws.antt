@@ -3,3 +3,4 @@ pub mod Frame
 pub mod Taking
 pub mod Apart
 pub mod Placed
+pub mod Fit

@@ -239,11 +239,20 @@ fn set_fault(device: &mut ModelDevice, fault: Fault)
     }
 }
 
+// How many calls of the script are acknowledged. Each makes six writes and syncs, and formatting reads twice.
+fn acknowledged_with(fault: Fault) -> u64 {
+    match fault {
+        Fault::FailRead(k) => if k <= 2 { 0 } else { 4 },
+        Fault::Fail(k) | Fault::Stop(k) => k.saturating_sub(1) / 6,
+    }
+}
+
 // Runs the script with this fault. After a stop, and after a failed call, what a crash leaves goes on.
 fn survives(rt: &impl Abort, alloc: Global, fault: Fault) -> Result<bool, AllocError> {
     let mut device = ModelDevice::new(alloc, 16)?;
     set_fault(&mut device, fault);
     let acknowledged = run_script(alloc, &mut device);
+    assert!(rt; acknowledged == acknowledged_with(fault));
     all_go_on(rt, alloc, &device, acknowledged)
 }
 
@@ -259,10 +268,10 @@ fn stays(rt: &impl Abort, alloc: Global, k: u64) -> Result<bool, AllocError> {
     Ok(epoch_left(rt, alloc, &mut left, shown) == Some(shown))
 }
 
-// Six calls format, and five publish. With the number past the last one, none fails.
+// The last one syncs the third segment. Reads past the second do not fail.
 #[test]
 fn each_call_fails_or_stops(rt: HostRuntime) {
-    for k in 1..=22 {
+    for k in 1..=24 {
         for fault in [Fault::Fail(k), Fault::Stop(k), Fault::FailRead(k)] {
             let well = survives(&rt, rt.alloc(), fault).ok() == Some(true);
             assert!(&rt; well, "{fault:?}");

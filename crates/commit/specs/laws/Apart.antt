@@ -55,14 +55,14 @@ is_apart_more a r (y ∷ ys) is apart =
     let parts = both (nat_le (a.start + a.count) y.start || nat_le (y.start + y.count) a.start) (is_apart a ys) is in
     and_from _ _ parts.0 (is_apart_more a r ys parts.1 apart)
 
-among_first : (y : Run) (ys : List Run) (other : Run) → is_among ys other ≡ true → is_among (y ∷ ys) other ≡ true
+pub among_first : (y : Run) (ys : List Run) (other : Run) → is_among ys other ≡ true → is_among (y ∷ ys) other ≡ true
 among_first y ys other is = by_first (same_run y other)
   where
     by_first : (t : Bool) → (t || is_among ys other) ≡ true
     by_first true = refl
     by_first false = is
 
-same_first : (y : Run) (ys : List Run) → is_among (y ∷ ys) y ≡ true
+pub same_first : (y : Run) (ys : List Run) → is_among (y ∷ ys) y ≡ true
 same_first y ys = ap (λ (t : Bool). t || is_among ys y) (same_itself y)
 
 -- one more that is apart from each of them

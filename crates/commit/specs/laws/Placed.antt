@@ -133,7 +133,7 @@ taken_free old new counts taken (r ∷ rs) all used n (inr later) = taken_free o
 pub uses_used : (entries : List UsageEntry) (runs pinned : List Run) → Uses entries runs pinned → (run : Run) → is_among runs run ≡ true → IsUsedIn entries run
 uses_used entries runs pinned uses run is = ap is_used (uses run) ∙ ap (λ (t : Bool). is_used (record { taken = t; pins = times_among pinned run })) is
 
-among_both : (xs ys : List Run) (run : Run) → is_among (xs ++ ys) run ≡ (is_among xs run || is_among ys run)
+pub among_both : (xs ys : List Run) (run : Run) → is_among (xs ++ ys) run ≡ (is_among xs run || is_among ys run)
 among_both [] ys run = refl
 among_both (x ∷ xs) ys run = ap (λ (t : Bool). same_run x run || t) (among_both xs ys run) ∙ by_first (same_run x run)
   where
