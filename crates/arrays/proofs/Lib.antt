@@ -1,0 +1,9 @@
+pub mod Raws
+pub mod Placed
+pub mod SlotCounts
+pub mod Layouts
+pub mod Counted
+pub mod Firsts
+pub mod Everys
+pub mod Rests
+pub mod Answered

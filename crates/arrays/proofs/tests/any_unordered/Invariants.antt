@@ -1,0 +1,11 @@
+use Rattle.std.proofs.Common.{◌≡◌, false, drop}
+use Rattle.std.specs.List.{list_any}
+use Rattle.arrays.specs.Checks.{typed_is_short, typed_is_unordered}
+use Rattle.arrays.specs.inner.Every.{all_of}
+use Rattle.arrays.proofs.tests.any_unordered.Given as goal
+
+abbrev pub invariant-loop-array : goal.invariant-loop-array
+invariant-loop-array l = record {
+  long : list_any typed_is_short (all_of (drop l.array-index l.every)) ≡ false;
+  same : list_any typed_is_unordered (all_of (drop l.array-index l.every)) ≡ list_any typed_is_unordered (all_of l.every);
+}

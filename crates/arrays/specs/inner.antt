@@ -1,0 +1,4 @@
+pub mod Rest
+pub mod Every
+pub mod Read
+pub mod Counted

@@ -1,0 +1,135 @@
+// The arrays that the nodes and buffers of a batch are (docs/definitions/arrays.md).
+ghost use Rattle.std.specs.Prelude.{IfOk, map};
+ghost use Rattle.arrow_schema.specs.Column.{columns_of};
+ghost use Rattle.arrow_schema.specs.View.{kind_of, column_of};
+ghost use Rattle.arrays.specs.inner.Rest.{IsPlaced, IsLaidOut, IsValidity, ArePlaced, IsPlacedBelow, ArePlacedBelow};
+
+use crate::counts::column_counts;
+use crate::rest::Rest;
+use arrow_schema::{DataType, Field};
+use columns::{PlacedArray, PlacedLayout, Span};
+use std::alloc::{AllocError, Global};
+
+#[tactic(auto, unfolding(columns::specs::FromBuffers::kind_array_from))]
+fn own_validity(data_type: &DataType, rest: Rest<'_>) -> Span
+    ensures { IsValidity (kind_of data_type.now) rest.entry result }
+{
+    match data_type {
+        DataType::Null => Span { start: 0, len: 0 },
+        DataType::Bool => rest.buffer(0),
+        DataType::Int(_) => rest.buffer(0),
+        DataType::Date(_) => rest.buffer(0),
+        DataType::Timestamp(_, _) => rest.buffer(0),
+        DataType::Utf8 => rest.buffer(0),
+        DataType::LargeUtf8 => rest.buffer(0),
+        DataType::Binary => rest.buffer(0),
+        DataType::LargeBinary => rest.buffer(0),
+        DataType::FixedSizeBinary(_) => rest.buffer(0),
+        DataType::List(_) => rest.buffer(0),
+        DataType::LargeList(_) => rest.buffer(0),
+        DataType::FixedSizeList(_, _) => rest.buffer(0),
+        DataType::Struct(_) => rest.buffer(0),
+    }
+}
+
+/// The array of a field.
+#[tactic(auto, using(crate::proofs::Placed::own_array), unfolding(columns::specs::FromBuffers::array_from))]
+#[cycle(place)]
+fn place(alloc: Global, field: &Field, rest: Rest<'_>) -> Result<PlacedArray, AllocError>
+    ensures { IfOk result (λ a. IsPlaced (column_of field.now) rest.entry a) }
+{
+    match &field.dictionary {
+        Some(_) => Ok(PlacedArray {
+            slots: rest.slots(),
+            validity: rest.buffer(0),
+            layout: PlacedLayout::Dictionary(rest.buffer(1), rest.part()),
+        }),
+        None => Ok(PlacedArray {
+            slots: rest.slots(),
+            validity: own_validity(&field.data_type, rest),
+            layout: place_layout(alloc, &field.data_type, rest)?,
+        }),
+    }
+}
+
+// The array of the items of lists, which have so many buffers of their own.
+#[tactic(auto, using(crate::proofs::Placed::below_placed))]
+#[cycle(place)]
+fn place_items(
+    alloc: Global,
+    item: &Field,
+    rest: Rest<'_>,
+    buffers: usize,
+) -> Result<Box<PlacedArray>, AllocError>
+    ensures { IfOk result (λ b. IsPlacedBelow (column_of item.now) rest.entry buffers b.value) }
+{
+    let array = place(alloc, item, rest.below(buffers))?;
+    Ok(Box::new(alloc, array)?)
+}
+
+// The arrays of the fields of structs.
+#[tactic(auto, using(crate::proofs::Placed::all_placed_below))]
+#[cycle(place)]
+fn place_children(
+    alloc: Global,
+    fields: &[Field],
+    rest: Rest<'_>,
+) -> Result<Vec<PlacedArray>, AllocError>
+    ensures { IfOk result (λ v. ArePlacedBelow (columns_of (map column_of fields.now)) rest.entry v.items) }
+{
+    place_all(alloc, fields, rest.below(1))
+}
+
+#[tactic(auto, unfolding(columns::specs::FromBuffers::kind_array_from))]
+#[cycle(place)]
+fn place_layout(
+    alloc: Global,
+    data_type: &DataType,
+    rest: Rest<'_>,
+) -> Result<PlacedLayout, AllocError>
+    ensures { IfOk result (λ p. IsLaidOut (kind_of data_type.now) rest.entry p) }
+{
+    match data_type {
+        DataType::Null => Ok(PlacedLayout::Null),
+        DataType::Bool => Ok(PlacedLayout::Bits(rest.buffer(1))),
+        DataType::Int(_) => Ok(PlacedLayout::Fixed(rest.buffer(1))),
+        DataType::Date(_) => Ok(PlacedLayout::Fixed(rest.buffer(1))),
+        DataType::Timestamp(_, _) => Ok(PlacedLayout::Fixed(rest.buffer(1))),
+        DataType::Utf8 => Ok(PlacedLayout::Binary(rest.buffer(1), rest.buffer(2))),
+        DataType::LargeUtf8 => Ok(PlacedLayout::Binary(rest.buffer(1), rest.buffer(2))),
+        DataType::Binary => Ok(PlacedLayout::Binary(rest.buffer(1), rest.buffer(2))),
+        DataType::LargeBinary => Ok(PlacedLayout::Binary(rest.buffer(1), rest.buffer(2))),
+        DataType::FixedSizeBinary(_) => Ok(PlacedLayout::Fixed(rest.buffer(1))),
+        DataType::List(item) => Ok(PlacedLayout::List(
+            rest.buffer(1),
+            place_items(alloc, item, rest, 2)?,
+        )),
+        DataType::LargeList(item) => Ok(PlacedLayout::List(
+            rest.buffer(1),
+            place_items(alloc, item, rest, 2)?,
+        )),
+        DataType::FixedSizeList(_, item) => {
+            Ok(PlacedLayout::FixedList(place_items(alloc, item, rest, 1)?))
+        }
+        DataType::Struct(fields) => Ok(PlacedLayout::Struct(place_children(alloc, fields, rest)?)),
+    }
+}
+
+/// The arrays of fields, one after another.
+#[cycle(place)]
+pub(crate) fn place_all(
+    alloc: Global,
+    fields: &[Field],
+    rest: Rest<'_>,
+) -> Result<Vec<PlacedArray>, AllocError>
+    ensures { IfOk result (λ v. ArePlaced (columns_of (map column_of fields.now)) rest.entry v.items) }
+{
+    let mut arrays = Vec::with_capacity(alloc, fields.len())?;
+    let mut left = rest;
+    for field in fields {
+        let array = place(alloc, field, left)?;
+        arrays.push(array)?;
+        left = left.after(column_counts(field));
+    }
+    Ok(arrays)
+}
