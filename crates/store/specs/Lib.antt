@@ -5,4 +5,6 @@ pub mod Steps
 pub mod Runs
 pub mod Since
 pub mod History
+pub mod Held
+pub mod Fits
 pub mod laws

@@ -2,6 +2,8 @@
 use Rattle.std.specs.Prelude.{ℕ, List, ◌++◌, codes}
 use Rattle.commit.specs.declared.cause.Cause.{Cause}
 use Rattle.commit.specs.declared.cause.Cause.TheVariants as causes
+use Rattle.commit.specs.declared.reading.OpenError.{OpenError}
+use Rattle.commit.specs.declared.reading.OpenError.TheVariants as errors
 use Rattle.store.specs.declared.opening_refusal.OpeningRefusal.{OpeningRefusal}
 use Rattle.store.specs.declared.opening_refusal.OpeningRefusal.TheVariants as refusals
 
@@ -20,3 +22,10 @@ opening_text refusals.AlreadyAStore = codes "C2 AlreadyAStore"
 opening_text (refusals.Damaged cause) = codes "C3 Damaged " ++ cause_text cause
 opening_text refusals.Device = codes "C4 Device"
 opening_text refusals.OutOfMemory = codes "OutOfMemory"
+
+-- why a store is not opened, as it is told
+abbrev pub opening_of : OpenError → OpeningRefusal
+opening_of errors.NotAStore = refusals.NotAStore
+opening_of (errors.Damaged cause) = refusals.Damaged cause
+opening_of errors.Device = refusals.Device
+opening_of errors.OutOfMemory = refusals.OutOfMemory

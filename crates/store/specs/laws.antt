@@ -2,3 +2,5 @@ pub mod Going
 pub mod Left
 pub mod Counted
 pub mod Settled
+pub mod Frame
+pub mod Named

@@ -1,16 +1,21 @@
 //! The store: named tables on a device, through commands, failures and stops.
 //!
 //! What runs of calls mean stands here: how a reply follows from the tables (`specs/Steps.antt`), what a stop at any moment
-//! may leave (`specs/Machine.antt`), and what follows for a whole run. A call refused by its device is the only one whose
-//! outcome is open, and only until the next opening:
+//! may leave (`specs/Machine.antt`), and what follows for a whole run. A store is opened and closed; its other calls are
+//! not there yet.
 //!
 //! ```
-//! each_stop_is_allowed(); // since each call of a run: the settled commands, or with the one in doubt
+//! match Store::open(alloc, device) {
+//!     Ok(store) => store.close(), // the tables of all acknowledged commands were there
+//!     Err((refusal, device)) => device, // and `refusal` says why, as `C1 NotAStore`
+//! }
 //! ```
 #![tactic(auto)]
 
 mod laws;
 mod opening_refusal;
+mod store;
+mod stored;
 
 pub use commit::Cause;
 pub use laws::{
@@ -18,3 +23,5 @@ pub use laws::{
     undisturbed_runs_tell_no_failure,
 };
 pub use opening_refusal::OpeningRefusal;
+pub use store::Store;
+pub use stored::StoredCatalogue;

@@ -1,8 +1,8 @@
 // Why a device is not opened or formatted.
 ghost use Rattle.std.specs.Prelude.{◌≡◌};
-ghost use Rattle.store.specs.Opening.{cause_text};
+ghost use Rattle.store.specs.Opening.{cause_text, opening_of};
 
-use commit::Cause;
+use commit::{Cause, OpenError};
 use std::fmt;
 
 /// Why a device is not opened or formatted. The device is given back beside it.
@@ -30,6 +30,18 @@ fn cause_name(cause: Cause) -> &'static str
         Cause::CatalogueText => "CatalogueText",
         Cause::RunRange => "RunRange",
         Cause::RunOverlap => "RunOverlap",
+    }
+}
+
+// Why a store is not opened, as it is told.
+pub(crate) fn opening_refusal(error: OpenError) -> OpeningRefusal
+    ensures { result ≡ opening_of error }
+{
+    match error {
+        OpenError::NotAStore => OpeningRefusal::NotAStore,
+        OpenError::Damaged(cause) => OpeningRefusal::Damaged(cause),
+        OpenError::Device => OpeningRefusal::Device,
+        OpenError::OutOfMemory => OpeningRefusal::OutOfMemory,
     }
 }
 

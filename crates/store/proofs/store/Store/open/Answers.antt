@@ -1,0 +1,70 @@
+use Rattle.std.proofs.Common.{◌≡◌, ℕ, true, false, refl, sym, subst}
+use Rattle.sector_dev.specs.Disk.{now, shown_image}
+use Rattle.sector_dev.specs.Time.{LeavesOnly}
+use Rattle.commit.specs.Standing.{is_size, Stands}
+use Rattle.catalogue.specs.View.{catalogue_of}
+use Rattle.store.specs.declared.opening_refusal.OpeningRefusal.{OpeningRefusal}
+use Rattle.store.specs.Calls.{open_call, done, shut_by}
+use Rattle.store.specs.Machine.{shut_down, Allows}
+use Rattle.store.specs.Runs.{Goes}
+use Rattle.store.specs.Held.{whole_reading}
+use Rattle.store.specs.Fits.{setting_of}
+use Rattle.store.proofs.Opened.{found_shown, opening_done, opening_refused, opening_counts, device_after, synced_then, runs_then}
+use Rattle.store.proofs.store.Store.open.Goals as goal
+
+pub returns-in-Err-clause-refused : goal.returns-in-Err-clause-refused
+returns-in-Err-clause-refused g c = λ told base m fits.
+    let D = g.D.SectorDevice in
+    let s0 = D.story c.args.device in
+    let s1 = D.story c.recover.new.device in
+    let size = D.size c.args.device in
+    let same = c.recover.ensures.size in
+    let shows = g.met.D.SectorDevice.shows c.args.device told in
+    let moments = c.recover.ensures.moments told in
+    let goes = opening_refused size base m c.in-Err.error s0 s1 (D.failed c.args.device) (D.failed c.recover.new.device) shows fits.allows moments (c.in-Err.ensures.refused told) (λ other. c.in-Err.ensures.quiet other told) (opening_counts c.recover.result c.in-Err.error (D.failed c.args.device) (D.failed c.recover.new.device) c.in-Err.is c.recover.ensures.count) in
+    record {
+      same = same;
+      goes = subst (λ (r : OpeningRefusal). Goes (setting_of size base) m open_call (shut_by r) s0 s1 (D.failed c.args.device) (D.failed c.recover.new.device) (shut_down m)) (sym c.opening_refusal.ensures) goes;
+      fits = record {
+        in_limits = subst (λ (n : ℕ). is_size n ≡ true) (sym same) fits.in_limits;
+        allows = subst (λ (n : ℕ). LeavesOnly (Allows (setting_of n base) (shut_down m)) (now s1)) (sym same) (device_after size base m s0 s1 shows fits.allows moments);
+        fresh = λ early. let f = fits.fresh early in record { settled = f.settled; doubt = f.doubt; began = f.began };
+      };
+    }
+
+pub returns-in-Ok-clause-opened : goal.returns-in-Ok-clause-opened
+returns-in-Ok-clause-opened g c = λ told base m fits.
+    let D = g.D.SectorDevice in
+    let s0 = D.story c.args.device in
+    let s1 = D.story c.recover.new.device in
+    let size = D.size c.args.device in
+    let same = c.recover.ensures.size in
+    let shows = g.met.D.SectorDevice.shows c.args.device told in
+    let moments = c.recover.ensures.moments told in
+    let commit = c.in-Ok.opened.commit in
+    let catalogue = catalogue_of c.in-Ok.opened.catalogue.list in
+    let stands = c.in-Ok.ensures.found told in
+    let synced = c.in-Ok.ensures.synced told in
+    let found = found_shown size base m s0 commit catalogue shows fits.allows stands in
+    let goes = opening_done size base m s0 s1 (D.failed c.args.device) (D.failed c.recover.new.device) commit catalogue shows fits.allows moments stands synced c.in-Ok.ensures.count found in
+    let after = runs_then base m _ found in
+    record {
+      next = found.next;
+      same = same;
+      goes = goes;
+      fits = record {
+        phase = after.0;
+        started = after.1;
+        device = record {
+          in_limits = subst (λ (n : ℕ). is_size n ≡ true) (sym same) fits.in_limits;
+          allows = subst (λ (n : ℕ). LeavesOnly (Allows (setting_of n base) found.next) (now s1)) (sym same) goes.settles;
+          fresh = λ no. let on = after.1 in absurd (cc (on, no));
+        };
+        sound = λ on. record {
+          stands = subst (λ (n : ℕ). Stands whole_reading n (now s1) commit catalogue) (sym same) (c.in-Ok.ensures.stands told);
+          tables = synced_then s0 s1 catalogue _ synced found.tables;
+          uses = c.in-Ok.ensures.uses;
+          none = after.2;
+        };
+      };
+    }

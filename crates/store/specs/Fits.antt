@@ -1,0 +1,68 @@
+-- How a device or a store stands for a machine.
+use Rattle.std.specs.Prelude.{◌≡◌, ℕ, Bool, true, false, if◌then◌else◌, List, [], Option, Some, None}
+use Rattle.sector_dev.specs.Disk.{Story, now, synced_image}
+use Rattle.sector_dev.specs.Time.{LeavesOnly}
+use Rattle.sector_dev.specs.declared.device.SectorDevice.{Ghosts}
+use Rattle.commit.specs.Standing.{is_size, used_runs, Stands}
+use Rattle.commit.specs.Placing.{Uses}
+use Rattle.catalogue.specs.Entries.{PlainCatalogue}
+use Rattle.catalogue.specs.View.{catalogue_of}
+use Rattle.tables.specs.Tables.{Tables, no_tables}
+use Rattle.tables.specs.Verdict.{after}
+use Rattle.store.specs.declared.stored.StoredCatalogue.{StoredCatalogue}
+use Rattle.store.specs.declared.store.Store.{Store}
+use Rattle.store.specs.declared.opening_refusal.OpeningRefusal.{OpeningRefusal}
+use Rattle.store.specs.Calls.{PlainCall, PlainReply, done, shut_by}
+use Rattle.store.specs.Machine.{Setting, Machine, running, halted, shut_down, Allows}
+use Rattle.store.specs.Runs.{Goes}
+use Rattle.store.specs.Held.{whole_reading, tables_held, held_by}
+
+-- how a run on a device of this size is judged
+abbrev pub setting_of : ℕ → Tables → Setting
+setting_of size base = record { held = held_by size; base = base }
+
+-- nothing was done yet
+pub record IsFresh (base : Tables) (m : Machine) : Type 0 where
+  pub settled : m.settled ≡ []
+  pub doubt : m.doubt ≡ None
+  pub began : base ≡ no_tables
+
+-- what stands on a device is what the machine allows
+pub record DeviceFits {D : Type 0} (size : D → ℕ) (story : D → Story) (base : Tables) (m : Machine) (device : D) : Type 0 where
+  pub in_limits : is_size (size device) ≡ true
+  pub allows : LeavesOnly (Allows (setting_of (size device) base) m) (now (story device))
+  pub fresh : m.started ≡ false → IsFresh base m
+
+-- the catalogue of a store
+abbrev pub listed_in : {D : Type 0} {g : Ghosts D} → Store D g → PlainCatalogue
+listed_in store = catalogue_of store.opened.catalogue.list
+
+-- an open store: all is on the disk, and its tables are those of the settled commands
+pub record IsSound {D : Type 0} {g : Ghosts D} (size : D → ℕ) (story : D → Story) (base : Tables) (m : Machine) (store : Store D g) : Type 0 where
+  pub stands : Stands whole_reading (size store.device) (now (story store.device)) store.opened.commit (listed_in store)
+  pub tables : tables_held (synced_image (now (story store.device))) (listed_in store) ≡ Some (after base m.settled)
+  pub uses : Uses store.opened.map.entries (used_runs whole_reading store.opened.commit (listed_in store)) []
+  pub none : m.doubt ≡ None
+
+pub record StoreFits {D : Type 0} {g : Ghosts D} (size : D → ℕ) (story : D → Story) (base : Tables) (m : Machine) (store : Store D g) : Type 0 where
+  pub phase : m.phase ≡ (if store.halted then halted else running)
+  pub started : m.started ≡ true
+  pub device : DeviceFits size story base m store.device
+  pub sound : m.phase ≡ running → IsSound size story base m store
+
+-- the device of a store
+abbrev pub device_of : {D : Type 0} {g : Ghosts D} → Store D g → D
+device_of store = store.device
+
+-- an opening or a formatting of a device that was done: some machine goes on, and the store stands for it
+pub record Opens {D : Type 0} {g : Ghosts D} (size : D → ℕ) (story : D → Story) (failed : D → ℕ) (base : Tables) (m : Machine) (call : PlainCall) (device : D) (store : Store D g) : Type 0 where
+  pub next : Machine
+  pub same : size (device_of store) ≡ size device
+  pub goes : Goes (setting_of (size device) base) m call done (story device) (story (device_of store)) (failed device) (failed (device_of store)) next
+  pub fits : StoreFits size story base next store
+
+-- one that was refused: the place is shut, and the device stands for the machine
+pub record Shuts {D : Type 0} (size : D → ℕ) (story : D → Story) (failed : D → ℕ) (base : Tables) (m : Machine) (call : PlainCall) (device : D) (refusal : OpeningRefusal) (back : D) : Type 0 where
+  pub same : size back ≡ size device
+  pub goes : Goes (setting_of (size device) base) m call (shut_by refusal) (story device) (story back) (failed device) (failed back) (shut_down m)
+  pub fits : DeviceFits size story base (shut_down m) back

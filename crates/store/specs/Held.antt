@@ -1,0 +1,96 @@
+-- What an image holds to one who opens it: its tables, where each segment can be read.
+use Rattle.std.specs.Prelude.{◌≡◌, ◌==◌, ℕ, Bool, true, nat_eq, List, [], ◌∷◌, ◌++◌, length, Option, Some, None, option_map, Result, Ok, Err, if◌then◌else◌}
+use Rattle.std.specs.List.{starts_with}
+use Rattle.sector_dev.specs.Disk.{Image}
+use Rattle.segments.specs.Sectors.{bytes_at}
+use Rattle.arrow_schema.specs.Column.{PlainSchema}
+use Rattle.cells.specs.Cell.{Cell, PlainTable}
+use Rattle.values.specs.Table.{Refusal, table_from}
+use Rattle.ipc_message.specs.declared.fault.Fault.{Fault}
+use Rattle.ipc_message.specs.Header.{supported_codes}
+use Rattle.ipc_write.specs.Written.{schema_message}
+use Rattle.ipc_stream.specs.Meaning.{meaning}
+use Rattle.catalogue.specs.declared.entry.Segment.{Segment}
+use Rattle.catalogue.specs.Entries.{PlainEntry, PlainCatalogue, runs_of}
+use Rattle.catalogue.specs.Reading.{catalogue_at}
+use Rattle.commit.specs.declared.sector.Commit.{Commit}
+use Rattle.commit.specs.declared.cause.Cause.{Cause}
+use Rattle.commit.specs.declared.cause.Cause.TheVariants.{CatalogueText}
+use Rattle.commit.specs.Standing as standings
+use Rattle.commit.specs.Standing.{Reading, Standing, standing, IsLocal}
+use Rattle.tables.specs.Tables.{Tables, no_tables, with_table}
+use Rattle.store.specs.Machine.{Held, no_store, broken, holds}
+
+-- ---- a segment
+
+-- the rows of a table that a stream means, where there are so many of them
+abbrev pub rows_where : ℕ → Result PlainTable Fault → Option (List (List Cell))
+rows_where count (Err fault) = None
+rows_where count (Ok table) = if length table.rows == count then Some table.rows else None
+
+-- the rows that some bytes hold: a stream that begins with the message of this schema and means so many rows
+abbrev pub rows_in_bytes : PlainSchema → ℕ → Option (List ℕ) → Option (List (List Cell))
+rows_in_bytes schema count None = None
+rows_in_bytes schema count (Some bytes) = if starts_with nat_eq bytes (schema_message schema) then rows_where count (meaning supported_codes bytes) else None
+
+unfoldable pub segment_rows : PlainSchema → Segment → Image → Option (List (List Cell))
+segment_rows schema segment image = rows_in_bytes schema segment.rows (bytes_at image segment.place.run.start segment.place.bytes)
+
+-- ---- a table
+
+-- rows before others, where both can be read
+abbrev pub joined_rows : Option (List (List Cell)) → Option (List (List Cell)) → Option (List (List Cell))
+joined_rows None others = None
+joined_rows (Some rows) others = option_map (λ more. rows ++ more) others
+
+unfoldable pub rows_held : PlainSchema → List Segment → Image → Option (List (List Cell))
+rows_held schema [] image = Some []
+rows_held schema (segment ∷ segments) image = joined_rows (segment_rows schema segment image) (rows_held schema segments image)
+
+-- the table of these rows, where they are one
+abbrev pub table_where : Result PlainTable Refusal → Option PlainTable
+table_where (Ok table) = Some table
+table_where (Err refusal) = None
+
+abbrev pub table_of_rows : PlainSchema → Option (List (List Cell)) → Option PlainTable
+table_of_rows schema None = None
+table_of_rows schema (Some rows) = table_where (table_from schema rows)
+
+abbrev pub table_held : Image → PlainEntry → Option PlainTable
+table_held image entry = table_of_rows entry.schema (rows_held entry.schema entry.segments image)
+
+-- ---- the tables
+
+abbrev pub with_held : List ℕ → Option PlainTable → Option Tables → Option Tables
+with_held name None others = None
+with_held name (Some table) others = option_map (λ tables. with_table tables name table) others
+
+-- the tables of a catalogue, where each can be read
+unfoldable pub tables_held : Image → PlainCatalogue → Option Tables
+tables_held image [] = Some no_tables
+tables_held image (entry ∷ entries) = with_held entry.name (table_held image entry) (tables_held image entries)
+
+-- how the catalogue is read: its whole text lies where the commit says
+abbrev pub catalogue_or_cause : Option PlainCatalogue → Result PlainCatalogue Cause
+catalogue_or_cause None = Err CatalogueText
+catalogue_or_cause (Some c) = Ok c
+
+abbrev pub whole_reading : Reading PlainCatalogue
+whole_reading = record { at = λ size image k text. catalogue_or_cause (catalogue_at text); runs = runs_of }
+
+abbrev pub held_tables : Option Tables → Held
+held_tables None = broken
+held_tables (Some tables) = holds tables
+
+abbrev pub held_of : Image → Standing PlainCatalogue → Held
+held_of image standings.no_store = no_store
+held_of image (standings.damaged cause) = broken
+held_of image (standings.rules k c) = held_tables (tables_held image c)
+
+-- what one who opens an image on a device of this size finds
+unfoldable pub held_by : ℕ → Image → Held
+held_by size image = held_of image (standing whole_reading size image)
+
+-- the catalogue's text alone says what it is
+pub whole_is_local : IsLocal whole_reading
+whole_is_local size a b k text c is same = is
