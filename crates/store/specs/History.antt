@@ -1,7 +1,7 @@
--- The commands of a run: those that were called, and those that were acknowledged.
-use Rattle.std.specs.Prelude.{◌≡◌, ◌⊎◌, List, [], ◌∷◌, ◌++◌, Option, Some, None}
+-- The commands of a run: those that may have been done, and those that were acknowledged.
+use Rattle.std.specs.Prelude.{◌≡◌, ◌⊎◌, if◌then◌else◌, List, [], ◌∷◌, ◌++◌, Option, Some, None}
 use Rattle.tables.specs.Commands.{PlainCommand}
-use Rattle.store.specs.Calls.{PlainCall, apply_call, PlainReply, done}
+use Rattle.store.specs.Calls.{PlainCall, apply_call, PlainReply, done, may_be_done}
 
 -- these stand among those, in their order
 abbrev pub InOrder : List PlainCommand → List PlainCommand → Type 0
@@ -18,9 +18,14 @@ abbrev pub called_by : PlainCall → List PlainCommand
 called_by (apply_call c) = c ∷ []
 called_by _ = []
 
-abbrev pub called : List PlainCall → List PlainCommand
-called [] = []
-called (call ∷ calls) = called_by call ++ called calls
+-- the command of a call that was acknowledged or in which the device failed: one that is refused for another reason is none
+abbrev pub begun_by : PlainCall → PlainReply → List PlainCommand
+begun_by call reply = if may_be_done reply then called_by call else []
+
+abbrev pub begun : List PlainCall → List PlainReply → List PlainCommand
+begun [] replies = []
+begun (call ∷ calls) [] = []
+begun (call ∷ calls) (reply ∷ replies) = begun_by call reply ++ begun calls replies
 
 -- the command of a call that answered that it is done
 abbrev pub acknowledged_by : PlainCall → PlainReply → List PlainCommand
@@ -32,9 +37,9 @@ acknowledged [] replies = []
 acknowledged (call ∷ calls) [] = []
 acknowledged (call ∷ calls) (reply ∷ replies) = acknowledged_by call reply ++ acknowledged calls replies
 
--- how the settled commands grew: by all that were acknowledged, and by none that was not called or in doubt before; with the one in doubt at the end
-pub record Settles (settled settled' : List PlainCommand) (doubt doubt' : Option PlainCommand) (acknowledged called : List PlainCommand) : Type 0 where
+-- how the settled commands grew: by all that were acknowledged, and by none that did not begin or was not in doubt before; with the one in doubt at the end
+pub record Settles (settled settled' : List PlainCommand) (doubt doubt' : Option PlainCommand) (acknowledged begun : List PlainCommand) : Type 0 where
   pub more : List PlainCommand
   pub grew : settled' ≡ settled ++ more
   pub kept : InOrder acknowledged more
-  pub only : InOrder (more ++ in_doubt doubt') (in_doubt doubt ++ called)
+  pub only : InOrder (more ++ in_doubt doubt') (in_doubt doubt ++ begun)

@@ -7,7 +7,7 @@ ghost use Rattle.store.specs.Calls.{PlainCall, PlainReply, is_device_reply};
 ghost use Rattle.store.specs.Machine.{Setting, Machine, Allows};
 ghost use Rattle.store.specs.Runs.{Goes, Run};
 ghost use Rattle.store.specs.Since.{story_at, IsLeftFrom};
-ghost use Rattle.store.specs.History.{called, acknowledged, Settles};
+ghost use Rattle.store.specs.History.{begun, acknowledged, Settles};
 
 /// An image that a stop may have left since some call of a run began was left before one of the calls from it on, at a moment
 /// of one of them or after the last, and is what the machine of that very moment allows.
@@ -34,10 +34,11 @@ pub fn undisturbed_runs_tell_no_failure()
         → failed' ≡ failed → list_any is_device_reply replies ≡ false }
 {}
 
-/// The settled commands of a run grow by every command that was acknowledged, in order, and by none that was not called; with
-/// the one in doubt at its end they still stand among those that were in doubt or called, in order.
+/// The settled commands of a run grow by every command that was acknowledged, in order; with the one in doubt at its end they
+/// stand among the one in doubt before and those that were acknowledged or whose device failed, in order. So none is there that
+/// was refused for another reason than its device.
 pub fn acknowledged_commands_are_settled()
     ensures { (s : Setting) (calls : List PlainCall) (replies : List PlainReply) (m : Machine) (old : Story) (failed : ℕ)
         (m' : Machine) (new : Story) (failed' : ℕ) → Run s calls replies m old failed m' new failed'
-        → Settles m.settled m'.settled m.doubt m'.doubt (acknowledged calls replies) (called calls) }
+        → Settles m.settled m'.settled m.doubt m'.doubt (acknowledged calls replies) (begun calls replies) }
 {}
