@@ -1,7 +1,8 @@
 -- The commands of a run: those that may have been done, and those that were acknowledged.
-use Rattle.std.specs.Prelude.{◌≡◌, ◌⊎◌, if◌then◌else◌, List, [], ◌∷◌, ◌++◌, Option, Some, None}
+use Rattle.std.specs.Prelude.{◌≡◌, ◌≢◌, ◌⊎◌, if◌then◌else◌, List, [], ◌∷◌, ◌++◌, Option, Some, None}
 use Rattle.tables.specs.Commands.{PlainCommand}
 use Rattle.store.specs.Calls.{PlainCall, apply_call, PlainReply, done, may_be_done}
+use Rattle.store.specs.Machine.{Machine, halted}
 
 -- these stand among those, in their order
 abbrev pub InOrder : List PlainCommand → List PlainCommand → Type 0
@@ -43,3 +44,9 @@ pub record Settles (settled settled' : List PlainCommand) (doubt doubt' : Option
   pub grew : settled' ≡ settled ++ more
   pub kept : InOrder acknowledged more
   pub only : InOrder (more ++ in_doubt doubt') (in_doubt doubt ++ begun)
+
+-- just what was acknowledged is settled, nothing is in doubt, and no store is halted
+pub record SettlesAll (m m' : Machine) (acknowledged : List PlainCommand) : Type 0 where
+  pub settled : m'.settled ≡ m.settled ++ acknowledged
+  pub none : m'.doubt ≡ None
+  pub on : m'.phase ≢ halted
