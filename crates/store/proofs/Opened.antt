@@ -1,7 +1,7 @@
 -- What an opening finds is what the machine allows.
-use Rattle.std.proofs.Common.{◌≡◌, ◌⊎◌, inl, inr, ⊎_elim, ℕ, Bool, true, false, ◌&&◌, ◌≢◌, List, [], Option, Some, None, refl, sym, ap, ◌∙◌, subst, arith}
+use Rattle.std.proofs.Common.{◌≡◌, ◌⊎◌, inl, inr, ℕ, Bool, true, false, ◌&&◌, ◌≢◌, Option, Some, None, refl, sym, ap, ◌∙◌, subst, arith}
 use Rattle.std.proofs.lemmas.Bool.Decides.{nat_tests}
-use Rattle.std.specs.Prelude.{if◌then◌else◌, nat_lt, Result, Ok, Err}
+use Rattle.std.specs.Prelude.{nat_lt, Result, Ok, Err}
 use Rattle.sector_dev.specs.Disk.{Disk, Story, Image, now, MayLeave, ShowsImage, shown_image, synced_image, flushed}
 use Rattle.sector_dev.specs.Time.{Grows, LeavesOnly}
 use Rattle.sector_dev.specs.laws.Time.{weaken, now_has}
@@ -16,7 +16,7 @@ use Rattle.commit.specs.declared.reading.OpenError.TheVariants as errors
 use Rattle.catalogue.specs.Entries.{PlainCatalogue}
 use Rattle.tables.specs.Tables.{Tables}
 use Rattle.tables.specs.Verdict.{after}
-use Rattle.store.specs.Calls.{PlainCall, open_call, PlainReply, done, shut_by, may_be_done}
+use Rattle.store.specs.Calls.{open_call, PlainReply, done, shut_by, may_be_done}
 use Rattle.store.specs.Steps.{Step}
 use Rattle.store.specs.Runs.{Goes, counted}
 use Rattle.store.specs.Machine as machines

@@ -1,5 +1,5 @@
 -- How a device or a store stands for a machine.
-use Rattle.std.specs.Prelude.{◌≡◌, ℕ, Bool, true, false, if◌then◌else◌, List, [], Option, Some, None}
+use Rattle.std.specs.Prelude.{◌≡◌, ℕ, true, false, if◌then◌else◌, [], Some, None}
 use Rattle.sector_dev.specs.Disk.{Story, now, synced_image, flushed}
 use Rattle.sector_dev.specs.Time.{Grows, LeavesOnly}
 use Rattle.sector_dev.specs.declared.device.SectorDevice.{Ghosts}
@@ -10,10 +10,9 @@ use Rattle.catalogue.specs.Entries.{PlainCatalogue}
 use Rattle.catalogue.specs.View.{catalogue_of}
 use Rattle.tables.specs.Tables.{Tables, no_tables}
 use Rattle.tables.specs.Verdict.{after}
-use Rattle.store.specs.declared.stored.StoredCatalogue.{StoredCatalogue}
 use Rattle.store.specs.declared.store.Store.{Store}
 use Rattle.store.specs.declared.opening_refusal.OpeningRefusal.{OpeningRefusal}
-use Rattle.store.specs.Calls.{PlainCall, PlainReply, done, shut_by}
+use Rattle.store.specs.Calls.{PlainCall, done, shut_by}
 use Rattle.store.specs.Machine.{Setting, Machine, running, halted, shut_down, Allows}
 use Rattle.store.specs.Runs.{Goes}
 use Rattle.store.specs.Held.{whole_reading, tables_held, held_by}

@@ -1,8 +1,10 @@
 -- The commands of a run: those that may have been done, and those that were acknowledged.
-use Rattle.std.specs.Prelude.{◌≡◌, ◌≢◌, ◌⊎◌, if◌then◌else◌, List, [], ◌∷◌, ◌++◌, Option, Some, None}
+use Rattle.std.specs.Prelude.{◌≡◌, ◌≢◌, ◌⊎◌, false, if◌then◌else◌, List, [], ◌∷◌, ◌++◌, Option, Some, None}
+use Rattle.sector_dev.specs.Disk.{Image}
 use Rattle.tables.specs.Commands.{PlainCommand}
+use Rattle.tables.specs.Verdict.{after}
 use Rattle.store.specs.Calls.{PlainCall, apply_call, PlainReply, done, may_be_done}
-use Rattle.store.specs.Machine.{Machine, halted}
+use Rattle.store.specs.Machine.{no_store, holds, Setting, Machine, halted}
 
 -- these stand among those, in their order
 abbrev pub InOrder : List PlainCommand → List PlainCommand → Type 0
@@ -50,3 +52,18 @@ pub record SettlesAll (m m' : Machine) (acknowledged : List PlainCommand) : Type
   pub settled : m'.settled ≡ m.settled ++ acknowledged
   pub none : m'.doubt ≡ None
   pub on : m'.phase ≢ halted
+
+-- an image has the tables of settled commands that grew so from those of this machine, with nothing in doubt
+pub record HoldsSettled (s : Setting) (m : Machine) (acknowledged begun : List PlainCommand) (image : Image) : Type 0 where
+  pub settled : List PlainCommand
+  pub held : s.held image ≡ holds (after s.base settled)
+  pub settles : Settles m.settled settled m.doubt None acknowledged begun
+
+-- or it has no store, and there was none: nothing was acknowledged
+pub record HoldsNone (s : Setting) (m : Machine) (acknowledged : List PlainCommand) (image : Image) : Type 0 where
+  pub none : s.held image ≡ no_store
+  pub fresh : m.started ≡ false
+  pub silent : acknowledged ≡ []
+
+abbrev pub Keeps : Setting → Machine → List PlainCommand → List PlainCommand → Image → Type 0
+Keeps s m acknowledged begun image = HoldsSettled s m acknowledged begun image ⊎ HoldsNone s m acknowledged image

@@ -55,9 +55,10 @@ in_turn (x ∷ xs) (y ∷ ys) (z ∷ zs) (inr a) (inl b) = inr (in_turn (x ∷ x
 
 -- ---- one call
 
-record Moves (m : Machine) (call : PlainCall) (reply : PlainReply) (new : Machine) : Type 0 where
-  settles : Settles m.settled new.settled m.doubt new.doubt (acknowledged_by call reply) (begun_by call reply)
-  undisturbed : is_device_reply reply ≡ false → m.doubt ≡ None → m.phase ≢ halted → SettlesAll m new (acknowledged_by call reply)
+pub record Moves (m : Machine) (call : PlainCall) (reply : PlainReply) (new : Machine) : Type 0 where
+  pub settles : Settles m.settled new.settled m.doubt new.doubt (acknowledged_by call reply) (begun_by call reply)
+  pub undisturbed : is_device_reply reply ≡ false → m.doubt ≡ None → m.phase ≢ halted → SettlesAll m new (acknowledged_by call reply)
+  pub starts : new.started ≡ false → (m.started ≡ false) × (acknowledged_by call reply ≡ [])
 
 moved : (m : Machine) (call : PlainCall) (reply : PlainReply) (new is : Machine) → new ≡ is → Moves m call reply is → Moves m call reply new
 moved m call reply new is same moves = subst (λ (k : Machine). Moves m call reply k) (sym same) moves
@@ -67,13 +68,17 @@ same_list : (settled : List PlainCommand) (doubt : Option PlainCommand) (calls :
 same_list settled doubt calls = record { more = []; grew = sym (append-nil settled); kept = tt; only = own_front (in_doubt doubt) calls }
 
 -- the one in doubt is dropped
-dropped_list : (settled : List PlainCommand) (doubt : Option PlainCommand) (calls : List PlainCommand) → Settles settled settled doubt None [] calls
+pub dropped_list : (settled : List PlainCommand) (doubt : Option PlainCommand) (calls : List PlainCommand) → Settles settled settled doubt None [] calls
 dropped_list settled doubt calls = record { more = []; grew = sym (append-nil settled); kept = tt; only = tt }
 
 -- or settled
-kept_list : (settled : List PlainCommand) (doubt : Option PlainCommand) → Settles settled (with_doubt settled doubt) doubt None [] []
-kept_list settled None = dropped_list settled None []
-kept_list settled (Some c) = record { more = c ∷ []; grew = refl; kept = tt; only = inl (refl, tt) }
+pub kept_list : (settled : List PlainCommand) (doubt : Option PlainCommand) (calls : List PlainCommand) → Settles settled (with_doubt settled doubt) doubt None [] calls
+kept_list settled None calls = dropped_list settled None calls
+kept_list settled (Some c) calls = record { more = c ∷ []; grew = refl; kept = tt; only = inl (refl, tt) }
+
+-- or the command that has begun is settled
+pub begun_list : (settled : List PlainCommand) (doubt : Option PlainCommand) (c : PlainCommand) (calls : List PlainCommand) → Settles settled (settled ++ c ∷ []) doubt None [] (c ∷ calls)
+begun_list settled doubt c calls = record { more = c ∷ []; grew = refl; kept = tt; only = later (c ∷ []) (in_doubt doubt) (c ∷ calls) (inl (refl, tt)) }
 
 settled_one : (settled : List PlainCommand) (doubt : Option PlainCommand) (c : PlainCommand) → Settles settled (settled ++ c ∷ []) doubt None (c ∷ []) (c ∷ [])
 settled_one settled doubt c = record { more = c ∷ []; grew = refl; kept = inl (refl, tt); only = later (c ∷ []) (in_doubt doubt) (c ∷ []) (inl (refl, tt)) }
@@ -111,10 +116,10 @@ not_both b holds fails = let is : true ≡ false = sym holds ∙ fails in absurd
 
 module _ (m : Machine) (c : PlainCommand) where
   halted_one : (r : Refusal) (wrote : Bool) → is_failure r ≡ true → Moves m (apply_call c) (refused r) (halt (apply_call c) wrote m)
-  halted_one r wrote failed = record { settles = halted_list m c r wrote failed; undisturbed = λ quiet none on. not_both (is_failure r) failed quiet }
+  halted_one r wrote failed = record { settles = halted_list m c r wrote failed; undisturbed = λ quiet none on. not_both (is_failure r) failed quiet; starts = λ no. (no, refl) }
 
   done_one : Moves m (apply_call c) done (settle c m)
-  done_one = record { settles = settled_one m.settled m.doubt c; undisturbed = λ quiet none on. record { settled = refl; none = refl; on = λ is. cc is } }
+  done_one = record { settles = settled_one m.settled m.doubt c; undisturbed = λ quiet none on. record { settled = refl; none = refl; on = λ is. cc is }; starts = λ no. absurd (cc no) }
 
 module _ (m : Machine) where
   formatted_one : m.settled ≡ [] → Moves m format_call done (opened [])
@@ -122,6 +127,7 @@ module _ (m : Machine) where
       record {
         settles = formatted_list m empty;
         undisturbed = λ quiet none on. record { settled = sym (append-nil m.settled ∙ empty); none = refl; on = λ is. cc is };
+        starts = λ no. absurd (cc no);
       }
 
   opened_without : Moves m open_call done (opened m.settled)
@@ -129,20 +135,22 @@ module _ (m : Machine) where
       record {
         settles = dropped_list m.settled m.doubt [];
         undisturbed = λ quiet none on. record { settled = sym (append-nil m.settled); none = refl; on = λ is. cc is };
+        starts = λ no. absurd (cc no);
       }
 
   opened_with : Moves m open_call done (opened (with_doubt m.settled m.doubt))
   opened_with =
       record {
-        settles = kept_list m.settled m.doubt;
+        settles = kept_list m.settled m.doubt [];
         undisturbed = λ quiet none on. record { settled = ap (with_doubt m.settled) none ∙ sym (append-nil m.settled); none = refl; on = λ is. cc is };
+        starts = λ no. absurd (cc no);
       }
 
 -- a call after which the settled commands and the one in doubt are as they were
 module _ (m : Machine) (new : Machine) where
-  as_it_was : (call : PlainCall) (reply : PlainReply) → acknowledged_by call reply ≡ [] → new.settled ≡ m.settled → new.doubt ≡ m.doubt
+  as_it_was : (call : PlainCall) (reply : PlainReply) → acknowledged_by call reply ≡ [] → new.settled ≡ m.settled → new.doubt ≡ m.doubt → new.started ≡ m.started
       → (is_device_reply reply ≡ false → m.phase ≢ halted → new.phase ≢ halted) → Moves m call reply new
-  as_it_was call reply silent settled doubt phase =
+  as_it_was call reply silent settled doubt started phase =
       record {
         settles = record {
           more = [];
@@ -155,18 +163,19 @@ module _ (m : Machine) (new : Machine) where
           none = doubt ∙ none;
           on = phase quiet on;
         };
+        starts = λ no. (sym started ∙ no, silent);
       }
 
   is_same : (call : PlainCall) (reply : PlainReply) → acknowledged_by call reply ≡ [] → new ≡ m → Moves m call reply new
-  is_same call reply silent is = as_it_was call reply silent (ap (λ (k : Machine). k.settled) is) (ap (λ (k : Machine). k.doubt) is) (λ quiet on halts. on (sym (ap (λ (k : Machine). k.phase) is) ∙ halts))
+  is_same call reply silent is = as_it_was call reply silent (ap (λ (k : Machine). k.settled) is) (ap (λ (k : Machine). k.doubt) is) (ap (λ (k : Machine). k.started) is) (λ quiet on halts. on (sym (ap (λ (k : Machine). k.phase) is) ∙ halts))
 
   is_shut : (call : PlainCall) (reply : PlainReply) → acknowledged_by call reply ≡ [] → new ≡ shut_down m → Moves m call reply new
   is_shut call reply silent is =
-      as_it_was call reply silent (ap (λ (k : Machine). k.settled) is) (ap (λ (k : Machine). k.doubt) is) (λ quiet on halts. let no : shut ≡ halted = sym (ap (λ (k : Machine). k.phase) is) ∙ halts in cc no)
+      as_it_was call reply silent (ap (λ (k : Machine). k.settled) is) (ap (λ (k : Machine). k.doubt) is) (ap (λ (k : Machine). k.started) is) (λ quiet on halts. let no : shut ≡ halted = sym (ap (λ (k : Machine). k.phase) is) ∙ halts in cc no)
 
   is_halted : (call : PlainCall) (reply : PlainReply) → acknowledged_by call reply ≡ [] → is_device_reply reply ≡ true → new ≡ halt call false m → Moves m call reply new
   is_halted call reply silent failed is =
-      as_it_was call reply silent (ap (λ (k : Machine). k.settled) is) (ap (λ (k : Machine). k.doubt) is) (λ quiet on halts. not_both (is_device_reply reply) failed quiet)
+      as_it_was call reply silent (ap (λ (k : Machine). k.settled) is) (ap (λ (k : Machine). k.doubt) is) (ap (λ (k : Machine). k.started) is) (λ quiet on halts. not_both (is_device_reply reply) failed quiet)
 
 by_origin : (o : Origin) (s : Setting) (m : Machine) (c : PlainCommand) (r : Refusal) (wrote : Bool) (new : Machine) → origin_of r ≡ o → RefusesFrom o s m c r wrote new → Moves m (apply_call c) (refused r) new
 by_origin by_tables s m c r wrote new is step = is_same m new (apply_call c) (refused r) refl step.2.1
@@ -176,7 +185,7 @@ by_origin by_device s m c r wrote new is step = moved m (apply_call c) (refused 
 by_origin by_halt s m c r wrote new is step = is_same m new (apply_call c) (refused r) refl step.1.1
 by_origin elsewhere s m c r wrote new is step = absurd step
 
-one_step : (s : Setting) (m : Machine) (call : PlainCall) (reply : PlainReply) (wrote : Bool) (new : Machine) → Step s m call reply wrote new → Moves m call reply new
+pub one_step : (s : Setting) (m : Machine) (call : PlainCall) (reply : PlainReply) (wrote : Bool) (new : Machine) → Step s m call reply wrote new → Moves m call reply new
 unfolding Step
 one_step s m (apply_call c) done wrote new step = moved m (apply_call c) done new (settle c m) step.3 (done_one m c)
 one_step s m (apply_call c) (refused r) wrote new step = by_origin (origin_of r) s m c r wrote new refl step
@@ -223,7 +232,7 @@ one_step s m (export_call name) _ wrote new step = absurd step
 
 -- ---- a run
 
-joined : (a b c : List PlainCommand) (d e f : Option PlainCommand) (ack others calls more : List PlainCommand)
+pub joined : (a b c : List PlainCommand) (d e f : Option PlainCommand) (ack others calls more : List PlainCommand)
     → Settles a b d e ack calls → Settles b c e f others more → Settles a c d f (ack ++ others) (calls ++ more)
 joined a b c d e f ack others calls more one two =
     let left : InOrder (one.more ++ (two.more ++ in_doubt f)) (one.more ++ (in_doubt e ++ more)) = front one.more (two.more ++ in_doubt f) (in_doubt e ++ more) two.only in

@@ -1,11 +1,11 @@
-use Rattle.std.proofs.Common.{◌≡◌, ℕ, true, false, ◌≢◌, ◌∙◌, refl, ap, sym, subst}
-use Rattle.sector_dev.specs.Disk.{now, shown_image}
+use Rattle.std.proofs.Common.{◌≡◌, ℕ, true, ◌∙◌, refl, ap, sym, subst}
+use Rattle.sector_dev.specs.Disk.{now}
 use Rattle.sector_dev.specs.Time.{LeavesOnly}
 use Rattle.commit.specs.Standing.{is_size, Stands}
 use Rattle.commit.specs.Opening.{standing_shown}
 use Rattle.catalogue.specs.View.{catalogue_of}
 use Rattle.store.specs.declared.opening_refusal.OpeningRefusal.{OpeningRefusal}
-use Rattle.store.specs.Calls.{open_call, done, shut_by}
+use Rattle.store.specs.Calls.{open_call, shut_by}
 use Rattle.store.specs.Machine.{shut_down, Allows}
 use Rattle.store.specs.Runs.{Goes, counted}
 use Rattle.store.specs.Held.{whole_reading}
