@@ -1,13 +1,14 @@
 -- What an opening finds is what the machine allows.
-use Rattle.std.proofs.Common.{◌≡◌, ◌⊎◌, inl, inr, ⊎_elim, ℕ, Bool, true, false, ◌&&◌, ◌≢◌, List, [], Option, Some, None, refl, sym, ap, ◌∙◌, subst, arith}
+use Rattle.std.proofs.Common.{◌≡◌, ◌⊎◌, inl, inr, ℕ, Bool, true, false, ◌&&◌, ◌≢◌, Option, Some, None, refl, sym, ap, ◌∙◌, subst, arith}
 use Rattle.std.proofs.lemmas.Bool.Decides.{nat_tests}
-use Rattle.std.specs.Prelude.{if◌then◌else◌, nat_lt, Result, Ok, Err}
+use Rattle.std.specs.Prelude.{nat_lt, Result, Ok, Err}
 use Rattle.sector_dev.specs.Disk.{Disk, Story, Image, now, MayLeave, ShowsImage, shown_image, synced_image, flushed}
 use Rattle.sector_dev.specs.Time.{Grows, LeavesOnly}
 use Rattle.sector_dev.specs.laws.Time.{weaken, now_has}
 use Rattle.sector_dev.specs.laws.Crash.{only_flushed}
 use Rattle.commit.specs.declared.sector.Commit.{Commit}
 use Rattle.commit.specs.declared.cause.Cause.{Cause}
+use Rattle.commit.specs.declared.cause.Cause.TheVariants.{DeviceSize}
 use Rattle.commit.specs.Standing.{Standing, no_store, damaged, rules, standing}
 use Rattle.commit.specs.Opening.{CountsOpen, IsOpening, TellsStanding}
 use Rattle.commit.specs.declared.reading.OpenError.{OpenError}
@@ -15,14 +16,15 @@ use Rattle.commit.specs.declared.reading.OpenError.TheVariants as errors
 use Rattle.catalogue.specs.Entries.{PlainCatalogue}
 use Rattle.tables.specs.Tables.{Tables}
 use Rattle.tables.specs.Verdict.{after}
-use Rattle.store.specs.Calls.{PlainCall, open_call, PlainReply, done, shut_by, may_be_done}
+use Rattle.store.specs.Calls.{open_call, PlainReply, done, shut_by, may_be_done}
 use Rattle.store.specs.Steps.{Step}
 use Rattle.store.specs.Runs.{Goes, counted}
 use Rattle.store.specs.Machine as machines
 use Rattle.store.specs.Machine.{Held, broken, holds, Setting, Machine, with_doubt, running, opened, shut_down, Allows, AllowsEach, meanwhile, has_written}
 use Rattle.store.specs.Held.{whole_reading, tables_held, held_tables, held_of, held_by}
 use Rattle.store.specs.Fits.{setting_of}
-use Rattle.store.specs.Opening.{opening_of}
+use Rattle.store.specs.Opening.{opening_of, TellsOpening}
+use Rattle.store.specs.declared.opening_refusal.OpeningRefusal.TheVariants as refusals
 
 -- the machine after an opening that found these tables: its settled commands make them
 pub record Finds (base : Tables) (m : Machine) (found : Option Tables) : Type 0 where
@@ -45,6 +47,21 @@ opening_counts (Err errors.NotAStore) e f f' is counts = let same : errors.NotAS
 opening_counts (Err (errors.Damaged cause)) e f f' is counts = let same : errors.Damaged cause ≡ e = cc is in subst (λ (k : OpenError). f' ≡ counted (shut_by (opening_of k)) f) same counts
 opening_counts (Err errors.Device) e f f' is counts = let same : errors.Device ≡ e = cc is in subst (λ (k : OpenError). f' ≡ counted (shut_by (opening_of k)) f) same counts
 opening_counts (Err errors.OutOfMemory) e f f' is counts = let same : errors.OutOfMemory ≡ e = cc is in subst (λ (k : OpenError). f' ≡ counted (shut_by (opening_of k)) f) same counts
+
+-- what is told of a store is so, in the words of openings
+pub opening_tells : (e : OpenError) (found : Standing PlainCatalogue) → TellsStanding e found → TellsOpening (opening_of e) found
+opening_tells errors.NotAStore found tells = tells
+opening_tells (errors.Damaged cause) found tells = tells
+opening_tells errors.Device found tells = tt
+opening_tells errors.OutOfMemory found tells = tt
+
+-- a device of a size that no store has
+pub opening_limits : {T : Type 0} (r : Result T OpenError) (e : OpenError) → r ≡ Err e → r ≡ Err (errors.Damaged DeviceSize) → opening_of e ≡ refusals.Damaged DeviceSize
+opening_limits (Ok x) e is told = absurd (cc is)
+opening_limits (Err x) e is told =
+    let one : x ≡ e = cc is in
+    let other : x ≡ errors.Damaged DeviceSize = cc told in
+    ap opening_of (sym one ∙ other)
 
 -- what is synced after a sync is what reads gave
 pub synced_then : (s0 s1 : Story) (c : PlainCatalogue) (t : Option Tables) → now s1 ≡ flushed (now s0) → tables_held (shown_image (now s0)) c ≡ t → tables_held (synced_image (now s1)) c ≡ t

@@ -1,18 +1,18 @@
 -- How a device or a store stands for a machine.
-use Rattle.std.specs.Prelude.{◌≡◌, ℕ, Bool, true, false, if◌then◌else◌, List, [], Option, Some, None}
-use Rattle.sector_dev.specs.Disk.{Story, now, synced_image}
-use Rattle.sector_dev.specs.Time.{LeavesOnly}
+use Rattle.std.specs.Prelude.{◌≡◌, ℕ, true, false, if◌then◌else◌, [], Some, None}
+use Rattle.sector_dev.specs.Disk.{Story, now, synced_image, flushed}
+use Rattle.sector_dev.specs.Time.{Grows, LeavesOnly}
 use Rattle.sector_dev.specs.declared.device.SectorDevice.{Ghosts}
-use Rattle.commit.specs.Standing.{is_size, used_runs, Stands}
+use Rattle.commit.specs.Standing.{is_size, used_runs, rules, Stands}
+use Rattle.commit.specs.Opening.{IsOpening, standing_shown}
 use Rattle.commit.specs.Placing.{Uses}
 use Rattle.catalogue.specs.Entries.{PlainCatalogue}
 use Rattle.catalogue.specs.View.{catalogue_of}
 use Rattle.tables.specs.Tables.{Tables, no_tables}
 use Rattle.tables.specs.Verdict.{after}
-use Rattle.store.specs.declared.stored.StoredCatalogue.{StoredCatalogue}
 use Rattle.store.specs.declared.store.Store.{Store}
 use Rattle.store.specs.declared.opening_refusal.OpeningRefusal.{OpeningRefusal}
-use Rattle.store.specs.Calls.{PlainCall, PlainReply, done, shut_by}
+use Rattle.store.specs.Calls.{PlainCall, done, shut_by}
 use Rattle.store.specs.Machine.{Setting, Machine, running, halted, shut_down, Allows}
 use Rattle.store.specs.Runs.{Goes}
 use Rattle.store.specs.Held.{whole_reading, tables_held, held_by}
@@ -53,6 +53,14 @@ pub record StoreFits {D : Type 0} {g : Ghosts D} (size : D → ℕ) (story : D �
 -- the device of a store
 abbrev pub device_of : {D : Type 0} {g : Ghosts D} → Store D g → D
 device_of store = store.device
+
+-- an opening of any device that was done: it found what stood there, by what reads gave, and has synced it, with no write; and the store is not halted
+pub record FindsStore {D : Type 0} {g : Ghosts D} (size : D → ℕ) (story : D → Story) (device : D) (store : Store D g) : Type 0 where
+  pub found : standing_shown whole_reading (size device) (story device) ≡ rules store.opened.commit (listed_in store)
+  pub moments : Grows (IsOpening (now (story device))) (story device) (story (device_of store))
+  pub synced : now (story (device_of store)) ≡ flushed (now (story device))
+  pub uses : Uses store.opened.map.entries (used_runs whole_reading store.opened.commit (listed_in store)) []
+  pub on : store.halted ≡ false
 
 -- an opening or a formatting of a device that was done: some machine goes on, and the store stands for it
 pub record Opens {D : Type 0} {g : Ghosts D} (size : D → ℕ) (story : D → Story) (failed : D → ℕ) (base : Tables) (m : Machine) (call : PlainCall) (device : D) (store : Store D g) : Type 0 where

@@ -1,7 +1,10 @@
--- The commands of a run: those that were called, and those that were acknowledged.
-use Rattle.std.specs.Prelude.{◌≡◌, ◌⊎◌, List, [], ◌∷◌, ◌++◌, Option, Some, None}
+-- The commands of a run: those that may have been done, and those that were acknowledged.
+use Rattle.std.specs.Prelude.{◌≡◌, ◌≢◌, ◌⊎◌, false, if◌then◌else◌, List, [], ◌∷◌, ◌++◌, Option, Some, None}
+use Rattle.sector_dev.specs.Disk.{Image}
 use Rattle.tables.specs.Commands.{PlainCommand}
-use Rattle.store.specs.Calls.{PlainCall, apply_call, PlainReply, done}
+use Rattle.tables.specs.Verdict.{after}
+use Rattle.store.specs.Calls.{PlainCall, apply_call, PlainReply, done, may_be_done}
+use Rattle.store.specs.Machine.{no_store, holds, Setting, Machine, halted}
 
 -- these stand among those, in their order
 abbrev pub InOrder : List PlainCommand → List PlainCommand → Type 0
@@ -18,9 +21,14 @@ abbrev pub called_by : PlainCall → List PlainCommand
 called_by (apply_call c) = c ∷ []
 called_by _ = []
 
-abbrev pub called : List PlainCall → List PlainCommand
-called [] = []
-called (call ∷ calls) = called_by call ++ called calls
+-- the command of a call that was acknowledged or in which the device failed: one that is refused for another reason is none
+abbrev pub begun_by : PlainCall → PlainReply → List PlainCommand
+begun_by call reply = if may_be_done reply then called_by call else []
+
+abbrev pub begun : List PlainCall → List PlainReply → List PlainCommand
+begun [] replies = []
+begun (call ∷ calls) [] = []
+begun (call ∷ calls) (reply ∷ replies) = begun_by call reply ++ begun calls replies
 
 -- the command of a call that answered that it is done
 abbrev pub acknowledged_by : PlainCall → PlainReply → List PlainCommand
@@ -32,9 +40,30 @@ acknowledged [] replies = []
 acknowledged (call ∷ calls) [] = []
 acknowledged (call ∷ calls) (reply ∷ replies) = acknowledged_by call reply ++ acknowledged calls replies
 
--- how the settled commands grew: by all that were acknowledged, and by none that was not called or in doubt before; with the one in doubt at the end
-pub record Settles (settled settled' : List PlainCommand) (doubt doubt' : Option PlainCommand) (acknowledged called : List PlainCommand) : Type 0 where
+-- how the settled commands grew: by all that were acknowledged, and by none that did not begin or was not in doubt before; with the one in doubt at the end
+pub record Settles (settled settled' : List PlainCommand) (doubt doubt' : Option PlainCommand) (acknowledged begun : List PlainCommand) : Type 0 where
   pub more : List PlainCommand
   pub grew : settled' ≡ settled ++ more
   pub kept : InOrder acknowledged more
-  pub only : InOrder (more ++ in_doubt doubt') (in_doubt doubt ++ called)
+  pub only : InOrder (more ++ in_doubt doubt') (in_doubt doubt ++ begun)
+
+-- just what was acknowledged is settled, nothing is in doubt, and no store is halted
+pub record SettlesAll (m m' : Machine) (acknowledged : List PlainCommand) : Type 0 where
+  pub settled : m'.settled ≡ m.settled ++ acknowledged
+  pub none : m'.doubt ≡ None
+  pub on : m'.phase ≢ halted
+
+-- an image has the tables of settled commands that grew so from those of this machine, with nothing in doubt
+pub record HoldsSettled (s : Setting) (m : Machine) (acknowledged begun : List PlainCommand) (image : Image) : Type 0 where
+  pub settled : List PlainCommand
+  pub held : s.held image ≡ holds (after s.base settled)
+  pub settles : Settles m.settled settled m.doubt None acknowledged begun
+
+-- or it has no store, and there was none: nothing was acknowledged
+pub record HoldsNone (s : Setting) (m : Machine) (acknowledged : List PlainCommand) (image : Image) : Type 0 where
+  pub none : s.held image ≡ no_store
+  pub fresh : m.started ≡ false
+  pub silent : acknowledged ≡ []
+
+abbrev pub Keeps : Setting → Machine → List PlainCommand → List PlainCommand → Image → Type 0
+Keeps s m acknowledged begun image = HoldsSettled s m acknowledged begun image ⊎ HoldsNone s m acknowledged image

@@ -1,5 +1,7 @@
--- Why a device is not opened or formatted, as it is reported.
-use Rattle.std.specs.Prelude.{ℕ, List, ◌++◌, codes}
+-- Why a device is not opened or formatted, as it is reported, and what it tells of the device.
+use Rattle.std.specs.Prelude.{◌≡◌, ℕ, List, ◌++◌, codes}
+use Rattle.catalogue.specs.Entries.{PlainCatalogue}
+use Rattle.commit.specs.Standing.{Standing, no_store, damaged}
 use Rattle.commit.specs.declared.cause.Cause.{Cause}
 use Rattle.commit.specs.declared.cause.Cause.TheVariants as causes
 use Rattle.commit.specs.declared.reading.OpenError.{OpenError}
@@ -29,3 +31,11 @@ opening_of errors.NotAStore = refusals.NotAStore
 opening_of (errors.Damaged cause) = refusals.Damaged cause
 opening_of errors.Device = refusals.Device
 opening_of errors.OutOfMemory = refusals.OutOfMemory
+
+-- what a refused opening tells of what stood there is so; it never tells that there is a store already
+abbrev pub TellsOpening : OpeningRefusal → Standing PlainCatalogue → Type 0
+TellsOpening refusals.NotAStore found = found ≡ no_store
+TellsOpening refusals.AlreadyAStore found = ⊥
+TellsOpening (refusals.Damaged cause) found = found ≡ damaged cause
+TellsOpening refusals.Device found = Unit {0}
+TellsOpening refusals.OutOfMemory found = Unit {0}

@@ -1,13 +1,13 @@
 // Laws of runs. The functions do nothing: their contracts are the laws.
-ghost use Rattle.std.specs.Prelude.{◌≡◌, ◌<◌, ◌-◌, ◌^◌, ℕ, false, List, [], ◌∷◌, ◌++◌};
+ghost use Rattle.std.specs.Prelude.{◌≡◌, ◌≢◌, ◌<◌, ◌-◌, ◌^◌, ℕ, false, None, List, [], ◌∷◌, ◌++◌, take};
 ghost use Rattle.std.specs.List.{list_any};
 ghost use Rattle.sector_dev.specs.Disk.{Story, Image, now, moment, LeftSince};
 ghost use Rattle.sector_dev.specs.Time.{LeavesOnly};
 ghost use Rattle.store.specs.Calls.{PlainCall, PlainReply, is_device_reply};
-ghost use Rattle.store.specs.Machine.{Setting, Machine, Allows};
+ghost use Rattle.store.specs.Machine.{Setting, Machine, halted, Allows};
 ghost use Rattle.store.specs.Runs.{Goes, Run};
 ghost use Rattle.store.specs.Since.{story_at, IsLeftFrom};
-ghost use Rattle.store.specs.History.{called, acknowledged, Settles};
+ghost use Rattle.store.specs.History.{begun, acknowledged, Settles, SettlesAll, Keeps};
 
 /// An image that a stop may have left since some call of a run began was left before one of the calls from it on, at a moment
 /// of one of them or after the last, and is what the machine of that very moment allows.
@@ -34,10 +34,29 @@ pub fn undisturbed_runs_tell_no_failure()
         → failed' ≡ failed → list_any is_device_reply replies ≡ false }
 {}
 
-/// The settled commands of a run grow by every command that was acknowledged, in order, and by none that was not called; with
-/// the one in doubt at its end they still stand among those that were in doubt or called, in order.
+/// The settled commands of a run grow by every command that was acknowledged, in order; with the one in doubt at its end they
+/// stand among the one in doubt before and those that were acknowledged or whose device failed, in order. So none is there that
+/// was refused for another reason than its device.
 pub fn acknowledged_commands_are_settled()
     ensures { (s : Setting) (calls : List PlainCall) (replies : List PlainReply) (m : Machine) (old : Story) (failed : ℕ)
         (m' : Machine) (new : Story) (failed' : ℕ) → Run s calls replies m old failed m' new failed'
-        → Settles m.settled m'.settled m.doubt m'.doubt (acknowledged calls replies) (called calls) }
+        → Settles m.settled m'.settled m.doubt m'.doubt (acknowledged calls replies) (begun calls replies) }
+{}
+
+/// Where no reply says that a device failed, the settled commands of a run grow by just those that were acknowledged, in order.
+/// Nothing is in doubt after it, and no store is halted.
+pub fn undisturbed_runs_settle_what_was_acknowledged()
+    ensures { (s : Setting) (calls : List PlainCall) (replies : List PlainReply) (m : Machine) (old : Story) (failed : ℕ)
+        (m' : Machine) (new : Story) (failed' : ℕ) → Run s calls replies m old failed m' new failed' → m.doubt ≡ None → m.phase ≢ halted
+        → list_any is_device_reply replies ≡ false → SettlesAll m m' (acknowledged calls replies) }
+{}
+
+/// An image that a stop may have left since some call of a run began has the tables of settled commands: those that were settled at
+/// first, and all that were acknowledged before that call, in order, among none but the one in doubt at first and those that were
+/// acknowledged or whose device failed. Or it has no store, where there was none before and nothing was acknowledged.
+pub fn a_stop_keeps_what_was_acknowledged()
+    ensures { (s : Setting) (calls : List PlainCall) (replies : List PlainReply) (m : Machine) (old : Story) (failed : ℕ)
+        (m' : Machine) (new : Story) (failed' : ℕ) (run : Run s calls replies m old failed m' new failed') (i : ℕ) (image : Image)
+        → LeavesOnly (Allows s m) (now old) → LeftSince new (moment (story_at s calls replies m old failed m' new failed' run i)) image
+        → Keeps s m (acknowledged (take i calls) (take i replies)) (begun calls replies) image }
 {}

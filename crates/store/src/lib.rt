@@ -19,8 +19,8 @@ mod stored;
 
 pub use commit::Cause;
 pub use laws::{
-    acknowledged_commands_are_settled, each_stop_is_allowed, runs_go_on,
-    undisturbed_runs_tell_no_failure,
+    a_stop_keeps_what_was_acknowledged, acknowledged_commands_are_settled, each_stop_is_allowed,
+    runs_go_on, undisturbed_runs_settle_what_was_acknowledged, undisturbed_runs_tell_no_failure,
 };
 pub use opening_refusal::OpeningRefusal;
 pub use store::Store;

@@ -24,20 +24,44 @@ pub struct Store<D: SectorDevice> {
 }
 
 impl<D: SectorDevice> Store<D> {
-    ghost use Rattle.std.specs.Prelude.{IfOk, IfErr};
+    ghost use Rattle.std.specs.Prelude.{◌≢◌, false, IfOk, IfErr, OnOk};
+    ghost use Rattle.sector_dev.specs.Disk.{now};
+    ghost use Rattle.sector_dev.specs.Time.{Grows};
+    ghost use Rattle.commit.specs.Opening.{IsOpening, standing_shown};
+    ghost use Rattle.commit.specs.declared.cause.Cause.TheVariants.{DeviceSize};
     ghost use Rattle.tables.specs.Tables.{Tables};
-    ghost use Rattle.store.specs.Calls.{open_call};
+    ghost use Rattle.store.specs.Calls.{open_call, shut_by};
     ghost use Rattle.store.specs.Machine.{Machine};
-    ghost use Rattle.store.specs.Fits.{DeviceFits, Opens, Shuts, device_of};
+    ghost use Rattle.store.specs.Fits.{DeviceFits, FindsStore, Opens, Shuts, device_of};
+    ghost use Rattle.store.specs.Held.{whole_reading};
+    ghost use Rattle.store.specs.Opening.{TellsOpening};
+    ghost use Rattle.store.specs.Runs.{counted};
 
     /// Opens the store that stands on a device: what its commit sectors and its catalogue say, after a sync. Where it is refused
     /// the device is given back.
+    ///
+    /// # Errors
+    /// `NotAStore` where no commit rules; `Damaged` with the first cause, also of a device of a size that no store has; `Device`
+    /// where the device failed; `OutOfMemory`. After any but `Device` nothing has changed.
     pub fn open(alloc: Global, device: D) -> Result<Store<D>, (OpeningRefusal, D)>
         // On a device whose images the machine allows, the store has the tables of its settled commands, or with the one in doubt.
         ensures opened { IfOk result (λ store. D.tells ≡ true → (base : Tables) (m : Machine) → DeviceFits D.size D.story base m device
             → Opens D.size D.story D.failed base m open_call device store) }
         ensures refused { IfErr result (λ e. D.tells ≡ true → (base : Tables) (m : Machine) → DeviceFits D.size D.story base m device
             → Shuts D.size D.story D.failed base m open_call device e.0 e.1) }
+        // On any device: what is found or told is so, and no moment has a write.
+        ensures found { IfOk result (λ store. D.tells ≡ true → FindsStore D.size D.story device store) }
+        ensures told { IfErr result (λ e. D.tells ≡ true → TellsOpening e.0 (standing_shown whole_reading (D.size device) (D.story device))) }
+        ensures quiet { IfErr result (λ e. e.0 ≢ OpeningRefusal.Device → D.tells ≡ true → now (D.story e.1) ≡ now (D.story device)) }
+        ensures moments { IfErr result (λ e. D.tells ≡ true → Grows (IsOpening (now (D.story device))) (D.story device) (D.story e.1)) }
+        // Also of a device that doesn't tell its story.
+        ensures in_limits { OnOk result (is_size (D.size device) ≡ true) }
+        ensures limits { IfErr result (λ e. is_size (D.size device) ≡ false
+            → (e.0 ≡ OpeningRefusal.Damaged DeviceSize) × (D.story e.1 ≡ D.story device)) }
+        ensures size { IfOk result (λ store. D.size (device_of store) ≡ D.size device) }
+        ensures size_back { IfErr result (λ e. D.size e.1 ≡ D.size device) }
+        ensures count { IfOk result (λ store. D.failed (device_of store) ≡ D.failed device) }
+        ensures count_back { IfErr result (λ e. D.failed e.1 ≡ counted (shut_by e.0) (D.failed device)) }
     {
         let mut device = device;
         match recover(alloc, &mut device) {

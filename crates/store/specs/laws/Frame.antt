@@ -1,22 +1,19 @@
 -- What an image holds depends on the runs of its catalogue alone.
-use Rattle.std.specs.Prelude.{◌≡◌, ◌⊎◌, ◌≤◌, ◌<◌, ◌+◌, ◌^◌, ◌==◌, ◌&&◌, ℕ, Bool, true, false, nat_le, nat_lt, List, [], ◌∷◌, ◌++◌, map, Option, Some, None, refl}
+use Rattle.std.specs.Prelude.{◌≡◌, ◌≤◌, ◌<◌, ◌+◌, ◌^◌, ◌==◌, ◌&&◌, ℕ, true, nat_le, nat_lt, List, [], ◌∷◌, ◌++◌, map, refl}
 use Rattle.std.specs.List.{list_all}
-use Rattle.std.proofs.Common.{inl, inr, sym, ap, ◌∙◌, subst, arith}
+use Rattle.std.proofs.Common.{inl, inr, ap, arith}
 use Rattle.std.proofs.lemmas.Bool.{and_parts, eqb-true}
 use Rattle.sector_dev.specs.Disk.{Image}
-use Rattle.segments.specs.Sectors.{sector_count, bytes_at}
+use Rattle.segments.specs.Sectors.{sector_count}
 use Rattle.segments.specs.laws.ReadBack.{same_bytes}
 use Rattle.segments.specs.declared.run.Run.{Run}
 use Rattle.arrow_schema.specs.Column.{PlainSchema}
-use Rattle.cells.specs.Cell.{Cell, PlainTable}
 use Rattle.catalogue.specs.declared.entry.Segment.{Segment}
 use Rattle.catalogue.specs.declared.limits.TheConstants.{MAX_SEGMENT_ROWS}
 use Rattle.catalogue.specs.Entries.{PlainEntry, PlainCatalogue, is_between, is_segment, is_entry, runs_in, runs_of}
 use Rattle.catalogue.specs.laws.Kept.{entry_is}
 use Rattle.commit.specs.declared.sector.Commit.{Commit}
-use Rattle.commit.specs.Standing.{Standing, rules, standing, InSome}
-use Rattle.tables.specs.Tables.{Tables}
-use Rattle.store.specs.Machine.{Held}
+use Rattle.commit.specs.Standing.{rules, standing, InSome}
 use Rattle.store.specs.Held.{rows_in_bytes, segment_rows, joined_rows, rows_held, table_of_rows, table_held, with_held, tables_held, whole_reading, held_of, held_by}
 
 in_left : (rs ss : List Run) (n : ℕ) → InSome rs n → InSome (rs ++ ss) n

@@ -1,15 +1,17 @@
-use Rattle.std.proofs.Common.{◌≡◌, ℕ, true, false, refl, sym, subst}
-use Rattle.sector_dev.specs.Disk.{now, shown_image}
+use Rattle.std.proofs.Common.{◌≡◌, ℕ, true, ◌∙◌, refl, ap, sym, subst}
+use Rattle.sector_dev.specs.Disk.{now}
 use Rattle.sector_dev.specs.Time.{LeavesOnly}
 use Rattle.commit.specs.Standing.{is_size, Stands}
+use Rattle.commit.specs.Opening.{standing_shown}
 use Rattle.catalogue.specs.View.{catalogue_of}
 use Rattle.store.specs.declared.opening_refusal.OpeningRefusal.{OpeningRefusal}
-use Rattle.store.specs.Calls.{open_call, done, shut_by}
+use Rattle.store.specs.Calls.{open_call, shut_by}
 use Rattle.store.specs.Machine.{shut_down, Allows}
-use Rattle.store.specs.Runs.{Goes}
+use Rattle.store.specs.Runs.{Goes, counted}
 use Rattle.store.specs.Held.{whole_reading}
 use Rattle.store.specs.Fits.{setting_of}
-use Rattle.store.proofs.Opened.{found_shown, opening_done, opening_refused, opening_counts, device_after, synced_then, runs_then}
+use Rattle.store.specs.Opening.{opening_of, TellsOpening}
+use Rattle.store.proofs.Opened.{found_shown, opening_done, opening_refused, opening_counts, opening_tells, opening_limits, device_after, synced_then, runs_then}
 use Rattle.store.proofs.store.Store.open.Goals as goal
 
 pub returns-in-Err-clause-refused : goal.returns-in-Err-clause-refused
@@ -68,3 +70,32 @@ returns-in-Ok-clause-opened g c = λ told base m fits.
         };
       };
     }
+
+pub returns-in-Ok-clause-found : goal.returns-in-Ok-clause-found
+returns-in-Ok-clause-found g c = λ told.
+    record { found = c.in-Ok.ensures.found told; moments = c.recover.ensures.moments told; synced = c.in-Ok.ensures.synced told; uses = c.in-Ok.ensures.uses; on = refl }
+
+pub returns-in-Err-clause-told : goal.returns-in-Err-clause-told
+returns-in-Err-clause-told g c = λ told.
+    let D = g.D.SectorDevice in
+    let found = standing_shown whole_reading (D.size c.args.device) (D.story c.args.device) in
+    subst (λ (r : OpeningRefusal). TellsOpening r found) (sym c.opening_refusal.ensures) (opening_tells c.in-Err.error found (c.in-Err.ensures.refused told))
+
+pub returns-in-Err-clause-quiet : goal.returns-in-Err-clause-quiet
+returns-in-Err-clause-quiet g c = λ other told. c.in-Err.ensures.quiet (λ is. other (c.opening_refusal.ensures ∙ ap opening_of is)) told
+
+pub returns-in-Err-clause-moments : goal.returns-in-Err-clause-moments
+returns-in-Err-clause-moments g c = c.recover.ensures.moments
+
+pub returns-in-Err-clause-limits : goal.returns-in-Err-clause-limits
+returns-in-Err-clause-limits g c = λ no.
+    let both = c.recover.ensures.limits no in
+    (c.opening_refusal.ensures ∙ opening_limits c.recover.result c.in-Err.error c.in-Err.is both.0, both.1)
+
+pub returns-in-Err-clause-count_back : goal.returns-in-Err-clause-count_back
+returns-in-Err-clause-count_back g c =
+    let D = g.D.SectorDevice in
+    let before = D.failed c.args.device in
+    let after = D.failed c.recover.new.device in
+    subst (λ (r : OpeningRefusal). after ≡ counted (shut_by r) before) (sym c.opening_refusal.ensures)
+    (opening_counts c.recover.result c.in-Err.error before after c.in-Err.is c.recover.ensures.count)
