@@ -1,4 +1,3 @@
-pub mod Names
 pub mod Refusals
 pub mod Tables
 pub mod Commands

@@ -21,5 +21,5 @@ pub use laws::{
     a_command_changes_its_names_alone, a_refused_command_changes_nothing, commands_in_turn,
     joined_rows_weigh_together, refusals_of_the_tables, worked_commands,
 };
-pub use limits::{MAX_IMPORT_BYTES, MAX_TABLES};
+pub use limits::MAX_IMPORT_BYTES;
 pub use refusal::{Limit, QueryRefusal, Refusal};

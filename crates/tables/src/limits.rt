@@ -1,7 +1,4 @@
 // Limits of the tables of a store.
 
-/// So many tables, at most.
-pub const MAX_TABLES: usize = 1024;
-
 /// A stream that is imported or appended has at most so many bytes.
 pub const MAX_IMPORT_BYTES: usize = 2_147_483_647;

@@ -14,8 +14,9 @@ use Rattle.tables.specs.declared.refusal.QueryRefusal.{QueryRefusal}
 use Rattle.tables.specs.declared.refusal.Refusal.{Refusal}
 use Rattle.tables.specs.declared.refusal.Refusal.TheVariants.{NameTaken, BadName, SchemaMismatch, RowUnfit, TooMany}
 use Rattle.tables.specs.declared.refusal.Limit.TheVariants as limits
-use Rattle.tables.specs.declared.limits.TheConstants.{MAX_TABLES, MAX_IMPORT_BYTES}
-use Rattle.tables.specs.Names.{is_name}
+use Rattle.tables.specs.declared.limits.TheConstants.{MAX_IMPORT_BYTES}
+use Rattle.catalogue.specs.declared.limits.TheConstants.{MAX_TABLES}
+use Rattle.catalogue.specs.Entries.{is_name}
 use Rattle.tables.specs.Refusals.{by_tables, origin_of}
 use Rattle.tables.specs.Tables.{Tables, table_at, has_table, with_table, without_table, table_count}
 use Rattle.tables.specs.Commands.{PlainCommand, create, import_stream, append_stream, append_rows, save_as, rename, drop_table, changed_names}
