@@ -17,6 +17,7 @@ mod place;
 mod raw;
 mod read;
 mod rest;
+mod runs;
 mod tests;
 
 pub use limits::MAX_SLOTS;

@@ -2,4 +2,3 @@ mod CellLemmas
 mod DistinctEntries
 mod EntryLemmas
 mod HoldingLemmas
-mod WeightLemmas

@@ -7,3 +7,4 @@ pub mod Row
 pub mod Entry
 pub mod Entries
 pub mod Integers
+pub mod laws

@@ -31,4 +31,4 @@ pub use limited::has_limits;
 pub use limits::{MAX_PIECE_ROWS, MAX_PIECE_WEIGHT, MAX_ROW_WEIGHT, MAX_TABLE_WEIGHT, TOO_HEAVY};
 pub use row::Row;
 pub use value::Value;
-pub use weigh::{add_weights, row_weight, weight};
+pub use weigh::{add_weights, multiply_weight, row_weight, weight};

@@ -17,10 +17,11 @@ pub fn add_weights(a: u64, b: u64) -> u64
     a.saturating_add(b).min(TOO_HEAVY)
 }
 
-fn multiply(size: u32, weight: u64) -> u64
-    ensures { result ≡ capped_weight (size * weight) }
+/// A weight so many times, as weights are reported.
+pub fn multiply_weight(count: u64, weight: u64) -> u64
+    ensures { result ≡ capped_weight (count * weight) }
 {
-    u64::from(size).saturating_mul(weight).min(TOO_HEAVY)
+    count.saturating_mul(weight).min(TOO_HEAVY)
 }
 
 fn byte_count(value: &Value) -> u64
@@ -99,7 +100,7 @@ fn items_weight(item: &Field, values: &[Value]) -> u64
 }
 
 // A null fixed list is not gone through: its size is the type's word alone.
-#[tactic(auto, using(crate::proofs::WeightLemmas::capped_product))]
+#[tactic(auto, using(crate::specs::laws::Weights::capped_product))]
 #[cycle(weight)]
 fn fixed_weight(size: u32, item: &Field, value: &Value) -> u64
     ensures { result ≡ capped_weight (fixed_sum size (weight (column_of item.now)) (cell value.now)) }
@@ -107,7 +108,7 @@ fn fixed_weight(size: u32, item: &Field, value: &Value) -> u64
     match value {
         Value::Null => match size {
             0 => 0,
-            _ => multiply(size, weight(item, &Value::Null)),
+            _ => multiply_weight(u64::from(size), weight(item, &Value::Null)),
         },
         _ => items_weight(item, items_in(value)),
     }

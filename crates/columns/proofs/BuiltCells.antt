@@ -26,9 +26,10 @@ use Rattle.columns.proofs.Spans.{have_width, at_width, run_all}
 use Rattle.byteorder.specs.Endian.{little_number}
 use Rattle.byteorder.specs.Numbers.{little_number-reads_back, length-bytes_low_first}
 use Rattle.cells.specs.Integers.{integer_of}
+use Rattle.cells.specs.laws.Cells.{cells_list}
 use Rattle.std.proofs.lemmas.List.Concat.{flat_map-cons}
 use Rattle.columns.proofs.ReadBack.{PackedReadsBack, all_at, by_validity}
-use Rattle.columns.proofs.Found.{fit_there, boolean_found, integer_found, text_found, bytes_found, fixed_found, cells_back, AreFound, list_found, fixed_list_found}
+use Rattle.columns.proofs.Found.{fit_there, boolean_found, integer_found, text_found, bytes_found, fixed_found, AreFound, list_found, fixed_list_found}
 
 -- ---- parts
 
@@ -57,7 +58,7 @@ struct_found : (fs : Columns) (cells : List Cell) (i : ℕ) (c : Cell) → get_o
 struct_found fs cells i (parts cs) e lt found h =
     let row : get_or (map part_list cells) i [] ≡ cell_list cs = get_or-map part_list cells i null [] lt ∙ ap part_list e in
     let count : i < length (map part_list cells) = omega (arith, lt, length-map cells part_list) in
-    ap parts (found i count (rw row (has_parts fs cs h)) ∙ ap cells_of row ∙ cells_back cs)
+    ap parts (found i count (rw row (has_parts fs cs h)) ∙ ap cells_of row ∙ cells_list cs)
 struct_found fs cells i null e lt found h = cc
 struct_found fs cells i (boolean b) e lt found h = cc
 struct_found fs cells i (number n) e lt found h = cc

@@ -12,13 +12,14 @@ use Rattle.arrow_schema.specs.Column.{Index, Pair, Kind, Column, Columns, nulls,
 use Rattle.cells.specs.Cell.{Cell, Cells, null, boolean, number, text, bytes, items, parts, no_cell, and_cell, cells_of, cell_list}
 use Rattle.cells.specs.Dictionary.{entries_of, item_list, part_list}
 use Rattle.cells.specs.Fit.{null_or, fits, fits_kind, each_fits, all_cells, count_of, items_where, parts_where}
+use Rattle.cells.specs.laws.Cells.{cells_list}
 use Rattle.columns.specs.Array.{Array, Layout, dictionary_in, no_array, and_array, list_layout, fixed_list_layout, struct_layout, dictionary_layout}
 use Rattle.columns.specs.Buildable.{are_nulls_or_fit, is_null_or_entry, names_entries, small_offset, large_offset, items_fit, can_build, can_build_below, can_build_parts, can_build_rows, has_each_part}
 use Rattle.columns.specs.Built.{is_there, with_validity, fixed_items, list_offsets, index_of, index_bytes, built, built_kind, built_parts, first_cell, other_cells}
 use Rattle.columns.specs.CellAt.{is_valid, cell_at, span_start, span_size, index_at, entries_of_kind}
 use Rattle.columns.specs.Visible.{Slot, slot, visible, visible_below, visible_parts, visible_in, is_null, is_forbidden, is_bad_text, is_no_text, is_past, has_bad_index, names_no_entry}
 use Rattle.columns.proofs.BuiltCells.{EntriesAreFound, column_found, kind_found, entries_back, index_there, entry_of_cell}
-use Rattle.columns.proofs.Found.{size_is, every_size, count_list, has_size, cells_back}
+use Rattle.columns.proofs.Found.{size_is, every_size, count_list, has_size}
 use Rattle.columns.proofs.ReadBack.{PackedReadsBack, all_at, valid_is}
 use Rattle.columns.proofs.Spans.{HaveWidth, before, next_before, before_all, at_width, all_width}
 
@@ -110,7 +111,7 @@ fixed_long size item (bytes t) h = cc
 fixed_long size item (parts cs) h = cc
 
 row_fits_parts : (cs : Columns) (x : Cell) → parts_where (each_fits cs) x ≡ true → each_fits cs (cells_of (part_list x)) ≡ true
-row_fits_parts cs (parts xs) h = subst (λ (ys : Cells). each_fits cs ys ≡ true) (sym (cells_back xs)) h
+row_fits_parts cs (parts xs) h = subst (λ (ys : Cells). each_fits cs ys ≡ true) (sym (cells_list xs)) h
 row_fits_parts cs null h = cc
 row_fits_parts cs (boolean b) h = cc
 row_fits_parts cs (number n) h = cc

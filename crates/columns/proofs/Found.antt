@@ -12,6 +12,7 @@ use Rattle.cells.specs.Cell.{Cell, Cells, null, boolean, number, text, bytes, it
 use Rattle.cells.specs.Dictionary.{item_list}
 use Rattle.cells.specs.Fit.{null_or, is_boolean, number_where, text_where, bytes_where, items_where, in_range, count_of, all_cells}
 use Rattle.cells.specs.Integers.{integer_of, number_of}
+use Rattle.cells.specs.laws.Cells.{cells_list}
 use Rattle.columns.specs.Array.{Array, array, binary_layout, list_layout}
 use Rattle.columns.specs.Built.{is_there, is_set, integer_bytes, fixed_bytes, contents_of, fixed_items, binary_of, list_offsets, with_validity, offsets_of}
 use Rattle.columns.specs.CellAt.{integer_at, value_at, contents_at, span_start, span_size, cells_from, span_cells}
@@ -138,10 +139,6 @@ fixed_found width cells i (parts cs) e lt all h = cc
 
 -- ---- lists
 
-pub cells_back : (cs : Cells) → cells_of (cell_list cs) ≡ cs
-cells_back no_cell = refl
-cells_back (and_cell c cs) = ap (and_cell c) (cells_back cs)
-
 -- the items of all cells are found one by one
 abbrev pub AreFound : (ℕ → Cell) → List Cell → Type 0
 AreFound g xs = (j : ℕ) → j < length xs → g j ≡ get_or xs j null
@@ -160,7 +157,7 @@ items_are w cells i child g lt small found =
 pub list_found : (w : ℕ) (p : Cells → Bool) (cells : List Cell) (i : ℕ) (child : Array) (g : ℕ → Cell) (c : Cell) → get_or cells i null ≡ c → i < length cells
     → length (flat_map item_list cells) < 256 ^ w → AreFound g (flat_map item_list cells) → items_where p c ≡ true
     → items (cells_of (span_cells w g (with_validity cells (list_layout (list_offsets w cells) child)) i)) ≡ c
-list_found w p cells i child g (items cs) e lt small found h = ap (λ (xs : List Cell). items (cells_of xs)) (items_are w cells i child g lt small found ∙ ap item_list e) ∙ ap items (cells_back cs)
+list_found w p cells i child g (items cs) e lt small found h = ap (λ (xs : List Cell). items (cells_of xs)) (items_are w cells i child g lt small found ∙ ap item_list e) ∙ ap items (cells_list cs)
 list_found w p cells i child g null e lt small found h = cc
 list_found w p cells i child g (boolean b) e lt small found h = cc
 list_found w p cells i child g (number n) e lt small found h = cc
@@ -204,7 +201,7 @@ fixed_list_found size p cells i g (items cs) e lt all found h =
     let one : length (fixed_items size (get_or cells i null)) ≡ size = ap (λ (c : Cell). length (fixed_items size c)) e ∙ (count_list cs ∙ eqb-true _ _ (and_parts (count_of cs == size) (all_cells p cs) h).0) in
     let is : cells_from g (i * size) size ≡ cell_list cs =
     run_is g (flat_map (fixed_items size) cells) (i * size) size found room ∙ taken (fixed_items size) size cells i null sizes one lt ∙ ap (fixed_items size) e in
-    ap (λ (xs : List Cell). items (cells_of xs)) is ∙ ap items (cells_back cs)
+    ap (λ (xs : List Cell). items (cells_of xs)) is ∙ ap items (cells_list cs)
 fixed_list_found size p cells i g null e lt all found h = cc
 fixed_list_found size p cells i g (boolean b) e lt all found h = cc
 fixed_list_found size p cells i g (number n) e lt all found h = cc

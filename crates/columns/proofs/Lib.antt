@@ -1,4 +1,3 @@
-pub mod Sounds
 pub mod Texts
 pub mod Entries
 pub mod Runs

@@ -19,7 +19,7 @@ use Rattle.cells.specs.Weight.{weight, kind_weight, parts_weight, items_in, part
 use Rattle.columns.specs.Buildable.{are_nulls_or_fit, is_null_or_entry, names_entries, small_offset, large_offset, can_build, can_build_below, can_build_parts, can_build_rows, has_each_part}
 use Rattle.columns.specs.Built.{contents_of, fixed_items, first_cell, other_cells}
 use Rattle.columns.proofs.BuiltCells.{has_parts}
-use Rattle.columns.proofs.Found.{cells_back}
+use Rattle.cells.specs.laws.Cells.{cells_list}
 use Rattle.columns.proofs.Nulls.{HaveFew, few_same, fixed_kept, first_kept, from_next}
 use Rattle.columns.proofs.Weights.{sum_below, size_below, sum_map, some_weight, contents_weigh, count_below, items_weigh, fixed_weigh}
 
@@ -329,7 +329,7 @@ mutual
       column_can item (flat_map (fixed_items size) cells) (flat, wide.1) (all_below (fixed_items size) (null_or true (fits_kind (fixed_lists size item))) (fits_or_null item) (fixed_list_items size item) cells fit)
       (omega (arith, below, small)) (few_same item (flat_map item_list cells) (flat_map (fixed_items size) cells) (fixed_kept size cells) few)
   kind_can (structs columns) cells flat wide fit small few =
-      let below = sum_map part_list (λ row. parts_weight columns (cells_of row)) (kind_weight (structs columns)) (λ x. rw (cells_back (parts_in x)) (omega arith)) cells in
+      let below = sum_map part_list (λ row. parts_weight columns (cells_of row)) (kind_weight (structs columns)) (λ x. rw (cells_list (parts_in x)) (omega arith)) cells in
       parts_can columns (map part_list cells) (flat, wide.1) (all_mapped part_list (null_or true (fits_kind (structs columns))) (parts_fit_or_null columns) (struct_parts columns) cells fit) (omega (arith, below, small)) few
 
   pub parts_can : (cs : Columns) (rows : List (List Cell)) → AreSoundColumns (preorder_all cs) → list_all (parts_fit_or_null cs) rows ≡ true → sum_by (λ row. parts_weight cs (cells_of row)) rows ≤ most

@@ -1,20 +1,16 @@
 -- Texts of cells.
 use Rattle.std.specs.Prelude.{IsUtf8, ◌&&◌}
 use Rattle.std.specs.Str.{is_utf8}
-use Rattle.std.proofs.Common.{◌≡◌, ℕ, zero, suc, ◌+◌, ◌<◌, Bool, true, List, [], ◌∷◌, refl, ap, arith}
+use Rattle.std.proofs.Common.{◌≡◌, ℕ, zero, suc, ◌+◌, ◌<◌, Bool, true, List, refl, arith}
 use Rattle.std.proofs.lemmas.Bool.{and_parts}
 use Rattle.std.proofs.lemmas.Str.{IsUtf8-from_is_utf8}
 use Rattle.std.specs.List.{range_with_len}
-use Rattle.cells.specs.Cell.{Cell, Cells, no_cell, and_cell, cells_of, cell_list}
+use Rattle.cells.specs.Cell.{Cell, cells_of}
 use Rattle.columns.specs.CellAt.{cells_from}
 use Rattle.columns.specs.Texts.{has_utf8_texts, have_utf8_texts}
 
 pub is_text : (bs : List ℕ) → is_utf8 bs ≡ true → IsUtf8 bs
 is_text bs h = IsUtf8-from_is_utf8 bs h
-
-pub cells_list : (cs : Cells) → cells_of (cell_list cs) ≡ cs
-cells_list no_cell = refl
-cells_list (and_cell c cs) = ap (λ r. and_cell c r) (cells_list cs)
 
 -- of each of some cells
 pub text_at : (f : ℕ → Cell) (start n i : ℕ) → have_utf8_texts (cells_of (cells_from f start n)) ≡ true → i < n → has_utf8_texts (f (start + i)) ≡ true

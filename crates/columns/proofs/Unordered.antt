@@ -8,7 +8,7 @@ use Rattle.std.proofs.lemmas.Bool.Decides.{nat_tests}
 use Rattle.columns.specs.Array.{Array, slots_in, offsets_in}
 use Rattle.columns.specs.CellAt.{number_at}
 use Rattle.columns.specs.Tests.{are_unordered, is_negative}
-use Rattle.columns.proofs.Sounds.{none, ascend}
+use Rattle.columns.specs.laws.Offsets.{none, ascend}
 
 some_any : (p : ℕ → Bool) (start n i : ℕ) → i < n → p (start + i) ≡ true → list_any p (range_with_len start n) ≡ true
 some_any p start zero i lt h = absurd (omega arith)

@@ -9,6 +9,8 @@ pub mod Buildable
 pub mod Layouts
 pub mod FromBuffers
 pub mod Texts
+pub mod Offsets
+pub mod Located
 pub mod Places
 pub mod View
 pub mod Borrowed

@@ -1,3 +1,1 @@
-pub mod Offsets
 pub mod Readable
-pub mod Located

@@ -1,4 +1,6 @@
 pub mod WorkedCases
+pub mod Offsets
 pub mod Places
 pub mod Everys
+pub mod SoundParts
 pub mod Sounds

@@ -1,21 +1,26 @@
 // The entry of a dictionary that an index names.
-ghost use Rattle.std.specs.Prelude.{◌≡◌, true, map, get_or};
+ghost use Rattle.std.specs.Prelude.{◌≡◌, ◌<◌, ◌/◌, true, false, map, get_or};
 ghost use Rattle.std.specs.List.{list_all};
 ghost use Rattle.arrow_schema.specs.Column.{Kind};
+ghost use Rattle.arrow_schema.specs.View.{index_of};
 ghost use Rattle.cells.specs.Cell.{null};
-ghost use Rattle.columns.specs.CellAt.{entries_of_kind};
+ghost use Rattle.columns.specs.Array.{slots_in, indices_in, dictionary_in, array_list};
+ghost use Rattle.columns.specs.CellAt.{entries_of_kind, indexed_cell};
+ghost use Rattle.columns.specs.Tests.{are_few};
 ghost use Rattle.columns.specs.Sound.{is_kind_sound};
 ghost use Rattle.columns.specs.View.{view_array, array_in, no_dictionary, placed_dictionary};
-ghost use Rattle.columns.specs.inner.Located.{located_cell, IsSoundPlace};
+ghost use Rattle.columns.specs.Located.{located_cell, IsSoundPlace};
 
 use crate::array::PlacedArray;
+use crate::numbers::integer_at;
 use crate::view::ArrayView;
+use arrow_schema::DictSpec;
 
 /// The slot of an entry: its array, and its place there.
 #[derive(Clone, Copy, Debug)]
-pub(crate) struct EntryPlace<'a> {
-    pub(crate) view: ArrayView<'a>,
-    pub(crate) place: usize,
+pub struct EntryPlace<'a> {
+    pub view: ArrayView<'a>,
+    pub place: usize,
 }
 
 fn flat_view<'a>(bytes: &'a [u8], array: &'a PlacedArray) -> ArrayView<'a>
@@ -29,7 +34,7 @@ fn flat_view<'a>(bytes: &'a [u8], array: &'a PlacedArray) -> ArrayView<'a>
 }
 
 // Entries stand one after another in the arrays. Of 128 bits, so that any index can be asked for.
-pub(crate) fn entry_place<'a>(
+fn entry_place<'a>(
     arrays: &'a [PlacedArray],
     bytes: &'a [u8],
     index: u128,
@@ -49,4 +54,18 @@ pub(crate) fn entry_place<'a>(
         rest -= slots;
     }
     None
+}
+
+/// Where the entry stands that the index of a slot names.
+pub fn indexed_entry<'a>(spec: DictSpec, view: ArrayView<'a>, i: usize) -> Option<EntryPlace<'a>>
+    requires long { are_few ((index_of spec).bits / 8) (view_array view) (indices_in (view_array view)) ≡ false }
+    requires within { i < slots_in (view_array view) }
+    ensures cell { (kind : Kind) → located_cell kind result ≡ indexed_cell (index_of spec) kind (view_array view.entry) i }
+    ensures sound { (kind : Kind) → list_all (is_kind_sound kind) (array_list (dictionary_in (view_array view.entry))) ≡ true → IsSoundPlace kind result }
+{
+    let index = integer_at(spec.index, view.indices(), view.slots(), i);
+    if index < 0 {
+        return None;
+    }
+    entry_place(view.dictionary(), view.bytes, index as u128)
 }

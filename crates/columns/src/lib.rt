@@ -25,10 +25,12 @@ mod view;
 pub use array::{Dictionary, DictionaryPart, PlacedArray, PlacedLayout};
 pub use borrowed::{ValueRef, Values, ValuesIter};
 pub use borrowing::borrow_value;
+pub use entry::{EntryPlace, indexed_entry};
 pub use laws::{
     built_reads_back, listed_reads_back, rows_can_be_built, worked_cases, written_arrays_pass,
     written_slots_pass,
 };
+pub use numbers::OffsetWidth;
 pub use read::{row, value};
 pub use span::{Span, bytes_at};
 pub use tests::{counts_wrong, has_short_child, is_short, is_unordered};

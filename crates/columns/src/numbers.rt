@@ -5,14 +5,14 @@ ghost use Rattle.arrow_schema.specs.View.{bits_of, date_kind};
 ghost use Rattle.cells.specs.Fit.{date_bits};
 ghost use Rattle.cells.specs.Integers.{integer_of};
 ghost use Rattle.columns.specs.CellAt.{number_at, integer_at};
-ghost use Rattle.columns.specs.inner.Offsets.{width_of};
+ghost use Rattle.columns.specs.Offsets.{width_of};
 
 use arrow_schema::{BitWidth, DateUnit, IntegerType};
 use byteorder::{ByteOrder, LittleEndian};
 
 /// How wide offsets are: the large types have offsets of 64 bits.
 #[derive(Clone, Copy, Debug)]
-pub(crate) enum OffsetWidth {
+pub enum OffsetWidth {
     Four,
     Eight,
 }

@@ -9,20 +9,18 @@ ghost use Rattle.columns.specs.Tests.{are_few, are_few_offsets, are_unordered, h
 ghost use Rattle.columns.specs.Sound.{is_sound, is_kind_sound, are_sound};
 ghost use Rattle.columns.specs.Texts.{has_utf8_texts, have_utf8_texts};
 ghost use Rattle.columns.specs.inner.Readable.{are_readable, are_parts_readable};
-ghost use Rattle.columns.specs.inner.Offsets.{width_of};
+ghost use Rattle.columns.specs.Offsets.{width_of};
 ghost use Rattle.columns.specs.View.{view_array, placed_arrays, fields_of};
 ghost use Rattle.columns.specs.Borrowed.{borrowed_cell, borrowed_cells};
-ghost use Rattle.columns.specs.inner.Located.{located_cell, IsSoundPlace};
+ghost use Rattle.columns.specs.Located.{located_cell, IsSoundPlace};
 ghost use Rattle.std.specs.List.{list_all};
 ghost use Rattle.std.specs.Str.{is_utf8};
 
 use crate::array::{Dictionary, PlacedArray};
 use crate::borrowed::{Form, PartsAt, SlotRun, ValueRef, Values};
-use crate::entry::{EntryPlace, entry_place};
-use crate::numbers::{
-    OffsetWidth, date_integer, from_place, integer_at, offset_at, timestamp_integer,
-};
-use crate::span::{Span, bytes_at};
+use crate::entry::{EntryPlace, indexed_entry};
+use crate::numbers::{OffsetWidth, date_integer, from_place, integer_at, timestamp_integer};
+use crate::span::bytes_at;
 use crate::view::ArrayView;
 use arrow_schema::{DataType, DictSpec, Field, IntegerType};
 
@@ -50,28 +48,12 @@ fn timestamp_at(view: ArrayView<'_>, i: usize) -> i128
     number_in(view, timestamp_integer(), i)
 }
 
-// Where the value of a slot begins and ends.
-fn span_at(width: OffsetWidth, view: ArrayView<'_>, i: usize) -> Span
-    requires long { are_few_offsets (width_of width) (view_array view) ≡ false }
-    requires within { i < slots_in (view_array view) }
-    ensures start { result.start ≡ span_start (width_of width) (view_array view.entry) i }
-    ensures size { result.len ≡ span_size (width_of width) (view_array view.entry) i }
-{
-    let offsets = view.offsets();
-    let start = offset_at(width, offsets, view.slots(), i);
-    let end = offset_at(width, offsets, view.slots(), i + 1);
-    Span {
-        start,
-        len: end.saturating_sub(start),
-    }
-}
-
 fn contents_at<'a>(width: OffsetWidth, view: ArrayView<'a>, i: usize) -> &'a [u8]
     requires long { are_few_offsets (width_of width) (view_array view) ≡ false }
     requires within { i < slots_in (view_array view) }
     ensures { result.now ≡ contents_at (width_of width) (view_array view.entry) i }
 {
-    bytes_at(view.contents(), span_at(width, view, i))
+    bytes_at(view.contents(), view.spanned(width, i, 1))
 }
 
 fn fixed_bytes_at<'a>(width: usize, view: ArrayView<'a>, i: usize) -> &'a [u8]
@@ -127,7 +109,7 @@ fn list_at<'a>(width: OffsetWidth, item: &'a Field, view: ArrayView<'a>, i: usiz
     requires texts { have_utf8_texts (cells_of (span_cells (width_of width) (item_at (column_of item.now) (view_array view)) (view_array view) i)) ≡ true }
     ensures { borrowed_cells result ≡ span_cells (width_of width) (item_at (column_of item.now) (view_array view.entry)) (view_array view.entry) i }
 {
-    let span = span_at(width, view, i);
+    let span = view.spanned(width, i, 1);
     items_from(item, view, span.start, span.len)
 }
 
@@ -144,7 +126,7 @@ fn fixed_list_at<'a>(size: usize, item: &'a Field, view: ArrayView<'a>, i: usize
     items_from(item, view, start, size)
 }
 
-#[tactic(auto, using(crate::proofs::Texts::cells_list))]
+#[tactic(auto, using(cells::specs::laws::Cells::cells_list))]
 fn struct_at<'a>(fields: &'a [Field], view: ArrayView<'a>, i: usize) -> Values<'a>
     requires sound { are_sound (fields_of fields.now) (slots_in (view_array view)) (children_in (view_array view)) ≡ true }
     requires within { i < slots_in (view_array view) }
@@ -256,12 +238,7 @@ fn entry_value<'a>(
     requires texts { has_utf8_texts (indexed_cell (index_of spec) (kind_of data_type.now) (view_array view) i) ≡ true }
     ensures { borrowed_cell result ≡ indexed_cell (index_of spec) (kind_of data_type.now) (view_array view.entry) i }
 {
-    let index = integer_at(spec.index, view.indices(), view.slots(), i);
-    if index < 0 {
-        return ValueRef::Null;
-    }
-    let found = entry_place(view.dictionary(), view.bytes, index as u128);
-    located_value(data_type, found)
+    located_value(data_type, indexed_entry(spec, view, i))
 }
 
 /// The value of a field at a slot of an array.

@@ -5,7 +5,7 @@ ghost use Rattle.bitmap.specs.Bits.{bytes_of};
 ghost use Rattle.arrow_schema.specs.View.{kind_of, column_of};
 ghost use Rattle.columns.specs.Array.{slots_in, validity_in, values_in, bits_in, children_in, array_list};
 ghost use Rattle.columns.specs.Tests.{is_short, is_unordered, counts_wrong, has_short_child, has_short_part, has_short_validity, has_short_buffer, has_bad_offsets, are_few, are_few_offsets, are_unordered, unset_bits, is_negative};
-ghost use Rattle.columns.specs.inner.Offsets.{width_of};
+ghost use Rattle.columns.specs.Offsets.{width_of};
 ghost use Rattle.columns.specs.View.{view_array};
 
 use crate::array::PlacedArray;

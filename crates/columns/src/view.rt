@@ -1,12 +1,14 @@
 // Arrays in the bytes that they stand in.
-ghost use Rattle.std.specs.Prelude.{◌≡◌, ◌<◌, ℕ, List, false, take, drop};
+ghost use Rattle.std.specs.Prelude.{◌≡◌, ◌<◌, ◌≤◌, ◌+◌, ◌-◌, ℕ, List, false, take, drop};
 ghost use Rattle.columns.specs.Array.{slots_in, validity_in, bits_in, values_in, offsets_in, contents_in, items_in, children_in, indices_in, dictionary_in, first_array};
-ghost use Rattle.columns.specs.CellAt.{is_valid};
-ghost use Rattle.columns.specs.Tests.{has_short_validity};
+ghost use Rattle.columns.specs.CellAt.{is_valid, number_at, span_start};
+ghost use Rattle.columns.specs.Offsets.{width_of};
+ghost use Rattle.columns.specs.Tests.{has_short_validity, are_few_offsets};
 ghost use Rattle.columns.specs.declared.array.Dictionary.{Dictionary};
 ghost use Rattle.columns.specs.View.{view_array, option_array, IsNoArray, array_in, arrays_in, arrays_numbered, placed_arrays, placed_dictionary};
 
 use crate::array::{Dictionary, DictionaryPart, PlacedArray, PlacedLayout};
+use crate::numbers::{OffsetWidth, offset_at};
 use crate::span::{Span, bytes_at};
 
 /// An array with the bytes that it stands in, and the dictionaries.
@@ -144,6 +146,24 @@ impl<'a> ArrayView<'a> {
             array,
             bytes: self.bytes,
             dictionaries: self.dictionaries,
+        }
+    }
+
+    /// Where what some slots have stands, in what the offsets speak of.
+    pub fn spanned(self, width: OffsetWidth, from: usize, count: usize) -> Span
+        requires long { are_few_offsets (width_of width) (view_array self) ≡ false }
+        requires some { 0 < count }
+        requires within { from + count ≤ slots_in (view_array self) }
+        ensures start { result.start ≡ span_start (width_of width) (view_array self.entry) from }
+        ensures size { result.len ≡ number_at (width_of width) (offsets_in (view_array self.entry)) (from + count)
+            - span_start (width_of width) (view_array self.entry) from }
+    {
+        let offsets = self.offsets();
+        let start = offset_at(width, offsets, self.slots(), from);
+        let end = offset_at(width, offsets, self.slots(), from + count);
+        Span {
+            start,
+            len: end.saturating_sub(start),
         }
     }
 

@@ -6,7 +6,7 @@ use Rattle.columns.specs.Array.{children_in}
 use Rattle.columns.specs.CellAt.{part_cells, row_at}
 use Rattle.columns.specs.Borrowed.{borrowed_cells}
 use Rattle.columns.specs.View.{view_array}
-use Rattle.columns.proofs.Texts.{cells_list}
+use Rattle.cells.specs.laws.Cells.{cells_list}
 use Rattle.columns.proofs.read.struct_at.Goals as goal
 
 pub returns : goal.returns

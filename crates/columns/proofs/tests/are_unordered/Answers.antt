@@ -2,7 +2,7 @@ use Rattle.std.specs.Prelude.{nat_lt}
 use Rattle.std.proofs.Common.{◌≡◌, ℕ, ◌+◌, List, arith, sym}
 use Rattle.columns.specs.Array.{Array}
 use Rattle.columns.specs.CellAt.{number_at}
-use Rattle.columns.specs.inner.Offsets.{width_of}
+use Rattle.columns.specs.Offsets.{width_of}
 use Rattle.columns.specs.View.{view_array}
 use Rattle.columns.proofs.Unordered.{fall_here, none_falls, one_more, not_falling, either_true, either_false}
 use Rattle.columns.proofs.tests.are_unordered.Goals as goal

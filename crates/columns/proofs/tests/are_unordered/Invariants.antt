@@ -1,7 +1,7 @@
 use Rattle.std.proofs.Common.{◌≡◌, ◌+◌, false, nat_lt}
 use Rattle.std.specs.List.{list_any, range_with_len}
 use Rattle.columns.specs.CellAt.{number_at}
-use Rattle.columns.specs.inner.Offsets.{width_of}
+use Rattle.columns.specs.Offsets.{width_of}
 use Rattle.columns.proofs.tests.are_unordered.Given as goal
 
 -- no offset so far is less than the one before it
