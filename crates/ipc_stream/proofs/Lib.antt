@@ -32,3 +32,4 @@ mod MessageRead
 mod FirstMessage
 mod EmptyColumns
 mod MeaningTable
+mod PieceTables

@@ -1,5 +1,5 @@
 -- A schema of integer columns that was written: what it decodes to is the schema, and no test of it finds anything.
-use Rattle.std.specs.Prelude.{sum_by, find, flat_map, nat_lt}
+use Rattle.std.specs.Prelude.{not, ◌==◌, sum_by, find, flat_map, nat_lt}
 use Rattle.std.specs.List.{list_any, list_all, AllPass}
 use Rattle.std.specs.Str.{is_utf8}
 use Rattle.std.proofs.Common.{◌≡◌, ℕ, ◌+◌, ◌≤◌, Bool, true, false, List, [], ◌∷◌, ◌++◌, map, length, None, refl, arith, ap, ◌∙◌}
@@ -12,7 +12,7 @@ use Rattle.std.proofs.lemmas.Bool.{and_from, and_parts, le-ltb, or_from}
 use Rattle.arrow_schema.specs.Column.{Pair, Column, column, integers, columns_of, PlainSchema}
 use Rattle.arrow_schema.specs.Limits.{name_len, has_utf8_texts}
 use Rattle.ipc_message.specs.Raw.{RawField, raw_field, no_raw_field, raw_fields_of, raw_list_of, RawSchema}
-use Rattle.ipc_message.specs.Fields.{preorder, preorder_all, depth, depth_all, dictionary_of, pairs_of}
+use Rattle.ipc_message.specs.Fields.{every_field, preorder, preorder_all, depth, depth_all, dictionary_of, pairs_of}
 use Rattle.ipc_message.specs.Types.{type_name, decoded_type}
 use Rattle.ipc_message.specs.Convert.{column_of_field, columns_of_fields, plain_schema_of}
 use Rattle.ipc_message.specs.Framing.{first_some}
@@ -20,7 +20,7 @@ use Rattle.ipc_message.specs.Header.{supported_codes}
 use Rattle.ipc_message.specs.Checks.{is_unsupported, is_bad, exceeds_limit, texts_of_field, are_at_odds, has_other_type, is_dictionary_of_nested, is_not_yet, schema_checks}
 use Rattle.ipc_write.specs.Trees.{code_of, ids_of}
 use Rattle.arrow_schema.specs.Integers.{is_integer_column, is_bit_width, is_empty, is_integer_schema, AreIntegers}
-use Rattle.ipc_write.specs.Decoded.{parameters_of, raw_of, raw_below, raw_of_all, raw_schema}
+use Rattle.ipc_write.specs.Decoded.{parameters_of, raw_of, raw_below, raw_of_all, raw_schema, is_not_read}
 use Rattle.arrow_schema.specs.laws.IntegerCases.{integer_case}
 
 -- the field of a column without a dictionary or children
@@ -233,3 +233,12 @@ schema_accepted s ints few short named =
     let none : s.pairs ≡ [] = no_pairs s.pairs parts.1 in
     ap (λ (ps : List Pair). first_some (schema_checks supported_codes (record { endianness = 0; fields = map plain_field s.columns; pairs = ps }))) none
     ∙ accepted_columns s.columns parts.0 named few short
+
+-- a reader takes such a schema
+pub schema_is_read : (s : PlainSchema) → is_integer_schema s ≡ true → is_not_read s ≡ false
+schema_is_read s ints =
+    let parts = and_parts (list_all is_integer_column s.columns) (is_empty s.pairs) ints in
+    let none : s.pairs ≡ [] = no_pairs s.pairs parts.1 in
+    let fields : list_any is_not_yet (every_field (raw_schema s)) ≡ false =
+    ap (λ (r : RawSchema). list_any is_not_yet (every_field r)) (raw_schema_is s parts.0) ∙ ap (list_any is_not_yet) (every_is s.columns) ∙ none_not_yet s.columns parts.0 in
+    or_from (not (length s.pairs == 0)) (list_any is_not_yet (every_field (raw_schema s))) (ap (λ (ps : List Pair). not (length ps == 0)) none) fields

@@ -3,6 +3,8 @@ pub mod CutRows
 pub mod Batch
 pub mod Meaning
 pub mod Canonical
+pub mod Pieces
+pub mod View
 pub mod FramedTable
 pub mod FramedFault
 pub mod inner

@@ -1,14 +1,19 @@
 // Laws of streams: what `meaning` is in the words of the format, the round trip, and what the cut is. The functions are
 // there for their contracts; they call the laws of lower crates that their proofs use.
-ghost use Rattle.std.specs.Prelude.{◌≡◌, ℕ, Bool, List, Ok, Err};
+ghost use Rattle.std.specs.Prelude.{◌≡◌, ℕ, Bool, true, false, List, Ok, Err};
+ghost use Rattle.std.specs.List.{AllByRecursion};
 ghost use Rattle.facts.specs.Bytes.{AreBytes};
+ghost use Rattle.arrow_schema.specs.Column.{PlainSchema};
+ghost use Rattle.arrow_schema.specs.Integers.{is_integer_schema};
 ghost use Rattle.cells.specs.Cell.{Cell, PlainTable};
 ghost use Rattle.ipc_message.specs.declared.fault.Fault.{Fault};
 ghost use Rattle.ipc_message.specs.Header.{supported_codes};
+ghost use Rattle.ipc_write.specs.Decoded.{is_not_read};
 ghost use Rattle.ipc_stream.specs.Canonical.{canonical, pieces_of, within_piece};
-ghost use Rattle.ipc_stream.specs.CutRows.{EachWithin, IsCut};
+ghost use Rattle.ipc_stream.specs.CutRows.{EachWithin, IsCut, joined};
 ghost use Rattle.ipc_stream.specs.FramedFault.{AreRead, FaultStands};
 ghost use Rattle.ipc_stream.specs.FramedTable.{StreamEncodes};
+ghost use Rattle.ipc_stream.specs.Pieces.{IsPiece};
 ghost use Rattle.ipc_stream.specs.Meaning.{Message, meaning, table_in};
 ghost use Rattle.values.specs.IntegerTable.{IsIntegerTable};
 ghost use Rattle.values.specs.Table.{IsTable};
@@ -65,4 +70,20 @@ pub fn canonical_means_its_table()
 pub fn pieces_are_the_cut()
     ensures cut { (t : PlainTable) → EachWithin (within_piece t.schema) t.rows → IsCut (within_piece t.schema) t.rows (pieces_of t) }
     ensures only { (t : PlainTable) (pieces : List (List (List Cell))) → IsCut (within_piece t.schema) t.rows pieces → pieces ≡ pieces_of t }
+{}
+
+/// The pieces of a table of integers are pieces (`IsPiece`), and joined they are its rows.
+pub fn pieces_are_tables()
+    ensures each { (t : PlainTable) → IsTable t → IsIntegerTable t → AllByRecursion (IsPiece t.schema) (pieces_of t) }
+    ensures whole { (t : PlainTable) → IsTable t → IsIntegerTable t → joined (pieces_of t) ≡ t.rows }
+{
+    limits_bound_columns();
+    integer_rows_weigh_alike();
+    tables_are_joined_and_cut();
+    canonical_means_its_table();
+}
+
+/// A reader takes each schema of integer columns.
+pub fn integer_schemas_are_read()
+    ensures { (s : PlainSchema) → is_integer_schema s ≡ true → is_not_read s ≡ false }
 {}

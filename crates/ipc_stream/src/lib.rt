@@ -2,7 +2,8 @@
 //!
 //! [`decode`] gives exactly the table that the bytes mean, or their first fault; [`encode`] gives exactly the canonical
 //! stream of a table, and that stream means the table ([`canonical_means_its_table`]). [`meaning_is_framed`] says in the
-//! words of the format what a meaning and a fault are. Columns of other types, and nulls, are refused until they are read.
+//! words of the format what a meaning and a fault are. [`encode_pieces`] gives each piece of a table as a stream of its
+//! own, which means that piece ([`pieces_are_tables`]). Columns of other types, and nulls, are refused until they are read.
 //!
 //! ```
 //! // The canonical stream of the table that a stream means.
@@ -19,9 +20,10 @@ mod laws;
 mod pack;
 
 pub use decoder::decode;
-pub use encoder::encode;
+pub use encoder::{EncodedPieces, encode, encode_pieces};
 pub use ipc_message::ImportError;
 pub use laws::{
-    canonical_means_its_table, meaning_is_a_table, meaning_is_framed, pieces_are_the_cut,
+    canonical_means_its_table, integer_schemas_are_read, meaning_is_a_table, meaning_is_framed,
+    pieces_are_tables, pieces_are_the_cut,
 };
 pub use values::Table;
