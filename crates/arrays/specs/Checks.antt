@@ -2,20 +2,20 @@
 -- "Physical Memory Layout"). A check looks at all arrays, or all visible slots, before the next one begins.
 use Rattle.std.specs.Prelude.{ℕ, ◌+◌, ◌^◌, Bool, not, ◌&&◌, ◌||◌, ◌==◌, nat_lt, nat_le, List, [], ◌∷◌, ◌++◌, map, length, take, drop, Option, Result, Ok}
 use Rattle.std.specs.List.{list_any, zip}
-use Rattle.arrow_schema.specs.Column.{Column, Columns, no_column, and_column, columns_of, PlainSchema}
+use Rattle.arrow_schema.specs.Column.{Columns, columns_of, PlainSchema}
 use Rattle.cells.specs.declared.limits.TheConstants.{MAX_ROW_WEIGHT, MAX_TABLE_WEIGHT}
 use Rattle.cells.specs.Cell.{Cell}
 use Rattle.cells.specs.Weight.{row_weight, table_weight}
 use Rattle.facts.specs.Checks.{when, first_some, unless}
 use Rattle.ipc_message.specs.declared.fault.Fault.{Fault}
-use Rattle.ipc_message.specs.declared.fault.Fault.TheVariants.{Compressed, LayoutCount, RowCount, BufferRange, BufferShort, NullCount, Offsets, DictionaryIndex, NotUtf8, NullForbidden, TooHeavy, DictionaryId, DeltaWithoutBase}
-use Rattle.ipc_message.specs.Raw.{RawNode, RawBuffer, RawBatch, RawDictionaryBatch}
+use Rattle.ipc_message.specs.declared.fault.Fault.TheVariants.{Compressed, LayoutCount, RowCount, BufferRange, BufferShort, NullCount, Offsets, DictionaryIndex, NotUtf8, NullForbidden, TooHeavy}
+use Rattle.ipc_message.specs.Raw.{RawNode, RawBuffer, RawBatch}
 use Rattle.arrays.specs.declared.limits.TheConstants.{MAX_SLOTS}
-use Rattle.columns.specs.Array.{Array, Arrays, no_array, array_list, slots_in, first_array}
+use Rattle.columns.specs.Array.{Array, Arrays, no_array, array_list, slots_in}
 use Rattle.columns.specs.CellAt.{rows_in}
 use Rattle.columns.specs.Tests.{Typed, every_array, is_short, is_unordered, counts_wrong, has_short_child}
 use Rattle.columns.specs.Visible.{visible_in, names_no_entry, is_no_text, is_forbidden}
-use Rattle.columns.specs.Buffers.{Node, nodes_of, buffers_of, value_column}
+use Rattle.columns.specs.Buffers.{Node, nodes_of, buffers_of}
 use Rattle.columns.specs.FromBuffers.{arrays_from}
 
 -- ---- the arrays
@@ -103,7 +103,7 @@ slot_checks s before rows arrays =
     ∷ when (are_too_heavy s before (rows_in columns arrays rows)) TooHeavy
     ∷ []
 
--- ---- record batches and dictionary batches
+-- ---- record batches
 
 -- after rows that weigh so much
 unfoldable pub batch_checks : PlainSchema → (before : ℕ) → RawBatch → List ℕ → List (List Array) → List (Option Fault)
@@ -115,24 +115,3 @@ batch_checks s before b body dictionaries =
 unfoldable pub batch_read : PlainSchema → (before : ℕ) → RawBatch → List ℕ → List (List Array) → Result Arrays Fault
 batch_read s before b body dictionaries =
     unless (first_some (batch_checks s before b body dictionaries)) (Ok (batch_arrays (columns_of s.columns) b body dictionaries))
-
--- a dictionary batch is one of a single column: the values of a field with its dictionary's id. Nulls are allowed there, and nothing is hidden
-abbrev pub values_of : Column → Columns
-values_of c = and_column (value_column c) no_column
-
-abbrev pub entries_in : Column → RawBatch → List ℕ → Arrays
-entries_in c b body = batch_arrays (values_of c) b body []
-
-unfoldable pub entry_checks : Column → RawBatch → List ℕ → List (Option Fault)
-entry_checks c b body = array_checks (values_of c) b body (entries_in c b body) ++ when (list_any is_no_text (visible_in (values_of c) (entries_in c b body) b.length)) NotUtf8 ∷ []
-
--- F24: no field has its id; F25: it is appended to a dictionary of which there was no batch
-unfoldable pub dictionary_checks : (ids begun : List ℕ) → Column → RawDictionaryBatch → List ℕ → List (Option Fault)
-dictionary_checks ids begun c d body =
-    when (not (list_any (λ id. id == d.id) ids)) DictionaryId
-    ∷ when (d.is_delta && not (list_any (λ id. id == d.id) begun)) DeltaWithoutBase
-    ∷ entry_checks c d.batch body
-
--- the array that is read of a dictionary batch, or its first fault
-unfoldable pub dictionary_read : (ids begun : List ℕ) → Column → RawDictionaryBatch → List ℕ → Result Array Fault
-dictionary_read ids begun c d body = unless (first_some (dictionary_checks ids begun c d body)) (Ok (first_array (entries_in c d.batch body)))

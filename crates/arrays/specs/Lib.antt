@@ -1,2 +1,3 @@
 pub mod Checks
+pub mod Dictionaries
 pub mod inner

@@ -1,0 +1,2 @@
+pub mod InEffect
+pub mod laws
