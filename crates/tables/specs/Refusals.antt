@@ -2,6 +2,8 @@
 use Rattle.std.specs.Prelude.{ℕ, List, ◌++◌, codes}
 use Rattle.std.specs.Fmt.{decimal}
 use Rattle.ipc_message.specs.FaultText.{fault_text}
+use Rattle.ipc_message.specs.declared.error.ImportError.{ImportError}
+use Rattle.ipc_message.specs.declared.error.ImportError.TheVariants as imports
 use Rattle.tables.specs.declared.refusal.Limit.{Limit}
 use Rattle.tables.specs.declared.refusal.Limit.TheVariants as limits
 use Rattle.tables.specs.declared.refusal.QueryRefusal.{QueryRefusal}
@@ -44,6 +46,11 @@ origin_of refusals.Read = elsewhere
 origin_of (refusals.SegmentDamaged segment) = elsewhere
 origin_of refusals.Write = elsewhere
 origin_of refusals.OutOfMemory = by_memory
+
+-- how a stream that was not read is refused
+abbrev pub import_refusal : ImportError → Refusal
+import_refusal (imports.Fault fault) = refusals.Import fault
+import_refusal imports.OutOfMemory = refusals.OutOfMemory
 
 abbrev pub limit_text : Limit → List ℕ
 limit_text limits.Tables = codes "Tables"

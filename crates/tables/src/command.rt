@@ -1,16 +1,19 @@
 // What may be asked of a store's tables.
+ghost use Rattle.std.specs.Prelude.{◌≡◌, true};
 ghost use Rattle.arrow_schema.specs.View.{schema_of};
 ghost use Rattle.arrow_schema.specs.Limits.{IsWithinLimits};
+ghost use Rattle.catalogue.specs.Schemas.{is_read};
 
 use arrow_schema::Schema;
 use cells::Row;
 
-/// A table to be made: its name, and its schema, which is within the limits.
+/// A table to be made: its name, and its schema, which is within the limits and of those that are read so far.
 #[derive(Drop)]
 pub struct NewTable {
     pub name: String,
     pub schema: Schema,
     pub ghost within: { IsWithinLimits (schema_of schema) },
+    pub ghost read: { is_read (schema_of schema) ≡ true },
 }
 
 /// A change of the tables, with the tests that are made of it in their order.

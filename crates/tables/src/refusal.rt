@@ -1,5 +1,6 @@
 // Why a call of an open store is refused.
-use ipc_message::Fault;
+use ipc_message::{Fault, ImportError};
+use std::alloc::{AllocError, AllocFailed};
 
 /// A limit that would be passed.
 #[derive(Clone, Copy, Debug, PartialEq, Eq)]
@@ -66,4 +67,41 @@ pub enum Refusal {
     Write,
     /// A growth was refused.
     OutOfMemory,
+}
+
+impl From<AllocError> for Refusal {
+    ghost use Rattle.std.specs.Prelude.{◌≡◌};
+    ghost use Rattle.tables.specs.declared.refusal.Refusal.TheVariants.{OutOfMemory};
+
+    ghost from_gives = { λ _ r. r ≡ OutOfMemory };
+
+    fn from(_: AllocError) -> Self {
+        Refusal::OutOfMemory
+    }
+}
+
+impl<T: Drop> From<AllocFailed<T>> for Refusal {
+    ghost use Rattle.std.specs.Prelude.{◌≡◌};
+    ghost use Rattle.tables.specs.declared.refusal.Refusal.TheVariants.{OutOfMemory};
+
+    ghost from_gives = { λ _ r. r ≡ OutOfMemory };
+
+    fn from(_: AllocFailed<T>) -> Self {
+        Refusal::OutOfMemory
+    }
+}
+
+/// A stream that has no meaning is refused by its fault.
+impl From<ImportError> for Refusal {
+    ghost use Rattle.std.specs.Prelude.{◌≡◌};
+    ghost use Rattle.tables.specs.Refusals.{import_refusal};
+
+    ghost from_gives = { λ e r. r ≡ import_refusal e };
+
+    fn from(error: ImportError) -> Self {
+        match error {
+            ImportError::Fault(fault) => Refusal::Import(fault),
+            ImportError::OutOfMemory => Refusal::OutOfMemory,
+        }
+    }
 }
