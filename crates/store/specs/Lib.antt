@@ -7,4 +7,6 @@ pub mod Since
 pub mod History
 pub mod Held
 pub mod Fits
+pub mod Changes
+pub mod Applying
 pub mod laws

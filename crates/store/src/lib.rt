@@ -12,6 +12,7 @@
 //! ```
 #![tactic(auto)]
 
+mod change;
 mod laws;
 mod opening_refusal;
 mod store;

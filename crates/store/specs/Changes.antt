@@ -1,0 +1,131 @@
+-- What a command changes: the catalogue, by an edit, and the segments that are new in it. They have no places yet.
+use Rattle.std.specs.Prelude.{◌≡◌, ◌≤◌, ◌<◌, ◌^◌, ℕ, true, List, [], ◌∷◌, ◌++◌, length, map, option_map, Option, Some, None, Ok, string_bytes}
+use Rattle.std.specs.Global.{Vec}
+use Rattle.std.specs.List.{list_all, AllByRecursion}
+use Rattle.sector_dev.specs.Disk.{Image}
+use Rattle.segments.specs.Sectors.{bytes_at}
+use Rattle.segments.specs.declared.run.Run.{Run}
+use Rattle.arrow_schema.specs.Column.{PlainSchema}
+use Rattle.arrow_schema.specs.View.{schema_of}
+use Rattle.arrow_schema.specs.Limits.{IsWithinLimits}
+use Rattle.cells.specs.Cell.{Cell, PlainTable}
+use Rattle.values.specs.Table.{table_from}
+use Rattle.catalogue.specs.declared.limits.TheConstants.{MAX_TABLES, MAX_SEGMENT_ROWS}
+use Rattle.catalogue.specs.declared.entry.Segment.{Segment}
+use Rattle.catalogue.specs.Schemas.{is_read}
+use Rattle.catalogue.specs.Entries.{PlainEntry, PlainCatalogue, is_name, is_between, runs_in}
+use Rattle.catalogue.specs.Edits.{entry_of, with_entry, without, renamed, with_more}
+use Rattle.tables.specs.Tables.{Tables, table_at, with_table, without_table}
+use Rattle.tables.specs.Verdict.{joined}
+use Rattle.store.specs.declared.change.Edit.{Edit}
+use Rattle.store.specs.declared.change.Edit.TheVariants as edits
+use Rattle.store.specs.declared.change.Change.{Change}
+use Rattle.store.specs.Held.{rows_in_bytes, joined_rows}
+
+pub data PlainEdit : Type 0 where
+  put : (name : List ℕ) → PlainSchema → PlainEdit
+  extend : (name : List ℕ) → PlainEdit
+  move : (from to : List ℕ) → PlainEdit
+  remove : (name : List ℕ) → PlainEdit
+
+abbrev pub edit_of : Edit → PlainEdit
+edit_of (edits.Put name schema) = put (string_bytes name) (schema_of schema)
+edit_of (edits.Extend name) = extend (string_bytes name)
+edit_of (edits.Move from to) = move (string_bytes from) (string_bytes to)
+edit_of (edits.Remove name) = remove (string_bytes name)
+
+-- an edit, the streams of the new segments and how many rows each has
+pub record PlainChange : Type 0 where
+  pub edit : PlainEdit
+  pub streams : List (List ℕ)
+  pub counts : List ℕ
+
+abbrev pub change_of : Change → PlainChange
+change_of change = record { edit = edit_of change.edit; streams = map (λ (v : Vec ℕ). v.items) change.streams.items; counts = change.rows.items }
+
+-- ---- the catalogue
+
+-- a new entry
+abbrev pub new_entry : List ℕ → PlainSchema → List Segment → PlainEntry
+new_entry name schema segments = record { name = name; schema = schema; segments = segments }
+
+-- after an edit with these new segments
+abbrev pub edited : PlainCatalogue → PlainEdit → List Segment → PlainCatalogue
+edited c (put name schema) segments = with_entry c (new_entry name schema segments)
+edited c (extend name) segments = with_more c name segments
+edited c (move from to) segments = renamed c from to
+edited c (remove name) segments = without c name
+
+-- the runs of the segments that an edit takes out
+abbrev pub runs_at : PlainCatalogue → List ℕ → List Run
+runs_at c name = elim (entry_of c name) [ None ↦ [] | Some e ↦ runs_in e ]
+
+abbrev pub given_up : PlainCatalogue → PlainEdit → List Run
+given_up c (put name schema) = runs_at c name
+given_up c (extend name) = []
+given_up c (move from to) = []
+given_up c (remove name) = runs_at c name
+
+-- the catalogue can be edited so: with these numbers of new segments only their number is still to be tested
+abbrev pub HasEntry : PlainCatalogue → List ℕ → Type 0
+HasEntry c name = (e : PlainEntry) × (entry_of c name ≡ Some e)
+
+abbrev pub IsEdit : PlainCatalogue → PlainEdit → List (List ℕ) → Type 0
+IsEdit c (put name schema) streams =
+    (is_name name ≡ true) × IsWithinLimits schema × (is_read schema ≡ true) × (length (with_entry c (new_entry name schema [])) ≤ MAX_TABLES)
+IsEdit c (extend name) streams = HasEntry c name
+IsEdit c (move from to) streams = (is_name to ≡ true) × (entry_of c to ≡ None) × HasEntry c from × (streams ≡ [])
+IsEdit c (remove name) streams = HasEntry c name × (streams ≡ [])
+
+-- a change of this catalogue: each new segment has a stream of some bytes, and as many rows as a segment may have
+pub record IsChange (c : PlainCatalogue) (change : PlainChange) : Type 0 where
+  pub edit : IsEdit c change.edit change.streams
+  pub each : length change.streams ≡ length change.counts
+  pub some : AllByRecursion (λ (stream : List ℕ). 1 ≤ length stream) change.streams
+  pub short : AllByRecursion (λ (stream : List ℕ). length stream < 2 ^ 64) change.streams
+  pub rows : list_all (is_between 1 MAX_SEGMENT_ROWS) change.counts ≡ true
+
+-- ---- the tables
+
+-- the rows of some streams one after another, where each means so many rows of this schema
+unfoldable pub stream_rows : PlainSchema → (streams : List (List ℕ)) → (counts : List ℕ) → Option (List (List Cell))
+stream_rows schema [] counts = Some []
+stream_rows schema (stream ∷ streams) [] = None
+stream_rows schema (stream ∷ streams) (count ∷ counts) = joined_rows (rows_in_bytes schema count (Some stream)) (stream_rows schema streams counts)
+
+-- the table of this schema and these rows
+abbrev pub rows_under : PlainSchema → List (List Cell) → PlainTable
+rows_under schema rows = record { schema = schema; rows = rows }
+
+-- what a change makes of tables: its streams hold the new rows, and each table is one
+abbrev pub Makes : Tables → PlainEdit → (streams : List (List ℕ)) → (counts : List ℕ) → Tables → Type 0
+Makes t (put name schema) streams counts new =
+    (rows : List (List Cell)) × (stream_rows schema streams counts ≡ Some rows) × (table_from schema rows ≡ Ok (rows_under schema rows))
+    × (new ≡ with_table t name (rows_under schema rows))
+Makes t (extend name) streams counts new =
+    (table : PlainTable) × (table_at t name ≡ Some table)
+    × ((rows : List (List Cell)) × (stream_rows table.schema streams counts ≡ Some rows) × (table_from table.schema (table.rows ++ rows) ≡ Ok (joined table rows))
+    × (new ≡ with_table t name (joined table rows)))
+Makes t (move from to) streams counts new = (table : PlainTable) × (table_at t from ≡ Some table) × (new ≡ with_table (without_table t from) to table)
+Makes t (remove name) streams counts new = new ≡ without_table t name
+
+abbrev pub MakesOf : Tables → PlainChange → Tables → Type 0
+MakesOf t change new = Makes t change.edit change.streams change.counts new
+
+-- ---- the new segments
+
+-- their bytes go into these runs, one after another
+abbrev pub placed_segments : List Run → (streams : List (List ℕ)) → (counts : List ℕ) → List Segment
+placed_segments [] streams counts = []
+placed_segments (run ∷ runs) [] counts = []
+placed_segments (run ∷ runs) (stream ∷ streams) [] = []
+placed_segments (run ∷ runs) (stream ∷ streams) (count ∷ counts) =
+    record { place = record { run = run; bytes = length stream }; rows = count } ∷ placed_segments runs streams counts
+
+-- an image has these streams in these segments, which have so many rows
+abbrev pub HoldsStreams : Image → List Segment → (streams : List (List ℕ)) → (counts : List ℕ) → Type 0
+HoldsStreams image [] streams counts = streams ≡ []
+HoldsStreams image (g ∷ gs) [] counts = ⊥
+HoldsStreams image (g ∷ gs) (stream ∷ streams) [] = ⊥
+HoldsStreams image (g ∷ gs) (stream ∷ streams) (count ∷ counts) =
+    (bytes_at image g.place.run.start g.place.bytes ≡ Some stream) × (g.rows ≡ count) × HoldsStreams image gs streams counts
