@@ -14,10 +14,10 @@ use Rattle.commit.specs.declared.sector.Commit.{Commit}
 use Rattle.commit.specs.Sector.{commit_at, commit_text, IsCommit}
 use Rattle.commit.proofs.Texts.{found_in}
 use Rattle.commit.specs.Ruling.{newer, ruling}
-use Rattle.commit.specs.Formatting.{HoldsNoCommit, HasNoCommit, IsNoneOrEmpty, IsEmptyStore, IsFormatting, IsFormatted, first_commit, empty_text}
+use Rattle.commit.specs.Formatting.{HoldsNoCommit, HasNoCommit, IsNoneOrEmpty, IsEmptyStore, IsFormatting, IsFormatted, IsMadeEmpty, first_commit, empty_text}
 use Rattle.commit.specs.laws.Sectors.{none_unreadable, none_begins}
 use Rattle.sector_dev.specs.laws.Crash.{one_more}
-use Rattle.commit.specs.inner.Prepared.{IsPrepared}
+use Rattle.commit.specs.inner.Prepared.{IsPrepared, HasZeros, HasFirst}
 
 pub on_false : {P Q : Type 0} (b : Bool) → OnFalse b P → (P → Q) → OnFalse b Q
 on_false true p f = tt
@@ -193,3 +193,37 @@ first_is_commit size le = record { epoch = omega arith; epoch_fits = omega arith
 -- the sector that is written holds the first commit
 pub first_found : (size : ℕ) (sector : List ℕ) → 16 ≤ size → size ≤ 4194304 → sector ≡ commit_text (first_commit size) → commit_at 1 (Some sector) ≡ Some (first_commit size)
 first_found size sector least most is = found_in (first_commit size) sector (first_is_commit size most) is
+
+-- ---- what reads give after a formatting
+
+put_shown : (s t : Story) (n : ℕ) (c : List ℕ) → Puts s n c (Some c) t → shown_image (now t) n ≡ Some c
+put_shown s t n c is = ap (λ (v : Story). shown_image (now v) n) is ∙ ap (λ (z : Sector). z.shown) (put_same (now s) n c (Some c))
+
+put_leaves : (s t : Story) (n k : ℕ) (c : List ℕ) (x : Option (List ℕ)) → Puts s n c x t → k ≢ n → shown_image (now t) k ≡ shown_image (now s) k
+put_leaves s t n k c x is other = ap (λ (v : Story). shown_image (now v) k) is ∙ ap (λ (z : Sector). z.shown) (put_other (now s) n c x k other)
+
+flush_leaves : (s t : Story) (k : ℕ) → Flushes s t → shown_image (now t) k ≡ shown_image (now s) k
+unfolding flushed
+flush_leaves s t k is = ap (λ (v : Story). shown_image (now v) k) is
+
+pub has_zeros : (s0 s1 s2 s3 : Story) (c : List ℕ) → c ≡ zeros → Puts s0 0 c (Some c) s1 → Puts s1 2 c (Some c) s2 → Flushes s2 s3 → HasZeros (shown_image (now s0)) (shown_image (now s3))
+has_zeros s0 s1 s2 s3 c is one two synced = record {
+  zeroth = flush_leaves s2 s3 0 synced ∙ put_leaves s1 s2 2 0 c (Some c) two (λ e. omega arith) ∙ put_shown s0 s1 0 c one ∙ ap Some is;
+  second = flush_leaves s2 s3 2 synced ∙ put_shown s1 s2 2 c two ∙ ap Some is;
+  others = λ n not_zeroth not_second. flush_leaves s2 s3 n synced ∙ put_leaves s1 s2 2 n c (Some c) two not_second ∙ put_leaves s0 s1 0 n c (Some c) one not_zeroth;
+}
+
+pub has_first : (size : ℕ) (s0 s1 s2 : Story) (c : List ℕ) → c ≡ commit_text (first_commit size) → Puts s0 1 c (Some c) s1 → Flushes s1 s2 → HasFirst size (shown_image (now s0)) (shown_image (now s2))
+has_first size s0 s1 s2 c is one synced = record {
+  first = flush_leaves s1 s2 1 synced ∙ put_shown s0 s1 1 c one ∙ ap Some is;
+  others = λ n other. flush_leaves s1 s2 n synced ∙ put_leaves s0 s1 1 n c (Some c) one other;
+}
+
+pub made_empty : (size : ℕ) (s0 s1 s2 s3 : Story) → Flushes s0 s1 → HasZeros (shown_image (now s1)) (shown_image (now s2)) → HasFirst size (shown_image (now s2)) (shown_image (now s3))
+    → IsMadeEmpty size (shown_image (now s0)) (shown_image (now s3))
+made_empty size s0 s1 s2 s3 synced cleared begun = record {
+  zeroth = begun.others 0 (λ e. omega arith) ∙ cleared.zeroth;
+  first = begun.first;
+  second = begun.others 2 (λ e. omega arith) ∙ cleared.second;
+  others = λ n le. begun.others n (λ e. omega arith) ∙ cleared.others n (λ e. omega arith) (λ e. omega arith) ∙ flush_leaves s0 s1 n synced;
+}

@@ -1,14 +1,15 @@
 -- What may lie on a disk while it is formatted.
-use Rattle.std.specs.Prelude.{◌≡◌, ◌⊎◌, ◌<◌, ◌+◌, ◌-◌, ◌^◌, ℕ, min, List, [], ◌∷◌, Some, None, Result, Ok, Err}
+use Rattle.std.specs.Prelude.{◌≡◌, ◌⊎◌, ◌≤◌, ◌<◌, ◌+◌, ◌-◌, ◌^◌, ℕ, min, List, [], ◌∷◌, Some, None, Result, Ok, Err}
 use Rattle.sector_dev.specs.Disk.{Disk, Image, synced_image}
 use Rattle.sector_dev.specs.Time.{LeavesOnly}
+use Rattle.sector_dev.specs.History.{zeros}
 use Rattle.segments.specs.Sectors.{bytes_at}
 use Rattle.commit.specs.declared.sector.CatalogueKind.TheVariants.{Whole}
 use Rattle.commit.specs.declared.sector.FormatVersion.TheVariants.{One}
 use Rattle.commit.specs.declared.sector.Commit.{Commit}
 use Rattle.commit.specs.declared.formatting.FormatError.{FormatError}
 use Rattle.commit.specs.declared.formatting.FormatError.TheVariants.{AlreadyAStore, Damaged, Device, OutOfMemory}
-use Rattle.commit.specs.Sector.{commit_at}
+use Rattle.commit.specs.Sector.{commit_at, commit_text}
 use Rattle.commit.specs.Ruling.{ruling, Rests}
 
 -- neither commit sector holds a commit
@@ -51,6 +52,14 @@ pub record IsFormatted (size : ℕ) (before d : Disk) : Type 0 where
   pub rests : Rests d (first_commit size)
   pub text : bytes_at (synced_image d) 2 4 ≡ Some empty_text
   pub begun : before.writes < d.writes
+
+-- what a formatting makes of a device, as reads give it: zeros in sector 0, the first commit in sector 1, the empty text with zeros behind
+-- it in sector 2, which are zeros too, and all else as it was
+pub record IsMadeEmpty (size : ℕ) (before after : Image) : Type 0 where
+  pub zeroth : after 0 ≡ Some zeros
+  pub first : after 1 ≡ Some (commit_text (first_commit size))
+  pub second : after 2 ≡ Some zeros
+  pub others : (n : ℕ) → 3 ≤ n → after n ≡ before n
 
 -- a failed call of the device is counted, up to the greatest number; no other answer is
 abbrev pub CountsFormat : {T : Type 0} → ℕ → ℕ → Result T FormatError → Type 0

@@ -4,9 +4,9 @@ ghost use Rattle.sector_dev.specs.Disk.{now, shown_image, Counts};
 ghost use Rattle.sector_dev.specs.Time.{Grows, OnlyReads};
 ghost use Rattle.commit.specs.Ruling.{ruling};
 ghost use Rattle.commit.specs.Standing.{is_size};
-ghost use Rattle.commit.specs.Formatting.{HasNoCommit, IsFormatting, IsFormatted, CountsFormat, first_commit};
+ghost use Rattle.commit.specs.Formatting.{HasNoCommit, IsFormatting, IsFormatted, IsMadeEmpty, CountsFormat, first_commit};
 ghost use Rattle.commit.specs.Placing.{Uses};
-ghost use Rattle.commit.specs.inner.Prepared.{IsPrepared, Begins, EndsBegun, Clears, EndsCleared};
+ghost use Rattle.commit.specs.inner.Prepared.{IsPrepared, HasZeros, HasFirst, Begins, EndsBegun, Clears, EndsCleared};
 
 use crate::opening::read_ruling;
 use crate::sector::commit_sector;
@@ -59,6 +59,7 @@ fn prepare<D: SectorDevice>(device: &mut D) -> Result<(), DevError>
     ensures moments { D.tells ≡ true → HasNoCommit (now (D.story device.old)) → Grows HasNoCommit (D.story device.old) (D.story device.new) }
     ensures prepared { OnOk result (D.tells ≡ true → HasNoCommit (now (D.story device.old)) → IsPrepared (now (D.story device.new))) }
     ensures begun { OnOk result (D.tells ≡ true → (now (D.story device.old)).writes ≤ (now (D.story device.new)).writes) }
+    ensures zeros { OnOk result (D.tells ≡ true → HasZeros (shown_image (now (D.story device.old))) (shown_image (now (D.story device.new)))) }
 {
     let zeros = [0u8; 512];
     device.write(0, &zeros)?;
@@ -76,6 +77,8 @@ fn begin<D: SectorDevice>(device: &mut D) -> Result<(), DevError>
     ensures error { IfErr result (λ e. e ≡ DevError.Failed) }
     ensures moments { D.tells ≡ true → Begins (D.size device.old) (D.story device.old) (D.story device.new) }
     ensures formatted { OnOk result (D.tells ≡ true → EndsBegun (D.size device.old) (D.story device.old) (D.story device.new)) }
+    ensures first { OnOk result
+        (D.tells ≡ true → HasFirst (D.size device.old) (shown_image (now (D.story device.old))) (shown_image (now (D.story device.new)))) }
 {
     let first = first_commit(device.sectors());
     let sector = commit_sector(first);
@@ -93,6 +96,8 @@ fn clear_and_begin<D: SectorDevice>(device: &mut D) -> Result<(), DevError>
     ensures error { IfErr result (λ e. e ≡ DevError.Failed) }
     ensures moments { D.tells ≡ true → Clears (D.size device.old) (D.story device.old) (D.story device.new) }
     ensures formatted { OnOk result (D.tells ≡ true → EndsCleared (D.size device.old) (D.story device.old) (D.story device.new)) }
+    ensures made { OnOk result
+        (D.tells ≡ true → IsMadeEmpty (D.size device.old) (shown_image (now (D.story device.old))) (shown_image (now (D.story device.new)))) }
 {
     device.sync()?;
     prepare(device)?;
@@ -131,11 +136,14 @@ pub fn format<D: SectorDevice>(
     ensures damaged { IfErr result (λ e. (cause : Cause) → e ≡ FormatError.Damaged cause → is_size (D.size device.old) ≡ false) }
     ensures already { IsErrOf result FormatError.AlreadyAStore → D.tells ≡ true → ruling (shown_image (now (D.story device.old))) ≢ None }
     ensures none_before { OnOk result (D.tells ≡ true → ruling (shown_image (now (D.story device.old))) ≡ None) }
+    ensures memory { IsErrOf result FormatError.OutOfMemory → D.tells ≡ true → ruling (shown_image (now (D.story device.old))) ≡ None }
     ensures untouched { D.tells ≡ true → ruling (shown_image (now (D.story device.old))) ≢ None → OnlyReads (D.story device.old) (D.story device.new) }
     ensures moments { D.tells ≡ true → Grows (IsFormatting (D.size device.old) (now (D.story device.old))) (D.story device.old) (D.story device.new) }
     ensures quiet { IfErr result (λ e. e ≢ FormatError.Device → D.tells ≡ true → now (D.story device.new) ≡ now (D.story device.old)) }
     ensures commit { IfOk result (λ store. store.0 ≡ first_commit (D.size device.old)) }
     ensures formatted { OnOk result (D.tells ≡ true → IsFormatted (D.size device.old) (now (D.story device.old)) (now (D.story device.new))) }
+    ensures made { OnOk result
+        (D.tells ≡ true → IsMadeEmpty (D.size device.old) (shown_image (now (D.story device.old))) (shown_image (now (D.story device.new)))) }
     ensures map_size { IfOk result (λ store. store.1.size ≡ D.size device.old) }
     ensures uses { IfOk result (λ store. Uses store.1.entries (store.0.catalogue.run ∷ []) []) }
 {

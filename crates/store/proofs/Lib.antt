@@ -1,1 +1,3 @@
 mod Opened
+mod Formatted
+mod Listing

@@ -141,7 +141,7 @@ module _ (size : ℕ) (base : Tables) (m : Machine) where
   same_allows d allows image may = allows image may
 
   -- no store is found only before the start, and no damaged one at all
-  not_started : (image : Image) → Allows (setting_of size base) m image → standing whole_reading size image ≡ no_store → m.started ≡ false
+  pub not_started : (image : Image) → Allows (setting_of size base) m image → standing whole_reading size image ≡ no_store → m.started ≡ false
   unfolding Allows held_by
   not_started image (inl is) none = let held : machines.no_store ≡ holds (after base m.settled) = ap (held_of image) (sym none) ∙ is in absurd (cc held)
   not_started image (inr (inl is)) none = let held : machines.no_store ≡ holds (after base (with_doubt m.settled m.doubt)) = ap (held_of image) (sym none) ∙ is in absurd (cc held)

@@ -1,11 +1,14 @@
 -- How a device or a store stands for a machine.
-use Rattle.std.specs.Prelude.{◌≡◌, ℕ, true, false, if◌then◌else◌, [], Some, None}
-use Rattle.sector_dev.specs.Disk.{Story, now, synced_image, flushed}
+use Rattle.std.specs.Prelude.{◌≡◌, ℕ, Bool, true, false, if◌then◌else◌, [], Some, None}
+use Rattle.sector_dev.specs.Disk.{Story, now, synced_image, shown_image, flushed}
 use Rattle.sector_dev.specs.Time.{Grows, LeavesOnly}
 use Rattle.sector_dev.specs.declared.device.SectorDevice.{Ghosts}
 use Rattle.commit.specs.Standing.{is_size, used_runs, rules, Stands}
 use Rattle.commit.specs.Opening.{IsOpening, standing_shown}
 use Rattle.commit.specs.Placing.{Uses}
+use Rattle.commit.specs.Ruling.{ruling}
+use Rattle.commit.specs.Formatting.{first_commit, IsFormatting, IsFormatted}
+use Rattle.commit.specs.declared.sector.Commit.{Commit}
 use Rattle.catalogue.specs.Entries.{PlainCatalogue}
 use Rattle.catalogue.specs.View.{catalogue_of}
 use Rattle.tables.specs.Tables.{Tables, no_tables}
@@ -37,6 +40,10 @@ pub record DeviceFits {D : Type 0} (size : D → ℕ) (story : D → Story) (bas
 abbrev pub listed_in : {D : Type 0} {g : Ghosts D} → Store D g → PlainCatalogue
 listed_in store = catalogue_of store.opened.catalogue.list
 
+-- its device failed, so it has to be closed
+abbrev pub is_halted : {D : Type 0} {g : Ghosts D} → Store D g → Bool
+is_halted store = store.halted
+
 -- an open store: all is on the disk, and its tables are those of the settled commands
 pub record IsSound {D : Type 0} {g : Ghosts D} (size : D → ℕ) (story : D → Story) (base : Tables) (m : Machine) (store : Store D g) : Type 0 where
   pub stands : Stands whole_reading (size store.device) (now (story store.device)) store.opened.commit (listed_in store)
@@ -60,6 +67,24 @@ pub record FindsStore {D : Type 0} {g : Ghosts D} (size : D → ℕ) (story : D 
   pub moments : Grows (IsOpening (now (story device))) (story device) (story (device_of store))
   pub synced : now (story (device_of store)) ≡ flushed (now (story device))
   pub uses : Uses store.opened.map.entries (used_runs whole_reading store.opened.commit (listed_in store)) []
+  pub on : store.halted ≡ false
+
+-- the commit of a store
+abbrev pub commit_of : {D : Type 0} {g : Ghosts D} → Store D g → Commit
+commit_of store = store.opened.commit
+
+-- a formatting of any device that was done: reads showed no store there; the empty store is synced, and no stop during it left anything
+-- but what was there, no store or the empty one
+pub record FormatsStore {D : Type 0} {g : Ghosts D} (size : D → ℕ) (story : D → Story) (device : D) (store : Store D g) : Type 0 where
+  pub none_before : ruling (shown_image (now (story device))) ≡ None
+  pub moments : Grows (IsFormatting (size device) (now (story device))) (story device) (story (device_of store))
+  pub formatted : IsFormatted (size device) (now (story device)) (now (story (device_of store)))
+
+-- the store that a formatting of a device of this size makes: without tables, and not halted
+pub record IsNewStore {D : Type 0} {g : Ghosts D} (size : ℕ) (store : Store D g) : Type 0 where
+  pub empty : listed_in store ≡ []
+  pub commit : commit_of store ≡ first_commit size
+  pub uses : Uses store.opened.map.entries (used_runs whole_reading (commit_of store) (listed_in store)) []
   pub on : store.halted ≡ false
 
 -- an opening or a formatting of a device that was done: some machine goes on, and the store stands for it

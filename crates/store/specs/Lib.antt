@@ -9,4 +9,5 @@ pub mod Held
 pub mod Fits
 pub mod Changes
 pub mod Applying
+pub mod Listing
 pub mod laws

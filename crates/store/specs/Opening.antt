@@ -1,9 +1,13 @@
 -- Why a device is not opened or formatted, as it is reported, and what it tells of the device.
-use Rattle.std.specs.Prelude.{◌≡◌, ℕ, List, ◌++◌, codes}
+use Rattle.std.specs.Prelude.{◌≡◌, ◌≢◌, ℕ, false, List, ◌++◌, Option, None, codes}
 use Rattle.catalogue.specs.Entries.{PlainCatalogue}
-use Rattle.commit.specs.Standing.{Standing, no_store, damaged}
+use Rattle.commit.specs.Standing.{Standing, no_store, damaged, is_size}
 use Rattle.commit.specs.declared.cause.Cause.{Cause}
 use Rattle.commit.specs.declared.cause.Cause.TheVariants as causes
+use Rattle.commit.specs.declared.cause.Cause.TheVariants.{DeviceSize}
+use Rattle.commit.specs.declared.sector.Commit.{Commit}
+use Rattle.commit.specs.declared.formatting.FormatError.{FormatError}
+use Rattle.commit.specs.declared.formatting.FormatError.TheVariants as formats
 use Rattle.commit.specs.declared.reading.OpenError.{OpenError}
 use Rattle.commit.specs.declared.reading.OpenError.TheVariants as errors
 use Rattle.store.specs.declared.opening_refusal.OpeningRefusal.{OpeningRefusal}
@@ -39,3 +43,18 @@ TellsOpening refusals.AlreadyAStore found = ⊥
 TellsOpening (refusals.Damaged cause) found = found ≡ damaged cause
 TellsOpening refusals.Device found = Unit {0}
 TellsOpening refusals.OutOfMemory found = Unit {0}
+
+-- why a device is not formatted, as it is told
+abbrev pub formatting_of : FormatError → OpeningRefusal
+formatting_of formats.AlreadyAStore = refusals.AlreadyAStore
+formatting_of (formats.Damaged cause) = refusals.Damaged cause
+formatting_of formats.Device = refusals.Device
+formatting_of formats.OutOfMemory = refusals.OutOfMemory
+
+-- what a refused formatting tells of the size of a device, and of the commit that reads showed to rule it, is so
+abbrev pub TellsFormatting : OpeningRefusal → ℕ → Option Commit → Type 0
+TellsFormatting refusals.NotAStore size found = ⊥
+TellsFormatting refusals.AlreadyAStore size found = found ≢ None
+TellsFormatting (refusals.Damaged cause) size found = (cause ≡ DeviceSize) × (is_size size ≡ false)
+TellsFormatting refusals.Device size found = Unit {0}
+TellsFormatting refusals.OutOfMemory size found = Unit {0}

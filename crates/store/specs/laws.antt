@@ -5,3 +5,5 @@ pub mod Settled
 pub mod Kept
 pub mod Frame
 pub mod Named
+pub mod Listed
+pub mod Changed

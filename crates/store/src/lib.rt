@@ -13,7 +13,9 @@
 #![tactic(auto)]
 
 mod change;
+mod formatting;
 mod laws;
+mod listing;
 mod opening_refusal;
 mod store;
 mod stored;

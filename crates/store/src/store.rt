@@ -14,9 +14,9 @@ use std::alloc::Global;
 /// Named tables on a device. After a failure of the device it is halted: it has to be closed and opened again.
 #[derive(Drop)]
 pub struct Store<D: SectorDevice> {
-    device: D,
-    opened: Opened<StoredCatalogue>,
-    halted: bool,
+    pub(crate) device: D,
+    pub(crate) opened: Opened<StoredCatalogue>,
+    pub(crate) halted: bool,
     ghost in_limits: { is_size (D.size device) ≡ true },
     ghost same: { opened.map.size ≡ D.size device },
     ghost own: { opened.commit.device_sectors ≡ D.size device },

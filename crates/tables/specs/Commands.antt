@@ -1,7 +1,10 @@
 -- Commands on tables as plain data.
-use Rattle.std.specs.Prelude.{ℕ, List, [], ◌∷◌, Result}
+use Rattle.std.specs.Prelude.{◌≡◌, ℕ, List, [], ◌∷◌, Result, Ok}
+use Rattle.facts.specs.Bytes.{AreBytes}
 use Rattle.arrow_schema.specs.Column.{PlainSchema}
+use Rattle.arrow_schema.specs.Limits.{IsWithinLimits}
 use Rattle.cells.specs.Cell.{Cell, PlainTable}
+use Rattle.values.specs.Table.{IsTable}
 use Rattle.tables.specs.declared.refusal.QueryRefusal.{QueryRefusal}
 
 -- names and streams are bytes
@@ -24,3 +27,17 @@ changed_names (append_rows name rows) = name ∷ []
 changed_names (save_as from to query) = to ∷ []
 changed_names (rename from to) = from ∷ to ∷ []
 changed_names (drop_table name) = name ∷ []
+
+-- what a command brings makes tables: a schema within the limits, bytes, a query that answers tables of tables
+abbrev pub BringsTables : PlainCommand → Type 0
+BringsTables (create name schema) = IsWithinLimits schema
+BringsTables (import_stream name bytes) = AreBytes bytes
+BringsTables (append_stream name bytes) = Unit {0}
+BringsTables (append_rows name rows) = Unit {0}
+BringsTables (save_as from to query) = (table new : PlainTable) → IsTable table → query table ≡ Ok new → IsTable new
+BringsTables (rename from to) = Unit {0}
+BringsTables (drop_table name) = Unit {0}
+
+abbrev pub BringTables : List PlainCommand → Type 0
+BringTables [] = Unit {0}
+BringTables (c ∷ cs) = BringsTables c × BringTables cs

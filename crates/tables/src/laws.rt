@@ -6,10 +6,13 @@ ghost use Rattle.cells.specs.Cell.{Cell, PlainTable};
 ghost use Rattle.cells.specs.Weight.{table_weight};
 ghost use Rattle.tables.specs.declared.refusal.Refusal.{Refusal};
 ghost use Rattle.tables.specs.declared.refusal.Refusal.TheVariants.{NoTable, NameTaken, BadName};
-ghost use Rattle.tables.specs.Tables.{Tables, no_tables, table_at, with_table, without_table};
-ghost use Rattle.tables.specs.Commands.{PlainCommand, create, append_rows, rename, drop_table, changed_names};
+ghost use Rattle.tables.specs.Tables.{Tables, no_tables, table_at, with_table, without_table, AreTables};
+ghost use Rattle.tables.specs.Commands.{PlainCommand, create, append_rows, rename, drop_table, changed_names, BringsTables, BringTables};
 ghost use Rattle.tables.specs.Verdict.{verdict, step, after, joined, empty_table};
 ghost use Rattle.tables.specs.Refusals.{origin_of, by_tables};
+
+use ipc_stream::meaning_is_a_table;
+use values::{accepted_rows_are_a_table, tables_are_joined_and_cut};
 
 /// A command that is refused leaves the tables as they are.
 pub fn a_refused_command_changes_nothing()
@@ -35,6 +38,16 @@ pub fn refusals_of_the_tables()
 pub fn joined_rows_weigh_together()
     ensures { (s : PlainSchema) (a b : List (List Cell)) → table_weight s (a ++ b) ≡ table_weight s a + table_weight s b }
 {}
+
+/// Where each table keeps what a table keeps, so does each one after commands that bring such tables.
+pub fn tables_stay_tables()
+    ensures one { (t : Tables) (c : PlainCommand) → AreTables t → BringsTables c → AreTables (step t c) }
+    ensures all { (t : Tables) (cs : List PlainCommand) → AreTables t → BringTables cs → AreTables (after t cs) }
+{
+    meaning_is_a_table();
+    accepted_rows_are_a_table();
+    tables_are_joined_and_cut();
+}
 
 /// Rows that are appended stand behind those of the table, all of them, and a table is found at the name that it was given.
 pub fn worked_commands()

@@ -1,10 +1,12 @@
 -- A disk on which only the first commit is missing.
-use Rattle.std.specs.Prelude.{◌≡◌, ℕ, Some}
-use Rattle.sector_dev.specs.Disk.{Disk, Story, now, synced_image, shown_image}
+use Rattle.std.specs.Prelude.{◌≡◌, ◌≢◌, ℕ, Some}
+use Rattle.sector_dev.specs.Disk.{Disk, Story, Image, now, synced_image, shown_image}
+use Rattle.sector_dev.specs.History.{zeros}
 use Rattle.sector_dev.specs.Time.{Grows, LeavesOnly}
 use Rattle.segments.specs.Sectors.{bytes_at}
+use Rattle.commit.specs.Sector.{commit_text}
 use Rattle.commit.specs.Ruling.{IsQuiet}
-use Rattle.commit.specs.Formatting.{HoldsNoCommit, IsNoneOrEmpty, IsFormatting, IsFormatted, empty_text}
+use Rattle.commit.specs.Formatting.{HoldsNoCommit, IsNoneOrEmpty, IsFormatting, IsFormatted, empty_text, first_commit}
 
 -- all is synced, there is no commit, and the empty catalogue lies in its sector
 pub record IsPrepared (d : Disk) : Type 0 where
@@ -25,3 +27,14 @@ Clears size before after = HoldsNoCommit (shown_image (now before)) → Grows (I
 
 abbrev pub EndsCleared : ℕ → Story → Story → Type 0
 EndsCleared size before after = HoldsNoCommit (shown_image (now before)) → IsFormatted size (now before) (now after)
+
+-- what reads give after zeros were written into sectors 0 and 2
+pub record HasZeros (before after : Image) : Type 0 where
+  pub zeroth : after 0 ≡ Some zeros
+  pub second : after 2 ≡ Some zeros
+  pub others : (n : ℕ) → n ≢ 0 → n ≢ 2 → after n ≡ before n
+
+-- and after the first commit was written
+pub record HasFirst (size : ℕ) (before after : Image) : Type 0 where
+  pub first : after 1 ≡ Some (commit_text (first_commit size))
+  pub others : (n : ℕ) → n ≢ 1 → after n ≡ before n

@@ -4,7 +4,7 @@ use Rattle.sector_dev.specs.Time.{LeavesOnly}
 use Rattle.sector_dev.specs.laws.Time.{goes_on, now_has, passed, two}
 use Rattle.commit.specs.Sector.{commit_text}
 use Rattle.commit.specs.Formatting.{IsNoneOrEmpty, IsFormatted, first_commit}
-use Rattle.commit.proofs.Formatted.{first_found, at_rest, begin_put, begin_failed, begin_done}
+use Rattle.commit.proofs.Formatted.{first_found, at_rest, begin_put, begin_failed, begin_done, has_first}
 use Rattle.commit.proofs.formatting.begin.Goals as goal
 
 pub returns-in_err-write-clause-moments : goal.returns-in_err-write-clause-moments
@@ -36,3 +36,9 @@ returns-clause-formatted g c = λ told p.
     let text = first_found (D.size c.args.device.now) _ (omega arith) (omega arith) (c.commit_sector-sector.ensures ∙ ap commit_text (c.first_commit-first.ensures ∙ ap first_commit c.sectors.ensures)) in
     let both = begin_done size _ p _ text (now (D.story c.write.new.self)) (ap now (c.in_ok-write.ensures.ok told)) in
     subst (IsFormatted size (now (D.story c.args.device.now))) (sym (ap now (c.in_ok-sync.ensures.ok told))) both.1
+
+pub returns-clause-first : goal.returns-clause-first
+returns-clause-first g c = λ told.
+    let D = g.D.SectorDevice in
+    let text = c.commit_sector-sector.ensures ∙ ap commit_text (c.first_commit-first.ensures ∙ ap first_commit c.sectors.ensures) in
+    has_first (D.size c.args.device.now) (D.story c.args.device.now) (D.story c.write.new.self) (D.story c.sync.new.self) _ text (c.in_ok-write.ensures.ok told) (c.in_ok-sync.ensures.ok told)

@@ -1,9 +1,10 @@
 use Rattle.std.proofs.Common.{◌∙◌, refl, inl, subst, ℕ, arith}
-use Rattle.sector_dev.specs.Disk.{now}
+use Rattle.sector_dev.specs.Disk.{now, shown_image}
 use Rattle.sector_dev.specs.Time.{Grows, LeavesOnly}
 use Rattle.sector_dev.specs.laws.Time.{goes_on, passed}
 use Rattle.commit.specs.Formatting.{IsNoneOrEmpty, IsFormatting, IsFormatted}
-use Rattle.commit.proofs.Formatted.{cleaned, as_none, as_empty, flushes_same, formatted_since}
+use Rattle.commit.specs.inner.Prepared.{HasFirst}
+use Rattle.commit.proofs.Formatted.{cleaned, as_none, as_empty, flushes_same, formatted_since, made_empty}
 use Rattle.commit.proofs.formatting.clear_and_begin.Goals as goal
 
 pub returns-in_err-sync-clause-moments : goal.returns-in_err-sync-clause-moments
@@ -57,3 +58,11 @@ returns-clause-formatted g c = λ told none.
     let more = c.in_ok-prepare.ensures.begun told in
     formatted_since size (now s0) (now s2) (now s3) (omega arith)
     (subst (λ (n : ℕ). IsFormatted n (now s2) (now s3)) (c.prepare.ensures.size ∙ c.sync.ensures.size) (c.in_ok-begin.ensures.formatted told (c.in_ok-prepare.ensures.prepared told clean.1)))
+
+pub returns-clause-made : goal.returns-clause-made
+returns-clause-made g c = λ told.
+    let D = g.D.SectorDevice in
+    let s2 = D.story c.prepare.new.device in
+    let s3 = D.story c.begin.new.device in
+    let begun = subst (λ (n : ℕ). HasFirst n (shown_image (now s2)) (shown_image (now s3))) (c.prepare.ensures.size ∙ c.sync.ensures.size) (c.in_ok-begin.ensures.first told) in
+    made_empty (D.size c.args.device.now) (D.story c.args.device.now) (D.story c.sync.new.self) s2 s3 (c.in_ok-sync.ensures.ok told) (c.in_ok-prepare.ensures.zeros told) begun

@@ -6,7 +6,7 @@ use Rattle.commit.specs.declared.sector.Commit.{Commit}
 use Rattle.commit.specs.declared.formatting.FormatError.{FormatError}
 use Rattle.commit.specs.declared.formatting.FormatError.TheVariants.{Device}
 use Rattle.commit.specs.Ruling.{ruling}
-use Rattle.commit.specs.Formatting.{IsFormatting, IsFormatted}
+use Rattle.commit.specs.Formatting.{IsFormatting, IsFormatted, IsMadeEmpty}
 use Rattle.commit.proofs.Formatted.{none_rules, read_first}
 use Rattle.commit.proofs.formatting.format.Goals as goal
 
@@ -66,3 +66,12 @@ returns-clause-formatted g c = λ told.
     let s2 = D.story c.clear_and_begin.new.device in
     subst (λ (d : Disk). IsFormatted (D.size c.args.device.now) d (now s2)) (now_read s0 s1 reads)
     (subst (λ (n : ℕ). IsFormatted n (now s1) (now s2)) c.read_ruling.ensures.size (c.in_ok-clear_and_begin.ensures.formatted told none))
+
+pub returns-clause-made : goal.returns-clause-made
+returns-clause-made g c = λ told.
+    let D = g.D.SectorDevice in
+    let s0 = D.story c.args.device.now in
+    let s1 = D.story c.read_ruling.new.device in
+    let s2 = D.story c.clear_and_begin.new.device in
+    let made = subst (λ (n : ℕ). IsMadeEmpty n (shown_image (now s1)) (shown_image (now s2))) c.read_ruling.ensures.size (c.in_ok-clear_and_begin.ensures.made told) in
+    subst (λ (d : Disk). IsMadeEmpty (D.size c.args.device.now) (shown_image d) (shown_image (now s2))) (now_read s0 s1 (c.read_ruling.ensures.moments told)) made

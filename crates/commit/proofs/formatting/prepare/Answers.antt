@@ -1,7 +1,7 @@
 use Rattle.std.proofs.Common.{◌≡◌, refl, None, replicate, arith, ◌<◌}
 use Rattle.sector_dev.specs.Disk.{now}
 use Rattle.sector_dev.specs.laws.Time.{goes_on, now_has, passed}
-use Rattle.commit.proofs.Formatted.{put_grows, failed_grows, flush_grows, zeros_keep, behind_keeps, prepared, puts_more, flushes_same}
+use Rattle.commit.proofs.Formatted.{put_grows, failed_grows, flush_grows, zeros_keep, behind_keeps, prepared, puts_more, flushes_same, has_zeros}
 use Rattle.sector_dev.specs.History.{zeros}
 use Rattle.commit.proofs.formatting.prepare.Goals as goal
 
@@ -52,3 +52,8 @@ returns-clause-begun g c = λ told.
     let two : (now s1).writes < (now s2).writes = puts_more s1 s2 2 _ _ (c.in_ok-write-2.ensures.ok told) in
     let same : (now s3).writes ≡ (now s2).writes = flushes_same s2 s3 (c.in_ok-sync.ensures.ok told) in
     omega (arith, one, two, same)
+
+pub returns-clause-zeros : goal.returns-clause-zeros
+returns-clause-zeros g c = λ told.
+    let D = g.D.SectorDevice in
+    has_zeros (D.story c.args.device.now) (D.story c.write.new.self) (D.story c.write-2.new.self) (D.story c.sync.new.self) _ is_zeros (c.in_ok-write.ensures.ok told) (c.in_ok-write-2.ensures.ok told) (c.in_ok-sync.ensures.ok told)

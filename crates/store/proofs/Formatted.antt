@@ -1,0 +1,186 @@
+-- A formatting is a call of the machine.
+use Rattle.std.specs.Prelude.{◌≡◌, ◌≢◌, ◌⊎◌, ◌<◌, ◌&&◌, ℕ, Bool, true, false, nat_lt, [], Option, Some, None, Result, Ok, Err, if◌then◌else◌, refl}
+use Rattle.std.proofs.Common.{inl, inr, ap, sym, subst, ◌∙◌, arith}
+use Rattle.std.proofs.lemmas.Bool.Decides.{nat_tests}
+use Rattle.std.proofs.lemmas.Bool.{lt-ltb}
+use Rattle.sector_dev.specs.Disk.{Disk, Story, Image, now, MayLeave, ShowsImage, shown_image, synced_image}
+use Rattle.sector_dev.specs.Time.{Grows, LeavesOnly, OnlyReads}
+use Rattle.sector_dev.specs.laws.Time.{weaken, now_has}
+use Rattle.sector_dev.specs.laws.Crash.{only_image}
+use Rattle.commit.specs.declared.sector.Commit.{Commit}
+use Rattle.commit.specs.declared.cause.Cause.{Cause}
+use Rattle.commit.specs.declared.cause.Cause.TheVariants.{DeviceSize}
+use Rattle.commit.specs.declared.formatting.FormatError.{FormatError}
+use Rattle.commit.specs.declared.formatting.FormatError.TheVariants as errors
+use Rattle.commit.specs.Ruling.{ruling}
+use Rattle.commit.specs.Standing.{is_size, rules, standing, Stands}
+use Rattle.commit.specs.Formatting.{IsNoneOrEmpty, IsEmptyStore, IsFormatting, IsFormatted, first_commit, empty_text, CountsFormat}
+use Rattle.commit.specs.laws.Frame.{stands_nowhere, none_stands, empty_stands}
+use Rattle.catalogue.specs.Reading.{catalogue_at}
+use Rattle.tables.specs.Tables.{Tables, no_tables}
+use Rattle.tables.specs.Verdict.{after}
+use Rattle.store.specs.Calls.{format_call, PlainReply, done, shut_by, may_be_done, is_device_reply}
+use Rattle.store.specs.Steps.{Step}
+use Rattle.store.specs.Runs.{Goes, counted}
+use Rattle.store.specs.Machine.{holds, Machine, opened, shut_down, Allows, AllowsEach, meanwhile, has_written}
+use Rattle.store.specs.Held.{whole_reading, catalogue_or_cause, tables_held, held_tables, held_of, held_by}
+use Rattle.store.specs.Fits.{setting_of, IsFresh}
+use Rattle.store.specs.Opening.{formatting_of, TellsFormatting}
+use Rattle.store.specs.declared.opening_refusal.OpeningRefusal.TheVariants as refusals
+use Rattle.store.proofs.Opened.{not_started}
+
+-- what a formatting counts, in the words of replies
+pub formatting_counts : {T : Type 0} (r : Result T FormatError) (e : FormatError) (f f' : ℕ) → r ≡ Err e → CountsFormat f f' r → f' ≡ counted (shut_by (formatting_of e)) f
+formatting_counts (Ok x) e f f' is counts = absurd (cc is)
+formatting_counts (Err errors.AlreadyAStore) e f f' is counts = let same : errors.AlreadyAStore ≡ e = cc is in subst (λ (k : FormatError). f' ≡ counted (shut_by (formatting_of k)) f) same counts
+formatting_counts (Err (errors.Damaged cause)) e f f' is counts = let same : errors.Damaged cause ≡ e = cc is in subst (λ (k : FormatError). f' ≡ counted (shut_by (formatting_of k)) f) same counts
+formatting_counts (Err errors.Device) e f f' is counts = let same : errors.Device ≡ e = cc is in subst (λ (k : FormatError). f' ≡ counted (shut_by (formatting_of k)) f) same counts
+formatting_counts (Err errors.OutOfMemory) e f f' is counts = let same : errors.OutOfMemory ≡ e = cc is in subst (λ (k : FormatError). f' ≡ counted (shut_by (formatting_of k)) f) same counts
+
+-- a device of a size that no store has
+pub formatting_limits : {T : Type 0} (r : Result T FormatError) (e : FormatError) → r ≡ Err e → r ≡ Err (errors.Damaged DeviceSize) → e ≡ errors.Damaged DeviceSize
+formatting_limits r e is told = let same : Err {T = _} e ≡ Err (errors.Damaged DeviceSize) = sym is ∙ told in cc same
+
+-- what is told is so
+pub formatting_tells : (e : FormatError) (size : ℕ) (found : Option Commit) → (e ≡ errors.AlreadyAStore → found ≢ None) → ((cause : Cause) → e ≡ errors.Damaged cause → (cause ≡ DeviceSize) × (is_size size ≡ false))
+    → TellsFormatting (formatting_of e) size found
+formatting_tells errors.AlreadyAStore size found already damaged = already refl
+formatting_tells (errors.Damaged cause) size found already damaged = damaged cause refl
+formatting_tells errors.Device size found already damaged = tt
+formatting_tells errors.OutOfMemory size found already damaged = tt
+
+module _ (size : ℕ) (limits : is_size size ≡ true) (spelled : catalogue_at empty_text ≡ Some []) where
+  -- the empty store
+  pub new_stands : (image : Image) → IsEmptyStore size image → standing whole_reading size image ≡ rules (first_commit size) []
+  new_stands image empty = empty_stands whole_reading size image [] limits empty (ap catalogue_or_cause spelled) refl
+
+  new_held : (image : Image) → IsEmptyStore size image → held_by size image ≡ holds no_tables
+  unfolding held_by tables_held
+  new_held image empty = ap (held_of image) (new_stands image empty)
+
+  module _ (base : Tables) (m : Machine) where
+    nothing_yet : IsFresh base m → after base m.settled ≡ no_tables
+    unfolding after
+    nothing_yet fresh = λ i. after (fresh.began i) (fresh.settled i)
+
+    -- before the start no store and the empty one are allowed
+    allows_new : m.started ≡ false → IsFresh base m → (image : Image) → IsNoneOrEmpty size image → Allows (setting_of size base) m image
+    unfolding Allows held_by
+    allows_new early fresh image (inl none) = inr (inr (early, ap (held_of image) (none_stands whole_reading size image limits none)))
+    allows_new early fresh image (inr empty) = inl (new_held image empty ∙ ap holds (sym (nothing_yet fresh)))
+
+    -- at a moment of a formatting: as it was, or the run has not started and no store or the empty one lies there
+    abbrev pub IsEarly : Disk → Disk → Type 0
+    IsEarly before d = (d ≡ before) ⊎ ((m.started ≡ false) × LeavesOnly (IsNoneOrEmpty size) d)
+
+    -- where reads show no commit the run has not started; where they show one the formatting only reads
+    pub early_moments : (s0 s1 : Story) → ShowsImage (now s0) → LeavesOnly (Allows (setting_of size base) m) (now s0) → (ruling (shown_image (now s0)) ≢ None → OnlyReads s0 s1) → Grows (IsFormatting size (now s0)) s0 s1
+        → Grows (IsEarly (now s0)) s0 s1
+    unfolding ShowsImage
+    early_moments s0 s1 shows allows untouched grows = by_ruling (ruling (shown_image (now s0))) refl
+      where
+        by_ruling : (o : Option Commit) → ruling (shown_image (now s0)) ≡ o → Grows (IsEarly (now s0)) s0 s1
+        by_ruling (Some k) is = weaken (λ d same. inl same) (untouched (λ none. let both : Some k ≡ None = sym is ∙ none in cc both))
+        by_ruling None is =
+            let early = not_started size base m (shown_image (now s0)) (allows (shown_image (now s0)) shows) (stands_nowhere whole_reading size (shown_image (now s0)) limits is) in
+            weaken (each early) grows
+          where
+            each : m.started ≡ false → (d : Disk) → IsFormatting size (now s0) d → IsEarly (now s0) d
+            each early d (inl same) = inl same
+            each early d (inr leaves) = inr (early, leaves)
+
+    pub early_none : (s0 : Story) → ShowsImage (now s0) → LeavesOnly (Allows (setting_of size base) m) (now s0) → ruling (shown_image (now s0)) ≡ None → m.started ≡ false
+    unfolding ShowsImage
+    early_none s0 shows allows none = not_started size base m (shown_image (now s0)) (allows (shown_image (now s0)) shows) (stands_nowhere whole_reading size (shown_image (now s0)) limits none)
+
+    no_command : (b : Bool) → meanwhile format_call m b ≡ m
+    no_command true = refl
+    no_command false = refl
+
+    -- what the machine allows at such a moment
+    allows_early : (m.started ≡ false → IsFresh base m) → (before d : Disk) → LeavesOnly (Allows (setting_of size base) m) before → IsEarly before d → LeavesOnly (Allows (setting_of size base) m) d
+    allows_early fresh before d allows (inl same) image may = allows image (subst (λ (x : Disk). MayLeave x image) same may)
+    allows_early fresh before d allows (inr both) image may = allows_new both.0 (fresh both.0) image (both.1 image may)
+
+    pub format_moments : (reply : PlainReply) (s0 s1 : Story) → (m.started ≡ false → IsFresh base m) → LeavesOnly (Allows (setting_of size base) m) (now s0) → Grows (IsEarly (now s0)) s0 s1
+        → Grows (AllowsEach (setting_of size base) format_call reply m (now s0)) s0 s1
+    format_moments reply s0 s1 fresh allows grows =
+        weaken (λ d is image may. subst (λ (k : Machine). Allows (setting_of size base) k image) (sym (no_command (may_be_done reply && has_written (now s0) d))) (allows_early fresh (now s0) d allows is image may)) grows
+
+    same_allows : (d : Disk) → LeavesOnly (Allows (setting_of size base) m) d → LeavesOnly (Allows (setting_of size base) (shut_down m)) d
+    unfolding Allows
+    same_allows d allows image may = allows image may
+
+    -- after one that was refused
+    pub refused_allows : (s0 s1 : Story) → (m.started ≡ false → IsFresh base m) → LeavesOnly (Allows (setting_of size base) m) (now s0) → Grows (IsEarly (now s0)) s0 s1
+        → LeavesOnly (Allows (setting_of size base) (shut_down m)) (now s1)
+    refused_allows s0 s1 fresh allows grows = same_allows (now s1) (allows_early fresh (now s0) (now s1) allows (now_has {P = IsEarly (now s0)} (inl refl) grows))
+
+    -- no write began where nothing changed
+    same_written : (s0 s1 : Story) → now s1 ≡ now s0 → has_written (now s0) (now s1) ≡ false
+    same_written s0 s1 same = ap (has_written (now s0)) same ∙ not_less (now s0).writes
+      where
+        not_less : (n : ℕ) → nat_lt n n ≡ false
+        not_less n = grind (arith, nat_tests)
+
+    pub format_refused : (e : FormatError) (s0 s1 : Story) (f f' : ℕ) → (m.started ≡ false → IsFresh base m) → LeavesOnly (Allows (setting_of size base) m) (now s0) → Grows (IsEarly (now s0)) s0 s1
+        → ((cause : Cause) → e ≢ errors.Damaged cause) → (e ≢ errors.Device → now s1 ≡ now s0) → f' ≡ counted (shut_by (formatting_of e)) f
+        → Goes (setting_of size base) m format_call (shut_by (formatting_of e)) s0 s1 f f' (shut_down m)
+    unfolding Step
+    format_refused errors.AlreadyAStore s0 s1 f f' fresh allows grows sound quiet counts =
+        let same = quiet (λ is. cc is) in
+        record {
+          step = (same_written s0 s1 same, refl);
+          moments = format_moments (shut_by (formatting_of errors.AlreadyAStore)) s0 s1 fresh allows grows;
+          settles = refused_allows s0 s1 fresh allows grows;
+          quiet = λ no device. same;
+          counts = counts;
+        }
+    format_refused (errors.Damaged cause) s0 s1 f f' fresh allows grows sound quiet counts = absurd (sound cause refl)
+    format_refused errors.Device s0 s1 f f' fresh allows grows sound quiet counts =
+        record {
+          step = refl;
+          moments = format_moments (shut_by (formatting_of errors.Device)) s0 s1 fresh allows grows;
+          settles = refused_allows s0 s1 fresh allows grows;
+          quiet = λ no device. absurd (cc device);
+          counts = counts;
+        }
+    format_refused errors.OutOfMemory s0 s1 f f' fresh allows grows sound quiet counts =
+        let same = quiet (λ is. cc is) in
+        record {
+          step = (same_written s0 s1 same, refl);
+          moments = format_moments (shut_by (formatting_of errors.OutOfMemory)) s0 s1 fresh allows grows;
+          settles = refused_allows s0 s1 fresh allows grows;
+          quiet = λ no device. same;
+          counts = counts;
+        }
+
+    -- ---- one that was done
+
+    -- all is synced, and it is the empty store
+    pub formatted_stands : (before d : Disk) → IsFormatted size before d → Stands whole_reading size d (first_commit size) []
+    formatted_stands before d is = record { quiet = is.rests.quiet; found = new_stands (synced_image d) (record { rules = is.rests.rules; text = is.text }) }
+
+    settled_new : IsFresh base m → (before d : Disk) → IsFormatted size before d → LeavesOnly (Allows (setting_of size base) (opened [])) d
+    unfolding Allows after
+    settled_new fresh before d is image may =
+        let same : image ≡ synced_image d = only_image d image is.rests.quiet.pending may in
+        let began = fresh.began in
+        inl (ap (held_by size) same ∙ new_held (synced_image d) (record { rules = is.rests.rules; text = is.text }) ∙ ap holds (sym began))
+
+    pub format_done : (s0 s1 : Story) (f f' : ℕ) → (m.started ≡ false → IsFresh base m) → LeavesOnly (Allows (setting_of size base) m) (now s0) → Grows (IsEarly (now s0)) s0 s1 → m.started ≡ false
+        → IsFormatted size (now s0) (now s1) → f' ≡ f → Goes (setting_of size base) m format_call done s0 s1 f f' (opened [])
+    unfolding Step
+    format_done s0 s1 f f' fresh allows grows early is same =
+        record {
+          step = (early, (fresh early).settled, lt-ltb (now s0).writes (now s1).writes is.begun, refl);
+          moments = format_moments done s0 s1 fresh allows grows;
+          settles = settled_new (fresh early) (now s0) (now s1) is;
+          quiet = λ no quiet. absurd (cc no);
+          counts = same;
+        }
+
+    -- its tables are those of the settled commands, of which there are none
+    pub new_tables : IsFresh base m → (image : Image) → tables_held image [] ≡ Some (after base [])
+    unfolding tables_held after
+    new_tables fresh image = ap Some (sym fresh.began)

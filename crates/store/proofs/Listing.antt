@@ -1,0 +1,45 @@
+-- A call that asks the catalogue in memory is a call of the machine that changes nothing.
+use Rattle.std.specs.Prelude.{◌≡◌, ◌≢◌, ◌+◌, ◌-◌, ◌^◌, ℕ, min, Bool, true, false, nat_lt, if◌then◌else◌, refl}
+use Rattle.std.proofs.Common.{ap, sym, ◌∙◌, subst, arith}
+use Rattle.std.proofs.lemmas.Bool.Decides.{nat_tests}
+use Rattle.sector_dev.specs.Disk.{Story, now}
+use Rattle.sector_dev.specs.Time.{LeavesOnly}
+use Rattle.sector_dev.specs.laws.Time.{stays}
+use Rattle.sector_dev.specs.declared.device.SectorDevice.{Ghosts}
+use Rattle.tables.specs.Tables.{Tables}
+use Rattle.store.specs.declared.store.Store.{Store}
+use Rattle.store.specs.Calls.{PlainCall, PlainReply, is_device_reply}
+use Rattle.store.specs.Machine.{Phase, running, halted, Machine, Allows, AllowsEach, has_written}
+use Rattle.store.specs.Steps.{Step}
+use Rattle.store.specs.Runs.{Goes, counted}
+use Rattle.store.specs.Fits.{setting_of, StoreFits}
+use Rattle.store.specs.Applying.{GoesOn}
+
+-- a store that is halted runs no more, and one that isn't runs
+pub not_running : (p : Phase) (h : Bool) → p ≡ (if h then halted else running) → h ≡ true → p ≢ running
+not_running p h phase on runs = let stopped : p ≡ halted = phase ∙ ap (λ (b : Bool). if b then halted else running) on in cc (stopped, runs)
+
+pub is_running : (p : Phase) (h : Bool) → p ≡ (if h then halted else running) → h ≡ false → p ≡ running
+is_running p h phase off = phase ∙ ap (λ (b : Bool). if b then halted else running) off
+
+not_less : (n : ℕ) → nat_lt n n ≡ false
+not_less n = grind (arith, nat_tests)
+
+-- a step that writes nothing, of a store that stays as it is
+pub still : {D : Type 0} {g : Ghosts D} (size : D → ℕ) (story : D → Story) (failed : D → ℕ) (base : Tables) (m : Machine) (call : PlainCall) (reply : PlainReply) (store : Store D g)
+    → Step (setting_of (size store.device) base) m call reply false m → is_device_reply reply ≡ false → StoreFits size story base m store → GoesOn size story failed base m call reply store store
+still size story failed base m call reply store step answered fits =
+    let s = setting_of (size store.device) base in
+    let d = now (story store.device) in
+    record {
+      next = m;
+      same = refl;
+      goes = record {
+        step = subst (λ (b : Bool). Step s m call reply b m) (sym (not_less d.writes)) step;
+        moments = stays (AllowsEach s call reply m d) (story store.device);
+        settles = fits.device.allows;
+        quiet = λ no device. refl;
+        counts = sym (ap (λ (b : Bool). if b then min (failed store.device + 1) (2 ^ 64 - 1) else failed store.device) answered);
+      };
+      fits = fits;
+    }

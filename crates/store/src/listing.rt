@@ -1,0 +1,68 @@
+// What is asked of the catalogue in memory: no call of the device is made.
+use crate::Store;
+use arrow_schema::Schema;
+use sector_dev::SectorDevice;
+use std::alloc::Global;
+use tables::Refusal;
+
+impl<D: SectorDevice> Store<D> {
+    ghost use Rattle.std.specs.Prelude.{◌≡◌, true, false, map, option_map, string_bytes, Some, IfOk, IfErr, MatchResult};
+    ghost use Rattle.arrow_schema.specs.View.{schema_of};
+    ghost use Rattle.catalogue.specs.Edits.{entry_of, tables_of};
+    ghost use Rattle.tables.specs.Tables.{Tables};
+    ghost use Rattle.store.specs.Calls.{tables_call, schema_call, counts, schema_is, refused};
+    ghost use Rattle.store.specs.Machine.{Machine};
+    ghost use Rattle.store.specs.Fits.{StoreFits, listed_in, is_halted};
+    ghost use Rattle.store.specs.Applying.{GoesOn};
+    ghost use Rattle.store.specs.Listing.{RefusesTables, RefusesSchema};
+
+    /// The names of the tables, in byte order, and how many rows each has.
+    ///
+    /// # Errors
+    /// `Halted` after a failure of the device; `OutOfMemory`.
+    pub fn tables(&self, alloc: Global) -> Result<Vec<(String, u64)>, Refusal>
+        // Of a store that stands for a machine they are those of the settled commands.
+        ensures goes { IfOk result (λ found. D.tells ≡ true → (base : Tables) (m : Machine) → StoreFits D.size D.story base m self.now
+            → GoesOn D.size D.story D.failed base m tables_call (counts (map (λ t. (string_bytes t.0, t.1)) found.items)) self.now self.now) }
+        ensures refused { IfErr result (λ e. D.tells ≡ true → (base : Tables) (m : Machine) → StoreFits D.size D.story base m self.now
+            → GoesOn D.size D.story D.failed base m tables_call (refused e) self.now self.now) }
+        // Of any store they are those of its catalogue.
+        ensures listed { MatchResult result
+            (λ found. (is_halted self.now ≡ false) × (map (λ t. (string_bytes t.0, t.1)) found.items ≡ tables_of (listed_in self.now)))
+            (λ e. RefusesTables (is_halted self.now) e) }
+    {
+        if self.halted {
+            return Err(Refusal::Halted);
+        }
+        match self.opened.catalogue.list.tables(alloc) {
+            Ok(tables) => Ok(tables),
+            Err(_) => Err(Refusal::OutOfMemory),
+        }
+    }
+
+    /// The schema of a table.
+    ///
+    /// # Errors
+    /// `Halted` after a failure of the device; `NoTable` where no table has the name; `OutOfMemory`.
+    pub fn schema(&self, alloc: Global, name: &str) -> Result<Schema, Refusal>
+        ensures goes { IfOk result (λ found. D.tells ≡ true → (base : Tables) (m : Machine) → StoreFits D.size D.story base m self.now
+            → GoesOn D.size D.story D.failed base m (schema_call name.now) (schema_is (schema_of found)) self.now self.now) }
+        ensures refused { IfErr result (λ e. D.tells ≡ true → (base : Tables) (m : Machine) → StoreFits D.size D.story base m self.now
+            → GoesOn D.size D.story D.failed base m (schema_call name.now) (refused e) self.now self.now) }
+        ensures found { MatchResult result
+            (λ found. (is_halted self.now ≡ false)
+                × (option_map (λ e. e.schema) (entry_of (listed_in self.now) name.now) ≡ Some (schema_of found)))
+            (λ e. RefusesSchema (is_halted self.now) (entry_of (listed_in self.now) name.now) e) }
+    {
+        if self.halted {
+            return Err(Refusal::Halted);
+        }
+        match self.opened.catalogue.list.get(name) {
+            Some(entry) => match entry.schema.copy(alloc) {
+                Ok(schema) => Ok(schema),
+                Err(_) => Err(Refusal::OutOfMemory),
+            },
+            None => Err(Refusal::NoTable),
+        }
+    }
+}
