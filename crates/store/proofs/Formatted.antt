@@ -13,9 +13,11 @@ use Rattle.commit.specs.declared.cause.Cause.TheVariants.{DeviceSize}
 use Rattle.commit.specs.declared.formatting.FormatError.{FormatError}
 use Rattle.commit.specs.declared.formatting.FormatError.TheVariants as errors
 use Rattle.commit.specs.Ruling.{ruling}
-use Rattle.commit.specs.Standing.{is_size, rules, standing, Stands}
+use Rattle.commit.specs.Standing.{is_size, rules, standing, runs_fault, Stands}
 use Rattle.commit.specs.Formatting.{IsNoneOrEmpty, IsEmptyStore, IsFormatting, IsFormatted, first_commit, empty_text, CountsFormat}
 use Rattle.commit.specs.laws.Frame.{stands_nowhere, none_stands, empty_stands}
+use Rattle.segments.specs.declared.run.Run.{Run}
+use Rattle.catalogue.specs.Entries.{PlainCatalogue, runs_of}
 use Rattle.catalogue.specs.Reading.{catalogue_at}
 use Rattle.tables.specs.Tables.{Tables, no_tables}
 use Rattle.tables.specs.Verdict.{after}
@@ -39,15 +41,30 @@ formatting_counts (Err errors.OutOfMemory) e f f' is counts = let same : errors.
 
 -- a device of a size that no store has
 pub formatting_limits : {T : Type 0} (r : Result T FormatError) (e : FormatError) → r ≡ Err e → r ≡ Err (errors.Damaged DeviceSize) → e ≡ errors.Damaged DeviceSize
-formatting_limits r e is told = let same : Err {T = _} e ≡ Err (errors.Damaged DeviceSize) = sym is ∙ told in cc same
+formatting_limits (Ok x) e is told = absurd (cc is)
+formatting_limits (Err x) e is told =
+    let one : x ≡ e = cc is in
+    let other : x ≡ errors.Damaged DeviceSize = cc told in
+    sym one ∙ other
+
+-- and what was formatted has a size that a store has
+pub formatted_limits : {T P : Type 0} (r : Result T FormatError) (x : T) (b : Bool) → r ≡ Ok x → (b ≡ false → (r ≡ Err (errors.Damaged DeviceSize)) × P) → b ≡ true
+formatted_limits r x true is limits = refl
+formatted_limits (Ok y) x false is limits = let no = (limits refl).0 in absurd (cc no)
+formatted_limits (Err e) x false is limits = absurd (cc is)
+
+-- a catalogue without tables names no runs
+pub no_runs : (size : ℕ) (text : Run) (c : PlainCatalogue) → c ≡ [] → runs_fault size text (runs_of c) ≡ None
+unfolding runs_fault
+no_runs size text c none = ap (λ (d : PlainCatalogue). runs_fault size text (runs_of d)) none
 
 -- what is told is so
 pub formatting_tells : (e : FormatError) (size : ℕ) (found : Option Commit) → (e ≡ errors.AlreadyAStore → found ≢ None) → ((cause : Cause) → e ≡ errors.Damaged cause → (cause ≡ DeviceSize) × (is_size size ≡ false))
-    → TellsFormatting (formatting_of e) size found
-formatting_tells errors.AlreadyAStore size found already damaged = already refl
-formatting_tells (errors.Damaged cause) size found already damaged = damaged cause refl
-formatting_tells errors.Device size found already damaged = tt
-formatting_tells errors.OutOfMemory size found already damaged = tt
+    → (e ≡ errors.OutOfMemory → found ≡ None) → TellsFormatting (formatting_of e) size found
+formatting_tells errors.AlreadyAStore size found already damaged memory = already refl
+formatting_tells (errors.Damaged cause) size found already damaged memory = damaged cause refl
+formatting_tells errors.Device size found already damaged memory = tt
+formatting_tells errors.OutOfMemory size found already damaged memory = memory refl
 
 module _ (size : ℕ) (limits : is_size size ≡ true) (spelled : catalogue_at empty_text ≡ Some []) where
   -- the empty store

@@ -1,3 +1,3 @@
 mod Opened
 mod Formatted
-mod Listing
+mod Asked

@@ -7,7 +7,7 @@ use Rattle.commit.specs.Standing.{is_size, used_runs, rules, Stands}
 use Rattle.commit.specs.Opening.{IsOpening, standing_shown}
 use Rattle.commit.specs.Placing.{Uses}
 use Rattle.commit.specs.Ruling.{ruling}
-use Rattle.commit.specs.Formatting.{first_commit, IsFormatting, IsFormatted}
+use Rattle.commit.specs.Formatting.{first_commit, IsFormatting, IsFormatted, IsMadeEmpty}
 use Rattle.commit.specs.declared.sector.Commit.{Commit}
 use Rattle.catalogue.specs.Entries.{PlainCatalogue}
 use Rattle.catalogue.specs.View.{catalogue_of}
@@ -79,6 +79,7 @@ pub record FormatsStore {D : Type 0} {g : Ghosts D} (size : D → ℕ) (story : 
   pub none_before : ruling (shown_image (now (story device))) ≡ None
   pub moments : Grows (IsFormatting (size device) (now (story device))) (story device) (story (device_of store))
   pub formatted : IsFormatted (size device) (now (story device)) (now (story (device_of store)))
+  pub made : IsMadeEmpty (size device) (shown_image (now (story device))) (shown_image (now (story (device_of store))))
 
 -- the store that a formatting of a device of this size makes: without tables, and not halted
 pub record IsNewStore {D : Type 0} {g : Ghosts D} (size : ℕ) (store : Store D g) : Type 0 where

@@ -57,4 +57,4 @@ TellsFormatting refusals.NotAStore size found = ⊥
 TellsFormatting refusals.AlreadyAStore size found = found ≢ None
 TellsFormatting (refusals.Damaged cause) size found = (cause ≡ DeviceSize) × (is_size size ≡ false)
 TellsFormatting refusals.Device size found = Unit {0}
-TellsFormatting refusals.OutOfMemory size found = Unit {0}
+TellsFormatting refusals.OutOfMemory size found = found ≡ None

@@ -88,12 +88,12 @@ module _ (image : Image) where
   parted : {G : Type 0} (x : PlainEntry) (xs : PlainCatalogue) (t : Tables) → tables_held image (x ∷ xs) ≡ Some t
       → ((table : PlainTable) (u : Tables) → table_held image x ≡ Some table → tables_held image xs ≡ Some u → t ≡ with_table u x.name table → G) → G
   unfolding tables_held
-  parted {G = G} x xs t is then = by_parts (table_held image x) (tables_held image xs) refl refl is
+  parted {G = G} x xs t is give = by_parts (table_held image x) (tables_held image xs) refl refl is
     where
       by_parts : (o : Option PlainTable) (rest : Option Tables) → table_held image x ≡ o → tables_held image xs ≡ rest → with_held x.name o rest ≡ Some t → G
       by_parts None rest o r h = absurd (cc h)
       by_parts (Some table) None o r h = absurd (cc h)
-      by_parts (Some table) (Some u) o r h = then table u o r (cc h)
+      by_parts (Some table) (Some u) o r h = give table u o r (cc h)
 
   -- the tables of an entry in front of others
   in_front : (x : PlainEntry) (xs : PlainCatalogue) (table : PlainTable) (u : Tables) → table_held image x ≡ Some table → tables_held image xs ≡ Some u
@@ -143,18 +143,18 @@ module _ (image : Image) where
   held_without : (c : PlainCatalogue) (t : Tables) (name : List ℕ) → ascends (names_of c) ≡ true → tables_held image c ≡ Some t → tables_held image (without c name) ≡ Some (without_table t name)
   unfolding tables_held
   held_without [] t name rises is = let empty : no_tables ≡ t = cc is in ap Some (sym (none_taken name) ∙ ap (λ (v : Tables). without_table v name) empty)
-  held_without (x ∷ xs) t name rises is = parted x xs t is (λ was u first others same. by_name was u first others same (bytes_eq x.name name) refl)
+  held_without (x ∷ xs) t name rises is = parted x xs t is (λ was u first others same. by_name was u first others same (bytes_eq x.name name) refl (held_without xs u name parts.1 others))
     where
       parts : (comes_before x.name (names_of xs) ≡ true) × (ascends (names_of xs) ≡ true)
       parts = and_parts (comes_before x.name (names_of xs)) (ascends (names_of xs)) rises
 
       by_name : (was : PlainTable) (u : Tables) → table_held image x ≡ Some was → tables_held image xs ≡ Some u → t ≡ with_table u x.name was → (b : Bool) → bytes_eq x.name name ≡ b
-          → tables_held image (if b then xs else x ∷ without xs name) ≡ Some (without_table t name)
-      by_name was u first others same true here =
+          → tables_held image (without xs name) ≡ Some (without_table u name) → tables_held image (if b then xs else x ∷ without xs name) ≡ Some (without_table t name)
+      by_name was u first others same true here later =
           let named : x.name ≡ name = bytes_same x.name name here in
           others ∙ ap Some (sym (put_and_taken u x.name was (name_alone x xs t u was rises is others same)) ∙ ap (λ (v : Tables). without_table v x.name) (sym same) ∙ ap (without_table t) named)
-      by_name was u first others same false other =
-          in_front x (without xs name) was (without_table u name) first (held_without xs u name parts.1 others)
+      by_name was u first others same false other later =
+          in_front x (without xs name) was (without_table u name) first later
           ∙ ap Some (sym (put_not_taken u x.name name was (bytes_differ x.name name other)) ∙ ap (λ (v : Tables). without_table v name) (sym same))
 
   -- ---- with other segments
@@ -162,18 +162,18 @@ module _ (image : Image) where
   held_changed : (c : PlainCatalogue) (t : Tables) (name : List ℕ) (segments : List Segment) (e : PlainEntry) (table : PlainTable) → tables_held image c ≡ Some t → entry_of c name ≡ Some e
       → table_held image (new_entry name e.schema segments) ≡ Some table → tables_held image (with_segments c name segments) ≡ Some (with_table t name table)
   held_changed [] t name segments e table is found own = absurd (cc found)
-  held_changed (x ∷ xs) t name segments e table is found own = parted x xs t is (λ was u first others same. by_name was u first others same (bytes_eq x.name name) refl found)
+  held_changed (x ∷ xs) t name segments e table is found own = parted x xs t is (λ was u first others same. by_name was u first others same (bytes_eq x.name name) refl found (λ h. held_changed xs u name segments e table others h own))
     where
       by_name : (was : PlainTable) (u : Tables) → table_held image x ≡ Some was → tables_held image xs ≡ Some u → t ≡ with_table u x.name was → (b : Bool) → bytes_eq x.name name ≡ b
-          → (if b then Some x else entry_of xs name) ≡ Some e
+          → (if b then Some x else entry_of xs name) ≡ Some e → (entry_of xs name ≡ Some e → tables_held image (with_segments xs name segments) ≡ Some (with_table u name table))
           → tables_held image (if b then record { name = x.name; schema = x.schema; segments = segments } ∷ xs else x ∷ with_segments xs name segments) ≡ Some (with_table t name table)
-      by_name was u first others same true here h =
+      by_name was u first others same true here h later =
           let named : x.name ≡ name = bytes_same x.name name here in
           let stood : x ≡ e = cc h in
           in_front (new_entry x.name x.schema segments) xs table u (ap (λ (y : PlainEntry). table_held image (new_entry x.name y.schema segments)) stood ∙ own) others
           ∙ ap Some (sym (put_over u x.name was table) ∙ ap (λ (v : Tables). with_table v x.name table) (sym same) ∙ ap (λ (n : List ℕ). with_table t n table) named)
-      by_name was u first others same false other h =
-          in_front x (with_segments xs name segments) was (with_table u name table) first (held_changed xs u name segments e table others h own)
+      by_name was u first others same false other h later =
+          in_front x (with_segments xs name segments) was (with_table u name table) first (later h)
           ∙ ap Some (put_apart u name x.name table was (λ alike. bytes_differ x.name name other (sym alike)) ∙ ap (λ (v : Tables). with_table v name table) (sym same))
 
   -- ---- a change
@@ -191,7 +191,7 @@ module _ (image : Image) where
 
   held_extended : (c : PlainCatalogue) (t new : Tables) (name : List ℕ) (segments : List Segment) (streams : List (List ℕ)) (counts : List ℕ) → tables_held image c ≡ Some t → HasEntry c name
       → Makes t (extend name) streams counts new → HoldsStreams image segments streams counts → tables_held image (with_more c name segments) ≡ Some new
-  held_extended c t new name segments streams counts is (e, found) (table, at, rows, read, made, becomes) holds =
+  held_extended c t new name segments streams counts is (e, found) (table, at, (rows, read, made, becomes)) holds =
       let own = entry_has image c t is name e found in
       let stood : own.0 ≡ table = some_table own.0 table (sym own.2 ∙ at) in
       let has = held_has image e own.0 own.1 in

@@ -4,6 +4,7 @@ use Rattle.std.specs.List.{sum_by, starts_with}
 use Rattle.std.proofs.Common.{sym, ap, subst, ◌∙◌, arith}
 use Rattle.std.proofs.lemmas.Bool.{and_parts, eqb-true}
 use Rattle.std.proofs.lemmas.List.{length-append}
+use Rattle.std.proofs.lemmas.List.Sums.{sum_by-cons}
 use Rattle.std.proofs.lemmas.Cmp.{nat_list_cmp_total}
 use Rattle.std.specs.declared.cmp.Ordering.{Ordering}
 use Rattle.std.specs.declared.cmp.Ordering.TheVariants.{Less, Equal, Greater}
@@ -48,17 +49,17 @@ segments_counted : (schema : PlainSchema) (segments : List Segment) (image : Ima
     → length rows ≡ sum_by (λ (s : Segment). s.rows) segments
 unfolding rows_held segment_rows
 segments_counted schema [] image rows is = let none : [] ≡ rows = cc is in ap length (sym none)
-segments_counted schema (g ∷ gs) image rows is = by_parts (segment_rows schema g image) (rows_held schema gs image) refl refl is
+segments_counted schema (g ∷ gs) image rows is = by_parts (segment_rows schema g image) (rows_held schema gs image) refl refl is (λ ys o. segments_counted schema gs image ys o)
   where
     by_parts : (first others : Option (List (List Cell))) → segment_rows schema g image ≡ first → rows_held schema gs image ≡ others → joined_rows first others ≡ Some rows
-        → length rows ≡ sum_by (λ (s : Segment). s.rows) (g ∷ gs)
-    by_parts None others f o h = absurd (cc h)
-    by_parts (Some xs) None f o h = absurd (cc h)
-    by_parts (Some xs) (Some ys) f o h =
+        → ((ys : List (List Cell)) → rows_held schema gs image ≡ Some ys → length ys ≡ sum_by (λ (s : Segment). s.rows) gs) → length rows ≡ sum_by (λ (s : Segment). s.rows) (g ∷ gs)
+    by_parts None others f o h later = absurd (cc h)
+    by_parts (Some xs) None f o h later = absurd (cc h)
+    by_parts (Some xs) (Some ys) f o h later =
         let whole : xs ++ ys ≡ rows = cc h in
         let one = segment_counted schema g.rows (bytes_at image g.place.run.start g.place.bytes) xs f in
-        let more = segments_counted schema gs image ys o in
-        ap length (sym whole) ∙ omega (arith, length-append xs ys, one, more)
+        let more = later ys o in
+        ap length (sym whole) ∙ omega (arith, length-append xs ys, sum_by-cons (λ (s : Segment). s.rows) g gs, one, more)
 
 rows_of_entry : (image : Image) (e : PlainEntry) (table : PlainTable) → table_held image e ≡ Some table → (table.schema ≡ e.schema) × (length table.rows ≡ row_count e)
 rows_of_entry image e table is =
@@ -87,20 +88,25 @@ put_first image (e ∷ es) name table (x ∷ xs) first held =
     let less : slice_cmp nat_cmp name x.0 ≡ Less = ap (slice_cmp nat_cmp name) held.0 ∙ less_is (slice_cmp nat_cmp name e.name) first in
     rw less refl
 
+no_entries : (xs : List (List ℕ × PlainTable)) → length xs ≡ 0 → xs ≡ []
+no_entries [] none = refl
+no_entries (x ∷ xs) none = absurd (omega arith)
+
 entries_held : (image : Image) (c : PlainCatalogue) (t : Tables) → ascends (names_of c) ≡ true → tables_held image c ≡ Some t → AreHeld image c (maps.entries t)
 unfolding tables_held
-entries_held image [] t rises is = let empty : t ≡ no_tables = cc is in ap maps.entries empty ∙ maps.entries_of_empty
-entries_held image (e ∷ es) t rises is = by_parts (table_held image e) (tables_held image es) refl refl is
+entries_held image [] t rises is = let empty : t ≡ no_tables = cc is in ap maps.entries empty ∙ no_entries (maps.entries no_tables) (sym (maps.len-entries no_tables) ∙ maps.len-empty (slice_cmp nat_cmp) PlainTable)
+entries_held image (e ∷ es) t rises is = by_parts (table_held image e) (tables_held image es) refl refl is (λ u r. entries_held image es u parts.1 r)
   where
     parts : (comes_before e.name (names_of es) ≡ true) × (ascends (names_of es) ≡ true)
     parts = and_parts (comes_before e.name (names_of es)) (ascends (names_of es)) rises
 
-    by_parts : (o : Option PlainTable) (rest : Option Tables) → table_held image e ≡ o → tables_held image es ≡ rest → with_held e.name o rest ≡ Some t → AreHeld image (e ∷ es) (maps.entries t)
-    by_parts None rest o r h = absurd (cc h)
-    by_parts (Some table) None o r h = absurd (cc h)
-    by_parts (Some table) (Some u) o r h =
+    by_parts : (o : Option PlainTable) (rest : Option Tables) → table_held image e ≡ o → tables_held image es ≡ rest → with_held e.name o rest ≡ Some t
+        → ((u : Tables) → tables_held image es ≡ Some u → AreHeld image es (maps.entries u)) → AreHeld image (e ∷ es) (maps.entries t)
+    by_parts None rest o r h later = absurd (cc h)
+    by_parts (Some table) None o r h later = absurd (cc h)
+    by_parts (Some table) (Some u) o r h later =
         let same : t ≡ with_table u e.name table = cc h in
-        let others = entries_held image es u parts.1 r in
+        let others = later u r in
         let front : maps.entries t ≡ (e.name, table) ∷ maps.entries u = ap maps.entries same ∙ maps.entries-insert nat_list_cmp_total u e.name table ∙ put_first image es e.name table (maps.entries u) parts.0 others in
         subst (AreHeld image (e ∷ es)) (sym front) (refl, o, others)
 
