@@ -51,7 +51,7 @@ impl<D: SectorDevice> Store<D> {
             → GoesOn D.size D.story D.failed base m (schema_call name.now) (refused e) self.now self.now) }
         ensures found { MatchResult result
             (λ found. (is_halted self.now ≡ false)
-                × (option_map (λ e. e.schema) (entry_of (listed_in self.now) name.now) ≡ Some (schema_of found)))
+            × (option_map (λ e. e.schema) (entry_of (listed_in self.now) name.now) ≡ Some (schema_of found)))
             (λ e. RefusesSchema (is_halted self.now) (entry_of (listed_in self.now) name.now) e) }
     {
         if self.halted {
