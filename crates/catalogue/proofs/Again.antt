@@ -1,27 +1,24 @@
 -- What is written is read again.
-use Rattle.std.proofs.Common.{◌≡◌, ◌≤◌, ◌<◌, ◌+◌, ◌*◌, ◌/◌, ◌^◌, ◌&&◌, ltb, leb, eqb, ℕ, zero, suc, Bool, true, false, cond, List, [], ◌∷◌, ◌++◌, length, take, drop, get_or, Option, Some, None, refl, sym, ap, subst, ◌∙◌, append_assoc, arith}
-use Rattle.std.specs.Prelude.{slice_index}
-use Rattle.std.specs.List.{list_all, flat_map, sum_by, AllByRecursion}
-use Rattle.std.specs.Str.{bytes_eq, IsUtf8, IsAscii}
-use Rattle.std.proofs.lemmas.Bool.{and_parts, and_from, leb-true, le-leb, ltb-true, eqb-true, eq-eqb, cond-true, or_parts, cases_Bool}
+use Rattle.std.proofs.Common.{◌≡◌, ◌≤◌, ◌<◌, ◌+◌, ◌/◌, ◌^◌, ◌&&◌, ltb, leb, eqb, ℕ, zero, suc, true, cond, List, [], ◌∷◌, ◌++◌, length, take, drop, Option, Some, None, refl, sym, ap, ◌∙◌, append_assoc, arith}
+use Rattle.std.specs.List.{list_all, flat_map, AllByRecursion}
+use Rattle.std.specs.Str.{IsUtf8, IsAscii}
+use Rattle.std.proofs.lemmas.Bool.{and_parts, leb-true, le-leb, ltb-true, eqb-true, cond-true}
 use Rattle.std.proofs.lemmas.Bool.Decides.{nat_tests}
 use Rattle.std.proofs.lemmas.List.{take_at, drop_at, length-append, append-nil}
 use Rattle.std.proofs.lemmas.List.Sums.{sum_by-cons}
 use Rattle.std.proofs.lemmas.Str.{IsUtf8-from_ascii}
-use Rattle.byteorder.specs.Endian.{little_bytes, little_number}
+use Rattle.byteorder.specs.Endian.{little_bytes}
 use Rattle.byteorder.specs.Numbers.{little_number-reads_back, length-bytes_low_first}
-use Rattle.arrow_schema.specs.Column.{PlainSchema}
-use Rattle.arrow_schema.specs.Limits.{IsWithinLimits}
 use Rattle.ipc_write.specs.Written.{schema_message}
 use Rattle.segments.specs.Sectors.{sector_count}
 use Rattle.catalogue.specs.declared.entry.Segment.{Segment}
-use Rattle.catalogue.specs.declared.limits.TheConstants.{MAX_NAME_BYTES, MAX_SEGMENT_ROWS, MAX_TABLES, MAX_SEGMENTS}
+use Rattle.catalogue.specs.declared.limits.TheConstants.{MAX_NAME_BYTES, MAX_SEGMENT_ROWS, MAX_SEGMENTS}
 use Rattle.catalogue.specs.Schemas.{is_read}
-use Rattle.catalogue.specs.Entries.{PlainEntry, PlainCatalogue, is_between, is_name_byte, is_name, is_segment, is_entry, segment_count, IsCatalogue, is_catalogue, AreRead}
+use Rattle.catalogue.specs.Entries.{PlainEntry, PlainCatalogue, is_between, is_name_byte, is_name, is_segment, is_entry, segment_count, IsCatalogue, AreRead}
 use Rattle.catalogue.specs.Text.{sized, counted, segment_text, table_text, entry_text, list_text}
 use Rattle.catalogue.specs.Reading.{◌>>=◌, number_at, sized_at, many_at, counted_at, segment_at, schema_in, table_at, entry_at, catalogue_at}
-use Rattle.catalogue.specs.inner.Messages.{IsMessageAgain, AllAgain}
-use Rattle.catalogue.specs.laws.Kept.{is_within, IsEntry, entry_is, passes_catalogue}
+use Rattle.catalogue.specs.inner.Messages.{AllAgain}
+use Rattle.catalogue.specs.laws.Kept.{IsEntry, entry_is, passes_catalogue}
 
 -- ---- numbers and sized bytes
 

@@ -1,5 +1,5 @@
 -- The message of a schema is the one that is read as that schema.
-use Rattle.std.proofs.Common.{◌≡◌, ◌≤◌, ◌<◌, ◌+◌, ◌^◌, ◌++◌, ℕ, true, false, List, [], length, Ok, Some, refl, sym, ap, ◌∙◌, arith, append-nil}
+use Rattle.std.proofs.Common.{◌≡◌, ◌≤◌, ◌<◌, ◌+◌, ◌^◌, ◌++◌, ℕ, true, List, [], length, Ok, Some, refl, sym, ap, ◌∙◌, arith, append-nil}
 use Rattle.std.specs.Str.{bytes_eq}
 use Rattle.std.proofs.lemmas.List.{length-append}
 use Rattle.std.proofs.lemmas.Slice.Eq.{bytes_eq-Decides}
@@ -13,7 +13,7 @@ use Rattle.ipc_message.specs.Header.{supported_codes, header}
 use Rattle.ipc_message.specs.Checks.{checked_schema}
 use Rattle.ipc_write.specs.Decoded.{raw_schema}
 use Rattle.ipc_write.specs.Written.{schema_message, schema_envelope}
-use Rattle.catalogue.specs.Reading.{◌>>=◌, raw_schema_in, schema_in}
+use Rattle.catalogue.specs.Reading.{raw_schema_in, schema_in}
 use Rattle.catalogue.specs.inner.Messages.{IsMessageAgain}
 
 message_size : (s : PlainSchema) → length (schema_message s) ≡ 8 + length (schema_envelope s).metadata

@@ -1,22 +1,19 @@
 -- The schemas of a catalogue that was read are of those that are read.
-use Rattle.std.proofs.Common.{◌≡◌, ◌&&◌, eqb, ℕ, zero, suc, Bool, true, false, cond, List, [], ◌∷◌, ◌++◌, length, Option, Some, None, Result, Ok, Err, refl, sym, ap, subst, ◌∙◌, append-nil}
-use Rattle.std.proofs.lemmas.Bool.{and_parts, and_from}
+use Rattle.std.proofs.Common.{◌≡◌, ◌&&◌, eqb, ℕ, zero, suc, Bool, true, cond, List, [], ◌∷◌, length, Option, Some, None, Result, Ok, Err, refl, sym, ap, subst, ◌∙◌}
+use Rattle.std.proofs.lemmas.Bool.{and_from}
 use Rattle.std.specs.Prelude.{not}
 use Rattle.std.specs.List.{list_all}
 use Rattle.std.specs.Str.{bytes_eq}
 use Rattle.facts.specs.Checks.{unless, first_some}
 use Rattle.arrow_schema.specs.Column.{PlainSchema}
-use Rattle.arrow_schema.specs.Limits.{IsWithinLimits}
 use Rattle.ipc_message.specs.declared.fault.Fault.{Fault}
-use Rattle.ipc_message.specs.Raw.{RawSchema, schema_header}
-use Rattle.ipc_message.specs.Framing.{next_message, message}
-use Rattle.ipc_message.specs.Header.{supported_codes, header}
+use Rattle.ipc_message.specs.Raw.{RawSchema}
+use Rattle.ipc_message.specs.Header.{supported_codes}
 use Rattle.ipc_message.specs.Checks.{schema_checks, checked_schema}
 use Rattle.ipc_message.specs.Convert.{plain_schema_of}
 use Rattle.ipc_message.specs.laws.Accepted.{accepted}
-use Rattle.ipc_write.specs.Decoded.{raw_schema, is_not_read}
-use Rattle.ipc_write.specs.Written.{schema_message, schema_envelope}
-use Rattle.catalogue.specs.declared.entry.Segment.{Segment}
+use Rattle.ipc_write.specs.Decoded.{raw_schema}
+use Rattle.ipc_write.specs.Written.{schema_message}
 use Rattle.catalogue.specs.Schemas.{is_read}
 use Rattle.catalogue.specs.Entries.{PlainEntry, PlainCatalogue, is_name, is_catalogue, AreRead}
 use Rattle.catalogue.specs.Reading.{◌>>=◌, number_at, sized_at, many_at, counted_at, segment_at, raw_schema_in, schema_in, unfaulted, table_at, entry_at, catalogue_at}

@@ -1,18 +1,17 @@
 -- Rows, segments and runs of entries that are gone over one after another.
-use Rattle.std.proofs.Common.{◌≡◌, ◌≤◌, ◌<◌, ◌+◌, ◌*◌, ◌^◌, ◌&&◌, ◌++◌, ltb, leb, eqb, ℕ, zero, suc, true, List, [], ◌∷◌, length, get_or, take, map, append-nil, refl, sym, ap, subst, ◌∙◌, arith}
-use Rattle.std.specs.List.{list_all, sum_by, flat_map}
+use Rattle.std.proofs.Common.{◌≡◌, ◌≤◌, ◌<◌, ◌+◌, ◌*◌, ◌^◌, ◌&&◌, ◌++◌, ltb, leb, eqb, ℕ, zero, suc, true, List, [], ◌∷◌, length, get_or, take, map, append-nil, sym, ap, subst, ◌∙◌, arith}
+use Rattle.std.specs.List.{list_all, sum_by}
 use Rattle.std.proofs.lemmas.Bool.{and_parts, leb-true}
 use Rattle.std.proofs.lemmas.List.{length-map, map-append, take-map, take_more}
 use Rattle.std.proofs.lemmas.Grind.{flat_map-append}
-use Rattle.std.proofs.lemmas.List.Sums.{sum_by-cons, sum_by_more_le, get_or-le-sum_by}
+use Rattle.std.proofs.lemmas.List.Sums.{sum_by-cons, sum_by_more_le}
 use Rattle.segments.specs.Sectors.{sector_count}
-use Rattle.segments.specs.declared.run.Run.{Run}
 use Rattle.catalogue.specs.declared.entry.Segment.{Segment}
 use Rattle.catalogue.specs.declared.entry.Entry.{Entry}
-use Rattle.catalogue.specs.declared.limits.TheConstants.{MAX_SEGMENT_ROWS, MAX_SEGMENTS}
+use Rattle.catalogue.specs.declared.limits.TheConstants.{MAX_SEGMENT_ROWS}
 use Rattle.catalogue.specs.Entries.{PlainEntry, PlainCatalogue, plain_entry, is_between, is_segment, is_entry, row_count, runs_in, runs_of, segment_count, is_catalogue}
 use Rattle.catalogue.specs.laws.Kept.{entry_is, catalogue_is}
-use Rattle.catalogue.proofs.Order.{map_at}
+use Rattle.catalogue.proofs.Standing.{map_at}
 
 few_rows : (s : Segment) → is_segment s ≡ true → s.rows ≤ 4096
 few_rows s h =

@@ -11,9 +11,9 @@ use Rattle.catalogue.specs.declared.entry.Segment.{Segment}
 use Rattle.catalogue.specs.declared.limits.TheConstants.{MAX_SEGMENTS}
 use Rattle.catalogue.specs.Edits.{entry_of, with_entry, without, named, renamed, with_segments, with_more}
 use Rattle.catalogue.specs.inner.Places.{place_of, seat_of}
-use Rattle.catalogue.proofs.Order.{IsSeat, IsGap, IsPlace, seated, gap, placed, map_insert, map_remove, map_at}
+use Rattle.catalogue.proofs.Standing.{seated, gap, placed, set_segments, map_insert, map_remove, map_at}
 use Rattle.catalogue.proofs.Rows.{counted_within}
-use Rattle.catalogue.proofs.Changed.{renamed_stands, more_stands, set_segments}
+use Rattle.catalogue.specs.laws.Changed.{renamed_stands, more_stands}
 
 pub record Seated (es : List Entry) (e : Entry) (place : ℕ) : Type 0 where
   pub within : place < length es
@@ -88,16 +88,6 @@ more_kept (Ok x) old new name more put err kept each most = ap is_catalogue put 
     by_entry None h = kept
     by_entry (Some e) h = more_stands old name e more kept h each most
 more_kept (Err x) old new name more put err kept each most = ap is_catalogue err ∙ kept
-
--- what a renaming and an appending make of the entry that was found
-pub renamed_is : (c : PlainCatalogue) (from to : List ℕ) (e : PlainEntry) → entry_of c from ≡ Some e → renamed c from to ≡ with_entry (without c from) (named to e)
-renamed_is c from to e h = ap (λ (o : Option PlainEntry). elim o [ None ↦ c | Some x ↦ with_entry (without c from) (named to x) ]) h
-
-pub renamed_none : (c : PlainCatalogue) (from to : List ℕ) → entry_of c from ≡ None → renamed c from to ≡ c
-renamed_none c from to h = ap (λ (o : Option PlainEntry). elim o [ None ↦ c | Some x ↦ with_entry (without c from) (named to x) ]) h
-
-pub more_none : (c : PlainCatalogue) (name : List ℕ) (more : List Segment) → entry_of c name ≡ None → with_more c name more ≡ c
-more_none c name more h = ap (λ (o : Option PlainEntry). elim o [ None ↦ c | Some x ↦ with_segments c name (x.segments ++ more) ]) h
 
 -- the entry at its place has more segments
 pub more_at : (es : List Entry) (name : List ℕ) (place : ℕ) (x new : Entry) (more : List Segment) → place_of name 0 (map plain_entry es) ≡ Some place → x ≡ get_or es place x

@@ -1,21 +1,18 @@
 -- How many bytes a text has, and what the limits say of rows and runs.
-use Rattle.std.proofs.Common.{◌≡◌, ◌≤◌, ◌<◌, ◌+◌, ◌*◌, ◌&&◌, ltb, leb, eqb, ◌^◌, ℕ, zero, suc, true, List, [], ◌∷◌, ◌++◌, length, get_or, map, refl, sym, ap, subst, ◌∙◌, arith}
-use Rattle.std.specs.List.{list_all, flat_map, sum_by, Contains}
-use Rattle.std.proofs.lemmas.Bool.{and_parts, leb-true}
+use Rattle.std.proofs.Common.{◌≡◌, ◌≤◌, ◌<◌, ◌+◌, ◌*◌, ℕ, zero, suc, true, List, [], ◌∷◌, ◌++◌, length, get_or, map, refl, sym, ap, subst, ◌∙◌, arith}
+use Rattle.std.specs.List.{flat_map, sum_by, Contains}
 use Rattle.std.proofs.lemmas.List.{length-append, length-map}
 use Rattle.std.proofs.lemmas.List.Elements.{Contains-append_left, Contains-append_right}
 use Rattle.std.proofs.lemmas.List.Sums.{sum_by-cons, get_or-le-sum_by}
 use Rattle.byteorder.specs.Endian.{little_bytes}
 use Rattle.byteorder.specs.Numbers.{length-bytes_low_first}
 use Rattle.ipc_write.specs.Written.{schema_message}
-use Rattle.segments.specs.Sectors.{sector_count}
 use Rattle.segments.specs.declared.run.Run.{Run}
 use Rattle.catalogue.specs.declared.entry.Segment.{Segment}
-use Rattle.catalogue.specs.declared.limits.TheConstants.{MAX_SEGMENT_ROWS, MAX_SEGMENTS}
-use Rattle.catalogue.specs.Entries.{PlainEntry, PlainCatalogue, is_between, is_segment, is_entry, row_count, runs_in, runs_of, segment_count, IsCatalogue}
+use Rattle.catalogue.specs.Entries.{PlainEntry, PlainCatalogue, is_entry, row_count, runs_in, runs_of, segment_count, IsCatalogue}
 use Rattle.catalogue.specs.Text.{sized, counted, segment_text, table_text, entry_text, entry_size, list_text, list_size}
 use Rattle.catalogue.specs.laws.Kept.{entry_is}
-use Rattle.catalogue.proofs.Order.{map_at}
+use Rattle.catalogue.proofs.Standing.{map_at}
 use Rattle.catalogue.proofs.Rows.{rows_le, passes_at}
 
 segment_size : (s : Segment) → length (segment_text s) ≡ 32

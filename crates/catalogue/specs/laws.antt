@@ -1,2 +1,5 @@
 -- Laws that the crates above use.
 pub mod Kept
+pub mod Order
+pub mod Sums
+pub mod Changed

@@ -3,12 +3,13 @@ ghost use Rattle.std.specs.Prelude.{◌≡◌, ◌<◌, ◌^◌, IfOk};
 ghost use Rattle.std.specs.List.{list_all};
 ghost use Rattle.arrow_schema.specs.View.{schema_of};
 ghost use Rattle.catalogue.specs.Schemas.{is_within_limits};
-ghost use Rattle.catalogue.specs.Entries.{is_segment, is_entry, plain_entry, row_count};
+ghost use Rattle.catalogue.specs.Entries.{is_segment, is_entry, plain_entry, row_count, runs_in};
 
+use crate::edits::put_runs;
 use crate::limits::MAX_SEGMENT_ROWS;
 use crate::names::is_name;
 use arrow_schema::Schema;
-use segments::Extent;
+use segments::{Extent, Run};
 use std::alloc::{AllocError, Global};
 
 /// A run that holds one stream of a table, and how many rows it has.
@@ -71,6 +72,15 @@ impl Entry {
             rows += segment.rows;
         }
         rows
+    }
+
+    /// The runs of its segments, in order.
+    pub fn runs(&self, alloc: Global) -> Result<Vec<Run>, AllocError>
+        ensures { IfOk result (λ runs. runs.items ≡ runs_in (plain_entry self.now)) }
+    {
+        let mut runs = Vec::new(alloc);
+        put_runs(&mut runs, &self.segments)?;
+        Ok(runs)
     }
 
     /// Whether it may stand in a catalogue.

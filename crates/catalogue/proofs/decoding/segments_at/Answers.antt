@@ -1,4 +1,3 @@
-use Rattle.std.proofs.Common.{◌≡◌, ◌++◌, ◌∷◌, []}
 use Rattle.std.proofs.lemmas.Result.{err_from_is_err_and}
 use Rattle.catalogue.specs.Reading.{many_at, segment_at}
 use Rattle.catalogue.proofs.Parts.{goes_on, ends, is_done}

@@ -1,11 +1,12 @@
-use Rattle.std.proofs.Common.{◌≡◌, ◌∙◌, ◌++◌, map, set, Ok, Err, Some, sym, ap, refl, arith}
+use Rattle.std.proofs.Common.{◌∙◌, map, sym, ap, arith}
 use Rattle.std.specs.Prelude.{string_bytes}
 use Rattle.arrow_schema.specs.View.{schema_of}
 use Rattle.catalogue.specs.declared.entry.Entry.{Entry}
-use Rattle.catalogue.specs.Entries.{PlainEntry, plain_entry}
+use Rattle.catalogue.specs.Entries.{plain_entry}
 use Rattle.catalogue.specs.inner.Places.{place_of}
-use Rattle.catalogue.proofs.Order.{absent}
-use Rattle.catalogue.proofs.Seats.{place_in, more_none, appended_at, unchanged_at}
+use Rattle.catalogue.proofs.Standing.{absent}
+use Rattle.catalogue.specs.laws.Changed.{more_none}
+use Rattle.catalogue.proofs.Seats.{place_in, appended_at, unchanged_at}
 use Rattle.catalogue.proofs.edits.append_to.Goals as goal
 
 pub index_mut-requires : goal.index_mut-requires

@@ -1,10 +1,10 @@
-use Rattle.std.proofs.Common.{◌≡◌, ◌∙◌, map, set, Ok, Err, Some, sym, ap, arith}
+use Rattle.std.proofs.Common.{◌∙◌, map, set, Some, sym, ap, arith}
 use Rattle.std.specs.Prelude.{string_bytes}
 use Rattle.catalogue.specs.declared.entry.Entry.{Entry}
 use Rattle.catalogue.specs.Entries.{plain_entry}
 use Rattle.catalogue.specs.inner.Places.{seat_of}
-use Rattle.catalogue.proofs.Order.{none_stood}
-use Rattle.catalogue.proofs.Seats.{Seated, seat_in, Gapped, gap_in}
+use Rattle.catalogue.proofs.Standing.{none_stood}
+use Rattle.catalogue.proofs.Seats.{seat_in, gap_in}
 use Rattle.catalogue.proofs.edits.put_entry.Goals as goal
 
 pub index_mut-requires : goal.index_mut-requires

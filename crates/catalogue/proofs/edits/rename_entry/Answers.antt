@@ -1,9 +1,9 @@
 use Rattle.std.proofs.Common.{◌∙◌, map, sym, ap}
 use Rattle.std.specs.Prelude.{string_bytes, option_map}
 use Rattle.catalogue.specs.Entries.{PlainCatalogue, plain_entry, names_of, ascends}
-use Rattle.catalogue.proofs.Order.{without_rises}
-use Rattle.catalogue.proofs.Changed.{without_none}
-use Rattle.catalogue.proofs.Seats.{renamed_none}
+use Rattle.catalogue.specs.laws.Order.{without_rises}
+use Rattle.catalogue.specs.laws.Changed.{without_none}
+use Rattle.catalogue.specs.laws.Changed.{renamed_none}
 use Rattle.catalogue.proofs.edits.rename_entry.Goals as goal
 
 pub put_entry-requires : goal.put_entry-requires

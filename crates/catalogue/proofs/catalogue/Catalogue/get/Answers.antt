@@ -2,7 +2,7 @@ use Rattle.std.proofs.Common.{◌∙◌, map, Some, sym, ap, arith}
 use Rattle.catalogue.specs.declared.entry.Entry.{Entry}
 use Rattle.catalogue.specs.Entries.{plain_entry}
 use Rattle.catalogue.specs.inner.Places.{place_of}
-use Rattle.catalogue.proofs.Order.{absent}
+use Rattle.catalogue.proofs.Standing.{absent}
 use Rattle.catalogue.proofs.Seats.{place_in}
 use Rattle.catalogue.proofs.catalogue.Catalogue.get.Goals as goal
 

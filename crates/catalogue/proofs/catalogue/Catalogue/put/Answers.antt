@@ -1,6 +1,6 @@
 use Rattle.std.proofs.Common.{map}
 use Rattle.catalogue.specs.Entries.{plain_entry}
-use Rattle.catalogue.proofs.Changed.{put_stands}
+use Rattle.catalogue.specs.laws.Changed.{put_stands}
 use Rattle.catalogue.proofs.Seats.{put_kept}
 use Rattle.catalogue.proofs.catalogue.Catalogue.put.Goals as goal
 

@@ -1,6 +1,6 @@
 use Rattle.std.proofs.Common.{◌∙◌, map, ap}
 use Rattle.catalogue.specs.Entries.{plain_entry, is_catalogue}
-use Rattle.catalogue.proofs.Changed.{removed_stands}
+use Rattle.catalogue.specs.laws.Changed.{removed_stands}
 use Rattle.catalogue.proofs.catalogue.Catalogue.remove.Goals as goal
 
 pub invariant_of-self : goal.invariant_of-self

@@ -1,0 +1,120 @@
+-- A catalogue that is changed is a catalogue.
+use Rattle.std.proofs.Common.{◌≡◌, ◌≤◌, ◌+◌, ◌++◌, ℕ, Bool, true, List, [], ◌∷◌, length, Option, Some, None, refl, sym, ap, subst, ◌∙◌, arith}
+use Rattle.std.specs.List.{list_all}
+use Rattle.std.specs.Str.{bytes_eq}
+use Rattle.std.proofs.lemmas.Bool.{cond-false, cond_both, and_parts, and_from}
+use Rattle.std.proofs.lemmas.List.{length-append, length-map}
+use Rattle.std.proofs.lemmas.List.Folds.{list_all-append}
+use Rattle.catalogue.specs.declared.limits.TheConstants.{MAX_TABLES, MAX_SEGMENTS}
+use Rattle.catalogue.specs.declared.entry.Segment.{Segment}
+use Rattle.catalogue.specs.Entries.{PlainEntry, PlainCatalogue, is_name, is_segment, is_entry, names_of, ascends, segment_count, is_catalogue}
+use Rattle.catalogue.specs.Edits.{entry_of, with_entry, without, named, renamed, with_segments, with_more}
+use Rattle.catalogue.specs.laws.Kept.{entry_is, entry_stands, passes_catalogue, catalogue_is}
+use Rattle.catalogue.specs.laws.Order.{by_found, none_found, with_rises, with_all, without_rises, without_all}
+use Rattle.catalogue.specs.laws.Sums.{refilled, put_most, taken_out, without_least, refilled_sum, one, number, segments_in}
+
+-- ---- put
+
+pub put_stands : (c : PlainCatalogue) (e : PlainEntry) → is_catalogue c ≡ true → is_entry e ≡ true → length (with_entry c e) ≤ MAX_TABLES → segment_count (with_entry c e) ≤ MAX_SEGMENTS → is_catalogue (with_entry c e) ≡ true
+put_stands c e kept entry tables most =
+    let k = catalogue_is c kept in
+    passes_catalogue (with_entry c e) (record { entries = with_all is_entry c e k.entries entry; order = with_rises c e k.order; tables = tables; segments = most })
+
+-- ---- remove
+
+pub removed_stands : (c : PlainCatalogue) (name : List ℕ) → is_catalogue c ≡ true → is_catalogue (without c name) ≡ true
+removed_stands c name kept =
+    let k = catalogue_is c kept in
+    let tables = k.tables in
+    let segments = k.segments in
+    passes_catalogue (without c name) (record {
+      entries = without_all is_entry c name k.entries;
+      order = without_rises c name k.order;
+      tables = omega (arith, tables, without_least one c name, number c, number (without c name));
+      segments = omega (arith, segments, without_least segments_in c name);
+    })
+
+-- where there is no such entry, none is taken out
+pub without_none : (c : PlainCatalogue) (name : List ℕ) → entry_of c name ≡ None → without c name ≡ c
+without_none [] name h = refl
+without_none (x ∷ xs) name h =
+    let parts = none_found x xs name h in
+    cond-false (bytes_eq x.name name) xs (x ∷ without xs name) parts.0 ∙ ap (λ ys. x ∷ ys) (without_none xs name parts.1)
+
+-- without another one, there is none either
+pub none_without : (c : PlainCatalogue) (other name : List ℕ) → entry_of c name ≡ None → entry_of (without c other) name ≡ None
+none_without [] other name h = refl
+none_without (x ∷ xs) other name h =
+    let parts = none_found x xs name h in
+    cond_both (bytes_eq x.name other) xs (x ∷ without xs other) (λ d. entry_of d name ≡ None) (λ _. parts.1)
+    (λ _. cond-false (bytes_eq x.name name) (Some x) (entry_of (without xs other) name) parts.0 ∙ none_without xs other name parts.1)
+
+-- ---- rename
+
+pub found_passes : (p : PlainEntry → Bool) (c : PlainCatalogue) (name : List ℕ) (e : PlainEntry) → list_all p c ≡ true → entry_of c name ≡ Some e → p e ≡ true
+found_passes p [] name e all h = absurd cc
+found_passes p (x ∷ xs) name e all h =
+    let parts = and_parts (p x) (list_all p xs) all in
+    by_found x xs name e h (λ t stands. subst (λ y. p y ≡ true) stands parts.0) (λ f there. found_passes p xs name e parts.1 there)
+
+-- what a renaming makes of the entry that was found
+pub renamed_is : (c : PlainCatalogue) (from to : List ℕ) (e : PlainEntry) → entry_of c from ≡ Some e → renamed c from to ≡ with_entry (without c from) (named to e)
+renamed_is c from to e h = ap (λ (o : Option PlainEntry). elim o [ None ↦ c | Some x ↦ with_entry (without c from) (named to x) ]) h
+
+pub renamed_none : (c : PlainCatalogue) (from to : List ℕ) → entry_of c from ≡ None → renamed c from to ≡ c
+renamed_none c from to h = ap (λ (o : Option PlainEntry). elim o [ None ↦ c | Some x ↦ with_entry (without c from) (named to x) ]) h
+
+pub renamed_stands : (c : PlainCatalogue) (from to : List ℕ) (e : PlainEntry) → is_catalogue c ≡ true → is_name to ≡ true → entry_of c from ≡ Some e → is_catalogue (with_entry (without c from) (named to e)) ≡ true
+renamed_stands c from to e kept name found =
+    let k = catalogue_is c kept in
+    let stood = entry_is e (found_passes is_entry c from e k.entries found) in
+    let left = without c from in
+    let tables = k.tables in
+    let segments = k.segments in
+    passes_catalogue (with_entry left (named to e)) (record {
+      entries = with_all is_entry left (named to e) (without_all is_entry c from k.entries) (entry_stands (named to e) name stood.schema stood.segments);
+      order = with_rises left (named to e) (without_rises c from k.order);
+      tables = omega (arith, put_most one left (named to e), taken_out one c from e found, number c, number (with_entry left (named to e)), tables);
+      segments = omega (arith, put_most segments_in left (named to e), taken_out segments_in c from e found, segments);
+    })
+
+-- ---- append
+
+-- other segments for one entry change no name
+pub same_names : (c : PlainCatalogue) (name : List ℕ) (segments : List Segment) → names_of (with_segments c name segments) ≡ names_of c
+same_names [] name segments = refl
+same_names (x ∷ xs) name segments =
+    cond_both (bytes_eq x.name name) (refilled x segments ∷ xs) (x ∷ with_segments xs name segments) (λ d. names_of d ≡ names_of (x ∷ xs)) (λ _. refl) (λ _. ap (λ ns. x.name ∷ ns) (same_names xs name segments))
+
+-- what passes also with these segments does so
+pub refilled_all : (p : PlainEntry → Bool) (c : PlainCatalogue) (name : List ℕ) (segments : List Segment) → ((e : PlainEntry) → p e ≡ true → p (refilled e segments) ≡ true) → list_all p c ≡ true → list_all p (with_segments c name segments) ≡ true
+refilled_all p [] name segments alike all = refl
+refilled_all p (x ∷ xs) name segments alike all =
+    let parts = and_parts (p x) (list_all p xs) all in
+    cond_both (bytes_eq x.name name) (refilled x segments ∷ xs) (x ∷ with_segments xs name segments) (λ d. list_all p d ≡ true) (λ _. and_from (p (refilled x segments)) (list_all p xs) (alike x parts.0) parts.1)
+    (λ _. and_from (p x) (list_all p (with_segments xs name segments)) parts.0 (refilled_all p xs name segments alike parts.1))
+
+-- what an appending makes of the entry that was found
+pub more_is : (c : PlainCatalogue) (name : List ℕ) (e : PlainEntry) (more : List Segment) → entry_of c name ≡ Some e → with_more c name more ≡ with_segments c name (e.segments ++ more)
+more_is c name e more h = ap (λ (o : Option PlainEntry). elim o [ None ↦ c | Some x ↦ with_segments c name (x.segments ++ more) ]) h
+
+pub more_none : (c : PlainCatalogue) (name : List ℕ) (more : List Segment) → entry_of c name ≡ None → with_more c name more ≡ c
+more_none c name more h = ap (λ (o : Option PlainEntry). elim o [ None ↦ c | Some x ↦ with_segments c name (x.segments ++ more) ]) h
+
+pub more_stands : (c : PlainCatalogue) (name : List ℕ) (e : PlainEntry) (more : List Segment) → is_catalogue c ≡ true → entry_of c name ≡ Some e → list_all is_segment more ≡ true → segment_count c + length more ≤ MAX_SEGMENTS
+    → is_catalogue (with_segments c name (e.segments ++ more)) ≡ true
+more_stands c name e more kept found each most =
+    let k = catalogue_is c kept in
+    let d = with_segments c name (e.segments ++ more) in
+    let sum = refilled_sum segments_in c name e (e.segments ++ more) found in
+    let len = length-append e.segments more in
+    let size : length d ≡ length c = sym (length-map d (λ (x : PlainEntry). x.name)) ∙ ap (λ (ns : List (List ℕ)). length ns) (same_names c name (e.segments ++ more)) ∙ length-map c (λ (x : PlainEntry). x.name) in
+    let tables = k.tables in
+    let stood = entry_is e (found_passes is_entry c name e k.entries found) in
+    let all : list_all is_segment (e.segments ++ more) ≡ true = list_all-append is_segment e.segments more ∙ and_from (list_all is_segment e.segments) (list_all is_segment more) stood.segments each in
+    passes_catalogue d (record {
+      entries = refilled_all is_entry c name (e.segments ++ more) (λ x is. let s = entry_is x is in entry_stands (refilled x (e.segments ++ more)) s.name s.schema all) k.entries;
+      order = ap ascends (same_names c name (e.segments ++ more)) ∙ k.order;
+      tables = omega (arith, size, tables);
+      segments = omega (arith, sum, len, most);
+    })
