@@ -1,3 +1,4 @@
 mod Opened
 mod Formatted
 mod Asked
+mod EditedCounts

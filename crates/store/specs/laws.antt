@@ -7,3 +7,5 @@ pub mod Frame
 pub mod Named
 pub mod Listed
 pub mod Changed
+pub mod Edited
+pub mod Segments

@@ -1,0 +1,58 @@
+-- How many segments there are after each edit, and what the catalogue's own calls ask for.
+use Rattle.std.proofs.Common.{◌≡◌, ◌≤◌, ◌+◌, ◌-◌, ℕ, true, List, length, refl, ap, subst, arith}
+use Rattle.std.specs.Prelude.{String, string_bytes}
+use Rattle.std.specs.Global.{Global}
+use Rattle.std.specs.List.{list_all}
+use Rattle.arrow_schema.specs.declared.types.Schema.{Schema}
+use Rattle.arrow_schema.specs.View.{schema_of}
+use Rattle.catalogue.specs.declared.limits.TheConstants.{MAX_SEGMENTS}
+use Rattle.catalogue.specs.declared.entry.Segment.{Segment}
+use Rattle.catalogue.specs.Entries.{PlainCatalogue, is_segment, is_entry, segment_count, IsCatalogue}
+use Rattle.catalogue.specs.laws.Kept.{entry_stands}
+use Rattle.store.specs.declared.change.Edit.{Edit}
+use Rattle.store.specs.declared.change.Edit.TheVariants as edits
+use Rattle.store.specs.Changes.{edit_of, new_entry, edited, IsEdit}
+use Rattle.store.specs.laws.Edited.{segments_at, put_count, more_count, moved_count, removed_count, segments_within}
+
+abbrev pub CanEdit : PlainCatalogue → Edit → Type 0
+CanEdit c edit = (streams : List (List ℕ)) × IsEdit c (edit_of edit) streams
+
+abbrev pub count_after : PlainCatalogue → Edit → List Segment → ℕ
+count_after c edit segments = segment_count (edited c (edit_of edit) segments)
+
+pub after_put : (c : PlainCatalogue) (edit : Edit) (name : String Global) (schema : Schema) (new : ℕ) → edit ≡ edits.Put name schema → IsCatalogue c → (segments : List Segment) → length segments ≡ new
+    → segment_count c - segments_at c (string_bytes name) + new ≡ count_after c edit segments
+after_put c edit name schema new is k segments len =
+    let after = ap (λ (x : Edit). count_after c x segments) is in
+    omega (arith, after, len, put_count c (new_entry (string_bytes name) (schema_of schema) segments) k, segments_within c (string_bytes name))
+
+pub after_extend : (c : PlainCatalogue) (edit : Edit) (name : String Global) (new : ℕ) → edit ≡ edits.Extend name → CanEdit c edit → (segments : List Segment) → length segments ≡ new → segment_count c + new ≡ count_after c edit segments
+after_extend c edit name new is can segments len =
+    let after = ap (λ (x : Edit). count_after c x segments) is in
+    let has = (subst (λ (x : Edit). CanEdit c x) is can).1 in
+    omega (arith, after, len, more_count c (string_bytes name) has.0 segments has.1)
+
+pub after_move : (c : PlainCatalogue) (edit : Edit) (from to : String Global) → edit ≡ edits.Move from to → CanEdit c edit → (segments : List Segment) → segment_count c ≡ count_after c edit segments
+after_move c edit from to is can segments =
+    let after = ap (λ (x : Edit). count_after c x segments) is in
+    let has = (subst (λ (x : Edit). CanEdit c x) is can).1 in
+    omega (arith, after, moved_count c (string_bytes from) (string_bytes to) has.2.0 has.2.1 has.1)
+
+pub after_remove : (c : PlainCatalogue) (edit : Edit) (name : String Global) → edit ≡ edits.Remove name → CanEdit c edit → (segments : List Segment) → segment_count c - segments_at c (string_bytes name) ≡ count_after c edit segments
+after_remove c edit name is can segments =
+    let after = ap (λ (x : Edit). count_after c x segments) is in
+    let has = (subst (λ (x : Edit). CanEdit c x) is can).1.0 in
+    omega (arith, after, removed_count c (string_bytes name) has.0 has.1)
+
+-- ---- what the catalogue's own calls ask for
+
+pub put_is_entry : (c : PlainCatalogue) (edit : Edit) (name : String Global) (schema : Schema) (segments : List Segment) → edit ≡ edits.Put name schema → CanEdit c edit → list_all is_segment segments ≡ true → is_entry (new_entry (string_bytes name) (schema_of schema) segments) ≡ true
+put_is_entry c edit name schema segments is can each =
+    let may = (subst (λ (x : Edit). CanEdit c x) is can).1 in
+    entry_stands (new_entry (string_bytes name) (schema_of schema) segments) may.0 may.1 each
+
+pub extend_is_few : (c : PlainCatalogue) (edit : Edit) (name : String Global) (segments : List Segment) → edit ≡ edits.Extend name → CanEdit c edit → IsCatalogue (edited c (edit_of edit) segments) → segment_count c + length segments ≤ MAX_SEGMENTS
+extend_is_few c edit name segments is can stands =
+    let most = stands.segments in
+    let count = after_extend c edit name (length segments) is can segments refl in
+    omega (arith, most, count)

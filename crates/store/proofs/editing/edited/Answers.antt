@@ -1,0 +1,16 @@
+use Rattle.std.proofs.Common.{◌≡◌, ◌≤◌, ◌+◌, ◌∙◌, length, sym, ap, subst, arith, true}
+use Rattle.catalogue.specs.View.{catalogue_of}
+use Rattle.catalogue.specs.Entries.{PlainCatalogue, is_entry, segment_count}
+use Rattle.catalogue.specs.declared.limits.TheConstants.{MAX_SEGMENTS}
+use Rattle.store.proofs.EditedCounts.{put_is_entry, extend_is_few}
+use Rattle.store.proofs.editing.edited.Goals as goal
+
+pub put-requires-clause-entry : goal.put-requires-clause-entry
+put-requires-clause-entry c =
+    ap is_entry c.in_ok-new_entry-in-Put.ensures
+    ∙ put_is_entry (catalogue_of c.args.catalogue.now) c.args.edit.now c.in-Put.name c.in-Put.schema c.args.segments.now c.in-Put.is c.requires.edit c.requires.sound
+
+pub append_segments-requires-clause-most : goal.append_segments-requires-clause-most
+append_segments-requires-clause-most c =
+    subst (λ (d : PlainCatalogue). segment_count d + length c.args.segments.now ≤ MAX_SEGMENTS) (sym c.in_ok-changed.ensures)
+    (extend_is_few (catalogue_of c.args.catalogue.now) c.args.edit.now c.in-Extend.name c.args.segments.now c.in-Extend.is c.requires.edit c.requires.stands)

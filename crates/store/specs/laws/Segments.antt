@@ -1,0 +1,99 @@
+-- Laws of the new segments of a change.
+use Rattle.std.specs.Prelude.{◌≡◌, ◌⊎◌, ◌≤◌, ◌<◌, ◌+◌, ◌^◌, ◌++◌, ◌==◌, ◌&&◌, ℕ, true, List, [], ◌∷◌, length, map, nat_le, nat_lt}
+use Rattle.std.specs.Global.{Vec}
+use Rattle.std.specs.List.{list_all, AllByRecursion}
+use Rattle.std.proofs.Common.{refl, sym, ap, ◌∙◌, subst, arith}
+use Rattle.std.proofs.lemmas.Bool.{and_parts, and_from, le-leb, lt-ltb, eq-eqb}
+use Rattle.segments.specs.declared.run.Run.{Run}
+use Rattle.segments.specs.Usages.{Space, IsUsedIn}
+use Rattle.segments.specs.Sectors.{sector_count}
+use Rattle.catalogue.specs.declared.limits.TheConstants.{MAX_SEGMENT_ROWS}
+use Rattle.catalogue.specs.declared.entry.Segment.{Segment}
+use Rattle.catalogue.specs.Entries.{is_between, is_segment}
+use Rattle.commit.specs.Placing.{sectors_of, counts_of}
+use Rattle.commit.specs.laws.Taking.{Took, TookAll}
+use Rattle.store.specs.Changes.{placed_segments}
+use Rattle.store.specs.Applying.{unplaced}
+
+-- how many sectors a stream takes
+abbrev pub stream_sectors : List ℕ → ℕ
+stream_sectors stream = sector_count (length stream)
+
+-- what may be a segment's stream
+abbrev pub IsStream : List ℕ → Type 0
+IsStream stream = (1 ≤ length stream) × (length stream < 2 ^ 64)
+
+pub are_streams : (streams : List (List ℕ)) → AllByRecursion (λ (stream : List ℕ). 1 ≤ length stream) streams → AllByRecursion (λ (stream : List ℕ). length stream < 2 ^ 64) streams → AllByRecursion IsStream streams
+are_streams [] some short = tt
+are_streams (s ∷ ss) some short = ((some.0, short.0), are_streams ss some.1 short.1)
+
+segment_is : (s : Segment) → s.place.run.start < 2 ^ 64 → s.place.bytes < 2 ^ 64 → 1 ≤ s.place.bytes → s.place.run.count ≡ sector_count s.place.bytes → is_between 1 MAX_SEGMENT_ROWS s.rows ≡ true → is_segment s ≡ true
+segment_is s start bytes some sectors rows =
+    and_from (nat_lt s.place.run.start (2 ^ 64) && nat_lt s.place.bytes (2 ^ 64)) (nat_le 1 s.place.bytes && ((s.place.run.count == sector_count s.place.bytes) && is_between 1 MAX_SEGMENT_ROWS s.rows))
+    (and_from (nat_lt s.place.run.start (2 ^ 64)) (nat_lt s.place.bytes (2 ^ 64)) (lt-ltb _ _ start) (lt-ltb _ _ bytes))
+    (and_from (nat_le 1 s.place.bytes) ((s.place.run.count == sector_count s.place.bytes) && is_between 1 MAX_SEGMENT_ROWS s.rows) (le-leb _ _ some)
+    (and_from (s.place.run.count == sector_count s.place.bytes) (is_between 1 MAX_SEGMENT_ROWS s.rows) (eq-eqb _ _ sectors) rows))
+
+-- ---- in their runs
+
+pub placed_runs : (runs : List Run) (streams : List (List ℕ)) (counts : List ℕ) → length runs ≡ length streams → length streams ≡ length counts → map (λ (s : Segment). s.place.run) (placed_segments runs streams counts) ≡ runs
+placed_runs [] streams counts a b = refl
+placed_runs (r ∷ rs) [] counts a b = absurd (omega (arith, a))
+placed_runs (r ∷ rs) (s ∷ ss) [] a b = absurd (omega (arith, b))
+placed_runs (r ∷ rs) (s ∷ ss) (n ∷ ns) a b = ap (λ (xs : List Run). r ∷ xs) (placed_runs rs ss ns (omega (arith, a)) (omega (arith, b)))
+
+pub placed_number : (runs : List Run) (streams : List (List ℕ)) (counts : List ℕ) → length runs ≡ length streams → length streams ≡ length counts → length (placed_segments runs streams counts) ≡ length streams
+placed_number [] streams counts a b = a
+placed_number (r ∷ rs) [] counts a b = absurd (omega (arith, a))
+placed_number (r ∷ rs) (s ∷ ss) [] a b = absurd (omega (arith, b))
+placed_number (r ∷ rs) (s ∷ ss) (n ∷ ns) a b = let more = placed_number rs ss ns (omega (arith, a)) (omega (arith, b)) in omega (arith, more)
+
+-- each may stand in a catalogue, in runs that were taken for them
+pub placed_sound : (size : ℕ) (used : Run → Type 0) (runs : List Run) (streams : List (List ℕ)) (counts : List ℕ) → size < 2 ^ 64 → Took size used (map stream_sectors streams) runs → AllByRecursion IsStream streams
+    → list_all (is_between 1 MAX_SEGMENT_ROWS) counts ≡ true → list_all is_segment (placed_segments runs streams counts) ≡ true
+placed_sound size used [] streams counts limit took are rows = refl
+placed_sound size used (r ∷ rs) [] counts limit took are rows = absurd took
+placed_sound size used (r ∷ rs) (s ∷ ss) [] limit took are rows = refl
+placed_sound size used (r ∷ rs) (s ∷ ss) (n ∷ ns) limit took are rows =
+    let segment : Segment = record { place = record { run = r; bytes = length s }; rows = n } in
+    let parts = and_parts (is_between 1 MAX_SEGMENT_ROWS n) (list_all (is_between 1 MAX_SEGMENT_ROWS) ns) rows in
+    let within = took.0.1.within in
+    and_from (is_segment segment) (list_all is_segment (placed_segments rs ss ns)) (segment_is segment (omega (arith, within, limit)) are.0.1 are.0.0 took.0.0 parts.0)
+    (placed_sound size (λ other. used other ⊎ (other ≡ r)) rs ss ns limit took.1 are.1 parts.1)
+
+-- the runs that were taken before the last one
+pub took_front : (size : ℕ) (used : Run → Type 0) (ns : List ℕ) (rs : List Run) (n : ℕ) (r : Run) → Took size used (ns ++ n ∷ []) (rs ++ r ∷ []) → Took size used ns rs
+took_front size used [] [] n r took = tt
+took_front size used [] (x ∷ []) n r took = absurd took.1
+took_front size used [] (x ∷ y ∷ ys) n r took = absurd took.1
+took_front size used (m ∷ []) [] n r took = absurd took.1
+took_front size used (m ∷ l ∷ ls) [] n r took = absurd took.1
+took_front size used (m ∷ ms) (x ∷ xs) n r took = (took.0, took_front size (λ other. used other ⊎ (other ≡ x)) ms xs n r took.1)
+
+same_sectors : (contents : List (Vec ℕ)) → map sectors_of contents ≡ map stream_sectors (map (λ (v : Vec ℕ). v.items) contents)
+same_sectors [] = refl
+same_sectors (v ∷ vs) = ap (λ (ns : List ℕ). sectors_of v ∷ ns) (same_sectors vs)
+
+-- the same in the words of `place`
+pub placed_in_taken : (old new : Space) (contents : List (Vec ℕ)) (bytes : ℕ) (runs : List Run) (text : Run) (counts : List ℕ) → old.size < 2 ^ 64 → TookAll old new (counts_of contents bytes) (runs ++ text ∷ [])
+    → AllByRecursion IsStream (map (λ (v : Vec ℕ). v.items) contents) → list_all (is_between 1 MAX_SEGMENT_ROWS) counts ≡ true
+    → list_all is_segment (placed_segments runs (map (λ (v : Vec ℕ). v.items) contents) counts) ≡ true
+placed_in_taken old new contents bytes runs text counts limit all are rows =
+    placed_sound old.size (IsUsedIn old.entries) runs (map (λ (v : Vec ℕ). v.items) contents) counts limit
+    (subst (λ (ns : List ℕ). Took old.size (IsUsedIn old.entries) ns runs) (same_sectors contents) (took_front old.size (IsUsedIn old.entries) (map sectors_of contents) runs (sector_count bytes) text all.took))
+    are rows
+
+-- ---- without places
+
+pub unplaced_number : (streams : List (List ℕ)) (counts : List ℕ) → length streams ≡ length counts → length (unplaced streams counts) ≡ length streams
+unplaced_number [] counts same = refl
+unplaced_number (s ∷ ss) [] same = absurd (omega (arith, same))
+unplaced_number (s ∷ ss) (n ∷ ns) same = let more = unplaced_number ss ns (omega (arith, same)) in omega (arith, more)
+
+pub unplaced_sound : (streams : List (List ℕ)) (counts : List ℕ) → AllByRecursion IsStream streams → list_all (is_between 1 MAX_SEGMENT_ROWS) counts ≡ true → list_all is_segment (unplaced streams counts) ≡ true
+unplaced_sound [] counts are rows = refl
+unplaced_sound (s ∷ ss) [] are rows = refl
+unplaced_sound (s ∷ ss) (n ∷ ns) are rows =
+    let segment : Segment = record { place = record { run = record { start = 0; count = sector_count (length s) }; bytes = length s }; rows = n } in
+    let parts = and_parts (is_between 1 MAX_SEGMENT_ROWS n) (list_all (is_between 1 MAX_SEGMENT_ROWS) ns) rows in
+    and_from (is_segment segment) (list_all is_segment (unplaced ss ns)) (segment_is segment (omega arith) are.0.1 are.0.0 refl parts.0) (unplaced_sound ss ns are.1 parts.1)

@@ -1,0 +1,163 @@
+// Edits of a catalogue, and the segments that are new in it.
+ghost use Rattle.std.specs.Prelude.{◌≡◌, ◌<◌, ◌^◌, ℕ, true, List, map, length, string_bytes, IfOk};
+ghost use Rattle.std.specs.Global.{Vec};
+ghost use Rattle.std.specs.List.{list_all};
+ghost use Rattle.arrow_schema.specs.View.{schema_of};
+ghost use Rattle.segments.specs.declared.piece.Piece.{Piece};
+ghost use Rattle.segments.specs.Writing.{runs_of};
+ghost use Rattle.catalogue.specs.declared.entry.Segment.{Segment};
+ghost use Rattle.catalogue.specs.Entries.{plain_entry, is_segment, segment_count, IsCatalogue};
+ghost use Rattle.catalogue.specs.View.{catalogue_of};
+ghost use Rattle.store.specs.Changes.{edit_of, new_entry, edited, runs_at, given_up, placed_segments, IsEdit};
+ghost use Rattle.store.specs.Applying.{unplaced};
+ghost use Rattle.store.specs.laws.Edited.{segments_at};
+
+use crate::change::Edit;
+use arrow_schema::Schema;
+use catalogue::{Catalogue, Entry, Segment};
+use sector_dev::SECTOR_BYTES;
+use segments::{Extent, Piece, Run};
+use std::alloc::{AllocError, Global};
+
+fn new_entry(
+    alloc: Global,
+    name: &String,
+    schema: &Schema,
+    segments: &[Segment],
+) -> Result<Entry, AllocError>
+    ensures { IfOk result (λ e. plain_entry e ≡ new_entry (string_bytes name.now) (schema_of schema.now) segments.now) }
+{
+    Ok(Entry {
+        name: name.clone()?,
+        schema: schema.copy(alloc)?,
+        segments: Vec::from_slice(alloc, segments)?,
+    })
+}
+
+// The catalogue after an edit with these new segments.
+pub(crate) fn edited(
+    alloc: Global,
+    catalogue: &Catalogue,
+    edit: &Edit,
+    segments: &[Segment],
+) -> Result<Catalogue, AllocError>
+    requires edit { (streams : List (List ℕ)) × IsEdit (catalogue_of catalogue.now) (edit_of edit.now) streams }
+    requires sound { list_all is_segment segments.now ≡ true }
+    requires stands { IsCatalogue (edited (catalogue_of catalogue.now) (edit_of edit.now) segments.now) }
+    ensures { IfOk result (λ c. catalogue_of c ≡ edited (catalogue_of catalogue.now) (edit_of edit.now) segments.now) }
+{
+    let mut changed = catalogue.copy(alloc)?;
+    match edit {
+        Edit::Put { name, schema } => {
+            changed.put(new_entry(alloc, name, schema, segments)?)?;
+        }
+        Edit::Extend { name } => changed.append_segments(name, segments)?,
+        Edit::Move { from, to } => changed.rename(from, to.clone()?),
+        Edit::Remove { name } => {
+            changed.remove(name);
+        }
+    }
+    Ok(changed)
+}
+
+// The runs of a table, if it is there.
+fn runs_at(alloc: Global, catalogue: &Catalogue, name: &str) -> Result<Vec<Run>, AllocError>
+    ensures { IfOk result (λ runs. runs.items ≡ runs_at (catalogue_of catalogue.now) name.now) }
+{
+    match catalogue.get(name) {
+        Some(entry) => entry.runs(alloc),
+        None => Ok(Vec::new(alloc)),
+    }
+}
+
+// The runs of the segments that an edit takes out.
+pub(crate) fn given_up(
+    alloc: Global,
+    catalogue: &Catalogue,
+    edit: &Edit,
+) -> Result<Vec<Run>, AllocError>
+    ensures { IfOk result (λ runs. runs.items ≡ given_up (catalogue_of catalogue.now) (edit_of edit.now)) }
+{
+    match edit {
+        Edit::Put { name, schema: _ } => runs_at(alloc, catalogue, name),
+        Edit::Extend { name: _ } => Ok(Vec::new(alloc)),
+        Edit::Move { from: _, to: _ } => Ok(Vec::new(alloc)),
+        Edit::Remove { name } => runs_at(alloc, catalogue, name),
+    }
+}
+
+// How many segments a table has; none if it isn't there.
+fn segments_at(catalogue: &Catalogue, name: &str) -> u64
+    ensures number { result ≡ segments_at (catalogue_of catalogue.now) name.now }
+    ensures kept { IsCatalogue (catalogue_of catalogue.now) }
+{
+    match catalogue.get(name) {
+        Some(entry) => entry.segments.len() as u64,
+        None => 0,
+    }
+}
+
+// How many segments there are after an edit with so many new ones.
+pub(crate) fn segments_after(catalogue: &Catalogue, edit: &Edit, new: u64) -> u64
+    requires edit { (streams : List (List ℕ)) × IsEdit (catalogue_of catalogue.now) (edit_of edit.now) streams }
+    requires few { new < 2 ^ 63 }
+    ensures { (segments : List Segment) → length segments ≡ new
+        → result ≡ segment_count (edited (catalogue_of catalogue.now) (edit_of edit.now) segments) }
+{
+    let count = catalogue.segment_count();
+    match edit {
+        Edit::Put { name, schema: _ } => count - segments_at(catalogue, name) + new,
+        Edit::Extend { name: _ } => count + new,
+        Edit::Move { from: _, to: _ } => count,
+        Edit::Remove { name } => count - segments_at(catalogue, name),
+    }
+}
+
+// The segments of streams that go into these runs, with so many rows each.
+pub(crate) fn segments_of(
+    alloc: Global,
+    pieces: &[Piece],
+    rows: &[u64],
+) -> Result<Vec<Segment>, AllocError>
+    requires { length pieces.now ≡ length rows.now }
+    ensures { IfOk result (λ segments. segments.items ≡ placed_segments (runs_of pieces.now) (map (λ (p : Piece). p.bytes.items) pieces.now) rows.now) }
+{
+    let mut segments = Vec::with_capacity(alloc, pieces.len())?;
+    for (place, piece) in pieces.iter().enumerate() {
+        let extent = Extent {
+            run: piece.run,
+            bytes: piece.bytes.len() as u64,
+        };
+        segments.push(Segment {
+            place: extent,
+            rows: rows[place],
+        })?;
+    }
+    Ok(segments)
+}
+
+// The same of streams that have no places yet.
+pub(crate) fn unplaced(
+    alloc: Global,
+    streams: &[Vec<u8>],
+    rows: &[u64],
+) -> Result<Vec<Segment>, AllocError>
+    requires { length streams.now ≡ length rows.now }
+    ensures { IfOk result (λ segments. segments.items ≡ unplaced (map (λ (v : Vec ℕ). v.items) streams.now) rows.now) }
+{
+    let mut segments = Vec::with_capacity(alloc, streams.len())?;
+    for (place, stream) in streams.iter().enumerate() {
+        let run = Run {
+            start: 0,
+            count: stream.len().div_ceil(SECTOR_BYTES) as u64,
+        };
+        segments.push(Segment {
+            place: Extent {
+                run,
+                bytes: stream.len() as u64,
+            },
+            rows: rows[place],
+        })?;
+    }
+    Ok(segments)
+}
