@@ -16,7 +16,7 @@ use Rattle.commit.specs.Placing.{Takes}
 use Rattle.tables.specs.declared.refusal.Refusal.{Refusal}
 use Rattle.tables.specs.declared.refusal.Refusal.TheVariants as refusals
 use Rattle.tables.specs.declared.refusal.Limit.TheVariants as limits
-use Rattle.tables.specs.Refusals.{Origin, by_tables, by_room, by_memory, by_device, by_halt, elsewhere, origin_of}
+use Rattle.tables.specs.Refusals.{Origin, by_tables, by_memory, by_device, origin_of}
 use Rattle.tables.specs.Tables.{Tables, table_at, table_count}
 use Rattle.tables.specs.Commands.{PlainCommand}
 use Rattle.tables.specs.Verdict.{verdict}

@@ -1,8 +1,8 @@
 -- Laws of the new segments of a change.
-use Rattle.std.specs.Prelude.{◌≡◌, ◌⊎◌, ◌≤◌, ◌<◌, ◌+◌, ◌^◌, ◌++◌, ◌==◌, ◌&&◌, ℕ, true, List, [], ◌∷◌, length, map, nat_le, nat_lt}
+use Rattle.std.specs.Prelude.{◌≡◌, ◌⊎◌, ◌≤◌, ◌<◌, ◌^◌, ◌++◌, ◌==◌, ◌&&◌, ℕ, true, List, [], ◌∷◌, length, map, nat_le, nat_lt}
 use Rattle.std.specs.Global.{Vec}
 use Rattle.std.specs.List.{list_all, AllByRecursion}
-use Rattle.std.proofs.Common.{refl, sym, ap, ◌∙◌, subst, arith}
+use Rattle.std.proofs.Common.{refl, ap, subst, arith}
 use Rattle.std.proofs.lemmas.Bool.{and_parts, and_from, le-leb, lt-ltb, eq-eqb}
 use Rattle.segments.specs.declared.run.Run.{Run}
 use Rattle.segments.specs.Usages.{Space, IsUsedIn}

@@ -1,4 +1,4 @@
-use Rattle.std.proofs.Common.{◌≡◌, ◌≤◌, ◌+◌, ◌∙◌, length, sym, ap, subst, arith, true}
+use Rattle.std.proofs.Common.{◌≤◌, ◌+◌, ◌∙◌, length, sym, ap, subst}
 use Rattle.catalogue.specs.View.{catalogue_of}
 use Rattle.catalogue.specs.Entries.{PlainCatalogue, is_entry, segment_count}
 use Rattle.catalogue.specs.declared.limits.TheConstants.{MAX_SEGMENTS}

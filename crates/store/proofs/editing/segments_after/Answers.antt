@@ -1,4 +1,4 @@
-use Rattle.std.proofs.Common.{ℕ, ◌≡◌, ◌≤◌, ◌-◌, ◌+◌, sym, ap, ◌∙◌, subst, arith}
+use Rattle.std.proofs.Common.{ap, ◌∙◌, arith}
 use Rattle.catalogue.specs.View.{catalogue_of}
 use Rattle.store.specs.laws.Edited.{segments_at, segments_within}
 use Rattle.store.proofs.EditedCounts.{after_put, after_extend, after_move, after_remove}
