@@ -2,9 +2,9 @@
 use Rattle.std.specs.Prelude.{not, ◌&&◌, ◌||◌, if◌then◌else◌}
 use Rattle.std.specs.List.{list_any, filter}
 use Rattle.std.proofs.Common.{◌≡◌, ◌≢◌, ℕ, Bool, true, false, List, [], ◌∷◌, ◌++◌, map, refl, ap, sym, ◌∙◌, append_assoc, append-nil}
-use Rattle.std.proofs.lemmas.Bool.{and_parts, or_parts}
+use Rattle.std.proofs.lemmas.Bool.{or_parts}
 use Rattle.columns.specs.Array.{Array}
-use Rattle.dictionary.specs.InEffect.{DictionaryBatch, has_id, replaces, after_batch, after_batches, in_effect}
+use Rattle.dictionary.specs.InEffect.{DictionaryBatch, has_id, replaces, after_batches, in_effect}
 use Rattle.dictionary.specs.laws.InEffect.{after_more}
 
 abbrev arrays_of_id : ℕ → List DictionaryBatch → List Array

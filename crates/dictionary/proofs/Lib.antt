@@ -1,1 +1,5 @@
 pub mod InEffect
+pub mod Numbers
+pub mod Lists
+pub mod Grown
+pub mod Steps

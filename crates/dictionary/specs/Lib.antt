@@ -1,2 +1,4 @@
 pub mod InEffect
+pub mod Kept
 pub mod laws
+pub mod inner

@@ -1,6 +1,19 @@
-//! The dictionaries of a stream: which arrays are in effect for an id, and the entry that an index names (Arrow columnar format, "Dictionary Messages").
+//! The dictionaries of a stream (Arrow columnar format, "Dictionary Messages"): [`Dictionaries`] keeps the arrays that their batches have, and knows which are in effect
+//! for an id.
+//!
+//! A batch that is no delta begins the dictionary of its id anew ([`Dictionaries::replace`]), and a delta is appended ([`Dictionaries::append`]). An array of a record batch
+//! keeps the [`columns::DictionaryPart`] that was known when it was read; no later batch changes what stands there.
+//!
+//! ```ignore
+//! let mut dictionaries = Dictionaries::new(alloc);
+//! dictionaries.replace(alloc, 0, first)?;
+//! let part = dictionaries.part(0);
+//! ```
 #![tactic(auto)]
 
+mod current;
+mod dictionaries;
 mod laws;
 
+pub use dictionaries::Dictionaries;
 pub use laws::last_batches_are_in_effect;

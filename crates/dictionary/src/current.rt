@@ -1,0 +1,45 @@
+// Which list of arrays is in effect for an id.
+ghost use Rattle.std.specs.Prelude.{◌≡◌, ◌<◌, vec_len, vec_capacity};
+ghost use Rattle.dictionary.specs.Kept.{number_in};
+ghost use Rattle.dictionary.specs.inner.Numbers.{with_number, IsPlace};
+
+/// The number of the list that is in effect for an id.
+#[derive(Clone, Copy, Debug)]
+pub(crate) struct CurrentList {
+    pub(crate) id: u64,
+    pub(crate) number: usize,
+}
+
+// Where the number of an id stands.
+fn place_of(numbers: &[CurrentList], id: u64) -> Option<usize>
+    ensures { IsPlace id numbers.now result }
+{
+    for (i, current) in numbers.iter().enumerate() {
+        if current.id == id {
+            return Some(i);
+        }
+    }
+    None
+}
+
+/// The number of an id.
+pub(crate) fn number_of(numbers: &[CurrentList], id: u64) -> Option<usize>
+    ensures { result ≡ number_in id numbers.now }
+{
+    match place_of(numbers, id) {
+        Some(i) => Some(numbers[i].number),
+        None => None,
+    }
+}
+
+/// Gives an id a number, in the place of the one that it had. There is room for one more.
+pub(crate) fn set_number(numbers: &mut Vec<CurrentList>, id: u64, number: usize)
+    requires { vec_len numbers.old < vec_capacity numbers.old }
+    ensures { numbers.new.items ≡ with_number id number numbers.old.items }
+{
+    let current = CurrentList { id, number };
+    match place_of(numbers, id) {
+        Some(i) => numbers[i] = current,
+        None => numbers.push_reserved(current),
+    }
+}

@@ -1,0 +1,147 @@
+// The dictionaries of a stream.
+ghost use Rattle.std.specs.Prelude.{◌≡◌, ◌++◌, ◌<◌, ℕ, true, false, List, [], ◌∷◌, OnOk, OnErr, IfOk, length, get_or, slice_set};
+ghost use Rattle.std.specs.List.{list_any};
+ghost use Rattle.columns.specs.View.{array_in, arrays_in, no_dictionary};
+ghost use Rattle.columns.specs.declared.array.Dictionary.{Dictionary};
+ghost use Rattle.dictionary.specs.InEffect.{DictionaryBatch, has_id, in_effect};
+ghost use Rattle.dictionary.specs.Kept.{HasInEffect, KeepsParts, IsPart, arrays_for, known_arrays, lists_of, batch_of};
+ghost use Rattle.dictionary.specs.inner.Numbers.{with_number};
+
+use crate::current::{CurrentList, number_of, set_number};
+use columns::{Dictionary, DictionaryPart, PlacedArray};
+use std::alloc::{AllocError, Global};
+use std::marker::Model;
+
+/// The arrays of all dictionaries of a stream, by the places of their buffers, and those that are in effect for each id.
+#[derive(Debug, Drop)]
+pub struct Dictionaries {
+    lists: Vec<Dictionary>,
+    numbers: Vec<CurrentList>,
+}
+
+impl Model for Dictionaries {
+    ghost use Rattle.dictionary.specs.Kept.{Kept, AreApart, lists_of};
+    ghost use Rattle.columns.specs.contracts.array.PlacedArray as placed;
+    ghost use Rattle.std.specs.Coded.{codes};
+
+    ghost Value = { Kept };
+
+    ghost coded = { Prim.hlevel (codes, placed.the_row.coded) };
+
+    ghost view = { λ d. record { lists = lists_of d.lists.items; numbers = d.numbers.items } };
+
+    ghost invariant = { λ d. AreApart (lists_of d.lists.items) d.numbers.items };
+}
+
+// A list of one array.
+fn list_of(alloc: Global, array: PlacedArray) -> Result<Dictionary, AllocError>
+    ensures { IfOk result (λ list. list.arrays.items ≡ array ∷ []) }
+{
+    let mut arrays = Vec::new(alloc);
+    arrays.push(array)?;
+    Ok(Dictionary { arrays })
+}
+
+// A new list of one array, which is in effect for an id from now on.
+fn begin(
+    alloc: Global,
+    lists: &mut Vec<Dictionary>,
+    numbers: &mut Vec<CurrentList>,
+    id: u64,
+    array: PlacedArray,
+) -> Result<(), AllocError>
+    ensures longer { OnOk result (lists_of lists.new.items ≡ lists_of lists.old.items ++ (array ∷ []) ∷ []) }
+    ensures numbers { OnOk result (numbers.new.items ≡ with_number id (length lists.old.items) numbers.old.items) }
+    ensures same_lists { OnErr result (lists.new.items ≡ lists.old.items) }
+    ensures same_numbers { OnErr result (numbers.new.items ≡ numbers.old.items) }
+{
+    let list = list_of(alloc, array)?;
+    let number = lists.len();
+    numbers.reserve(1)?;
+    lists.push(list)?;
+    set_number(numbers, id, number);
+    Ok(())
+}
+
+fn append_at(
+    lists: &mut Vec<Dictionary>,
+    number: usize,
+    array: PlacedArray,
+) -> Result<(), AllocError>
+    requires { number < length lists.old.items }
+    ensures longer { OnOk result (lists_of lists.new.items ≡ slice_set (lists_of lists.old.items) number (get_or (lists_of lists.old.items) number [] ++ array ∷ [])) }
+    ensures unchanged { OnErr result (lists_of lists.new.items ≡ lists_of lists.old.items) }
+{
+    let list = &mut lists[number];
+    list.arrays.push(array)?;
+    Ok(())
+}
+
+impl Dictionaries {
+    /// No id has a dictionary.
+    pub fn new(alloc: Global) -> Dictionaries
+        ensures { (bytes : List ℕ) → HasInEffect bytes result [] }
+    {
+        Dictionaries {
+            lists: Vec::new(alloc),
+            numbers: Vec::new(alloc),
+        }
+    }
+
+    /// All lists of arrays, of which each part names one by its number.
+    pub fn lists(&self) -> &[Dictionary]
+        ensures { lists_of result.now ≡ self.now.lists }
+    {
+        &self.lists
+    }
+
+    /// Whether an id has a dictionary.
+    pub fn has(&self, id: u64) -> bool
+        ensures { (bytes : List ℕ) (before : List DictionaryBatch) → HasInEffect bytes self.now before → result ≡ list_any (has_id id) before }
+    {
+        self.part(id).known > 0
+    }
+
+    /// The part of an id's dictionary that is known now: all of the arrays that are in effect.
+    pub fn part(&self, id: u64) -> DictionaryPart
+        ensures known { known_arrays self.now.lists result ≡ arrays_for self.now id }
+        ensures stands { IsPart self.now.lists result }
+        ensures effect { (bytes : List ℕ) (before : List DictionaryBatch) (lists : List Dictionary) → HasInEffect bytes self.now before → lists_of lists ≡ self.now.lists
+            → arrays_in bytes lists result ≡ in_effect id before }
+    {
+        match number_of(&self.numbers, id) {
+            None => DictionaryPart {
+                number: 0,
+                known: 0,
+            },
+            Some(number) => DictionaryPart {
+                number,
+                known: self.lists[number].arrays.len(),
+            },
+        }
+    }
+
+    /// Begins the dictionary of an id anew, with one array. Arrays that were read before keep theirs.
+    pub fn replace(&mut self, alloc: Global, id: u64, array: PlacedArray) -> Result<(), AllocError>
+        ensures effect { OnOk result ((bytes : List ℕ) (before : List DictionaryBatch) → HasInEffect bytes self.old before
+            → HasInEffect bytes self.new (before ++ batch_of id false (array_in bytes no_dictionary array) ∷ [])) }
+        ensures parts { OnOk result (KeepsParts self.old.lists self.new.lists) }
+        ensures unchanged { OnErr result (self.new ≡ self.old) }
+    {
+        let (lists, numbers) = (&mut self.lists, &mut self.numbers);
+        begin(alloc, lists, numbers, id, array)
+    }
+
+    /// Appends an array to the dictionary of an id. Arrays that were read before keep theirs.
+    pub fn append(&mut self, alloc: Global, id: u64, array: PlacedArray) -> Result<(), AllocError>
+        ensures effect { OnOk result ((bytes : List ℕ) (before : List DictionaryBatch) → HasInEffect bytes self.old before
+            → HasInEffect bytes self.new (before ++ batch_of id true (array_in bytes no_dictionary array) ∷ [])) }
+        ensures parts { OnOk result (KeepsParts self.old.lists self.new.lists) }
+        ensures unchanged { OnErr result (self.new ≡ self.old) }
+    {
+        match number_of(&self.numbers, id) {
+            Some(number) => append_at(&mut self.lists, number, array),
+            None => begin(alloc, &mut self.lists, &mut self.numbers, id, array),
+        }
+    }
+}
