@@ -59,6 +59,9 @@ others_placed bytes all [] (suc i) = refl
 others_placed bytes all (x ∷ xs) zero = refl
 others_placed bytes all (x ∷ xs) (suc i) = others_placed bytes all xs i
 
+pub next_placed : (bytes : List ℕ) (all : List Dictionary) (xs : List PlacedArray) (i : ℕ) → other_arrays (placed_arrays bytes all (drop i xs)) ≡ placed_arrays bytes all (drop (i + 1) xs)
+next_placed bytes all xs i = others_placed bytes all xs i ∙ (let s : suc i ≡ i + 1 = omega arith in ap (λ (k : ℕ). placed_arrays bytes all (drop k xs)) s)
+
 -- with one more column
 pub listed_more : (bytes : List ℕ) (all : List Dictionary) (fs : List Field) (arrays : List PlacedArray) (i : ℕ) (f : Field) (a : Array) (before after every : List Typed)
     → drop i fs ≡ f ∷ drop (i + 1) fs → a ≡ first_array (placed_arrays bytes all (drop i arrays)) → after ≡ before ++ arrays_at (column_of f) a
@@ -68,8 +71,7 @@ unfolding every_array
 listed_more bytes all fs arrays i f a before after every next is more h =
     let here : Arrays = placed_arrays bytes all (drop i arrays) in
     let cs : Columns = columns_of (map column_of (drop (i + 1) fs)) in
-    let s : i + 1 ≡ suc i = omega arith in
-    let others : placed_arrays bytes all (drop (i + 1) arrays) ≡ other_arrays here = ap (λ (k : ℕ). placed_arrays bytes all (drop k arrays)) s ∙ sym (others_placed bytes all arrays i) in
+    let others : placed_arrays bytes all (drop (i + 1) arrays) ≡ other_arrays here = sym (next_placed bytes all arrays i) in
     let e : every_array (columns_of (map column_of (drop i fs))) here ≡ arrays_at (column_of f) (first_array here) ++ every_array cs (other_arrays here)
     = ap (λ (gs : List Field). every_array (columns_of (map column_of gs)) here) next in
     (λ j. more j ++ every_array cs (others j))

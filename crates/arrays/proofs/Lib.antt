@@ -7,3 +7,6 @@ pub mod Firsts
 pub mod Everys
 pub mod Rests
 pub mod Answered
+pub mod SpanWeights
+pub mod KindWeights
+pub mod RowWeights

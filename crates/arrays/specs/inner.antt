@@ -2,3 +2,4 @@ pub mod Rest
 pub mod Every
 pub mod Read
 pub mod Counted
+pub mod Weights

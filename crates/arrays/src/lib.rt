@@ -11,6 +11,7 @@
 
 mod counts;
 mod every;
+mod heavy;
 mod lengths;
 mod limits;
 mod place;
@@ -19,6 +20,8 @@ mod read;
 mod rest;
 mod runs;
 mod tests;
+mod weights;
 
+pub use heavy::rows_too_heavy;
 pub use limits::MAX_SLOTS;
 pub use read::read_arrays;

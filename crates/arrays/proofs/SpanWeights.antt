@@ -1,0 +1,195 @@
+-- Sums over spans of slots.
+use Rattle.std.specs.Prelude.{nat_le}
+use Rattle.std.proofs.Common.{◌≡◌, ℕ, zero, suc, ◌+◌, ◌-◌, ◌*◌, ◌≤◌, ◌<◌, true, false, List, ◌∷◌, length, map, drop, refl, sym, ap, subst, arith, ◌∙◌}
+use Rattle.std.specs.List.{range_with_len}
+use Rattle.std.proofs.lemmas.Bool.{and_parts, leb-true, le-leb}
+use Rattle.std.proofs.lemmas.List.{drop_all}
+use Rattle.std.proofs.lemmas.List.Sums.{sum_by-cons}
+use Rattle.arrow_schema.specs.declared.types.Field.{Field}
+use Rattle.arrow_schema.specs.View.{column_of}
+use Rattle.arrow_schema.specs.Column.{Kind, Column, Columns, nulls, booleans, integers, dates, timestamps, texts, large_texts, binaries, large_binaries, fixed_binaries, lists, large_lists, fixed_lists, structs, column, no_column, and_column, columns_of}
+use Rattle.cells.specs.Cell.{Cell, null}
+use Rattle.cells.specs.Weight.{weight, kind_weight, capped_weight}
+use Rattle.columns.specs.declared.array.PlacedArray.{PlacedArray}
+use Rattle.columns.specs.declared.array.Dictionary.{Dictionary}
+use Rattle.columns.specs.Array.{Array, Arrays, slots_in, first_array, other_arrays}
+use Rattle.columns.specs.CellAt.{is_valid, unless_null, kind_cell}
+use Rattle.columns.specs.Sound.{is_sound, are_sound}
+use Rattle.columns.specs.View.{placed_arrays}
+use Rattle.arrays.specs.inner.Weights.{sum_from, span_weight, plain_weight, valid_weight, parts_span_weight, has_one_weight}
+use Rattle.arrays.proofs.Everys.{next_placed}
+
+pub next : {X : Type 0} (w : X → ℕ) (f : ℕ → X) (start n : ℕ) → sum_from w f start (suc n) ≡ w (f start) + sum_from w f (start + 1) n
+next w f start n = sum_by-cons w (f start) (map f (range_with_len (start + 1) n))
+
+-- two spans, one behind the other
+pub split : {X : Type 0} (w : X → ℕ) (f : ℕ → X) (start m n : ℕ) → sum_from w f start (m + n) ≡ sum_from w f start m + sum_from w f (start + m) n
+split w f start zero n =
+    let e : 0 + n ≡ n = omega arith in
+    let d : start + 0 ≡ start = omega arith in
+    rw (e, d) (omega arith)
+split w f start (suc m) n =
+    let e : suc m + n ≡ suc (m + n) = omega arith in
+    let d : start + suc m ≡ start + 1 + m = omega arith in
+    let whole : sum_from w f start (suc (m + n)) ≡ w (f start) + sum_from w f (start + 1) (m + n) = next w f start (m + n) in
+    let front : sum_from w f start (suc m) ≡ w (f start) + sum_from w f (start + 1) m = next w f start m in
+    let rest : sum_from w f (start + 1) (m + n) ≡ sum_from w f (start + 1) m + sum_from w f (start + 1 + m) n = split w f (start + 1) m n in
+    rw (e, d) (omega (arith, whole, front, rest))
+
+-- where each weighs as much as another thing does, with so much more
+pub each_more : {X Y : Type 0} (w : X → ℕ) (f : ℕ → X) (v : Y → ℕ) (g : ℕ → Y) (more start n : ℕ) → ((i : ℕ) → start ≤ i → i < start + n → w (f i) ≡ more + v (g i))
+    → sum_from w f start n ≡ n * more + sum_from v g start n
+each_more w f v g more start zero h = omega arith
+each_more w f v g more start (suc n) h =
+    let here : w (f start) ≡ more + v (g start) = h start (omega arith) (omega arith) in
+    let rest : sum_from w f (start + 1) n ≡ n * more + sum_from v g (start + 1) n = each_more w f v g more (start + 1) n (λ i le lt. h i (omega arith) (omega arith)) in
+    omega (arith, here, rest, next w f start n, next v g start n)
+
+-- where all weigh the same
+pub each_same : {X : Type 0} (w : X → ℕ) (f : ℕ → X) (k start n : ℕ) → ((i : ℕ) → start ≤ i → i < start + n → w (f i) ≡ k) → sum_from w f start n ≡ n * k
+each_same w f k start zero h = omega arith
+each_same w f k start (suc n) h =
+    let here : w (f start) ≡ k = h start (omega arith) (omega arith) in
+    let rest : sum_from w f (start + 1) n ≡ n * k = each_same w f k (start + 1) n (λ i le lt. h i (omega arith) (omega arith)) in
+    omega (arith, here, rest, next w f start n)
+
+-- where each is the sum of two
+pub each_both : {X Y Z : Type 0} (w : X → ℕ) (f : ℕ → X) (u : Y → ℕ) (g : ℕ → Y) (v : Z → ℕ) (h : ℕ → Z) (start n : ℕ) → ((i : ℕ) → w (f i) ≡ u (g i) + v (h i))
+    → sum_from w f start n ≡ sum_from u g start n + sum_from v h start n
+each_both w f u g v h start zero both = omega arith
+each_both w f u g v h start (suc n) both =
+    let here : w (f start) ≡ u (g start) + v (h start) = both start in
+    let rest : sum_from w f (start + 1) n ≡ sum_from u g (start + 1) n + sum_from v h (start + 1) n = each_both w f u g v h (start + 1) n both in
+    omega (arith, here, rest, next w f start n, next u g start n, next v h start n)
+
+-- where each weighs one and what stands from a place up to the next one's: those places never fall
+pub each_spanned : {X Y : Type 0} (w : X → ℕ) (f : ℕ → X) (v : Y → ℕ) (g : ℕ → Y) (at : ℕ → ℕ) (start n : ℕ)
+    → ((i : ℕ) → start ≤ i → i < start + n → w (f i) ≡ 1 + sum_from v g (at i) (at (i + 1) - at i))
+    → ((i m : ℕ) → start ≤ i → i + m ≤ start + n → at i ≤ at (i + m))
+    → sum_from w f start n ≡ n + sum_from v g (at start) (at (start + n) - at start)
+each_spanned w f v g at start zero each up =
+    let e : start + 0 ≡ start = omega arith in
+    let d : at start - at start ≡ 0 = omega arith in
+    rw (e, d) (omega arith)
+each_spanned w f v g at start (suc n) each up =
+    let e : start + suc n ≡ start + 1 + n = omega arith in
+    let here : w (f start) ≡ 1 + sum_from v g (at start) (at (start + 1) - at start) = each start (omega arith) (omega arith) in
+    let rest : sum_from w f (start + 1) n ≡ n + sum_from v g (at (start + 1)) (at (start + 1 + n) - at (start + 1))
+    = each_spanned w f v g at (start + 1) n (λ i le lt. each i (omega arith) (omega arith)) (λ i m le lt. up i m (omega arith) (omega arith)) in
+    let first : at start ≤ at (start + 1) = up start 1 (omega arith) (omega arith) in
+    let others : at (start + 1) ≤ at (start + 1 + n) = up (start + 1) n (omega arith) (omega arith) in
+    let own : at start + (at (start + 1) - at start) ≡ at (start + 1) = omega arith in
+    let both : at (start + 1) - at start + (at (start + 1 + n) - at (start + 1)) ≡ at (start + 1 + n) - at start = omega arith in
+    let whole = split v g (at start) (at (start + 1) - at start) (at (start + 1 + n) - at (start + 1)) in
+    let joined : sum_from v g (at start) (at (start + 1 + n) - at start) ≡ sum_from v g (at start) (at (start + 1) - at start) + sum_from v g (at (start + 1)) (at (start + 1 + n) - at (start + 1))
+    = rw (both, own) at whole in
+    rw e (omega (arith, here, rest, joined, next w f start n))
+
+pub one_weight : (k : Kind) (x : Cell) → has_one_weight k ≡ true → kind_weight k x ≡ kind_weight k null
+unfolding kind_weight
+one_weight nulls x h = refl
+one_weight booleans x h = refl
+one_weight (integers bits signed) x h = refl
+one_weight (dates unit) x h = refl
+one_weight (timestamps unit timezone) x h = refl
+one_weight texts x h = cc
+one_weight large_texts x h = cc
+one_weight binaries x h = cc
+one_weight large_binaries x h = cc
+one_weight (fixed_binaries width) x h = refl
+one_weight (lists item) x h = cc
+one_weight (large_lists item) x h = cc
+one_weight (fixed_lists size item) x h = cc
+one_weight (structs columns) x h = cc
+
+abbrev pub kind_in : Column → Kind
+kind_in (column name nullable kind dictionary pairs) = kind
+
+pub column_one_weight : (c : Column) (f : ℕ → Cell) (start n : ℕ) → has_one_weight (kind_in c) ≡ true → sum_from (weight c) f start n ≡ n * kind_weight (kind_in c) null
+unfolding weight
+column_one_weight (column name nullable kind dictionary pairs) f start n h = each_same (kind_weight kind) f (kind_weight kind null) start n (λ i le lt. one_weight kind (f i) h)
+
+-- ---- runs
+
+pub valid_run : (k : Kind) (a : Array) (start n : ℕ) → is_valid a start ≡ true → ((i : ℕ) → start ≤ i → i < start + n → is_valid a i ≡ is_valid a start)
+    → plain_weight k a start n ≡ valid_weight k a start n
+valid_run k a start n valid alike =
+    let e : n * 0 + valid_weight k a start n ≡ valid_weight k a start n = omega arith in
+    each_more (kind_weight k) (unless_null (kind_cell k) a) (kind_weight k) (kind_cell k a) 0 start n (λ i l r.
+    let here : is_valid a i ≡ true = alike i l r ∙ valid in
+    let z : 0 + kind_weight k (kind_cell k a i) ≡ kind_weight k (kind_cell k a i) = omega arith in
+    rw here (sym z))
+    ∙ e
+
+pub null_run : (k : Kind) (a : Array) (start n : ℕ) → is_valid a start ≡ false → ((i : ℕ) → start ≤ i → i < start + n → is_valid a i ≡ is_valid a start)
+    → plain_weight k a start n ≡ n * kind_weight k null
+null_run k a start n hidden alike = each_same (kind_weight k) (unless_null (kind_cell k) a) (kind_weight k null) start n (λ i l r.
+    let here : is_valid a i ≡ false = alike i l r ∙ hidden in
+    rw here refl)
+
+-- a run, and what is left behind it
+pub run_more : (k : Kind) (a : Array) (start next end : ℕ) → start ≤ next → next ≤ end
+    → plain_weight k a start (end - start) ≡ plain_weight k a start (next - start) + plain_weight k a next (end - next)
+run_more k a start next end le most =
+    let e : next - start + (end - next) ≡ end - start = omega arith in
+    let d : start + (next - start) ≡ next = omega arith in
+    rw (e, d) at (split (kind_weight k) (unless_null (kind_cell k) a) start (next - start) (end - next))
+
+-- ---- loops over what is left
+
+twice : (n : ℕ) → capped_weight (capped_weight n) ≡ capped_weight n
+twice n = omega arith
+
+-- a part more, and what is left behind it
+pub next_total : (whole total before part left weight new : ℕ) → capped_weight (total + before) ≡ whole → before ≡ part + left → weight ≡ capped_weight part → new ≡ capped_weight (total + weight)
+    → (capped_weight (new + left) ≡ whole) × (capped_weight new ≡ new)
+next_total whole total before part left weight new sums more is total_is = (omega (arith, sums, more, is, total_is), omega (arith, total_is))
+
+-- one more slot
+pub slot_more : {X : Type 0} (w : X → ℕ) (f : ℕ → X) (i end : ℕ) → i < end → sum_from w f i (end - i) ≡ w (f i) + sum_from w f (i + 1) (end - (i + 1))
+slot_more w f i end lt =
+    let e : end - i ≡ suc (end - (i + 1)) = omega arith in
+    rw e (next w f i (end - (i + 1)))
+
+-- the next of some columns
+pub parts_next : (bytes : List ℕ) (all : List Dictionary) (fs : List Field) (arrays : List PlacedArray) (i : ℕ) (f : Field) (a : Array) (start n : ℕ)
+    → drop i fs ≡ f ∷ drop (i + 1) fs → a ≡ first_array (placed_arrays bytes all (drop i arrays))
+    → parts_span_weight (columns_of (map column_of (drop i fs))) (placed_arrays bytes all (drop i arrays)) start n
+    ≡ span_weight (column_of f) a start n + parts_span_weight (columns_of (map column_of (drop (i + 1) fs))) (placed_arrays bytes all (drop (i + 1) arrays)) start n
+unfolding parts_span_weight
+parts_next bytes all fs arrays i f a start n next_field is =
+    let here : Arrays = placed_arrays bytes all (drop i arrays) in
+    let cs : Columns = columns_of (map column_of (drop (i + 1) fs)) in
+    ap (λ (gs : List Field). parts_span_weight (columns_of (map column_of gs)) here start n) next_field
+    ∙ λ j. span_weight (column_of f) (sym is j) start n + parts_span_weight cs (next_placed bytes all arrays i j) start n
+
+pub parts_end : (fs : List Field) (i : ℕ) (arrays : Arrays) (start n : ℕ) → length fs ≤ i → parts_span_weight (columns_of (map column_of (drop i fs))) arrays start n ≡ 0
+unfolding parts_span_weight
+parts_end fs i arrays start n all = ap (λ (gs : List Field). parts_span_weight (columns_of (map column_of gs)) arrays start n) (drop_all i fs all)
+
+pub sound_next : (bytes : List ℕ) (all : List Dictionary) (fs : List Field) (arrays : List PlacedArray) (i : ℕ) (f : Field) (a : Array) (slots : ℕ)
+    → drop i fs ≡ f ∷ drop (i + 1) fs → a ≡ first_array (placed_arrays bytes all (drop i arrays))
+    → are_sound (columns_of (map column_of (drop i fs))) slots (placed_arrays bytes all (drop i arrays)) ≡ true
+    → (slots ≤ slots_in a) × (is_sound (column_of f) a ≡ true) × (are_sound (columns_of (map column_of (drop (i + 1) fs))) slots (placed_arrays bytes all (drop (i + 1) arrays)) ≡ true)
+unfolding are_sound
+sound_next bytes all fs arrays i f a slots next_field is h =
+    let here : Arrays = placed_arrays bytes all (drop i arrays) in
+    let cs : Columns = columns_of (map column_of (drop (i + 1) fs)) in
+    let opened : are_sound (and_column (column_of f) cs) slots here ≡ true = sym (ap (λ (gs : List Field). are_sound (columns_of (map column_of gs)) slots here) next_field) ∙ h in
+    let long = and_parts (nat_le slots (slots_in (first_array here))) _ opened in
+    let parts = and_parts (is_sound (column_of f) (first_array here)) _ long.1 in
+    let most : slots ≤ slots_in (first_array here) = leb-true _ _ long.0 in (
+      subst (λ (x : Array). slots ≤ slots_in x) (sym is) most,
+      ap (is_sound (column_of f)) is ∙ parts.0,
+      sym (ap (are_sound cs slots) (next_placed bytes all arrays i)) ∙ parts.1,
+    )
+
+-- arrays that are long enough for some slots are so for fewer
+pub fewer_sound : (cs : Columns) (arrays : Arrays) (slots fewer : ℕ) → are_sound cs slots arrays ≡ true → fewer ≤ slots → are_sound cs fewer arrays ≡ true
+unfolding are_sound
+fewer_sound no_column arrays slots fewer h le = refl
+fewer_sound (and_column c cs) arrays slots fewer h le =
+    let long = and_parts (nat_le slots (slots_in (first_array arrays))) _ h in
+    let parts = and_parts (is_sound c (first_array arrays)) _ long.1 in
+    let most : slots ≤ slots_in (first_array arrays) = leb-true _ _ long.0 in
+    rw (le-leb fewer (slots_in (first_array arrays)) (omega arith), parts.0) (fewer_sound cs (other_arrays arrays) slots fewer parts.1 le)

@@ -1,0 +1,36 @@
+use Rattle.std.proofs.Common.{◌≡◌, ◌+◌, ◌-◌, ◌≤◌, true, map, drop}
+use Rattle.arrow_schema.specs.Column.{columns_of}
+use Rattle.arrow_schema.specs.View.{kind_of, column_of, index_of}
+use Rattle.cells.specs.Weight.{kind_weight, capped_weight}
+use Rattle.columns.specs.CellAt.{unless_null, indexed_cell}
+use Rattle.columns.specs.Sound.{are_sound}
+use Rattle.columns.specs.View.{view_array, placed_arrays}
+use Rattle.arrays.specs.inner.Weights.{sum_from, plain_weight, parts_span_weight}
+use Rattle.arrays.proofs.weights.+weights.Given as goal
+
+-- the weight so far, and what is left
+abbrev pub invariant-plain_weight-loop-start : goal.invariant-plain_weight-loop-start
+invariant-plain_weight-loop-start l = record {
+  within : l.start ≤ l.end;
+  sums : capped_weight (l.total + plain_weight (kind_of l.field.data_type) (view_array l.view) l.start (l.end - l.start))
+      ≡ capped_weight (plain_weight (kind_of l.field.data_type) (view_array l.view) l.fn.from l.fn.count);
+  capped : capped_weight l.total ≡ l.total;
+}
+
+abbrev pub decreases-plain_weight-loop-start : goal.decreases-plain_weight-loop-start
+decreases-plain_weight-loop-start l = l.end - l.start
+
+abbrev pub invariant-parts_weight-loop-i : goal.invariant-parts_weight-loop-i
+invariant-parts_weight-loop-i l = record {
+  sums : capped_weight (l.total + parts_span_weight (columns_of (map column_of (drop l.i l.fields))) (placed_arrays l.bytes l.dictionaries (drop l.i l.arrays)) l.from l.count)
+      ≡ capped_weight (parts_span_weight (columns_of (map column_of l.fields)) (placed_arrays l.bytes l.dictionaries l.arrays) l.from l.count);
+  capped : capped_weight l.total ≡ l.total;
+  sound : are_sound (columns_of (map column_of (drop l.i l.fields))) (l.from + l.count) (placed_arrays l.bytes l.dictionaries (drop l.i l.arrays)) ≡ true;
+}
+
+abbrev pub invariant-entries_weight-loop-i : goal.invariant-entries_weight-loop-i
+invariant-entries_weight-loop-i l = record {
+  sums : capped_weight (l.total + sum_from (kind_weight (kind_of l.field.data_type)) (unless_null (indexed_cell (index_of l.spec) (kind_of l.field.data_type)) (view_array l.view)) l.i (l.i-end - l.i))
+      ≡ capped_weight (sum_from (kind_weight (kind_of l.field.data_type)) (unless_null (indexed_cell (index_of l.spec) (kind_of l.field.data_type)) (view_array l.view)) l.from l.count);
+  capped : capped_weight l.total ≡ l.total;
+}

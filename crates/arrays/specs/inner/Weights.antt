@@ -1,0 +1,49 @@
+-- What spans of slots weigh.
+use Rattle.std.specs.Prelude.{ℕ, ◌+◌, Bool, true, false, map, sum_by}
+use Rattle.std.specs.List.{range_with_len}
+use Rattle.arrow_schema.specs.Column.{Kind, Column, Columns, nulls, booleans, integers, dates, timestamps, texts, large_texts, binaries, large_binaries, fixed_binaries, lists, large_lists, fixed_lists, structs, no_column, and_column}
+use Rattle.cells.specs.Weight.{weight, kind_weight}
+use Rattle.columns.specs.Array.{Array, Arrays, first_array, other_arrays}
+use Rattle.columns.specs.CellAt.{cell_at, kind_cell, unless_null}
+
+-- the sum over n places, from one on
+abbrev pub sum_from : {X : Type 0} → (X → ℕ) → (ℕ → X) → (start n : ℕ) → ℕ
+sum_from w f start n = sum_by w (map f (range_with_len start n))
+
+-- so many slots of a column, from one on
+abbrev pub span_weight : Column → Array → (start n : ℕ) → ℕ
+span_weight c a start n = sum_from (weight c) (cell_at c a) start n
+
+-- the same of a type, without its dictionary
+abbrev pub plain_weight : Kind → Array → (start n : ℕ) → ℕ
+plain_weight k a start n = sum_from (kind_weight k) (unless_null (kind_cell k) a) start n
+
+-- where all of them are valid
+abbrev pub valid_weight : Kind → Array → (start n : ℕ) → ℕ
+valid_weight k a start n = sum_from (kind_weight k) (kind_cell k a) start n
+
+-- the same slots of each of some columns
+unfoldable pub parts_span_weight : Columns → Arrays → (start n : ℕ) → ℕ
+parts_span_weight no_column arrays start n = 0
+parts_span_weight (and_column c cs) arrays start n = span_weight c (first_array arrays) start n + parts_span_weight cs (other_arrays arrays) start n
+
+-- each cell of the type has the same weight
+abbrev pub has_one_weight : Kind → Bool
+has_one_weight nulls = true
+has_one_weight booleans = true
+has_one_weight (integers bits signed) = true
+has_one_weight (dates unit) = true
+has_one_weight (timestamps unit timezone) = true
+has_one_weight texts = false
+has_one_weight large_texts = false
+has_one_weight binaries = false
+has_one_weight large_binaries = false
+has_one_weight (fixed_binaries width) = true
+has_one_weight (lists item) = false
+has_one_weight (large_lists item) = false
+has_one_weight (fixed_lists size item) = false
+has_one_weight (structs columns) = false
+
+-- so many rows, from one on: one each, and their cells
+abbrev pub rows_weight : Columns → Arrays → (start n : ℕ) → ℕ
+rows_weight columns arrays start n = n + parts_span_weight columns arrays start n

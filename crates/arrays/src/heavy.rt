@@ -1,0 +1,90 @@
+// Whether rows weigh too much (docs/definitions/arrays.md).
+ghost use Rattle.std.specs.Prelude.{◌≡◌, ℕ, ◌+◌, ◌<◌, true, map, nat_lt};
+ghost use Rattle.std.specs.List.{list_any, range_with_len};
+ghost use Rattle.arrow_schema.specs.Column.{columns_of, PlainSchema};
+ghost use Rattle.arrow_schema.specs.View.{column_of, schema_of};
+ghost use Rattle.cells.specs.Weight.{capped_weight};
+ghost use Rattle.columns.specs.CellAt.{rows_in};
+ghost use Rattle.columns.specs.Sound.{are_sound};
+ghost use Rattle.columns.specs.View.{placed_arrays, IsNoArray};
+ghost use Rattle.arrays.specs.Checks.{are_too_heavy};
+ghost use Rattle.arrays.specs.inner.Read.{placed_in};
+ghost use Rattle.arrays.specs.inner.Weights.{rows_weight};
+
+use crate::read::Placed;
+use crate::weights::parts_weight;
+use arrow_schema::Schema;
+use cells::{MAX_ROW_WEIGHT, MAX_TABLE_WEIGHT, add_weights};
+use columns::{Dictionary, PlacedArray, no_array};
+
+// So many rows, from one on.
+fn rows_weight(placed: Placed<'_>, from: usize, count: usize, none: &PlacedArray) -> u64
+    requires empty { IsNoArray none.now }
+    requires sound { are_sound (columns_of (map column_of placed.fields.now)) (from + count) (placed_in placed) ≡ true }
+    ensures { result ≡ capped_weight (rows_weight (columns_of (map column_of placed.entry.fields.now)) (placed_in placed.entry) from count) }
+{
+    let parts = parts_weight(
+        placed.fields,
+        placed.arrays,
+        placed.bytes,
+        placed.dictionaries,
+        from,
+        count,
+        none,
+    );
+    add_weights(count as u64, parts)
+}
+
+fn has_heavy_row(placed: Placed<'_>, rows: usize, none: &PlacedArray) -> bool
+    requires empty { IsNoArray none.now }
+    requires sound { are_sound (columns_of (map column_of placed.fields.now)) rows (placed_in placed) ≡ true }
+    ensures { let columns = columns_of (map column_of placed.entry.fields.now) in
+        result ≡ list_any (λ i. nat_lt MAX_ROW_WEIGHT (rows_weight columns (placed_in placed.entry) i 1)) (range_with_len 0 rows) }
+{
+    for i in 0..rows {
+        if rows_weight(placed, i, 1, none) > MAX_ROW_WEIGHT {
+            return true;
+        }
+    }
+    false
+}
+
+// The rows are looked at one by one only where all together weigh more than one may.
+fn are_heavy(before: u64, placed: Placed<'_>, rows: usize, none: &PlacedArray) -> bool
+    requires empty { IsNoArray none.now }
+    requires sound { are_sound (columns_of (map column_of placed.fields.now)) rows (placed_in placed) ≡ true }
+    ensures { (s : PlainSchema) → s.columns ≡ map column_of placed.entry.fields.now
+        → result ≡ are_too_heavy s before (rows_in (columns_of s.columns) (placed_in placed.entry) rows) }
+{
+    let total = rows_weight(placed, 0, rows, none);
+    if add_weights(before, total) > MAX_TABLE_WEIGHT {
+        return true;
+    }
+    if total > MAX_ROW_WEIGHT {
+        return has_heavy_row(placed, rows, none);
+    }
+    false
+}
+
+/// F28: one of so many rows weighs too much, or all of them do with the rows before them, which weigh so much. It makes no value for a cell.
+pub fn rows_too_heavy(
+    schema: &Schema,
+    before: u64,
+    arrays: &[PlacedArray],
+    bytes: &[u8],
+    dictionaries: &[Dictionary],
+    rows: usize,
+) -> bool
+    requires { are_sound (columns_of (schema_of schema.now).columns) rows (placed_arrays bytes.now dictionaries.now arrays.now) ≡ true }
+    ensures { let s = schema_of schema.now in
+        result ≡ are_too_heavy s before (rows_in (columns_of s.columns) (placed_arrays bytes.now dictionaries.now arrays.now) rows) }
+{
+    let none = no_array();
+    let placed = Placed {
+        fields: &schema.fields,
+        arrays,
+        bytes,
+        dictionaries,
+    };
+    are_heavy(before, placed, rows, &none)
+}

@@ -1,0 +1,335 @@
+// How much spans of slots weigh, without a value for a cell (docs/definitions/arrays.md).
+ghost use Rattle.std.specs.Prelude.{◌≡◌, ℕ, ◌+◌, ◌*◌, ◌/◌, ◌<◌, ◌≤◌, true, false, length, map, nat_le};
+ghost use Rattle.std.specs.List.{list_all};
+ghost use Rattle.arrow_schema.specs.Column.{texts, large_texts, binaries, large_binaries, lists, large_lists, fixed_lists, structs, columns_of};
+ghost use Rattle.arrow_schema.specs.View.{kind_of, column_of, index_of};
+ghost use Rattle.cells.specs.Cell.{null};
+ghost use Rattle.cells.specs.Weight.{kind_weight, capped_weight};
+ghost use Rattle.columns.specs.Array.{slots_in, contents_in, items_in, children_in, indices_in, dictionary_in, array_list};
+ghost use Rattle.columns.specs.CellAt.{is_valid, unless_null, indexed_cell};
+ghost use Rattle.columns.specs.Offsets.{width_of};
+ghost use Rattle.columns.specs.Sound.{is_sound, is_kind_sound, are_sound};
+ghost use Rattle.columns.specs.Tests.{are_few, are_few_offsets, are_unordered, has_short_validity};
+ghost use Rattle.columns.specs.View.{view_array, placed_arrays, IsNoArray};
+ghost use Rattle.arrays.specs.inner.Weights.{sum_from, span_weight, plain_weight, valid_weight, parts_span_weight, has_one_weight};
+
+use crate::runs::run_to;
+use arrow_schema::{DataType, DictSpec, Field};
+use cells::{TOO_HEAVY, Value, add_weights, multiply_weight, weight};
+use columns::{ArrayView, Dictionary, OffsetWidth, PlacedArray, array_or, indexed_entry};
+
+fn has_one_weight(data_type: &DataType) -> bool
+    ensures { result ≡ has_one_weight (kind_of data_type.now) }
+{
+    match data_type {
+        DataType::Null => true,
+        DataType::Bool => true,
+        DataType::Int(_) => true,
+        DataType::Date(_) => true,
+        DataType::Timestamp(_, _) => true,
+        DataType::Utf8 => false,
+        DataType::LargeUtf8 => false,
+        DataType::Binary => false,
+        DataType::LargeBinary => false,
+        DataType::FixedSizeBinary(_) => true,
+        DataType::List(_) => false,
+        DataType::LargeList(_) => false,
+        DataType::FixedSizeList(_, _) => false,
+        DataType::Struct(_) => false,
+    }
+}
+
+// So many nulls of a field.
+#[tactic(auto, using(cells::specs::laws::Weights::capped_product), unfolding(cells::specs::Weight::weight))]
+fn nulls_weight(field: &Field, count: usize) -> u64
+    ensures { result ≡ capped_weight (count * kind_weight (kind_of field.now.data_type) null) }
+{
+    multiply_weight(count as u64, weight(field, &Value::Null))
+}
+
+// Texts or binaries that are all valid: one each, and the bytes from the first on up to behind the last.
+fn contents_weight(width: OffsetWidth, view: ArrayView<'_>, from: usize, count: usize) -> u64
+    requires long { are_few_offsets (width_of width) (view_array view) ≡ false }
+    requires ordered { are_unordered (width_of width) (length (contents_in (view_array view))) (view_array view) ≡ false }
+    requires some { 0 < count }
+    requires within { from + count ≤ slots_in (view_array view) }
+    ensures texts { width_of width ≡ 4 → result ≡ capped_weight (valid_weight texts (view_array view.entry) from count) }
+    ensures large_texts { width_of width ≡ 8 → result ≡ capped_weight (valid_weight large_texts (view_array view.entry) from count) }
+    ensures binaries { width_of width ≡ 4 → result ≡ capped_weight (valid_weight binaries (view_array view.entry) from count) }
+    ensures large_binaries { width_of width ≡ 8 → result ≡ capped_weight (valid_weight large_binaries (view_array view.entry) from count) }
+{
+    add_weights(count as u64, view.spanned(width, from, count).len as u64)
+}
+
+/// The cells at so many slots, from one on.
+#[tactic(auto, unfolding(cells::specs::Weight::weight, columns::specs::CellAt::cell_at, columns::specs::Sound::is_sound))]
+#[cycle(weights)]
+fn span_weight(
+    field: &Field,
+    view: ArrayView<'_>,
+    from: usize,
+    count: usize,
+    none: &PlacedArray,
+) -> u64
+    requires empty { IsNoArray none.now }
+    requires sound { is_sound (column_of field.now) (view_array view) ≡ true }
+    requires within { from + count ≤ slots_in (view_array view) }
+    ensures { result ≡ capped_weight (span_weight (column_of field.now) (view_array view.entry) from count) }
+{
+    if has_one_weight(&field.data_type) {
+        return nulls_weight(field, count);
+    }
+    match &field.dictionary {
+        None => plain_weight(field, view, from, count, none),
+        Some(spec) => entries_weight(field, *spec, view, from, count, none),
+    }
+}
+
+// Without a dictionary: run by run.
+#[cycle(weights)]
+fn plain_weight(
+    field: &Field,
+    view: ArrayView<'_>,
+    from: usize,
+    count: usize,
+    none: &PlacedArray,
+) -> u64
+    requires empty { IsNoArray none.now }
+    requires varied { has_one_weight (kind_of field.now.data_type) ≡ false }
+    requires sound { is_kind_sound (kind_of field.now.data_type) (view_array view) ≡ true }
+    requires within { from + count ≤ slots_in (view_array view) }
+    ensures { result ≡ capped_weight (plain_weight (kind_of field.now.data_type) (view_array view.entry) from count) }
+{
+    // a number of the code is below 2^64, so that the sum is too
+    let _slots = view.slots();
+    let end = from + count;
+    let mut total = 0;
+    let mut start = from;
+    while start < end {
+        if total == TOO_HEAVY {
+            return TOO_HEAVY;
+        }
+        let next = run_to(view, start, end);
+        let run = run_weight(field, view, start, next - start, none);
+        total = add_weights(total, run);
+        start = next;
+    }
+    total
+}
+
+// Slots that are all valid, or all not.
+#[cycle(weights)]
+fn run_weight(
+    field: &Field,
+    view: ArrayView<'_>,
+    from: usize,
+    count: usize,
+    none: &PlacedArray,
+) -> u64
+    requires empty { IsNoArray none.now }
+    requires varied { has_one_weight (kind_of field.now.data_type) ≡ false }
+    requires sound { is_kind_sound (kind_of field.now.data_type) (view_array view) ≡ true }
+    requires some { 0 < count }
+    requires within { from + count ≤ slots_in (view_array view) }
+    requires alike { (i : ℕ) → from ≤ i → i < from + count → is_valid (view_array view) i ≡ is_valid (view_array view) from }
+    ensures { result ≡ capped_weight (plain_weight (kind_of field.now.data_type) (view_array view.entry) from count) }
+{
+    if view.is_valid(from) {
+        valid_weight(&field.data_type, view, from, count, none)
+    } else {
+        nulls_weight(field, count)
+    }
+}
+
+// Slots that are all valid: one each, and what they have below.
+#[tactic(auto, unfolding(columns::specs::Sound::has_sound_children))]
+#[cycle(weights)]
+fn valid_weight(
+    data_type: &DataType,
+    view: ArrayView<'_>,
+    from: usize,
+    count: usize,
+    none: &PlacedArray,
+) -> u64
+    requires empty { IsNoArray none.now }
+    requires varied { has_one_weight (kind_of data_type.now) ≡ false }
+    requires sound { is_kind_sound (kind_of data_type.now) (view_array view) ≡ true }
+    requires some { 0 < count }
+    requires within { from + count ≤ slots_in (view_array view) }
+    ensures { result ≡ capped_weight (valid_weight (kind_of data_type.now) (view_array view.entry) from count) }
+{
+    match data_type {
+        DataType::Utf8 => contents_weight(OffsetWidth::Four, view, from, count),
+        DataType::LargeUtf8 => contents_weight(OffsetWidth::Eight, view, from, count),
+        DataType::Binary => contents_weight(OffsetWidth::Four, view, from, count),
+        DataType::LargeBinary => contents_weight(OffsetWidth::Eight, view, from, count),
+        DataType::List(item) => items_weight(OffsetWidth::Four, item, view, from, count, none),
+        DataType::LargeList(item) => {
+            items_weight(OffsetWidth::Eight, item, view, from, count, none)
+        }
+        DataType::FixedSizeList(size, item) => {
+            fixed_items_weight(*size as usize, item, view, from, count, none)
+        }
+        DataType::Struct(fields) => fields_weight(fields, view, from, count, none),
+        _ => unreachable!(),
+    }
+}
+
+// The items of lists that follow one another are one span.
+#[cycle(weights)]
+fn items_weight(
+    width: OffsetWidth,
+    item: &Field,
+    view: ArrayView<'_>,
+    from: usize,
+    count: usize,
+    none: &PlacedArray,
+) -> u64
+    requires empty { IsNoArray none.now }
+    requires long { are_few_offsets (width_of width) (view_array view) ≡ false }
+    requires ordered { are_unordered (width_of width) (slots_in (items_in (view_array view))) (view_array view) ≡ false }
+    requires sound { is_sound (column_of item.now) (items_in (view_array view)) ≡ true }
+    requires some { 0 < count }
+    requires within { from + count ≤ slots_in (view_array view) }
+    ensures lists { width_of width ≡ 4 → result ≡ capped_weight (valid_weight (lists (column_of item.now)) (view_array view.entry) from count) }
+    ensures large_lists { width_of width ≡ 8 → result ≡ capped_weight (valid_weight (large_lists (column_of item.now)) (view_array view.entry) from count) }
+{
+    let span = view.spanned(width, from, count);
+    let items = span_weight(item, view.items_or(none), span.start, span.len, none);
+    add_weights(count as u64, items)
+}
+
+#[cycle(weights)]
+fn fixed_items_weight(
+    size: usize,
+    item: &Field,
+    view: ArrayView<'_>,
+    from: usize,
+    count: usize,
+    none: &PlacedArray,
+) -> u64
+    requires empty { IsNoArray none.now }
+    requires long { nat_le (slots_in (view_array view) * size) (slots_in (items_in (view_array view))) ≡ true }
+    requires sound { is_sound (column_of item.now) (items_in (view_array view)) ≡ true }
+    requires within { from + count ≤ slots_in (view_array view) }
+    ensures { result ≡ capped_weight (valid_weight (fixed_lists size (column_of item.now)) (view_array view.entry) from count) }
+{
+    // a number of the code is below 2^64, so that the products are too
+    let _most = view.item_slots();
+    let start = from * size;
+    let len = count * size;
+    let items = span_weight(item, view.items_or(none), start, len, none);
+    add_weights(count as u64, items)
+}
+
+#[cycle(weights)]
+fn fields_weight(
+    fields: &[Field],
+    view: ArrayView<'_>,
+    from: usize,
+    count: usize,
+    none: &PlacedArray,
+) -> u64
+    requires empty { IsNoArray none.now }
+    requires sound { are_sound (columns_of (map column_of fields.now)) (slots_in (view_array view)) (children_in (view_array view)) ≡ true }
+    requires within { from + count ≤ slots_in (view_array view) }
+    ensures { result ≡ capped_weight (valid_weight (structs (columns_of (map column_of fields.now))) (view_array view.entry) from count) }
+{
+    let parts = parts_weight(
+        fields,
+        view.children(),
+        view.bytes,
+        view.dictionaries,
+        from,
+        count,
+        none,
+    );
+    add_weights(count as u64, parts)
+}
+
+/// The same slots of each of some columns.
+#[cycle(weights)]
+pub(crate) fn parts_weight(
+    fields: &[Field],
+    arrays: &[PlacedArray],
+    bytes: &[u8],
+    dictionaries: &[Dictionary],
+    from: usize,
+    count: usize,
+    none: &PlacedArray,
+) -> u64
+    requires empty { IsNoArray none.now }
+    requires sound { are_sound (columns_of (map column_of fields.now)) (from + count) (placed_arrays bytes.now dictionaries.now arrays.now) ≡ true }
+    ensures { let columns = columns_of (map column_of fields.now) in
+        result ≡ capped_weight (parts_span_weight columns (placed_arrays bytes.now dictionaries.now arrays.now) from count) }
+{
+    let mut total = 0;
+    for (i, field) in fields.iter().enumerate() {
+        let view = ArrayView {
+            array: array_or(arrays, i, none),
+            bytes,
+            dictionaries,
+        };
+        let part = span_weight(field, view, from, count, none);
+        total = add_weights(total, part);
+    }
+    total
+}
+
+// With a dictionary: slot by slot, the entries that the indices name.
+#[cycle(weights)]
+fn entries_weight(
+    field: &Field,
+    spec: DictSpec,
+    view: ArrayView<'_>,
+    from: usize,
+    count: usize,
+    none: &PlacedArray,
+) -> u64
+    requires empty { IsNoArray none.now }
+    requires varied { has_one_weight (kind_of field.now.data_type) ≡ false }
+    requires valid { has_short_validity (view_array view) ≡ false }
+    requires long { are_few ((index_of spec).bits / 8) (view_array view) (indices_in (view_array view)) ≡ false }
+    requires sound { list_all (is_kind_sound (kind_of field.now.data_type)) (array_list (dictionary_in (view_array view))) ≡ true }
+    requires within { from + count ≤ slots_in (view_array view) }
+    ensures { let kind = kind_of field.now.data_type in
+        result ≡ capped_weight (sum_from (kind_weight kind) (unless_null (indexed_cell (index_of spec) kind) (view_array view.entry)) from count) }
+{
+    // a number of the code is below 2^64, so that the sum is too
+    let _slots = view.slots();
+    let mut total = 0;
+    for i in from..from + count {
+        if total == TOO_HEAVY {
+            return TOO_HEAVY;
+        }
+        let entry = entry_weight(field, spec, view, i, none);
+        total = add_weights(total, entry);
+    }
+    total
+}
+
+#[cycle(weights)]
+fn entry_weight(
+    field: &Field,
+    spec: DictSpec,
+    view: ArrayView<'_>,
+    i: usize,
+    none: &PlacedArray,
+) -> u64
+    requires empty { IsNoArray none.now }
+    requires varied { has_one_weight (kind_of field.now.data_type) ≡ false }
+    requires valid { has_short_validity (view_array view) ≡ false }
+    requires long { are_few ((index_of spec).bits / 8) (view_array view) (indices_in (view_array view)) ≡ false }
+    requires sound { list_all (is_kind_sound (kind_of field.now.data_type)) (array_list (dictionary_in (view_array view))) ≡ true }
+    requires within { i < slots_in (view_array view) }
+    ensures { let kind = kind_of field.now.data_type in
+        result ≡ capped_weight (kind_weight kind (unless_null (indexed_cell (index_of spec) kind) (view_array view.entry) i)) }
+{
+    if !view.is_valid(i) {
+        return nulls_weight(field, 1);
+    }
+    match indexed_entry(spec, view, i) {
+        Some(entry) => plain_weight(field, entry.view, entry.place, 1, none),
+        None => nulls_weight(field, 1),
+    }
+}
