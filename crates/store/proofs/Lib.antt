@@ -2,3 +2,4 @@ mod Opened
 mod Formatted
 mod Asked
 mod EditedCounts
+mod Tested

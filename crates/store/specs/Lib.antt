@@ -11,3 +11,4 @@ pub mod Changes
 pub mod Applying
 pub mod Listing
 pub mod laws
+pub mod inner

@@ -9,3 +9,4 @@ pub mod Listed
 pub mod Changed
 pub mod Edited
 pub mod Segments
+pub mod Pieces

@@ -13,6 +13,7 @@
 #![tactic(auto)]
 
 mod change;
+mod deciding;
 mod editing;
 mod formatting;
 mod laws;

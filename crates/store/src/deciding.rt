@@ -1,0 +1,187 @@
+// What a command changes, as the catalogue decides it: its tests in their order, and then the change.
+ghost use Rattle.std.specs.Prelude.{◌≡◌, [], IfOk, string_bytes};
+ghost use Rattle.arrow_schema.specs.View.{schema_of};
+ghost use Rattle.catalogue.specs.Entries.{IsCatalogue};
+ghost use Rattle.catalogue.specs.View.{catalogue_of};
+ghost use Rattle.tables.specs.Commands.{create, import_stream, rename, drop_table};
+ghost use Rattle.tables.specs.Tables.{Tables};
+ghost use Rattle.tables.specs.Verdict.{bad_name, too_many_bytes};
+ghost use Rattle.store.specs.Applying.{Lists, Decides};
+ghost use Rattle.store.specs.Changes.{change_of, edit_of, IsChange};
+ghost use Rattle.store.specs.inner.Tests.{Tests, has_entry, missing_in, taken_in, full_in, create_tests, import_tests, rename_tests, decision_of};
+
+use crate::change::{Change, Edit};
+use catalogue::{Catalogue, MAX_TABLES, counts_after_changes, is_name};
+use ipc_stream::{decode, encode_pieces, integer_schemas_are_read, pieces_are_tables};
+use std::alloc::Global;
+use tables::{Limit, MAX_IMPORT_BYTES, NewTable, Refusal};
+use values::accepted_rows_are_a_table;
+
+fn has_table(catalogue: &Catalogue, name: &str) -> bool
+    ensures has { result ≡ has_entry (catalogue_of catalogue.now) name.now }
+    ensures kept { IsCatalogue (catalogue_of catalogue.now) }
+{
+    catalogue.get(name).is_some()
+}
+
+// S3: no table may have the name.
+fn test_name(name: &str) -> Result<(), Refusal>
+    ensures { Tests result (bad_name name.now) }
+{
+    if is_name(name) {
+        Ok(())
+    } else {
+        Err(Refusal::BadName)
+    }
+}
+
+// S1: no table has the name.
+fn test_there(catalogue: &Catalogue, name: &str) -> Result<(), Refusal>
+    ensures { Tests result (missing_in (catalogue_of catalogue.now) name.now) }
+{
+    if has_table(catalogue, name) {
+        Ok(())
+    } else {
+        Err(Refusal::NoTable)
+    }
+}
+
+// S2: a table has the name.
+fn test_free(catalogue: &Catalogue, name: &str) -> Result<(), Refusal>
+    ensures { Tests result (taken_in (catalogue_of catalogue.now) name.now) }
+{
+    if has_table(catalogue, name) {
+        Err(Refusal::NameTaken)
+    } else {
+        Ok(())
+    }
+}
+
+// S7 Tables: the table would be one too many.
+fn test_room(catalogue: &Catalogue, name: &str) -> Result<(), Refusal>
+    ensures test { Tests result (full_in (catalogue_of catalogue.now) name.now) }
+    ensures kept { IsCatalogue (catalogue_of catalogue.now) }
+{
+    if !has_table(catalogue, name) && catalogue.len() >= MAX_TABLES {
+        Err(Refusal::TooMany(Limit::Tables))
+    } else {
+        Ok(())
+    }
+}
+
+// S7 Bytes: more than may be imported.
+fn test_bytes(bytes: &[u8]) -> Result<(), Refusal>
+    ensures { Tests result (too_many_bytes bytes.now) }
+{
+    if bytes.len() > MAX_IMPORT_BYTES {
+        Err(Refusal::TooMany(Limit::Bytes))
+    } else {
+        Ok(())
+    }
+}
+
+fn test_create(catalogue: &Catalogue, name: &str) -> Result<(), Refusal>
+    ensures test { Tests result (create_tests (catalogue_of catalogue.now) name.now) }
+    ensures kept { IsCatalogue (catalogue_of catalogue.now) }
+{
+    test_name(name)?;
+    test_free(catalogue, name)?;
+    test_room(catalogue, name)
+}
+
+fn test_import(name: &str, bytes: &[u8]) -> Result<(), Refusal>
+    ensures { Tests result (import_tests name.now bytes.now) }
+{
+    test_name(name)?;
+    test_bytes(bytes)
+}
+
+fn test_rename(catalogue: &Catalogue, from: &str, to: &str) -> Result<(), Refusal>
+    ensures { Tests result (rename_tests (catalogue_of catalogue.now) from.now to.now) }
+{
+    test_there(catalogue, from)?;
+    test_name(to)?;
+    test_free(catalogue, to)
+}
+
+// A change without new segments.
+fn change_of_names(alloc: Global, edit: Edit) -> Change
+    ensures { change_of result ≡ record { edit = edit_of edit; streams = []; counts = [] } }
+{
+    Change {
+        edit,
+        streams: Vec::new(alloc),
+        rows: Vec::new(alloc),
+    }
+}
+
+// A table without rows.
+pub(crate) fn decide_create(
+    alloc: Global,
+    catalogue: &Catalogue,
+    new: NewTable,
+) -> Result<Change, Refusal>
+    ensures ok { IfOk result (λ change. IsChange (catalogue_of catalogue.now) (change_of change)) }
+    ensures decides { (t : Tables) → Lists (catalogue_of catalogue.now) t
+        → Decides t (create (string_bytes new.name) (schema_of new.schema)) (decision_of result) }
+{
+    counts_after_changes();
+    test_create(catalogue, &new.name)?;
+    let NewTable { name, schema } = new;
+    Ok(change_of_names(alloc, Edit::Put { name, schema }))
+}
+
+// The table that a stream means, in place of one that stands there.
+pub(crate) fn decide_import(
+    alloc: Global,
+    catalogue: &Catalogue,
+    name: String,
+    bytes: &[u8],
+) -> Result<Change, Refusal>
+    ensures ok { IfOk result (λ change. IsChange (catalogue_of catalogue.now) (change_of change)) }
+    ensures decides { (t : Tables) → Lists (catalogue_of catalogue.now) t
+        → Decides t (import_stream (string_bytes name) bytes.now) (decision_of result) }
+{
+    accepted_rows_are_a_table();
+    counts_after_changes();
+    integer_schemas_are_read();
+    pieces_are_tables();
+    test_import(&name, bytes)?;
+    let table = decode(alloc, bytes)?;
+    test_room(catalogue, &name)?;
+    let schema = table.schema().copy(alloc)?;
+    let pieces = encode_pieces(alloc, &table)?;
+    Ok(Change {
+        edit: Edit::Put { name, schema },
+        streams: pieces.streams,
+        rows: pieces.rows,
+    })
+}
+
+// The table under another name.
+pub(crate) fn decide_rename(
+    alloc: Global,
+    catalogue: &Catalogue,
+    from: String,
+    to: String,
+) -> Result<Change, Refusal>
+    ensures ok { IfOk result (λ change. IsChange (catalogue_of catalogue.now) (change_of change)) }
+    ensures decides { (t : Tables) → Lists (catalogue_of catalogue.now) t
+        → Decides t (rename (string_bytes from) (string_bytes to)) (decision_of result) }
+{
+    test_rename(catalogue, &from, &to)?;
+    Ok(change_of_names(alloc, Edit::Move { from, to }))
+}
+
+// No table of the name any more.
+pub(crate) fn decide_drop(
+    alloc: Global,
+    catalogue: &Catalogue,
+    name: String,
+) -> Result<Change, Refusal>
+    ensures ok { IfOk result (λ change. IsChange (catalogue_of catalogue.now) (change_of change)) }
+    ensures decides { (t : Tables) → Lists (catalogue_of catalogue.now) t → Decides t (drop_table (string_bytes name)) (decision_of result) }
+{
+    test_there(catalogue, &name)?;
+    Ok(change_of_names(alloc, Edit::Remove { name }))
+}
