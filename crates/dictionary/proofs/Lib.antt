@@ -3,3 +3,4 @@ pub mod Numbers
 pub mod Lists
 pub mod Grown
 pub mod Steps
+pub mod Parts

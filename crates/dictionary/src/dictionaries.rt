@@ -1,6 +1,6 @@
 // The dictionaries of a stream.
-ghost use Rattle.std.specs.Prelude.{◌≡◌, ◌++◌, ◌<◌, ℕ, true, false, List, [], ◌∷◌, OnOk, OnErr, IfOk, length, get_or, slice_set};
-ghost use Rattle.std.specs.List.{list_any};
+ghost use Rattle.std.specs.Prelude.{◌≡◌, ◌++◌, ◌<◌, ℕ, true, false, List, [], ◌∷◌, OnOk, OnErr, IfOk, length, map, get_or, slice_set};
+ghost use Rattle.std.specs.List.{list_any, AllByRecursion};
 ghost use Rattle.columns.specs.View.{array_in, arrays_in, no_dictionary};
 ghost use Rattle.columns.specs.declared.array.Dictionary.{Dictionary};
 ghost use Rattle.dictionary.specs.InEffect.{DictionaryBatch, has_id, in_effect};
@@ -119,6 +119,19 @@ impl Dictionaries {
                 known: self.lists[number].arrays.len(),
             },
         }
+    }
+
+    /// The parts of the dictionaries of some ids, in their order: those that the columns of a record batch take.
+    pub fn parts(&self, alloc: Global, ids: &[u64]) -> Result<Vec<DictionaryPart>, AllocError>
+        ensures stand { IfOk result (λ parts. AllByRecursion (IsPart self.now.lists) parts.items) }
+        ensures effect { IfOk result (λ parts. (bytes : List ℕ) (before : List DictionaryBatch) (lists : List Dictionary) → HasInEffect bytes self.now before → lists_of lists ≡ self.now.lists
+            → map (arrays_in bytes lists) parts.items ≡ map (λ id. in_effect id before) ids.now) }
+    {
+        let mut parts = Vec::with_capacity(alloc, ids.len())?;
+        for id in ids {
+            parts.push(self.part(*id))?;
+        }
+        Ok(parts)
     }
 
     /// Begins the dictionary of an id anew, with one array. Arrays that were read before keep theirs.

@@ -1,0 +1,15 @@
+-- One more part.
+use Rattle.std.specs.List.{AllByRecursion}
+use Rattle.std.proofs.Common.{◌≡◌, ℕ, ◌+◌, ◌<◌, List, [], ◌∷◌, ◌++◌, length, get_or, map, take, ap, sym, ◌∙◌}
+use Rattle.std.proofs.lemmas.List.{map-append, take_more}
+
+pub all_more : {X : Type 0} (P : X → Type 0) (xs : List X) (x : X) → AllByRecursion P xs → P x → AllByRecursion P (xs ++ x ∷ [])
+all_more P [] x all one = (one, tt)
+all_more P (y ∷ xs) x all one = (all.0, all_more P xs x all.1 one)
+
+-- what is mapped so far, with the next of the ids
+pub map_next : {X Y : Type 0} (f : X → Y) (g : ℕ → Y) (xs : List X) (x : X) (ids : List ℕ) (i : ℕ) → map f xs ≡ map g (take i ids) → f x ≡ g (get_or ids i 0) → i < length ids
+    → map f (xs ++ x ∷ []) ≡ map g (take (i + 1) ids)
+map_next f g xs x ids i so_far next within =
+    map-append f xs (x ∷ []) ∙ ap (λ ys. ys ++ f x ∷ []) so_far ∙ ap (λ y. map g (take i ids) ++ y ∷ []) next
+    ∙ sym (map-append g (take i ids) (get_or ids i 0 ∷ [])) ∙ ap (map g) (sym (take_more ids i 0 within))
