@@ -53,7 +53,7 @@ short_validity (column name nullable kind (Some index) pairs) a h = (or_parts (h
 
 -- ---- the arrays of columns, listed one after another
 
-others_placed : (bytes : List ℕ) (all : List Dictionary) (xs : List PlacedArray) (i : ℕ) → other_arrays (placed_arrays bytes all (drop i xs)) ≡ placed_arrays bytes all (drop (suc i) xs)
+pub others_placed : (bytes : List ℕ) (all : List Dictionary) (xs : List PlacedArray) (i : ℕ) → other_arrays (placed_arrays bytes all (drop i xs)) ≡ placed_arrays bytes all (drop (suc i) xs)
 others_placed bytes all [] zero = refl
 others_placed bytes all [] (suc i) = refl
 others_placed bytes all (x ∷ xs) zero = refl

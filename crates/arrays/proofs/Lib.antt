@@ -10,3 +10,7 @@ pub mod Answered
 pub mod SpanWeights
 pub mod KindWeights
 pub mod RowWeights
+pub mod VisibleSpans
+pub mod VisibleSlots
+pub mod VisibleTexts
+pub mod Ranges

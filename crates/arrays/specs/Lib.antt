@@ -1,3 +1,4 @@
 pub mod Checks
 pub mod Dictionaries
+pub mod Entries
 pub mod inner

@@ -3,3 +3,4 @@ pub mod Every
 pub mod Read
 pub mod Counted
 pub mod Weights
+pub mod VisibleSpans

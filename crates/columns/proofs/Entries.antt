@@ -1,9 +1,10 @@
 -- The entries of a dictionary, array by array.
-use Rattle.std.specs.Prelude.{nat_lt, ◌&&◌}
-use Rattle.std.proofs.Common.{◌≡◌, ℕ, zero, suc, ◌+◌, ◌-◌, ◌≤◌, ◌<◌, Bool, true, List, [], ◌∷◌, ◌++◌, length, get_or, map, drop, refl, ap, arith, sym, ◌∙◌}
+use Rattle.std.specs.Prelude.{nat_le, nat_lt, not, ◌&&◌, ℤ, pos}
+use Rattle.std.proofs.Common.{◌≡◌, ℕ, zero, suc, ◌+◌, ◌-◌, ◌≤◌, ◌<◌, Bool, true, List, [], ◌∷◌, ◌++◌, length, get_or, map, drop, false, length-append, refl, ap, arith, sym, ◌∙◌}
 use Rattle.std.specs.List.{list_all}
 use Rattle.std.proofs.Math.Seq.{drop-cons}
 use Rattle.std.proofs.lemmas.Bool.{and_parts}
+use Rattle.std.proofs.lemmas.Bool.Decides.{nat_tests}
 use Rattle.std.proofs.lemmas.List.{get_or_append_left, get_or-append_right}
 use Rattle.std.proofs.lemmas.List.FromFn.{length-map-range_with_len, get_or-map-range_with_len}
 use Rattle.arrow_schema.specs.Column.{Kind}
@@ -12,6 +13,7 @@ use Rattle.columns.specs.declared.array.PlacedArray.{PlacedArray}
 use Rattle.columns.specs.declared.array.DictionaryPart.{DictionaryPart}
 use Rattle.columns.specs.Array.{Array, arrays_of, slots_in}
 use Rattle.columns.specs.CellAt.{cells_from, unless_null, kind_cell, entries_of_kind}
+use Rattle.columns.specs.Visible.{is_past}
 use Rattle.columns.specs.View.{array_in, no_dictionary}
 use Rattle.columns.specs.laws.Places.{slots_is}
 
@@ -59,6 +61,49 @@ ended (x ∷ xs) (suc i) le = ended xs i (omega arith)
 
 pub found_nowhere : (bytes : List ℕ) (kind : Kind) (xs : List PlacedArray) (i r : ℕ) → length xs ≤ i → null ≡ get_or (entries bytes kind (drop i xs)) r null
 found_nowhere bytes kind xs i r le = rw (ended xs i le) refl
+
+-- ---- how many there are
+
+many : (f : ℕ → Cell) (n : ℕ) (others : List Cell) → length (cells_from f 0 n ++ others) ≡ n + length others
+many f n others = length-append (cells_from f 0 n) others ∙ ap (λ (k : ℕ). k + length others) (length-map-range_with_len f 0 n)
+
+below : (r n m : ℕ) → r < n → not (nat_le (n + m) r) ≡ true
+below r n m lt = grind (arith, nat_tests)
+
+above : (r n m : ℕ) → n ≤ r → nat_le m (r - n) ≡ nat_le (n + m) r
+above r n m le = grind (arith, nat_tests)
+
+next_many : (bytes : List ℕ) (kind : Kind) (xs : List PlacedArray) (i : ℕ) (x : PlacedArray) → i < length xs → x ≡ get_or xs i x
+    → length (entries bytes kind (drop i xs)) ≡ x.slots + length (entries bytes kind (drop (i + 1) xs))
+next_many bytes kind xs i x lt is =
+    let a : Array = array_in bytes no_dictionary x in
+    let e = slots_is bytes no_dictionary x in
+    rw (from_place xs i x lt is)
+    (many (unless_null (kind_cell kind) a) (slots_in a) (entries bytes kind (drop (i + 1) xs)) ∙ ap (λ (n : ℕ). n + length (entries bytes kind (drop (i + 1) xs))) e)
+
+-- whether a number is below that
+abbrev is_below : ℕ → ℕ → Bool
+is_below many r = not (nat_le many r)
+
+pub present_here : (bytes : List ℕ) (kind : Kind) (xs : List PlacedArray) (i r : ℕ) (x : PlacedArray) → i < length xs → x ≡ get_or xs i x → r < x.slots
+    → not (nat_le (length (entries bytes kind (drop i xs))) r) ≡ true
+present_here bytes kind xs i r x lt is under =
+    ap (λ (n : ℕ). is_below n r) (next_many bytes kind xs i x lt is) ∙ below r x.slots (length (entries bytes kind (drop (i + 1) xs))) under
+
+pub present_later : (bytes : List ℕ) (kind : Kind) (xs : List PlacedArray) (i r : ℕ) (x : PlacedArray) → i < length xs → x ≡ get_or xs i x → x.slots ≤ r
+    → not (nat_le (length (entries bytes kind (drop (i + 1) xs))) (r - x.slots)) ≡ not (nat_le (length (entries bytes kind (drop i xs))) r)
+present_later bytes kind xs i r x lt is over =
+    ap not (above r x.slots (length (entries bytes kind (drop (i + 1) xs))) over) ∙ ap (λ (n : ℕ). is_below n r) (sym (next_many bytes kind xs i x lt is))
+
+none_below : (r : ℕ) → not (nat_le 0 r) ≡ false
+none_below r = grind (arith, nat_tests)
+
+pub present_nowhere : (bytes : List ℕ) (kind : Kind) (xs : List PlacedArray) (i r : ℕ) → length xs ≤ i → not (nat_le (length (entries bytes kind (drop i xs))) r) ≡ false
+present_nowhere bytes kind xs i r le = rw (ended xs i le) (none_below r)
+
+-- by the number that an integer is
+pub named : (k : ℕ) (z y : ℤ) (others entries : List Cell) (b : Bool) → b ≡ not (nat_le (length others) k) → z ≡ y → others ≡ entries → z ≡ pos k → b ≡ not (is_past y entries)
+named k z y others entries b is e f number = is ∙ (λ j. not (is_past ((sym number ∙ e) j) (f j)))
 
 -- a test that holds of all holds of the next
 pub sound_here : (p : Array → Bool) (g : PlacedArray → Array) (xs : List PlacedArray) (i : ℕ) (x : PlacedArray) → i < length xs → x ≡ get_or xs i x

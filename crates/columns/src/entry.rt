@@ -1,13 +1,14 @@
 // The entry of a dictionary that an index names.
-ghost use Rattle.std.specs.Prelude.{◌≡◌, ◌<◌, ◌/◌, true, false, map, get_or};
+ghost use Rattle.std.specs.Prelude.{◌≡◌, ◌<◌, ◌/◌, true, false, not, nat_le, length, map, get_or, is_some};
 ghost use Rattle.std.specs.List.{list_all};
 ghost use Rattle.arrow_schema.specs.Column.{Kind};
 ghost use Rattle.arrow_schema.specs.View.{index_of};
 ghost use Rattle.cells.specs.Cell.{null};
 ghost use Rattle.columns.specs.Array.{slots_in, indices_in, dictionary_in, array_list};
-ghost use Rattle.columns.specs.CellAt.{entries_of_kind, indexed_cell};
+ghost use Rattle.columns.specs.CellAt.{entries_of_kind, indexed_cell, index_at};
 ghost use Rattle.columns.specs.Tests.{are_few};
 ghost use Rattle.columns.specs.Sound.{is_kind_sound};
+ghost use Rattle.columns.specs.Visible.{is_past};
 ghost use Rattle.columns.specs.View.{view_array, array_in, no_dictionary, placed_dictionary};
 ghost use Rattle.columns.specs.Located.{located_cell, IsSoundPlace};
 
@@ -40,6 +41,7 @@ fn entry_place<'a>(
     index: u128,
 ) -> Option<EntryPlace<'a>>
     ensures cell { (kind : Kind) → located_cell kind result ≡ get_or (entries_of_kind kind (placed_dictionary bytes.now arrays.now)) index null }
+    ensures present { (kind : Kind) → is_some result ≡ not (nat_le (length (entries_of_kind kind (placed_dictionary bytes.now arrays.now))) index) }
     ensures sound { (kind : Kind) → list_all (is_kind_sound kind) (map (array_in bytes.now no_dictionary) arrays.now) ≡ true → IsSoundPlace kind result }
 {
     let mut rest = index;
@@ -61,6 +63,8 @@ pub fn indexed_entry<'a>(spec: DictSpec, view: ArrayView<'a>, i: usize) -> Optio
     requires long { are_few ((index_of spec).bits / 8) (view_array view) (indices_in (view_array view)) ≡ false }
     requires within { i < slots_in (view_array view) }
     ensures cell { (kind : Kind) → located_cell kind result ≡ indexed_cell (index_of spec) kind (view_array view.entry) i }
+    ensures present { let a = view_array view.entry in
+        (kind : Kind) → is_some result ≡ not (is_past (index_at (index_of spec) a i) (entries_of_kind kind (dictionary_in a))) }
     ensures sound { (kind : Kind) → list_all (is_kind_sound kind) (array_list (dictionary_in (view_array view.entry))) ≡ true → IsSoundPlace kind result }
 {
     let index = integer_at(spec.index, view.indices(), view.slots(), i);

@@ -1,0 +1,237 @@
+-- What is asked of a visible slot itself.
+use Rattle.std.specs.Prelude.{◌||◌, ◌&&◌, not, ◌==◌, nat_lt, option_map, if◌then◌else◌}
+use Rattle.std.specs.List.{list_all, list_any, flat_map, range_with_len}
+use Rattle.std.specs.Str.{is_utf8}
+use Rattle.std.proofs.Common.{◌≡◌, ℕ, zero, suc, ◌+◌, ◌/◌, Option, ◌≤◌, ◌<◌, Bool, true, false, List, [], ◌∷◌, length, Some, None, refl, arith, sym, ap, ◌∙◌}
+use Rattle.std.proofs.lemmas.Bool.{and_parts}
+use Rattle.std.proofs.lemmas.Bool.Decides.{nat_tests}
+use Rattle.std.proofs.lemmas.List.FromFn.{length-range_with_len}
+use Rattle.arrays.proofs.Ranges.{any-none, any-fewer}
+use Rattle.bitmap.specs.Bits.{bit, count_of}
+use Rattle.arrow_schema.specs.declared.types.DictSpec.{DictSpec}
+use Rattle.arrow_schema.specs.declared.types.DataType.{DataType}
+use Rattle.arrow_schema.specs.declared.types.Field.{Field, out-Field}
+use Rattle.arrow_schema.specs.declared.types.DataType.TheFolds.{fold_out-Field}
+use Rattle.arrow_schema.specs.View.{column_of, kind_of, index_of, kind_step, column_step}
+use Rattle.arrow_schema.specs.Column.{Index, Column, column, Kind, nulls, booleans, integers, dates, timestamps, texts, large_texts, binaries, large_binaries, fixed_binaries, lists, large_lists, fixed_lists, structs}
+use Rattle.cells.specs.Cell.{Cell, null, text}
+use Rattle.columns.specs.declared.numbers.OffsetWidth.{OffsetWidth}
+use Rattle.columns.specs.declared.view.ArrayView.{ArrayView}
+use Rattle.columns.specs.Offsets.{width_of}
+use Rattle.columns.specs.View.{view_array}
+use Rattle.columns.specs.Array.{Array, validity_in, indices_in, dictionary_in, array_list}
+use Rattle.columns.specs.CellAt.{is_valid, cell_at, contents_at, kind_cell, unless_null, indexed_cell, index_at, entries_of_kind}
+use Rattle.columns.specs.Sound.{is_sound, is_kind_sound}
+use Rattle.columns.specs.Tests.{has_short_validity, has_short_buffer, are_few, are_few_offsets}
+use Rattle.columns.specs.laws.SoundParts.{sound_buffer}
+use Rattle.columns.specs.Visible.{is_bad_text, is_null, is_past, is_nullable, names_no_entry, is_forbidden}
+use Rattle.arrays.specs.inner.VisibleSpans.{any_slot, is_no_plain_text, text_width, is_of_nulls}
+
+-- ---- what the loops over slots ask
+
+abbrev pub past : DictSpec → ArrayView → Kind → ℕ → Bool
+past spec view kind i = is_valid (view_array view) i && is_past (index_at (index_of spec) (view_array view) i) (entries_of_kind kind (dictionary_in (view_array view)))
+
+abbrev pub bad : OffsetWidth → ArrayView → ℕ → Bool
+bad width view i = is_valid (view_array view) i && not (is_utf8 (contents_at (width_of width) (view_array view) i))
+
+abbrev pub missing : DictSpec → DataType → ArrayView → ℕ → Bool
+missing spec data_type view i = is_null (unless_null (indexed_cell (index_of spec) (kind_of data_type)) (view_array view) i)
+
+-- a test that finds the same at each number
+pub any_same : (p q : ℕ → Bool) (xs : List ℕ) → ((i : ℕ) → p i ≡ q i) → list_any p xs ≡ list_any q xs
+any_same p q xs same = (λ j. list_any (λ i. same i j) xs)
+
+pub any_never : (p : ℕ → Bool) (from n : ℕ) → ((i : ℕ) → p i ≡ false) → list_any p (range_with_len from n) ≡ false
+any_never p from n never = any-none p from n (λ i low high. never i)
+
+pub any_always : (p : ℕ → Bool) (from n : ℕ) → ((i : ℕ) → p i ≡ true) → list_any p (range_with_len from n) ≡ nat_lt 0 n
+any_always p from zero always = refl
+any_always p from (suc n) always = let some : nat_lt 0 (suc n) ≡ true = grind (arith, nat_tests) in rw (always from, some) refl
+
+-- ---- texts
+
+if_text : (b : Bool) (t : List ℕ) → is_bad_text (if b then text t else null) ≡ (b && not (is_utf8 t))
+if_text true t = refl
+if_text false t = refl
+
+if_other : (b : Bool) (c : Cell) → is_bad_text c ≡ false → is_bad_text (if b then c else null) ≡ false
+if_other true c h = h
+if_other false c h = refl
+
+pub text_at : (kind : Kind) (w : ℕ) (a : Array) (i : ℕ) → text_width kind ≡ Some w → is_bad_text (unless_null (kind_cell kind) a i) ≡ (is_valid a i && not (is_utf8 (contents_at w a i)))
+unfolding kind_cell
+text_at texts w a i h = let e : 4 ≡ w = cc in if_text (is_valid a i) (contents_at 4 a i) ∙ ap (λ (k : ℕ). is_valid a i && not (is_utf8 (contents_at k a i))) e
+text_at large_texts w a i h = let e : 8 ≡ w = cc in if_text (is_valid a i) (contents_at 8 a i) ∙ ap (λ (k : ℕ). is_valid a i && not (is_utf8 (contents_at k a i))) e
+text_at nulls w a i h = absurd cc
+text_at booleans w a i h = absurd cc
+text_at (integers bits signed) w a i h = absurd cc
+text_at (dates unit) w a i h = absurd cc
+text_at (timestamps unit timezone) w a i h = absurd cc
+text_at binaries w a i h = absurd cc
+text_at large_binaries w a i h = absurd cc
+text_at (fixed_binaries width) w a i h = absurd cc
+text_at (lists item) w a i h = absurd cc
+text_at (large_lists item) w a i h = absurd cc
+text_at (fixed_lists size item) w a i h = absurd cc
+text_at (structs columns) w a i h = absurd cc
+
+pub no_text_at : (kind : Kind) (a : Array) (i : ℕ) → text_width kind ≡ None → is_bad_text (unless_null (kind_cell kind) a i) ≡ false
+unfolding kind_cell
+no_text_at texts a i h = absurd cc
+no_text_at large_texts a i h = absurd cc
+no_text_at nulls a i h = if_other (is_valid a i) _ refl
+no_text_at booleans a i h = if_other (is_valid a i) _ refl
+no_text_at (integers bits signed) a i h = if_other (is_valid a i) _ refl
+no_text_at (dates unit) a i h = if_other (is_valid a i) _ refl
+no_text_at (timestamps unit timezone) a i h = if_other (is_valid a i) _ refl
+no_text_at binaries a i h = if_other (is_valid a i) _ refl
+no_text_at large_binaries a i h = if_other (is_valid a i) _ refl
+no_text_at (fixed_binaries width) a i h = if_other (is_valid a i) _ refl
+no_text_at (lists item) a i h = if_other (is_valid a i) _ refl
+no_text_at (large_lists item) a i h = if_other (is_valid a i) _ refl
+no_text_at (fixed_lists size item) a i h = if_other (is_valid a i) _ refl
+no_text_at (structs columns) a i h = if_other (is_valid a i) _ refl
+
+-- ---- nulls
+
+if_null : (b : Bool) → is_null (if b then null else null) ≡ true
+if_null true = refl
+if_null false = refl
+
+if_filled : (b : Bool) (c : Cell) → is_null c ≡ false → is_null (if b then c else null) ≡ not b
+if_filled true c h = h
+if_filled false c h = refl
+
+pub null_at : (kind : Kind) (a : Array) (i : ℕ) → is_null (unless_null (kind_cell kind) a i) ≡ (is_of_nulls kind || not (is_valid a i))
+unfolding kind_cell
+null_at nulls a i = if_null (is_valid a i)
+null_at booleans a i = if_filled (is_valid a i) _ refl
+null_at (integers bits signed) a i = if_filled (is_valid a i) _ refl
+null_at (dates unit) a i = if_filled (is_valid a i) _ refl
+null_at (timestamps unit timezone) a i = if_filled (is_valid a i) _ refl
+null_at texts a i = if_filled (is_valid a i) _ refl
+null_at large_texts a i = if_filled (is_valid a i) _ refl
+null_at binaries a i = if_filled (is_valid a i) _ refl
+null_at large_binaries a i = if_filled (is_valid a i) _ refl
+null_at (fixed_binaries width) a i = if_filled (is_valid a i) _ refl
+null_at (lists item) a i = if_filled (is_valid a i) _ refl
+null_at (large_lists item) a i = if_filled (is_valid a i) _ refl
+null_at (fixed_lists size item) a i = if_filled (is_valid a i) _ refl
+null_at (structs columns) a i = if_filled (is_valid a i) _ refl
+
+pub unset_if : (v : List ℕ) (a : Array) (from n : ℕ) → v ≡ validity_in a
+    → list_any (λ i. not (is_valid a i)) (range_with_len from n) ≡ (not (length v == 0) && nat_lt (count_of v from n) n)
+unset_if v a from n is = rw is (by_bits (length (validity_in a) == 0))
+  where
+    by_bits : (empty : Bool) → list_any (λ i. not (empty || bit (validity_in a) i)) (range_with_len from n) ≡ (not empty && nat_lt (count_of (validity_in a) from n) n)
+    by_bits true = any_never (λ i. false) from n (λ i. refl)
+    by_bits false = any-fewer (bit (validity_in a)) (range_with_len from n) ∙ ap (nat_lt (count_of (validity_in a) from n)) (length-range_with_len from n)
+
+-- ---- the parts of a field's column
+
+abbrev pub kind_in : Column → Kind
+kind_in (column name nullable kind dictionary pairs) = kind
+
+abbrev pub index_in : Column → Option Index
+index_in (column name nullable kind dictionary pairs) = dictionary
+
+pub kind_at : (f : Field) → kind_in (column_of f) ≡ kind_of (out-Field f).data_type
+kind_at f = ap kind_in (fold_out-Field Kind Column kind_step column_step f)
+
+pub index_at_field : (f : Field) → index_in (column_of f) ≡ option_map index_of (out-Field f).dictionary
+index_at_field f = ap index_in (fold_out-Field Kind Column kind_step column_step f)
+
+pub nullable_at : (f : Field) → is_nullable (column_of f) ≡ (out-Field f).nullable
+nullable_at f = ap is_nullable (fold_out-Field Kind Column kind_step column_step f)
+
+-- ---- the tests of the slots of a span
+
+pub no_index_tested : (c : Column) (a : Array) (from n : ℕ) → index_in c ≡ None → any_slot names_no_entry c a from n ≡ false
+no_index_tested (column name nullable kind None pairs) a from n h = any_never (λ i. false) from n (λ i. refl)
+no_index_tested (column name nullable kind (Some index) pairs) a from n h = absurd cc
+
+pub index_tested : (c : Column) (index : Index) (a : Array) (from n : ℕ) → index_in c ≡ Some index
+    → any_slot names_no_entry c a from n ≡ list_any (λ i. is_valid a i && is_past (index_at index a i) (entries_of_kind (kind_in c) (dictionary_in a))) (range_with_len from n)
+index_tested (column name nullable kind None pairs) index a from n h = absurd cc
+index_tested (column name nullable kind (Some other) pairs) index a from n h =
+    let e : other ≡ index = cc in
+    ap (λ (x : Index). list_any (λ i. is_valid a i && is_past (index_at x a i) (entries_of_kind kind (dictionary_in a))) (range_with_len from n)) e
+
+pub entry_texts_skipped : (c : Column) (index : Index) (a : Array) (from n : ℕ) → index_in c ≡ Some index → any_slot is_no_plain_text c a from n ≡ false
+entry_texts_skipped (column name nullable kind None pairs) index a from n h = absurd cc
+entry_texts_skipped (column name nullable kind (Some other) pairs) index a from n h = any_never (λ i. false) from n (λ i. refl)
+
+pub no_texts_tested : (c : Column) (a : Array) (from n : ℕ) → index_in c ≡ None → text_width (kind_in c) ≡ None → any_slot is_no_plain_text c a from n ≡ false
+unfolding cell_at
+no_texts_tested (column name nullable kind None pairs) a from n h none = any_never _ from n (λ i. no_text_at kind a i none)
+no_texts_tested (column name nullable kind (Some index) pairs) a from n h none = absurd cc
+
+pub texts_tested : (c : Column) (w : ℕ) (a : Array) (from n : ℕ) → index_in c ≡ None → text_width (kind_in c) ≡ Some w
+    → any_slot is_no_plain_text c a from n ≡ list_any (λ i. is_valid a i && not (is_utf8 (contents_at w a i))) (range_with_len from n)
+unfolding cell_at
+texts_tested (column name nullable kind None pairs) w a from n h wide = any_same _ _ (range_with_len from n) (λ i. text_at kind w a i wide)
+texts_tested (column name nullable kind (Some index) pairs) w a from n h wide = absurd cc
+
+pub nulls_taken : (c : Column) (a : Array) (from n : ℕ) → is_nullable c ≡ true → any_slot is_forbidden c a from n ≡ false
+nulls_taken c a from n h = ap (λ (b : Bool). list_any (λ i. not b && is_null (cell_at c a i)) (range_with_len from n)) h ∙ any_never (λ i. false) from n (λ i. refl)
+
+pub nulls_tested : (c : Column) (a : Array) (from n : ℕ) → is_nullable c ≡ false → index_in c ≡ None
+    → any_slot is_forbidden c a from n ≡ list_any (λ i. is_null (unless_null (kind_cell (kind_in c)) a i)) (range_with_len from n)
+unfolding cell_at
+nulls_tested (column name nullable kind None pairs) a from n h none = ap (λ (b : Bool). list_any (λ i. not b && is_null (unless_null (kind_cell kind) a i)) (range_with_len from n)) h
+nulls_tested (column name nullable kind (Some index) pairs) a from n h none = absurd cc
+
+pub entry_nulls_tested : (c : Column) (index : Index) (a : Array) (from n : ℕ) → is_nullable c ≡ false → index_in c ≡ Some index
+    → any_slot is_forbidden c a from n ≡ list_any (λ i. is_null (unless_null (indexed_cell index (kind_in c)) a i)) (range_with_len from n)
+unfolding cell_at
+entry_nulls_tested (column name nullable kind None pairs) index a from n h some = absurd cc
+entry_nulls_tested (column name nullable kind (Some other) pairs) index a from n h some =
+    let e : other ≡ index = cc in
+    ap (λ (b : Bool). list_any (λ i. not b && is_null (unless_null (indexed_cell other kind) a i)) (range_with_len from n)) h
+    ∙ ap (λ (x : Index). list_any (λ i. is_null (unless_null (indexed_cell x kind) a i)) (range_with_len from n)) e
+
+-- ---- what soundness gives them
+
+off : (b : Bool) → not b ≡ true → b ≡ false
+off true h = sym h
+off false h = cc
+
+pub sound_slots : (c : Column) (a : Array) → is_sound c a ≡ true → has_short_validity a ≡ false
+unfolding is_sound
+sound_slots (column name nullable kind None pairs) a h = off _ (and_parts (not (has_short_validity a)) _ h).0
+sound_slots (column name nullable kind (Some index) pairs) a h = off _ (and_parts (not (has_short_validity a)) _ h).0
+
+pub sound_indices : (c : Column) (index : Index) (a : Array) → index_in c ≡ Some index → is_sound c a ≡ true → are_few (index.bits / 8) a (indices_in a) ≡ false
+unfolding is_sound
+sound_indices (column name nullable kind None pairs) index a some h = absurd cc
+sound_indices (column name nullable kind (Some other) pairs) index a some h =
+    let e : other ≡ index = cc in
+    ap (λ (x : Index). are_few (x.bits / 8) a (indices_in a)) (sym e) ∙ off _ (and_parts (not (are_few (other.bits / 8) a (indices_in a))) _ (and_parts (not (has_short_validity a)) _ h).1).0
+
+pub sound_entries : (c : Column) (index : Index) (a : Array) → index_in c ≡ Some index → is_sound c a ≡ true → list_all (is_kind_sound (kind_in c)) (array_list (dictionary_in a)) ≡ true
+unfolding is_sound
+sound_entries (column name nullable kind None pairs) index a some h = absurd cc
+sound_entries (column name nullable kind (Some other) pairs) index a some h =
+    (and_parts (not (are_few (other.bits / 8) a (indices_in a))) _ (and_parts (not (has_short_validity a)) _ h).1).1
+
+kind_texts_long : (kind : Kind) (w : ℕ) (a : Array) → text_width kind ≡ Some w → has_short_buffer kind a ≡ false → are_few_offsets w a ≡ false
+kind_texts_long texts w a wide h = let e : 4 ≡ w = cc in ap (λ (k : ℕ). are_few_offsets k a) (sym e) ∙ h
+kind_texts_long large_texts w a wide h = let e : 8 ≡ w = cc in ap (λ (k : ℕ). are_few_offsets k a) (sym e) ∙ h
+kind_texts_long nulls w a wide h = absurd cc
+kind_texts_long booleans w a wide h = absurd cc
+kind_texts_long (integers bits signed) w a wide h = absurd cc
+kind_texts_long (dates unit) w a wide h = absurd cc
+kind_texts_long (timestamps unit timezone) w a wide h = absurd cc
+kind_texts_long binaries w a wide h = absurd cc
+kind_texts_long large_binaries w a wide h = absurd cc
+kind_texts_long (fixed_binaries width) w a wide h = absurd cc
+kind_texts_long (lists item) w a wide h = absurd cc
+kind_texts_long (large_lists item) w a wide h = absurd cc
+kind_texts_long (fixed_lists size item) w a wide h = absurd cc
+kind_texts_long (structs columns) w a wide h = absurd cc
+
+pub sound_texts : (c : Column) (w : ℕ) (a : Array) → index_in c ≡ None → text_width (kind_in c) ≡ Some w → is_sound c a ≡ true → are_few_offsets w a ≡ false
+unfolding is_sound
+sound_texts (column name nullable kind None pairs) w a none wide h = kind_texts_long kind w a wide (sound_buffer kind a h)
+sound_texts (column name nullable kind (Some index) pairs) w a none wide h = absurd cc

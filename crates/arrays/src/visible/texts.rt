@@ -1,0 +1,81 @@
+// Texts that are not UTF-8.
+ghost use Rattle.std.specs.Prelude.{◌≡◌, ◌≤◌, ◌<◌, ◌+◌, ◌&&◌, not, true, false, option_map};
+ghost use Rattle.std.specs.List.{list_any, range_with_len};
+ghost use Rattle.std.specs.Str.{is_utf8};
+ghost use Rattle.arrow_schema.specs.View.{column_of, kind_of};
+ghost use Rattle.columns.specs.Array.{slots_in};
+ghost use Rattle.columns.specs.CellAt.{is_valid, contents_at};
+ghost use Rattle.columns.specs.Offsets.{width_of};
+ghost use Rattle.columns.specs.Sound.{is_sound};
+ghost use Rattle.columns.specs.Tests.{are_few_offsets, has_short_validity};
+ghost use Rattle.columns.specs.View.{view_array};
+ghost use Rattle.arrays.specs.inner.VisibleSpans.{any_slot, is_no_plain_text, text_width};
+
+use arrow_schema::{DataType, Field};
+use columns::{ArrayView, OffsetWidth, bytes_at};
+
+fn is_utf8(text: &[u8]) -> bool
+    ensures { result ≡ is_utf8 text.now }
+{
+    simdutf8::basic::from_utf8(text).is_ok()
+}
+
+fn is_text_at(width: OffsetWidth, view: ArrayView<'_>, i: usize) -> bool
+    requires long { are_few_offsets (width_of width) (view_array view) ≡ false }
+    requires within { i < slots_in (view_array view) }
+    ensures { result ≡ is_utf8 (contents_at (width_of width) (view_array view.entry) i) }
+{
+    is_utf8(bytes_at(view.contents(), view.spanned(width, i, 1)))
+}
+
+fn has_other_bytes(width: OffsetWidth, view: ArrayView<'_>, i: usize) -> bool
+    requires validity { has_short_validity (view_array view) ≡ false }
+    requires long { are_few_offsets (width_of width) (view_array view) ≡ false }
+    requires within { i < slots_in (view_array view) }
+    ensures { let a = view_array view.entry in
+        result ≡ (is_valid a i && not (is_utf8 (contents_at (width_of width) a i))) }
+{
+    view.is_valid(i) && !is_text_at(width, view, i)
+}
+
+// A valid slot of a span has bytes that are no text.
+fn any_not_utf8(width: OffsetWidth, view: ArrayView<'_>, from: usize, count: usize) -> bool
+    requires validity { has_short_validity (view_array view) ≡ false }
+    requires long { are_few_offsets (width_of width) (view_array view) ≡ false }
+    requires within { from + count ≤ slots_in (view_array view) }
+    ensures { let a = view_array view.entry in
+        result ≡ list_any (λ i. is_valid a i && not (is_utf8 (contents_at (width_of width) a i))) (range_with_len from count) }
+{
+    // a number of the code is below 2^64, so that the end is too
+    let _slots = view.slots();
+    for i in from..from + count {
+        if has_other_bytes(width, view, i) {
+            return true;
+        }
+    }
+    false
+}
+
+// How wide the offsets of texts are.
+fn text_width(data_type: &DataType) -> Option<OffsetWidth>
+    ensures { option_map width_of result ≡ text_width (kind_of data_type.now) }
+{
+    match data_type {
+        DataType::Utf8 => Some(OffsetWidth::Four),
+        DataType::LargeUtf8 => Some(OffsetWidth::Eight),
+        _ => None,
+    }
+}
+
+/// F15: a slot of a span is a text that is not UTF-8, in a column without a dictionary.
+#[tactic(auto, unfolding(columns::specs::Sound::is_sound, columns::specs::CellAt::cell_at))]
+pub(crate) fn any_bad_text(field: &Field, view: ArrayView<'_>, from: usize, count: usize) -> bool
+    requires sound { is_sound (column_of field.now) (view_array view) ≡ true }
+    requires within { from + count ≤ slots_in (view_array view) }
+    ensures { result ≡ any_slot is_no_plain_text (column_of field.now) (view_array view.entry) from count }
+{
+    match (&field.dictionary, text_width(&field.data_type)) {
+        (None, Some(width)) => any_not_utf8(width, view, from, count),
+        _ => false,
+    }
+}
