@@ -1,5 +1,5 @@
 -- A call that asks the catalogue in memory is a call of the machine that changes nothing.
-use Rattle.std.specs.Prelude.{◌≡◌, ◌≢◌, ◌+◌, ◌-◌, ◌^◌, ℕ, min, Bool, true, false, nat_lt, if◌then◌else◌, refl}
+use Rattle.std.specs.Prelude.{◌≡◌, ◌≢◌, ◌+◌, ◌-◌, ◌^◌, ℕ, min, Bool, true, false, nat_lt, Result, Err, IfErr, if◌then◌else◌, refl}
 use Rattle.std.proofs.Common.{ap, sym, ◌∙◌, subst, arith}
 use Rattle.std.proofs.lemmas.Bool.Decides.{nat_tests}
 use Rattle.sector_dev.specs.Disk.{Story, now}
@@ -7,6 +7,7 @@ use Rattle.sector_dev.specs.Time.{LeavesOnly}
 use Rattle.sector_dev.specs.laws.Time.{stays}
 use Rattle.sector_dev.specs.declared.device.SectorDevice.{Ghosts}
 use Rattle.tables.specs.Tables.{Tables}
+use Rattle.tables.specs.declared.refusal.Refusal.{Refusal}
 use Rattle.store.specs.declared.store.Store.{Store}
 use Rattle.store.specs.Calls.{PlainCall, PlainReply, is_device_reply}
 use Rattle.store.specs.Machine.{Phase, running, halted, Machine, Allows, AllowsEach, has_written}
@@ -24,6 +25,10 @@ is_running p h phase off = phase ∙ ap (λ (b : Bool). if b then halted else ru
 
 not_less : (n : ℕ) → nat_lt n n ≡ false
 not_less n = grind (arith, nat_tests)
+
+-- what holds of the one refusal that there is
+pub told_of : {T : Type 0} (r : Result T Refusal) (e : Refusal) (P : Refusal → Type 0) → r ≡ Err e → P e → IfErr r P
+told_of r e P is p = subst (λ x. IfErr x P) (sym is) p
 
 -- a step that writes nothing, of a store that stays as it is
 pub still : {D : Type 0} {g : Ghosts D} (size : D → ℕ) (story : D → Story) (failed : D → ℕ) (base : Tables) (m : Machine) (call : PlainCall) (reply : PlainReply) (store : Store D g)

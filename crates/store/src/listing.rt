@@ -1,6 +1,7 @@
 // What is asked of the catalogue in memory: no call of the device is made.
 use crate::Store;
 use arrow_schema::Schema;
+use catalogue::Catalogue;
 use sector_dev::SectorDevice;
 use std::alloc::Global;
 use tables::Refusal;
@@ -15,6 +16,18 @@ impl<D: SectorDevice> Store<D> {
     ghost use Rattle.store.specs.Fits.{StoreFits, listed_in, is_halted};
     ghost use Rattle.store.specs.Applying.{GoesOn};
     ghost use Rattle.store.specs.Listing.{RefusesTables, RefusesSchema};
+
+    // The catalogue, unless the device failed.
+    fn listed(&self) -> Result<&Catalogue, Refusal>
+        ensures { MatchResult result
+            (λ list. (list.now ≡ self.now.opened.catalogue.list) × (self.now.halted ≡ false)) (λ e. (e ≡ Refusal.Halted) × (self.now.halted ≡ true)) }
+    {
+        if self.halted {
+            Err(Refusal::Halted)
+        } else {
+            Ok(&self.opened.catalogue.list)
+        }
+    }
 
     /// The names of the tables, in byte order, and how many rows each has.
     ///
@@ -31,13 +44,8 @@ impl<D: SectorDevice> Store<D> {
             (λ found. (is_halted self.now ≡ false) × (map (λ t. (string_bytes t.0, t.1)) found.items ≡ tables_of (listed_in self.now)))
             (λ e. RefusesTables (is_halted self.now) e) }
     {
-        if self.halted {
-            return Err(Refusal::Halted);
-        }
-        match self.opened.catalogue.list.tables(alloc) {
-            Ok(tables) => Ok(tables),
-            Err(_) => Err(Refusal::OutOfMemory),
-        }
+        let list = self.listed()?;
+        Ok(list.tables(alloc)?)
     }
 
     /// The schema of a table.
@@ -54,14 +62,9 @@ impl<D: SectorDevice> Store<D> {
             × (option_map (λ e. e.schema) (entry_of (listed_in self.now) name.now) ≡ Some (schema_of found)))
             (λ e. RefusesSchema (is_halted self.now) (entry_of (listed_in self.now) name.now) e) }
     {
-        if self.halted {
-            return Err(Refusal::Halted);
-        }
-        match self.opened.catalogue.list.get(name) {
-            Some(entry) => match entry.schema.copy(alloc) {
-                Ok(schema) => Ok(schema),
-                Err(_) => Err(Refusal::OutOfMemory),
-            },
+        let list = self.listed()?;
+        match list.get(name) {
+            Some(entry) => Ok(entry.schema.copy(alloc)?),
             None => Err(Refusal::NoTable),
         }
     }
