@@ -1,8 +1,8 @@
 //! The store: named tables on a device, through commands, failures and stops.
 //!
 //! What runs of calls mean stands here: how a reply follows from the tables (`specs/Steps.antt`), what a stop at any moment
-//! may leave (`specs/Machine.antt`), and what follows for a whole run. A store is opened and closed; its other calls are
-//! not there yet.
+//! may leave (`specs/Machine.antt`), and what follows for a whole run. A store is formatted, opened and closed, and tells its
+//! tables and their schemas; its other calls are not there yet.
 //!
 //! ```
 //! match Store::open(alloc, device) {

@@ -2,8 +2,8 @@
 //!
 //! A command is judged by the tables alone: `verdict` (`specs/Verdict.antt`) is the tables after it, or the first of its
 //! tests that fails, and `after` goes over a list of commands. Promised are laws of these words for the crates above
-//! ([`a_refused_command_changes_nothing`], [`a_command_changes_its_names_alone`], [`commands_in_turn`]), and how a
-//! [`Refusal`] is reported.
+//! ([`a_refused_command_changes_nothing`], [`a_command_changes_its_names_alone`], [`commands_in_turn`],
+//! [`tables_stay_tables`]), and how a [`Refusal`] is reported.
 //!
 //! ```
 //! assert_eq!(format!(in alloc; "refused {}", Refusal::NoRoom(1))?, "refused S8 NoRoom 1");
