@@ -75,6 +75,7 @@ fn read_store<C: ReadCatalogue, D: SectorDevice>(
         (λ store. D.tells ≡ true → standing_shown C.reading (D.size device.old) (D.story device.old) ≡ rules store.commit (C.plain_of store.catalogue)) }
     ensures refused { IfErr result (λ e. D.tells ≡ true → TellsStanding e (standing_shown C.reading (D.size device.old) (D.story device.old))) }
     ensures device { IfOk result (λ store. store.commit.device_sectors ≡ D.size device.old) }
+    ensures placed { IfOk result (λ store. is_on_device (D.size device.old) store.commit.catalogue.run ≡ true) }
     ensures fit { IfOk result (λ store. runs_fault (D.size device.old) store.commit.catalogue.run (C.reading.runs (C.plain_of store.catalogue)) ≡ None) }
     ensures map_size { IfOk result (λ store. store.map.size ≡ D.size device.old) }
     ensures uses { IfOk result (λ store. Uses store.map.entries (used_runs C.reading store.commit (C.plain_of store.catalogue)) []) }
@@ -114,6 +115,7 @@ pub fn recover<C: ReadCatalogue, D: SectorDevice>(
     // Also of a device that doesn't tell its story.
     ensures in_limits { OnOk result (is_size (D.size device.old) ≡ true) }
     ensures device { IfOk result (λ store. store.commit.device_sectors ≡ D.size device.old) }
+    ensures placed { IfOk result (λ store. is_on_device (D.size device.old) store.commit.catalogue.run ≡ true) }
     ensures fit { IfOk result (λ store. runs_fault (D.size device.old) store.commit.catalogue.run (C.reading.runs (C.plain_of store.catalogue)) ≡ None) }
     ensures map_size { IfOk result (λ store. store.map.size ≡ D.size device.old) }
     ensures uses { IfOk result (λ store. Uses store.map.entries (used_runs C.reading store.commit (C.plain_of store.catalogue)) []) }

@@ -1,8 +1,8 @@
 -- A formatting is a call of the machine.
-use Rattle.std.specs.Prelude.{◌≡◌, ◌≢◌, ◌⊎◌, ◌<◌, ◌&&◌, ℕ, Bool, true, false, nat_lt, [], Option, Some, None, Result, Ok, Err, if◌then◌else◌, refl}
+use Rattle.std.specs.Prelude.{◌≡◌, ◌≢◌, ◌⊎◌, ◌≤◌, ◌<◌, ◌&&◌, ℕ, Bool, true, false, nat_le, nat_lt, [], Option, Some, None, Result, Ok, Err, if◌then◌else◌, refl}
 use Rattle.std.proofs.Common.{inl, inr, ap, sym, subst, ◌∙◌, arith}
 use Rattle.std.proofs.lemmas.Bool.Decides.{nat_tests}
-use Rattle.std.proofs.lemmas.Bool.{lt-ltb}
+use Rattle.std.proofs.lemmas.Bool.{and_parts, leb-true, le-leb, lt-ltb}
 use Rattle.sector_dev.specs.Disk.{Disk, Story, Image, now, MayLeave, ShowsImage, shown_image, synced_image}
 use Rattle.sector_dev.specs.Time.{Grows, LeavesOnly, OnlyReads}
 use Rattle.sector_dev.specs.laws.Time.{weaken, now_has}
@@ -13,7 +13,7 @@ use Rattle.commit.specs.declared.cause.Cause.TheVariants.{DeviceSize}
 use Rattle.commit.specs.declared.formatting.FormatError.{FormatError}
 use Rattle.commit.specs.declared.formatting.FormatError.TheVariants as errors
 use Rattle.commit.specs.Ruling.{ruling}
-use Rattle.commit.specs.Standing.{is_size, rules, standing, runs_fault, Stands}
+use Rattle.commit.specs.Standing.{is_size, is_on_device, rules, standing, runs_fault, Stands}
 use Rattle.commit.specs.Formatting.{IsNoneOrEmpty, IsEmptyStore, IsFormatting, IsFormatted, first_commit, empty_text, CountsFormat}
 use Rattle.commit.specs.laws.Frame.{stands_nowhere, none_stands, empty_stands}
 use Rattle.segments.specs.declared.run.Run.{Run}
@@ -38,6 +38,12 @@ formatting_counts (Err errors.AlreadyAStore) e f f' is counts = let same : error
 formatting_counts (Err (errors.Damaged cause)) e f f' is counts = let same : errors.Damaged cause ≡ e = cc is in subst (λ (k : FormatError). f' ≡ counted (shut_by (formatting_of k)) f) same counts
 formatting_counts (Err errors.Device) e f f' is counts = let same : errors.Device ≡ e = cc is in subst (λ (k : FormatError). f' ≡ counted (shut_by (formatting_of k)) f) same counts
 formatting_counts (Err errors.OutOfMemory) e f f' is counts = let same : errors.OutOfMemory ≡ e = cc is in subst (λ (k : FormatError). f' ≡ counted (shut_by (formatting_of k)) f) same counts
+
+-- the run of the first catalogue lies on the device
+pub first_placed : (size : ℕ) → is_size size ≡ true → is_on_device size (first_commit size).catalogue.run ≡ true
+first_placed size limits =
+    let least : 16 ≤ size = leb-true _ _ (and_parts (nat_le 16 size) (nat_le size 4194304) limits).0 in
+    le-leb 3 size (omega (arith, least))
 
 -- a device of a size that no store has
 pub formatting_limits : {T : Type 0} (r : Result T FormatError) (e : FormatError) → r ≡ Err e → r ≡ Err (errors.Damaged DeviceSize) → e ≡ errors.Damaged DeviceSize

@@ -3,3 +3,5 @@ mod Formatted
 mod Asked
 mod EditedCounts
 mod Tested
+mod Prepared
+mod Carried

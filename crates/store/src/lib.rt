@@ -12,6 +12,7 @@
 //! ```
 #![tactic(auto)]
 
+mod carrying;
 mod change;
 mod deciding;
 mod editing;

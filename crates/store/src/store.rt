@@ -1,6 +1,7 @@
 // An open store.
-ghost use Rattle.std.specs.Prelude.{◌≡◌, true, None};
-ghost use Rattle.commit.specs.Standing.{is_size, runs_fault};
+ghost use Rattle.std.specs.Prelude.{◌≡◌, ◌∷◌, [], true, None};
+ghost use Rattle.commit.specs.Standing.{is_size, is_on_device, runs_fault};
+ghost use Rattle.commit.specs.Placing.{Uses};
 ghost use Rattle.catalogue.specs.Entries.{runs_of};
 ghost use Rattle.catalogue.specs.View.{catalogue_of};
 
@@ -21,6 +22,8 @@ pub struct Store<D: SectorDevice> {
     ghost same: { opened.map.size ≡ D.size device },
     ghost own: { opened.commit.device_sectors ≡ D.size device },
     ghost fit: { runs_fault (D.size device) opened.commit.catalogue.run (runs_of (catalogue_of opened.catalogue.list)) ≡ None },
+    ghost placed: { is_on_device (D.size device) opened.commit.catalogue.run ≡ true },
+    ghost uses: { Uses opened.map.entries (opened.commit.catalogue.run ∷ runs_of (catalogue_of opened.catalogue.list)) [] },
 }
 
 impl<D: SectorDevice> Store<D> {

@@ -1,9 +1,9 @@
 // The catalogue of a store, as commits know one.
-ghost use Rattle.catalogue.specs.Entries.{PlainCatalogue};
+ghost use Rattle.catalogue.specs.Entries.{PlainCatalogue, AreRead};
 ghost use Rattle.catalogue.specs.View.{catalogue_of};
 ghost use Rattle.store.specs.Held.{whole_reading, whole_is_local};
 
-use catalogue::{Catalogue, DecodeError, decode};
+use catalogue::{Catalogue, DecodeError, decode, one_text_each};
 use commit::{Cause, Commit, OpenError, ReadCatalogue};
 use sector_dev::SectorDevice;
 use segments::Run;
@@ -13,6 +13,7 @@ use std::alloc::{AllocError, Global};
 #[derive(Drop)]
 pub struct StoredCatalogue {
     pub list: Catalogue,
+    ghost read: { AreRead (catalogue_of list) },
 }
 
 impl ReadCatalogue for StoredCatalogue {
@@ -28,6 +29,7 @@ impl ReadCatalogue for StoredCatalogue {
         _commit: Commit,
         text: &[u8],
     ) -> Result<Self, OpenError> {
+        one_text_each();
         match decode(alloc, text) {
             Ok(list) => Ok(StoredCatalogue { list }),
             Err(DecodeError::NoText) => Err(OpenError::Damaged(Cause::CatalogueText)),

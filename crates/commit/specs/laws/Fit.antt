@@ -74,7 +74,7 @@ not_itself r some (inl before) = omega arith
 not_itself r some (inr before) = omega arith
 
 -- none of them is listed twice
-once : (rs : List Run) (r : Run) → are_apart rs ≡ true → 1 ≤ r.count → times_among rs r ≤ 1
+pub once : (rs : List Run) (r : Run) → are_apart rs ≡ true → 1 ≤ r.count → times_among rs r ≤ 1
 once [] r is some = omega arith
 once (x ∷ xs) r is some = by_first (same_run x r) refl (once xs r parts.1 some)
   where
@@ -147,7 +147,7 @@ took_on size used (n ∷ ns) (r ∷ rs) took some run among =
     (λ (later : is_among rs run ≡ true). took_on size (λ other. used other ⊎ (other ≡ r)) ns rs took.1 some.1 run later)
     (among_cases r rs run among)
 
-all_on : (size : ℕ) (rs : List Run) (run : Run) → all_on_device size rs ≡ true → is_among rs run ≡ true → is_on_device size run ≡ true
+pub all_on : (size : ℕ) (rs : List Run) (run : Run) → all_on_device size rs ≡ true → is_among rs run ≡ true → is_on_device size run ≡ true
 all_on size [] run is among = absurd (cc among)
 all_on size (r ∷ rs) run is among =
     let parts = and_parts (is_on_device size r) (all_on_device size rs) is in

@@ -70,7 +70,8 @@ took_front size used (m ∷ []) [] n r took = absurd took.1
 took_front size used (m ∷ l ∷ ls) [] n r took = absurd took.1
 took_front size used (m ∷ ms) (x ∷ xs) n r took = (took.0, took_front size (λ other. used other ⊎ (other ≡ x)) ms xs n r took.1)
 
-same_sectors : (contents : List (Vec ℕ)) → map sectors_of contents ≡ map stream_sectors (map (λ (v : Vec ℕ). v.items) contents)
+-- the sectors of contents, by their plain bytes
+pub same_sectors : (contents : List (Vec ℕ)) → map sectors_of contents ≡ map stream_sectors (map (λ (v : Vec ℕ). v.items) contents)
 same_sectors [] = refl
 same_sectors (v ∷ vs) = ap (λ (ns : List ℕ). sectors_of v ∷ ns) (same_sectors vs)
 

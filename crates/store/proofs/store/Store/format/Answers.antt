@@ -7,7 +7,7 @@ use Rattle.commit.specs.declared.formatting.FormatError.{FormatError}
 use Rattle.commit.specs.declared.formatting.FormatError.TheVariants as errors
 use Rattle.commit.specs.declared.sector.Commit.{Commit}
 use Rattle.commit.specs.Ruling.{ruling}
-use Rattle.commit.specs.Standing.{is_size, Stands}
+use Rattle.commit.specs.Standing.{is_size, is_on_device, Stands}
 use Rattle.commit.specs.Formatting.{first_commit}
 use Rattle.commit.specs.Placing.{Uses}
 use Rattle.catalogue.specs.Entries.{PlainCatalogue, runs_of}
@@ -19,7 +19,7 @@ use Rattle.store.specs.Runs.{Goes, counted}
 use Rattle.store.specs.Held.{whole_reading, tables_held}
 use Rattle.store.specs.Fits.{setting_of}
 use Rattle.store.specs.Opening.{formatting_of, TellsFormatting}
-use Rattle.store.proofs.Formatted.{formatting_counts, formatting_limits, formatted_limits, formatting_tells, no_runs, early_moments, early_none, format_refused, refused_allows, format_done, formatted_stands, new_tables}
+use Rattle.store.proofs.Formatted.{formatting_counts, formatting_limits, formatted_limits, first_placed, formatting_tells, no_runs, early_moments, early_none, format_refused, refused_allows, format_done, formatted_stands, new_tables}
 use Rattle.store.proofs.store.Store.format.Goals as goal
 
 pub invariant_of-result : goal.invariant_of-result
@@ -32,6 +32,8 @@ invariant_of-result g c =
       same = c.in-Ok.ensures.map_size ∙ sym c.format.ensures.size;
       own = ap (λ (k : Commit). k.device_sectors) c.in-Ok.ensures.commit ∙ sym c.format.ensures.size;
       fit = no_runs (D.size c.format.new.device) c.in-Ok.commit.catalogue.run (catalogue_of c.empty.result) c.empty.ensures;
+      placed = (λ i. is_on_device (c.format.ensures.size i) (c.in-Ok.ensures.commit i).catalogue.run) ∙ first_placed size limits;
+      uses = subst (λ (x : PlainCatalogue). Uses c.in-Ok.map.entries (c.in-Ok.commit.catalogue.run ∷ runs_of x) []) (sym c.empty.ensures) c.in-Ok.ensures.uses;
     }
 
 pub returns-in-Ok-clause-opened : goal.returns-in-Ok-clause-opened

@@ -1,0 +1,167 @@
+-- A command in the words of the machine, from what publishing promises.
+use Rattle.std.specs.Prelude.{◌≡◌, ◌≢◌, ◌⊎◌, ◌≤◌, ◌<◌, ◌+◌, ◌-◌, ◌%◌, ◌^◌, ◌&&◌, ℕ, min, Bool, true, false, nat_lt, if◌then◌else◌, List, [], ◌∷◌, ◌++◌, Option, Some, None, Result, Ok, Err, IsOk, is_ok, refl}
+use Rattle.std.proofs.Common.{inl, inr, ⊎_elim, sym, ap, ◌∙◌, subst, arith}
+use Rattle.std.proofs.lemmas.Bool.{lt-ltb}
+use Rattle.std.proofs.lemmas.Bool.Decides.{nat_tests}
+use Rattle.sector_dev.specs.Disk.{Disk, Sector, Story, Image, now, MayLeave, synced_image}
+use Rattle.sector_dev.specs.Time.{Grows, LeavesOnly}
+use Rattle.sector_dev.specs.laws.Time.{weaken, now_has, stays}
+use Rattle.sector_dev.specs.laws.Crash.{only_image}
+use Rattle.segments.specs.declared.run.Run.{Run}
+use Rattle.segments.specs.declared.piece.Piece.{Piece}
+use Rattle.segments.specs.Usages.{Space, IsUsedIn}
+use Rattle.segments.specs.Writing.{runs_of, HoldsEach}
+use Rattle.catalogue.specs.Entries.{PlainCatalogue, IsCatalogue}
+use Rattle.catalogue.specs.Entries as entries
+use Rattle.catalogue.specs.View.{catalogue_of}
+use Rattle.commit.specs.declared.sector.Commit.{Commit}
+use Rattle.commit.specs.declared.publishing.Plan.{Plan}
+use Rattle.commit.specs.Placing.{Uses, Takes}
+use Rattle.commit.specs.Publishing.{IsOutside, IsOldOrNew, IsPublishing, IsPublished}
+use Rattle.commit.specs.Replacing.{CanReplace, StandsAs}
+use Rattle.commit.specs.Standing.{rules, standing, Stands, runs_fault, is_on_device}
+use Rattle.commit.specs.laws.Frame.{above_used}
+use Rattle.tables.specs.declared.refusal.Refusal.{Refusal}
+use Rattle.tables.specs.declared.refusal.Refusal.TheVariants as refusals
+use Rattle.tables.specs.declared.refusal.Limit.TheVariants as limits
+use Rattle.tables.specs.Refusals.{origin_of}
+use Rattle.tables.specs.Tables.{Tables}
+use Rattle.tables.specs.Commands.{PlainCommand}
+use Rattle.tables.specs.Verdict.{verdict, after, step}
+use Rattle.tables.specs.laws.Steps.{accepted, after_one_more}
+use Rattle.store.specs.declared.stored.StoredCatalogue.{StoredCatalogue}
+use Rattle.store.specs.Calls.{apply_call, PlainReply, done, refused, is_failure, may_be_done}
+use Rattle.store.specs.Machine.{Held, holds, Machine, running, with_doubt, tables_now, Allows, AllowsEach, meanwhile, has_written, settle, halt}
+use Rattle.store.specs.Steps.{Step, RefusesFrom}
+use Rattle.store.specs.Runs.{Goes, counted}
+use Rattle.store.specs.Held.{whole_reading, tables_held, held_tables, held_of, held_by}
+use Rattle.store.specs.Fits.{setting_of}
+use Rattle.store.specs.Changes.{PlainChange, IsChange, MakesOf, placed_segments}
+use Rattle.store.specs.Applying.{IsCarried}
+use Rattle.store.specs.inner.Prepared.{placed, IsPrepared}
+use Rattle.store.specs.laws.Frame.{held_is, same_tables}
+use Rattle.store.specs.laws.Changed.{edited_held}
+use Rattle.store.proofs.Prepared.{can_replace, streams_held}
+
+not_less : (n : ℕ) → nat_lt n n ≡ false
+not_less n = grind (arith, nat_tests)
+
+low : (n : ℕ) → n % 2 < 2
+low n = omega arith
+
+uncounted : (r : Refusal) (failed : ℕ) → r ≢ refusals.Device → failed ≡ counted (refused r) failed
+uncounted refusals.Device failed other = absurd (other refl)
+uncounted _ failed other = refl
+
+module _ (size : ℕ) (base : Tables) (m : Machine) (c : PlainCommand) (new : Tables) (on : m.phase ≡ running) (makes : verdict (tables_now (setting_of size base) m) c ≡ Ok new) where
+  is_accepted : IsOk (verdict (tables_now (setting_of size base) m) c)
+  is_accepted = ap is_ok makes
+
+  -- the command makes these tables
+  pub new_after : new ≡ after base (m.settled ++ c ∷ [])
+  new_after = sym (after_one_more base m.settled c ∙ accepted (after base m.settled) new c makes)
+
+  -- ---- refused before anything is written
+
+  module _ (k : Commit) (was : PlainCatalogue) (used : Run → Type 0) (change : PlainChange) where
+    refused_step : (s0 : Story) (r : Refusal) → IsCarried size used k was change (Err r) k was → r ≢ refusals.Device → RefusesFrom (origin_of r) (setting_of size base) m c r (has_written (now s0) (now s0)) m
+    refused_step s0 (refusals.TooMany limits.Epochs) carried other = (on, is_accepted, (not_less (now s0).writes, refl))
+    refused_step s0 (refusals.TooMany limits.Segments) carried other = (on, is_accepted, (not_less (now s0).writes, refl))
+    refused_step s0 (refusals.NoRoom count) carried other = (on, is_accepted, (not_less (now s0).writes, refl))
+    refused_step s0 refusals.OutOfMemory carried other = (on, (not_less (now s0).writes, refl))
+    refused_step s0 refusals.Device carried other = absurd (other refl)
+    refused_step s0 _ carried other = absurd carried
+
+    pub refused_goes : (s0 : Story) (failed : ℕ) (r : Refusal) → LeavesOnly (Allows (setting_of size base) m) (now s0) → IsCarried size used k was change (Err r) k was → r ≢ refusals.Device
+        → Goes (setting_of size base) m (apply_call c) (refused r) s0 s0 failed failed m
+    unfolding Step
+    refused_goes s0 failed r allows carried other = record {
+      step = refused_step s0 r carried other;
+      moments = stays (AllowsEach (setting_of size base) (apply_call c) (refused r) m (now s0)) s0;
+      settles = allows;
+      quiet = λ no device. refl;
+      counts = uncounted r failed other;
+    }
+
+  -- ---- published
+
+  module _ (s0 s1 : Story) (k' : Commit) (pieces : List Piece) (Old New : Image → Type 0) (allows : LeavesOnly (Allows (setting_of size base) m) (now s0))
+      (old_held : (image : Image) → IsOldOrNew (now s0) k' pieces Old New image → Old image → held_by size image ≡ holds (after base m.settled))
+      (new_held : (image : Image) → IsOldOrNew (now s0) k' pieces Old New image → New image → HoldsEach image pieces → held_by size image ≡ holds new)
+      (moments : Grows (IsPublishing (now s0) k' pieces Old New) s0 s1) where
+    either : (image : Image) → IsOldOrNew (now s0) k' pieces Old New image → Allows (setting_of size base) (meanwhile (apply_call c) m true) image
+    unfolding Allows
+    either image is =
+        ⊎_elim (λ (was : Old image). inl (old_held image is was))
+        (λ (both : New image × HoldsEach image pieces). inr (inl (new_held image is both.0 both.1 ∙ ap holds new_after))) is.which
+
+    -- at each moment, by whether a write has begun
+    at_moment : (d : Disk) → IsPublishing (now s0) k' pieces Old New d → LeavesOnly (Allows (setting_of size base) (meanwhile (apply_call c) m (has_written (now s0) d))) d
+    at_moment d p = by_writes (has_written (now s0) d) refl
+      where
+        by_writes : (wrote : Bool) → has_written (now s0) d ≡ wrote → LeavesOnly (Allows (setting_of size base) (meanwhile (apply_call c) m wrote)) d
+        by_writes true is = λ image may. either image (p.leaves image may)
+        by_writes false is =
+            ⊎_elim (λ (same : d ≡ now s0). subst (λ (x : Disk). LeavesOnly (Allows (setting_of size base) m) x) (sym same) allows)
+            (λ (begun : (now s0).writes < d.writes). let yes' = lt-ltb (now s0).writes d.writes begun in absurd (cc (yes', is))) p.begun
+
+    meantime : Grows (λ d. LeavesOnly (Allows (setting_of size base) (meanwhile (apply_call c) m (has_written (now s0) d))) d) s0 s1
+    meantime = weaken at_moment moments
+
+    start : LeavesOnly (Allows (setting_of size base) (meanwhile (apply_call c) m (has_written (now s0) (now s0)))) (now s0)
+    start = subst (λ (wrote : Bool). LeavesOnly (Allows (setting_of size base) (meanwhile (apply_call c) m wrote)) (now s0)) (sym (not_less (now s0).writes)) allows
+
+    halted_allows : (wrote : Bool) (d : Disk) → LeavesOnly (Allows (setting_of size base) (meanwhile (apply_call c) m wrote)) d → LeavesOnly (Allows (setting_of size base) (halt (apply_call c) wrote m)) d
+    unfolding Allows
+    halted_allows true d leaves = leaves
+    halted_allows false d leaves = leaves
+
+    pub failed_goes : (failed failed' : ℕ) → failed' ≡ min (failed + 1) (2 ^ 64 - 1) → Goes (setting_of size base) m (apply_call c) (refused refusals.Device) s0 s1 failed failed' (halt (apply_call c) (has_written (now s0) (now s1)) m)
+    unfolding Step
+    failed_goes failed failed' counts = record {
+      step = (on, refl);
+      moments = meantime;
+      settles = halted_allows (has_written (now s0) (now s1)) (now s1) (now_has {P = λ d. LeavesOnly (Allows (setting_of size base) (meanwhile (apply_call c) m (has_written (now s0) d))) d} start meantime);
+      quiet = λ no device. absurd (cc device);
+      counts = counts;
+    }
+
+    pub done_goes : (failed failed' : ℕ) → failed' ≡ failed → IsPublished (now s0) k' pieces New (now s1) → held_by size (synced_image (now s1)) ≡ holds new
+        → Goes (setting_of size base) m (apply_call c) done s0 s1 failed failed' (settle c m)
+    unfolding Step Allows
+    done_goes failed failed' counts p held = record {
+      step = (on, is_accepted, lt-ltb (now s0).writes (now s1).writes p.begun, refl);
+      moments = meantime;
+      settles = λ image may. inl (ap (held_by size) (only_image (now s1) image p.quiet.pending may) ∙ held ∙ ap holds new_after);
+      quiet = λ no device. absurd (cc no);
+      counts = counts;
+    }
+
+-- ---- what the images of a publishing hold
+
+module _ (old new : Space) (k : Commit) (was : PlainCatalogue) (change : PlainChange) (plan : Plan StoredCatalogue) (back : List Run) (p : IsPrepared old new k was change plan back)
+    (size : ℕ) (d : Disk) (can : CanReplace whole_reading size d (record { old = k; was = was; new = plan.commit; will = catalogue_of plan.catalogue.list; pieces = plan.pieces.items }))
+    (listed : IsCatalogue was) (sound : IsChange was change) (t u : Tables) (tables : tables_held (synced_image d) was ≡ Some t) (makes : MakesOf t change u) where
+  -- the tables that stood are not touched
+  was_held : (image : Image) → ((n : ℕ) → IsOutside plan.commit plan.pieces.items n → image n ≡ (d.at n).synced) → tables_held image was ≡ Some t
+  was_held image outside =
+      same_tables (synced_image d) image was listed.entries
+      (λ n within. outside n (can.free n (inr within), λ e. let above = above_used whole_reading size (synced_image d) k was n can.stands.found (inr within) in omega (arith, above, e, low plan.commit.epoch)))
+      ∙ tables
+
+  pub old_held : (image : Image) → ((n : ℕ) → IsOutside plan.commit plan.pieces.items n → image n ≡ (d.at n).synced) → StandsAs whole_reading size k was image → held_by size image ≡ holds t
+  old_held image outside stands = held_is size image k was stands ∙ ap held_tables (was_held image outside)
+
+  -- the new ones lie in the pieces and in what was not touched
+  pub new_tables : (image : Image) → ((n : ℕ) → IsOutside plan.commit plan.pieces.items n → image n ≡ (d.at n).synced) → HoldsEach image plan.pieces.items → tables_held image (catalogue_of plan.catalogue.list) ≡ Some u
+  new_tables image outside holds_each =
+      ap (tables_held image) p.catalogue
+      ∙ edited_held image was change t u (placed_segments (runs_of p.pieces) change.streams change.counts) listed (was_held image outside) sound makes (streams_held old new k was change plan back p image sound holds_each)
+
+  pub new_held : (image : Image) → ((n : ℕ) → IsOutside plan.commit plan.pieces.items n → image n ≡ (d.at n).synced) → StandsAs whole_reading size plan.commit (catalogue_of plan.catalogue.list) image → HoldsEach image plan.pieces.items
+      → held_by size image ≡ holds u
+  new_held image outside stands holds_each = held_is size image plan.commit (catalogue_of plan.catalogue.list) stands ∙ ap held_tables (new_tables image outside holds_each)
+
+  -- after it
+  pub synced_outside : (after : Disk) → ((n : ℕ) → IsOutside plan.commit plan.pieces.items n → after.at n ≡ d.at n) → (n : ℕ) → IsOutside plan.commit plan.pieces.items n → synced_image after n ≡ (d.at n).synced
+  synced_outside after same n out = ap (λ (s : Sector). s.synced) (same n out)

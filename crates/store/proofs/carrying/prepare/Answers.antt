@@ -1,0 +1,58 @@
+use Rattle.std.proofs.Common.{◌≡◌, ◌≤◌, ◌<◌, ℕ, List, length, refl, sym, ap, ◌∙◌, subst, arith}
+use Rattle.std.specs.Prelude.{◌-◌, ◌^◌, Ok, Err, Result, map}
+use Rattle.std.proofs.lemmas.List.{length-map}
+use Rattle.std.specs.Global.{Vec}
+use Rattle.segments.specs.Usages.{IsUsedIn}
+use Rattle.catalogue.specs.declared.limits.TheConstants.{MAX_SEGMENTS}
+use Rattle.catalogue.specs.Entries.{segment_count}
+use Rattle.catalogue.specs.View.{catalogue_of}
+use Rattle.commit.specs.Placing.{Takes}
+use Rattle.tables.specs.declared.refusal.Refusal.{Refusal}
+use Rattle.store.specs.Changes.{PlainChange, change_of}
+use Rattle.store.specs.Applying.{HasNext, IsCarried, outline, unplaced}
+use Rattle.store.specs.laws.Segments.{unplaced_number}
+use Rattle.store.proofs.Prepared.{taking_carried}
+use Rattle.store.proofs.carrying.prepare.Goals as goal
+
+pub returns-then-segments_after-gt-MAX_SEGMENTS-clause-why : goal.returns-then-segments_after-gt-MAX_SEGMENTS-clause-why
+returns-then-segments_after-gt-MAX_SEGMENTS-clause-why c =
+    let change : PlainChange = change_of c.args.change in
+    let streams = length-map c.args.change.streams.items (λ (v : Vec ℕ). v.items) in
+    let long = unplaced_number change.streams change.counts c.requires.sound.each in
+    let len = c.len-new.ensures in
+    let whole = c.args.change.streams.ok in
+    let many : length (unplaced change.streams change.counts) ≡ c.len-new.result = omega (arith, long, streams, len, whole) in
+    let after = c.segments_after.ensures (unplaced change.streams change.counts) many in
+    let above = c.if-segments_after-gt-MAX_SEGMENTS.true in
+    (omega arith, omega (arith, after, above))
+
+pub plan_change-requires-clause-few : goal.plan_change-requires-clause-few
+plan_change-requires-clause-few c =
+    let change : PlainChange = change_of c.args.change in
+    let streams = length-map c.args.change.streams.items (λ (v : Vec ℕ). v.items) in
+    let long = unplaced_number change.streams change.counts c.requires.sound.each in
+    let len = c.len-new.ensures in
+    let whole = c.args.change.streams.ok in
+    let many : length (unplaced change.streams change.counts) ≡ c.len-new.result = omega (arith, long, streams, len, whole) in
+    let after = c.segments_after.ensures (unplaced change.streams change.counts) many in
+    let within = c.if-segments_after-gt-MAX_SEGMENTS.false in
+    omega (arith, after, within)
+
+pub returns-in-Err-clause-why : goal.returns-in-Err-clause-why
+returns-in-Err-clause-why c =
+    let listed = catalogue_of c.args.stored.now.list in
+    let change : PlainChange = change_of c.args.change in
+    let streams = length-map c.args.change.streams.items (λ (v : Vec ℕ). v.items) in
+    let long = unplaced_number change.streams change.counts c.requires.sound.each in
+    let len = c.len-new.ensures in
+    let whole = c.args.change.streams.ok in
+    let many : length (unplaced change.streams change.counts) ≡ c.len-new.result = omega (arith, long, streams, len, whole) in
+    let after = c.segments_after.ensures (unplaced change.streams change.counts) many in
+    let within = c.if-segments_after-gt-MAX_SEGMENTS.false in
+    let next : HasNext c.args.commit = omega arith in
+    let few : segment_count (outline listed change) ≤ MAX_SEGMENTS = omega (arith, after, within) in
+    subst (λ (r : Refusal). IsCarried c.args.map.now.size (IsUsedIn c.args.map.now.entries) c.args.commit listed change (Err r) c.args.commit listed) (sym c.taking_refusal.ensures)
+    (taking_carried c.args.map.now.size (IsUsedIn c.args.map.now.entries) c.args.commit listed change c.in-Err.error next few c.in-Err.ensures.no_room)
+
+pub segments_after-requires-clause-edit : goal.segments_after-requires-clause-edit
+segments_after-requires-clause-edit c = let change : PlainChange = change_of c.args.change in (change.streams, c.requires.sound.edit)

@@ -1,0 +1,19 @@
+use Rattle.std.proofs.Common.{◌≡◌, ◌∙◌, ℕ, true, List, map, sym, subst}
+use Rattle.std.specs.Global.{Vec}
+use Rattle.std.specs.List.{list_all}
+use Rattle.catalogue.specs.declared.entry.Segment.{Segment}
+use Rattle.catalogue.specs.Entries.{is_segment}
+use Rattle.store.specs.Changes.{PlainChange, change_of}
+use Rattle.store.specs.Applying.{unplaced}
+use Rattle.store.specs.laws.Segments.{are_streams, unplaced_sound}
+use Rattle.store.proofs.carrying.text_size.Goals as goal
+
+pub edited-requires-clause-edit : goal.edited-requires-clause-edit
+edited-requires-clause-edit c = let change : PlainChange = change_of c.args.change.now in (change.streams, c.requires.sound.edit)
+
+pub edited-requires-clause-sound : goal.edited-requires-clause-sound
+edited-requires-clause-sound c =
+    let change : PlainChange = change_of c.args.change.now in
+    let same : unplaced (map (λ (v : Vec ℕ). v.items) c.deref.result.now) c.deref-2.result.now ≡ unplaced change.streams change.counts = λ i. unplaced (map (λ (v : Vec ℕ). v.items) (c.deref.ensures.value i)) (c.deref-2.ensures.value i) in
+    subst (λ (xs : List Segment). list_all is_segment xs ≡ true) (sym (c.deref-3.ensures.value ∙ c.in_ok-segments.ensures ∙ same))
+    (unplaced_sound change.streams change.counts (are_streams change.streams c.requires.sound.some c.requires.sound.short) c.requires.sound.rows)

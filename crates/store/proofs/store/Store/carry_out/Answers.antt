@@ -1,0 +1,219 @@
+use Rattle.std.proofs.Common.{◌≡◌, ◌+◌, ◌-◌, ◌∷◌, ◌++◌, [], ℕ, List, true, false, Bool, if◌then◌else◌, refl, sym, ap, ◌∙◌, subst}
+use Rattle.std.specs.Prelude.{◌^◌, min, Some, None, Ok, Err}
+use Rattle.std.proofs.lemmas.Result.{err_from_is_err_and}
+use Rattle.sector_dev.specs.declared.device.DevError.{DevError}
+use Rattle.sector_dev.specs.Disk.{Image, now, synced_image, Counts}
+use Rattle.sector_dev.specs.Time.{LeavesOnly}
+use Rattle.segments.specs.declared.piece.Piece.{Piece}
+use Rattle.segments.specs.Usages.{IsUsedIn}
+use Rattle.segments.specs.Writing.{runs_of}
+use Rattle.catalogue.specs.Entries as entries
+use Rattle.catalogue.specs.View.{catalogue_of}
+use Rattle.catalogue.specs.laws.Kept.{catalogue_is}
+use Rattle.commit.specs.declared.sector.Commit.{Commit}
+use Rattle.commit.specs.Placing.{Uses, Takes}
+use Rattle.commit.specs.Replacing.{CanReplace, StandsAs}
+use Rattle.commit.specs.Standing.{is_size, is_on_device, runs_fault, rules, standing, Stands}
+use Rattle.commit.specs.laws.Taking.{GivesAll, took_takes}
+use Rattle.tables.specs.Verdict.{after}
+use Rattle.store.specs.declared.stored.StoredCatalogue.{StoredCatalogue}
+use Rattle.store.specs.Calls.{apply_call}
+use Rattle.store.specs.Machine.{halted, running, has_written, settle, halt, Allows}
+use Rattle.store.specs.Held.{whole_reading, tables_held}
+use Rattle.store.specs.Fits.{listed_in, setting_of}
+use Rattle.store.specs.Changes.{PlainChange, change_of}
+use Rattle.store.specs.Applying.{IsCarried, asked_sizes}
+use Rattle.store.proofs.Prepared.{failed_usages, placed_then, fit_then, uses_then, can_replace}
+use Rattle.store.proofs.Carried.{refused_goes, failed_goes, done_goes, new_after, old_held, new_tables, new_held, synced_outside}
+use Rattle.store.proofs.store.Store.carry_out.Goals as goal
+
+pub returns-in_err-prepared-clause-goes : goal.returns-in_err-prepared-clause-goes
+returns-in_err-prepared-clause-goes g c = λ told base m cmd new fits on makes mk.
+    let D = g.D.SectorDevice in
+    let s = c.args.self.now in
+    let change : PlainChange = change_of c.args.change in
+    let p = err_from_is_err_and c.from_residual.result c.from_residual.ensures.1 in
+    let r = c.in_err-prepared.field-0.0 in
+    let carried = subst (λ (n : ℕ). IsCarried n (IsUsedIn s.opened.map.entries) s.opened.commit (listed_in s) change (Err r) s.opened.commit (listed_in s)) s.same c.in_err-prepared.ensures.why in
+    rw (p.1, p.2) (record {
+      next = m;
+      same = refl;
+      goes = refused_goes (D.size s.device) base m cmd new on makes s.opened.commit (listed_in s) (IsUsedIn s.opened.map.entries) change (D.story s.device) (D.failed s.device) r fits.device.allows carried c.in_err-prepared.ensures.device;
+      fits = record {
+        phase = fits.phase;
+        started = fits.started;
+        device = fits.device;
+        sound = λ run. let t = fits.sound run in record { stands = t.stands; tables = t.tables; uses = λ x. c.in_err-prepared.ensures.err x ∙ t.uses x; none = t.none };
+      };
+    })
+
+pub invariant_of-self-in-Ok : goal.invariant_of-self-in-Ok
+invariant_of-self-in-Ok g c =
+    let D = g.D.SectorDevice in
+    let s = c.args.self.now in
+    let listed = listed_in s in
+    let stands = catalogue_is listed s.opened.catalogue.list.kept in
+    let change : PlainChange = change_of c.args.change in
+    let plan = c.in_ok-prepared.prepared.plan in
+    let back = c.in_ok-prepared.prepared.back.items in
+    let old = s.opened.map in
+    let mid = c.prepare.new.map in
+    let prep = c.in_ok-prepared.ensures.ok in
+    let on = subst (λ (n : ℕ). is_on_device n s.opened.commit.catalogue.run ≡ true) (sym s.same) s.placed in
+    let fit = subst (λ (n : ℕ). runs_fault n s.opened.commit.catalogue.run (entries.runs_of listed) ≡ None) (sym s.same) s.fit in
+    let sized = c.publish.ensures.size in
+    let commit_is = c.settle.ensures.commit in
+    let catalogue_is' = c.settle.ensures.catalogue in
+    record {
+      in_limits = subst (λ (n : ℕ). is_size n ≡ true) (sym sized) s.in_limits;
+      same = c.settle.ensures.map.size ∙ c.in_ok-prepared.ensures.size ∙ s.same ∙ sym sized;
+      own = ap (λ (k : Commit). k.device_sectors) (commit_is ∙ prep.commit) ∙ s.own ∙ sym sized;
+      fit = (λ i. runs_fault ((sized ∙ sym s.same) i) (commit_is i).catalogue.run (entries.runs_of (catalogue_of (catalogue_is' i).list))) ∙ fit_then old mid s.opened.commit listed change plan back prep on fit s.uses c.requires.sound stands;
+      placed = (λ i. is_on_device ((sized ∙ sym s.same) i) (commit_is i).catalogue.run) ∙ placed_then old mid s.opened.commit listed change plan back prep;
+      uses = subst (λ (x : StoredCatalogue). Uses c.settle.new.opened.map.entries (c.settle.new.opened.commit.catalogue.run ∷ entries.runs_of (catalogue_of x.list)) []) (sym catalogue_is')
+          (subst (λ (k : Commit). Uses c.settle.new.opened.map.entries (k.catalogue.run ∷ entries.runs_of (catalogue_of plan.catalogue.list)) []) (sym commit_is)
+          (uses_then old mid s.opened.commit listed change plan back prep on fit s.uses c.requires.sound c.settle.new.opened.map stands c.settle.ensures.map));
+    }
+
+pub invariant_of-self-in-Err : goal.invariant_of-self-in-Err
+invariant_of-self-in-Err g c =
+    let s = c.args.self.now in
+    let listed = listed_in s in
+    let change : PlainChange = change_of c.args.change in
+    let plan = c.in_ok-prepared.prepared.plan in
+    let back = c.in_ok-prepared.prepared.back.items in
+    let prep = c.in_ok-prepared.ensures.ok in
+    let sized = c.publish.ensures.size in
+    let gives = subst (λ (ps : List Piece). GivesAll c.prepare.new.map c.give_pieces.new.map (runs_of ps)) c.deref.ensures.value c.give_pieces.ensures in
+    let usages = failed_usages s.opened.map c.prepare.new.map s.opened.commit listed change plan back prep c.give_pieces.new.map gives in
+    record {
+      in_limits = subst (λ (n : ℕ). is_size n ≡ true) (sym sized) s.in_limits;
+      same = c.give_pieces.ensures.size ∙ c.in_ok-prepared.ensures.size ∙ s.same ∙ sym sized;
+      own = s.own ∙ sym sized;
+      fit = subst (λ (n : ℕ). runs_fault n s.opened.commit.catalogue.run (entries.runs_of listed) ≡ None) (sym sized) s.fit;
+      placed = subst (λ (n : ℕ). is_on_device n s.opened.commit.catalogue.run ≡ true) (sym sized) s.placed;
+      uses = λ run. usages run ∙ s.uses run;
+    }
+
+pub returns-in-Ok-clause-carried : goal.returns-in-Ok-clause-carried
+returns-in-Ok-clause-carried g c =
+    let s = c.args.self.now in
+    let change : PlainChange = change_of c.args.change in
+    let prep = c.in_ok-prepared.ensures.ok in
+    let sizes = asked_sizes (listed_in s) change in
+    let takes = took_takes s.opened.map.size (IsUsedIn s.opened.map.entries) sizes (runs_of prep.pieces ++ prep.run ∷ []) prep.took.took in (
+      prep.next,
+      prep.few,
+      (
+        runs_of prep.pieces,
+        prep.run,
+        subst (λ (n : ℕ). Takes n (IsUsedIn s.opened.map.entries) sizes (Ok (runs_of prep.pieces ++ prep.run ∷ []))) s.same takes,
+        ap (λ (x : StoredCatalogue). catalogue_of x.list) c.settle.ensures.catalogue ∙ prep.catalogue,
+        c.settle.ensures.commit ∙ prep.commit,
+      ),
+    )
+
+pub returns-in-Ok-clause-goes : goal.returns-in-Ok-clause-goes
+returns-in-Ok-clause-goes g c = λ told base m cmd new fits run makes mk.
+    let D = g.D.SectorDevice in
+    let s = c.args.self.now in
+    let s0 = D.story s.device in
+    let s1 = D.story c.publish.new.device in
+    let size = D.size s.device in
+    let sized = c.publish.ensures.size in
+    let listed = listed_in s in
+    let stands = catalogue_is listed s.opened.catalogue.list.kept in
+    let change : PlainChange = change_of c.args.change in
+    let plan = c.in_ok-prepared.prepared.plan in
+    let back = c.in_ok-prepared.prepared.back.items in
+    let old = s.opened.map in
+    let mid = c.prepare.new.map in
+    let k = s.opened.commit in
+    let will = catalogue_of plan.catalogue.list in
+    let prep = c.in_ok-prepared.ensures.ok in
+    let on = subst (λ (n : ℕ). is_on_device n k.catalogue.run ≡ true) (sym s.same) s.placed in
+    let fit = subst (λ (n : ℕ). runs_fault n k.catalogue.run (entries.runs_of listed) ≡ None) (sym s.same) s.fit in
+    let commit_is = c.settle.ensures.commit in
+    let catalogue_is' = c.settle.ensures.catalogue in
+    let sound = fits.sound run in
+    let can = subst (λ (n : ℕ). CanReplace whole_reading n (now s0) (record { old = k; was = listed; new = plan.commit; will = will; pieces = plan.pieces.items })) s.same
+    (can_replace old mid k listed change plan back prep on fit s.uses c.requires.sound (now s0) stands (s.own ∙ sym s.same) (subst (λ (n : ℕ). Stands whole_reading n (now s0) k listed) (sym s.same) sound.stands)) in
+    let p = c.in-Ok.ensures.published told can in
+    let outside = synced_outside old mid k listed change plan back prep size (now s0) can stands c.requires.sound (after base m.settled) new sound.tables mk (now s1) p.touches in
+    let tables = new_tables old mid k listed change plan back prep size (now s0) can stands c.requires.sound (after base m.settled) new sound.tables mk in
+    let news = new_held old mid k listed change plan back prep size (now s0) can stands c.requires.sound (after base m.settled) new sound.tables mk in
+    let olds = old_held old mid k listed change plan back prep size (now s0) can stands c.requires.sound (after base m.settled) new sound.tables mk in
+    let goes = done_goes size base m cmd new run makes s0 s1 plan.commit plan.pieces.items (StandsAs whole_reading size k listed) (StandsAs whole_reading size plan.commit will) fits.device.allows
+    (λ image is was. olds image is.outside was) (λ image is now_is holds_each. news image is.outside now_is holds_each) (c.publish.ensures.moments told can)
+    (D.failed s.device) (D.failed c.publish.new.device) c.in-Ok.ensures.count p (news (synced_image (now s1)) outside p.stands p.holds) in
+    record {
+      next = settle cmd m;
+      same = sized;
+      goes = goes;
+      fits = record {
+        phase = sym (ap (λ (b : Bool). if b then halted else running) c.requires.on);
+        started = refl;
+        device = record {
+          in_limits = subst (λ (n : ℕ). is_size n ≡ true) (sym sized) s.in_limits;
+          allows = subst (λ (n : ℕ). LeavesOnly (Allows (setting_of n base) (settle cmd m)) (now s1)) (sym sized) goes.settles;
+          fresh = λ no. absurd (cc no);
+        };
+        sound = λ again. record {
+          stands = record {
+            quiet = p.quiet;
+            found = ap (λ (n : ℕ). standing whole_reading n (synced_image (now s1))) sized ∙ p.stands ∙ (λ i. rules (sym commit_is i) (catalogue_of (sym catalogue_is' i).list));
+          };
+          tables = ap (λ (x : StoredCatalogue). tables_held (synced_image (now s1)) (catalogue_of x.list)) catalogue_is' ∙ tables (synced_image (now s1)) outside p.holds ∙ ap Some (new_after size base m cmd new run makes);
+          uses = subst (λ (x : StoredCatalogue). Uses c.settle.new.opened.map.entries (c.settle.new.opened.commit.catalogue.run ∷ entries.runs_of (catalogue_of x.list)) []) (sym catalogue_is')
+              (subst (λ (x : Commit). Uses c.settle.new.opened.map.entries (x.catalogue.run ∷ entries.runs_of will) []) (sym commit_is)
+              (uses_then old mid k listed change plan back prep on fit s.uses c.requires.sound c.settle.new.opened.map stands c.settle.ensures.map));
+          none = refl;
+        };
+      };
+    }
+
+pub returns-in-Err-clause-goes : goal.returns-in-Err-clause-goes
+returns-in-Err-clause-goes g c = λ told base m cmd new fits run makes mk.
+    let D = g.D.SectorDevice in
+    let s = c.args.self.now in
+    let s0 = D.story s.device in
+    let s1 = D.story c.publish.new.device in
+    let size = D.size s.device in
+    let sized = c.publish.ensures.size in
+    let listed = listed_in s in
+    let stands = catalogue_is listed s.opened.catalogue.list.kept in
+    let change : PlainChange = change_of c.args.change in
+    let plan = c.in_ok-prepared.prepared.plan in
+    let back = c.in_ok-prepared.prepared.back.items in
+    let old = s.opened.map in
+    let mid = c.prepare.new.map in
+    let k = s.opened.commit in
+    let will = catalogue_of plan.catalogue.list in
+    let prep = c.in_ok-prepared.ensures.ok in
+    let on = subst (λ (n : ℕ). is_on_device n k.catalogue.run ≡ true) (sym s.same) s.placed in
+    let fit = subst (λ (n : ℕ). runs_fault n k.catalogue.run (entries.runs_of listed) ≡ None) (sym s.same) s.fit in
+    let sound = fits.sound run in
+    let can = subst (λ (n : ℕ). CanReplace whole_reading n (now s0) (record { old = k; was = listed; new = plan.commit; will = will; pieces = plan.pieces.items })) s.same
+    (can_replace old mid k listed change plan back prep on fit s.uses c.requires.sound (now s0) stands (s.own ∙ sym s.same) (subst (λ (n : ℕ). Stands whole_reading n (now s0) k listed) (sym s.same) sound.stands)) in
+    let news = new_held old mid k listed change plan back prep size (now s0) can stands c.requires.sound (after base m.settled) new sound.tables mk in
+    let olds = old_held old mid k listed change plan back prep size (now s0) can stands c.requires.sound (after base m.settled) new sound.tables mk in
+    let counts = subst (λ (e : DevError). Counts {T = Unit {0}} (D.failed s.device) (D.failed c.publish.new.device) (Err e)) c.in-Err.ensures.error c.in-Err.ensures.count in
+    let goes = failed_goes size base m cmd new run makes s0 s1 plan.commit plan.pieces.items (StandsAs whole_reading size k listed) (StandsAs whole_reading size plan.commit will) fits.device.allows
+    (λ image is was. olds image is.outside was) (λ image is now_is holds_each. news image is.outside now_is holds_each) (c.publish.ensures.moments told can)
+    (D.failed s.device) (D.failed c.publish.new.device) counts in
+    let next = halt (apply_call cmd) (has_written (now s0) (now s1)) m in
+    record {
+      next = next;
+      same = sized;
+      goes = goes;
+      fits = record {
+        phase = refl;
+        started = fits.started;
+        device = record {
+          in_limits = subst (λ (n : ℕ). is_size n ≡ true) (sym sized) s.in_limits;
+          allows = subst (λ (n : ℕ). LeavesOnly (Allows (setting_of n base) next) (now s1)) (sym sized) goes.settles;
+          fresh = λ no. let yes' = fits.started in absurd (cc (yes', no));
+        };
+        sound = λ again. absurd (cc again);
+      };
+    }

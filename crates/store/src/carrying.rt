@@ -1,0 +1,248 @@
+// A change is carried out: the one place where a command writes.
+ghost use Rattle.std.specs.Prelude.{◌≡◌, ◌≢◌, ◌≤◌, ◌++◌, ◌∷◌, [], ℕ, Ok, Err, Some, OnErr, IfOk, IfErr, length, true};
+ghost use Rattle.std.specs.List.{list_all};
+ghost use Rattle.segments.specs.Usages.{IsUsedIn, SameUsages};
+ghost use Rattle.segments.specs.Writing.{runs_of};
+ghost use Rattle.catalogue.specs.declared.limits.TheConstants.{MAX_SEGMENTS};
+ghost use Rattle.catalogue.specs.Entries.{is_segment, IsCatalogue, segment_count};
+ghost use Rattle.catalogue.specs.Text.{list_size};
+ghost use Rattle.catalogue.specs.Reading.{catalogue_at};
+ghost use Rattle.catalogue.specs.View.{catalogue_of};
+ghost use Rattle.commit.specs.Placing.{Takes};
+ghost use Rattle.commit.specs.Standing.{is_size};
+ghost use Rattle.commit.specs.laws.Taking.{GivesAll};
+ghost use Rattle.store.specs.Changes.{change_of, edit_of, IsChange, edited, given_up, placed_segments};
+ghost use Rattle.store.specs.Applying.{HasNext, asked_sizes, IsCarried, outline};
+ghost use Rattle.store.specs.inner.Prepared.{bytes_of, taking_refusal, IsPrepared};
+
+use crate::Store;
+use crate::change::{Change, Edit};
+use crate::editing::{edited, given_up, segments_after, segments_of, unplaced};
+use crate::stored::StoredCatalogue;
+use catalogue::{MAX_SEGMENTS, encode, one_text_each, texts_have_these_sizes};
+use commit::{Commit, Opened, Plan, give_runs, place, plan_next, publish};
+use sector_dev::SectorDevice;
+use segments::{FreeMap, Piece, Run, TakeError};
+use std::alloc::{AllocError, Global};
+use tables::{Limit, Refusal};
+
+// A plan that can be published, and the runs that go back once it was.
+#[derive(Drop)]
+struct Prepared {
+    plan: Plan<StoredCatalogue>,
+    back: Vec<Run>,
+}
+
+// Gives the runs of these pieces back.
+fn give_pieces(map: &mut FreeMap, pieces: &[Piece])
+    ensures { GivesAll map.old map.new (runs_of pieces.now) }
+{
+    for piece in pieces {
+        map.give(piece.run);
+    }
+}
+
+// What goes back once an edit was published: what it gives up, and the run of the text that rules now.
+fn back_after(
+    alloc: Global,
+    commit: Commit,
+    stored: &StoredCatalogue,
+    edit: &Edit,
+) -> Result<Vec<Run>, AllocError>
+    ensures { IfOk result (λ back. back.items ≡ given_up (catalogue_of stored.now.list) (edit_of edit.now) ++ commit.catalogue.run ∷ []) }
+{
+    let mut back = given_up(alloc, &stored.list, edit)?;
+    back.push(commit.catalogue.run)?;
+    Ok(back)
+}
+
+// How many bytes the text of the new catalogue has. Where its new segments lie makes no difference.
+fn text_size(alloc: Global, stored: &StoredCatalogue, change: &Change) -> Result<usize, AllocError>
+    requires sound { IsChange (catalogue_of stored.now.list) (change_of change.now) }
+    requires stands { IsCatalogue (outline (catalogue_of stored.now.list) (change_of change.now)) }
+    ensures { IfOk result (λ size. size ≡ list_size (outline (catalogue_of stored.now.list) (change_of change.now))) }
+{
+    texts_have_these_sizes();
+    let segments = unplaced(alloc, &change.streams, &change.rows)?;
+    let list = edited(alloc, &stored.list, &change.edit, &segments)?;
+    let text = encode(alloc, &list)?;
+    Ok(text.len())
+}
+
+// The new catalogue, its new segments in these pieces, and its text.
+fn next_catalogue(
+    alloc: Global,
+    stored: &StoredCatalogue,
+    edit: &Edit,
+    pieces: &[Piece],
+    rows: &[u64],
+) -> Result<(StoredCatalogue, Vec<u8>), AllocError>
+    requires rows { length pieces.now ≡ length rows.now }
+    requires sound { list_all is_segment (placed_segments (runs_of pieces.now) (bytes_of pieces.now) rows.now) ≡ true }
+    requires stands { IsCatalogue (edited (catalogue_of stored.now.list) (edit_of edit.now) (placed_segments (runs_of pieces.now) (bytes_of pieces.now) rows.now)) }
+    requires change { IsChange (catalogue_of stored.now.list) (record { edit = edit_of edit.now; streams = bytes_of pieces.now; counts = rows.now }) }
+    ensures catalogue { IfOk result (λ next. catalogue_of next.0.list
+        ≡ edited (catalogue_of stored.now.list) (edit_of edit.now) (placed_segments (runs_of pieces.now) (bytes_of pieces.now) rows.now)) }
+    ensures found { IfOk result (λ next. catalogue_at next.1.items ≡ Some (catalogue_of next.0.list)) }
+    ensures size { IfOk result (λ next. length next.1.items ≡ list_size (catalogue_of next.0.list)) }
+{
+    one_text_each();
+    texts_have_these_sizes();
+    let segments = segments_of(alloc, pieces, rows)?;
+    let list = edited(alloc, &stored.list, edit, &segments)?;
+    let text = encode(alloc, &list)?;
+    Ok((StoredCatalogue { list }, text))
+}
+
+// Why no run is taken, as it is told of a command.
+fn taking_refusal(error: TakeError) -> Refusal
+    ensures { result ≡ taking_refusal error }
+{
+    match error {
+        TakeError::NoRoom(count) => Refusal::NoRoom(count),
+        TakeError::OutOfMemory => Refusal::OutOfMemory,
+    }
+}
+
+// Takes runs for the streams and for the text of the new catalogue, and makes the plan. After an error each run is used for what it was.
+fn plan_change(
+    alloc: Global,
+    map: &mut FreeMap,
+    commit: Commit,
+    stored: &StoredCatalogue,
+    change: Change,
+) -> Result<Prepared, TakeError>
+    requires limits { is_size map.old.size ≡ true }
+    requires own { commit.device_sectors ≡ map.old.size }
+    requires next { HasNext commit }
+    requires sound { IsChange (catalogue_of stored.now.list) (change_of change) }
+    requires few { segment_count (outline (catalogue_of stored.now.list) (change_of change)) ≤ MAX_SEGMENTS }
+    ensures ok { IfOk result (λ p. IsPrepared map.old map.new commit (catalogue_of stored.now.list) (change_of change) p.plan p.back.items) }
+    ensures no_room { IfErr result (λ e. (n : ℕ) → e ≡ TakeError.NoRoom n
+        → Takes map.old.size (IsUsedIn map.old.entries) (asked_sizes (catalogue_of stored.now.list) (change_of change)) (Err n)) }
+    ensures size { map.new.size ≡ map.old.size }
+    ensures err { OnErr result (SameUsages map.old.entries map.new.entries) }
+{
+    let back = back_after(alloc, commit, stored, &change.edit)?;
+    let text_bytes = text_size(alloc, stored, &change)?;
+    let Change {
+        edit,
+        streams,
+        rows,
+    } = change;
+    let places = place(alloc, map, streams, text_bytes)?;
+    match next_catalogue(alloc, stored, &edit, &places.pieces, &rows) {
+        Ok((next, text)) => Ok(Prepared {
+            plan: plan_next(commit, next, places, text),
+            back,
+        }),
+        Err(error) => {
+            give_runs(map, &places.runs);
+            Err(error.into())
+        }
+    }
+}
+
+// What can be tested before anything is placed, and then the plan.
+fn prepare(
+    alloc: Global,
+    map: &mut FreeMap,
+    commit: Commit,
+    stored: &StoredCatalogue,
+    change: Change,
+) -> Result<Prepared, Refusal>
+    requires limits { is_size map.old.size ≡ true }
+    requires own { commit.device_sectors ≡ map.old.size }
+    requires sound { IsChange (catalogue_of stored.now.list) (change_of change) }
+    ensures ok { IfOk result (λ p. IsPrepared map.old map.new commit (catalogue_of stored.now.list) (change_of change) p.plan p.back.items) }
+    ensures why { IfErr result (λ r. IsCarried map.old.size (IsUsedIn map.old.entries) commit (catalogue_of stored.now.list) (change_of change)
+        (Err r) commit (catalogue_of stored.now.list)) }
+    ensures device { IfErr result (λ r. r ≢ Refusal.Device) }
+    ensures size { map.new.size ≡ map.old.size }
+    ensures err { OnErr result (SameUsages map.old.entries map.new.entries) }
+{
+    if commit.epoch == u64::MAX {
+        return Err(Refusal::TooMany(Limit::Epochs));
+    }
+    let new = change.streams.len() as u64;
+    if segments_after(&stored.list, &change.edit, new) > MAX_SEGMENTS {
+        return Err(Refusal::TooMany(Limit::Segments));
+    }
+    match plan_change(alloc, map, commit, stored, change) {
+        Ok(prepared) => Ok(prepared),
+        Err(error) => Err(taking_refusal(error)),
+    }
+}
+
+// What was published rules, and the runs that it gave up go back. It takes no memory.
+fn settle(opened: &mut Opened<StoredCatalogue>, prepared: Prepared)
+    ensures commit { opened.new.commit ≡ prepared.plan.commit }
+    ensures catalogue { opened.new.catalogue ≡ prepared.plan.catalogue }
+    ensures map { GivesAll opened.old.map opened.new.map prepared.back.items }
+{
+    let Prepared { plan, back } = prepared;
+    let Plan {
+        commit,
+        catalogue,
+        pieces: _pieces,
+    } = plan;
+    opened.commit = commit;
+    opened.catalogue = catalogue;
+    give_runs(&mut opened.map, &back);
+}
+
+impl<D: SectorDevice> Store<D> {
+    ghost use Rattle.std.specs.Prelude.{false, ◌↔◌};
+    ghost use Rattle.sector_dev.specs.Disk.{now};
+    ghost use Rattle.tables.specs.Tables.{Tables};
+    ghost use Rattle.tables.specs.Commands.{PlainCommand};
+    ghost use Rattle.tables.specs.Verdict.{verdict};
+    ghost use Rattle.store.specs.Calls.{apply_call};
+    ghost use Rattle.store.specs.Machine.{Machine, running, tables_now};
+    ghost use Rattle.store.specs.Runs.{counted};
+    ghost use Rattle.store.specs.Fits.{StoreFits, device_of, listed_in, setting_of};
+    ghost use Rattle.store.specs.Changes.{MakesOf};
+    ghost use Rattle.store.specs.Applying.{GoesOn, reply_of};
+
+    /// Carries out a change of the catalogue: takes runs, writes the new segments and the new catalogue, and publishes them.
+    ///
+    /// # Errors
+    /// `TooMany(Epochs)`, `TooMany(Segments)`, `NoRoom` and `OutOfMemory`: nothing has changed. `Device`: the store is halted.
+    pub(crate) fn carry_out(&mut self, alloc: Global, change: Change) -> Result<(), Refusal>
+        requires sound { IsChange (listed_in self.old) (change_of change) }
+        requires on { self.old.halted ≡ false }
+        ensures size { D.size (device_of self.new) ≡ D.size (device_of self.old) }
+        ensures count { D.failed (device_of self.new) ≡ counted (reply_of result) (D.failed (device_of self.old)) }
+        ensures carried { IsCarried (D.size (device_of self.old)) (IsUsedIn self.old.opened.map.entries) self.old.opened.commit (listed_in self.old)
+            (change_of change) result self.new.opened.commit (listed_in self.new) }
+        ensures halts { (self.new.halted ≡ true) ↔ (result ≡ Err Refusal.Device) }
+        ensures kept { IfErr result (λ e. (self.new.opened.commit ≡ self.old.opened.commit) × (listed_in self.new ≡ listed_in self.old)
+            × SameUsages self.old.opened.map.entries self.new.opened.map.entries) }
+        ensures quiet { IfErr result (λ e. e ≢ Refusal.Device → D.story (device_of self.new) ≡ D.story (device_of self.old)) }
+        // On a store whose tables the machine knows, where the change makes what a command makes: the machine goes on by the command.
+        ensures goes { D.tells ≡ true → (base : Tables) (m : Machine) (c : PlainCommand) (new : Tables)
+            → StoreFits D.size D.story base m self.old → m.phase ≡ running
+            → verdict (tables_now (setting_of (D.size (device_of self.old)) base) m) c ≡ Ok new
+            → MakesOf (tables_now (setting_of (D.size (device_of self.old)) base) m) (change_of change) new
+            → GoesOn D.size D.story D.failed base m (apply_call c) (reply_of result) self.old self.new }
+    {
+        let prepared = prepare(
+            alloc,
+            &mut self.opened.map,
+            self.opened.commit,
+            &self.opened.catalogue,
+            change,
+        )?;
+        match publish(&mut self.device, &self.opened, &prepared.plan) {
+            Ok(()) => {
+                settle(&mut self.opened, prepared);
+                Ok(())
+            }
+            Err(_) => {
+                give_pieces(&mut self.opened.map, &prepared.plan.pieces);
+                self.halted = true;
+                Err(Refusal::Device)
+            }
+        }
+    }
+}
