@@ -89,10 +89,10 @@ fn test_create(catalogue: &Catalogue, name: &str) -> Result<(), Refusal>
     test_room(catalogue, name)
 }
 
-fn test_import(name: &str, bytes: &[u8]) -> Result<(), Refusal>
-    ensures { Tests result (import_tests name.now bytes.now) }
+fn test_import(table: &str, bytes: &[u8]) -> Result<(), Refusal>
+    ensures { Tests result (import_tests table.now bytes.now) }
 {
-    test_name(name)?;
+    test_name(table)?;
     test_bytes(bytes)
 }
 
