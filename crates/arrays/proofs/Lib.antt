@@ -14,3 +14,4 @@ pub mod VisibleSpans
 pub mod VisibleSlots
 pub mod VisibleTexts
 pub mod Ranges
+pub mod BatchRead

@@ -2,20 +2,19 @@
 ghost use Rattle.std.specs.Prelude.{◌≡◌, ℕ, ◌+◌, ◌<◌, true, map, nat_lt};
 ghost use Rattle.std.specs.List.{list_any, range_with_len};
 ghost use Rattle.arrow_schema.specs.Column.{columns_of, PlainSchema};
-ghost use Rattle.arrow_schema.specs.View.{column_of, schema_of};
+ghost use Rattle.arrow_schema.specs.View.{column_of};
 ghost use Rattle.cells.specs.Weight.{capped_weight};
 ghost use Rattle.columns.specs.CellAt.{rows_in};
 ghost use Rattle.columns.specs.Sound.{are_sound};
-ghost use Rattle.columns.specs.View.{placed_arrays, IsNoArray};
+ghost use Rattle.columns.specs.View.{IsNoArray};
 ghost use Rattle.arrays.specs.Checks.{are_too_heavy};
 ghost use Rattle.arrays.specs.inner.Read.{placed_in};
 ghost use Rattle.arrays.specs.inner.Weights.{rows_weight};
 
-use crate::read::Placed;
+use crate::batch_arrays::Placed;
 use crate::weights::parts_weight;
-use arrow_schema::Schema;
 use cells::{MAX_ROW_WEIGHT, MAX_TABLE_WEIGHT, add_weights};
-use columns::{Dictionary, PlacedArray, no_array};
+use columns::{PlacedArray, no_array};
 
 // So many rows, from one on.
 fn rows_weight(placed: Placed<'_>, from: usize, count: usize, none: &PlacedArray) -> u64
@@ -67,24 +66,11 @@ fn are_heavy(before: u64, placed: Placed<'_>, rows: usize, none: &PlacedArray) -
 }
 
 /// F28: one of so many rows weighs too much, or all of them do with the rows before them, which weigh so much. It makes no value for a cell.
-pub fn rows_too_heavy(
-    schema: &Schema,
-    before: u64,
-    arrays: &[PlacedArray],
-    bytes: &[u8],
-    dictionaries: &[Dictionary],
-    rows: usize,
-) -> bool
-    requires { are_sound (columns_of (schema_of schema.now).columns) rows (placed_arrays bytes.now dictionaries.now arrays.now) ≡ true }
-    ensures { let s = schema_of schema.now in
-        result ≡ are_too_heavy s before (rows_in (columns_of s.columns) (placed_arrays bytes.now dictionaries.now arrays.now) rows) }
+pub(crate) fn rows_too_heavy(before: u64, placed: Placed<'_>, rows: usize) -> bool
+    requires { are_sound (columns_of (map column_of placed.fields.now)) rows (placed_in placed) ≡ true }
+    ensures { (s : PlainSchema) → s.columns ≡ map column_of placed.entry.fields.now
+        → result ≡ are_too_heavy s before (rows_in (columns_of s.columns) (placed_in placed.entry) rows) }
 {
     let none = no_array();
-    let placed = Placed {
-        fields: &schema.fields,
-        arrays,
-        bytes,
-        dictionaries,
-    };
     are_heavy(before, placed, rows, &none)
 }

@@ -1,15 +1,17 @@
 //! Reading record batches: the arrays that the nodes and buffers of a batch are (Message.fbs, "RecordBatch").
 //!
-//! [`read_arrays`] answers the arrays of a batch of any types, as places in the bytes that its body stands in, or the fault of the first check of
-//! its arrays that finds something (docs/definitions/arrays.md). It looks at every array, hidden or not, and copies nothing. [`names_no_entry_in`],
-//! [`has_bad_text`] and [`has_forbidden_null`] are the tests of what is visible: by spans of slots, without memory, and whatever stands in hidden
-//! slots.
+//! [`read`] answers the arrays of a record batch of any types, as places in the bytes that its body stands in, or the fault of the first check that finds
+//! something (docs/definitions/arrays.md). [`read_arrays`] makes the checks of the arrays alone: it looks at every array, hidden or not.
+//! [`names_no_entry_in`], [`has_bad_text`] and [`has_forbidden_null`] are tests of what is visible: by spans of slots, without memory, and whatever stands
+//! in hidden slots. Nothing is copied.
 //!
 //! ```ignore
-//! let arrays = read_arrays(alloc, &schema.fields, &batch, body, bytes, &dictionaries, &parts)?;
+//! let arrays = read(alloc, &schema, before, &batch, body, bytes, &dictionaries, &parts)?;
 //! ```
 #![tactic(auto)]
 
+mod batch;
+mod batch_arrays;
 mod counts;
 mod every;
 mod heavy;
@@ -17,14 +19,13 @@ mod lengths;
 mod limits;
 mod place;
 mod raw;
-mod read;
 mod rest;
 mod runs;
 mod tests;
 mod visible;
 mod weights;
 
-pub use heavy::rows_too_heavy;
+pub use batch::read;
+pub use batch_arrays::read_arrays;
 pub use limits::MAX_SLOTS;
-pub use read::read_arrays;
 pub use visible::{has_bad_text, has_forbidden_null, names_no_entry_in};

@@ -1,5 +1,5 @@
 use Rattle.std.proofs.Common.{refl}
-use Rattle.arrays.proofs.read.has_bad_length.Goals as goal
+use Rattle.arrays.proofs.batch_arrays.has_bad_length.Goals as goal
 
 pub returns-then-any_other_length : goal.returns-then-any_other_length
 returns-then-any_other_length c =

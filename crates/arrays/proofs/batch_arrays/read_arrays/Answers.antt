@@ -10,7 +10,7 @@ use Rattle.columns.specs.Places.{within}
 use Rattle.columns.specs.View.{arrays_in, placed_arrays}
 use Rattle.arrays.specs.Checks.{batch_arrays, array_checks}
 use Rattle.arrays.proofs.Answered.{read_err}
-use Rattle.arrays.proofs.read.read_arrays.Goals as goal
+use Rattle.arrays.proofs.batch_arrays.read_arrays.Goals as goal
 
 pub returns-in-Some : goal.returns-in-Some
 returns-in-Some c =

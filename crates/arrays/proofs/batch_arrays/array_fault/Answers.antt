@@ -6,7 +6,7 @@ use Rattle.ipc_message.specs.View.{raw_batch_of}
 use Rattle.arrays.specs.inner.Every.{typed_view}
 use Rattle.arrays.specs.inner.Read.{placed_in}
 use Rattle.arrays.proofs.Layouts.{every_has_a_node}
-use Rattle.arrays.proofs.read.array_fault.Goals as goal
+use Rattle.arrays.proofs.batch_arrays.array_fault.Goals as goal
 
 pub any_miscounted-requires-clause-count : goal.any_miscounted-requires-clause-count
 any_miscounted-requires-clause-count c =

@@ -1,0 +1,108 @@
+// The arrays of a record batch, or its first fault (docs/definitions/arrays.md).
+ghost use Rattle.std.specs.Prelude.{◌≡◌, ◌<◌, ◌+◌, ◌^◌, true, false, map};
+ghost use Rattle.std.specs.List.{list_all, list_any};
+ghost use Rattle.arrow_schema.specs.Column.{PlainSchema, columns_of};
+ghost use Rattle.arrow_schema.specs.View.{column_of, schema_of};
+ghost use Rattle.facts.specs.Checks.{first_some};
+ghost use Rattle.ipc_message.specs.Outcome.{Gives};
+ghost use Rattle.ipc_message.specs.View.{raw_batch_of};
+ghost use Rattle.columns.specs.Buffers.{dictionaries_of};
+ghost use Rattle.columns.specs.Places.{within};
+ghost use Rattle.columns.specs.Sound.{are_sound};
+ghost use Rattle.columns.specs.Tests.{every_array};
+ghost use Rattle.columns.specs.View.{arrays_in, placed_arrays};
+ghost use Rattle.columns.specs.laws.Sounds.{is_typed_sound};
+ghost use Rattle.arrays.specs.Checks.{batch_arrays, batch_read, slot_checks};
+ghost use Rattle.arrays.specs.Entries.{has_bad_entry};
+ghost use Rattle.arrays.specs.inner.Read.{placed_in};
+
+use crate::batch_arrays::{Placed, read_arrays};
+use crate::heavy::rows_too_heavy;
+use crate::visible::{has_bad_text, has_forbidden_null, names_no_entry_in};
+use arrow_schema::Schema;
+use columns::{Dictionary, DictionaryPart, PlacedArray, Span};
+use ipc_message::{Fault, ImportError, RawBatch};
+use std::alloc::Global;
+
+// The first fault of the checks of what is visible.
+fn slot_fault(before: u64, placed: Placed<'_>, rows: usize) -> Option<Fault>
+    requires sound { are_sound (columns_of (map column_of placed.fields.now)) rows (placed_in placed) ≡ true }
+    requires entries { list_any has_bad_entry (every_array (columns_of (map column_of placed.fields.now)) (placed_in placed)) ≡ false }
+    ensures { (s : PlainSchema) → s.columns ≡ map column_of placed.entry.fields.now → result ≡ first_some (slot_checks s before rows (placed_in placed.entry)) }
+{
+    if names_no_entry_in(
+        placed.fields,
+        placed.arrays,
+        placed.bytes,
+        placed.dictionaries,
+        rows,
+    ) {
+        return Some(Fault::DictionaryIndex);
+    }
+    if has_bad_text(
+        placed.fields,
+        placed.arrays,
+        placed.bytes,
+        placed.dictionaries,
+        rows,
+    ) {
+        return Some(Fault::NotUtf8);
+    }
+    if has_forbidden_null(
+        placed.fields,
+        placed.arrays,
+        placed.bytes,
+        placed.dictionaries,
+        rows,
+    ) {
+        return Some(Fault::NullForbidden);
+    }
+    if rows_too_heavy(before, placed, rows) {
+        return Some(Fault::TooHeavy);
+    }
+    None
+}
+
+/// The arrays of a record batch whose body stands in some bytes, or its first fault, where the rows before it weigh so much. A dictionary column takes
+/// the next of `parts`, whose arrays were read. Nothing is copied: the arrays are places in the bytes.
+pub fn read(
+    alloc: Global,
+    schema: &Schema,
+    before: u64,
+    batch: &RawBatch,
+    body: Span,
+    bytes: &[u8],
+    dictionaries: &[Dictionary],
+    parts: &[DictionaryPart],
+) -> Result<Vec<PlacedArray>, ImportError>
+    requires fits { body.start + body.len < 2 ^ 64 }
+    requires sound { let columns = columns_of (schema_of schema.now).columns in
+        let known = map (arrays_in bytes.now dictionaries.now) parts.now in
+        list_all is_typed_sound (dictionaries_of columns (batch_arrays columns (raw_batch_of batch.now) (within bytes.now body) known)) ≡ true }
+    requires texts { let columns = columns_of (schema_of schema.now).columns in
+        let known = map (arrays_in bytes.now dictionaries.now) parts.now in
+        list_any has_bad_entry (every_array columns (batch_arrays columns (raw_batch_of batch.now) (within bytes.now body) known)) ≡ false }
+    ensures { let known = map (arrays_in bytes.now dictionaries.now) parts.now in
+        let exact = batch_read (schema_of schema.now) before (raw_batch_of batch.now) (within bytes.now body) known in
+        Gives (λ v. placed_arrays bytes.now dictionaries.now v.items) result exact }
+{
+    let arrays = read_arrays(
+        alloc,
+        &schema.fields,
+        batch,
+        body,
+        bytes,
+        dictionaries,
+        parts,
+    )?;
+    let placed = Placed {
+        fields: &schema.fields,
+        arrays: &arrays,
+        bytes,
+        dictionaries,
+    };
+    match slot_fault(before, placed, batch.length as usize) {
+        Some(fault) => Err(ImportError::Fault(fault)),
+        None => Ok(arrays),
+    }
+}
