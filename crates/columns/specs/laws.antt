@@ -4,3 +4,4 @@ pub mod Places
 pub mod Everys
 pub mod SoundParts
 pub mod Sounds
+pub mod Grown

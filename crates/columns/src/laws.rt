@@ -1,5 +1,5 @@
 // What the definitions say.
-ghost use Rattle.std.specs.Prelude.{◌≡◌, ◌≤◌, true, false, List, length};
+ghost use Rattle.std.specs.Prelude.{◌≡◌, ◌≤◌, ◌++◌, ℕ, true, false, List, length, take};
 ghost use Rattle.std.specs.List.{AllPass, list_all, list_any};
 ghost use Rattle.arrow_schema.specs.Column.{Column, Columns, PlainSchema, columns_of};
 ghost use Rattle.arrow_schema.specs.Limits.{IsWithinLimits};
@@ -17,6 +17,13 @@ ghost use Rattle.columns.specs.Built.{built, built_parts};
 ghost use Rattle.columns.specs.CellAt.{cells_in, rows_in};
 ghost use Rattle.columns.specs.Tests.{every_array, is_short, is_unordered, counts_wrong};
 ghost use Rattle.columns.specs.Visible.{visible_in, names_no_entry, is_no_text, is_forbidden};
+ghost use Rattle.columns.specs.Places.{within};
+ghost use Rattle.columns.specs.View.{array_in, arrays_in, arrays_numbered};
+ghost use Rattle.columns.specs.Within.{ends_within, is_placed_within};
+ghost use Rattle.columns.specs.declared.array.Dictionary.{Dictionary};
+ghost use Rattle.columns.specs.declared.array.DictionaryPart.{DictionaryPart};
+ghost use Rattle.columns.specs.declared.array.PlacedArray.{PlacedArray};
+ghost use Rattle.columns.specs.declared.span.Span.{Span};
 ghost use Rattle.columns.specs.laws.WorkedCases.{Integers, PaddedBuffers, RightCount, WrongCount, Texts, Booleans, FixedBinaries, LargeTexts, Dates, Timestamps, Lists, SoundLists, FixedLists, Structs, HiddenNull, VisibleNull, Dictionaries, Replaced, Appended, NullBeforeDictionary, IndexBeforeDictionary, NegativeIndex, NullEntry, WrittenLists, WrittenFixedLists, WrittenStructs, WrittenDictionaries, WrittenWithoutEntries, ReadAgain};
 
 use cells::MAX_TABLE_WEIGHT;
@@ -107,3 +114,12 @@ pub fn written_slots_pass()
     cells::entries_are_the_distinct_values();
     cells::one_entry_is_one_value();
 }
+
+/// An array that was read stays as it is where bytes are appended, and where the dictionaries keep what it knows of them.
+pub fn longer_bytes_keep_arrays()
+    ensures spans { (bytes more : List ℕ) (span : Span) → ends_within (length bytes) span ≡ true → within (bytes ++ more) span ≡ within bytes span }
+    ensures arrays { (bytes more : List ℕ) (old new : List Dictionary) (a : PlacedArray)
+        → ((part : DictionaryPart) → part.known ≤ length (arrays_numbered old part.number)
+        → take part.known (arrays_numbered new part.number) ≡ take part.known (arrays_numbered old part.number))
+        → is_placed_within (length bytes) old a ≡ true → array_in (bytes ++ more) (arrays_in (bytes ++ more) new) a ≡ array_in bytes (arrays_in bytes old) a }
+{}

@@ -27,8 +27,8 @@ pub use borrowed::{ValueRef, Values, ValuesIter};
 pub use borrowing::borrow_value;
 pub use entry::{EntryPlace, indexed_entry};
 pub use laws::{
-    built_reads_back, listed_reads_back, rows_can_be_built, worked_cases, written_arrays_pass,
-    written_slots_pass,
+    built_reads_back, listed_reads_back, longer_bytes_keep_arrays, rows_can_be_built, worked_cases,
+    written_arrays_pass, written_slots_pass,
 };
 pub use numbers::OffsetWidth;
 pub use read::{row, value};
