@@ -1,7 +1,7 @@
 // FlatBuffers that are read and written (flatbuf).
+use crate::made::{NotMade, assert_no_row};
 use flatbuf::{Budget, Buf, FlatError, MAX_BUFFER_BYTES, MAX_TABLES, Node, Slot, Writer};
-use std::process::Abort;
-use std::test::Fail;
+use std::alloc::Global;
 
 // A table with a slot of each kind: numbers of 8, 16, 32 and 64 bits, a text, two elements of two bytes, a vector of one
 // table, that table, a union of kind 3 with that table, and a bool of value 2.
@@ -38,13 +38,6 @@ enum Found<'a> {
     Truth(bool),
     Bytes(&'a [u8]),
     Kind(u8, u8),
-}
-
-#[derive(Clone, Copy)]
-struct Case<'a> {
-    bytes: &'a [u8],
-    asked: Asked,
-    want: Result<Found<'a>, FlatError>,
 }
 
 fn ask(bytes: &[u8], asked: Asked) -> Result<Found<'_>, FlatError> {
@@ -85,119 +78,128 @@ fn ask(bytes: &[u8], asked: Asked) -> Result<Found<'_>, FlatError> {
     }
 }
 
-fn assert_case(rt: &impl Abort, case: Case<'_>) {
-    let well = ask(case.bytes, case.asked) == case.want;
-    assert!(rt; well);
+const SLOTS: &[(Asked, Found<'static>)] = &[
+    (Asked::Byte(0), Found::Number(7)),
+    (Asked::Short(1), Found::Number(0x0102)),
+    (Asked::Word(2), Found::Number(0x0102_0304)),
+    (Asked::Long(3), Found::Number(0x0102_0304_0506_0708)),
+    (Asked::Text(4), Found::Bytes(b"hi")),
+    (Asked::Structs(5), Found::Bytes(&[1, 2, 3, 4])),
+    (Asked::Listed(6), Found::Number(5)),
+    (Asked::Referred(7), Found::Number(5)),
+    (Asked::Union(8), Found::Kind(3, 5)),
+    (Asked::Flag(10), Found::Truth(true)),
+    (Asked::Has(10), Found::Truth(true)),
+    // Slot 11 is absent.
+    (Asked::Has(11), Found::Truth(false)),
+    (Asked::Byte(11), Found::Number(9)),
+    (Asked::Short(11), Found::Number(9)),
+    (Asked::Word(11), Found::Number(9)),
+    (Asked::Long(11), Found::Number(9)),
+    (Asked::Flag(11), Found::Truth(false)),
+    (Asked::Text(11), Found::Bytes(&[])),
+    (Asked::Structs(11), Found::Bytes(&[])),
+    (Asked::Listed(11), Found::Nothing),
+    (Asked::Referred(11), Found::Nothing),
+    (Asked::Union(11), Found::Kind(0, 0)),
+];
+
+fn wrong_slot() -> Option<usize> {
+    for (place, (asked, want)) in SLOTS.iter().enumerate() {
+        if ask(&EACH_KIND, *asked) != Ok(*want) {
+            return Some(place);
+        }
+    }
+    None
+}
+
+// Where the bytes end, what is asked, and the answer.
+const CUT: &[(usize, Asked, Result<Found<'static>, FlatError>)] = &[
+    (55, Asked::Long(3), Err(FlatError::Bounds)),
+    (55, Asked::Word(2), Ok(Found::Number(0x0102_0304))),
+    (56, Asked::Long(3), Ok(Found::Number(0x0102_0304_0506_0708))),
+    (89, Asked::Text(4), Err(FlatError::Bounds)),
+    (90, Asked::Text(4), Ok(Found::Bytes(b"hi"))),
+];
+
+fn wrongly_cut() -> Option<usize> {
+    for (place, (length, asked, want)) in CUT.iter().enumerate() {
+        if ask(EACH_KIND.get(..*length).unwrap_or_default(), *asked) != *want {
+            return Some(place);
+        }
+    }
+    None
+}
+
+// The first length below that of the root table at which the bytes are not refused.
+fn wrong_length() -> Option<usize> {
+    for length in 0..36 {
+        if ask(&EACH_KIND[..length], Asked::Root) != Err(FlatError::Bounds) {
+            return Some(length);
+        }
+    }
+    None
+}
+
+// The size of a vtable, and why it is refused.
+const VTABLES: &[(u8, FlatError)] = &[
+    (0, FlatError::VtableSize),
+    (2, FlatError::VtableSize),
+    (3, FlatError::VtableSize),
+    (5, FlatError::VtableSize),
+    (7, FlatError::VtableSize),
+    (10, FlatError::Bounds),
+    (12, FlatError::Bounds),
+];
+
+fn wrong_vtable() -> Option<usize> {
+    for (place, (size, fault)) in VTABLES.iter().enumerate() {
+        let bytes = [8, 0, 0, 0, *size, 0, 0, 0, 4, 0, 0, 0];
+        if ask(&bytes, Asked::Root) != Err(*fault) {
+            return Some(place);
+        }
+    }
+    None
 }
 
 #[test]
 fn each_kind_of_slot_is_read(rt: HostRuntime) {
-    let rows = [
-        (Asked::Byte(0), Found::Number(7)),
-        (Asked::Short(1), Found::Number(0x0102)),
-        (Asked::Word(2), Found::Number(0x0102_0304)),
-        (Asked::Long(3), Found::Number(0x0102_0304_0506_0708)),
-        (Asked::Text(4), Found::Bytes(b"hi")),
-        (Asked::Structs(5), Found::Bytes(&[1, 2, 3, 4])),
-        (Asked::Listed(6), Found::Number(5)),
-        (Asked::Referred(7), Found::Number(5)),
-        (Asked::Union(8), Found::Kind(3, 5)),
-        (Asked::Flag(10), Found::Truth(true)),
-        (Asked::Has(10), Found::Truth(true)),
-        // Slot 11 is absent.
-        (Asked::Has(11), Found::Truth(false)),
-        (Asked::Byte(11), Found::Number(9)),
-        (Asked::Short(11), Found::Number(9)),
-        (Asked::Word(11), Found::Number(9)),
-        (Asked::Long(11), Found::Number(9)),
-        (Asked::Flag(11), Found::Truth(false)),
-        (Asked::Text(11), Found::Bytes(&[])),
-        (Asked::Structs(11), Found::Bytes(&[])),
-        (Asked::Listed(11), Found::Nothing),
-        (Asked::Referred(11), Found::Nothing),
-        (Asked::Union(11), Found::Kind(0, 0)),
-    ];
-    for (asked, want) in rows {
-        let want = Ok(want);
-        assert_case(
-            &rt,
-            Case {
-                bytes: &EACH_KIND,
-                asked,
-                want,
-            },
-        );
-    }
+    assert_no_row(&rt, Ok(wrong_slot()));
 }
 
 #[test]
-fn bytes_that_end_early_are_refused(rt: HostRuntime) {
-    for length in 0..36 {
-        let bytes = &EACH_KIND[..length];
-        let want = Err(FlatError::Bounds);
-        assert_case(
-            &rt,
-            Case {
-                bytes,
-                asked: Asked::Root,
-                want,
-            },
-        );
-    }
-    let rows = [
-        (55, Asked::Long(3), Err(FlatError::Bounds)),
-        (55, Asked::Word(2), Ok(Found::Number(0x0102_0304))),
-        (56, Asked::Long(3), Ok(Found::Number(0x0102_0304_0506_0708))),
-        (89, Asked::Text(4), Err(FlatError::Bounds)),
-        (90, Asked::Text(4), Ok(Found::Bytes(b"hi"))),
-    ];
-    for (length, asked, want) in rows {
-        let bytes = EACH_KIND.get(..length).unwrap_or_default();
-        assert_case(&rt, Case { bytes, asked, want });
-    }
+fn bytes_that_end_early_and_odd_vtables_are_refused(rt: HostRuntime) {
+    assert_no_row(&rt, Ok(wrong_length()));
+    assert_no_row(&rt, Ok(wrongly_cut()));
+    assert_no_row(&rt, Ok(wrong_vtable()));
 }
 
-#[test]
-fn odd_and_small_vtables_are_refused(rt: HostRuntime) {
-    let rows = [
-        (0, FlatError::VtableSize),
-        (2, FlatError::VtableSize),
-        (3, FlatError::VtableSize),
-        (5, FlatError::VtableSize),
-        (7, FlatError::VtableSize),
-        (10, FlatError::Bounds),
-        (12, FlatError::Bounds),
-    ];
-    for (size, fault) in rows {
-        let bytes = [8, 0, 0, 0, size, 0, 0, 0, 4, 0, 0, 0];
-        let want = Err(fault);
-        assert_case(
-            &rt,
-            Case {
-                bytes: &bytes,
-                asked: Asked::Root,
-                want,
-            },
-        );
-    }
-}
-
-#[test]
-fn a_visit_past_the_last_is_refused(rt: HostRuntime) -> Result<(), FlatError> {
+// Whether the root is visited as often as it may be, and then refused.
+fn is_one_too_many() -> bool {
     let mut budget = Budget::new();
     for _ in 0..MAX_TABLES {
-        let _root = Buf::new(&EACH_KIND).root(&mut budget)?;
+        if Buf::new(&EACH_KIND).root(&mut budget).is_err() {
+            return false;
+        }
     }
-    let next = Buf::new(&EACH_KIND).root(&mut budget);
-    assert!(rt; next.err() == Some(FlatError::Budget));
-    Ok(())
+    Buf::new(&EACH_KIND).root(&mut budget).err() == Some(FlatError::Budget)
+}
+
+#[test]
+fn a_visit_past_the_last_is_refused(rt: HostRuntime) {
+    assert!(rt; is_one_too_many());
 }
 
 // The header of a record batch of two rows: its length, one field node, two buffers.
-#[test]
-fn a_record_batch_is_written(rt: HostRuntime) -> Result<(), Fail> {
+const BATCH_HEADER: &[u8] = &[
+    16, 0, 0, 0, 0, 0, 10, 0, 24, 0, 8, 0, 16, 0, 20, 0, 10, 0, 0, 0, 0, 0, 0, 0, 2, 0, 0, 0, 0, 0,
+    0, 0, 12, 0, 0, 0, 32, 0, 0, 0, 0, 0, 0, 0, 1, 0, 0, 0, 2, 0, 0, 0, 0, 0, 0, 0, 1, 0, 0, 0, 0,
+    0, 0, 0, 0, 0, 0, 0, 2, 0, 0, 0, 0, 0, 0, 0, 0, 0, 0, 0, 1, 0, 0, 0, 0, 0, 0, 0, 8, 0, 0, 0, 0,
+    0, 0, 0, 8, 0, 0, 0, 0, 0, 0, 0,
+];
+
+fn is_batch_written(alloc: Global) -> Result<bool, NotMade> {
     flatbuf::written_is_read();
-    let alloc = rt.alloc();
     let nodes = Node::Structs(vec![in alloc; (2, 1)]?);
     let buffers = Node::Structs(vec![in alloc; (0, 1), (8, 8)]?);
     let root = Node::Table(vec![in alloc;
@@ -205,13 +207,10 @@ fn a_record_batch_is_written(rt: HostRuntime) -> Result<(), Fail> {
         Slot::Refers(nodes),
         Slot::Refers(buffers),
     ]?);
-    let bytes = Writer::new(alloc).write(&root)?;
-    let expected = [
-        16, 0, 0, 0, 0, 0, 10, 0, 24, 0, 8, 0, 16, 0, 20, 0, 10, 0, 0, 0, 0, 0, 0, 0, 2, 0, 0, 0,
-        0, 0, 0, 0, 12, 0, 0, 0, 32, 0, 0, 0, 0, 0, 0, 0, 1, 0, 0, 0, 2, 0, 0, 0, 0, 0, 0, 0, 1, 0,
-        0, 0, 0, 0, 0, 0, 0, 0, 0, 0, 2, 0, 0, 0, 0, 0, 0, 0, 0, 0, 0, 0, 1, 0, 0, 0, 0, 0, 0, 0,
-        8, 0, 0, 0, 0, 0, 0, 0, 8, 0, 0, 0, 0, 0, 0, 0,
-    ];
-    assert!(rt; bytes.as_slice() == expected.as_slice());
-    Ok(())
+    Ok(Writer::new(alloc).write(&root)?.as_slice() == BATCH_HEADER)
+}
+
+#[test]
+fn a_record_batch_is_written(rt: HostRuntime) {
+    assert!(rt; is_batch_written(rt.alloc()) == Ok(true));
 }

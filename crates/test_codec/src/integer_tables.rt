@@ -1,9 +1,7 @@
 // Tables that are kept as the bytes of integer columns (values).
-use super::made::{NotMade, row_of, rows_of, schema_of, table_of};
+use super::made::{NotMade, assert_no_row, push_pair, rows_of, schema_of, sound_table_of};
 use arrow_schema::{Schema, same_shape};
 use std::alloc::{AllocError, Global};
-use std::process::Abort;
-use std::test::Fail;
 use values::{Row, Table, Value, ValueRef, Values};
 
 // Columns of each width, signed and then not.
@@ -83,12 +81,12 @@ fn bytes_of_each_width(alloc: Global) -> Result<Vec<Vec<u8>>, AllocError> {
     Ok(columns)
 }
 
-// The table of these integer columns, whose schema is within the limits.
-fn of_integers(rt: &impl Abort, schema: Schema, columns: Vec<Vec<u8>>, rows: usize) -> Table {
-    let checked = schema.check().is_ok();
-    let taken = Table::takes_integers(&schema, &columns, rows);
-    assert!(rt; checked && taken);
-    Table::from_integers(schema, columns, rows)
+// The table of these integer columns, which it takes.
+fn of_integers(schema: Schema, columns: Vec<Vec<u8>>, rows: usize) -> Result<Table, NotMade> {
+    if schema.check().is_err() || !Table::takes_integers(&schema, &columns, rows) {
+        return Err(NotMade);
+    }
+    Ok(Table::from_integers(schema, columns, rows))
 }
 
 // Whether these are the numbers, by each way to a value.
@@ -103,15 +101,16 @@ fn are_numbers(found: Values<'_>, want: &[i128]) -> bool {
     well && values.next().is_none() && found.get(want.len()).is_none()
 }
 
-fn assert_has_numbers(rt: &impl Abort, made: &Table) {
+// Whether a table has the numbers, by each way to a row.
+fn has_numbers(made: &Table) -> bool {
+    let mut well = made.len() == 4 && !made.is_empty() && made.row(4).is_none();
     let mut rows = made.rows();
     for (place, numbers) in NUMBERS.iter().enumerate() {
-        let well = rows.next().is_some_and(|row| are_numbers(row, numbers))
+        well = well
+            && rows.next().is_some_and(|row| are_numbers(row, numbers))
             && made.row(place).is_some_and(|row| are_numbers(row, numbers));
-        assert!(rt; well, "row {place}");
     }
-    let ended = rows.next().is_none() && made.row(4).is_none();
-    assert!(rt; ended && made.len() == 4 && !made.is_empty());
+    well && rows.next().is_none()
 }
 
 // The rows of the numbers, as values.
@@ -127,39 +126,37 @@ fn rows_of_numbers(alloc: Global) -> Result<Vec<Row>, NotMade> {
     Ok(rows)
 }
 
-#[test]
-fn integers_of_each_width_are_the_values(rt: HostRuntime) -> Result<(), Fail> {
-    let alloc = rt.alloc();
-    let Ok(of_rows) = table_of(&rt, alloc, COLUMNS, rows_of_numbers(alloc)?)? else {
-        panic!(rt; "refused");
-    };
-    assert_has_numbers(&rt, &of_rows);
-    assert!(rt; of_rows.integers().is_none() && of_rows.has_only_integers());
-    let columns = bytes_of_each_width(alloc)?;
-    let of_bytes = of_integers(&rt, schema_of(alloc, COLUMNS)?, columns, 4);
-    assert_has_numbers(&rt, &of_bytes);
-    assert!(rt; same_shape(of_bytes.schema(), of_rows.schema()) && of_bytes.has_only_integers());
-    Ok(())
+fn are_the_values(alloc: Global) -> Result<bool, NotMade> {
+    let of_rows = sound_table_of(alloc, COLUMNS, rows_of_numbers(alloc)?)?;
+    let of_bytes = of_integers(schema_of(alloc, COLUMNS)?, bytes_of_each_width(alloc)?, 4)?;
+    let is_of_rows = has_numbers(&of_rows) && of_rows.integers().is_none();
+    let are_integers = of_rows.has_only_integers() && of_bytes.has_only_integers();
+    let well = is_of_rows && are_integers && has_numbers(&of_bytes);
+    Ok(well && same_shape(of_bytes.schema(), of_rows.schema()))
 }
 
-#[test]
-fn bytes_are_given_back_as_they_were_taken(rt: HostRuntime) -> Result<(), Fail> {
-    let alloc = rt.alloc();
-    let columns = bytes_of_each_width(alloc)?;
-    let made = of_integers(&rt, schema_of(alloc, COLUMNS)?, columns, 4);
-    let Some(columns) = made.integers() else {
-        panic!(rt; "no integers");
-    };
+// Whether these are the bytes of each width.
+fn are_bytes(columns: &[Vec<u8>]) -> bool {
     let mut well = columns.len() == 8;
     for (i, column) in columns.iter().enumerate() {
         well = well && column.as_slice() == BYTES[i % 4];
     }
-    assert!(rt; well);
-    Ok(())
+    well
+}
+
+fn are_given_back(alloc: Global) -> Result<bool, NotMade> {
+    let made = of_integers(schema_of(alloc, COLUMNS)?, bytes_of_each_width(alloc)?, 4)?;
+    Ok(made.integers().is_some_and(|columns| are_bytes(columns)))
+}
+
+#[test]
+fn integers_of_each_width_are_the_values(rt: HostRuntime) {
+    assert!(rt; are_the_values(rt.alloc()) == Ok(true));
+    assert!(rt; are_given_back(rt.alloc()) == Ok(true));
 }
 
 // A column, the bytes of its values, the number of rows, and whether a table takes them.
-const TAKEN: [(&str, usize, usize, bool); 6] = [
+const TAKEN: &[(&str, usize, usize, bool)] = &[
     ("a:int32?", 8, 2, true),
     ("a:int32?", 8, 1, false),
     ("a:int32?", 7, 2, false),
@@ -168,24 +165,36 @@ const TAKEN: [(&str, usize, usize, bool); 6] = [
     ("a:utf8?", 7, 2, false),
 ];
 
-#[test]
-fn columns_of_other_lengths_are_not_taken(rt: HostRuntime) -> Result<(), Fail> {
-    let alloc = rt.alloc();
-    for (column, bytes, rows, want) in TAKEN {
-        let schema = schema_of(alloc, &[column])?;
-        let columns = [Vec::from_elem(alloc, 1u8, bytes)?];
-        let found = Table::takes_integers(&schema, &columns, rows);
-        assert!(rt; found == want, "{column} {bytes} {rows}");
-        assert!(rt; !Table::takes_integers(&schema, &[], 0));
+fn takes(alloc: Global, column: &str, bytes: usize, rows: usize) -> Result<bool, NotMade> {
+    let schema = schema_of(alloc, &[column])?;
+    let columns = [Vec::from_elem(alloc, 1u8, bytes)?];
+    let without = Table::takes_integers(&schema, &[], 0);
+    Ok(Table::takes_integers(&schema, &columns, rows) && !without)
+}
+
+fn wrongly_taken(alloc: Global) -> Result<Option<usize>, NotMade> {
+    for (place, (column, bytes, rows, want)) in TAKEN.iter().enumerate() {
+        if takes(alloc, column, *bytes, *rows)? != *want {
+            return Ok(Some(place));
+        }
     }
-    let none = schema_of(alloc, &[])?;
-    assert!(rt; Table::takes_integers(&none, &[], 268_435_456));
-    assert!(rt; !Table::takes_integers(&none, &[], 268_435_457));
-    Ok(())
+    Ok(None)
+}
+
+fn takes_without_columns(alloc: Global, rows: usize) -> Result<bool, NotMade> {
+    Ok(Table::takes_integers(&schema_of(alloc, &[])?, &[], rows))
+}
+
+#[test]
+fn columns_of_other_lengths_are_not_taken(rt: HostRuntime) {
+    assert_no_row(&rt, wrongly_taken(rt.alloc()));
+    let most = takes_without_columns(rt.alloc(), 268_435_456);
+    let more = takes_without_columns(rt.alloc(), 268_435_457);
+    assert!(rt; most == Ok(true) && more == Ok(false));
 }
 
 // A column, its values, and whether the table is of integers alone.
-const ONLY_INTEGERS: [(&str, &[&[&str]], bool); 8] = [
+const ONLY_INTEGERS: &[(&str, &[&[&str]], bool)] = &[
     ("a:int32?", &[&["7"], &["-1"]], true),
     ("a:int32?", &[&["7"], &["null"]], false),
     ("a:int32", &[&["7"]], true),
@@ -196,43 +205,63 @@ const ONLY_INTEGERS: [(&str, &[&[&str]], bool); 8] = [
     ("a:dict<int8,int32>?", &[&["7"]], false),
 ];
 
-#[test]
-fn only_integers_without_a_null_are_told(rt: HostRuntime) -> Result<(), Fail> {
-    let alloc = rt.alloc();
-    for (column, rows, want) in ONLY_INTEGERS {
-        let Ok(made) = table_of(&rt, alloc, &[column], rows_of(alloc, rows)?)? else {
-            panic!(rt; "refused");
-        };
-        assert!(rt; made.has_only_integers() == want, "{column}");
+fn is_of_integers(alloc: Global, column: &str, rows: &[&[&str]]) -> Result<bool, NotMade> {
+    Ok(sound_table_of(alloc, &[column], rows_of(alloc, rows)?)?.has_only_integers())
+}
+
+fn wrongly_told(alloc: Global) -> Result<Option<usize>, NotMade> {
+    for (place, (column, rows, want)) in ONLY_INTEGERS.iter().enumerate() {
+        if is_of_integers(alloc, column, rows)? != *want {
+            return Ok(Some(place));
+        }
     }
-    Ok(())
+    Ok(None)
 }
 
 #[test]
-fn pairs_are_no_integers(rt: HostRuntime) -> Result<(), Fail> {
-    let alloc = rt.alloc();
+fn only_integers_without_a_null_are_told(rt: HostRuntime) {
+    assert_no_row(&rt, wrongly_told(rt.alloc()));
+}
+
+fn with_pair(alloc: Global) -> Result<Schema, NotMade> {
     let mut schema = schema_of(alloc, &["a:int32?"])?;
-    schema
-        .pairs
-        .push((String::from_str(alloc, "k")?, String::new(alloc)))?;
-    let checked = schema.check().is_ok();
-    assert!(rt; checked);
-    let mut rows = Vec::new(alloc);
-    rows.push(row_of(alloc, &["7"])?)?;
-    let made = Table::new(alloc, schema, rows)?;
-    assert!(rt; !made.has_only_integers());
-    Ok(())
+    push_pair(alloc, &mut schema.pairs, "k", "")?;
+    Ok(schema)
+}
+
+fn has_only_integers(schema: Schema, rows: Vec<Row>) -> Result<bool, NotMade> {
+    if schema.check().is_err() {
+        return Err(NotMade);
+    }
+    match Table::new(*rows.allocator(), schema, rows) {
+        Ok(made) => Ok(made.has_only_integers()),
+        Err(_) => Err(NotMade),
+    }
+}
+
+fn are_integers_beside_a_pair(alloc: Global) -> Result<bool, NotMade> {
+    has_only_integers(with_pair(alloc)?, rows_of(alloc, &[&["7"]])?)
 }
 
 #[test]
-fn ten_million_integers_are_kept_in_their_bytes(rt: HostRuntime) -> Result<(), Fail> {
-    let alloc = rt.alloc();
-    let count = 10_000_000usize;
-    let column = Vec::from_elem(alloc, 2u8, 40_000_000)?;
+fn pairs_are_no_integers(rt: HostRuntime) {
+    assert!(rt; are_integers_beside_a_pair(rt.alloc()) == Ok(false));
+}
+
+fn ten_million_integers(alloc: Global) -> Result<Vec<Vec<u8>>, AllocError> {
     let mut columns = Vec::new(alloc);
-    columns.push(column)?;
-    let made = of_integers(&rt, schema_of(alloc, &["a:int32?"])?, columns, count);
+    columns.push(Vec::from_elem(alloc, 2u8, 40_000_000)?)?;
+    Ok(columns)
+}
+
+fn has_ten_million_rows(alloc: Global) -> Result<bool, NotMade> {
+    let schema = schema_of(alloc, &["a:int32?"])?;
+    let made = of_integers(schema, ten_million_integers(alloc)?, 10_000_000)?;
     let last = made.row(9_999_999).and_then(|row| row.get(0));
-    assert!(rt; made.len() == count && matches!(last, Some(ValueRef::Int(0x0202_0202))));
-    Ok(())
+    Ok(made.len() == 10_000_000 && matches!(last, Some(ValueRef::Int(0x0202_0202))))
+}
+
+#[test]
+fn ten_million_integers_are_kept_in_their_bytes(rt: HostRuntime) {
+    assert!(rt; has_ten_million_rows(rt.alloc()) == Ok(true));
 }

@@ -6,8 +6,22 @@ use std::process::Abort;
 use values::{Row, Table, TableError, Value, ValueRef, Values};
 
 /// Nothing was made: memory was refused, or a text is not of its form.
-#[derive(Clone, Copy, Debug)]
+#[derive(Clone, Copy, Debug, PartialEq)]
 pub struct NotMade;
+
+/// The place of the first wrong row of a table, from 0: there is none.
+pub fn assert_no_row(rt: &impl Abort, wrong: Result<Option<usize>, NotMade>) {
+    assert!(rt; wrong == Ok(None), "{wrong:?}");
+}
+
+/// Of two runs, none of which is wrong, one is done: the other may have ended for want of memory.
+pub fn is_one_well(first: Result<bool, NotMade>, second: Result<bool, NotMade>) -> bool {
+    match (first, second) {
+        (Ok(well), Err(NotMade)) | (Err(NotMade), Ok(well)) => well,
+        (Ok(first), Ok(second)) => first && second,
+        (Err(NotMade), Err(NotMade)) => false,
+    }
+}
 
 impl From<AllocError> for NotMade {
     fn from(_: AllocError) -> Self {
@@ -31,6 +45,17 @@ impl From<ParseIntError> for NotMade {
     fn from(_: ParseIntError) -> Self {
         NotMade
     }
+}
+
+/// Adds a pair of a key and a value.
+pub fn push_pair(
+    alloc: Global,
+    pairs: &mut Vec<(String, String)>,
+    key: &str,
+    value: &str,
+) -> Result<(), AllocError> {
+    let key = String::from_str(alloc, key)?;
+    Ok(pairs.push((key, String::from_str(alloc, value)?))?)
 }
 
 /// The schema of columns of these field texts.
@@ -104,37 +129,42 @@ pub fn rows_of(alloc: Global, rows: &[&[&str]]) -> Result<Vec<Row>, NotMade> {
     Ok(made)
 }
 
-/// The table of these rows, whose schema is within the limits, or what refuses it; want of memory is `NotMade`.
+/// The table of these rows, or what refuses it; want of memory, or a schema past the limits, is `NotMade`.
 pub fn table_of(
-    rt: &impl Abort,
     alloc: Global,
     columns: &[&str],
     rows: Vec<Row>,
 ) -> Result<Result<Table, TableError>, NotMade> {
     let schema = schema_of(alloc, columns)?;
-    let checked = schema.check().is_ok();
-    assert!(rt; checked);
+    if schema.check().is_err() {
+        return Err(NotMade);
+    }
     reported(Table::new(alloc, schema, rows))
 }
 
-/// The table, or why there is none; want of memory is `NotMade`.
-pub fn reported(made: Result<Table, TableError>) -> Result<Result<Table, TableError>, NotMade> {
+/// The table of these rows, which is not refused.
+pub fn sound_table_of(alloc: Global, columns: &[&str], rows: Vec<Row>) -> Result<Table, NotMade> {
+    match table_of(alloc, columns, rows)? {
+        Ok(table) => Ok(table),
+        Err(_) => Err(NotMade),
+    }
+}
+
+// The table, or why there is none; want of memory is `NotMade`.
+fn reported(made: Result<Table, TableError>) -> Result<Result<Table, TableError>, NotMade> {
     match made {
         Err(TableError::OutOfMemory) => Err(NotMade),
         made => Ok(made),
     }
 }
 
-/// These texts, with a comma between two.
-pub fn joined_texts(alloc: Global, texts: &[&str]) -> Result<String, AllocError> {
-    let mut all = String::new(alloc);
-    for text in texts {
-        if !all.is_empty() {
-            all.push(',')?;
-        }
-        all.push_str(text)?;
+/// The table of a schema and its cells, row after row, so many rows.
+pub fn table_of_cells(schema: Schema, cells: Vec<Value>, rows: usize) -> Result<Table, NotMade> {
+    let filled = schema.fields.len().checked_mul(rows) == Some(cells.len());
+    if schema.check().is_err() || !filled {
+        return Err(NotMade);
     }
-    Ok(all)
+    Table::from_cells(*cells.allocator(), schema, cells, rows).map_err(|_| NotMade)
 }
 
 /// The text of a value, as `value_of` takes it.
@@ -152,8 +182,8 @@ pub fn text_of(alloc: Global, value: ValueRef<'_>) -> Result<String, AllocError>
     }
 }
 
-/// The texts of values that are neither lists nor structs, with a comma between two.
-pub fn texts_of(alloc: Global, values: Values<'_>) -> Result<String, AllocError> {
+// The texts of values that are neither lists nor structs, with a comma between two.
+fn texts_of(alloc: Global, values: Values<'_>) -> Result<String, AllocError> {
     let mut all = String::new(alloc);
     for value in values.iter() {
         if !all.is_empty() {

@@ -1,5 +1,5 @@
 // Messages that are written (ipc_write). The bytes are those of another writer.
-use crate::made::{NotMade, schema_of};
+use crate::made::{NotMade, push_pair, schema_of};
 use crate::stream_bytes::{BATCH, END, SCHEMA};
 use arrow_schema::Schema;
 use ipc_write::{write_batch, write_dictionary, write_end, write_schema};
@@ -156,16 +156,6 @@ enum Wanted<'a> {
     /// The rows 7 and -1.
     Batch,
     End,
-}
-
-fn push_pair(
-    alloc: Global,
-    pairs: &mut Vec<(String, String)>,
-    key: &str,
-    value: &str,
-) -> Result<(), NotMade> {
-    let key = String::from_str(alloc, key)?;
-    Ok(pairs.push((key, String::from_str(alloc, value)?))?)
 }
 
 fn push_pairs(alloc: Global, schema: &mut Schema, pairs: &[Pair<'_>]) -> Result<(), NotMade> {

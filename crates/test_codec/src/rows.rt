@@ -1,12 +1,12 @@
 // Values and rows: what fits, what it weighs, and the entries of dictionaries (cells).
-use super::made::{nested, row_of, schema_of, value_of};
+use super::made::{NotMade, assert_no_row, nested, row_of, schema_of, value_of};
 use arrow_schema::{BitWidth, IntegerType, parse_fields};
 use indexmap::IndexSet;
-use std::test::Fail;
+use std::alloc::{AllocError, Global};
 use values::{Entry, TOO_HEAVY, Value, entry_limit, entry_of, fits, note, row_weight, weight};
 
 // A field, a value, and whether it fits.
-const FITS: [(&str, &str, bool); 41] = [
+const FITS: &[(&str, &str, bool)] = &[
     ("a:int8?", "-129", false),
     ("a:int8?", "-128", true),
     ("a:int8?", "127", true),
@@ -50,25 +50,34 @@ const FITS: [(&str, &str, bool); 41] = [
     ("a:struct<>?", "()", true),
 ];
 
-#[test]
-fn values_fit_their_fields(rt: HostRuntime) -> Result<(), Fail> {
-    let alloc = rt.alloc();
-    for (column, text, want) in FITS {
-        let fields = parse_fields(alloc, &[column])?;
-        let value = value_of(alloc, text)?;
-        let found = fields.first().map(|field| fits(field, &value));
-        assert!(rt; found == Some(want), "{column} {text}");
+// Whether a value of a text fits a field, and its weight there.
+fn judged(alloc: Global, column: &str, text: &str) -> Result<Option<(bool, u64)>, NotMade> {
+    let value = value_of(alloc, text)?;
+    let fields = parse_fields(alloc, &[column])?;
+    Ok(
+        fields
+            .first()
+            .map(|field| (fits(field, &value), weight(field, &value))),
+    )
+}
+
+fn wrongly_fitting(alloc: Global) -> Result<Option<usize>, NotMade> {
+    for (place, (column, text, want)) in FITS.iter().enumerate() {
+        if !judged(alloc, column, text)?.is_some_and(|(fits, _)| fits == *want) {
+            return Ok(Some(place));
+        }
     }
-    Ok(())
+    Ok(None)
 }
 
 #[test]
-fn a_null_alone_is_null(rt: HostRuntime) {
+fn values_fit_their_fields(rt: HostRuntime) {
+    assert_no_row(&rt, wrongly_fitting(rt.alloc()));
     assert!(rt; Value::Null.is_null() && !Value::Bool(false).is_null());
 }
 
 // A field, a value, and its weight.
-const WEIGHTS: [(&str, &str, u64); 5] = [
+const WEIGHTS: &[(&str, &str, u64)] = &[
     ("a:utf8?", "'héllo", 7),
     ("a:utf8?", "null", 1),
     ("a:fixed_binary(5)?", "null", 6),
@@ -76,58 +85,74 @@ const WEIGHTS: [(&str, &str, u64); 5] = [
     ("a:struct<x:bool?,y:fixed_binary(5)?>?", "null", 8),
 ];
 
-#[test]
-fn weights_go_by_the_type(rt: HostRuntime) -> Result<(), Fail> {
-    let alloc = rt.alloc();
-    for (column, text, want) in WEIGHTS {
-        let fields = parse_fields(alloc, &[column])?;
-        let value = value_of(alloc, text)?;
-        let found = fields.first().map(|field| weight(field, &value));
-        assert!(rt; found == Some(want), "{column} {text}");
+fn wrongly_weighed(alloc: Global) -> Result<Option<usize>, NotMade> {
+    for (place, (column, text, want)) in WEIGHTS.iter().enumerate() {
+        if judged(alloc, column, text)? != Some((true, *want)) {
+            return Ok(Some(place));
+        }
     }
-    Ok(())
+    Ok(None)
+}
+
+#[test]
+fn weights_go_by_the_type(rt: HostRuntime) {
+    assert_no_row(&rt, wrongly_weighed(rt.alloc()));
 }
 
 // Columns, the cells of a row, and its weight.
-const ROW_WEIGHTS: [(&[&str], &[&str], u64); 2] = [
+const ROW_WEIGHTS: &[(&[&str], &[&str], u64)] = &[
     (&["a:int32?", "s:utf8?"], &["1", "'xyz"], 6),
     (&[], &[], 1),
 ];
 
-#[test]
-fn a_row_weighs_one_and_its_cells(rt: HostRuntime) -> Result<(), Fail> {
-    let alloc = rt.alloc();
-    for (columns, cells, want) in ROW_WEIGHTS {
-        let schema = schema_of(alloc, columns)?;
-        let row = row_of(alloc, cells)?;
-        let found = row_weight(&schema, &row.cells);
-        assert_eq!(rt; found, want);
+fn weight_of_row(alloc: Global, columns: &[&str], cells: &[&str]) -> Result<u64, NotMade> {
+    let schema = schema_of(alloc, columns)?;
+    Ok(row_weight(&schema, &row_of(alloc, cells)?.cells))
+}
+
+fn wrongly_weighed_row(alloc: Global) -> Result<Option<usize>, NotMade> {
+    for (place, (columns, cells, want)) in ROW_WEIGHTS.iter().enumerate() {
+        if weight_of_row(alloc, columns, cells)? != *want {
+            return Ok(Some(place));
+        }
     }
-    Ok(())
+    Ok(None)
+}
+
+#[test]
+fn a_row_weighs_one_and_its_cells(rt: HostRuntime) {
+    assert_no_row(&rt, wrongly_weighed_row(rt.alloc()));
 }
 
 // The sizes of the outermost list and of those below it, the number of levels, and the weight of a row of a null: 2^1 + 2^2 + .. + 2^24
 // for the second, and the row's own 1.
-const NULLS_BELOW_LISTS: [(u32, u32, u32, u64); 3] = [
+const NULLS_BELOW_LISTS: &[(u32, u32, u32, u64)] = &[
     (2_147_483_647, 2_147_483_647, 31, TOO_HEAVY),
     (2, 2, 24, 33_554_432),
     (0, 2_147_483_647, 31, 2),
 ];
 
-#[test]
-fn a_null_of_31_levels_is_weighed_at_once(rt: HostRuntime) -> Result<(), Fail> {
-    let alloc = rt.alloc();
-    for (outermost, size, levels, want) in NULLS_BELOW_LISTS {
-        let column = nested(alloc, outermost, size, levels)?;
-        let schema = schema_of(alloc, &[&column])?;
-        let found = row_weight(&schema, &[Value::Null]);
-        assert_eq!(rt; found, want, "{levels} levels");
+fn weight_of_null(alloc: Global, outermost: u32, size: u32, levels: u32) -> Result<u64, NotMade> {
+    let column = nested(alloc, outermost, size, levels)?;
+    weight_of_row(alloc, &[column.as_str()], &["null"])
+}
+
+fn wrongly_weighed_null(alloc: Global) -> Result<Option<usize>, NotMade> {
+    for (place, (outermost, size, levels, want)) in NULLS_BELOW_LISTS.iter().enumerate() {
+        if weight_of_null(alloc, *outermost, *size, *levels)? != *want {
+            return Ok(Some(place));
+        }
     }
-    Ok(())
+    Ok(None)
+}
+
+#[test]
+fn a_null_of_31_levels_is_weighed_at_once(rt: HostRuntime) {
+    assert_no_row(&rt, wrongly_weighed_null(rt.alloc()));
 }
 
 // A value, and the entry that it would be.
-const ENTRIES: [(&str, Option<Entry<'static>>); 6] = [
+const ENTRIES: &[(&str, Option<Entry<'static>>)] = &[
     ("7", Some(Entry::Int(7))),
     ("true", Some(Entry::Bool(true))),
     ("'x", Some(Entry::Text("x"))),
@@ -136,19 +161,22 @@ const ENTRIES: [(&str, Option<Entry<'static>>); 6] = [
     ("[]", None),
 ];
 
-#[test]
-fn entries_are_values_of_one_kind_each(rt: HostRuntime) -> Result<(), Fail> {
-    let alloc = rt.alloc();
-    for (text, want) in ENTRIES {
-        let value = value_of(alloc, text)?;
-        let found = entry_of(&value);
-        assert!(rt; found == want, "{text}");
+fn wrong_entry(alloc: Global) -> Result<Option<usize>, NotMade> {
+    for (place, (text, want)) in ENTRIES.iter().enumerate() {
+        if entry_of(&value_of(alloc, text)?) != *want {
+            return Ok(Some(place));
+        }
     }
-    Ok(())
+    Ok(None)
+}
+
+#[test]
+fn entries_are_values_of_one_kind_each(rt: HostRuntime) {
+    assert_no_row(&rt, wrong_entry(rt.alloc()));
 }
 
 // An index type, and how many entries it can name.
-const ENTRY_LIMITS: [(BitWidth, bool, Option<usize>); 5] = [
+const ENTRY_LIMITS: &[(BitWidth, bool, Option<usize>)] = &[
     (BitWidth::Eight, true, Some(128)),
     (BitWidth::Eight, false, Some(256)),
     (BitWidth::Sixteen, true, Some(32_768)),
@@ -156,22 +184,36 @@ const ENTRY_LIMITS: [(BitWidth, bool, Option<usize>); 5] = [
     (BitWidth::ThirtyTwo, true, None),
 ];
 
-#[test]
-fn index_types_name_so_many_entries(rt: HostRuntime) {
-    for (width, signed, want) in ENTRY_LIMITS {
-        let found = entry_limit(IntegerType { width, signed });
-        assert_eq!(rt; found, want);
+fn wrong_limit() -> Option<usize> {
+    for (place, (width, signed, want)) in ENTRY_LIMITS.iter().enumerate() {
+        let (width, signed) = (*width, *signed);
+        if entry_limit(IntegerType { width, signed }) != *want {
+            return Some(place);
+        }
     }
+    None
 }
 
 #[test]
-fn equal_values_are_noted_once(rt: HostRuntime) -> Result<(), Fail> {
-    let alloc = rt.alloc();
-    let row = row_of(alloc, &["7", "null", "7", "true"])?;
+fn index_types_name_so_many_entries(rt: HostRuntime) {
+    assert_no_row(&rt, Ok(wrong_limit()));
+}
+
+// How many entries the cells of a row are.
+fn noted(alloc: Global, cells: &[Value]) -> Result<usize, AllocError> {
     let mut entries = IndexSet::new(alloc);
-    for value in &row.cells {
+    for value in cells {
         note(&mut entries, value)?;
     }
-    assert_eq!(rt; entries.len(), 2);
-    Ok(())
+    Ok(entries.len())
+}
+
+fn noted_in_row(alloc: Global) -> Result<usize, NotMade> {
+    let row = row_of(alloc, &["7", "null", "7", "true"])?;
+    Ok(noted(alloc, &row.cells)?)
+}
+
+#[test]
+fn equal_values_are_noted_once(rt: HostRuntime) {
+    assert!(rt; noted_in_row(rt.alloc()) == Ok(2));
 }

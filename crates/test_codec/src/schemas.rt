@@ -1,11 +1,10 @@
 // Schemas, their limits and field texts (arrow_schema). Most schemas are made from field texts.
+use crate::made::{NotMade, assert_no_row, is_one_well, push_pair, schema_of};
 use arrow_schema::{
     BitWidth, DataType, DictSpec, Field, IntegerType, ParseError, Schema, SchemaError, TimeUnit,
     field_text, parse_fields, same_shape,
 };
 use std::alloc::{AllocError, Global};
-use std::process::Abort;
-use std::test::Fail;
 
 fn field(alloc: Global, name: &str, data_type: DataType) -> Result<Field, AllocError> {
     Ok(Field {
@@ -26,13 +25,6 @@ fn schema(alloc: Global, only: Field) -> Result<Schema, AllocError> {
     })
 }
 
-fn schema_of(alloc: Global, text: &str) -> Result<Schema, ParseError> {
-    Ok(Schema {
-        fields: parse_fields(alloc, &[text])?,
-        pairs: Vec::new(alloc),
-    })
-}
-
 // A schema near a limit.
 #[derive(Clone, Copy)]
 enum Near {
@@ -45,7 +37,7 @@ enum Near {
     DictionaryOfStructs,
 }
 
-const CHECKED: [(Near, Result<(), SchemaError>); 13] = [
+const CHECKED: &[(Near, Result<(), SchemaError>)] = &[
     (Near::Columns(2048), Ok(())),
     (Near::Columns(2049), Err(SchemaError::Fields)),
     (Near::Levels(32), Ok(())),
@@ -83,13 +75,19 @@ fn nested(alloc: Global, levels: u32) -> Result<Field, AllocError> {
 }
 
 // One pair is the column's, the others are the schema's.
-fn with_pairs(alloc: Global, count: u32) -> Result<Schema, AllocError> {
-    let mut only = field(alloc, "a", DataType::Bool)?;
-    only.pairs.push((String::new(alloc), String::new(alloc)))?;
-    let mut schema = schema(alloc, only)?;
-    for _ in 1..count {
-        schema.pairs.push((String::new(alloc), String::new(alloc)))?;
+fn add_empty_pairs(alloc: Global, schema: &mut Schema, count: u32) -> Result<(), AllocError> {
+    for field in schema.fields.iter_mut() {
+        push_pair(alloc, &mut field.pairs, "", "")?;
     }
+    for _ in 1..count {
+        push_pair(alloc, &mut schema.pairs, "", "")?;
+    }
+    Ok(())
+}
+
+fn with_pairs(alloc: Global, count: u32) -> Result<Schema, AllocError> {
+    let mut schema = columns(alloc, 1)?;
+    add_empty_pairs(alloc, &mut schema, count)?;
     Ok(schema)
 }
 
@@ -125,16 +123,22 @@ fn made(alloc: Global, near: Near) -> Result<Schema, AllocError> {
     schema(alloc, only)
 }
 
-#[test]
-fn the_first_exceeded_limit_is_reported(rt: HostRuntime) -> Result<(), Fail> {
-    for (of, want) in CHECKED {
-        assert_eq!(rt; made(rt.alloc(), of)?.check(), want);
+fn wrongly_checked(alloc: Global) -> Result<Option<usize>, NotMade> {
+    for (place, (near, want)) in CHECKED.iter().enumerate() {
+        if made(alloc, *near)?.check() != *want {
+            return Ok(Some(place));
+        }
     }
-    Ok(())
+    Ok(None)
+}
+
+#[test]
+fn the_first_exceeded_limit_is_reported(rt: HostRuntime) {
+    assert_no_row(&rt, wrongly_checked(rt.alloc()));
 }
 
 // Two columns, whether they have one shape, and whether they are equal.
-const COMPARED: [(&str, &str, bool, bool); 7] = [
+const COMPARED: &[(&str, &str, bool, bool)] = &[
     ("a:utf8?", "a:dict<int8,utf8>?", true, false),
     ("a:utf8?", "a:large_utf8?", false, false),
     ("a:utf8?", "b:utf8?", false, false),
@@ -151,22 +155,34 @@ fn are_equal(a: &[Field], b: &[Field]) -> bool {
     }
 }
 
-#[test]
-fn schemas_are_compared(rt: HostRuntime) -> Result<(), Fail> {
-    for (text, other, one_shape, equal) in COMPARED {
-        let a = schema_of(rt.alloc(), text)?;
-        let b = schema_of(rt.alloc(), other)?;
-        let shapes = same_shape(&a, &b) == one_shape;
-        assert!(rt;
-            shapes && are_equal(&a.fields, &b.fields) == equal,
-            "{text} and {other}"
-        );
+fn compares(
+    alloc: Global,
+    text: &str,
+    other: &str,
+    one_shape: bool,
+    equal: bool,
+) -> Result<bool, NotMade> {
+    let a = schema_of(alloc, &[text])?;
+    let b = schema_of(alloc, &[other])?;
+    Ok(same_shape(&a, &b) == one_shape && are_equal(&a.fields, &b.fields) == equal)
+}
+
+fn wrongly_compared(alloc: Global) -> Result<Option<usize>, NotMade> {
+    for (place, (text, other, one_shape, equal)) in COMPARED.iter().enumerate() {
+        if !compares(alloc, text, other, *one_shape, *equal)? {
+            return Ok(Some(place));
+        }
     }
-    Ok(())
+    Ok(None)
+}
+
+#[test]
+fn schemas_are_compared(rt: HostRuntime) {
+    assert_no_row(&rt, wrongly_compared(rt.alloc()));
 }
 
 // A column, the number that its type states, whether it is nested, and its timezone.
-const READ: [(&str, u32, bool, &str); 4] = [
+const READ: &[(&str, u32, bool, &str)] = &[
     ("a:fixed_binary(7)", 7, false, ""),
     ("a:struct<>", 0, true, ""),
     ("a:large_binary", 0, false, ""),
@@ -184,81 +200,68 @@ fn reads(fields: &[Field], number: u32, nested: bool, timezone: &str) -> bool {
     }
 }
 
-#[test]
-fn types_are_read(rt: HostRuntime) -> Result<(), Fail> {
-    for (text, number, nested, timezone) in READ {
-        let fields = parse_fields(rt.alloc(), &[text])?;
-        assert!(rt; reads(&fields, number, nested, timezone), "{text}");
+fn wrongly_read(alloc: Global) -> Result<Option<usize>, NotMade> {
+    for (place, (text, number, nested, timezone)) in READ.iter().enumerate() {
+        if !reads(&parse_fields(alloc, &[text])?, *number, *nested, timezone) {
+            return Ok(Some(place));
+        }
     }
-    assert_eq!(rt; columns(rt.alloc(), 3)?.width(), 3);
+    Ok(None)
+}
+
+#[test]
+fn types_are_read(rt: HostRuntime) {
+    assert_no_row(&rt, wrongly_read(rt.alloc()));
     let width = BitWidth::SixtyFour;
     assert!(rt; width.bits() == 64 && width.bytes() == 8);
-    Ok(())
 }
 
-fn push_pair(
-    alloc: Global,
-    pairs: &mut Vec<(String, String)>,
-    key: &str,
-    value: &str,
-) -> Result<(), AllocError> {
-    let key = String::from_str(alloc, key)?;
-    Ok(pairs.push((key, String::from_str(alloc, value)?))?)
-}
+// Columns with memory at each place that has any, but for pairs.
+const WITH_MEMORY: &[&str] = &[
+    "s:struct<l:list<timestamp_s(UTC)?>?,f:fixed_list(2,large_list<binary?>?)?>?",
+    "n:list<null?>?",
+];
 
-fn boxed(alloc: Global, item: Field) -> Result<Box<Field>, AllocError> {
-    Ok(Box::new(alloc, item)?)
-}
-
-fn time_with_pair(alloc: Global) -> Result<Field, AllocError> {
-    let timezone = String::from_str(alloc, "UTC")?;
-    let mut time = field(alloc, "t", DataType::Timestamp(TimeUnit::Second, timezone))?;
-    push_pair(alloc, &mut time.pairs, "key", "value")?;
-    Ok(time)
-}
-
-fn two_lists(alloc: Global) -> Result<Vec<Field>, AllocError> {
-    let mut fields = Vec::new(alloc);
-    let list = DataType::List(boxed(alloc, time_with_pair(alloc)?)?);
-    fields.push(field(alloc, "l", list)?)?;
-    let binaries = boxed(alloc, field(alloc, "b", DataType::Binary)?)?;
-    let large = boxed(alloc, field(alloc, "m", DataType::LargeList(binaries))?)?;
-    fields.push(field(alloc, "f", DataType::FixedSizeList(2, large))?)?;
-    Ok(fields)
-}
-
-// A schema with memory at each place that has any.
-fn with_all_memory(alloc: Global) -> Result<Schema, AllocError> {
-    let both = DataType::Struct(two_lists(alloc)?);
-    let mut schema = schema(alloc, field(alloc, "s", both)?)?;
-    schema.fields.push(nested(alloc, 2)?)?;
+fn add_pairs(alloc: Global, schema: &mut Schema) -> Result<(), AllocError> {
     push_pair(alloc, &mut schema.pairs, "a key", "a value")?;
+    match schema.fields.first_mut() {
+        Some(field) => push_pair(alloc, &mut field.pairs, "key", "value"),
+        None => Ok(()),
+    }
+}
+
+fn with_all_memory(alloc: Global) -> Result<Schema, NotMade> {
+    let mut schema = schema_of(alloc, WITH_MEMORY)?;
+    add_pairs(alloc, &mut schema)?;
     Ok(schema)
 }
 
-fn assert_copies(rt: &impl Abort, field: &Field, copied: &Field) -> Result<(), AllocError> {
-    let again = field.copy(*field.pairs.allocator())?;
-    let of_type = field.data_type.copy(*field.pairs.allocator())?;
-    assert!(rt; copied.equals(field) && again.equals(field) && of_type.equals(&field.data_type));
-    Ok(())
+fn is_copied(alloc: Global, field: &Field, copied: &Field) -> Result<bool, AllocError> {
+    let of_type = field.data_type.copy(alloc)?;
+    let well = copied.equals(field) && of_type.equals(&field.data_type);
+    Ok(well && field.copy(alloc)?.equals(field))
 }
 
-fn assert_schema_copies(rt: &impl Abort, alloc: Global) -> Result<(), AllocError> {
+fn is_copy(alloc: Global, schema: &Schema, copy: &Schema) -> Result<bool, AllocError> {
+    let mut well = copy.width() == 2 && copy.pairs == schema.pairs && same_shape(copy, schema);
+    for (field, copied) in schema.fields.iter().zip(copy.fields.iter()) {
+        well = well && is_copied(alloc, field, copied)?;
+    }
+    Ok(well)
+}
+
+fn are_copied(alloc: Global) -> Result<bool, NotMade> {
     let schema = with_all_memory(alloc)?;
     let copy = schema.copy(alloc)?;
-    assert!(rt; copy.width() == 2 && copy.pairs == schema.pairs && same_shape(&copy, &schema));
-    for (field, copied) in schema.fields.iter().zip(copy.fields.iter()) {
-        assert_copies(rt, field, copied)?;
-    }
-    Ok(())
+    Ok(is_copy(alloc, &schema, &copy)?)
 }
 
 // tests/refused_memory_in_crates refuses each allocation in turn: then one of two runs ends for want of memory.
 #[test]
 fn copies_are_equal_or_refused_also_without_memory(rt: HostRuntime) {
-    let first = assert_schema_copies(&rt, rt.alloc()).is_ok();
-    let second = assert_schema_copies(&rt, rt.alloc()).is_ok();
-    assert!(rt; first || second);
+    let first = are_copied(rt.alloc());
+    let second = are_copied(rt.alloc());
+    assert!(rt; is_one_well(first, second));
 }
 
 // What was parsed, printed and joined by spaces.
@@ -288,7 +291,7 @@ fn is_answer(found: &Result<String, ParseError>, want: Result<&str, ParseError>)
 const PAST: &str = "a:fixed_binary(2147483648)";
 
 // Field texts as they are typed in, and what is printed or refused (docs/formats/field_texts.md).
-const PARSED: [(&[&str], Result<&str, ParseError>); 14] = [
+const PARSED: &[(&[&str], Result<&str, ParseError>)] = &[
     (&[], Ok("")),
     (&["a:int32?"], Ok("\"a\":int32?")),
     (&["l:list<utf8>"], Ok("\"l\":list<\"item\":utf8>")),
@@ -351,15 +354,8 @@ const PARSED: [(&[&str], Result<&str, ParseError>); 14] = [
     ),
 ];
 
-#[test]
-fn field_texts_are_parsed(rt: HostRuntime) {
-    for (texts, want) in PARSED {
-        assert!(rt; is_answer(&answer(rt.alloc(), texts), want), "{texts:?}");
-    }
-}
-
 // Texts that are none of a field.
-const BAD: [&str; 39] = [
+const BAD: &[&str] = &[
     "",
     "a",
     "a:",
@@ -401,16 +397,32 @@ const BAD: [&str; 39] = [
     "a:dict<int8,dict<int8,utf8>>",
 ];
 
-#[test]
-fn bad_texts_are_refused(rt: HostRuntime) {
-    for text in BAD {
-        let found = answer(rt.alloc(), &[text]);
-        assert!(rt; is_answer(&found, Err(ParseError::BadText(1))), "{text}");
+fn wrongly_parsed(alloc: Global) -> Option<usize> {
+    for (place, (texts, want)) in PARSED.iter().enumerate() {
+        if !is_answer(&answer(alloc, texts), *want) {
+            return Some(place);
+        }
     }
+    None
+}
+
+fn wrongly_accepted(alloc: Global) -> Option<usize> {
+    for (place, text) in BAD.iter().enumerate() {
+        if !is_answer(&answer(alloc, &[text]), Err(ParseError::BadText(1))) {
+            return Some(place);
+        }
+    }
+    None
+}
+
+#[test]
+fn field_texts_are_parsed(rt: HostRuntime) {
+    assert_no_row(&rt, Ok(wrongly_parsed(rt.alloc())));
+    assert_no_row(&rt, Ok(wrongly_accepted(rt.alloc())));
 }
 
 // A text of so many levels, with as many brackets at its end, and what is refused where another text stands beside it.
-const DEEP: [(usize, usize, &str, Option<ParseError>); 5] = [
+const DEEP: &[(usize, usize, &str, Option<ParseError>)] = &[
     (32, 32, "b:int8", None),
     (33, 33, "b:int8", Some(ParseError::Limit)),
     (33, 33, "b:int9", Some(ParseError::BadText(2))),
@@ -440,29 +452,34 @@ fn refusal_of_deep(
     Ok(parse_fields(alloc, &[text.as_str(), other]).err())
 }
 
-#[test]
-fn deep_texts_are_refused(rt: HostRuntime) -> Result<(), Fail> {
-    for (levels, closed, other, want) in DEEP {
-        let found = refusal_of_deep(rt.alloc(), levels, closed, other)?;
-        assert_eq!(rt; found, want, "{levels}, {other}");
+fn wrongly_refused(alloc: Global) -> Result<Option<usize>, NotMade> {
+    for (place, (levels, closed, other, want)) in DEEP.iter().enumerate() {
+        if refusal_of_deep(alloc, *levels, *closed, other)? != *want {
+            return Ok(Some(place));
+        }
     }
-    Ok(())
+    Ok(None)
 }
 
 #[test]
-fn the_most_fields_are_parsed(rt: HostRuntime) -> Result<(), Fail> {
-    let mut texts = vec![in rt.alloc(); "a:int8"; 2048]?;
-    assert_eq!(rt; parse_fields(rt.alloc(), &texts)?.len(), 2048);
+fn deep_texts_are_refused(rt: HostRuntime) {
+    assert_no_row(&rt, wrongly_refused(rt.alloc()));
+}
+
+fn takes_so_many(alloc: Global) -> Result<bool, NotMade> {
+    let mut texts = vec![in alloc; "a:int8"; 2048]?;
+    let is_width = schema_of(alloc, &texts)?.width() == 2048;
     texts.push("a:int8")?;
-    assert_eq!(rt;
-        parse_fields(rt.alloc(), &texts).err(),
-        Some(ParseError::Limit)
-    );
-    Ok(())
+    Ok(is_width && parse_fields(alloc, &texts).err() == Some(ParseError::Limit))
+}
+
+#[test]
+fn the_most_fields_are_parsed(rt: HostRuntime) {
+    assert!(rt; takes_so_many(rt.alloc()) == Ok(true));
 }
 
 // A column, names in place of its own and its item's, and its printed text.
-const RENAMED: [(&str, &str, &str, &str); 3] = [
+const RENAMED: &[(&str, &str, &str, &str)] = &[
     (
         "a:fixed_binary(2147483647)",
         "q\"\\\n\u{1}é",
@@ -478,28 +495,48 @@ const RENAMED: [(&str, &str, &str, &str); 3] = [
     ),
 ];
 
-fn rename(alloc: Global, fields: &mut [Field], name: &str, item: &str) -> Result<(), AllocError> {
-    if let Some(field) = fields.first_mut() {
-        field.name = String::from_str(alloc, name)?;
-        if let DataType::FixedSizeList(_, inner) = &mut field.data_type {
-            inner.name = String::from_str(alloc, item)?;
-        }
+fn rename(alloc: Global, field: &mut Field, name: &str, item: &str) -> Result<(), AllocError> {
+    field.name = String::from_str(alloc, name)?;
+    if let DataType::FixedSizeList(_, inner) = &mut field.data_type {
+        inner.name = String::from_str(alloc, item)?;
     }
     Ok(())
+}
+
+// What is printed of fields with these names.
+fn printed_as(
+    alloc: Global,
+    fields: &mut [Field],
+    name: &str,
+    item: &str,
+) -> Result<String, AllocError> {
+    for field in fields.iter_mut() {
+        rename(alloc, field, name, item)?;
+    }
+    printed(alloc, fields)
+}
+
+fn prints(alloc: Global, text: &str, name: &str, item: &str, want: &str) -> Result<bool, NotMade> {
+    let mut fields = parse_fields(alloc, &[text])?;
+    Ok(printed_as(alloc, &mut fields, name, item)?.as_str() == want)
+}
+
+fn wrongly_printed(alloc: Global) -> Result<Option<usize>, NotMade> {
+    for (place, (text, name, item, want)) in RENAMED.iter().enumerate() {
+        if !prints(alloc, text, name, item, want)? {
+            return Ok(Some(place));
+        }
+    }
+    Ok(None)
 }
 
 #[test]
-fn any_name_is_printed(rt: HostRuntime) -> Result<(), Fail> {
-    for (text, name, item, want) in RENAMED {
-        let mut fields = parse_fields(rt.alloc(), &[text])?;
-        rename(rt.alloc(), &mut fields, name, item)?;
-        assert!(rt; printed(rt.alloc(), &fields)?.as_str() == want, "{text}");
-    }
-    Ok(())
+fn any_name_is_printed(rt: HostRuntime) {
+    assert_no_row(&rt, wrongly_printed(rt.alloc()));
 }
 
 // As they are read also where one allocation is refused.
-const KEPT: [(&[&str], Result<&str, ParseError>); 3] = [
+const KEPT: &[(&[&str], Result<&str, ParseError>)] = &[
     (
         &[
             "p:struct<x:list<timestamp_s(UTC)>,y:dict<int8,utf8>>",
@@ -524,10 +561,17 @@ fn settled(alloc: Global, texts: &[&str]) -> Result<String, ParseError> {
     }
 }
 
+fn wrongly_kept(alloc: Global) -> Option<usize> {
+    for (place, (texts, want)) in KEPT.iter().enumerate() {
+        if !is_answer(&settled(alloc, texts), *want) {
+            return Some(place);
+        }
+    }
+    None
+}
+
 // tests/refused_memory_in_crates refuses each allocation in turn, one at the most.
 #[test]
 fn field_texts_are_read_also_without_memory(rt: HostRuntime) {
-    for (texts, want) in KEPT {
-        assert!(rt; is_answer(&settled(rt.alloc(), texts), want), "{texts:?}");
-    }
+    assert_no_row(&rt, Ok(wrongly_kept(rt.alloc())));
 }
