@@ -20,7 +20,7 @@ use Rattle.columns.specs.laws.Sounds.{AreClean, is_typed_sound, all_sound}
 use Rattle.arrays.specs.Entries.{has_bad_entry}
 use Rattle.arrays.specs.Checks.{plain_node, buffer_bytes, batch_arrays, array_checks, arrays_read, slot_checks, batch_read, batch_checks, has_other_layout, has_bad_length, is_bad_length, is_outside, is_miscounted, typed_is_short, typed_is_unordered}
 
-unless_failed : {A E : Type 0} (o : Option E) (x : A) (e : E) → unless o (Ok x) ≡ Err e → o ≡ Some e
+pub unless_failed : {A E : Type 0} (o : Option E) (x : A) (e : E) → unless o (Ok x) ≡ Err e → o ≡ Some e
 unless_failed None x e h = absurd cc
 unless_failed (Some f) x e h = cc
 

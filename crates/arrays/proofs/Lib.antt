@@ -15,3 +15,5 @@ pub mod VisibleSlots
 pub mod VisibleTexts
 pub mod Ranges
 pub mod BatchRead
+pub mod DictionaryRead
+pub mod DictionaryFound

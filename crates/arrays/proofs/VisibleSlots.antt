@@ -1,8 +1,8 @@
 -- What is asked of a visible slot itself.
 use Rattle.std.specs.Prelude.{◌||◌, ◌&&◌, not, ◌==◌, nat_lt, option_map, if◌then◌else◌}
-use Rattle.std.specs.List.{list_all, list_any, flat_map, range_with_len}
+use Rattle.std.specs.List.{list_all, list_any, range_with_len}
 use Rattle.std.specs.Str.{is_utf8}
-use Rattle.std.proofs.Common.{◌≡◌, ℕ, zero, suc, ◌+◌, ◌/◌, Option, ◌≤◌, ◌<◌, Bool, true, false, List, [], ◌∷◌, length, Some, None, refl, arith, sym, ap, ◌∙◌}
+use Rattle.std.proofs.Common.{◌≡◌, ℕ, zero, suc, ◌/◌, Option, Bool, true, false, List, length, Some, None, refl, arith, sym, ap, ◌∙◌}
 use Rattle.std.proofs.lemmas.Bool.{and_parts}
 use Rattle.std.proofs.lemmas.Bool.Decides.{nat_tests}
 use Rattle.std.proofs.lemmas.List.FromFn.{length-range_with_len}

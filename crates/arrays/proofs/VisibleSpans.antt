@@ -1,20 +1,20 @@
 -- What is visible by spans of slots.
-use Rattle.std.specs.Prelude.{◌||◌, ◌&&◌, not, ◌==◌, nat_lt, nat_le, if◌then◌else◌}
+use Rattle.std.specs.Prelude.{◌||◌, ◌&&◌, nat_le, if◌then◌else◌}
 use Rattle.std.specs.List.{list_any, flat_map, range_with_len}
-use Rattle.std.proofs.Common.{◌≡◌, ◌≢◌, ℕ, zero, suc, ◌+◌, ◌-◌, ◌*◌, ◌≤◌, ◌<◌, Bool, true, false, List, [], ◌∷◌, ◌++◌, length, map, drop, get_or, Some, None, refl, arith, sym, ap, ◌∙◌}
+use Rattle.std.proofs.Common.{◌≡◌, ℕ, suc, ◌+◌, ◌-◌, ◌*◌, ◌≤◌, ◌<◌, Bool, true, false, List, [], ◌∷◌, length, drop, get_or, Some, None, refl, arith, sym, ap, ◌∙◌}
 use Rattle.std.proofs.Math.Nat.{mul-le-mul_left}
-use Rattle.std.proofs.lemmas.Bool.{and_parts, or_parts, leb-true, le-leb}
+use Rattle.std.proofs.lemmas.Bool.{and_parts, leb-true, le-leb}
 use Rattle.std.proofs.lemmas.List.Folds.{list_any-append}
 use Rattle.facts.specs.laws.Lists.{drop-item}
 use Rattle.arrays.proofs.Ranges.{any-split, any-both, any-first_and_others, flat_map-alike, flat_map-none, flat_map-spans}
 use Rattle.arrow_schema.specs.declared.types.Field.{Field, out-Field}
-use Rattle.arrow_schema.specs.Column.{Pair, Index, Kind, Column, Columns, nulls, booleans, integers, dates, timestamps, texts, large_texts, binaries, large_binaries, fixed_binaries, lists, large_lists, fixed_lists, structs, column, no_column, and_column}
+use Rattle.arrow_schema.specs.Column.{Kind, Column, Columns, nulls, booleans, integers, dates, timestamps, texts, large_texts, binaries, large_binaries, fixed_binaries, lists, large_lists, fixed_lists, structs, column, no_column, and_column}
 use Rattle.arrow_schema.specs.Limits.{is_nested}
 use Rattle.arrow_schema.specs.View.{column_of, kind_of}
 use Rattle.columns.specs.declared.array.PlacedArray.{PlacedArray}
 use Rattle.columns.specs.declared.array.Dictionary.{Dictionary}
 use Rattle.columns.specs.Array.{Array, Arrays, slots_in, items_in, offsets_in, children_in, first_array, other_arrays}
-use Rattle.columns.specs.CellAt.{is_valid, number_at, span_start, span_size}
+use Rattle.columns.specs.CellAt.{is_valid, number_at, span_start}
 use Rattle.columns.specs.Sound.{are_sound, is_sound, is_kind_sound}
 use Rattle.columns.specs.Tests.{are_unordered}
 use Rattle.columns.specs.laws.Offsets.{offsets_ascend}

@@ -1,14 +1,14 @@
 -- Where the dictionaries' texts are UTF-8, the columns without one tell whether all are.
-use Rattle.std.specs.Prelude.{◌||◌, ◌&&◌, ℤ, pos, negsuc, if◌then◌else◌}
+use Rattle.std.specs.Prelude.{◌||◌, ℤ, pos, negsuc, if◌then◌else◌}
 use Rattle.std.specs.List.{list_any, flat_map, range_with_len}
-use Rattle.std.proofs.Common.{◌≡◌, ℕ, zero, suc, ◌*◌, Bool, true, false, List, [], ◌∷◌, ◌++◌, get_or, Some, None, refl, arith, sym, ap, ◌∙◌}
+use Rattle.std.proofs.Common.{◌≡◌, ℕ, zero, suc, ◌*◌, Bool, true, false, List, [], ◌∷◌, ◌++◌, get_or, Some, None, refl, sym, ap, ◌∙◌}
 use Rattle.std.proofs.lemmas.Bool.{or_parts}
 use Rattle.std.proofs.lemmas.List.Folds.{list_any-append}
 use Rattle.arrow_schema.specs.Column.{Kind, Column, Columns, nulls, booleans, integers, dates, timestamps, texts, large_texts, binaries, large_binaries, fixed_binaries, lists, large_lists, fixed_lists, structs, column, no_column, and_column}
 use Rattle.cells.specs.Cell.{Cell, null}
 use Rattle.columns.specs.Array.{Array, Arrays, items_in, children_in, dictionary_in, first_array, other_arrays}
 use Rattle.columns.specs.CellAt.{is_valid, cell_at, entry_at, entries_of_kind, index_at, span_start, span_size}
-use Rattle.columns.specs.Tests.{Typed, typed, arrays_at, arrays_below, every_array}
+use Rattle.columns.specs.Tests.{Typed, arrays_at, arrays_below, every_array}
 use Rattle.columns.specs.Visible.{Slot, slot, visible, visible_below, visible_parts, visible_in, is_bad_text, is_no_text}
 use Rattle.arrays.specs.Entries.{has_bad_entries, has_bad_entry}
 use Rattle.arrays.specs.inner.VisibleSpans.{is_no_plain_text}

@@ -53,6 +53,10 @@ entry_checks values b body =
     array_checks (alone values) b body (entries_in values b body)
     ++ when (list_any is_no_text (visible_in (alone values) (entries_in values b body) b.length)) NotUtf8 ∷ []
 
+-- the entries that are read, or the first fault
+abbrev pub entries_read : Column → RawBatch → List ℕ → Result Array Fault
+entries_read values b body = unless (first_some (entry_checks values b body)) (Ok (first_array (entries_in values b body)))
+
 -- F25: it is a delta, and there was no batch of its id
 abbrev pub has_no_base : List DictionaryBatch → RawDictionaryBatch → Bool
 has_no_base before d = d.is_delta && not (list_any (has_id d.id) before)

@@ -2,6 +2,7 @@
 //!
 //! [`read`] answers the arrays of a record batch of any types, as places in the bytes that its body stands in, or the fault of the first check that finds
 //! something (docs/definitions/arrays.md). [`read_arrays`] makes the checks of the arrays alone: it looks at every array, hidden or not.
+//! [`read_dictionary`] answers the array of a dictionary batch in the same way.
 //! [`names_no_entry_in`], [`has_bad_text`] and [`has_forbidden_null`] are tests of what is visible: by spans of slots, without memory, and whatever stands
 //! in hidden slots. Nothing is copied.
 //!
@@ -13,6 +14,8 @@
 mod batch;
 mod batch_arrays;
 mod counts;
+mod dictionary_batch;
+mod dictionary_columns;
 mod every;
 mod heavy;
 mod lengths;
@@ -27,5 +30,7 @@ mod weights;
 
 pub use batch::read;
 pub use batch_arrays::read_arrays;
+pub use dictionary_batch::read_dictionary;
+pub use dictionary_columns::DictionaryColumns;
 pub use limits::MAX_SLOTS;
 pub use visible::{has_bad_text, has_forbidden_null, names_no_entry_in};

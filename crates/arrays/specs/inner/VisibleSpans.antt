@@ -1,7 +1,7 @@
 -- Tests of the visible slots of spans.
 use Rattle.std.specs.Prelude.{ℕ, Bool, true, false, ◌||◌, List, [], Option, Some, None, if◌then◌else◌}
 use Rattle.std.specs.List.{list_any, flat_map, range_with_len}
-use Rattle.arrow_schema.specs.Column.{Kind, Column, Columns, nulls, booleans, integers, dates, timestamps, texts, large_texts, binaries, large_binaries, fixed_binaries, lists, large_lists, fixed_lists, structs, column, no_column, and_column}
+use Rattle.arrow_schema.specs.Column.{Kind, Column, Columns, nulls, texts, large_texts, column, no_column, and_column}
 use Rattle.arrow_schema.specs.Limits.{is_nested}
 use Rattle.columns.specs.Array.{Array, Arrays, first_array, other_arrays}
 use Rattle.columns.specs.CellAt.{is_valid, cell_at}

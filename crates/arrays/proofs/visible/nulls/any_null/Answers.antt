@@ -1,6 +1,6 @@
 use Rattle.std.specs.Prelude.{not, ◌||◌}
 use Rattle.std.specs.List.{range_with_len}
-use Rattle.std.proofs.Common.{◌≡◌, ℕ, Bool, true, false, ap, sym, ◌∙◌}
+use Rattle.std.proofs.Common.{◌≡◌, Bool, true, false, ap, sym, ◌∙◌}
 use Rattle.arrow_schema.specs.Column.{Kind}
 use Rattle.arrow_schema.specs.View.{kind_of}
 use Rattle.columns.specs.Array.{Array}

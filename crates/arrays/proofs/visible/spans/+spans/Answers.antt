@@ -1,13 +1,12 @@
-use Rattle.std.proofs.Common.{◌≡◌, ◌≤◌, ◌<◌, ◌+◌, ◌-◌, ℕ, Bool, true, false, List, drop, rules, arith, refl, ap, sym, ◌∙◌}
-use Rattle.arrow_schema.specs.declared.types.Field.{Field, the_lemmas as field_lemmas}
-use Rattle.arrow_schema.specs.View.{column_of, kind_of}
+use Rattle.std.proofs.Common.{◌≡◌, ◌≤◌, ◌<◌, ◌+◌, ◌-◌, ℕ, Bool, true, false, rules, arith, ap, sym, ◌∙◌}
+use Rattle.arrow_schema.specs.declared.types.Field.{the_lemmas as field_lemmas}
+use Rattle.arrow_schema.specs.View.{column_of}
 use Rattle.columns.specs.Array.{Array, slots_in, items_in, children_in}
-use Rattle.columns.specs.CellAt.{is_valid}
 use Rattle.columns.specs.Offsets.{width_of}
-use Rattle.columns.specs.View.{view_array, placed_arrays, fields_of, array_in, arrays_in}
+use Rattle.columns.specs.View.{view_array, placed_arrays, fields_of}
 use Rattle.columns.specs.Visible.{Slot}
 use Rattle.columns.specs.laws.Offsets.{spans_fit}
-use Rattle.arrays.specs.inner.VisibleSpans.{any_slot, any_visible, any_below, any_part, finds}
+use Rattle.arrays.specs.inner.VisibleSpans.{any_below, finds}
 use Rattle.arrays.proofs.VisibleSlots.{sound_slots}
 use Rattle.arrays.proofs.VisibleSpans.{own_found, own_not_found, nothing_below, null_run, valid_run, nested_kind, sound_kind, run_found, run_not_found, items_below, fixed_items_below, fixed_within, fields_below, fewer_sound, next_sound, column_found, column_not_found}
 use Rattle.arrays.proofs.visible.spans.+spans.Goals as goal

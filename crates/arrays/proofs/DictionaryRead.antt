@@ -1,0 +1,158 @@
+-- What is answered of a dictionary batch.
+use Rattle.std.specs.Prelude.{option_map}
+use Rattle.std.specs.List.{list_any, list_all}
+use Rattle.std.proofs.Common.{◌≡◌, ℕ, Bool, true, false, List, [], ◌∷◌, length, get_or, ◌<◌, Option, Some, None, Result, Ok, Err, refl, sym, ap, arith, ◌∙◌, subst}
+use Rattle.facts.specs.Checks.{when, first_some, unless}
+use Rattle.facts.specs.laws.Checks.{unless_passed, first_some-after, first_some-before}
+use Rattle.arrow_schema.specs.Column.{Column, nulls, booleans, integers, dates, timestamps, texts, large_texts, binaries, large_binaries, fixed_binaries, lists, large_lists, fixed_lists, structs, column, columns_of}
+use Rattle.ipc_message.specs.declared.fault.Fault.{Fault}
+use Rattle.ipc_message.specs.declared.fault.Fault.TheVariants.{NotUtf8, DictionaryId, DeltaWithoutBase}
+use Rattle.ipc_message.specs.declared.error.ImportError.{ImportError}
+use Rattle.ipc_message.specs.declared.error.ImportError.TheVariants as errors
+use Rattle.ipc_message.specs.Outcome.{Fails, Gives}
+use Rattle.ipc_message.specs.Raw.{RawBatch, RawDictionaryBatch}
+use Rattle.columns.specs.declared.array.PlacedArray.{PlacedArray}
+use Rattle.columns.specs.Array.{Array, Arrays, first_array}
+use Rattle.columns.specs.Buffers.{Node, dictionaries_of}
+use Rattle.columns.specs.FromBuffers.{arrays_from, array_from, kind_array_from}
+use Rattle.columns.specs.Tests.{every_array, arrays_at, arrays_below}
+use Rattle.columns.specs.View.{array_in, no_dictionary, placed_arrays, IsNoArray}
+use Rattle.columns.specs.Visible.{visible_in, is_no_text}
+use Rattle.columns.specs.laws.Sounds.{is_typed_sound}
+use Rattle.dictionary.specs.InEffect.{DictionaryBatch}
+use Rattle.arrays.specs.Checks.{array_checks, arrays_read}
+use Rattle.arrays.proofs.BatchRead.{unless_failed}
+use Rattle.arrays.specs.Entries.{has_bad_entry}
+use Rattle.arrays.specs.FlatColumns.{is_flat, is_one_flat}
+use Rattle.arrays.specs.Dictionaries.{DictionaryColumn, alone, entries_in, entry_checks, entries_read, dictionary_checks, has_no_base, batch_with, read_with}
+
+pub entries_fail : (c : Column) (b : RawBatch) (body : List ℕ) (e : ImportError) → Fails e (arrays_read (alone c) b body []) → Fails e (entries_read c b body)
+unfolding arrays_read entry_checks
+entries_fail c b body errors.OutOfMemory h = tt
+entries_fail c b body (errors.Fault f) h =
+    let own : Arrays = entries_in c b body in
+    let found = unless_failed (first_some (array_checks (alone c) b body own)) own f h in
+    ap (λ (o : Option Fault). unless o (Ok (first_array own))) (first_some-before (array_checks (alone c) b body own) _ f found)
+
+entries_after : (c : Column) (b : RawBatch) (body : List ℕ) (arrays : Arrays) → arrays_read (alone c) b body [] ≡ Ok arrays
+    → entries_read c b body ≡ unless (first_some (when (list_any is_no_text (visible_in (alone c) arrays b.length)) NotUtf8 ∷ [])) (Ok (first_array arrays))
+unfolding arrays_read entry_checks
+entries_after c b body arrays h =
+    let own : Arrays = entries_in c b body in
+    let passed = unless_passed (first_some (array_checks (alone c) b body own)) (Ok own) arrays h in
+    let same : own ≡ arrays = cc in
+    ap (λ (o : Option Fault). unless o (Ok (first_array own))) (first_some-after (array_checks (alone c) b body own) (when (list_any is_no_text (visible_in (alone c) own b.length)) NotUtf8 ∷ []) passed.0)
+    ∙ ap (λ (a : Arrays). unless (first_some (when (list_any is_no_text (visible_in (alone c) a b.length)) NotUtf8 ∷ [])) (Ok (first_array a))) same
+
+pub entries_bad : (c : Column) (b : RawBatch) (body : List ℕ) (arrays : Arrays) → arrays_read (alone c) b body [] ≡ Ok arrays → list_any is_no_text (visible_in (alone c) arrays b.length) ≡ true
+    → entries_read c b body ≡ Err NotUtf8
+entries_bad c b body arrays h bad = entries_after c b body arrays h ∙ ap (λ (t : Bool). unless (first_some (when t NotUtf8 ∷ [])) (Ok (first_array arrays))) bad
+
+pub entries_good : (c : Column) (b : RawBatch) (body : List ℕ) (arrays : Arrays) → arrays_read (alone c) b body [] ≡ Ok arrays → list_any is_no_text (visible_in (alone c) arrays b.length) ≡ false
+    → entries_read c b body ≡ Ok (first_array arrays)
+entries_good c b body arrays h good = entries_after c b body arrays h ∙ ap (λ (t : Bool). unless (first_some (when t NotUtf8 ∷ [])) (Ok (first_array arrays))) good
+
+-- ---- one flat column has no dictionary
+
+flat_has_none : (c : Column) (ns : List Node) (bs : List (List ℕ)) → is_flat c ≡ true → dictionaries_of (alone c) (arrays_from (alone c) ns bs []) ≡ []
+unfolding every_array arrays_at arrays_below arrays_from array_from kind_array_from
+flat_has_none (column name nullable nulls None pairs) ns bs h = refl
+flat_has_none (column name nullable booleans None pairs) ns bs h = refl
+flat_has_none (column name nullable (integers bits signed) None pairs) ns bs h = refl
+flat_has_none (column name nullable (dates unit) None pairs) ns bs h = refl
+flat_has_none (column name nullable (timestamps unit timezone) None pairs) ns bs h = refl
+flat_has_none (column name nullable texts None pairs) ns bs h = refl
+flat_has_none (column name nullable large_texts None pairs) ns bs h = refl
+flat_has_none (column name nullable binaries None pairs) ns bs h = refl
+flat_has_none (column name nullable large_binaries None pairs) ns bs h = refl
+flat_has_none (column name nullable (fixed_binaries width) None pairs) ns bs h = refl
+flat_has_none (column name nullable (lists item) None pairs) ns bs h = absurd cc
+flat_has_none (column name nullable (large_lists item) None pairs) ns bs h = absurd cc
+flat_has_none (column name nullable (fixed_lists size item) None pairs) ns bs h = absurd cc
+flat_has_none (column name nullable (structs columns) None pairs) ns bs h = absurd cc
+flat_has_none (column name nullable kind (Some index) pairs) ns bs h = absurd cc
+
+pub no_dictionaries : (cs : List Column) (ns : List Node) (bs : List (List ℕ)) → is_one_flat cs ≡ true → list_all is_typed_sound (dictionaries_of (columns_of cs) (arrays_from (columns_of cs) ns bs [])) ≡ true
+no_dictionaries [] ns bs h = absurd cc
+no_dictionaries (c ∷ []) ns bs h = ap (list_all is_typed_sound) (flat_has_none c ns bs h)
+no_dictionaries (c ∷ d ∷ cs) ns bs h = absurd cc
+
+flat_no_bad : (c : Column) (arrays : Arrays) → is_flat c ≡ true → list_any has_bad_entry (every_array (alone c) arrays) ≡ false
+unfolding every_array arrays_at arrays_below
+flat_no_bad (column name nullable nulls None pairs) arrays h = refl
+flat_no_bad (column name nullable booleans None pairs) arrays h = refl
+flat_no_bad (column name nullable (integers bits signed) None pairs) arrays h = refl
+flat_no_bad (column name nullable (dates unit) None pairs) arrays h = refl
+flat_no_bad (column name nullable (timestamps unit timezone) None pairs) arrays h = refl
+flat_no_bad (column name nullable texts None pairs) arrays h = refl
+flat_no_bad (column name nullable large_texts None pairs) arrays h = refl
+flat_no_bad (column name nullable binaries None pairs) arrays h = refl
+flat_no_bad (column name nullable large_binaries None pairs) arrays h = refl
+flat_no_bad (column name nullable (fixed_binaries width) None pairs) arrays h = refl
+flat_no_bad (column name nullable (lists item) None pairs) arrays h = absurd cc
+flat_no_bad (column name nullable (large_lists item) None pairs) arrays h = absurd cc
+flat_no_bad (column name nullable (fixed_lists size item) None pairs) arrays h = absurd cc
+flat_no_bad (column name nullable (structs columns) None pairs) arrays h = absurd cc
+flat_no_bad (column name nullable kind (Some index) pairs) arrays h = absurd cc
+
+pub no_bad_entries : (cs : List Column) (arrays : Arrays) → is_one_flat cs ≡ true → list_any has_bad_entry (every_array (columns_of cs) arrays) ≡ false
+no_bad_entries [] arrays h = absurd cc
+no_bad_entries (c ∷ []) arrays h = flat_no_bad c arrays h
+no_bad_entries (c ∷ d ∷ cs) arrays h = absurd cc
+
+-- ---- the answers
+
+pub failed : (cs : List Column) (c : Column) (b : RawBatch) (body : List ℕ) (e : ImportError) → cs ≡ c ∷ [] → Fails e (arrays_read (columns_of cs) b body []) → Fails e (entries_read c b body)
+failed cs c b body e is h = entries_fail c b body e (subst (λ (x : List Column). Fails e (arrays_read (columns_of x) b body [])) is h)
+
+pub bad : (cs : List Column) (c : Column) (b : RawBatch) (body bytes : List ℕ) (items xs : List PlacedArray) → cs ≡ c ∷ [] → xs ≡ items → arrays_read (columns_of cs) b body [] ≡ Ok (placed_arrays bytes [] items)
+    → true ≡ list_any is_no_text (visible_in (columns_of cs) (placed_arrays bytes [] xs) b.length) → entries_read c b body ≡ Err NotUtf8
+bad cs c b body bytes items xs is same h found =
+    entries_bad c b body (placed_arrays bytes [] items) (subst (λ (x : List Column). arrays_read (columns_of x) b body [] ≡ Ok (placed_arrays bytes [] items)) is h)
+    (subst (λ (x : List Column). list_any is_no_text (visible_in (columns_of x) (placed_arrays bytes [] items) b.length) ≡ true) is
+    (subst (λ (x : List PlacedArray). list_any is_no_text (visible_in (columns_of cs) (placed_arrays bytes [] x) b.length) ≡ true) same (sym found)))
+
+pub good : (cs : List Column) (c : Column) (b : RawBatch) (body bytes : List ℕ) (items xs : List PlacedArray) → cs ≡ c ∷ [] → xs ≡ items → arrays_read (columns_of cs) b body [] ≡ Ok (placed_arrays bytes [] items)
+    → false ≡ list_any is_no_text (visible_in (columns_of cs) (placed_arrays bytes [] xs) b.length) → entries_read c b body ≡ Ok (first_array (placed_arrays bytes [] items))
+good cs c b body bytes items xs is same h found =
+    entries_good c b body (placed_arrays bytes [] items) (subst (λ (x : List Column). arrays_read (columns_of x) b body [] ≡ Ok (placed_arrays bytes [] items)) is h)
+    (subst (λ (x : List Column). list_any is_no_text (visible_in (columns_of x) (placed_arrays bytes [] items) b.length) ≡ false) is
+    (subst (λ (x : List PlacedArray). list_any is_no_text (visible_in (columns_of cs) (placed_arrays bytes [] x) b.length) ≡ false) same (sym found)))
+
+pub first_is : (bytes : List ℕ) (items : List PlacedArray) (x : PlacedArray) → 0 < length items → x ≡ get_or items 0 x → array_in bytes no_dictionary x ≡ first_array (placed_arrays bytes [] items)
+first_is bytes [] x some is = absurd (omega arith)
+first_is bytes (y ∷ items) x some is = ap (array_in bytes no_dictionary) is
+
+pub none_is : (bytes : List ℕ) (items : List PlacedArray) (x : PlacedArray) → length items ≡ 0 → IsNoArray x → array_in bytes no_dictionary x ≡ first_array (placed_arrays bytes [] items)
+none_is bytes [] x none is = is bytes []
+none_is bytes (y ∷ items) x none is = absurd (omega arith)
+
+abbrev alone_of : Option DictionaryColumn → Option (List Column)
+alone_of found = option_map (λ c. c.values ∷ []) found
+
+pub no_id_found : (found : Option DictionaryColumn) (before : List DictionaryBatch) (d : RawDictionaryBatch) (body : List ℕ) → (let none : Option (List Column) = None in none) ≡ alone_of found → read_with found before d body ≡ Err DictionaryId
+no_id_found None before d body h = refl
+no_id_found (Some c) before d body h = absurd cc
+
+pub no_base : (found : Option DictionaryColumn) (cs : List Column) (before : List DictionaryBatch) (d : RawDictionaryBatch) (body : List ℕ) → Some cs ≡ alone_of found → true ≡ has_no_base before d
+    → read_with found before d body ≡ Err DeltaWithoutBase
+unfolding dictionary_checks
+no_base None cs before d body h base = absurd cc
+no_base (Some c) cs before d body h base =
+    ap (λ (t : Bool). unless (first_some (when t DeltaWithoutBase ∷ entry_checks c.values d.batch body)) (Ok (batch_with d (first_array (entries_in c.values d.batch body))))) (sym base)
+
+given : (d : RawDictionaryBatch) (f : PlacedArray → Array) (o : Option Fault) (x : Array) (result : Result PlacedArray ImportError) → Gives f result (unless o (Ok x)) → Gives (λ a. batch_with d (f a)) result (unless o (Ok (batch_with d x)))
+given d f None x (Ok a) h = let same : x ≡ f a = cc in ap (λ (y : Array). Ok (batch_with d y)) same
+given d f (Some e) x (Ok a) h = absurd cc
+given d f o x (Err errors.OutOfMemory) h = tt
+given d f None x (Err (errors.Fault e)) h = absurd cc
+given d f (Some g) x (Err (errors.Fault e)) h = let same : g ≡ e = cc in ap Err same
+
+pub with_base : (found : Option DictionaryColumn) (cs : List Column) (before : List DictionaryBatch) (d : RawDictionaryBatch) (body : List ℕ) (f : PlacedArray → Array) (result : Result PlacedArray ImportError)
+    → Some cs ≡ alone_of found → false ≡ has_no_base before d → ((c : Column) → cs ≡ c ∷ [] → Gives f result (entries_read c d.batch body)) → Gives (λ a. batch_with d (f a)) result (read_with found before d body)
+unfolding dictionary_checks
+with_base None cs before d body f result h base read = absurd cc
+with_base (Some c) cs before d body f result h base read =
+    let is : cs ≡ c.values ∷ [] = cc in
+    subst (λ (t : Bool). Gives (λ a. batch_with d (f a)) result (unless (first_some (when t DeltaWithoutBase ∷ entry_checks c.values d.batch body)) (Ok (batch_with d (first_array (entries_in c.values d.batch body)))))) base
+    (given d f (first_some (entry_checks c.values d.batch body)) (first_array (entries_in c.values d.batch body)) result (read c.values is))

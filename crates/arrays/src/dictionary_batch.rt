@@ -1,0 +1,123 @@
+// The array of a dictionary batch, or the first fault of its checks (docs/definitions/arrays.md).
+ghost use Rattle.std.specs.Prelude.{◌≡◌, ◌+◌, ◌<◌, ◌^◌, ℕ, true, [], ◌∷◌, List, map, drop, option_map, IfSome};
+ghost use Rattle.std.specs.List.{list_all};
+ghost use Rattle.arrow_schema.specs.Column.{Column};
+ghost use Rattle.arrow_schema.specs.View.{column_of};
+ghost use Rattle.ipc_message.specs.Outcome.{Gives};
+ghost use Rattle.ipc_message.specs.View.{raw_batch_of, raw_dictionary_of};
+ghost use Rattle.columns.specs.Array.{first_array};
+ghost use Rattle.columns.specs.Places.{within};
+ghost use Rattle.columns.specs.View.{array_in, no_dictionary, placed_arrays};
+ghost use Rattle.dictionary.specs.InEffect.{DictionaryBatch};
+ghost use Rattle.dictionary.specs.Kept.{HasInEffect};
+ghost use Rattle.arrays.specs.FlatColumns.{is_flat, is_one_flat};
+ghost use Rattle.arrays.specs.Dictionaries.{column_of_id, entries_read, has_no_base, batch_with, dictionary_read};
+ghost use Rattle.arrays.specs.DictionaryColumns.{dictionary_columns_of, columns_with, first_alone};
+
+use crate::batch_arrays::read_arrays;
+use crate::dictionary_columns::DictionaryColumns;
+use crate::visible::has_bad_text;
+use arrow_schema::Field;
+use columns::{PlacedArray, Span, no_array};
+use dictionary::Dictionaries;
+use ipc_message::{Fault, ImportError, RawBatch, RawDictionaryBatch};
+use std::alloc::Global;
+
+// The field at a place by itself.
+fn one_at(fields: &[Field], i: usize) -> Option<&[Field]>
+    ensures one { option_map (λ one. map column_of one.now) result ≡ first_alone (drop i (map column_of fields.now)) }
+    ensures flat { list_all is_flat (map column_of fields.now) ≡ true → IfSome result (λ one. is_one_flat (map column_of one.now) ≡ true) }
+{
+    if i < fields.len() {
+        Some(&fields[i..i + 1])
+    } else {
+        None
+    }
+}
+
+fn find_values<'a>(ids: &[u64], values: &'a [Field], id: u64) -> Option<&'a [Field]>
+    ensures found { option_map (λ one. map column_of one.now) result ≡ option_map (λ c. c.values ∷ []) (column_of_id id (columns_with ids.now (map column_of values.now))) }
+    ensures flat { list_all is_flat (map column_of values.now) ≡ true → IfSome result (λ one. is_one_flat (map column_of one.now) ≡ true) }
+{
+    for (i, other) in ids.iter().enumerate() {
+        if *other == id {
+            return one_at(values, i);
+        }
+    }
+    None
+}
+
+// The values of the first column that has an id.
+fn values_of_id(columns: &DictionaryColumns, id: u64) -> Option<&[Field]>
+    ensures found { option_map (λ one. map column_of one.now) result ≡ option_map (λ c. c.values ∷ []) (column_of_id id (dictionary_columns_of columns.now)) }
+    ensures flat { IfSome result (λ one. is_one_flat (map column_of one.now) ≡ true) }
+{
+    find_values(&columns.ids, &columns.values, id)
+}
+
+// The first of some arrays, or one without slots.
+fn first_of(arrays: Vec<PlacedArray>) -> PlacedArray
+    ensures { (bytes : List ℕ) → array_in bytes no_dictionary result ≡ first_array (placed_arrays bytes [] arrays.items) }
+{
+    let mut arrays = arrays;
+    if arrays.len() == 0 {
+        return no_array();
+    }
+    arrays.swap_remove(0)
+}
+
+// The array of a batch of one column of values, all of whose slots are visible.
+fn read_entries(
+    alloc: Global,
+    values: &[Field],
+    batch: &RawBatch,
+    body: Span,
+    bytes: &[u8],
+) -> Result<PlacedArray, ImportError>
+    requires body { body.start + body.len < 2 ^ 64 }
+    requires flat { is_one_flat (map column_of values.now) ≡ true }
+    ensures { (c : Column) → map column_of values.now ≡ c ∷ []
+        → Gives (array_in bytes.now no_dictionary) result (entries_read c (raw_batch_of batch.now) (within bytes.now body)) }
+{
+    match read_arrays(alloc, values, batch, body, bytes, &[], &[]) {
+        Ok(arrays) => {
+            if has_bad_text(values, &arrays, bytes, &[], batch.length as usize) {
+                return Err(ImportError::Fault(Fault::NotUtf8));
+            }
+            Ok(first_of(arrays))
+        }
+        Err(error) => Err(error),
+    }
+}
+
+// F25: a delta, and its id has no dictionary.
+fn has_no_base(dictionaries: &Dictionaries, raw: &RawDictionaryBatch) -> bool
+    ensures { (bytes : List ℕ) (before : List DictionaryBatch) → HasInEffect bytes dictionaries.now before → result ≡ has_no_base before (raw_dictionary_of raw.now) }
+{
+    raw.is_delta && !dictionaries.has(raw.id)
+}
+
+/// The array of a dictionary batch whose body stands in some bytes, after the batches of which these are the dictionaries; or its first fault: F24 where no column
+/// has its id, F25 where it is a delta and its id has no dictionary, then F16 to F22, and F15 of a text that is not UTF-8.
+pub fn read_dictionary(
+    alloc: Global,
+    columns: &DictionaryColumns,
+    dictionaries: &Dictionaries,
+    raw: &RawDictionaryBatch,
+    body: Span,
+    bytes: &[u8],
+) -> Result<PlacedArray, ImportError>
+    requires { body.start + body.len < 2 ^ 64 }
+    ensures { (before : List DictionaryBatch) → HasInEffect bytes.now dictionaries.now before → Gives (λ a. batch_with (raw_dictionary_of raw.now) (array_in bytes.now no_dictionary a)) result
+        (dictionary_read (dictionary_columns_of columns.now) before (raw_dictionary_of raw.now) (within bytes.now body)) }
+{
+    match values_of_id(columns, raw.id) {
+        None => Err(ImportError::Fault(Fault::DictionaryId)),
+        Some(values) => {
+            if has_no_base(dictionaries, raw) {
+                return Err(ImportError::Fault(Fault::DeltaWithoutBase));
+            }
+            read_entries(alloc, values, &raw.batch, body, bytes)
+        }
+    }
+}
