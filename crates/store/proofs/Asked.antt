@@ -3,16 +3,14 @@ use Rattle.std.specs.Prelude.{◌≡◌, ◌≢◌, ◌+◌, ◌-◌, ◌^◌, �
 use Rattle.std.proofs.Common.{ap, sym, ◌∙◌, subst, arith}
 use Rattle.std.proofs.lemmas.Bool.Decides.{nat_tests}
 use Rattle.sector_dev.specs.Disk.{Story, now}
-use Rattle.sector_dev.specs.Time.{LeavesOnly}
 use Rattle.sector_dev.specs.laws.Time.{stays}
 use Rattle.sector_dev.specs.declared.device.SectorDevice.{Ghosts}
 use Rattle.tables.specs.Tables.{Tables}
 use Rattle.tables.specs.declared.refusal.Refusal.{Refusal}
 use Rattle.store.specs.declared.store.Store.{Store}
 use Rattle.store.specs.Calls.{PlainCall, PlainReply, is_device_reply}
-use Rattle.store.specs.Machine.{Phase, running, halted, Machine, Allows, AllowsEach, has_written}
+use Rattle.store.specs.Machine.{Phase, running, halted, Machine, AllowsEach}
 use Rattle.store.specs.Steps.{Step}
-use Rattle.store.specs.Runs.{Goes, counted}
 use Rattle.store.specs.Fits.{setting_of, StoreFits}
 use Rattle.store.specs.Applying.{GoesOn}
 

@@ -1,5 +1,5 @@
 -- A formatting is a call of the machine.
-use Rattle.std.specs.Prelude.{◌≡◌, ◌≢◌, ◌⊎◌, ◌≤◌, ◌<◌, ◌&&◌, ℕ, Bool, true, false, nat_le, nat_lt, [], Option, Some, None, Result, Ok, Err, if◌then◌else◌, refl}
+use Rattle.std.specs.Prelude.{◌≡◌, ◌≢◌, ◌⊎◌, ◌≤◌, ◌&&◌, ℕ, Bool, true, false, nat_le, nat_lt, [], Option, Some, None, Result, Ok, Err, refl}
 use Rattle.std.proofs.Common.{inl, inr, ap, sym, subst, ◌∙◌, arith}
 use Rattle.std.proofs.lemmas.Bool.Decides.{nat_tests}
 use Rattle.std.proofs.lemmas.Bool.{and_parts, leb-true, le-leb, lt-ltb}
@@ -21,14 +21,13 @@ use Rattle.catalogue.specs.Entries.{PlainCatalogue, runs_of}
 use Rattle.catalogue.specs.Reading.{catalogue_at}
 use Rattle.tables.specs.Tables.{Tables, no_tables}
 use Rattle.tables.specs.Verdict.{after}
-use Rattle.store.specs.Calls.{format_call, PlainReply, done, shut_by, may_be_done, is_device_reply}
+use Rattle.store.specs.Calls.{format_call, PlainReply, done, shut_by, may_be_done}
 use Rattle.store.specs.Steps.{Step}
 use Rattle.store.specs.Runs.{Goes, counted}
 use Rattle.store.specs.Machine.{holds, Machine, opened, shut_down, Allows, AllowsEach, meanwhile, has_written}
-use Rattle.store.specs.Held.{whole_reading, catalogue_or_cause, tables_held, held_tables, held_of, held_by}
+use Rattle.store.specs.Held.{whole_reading, catalogue_or_cause, tables_held, held_of, held_by}
 use Rattle.store.specs.Fits.{setting_of, IsFresh}
 use Rattle.store.specs.Opening.{formatting_of, TellsFormatting}
-use Rattle.store.specs.declared.opening_refusal.OpeningRefusal.TheVariants as refusals
 use Rattle.store.proofs.Opened.{not_started}
 
 -- what a formatting counts, in the words of replies

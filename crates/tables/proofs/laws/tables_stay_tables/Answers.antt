@@ -1,4 +1,3 @@
-use Rattle.std.proofs.Common.{ℕ, List}
 use Rattle.ipc_message.specs.Header.{supported_codes}
 use Rattle.tables.specs.laws.Stay.{stay, all_stay}
 use Rattle.tables.proofs.laws.tables_stay_tables.Goals as goal
