@@ -3,7 +3,7 @@ pub mod Picks
 pub mod PickedSchemas
 pub mod PickedRows
 pub mod SelectedTables
-pub mod Cutting
+pub mod Splitting
 pub mod Naming
 pub mod Joining
 pub mod Keeping

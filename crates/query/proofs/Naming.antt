@@ -15,7 +15,7 @@ use Rattle.query.specs.declared.errors.QueryError.{QueryError}
 use Rattle.query.specs.View.{Reports}
 use Rattle.query.proofs.Binding.{reports_first}
 use Rattle.query.specs.Query.{PlainCondition}
-use Rattle.query.specs.Bound.{has_name, place_of, kind_in, demand_of, bound_at, bound}
+use Rattle.query.specs.Bound.{has_name, place_of, kind_of_column, demand_of, bound_at, bound}
 
 pub count_by-map : {X Y : Type 0} (p : Y → Bool) (f : X → Y) (xs : List X) → count_by p (map f xs) ≡ count_by (λ x. p (f x)) xs
 count_by-map p f [] = refl
@@ -40,8 +40,8 @@ unfolding place_of
 place_not fields name h = rw (ne_eqb (count_by (has_name name) (map column_of fields)) 1 (λ e. h (sym (count_by-map (has_name name) column_of fields) ∙ e))) refl
 
 -- the type of a field
-kind_at : (f : Field) → kind_in (column_of f) ≡ kind_of (out-Field f).data_type
-kind_at f = ap kind_in (fold_out-Field Kind Column kind_step column_step f)
+kind_at : (f : Field) → kind_of_column (column_of f) ≡ kind_of (out-Field f).data_type
+kind_at f = ap kind_of_column (fold_out-Field Kind Column kind_step column_step f)
 
 -- the column of a field that was looked up
 pub column_there : (r : Option (Bor Field)) (fields : List Field) (place : ℕ) → option_copied r ≡ slice_get fields place → option_map (λ f. column_of f.now) r ≡ slice_get (map column_of fields) place

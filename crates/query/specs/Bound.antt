@@ -43,8 +43,8 @@ demand_of kind null_test = Ok is_null
 demand_of kind value_test = Ok is_value
 demand_of kind (comparison o literal) = if is_comparable kind then against o (literal_of kind literal) else Err not_comparable
 
-abbrev pub kind_in : Column → Kind
-kind_in (column name nullable kind dictionary pairs) = kind
+abbrev pub kind_of_column : Column → Kind
+kind_of_column (column name nullable kind dictionary pairs) = kind
 
 abbrev pub bound_at : ℕ → Result Demand Refusal → Result Bound Refusal
 bound_at place (Ok d) = Ok (record { place = place; demand = d })
@@ -52,7 +52,7 @@ bound_at place (Err e) = Err e
 
 abbrev pub bound_in : ℕ → Option Column → PlainTest → Result Bound Refusal
 bound_in place None test = Err unknown_column
-bound_in place (Some c) test = bound_at place (demand_of (kind_in c) test)
+bound_in place (Some c) test = bound_at place (demand_of (kind_of_column c) test)
 
 abbrev pub bound_to : List Column → Option ℕ → PlainTest → Result Bound Refusal
 bound_to cs None test = Err unknown_column

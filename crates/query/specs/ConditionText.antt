@@ -10,8 +10,8 @@ abbrev pub is_space : ℕ → Bool
 is_space b = b == 32
 
 -- what stands before the first space, and what after it
-unfoldable pub cut : List ℕ → Option (List ℕ × List ℕ)
-cut text = if is_some (position is_space text) then Some (before_first is_space text, after_first is_space text) else None
+unfoldable pub split_at_space : List ℕ → Option (List ℕ × List ℕ)
+split_at_space text = if is_some (position is_space text) then Some (before_first is_space text, after_first is_space text) else None
 
 abbrev pub operator_text : Operator → List ℕ
 operator_text Equal = codes "="
@@ -30,7 +30,7 @@ operator_of text = find (λ o. bytes_eq (operator_text o) text) every_operator
 
 -- an operator, and a literal, which is all that follows and may be empty
 unfoldable pub comparison_of : List ℕ → Option PlainTest
-comparison_of text = option_and_then (λ p. option_map (λ o. comparison o p.1) (operator_of p.0)) (cut text)
+comparison_of text = option_and_then (λ p. option_map (λ o. comparison o p.1) (operator_of p.0)) (split_at_space text)
 
 unfoldable pub test_of : List ℕ → Option PlainTest
 test_of text =
@@ -40,4 +40,4 @@ test_of text =
 
 -- a name, which has no space and may be empty, and a test
 unfoldable pub condition_of : List ℕ → Option PlainCondition
-condition_of text = option_and_then (λ p. option_map (λ t. record { column = p.0; test = t }) (test_of p.1)) (cut text)
+condition_of text = option_and_then (λ p. option_map (λ t. record { column = p.0; test = t }) (test_of p.1)) (split_at_space text)

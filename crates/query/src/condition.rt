@@ -30,7 +30,7 @@ impl Condition {
         ensures ok { IfOk result (λ c. condition_of text.now ≡ Some (condition_in c)) }
         ensures refused { IfErr result (λ e. IsNoCondition e (condition_of text.now)) }
     {
-        let Some((column, rest)) = cut(text) else {
+        let Some((column, rest)) = split_at_space(text) else {
             return Err(QueryError::BadCondition);
         };
         let Some(test) = parse_test(alloc, rest)? else {
@@ -44,12 +44,12 @@ impl Condition {
 }
 
 ghost use Rattle.std.specs.Prelude.{◌≡◌, option_map, IfOk};
-ghost use Rattle.query.specs.ConditionText.{cut, test_of, comparison_of};
+ghost use Rattle.query.specs.ConditionText.{split_at_space, test_of, comparison_of};
 ghost use Rattle.query.specs.View.{Reads, test_in};
 
 // What stands before the first space, and what after it.
-fn cut(text: &str) -> Option<(&str, &str)>
-    ensures { Reads (λ p. (p.0.now, p.1.now)) result (cut text.now) }
+fn split_at_space(text: &str) -> Option<(&str, &str)>
+    ensures { Reads (λ p. (p.0.now, p.1.now)) result (split_at_space text.now) }
 {
     text.split_once(' ')
 }
@@ -58,7 +58,7 @@ fn cut(text: &str) -> Option<(&str, &str)>
 fn parse_comparison(alloc: Global, text: &str) -> Result<Option<Test>, AllocError>
     ensures { IfOk result (λ t. option_map test_in t ≡ comparison_of text.now) }
 {
-    let Some((operator, literal)) = cut(text) else {
+    let Some((operator, literal)) = split_at_space(text) else {
         return Ok(None);
     };
     match operator_of(operator) {

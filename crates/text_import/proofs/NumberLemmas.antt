@@ -10,7 +10,7 @@ use Rattle.std.proofs.Math.Nat.{pow-le-pow_right}
 use Rattle.arrow_schema.specs.Column.{Kind, Column, column, integers, dates, timestamps, days, date_milliseconds}
 use Rattle.cells.specs.Cell.{Cell, null, number}
 use Rattle.cells.specs.Fit.{fits, fits_kind, in_range}
-use Rattle.text_import.specs.Flat.{is_digit, digits_behind, digits, integer_of, kind_of_column, number_cell}
+use Rattle.text_import.specs.Flat.{is_digit, digits_behind, digits, typed_integer, kind_of_column, number_cell}
 use Rattle.text_import.specs.inner.Capped.{capped, too_large, capped_integer, holds_numbers, is_value}
 
 capped_again : (n : ℕ) → capped n ≡ capped (capped n)
@@ -125,7 +125,7 @@ capped_digits_neg k None h = refl
 capped_digits_neg k (Some n) h = capped_neg k n h
 
 -- an integer that is capped is refused as the one that it stands for, and else is that one
-pub number_capped : (k : Kind) (t : List ℕ) → holds_numbers k ≡ true → number_cell k (capped_integer t) ≡ number_cell k (integer_of t)
+pub number_capped : (k : Kind) (t : List ℕ) → holds_numbers k ≡ true → number_cell k (capped_integer t) ≡ number_cell k (typed_integer t)
 number_capped k [] h = refl
 number_capped k (b ∷ bs) h = by (b == 45)
   where

@@ -29,7 +29,7 @@ use Rattle.std.specs.List.{list_any}
 use Rattle.std.proofs.lemmas.Bool.{false≢true}
 use Rattle.std.proofs.lemmas.Bool.Decides.{same_from_decides, Decides-like}
 use Rattle.std.proofs.lemmas.Slice.Eq.{bytes_eq-Decides}
-use Rattle.text_import.specs.Objects.{is_among, repeats, keys_of, item_count, column_count, sized, each_item, cell_in, cells_by_place, cells_by_name, is_blank, line_row}
+use Rattle.text_import.specs.Objects.{has_name, repeats, keys_of, item_count, column_count, sized, each_item, cell_in, cells_by_place, cells_by_name, is_blank, line_row}
 
 pub bytes_eq_sym : (a b : List ℕ) → bytes_eq a b ≡ bytes_eq b a
 bytes_eq_sym a b = same_from_decides (bytes_eq a b) (bytes_eq b a) (bytes_eq-Decides a b) (Decides-like (bytes_eq b a) sym sym (bytes_eq-Decides b a))
@@ -38,24 +38,24 @@ or_true : (a b : Bool) → b ≡ true → (a || b) ≡ true
 or_true true b e = refl
 or_true false b e = e
 
-among_later : (xs ys : List (List ℕ)) (x y : List ℕ) → bytes_eq x y ≡ true → is_among (xs ++ x ∷ ys) y ≡ true
+among_later : (xs ys : List (List ℕ)) (x y : List ℕ) → bytes_eq x y ≡ true → has_name (xs ++ x ∷ ys) y ≡ true
 among_later [] ys x y e = rw (bytes_eq_sym y x, e) refl
 among_later (z ∷ zs) ys x y e = or_true (bytes_eq y z) _ (among_later zs ys x y e)
 
 -- a name that stands among those before it
-pub repeats_at : (xs ys : List (List ℕ)) (x : List ℕ) → is_among xs x ≡ true → repeats (xs ++ x ∷ ys) ≡ true
+pub repeats_at : (xs ys : List (List ℕ)) (x : List ℕ) → has_name xs x ≡ true → repeats (xs ++ x ∷ ys) ≡ true
 repeats_at [] ys x e = absurd (false≢true e)
 repeats_at (y ∷ zs) ys x e = by (bytes_eq x y) refl e (repeats_at zs ys x)
   where
-    by : (b : Bool) → bytes_eq x y ≡ b → (b || is_among zs x) ≡ true → (is_among zs x ≡ true → repeats (zs ++ x ∷ ys) ≡ true) → repeats ((y ∷ zs) ++ x ∷ ys) ≡ true
+    by : (b : Bool) → bytes_eq x y ≡ b → (b || has_name zs x) ≡ true → (has_name zs x ≡ true → repeats (zs ++ x ∷ ys) ≡ true) → repeats ((y ∷ zs) ++ x ∷ ys) ≡ true
     by true is h more = rw (among_later zs ys x y is) refl
-    by false is h more = or_true (is_among (zs ++ x ∷ ys) y) _ (more h)
+    by false is h more = or_true (has_name (zs ++ x ∷ ys) y) _ (more h)
 
-any_append : (k : List ℕ) (xs ys : List (List ℕ)) → is_among (xs ++ ys) k ≡ (is_among xs k || is_among ys k)
+any_append : (k : List ℕ) (xs ys : List (List ℕ)) → has_name (xs ++ ys) k ≡ (has_name xs k || has_name ys k)
 any_append k [] ys = refl
 any_append k (x ∷ xs) ys = by (bytes_eq k x) (any_append k xs ys)
   where
-    by : (b : Bool) → is_among (xs ++ ys) k ≡ (is_among xs k || is_among ys k) → (b || is_among (xs ++ ys) k) ≡ ((b || is_among xs k) || is_among ys k)
+    by : (b : Bool) → has_name (xs ++ ys) k ≡ (has_name xs k || has_name ys k) → (b || has_name (xs ++ ys) k) ≡ ((b || has_name xs k) || has_name ys k)
     by true e = refl
     by false e = e
 
@@ -67,13 +67,13 @@ turned false true c d = refl
 turned false false c d = refl
 
 -- a name that does not stand among those before it repeats none
-pub repeats_more : (xs : List (List ℕ)) (x : List ℕ) → repeats (xs ++ x ∷ []) ≡ (is_among xs x || repeats xs)
+pub repeats_more : (xs : List (List ℕ)) (x : List ℕ) → repeats (xs ++ x ∷ []) ≡ (has_name xs x || repeats xs)
 repeats_more [] x = refl
 repeats_more (y ∷ ys) x =
-    rw (any_append y ys (x ∷ []), repeats_more ys x, bytes_eq_sym y x) (turned (is_among ys y) (bytes_eq x y) (is_among ys x) (repeats ys))
+    rw (any_append y ys (x ∷ []), repeats_more ys x, bytes_eq_sym y x) (turned (has_name ys y) (bytes_eq x y) (has_name ys x) (repeats ys))
 
 -- names as the code keeps them
-pub among_texts : (k : Bor (List ℕ)) (ks : List (Bor (List ℕ))) → list_any (λ (q : Bor (List ℕ)). bytes_eq k.now q.now) ks ≡ is_among (text_list ks) k.now
+pub among_texts : (k : Bor (List ℕ)) (ks : List (Bor (List ℕ))) → list_any (λ (q : Bor (List ℕ)). bytes_eq k.now q.now) ks ≡ has_name (text_list ks) k.now
 among_texts k [] = refl
 among_texts k (q ∷ ks) = ap (λ b. bytes_eq k.now q.now || b) (among_texts k ks)
 

@@ -23,9 +23,9 @@ digits [] = None
 digits (b ∷ bs) = digits_behind 0 (b ∷ bs)
 
 -- an integer: digits, which may follow one `-`
-abbrev pub integer_of : List ℕ → Option ℤ
-integer_of [] = None
-integer_of (b ∷ bs) = if b == 45 then option_map (λ n. neg_ℤ (pos n)) (digits bs) else option_map pos (digits (b ∷ bs))
+abbrev pub typed_integer : List ℕ → Option ℤ
+typed_integer [] = None
+typed_integer (b ∷ bs) = if b == 45 then option_map (λ n. neg_ℤ (pos n)) (digits bs) else option_map pos (digits (b ∷ bs))
 
 abbrev pub kind_of_column : Column → Kind
 kind_of_column (column name nullable kind dictionary pairs) = kind
@@ -54,9 +54,9 @@ hex_cell kind t = bytes_cell kind (decode_of t)
 unfoldable pub cell_of_text : Kind → List ℕ → Result Cell Refusal
 cell_of_text nulls t = Err NullMismatch
 cell_of_text booleans t = boolean_cell t
-cell_of_text (integers bits signed) t = number_cell (integers bits signed) (integer_of t)
-cell_of_text (dates unit) t = number_cell (dates unit) (integer_of t)
-cell_of_text (timestamps unit timezone) t = number_cell (timestamps unit timezone) (integer_of t)
+cell_of_text (integers bits signed) t = number_cell (integers bits signed) (typed_integer t)
+cell_of_text (dates unit) t = number_cell (dates unit) (typed_integer t)
+cell_of_text (timestamps unit timezone) t = number_cell (timestamps unit timezone) (typed_integer t)
 cell_of_text texts t = fitting texts NotUtf8 (text t)
 cell_of_text large_texts t = fitting large_texts NotUtf8 (text t)
 cell_of_text binaries t = hex_cell binaries t

@@ -84,17 +84,17 @@ abbrev pub keys_of : Members → List (List ℕ)
 keys_of no_members = []
 keys_of (member k d ms) = k ∷ keys_of ms
 
-abbrev pub is_among : List (List ℕ) → List ℕ → Bool
-is_among names k = list_any (bytes_eq k) names
+abbrev pub has_name : List (List ℕ) → List ℕ → Bool
+has_name names k = list_any (bytes_eq k) names
 
 -- whether two of them are one name
 abbrev pub repeats : List (List ℕ) → Bool
 repeats [] = false
-repeats (name ∷ names) = is_among names name || repeats names
+repeats (name ∷ names) = has_name names name || repeats names
 
 -- whether a key is no name
 abbrev pub has_unknown : List (List ℕ) → List (List ℕ) → Bool
-has_unknown names keys = list_any (λ k. not (is_among names k)) keys
+has_unknown names keys = list_any (λ k. not (has_name names k)) keys
 
 -- names are asked before any field is looked at
 abbrev pub named_parts : List (List ℕ) → (Members → Result Cells Refusal) → Members → Result Cells Refusal

@@ -6,7 +6,7 @@ ghost use Rattle.cells.specs.Cell as plain;
 ghost use Rattle.cells.specs.View.{cell};
 ghost use Rattle.text_import.specs.declared.refusal.Refusal.TheVariants.{NotUtf8};
 ghost use Rattle.text_import.specs.Refusals.{Gives, refusal_of};
-ghost use Rattle.text_import.specs.Flat.{is_digit, digits, integer_of, kind_of_column, fitting, number_cell, boolean_cell, hex_cell, cell_of_text, field_cell};
+ghost use Rattle.text_import.specs.Flat.{is_digit, digits, typed_integer, kind_of_column, fitting, number_cell, boolean_cell, hex_cell, cell_of_text, field_cell};
 ghost use Rattle.text_import.specs.inner.Capped.{capped, capped_integer, holds_numbers, is_value};
 
 use crate::refusal::{CellError, Refusal};
@@ -94,7 +94,7 @@ pub(crate) fn number_cell(field: &Field, number: Option<i128>) -> Result<Value, 
 
 fn integer_cell(field: &Field, text: &[u8]) -> Result<Value, CellError>
     requires { holds_numbers (kind_of_column (column_of field.now)) ≡ true }
-    ensures { Gives refusal_of cell result (number_cell (kind_of_column (column_of field.now)) (integer_of text.now)) }
+    ensures { Gives refusal_of cell result (number_cell (kind_of_column (column_of field.now)) (typed_integer text.now)) }
 {
     number_cell(field, integer(text))
 }

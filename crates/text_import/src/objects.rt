@@ -10,7 +10,7 @@ ghost use Rattle.cells.specs.Row.{row_of};
 ghost use Rattle.cells.specs.Dictionary.{is_any_limited};
 ghost use Rattle.text_import.specs.Refusals.{Gives, refusal_of};
 ghost use Rattle.text_import.specs.Flat.{kind_of_column};
-ghost use Rattle.text_import.specs.Objects.{boolean_in, number_in, text_in, bytes_in, list_in, each_item, fixed_list_in, cell_in, kind_in, cells_by_place, cells_by_name, cells_in, absent, sized, column_count, is_nullable, is_among, names_of, keys_of, repeats, has_unknown, value_row};
+ghost use Rattle.text_import.specs.Objects.{boolean_in, number_in, text_in, bytes_in, list_in, each_item, fixed_list_in, cell_in, kind_in, cells_by_place, cells_by_name, cells_in, absent, sized, column_count, is_nullable, has_name, names_of, keys_of, repeats, has_unknown, value_row};
 ghost use Rattle.text_import.specs.inner.Names.{text_list, member_of, tested};
 
 use crate::flat::{hex_cell, number_cell};
@@ -61,7 +61,7 @@ fn bytes_in(alloc: Global, field: &Field, value: &Json) -> Result<Value, CellErr
 
 // Adds a name, and answers whether it was not among them.
 fn add_name<'a>(names: &mut IndexSet<&'a str>, name: &'a str) -> Result<bool, AllocError>
-    ensures added { IfOk result (λ added. added ≡ not (is_among (text_list names.old.keys) name.now)) }
+    ensures added { IfOk result (λ added. added ≡ not (has_name (text_list names.old.keys) name.now)) }
     ensures names { IfOk result (λ added. added ≡ true → text_list names.new.keys ≡ text_list names.old.keys ++ name.now ∷ []) }
 {
     let (_, added) = names.insert_full(name)?;

@@ -1,6 +1,6 @@
 use Rattle.std.proofs.Common.{◌≡◌, ◌∙◌, ap, sym, map, true, false}
 use Rattle.std.specs.Prelude.{string_bytes}
-use Rattle.text_import.specs.Objects.{has_unknown, is_among}
+use Rattle.text_import.specs.Objects.{has_unknown, has_name}
 use Rattle.text_import.specs.inner.Names.{text_list}
 use Rattle.text_import.proofs.ObjectLemmas.{keys_listed, among_texts}
 use Rattle.text_import.proofs.objects.has_unknown.Goals as goal
@@ -12,12 +12,12 @@ loop-key-init c =
 
 pub returns-then-not-contains : goal.returns-then-not-contains
 returns-then-not-contains c =
-    let among : is_among (text_list c.args.names.now.keys) (string_bytes c.in-Some.key.now) ≡ false =
+    let among : has_name (text_list c.args.names.now.keys) (string_bytes c.in-Some.key.now) ≡ false =
     rw c.as_str.ensures.value at (sym (c.contains.ensures ∙ among_texts c.as_str.result c.args.names.now.keys) ∙ c.if-not-contains.true) in
     rw among at (rw c.in-Some.ensures.steps at c.loop-key.invariant)
 
 pub loop-key-preserved : goal.loop-key-preserved
 loop-key-preserved c =
-    let among : is_among (text_list c.args.names.now.keys) (string_bytes c.in-Some.key.now) ≡ true =
+    let among : has_name (text_list c.args.names.now.keys) (string_bytes c.in-Some.key.now) ≡ true =
     rw c.as_str.ensures.value at (sym (c.contains.ensures ∙ among_texts c.as_str.result c.args.names.now.keys) ∙ c.if-not-contains.false) in
     rw among at (rw c.in-Some.ensures.steps at c.loop-key.invariant)
