@@ -1,9 +1,9 @@
 -- What is visible by spans of slots.
-use Rattle.std.specs.Prelude.{◌||◌, ◌&&◌, nat_le, if◌then◌else◌}
+use Rattle.std.specs.Prelude.{◌||◌, nat_le, if◌then◌else◌}
 use Rattle.std.specs.List.{list_any, flat_map, range_with_len}
 use Rattle.std.proofs.Common.{◌≡◌, ℕ, suc, ◌+◌, ◌-◌, ◌*◌, ◌≤◌, ◌<◌, Bool, true, false, List, [], ◌∷◌, length, drop, get_or, Some, None, refl, arith, sym, ap, ◌∙◌}
 use Rattle.std.proofs.Math.Nat.{mul-le-mul_left}
-use Rattle.std.proofs.lemmas.Bool.{and_parts, leb-true, le-leb}
+use Rattle.std.proofs.lemmas.Bool.{leb-true}
 use Rattle.std.proofs.lemmas.List.Folds.{list_any-append}
 use Rattle.facts.specs.laws.Lists.{drop-item}
 use Rattle.arrays.proofs.Ranges.{any-split, any-both, any-first_and_others, flat_map-alike, flat_map-none, flat_map-spans}
@@ -15,7 +15,7 @@ use Rattle.columns.specs.declared.array.PlacedArray.{PlacedArray}
 use Rattle.columns.specs.declared.array.Dictionary.{Dictionary}
 use Rattle.columns.specs.Array.{Array, Arrays, slots_in, items_in, offsets_in, children_in, first_array, other_arrays}
 use Rattle.columns.specs.CellAt.{is_valid, number_at, span_start}
-use Rattle.columns.specs.Sound.{are_sound, is_sound, is_kind_sound}
+use Rattle.columns.specs.Sound.{is_sound, is_kind_sound}
 use Rattle.columns.specs.Tests.{are_unordered}
 use Rattle.columns.specs.laws.Offsets.{offsets_ascend}
 use Rattle.columns.specs.View.{placed_arrays, fields_of}
@@ -196,15 +196,6 @@ all_visible f (and_column c cs) arrays rows =
     ap (λ (b : Bool). any_visible f c (first_array arrays) 0 rows || b) (all_visible f cs (other_arrays arrays) rows)
     ∙ sym (list_any-append f (flat_map (visible c (first_array arrays)) (range_with_len 0 rows)) (visible_in cs (other_arrays arrays) rows))
 
-pub fewer_sound : (cs : Columns) (m n : ℕ) (arrays : Arrays) → n ≤ m → are_sound cs m arrays ≡ true → are_sound cs n arrays ≡ true
-unfolding are_sound
-fewer_sound no_column m n arrays le h = refl
-fewer_sound (and_column c cs) m n arrays le h =
-    let parts = and_parts (nat_le m (slots_in (first_array arrays))) (is_sound c (first_array arrays) && are_sound cs m (other_arrays arrays)) h in
-    let own = and_parts (is_sound c (first_array arrays)) (are_sound cs m (other_arrays arrays)) parts.1 in
-    let long : nat_le n (slots_in (first_array arrays)) ≡ true = le-leb n (slots_in (first_array arrays)) (omega (arith, leb-true m (slots_in (first_array arrays)) parts.0)) in
-    rw (long, own.0, fewer_sound cs m n (other_arrays arrays) le own.1) refl
-
 next_columns : (fs : List Field) (i : ℕ) (f : Field) → drop i fs ≡ f ∷ drop (i + 1) fs → fields_of (drop i fs) ≡ and_column (column_of f) (fields_of (drop (i + 1) fs))
 next_columns fs i f next = ap fields_of next
 
@@ -212,28 +203,6 @@ others : (bytes : List ℕ) (all : List Dictionary) (xs : List PlacedArray) (i :
 others bytes all xs i = let s : i + 1 ≡ suc i = omega arith in rw s (sym (others_placed bytes all xs i))
 
 -- the next column of a loop
-pub record NextColumn (f : Field) (n : ℕ) (a : Array) (fs : List Field) (others : Arrays) : Type 0 where
-  pub sound : is_sound (column_of f) a ≡ true
-  pub long : n ≤ slots_in a
-  pub others_sound : are_sound (fields_of fs) n others ≡ true
-
-pub next_sound : (bytes : List ℕ) (all : List Dictionary) (fs : List Field) (xs : List PlacedArray) (i n : ℕ) (f : Field) (a : Array)
-    → i < length fs → f ≡ get_or fs i f → a ≡ first_array (placed_arrays bytes all (drop i xs))
-    → are_sound (fields_of (drop i fs)) n (placed_arrays bytes all (drop i xs)) ≡ true
-    → NextColumn f n a (drop (i + 1) fs) (placed_arrays bytes all (drop (i + 1) xs))
-unfolding are_sound
-next_sound bytes all fs xs i n f a lt is first h =
-    let arrays : Arrays = placed_arrays bytes all (drop i xs) in
-    let cs : Columns = fields_of (drop (i + 1) fs) in
-    let e : fields_of (drop i fs) ≡ and_column (column_of f) cs = next_columns fs i f (drop-item fs i f lt is) in
-    let all_of : are_sound (and_column (column_of f) cs) n arrays ≡ true = rw e at h in
-    let parts = and_parts (nat_le n (slots_in (first_array arrays))) (is_sound (column_of f) (first_array arrays) && are_sound cs n (other_arrays arrays)) all_of in
-    let own = and_parts (is_sound (column_of f) (first_array arrays)) (are_sound cs n (other_arrays arrays)) parts.1 in
-    record {
-      sound = rw first own.0;
-      long = rw first (leb-true n (slots_in (first_array arrays)) parts.0);
-      others_sound = rw (others bytes all xs i) own.1;
-    }
 
 pub column_found : (t : Slot → Bool) (bytes : List ℕ) (all : List Dictionary) (fs : List Field) (xs : List PlacedArray) (i from n : ℕ) (f : Field) (a : Array)
     → i < length fs → f ≡ get_or fs i f → a ≡ first_array (placed_arrays bytes all (drop i xs)) → any_visible t (column_of f) a from n ≡ true

@@ -7,8 +7,10 @@ use Rattle.columns.specs.View.{view_array, placed_arrays, fields_of}
 use Rattle.columns.specs.Visible.{Slot}
 use Rattle.columns.specs.laws.Offsets.{spans_fit}
 use Rattle.arrays.specs.inner.VisibleSpans.{any_below, finds}
+use Rattle.facts.specs.laws.Lists.{drop-item}
+use Rattle.arrays.proofs.SpanWeights.{fewer_sound, sound_next}
 use Rattle.arrays.proofs.VisibleSlots.{sound_slots}
-use Rattle.arrays.proofs.VisibleSpans.{own_found, own_not_found, nothing_below, null_run, valid_run, nested_kind, sound_kind, run_found, run_not_found, items_below, fixed_items_below, fixed_within, fields_below, fewer_sound, next_sound, column_found, column_not_found}
+use Rattle.arrays.proofs.VisibleSpans.{own_found, own_not_found, nothing_below, null_run, valid_run, nested_kind, sound_kind, run_found, run_not_found, items_below, fixed_items_below, fixed_within, fields_below, column_found, column_not_found}
 use Rattle.arrays.proofs.visible.spans.+spans.Goals as goal
 use Rattle.arrays.proofs.visible.spans.+spans.Goals.{any_visible-else-valid-via-then-valid+else-any_valid_below, any_visible-else-valid-via-else-valid}
 
@@ -113,7 +115,7 @@ any_field-any_part-requires t c = (
   (
     c.requires.none,
     rw c.children.ensures
-        (fewer_sound (fields_of c.args.fields.now) (slots_in (view_array c.args.view)) (c.args.from + c.args.count) (children_in (view_array c.args.view)) c.requires.within c.requires.sound),
+        (fewer_sound (fields_of c.args.fields.now) (children_in (view_array c.args.view)) (slots_in (view_array c.args.view)) (c.args.from + c.args.count) c.requires.sound c.requires.within),
   ),
 )
 
@@ -124,10 +126,10 @@ any_field-returns t c =
 
 pub any_part-any_visible-requires : goal.any_part-any_visible-requires
 any_part-any_visible-requires t c =
-    let next = next_sound c.args.bytes.now c.args.dictionaries.now c.args.fields.now c.args.arrays.now c.loop-i.i (c.args.from + c.args.count) c.index-fields-i.result _ c.loop-i-test.true c.index-fields-i.is
-    (c.array_or.ensures c.args.bytes.now c.args.dictionaries.now) c.loop-i.invariant.sound in (
+    let part = sound_next c.args.bytes.now c.args.dictionaries.now c.args.fields.now c.args.arrays.now c.loop-i.i c.index-fields-i.result _ (c.args.from + c.args.count)
+    (drop-item c.args.fields.now c.loop-i.i c.index-fields-i.result c.loop-i-test.true c.index-fields-i.is) (c.array_or.ensures c.args.bytes.now c.args.dictionaries.now) c.loop-i.invariant.sound in (
       search (rules, field_lemmas),
-      (c.requires.none, (next.sound, next.long)),
+      (c.requires.none, (part.1, part.0)),
     )
 
 pub any_part-returns-then-any_visible : goal.any_part-returns-then-any_visible
@@ -139,10 +141,10 @@ any_part-returns-then-any_visible t c =
 pub any_part-loop-i-preserved : goal.any_part-loop-i-preserved
 any_part-loop-i-preserved t c =
     let first = c.array_or.ensures c.args.bytes.now c.args.dictionaries.now in
-    let next = next_sound c.args.bytes.now c.args.dictionaries.now c.args.fields.now c.args.arrays.now c.loop-i.i (c.args.from + c.args.count) c.index-fields-i.result _ c.loop-i-test.true c.index-fields-i.is
-    first c.loop-i.invariant.sound in
+    let part = sound_next c.args.bytes.now c.args.dictionaries.now c.args.fields.now c.args.arrays.now c.loop-i.i c.index-fields-i.result _ (c.args.from + c.args.count)
+    (drop-item c.args.fields.now c.loop-i.i c.index-fields-i.result c.loop-i-test.true c.index-fields-i.is) first c.loop-i.invariant.sound in
     record {
-      sound = next.others_sound;
+      sound = part.2;
       same = column_not_found (finds c.args.test) c.args.bytes.now c.args.dictionaries.now c.args.fields.now c.args.arrays.now c.loop-i.i c.args.from c.args.count c.index-fields-i.result _
           c.loop-i-test.true c.index-fields-i.is first (sym c.any_visible.ensures ∙ c.if-any_visible.false) ∙ c.loop-i.invariant.same;
     }
