@@ -79,7 +79,8 @@ fn next_catalogue(
 ) -> Result<(StoredCatalogue, Vec<u8>), AllocError>
     requires rows { length pieces.now ≡ length rows.now }
     requires sound { list_all is_segment (placed_segments (runs_of pieces.now) (bytes_of pieces.now) rows.now) ≡ true }
-    requires stands { IsCatalogue (edited (catalogue_of stored.now.list) (edit_of edit.now) (placed_segments (runs_of pieces.now) (bytes_of pieces.now) rows.now)) }
+    requires stands { IsCatalogue (edited (catalogue_of stored.now.list) (edit_of edit.now)
+        (placed_segments (runs_of pieces.now) (bytes_of pieces.now) rows.now)) }
     requires change { IsChange (catalogue_of stored.now.list) (record { edit = edit_of edit.now; streams = bytes_of pieces.now; counts = rows.now }) }
     ensures catalogue { IfOk result (λ next. catalogue_of next.0.list
         ≡ edited (catalogue_of stored.now.list) (edit_of edit.now) (placed_segments (runs_of pieces.now) (bytes_of pieces.now) rows.now)) }
