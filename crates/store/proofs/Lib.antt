@@ -5,3 +5,5 @@ mod EditedCounts
 mod Tested
 mod Prepared
 mod Carried
+mod Integers
+mod Appended

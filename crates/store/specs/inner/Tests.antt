@@ -1,8 +1,9 @@
 -- The tests of commands, as a catalogue answers them.
-use Rattle.std.specs.Prelude.{◌≡◌, ℕ, Bool, not, ◌&&◌, nat_le, List, [], ◌∷◌, length, is_some, Option, Some, None, Result, Ok, Err}
+use Rattle.std.specs.Prelude.{◌≡◌, ◌+◌, ◌*◌, ℕ, Bool, not, ◌&&◌, nat_le, List, [], ◌∷◌, length, is_some, Option, Some, None, Result, Ok, Err}
 use Rattle.facts.specs.Checks.{when, first_some}
-use Rattle.catalogue.specs.Entries.{PlainCatalogue}
+use Rattle.catalogue.specs.Entries.{PlainEntry, PlainCatalogue, row_count}
 use Rattle.catalogue.specs.Edits.{entry_of}
+use Rattle.cells.specs.declared.limits.TheConstants.{MAX_TABLE_WEIGHT}
 use Rattle.catalogue.specs.declared.limits.TheConstants.{MAX_TABLES}
 use Rattle.tables.specs.declared.refusal.Limit.TheVariants as limits
 use Rattle.tables.specs.declared.refusal.Refusal.{Refusal}
@@ -42,3 +43,7 @@ rename_tests c from to = first_some (missing_in c from ∷ bad_name to ∷ taken
 abbrev pub decision_of : Result Change Refusal → Result PlainChange Refusal
 decision_of (Ok change) = Ok (change_of change)
 decision_of (Err r) = Err r
+
+-- so many rows more are too heavy for a table of integers: its rows weigh alike
+abbrev pub heavy_in : PlainEntry → ℕ → Option Refusal
+heavy_in e more = when (not (nat_le ((row_count e + more) * (1 + length e.schema.columns)) MAX_TABLE_WEIGHT)) (TooMany limits.Weight)
