@@ -1,8 +1,8 @@
 -- Rows behind those of a table of integers.
 use Rattle.std.specs.Prelude.{nat_le, not, Contains, if◌then◌else◌}
 use Rattle.std.specs.Str.{bytes_eq}
-use Rattle.std.proofs.Common.{◌≡◌, ℕ, ◌+◌, ◌*◌, ◌≤◌, ◌<◌, Bool, true, false, List, [], ◌∷◌, ◌++◌, length, length-append, Option, Some, None, Result, Ok, Err, refl, sym, ap, ◌∙◌, subst, arith, suc}
-use Rattle.std.proofs.lemmas.Bool.{le-leb, leb-true}
+use Rattle.std.proofs.Common.{◌≡◌, ℕ, ◌+◌, ◌*◌, ◌≤◌, Bool, true, false, List, [], ◌∷◌, ◌++◌, length, length-append, Option, Some, None, Result, Ok, Err, refl, sym, ap, ◌∙◌, subst, arith, suc}
+use Rattle.std.proofs.lemmas.Bool.{leb-true}
 use Rattle.facts.specs.Checks.{when, first_some, unless}
 use Rattle.arrow_schema.specs.Column.{PlainSchema}
 use Rattle.arrow_schema.specs.Integers.{is_integer_schema}
@@ -10,7 +10,6 @@ use Rattle.arrow_schema.specs.OneShape.{have_one_shape}
 use Rattle.cells.specs.Cell.{Cell, PlainTable}
 use Rattle.cells.specs.Weight.{table_weight}
 use Rattle.cells.specs.declared.limits.TheConstants.{MAX_TABLE_WEIGHT}
-use Rattle.values.specs.Table as values
 use Rattle.values.specs.Table.{IsTable, table_from, first_unfit, weighed}
 use Rattle.ipc_message.specs.declared.fault.Fault.{Fault}
 use Rattle.ipc_message.specs.declared.error.ImportError.{ImportError}
@@ -28,10 +27,10 @@ use Rattle.catalogue.specs.Edits.{entry_of}
 use Rattle.tables.specs.declared.refusal.Limit.TheVariants as limits
 use Rattle.tables.specs.declared.refusal.Refusal.{Refusal}
 use Rattle.tables.specs.declared.refusal.Refusal.TheVariants.{NoTable, SchemaMismatch, Import, TooMany}
-use Rattle.tables.specs.Commands.{PlainCommand, append_stream}
+use Rattle.tables.specs.Commands.{append_stream}
 use Rattle.tables.specs.Refusals.{import_refusal}
 use Rattle.tables.specs.Tables.{Tables, AreTables, table_at, with_table}
-use Rattle.tables.specs.Verdict.{too_many_bytes, other_shape, unfit_row, too_heavy, of_table, of_meaning, joined, appended, appended_table, appended_stream, verdict}
+use Rattle.tables.specs.Verdict.{too_many_bytes, other_shape, unfit_row, too_heavy, of_table, of_meaning, appended, appended_table, appended_stream, verdict}
 use Rattle.store.specs.Applying.{TellsTable, Lists, Decides}
 use Rattle.store.specs.Changes.{extend, rows_under, stream_rows}
 use Rattle.store.specs.inner.Tests.{heavy_in}

@@ -1,13 +1,13 @@
 -- The schemas that are read so far: those of integers.
-use Rattle.std.specs.Prelude.{not, ◌||◌, ◌&&◌, ◌==◌, is_some}
+use Rattle.std.specs.Prelude.{not, ◌||◌, ◌==◌, is_some}
 use Rattle.std.specs.List.{list_any, list_all}
-use Rattle.std.proofs.Common.{◌≡◌, ℕ, ◌+◌, Bool, true, false, List, [], ◌∷◌, ◌++◌, length, Option, Some, None, refl, sym, ap, ◌∙◌, arith}
+use Rattle.std.proofs.Common.{◌≡◌, ℕ, ◌+◌, Bool, true, false, List, [], ◌∷◌, length, Option, Some, None, refl, sym, ap, ◌∙◌, arith}
 use Rattle.std.proofs.lemmas.Bool.{and_from, and_parts, or_parts, not-false, eqb-true}
 use Rattle.std.proofs.lemmas.List.Folds.{list_any-append, list_all-append}
 use Rattle.std.proofs.lemmas.List.Sums.{list_all-from_AllPass}
-use Rattle.arrow_schema.specs.Column.{Index, Pair, Kind, Column, Columns, nulls, booleans, integers, dates, timestamps, texts, large_texts, binaries, large_binaries, fixed_binaries, lists, large_lists, fixed_lists, structs, column, no_column, and_column, columns_of, PlainSchema}
+use Rattle.arrow_schema.specs.Column.{Index, Pair, Kind, Column, nulls, booleans, integers, dates, timestamps, texts, large_texts, binaries, large_binaries, fixed_binaries, lists, large_lists, fixed_lists, structs, column, and_column, columns_of, PlainSchema}
 use Rattle.arrow_schema.specs.Integers.{is_bit_width, is_integer_kind, is_integer_column, is_integer_schema, is_empty, AreIntegers}
-use Rattle.arrow_schema.specs.Limits.{IsWithinLimits, has_bit_widths, is_kind_of_width, is_index_of_width}
+use Rattle.arrow_schema.specs.Limits.{IsWithinLimits, has_bit_widths, is_kind_of_width}
 use Rattle.arrow_schema.specs.Preorder.{preorder, preorder_below, preorder_all}
 use Rattle.arrow_schema.specs.Shape.{seen, seen_kind, seen_all, shape_of, HaveOneShape}
 use Rattle.arrow_schema.specs.laws.IntegerCases.{integer_case}

@@ -1,9 +1,8 @@
-use Rattle.std.proofs.Common.{◌≡◌, ◌≤◌, ◌<◌, ◌^◌, ℕ, true, List, length, Some, None, Ok, arith, ap, sym, ◌∙◌, subst, string_bytes}
+use Rattle.std.proofs.Common.{◌≡◌, ◌<◌, ◌^◌, ℕ, true, List, length, Some, None, Ok, ap, sym, ◌∙◌, subst, string_bytes}
 use Rattle.std.specs.List.{AllByRecursion}
 use Rattle.std.proofs.lemmas.Result.{err_from_is_err_and}
 use Rattle.arrow_schema.specs.Column.{PlainSchema}
 use Rattle.arrow_schema.specs.Integers.{is_integer_schema}
-use Rattle.arrow_schema.specs.View.{schema_of}
 use Rattle.cells.specs.Cell.{PlainTable}
 use Rattle.values.specs.Table.{IsTable}
 use Rattle.values.specs.IntegerTable.{IsIntegerTable}
@@ -11,7 +10,7 @@ use Rattle.values.specs.TableView.{table_of}
 use Rattle.ipc_message.specs.Header.{supported_codes}
 use Rattle.ipc_stream.specs.Meaning.{meaning}
 use Rattle.ipc_stream.specs.Pieces.{piece_streams, piece_counts}
-use Rattle.catalogue.specs.Entries.{PlainEntry, PlainCatalogue, plain_entry, row_count}
+use Rattle.catalogue.specs.Entries.{PlainEntry, PlainCatalogue, plain_entry}
 use Rattle.catalogue.specs.Edits.{entry_of}
 use Rattle.catalogue.specs.View.{catalogue_of}
 use Rattle.tables.specs.Commands.{append_stream}
@@ -22,7 +21,7 @@ use Rattle.store.specs.Changes.{PlainChange, extend, change_of, IsChange, rows_u
 use Rattle.store.specs.inner.Tests.{heavy_in}
 use Rattle.store.specs.laws.Pieces.{pieces_held, pieces_each, pieces_some, pieces_few}
 use Rattle.store.proofs.Integers.{one_schema}
-use Rattle.store.proofs.Appended.{HasTable, has_table, WeightLaws, NewRows, stream_missing, stream_long, stream_failed, stream_apart, stream_heavy, stream_decided, found_in, entry_integers, one_shape, same_table, new_rows}
+use Rattle.store.proofs.Appended.{HasTable, has_table, WeightLaws, stream_missing, stream_long, stream_failed, stream_apart, stream_heavy, stream_decided, found_in, entry_integers, one_shape, same_table, new_rows}
 use Rattle.store.proofs.deciding.decide_append_stream.Goals as goal
 
 pub returns-in_default-clause-decides : goal.returns-in_default-clause-decides
