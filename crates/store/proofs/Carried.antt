@@ -1,25 +1,22 @@
 -- A command in the words of the machine, from what publishing promises.
-use Rattle.std.specs.Prelude.{◌≡◌, ◌≢◌, ◌⊎◌, ◌≤◌, ◌<◌, ◌+◌, ◌-◌, ◌%◌, ◌^◌, ◌&&◌, ℕ, min, Bool, true, false, nat_lt, if◌then◌else◌, List, [], ◌∷◌, ◌++◌, Option, Some, None, Result, Ok, Err, IsOk, is_ok, refl}
+use Rattle.std.specs.Prelude.{◌≡◌, ◌≢◌, ◌<◌, ◌+◌, ◌-◌, ◌%◌, ◌^◌, ℕ, min, Bool, true, false, nat_lt, List, [], ◌∷◌, ◌++◌, Some, Ok, Err, IsOk, is_ok, refl}
 use Rattle.std.proofs.Common.{inl, inr, ⊎_elim, sym, ap, ◌∙◌, subst, arith}
 use Rattle.std.proofs.lemmas.Bool.{lt-ltb}
 use Rattle.std.proofs.lemmas.Bool.Decides.{nat_tests}
-use Rattle.sector_dev.specs.Disk.{Disk, Sector, Story, Image, now, MayLeave, synced_image}
+use Rattle.sector_dev.specs.Disk.{Disk, Sector, Story, Image, now, synced_image}
 use Rattle.sector_dev.specs.Time.{Grows, LeavesOnly}
 use Rattle.sector_dev.specs.laws.Time.{weaken, now_has, stays}
 use Rattle.sector_dev.specs.laws.Crash.{only_image}
 use Rattle.segments.specs.declared.run.Run.{Run}
 use Rattle.segments.specs.declared.piece.Piece.{Piece}
-use Rattle.segments.specs.Usages.{Space, IsUsedIn}
+use Rattle.segments.specs.Usages.{Space}
 use Rattle.segments.specs.Writing.{runs_of, HoldsEach}
 use Rattle.catalogue.specs.Entries.{PlainCatalogue, IsCatalogue}
-use Rattle.catalogue.specs.Entries as entries
 use Rattle.catalogue.specs.View.{catalogue_of}
 use Rattle.commit.specs.declared.sector.Commit.{Commit}
 use Rattle.commit.specs.declared.publishing.Plan.{Plan}
-use Rattle.commit.specs.Placing.{Uses, Takes}
 use Rattle.commit.specs.Publishing.{IsOutside, IsOldOrNew, IsPublishing, IsPublished}
 use Rattle.commit.specs.Replacing.{CanReplace, StandsAs}
-use Rattle.commit.specs.Standing.{rules, standing, Stands, runs_fault, is_on_device}
 use Rattle.commit.specs.laws.Frame.{above_used}
 use Rattle.tables.specs.declared.refusal.Refusal.{Refusal}
 use Rattle.tables.specs.declared.refusal.Refusal.TheVariants as refusals
@@ -27,21 +24,21 @@ use Rattle.tables.specs.declared.refusal.Limit.TheVariants as limits
 use Rattle.tables.specs.Refusals.{origin_of}
 use Rattle.tables.specs.Tables.{Tables}
 use Rattle.tables.specs.Commands.{PlainCommand}
-use Rattle.tables.specs.Verdict.{verdict, after, step}
+use Rattle.tables.specs.Verdict.{verdict, after}
 use Rattle.tables.specs.laws.Steps.{accepted, after_one_more}
 use Rattle.store.specs.declared.stored.StoredCatalogue.{StoredCatalogue}
-use Rattle.store.specs.Calls.{apply_call, PlainReply, done, refused, is_failure, may_be_done}
-use Rattle.store.specs.Machine.{Held, holds, Machine, running, with_doubt, tables_now, Allows, AllowsEach, meanwhile, has_written, settle, halt}
+use Rattle.store.specs.Calls.{apply_call, done, refused}
+use Rattle.store.specs.Machine.{holds, Machine, running, tables_now, Allows, AllowsEach, meanwhile, has_written, settle, halt}
 use Rattle.store.specs.Steps.{Step, RefusesFrom}
 use Rattle.store.specs.Runs.{Goes, counted}
-use Rattle.store.specs.Held.{whole_reading, tables_held, held_tables, held_of, held_by}
+use Rattle.store.specs.Held.{whole_reading, tables_held, held_tables, held_by}
 use Rattle.store.specs.Fits.{setting_of}
 use Rattle.store.specs.Changes.{PlainChange, IsChange, MakesOf, placed_segments}
 use Rattle.store.specs.Applying.{IsCarried}
-use Rattle.store.specs.inner.Prepared.{placed, IsPrepared}
+use Rattle.store.specs.inner.Prepared.{IsPrepared}
 use Rattle.store.specs.laws.Frame.{held_is, same_tables}
 use Rattle.store.specs.laws.Changed.{edited_held}
-use Rattle.store.proofs.Prepared.{can_replace, streams_held}
+use Rattle.store.proofs.Prepared.{streams_held}
 
 not_less : (n : ℕ) → nat_lt n n ≡ false
 not_less n = grind (arith, nat_tests)

@@ -7,3 +7,7 @@ mod Prepared
 mod Carried
 mod Integers
 mod Appended
+mod Answered
+mod Began
+mod HeldTables
+mod Applied

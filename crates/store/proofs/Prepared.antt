@@ -1,25 +1,24 @@
 -- What was prepared for a change can be published, and then stands.
-use Rattle.std.specs.Prelude.{◌≡◌, ◌≤◌, ◌<◌, ◌+◌, ◌%◌, ◌^◌, ◌==◌, ◌&&◌, ◌||◌, ℕ, Bool, true, false, not, nat_le, nat_lt, List, [], ◌∷◌, ◌++◌, length, map, if◌then◌else◌, Option, Some, None, Ok, Err, refl}
+use Rattle.std.specs.Prelude.{◌≡◌, ◌≤◌, ◌<◌, ◌+◌, ◌^◌, ◌==◌, ◌&&◌, ◌||◌, ℕ, Bool, true, false, not, nat_le, List, [], ◌∷◌, ◌++◌, length, map, if◌then◌else◌, Some, None, Err, refl}
 use Rattle.std.specs.Global.{Vec}
 use Rattle.std.specs.List.{list_all, AllByRecursion}
 use Rattle.std.proofs.Common.{inl, inr, ⊎_elim, ◌≢◌, sym, ap, ◌∙◌, subst, arith}
-use Rattle.std.proofs.lemmas.Bool.{and_parts, and_from, false_from_ne_true, leb-true, le-leb, lt-ltb, eq-eqb, cases_eq}
-use Rattle.std.proofs.lemmas.List.{map-append, length-map}
-use Rattle.sector_dev.specs.Disk.{Disk, Image, synced_image}
+use Rattle.std.proofs.lemmas.Bool.{and_parts, false_from_ne_true, leb-true, cases_eq}
+use Rattle.std.proofs.lemmas.List.{length-map}
+use Rattle.sector_dev.specs.Disk.{Disk, Image}
 use Rattle.segments.specs.declared.errors.TakeError.{TakeError}
 use Rattle.segments.specs.declared.errors.TakeError.TheVariants as takings
 use Rattle.segments.specs.declared.run.Run.{Run}
 use Rattle.segments.specs.declared.piece.Piece.{Piece}
 use Rattle.segments.specs.Runs.{OutOf}
-use Rattle.segments.specs.Sectors.{sector_count, bytes_at}
+use Rattle.segments.specs.Sectors.{sector_count}
 use Rattle.segments.specs.declared.extent.Extent.{Extent}
 use Rattle.segments.specs.declared.entries.Usage.{Usage}
 use Rattle.segments.specs.Usages.{Space, same_run, IsUsedIn, SameUsages}
 use Rattle.segments.specs.laws.Usages.{same_run_is}
 use Rattle.segments.specs.Writing.{runs_of, HoldsEach}
 use Rattle.segments.specs.laws.ReadBack.{read_back}
-use Rattle.catalogue.specs.declared.limits.TheConstants.{MAX_SEGMENTS, MAX_SEGMENT_ROWS}
-use Rattle.catalogue.specs.declared.entry.Segment.{Segment}
+use Rattle.catalogue.specs.declared.limits.TheConstants.{MAX_SEGMENTS}
 use Rattle.catalogue.specs.Entries.{PlainCatalogue, is_between, is_segment, IsCatalogue, AreRead, segment_count}
 use Rattle.catalogue.specs.Entries as entries
 use Rattle.catalogue.specs.Text.{list_size}
@@ -27,12 +26,12 @@ use Rattle.catalogue.specs.Reading.{catalogue_at}
 use Rattle.catalogue.specs.View.{catalogue_of}
 use Rattle.commit.specs.declared.sector.Commit.{Commit}
 use Rattle.commit.specs.declared.publishing.Plan.{Plan}
-use Rattle.commit.specs.Placing.{is_among, times_among, Uses, sectors_of, counts_of, contents_of, AreSome, Takes}
-use Rattle.commit.specs.Publishing.{IsPlan, next_commit}
+use Rattle.commit.specs.Placing.{is_among, times_among, Uses, counts_of, contents_of, AreSome, Takes}
+use Rattle.commit.specs.Publishing.{next_commit}
 use Rattle.commit.specs.Replacing as replacing
 use Rattle.commit.specs.Replacing.{IsPieceOf, IsMade, CanReplace}
-use Rattle.commit.specs.Standing.{is_size, is_extent, is_on_device, used_runs, is_apart, are_apart, runs_fault, Stands, InSome}
-use Rattle.commit.specs.laws.Taking.{Took, TookAll, GivesAll, all_given_back}
+use Rattle.commit.specs.Standing.{is_size, is_extent, is_on_device, is_apart, are_apart, runs_fault, Stands}
+use Rattle.commit.specs.laws.Taking.{TookAll, GivesAll, all_given_back}
 use Rattle.commit.specs.laws.Apart.{on_device_is}
 use Rattle.commit.specs.laws.Frame.{fault_none}
 use Rattle.commit.specs.laws.Placed.{plan_follows, placed_extent, taken_free, uses_used, taken_uses, given_uses, among_both}

@@ -62,3 +62,9 @@ may_change (apply_call c) = true
 may_change format_call = true
 may_change open_call = true
 may_change _ = false
+
+-- a call that needs an open store
+abbrev pub needs_store : PlainCall → Bool
+needs_store format_call = false
+needs_store open_call = false
+needs_store _ = true

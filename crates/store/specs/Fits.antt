@@ -16,7 +16,7 @@ use Rattle.tables.specs.Verdict.{after}
 use Rattle.store.specs.declared.store.Store.{Store}
 use Rattle.store.specs.declared.opening_refusal.OpeningRefusal.{OpeningRefusal}
 use Rattle.store.specs.Calls.{PlainCall, done, shut_by}
-use Rattle.store.specs.Machine.{Setting, Machine, running, halted, shut_down, Allows}
+use Rattle.store.specs.Machine.{Setting, Machine, shut, running, halted, shut_down, Allows}
 use Rattle.store.specs.Runs.{Goes}
 use Rattle.store.specs.Held.{whole_reading, tables_held, held_by}
 
@@ -100,3 +100,10 @@ pub record Shuts {D : Type 0} (size : D → ℕ) (story : D → Story) (failed :
   pub same : size back ≡ size device
   pub goes : Goes (setting_of (size device) base) m call (shut_by refusal) (story device) (story back) (failed device) (failed back) (shut_down m)
   pub fits : DeviceFits size story base (shut_down m) back
+
+-- a run that begins with a device without a store, and one that begins with a store on it
+abbrev pub fresh : Machine
+fresh = record { started = false; phase = shut; settled = []; doubt = None }
+
+abbrev pub resumed : Machine
+resumed = record { started = true; phase = shut; settled = []; doubt = None }

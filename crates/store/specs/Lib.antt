@@ -10,5 +10,6 @@ pub mod Fits
 pub mod Changes
 pub mod Applying
 pub mod Listing
+pub mod Places
 pub mod laws
 pub mod inner

@@ -1,11 +1,12 @@
 // What a command changes, as the catalogue decides it: its tests in their order, and then the change.
-ghost use Rattle.std.specs.Prelude.{◌≡◌, ◌≤◌, [], IfOk, string_bytes};
+ghost use Rattle.std.specs.Prelude.{◌≡◌, ◌≤◌, [], IfOk, IfErr, false, string_bytes};
 ghost use Rattle.arrow_schema.specs.View.{schema_of};
 ghost use Rattle.catalogue.specs.Entries.{plain_entry, row_count, IsCatalogue, AreRead};
 ghost use Rattle.catalogue.specs.View.{catalogue_of};
 ghost use Rattle.tables.specs.Commands.{create, import_stream, append_stream, rename, drop_table};
 ghost use Rattle.tables.specs.Tables.{Tables, AreTables};
 ghost use Rattle.tables.specs.Verdict.{bad_name, too_many_bytes, other_shape};
+ghost use Rattle.store.specs.Calls.{is_failure};
 ghost use Rattle.store.specs.Applying.{Lists, Decides};
 ghost use Rattle.store.specs.Changes.{change_of, edit_of, IsChange};
 ghost use Rattle.store.specs.inner.Tests.{Tests, has_entry, missing_in, taken_in, full_in, heavy_in, create_tests, import_tests, rename_tests, decision_of};
@@ -150,6 +151,7 @@ pub(crate) fn decide_create(
     new: NewTable,
 ) -> Result<Change, Refusal>
     ensures ok { IfOk result (λ change. IsChange (catalogue_of catalogue.now) (change_of change)) }
+    ensures no_device { IfErr result (λ e. is_failure e ≡ false) }
     ensures decides { (t : Tables) → Lists (catalogue_of catalogue.now) t
         → Decides t (create (string_bytes new.name) (schema_of new.schema)) (decision_of result) }
 {
@@ -167,6 +169,7 @@ pub(crate) fn decide_import(
     bytes: &[u8],
 ) -> Result<Change, Refusal>
     ensures ok { IfOk result (λ change. IsChange (catalogue_of catalogue.now) (change_of change)) }
+    ensures no_device { IfErr result (λ e. is_failure e ≡ false) }
     ensures decides { (t : Tables) → Lists (catalogue_of catalogue.now) t
         → Decides t (import_stream (string_bytes name) bytes.now) (decision_of result) }
 {
@@ -194,6 +197,7 @@ pub(crate) fn decide_rename(
     to: String,
 ) -> Result<Change, Refusal>
     ensures ok { IfOk result (λ change. IsChange (catalogue_of catalogue.now) (change_of change)) }
+    ensures no_device { IfErr result (λ e. is_failure e ≡ false) }
     ensures decides { (t : Tables) → Lists (catalogue_of catalogue.now) t
         → Decides t (rename (string_bytes from) (string_bytes to)) (decision_of result) }
 {
@@ -208,6 +212,7 @@ pub(crate) fn decide_drop(
     name: String,
 ) -> Result<Change, Refusal>
     ensures ok { IfOk result (λ change. IsChange (catalogue_of catalogue.now) (change_of change)) }
+    ensures no_device { IfErr result (λ e. is_failure e ≡ false) }
     ensures decides { (t : Tables) → Lists (catalogue_of catalogue.now) t → Decides t (drop_table (string_bytes name)) (decision_of result) }
 {
     test_there(catalogue, &name)?;
@@ -223,6 +228,7 @@ pub(crate) fn decide_append_stream(
 ) -> Result<Change, Refusal>
     requires { AreRead (catalogue_of catalogue.now) }
     ensures ok { IfOk result (λ change. IsChange (catalogue_of catalogue.now) (change_of change)) }
+    ensures no_device { IfErr result (λ e. is_failure e ≡ false) }
     ensures decides { (t : Tables) → Lists (catalogue_of catalogue.now) t → AreTables t
         → Decides t (append_stream (string_bytes name) stream.now) (decision_of result) }
 {

@@ -1,13 +1,20 @@
 // Laws of runs. The functions do nothing: their contracts are the laws.
-ghost use Rattle.std.specs.Prelude.{◌≡◌, ◌≢◌, ◌<◌, ◌-◌, ◌^◌, ℕ, false, None, List, [], ◌∷◌, ◌++◌, take};
+ghost use Rattle.std.specs.Prelude.{◌≡◌, ◌≢◌, ◌<◌, ◌-◌, ◌^◌, ℕ, true, false, None, List, [], ◌∷◌, ◌++◌, take};
 ghost use Rattle.std.specs.List.{list_any};
 ghost use Rattle.sector_dev.specs.Disk.{Story, Image, now, moment, LeftSince};
 ghost use Rattle.sector_dev.specs.Time.{LeavesOnly};
+ghost use Rattle.commit.specs.Standing.{is_size};
+ghost use Rattle.commit.specs.Formatting.{HoldsNoCommit};
+ghost use Rattle.tables.specs.Tables.{Tables, no_tables};
 ghost use Rattle.store.specs.Calls.{PlainCall, PlainReply, is_device_reply};
-ghost use Rattle.store.specs.Machine.{Setting, Machine, halted, Allows};
+ghost use Rattle.store.specs.Machine.{Setting, Machine, halted, Allows, holds};
+ghost use Rattle.store.specs.Held.{held_by};
+ghost use Rattle.store.specs.Fits.{DeviceFits, fresh, resumed};
 ghost use Rattle.store.specs.Runs.{Goes, Run};
 ghost use Rattle.store.specs.Since.{story_at, IsLeftFrom};
 ghost use Rattle.store.specs.History.{begun, acknowledged, Settles, SettlesAll, Keeps};
+
+use sector_dev::SectorDevice;
 
 /// An image that a stop may have left since some call of a run began was left before one of the calls from it on, at a moment
 /// of one of them or after the last, and is what the machine of that very moment allows.
@@ -60,3 +67,14 @@ pub fn a_stop_keeps_what_was_acknowledged()
         → LeavesOnly (Allows s m) (now old) → LeftSince new (moment (story_at s calls replies m old failed m' new failed' run i)) image
         → Keeps s m (acknowledged (take i calls) (take i replies)) (begun calls replies) image }
 {}
+
+/// A run may begin with a device on which no stop leaves a commit: there are no tables. And it may begin with one on which each stop
+/// leaves a store with the same tables, as a device has after a stop.
+pub fn devices_fit<D: SectorDevice>(device: &D)
+    ensures new { is_size (D.size device.now) ≡ true → LeavesOnly HoldsNoCommit (now (D.story device.now))
+        → DeviceFits D.size D.story no_tables fresh device.now }
+    ensures stopped { (t : Tables) → is_size (D.size device.now) ≡ true
+        → LeavesOnly (λ image. held_by (D.size device.now) image ≡ holds t) (now (D.story device.now)) → DeviceFits D.size D.story t resumed device.now }
+{
+    let _ = device;
+}

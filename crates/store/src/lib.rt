@@ -1,8 +1,8 @@
 //! The store: named tables on a device, through commands, failures and stops.
 //!
 //! What runs of calls mean stands here: how a reply follows from the tables (`specs/Steps.antt`), what a stop at any moment
-//! may leave (`specs/Machine.antt`), and what follows for a whole run. A store is formatted, opened and closed, and tells its
-//! tables and their schemas; its other calls are not there yet.
+//! may leave (`specs/Machine.antt`), and what follows for a whole run: [`run`] answers any list of calls, and each stop
+//! meanwhile leaves the tables of all that was acknowledged. Tables are not read or exported yet.
 //!
 //! ```
 //! match Store::open(alloc, device) {
@@ -12,6 +12,8 @@
 //! ```
 #![tactic(auto)]
 
+mod applying;
+mod call;
 mod carrying;
 mod change;
 mod deciding;
@@ -20,14 +22,18 @@ mod formatting;
 mod laws;
 mod listing;
 mod opening_refusal;
+mod running;
 mod store;
 mod stored;
 
+pub use call::{Call, Place, Reply};
 pub use commit::Cause;
 pub use laws::{
-    a_stop_keeps_what_was_acknowledged, acknowledged_commands_are_settled, each_stop_is_allowed,
-    runs_go_on, undisturbed_runs_settle_what_was_acknowledged, undisturbed_runs_tell_no_failure,
+    a_stop_keeps_what_was_acknowledged, acknowledged_commands_are_settled, devices_fit,
+    each_stop_is_allowed, runs_go_on, undisturbed_runs_settle_what_was_acknowledged,
+    undisturbed_runs_tell_no_failure,
 };
 pub use opening_refusal::OpeningRefusal;
+pub use running::run;
 pub use store::Store;
 pub use stored::StoredCatalogue;

@@ -5,7 +5,6 @@ ghost use Rattle.arrow_schema.specs.Limits.{IsWithinLimits};
 ghost use Rattle.catalogue.specs.Schemas.{is_read};
 
 use arrow_schema::Schema;
-use cells::Row;
 
 /// A table to be made: its name, and its schema, which is within the limits and of those that are read so far.
 #[derive(Drop)]
@@ -25,8 +24,6 @@ pub enum Command {
     ImportStream { name: String, bytes: Vec<u8> },
     /// The rows that a stream means, behind those of the table. S1, S7 Bytes, S5, S4, S6, S7 Weight.
     AppendStream { name: String, bytes: Vec<u8> },
-    /// These rows, behind those of the table. S1, S6, S7 Weight.
-    AppendRows { name: String, rows: Vec<Row> },
     /// S1, S3, S2, also where both names are equal.
     Rename { from: String, to: String },
     /// S1.

@@ -1,12 +1,11 @@
-use Rattle.std.proofs.Common.{◌≡◌, ◌≤◌, ◌<◌, ℕ, List, length, refl, sym, ap, ◌∙◌, subst, arith}
-use Rattle.std.specs.Prelude.{◌-◌, ◌^◌, Ok, Err, Result, map}
+use Rattle.std.proofs.Common.{◌≡◌, ◌≤◌, ℕ, length, sym, subst, arith}
+use Rattle.std.specs.Prelude.{Err}
 use Rattle.std.proofs.lemmas.List.{length-map}
 use Rattle.std.specs.Global.{Vec}
 use Rattle.segments.specs.Usages.{IsUsedIn}
 use Rattle.catalogue.specs.declared.limits.TheConstants.{MAX_SEGMENTS}
 use Rattle.catalogue.specs.Entries.{segment_count}
 use Rattle.catalogue.specs.View.{catalogue_of}
-use Rattle.commit.specs.Placing.{Takes}
 use Rattle.tables.specs.declared.refusal.Refusal.{Refusal}
 use Rattle.store.specs.Changes.{PlainChange, change_of}
 use Rattle.store.specs.Applying.{HasNext, IsCarried, outline, unplaced}

@@ -1,8 +1,8 @@
-use Rattle.std.proofs.Common.{◌≡◌, ◌+◌, ◌-◌, ◌∷◌, ◌++◌, [], ℕ, List, true, false, Bool, if◌then◌else◌, refl, sym, ap, ◌∙◌, subst}
-use Rattle.std.specs.Prelude.{◌^◌, min, Some, None, Ok, Err}
+use Rattle.std.proofs.Common.{◌≡◌, ◌∷◌, ◌++◌, [], ℕ, List, true, Bool, if◌then◌else◌, refl, sym, ap, ◌∙◌, subst}
+use Rattle.std.specs.Prelude.{Some, None, Ok, Err}
 use Rattle.std.proofs.lemmas.Result.{err_from_is_err_and}
 use Rattle.sector_dev.specs.declared.device.DevError.{DevError}
-use Rattle.sector_dev.specs.Disk.{Image, now, synced_image, Counts}
+use Rattle.sector_dev.specs.Disk.{now, synced_image, Counts}
 use Rattle.sector_dev.specs.Time.{LeavesOnly}
 use Rattle.segments.specs.declared.piece.Piece.{Piece}
 use Rattle.segments.specs.Usages.{IsUsedIn}

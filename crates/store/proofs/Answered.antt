@@ -1,0 +1,151 @@
+-- Calls of a place, one after another.
+use Rattle.std.proofs.Common.{◌≡◌, ◌≢◌, ◌++◌, ◌∷◌, [], ℕ, Bool, true, false, List, refl, sym, ap, ◌∙◌, subst, arith, if◌then◌else◌}
+use Rattle.std.specs.Prelude.{nat_lt}
+use Rattle.sector_dev.specs.Disk.{Story, now}
+use Rattle.sector_dev.specs.Time.{LeavesOnly}
+use Rattle.sector_dev.specs.laws.Time.{stays}
+use Rattle.sector_dev.specs.declared.device.SectorDevice.{Ghosts}
+use Rattle.tables.specs.declared.refusal.Refusal.TheVariants as refusals
+use Rattle.tables.specs.Tables.{Tables}
+use Rattle.store.specs.declared.call.Call.{Call}
+use Rattle.store.specs.declared.call.Reply.{Reply}
+use Rattle.store.specs.declared.call.Place.{Place}
+use Rattle.store.specs.declared.call.Place.TheVariants as places
+use Rattle.store.specs.declared.store.Store.{Store}
+use Rattle.store.specs.declared.opening_refusal.OpeningRefusal.{OpeningRefusal}
+use Rattle.store.specs.Calls.{PlainCall, needs_store, apply_call, format_call, open_call, close_call, tables_call, schema_call, read_call, export_call, PlainReply, done, refused, shut_by}
+use Rattle.store.specs.Machine.{Setting, Machine, Phase, shut, running, halted, shut_down, Allows, AllowsEach}
+use Rattle.store.specs.Steps.{Step}
+use Rattle.store.specs.Runs.{Goes}
+use Rattle.store.specs.Fits.{setting_of, StoreFits, Opens, Shuts}
+use Rattle.store.specs.Applying.{GoesOn}
+use Rattle.std.proofs.lemmas.Bool.Decides.{nat_tests}
+use Rattle.store.specs.Places.{call_of, reply_in, calls_of, replies_of, device_in, ShutFits, PlaceFits, PlaceGoes, PlaceRuns, PlaceLives}
+use Rattle.store.specs.laws.Going.{no_run, run_of_one, runs_joined}
+use Rattle.store.specs.laws.Kept.{stops_keep}
+use Rattle.store.specs.laws.Settled.{run_settles, run_settles_all}
+use Rattle.store.specs.laws.Counted.{undisturbed}
+
+none_written : (n : ℕ) → nat_lt n n ≡ false
+none_written n = grind (arith, nat_tests)
+
+not_running : (p : Phase) → p ≡ shut → p ≢ running
+not_running shut is other = cc other
+not_running running is other = cc is
+not_running halted is other = cc is
+
+halted_step : (s : Setting) (m : Machine) (call : PlainCall) (n : ℕ) → needs_store call ≡ true → m.phase ≡ shut → Step s m call (refused refusals.Halted) (nat_lt n n) m
+unfolding Step
+halted_step s m (apply_call c) n needs is = (not_running m.phase is, (none_written n, refl))
+halted_step s m format_call n needs is = absurd (cc needs)
+halted_step s m open_call n needs is = absurd (cc needs)
+halted_step s m close_call n needs is = (is, (none_written n, refl))
+halted_step s m tables_call n needs is = (not_running m.phase is, (none_written n, refl))
+halted_step s m (schema_call name) n needs is = (not_running m.phase is, (none_written n, refl))
+halted_step s m (read_call name) n needs is = (not_running m.phase is, (none_written n, refl))
+halted_step s m (export_call name) n needs is = (not_running m.phase is, (none_written n, refl))
+
+-- where no store is open such a call is refused, and nothing happens
+pub refused_shut : (s : Setting) (m : Machine) (call : PlainCall) (story : Story) (failed : ℕ) → needs_store call ≡ true → m.phase ≡ shut → LeavesOnly (Allows s m) (now story)
+    → Goes s m call (refused refusals.Halted) story story failed failed m
+refused_shut s m call story failed needs is allows =
+    record {
+      step = halted_step s m call (now story).writes needs is;
+      moments = stays (AllowsEach s call (refused refusals.Halted) m (now story)) story;
+      settles = allows;
+      quiet = λ no quiet. refl;
+      counts = refl;
+    }
+
+-- a closing
+not_shut : (b : Bool) (p : Phase) → p ≡ (if b then halted else running) → p ≢ shut
+not_shut true p is other = let same : halted ≡ shut = sym is ∙ other in cc same
+not_shut false p is other = let same : running ≡ shut = sym is ∙ other in cc same
+
+pub closed : {D : Type 0} {g : Ghosts D} (size : D → ℕ) (story : D → Story) (failed : D → ℕ) (base : Tables) (m : Machine) (store : Store D g) → StoreFits size story base m store
+    → PlaceGoes {g = g} size story failed base m close_call done store.device (places.Shut store.device)
+unfolding Step Allows
+closed size story failed base m store fits =
+    record {
+      next = shut_down m;
+      same = refl;
+      goes = record {
+        step = (not_shut store.halted m.phase fits.phase, none_written (now (story store.device)).writes, refl);
+        moments = stays (AllowsEach (setting_of (size store.device) base) close_call done m (now (story store.device))) (story store.device);
+        settles = λ image may. fits.device.allows image may;
+        quiet = λ no quiet. refl;
+        counts = refl;
+      };
+      fits = record { phase = refl; fits = record { in_limits = fits.device.in_limits; allows = λ image may. fits.device.allows image may; fresh = λ early. let f = fits.device.fresh early in record { settled = f.settled; doubt = f.doubt; began = f.began } } };
+    }
+
+-- a call of a device on which no store is open, that needs one
+pub refused_place : {D : Type 0} {g : Ghosts D} (size : D → ℕ) (story : D → Story) (failed : D → ℕ) (base : Tables) (m : Machine) (call : PlainCall) (device : D) → needs_store call ≡ true → ShutFits size story base m device
+    → PlaceGoes {g = g} size story failed base m call (refused refusals.Halted) device (places.Shut device)
+refused_place size story failed base m call device needs fits =
+    record { next = m; same = refl; goes = refused_shut (setting_of (size device) base) m call (story device) (failed device) needs fits.phase fits.fits.allows; fits = fits }
+
+-- an opening or a formatting
+pub opens_place : {D : Type 0} {g : Ghosts D} (size : D → ℕ) (story : D → Story) (failed : D → ℕ) (base : Tables) (m : Machine) (call : PlainCall) (device : D) (store : Store D g)
+    → Opens size story failed base m call device store → PlaceGoes size story failed base m call done device (places.Open store)
+opens_place size story failed base m call device store opens = record { next = opens.next; same = opens.same; goes = opens.goes; fits = opens.fits }
+
+pub shuts_place : {D : Type 0} {g : Ghosts D} (size : D → ℕ) (story : D → Story) (failed : D → ℕ) (base : Tables) (m : Machine) (call : PlainCall) (device : D) (refusal : OpeningRefusal) (back : D)
+    → Shuts size story failed base m call device refusal back → PlaceGoes {g = g} size story failed base m call (shut_by refusal) device (places.Shut back)
+shuts_place size story failed base m call device refusal back shuts = record { next = shut_down m; same = shuts.same; goes = shuts.goes; fits = record { phase = refl; fits = shuts.fits } }
+
+-- a call of an open store that leaves it open
+pub stays_open : {D : Type 0} {g : Ghosts D} (size : D → ℕ) (story : D → Story) (failed : D → ℕ) (base : Tables) (m : Machine) (call : PlainCall) (reply : PlainReply) (old new : Store D g)
+    → GoesOn size story failed base m call reply old new → PlaceGoes size story failed base m call reply old.device (places.Open new)
+stays_open size story failed base m call reply old new goes = record { next = goes.next; same = goes.same; goes = goes.goes; fits = goes.fits }
+
+-- ---- calls one after another
+
+pub runs_more : {D : Type 0} {g : Ghosts D} (size : D → ℕ) (story : D → Story) (failed : D → ℕ) (base : Tables) (m : Machine) (calls : List PlainCall) (replies : List PlainReply) (call : PlainCall) (reply : PlainReply) (first : D) (old new : Place D g)
+    → (runs : PlaceRuns size story failed base m calls replies first old) → PlaceGoes size story failed base runs.next call reply (device_in old) new
+    → PlaceRuns size story failed base m (calls ++ call ∷ []) (replies ++ reply ∷ []) first new
+runs_more size story failed base m calls replies call reply first old new runs goes =
+    let s = setting_of (size first) base in
+    let same : Goes s runs.next call reply (story (device_in old)) (story (device_in new)) (failed (device_in old)) (failed (device_in new)) goes.next =
+    subst (λ (n : ℕ). Goes (setting_of n base) runs.next call reply (story (device_in old)) (story (device_in new)) (failed (device_in old)) (failed (device_in new)) goes.next) runs.same goes.goes in
+    record {
+      next = goes.next;
+      same = goes.same ∙ runs.same;
+      run = runs_joined s calls (call ∷ []) replies (reply ∷ []) m runs.next goes.next (story first) (story (device_in old)) (story (device_in new)) (failed first) (failed (device_in old)) (failed (device_in new)) runs.run
+          (run_of_one s call reply runs.next goes.next (story (device_in old)) (story (device_in new)) (failed (device_in old)) (failed (device_in new)) same);
+      fits = goes.fits;
+    }
+
+pub calls_more : (calls : List Call) (call : Call) → calls_of (calls ++ call ∷ []) ≡ calls_of calls ++ call_of call ∷ []
+calls_more [] call = refl
+calls_more (c ∷ calls) call = ap (λ (cs : List PlainCall). call_of c ∷ cs) (calls_more calls call)
+
+pub replies_more : (replies : List Reply) (reply : Reply) → replies_of (replies ++ reply ∷ []) ≡ replies_of replies ++ reply_in reply ∷ []
+replies_more [] reply = refl
+replies_more (r ∷ replies) reply = ap (λ (rs : List PlainReply). reply_in r ∷ rs) (replies_more replies reply)
+
+pub runs_none : {D : Type 0} {g : Ghosts D} (size : D → ℕ) (story : D → Story) (failed : D → ℕ) (base : Tables) (m : Machine) (place : Place D g) → PlaceFits size story base m place → PlaceRuns size story failed base m [] [] (device_in place) place
+runs_none size story failed base m place fits = record { next = m; same = refl; run = no_run (setting_of (size (device_in place)) base) m (story (device_in place)) (failed (device_in place)); fits = fits }
+
+-- what a stop may leave of a place is what the machine allows
+place_allows : {D : Type 0} {g : Ghosts D} (size : D → ℕ) (story : D → Story) (base : Tables) (m : Machine) (place : Place D g) → PlaceFits size story base m place
+    → LeavesOnly (Allows (setting_of (size (device_in place)) base) m) (now (story (device_in place)))
+place_allows size story base m (places.Open store) fits = fits.device.allows
+place_allows size story base m (places.Shut device) fits = fits.fits.allows
+
+-- what follows of calls one after another
+pub lives : {D : Type 0} {g : Ghosts D} (size : D → ℕ) (story : D → Story) (failed : D → ℕ) (base : Tables) (m : Machine) (calls : List PlainCall) (replies : List PlainReply) (old new : Place D g)
+    → PlaceFits size story base m old → PlaceRuns size story failed base m calls replies (device_in old) new → PlaceLives size story failed base m calls replies (device_in old) new
+lives size story failed base m calls replies old new fits runs =
+    let s = setting_of (size (device_in old)) base in
+    let before = story (device_in old) in
+    let after = story (device_in new) in
+    let f = failed (device_in old) in
+    let f' = failed (device_in new) in
+    record {
+      runs = runs;
+      stops = λ i image left. stops_keep s calls replies m before f runs.next after f' runs.run i image (place_allows size story base m old fits) left;
+      settles = run_settles s calls replies m before f runs.next after f' runs.run;
+      undisturbed = λ less same. undisturbed s calls replies m before f runs.next after f' runs.run less same;
+      all_settled = λ none on no_failure. run_settles_all s calls replies m before f runs.next after f' runs.run none on no_failure;
+    }

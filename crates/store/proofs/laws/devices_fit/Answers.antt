@@ -1,0 +1,7 @@
+use Rattle.store.proofs.Began.{fresh_fits, resumed_fits}
+use Rattle.store.proofs.laws.devices_fit.Goals as goal
+
+pub returns : goal.returns
+returns g c =
+    let D = g.D.SectorDevice in
+    record { new = fresh_fits D.size D.story c.args.device.now; stopped = λ t. resumed_fits D.size D.story c.args.device.now t }

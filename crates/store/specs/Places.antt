@@ -1,0 +1,80 @@
+-- Calls of a place, which is an open store or a shut device, and what a run of them leaves.
+use Rattle.std.specs.Prelude.{◌≡◌, ◌≢◌, ◌<◌, ◌-◌, ◌^◌, ℕ, false, List, map, take, string_bytes, None}
+use Rattle.std.specs.List.{list_any}
+use Rattle.sector_dev.specs.Disk.{Story, Image, moment, LeftSince}
+use Rattle.sector_dev.specs.declared.device.SectorDevice.{Ghosts}
+use Rattle.arrow_schema.specs.View.{schema_of}
+use Rattle.tables.specs.Tables.{Tables}
+use Rattle.tables.specs.View.{command_of}
+use Rattle.store.specs.declared.call.Call.{Call}
+use Rattle.store.specs.declared.call.Call.TheVariants as calls
+use Rattle.store.specs.declared.call.Reply.{Reply}
+use Rattle.store.specs.declared.call.Reply.TheVariants as replies
+use Rattle.store.specs.declared.call.Place.{Place}
+use Rattle.store.specs.declared.call.Place.TheVariants as places
+use Rattle.store.specs.Calls.{PlainCall, apply_call, format_call, open_call, close_call, tables_call, schema_call, PlainReply, done, counts, schema_is, refused, shut_by, is_device_reply}
+use Rattle.store.specs.Machine.{Machine, shut, halted}
+use Rattle.store.specs.Runs.{Goes, Run}
+use Rattle.store.specs.Since.{story_at}
+use Rattle.store.specs.History.{begun, acknowledged, Settles, SettlesAll, Keeps}
+use Rattle.store.specs.Fits.{setting_of, DeviceFits, StoreFits}
+
+abbrev pub call_of : Call → PlainCall
+call_of (calls.Apply command) = apply_call (command_of command)
+call_of calls.Format = format_call
+call_of calls.Open = open_call
+call_of calls.Close = close_call
+call_of calls.Tables = tables_call
+call_of (calls.Schema name) = schema_call (string_bytes name)
+
+abbrev pub reply_in : Reply → PlainReply
+reply_in replies.Done = done
+reply_in (replies.Tables found) = counts (map (λ t. (string_bytes t.0, t.1)) found.items)
+reply_in (replies.Schema schema) = schema_is (schema_of schema)
+reply_in (replies.Refused refusal) = refused refusal
+reply_in (replies.NotOpened refusal) = shut_by refusal
+
+-- the device of a place
+abbrev pub device_in : {D : Type 0} {g : Ghosts D} → Place D g → D
+device_in (places.Open store) = store.device
+device_in (places.Shut device) = device
+
+-- a device without an open store stands for a machine that is shut
+pub record ShutFits {D : Type 0} (size : D → ℕ) (story : D → Story) (base : Tables) (m : Machine) (device : D) : Type 0 where
+  pub phase : m.phase ≡ shut
+  pub fits : DeviceFits size story base m device
+
+abbrev pub PlaceFits : {D : Type 0} {g : Ghosts D} → (size : D → ℕ) → (story : D → Story) → Tables → Machine → Place D g → Type 0
+PlaceFits size story base m (places.Open store) = StoreFits size story base m store
+PlaceFits size story base m (places.Shut device) = ShutFits size story base m device
+
+-- one call of a place that has this device: some machine goes on, and the place after it stands for that
+pub record PlaceGoes {D : Type 0} {g : Ghosts D} (size : D → ℕ) (story : D → Story) (failed : D → ℕ) (base : Tables) (m : Machine) (call : PlainCall) (reply : PlainReply) (old : D) (new : Place D g) : Type 0 where
+  pub next : Machine
+  pub same : size (device_in new) ≡ size old
+  pub goes : Goes (setting_of (size old) base) m call reply (story old) (story (device_in new)) (failed old) (failed (device_in new)) next
+  pub fits : PlaceFits size story base next new
+
+-- and calls one after another
+pub record PlaceRuns {D : Type 0} {g : Ghosts D} (size : D → ℕ) (story : D → Story) (failed : D → ℕ) (base : Tables) (m : Machine) (calls : List PlainCall) (replies : List PlainReply) (old : D) (new : Place D g) : Type 0 where
+  pub next : Machine
+  pub same : size (device_in new) ≡ size old
+  pub run : Run (setting_of (size old) base) calls replies m (story old) (failed old) next (story (device_in new)) (failed (device_in new))
+  pub fits : PlaceFits size story base next new
+
+abbrev pub calls_of : List Call → List PlainCall
+calls_of calls = map call_of calls
+
+abbrev pub replies_of : List Reply → List PlainReply
+replies_of replies = map reply_in replies
+
+-- what follows of calls one after another: what each stop leaves, and what is so where no device call failed
+pub record PlaceLives {D : Type 0} {g : Ghosts D} (size : D → ℕ) (story : D → Story) (failed : D → ℕ) (base : Tables) (m : Machine) (calls : List PlainCall) (replies : List PlainReply) (old : D) (new : Place D g) : Type 0 where
+  pub runs : PlaceRuns size story failed base m calls replies old new
+  -- an image that a stop may have left since the call of this number began has the tables of what was acknowledged before it
+  pub stops : (i : ℕ) (image : Image)
+      → LeftSince (story (device_in new)) (moment (story_at (setting_of (size old) base) calls replies m (story old) (failed old) runs.next (story (device_in new)) (failed (device_in new)) runs.run i)) image
+      → Keeps (setting_of (size old) base) m (acknowledged (take i calls) (take i replies)) (begun calls replies) image
+  pub settles : Settles m.settled runs.next.settled m.doubt runs.next.doubt (acknowledged calls replies) (begun calls replies)
+  pub undisturbed : failed old < 2 ^ 64 - 1 → failed (device_in new) ≡ failed old → list_any is_device_reply replies ≡ false
+  pub all_settled : m.doubt ≡ None → m.phase ≢ halted → list_any is_device_reply replies ≡ false → SettlesAll m runs.next (acknowledged calls replies)

@@ -1,0 +1,71 @@
+// A command of an open store.
+ghost use Rattle.std.specs.Prelude.{◌≡◌, false, Some, IfOk, IfErr};
+ghost use Rattle.sector_dev.specs.Disk.{Image};
+ghost use Rattle.catalogue.specs.Entries.{AreRead};
+ghost use Rattle.catalogue.specs.View.{catalogue_of};
+ghost use Rattle.tables.specs.Tables.{Tables};
+ghost use Rattle.tables.specs.View.{command_of};
+ghost use Rattle.store.specs.Calls.{is_failure};
+ghost use Rattle.store.specs.Held.{tables_held};
+ghost use Rattle.store.specs.Changes.{change_of, IsChange};
+ghost use Rattle.store.specs.Applying.{Decides};
+ghost use Rattle.store.specs.inner.Tests.{decision_of};
+
+use crate::Store;
+use crate::change::Change;
+use crate::deciding::{
+    decide_append_stream, decide_create, decide_drop, decide_import, decide_rename,
+};
+use catalogue::Catalogue;
+use sector_dev::SectorDevice;
+use std::alloc::Global;
+use tables::{Command, Refusal};
+use values::accepted_rows_are_a_table;
+
+// What a command changes. No call of the device is made.
+fn decide(alloc: Global, catalogue: &Catalogue, command: Command) -> Result<Change, Refusal>
+    requires { AreRead (catalogue_of catalogue.now) }
+    ensures ok { IfOk result (λ change. IsChange (catalogue_of catalogue.now) (change_of change)) }
+    ensures no_device { IfErr result (λ e. is_failure e ≡ false) }
+    ensures decides { (image : Image) (t : Tables) → tables_held image (catalogue_of catalogue.now) ≡ Some t
+        → Decides t (command_of command) (decision_of result) }
+{
+    accepted_rows_are_a_table();
+    catalogue.len();
+    match command {
+        Command::Create(new) => decide_create(alloc, catalogue, new),
+        Command::ImportStream { name, bytes } => decide_import(alloc, catalogue, name, &bytes),
+        Command::AppendStream { name, bytes } => {
+            decide_append_stream(alloc, catalogue, name, &bytes)
+        }
+        Command::Rename { from, to } => decide_rename(alloc, catalogue, from, to),
+        Command::Drop { name } => decide_drop(alloc, catalogue, name),
+    }
+}
+
+impl<D: SectorDevice> Store<D> {
+    ghost use Rattle.std.specs.Prelude.{true};
+    ghost use Rattle.store.specs.Calls.{apply_call};
+    ghost use Rattle.store.specs.Machine.{Machine};
+    ghost use Rattle.store.specs.Fits.{StoreFits};
+    ghost use Rattle.store.specs.Applying.{GoesOn, reply_of};
+
+    /// Does what a command asks for, or refuses it. After Ok it is safe: each later stop leaves it.
+    ///
+    /// # Errors
+    /// Those of the command, in the order of its tests; then `TooMany(Epochs)`, `TooMany(Segments)`, `NoRoom` and `Device`. After
+    /// `Device` the store is halted, and whether the command is done is known once the device was opened again; `Halted` before all else
+    /// where it is halted; `OutOfMemory`. After any but `Device` nothing has changed.
+    pub fn apply(&mut self, alloc: Global, command: Command) -> Result<(), Refusal>
+        ensures goes { D.tells ≡ true → (base : Tables) (m : Machine) → StoreFits D.size D.story base m self.old
+            → GoesOn D.size D.story D.failed base m (apply_call (command_of command)) (reply_of result) self.old self.new }
+    {
+        if self.halted {
+            return Err(Refusal::Halted);
+        }
+        match decide(alloc, &self.opened.catalogue.list, command) {
+            Ok(change) => self.carry_out(alloc, change),
+            Err(refusal) => Err(refusal),
+        }
+    }
+}

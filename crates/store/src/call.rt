@@ -1,0 +1,36 @@
+// Calls of a place and their replies, as values.
+use crate::{OpeningRefusal, Store};
+use arrow_schema::Schema;
+use sector_dev::SectorDevice;
+use tables::{Command, Refusal};
+
+/// What is asked of a place.
+#[derive(Drop)]
+pub enum Call {
+    Apply(Command),
+    Format,
+    Open,
+    Close,
+    Tables,
+    Schema(String),
+}
+
+/// What is answered.
+#[derive(Drop)]
+pub enum Reply {
+    /// A command, a formatting, an opening or a closing was done.
+    Done,
+    /// The name of each table, and how many rows it has.
+    Tables(Vec<(String, u64)>),
+    Schema(Schema),
+    Refused(Refusal),
+    /// The device was not opened or formatted.
+    NotOpened(OpeningRefusal),
+}
+
+/// A device, with a store open on it or without.
+#[derive(Drop)]
+pub enum Place<D: SectorDevice> {
+    Open(Store<D>),
+    Shut(D),
+}

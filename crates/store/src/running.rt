@@ -1,0 +1,160 @@
+// Calls of a place are answered in order.
+ghost use Rattle.std.specs.Prelude.{◌≡◌, true, IfOk, IfErr};
+ghost use Rattle.tables.specs.Tables.{Tables};
+ghost use Rattle.tables.specs.View.{command_of};
+ghost use Rattle.store.specs.Calls.{needs_store, apply_call, format_call, open_call, tables_call, schema_call};
+ghost use Rattle.store.specs.Machine.{Machine};
+ghost use Rattle.store.specs.Fits.{DeviceFits, StoreFits, device_of};
+ghost use Rattle.store.specs.Places.{call_of, reply_in, calls_of, replies_of, device_in, ShutFits, PlaceFits, PlaceGoes, PlaceRuns, PlaceLives};
+
+use crate::{Call, Place, Reply, Store};
+use sector_dev::SectorDevice;
+use std::alloc::Global;
+use tables::{Command, Refusal};
+
+// Opens the store of a device.
+fn open_place<D: SectorDevice>(alloc: Global, device: D) -> (Place<D>, Reply)
+    ensures { D.tells ≡ true → (base : Tables) (m : Machine) → DeviceFits D.size D.story base m device
+        → PlaceGoes D.size D.story D.failed base m open_call (reply_in result.1) device result.0 }
+{
+    match Store::open(alloc, device) {
+        Ok(store) => (Place::Open(store), Reply::Done),
+        Err((refusal, device)) => (Place::Shut(device), Reply::NotOpened(refusal)),
+    }
+}
+
+// Makes an empty store of a device.
+fn format_place<D: SectorDevice>(alloc: Global, device: D) -> (Place<D>, Reply)
+    ensures { D.tells ≡ true → (base : Tables) (m : Machine) → DeviceFits D.size D.story base m device
+        → PlaceGoes D.size D.story D.failed base m format_call (reply_in result.1) device result.0 }
+{
+    match Store::format(alloc, device) {
+        Ok(store) => (Place::Open(store), Reply::Done),
+        Err((refusal, device)) => (Place::Shut(device), Reply::NotOpened(refusal)),
+    }
+}
+
+// A call that needs an open store, where none is open.
+fn refuse<D: SectorDevice>(device: D, call: Call) -> (Place<D>, Reply)
+    requires { needs_store (call_of call) ≡ true }
+    ensures { D.tells ≡ true → (base : Tables) (m : Machine) → ShutFits D.size D.story base m device
+        → PlaceGoes D.size D.story D.failed base m (call_of call) (reply_in result.1) device result.0 }
+{
+    let _ = call;
+    (Place::Shut(device), Reply::Refused(Refusal::Halted))
+}
+
+// A call of a device on which no store is open.
+fn answer_shut<D: SectorDevice>(alloc: Global, device: D, call: Call) -> (Place<D>, Reply)
+    ensures { D.tells ≡ true → (base : Tables) (m : Machine) → ShutFits D.size D.story base m device
+        → PlaceGoes D.size D.story D.failed base m (call_of call) (reply_in result.1) device result.0 }
+{
+    match call {
+        Call::Format => format_place(alloc, device),
+        Call::Open => open_place(alloc, device),
+        call => refuse(device, call),
+    }
+}
+
+// A command.
+fn apply_in<D: SectorDevice>(alloc: Global, store: Store<D>, command: Command) -> (Place<D>, Reply)
+    ensures { D.tells ≡ true → (base : Tables) (m : Machine) → StoreFits D.size D.story base m store
+        → PlaceGoes D.size D.story D.failed base m (apply_call (command_of command)) (reply_in result.1) (device_of store) result.0 }
+{
+    let mut store = store;
+    match store.apply(alloc, command) {
+        Ok(()) => (Place::Open(store), Reply::Done),
+        Err(refusal) => (Place::Open(store), Reply::Refused(refusal)),
+    }
+}
+
+// The schema of a table.
+fn schema_in<D: SectorDevice>(alloc: Global, store: Store<D>, name: &str) -> (Place<D>, Reply)
+    ensures { D.tells ≡ true → (base : Tables) (m : Machine) → StoreFits D.size D.story base m store
+        → PlaceGoes D.size D.story D.failed base m (schema_call name.now) (reply_in result.1) (device_of store) result.0 }
+{
+    let mut store = store;
+    match store.schema(alloc, name) {
+        Ok(schema) => (Place::Open(store), Reply::Schema(schema)),
+        Err(refusal) => (Place::Open(store), Reply::Refused(refusal)),
+    }
+}
+
+// The names of the tables.
+fn list_in<D: SectorDevice>(alloc: Global, store: Store<D>) -> (Place<D>, Reply)
+    ensures { D.tells ≡ true → (base : Tables) (m : Machine) → StoreFits D.size D.story base m store
+        → PlaceGoes D.size D.story D.failed base m tables_call (reply_in result.1) (device_of store) result.0 }
+{
+    match store.tables(alloc) {
+        Ok(tables) => (Place::Open(store), Reply::Tables(tables)),
+        Err(refusal) => (Place::Open(store), Reply::Refused(refusal)),
+    }
+}
+
+// A call of an open store.
+fn answer_open<D: SectorDevice>(alloc: Global, store: Store<D>, call: Call) -> (Place<D>, Reply)
+    ensures { D.tells ≡ true → (base : Tables) (m : Machine) → StoreFits D.size D.story base m store
+        → PlaceGoes D.size D.story D.failed base m (call_of call) (reply_in result.1) (device_of store) result.0 }
+{
+    match call {
+        Call::Apply(command) => apply_in(alloc, store, command),
+        Call::Format => format_place(alloc, store.close()),
+        Call::Open => open_place(alloc, store.close()),
+        Call::Close => (Place::Shut(store.close()), Reply::Done),
+        Call::Tables => list_in(alloc, store),
+        Call::Schema(name) => schema_in(alloc, store, &name),
+    }
+}
+
+// One call.
+fn answer<D: SectorDevice>(alloc: Global, place: Place<D>, call: Call) -> (Place<D>, Reply)
+    ensures { D.tells ≡ true → (base : Tables) (m : Machine) → PlaceFits D.size D.story base m place
+        → PlaceGoes D.size D.story D.failed base m (call_of call) (reply_in result.1) (device_in place) result.0 }
+{
+    match place {
+        Place::Open(store) => answer_open(alloc, store, call),
+        Place::Shut(device) => answer_shut(alloc, device, call),
+    }
+}
+
+// All of them in order.
+fn answer_all<D: SectorDevice>(
+    alloc: Global,
+    place: Place<D>,
+    calls: Vec<Call>,
+) -> Result<(Place<D>, Vec<Reply>), (Place<D>, Vec<Call>)>
+    ensures ok { IfOk result (λ r. D.tells ≡ true → (base : Tables) (m : Machine) → PlaceFits D.size D.story base m place
+        → PlaceRuns D.size D.story D.failed base m (calls_of calls.items) (replies_of r.1.items) (device_in place) r.0) }
+    ensures err { IfErr result (λ e. (e.0 ≡ place) × (e.1 ≡ calls)) }
+{
+    let Ok(mut replies) = Vec::with_capacity(alloc, calls.len()) else {
+        return Err((place, calls));
+    };
+    let mut place = place;
+    for call in calls {
+        let (next, reply) = answer(alloc, place, call);
+        place = next;
+        replies.push(reply).unwrap();
+    }
+    Ok((place, replies))
+}
+
+/// Answers calls in order: commands, formattings, openings, closings and readings. Where there is no memory for the replies all is given back.
+///
+/// What is promised of them is [`PlaceLives`] of `specs/Places.antt`, for a place that stands for a machine with some tables: how each
+/// reply follows from the tables (`specs/Steps.antt`), and that each image that a stop may leave at any moment has the tables of what was
+/// settled: all that was acknowledged before, in order, and the command in flight whole or not at all.
+pub fn run<D: SectorDevice>(
+    alloc: Global,
+    place: Place<D>,
+    calls: Vec<Call>,
+) -> Result<(Place<D>, Vec<Reply>), (Place<D>, Vec<Call>)>
+    ensures lives { IfOk result (λ r. D.tells ≡ true → (base : Tables) (m : Machine) → PlaceFits D.size D.story base m place
+        → PlaceLives D.size D.story D.failed base m (calls_of calls.items) (replies_of r.1.items) (device_in place) r.0) }
+    ensures err { IfErr result (λ e. (e.0 ≡ place) × (e.1 ≡ calls)) }
+{
+    match answer_all(alloc, place, calls) {
+        Ok(answered) => Ok(answered),
+        Err(refused) => Err(refused),
+    }
+}
