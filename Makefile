@@ -45,6 +45,7 @@ memory: $(TESTS)
 # The program as it is built, on whole streams, with failing input and output, and with each allocation refused; then texts.
 vectors: bin/arrowstore crates/test_texts/out/test_texts
 	tests/program bin/arrowstore
+	tests/stores bin/arrowstore
 	tests/metadata bin/arrowstore
 	tests/refused_memory bin/arrowstore
 	tests/run_vectors bin/arrowstore tests/vectors/ints

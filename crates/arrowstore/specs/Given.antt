@@ -2,7 +2,7 @@
 use Rattle.std.specs.Prelude.{ℕ, List, ◌≡◌, ◌≤◌, length, Option, Result, Ok, Err}
 use Rattle.std.specs.Io.KnownBytes.{Consumes}
 use Rattle.arrowstore.specs.declared.refusal.Refusal.{Refusal}
-use Rattle.arrowstore.specs.declared.refusal.Refusal.TheVariants.{Fault, TooManyBytes, Io, OutOfMemory}
+use Rattle.arrowstore.specs.declared.refusal.Refusal.TheVariants.{Fault, TooManyBytes, Io, BadSize, Fields, Opening, Store, OutOfMemory}
 
 -- the reader has given its next n bytes
 abbrev pub HasGiven : Option (List ℕ) → Option (List ℕ) → ℕ → Type 0
@@ -18,4 +18,8 @@ UnlessTooManyBytes (Ok x) P = P
 UnlessTooManyBytes (Err (Fault fault)) P = P
 UnlessTooManyBytes (Err TooManyBytes) P = Unit {0}
 UnlessTooManyBytes (Err Io) P = P
+UnlessTooManyBytes (Err BadSize) P = P
+UnlessTooManyBytes (Err (Fields error)) P = P
+UnlessTooManyBytes (Err (Opening refusal)) P = P
+UnlessTooManyBytes (Err (Store refusal)) P = P
 UnlessTooManyBytes (Err OutOfMemory) P = P

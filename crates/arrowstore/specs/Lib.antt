@@ -2,3 +2,5 @@ pub mod Given
 pub mod Recode
 pub mod Reported
 pub mod Arguments
+pub mod StoreWords
+pub mod Printed

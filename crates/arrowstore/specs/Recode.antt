@@ -6,7 +6,7 @@ use Rattle.ipc_message.specs.Header.{supported_codes}
 use Rattle.ipc_stream.specs.Meaning.{meaning}
 use Rattle.ipc_stream.specs.Canonical.{canonical}
 use Rattle.arrowstore.specs.declared.refusal.Refusal.{Refusal}
-use Rattle.arrowstore.specs.declared.refusal.Refusal.TheVariants.{Fault, TooManyBytes, Io, OutOfMemory}
+use Rattle.arrowstore.specs.declared.refusal.Refusal.TheVariants.{Fault, TooManyBytes, Io, BadSize, Fields, Opening, Store, OutOfMemory}
 
 -- the answer speaks of the whole input: it has a meaning, or a fault
 abbrev pub IsVerdict : {A : Type 0} → Result A Refusal → Type 0
@@ -14,6 +14,10 @@ IsVerdict (Ok x) = Unit {0}
 IsVerdict (Err (Fault fault)) = Unit {0}
 IsVerdict (Err TooManyBytes) = ⊥
 IsVerdict (Err Io) = ⊥
+IsVerdict (Err BadSize) = ⊥
+IsVerdict (Err (Fields error)) = ⊥
+IsVerdict (Err (Opening refusal)) = ⊥
+IsVerdict (Err (Store refusal)) = ⊥
 IsVerdict (Err OutOfMemory) = ⊥
 
 -- the input means a table, and what was written, from `old` to `new`, is the canonical stream of that table and nothing else
@@ -25,4 +29,8 @@ abbrev pub IsTrueFault : Refusal → List ℕ → Type 0
 IsTrueFault (Fault fault) input = meaning supported_codes input ≡ Err fault
 IsTrueFault TooManyBytes input = Unit {0}
 IsTrueFault Io input = Unit {0}
+IsTrueFault BadSize input = Unit {0}
+IsTrueFault (Fields error) input = Unit {0}
+IsTrueFault (Opening refusal) input = Unit {0}
+IsTrueFault (Store refusal) input = Unit {0}
 IsTrueFault OutOfMemory input = Unit {0}

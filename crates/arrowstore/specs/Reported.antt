@@ -1,12 +1,19 @@
 -- What is reported of a run: its exit status, and of a refusal its code, its name and what it carries, split by spaces.
 use Rattle.std.specs.Prelude.{◌≡◌, ◌⊎◌, ℕ, List, [], ◌∷◌, ◌++◌, codes}
+use Rattle.std.specs.Fmt.{decimal}
+use Rattle.arrow_schema.specs.declared.texts.parse.ParseError.{ParseError}
+use Rattle.arrow_schema.specs.declared.texts.parse.ParseError.TheVariants as fields
+use Rattle.sector_dev.specs.declared.file.FileError.{FileError}
+use Rattle.sector_dev.specs.declared.file.FileError.TheVariants as files
 use Rattle.ipc_message.specs.FaultText.{fault_text}
 use Rattle.ipc_message.specs.declared.error.ImportError.{ImportError}
 use Rattle.ipc_message.specs.declared.error.ImportError.TheVariants as errors
+use Rattle.tables.specs.Refusals as tables
+use Rattle.store.specs.Opening.{opening_text}
 use Rattle.clap.specs.declared.error.kind.ErrorKind.{ErrorKind}
 use Rattle.clap.specs.declared.error.kind.ErrorKind.TheVariants as kinds
 use Rattle.arrowstore.specs.declared.refusal.Refusal.{Refusal}
-use Rattle.arrowstore.specs.declared.refusal.Refusal.TheVariants.{Fault, TooManyBytes, Io, OutOfMemory}
+use Rattle.arrowstore.specs.declared.refusal.Refusal.TheVariants.{Fault, TooManyBytes, Io, BadSize, Fields, Opening, Store, OutOfMemory}
 use Rattle.arrowstore.specs.declared.status.Status.{Status}
 use Rattle.arrowstore.specs.declared.status.Status.TheVariants.{Done, Refused, WrongArguments}
 
@@ -15,10 +22,24 @@ abbrev pub refusal_of : ImportError → Refusal
 refusal_of (errors.Fault fault) = Fault fault
 refusal_of errors.OutOfMemory = OutOfMemory
 
+-- what a file that was not opened or made is reported as
+abbrev pub file_refusal : FileError → Refusal
+file_refusal files.Io = Io
+file_refusal files.BadSize = BadSize
+
+abbrev pub fields_text : ParseError → List ℕ
+fields_text (fields.BadText number) = codes "P1 BadText " ++ decimal number
+fields_text fields.Limit = codes "P2 Limit"
+fields_text fields.OutOfMemory = codes "OutOfMemory"
+
 abbrev pub refusal_text : Refusal → List ℕ
 refusal_text (Fault fault) = fault_text fault
 refusal_text TooManyBytes = codes "S7 TooMany Bytes"
 refusal_text Io = codes "G1 Io"
+refusal_text BadSize = codes "G2 BadSize"
+refusal_text (Fields error) = fields_text error
+refusal_text (Opening refusal) = opening_text refusal
+refusal_text (Store refusal) = tables.refusal_text refusal
 refusal_text OutOfMemory = codes "OutOfMemory"
 
 -- the line of a refusal on standard error

@@ -12,16 +12,22 @@
 mod command_line;
 mod input;
 mod output;
+mod printing;
 mod refusal;
 mod reports;
 mod running;
 mod status;
+mod store_commands;
+mod store_words;
 mod stream;
 mod unreadable;
+mod with_files;
 
 pub use input::{LARGEST_INPUT, read_at_most};
+pub use printing::{print_schema, print_tables};
 pub use refusal::Refusal;
 pub use running::run;
 pub use status::{Ended, Status};
 pub use stream::recode;
 pub use unreadable::report_unreadable_arguments;
+pub use with_files::run_with_files;

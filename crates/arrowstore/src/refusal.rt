@@ -1,11 +1,15 @@
 // Why a command was refused.
 ghost use Rattle.std.specs.Prelude.{◌≡◌};
 ghost use Rattle.arrowstore.specs.declared.refusal.Refusal.TheVariants.{OutOfMemory};
-ghost use Rattle.arrowstore.specs.Reported.{refusal_of};
+ghost use Rattle.arrowstore.specs.declared.refusal.Refusal.TheVariants as refusals;
+ghost use Rattle.arrowstore.specs.Reported.{refusal_of, file_refusal};
 
+use arrow_schema::ParseError;
 use ipc_message::{Fault, ImportError};
+use sector_dev::FileError;
 use std::alloc::AllocError;
 use std::fmt;
+use store::OpeningRefusal;
 
 /// Why a command was refused.
 #[derive(Clone, Copy, Debug, PartialEq, Eq)]
@@ -16,6 +20,14 @@ pub enum Refusal {
     TooManyBytes,
     /// G1: a read or a write failed.
     Io,
+    /// G2: a store's file is no whole number of sectors, or no store has such a number of them.
+    BadSize,
+    /// P: the texts of fields state no schema.
+    Fields(ParseError),
+    /// C: no store was opened or made.
+    Opening(OpeningRefusal),
+    /// S: the open store refused.
+    Store(tables::Refusal),
     /// A growth was refused.
     OutOfMemory,
 }
@@ -39,6 +51,33 @@ impl From<ImportError> for Refusal {
     }
 }
 
+impl From<FileError> for Refusal {
+    ghost from_gives = { λ error refusal. refusal ≡ file_refusal error };
+
+    fn from(error: FileError) -> Refusal {
+        match error {
+            FileError::Io => Refusal::Io,
+            FileError::BadSize => Refusal::BadSize,
+        }
+    }
+}
+
+impl From<ParseError> for Refusal {
+    ghost from_gives = { λ error refusal. refusal ≡ refusals.Fields error };
+
+    fn from(error: ParseError) -> Refusal {
+        Refusal::Fields(error)
+    }
+}
+
+impl From<tables::Refusal> for Refusal {
+    ghost from_gives = { λ error refusal. refusal ≡ refusals.Store error };
+
+    fn from(error: tables::Refusal) -> Refusal {
+        Refusal::Store(error)
+    }
+}
+
 /// Code, name and carried values, split by spaces, as `S7 TooMany Bytes`.
 impl fmt::Display for Refusal {
     ghost use Rattle.std.specs.Prelude.{Some};
@@ -51,6 +90,12 @@ impl fmt::Display for Refusal {
             Refusal::Fault(fault) => write!(f, "{fault}"),
             Refusal::TooManyBytes => f.write_str("S7 TooMany Bytes"),
             Refusal::Io => f.write_str("G1 Io"),
+            Refusal::BadSize => f.write_str("G2 BadSize"),
+            Refusal::Fields(ParseError::BadText(number)) => write!(f, "P1 BadText {number}"),
+            Refusal::Fields(ParseError::Limit) => f.write_str("P2 Limit"),
+            Refusal::Fields(ParseError::OutOfMemory) => f.write_str("OutOfMemory"),
+            Refusal::Opening(refusal) => write!(f, "{refusal}"),
+            Refusal::Store(refusal) => write!(f, "{refusal}"),
             Refusal::OutOfMemory => f.write_str("OutOfMemory"),
         }
     }

@@ -3,14 +3,14 @@
 //! Status 0 is done, 1 refused, with one line `refused CODE NAME ..` on standard error, and 2 wrong arguments.
 #![tactic(auto)]
 
-use arrowstore::{report_unreadable_arguments, run};
+use arrowstore::{report_unreadable_arguments, run_with_files};
 use std::process::ExitCode;
 use std::{env, io};
 
 fn main(rt: HostRuntime) -> ExitCode {
     let ended = match arguments_of(&rt) {
-        Ok(arguments) => run(
-            rt.alloc(),
+        Ok(arguments) => run_with_files(
+            &rt,
             arguments.as_slice(),
             &mut rt.reader(),
             &mut rt.stdout(),

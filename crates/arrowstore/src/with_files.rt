@@ -1,0 +1,76 @@
+// The program over any files, input and output.
+ghost use Rattle.std.specs.Prelude.{◌≡◌, ◌≢◌, ◌⊎◌, ◌<◌, true, length, map, IfSome, IsErr, IsTrue};
+ghost use Rattle.std.specs.Io.KnownBytes.{Appends};
+ghost use Rattle.ipc_message.specs.Header.{supported_codes};
+ghost use Rattle.ipc_stream.specs.Meaning.{meaning};
+ghost use Rattle.arrowstore.specs.Recode.{AppendsCanonical, IsTrueFault};
+ghost use Rattle.arrowstore.specs.Arguments.{AreRecode, AskForHelp};
+ghost use Rattle.arrowstore.specs.StoreWords.{is_of_store};
+ghost use Rattle.arrowstore.specs.declared.status.Status.TheVariants.{Done, WrongArguments};
+ghost use Rattle.arrowstore.specs.Reported.{refusal_line, IfRefused, IsRefused, IsWrong};
+
+use crate::reports::{end, report_arguments};
+use crate::store_commands::serve;
+use crate::store_words::{is_of_store, request_of};
+use crate::{Ended, LARGEST_INPUT, run};
+use std::convert::AsStr;
+use std::io::{Read, Write};
+use std::rt::Files;
+
+// A command of a store.
+fn run_on_store<H: Files + AllocGlobal, S: AsStr, W: Write, E: Write>(
+    rt: &H,
+    arguments: &[S],
+    output: &mut W,
+    errors: &mut E,
+) -> Ended
+    ensures silent { result.status ≡ Done → errors.new ≡ errors.old }
+    ensures nothing_written { result.status ≡ WrongArguments → output.new ≡ output.old }
+    ensures line { IfRefused result.status (λ refusal. IsTrue result.is_reported
+        → Appends (E.contents errors.old) (E.contents errors.new) (refusal_line refusal)) }
+{
+    match request_of(rt.alloc(), arguments) {
+        Ok(request) => end(serve(rt, &request, output), errors),
+        Err(error) => report_arguments(&error, output, errors),
+    }
+}
+
+/// Does what the arguments ask for, of which the first is the program's name, also on the files of stores, and reports
+/// on `errors` why not.
+pub fn run_with_files<H: Files + AllocGlobal, S: AsStr, R: Read, W: Write, E: Write>(
+    rt: &H,
+    arguments: &[S],
+    input: &mut R,
+    output: &mut W,
+    errors: &mut E,
+) -> Ended
+    // Done: the command was right, or help was asked for, and nothing is reported on `errors`.
+    ensures done { result.status ≡ Done → AreRecode (map S.text arguments.now) ⊎ AskForHelp (map S.text arguments.now)
+        ⊎ (is_of_store (map S.text arguments.now) ≡ true) }
+    ensures silent { result.status ≡ Done → errors.new ≡ errors.old }
+    // The output has been given the canonical stream of what the input means, and nothing else.
+    ensures recoded { AreRecode (map S.text arguments.now) → result.status ≡ Done
+        → IfSome (R.remaining input.old) (AppendsCanonical (W.contents output.old) (W.contents output.new)) }
+    // An input that has no meaning or too many bytes is refused, and nothing is written.
+    ensures meaningless { AreRecode (map S.text arguments.now)
+        → IfSome (R.remaining input.old) (λ bytes. IsErr (meaning supported_codes bytes) → IsRefused result.status × (output.new ≡ output.old)) }
+    ensures too_long { AreRecode (map S.text arguments.now)
+        → IfSome (R.remaining input.old) (λ bytes. LARGEST_INPUT < length bytes → IsRefused result.status × (output.new ≡ output.old)) }
+    // A fault that is reported is the fault of the input.
+    ensures fault { AreRecode (map S.text arguments.now)
+        → IfRefused result.status (λ refusal. IfSome (R.remaining input.old) (IsTrueFault refusal)) }
+    // Right arguments are taken. Wrong ones are reported, unless memory is out: nothing is read, nothing is written.
+    ensures right_arguments { AreRecode (map S.text arguments.now) → result.status ≢ WrongArguments }
+    ensures wrong_arguments { AreRecode (map S.text arguments.now) ⊎ AskForHelp (map S.text arguments.now)
+        ⊎ (is_of_store (map S.text arguments.now) ≡ true) ⊎ (IsWrong result.status × (output.new ≡ output.old)) }
+    ensures only_recode_reads { AreRecode (map S.text arguments.now) ⊎ (input.new ≡ input.old) }
+    ensures nothing_written { result.status ≡ WrongArguments → output.new ≡ output.old }
+    // The refusal's line, where `errors` takes what it is given.
+    ensures line { IfRefused result.status (λ refusal. IsTrue result.is_reported
+        → Appends (E.contents errors.old) (E.contents errors.new) (refusal_line refusal)) }
+{
+    if is_of_store(arguments) {
+        return run_on_store(rt, arguments, output, errors);
+    }
+    run(rt.alloc(), arguments, input, output, errors)
+}
