@@ -27,4 +27,4 @@ mod stream_bytes;
 #[cfg(test)]
 mod streams;
 #[cfg(test)]
-mod tables;
+mod table_calls;
