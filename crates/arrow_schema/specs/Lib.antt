@@ -1,4 +1,5 @@
 pub mod Column
+pub mod Parts
 pub mod View
 pub mod Preorder
 pub mod Limits

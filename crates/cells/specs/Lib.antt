@@ -7,4 +7,6 @@ pub mod Row
 pub mod Entry
 pub mod Entries
 pub mod Integers
+pub mod Nulls
+pub mod Typed
 pub mod laws
