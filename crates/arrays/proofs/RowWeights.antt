@@ -1,7 +1,7 @@
 -- What rows weigh, by the spans of their columns.
-use Rattle.std.specs.Prelude.{◌||◌, nat_lt}
+use Rattle.std.specs.Prelude.{◌||◌, nat_lt, if◌then◌else◌}
 use Rattle.std.specs.List.{list_any, range_with_len}
-use Rattle.std.proofs.Common.{inl, inr, ◌≡◌, ℕ, zero, suc, ◌+◌, ◌-◌, ◌≤◌, ◌<◌, Bool, true, false, List, ◌∷◌, map, refl, sym, ap, arith, ◌∙◌}
+use Rattle.std.proofs.Common.{Some, None, inl, inr, ◌≡◌, ℕ, zero, suc, ◌+◌, ◌-◌, ◌≤◌, ◌<◌, Bool, true, false, List, ◌∷◌, map, refl, sym, ap, arith, ◌∙◌}
 use Rattle.std.proofs.lemmas.Bool.{cases_lt, le-ltb, lt-ltb, or_right}
 use Rattle.arrow_schema.specs.Column.{Columns, columns_of, PlainSchema}
 use Rattle.cells.specs.declared.limits.TheConstants.{MAX_ROW_WEIGHT, MAX_TABLE_WEIGHT}
@@ -11,7 +11,7 @@ use Rattle.cells.specs.Weight.{parts_weight, row_weight, table_weight}
 use Rattle.columns.specs.Array.{Arrays}
 use Rattle.columns.specs.CellAt.{part_cells, row_at, rows_in}
 use Rattle.arrays.specs.Checks.{are_too_heavy}
-use Rattle.arrays.specs.inner.Weights.{sum_from, rows_weight}
+use Rattle.arrays.specs.inner.Weights.{sum_from, rows_weight, weight_within}
 use Rattle.arrays.proofs.SpanWeights.{next}
 use Rattle.arrays.proofs.KindWeights.{parts_more}
 
@@ -81,6 +81,23 @@ light_alone s before arrays rows h le =
     heavy_alone s before arrays rows h ∙ sym (rows_heavy s arrays rows) ∙ none_any (heavy s) (row_at cs arrays) 0 rows (λ i l r.
     let below = row_below (row_weight s) (row_at cs arrays) 0 rows i l r in
     le-ltb MAX_ROW_WEIGHT (row_weight s (row_at cs arrays i)) (omega (arith, whole, below, le)))
+
+-- ---- what is answered of them
+
+pub none_within : (s : PlainSchema) (before : ℕ) (rows : List (List Cell)) → are_too_heavy s before rows ≡ true → None ≡ weight_within s before rows
+none_within s before rows h = rw h refl
+
+pub some_within : (s : PlainSchema) (before : ℕ) (arrays : Arrays) (rows w : ℕ) → are_too_heavy s before (rows_in (columns_of s.columns) arrays rows) ≡ false
+    → w ≡ rows_weight (columns_of s.columns) arrays 0 rows → Some w ≡ weight_within s before (rows_in (columns_of s.columns) arrays rows)
+some_within s before arrays rows w h is = rw h (ap Some (is ∙ sym (rows_spanned s arrays 0 rows)))
+
+pub found_none : (heavy : Bool) (w : ℕ) → None ≡ (if heavy then None else Some w) → heavy ≡ true
+found_none true w h = refl
+found_none false w h = absurd cc
+
+pub found_some : (heavy : Bool) (w v : ℕ) → Some v ≡ (if heavy then None else Some w) → (heavy ≡ false) × (v ≡ w)
+found_some true w v h = absurd cc
+found_some false w v h = (refl, cc)
 
 -- ---- in a loop over the rows
 

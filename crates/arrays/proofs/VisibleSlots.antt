@@ -35,9 +35,6 @@ past spec view kind i = is_valid (view_array view) i && is_past (index_at (index
 abbrev pub bad : OffsetWidth → ArrayView → ℕ → Bool
 bad width view i = is_valid (view_array view) i && not (is_utf8 (contents_at (width_of width) (view_array view) i))
 
-abbrev pub missing : DictSpec → DataType → ArrayView → ℕ → Bool
-missing spec data_type view i = is_null (unless_null (indexed_cell (index_of spec) (kind_of data_type)) (view_array view) i)
-
 -- a test that finds the same at each number
 pub any_same : (p q : ℕ → Bool) (xs : List ℕ) → ((i : ℕ) → p i ≡ q i) → list_any p xs ≡ list_any q xs
 any_same p q xs same = (λ j. list_any (λ i. same i j) xs)

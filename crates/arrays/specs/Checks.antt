@@ -103,6 +103,10 @@ slot_checks s before rows arrays =
     ∷ when (are_too_heavy s before (rows_in columns arrays rows)) TooHeavy
     ∷ []
 
+-- what the rows of arrays weigh, of which so many are rows
+abbrev pub batch_weight : PlainSchema → (rows : ℕ) → Arrays → ℕ
+batch_weight s rows arrays = table_weight s (rows_in (columns_of s.columns) arrays rows)
+
 -- ---- record batches
 
 -- after rows that weigh so much

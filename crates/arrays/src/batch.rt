@@ -1,9 +1,9 @@
 // The arrays of a record batch, or its first fault (docs/definitions/arrays.md).
-ghost use Rattle.std.specs.Prelude.{◌≡◌, ◌<◌, ◌+◌, ◌^◌, true, false, map};
+ghost use Rattle.std.specs.Prelude.{◌≡◌, ◌<◌, ◌+◌, ◌^◌, true, false, map, IfOk, Ok};
 ghost use Rattle.std.specs.List.{list_all, list_any};
 ghost use Rattle.arrow_schema.specs.Column.{PlainSchema, columns_of};
 ghost use Rattle.arrow_schema.specs.View.{column_of, schema_of};
-ghost use Rattle.facts.specs.Checks.{first_some};
+ghost use Rattle.facts.specs.Checks.{first_some, unless};
 ghost use Rattle.ipc_message.specs.Outcome.{Gives};
 ghost use Rattle.ipc_message.specs.View.{raw_batch_of};
 ghost use Rattle.columns.specs.Buffers.{dictionaries_of};
@@ -12,23 +12,32 @@ ghost use Rattle.columns.specs.Sound.{are_sound};
 ghost use Rattle.columns.specs.Tests.{every_array};
 ghost use Rattle.columns.specs.View.{arrays_in, placed_arrays};
 ghost use Rattle.columns.specs.laws.Sounds.{is_typed_sound};
-ghost use Rattle.arrays.specs.Checks.{batch_arrays, batch_read, slot_checks};
+ghost use Rattle.arrays.specs.Checks.{batch_arrays, batch_read, batch_weight, slot_checks};
 ghost use Rattle.arrays.specs.Entries.{has_bad_entry};
 ghost use Rattle.arrays.specs.inner.Read.{placed_in};
 
 use crate::batch_arrays::{Placed, read_arrays};
-use crate::heavy::rows_too_heavy;
+use crate::heavy::weigh_rows;
 use crate::visible::{has_bad_text, has_forbidden_null, names_no_entry_in};
 use arrow_schema::Schema;
 use columns::{Dictionary, DictionaryPart, PlacedArray, Span};
 use ipc_message::{Fault, ImportError, RawBatch};
 use std::alloc::Global;
 
-// The first fault of the checks of what is visible.
-fn slot_fault(before: u64, placed: Placed<'_>, rows: usize) -> Option<Fault>
+/// What is read of a record batch: its arrays, and what its rows weigh.
+#[derive(Debug, Drop)]
+pub struct PlacedBatch {
+    pub arrays: Vec<PlacedArray>,
+    pub weight: u64,
+}
+
+// What the rows weigh, or the first fault of the checks of what is visible.
+fn check_slots(before: u64, placed: Placed<'_>, rows: usize) -> Result<u64, Fault>
     requires sound { are_sound (columns_of (map column_of placed.fields.now)) rows (placed_in placed) ≡ true }
     requires entries { list_any has_bad_entry (every_array (columns_of (map column_of placed.fields.now)) (placed_in placed)) ≡ false }
-    ensures { (s : PlainSchema) → s.columns ≡ map column_of placed.entry.fields.now → result ≡ first_some (slot_checks s before rows (placed_in placed.entry)) }
+    ensures { (s : PlainSchema) → s.columns ≡ map column_of placed.entry.fields.now
+        → let arrays = placed_in placed.entry in
+        result ≡ unless (first_some (slot_checks s before rows arrays)) (Ok (batch_weight s rows arrays)) }
 {
     if names_no_entry_in(
         placed.fields,
@@ -37,7 +46,7 @@ fn slot_fault(before: u64, placed: Placed<'_>, rows: usize) -> Option<Fault>
         placed.dictionaries,
         rows,
     ) {
-        return Some(Fault::DictionaryIndex);
+        return Err(Fault::DictionaryIndex);
     }
     if has_bad_text(
         placed.fields,
@@ -46,7 +55,7 @@ fn slot_fault(before: u64, placed: Placed<'_>, rows: usize) -> Option<Fault>
         placed.dictionaries,
         rows,
     ) {
-        return Some(Fault::NotUtf8);
+        return Err(Fault::NotUtf8);
     }
     if has_forbidden_null(
         placed.fields,
@@ -55,16 +64,17 @@ fn slot_fault(before: u64, placed: Placed<'_>, rows: usize) -> Option<Fault>
         placed.dictionaries,
         rows,
     ) {
-        return Some(Fault::NullForbidden);
+        return Err(Fault::NullForbidden);
     }
-    if rows_too_heavy(before, placed, rows) {
-        return Some(Fault::TooHeavy);
+    match weigh_rows(before, placed, rows) {
+        Some(weight) => Ok(weight),
+        None => Err(Fault::TooHeavy),
     }
-    None
 }
 
 /// The arrays of a record batch whose body stands in some bytes, or its first fault, where the rows before it weigh so much. A dictionary column takes
-/// the next of `parts`, whose arrays were read. Nothing is copied: the arrays are places in the bytes.
+/// the next of `parts`, whose arrays were read. Nothing is copied: the arrays are places in the bytes. Their slots can be looked up. The rows before
+/// the next batch weigh as much more as this one answers.
 pub fn read(
     alloc: Global,
     schema: &Schema,
@@ -74,7 +84,7 @@ pub fn read(
     bytes: &[u8],
     dictionaries: &[Dictionary],
     parts: &[DictionaryPart],
-) -> Result<Vec<PlacedArray>, ImportError>
+) -> Result<PlacedBatch, ImportError>
     requires fits { body.start + body.len < 2 ^ 64 }
     requires sound { let columns = columns_of (schema_of schema.now).columns in
         let known = map (arrays_in bytes.now dictionaries.now) parts.now in
@@ -82,9 +92,13 @@ pub fn read(
     requires texts { let columns = columns_of (schema_of schema.now).columns in
         let known = map (arrays_in bytes.now dictionaries.now) parts.now in
         list_any has_bad_entry (every_array columns (batch_arrays columns (raw_batch_of batch.now) (within bytes.now body) known)) ≡ false }
-    ensures { let known = map (arrays_in bytes.now dictionaries.now) parts.now in
+    ensures arrays { let known = map (arrays_in bytes.now dictionaries.now) parts.now in
         let exact = batch_read (schema_of schema.now) before (raw_batch_of batch.now) (within bytes.now body) known in
-        Gives (λ v. placed_arrays bytes.now dictionaries.now v.items) result exact }
+        Gives (λ v. placed_arrays bytes.now dictionaries.now v.arrays.items) result exact }
+    ensures weight { let rows = (raw_batch_of batch.now).length in
+        IfOk result (λ v. v.weight ≡ batch_weight (schema_of schema.now) rows (placed_arrays bytes.now dictionaries.now v.arrays.items)) }
+    ensures sound { let columns = columns_of (schema_of schema.now).columns in
+        IfOk result (λ v. are_sound columns (raw_batch_of batch.now).length (placed_arrays bytes.now dictionaries.now v.arrays.items) ≡ true) }
 {
     let arrays = read_arrays(
         alloc,
@@ -101,8 +115,8 @@ pub fn read(
         bytes,
         dictionaries,
     };
-    match slot_fault(before, placed, batch.length as usize) {
-        Some(fault) => Err(ImportError::Fault(fault)),
-        None => Ok(arrays),
+    match check_slots(before, placed, batch.length as usize) {
+        Ok(weight) => Ok(PlacedBatch { arrays, weight }),
+        Err(fault) => Err(ImportError::Fault(fault)),
     }
 }

@@ -11,8 +11,8 @@ ghost use Rattle.columns.specs.View.{array_in, no_dictionary, placed_arrays};
 ghost use Rattle.dictionary.specs.InEffect.{DictionaryBatch};
 ghost use Rattle.dictionary.specs.Kept.{HasInEffect};
 ghost use Rattle.arrays.specs.FlatColumns.{is_flat, is_one_flat};
-ghost use Rattle.arrays.specs.Dictionaries.{column_of_id, entries_read, has_no_base, batch_with, dictionary_read};
-ghost use Rattle.arrays.specs.DictionaryColumns.{dictionary_columns_of, columns_with, first_alone};
+ghost use Rattle.arrays.specs.Dictionaries.{entries_read, has_no_base, batch_with, dictionary_read};
+ghost use Rattle.arrays.specs.DictionaryColumns.{dictionary_columns_of, columns_with, first_alone, values_of_id};
 
 use crate::batch_arrays::read_arrays;
 use crate::dictionary_columns::DictionaryColumns;
@@ -36,7 +36,7 @@ fn one_at(fields: &[Field], i: usize) -> Option<&[Field]>
 }
 
 fn find_values<'a>(ids: &[u64], values: &'a [Field], id: u64) -> Option<&'a [Field]>
-    ensures found { option_map (λ one. map column_of one.now) result ≡ option_map (λ c. c.values ∷ []) (column_of_id id (columns_with ids.now (map column_of values.now))) }
+    ensures found { option_map (λ one. map column_of one.now) result ≡ values_of_id id (columns_with ids.now (map column_of values.now)) }
     ensures flat { list_all is_flat (map column_of values.now) ≡ true → IfSome result (λ one. is_one_flat (map column_of one.now) ≡ true) }
 {
     for (i, other) in ids.iter().enumerate() {
@@ -48,8 +48,8 @@ fn find_values<'a>(ids: &[u64], values: &'a [Field], id: u64) -> Option<&'a [Fie
 }
 
 // The values of the first column that has an id.
-fn values_of_id(columns: &DictionaryColumns, id: u64) -> Option<&[Field]>
-    ensures found { option_map (λ one. map column_of one.now) result ≡ option_map (λ c. c.values ∷ []) (column_of_id id (dictionary_columns_of columns.now)) }
+fn find_values_of(columns: &DictionaryColumns, id: u64) -> Option<&[Field]>
+    ensures found { option_map (λ one. map column_of one.now) result ≡ values_of_id id (dictionary_columns_of columns.now) }
     ensures flat { IfSome result (λ one. is_one_flat (map column_of one.now) ≡ true) }
 {
     find_values(&columns.ids, &columns.values, id)
@@ -92,13 +92,14 @@ fn read_entries(
 
 // F25: a delta, and its id has no dictionary.
 fn has_no_base(dictionaries: &Dictionaries, raw: &RawDictionaryBatch) -> bool
-    ensures { (bytes : List ℕ) (before : List DictionaryBatch) → HasInEffect bytes dictionaries.now before → result ≡ has_no_base before (raw_dictionary_of raw.now) }
+    ensures { (bytes : List ℕ) (before : List DictionaryBatch) → HasInEffect bytes dictionaries.now before
+        → result ≡ has_no_base before (raw_dictionary_of raw.now) }
 {
     raw.is_delta && !dictionaries.has(raw.id)
 }
 
-/// The array of a dictionary batch whose body stands in some bytes, after the batches of which these are the dictionaries; or its first fault: F24 where no column
-/// has its id, F25 where it is a delta and its id has no dictionary, then F16 to F22, and F15 of a text that is not UTF-8.
+/// The array of a dictionary batch whose body stands in some bytes, after the batches of which these are the dictionaries; or its first fault: F24 where
+/// no column has its id, F25 where it is a delta and its id has no dictionary, then F16 to F22, and F15 of a text that is not UTF-8.
 pub fn read_dictionary(
     alloc: Global,
     columns: &DictionaryColumns,
@@ -108,10 +109,12 @@ pub fn read_dictionary(
     bytes: &[u8],
 ) -> Result<PlacedArray, ImportError>
     requires { body.start + body.len < 2 ^ 64 }
-    ensures { (before : List DictionaryBatch) → HasInEffect bytes.now dictionaries.now before → Gives (λ a. batch_with (raw_dictionary_of raw.now) (array_in bytes.now no_dictionary a)) result
-        (dictionary_read (dictionary_columns_of columns.now) before (raw_dictionary_of raw.now) (within bytes.now body)) }
+    ensures { (before : List DictionaryBatch) → HasInEffect bytes.now dictionaries.now before
+        → let batch = raw_dictionary_of raw.now in
+        let exact = dictionary_read (dictionary_columns_of columns.now) before batch (within bytes.now body) in
+        Gives (λ a. batch_with batch (array_in bytes.now no_dictionary a)) result exact }
 {
-    match values_of_id(columns, raw.id) {
+    match find_values_of(columns, raw.id) {
         None => Err(ImportError::Fault(Fault::DictionaryId)),
         Some(values) => {
             if has_no_base(dictionaries, raw) {

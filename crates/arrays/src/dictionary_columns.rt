@@ -6,7 +6,8 @@ ghost use Rattle.arrays.specs.FlatColumns.{is_flat};
 
 use arrow_schema::Field;
 
-/// The columns of a schema that have dictionaries, in preorder: the id of each dictionary, and its values as a field of its own, which takes nulls and has no dictionary.
+/// The columns of a schema that have dictionaries, in preorder: the id of each dictionary, and its values as a field of its own, which takes nulls and has
+/// no dictionary.
 #[derive(Debug, Drop)]
 pub struct DictionaryColumns {
     pub ids: Vec<u64>,

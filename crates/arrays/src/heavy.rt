@@ -1,4 +1,4 @@
-// Whether rows weigh too much (docs/definitions/arrays.md).
+// What rows weigh, and whether that is too much (docs/definitions/arrays.md).
 ghost use Rattle.std.specs.Prelude.{◌≡◌, ℕ, ◌+◌, ◌<◌, true, map, nat_lt};
 ghost use Rattle.std.specs.List.{list_any, range_with_len};
 ghost use Rattle.arrow_schema.specs.Column.{columns_of, PlainSchema};
@@ -7,9 +7,8 @@ ghost use Rattle.cells.specs.Weight.{capped_weight};
 ghost use Rattle.columns.specs.CellAt.{rows_in};
 ghost use Rattle.columns.specs.Sound.{are_sound};
 ghost use Rattle.columns.specs.View.{IsNoArray};
-ghost use Rattle.arrays.specs.Checks.{are_too_heavy};
 ghost use Rattle.arrays.specs.inner.Read.{placed_in};
-ghost use Rattle.arrays.specs.inner.Weights.{rows_weight};
+ghost use Rattle.arrays.specs.inner.Weights.{rows_weight, weight_within};
 
 use crate::batch_arrays::Placed;
 use crate::weights::parts_weight;
@@ -49,28 +48,29 @@ fn has_heavy_row(placed: Placed<'_>, rows: usize, none: &PlacedArray) -> bool
 }
 
 // The rows are looked at one by one only where all together weigh more than one may.
-fn are_heavy(before: u64, placed: Placed<'_>, rows: usize, none: &PlacedArray) -> bool
+fn weigh(before: u64, placed: Placed<'_>, rows: usize, none: &PlacedArray) -> Option<u64>
     requires empty { IsNoArray none.now }
     requires sound { are_sound (columns_of (map column_of placed.fields.now)) rows (placed_in placed) ≡ true }
     ensures { (s : PlainSchema) → s.columns ≡ map column_of placed.entry.fields.now
-        → result ≡ are_too_heavy s before (rows_in (columns_of s.columns) (placed_in placed.entry) rows) }
+        → result ≡ weight_within s before (rows_in (columns_of s.columns) (placed_in placed.entry) rows) }
 {
     let total = rows_weight(placed, 0, rows, none);
     if add_weights(before, total) > MAX_TABLE_WEIGHT {
-        return true;
+        return None;
     }
-    if total > MAX_ROW_WEIGHT {
-        return has_heavy_row(placed, rows, none);
+    if total > MAX_ROW_WEIGHT && has_heavy_row(placed, rows, none) {
+        return None;
     }
-    false
+    Some(total)
 }
 
-/// F28: one of so many rows weighs too much, or all of them do with the rows before them, which weigh so much. It makes no value for a cell.
-pub(crate) fn rows_too_heavy(before: u64, placed: Placed<'_>, rows: usize) -> bool
+/// What so many rows weigh. F28, which is None: one of them weighs too much, or all of them do with the rows before them, which weigh so much.
+/// It makes no value for a cell.
+pub(crate) fn weigh_rows(before: u64, placed: Placed<'_>, rows: usize) -> Option<u64>
     requires { are_sound (columns_of (map column_of placed.fields.now)) rows (placed_in placed) ≡ true }
     ensures { (s : PlainSchema) → s.columns ≡ map column_of placed.entry.fields.now
-        → result ≡ are_too_heavy s before (rows_in (columns_of s.columns) (placed_in placed.entry) rows) }
+        → result ≡ weight_within s before (rows_in (columns_of s.columns) (placed_in placed.entry) rows) }
 {
     let none = no_array();
-    are_heavy(before, placed, rows, &none)
+    weigh(before, placed, rows, &none)
 }

@@ -1,13 +1,14 @@
 //! Reading record batches: the arrays that the nodes and buffers of a batch are (Message.fbs, "RecordBatch").
 //!
-//! [`read`] answers the arrays of a record batch of any types, as places in the bytes that its body stands in, or the fault of the first check that finds
-//! something (docs/definitions/arrays.md). [`read_arrays`] makes the checks of the arrays alone: it looks at every array, hidden or not.
+//! [`read`] answers the arrays of a record batch of any types, as places in the bytes that its body stands in, and what its rows weigh; or the fault of the
+//! first check that finds something (docs/definitions/arrays.md). [`read_arrays`] makes the checks of the arrays alone: it looks at every array, hidden or not.
 //! [`read_dictionary`] answers the array of a dictionary batch in the same way.
 //! [`names_no_entry_in`], [`has_bad_text`] and [`has_forbidden_null`] are tests of what is visible: by spans of slots, without memory, and whatever stands
 //! in hidden slots. Nothing is copied.
 //!
 //! ```ignore
-//! let arrays = read(alloc, &schema, before, &batch, body, bytes, &dictionaries, &parts)?;
+//! let batch = read(alloc, &schema, before, &raw, body, bytes, &dictionaries, &parts)?;
+//! before += batch.weight;
 //! ```
 #![tactic(auto)]
 
@@ -28,7 +29,7 @@ mod tests;
 mod visible;
 mod weights;
 
-pub use batch::read;
+pub use batch::{PlacedBatch, read};
 pub use batch_arrays::read_arrays;
 pub use dictionary_batch::read_dictionary;
 pub use dictionary_columns::DictionaryColumns;

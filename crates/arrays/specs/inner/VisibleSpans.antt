@@ -3,9 +3,14 @@ use Rattle.std.specs.Prelude.{ℕ, Bool, true, false, ◌||◌, List, [], Option
 use Rattle.std.specs.List.{list_any, flat_map, range_with_len}
 use Rattle.arrow_schema.specs.Column.{Kind, Column, Columns, nulls, texts, large_texts, column, no_column, and_column}
 use Rattle.arrow_schema.specs.Limits.{is_nested}
+use Rattle.arrow_schema.specs.View.{kind_of, index_of}
+use Rattle.arrow_schema.specs.declared.types.DataType.{DataType}
+use Rattle.arrow_schema.specs.declared.types.DictSpec.{DictSpec}
 use Rattle.columns.specs.Array.{Array, Arrays, first_array, other_arrays}
-use Rattle.columns.specs.CellAt.{is_valid, cell_at}
-use Rattle.columns.specs.Visible.{Slot, slot, visible, visible_below, names_no_entry, is_bad_text, is_forbidden}
+use Rattle.columns.specs.CellAt.{is_valid, cell_at, indexed_cell, unless_null}
+use Rattle.columns.specs.View.{view_array}
+use Rattle.columns.specs.declared.view.ArrayView.{ArrayView}
+use Rattle.columns.specs.Visible.{Slot, slot, visible, visible_below, names_no_entry, is_bad_text, is_forbidden, is_null}
 use Rattle.arrays.specs.declared.visible.slot_test.SlotTest.{SlotTest}
 use Rattle.arrays.specs.declared.visible.slot_test.SlotTest.TheVariants.{NoEntry, NotUtf8, Forbidden}
 
@@ -21,6 +26,10 @@ abbrev pub finds : SlotTest → Slot → Bool
 finds NoEntry = names_no_entry
 finds NotUtf8 = is_no_plain_text
 finds Forbidden = is_forbidden
+
+-- a slot of a column with a dictionary: it is not valid, or its entry is a null
+abbrev pub has_no_value : DictSpec → DataType → ArrayView → ℕ → Bool
+has_no_value spec data_type view i = is_null (unless_null (indexed_cell (index_of spec) (kind_of data_type)) (view_array view) i)
 
 -- ---- spans
 

@@ -1,10 +1,12 @@
 -- What spans of slots weigh.
-use Rattle.std.specs.Prelude.{ℕ, ◌+◌, Bool, true, false, map, sum_by}
+use Rattle.std.specs.Prelude.{ℕ, ◌+◌, Bool, true, false, List, map, sum_by, Option, Some, None, if◌then◌else◌}
 use Rattle.std.specs.List.{range_with_len}
-use Rattle.arrow_schema.specs.Column.{Kind, Column, Columns, nulls, booleans, integers, dates, timestamps, texts, large_texts, binaries, large_binaries, fixed_binaries, lists, large_lists, fixed_lists, structs, no_column, and_column}
-use Rattle.cells.specs.Weight.{weight, kind_weight}
+use Rattle.arrow_schema.specs.Column.{PlainSchema, Kind, Column, Columns, nulls, booleans, integers, dates, timestamps, texts, large_texts, binaries, large_binaries, fixed_binaries, lists, large_lists, fixed_lists, structs, no_column, and_column}
+use Rattle.cells.specs.Cell.{Cell}
+use Rattle.cells.specs.Weight.{weight, kind_weight, table_weight}
 use Rattle.columns.specs.Array.{Array, Arrays, first_array, other_arrays}
 use Rattle.columns.specs.CellAt.{cell_at, kind_cell, unless_null}
+use Rattle.arrays.specs.Checks.{are_too_heavy}
 
 -- the sum over n places, from one on
 abbrev pub sum_from : {X : Type 0} → (X → ℕ) → (ℕ → X) → (start n : ℕ) → ℕ
@@ -47,3 +49,7 @@ has_one_weight (structs columns) = false
 -- so many rows, from one on: one each, and their cells
 abbrev pub rows_weight : Columns → Arrays → (start n : ℕ) → ℕ
 rows_weight columns arrays start n = n + parts_span_weight columns arrays start n
+
+-- what rows weigh after those before them, unless that is too much
+abbrev pub weight_within : PlainSchema → (before : ℕ) → List (List Cell) → Option ℕ
+weight_within s before rows = if are_too_heavy s before rows then None else Some (table_weight s rows)

@@ -1,5 +1,5 @@
 // Indices that name no entry.
-ghost use Rattle.std.specs.Prelude.{◌≡◌, ◌≤◌, ◌<◌, ◌+◌, ◌/◌, ◌&&◌, true, false};
+ghost use Rattle.std.specs.Prelude.{◌≡◌, ℕ, Bool, ◌≤◌, ◌<◌, ◌+◌, ◌/◌, ◌&&◌, true, false};
 ghost use Rattle.std.specs.List.{list_any, range_with_len};
 ghost use Rattle.arrow_schema.specs.Column.{Kind};
 ghost use Rattle.arrow_schema.specs.View.{column_of, index_of};
@@ -30,7 +30,8 @@ fn any_past(spec: DictSpec, view: ArrayView<'_>, from: usize, count: usize) -> b
     requires long { are_few ((index_of spec).bits / 8) (view_array view) (indices_in (view_array view)) ≡ false }
     requires within { from + count ≤ slots_in (view_array view) }
     ensures { let a = view_array view.entry in (kind : Kind)
-        → result ≡ list_any (λ i. is_valid a i && is_past (index_at (index_of spec) a i) (entries_of_kind kind (dictionary_in a))) (range_with_len from count) }
+        → let past : ℕ → Bool = λ i. is_valid a i && is_past (index_at (index_of spec) a i) (entries_of_kind kind (dictionary_in a)) in
+        result ≡ list_any past (range_with_len from count) }
 {
     // a number of the code is below 2^64, so that the end is too
     let _slots = view.slots();

@@ -3,12 +3,12 @@ ghost use Rattle.std.specs.Prelude.{◌≡◌, ◌≤◌, ◌<◌, ◌+◌, ◌/
 ghost use Rattle.std.specs.List.{list_all, list_any, range_with_len};
 ghost use Rattle.arrow_schema.specs.View.{column_of, index_of, kind_of};
 ghost use Rattle.columns.specs.Array.{slots_in, indices_in, dictionary_in, array_list};
-ghost use Rattle.columns.specs.CellAt.{is_valid, indexed_cell, kind_cell, unless_null};
+ghost use Rattle.columns.specs.CellAt.{is_valid, kind_cell, unless_null};
 ghost use Rattle.columns.specs.Sound.{is_sound, is_kind_sound};
 ghost use Rattle.columns.specs.Tests.{are_few, has_short_validity};
 ghost use Rattle.columns.specs.View.{view_array};
 ghost use Rattle.columns.specs.Visible.{is_forbidden, is_null};
-ghost use Rattle.arrays.specs.inner.VisibleSpans.{any_slot, is_of_nulls};
+ghost use Rattle.arrays.specs.inner.VisibleSpans.{any_slot, is_of_nulls, has_no_value};
 
 use arrow_schema::{DataType, DictSpec, Field};
 use columns::{ArrayView, indexed_entry};
@@ -48,7 +48,7 @@ fn is_entry_null(spec: DictSpec, data_type: &DataType, view: ArrayView<'_>, i: u
     requires long { are_few ((index_of spec).bits / 8) (view_array view) (indices_in (view_array view)) ≡ false }
     requires sound { list_all (is_kind_sound (kind_of data_type.now)) (array_list (dictionary_in (view_array view))) ≡ true }
     requires within { i < slots_in (view_array view) }
-    ensures { result ≡ is_null (unless_null (indexed_cell (index_of spec) (kind_of data_type.now)) (view_array view.entry) i) }
+    ensures { result ≡ has_no_value spec data_type.now view.entry i }
 {
     if !view.is_valid(i) {
         return true;
@@ -70,7 +70,7 @@ fn any_null_entry(
     requires long { are_few ((index_of spec).bits / 8) (view_array view) (indices_in (view_array view)) ≡ false }
     requires sound { list_all (is_kind_sound (kind_of data_type.now)) (array_list (dictionary_in (view_array view))) ≡ true }
     requires within { from + count ≤ slots_in (view_array view) }
-    ensures { result ≡ list_any (λ i. is_null (unless_null (indexed_cell (index_of spec) (kind_of data_type.now)) (view_array view.entry) i)) (range_with_len from count) }
+    ensures { result ≡ list_any (has_no_value spec data_type.now view.entry) (range_with_len from count) }
 {
     // a number of the code is below 2^64, so that the end is too
     let _slots = view.slots();

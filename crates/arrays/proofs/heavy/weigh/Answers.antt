@@ -4,26 +4,29 @@ use Rattle.arrow_schema.specs.Column.{Column, columns_of}
 use Rattle.cells.specs.declared.limits.TheConstants.{MAX_ROW_WEIGHT, MAX_TABLE_WEIGHT}
 use Rattle.cells.specs.Weight.{capped_weight}
 use Rattle.columns.specs.Array.{Arrays}
+use Rattle.columns.specs.CellAt.{rows_in}
 use Rattle.arrays.specs.inner.Read.{placed_in}
 use Rattle.arrays.specs.inner.Weights.{rows_weight}
-use Rattle.arrays.proofs.RowWeights.{is_heavy, heavy_together, heavy_alone, light_alone}
-use Rattle.arrays.proofs.heavy.are_heavy.Goals as goal
+use Rattle.arrays.proofs.RowWeights.{is_heavy, heavy_together, heavy_alone, light_alone, none_within, some_within}
+use Rattle.arrays.proofs.heavy.weigh.Goals.{else-total-gt-MAX_ROW_WEIGHT-via-then-total-gt-MAX_ROW_WEIGHT+else-has_heavy_row, else-total-gt-MAX_ROW_WEIGHT-via-else-total-gt-MAX_ROW_WEIGHT}
+use Rattle.arrays.proofs.heavy.weigh.Goals as goal
 
 pub returns-then-add_weights-gt-MAX_TABLE_WEIGHT : goal.returns-then-add_weights-gt-MAX_TABLE_WEIGHT
 returns-then-add_weights-gt-MAX_TABLE_WEIGHT c = λ s same.
     let arrays : Arrays = placed_in c.args.placed in
     let w : c.rows_weight-total.result ≡ capped_weight (rows_weight (columns_of s.columns) arrays 0 c.args.rows)
     = c.rows_weight-total.ensures ∙ ap (λ (cs : List Column). capped_weight (rows_weight (columns_of cs) arrays 0 c.args.rows)) (sym same) in
-    sym (heavy_together s c.args.before arrays c.args.rows (omega (arith, w, c.add_weights.ensures, c.if-add_weights-gt-MAX_TABLE_WEIGHT.true)))
+    none_within s c.args.before (rows_in (columns_of s.columns) arrays c.args.rows)
+    (heavy_together s c.args.before arrays c.args.rows (omega (arith, w, c.add_weights.ensures, c.if-add_weights-gt-MAX_TABLE_WEIGHT.true)))
 
-pub returns-then-total-gt-MAX_ROW_WEIGHT : goal.returns-then-total-gt-MAX_ROW_WEIGHT
-returns-then-total-gt-MAX_ROW_WEIGHT c = λ s same.
+pub returns-then-has_heavy_row : goal.returns-then-has_heavy_row
+returns-then-has_heavy_row c = λ s same.
     let arrays : Arrays = placed_in c.args.placed in
     let w : c.rows_weight-total.result ≡ capped_weight (rows_weight (columns_of s.columns) arrays 0 c.args.rows)
     = c.rows_weight-total.ensures ∙ ap (λ (cs : List Column). capped_weight (rows_weight (columns_of cs) arrays 0 c.args.rows)) (sym same) in
     let within : c.args.before + rows_weight (columns_of s.columns) arrays 0 c.args.rows ≤ MAX_TABLE_WEIGHT = omega (arith, w, c.add_weights.ensures, c.if-add_weights-gt-MAX_TABLE_WEIGHT.false) in
-    c.has_heavy_row.ensures ∙ ap (λ (cs : List Column). list_any (is_heavy (columns_of cs) arrays) (range_with_len 0 c.args.rows)) (sym same)
-    ∙ sym (heavy_alone s c.args.before arrays c.args.rows within)
+    let found = c.if-has_heavy_row.ensures ∙ ap (λ (cs : List Column). list_any (is_heavy (columns_of cs) arrays) (range_with_len 0 c.args.rows)) (sym same) in
+    none_within s c.args.before (rows_in (columns_of s.columns) arrays c.args.rows) (heavy_alone s c.args.before arrays c.args.rows within ∙ sym found)
 
 pub returns : goal.returns
 returns c = λ s same.
@@ -31,5 +34,12 @@ returns c = λ s same.
     let w : c.rows_weight-total.result ≡ capped_weight (rows_weight (columns_of s.columns) arrays 0 c.args.rows)
     = c.rows_weight-total.ensures ∙ ap (λ (cs : List Column). capped_weight (rows_weight (columns_of cs) arrays 0 c.args.rows)) (sym same) in
     let within : c.args.before + rows_weight (columns_of s.columns) arrays 0 c.args.rows ≤ MAX_TABLE_WEIGHT = omega (arith, w, c.add_weights.ensures, c.if-add_weights-gt-MAX_TABLE_WEIGHT.false) in
-    let light : rows_weight (columns_of s.columns) arrays 0 c.args.rows ≤ MAX_ROW_WEIGHT = omega (arith, w, c.if-total-gt-MAX_ROW_WEIGHT.false) in
-    sym (light_alone s c.args.before arrays c.args.rows within light)
+    let exact : c.rows_weight-total.result ≡ rows_weight (columns_of s.columns) arrays 0 c.args.rows = omega (arith, w, within) in
+    elim c.else-total-gt-MAX_ROW_WEIGHT.branch [
+      | else-total-gt-MAX_ROW_WEIGHT-via-then-total-gt-MAX_ROW_WEIGHT+else-has_heavy_row b ↦
+          (let found = b.if-has_heavy_row.ensures ∙ ap (λ (cs : List Column). list_any (is_heavy (columns_of cs) arrays) (range_with_len 0 c.args.rows)) (sym same) in
+          some_within s c.args.before arrays c.args.rows _ (heavy_alone s c.args.before arrays c.args.rows within ∙ sym found) exact)
+      | else-total-gt-MAX_ROW_WEIGHT-via-else-total-gt-MAX_ROW_WEIGHT b ↦
+          (let light : rows_weight (columns_of s.columns) arrays 0 c.args.rows ≤ MAX_ROW_WEIGHT = omega (arith, exact, b.if-total-gt-MAX_ROW_WEIGHT.false) in
+          some_within s c.args.before arrays c.args.rows _ (light_alone s c.args.before arrays c.args.rows within light) exact)
+    ]
