@@ -33,7 +33,7 @@ use Rattle.tables.specs.Tables.{Tables, AreTables, table_at, with_table}
 use Rattle.tables.specs.Verdict.{too_many_bytes, other_shape, unfit_row, too_heavy, of_table, of_meaning, appended, appended_table, appended_stream, verdict}
 use Rattle.store.specs.Applying.{TellsTable, Lists, Decides}
 use Rattle.store.specs.Changes.{extend, rows_under, stream_rows}
-use Rattle.store.specs.inner.Tests.{heavy_in}
+use Rattle.store.specs.Deciding.{heavy_in}
 use Rattle.store.proofs.Tested.{refuses}
 
 -- ---- the table of an entry

@@ -3,6 +3,7 @@ mod Formatted
 mod Asked
 mod EditedCounts
 mod Tested
+mod Decided
 mod Prepared
 mod Carried
 mod Integers

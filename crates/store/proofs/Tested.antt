@@ -36,7 +36,7 @@ use Rattle.tables.specs.Verdict.{put as tables_put}
 use Rattle.tables.specs.Verdict.{bad_name, name_taken, too_many_tables, too_many_bytes, of_table, of_meaning, empty_table, renamed, dropped, verdict}
 use Rattle.tables.specs.laws.Steps.{told_by_tables}
 use Rattle.store.specs.Applying.{TellsTable, Lists, RefusesFirst, Decides}
-use Rattle.store.specs.inner.Tests.{has_entry, missing_in, taken_in, full_in, create_tests, import_tests, rename_tests}
+use Rattle.store.specs.Deciding.{has_entry, missing_in, taken_in, full_in, create_tests, import_tests, rename_tests}
 
 -- ---- what the tables have
 

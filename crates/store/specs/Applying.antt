@@ -3,6 +3,7 @@ use Rattle.std.specs.Prelude.{◌≡◌, ◌<◌, ◌≤◌, ◌-◌, ◌^◌, �
 use Rattle.sector_dev.specs.Disk.{Story}
 use Rattle.sector_dev.specs.declared.device.SectorDevice.{Ghosts}
 use Rattle.segments.specs.Sectors.{sector_count}
+use Rattle.segments.specs.Usages.{IsUsedIn, SameUsages}
 use Rattle.segments.specs.declared.run.Run.{Run}
 use Rattle.cells.specs.Cell.{PlainTable}
 use Rattle.catalogue.specs.declared.limits.TheConstants.{MAX_SEGMENTS}
@@ -24,7 +25,8 @@ use Rattle.store.specs.declared.store.Store.{Store}
 use Rattle.store.specs.Calls.{PlainCall, PlainReply, done, refused}
 use Rattle.store.specs.Machine.{Machine}
 use Rattle.store.specs.Runs.{Goes}
-use Rattle.store.specs.Fits.{setting_of, StoreFits}
+use Rattle.store.specs.Fits.{setting_of, StoreFits, device_of, commit_of, listed_in}
+use Rattle.store.specs.Deciding.{IsAnswered}
 use Rattle.store.specs.Changes.{PlainChange, edited, placed_segments, MakesOf}
 
 -- ---- deciding
@@ -86,6 +88,22 @@ IsCarried size used k c change (Err (refusals.NoRoom count)) k' c' =
 IsCarried size used k c change (Err refusals.Device) k' c' = Unit {0}
 IsCarried size used k c change (Err refusals.OutOfMemory) k' c' = Unit {0}
 IsCarried size used k c change (Err _) k' c' = ⊥
+
+-- how a decision ends on a store: a change is carried out, and a refusal is told
+abbrev pub EndsAs : {D : Type 0} {g : Ghosts D} → (size : D → ℕ) → (old : Store D g) → Result PlainChange Refusal → Result (Unit {0}) Refusal → (new : Store D g) → Type 0
+EndsAs size old (Ok change) result new =
+    IsCarried (size (device_of old)) (IsUsedIn old.opened.map.entries) (commit_of old) (listed_in old) change result (commit_of new) (listed_in new)
+EndsAs size old (Err r) result new = result ≡ Err r
+
+-- a command of a store that is not halted: what is decided by its catalogue, and how that ends
+pub record IsApplied {D : Type 0} {g : Ghosts D} (size : D → ℕ) (old : Store D g) (command : PlainCommand) (result : Result (Unit {0}) Refusal) (new : Store D g) : Type 0 where
+  pub decision : Result PlainChange Refusal
+  pub decides : IsAnswered (listed_in old) command decision
+  pub ends : EndsAs size old decision result new
+
+-- what a refusal leaves as it was: the commit, the catalogue and what each run is in use for
+abbrev pub IsKept : {D : Type 0} {g : Ghosts D} → (old new : Store D g) → Type 0
+IsKept old new = (commit_of new ≡ commit_of old) × (listed_in new ≡ listed_in old) × SameUsages old.opened.map.entries new.opened.map.entries
 
 -- ---- what a call leaves
 

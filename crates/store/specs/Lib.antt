@@ -8,6 +8,7 @@ pub mod History
 pub mod Held
 pub mod Fits
 pub mod Changes
+pub mod Deciding
 pub mod Applying
 pub mod Listing
 pub mod Places

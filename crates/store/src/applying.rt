@@ -9,6 +9,7 @@ ghost use Rattle.store.specs.Calls.{is_failure};
 ghost use Rattle.store.specs.Held.{tables_held};
 ghost use Rattle.store.specs.Changes.{change_of, IsChange};
 ghost use Rattle.store.specs.Applying.{Decides};
+ghost use Rattle.store.specs.Deciding.{IsAnswered};
 ghost use Rattle.store.specs.inner.Tests.{decision_of};
 
 use crate::Store;
@@ -27,6 +28,7 @@ fn decide(alloc: Global, catalogue: &Catalogue, command: Command) -> Result<Chan
     requires { AreRead (catalogue_of catalogue.now) }
     ensures ok { IfOk result (λ change. IsChange (catalogue_of catalogue.now) (change_of change)) }
     ensures no_device { IfErr result (λ e. is_failure e ≡ false) }
+    ensures answers { IsAnswered (catalogue_of catalogue.now) (command_of command) (decision_of result) }
     ensures decides { (image : Image) (t : Tables) → tables_held image (catalogue_of catalogue.now) ≡ Some t
         → Decides t (command_of command) (decision_of result) }
 {
@@ -44,11 +46,12 @@ fn decide(alloc: Global, catalogue: &Catalogue, command: Command) -> Result<Chan
 }
 
 impl<D: SectorDevice> Store<D> {
-    ghost use Rattle.std.specs.Prelude.{true};
+    ghost use Rattle.std.specs.Prelude.{◌≢◌, ◌↔◌, true, Err};
     ghost use Rattle.store.specs.Calls.{apply_call};
     ghost use Rattle.store.specs.Machine.{Machine};
-    ghost use Rattle.store.specs.Fits.{StoreFits};
-    ghost use Rattle.store.specs.Applying.{GoesOn, reply_of};
+    ghost use Rattle.store.specs.Runs.{counted};
+    ghost use Rattle.store.specs.Fits.{StoreFits, device_of, is_halted};
+    ghost use Rattle.store.specs.Applying.{GoesOn, reply_of, IsApplied, IsKept};
 
     /// Does what a command asks for, or refuses it. After Ok it is safe: each later stop leaves it.
     ///
@@ -57,8 +60,17 @@ impl<D: SectorDevice> Store<D> {
     /// `Device` the store is halted, and whether the command is done is known once the device was opened again; `Halted` before all else
     /// where it is halted; `OutOfMemory`. After any but `Device` nothing has changed.
     pub fn apply(&mut self, alloc: Global, command: Command) -> Result<(), Refusal>
+        // On a store that stands for a machine: it does what the command does to the tables of the settled commands, or is refused as they say.
         ensures goes { D.tells ≡ true → (base : Tables) (m : Machine) → StoreFits D.size D.story base m self.old
             → GoesOn D.size D.story D.failed base m (apply_call (command_of command)) (reply_of result) self.old self.new }
+        // On any store and any device: what its catalogue decides of the command is carried out or told; each refusal has its one reason.
+        ensures applied { is_halted self.old ≡ false → IsApplied D.size self.old (command_of command) result self.new }
+        ensures refused { IfErr result (λ e. IsKept self.old self.new) }
+        ensures quiet { IfErr result (λ e. e ≢ Refusal.Device → D.story (device_of self.new) ≡ D.story (device_of self.old)) }
+        ensures halted { is_halted self.old ≡ true → (result ≡ Err Refusal.Halted) × (self.new ≡ self.old) }
+        ensures halts { is_halted self.old ≡ false → (is_halted self.new ≡ true) ↔ (result ≡ Err Refusal.Device) }
+        ensures size { D.size (device_of self.new) ≡ D.size (device_of self.old) }
+        ensures count { D.failed (device_of self.new) ≡ counted (reply_of result) (D.failed (device_of self.old)) }
     {
         if self.halted {
             return Err(Refusal::Halted);

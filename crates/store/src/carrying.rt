@@ -203,7 +203,7 @@ impl<D: SectorDevice> Store<D> {
     ghost use Rattle.store.specs.Runs.{counted};
     ghost use Rattle.store.specs.Fits.{StoreFits, device_of, listed_in, setting_of};
     ghost use Rattle.store.specs.Changes.{MakesOf};
-    ghost use Rattle.store.specs.Applying.{GoesOn, reply_of};
+    ghost use Rattle.store.specs.Applying.{GoesOn, reply_of, EndsAs, IsKept};
 
     /// Carries out a change of the catalogue: takes runs, writes the new segments and the new catalogue, and publishes them.
     ///
@@ -214,11 +214,9 @@ impl<D: SectorDevice> Store<D> {
         requires on { self.old.halted ≡ false }
         ensures size { D.size (device_of self.new) ≡ D.size (device_of self.old) }
         ensures count { D.failed (device_of self.new) ≡ counted (reply_of result) (D.failed (device_of self.old)) }
-        ensures carried { IsCarried (D.size (device_of self.old)) (IsUsedIn self.old.opened.map.entries) self.old.opened.commit (listed_in self.old)
-            (change_of change) result self.new.opened.commit (listed_in self.new) }
+        ensures carried { EndsAs D.size self.old (Ok (change_of change)) result self.new }
         ensures halts { (self.new.halted ≡ true) ↔ (result ≡ Err Refusal.Device) }
-        ensures kept { IfErr result (λ e. (self.new.opened.commit ≡ self.old.opened.commit) × (listed_in self.new ≡ listed_in self.old)
-            × SameUsages self.old.opened.map.entries self.new.opened.map.entries) }
+        ensures kept { IfErr result (λ e. IsKept self.old self.new) }
         ensures quiet { IfErr result (λ e. e ≢ Refusal.Device → D.story (device_of self.new) ≡ D.story (device_of self.old)) }
         // On a store whose tables the machine knows, where the change makes what a command makes: the machine goes on by the command.
         ensures goes { D.tells ≡ true → (base : Tables) (m : Machine) (c : PlainCommand) (new : Tables)

@@ -9,7 +9,8 @@ ghost use Rattle.tables.specs.Verdict.{bad_name, too_many_bytes, other_shape};
 ghost use Rattle.store.specs.Calls.{is_failure};
 ghost use Rattle.store.specs.Applying.{Lists, Decides};
 ghost use Rattle.store.specs.Changes.{change_of, edit_of, IsChange};
-ghost use Rattle.store.specs.inner.Tests.{Tests, has_entry, missing_in, taken_in, full_in, heavy_in, create_tests, import_tests, rename_tests, decision_of};
+ghost use Rattle.store.specs.Deciding.{IsAnswered, has_entry, missing_in, taken_in, full_in, heavy_in, create_tests, import_tests, rename_tests};
+ghost use Rattle.store.specs.inner.Tests.{Tests, decision_of};
 
 use crate::change::{Change, Edit};
 use arrow_schema::{Schema, one_shape_is_decided, same_shape};
@@ -152,6 +153,7 @@ pub(crate) fn decide_create(
 ) -> Result<Change, Refusal>
     ensures ok { IfOk result (λ change. IsChange (catalogue_of catalogue.now) (change_of change)) }
     ensures no_device { IfErr result (λ e. is_failure e ≡ false) }
+    ensures answers { IsAnswered (catalogue_of catalogue.now) (create (string_bytes new.name) (schema_of new.schema)) (decision_of result) }
     ensures decides { (t : Tables) → Lists (catalogue_of catalogue.now) t
         → Decides t (create (string_bytes new.name) (schema_of new.schema)) (decision_of result) }
 {
@@ -170,6 +172,7 @@ pub(crate) fn decide_import(
 ) -> Result<Change, Refusal>
     ensures ok { IfOk result (λ change. IsChange (catalogue_of catalogue.now) (change_of change)) }
     ensures no_device { IfErr result (λ e. is_failure e ≡ false) }
+    ensures answers { IsAnswered (catalogue_of catalogue.now) (import_stream (string_bytes name) bytes.now) (decision_of result) }
     ensures decides { (t : Tables) → Lists (catalogue_of catalogue.now) t
         → Decides t (import_stream (string_bytes name) bytes.now) (decision_of result) }
 {
@@ -198,6 +201,7 @@ pub(crate) fn decide_rename(
 ) -> Result<Change, Refusal>
     ensures ok { IfOk result (λ change. IsChange (catalogue_of catalogue.now) (change_of change)) }
     ensures no_device { IfErr result (λ e. is_failure e ≡ false) }
+    ensures answers { IsAnswered (catalogue_of catalogue.now) (rename (string_bytes from) (string_bytes to)) (decision_of result) }
     ensures decides { (t : Tables) → Lists (catalogue_of catalogue.now) t
         → Decides t (rename (string_bytes from) (string_bytes to)) (decision_of result) }
 {
@@ -213,6 +217,7 @@ pub(crate) fn decide_drop(
 ) -> Result<Change, Refusal>
     ensures ok { IfOk result (λ change. IsChange (catalogue_of catalogue.now) (change_of change)) }
     ensures no_device { IfErr result (λ e. is_failure e ≡ false) }
+    ensures answers { IsAnswered (catalogue_of catalogue.now) (drop_table (string_bytes name)) (decision_of result) }
     ensures decides { (t : Tables) → Lists (catalogue_of catalogue.now) t → Decides t (drop_table (string_bytes name)) (decision_of result) }
 {
     test_there(catalogue, &name)?;
@@ -229,6 +234,7 @@ pub(crate) fn decide_append_stream(
     requires { AreRead (catalogue_of catalogue.now) }
     ensures ok { IfOk result (λ change. IsChange (catalogue_of catalogue.now) (change_of change)) }
     ensures no_device { IfErr result (λ e. is_failure e ≡ false) }
+    ensures answers { IsAnswered (catalogue_of catalogue.now) (append_stream (string_bytes name) stream.now) (decision_of result) }
     ensures decides { (t : Tables) → Lists (catalogue_of catalogue.now) t → AreTables t
         → Decides t (append_stream (string_bytes name) stream.now) (decision_of result) }
 {

@@ -1,4 +1,4 @@
-use Rattle.std.proofs.Common.{◌≡◌, ◌<◌, ◌^◌, ℕ, true, List, length, Some, None, Ok, ap, sym, ◌∙◌, subst, string_bytes}
+use Rattle.std.proofs.Common.{◌≡◌, ◌<◌, ◌^◌, ℕ, true, List, length, Some, None, Ok, refl, ap, sym, ◌∙◌, subst, string_bytes}
 use Rattle.std.specs.List.{AllByRecursion}
 use Rattle.std.proofs.lemmas.Result.{err_from_is_err_and}
 use Rattle.arrow_schema.specs.Column.{PlainSchema}
@@ -18,10 +18,11 @@ use Rattle.tables.specs.Verdict.{other_shape}
 use Rattle.store.specs.Applying.{Decides}
 use Rattle.store.specs.declared.change.Edit.TheVariants as edits
 use Rattle.store.specs.Changes.{PlainChange, extend, change_of, IsChange, rows_under, stream_rows}
-use Rattle.store.specs.inner.Tests.{heavy_in}
+use Rattle.store.specs.Deciding.{heavy_in, IsAnswered}
 use Rattle.store.specs.laws.Pieces.{pieces_held, pieces_each, pieces_some, pieces_few}
 use Rattle.store.proofs.Integers.{one_schema}
 use Rattle.store.proofs.Appended.{HasTable, has_table, WeightLaws, stream_missing, stream_long, stream_failed, stream_apart, stream_heavy, stream_decided, found_in, entry_integers, one_shape, same_table, new_rows}
+use Rattle.store.proofs.Decided.{none_answers, append_answers, append_failed, rows_answers}
 use Rattle.store.proofs.deciding.decide_append_stream.Goals as goal
 
 pub returns-in_default-clause-decides : goal.returns-in_default-clause-decides
@@ -138,3 +139,58 @@ returns-clause-decides c = λ t lists tables.
     subst (λ (x : PlainChange). Decides t (append_stream name c.args.stream.now) (Ok x)) (sym change)
     (stream_decided t name c.args.stream.now e has table.rows (piece_streams table) (piece_counts table) (new_rows e table laws same sound) c.in_ok-test_bytes.ensures means
     (ap (other_shape e.schema) same ∙ shape) (ap (heavy_in e) (sym c.len.ensures) ∙ c.in_ok-test_weight.ensures) held)
+
+pub returns-in_default-clause-answers : goal.returns-in_default-clause-answers
+returns-in_default-clause-answers c =
+    let listed : PlainCatalogue = catalogue_of c.args.catalogue.now in
+    let none : entry_of listed (string_bytes c.args.name) ≡ None = ap (entry_of listed) (sym c.deref.ensures) ∙ sym c.in_default.ensures.entry in
+    none_answers listed (string_bytes c.args.name) c.args.stream.now none
+
+pub returns-in_err-test_bytes-clause-answers : goal.returns-in_err-test_bytes-clause-answers
+returns-in_err-test_bytes-clause-answers c =
+    let listed : PlainCatalogue = catalogue_of c.args.catalogue.now in
+    let e : PlainEntry = plain_entry c.in-Some.entry.now in
+    let there : entry_of listed (string_bytes c.args.name) ≡ Some e = ap (entry_of listed) (sym c.deref.ensures) ∙ sym c.in-Some.ensures.entry in
+    let p = err_from_is_err_and c.from_residual.result c.from_residual.ensures.1 in
+    rw (p.1, p.2) (append_answers listed (string_bytes c.args.name) c.args.stream.now e there _ _ c.in_err-test_bytes.ensures refl)
+
+pub returns-in_err-new-clause-answers : goal.returns-in_err-new-clause-answers
+returns-in_err-new-clause-answers c =
+    let listed : PlainCatalogue = catalogue_of c.args.catalogue.now in
+    let e : PlainEntry = plain_entry c.in-Some.entry.now in
+    let there : entry_of listed (string_bytes c.args.name) ≡ Some e = ap (entry_of listed) (sym c.deref.ensures) ∙ sym c.in-Some.ensures.entry in
+    let p = err_from_is_err_and c.from_residual-in_err-new.result c.from_residual-in_err-new.ensures.1 in
+    rw (p.1, p.2) (append_failed listed (string_bytes c.args.name) c.args.stream.now e there _ c.in_ok-test_bytes.ensures c.in_err-new.ensures.exact)
+
+pub returns-in_err-test_shape-clause-answers : goal.returns-in_err-test_shape-clause-answers
+returns-in_err-test_shape-clause-answers c =
+    let listed : PlainCatalogue = catalogue_of c.args.catalogue.now in
+    let e : PlainEntry = plain_entry c.in-Some.entry.now in
+    let there : entry_of listed (string_bytes c.args.name) ≡ Some e = ap (entry_of listed) (sym c.deref.ensures) ∙ sym c.in-Some.ensures.entry in
+    let p = err_from_is_err_and c.from_residual-in_err-test_shape.result c.from_residual-in_err-test_shape.ensures.1 in
+    rw (p.1, p.2)
+    (rows_answers listed (string_bytes c.args.name) c.args.stream.now e there (table_of c.in_ok-new.new) _ _ c.in_ok-test_bytes.ensures c.in_ok-new.ensures.exact
+    (ap (other_shape e.schema) (sym c.schema.ensures.schema) ∙ c.in_err-test_shape.ensures) refl)
+
+pub returns-in_err-test_weight-clause-answers : goal.returns-in_err-test_weight-clause-answers
+returns-in_err-test_weight-clause-answers c =
+    let listed : PlainCatalogue = catalogue_of c.args.catalogue.now in
+    let e : PlainEntry = plain_entry c.in-Some.entry.now in
+    let there : entry_of listed (string_bytes c.args.name) ≡ Some e = ap (entry_of listed) (sym c.deref.ensures) ∙ sym c.in-Some.ensures.entry in
+    let p = err_from_is_err_and c.from_residual-in_err-test_weight.result c.from_residual-in_err-test_weight.ensures.1 in
+    rw (p.1, p.2)
+    (rows_answers listed (string_bytes c.args.name) c.args.stream.now e there (table_of c.in_ok-new.new) _ _ c.in_ok-test_bytes.ensures c.in_ok-new.ensures.exact
+    (ap (other_shape e.schema) (sym c.schema.ensures.schema) ∙ c.in_ok-test_shape.ensures) (ap (heavy_in e) (sym c.len.ensures) ∙ c.in_err-test_weight.ensures))
+
+pub returns-clause-answers : goal.returns-clause-answers
+returns-clause-answers c =
+    let listed : PlainCatalogue = catalogue_of c.args.catalogue.now in
+    let e : PlainEntry = plain_entry c.in-Some.entry.now in
+    let there : entry_of listed (string_bytes c.args.name) ≡ Some e = ap (entry_of listed) (sym c.deref.ensures) ∙ sym c.in-Some.ensures.entry in
+    let table : PlainTable = table_of c.in_ok-new.new in
+    let change : change_of (record { edit = edits.Extend c.args.name; streams = c.in_ok-pieces.pieces.streams; rows = c.in_ok-pieces.pieces.rows })
+    ≡ record { edit = extend (string_bytes c.args.name); streams = piece_streams table; counts = piece_counts table } =
+    λ i. record { edit = extend (string_bytes c.args.name); streams = c.in_ok-pieces.ensures.streams i; counts = c.in_ok-pieces.ensures.rows i } in
+    subst (λ (x : PlainChange). IsAnswered listed (append_stream (string_bytes c.args.name) c.args.stream.now) (Ok x)) (sym change)
+    (rows_answers listed (string_bytes c.args.name) c.args.stream.now e there table _ _ c.in_ok-test_bytes.ensures c.in_ok-new.ensures.exact
+    (ap (other_shape e.schema) (sym c.schema.ensures.schema) ∙ c.in_ok-test_shape.ensures) (ap (heavy_in e) (sym c.len.ensures) ∙ c.in_ok-test_weight.ensures))

@@ -4,8 +4,9 @@ use Rattle.catalogue.specs.View.{catalogue_of}
 use Rattle.tables.specs.Commands.{drop_table}
 use Rattle.store.specs.Applying.{Decides}
 use Rattle.store.specs.Changes.{PlainChange, IsChange}
-use Rattle.store.specs.inner.Tests.{missing_in}
+use Rattle.store.specs.Deciding.{missing_in, IsAnswered}
 use Rattle.store.proofs.Tested.{drop_refused, drop_is_change, drop_decided}
+use Rattle.store.proofs.Decided.{drop_answers}
 use Rattle.store.proofs.deciding.decide_drop.Goals as goal
 
 pub returns-in_err-test_there-clause-decides : goal.returns-in_err-test_there-clause-decides
@@ -25,4 +26,17 @@ pub returns-clause-decides : goal.returns-clause-decides
 returns-clause-decides c = λ t lists.
     subst (λ (x : PlainChange). Decides t (drop_table (string_bytes c.args.name)) (Ok x)) (sym c.change_of_names.ensures)
     (drop_decided (catalogue_of c.args.catalogue.now) t (string_bytes c.args.name) lists
+    (sym (ap (missing_in (catalogue_of c.args.catalogue.now)) c.deref.ensures) ∙ c.in_ok-test_there.ensures))
+
+pub returns-in_err-test_there-clause-answers : goal.returns-in_err-test_there-clause-answers
+returns-in_err-test_there-clause-answers c =
+    let p = err_from_is_err_and c.from_residual.result c.from_residual.ensures.1 in
+    rw (p.1, p.2)
+    (drop_answers (catalogue_of c.args.catalogue.now) (string_bytes c.args.name) _
+    (sym (ap (missing_in (catalogue_of c.args.catalogue.now)) c.deref.ensures) ∙ c.in_err-test_there.ensures))
+
+pub returns-clause-answers : goal.returns-clause-answers
+returns-clause-answers c =
+    subst (λ (x : PlainChange). IsAnswered (catalogue_of c.args.catalogue.now) (drop_table (string_bytes c.args.name)) (Ok x)) (sym c.change_of_names.ensures)
+    (drop_answers (catalogue_of c.args.catalogue.now) (string_bytes c.args.name) _
     (sym (ap (missing_in (catalogue_of c.args.catalogue.now)) c.deref.ensures) ∙ c.in_ok-test_there.ensures))

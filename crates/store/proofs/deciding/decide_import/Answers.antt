@@ -1,4 +1,4 @@
-use Rattle.std.proofs.Common.{◌≡◌, ◌<◌, ◌^◌, length, ℕ, List, not, None, Ok, ap, sym, ◌∙◌, subst, string_bytes}
+use Rattle.std.proofs.Common.{◌≡◌, ◌<◌, ◌^◌, length, ℕ, List, not, None, Ok, refl, ap, sym, ◌∙◌, subst, string_bytes}
 use Rattle.std.specs.List.{AllByRecursion}
 use Rattle.arrow_schema.specs.View.{schema_of}
 use Rattle.cells.specs.Cell.{PlainTable}
@@ -12,10 +12,11 @@ use Rattle.tables.specs.Commands.{import_stream}
 use Rattle.store.specs.Applying.{Decides}
 use Rattle.store.specs.declared.change.Edit.TheVariants as edits
 use Rattle.store.specs.Changes.{PlainChange, put, change_of, IsChange}
-use Rattle.store.specs.inner.Tests.{import_tests, full_in}
+use Rattle.store.specs.Deciding.{import_tests, full_in, IsAnswered}
 use Rattle.store.specs.laws.Pieces.{pieces_held}
 use Rattle.std.proofs.lemmas.Result.{err_from_is_err_and}
 use Rattle.store.proofs.Tested.{Counts, HoldsTable, import_refused, import_failed, import_full, import_decided, import_is_change}
+use Rattle.store.proofs.Decided.{import_answers, failed_answers, table_answers}
 use Rattle.store.proofs.deciding.decide_import.Goals as goal
 
 pub returns-in_err-test_import-clause-decides : goal.returns-in_err-test_import-clause-decides
@@ -76,3 +77,37 @@ returns-clause-decides c = λ t lists.
     } in
     subst (λ (x : PlainChange). Decides t (import_stream (string_bytes c.args.name) c.args.bytes.now) (Ok x)) (sym same)
     (import_decided listed t (string_bytes c.args.name) c.args.bytes.now table (piece_streams table) (piece_counts table) lists tested c.in_ok-table.ensures.exact room holds)
+
+pub returns-in_err-test_import-clause-answers : goal.returns-in_err-test_import-clause-answers
+returns-in_err-test_import-clause-answers c =
+    let p = err_from_is_err_and c.from_residual.result c.from_residual.ensures.1 in
+    rw (p.1, p.2)
+    (import_answers (catalogue_of c.args.catalogue.now) (string_bytes c.args.name) c.args.bytes.now _ _
+    (sym (ap (λ (x : List ℕ). import_tests x c.args.bytes.now) c.deref.ensures) ∙ c.in_err-test_import.ensures) refl)
+
+pub returns-in_err-table-clause-answers : goal.returns-in_err-table-clause-answers
+returns-in_err-table-clause-answers c =
+    let p = err_from_is_err_and c.from_residual-in_err-table.result c.from_residual-in_err-table.ensures.1 in
+    let tested : import_tests (string_bytes c.args.name) c.args.bytes.now ≡ None = sym (ap (λ (x : List ℕ). import_tests x c.args.bytes.now) c.deref.ensures) ∙ c.in_ok-test_import.ensures in
+    rw (p.1, p.2) (failed_answers (catalogue_of c.args.catalogue.now) (string_bytes c.args.name) c.args.bytes.now _ tested c.in_err-table.ensures.exact)
+
+pub returns-in_err-test_room-clause-answers : goal.returns-in_err-test_room-clause-answers
+returns-in_err-test_room-clause-answers c =
+    let tested : import_tests (string_bytes c.args.name) c.args.bytes.now ≡ None = sym (ap (λ (x : List ℕ). import_tests x c.args.bytes.now) c.deref.ensures) ∙ c.in_ok-test_import.ensures in
+    let p = err_from_is_err_and c.from_residual-in_err-test_room.result c.from_residual-in_err-test_room.ensures.1 in
+    rw (p.1, p.2)
+    (table_answers (catalogue_of c.args.catalogue.now) (string_bytes c.args.name) c.args.bytes.now (table_of c.in_ok-table.table) _ tested c.in_ok-table.ensures.exact
+    (sym (ap (full_in (catalogue_of c.args.catalogue.now)) c.deref-2.ensures) ∙ c.in_err-test_room.ensures.test))
+
+pub returns-clause-answers : goal.returns-clause-answers
+returns-clause-answers c =
+    let listed : PlainCatalogue = catalogue_of c.args.catalogue.now in
+    let table : PlainTable = table_of c.in_ok-table.table in
+    let tested : import_tests (string_bytes c.args.name) c.args.bytes.now ≡ None = sym (ap (λ (x : List ℕ). import_tests x c.args.bytes.now) c.deref.ensures) ∙ c.in_ok-test_import.ensures in
+    let room : full_in listed (string_bytes c.args.name) ≡ None = sym (ap (full_in listed) c.deref-2.ensures) ∙ c.in_ok-test_room.ensures.test in
+    let schema : schema_of c.in_ok-schema.schema ≡ table.schema = c.in_ok-schema.ensures ∙ c.schema.ensures.schema in
+    let same : change_of (record { edit = edits.Put c.args.name c.in_ok-schema.schema; streams = c.in_ok-pieces.pieces.streams; rows = c.in_ok-pieces.pieces.rows })
+    ≡ record { edit = put (string_bytes c.args.name) table.schema; streams = piece_streams table; counts = piece_counts table } =
+    λ i. record { edit = put (string_bytes c.args.name) (schema i); streams = c.in_ok-pieces.ensures.streams i; counts = c.in_ok-pieces.ensures.rows i } in
+    subst (λ (x : PlainChange). IsAnswered listed (import_stream (string_bytes c.args.name) c.args.bytes.now) (Ok x)) (sym same)
+    (table_answers listed (string_bytes c.args.name) c.args.bytes.now table _ tested c.in_ok-table.ensures.exact room)

@@ -4,8 +4,9 @@ use Rattle.catalogue.specs.View.{catalogue_of}
 use Rattle.tables.specs.Commands.{rename}
 use Rattle.store.specs.Applying.{Decides}
 use Rattle.store.specs.Changes.{PlainChange, IsChange}
-use Rattle.store.specs.inner.Tests.{rename_tests}
+use Rattle.store.specs.Deciding.{rename_tests, IsAnswered}
 use Rattle.store.proofs.Tested.{rename_refused, rename_passed, rename_is_change, rename_decided}
+use Rattle.store.proofs.Decided.{rename_answers}
 use Rattle.store.proofs.deciding.decide_rename.Goals as goal
 
 pub returns-in_err-test_rename-clause-decides : goal.returns-in_err-test_rename-clause-decides
@@ -32,3 +33,17 @@ returns-clause-decides c = λ t lists.
     let none : rename_tests (catalogue_of c.args.catalogue.now) (string_bytes c.args.from) (string_bytes c.args.to) ≡ None = sym tested ∙ c.in_ok-test_rename.ensures in
     subst (λ (x : PlainChange). Decides t (rename (string_bytes c.args.from) (string_bytes c.args.to)) (Ok x)) (sym c.change_of_names.ensures)
     (rename_decided (catalogue_of c.args.catalogue.now) t (string_bytes c.args.from) (string_bytes c.args.to) lists (rename_passed _ _ _ none))
+
+pub returns-in_err-test_rename-clause-answers : goal.returns-in_err-test_rename-clause-answers
+returns-in_err-test_rename-clause-answers c =
+    let tested : rename_tests (catalogue_of c.args.catalogue.now) c.deref.result.now c.deref-2.result.now ≡ rename_tests (catalogue_of c.args.catalogue.now) (string_bytes c.args.from) (string_bytes c.args.to) =
+    λ i. rename_tests (catalogue_of c.args.catalogue.now) (c.deref.ensures i) (c.deref-2.ensures i) in
+    let p = err_from_is_err_and c.from_residual.result c.from_residual.ensures.1 in
+    rw (p.1, p.2) (rename_answers (catalogue_of c.args.catalogue.now) (string_bytes c.args.from) (string_bytes c.args.to) _ (sym tested ∙ c.in_err-test_rename.ensures))
+
+pub returns-clause-answers : goal.returns-clause-answers
+returns-clause-answers c =
+    let tested : rename_tests (catalogue_of c.args.catalogue.now) c.deref.result.now c.deref-2.result.now ≡ rename_tests (catalogue_of c.args.catalogue.now) (string_bytes c.args.from) (string_bytes c.args.to) =
+    λ i. rename_tests (catalogue_of c.args.catalogue.now) (c.deref.ensures i) (c.deref-2.ensures i) in
+    subst (λ (x : PlainChange). IsAnswered (catalogue_of c.args.catalogue.now) (rename (string_bytes c.args.from) (string_bytes c.args.to)) (Ok x)) (sym c.change_of_names.ensures)
+    (rename_answers (catalogue_of c.args.catalogue.now) (string_bytes c.args.from) (string_bytes c.args.to) _ (sym tested ∙ c.in_ok-test_rename.ensures))

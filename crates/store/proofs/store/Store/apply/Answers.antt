@@ -6,30 +6,25 @@ use Rattle.store.proofs.Asked.{is_running}
 use Rattle.store.proofs.Applied.{refuses_first, refuses_halted}
 use Rattle.store.proofs.store.Store.apply.Goals as goal
 
-pub returns-then-self : goal.returns-then-self
-returns-then-self g c = record {
-  goes = λ told base m fits. let D = g.D.SectorDevice in refuses_halted D.size D.story D.failed base m (command_of c.args.command) c.args.self.now c.if-self.true fits;
-}
+pub returns-then-self-clause-goes : goal.returns-then-self-clause-goes
+returns-then-self-clause-goes g c = λ told base m fits.
+    let D = g.D.SectorDevice in refuses_halted D.size D.story D.failed base m (command_of c.args.command) c.args.self.now c.if-self.true fits
 
-pub returns-in-Ok : goal.returns-in-Ok
-returns-in-Ok g c = record {
-  goes = λ told base m fits.
-      let D = g.D.SectorDevice in
-      let old = c.args.self.now in
-      let runs = is_running m.phase old.halted fits.phase c.if-self.false in
-      let sound = fits.sound runs in
-      let t = tables_now (setting_of (D.size old.device) base) m in
-      let decided = c.in-Ok.ensures.decides (synced_image (now (D.story old.device))) t sound.tables in
-      c.carry_out.ensures.goes told base m (command_of c.args.command) decided.0 fits runs decided.1 decided.2;
-}
+pub returns-in-Ok-clause-goes : goal.returns-in-Ok-clause-goes
+returns-in-Ok-clause-goes g c = λ told base m fits.
+    let D = g.D.SectorDevice in
+    let old = c.args.self.now in
+    let runs = is_running m.phase old.halted fits.phase c.if-self.false in
+    let sound = fits.sound runs in
+    let t = tables_now (setting_of (D.size old.device) base) m in
+    let decided = c.in-Ok.ensures.decides (synced_image (now (D.story old.device))) t sound.tables in
+    c.carry_out.ensures.goes told base m (command_of c.args.command) decided.0 fits runs decided.1 decided.2
 
-pub returns-in-Err : goal.returns-in-Err
-returns-in-Err g c = record {
-  goes = λ told base m fits.
-      let D = g.D.SectorDevice in
-      let old = c.args.self.now in
-      let runs = is_running m.phase old.halted fits.phase c.if-self.false in
-      let sound = fits.sound runs in
-      let t = tables_now (setting_of (D.size old.device) base) m in
-      refuses_first D.size D.story D.failed base m (command_of c.args.command) c.in-Err.refusal old c.if-self.false c.in-Err.ensures.no_device fits (c.in-Err.ensures.decides (synced_image (now (D.story old.device))) t sound.tables);
-}
+pub returns-in-Err-clause-goes : goal.returns-in-Err-clause-goes
+returns-in-Err-clause-goes g c = λ told base m fits.
+    let D = g.D.SectorDevice in
+    let old = c.args.self.now in
+    let runs = is_running m.phase old.halted fits.phase c.if-self.false in
+    let sound = fits.sound runs in
+    let t = tables_now (setting_of (D.size old.device) base) m in
+    refuses_first D.size D.story D.failed base m (command_of c.args.command) c.in-Err.refusal old c.if-self.false c.in-Err.ensures.no_device fits (c.in-Err.ensures.decides (synced_image (now (D.story old.device))) t sound.tables)
