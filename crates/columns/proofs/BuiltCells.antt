@@ -19,8 +19,9 @@ use Rattle.cells.specs.Dictionary.{is_entry, entries_of, entry_in, item_list, pa
 use Rattle.cells.specs.Fit.{null_or, fits, fits_kind, date_bits, parts_where, each_fits, all_cells}
 use Rattle.columns.specs.Array.{Array, slots_in, no_array, and_array, dictionary_in, bit_layout, fixed_layout, list_layout, fixed_list_layout, struct_layout, dictionary_layout}
 use Rattle.columns.specs.Buildable.{are_nulls_or_fit, names_entries, contents_fit, items_fit, small_offset, large_offset, can_build, can_build_below, can_build_parts, is_null_or_entry, has_each_part, can_build_rows}
-use Rattle.columns.specs.Built.{is_there, built, built_kind, built_parts, first_cell, other_cells, fixed_items, contents_of, place_or_zero, is_set, integer_bytes, fixed_bytes, binary_of, list_offsets, index_of, index_bytes}
-use Rattle.columns.specs.CellAt.{cell_at, kind_cell, part_cells, unless_null, cells_from, entry_at, entries_in, index_at, integer_at, cells_in, row_at, rows_in}
+use Rattle.cells.specs.Nulls.{is_there}
+use Rattle.columns.specs.Built.{built, built_kind, built_parts, first_cell, other_cells, fixed_items, contents_of, place_or_zero, is_set, integer_bytes, fixed_bytes, binary_of, list_offsets, entry_index, index_bytes}
+use Rattle.columns.specs.CellAt.{cell_at, kind_cell, part_cells, unless_null, cells_from, entry_at, entries_by, index_at, integer_at, cells_in, row_at, rows_in}
 use Rattle.columns.proofs.Integers.{width_cases, index_fits}
 use Rattle.columns.proofs.Spans.{have_width, at_width, run_all}
 use Rattle.byteorder.specs.Endian.{little_number}
@@ -71,7 +72,7 @@ struct_found fs cells i (items cs) e lt found h = cc
 -- a value that is there is among the entries, and the index of an entry names it
 abbrev pub EntriesAreFound : Type 0
 EntriesAreFound = (cells : List Cell) (c : Cell) (i : ℕ) → i < length cells → get_or cells i null ≡ c → entry_in c ≡ Some c
-    → (index_of (entries_of cells) c < length (entries_of cells)) × (get_or (entries_of cells) (index_of (entries_of cells) c) null ≡ c)
+    → (entry_index (entries_of cells) c < length (entries_of cells)) × (get_or (entries_of cells) (entry_index (entries_of cells) c) null ≡ c)
 
 -- the array of these cells has each of them
 abbrev pub KindIsFound : Kind → List Cell → Type 0
@@ -121,7 +122,7 @@ slots_built (fixed_lists size item) cells = refl
 slots_built (structs columns) cells = refl
 
 -- the entries read back as themselves
-pub entries_back : (kind : Kind) (entries : List Cell) → KindIsFound kind entries → entries_in (unless_null (kind_cell kind)) (and_array (built_kind kind entries) no_array) ≡ entries
+pub entries_back : (kind : Kind) (entries : List Cell) → KindIsFound kind entries → entries_by (unless_null (kind_cell kind)) (and_array (built_kind kind entries) no_array) ≡ entries
 entries_back kind entries found =
     let f : ℕ → Cell = unless_null (kind_cell kind) (built_kind kind entries) in
     flat_map-cons (λ (a : Array). cells_from (unless_null (kind_cell kind) a) 0 (slots_in a)) (built_kind kind entries) []
@@ -139,14 +140,14 @@ entry_of_cell (items cs) h there = cc
 entry_of_cell (parts cs) h there = cc
 
 -- an index within its type reads back
-pub index_there : (index : Index) (entries cells : List Cell) (i n : ℕ) → i < length cells → names_entries index n ≡ true → index_of entries (get_or cells i null) < n
-    → integer_at (index.bits / 8) index.signed (flat_map (index_bytes index entries) cells) i ≡ pos (index_of entries (get_or cells i null))
+pub index_there : (index : Index) (entries cells : List Cell) (i n : ℕ) → i < length cells → names_entries index n ≡ true → entry_index entries (get_or cells i null) < n
+    → integer_at (index.bits / 8) index.signed (flat_map (index_bytes index entries) cells) i ≡ pos (entry_index entries (get_or cells i null))
 index_there index entries cells i n lt names below =
     let w : ℕ = index.bits / 8 in
-    let k : ℕ = index_of entries (get_or cells i null) in
+    let k : ℕ = entry_index entries (get_or cells i null) in
     let p = and_parts (is_bit_width index.bits) (nat_le n (if index.signed then 2 ^ (index.bits - 1) else 2 ^ index.bits)) names in
     let width = width_cases index.bits p.0 in
-    let r = at_width (index_bytes index entries) w cells i null (have_width (index_bytes index entries) w (λ c. length-bytes_low_first 0 w (index_of entries c)) cells) lt in
+    let r = at_width (index_bytes index entries) w cells i null (have_width (index_bytes index entries) w (λ c. length-bytes_low_first 0 w (entry_index entries c)) cells) lt in
     let most : n ≤ (if index.signed then 2 ^ (index.bits - 1) else 2 ^ index.bits) = leb-true _ _ p.1 in
     let fit : (k < 256 ^ w) × (integer_of w index.signed k ≡ pos k) = index_fits w index.signed k n below (rw width.0 most) width.1 in
     ap (λ (m : ℕ). integer_of w index.signed m) (ap (little_number w) r.1 ∙ little_number-reads_back w k r.0 fit.0) ∙ fit.1
@@ -165,7 +166,7 @@ mutual
       let r = and_parts (are_nulls_or_fit kind es) (can_build_below kind es) q.1 in
       let back_again = entries_back kind es (kind_found back entries kind es r.0 r.1) in
       by_validity back cells (dictionary_layout (flat_map (index_bytes index es) cells) (and_array (built_kind kind es) no_array))
-      (λ a j. entry_at (entries_in (unless_null (kind_cell kind)) (dictionary_in a)) (index_at index a j)) i lt
+      (λ a j. entry_at (entries_by (unless_null (kind_cell kind)) (dictionary_in a)) (index_at index a j)) i lt
       (λ there.
       let e = entries cells (get_or cells i null) i lt refl (entry_of_cell (get_or cells i null) (all_at is_null_or_entry cells i null p.0 lt) there) in
       ap (λ (xs : List Cell). entry_at xs (integer_at (index.bits / 8) index.signed (flat_map (index_bytes index es) cells) i)) back_again

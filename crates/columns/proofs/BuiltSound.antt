@@ -14,7 +14,8 @@ use Rattle.cells.specs.Dictionary.{entries_of, item_list, part_list}
 use Rattle.cells.specs.Fit.{fits, date_bits}
 use Rattle.columns.specs.Array.{Array, slots_in, offsets_in, no_array, and_array, Layout, bit_layout, fixed_layout, list_layout, fixed_list_layout, struct_layout, dictionary_layout}
 use Rattle.columns.specs.Buildable.{are_nulls_or_fit, small_offset, large_offset, items_fit, can_build, can_build_below, can_build_parts, can_build_rows, has_each_part}
-use Rattle.columns.specs.Built.{is_there, is_set, with_validity, integer_bytes, fixed_bytes, contents_of, fixed_items, offsets_of, sums_from, index_of, index_bytes, binary_of, list_offsets, built, built_kind, built_parts, first_cell, other_cells}
+use Rattle.cells.specs.Nulls.{is_there}
+use Rattle.columns.specs.Built.{is_set, with_validity, integer_bytes, fixed_bytes, contents_of, fixed_items, offsets_of, sums_from, entry_index, index_bytes, binary_of, list_offsets, built, built_kind, built_parts, first_cell, other_cells}
 use Rattle.columns.specs.Buffers.{null_count}
 use Rattle.columns.specs.CellAt.{number_at}
 use Rattle.columns.specs.Tests.{Typed, arrays_at, arrays_below, every_array, has_short_validity, are_few_offsets, has_short_buffer, is_short, is_negative, are_unordered, has_bad_offsets, is_unordered, counts_wrong}
@@ -157,7 +158,7 @@ mutual
   column_fine (column name nullable kind (Some index) pairs) cells can =
       let es : List Cell = entries_of cells in
       let w : ℕ = index.bits / 8 in
-      let indices = values_long (index_bytes index es) w cells (have_width (index_bytes index es) w (λ c. length-bytes_low_first 0 w (index_of es c)) cells) in
+      let indices = values_long (index_bytes index es) w cells (have_width (index_bytes index es) w (λ c. length-bytes_low_first 0 w (entry_index es c)) cells) in
       or_from _ _ (both _ _ _ (validity_long cells (dictionary_layout (flat_map (index_bytes index es) cells) (and_array (built_kind kind es) no_array))) indices refl) refl
 
   below_fine : (k : Kind) (cells : List Cell) → can_build_below k cells ≡ true → list_any is_bad (arrays_below k (built_kind k cells)) ≡ false

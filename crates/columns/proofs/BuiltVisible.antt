@@ -15,9 +15,10 @@ use Rattle.cells.specs.Fit.{null_or, fits, fits_kind, each_fits, all_cells, coun
 use Rattle.cells.specs.laws.Cells.{cells_list}
 use Rattle.columns.specs.Array.{Array, Layout, dictionary_in, no_array, and_array, list_layout, fixed_list_layout, struct_layout, dictionary_layout}
 use Rattle.columns.specs.Buildable.{are_nulls_or_fit, is_null_or_entry, names_entries, small_offset, large_offset, items_fit, can_build, can_build_below, can_build_parts, can_build_rows, has_each_part}
-use Rattle.columns.specs.Built.{is_there, with_validity, fixed_items, list_offsets, index_of, index_bytes, built, built_kind, built_parts, first_cell, other_cells}
+use Rattle.cells.specs.Nulls.{is_null, is_there}
+use Rattle.columns.specs.Built.{with_validity, fixed_items, list_offsets, entry_index, index_bytes, built, built_kind, built_parts, first_cell, other_cells}
 use Rattle.columns.specs.CellAt.{is_valid, cell_at, span_start, span_size, index_at, entries_of_kind}
-use Rattle.columns.specs.Visible.{Slot, slot, visible, visible_below, visible_parts, visible_in, is_null, is_forbidden, is_bad_text, is_no_text, is_past, has_bad_index, names_no_entry}
+use Rattle.columns.specs.Visible.{Slot, slot, visible, visible_below, visible_parts, visible_in, is_forbidden, is_bad_text, is_no_text, is_past, has_bad_index, names_no_entry}
 use Rattle.columns.proofs.BuiltCells.{EntriesAreFound, column_found, kind_found, entries_back, index_there, entry_of_cell}
 use Rattle.columns.proofs.Found.{size_is, every_size, count_list, has_size}
 use Rattle.columns.proofs.ReadBack.{PackedReadsBack, all_at, valid_is}
@@ -176,11 +177,11 @@ index_right back entries name nullable kind index pairs cells can i lt = by_ther
         let x : Cell = get_or cells i null in
         let named = entries cells x i lt refl (entry_of_cell x (all_at is_null_or_entry cells i null p.0 lt) e) in
         let known : entries_of_kind kind (dictionary_in a) ≡ es = entries_back kind es (kind_found back entries kind es r.0 r.1) in
-        let at : index_at index a i ≡ pos (index_of es x) = index_there index es cells i (length es) lt q.0 named.0 in
+        let at : index_at index a i ≡ pos (entry_index es x) = index_there index es cells i (length es) lt q.0 named.0 in
         ap (λ (v : Bool). v && is_past (index_at index a i) (entries_of_kind kind (dictionary_in a))) (valid_is back cells layout i lt ∙ e)
         ∙ ap (λ (z : ℤ). is_past z (entries_of_kind kind (dictionary_in a))) at
-        ∙ ap (is_past (pos (index_of es x))) known
-        ∙ lt-leb (length es) (index_of es x) named.0
+        ∙ ap (is_past (pos (entry_index es x))) known
+        ∙ lt-leb (length es) (entry_index es x) named.0
 
 -- no slot of these cells that fit is refused
 abbrev pub AreRight : Column → List Cell → Type 0

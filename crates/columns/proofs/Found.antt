@@ -14,7 +14,8 @@ use Rattle.cells.specs.Fit.{null_or, is_boolean, number_where, text_where, bytes
 use Rattle.cells.specs.Integers.{integer_of, number_of}
 use Rattle.cells.specs.laws.Cells.{cells_list}
 use Rattle.columns.specs.Array.{Array, array, binary_layout, list_layout}
-use Rattle.columns.specs.Built.{is_there, is_set, integer_bytes, fixed_bytes, contents_of, fixed_items, binary_of, list_offsets, with_validity, offsets_of}
+use Rattle.cells.specs.Nulls.{is_there}
+use Rattle.columns.specs.Built.{is_set, integer_bytes, fixed_bytes, contents_of, fixed_items, binary_of, list_offsets, with_validity, offsets_of}
 use Rattle.columns.specs.CellAt.{integer_at, value_at, contents_at, span_start, span_size, cells_from, span_cells}
 use Rattle.columns.proofs.Integers.{number_fits, number_back}
 use Rattle.columns.proofs.ReadBack.{PackedReadsBack, bit_of}

@@ -8,6 +8,7 @@ use Rattle.std.proofs.Math.Pow.{pow_mono}
 use Rattle.std.proofs.lemmas.List.Sums.{list_all-from_AllPass}
 use Rattle.std.specs.List.{AllPass}
 use Rattle.arrow_schema.specs.Column.{Index, Kind, Column, Columns, is_bit_width, nulls, booleans, integers, dates, timestamps, texts, large_texts, binaries, large_binaries, fixed_binaries, lists, large_lists, fixed_lists, structs, column, no_column, and_column, columns_of, PlainSchema}
+use Rattle.arrow_schema.specs.Parts.{kind_of_column}
 use Rattle.arrow_schema.specs.Limits.{IsWithinLimits, is_nested, has_flat_dictionary, has_bit_widths, is_kind_of_width}
 use Rattle.arrow_schema.specs.Preorder.{preorder, preorder_below, preorder_all, every_column}
 use Rattle.cells.specs.Cell.{Cell, Cells, null, boolean, number, text, bytes, items, parts, no_cell, and_cell, cells_of, cell_list}
@@ -47,11 +48,8 @@ pub all_mapped : {X Y : Type 0} (f : X → Y) (p : X → Bool) (q : Y → Bool) 
 all_mapped f p q h [] all = refl
 all_mapped f p q h (x ∷ xs) all = let a = and_parts (p x) (list_all p xs) all in and_from _ _ (h x a.0) (all_mapped f p q h xs a.1)
 
-abbrev pub kind_in : Column → Kind
-kind_in (column name nullable kind dictionary pairs) = kind
-
 abbrev pub fits_or_null : Column → Cell → Bool
-fits_or_null c x = null_or true (fits_kind (kind_in c)) x
+fits_or_null c x = null_or true (fits_kind (kind_of_column c)) x
 
 weaker : (p : Cell → Bool) (nullable : Bool) (x : Cell) → null_or nullable p x ≡ true → null_or true p x ≡ true
 weaker p nullable null h = refl

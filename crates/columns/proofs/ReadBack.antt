@@ -7,7 +7,8 @@ use Rattle.std.proofs.lemmas.List.{length-map}
 use Rattle.bitmap.specs.Bits.{bit, packed, packed_in}
 use Rattle.cells.specs.Cell.{Cell, null, boolean, number, text, bytes, items, parts}
 use Rattle.columns.specs.Array.{Array, Layout}
-use Rattle.columns.specs.Built.{is_there, with_validity}
+use Rattle.cells.specs.Nulls.{is_there}
+use Rattle.columns.specs.Built.{with_validity}
 use Rattle.columns.specs.CellAt.{is_valid, unless_null}
 
 -- what was packed reads back

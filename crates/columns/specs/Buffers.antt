@@ -50,8 +50,8 @@ buffers_of columns arrays = flat_map (λ t. column_buffers t.column t.array) (ev
 abbrev pub value_column : Column → Column
 value_column (column name nullable kind dictionary pairs) = column [] true kind None []
 
-abbrev pub dictionary_of : Typed → List Typed
-dictionary_of t = map (λ a. record { column = value_column t.column; array = a }) (array_list (dictionary_in t.array))
+abbrev pub dictionary_arrays : Typed → List Typed
+dictionary_arrays t = map (λ a. record { column = value_column t.column; array = a }) (array_list (dictionary_in t.array))
 
 abbrev pub dictionaries_of : Columns → Arrays → List Typed
-dictionaries_of columns arrays = flat_map dictionary_of (every_array columns arrays)
+dictionaries_of columns arrays = flat_map dictionary_arrays (every_array columns arrays)

@@ -6,14 +6,11 @@ use Rattle.byteorder.specs.Endian.{little_bytes}
 use Rattle.arrow_schema.specs.Column.{Index, Kind, Column, Columns, nulls, booleans, integers, dates, timestamps, texts, large_texts, binaries, large_binaries, fixed_binaries, lists, large_lists, fixed_lists, structs, column, no_column, and_column}
 use Rattle.bitmap.specs.Bits.{packed}
 use Rattle.cells.specs.Cell.{Cell, null, boolean, number, text, bytes}
+use Rattle.cells.specs.Nulls.{is_there}
 use Rattle.cells.specs.Dictionary.{is_entry, entries_of, item_list, part_list}
 use Rattle.cells.specs.Fit.{date_bits}
 use Rattle.cells.specs.Integers.{number_of}
 use Rattle.columns.specs.Array.{Array, Arrays, Layout, array, no_array, and_array, null_layout, bit_layout, fixed_layout, binary_layout, list_layout, fixed_list_layout, struct_layout, dictionary_layout}
-
-abbrev pub is_there : Cell → Bool
-is_there null = false
-is_there _ = true
 
 abbrev pub validity_of : List Cell → List ℕ
 validity_of cells = if list_all is_there cells then [] else packed (map is_there cells)
@@ -50,11 +47,11 @@ place_or_zero None = 0
 place_or_zero (Some i) = i
 
 -- the index of an entry; 0 stands at nulls
-abbrev pub index_of : List Cell → Cell → ℕ
-index_of entries c = place_or_zero (position (is_entry c) entries)
+abbrev pub entry_index : List Cell → Cell → ℕ
+entry_index entries c = place_or_zero (position (is_entry c) entries)
 
 abbrev pub index_bytes : Index → List Cell → Cell → List ℕ
-index_bytes index entries c = little_bytes (index.bits / 8) (index_of entries c)
+index_bytes index entries c = little_bytes (index.bits / 8) (entry_index entries c)
 
 -- offsets of so many bytes each: 0, and then the sum of the sizes so far
 abbrev pub sums_from : ℕ → List ℕ → List ℕ

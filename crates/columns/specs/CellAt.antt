@@ -52,8 +52,8 @@ abbrev pub unless_null : (Array → ℕ → Cell) → Array → ℕ → Cell
 unless_null value a i = if is_valid a i then value a i else null
 
 -- "Dictionary-encoded Layout": the entries of a dictionary are the cells of its arrays, one after another
-abbrev pub entries_in : (Array → ℕ → Cell) → Arrays → List Cell
-entries_in f dictionary = flat_map (λ a. cells_from (f a) 0 (slots_in a)) (array_list dictionary)
+abbrev pub entries_by : (Array → ℕ → Cell) → Arrays → List Cell
+entries_by f dictionary = flat_map (λ a. cells_from (f a) 0 (slots_in a)) (array_list dictionary)
 
 -- the index of a slot
 abbrev pub index_at : Index → Array → ℕ → ℤ
@@ -67,7 +67,7 @@ entry_at entries (negsuc n) = null
 unfoldable mutual
   pub cell_at : Column → Array → ℕ → Cell
   cell_at (column name nullable kind None pairs) = unless_null (kind_cell kind)
-  cell_at (column name nullable kind (Some index) pairs) = unless_null (λ a i. entry_at (entries_in (unless_null (kind_cell kind)) (dictionary_in a)) (index_at index a i))
+  cell_at (column name nullable kind (Some index) pairs) = unless_null (λ a i. entry_at (entries_by (unless_null (kind_cell kind)) (dictionary_in a)) (index_at index a i))
 
   -- of a slot that is valid
   pub kind_cell : Kind → Array → ℕ → Cell
@@ -98,7 +98,7 @@ item_at item a = cell_at item (items_in a)
 
 -- the entries of a dictionary of this type
 abbrev pub entries_of_kind : Kind → Arrays → List Cell
-entries_of_kind kind dictionary = entries_in (unless_null (kind_cell kind)) dictionary
+entries_of_kind kind dictionary = entries_by (unless_null (kind_cell kind)) dictionary
 
 -- the entry that the index of a slot names
 abbrev pub indexed_cell : Index → Kind → Array → ℕ → Cell

@@ -4,7 +4,9 @@ use Rattle.std.specs.Prelude.{ℕ, ◌+◌, ◌*◌, Bool, true, false, not, ◌
 use Rattle.std.specs.List.{flat_map, range_with_len}
 use Rattle.std.specs.Str.{is_utf8}
 use Rattle.arrow_schema.specs.Column.{Index, Kind, Column, Columns, nulls, booleans, integers, dates, timestamps, texts, large_texts, binaries, large_binaries, fixed_binaries, lists, large_lists, fixed_lists, structs, column, no_column, and_column}
-use Rattle.cells.specs.Cell.{Cell, null, text}
+use Rattle.arrow_schema.specs.Parts.{is_nullable_column}
+use Rattle.cells.specs.Cell.{Cell, text}
+use Rattle.cells.specs.Nulls.{is_null}
 use Rattle.columns.specs.Array.{Array, Arrays, items_in, children_in, dictionary_in, first_array, other_arrays}
 use Rattle.columns.specs.CellAt.{is_valid, cell_at, span_start, span_size, index_at, entries_of_kind}
 
@@ -54,15 +56,8 @@ abbrev pub cell_of : Slot → Cell
 cell_of s = cell_at s.column s.array s.place
 
 -- F23: it is a null, in a column that takes none
-abbrev pub is_nullable : Column → Bool
-is_nullable (column name nullable kind dictionary pairs) = nullable
-
-abbrev pub is_null : Cell → Bool
-is_null null = true
-is_null _ = false
-
 abbrev pub is_forbidden : Slot → Bool
-is_forbidden s = not (is_nullable s.column) && is_null (cell_of s)
+is_forbidden s = not (is_nullable_column s.column) && is_null (cell_of s)
 
 -- F15: it is a text whose bytes are not UTF-8
 abbrev pub is_bad_text : Cell → Bool
