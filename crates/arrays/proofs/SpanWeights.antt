@@ -8,6 +8,7 @@ use Rattle.std.proofs.lemmas.List.Sums.{sum_by-cons}
 use Rattle.arrow_schema.specs.declared.types.Field.{Field}
 use Rattle.arrow_schema.specs.View.{column_of}
 use Rattle.arrow_schema.specs.Column.{Kind, Column, Columns, nulls, booleans, integers, dates, timestamps, texts, large_texts, binaries, large_binaries, fixed_binaries, lists, large_lists, fixed_lists, structs, column, no_column, and_column, columns_of}
+use Rattle.arrow_schema.specs.Parts.{kind_of_column}
 use Rattle.cells.specs.Cell.{Cell, null}
 use Rattle.cells.specs.Weight.{weight, kind_weight, capped_weight}
 use Rattle.columns.specs.declared.array.PlacedArray.{PlacedArray}
@@ -102,10 +103,7 @@ one_weight (large_lists item) x h = cc
 one_weight (fixed_lists size item) x h = cc
 one_weight (structs columns) x h = cc
 
-abbrev pub kind_in : Column → Kind
-kind_in (column name nullable kind dictionary pairs) = kind
-
-pub column_one_weight : (c : Column) (f : ℕ → Cell) (start n : ℕ) → has_one_weight (kind_in c) ≡ true → sum_from (weight c) f start n ≡ n * kind_weight (kind_in c) null
+pub column_one_weight : (c : Column) (f : ℕ → Cell) (start n : ℕ) → has_one_weight (kind_of_column c) ≡ true → sum_from (weight c) f start n ≡ n * kind_weight (kind_of_column c) null
 unfolding weight
 column_one_weight (column name nullable kind dictionary pairs) f start n h = each_same (kind_weight kind) f (kind_weight kind null) start n (λ i le lt. one_weight kind (f i) h)
 

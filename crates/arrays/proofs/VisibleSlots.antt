@@ -6,6 +6,7 @@ use Rattle.std.proofs.Common.{◌≡◌, ℕ, zero, suc, ◌/◌, Option, Bool, 
 use Rattle.std.proofs.lemmas.Bool.{and_parts}
 use Rattle.std.proofs.lemmas.Bool.Decides.{nat_tests}
 use Rattle.std.proofs.lemmas.List.FromFn.{length-range_with_len}
+use Rattle.arrow_schema.specs.Parts.{is_nullable_column, kind_of_column, index_of_column}
 use Rattle.arrays.proofs.Ranges.{any-none, any-fewer}
 use Rattle.bitmap.specs.Bits.{bit, count_of}
 use Rattle.arrow_schema.specs.declared.types.DictSpec.{DictSpec}
@@ -24,7 +25,7 @@ use Rattle.columns.specs.CellAt.{is_valid, cell_at, contents_at, kind_cell, unle
 use Rattle.columns.specs.Sound.{is_sound, is_kind_sound}
 use Rattle.columns.specs.Tests.{has_short_validity, has_short_buffer, are_few, are_few_offsets}
 use Rattle.columns.specs.laws.SoundParts.{sound_buffer}
-use Rattle.columns.specs.Visible.{is_bad_text, is_null, is_past, is_nullable, names_no_entry, is_forbidden}
+use Rattle.columns.specs.Visible.{is_bad_text, is_null, is_past, names_no_entry, is_forbidden}
 use Rattle.arrays.specs.inner.VisibleSpans.{any_slot, is_no_plain_text, text_width, is_of_nulls}
 
 -- ---- what the loops over slots ask
@@ -125,62 +126,45 @@ unset_if v a from n is = rw is (by_bits (length (validity_in a) == 0))
     by_bits true = any_never (λ i. false) from n (λ i. refl)
     by_bits false = any-fewer (bit (validity_in a)) (range_with_len from n) ∙ ap (nat_lt (count_of (validity_in a) from n)) (length-range_with_len from n)
 
--- ---- the parts of a field's column
-
-abbrev pub kind_in : Column → Kind
-kind_in (column name nullable kind dictionary pairs) = kind
-
-abbrev pub index_in : Column → Option Index
-index_in (column name nullable kind dictionary pairs) = dictionary
-
-pub kind_at : (f : Field) → kind_in (column_of f) ≡ kind_of (out-Field f).data_type
-kind_at f = ap kind_in (fold_out-Field Kind Column kind_step column_step f)
-
-pub index_at_field : (f : Field) → index_in (column_of f) ≡ option_map index_of (out-Field f).dictionary
-index_at_field f = ap index_in (fold_out-Field Kind Column kind_step column_step f)
-
-pub nullable_at : (f : Field) → is_nullable (column_of f) ≡ (out-Field f).nullable
-nullable_at f = ap is_nullable (fold_out-Field Kind Column kind_step column_step f)
-
 -- ---- the tests of the slots of a span
 
-pub no_index_tested : (c : Column) (a : Array) (from n : ℕ) → index_in c ≡ None → any_slot names_no_entry c a from n ≡ false
+pub no_index_tested : (c : Column) (a : Array) (from n : ℕ) → index_of_column c ≡ None → any_slot names_no_entry c a from n ≡ false
 no_index_tested (column name nullable kind None pairs) a from n h = any_never (λ i. false) from n (λ i. refl)
 no_index_tested (column name nullable kind (Some index) pairs) a from n h = absurd cc
 
-pub index_tested : (c : Column) (index : Index) (a : Array) (from n : ℕ) → index_in c ≡ Some index
-    → any_slot names_no_entry c a from n ≡ list_any (λ i. is_valid a i && is_past (index_at index a i) (entries_of_kind (kind_in c) (dictionary_in a))) (range_with_len from n)
+pub index_tested : (c : Column) (index : Index) (a : Array) (from n : ℕ) → index_of_column c ≡ Some index
+    → any_slot names_no_entry c a from n ≡ list_any (λ i. is_valid a i && is_past (index_at index a i) (entries_of_kind (kind_of_column c) (dictionary_in a))) (range_with_len from n)
 index_tested (column name nullable kind None pairs) index a from n h = absurd cc
 index_tested (column name nullable kind (Some other) pairs) index a from n h =
     let e : other ≡ index = cc in
     ap (λ (x : Index). list_any (λ i. is_valid a i && is_past (index_at x a i) (entries_of_kind kind (dictionary_in a))) (range_with_len from n)) e
 
-pub entry_texts_skipped : (c : Column) (index : Index) (a : Array) (from n : ℕ) → index_in c ≡ Some index → any_slot is_no_plain_text c a from n ≡ false
+pub entry_texts_skipped : (c : Column) (index : Index) (a : Array) (from n : ℕ) → index_of_column c ≡ Some index → any_slot is_no_plain_text c a from n ≡ false
 entry_texts_skipped (column name nullable kind None pairs) index a from n h = absurd cc
 entry_texts_skipped (column name nullable kind (Some other) pairs) index a from n h = any_never (λ i. false) from n (λ i. refl)
 
-pub no_texts_tested : (c : Column) (a : Array) (from n : ℕ) → index_in c ≡ None → text_width (kind_in c) ≡ None → any_slot is_no_plain_text c a from n ≡ false
+pub no_texts_tested : (c : Column) (a : Array) (from n : ℕ) → index_of_column c ≡ None → text_width (kind_of_column c) ≡ None → any_slot is_no_plain_text c a from n ≡ false
 unfolding cell_at
 no_texts_tested (column name nullable kind None pairs) a from n h none = any_never _ from n (λ i. no_text_at kind a i none)
 no_texts_tested (column name nullable kind (Some index) pairs) a from n h none = absurd cc
 
-pub texts_tested : (c : Column) (w : ℕ) (a : Array) (from n : ℕ) → index_in c ≡ None → text_width (kind_in c) ≡ Some w
+pub texts_tested : (c : Column) (w : ℕ) (a : Array) (from n : ℕ) → index_of_column c ≡ None → text_width (kind_of_column c) ≡ Some w
     → any_slot is_no_plain_text c a from n ≡ list_any (λ i. is_valid a i && not (is_utf8 (contents_at w a i))) (range_with_len from n)
 unfolding cell_at
 texts_tested (column name nullable kind None pairs) w a from n h wide = any_same _ _ (range_with_len from n) (λ i. text_at kind w a i wide)
 texts_tested (column name nullable kind (Some index) pairs) w a from n h wide = absurd cc
 
-pub nulls_taken : (c : Column) (a : Array) (from n : ℕ) → is_nullable c ≡ true → any_slot is_forbidden c a from n ≡ false
+pub nulls_taken : (c : Column) (a : Array) (from n : ℕ) → is_nullable_column c ≡ true → any_slot is_forbidden c a from n ≡ false
 nulls_taken c a from n h = ap (λ (b : Bool). list_any (λ i. not b && is_null (cell_at c a i)) (range_with_len from n)) h ∙ any_never (λ i. false) from n (λ i. refl)
 
-pub nulls_tested : (c : Column) (a : Array) (from n : ℕ) → is_nullable c ≡ false → index_in c ≡ None
-    → any_slot is_forbidden c a from n ≡ list_any (λ i. is_null (unless_null (kind_cell (kind_in c)) a i)) (range_with_len from n)
+pub nulls_tested : (c : Column) (a : Array) (from n : ℕ) → is_nullable_column c ≡ false → index_of_column c ≡ None
+    → any_slot is_forbidden c a from n ≡ list_any (λ i. is_null (unless_null (kind_cell (kind_of_column c)) a i)) (range_with_len from n)
 unfolding cell_at
 nulls_tested (column name nullable kind None pairs) a from n h none = ap (λ (b : Bool). list_any (λ i. not b && is_null (unless_null (kind_cell kind) a i)) (range_with_len from n)) h
 nulls_tested (column name nullable kind (Some index) pairs) a from n h none = absurd cc
 
-pub entry_nulls_tested : (c : Column) (index : Index) (a : Array) (from n : ℕ) → is_nullable c ≡ false → index_in c ≡ Some index
-    → any_slot is_forbidden c a from n ≡ list_any (λ i. is_null (unless_null (indexed_cell index (kind_in c)) a i)) (range_with_len from n)
+pub entry_nulls_tested : (c : Column) (index : Index) (a : Array) (from n : ℕ) → is_nullable_column c ≡ false → index_of_column c ≡ Some index
+    → any_slot is_forbidden c a from n ≡ list_any (λ i. is_null (unless_null (indexed_cell index (kind_of_column c)) a i)) (range_with_len from n)
 unfolding cell_at
 entry_nulls_tested (column name nullable kind None pairs) index a from n h some = absurd cc
 entry_nulls_tested (column name nullable kind (Some other) pairs) index a from n h some =
@@ -199,14 +183,14 @@ unfolding is_sound
 sound_slots (column name nullable kind None pairs) a h = off _ (and_parts (not (has_short_validity a)) _ h).0
 sound_slots (column name nullable kind (Some index) pairs) a h = off _ (and_parts (not (has_short_validity a)) _ h).0
 
-pub sound_indices : (c : Column) (index : Index) (a : Array) → index_in c ≡ Some index → is_sound c a ≡ true → are_few (index.bits / 8) a (indices_in a) ≡ false
+pub sound_indices : (c : Column) (index : Index) (a : Array) → index_of_column c ≡ Some index → is_sound c a ≡ true → are_few (index.bits / 8) a (indices_in a) ≡ false
 unfolding is_sound
 sound_indices (column name nullable kind None pairs) index a some h = absurd cc
 sound_indices (column name nullable kind (Some other) pairs) index a some h =
     let e : other ≡ index = cc in
     ap (λ (x : Index). are_few (x.bits / 8) a (indices_in a)) (sym e) ∙ off _ (and_parts (not (are_few (other.bits / 8) a (indices_in a))) _ (and_parts (not (has_short_validity a)) _ h).1).0
 
-pub sound_entries : (c : Column) (index : Index) (a : Array) → index_in c ≡ Some index → is_sound c a ≡ true → list_all (is_kind_sound (kind_in c)) (array_list (dictionary_in a)) ≡ true
+pub sound_entries : (c : Column) (index : Index) (a : Array) → index_of_column c ≡ Some index → is_sound c a ≡ true → list_all (is_kind_sound (kind_of_column c)) (array_list (dictionary_in a)) ≡ true
 unfolding is_sound
 sound_entries (column name nullable kind None pairs) index a some h = absurd cc
 sound_entries (column name nullable kind (Some other) pairs) index a some h =
@@ -228,7 +212,7 @@ kind_texts_long (large_lists item) w a wide h = absurd cc
 kind_texts_long (fixed_lists size item) w a wide h = absurd cc
 kind_texts_long (structs columns) w a wide h = absurd cc
 
-pub sound_texts : (c : Column) (w : ℕ) (a : Array) → index_in c ≡ None → text_width (kind_in c) ≡ Some w → is_sound c a ≡ true → are_few_offsets w a ≡ false
+pub sound_texts : (c : Column) (w : ℕ) (a : Array) → index_of_column c ≡ None → text_width (kind_of_column c) ≡ Some w → is_sound c a ≡ true → are_few_offsets w a ≡ false
 unfolding is_sound
 sound_texts (column name nullable kind None pairs) w a none wide h = kind_texts_long kind w a wide (sound_buffer kind a h)
 sound_texts (column name nullable kind (Some index) pairs) w a none wide h = absurd cc

@@ -6,6 +6,8 @@ use Rattle.std.proofs.Math.Nat.{mul-le-mul_left}
 use Rattle.std.proofs.lemmas.Bool.{leb-true}
 use Rattle.std.proofs.lemmas.List.Folds.{list_any-append}
 use Rattle.facts.specs.laws.Lists.{drop-item}
+use Rattle.arrow_schema.specs.Parts.{kind_of_column}
+use Rattle.arrow_schema.specs.laws.Parts.{kind_of_field}
 use Rattle.arrays.proofs.Ranges.{any-split, any-both, any-first_and_others, flat_map-alike, flat_map-none, flat_map-spans}
 use Rattle.arrow_schema.specs.declared.types.Field.{Field, out-Field}
 use Rattle.arrow_schema.specs.Column.{Kind, Column, Columns, nulls, booleans, integers, dates, timestamps, texts, large_texts, binaries, large_binaries, fixed_binaries, lists, large_lists, fixed_lists, structs, column, no_column, and_column}
@@ -22,7 +24,6 @@ use Rattle.columns.specs.View.{placed_arrays, fields_of}
 use Rattle.columns.specs.Visible.{Slot, slot, visible, visible_below, visible_parts, visible_in}
 use Rattle.arrays.specs.inner.VisibleSpans.{any_slot, any_visible, any_valid_below, slots_below, any_below, any_part, has_below}
 use Rattle.arrays.proofs.Everys.{others_placed}
-use Rattle.arrays.proofs.VisibleSlots.{kind_in, kind_at}
 
 -- ---- a slot and what is below it
 
@@ -86,7 +87,7 @@ null_run f c a at end alike here = none_anywhere f c a at (end - at) (λ i low h
 
 valid_below : (f : Slot → Bool) (c : Column) (a : Array) (at end : ℕ) → has_below c ≡ true
     → ((i : ℕ) → at ≤ i → i < end → is_valid a i ≡ is_valid a at) → is_valid a at ≡ true
-    → any_below f c a at (end - at) ≡ any_valid_below f (kind_in c) a at (end - at)
+    → any_below f c a at (end - at) ≡ any_valid_below f (kind_of_column c) a at (end - at)
 valid_below f (column name nullable kind None pairs) a at end nested alike here =
     ap (list_any f) (flat_map-alike (slots_below (column name nullable kind None pairs) a) (visible_below kind a) at (end - at)
     (λ i low high. let valid : is_valid a i ≡ true = alike i low (omega arith) ∙ here in rw valid refl))
@@ -96,22 +97,22 @@ pub valid_run : (f : Slot → Bool) (field : Field) (a : Array) (at end : ℕ) �
     → ((i : ℕ) → at ≤ i → i < end → is_valid a i ≡ is_valid a at) → is_valid a at ≡ true
     → any_below f (column_of field) a at (end - at) ≡ any_valid_below f (kind_of (out-Field field).data_type) a at (end - at)
 valid_run f field a at end nested alike here =
-    valid_below f (column_of field) a at end nested alike here ∙ ap (λ (k : Kind). any_valid_below f k a at (end - at)) (kind_at field)
+    valid_below f (column_of field) a at end nested alike here ∙ ap (λ (k : Kind). any_valid_below f k a at (end - at)) (kind_of_field field)
 
 pub nested_kind : (field : Field) → has_below (column_of field) ≡ true → is_nested (kind_of (out-Field field).data_type) ≡ true
-nested_kind field h = ap is_nested (sym (kind_at field)) ∙ below_nested (column_of field) h
+nested_kind field h = ap is_nested (sym (kind_of_field field)) ∙ below_nested (column_of field) h
   where
-    below_nested : (c : Column) → has_below c ≡ true → is_nested (kind_in c) ≡ true
+    below_nested : (c : Column) → has_below c ≡ true → is_nested (kind_of_column c) ≡ true
     below_nested (column name nullable kind None pairs) h = h
     below_nested (column name nullable kind (Some index) pairs) h = absurd cc
 
-sound_below : (c : Column) (a : Array) → has_below c ≡ true → is_sound c a ≡ true → is_kind_sound (kind_in c) a ≡ true
+sound_below : (c : Column) (a : Array) → has_below c ≡ true → is_sound c a ≡ true → is_kind_sound (kind_of_column c) a ≡ true
 unfolding is_sound
 sound_below (column name nullable kind None pairs) a nested h = h
 sound_below (column name nullable kind (Some index) pairs) a nested h = absurd cc
 
 pub sound_kind : (field : Field) (a : Array) → has_below (column_of field) ≡ true → is_sound (column_of field) a ≡ true → is_kind_sound (kind_of (out-Field field).data_type) a ≡ true
-sound_kind field a nested h = ap (λ (k : Kind). is_kind_sound k a) (sym (kind_at field)) ∙ sound_below (column_of field) a nested h
+sound_kind field a nested h = ap (λ (k : Kind). is_kind_sound k a) (sym (kind_of_field field)) ∙ sound_below (column_of field) a nested h
 
 -- a loop over the runs of a span
 pub run_found : (f : Slot → Bool) (c : Column) (a : Array) (at end to : ℕ) → at < end → end ≤ to → any_below f c a at (end - at) ≡ true → any_below f c a at (to - at) ≡ true

@@ -6,7 +6,7 @@ use Rattle.std.specs.Str.{is_utf8}
 use Rattle.arrow_schema.specs.Column.{Index, Kind, Column, Columns, nulls, booleans, integers, dates, timestamps, texts, large_texts, binaries, large_binaries, fixed_binaries, lists, large_lists, fixed_lists, structs, column, no_column, and_column}
 use Rattle.arrow_schema.specs.Parts.{is_nullable_column}
 use Rattle.cells.specs.Cell.{Cell, text}
-use Rattle.cells.specs.Nulls.{is_null}
+pub use Rattle.cells.specs.Nulls.{is_null}
 use Rattle.columns.specs.Array.{Array, Arrays, items_in, children_in, dictionary_in, first_array, other_arrays}
 use Rattle.columns.specs.CellAt.{is_valid, cell_at, span_start, span_size, index_at, entries_of_kind}
 

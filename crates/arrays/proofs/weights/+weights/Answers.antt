@@ -2,6 +2,7 @@ use Rattle.std.proofs.Common.{◌≡◌, ◌+◌, ◌*◌, true, map, drop, refl
 use Rattle.arrow_schema.specs.declared.types.Field.{the_lemmas as field_lemmas}
 use Rattle.arrow_schema.specs.Column.{Kind, columns_of}
 use Rattle.arrow_schema.specs.View.{kind_of, column_of, index_of}
+use Rattle.arrow_schema.specs.Parts.{kind_of_column}
 use Rattle.cells.specs.Cell.{null}
 use Rattle.cells.specs.Weight.{kind_weight, capped_weight}
 use Rattle.columns.specs.Array.{Array, slots_in, items_in, children_in}
@@ -11,15 +12,15 @@ use Rattle.columns.specs.View.{view_array, placed_arrays}
 use Rattle.columns.specs.laws.Offsets.{spans_fit}
 use Rattle.facts.specs.laws.Lists.{drop-item}
 use Rattle.arrays.specs.inner.Weights.{has_one_weight}
-use Rattle.arrays.proofs.SpanWeights.{kind_in, column_one_weight, valid_run, null_run, run_more, slot_more, next_total, parts_next, parts_end, sound_next, fewer_sound}
+use Rattle.arrays.proofs.SpanWeights.{column_one_weight, valid_run, null_run, run_more, slot_more, next_total, parts_next, parts_end, sound_next, fewer_sound}
 use Rattle.arrays.proofs.KindWeights.{items_total, fixed_total, fields_total, fixed_within}
 use Rattle.arrays.proofs.weights.+weights.Goals as goal
 
 pub span_weight-returns-then-has_one_weight : goal.span_weight-returns-then-has_one_weight
 span_weight-returns-then-has_one_weight t c =
     let kind : Kind = kind_of c.args.field.now.data_type in
-    let own : kind_in (column_of c.args.field.now) ≡ kind = search (rules, field_lemmas) in
-    let one : has_one_weight (kind_in (column_of c.args.field.now)) ≡ true = ap has_one_weight own ∙ sym c.if-has_one_weight.ensures in
+    let own : kind_of_column (column_of c.args.field.now) ≡ kind = search (rules, field_lemmas) in
+    let one : has_one_weight (kind_of_column (column_of c.args.field.now)) ≡ true = ap has_one_weight own ∙ sym c.if-has_one_weight.ensures in
     let all = column_one_weight (column_of c.args.field.now) (cell_at (column_of c.args.field.now) (view_array c.args.view)) c.args.from c.args.count one in
     c.nulls_weight.ensures ∙ sym (ap capped_weight (all ∙ ap (λ (k : Kind). c.args.count * kind_weight k null) own))
 
