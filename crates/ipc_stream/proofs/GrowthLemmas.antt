@@ -43,7 +43,7 @@ cell_seen c v u i j same =
     ap (λ (n : ℕ). number (integer_of w c.signed n)) (sym a ∙ ap (little_number w) same ∙ b)
 
 -- a cell of the rows before
-cell_before : (c : IntegerColumn) (v x : List ℕ) (i : ℕ) → i * c.width + c.width ≤ length v → cell_at c (v ++ x) i ≡ cell_at c v i
+pub cell_before : (c : IntegerColumn) (v x : List ℕ) (i : ℕ) → i * c.width + c.width ≤ length v → cell_at c (v ++ x) i ≡ cell_at c v i
 cell_before c v x i inside =
     let w : ℕ = c.width in
     let cut : drop (i * w) (v ++ x) ≡ drop (i * w) v ++ x = drop-append-le (i * w) v x (omega arith) in
@@ -51,7 +51,7 @@ cell_before c v x i inside =
     cell_seen c (v ++ x) v i i (ap (take w) cut ∙ take-append-le w (drop (i * w) v) x long)
 
 -- the place of a cell ends where the next begins
-places : (i n w : ℕ) → i < n → i * w + w ≤ n * w
+pub places : (i n w : ℕ) → i < n → i * w + w ≤ n * w
 places i n w few = let more : w * suc i ≤ w * n = mul-le-mul_left w few in omega (arith, more)
 
 -- bytes of a front are bytes of the whole
@@ -68,7 +68,7 @@ cell_of_front c xs n i m few long =
     cell_seen c (take (n * w) xs) (take m xs) i i (front_seen (i * w) w (n * w) xs inside ∙ sym (front_seen (i * w) w m xs (omega arith)))
 
 -- a cell of the rows after
-cell_after : (c : IntegerColumn) (v x : List ℕ) (before i : ℕ) → length v ≡ before * c.width → cell_at c (v ++ x) (before + i) ≡ cell_at c x i
+pub cell_after : (c : IntegerColumn) (v x : List ℕ) (before i : ℕ) → length v ≡ before * c.width → cell_at c (v ++ x) (before + i) ≡ cell_at c x i
 cell_after c v x before i len =
     let w : ℕ = c.width in
     let at : (before + i) * w ≡ length v + i * w = omega arith in
@@ -113,7 +113,7 @@ rows_after arrays vs body before n i (suc k) grows few =
     let others = ap (λ (m : ℕ). rows_from (columns_of arrays) (grown n body arrays vs) m k) next ∙ rows_after arrays vs body before n (i + 1) k grows (omega arith) in
     λ j. first j ∷ others j
 
-rows_split : (cs : List IntegerColumn) (vs : List (List ℕ)) (i a b : ℕ) → rows_from cs vs i (a + b) ≡ rows_from cs vs i a ++ rows_from cs vs (i + a) b
+pub rows_split : (cs : List IntegerColumn) (vs : List (List ℕ)) (i a b : ℕ) → rows_from cs vs i (a + b) ≡ rows_from cs vs i a ++ rows_from cs vs (i + a) b
 rows_split cs vs i zero b =
     let e : 0 + b ≡ b = omega arith in
     let f : i + 0 ≡ i = omega arith in

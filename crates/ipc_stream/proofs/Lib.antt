@@ -31,5 +31,6 @@ mod Steps
 mod MessageRead
 mod FirstMessage
 mod EmptyColumns
+mod JoinedColumns
 mod MeaningTable
 mod PieceTables

@@ -31,7 +31,7 @@ use Rattle.ipc_stream.specs.Batch.{batch_checks}
 use Rattle.ipc_stream.specs.Meaning.{Message, schema_in, rows_of_header, rows_in, table_in, accepted, ◌>>=◌}
 use Rattle.arrow_schema.specs.Integers.{is_empty}
 use Rattle.ipc_stream.specs.inner.Added.{added}
-use Rattle.ipc_stream.specs.inner.View.{gathered_table}
+use Rattle.ipc_stream.specs.View.{gathered_table}
 use Rattle.ipc_stream.specs.inner.Progress.{Adds}
 use Rattle.ipc_stream.proofs.AcceptedSchema.{accepted_lacks_id}
 

@@ -15,7 +15,7 @@ use Rattle.ipc_message.specs.Outcome.{Fails}
 use Rattle.ipc_stream.specs.declared.gathered.Gathered.{Gathered}
 use Rattle.ipc_stream.specs.Meaning.{Message, schema_in, accepted, at_end, at_end_of_stream, messages, meaning, table_in, ◌>>=◌}
 use Rattle.arrow_schema.specs.Integers.{is_integer_schema, is_empty}
-use Rattle.ipc_stream.specs.inner.View.{gathered_table}
+use Rattle.ipc_stream.specs.View.{gathered_table}
 use Rattle.ipc_stream.specs.inner.Progress.{IsRead, Adds}
 use Rattle.ipc_stream.proofs.FramedMessages.{bind_ok}
 use Rattle.ipc_stream.proofs.AcceptedSchema.{accepted_integer}

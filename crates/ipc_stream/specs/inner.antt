@@ -2,4 +2,4 @@ pub mod Added
 pub mod Columns
 pub mod Packed
 pub mod Progress
-pub mod View
+pub mod Joined

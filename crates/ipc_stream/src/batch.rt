@@ -12,7 +12,7 @@ ghost use Rattle.arrow_schema.specs.Integers.{is_integer_schema};
 ghost use Rattle.values.specs.IntegerTable.{integer_columns, have_rows};
 ghost use Rattle.ipc_stream.specs.Batch.{is_negative, is_bad_length, has_bad_length, has_other_layout, is_outside, is_short, has_validity, counts_nulls, arrays_in, batch_fault};
 ghost use Rattle.ipc_stream.specs.inner.Columns.{AddsRows};
-ghost use Rattle.ipc_stream.specs.inner.View.{gathered_table};
+ghost use Rattle.ipc_stream.specs.View.{gathered_table};
 ghost use Rattle.ipc_stream.specs.inner.Added.{added};
 
 use crate::decoder::width_of;

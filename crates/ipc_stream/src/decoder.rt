@@ -1,5 +1,5 @@
 // Reads a stream into a table.
-ghost use Rattle.std.specs.Prelude.{◌≡◌, ◌≤◌, length, drop, IsTrue, IfOk};
+ghost use Rattle.std.specs.Prelude.{◌≡◌, ◌≤◌, length, drop, IfOk};
 ghost use Rattle.std.specs.Result.{IfErr};
 ghost use Rattle.arrow_schema.specs.View.{schema_of, column_of};
 ghost use Rattle.arrow_schema.specs.Limits.{IsWithinLimits};
@@ -9,9 +9,8 @@ ghost use Rattle.ipc_message.specs.Messages.{envelope_of, next_message_of};
 ghost use Rattle.ipc_message.specs.Outcome.{Gives, Fails};
 ghost use Rattle.ipc_stream.specs.Meaning.{meaning};
 ghost use Rattle.ipc_stream.specs.inner.Progress.{without_rows, IsRead, Adds};
-ghost use Rattle.arrow_schema.specs.Integers.{is_integer_schema};
 ghost use Rattle.values.specs.IntegerTable.{integer_column, IsIntegerTable};
-ghost use Rattle.ipc_stream.specs.inner.View.{gathered_table};
+ghost use Rattle.ipc_stream.specs.View.{gathered_table};
 ghost use Rattle.values.specs.TableView.{table_of};
 
 use crate::batch::add_batch;
@@ -20,8 +19,8 @@ use arrow_schema::{DataType, Field, Schema};
 use ipc_message::{
     Fault, Header, HeaderType, ImportError, Message, NextMessage, read_message, read_schema,
 };
-use std::alloc::{AllocError, Global};
-use values::{Table, integer_columns_are_integer_tables};
+use std::alloc::Global;
+use values::Table;
 
 /// What stands at the front of the bytes, and how many bytes it takes.
 fn next_message_at(bytes: &[u8]) -> Result<(NextMessage<'_>, usize), ImportError>
@@ -69,23 +68,6 @@ fn first_schema(alloc: Global, bytes: &[u8]) -> Result<(Schema, usize), ImportEr
     }
 }
 
-/// The table of a schema that has no rows yet.
-fn empty_table(alloc: Global, schema: Schema) -> Result<Gathered, AllocError>
-    requires limits { IsWithinLimits (schema_of schema) }
-    requires integers { IsTrue (is_integer_schema (schema_of schema)) }
-    ensures { IfOk result (λ t. gathered_table t ≡ without_rows (schema_of schema)) }
-{
-    let mut columns = Vec::new(alloc);
-    for _ in 0..schema.fields.len() {
-        columns.push(Vec::new(alloc))?;
-    }
-    Ok(Gathered {
-        schema,
-        columns,
-        rows: 0,
-    })
-}
-
 /// The table after one more message.
 fn add_message(alloc: Global, table: Gathered, message: &Message) -> Result<Gathered, ImportError>
     ensures { Adds (gathered_table table) (envelope_of message.now) result }
@@ -105,7 +87,7 @@ fn read_stream(alloc: Global, bytes: &[u8]) -> Result<Gathered, ImportError>
     ensures { Gives gathered_table result (meaning supported_codes bytes.now) }
 {
     let (schema, taken) = first_schema(alloc, bytes)?;
-    let mut table = empty_table(alloc, schema)?;
+    let mut table = Gathered::empty(alloc, schema)?;
     let mut rest = &bytes[taken..];
     while !rest.is_empty() {
         let (next_message, taken) = next_message_at(rest)?;
@@ -129,11 +111,5 @@ pub fn decode(alloc: Global, bytes: &[u8]) -> Result<Table, ImportError>
     // Columns of other types, and nulls, are not read yet.
     ensures integers { IfOk result (λ table. IsIntegerTable (table_of table)) }
 {
-    integer_columns_are_integer_tables();
-    let Gathered {
-        schema,
-        columns,
-        rows,
-    } = read_stream(alloc, bytes)?;
-    Ok(Table::from_integers(schema, columns, rows))
+    Ok(read_stream(alloc, bytes)?.finish())
 }

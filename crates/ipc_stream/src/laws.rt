@@ -1,14 +1,16 @@
 // Laws of streams: what `meaning` is in the words of the format, the round trip, and what the cut is. The functions are
 // there for their contracts; they call the laws of lower crates that their proofs use.
-ghost use Rattle.std.specs.Prelude.{◌≡◌, ℕ, Bool, true, false, List, Ok, Err};
-ghost use Rattle.std.specs.List.{AllByRecursion};
+ghost use Rattle.std.specs.Prelude.{◌≡◌, ℕ, Bool, true, false, List, Ok, Err, nat_eq};
+ghost use Rattle.std.specs.List.{AllByRecursion, starts_with};
 ghost use Rattle.facts.specs.Bytes.{AreBytes};
 ghost use Rattle.arrow_schema.specs.Column.{PlainSchema};
 ghost use Rattle.arrow_schema.specs.Integers.{is_integer_schema};
+ghost use Rattle.arrow_schema.specs.Limits.{IsWithinLimits};
 ghost use Rattle.cells.specs.Cell.{Cell, PlainTable};
 ghost use Rattle.ipc_message.specs.declared.fault.Fault.{Fault};
 ghost use Rattle.ipc_message.specs.Header.{supported_codes};
 ghost use Rattle.ipc_write.specs.Decoded.{is_not_read};
+ghost use Rattle.ipc_write.specs.Written.{schema_message};
 ghost use Rattle.ipc_stream.specs.Canonical.{canonical, pieces_of, within_piece};
 ghost use Rattle.ipc_stream.specs.CutRows.{EachWithin, IsCut, joined};
 ghost use Rattle.ipc_stream.specs.FramedFault.{AreRead, FaultStands};
@@ -81,6 +83,16 @@ pub fn pieces_are_tables()
     integer_rows_weigh_alike();
     tables_are_joined_and_cut();
     canonical_means_its_table();
+}
+
+/// A stream that begins with the message of a schema means tables of that schema alone.
+pub fn the_first_message_is_the_schema()
+    ensures { (s : PlainSchema) (bytes : List ℕ) (t : PlainTable) → IsWithinLimits s → starts_with nat_eq bytes (schema_message s) ≡ true
+        → meaning supported_codes bytes ≡ Ok t → t.schema ≡ s }
+{
+    meaning_is_framed();
+    next_message_is_framed();
+    schema_message_is_read_again();
 }
 
 /// A reader takes each schema of integer columns.

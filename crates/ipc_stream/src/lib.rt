@@ -21,9 +21,10 @@ mod pack;
 
 pub use decoder::decode;
 pub use encoder::{EncodedPieces, encode, encode_pieces};
+pub use gathered::Gathered;
 pub use ipc_message::ImportError;
 pub use laws::{
     canonical_means_its_table, integer_schemas_are_read, meaning_is_a_table, meaning_is_framed,
-    pieces_are_tables, pieces_are_the_cut,
+    pieces_are_tables, pieces_are_the_cut, the_first_message_is_the_schema,
 };
 pub use values::Table;

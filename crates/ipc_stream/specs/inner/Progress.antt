@@ -10,7 +10,7 @@ use Rattle.ipc_message.specs.Outcome.{Gives}
 use Rattle.ipc_stream.specs.declared.gathered.Gathered.{Gathered}
 use Rattle.ipc_stream.specs.Meaning.{Message, schema_in, table_in, accepted, messages, meaning, ◌>>=◌}
 use Rattle.arrow_schema.specs.Integers.{is_empty}
-use Rattle.ipc_stream.specs.inner.View.{gathered_table}
+use Rattle.ipc_stream.specs.View.{gathered_table}
 
 -- a table without rows
 abbrev pub without_rows : PlainSchema → PlainTable

@@ -1,7 +1,7 @@
 use Rattle.std.specs.Prelude.{Ok}
-use Rattle.std.proofs.Common.{◌≡◌, ◌≤◌, ◌+◌, ◌*◌, ℕ, true, List, [], ◌∷◌, None, length, map, arith, refl, sym, ap, ◌∙◌}
+use Rattle.std.proofs.Common.{◌≡◌, ◌≤◌, ◌+◌, ◌*◌, ℕ, List, None, length, map, arith, refl, sym, ap, ◌∙◌}
 use Rattle.std.proofs.lemmas.List.{length-map}
-use Rattle.std.proofs.lemmas.Bool.{and_parts, ltb-false}
+use Rattle.std.proofs.lemmas.Bool.{ltb-false}
 use Rattle.values.specs.laws.IntegerRows.{length_rows_from}
 use Rattle.arrow_schema.specs.Column.{PlainSchema}
 use Rattle.arrow_schema.specs.View.{schema_of}
@@ -10,25 +10,19 @@ use Rattle.ipc_message.specs.declared.raw_header.RawBatch.{RawBatch}
 use Rattle.ipc_message.specs.Framing.{first_some}
 use Rattle.ipc_message.specs.View.{raw_batch_of}
 use Rattle.ipc_stream.specs.declared.gathered.Gathered.{Gathered}
-use Rattle.values.specs.Columns.{IntegerColumn}
-use Rattle.values.specs.IntegerTable.{integer_columns, have_rows}
+use Rattle.values.specs.IntegerTable.{integer_columns}
 use Rattle.ipc_stream.specs.Batch.{batch_checks}
-use Rattle.ipc_stream.specs.inner.View.{gathered_table}
+use Rattle.ipc_stream.specs.View.{gathered_table}
 use Rattle.ipc_stream.specs.inner.Added.{added}
 use Rattle.ipc_stream.proofs.RowWeights.{WeighAlike}
 use Rattle.ipc_stream.proofs.BatchLemmas.{count_columns, few_rows, heavy_is}
 use Rattle.ipc_stream.proofs.AcceptedLemmas.{IsFine, fine_of, or_fault, or_none}
+use Rattle.ipc_stream.proofs.JoinedColumns.{same_count}
 use Rattle.ipc_stream.proofs.batch.add_batch.Goals as goal
 
 -- as many rows as the table counts
 count_rows : (t : Gathered) → length (gathered_table t).rows ≡ t.rows
 count_rows t = length_rows_from (integer_columns (schema_of t.schema)) (map (λ v. v.items) t.columns.items) 0 t.rows
-
-same_count : (cs : List IntegerColumn) (vs : List (List ℕ)) (rows : ℕ) → have_rows cs vs rows ≡ true → length vs ≡ length cs
-same_count [] [] rows h = refl
-same_count [] (v ∷ vs) rows h = cc
-same_count (c ∷ cs) [] rows h = cc
-same_count (c ∷ cs) (v ∷ vs) rows h = omega (arith, same_count cs vs rows (and_parts _ _ h).1)
 
 pub returns-in-Some : goal.returns-in-Some
 unfolding added

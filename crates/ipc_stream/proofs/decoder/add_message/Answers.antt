@@ -4,7 +4,7 @@ use Rattle.ipc_message.specs.Messages.{envelope_of}
 use Rattle.ipc_message.specs.Header.{supported_codes}
 use Rattle.ipc_message.specs.View.{raw_header_of, raw_batch_of, raw_dictionary_of}
 use Rattle.ipc_stream.specs.inner.Progress.{Adds}
-use Rattle.ipc_stream.specs.inner.View.{gathered_table}
+use Rattle.ipc_stream.specs.View.{gathered_table}
 use Rattle.ipc_stream.proofs.MessageRead.{type_of_header, header_typed, second_adds, unread_adds, dictionary_adds, batch_adds}
 use Rattle.ipc_stream.proofs.decoder.add_message.Goals as goal
 

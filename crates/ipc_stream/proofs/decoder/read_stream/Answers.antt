@@ -5,13 +5,13 @@ use Rattle.arrow_schema.specs.View.{schema_of}
 use Rattle.ipc_message.specs.Framing.{taken}
 use Rattle.ipc_message.specs.Messages.{envelope_of, next_message_of}
 use Rattle.ipc_stream.specs.inner.Progress.{without_rows, IsRead}
-use Rattle.ipc_stream.specs.inner.View.{gathered_table}
+use Rattle.ipc_stream.specs.View.{gathered_table}
 use Rattle.ipc_stream.proofs.Steps.{tested_some, tested_end, read_integer, read_end, read_fault, read_end_of_stream, read_past_end_of_stream, read_on, read_refused}
 use Rattle.ipc_stream.proofs.MessageRead.{is_end_of_stream}
 use Rattle.ipc_stream.proofs.decoder.read_stream.Goals as goal
 
-pub empty_table-requires-clause-integers : goal.empty_table-requires-clause-integers
-empty_table-requires-clause-integers c =
+pub empty-requires-clause-integers : goal.empty-requires-clause-integers
+empty-requires-clause-integers c =
     read_integer c.args.bytes.now (drop c.in_ok-schema.taken c.args.bytes.now) (without_rows (schema_of c.in_ok-schema.schema)) c.in_ok-schema.ensures.read
 
 pub returns-in_err-next_message : goal.returns-in_err-next_message

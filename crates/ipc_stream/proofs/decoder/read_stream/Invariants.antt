@@ -1,6 +1,6 @@
 use Rattle.std.proofs.Common.{length}
 use Rattle.ipc_stream.specs.inner.Progress.{IsRead}
-use Rattle.ipc_stream.specs.inner.View.{gathered_table}
+use Rattle.ipc_stream.specs.View.{gathered_table}
 use Rattle.ipc_stream.proofs.decoder.read_stream.Given as goal
 
 abbrev pub invariant-loop-rest : goal.invariant-loop-rest

@@ -3,7 +3,7 @@ use Rattle.std.proofs.lemmas.List.{length-map}
 use Rattle.arrow_schema.specs.View.{schema_of, column_of}
 use Rattle.values.specs.IntegerTable.{integer_column, integer_columns}
 use Rattle.ipc_stream.proofs.EmptyColumns.{empty_rows}
-use Rattle.ipc_stream.proofs.decoder.empty_table.Goals as goal
+use Rattle.ipc_stream.proofs.gathered.Gathered.empty.Goals as goal
 
 pub invariant_of-result-clause-each : goal.invariant_of-result-clause-each
 invariant_of-result-clause-each c =
