@@ -61,7 +61,7 @@ slots_pass s before b body ds arrays h found = after_arrays s before b body ds a
 
 -- ---- the arrays are sound
 
-passed : (t : Bool) (f : Fault) (rest : List (Option Fault)) → first_some (when t f ∷ rest) ≡ None → (t ≡ false) × (first_some rest ≡ None)
+pub passed : (t : Bool) (f : Fault) (rest : List (Option Fault)) → first_some (when t f ∷ rest) ≡ None → (t ≡ false) × (first_some rest ≡ None)
 passed true f rest h = absurd cc
 passed false f rest h = (refl, h)
 
@@ -72,6 +72,18 @@ none_shorter n (x ∷ xs) h =
     let same : slots_in x ≡ n = eqb-true _ _ (not-false _ parts.0) in
     let here : nat_lt (slots_in x) n ≡ false = le-ltb _ _ (omega (arith, same)) in
     or_from (nat_lt (slots_in x) n) (list_any (λ a. nat_lt (slots_in a) n) xs) here (none_shorter n xs parts.1)
+
+-- each array has as many slots as the batch has rows
+pub read_lengths : (cs : Columns) (b : RawBatch) (body : List ℕ) (ds : List (List Array)) → first_some (array_checks cs b body (batch_arrays cs b body ds)) ≡ None
+    → list_any (λ a. not (slots_in a == b.length)) (array_list (batch_arrays cs b body ds)) ≡ false
+read_lengths cs b body ds found =
+    let own : Arrays = batch_arrays cs b body ds in
+    let one = passed b.compressed _ _ found in
+    let two = passed (has_other_layout cs b) _ _ one.1 in
+    let three = passed (has_bad_length cs b own) _ _ two.1 in
+    let lengths = or_parts (is_bad_length b.length) _ three.0 in
+    let nodes = or_parts (list_any (λ n. is_bad_length n.length) b.nodes) _ lengths.1 in
+    (or_parts (list_any (λ a. not (slots_in a == b.length)) (array_list own)) _ nodes.1).0
 
 pub read_sound : (cs : Columns) (b : RawBatch) (body : List ℕ) (ds : List (List Array)) (arrays : Arrays) → arrays_read cs b body ds ≡ Ok arrays
     → list_all is_typed_sound (dictionaries_of cs (batch_arrays cs b body ds)) ≡ true → are_sound cs b.length arrays ≡ true

@@ -1,14 +1,11 @@
 -- The column of an id, id by id.
 use Rattle.std.specs.Prelude.{◌==◌, cond, option_map}
-use Rattle.std.specs.List.{list_all}
 use Rattle.std.proofs.Common.{◌≡◌, ℕ, zero, suc, ◌+◌, ◌≤◌, ◌<◌, Bool, true, false, Option, Some, None, List, [], ◌∷◌, length, get_or, map, take, drop, refl, ap, sym, ◌∙◌, arith}
-use Rattle.std.proofs.lemmas.Bool.{and_parts}
 use Rattle.std.proofs.lemmas.Bool.Decides.{nat_tests}
 use Rattle.std.proofs.lemmas.List.{drop-drop, drop_more}
 use Rattle.arrow_schema.specs.Column.{Column}
 use Rattle.arrays.specs.Dictionaries.{DictionaryColumn, column_of_id}
 use Rattle.arrays.specs.DictionaryColumns.{columns_with, first_alone}
-use Rattle.arrays.specs.FlatColumns.{is_flat, is_one_flat}
 
 abbrev alone_of : Option DictionaryColumn → Option (List Column)
 alone_of found = option_map (λ c. c.values ∷ []) found
@@ -60,11 +57,6 @@ one_past f [] zero past = refl
 one_past f [] (suc i) past = refl
 one_past f (x ∷ xs) zero past = absurd (omega arith)
 one_past f (x ∷ xs) (suc i) past = one_past f xs i (omega arith)
-
-pub one_is_flat : {X : Type 0} (f : X → Column) (xs : List X) (i : ℕ) → i < length xs → list_all is_flat (map f xs) ≡ true → is_one_flat (map f (take 1 (drop i xs))) ≡ true
-one_is_flat f [] i within h = absurd (omega arith)
-one_is_flat f (x ∷ xs) zero within h = (and_parts (is_flat (f x)) (list_all is_flat (map f xs)) h).0
-one_is_flat f (x ∷ xs) (suc i) within h = one_is_flat f xs i (omega arith) (and_parts (is_flat (f x)) (list_all is_flat (map f xs)) h).1
 
 pub is_no_id : (a b : ℕ) → (a ≡ b → ⊥) → (a == b) ≡ false
 is_no_id a b h = grind (arith, nat_tests)

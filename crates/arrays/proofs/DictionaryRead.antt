@@ -13,17 +13,11 @@ use Rattle.ipc_message.specs.Outcome.{Fails, Gives}
 use Rattle.ipc_message.specs.Raw.{RawBatch, RawDictionaryBatch}
 use Rattle.columns.specs.declared.array.PlacedArray.{PlacedArray}
 use Rattle.columns.specs.Array.{Array, Arrays, first_array}
-use Rattle.columns.specs.Buffers.{Node, dictionaries_of}
-use Rattle.columns.specs.FromBuffers.{arrays_from, array_from, kind_array_from}
-use Rattle.columns.specs.Tests.{every_array, arrays_at, arrays_below}
 use Rattle.columns.specs.View.{array_in, no_dictionary, placed_arrays, IsNoArray}
 use Rattle.columns.specs.Visible.{visible_in, is_no_text}
-use Rattle.columns.specs.laws.Sounds.{is_typed_sound}
 use Rattle.dictionary.specs.InEffect.{DictionaryBatch}
 use Rattle.arrays.specs.Checks.{array_checks, arrays_read}
 use Rattle.arrays.proofs.BatchRead.{unless_failed}
-use Rattle.arrays.specs.Entries.{has_bad_entry}
-use Rattle.arrays.specs.FlatColumns.{is_flat, is_one_flat}
 use Rattle.arrays.specs.Dictionaries.{DictionaryColumn, alone, entries_in, entry_checks, entries_read, dictionary_checks, has_no_base, batch_with, read_with}
 
 pub entries_fail : (c : Column) (b : RawBatch) (body : List ℕ) (e : ImportError) → Fails e (arrays_read (alone c) b body []) → Fails e (entries_read c b body)
@@ -51,54 +45,6 @@ entries_bad c b body arrays h bad = entries_after c b body arrays h ∙ ap (λ (
 pub entries_good : (c : Column) (b : RawBatch) (body : List ℕ) (arrays : Arrays) → arrays_read (alone c) b body [] ≡ Ok arrays → list_any is_no_text (visible_in (alone c) arrays b.length) ≡ false
     → entries_read c b body ≡ Ok (first_array arrays)
 entries_good c b body arrays h good = entries_after c b body arrays h ∙ ap (λ (t : Bool). unless (first_some (when t NotUtf8 ∷ [])) (Ok (first_array arrays))) good
-
--- ---- one flat column has no dictionary
-
-flat_has_none : (c : Column) (ns : List Node) (bs : List (List ℕ)) → is_flat c ≡ true → dictionaries_of (alone c) (arrays_from (alone c) ns bs []) ≡ []
-unfolding every_array arrays_at arrays_below arrays_from array_from kind_array_from
-flat_has_none (column name nullable nulls None pairs) ns bs h = refl
-flat_has_none (column name nullable booleans None pairs) ns bs h = refl
-flat_has_none (column name nullable (integers bits signed) None pairs) ns bs h = refl
-flat_has_none (column name nullable (dates unit) None pairs) ns bs h = refl
-flat_has_none (column name nullable (timestamps unit timezone) None pairs) ns bs h = refl
-flat_has_none (column name nullable texts None pairs) ns bs h = refl
-flat_has_none (column name nullable large_texts None pairs) ns bs h = refl
-flat_has_none (column name nullable binaries None pairs) ns bs h = refl
-flat_has_none (column name nullable large_binaries None pairs) ns bs h = refl
-flat_has_none (column name nullable (fixed_binaries width) None pairs) ns bs h = refl
-flat_has_none (column name nullable (lists item) None pairs) ns bs h = absurd cc
-flat_has_none (column name nullable (large_lists item) None pairs) ns bs h = absurd cc
-flat_has_none (column name nullable (fixed_lists size item) None pairs) ns bs h = absurd cc
-flat_has_none (column name nullable (structs columns) None pairs) ns bs h = absurd cc
-flat_has_none (column name nullable kind (Some index) pairs) ns bs h = absurd cc
-
-pub no_dictionaries : (cs : List Column) (ns : List Node) (bs : List (List ℕ)) → is_one_flat cs ≡ true → list_all is_typed_sound (dictionaries_of (columns_of cs) (arrays_from (columns_of cs) ns bs [])) ≡ true
-no_dictionaries [] ns bs h = absurd cc
-no_dictionaries (c ∷ []) ns bs h = ap (list_all is_typed_sound) (flat_has_none c ns bs h)
-no_dictionaries (c ∷ d ∷ cs) ns bs h = absurd cc
-
-flat_no_bad : (c : Column) (arrays : Arrays) → is_flat c ≡ true → list_any has_bad_entry (every_array (alone c) arrays) ≡ false
-unfolding every_array arrays_at arrays_below
-flat_no_bad (column name nullable nulls None pairs) arrays h = refl
-flat_no_bad (column name nullable booleans None pairs) arrays h = refl
-flat_no_bad (column name nullable (integers bits signed) None pairs) arrays h = refl
-flat_no_bad (column name nullable (dates unit) None pairs) arrays h = refl
-flat_no_bad (column name nullable (timestamps unit timezone) None pairs) arrays h = refl
-flat_no_bad (column name nullable texts None pairs) arrays h = refl
-flat_no_bad (column name nullable large_texts None pairs) arrays h = refl
-flat_no_bad (column name nullable binaries None pairs) arrays h = refl
-flat_no_bad (column name nullable large_binaries None pairs) arrays h = refl
-flat_no_bad (column name nullable (fixed_binaries width) None pairs) arrays h = refl
-flat_no_bad (column name nullable (lists item) None pairs) arrays h = absurd cc
-flat_no_bad (column name nullable (large_lists item) None pairs) arrays h = absurd cc
-flat_no_bad (column name nullable (fixed_lists size item) None pairs) arrays h = absurd cc
-flat_no_bad (column name nullable (structs columns) None pairs) arrays h = absurd cc
-flat_no_bad (column name nullable kind (Some index) pairs) arrays h = absurd cc
-
-pub no_bad_entries : (cs : List Column) (arrays : Arrays) → is_one_flat cs ≡ true → list_any has_bad_entry (every_array (columns_of cs) arrays) ≡ false
-no_bad_entries [] arrays h = absurd cc
-no_bad_entries (c ∷ []) arrays h = flat_no_bad c arrays h
-no_bad_entries (c ∷ d ∷ cs) arrays h = absurd cc
 
 -- ---- the answers
 

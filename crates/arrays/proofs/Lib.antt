@@ -15,5 +15,7 @@ pub mod VisibleSlots
 pub mod VisibleTexts
 pub mod Ranges
 pub mod BatchRead
+pub mod KnownRead
+pub mod KnownBatches
 pub mod DictionaryRead
 pub mod DictionaryFound

@@ -42,7 +42,7 @@ none_any p f start (suc n) h =
     let here : p (f start) ≡ false = h start (omega arith) (omega arith) in
     rw here (none_any p f (start + 1) n (λ i le lt. h i (omega arith) (omega arith)))
 
-any_row : {X : Type 0} (p : X → Bool) (q : ℕ → Bool) (f : ℕ → X) (start n : ℕ) → ((i : ℕ) → p (f i) ≡ q i) → list_any p (map f (range_with_len start n)) ≡ list_any q (range_with_len start n)
+pub any_row : {X : Type 0} (p : X → Bool) (q : ℕ → Bool) (f : ℕ → X) (start n : ℕ) → ((i : ℕ) → p (f i) ≡ q i) → list_any p (map f (range_with_len start n)) ≡ list_any q (range_with_len start n)
 any_row p q f start zero h = refl
 any_row p q f start (suc n) h = λ j. h start j || any_row p q f (start + 1) n h j
 

@@ -1,6 +1,6 @@
 pub mod Checks
 pub mod Dictionaries
 pub mod DictionaryColumns
-pub mod FlatColumns
 pub mod Entries
+pub mod Known
 pub mod inner

@@ -1,19 +1,18 @@
 // The arrays of a record batch, or its first fault (docs/definitions/arrays.md).
 ghost use Rattle.std.specs.Prelude.{◌≡◌, ◌<◌, ◌+◌, ◌^◌, true, false, map, IfOk, Ok};
-ghost use Rattle.std.specs.List.{list_all, list_any};
+ghost use Rattle.std.specs.List.{list_any};
 ghost use Rattle.arrow_schema.specs.Column.{PlainSchema, columns_of};
 ghost use Rattle.arrow_schema.specs.View.{column_of, schema_of};
 ghost use Rattle.facts.specs.Checks.{first_some, unless};
 ghost use Rattle.ipc_message.specs.Outcome.{Gives};
 ghost use Rattle.ipc_message.specs.View.{raw_batch_of};
-ghost use Rattle.columns.specs.Buffers.{dictionaries_of};
 ghost use Rattle.columns.specs.Places.{within};
 ghost use Rattle.columns.specs.Sound.{are_sound};
 ghost use Rattle.columns.specs.Tests.{every_array};
 ghost use Rattle.columns.specs.View.{arrays_in, placed_arrays};
-ghost use Rattle.columns.specs.laws.Sounds.{is_typed_sound};
-ghost use Rattle.arrays.specs.Checks.{batch_arrays, batch_read, batch_weight, slot_checks};
+ghost use Rattle.arrays.specs.Checks.{batch_read, batch_weight, slot_checks};
 ghost use Rattle.arrays.specs.Entries.{has_bad_entry};
+ghost use Rattle.arrays.specs.Known.{are_readable, dictionary_values};
 ghost use Rattle.arrays.specs.inner.Read.{placed_in};
 
 use crate::batch_arrays::{Placed, read_arrays};
@@ -73,7 +72,7 @@ fn check_slots(before: u64, placed: Placed<'_>, rows: usize) -> Result<u64, Faul
 }
 
 /// The arrays of a record batch whose body stands in some bytes, or its first fault, where the rows before it weigh so much. A dictionary column takes
-/// the next of `parts`, whose arrays were read. Nothing is copied: the arrays are places in the bytes. Their slots can be looked up. The rows before
+/// the next of `parts`, whose arrays were read with [`crate::read_dictionary`]. Nothing is copied: the arrays are places in the bytes. Their slots can be looked up. The rows before
 /// the next batch weigh as much more as this one answers.
 pub fn read(
     alloc: Global,
@@ -86,12 +85,8 @@ pub fn read(
     parts: &[DictionaryPart],
 ) -> Result<PlacedBatch, ImportError>
     requires fits { body.start + body.len < 2 ^ 64 }
-    requires sound { let columns = columns_of (schema_of schema.now).columns in
-        let known = map (arrays_in bytes.now dictionaries.now) parts.now in
-        list_all is_typed_sound (dictionaries_of columns (batch_arrays columns (raw_batch_of batch.now) (within bytes.now body) known)) ≡ true }
-    requires texts { let columns = columns_of (schema_of schema.now).columns in
-        let known = map (arrays_in bytes.now dictionaries.now) parts.now in
-        list_any has_bad_entry (every_array columns (batch_arrays columns (raw_batch_of batch.now) (within bytes.now body) known)) ≡ false }
+    requires known { let known = map (arrays_in bytes.now dictionaries.now) parts.now in
+        are_readable (dictionary_values (columns_of (schema_of schema.now).columns)) known ≡ true }
     ensures arrays { let known = map (arrays_in bytes.now dictionaries.now) parts.now in
         let exact = batch_read (schema_of schema.now) before (raw_batch_of batch.now) (within bytes.now body) known in
         Gives (λ v. placed_arrays bytes.now dictionaries.now v.arrays.items) result exact }

@@ -1,6 +1,5 @@
 // The array of a dictionary batch, or the first fault of its checks (docs/definitions/arrays.md).
-ghost use Rattle.std.specs.Prelude.{◌≡◌, ◌+◌, ◌<◌, ◌^◌, ℕ, true, [], ◌∷◌, List, map, drop, option_map, IfSome};
-ghost use Rattle.std.specs.List.{list_all};
+ghost use Rattle.std.specs.Prelude.{◌≡◌, ◌+◌, ◌<◌, ◌^◌, ℕ, [], ◌∷◌, List, map, drop, option_map};
 ghost use Rattle.arrow_schema.specs.Column.{Column};
 ghost use Rattle.arrow_schema.specs.View.{column_of};
 ghost use Rattle.ipc_message.specs.Outcome.{Gives};
@@ -10,7 +9,6 @@ ghost use Rattle.columns.specs.Places.{within};
 ghost use Rattle.columns.specs.View.{array_in, no_dictionary, placed_arrays};
 ghost use Rattle.dictionary.specs.InEffect.{DictionaryBatch};
 ghost use Rattle.dictionary.specs.Kept.{HasInEffect};
-ghost use Rattle.arrays.specs.FlatColumns.{is_flat, is_one_flat};
 ghost use Rattle.arrays.specs.Dictionaries.{entries_read, has_no_base, batch_with, dictionary_read};
 ghost use Rattle.arrays.specs.DictionaryColumns.{dictionary_columns_of, columns_with, first_alone, values_of_id};
 
@@ -25,8 +23,7 @@ use std::alloc::Global;
 
 // The field at a place by itself.
 fn one_at(fields: &[Field], i: usize) -> Option<&[Field]>
-    ensures one { option_map (λ one. map column_of one.now) result ≡ first_alone (drop i (map column_of fields.now)) }
-    ensures flat { list_all is_flat (map column_of fields.now) ≡ true → IfSome result (λ one. is_one_flat (map column_of one.now) ≡ true) }
+    ensures { option_map (λ one. map column_of one.now) result ≡ first_alone (drop i (map column_of fields.now)) }
 {
     if i < fields.len() {
         Some(&fields[i..i + 1])
@@ -36,8 +33,7 @@ fn one_at(fields: &[Field], i: usize) -> Option<&[Field]>
 }
 
 fn find_values<'a>(ids: &[u64], values: &'a [Field], id: u64) -> Option<&'a [Field]>
-    ensures found { option_map (λ one. map column_of one.now) result ≡ values_of_id id (columns_with ids.now (map column_of values.now)) }
-    ensures flat { list_all is_flat (map column_of values.now) ≡ true → IfSome result (λ one. is_one_flat (map column_of one.now) ≡ true) }
+    ensures { option_map (λ one. map column_of one.now) result ≡ values_of_id id (columns_with ids.now (map column_of values.now)) }
 {
     for (i, other) in ids.iter().enumerate() {
         if *other == id {
@@ -49,8 +45,7 @@ fn find_values<'a>(ids: &[u64], values: &'a [Field], id: u64) -> Option<&'a [Fie
 
 // The values of the first column that has an id.
 fn find_values_of(columns: &DictionaryColumns, id: u64) -> Option<&[Field]>
-    ensures found { option_map (λ one. map column_of one.now) result ≡ values_of_id id (dictionary_columns_of columns.now) }
-    ensures flat { IfSome result (λ one. is_one_flat (map column_of one.now) ≡ true) }
+    ensures { option_map (λ one. map column_of one.now) result ≡ values_of_id id (dictionary_columns_of columns.now) }
 {
     find_values(&columns.ids, &columns.values, id)
 }
@@ -74,8 +69,7 @@ fn read_entries(
     body: Span,
     bytes: &[u8],
 ) -> Result<PlacedArray, ImportError>
-    requires body { body.start + body.len < 2 ^ 64 }
-    requires flat { is_one_flat (map column_of values.now) ≡ true }
+    requires { body.start + body.len < 2 ^ 64 }
     ensures { (c : Column) → map column_of values.now ≡ c ∷ []
         → Gives (array_in bytes.now no_dictionary) result (entries_read c (raw_batch_of batch.now) (within bytes.now body)) }
 {

@@ -9,7 +9,8 @@ use Rattle.ipc_message.specs.View.{raw_batch_of}
 use Rattle.columns.specs.Array.{Array, Arrays}
 use Rattle.columns.specs.Places.{within}
 use Rattle.columns.specs.View.{arrays_in, placed_arrays}
-use Rattle.arrays.specs.Checks.{arrays_read, slot_checks, batch_weight}
+use Rattle.arrays.proofs.KnownRead.{known_sound, known_texts}
+use Rattle.arrays.specs.Checks.{plain_node, buffer_bytes, arrays_read, slot_checks, batch_weight}
 use Rattle.arrays.proofs.BatchRead.{unless_failed, fails_too, slots_fail, slots_pass, read_sound, read_entries}
 use Rattle.arrays.proofs.batch.read.Goals as goal
 
@@ -21,7 +22,7 @@ check_slots-requires-clause-sound c =
     let known : List (List Array) = map (arrays_in c.args.bytes.now c.args.dictionaries.now) c.args.parts.now in
     let arrays : Arrays = placed_arrays c.args.bytes.now c.args.dictionaries.now c.in_ok-arrays.arrays.items in
     let ok : arrays_read cs b body known ≡ Ok arrays = rw c.deref.ensures.value at c.in_ok-arrays.ensures in
-    rw (c.deref-2.ensures.value, c.deref-3.ensures.value) (read_sound cs b body known arrays ok c.requires.sound)
+    rw (c.deref-2.ensures.value, c.deref-3.ensures.value) (read_sound cs b body known arrays ok (known_sound cs (map plain_node b.nodes) (map (buffer_bytes body) b.buffers) known c.requires.known))
 
 pub check_slots-requires-clause-entries : goal.check_slots-requires-clause-entries
 check_slots-requires-clause-entries c =
@@ -31,7 +32,7 @@ check_slots-requires-clause-entries c =
     let known : List (List Array) = map (arrays_in c.args.bytes.now c.args.dictionaries.now) c.args.parts.now in
     let arrays : Arrays = placed_arrays c.args.bytes.now c.args.dictionaries.now c.in_ok-arrays.arrays.items in
     let ok : arrays_read cs b body known ≡ Ok arrays = rw c.deref.ensures.value at c.in_ok-arrays.ensures in
-    rw (c.deref-2.ensures.value, c.deref-3.ensures.value) (read_entries cs b body known arrays ok c.requires.texts)
+    rw (c.deref-2.ensures.value, c.deref-3.ensures.value) (read_entries cs b body known arrays ok (known_texts cs (map plain_node b.nodes) (map (buffer_bytes body) b.buffers) known c.requires.known))
 
 pub returns-in_err-arrays-clause-arrays : goal.returns-in_err-arrays-clause-arrays
 returns-in_err-arrays-clause-arrays c =
@@ -72,7 +73,7 @@ returns-in-Ok-clause-sound c =
     let known : List (List Array) = map (arrays_in c.args.bytes.now c.args.dictionaries.now) c.args.parts.now in
     let arrays : Arrays = placed_arrays c.args.bytes.now c.args.dictionaries.now c.in_ok-arrays.arrays.items in
     let ok : arrays_read (columns_of s.columns) b body known ≡ Ok arrays = rw c.deref.ensures.value at c.in_ok-arrays.ensures in
-    read_sound (columns_of s.columns) b body known arrays ok c.requires.sound
+    read_sound (columns_of s.columns) b body known arrays ok (known_sound (columns_of s.columns) (map plain_node b.nodes) (map (buffer_bytes body) b.buffers) known c.requires.known)
 
 pub returns-in-Err-clause-arrays : goal.returns-in-Err-clause-arrays
 returns-in-Err-clause-arrays c =

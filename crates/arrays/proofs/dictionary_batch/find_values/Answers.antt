@@ -5,9 +5,9 @@ use Rattle.arrays.specs.Dictionaries.{DictionaryColumn}
 use Rattle.arrays.proofs.DictionaryFound.{found_here, found_later, is_no_id}
 use Rattle.arrays.proofs.dictionary_batch.find_values.Goals as goal
 
-pub returns-then-other-id-clause-found : goal.returns-then-other-id-clause-found
-returns-then-other-id-clause-found c =
-    c.one_at.ensures.one
+pub returns-then-other-id : goal.returns-then-other-id
+returns-then-other-id c =
+    c.one_at.ensures
     ∙ sym (found_here c.args.id c.args.ids.now (map column_of c.args.values.now) c.loop-i.i c.loop-i-test.true (eq-eqb (get_or c.args.ids.now c.loop-i.i 0) c.args.id c.if-other-id.true))
     ∙ ap (λ (found : Option DictionaryColumn). option_map (λ d. d.values ∷ []) found) (sym c.loop-i.invariant)
 

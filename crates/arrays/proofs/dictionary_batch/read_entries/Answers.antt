@@ -1,4 +1,5 @@
-use Rattle.std.proofs.Common.{◌≡◌, ℕ, [], List, map, Ok, ap, sym, ◌∙◌, subst, true}
+use Rattle.std.specs.List.{list_any}
+use Rattle.std.proofs.Common.{◌≡◌, ℕ, [], List, map, Ok, ap, sym, ◌∙◌, subst, true, false}
 use Rattle.arrow_schema.specs.Column.{Column, columns_of}
 use Rattle.arrow_schema.specs.View.{column_of}
 use Rattle.ipc_message.specs.Raw.{RawBatch}
@@ -7,10 +8,14 @@ use Rattle.columns.specs.declared.array.PlacedArray.{PlacedArray}
 use Rattle.columns.specs.Array.{Array}
 use Rattle.columns.specs.Places.{within}
 use Rattle.columns.specs.Sound.{are_sound}
+use Rattle.columns.specs.Tests.{every_array}
 use Rattle.columns.specs.View.{placed_arrays}
 use Rattle.arrays.specs.Checks.{plain_node, buffer_bytes}
-use Rattle.arrays.proofs.BatchRead.{read_sound}
-use Rattle.arrays.proofs.DictionaryRead.{failed, bad, good, no_dictionaries, no_bad_entries}
+use Rattle.arrays.specs.Entries.{has_bad_entry}
+use Rattle.arrays.specs.Known.{dictionary_values}
+use Rattle.arrays.proofs.BatchRead.{read_sound, read_entries}
+use Rattle.arrays.proofs.KnownRead.{known_sound, known_texts, none_known}
+use Rattle.arrays.proofs.DictionaryRead.{failed, bad, good}
 use Rattle.arrays.proofs.dictionary_batch.read_entries.Goals as goal
 
 pub has_bad_text-requires-clause-sound : goal.has_bad_text-requires-clause-sound
@@ -21,10 +26,17 @@ has_bad_text-requires-clause-sound c =
     let same : c.deref.result.now ≡ c.in-Ok.arrays.items = cc in
     subst (λ (xs : List PlacedArray). are_sound (columns_of cs) c.args.batch.now.length (placed_arrays c.args.bytes.now [] xs) ≡ true) (sym same)
     (read_sound (columns_of cs) b body [] (placed_arrays c.args.bytes.now [] c.in-Ok.arrays.items) c.in-Ok.ensures
-    (no_dictionaries cs (map plain_node b.nodes) (map (buffer_bytes body) b.buffers) c.requires.flat))
+    (known_sound (columns_of cs) (map plain_node b.nodes) (map (buffer_bytes body) b.buffers) [] (none_known (dictionary_values (columns_of cs)))))
 
 pub has_bad_text-requires-clause-entries : goal.has_bad_text-requires-clause-entries
-has_bad_text-requires-clause-entries c = no_bad_entries (map column_of c.args.values.now) (placed_arrays c.args.bytes.now [] c.deref.result.now) c.requires.flat
+has_bad_text-requires-clause-entries c =
+    let cs : List Column = map column_of c.args.values.now in
+    let b : RawBatch = raw_batch_of c.args.batch.now in
+    let body : List ℕ = within c.args.bytes.now c.args.body in
+    let same : c.deref.result.now ≡ c.in-Ok.arrays.items = cc in
+    subst (λ (xs : List PlacedArray). list_any has_bad_entry (every_array (columns_of cs) (placed_arrays c.args.bytes.now [] xs)) ≡ false) (sym same)
+    (read_entries (columns_of cs) b body [] (placed_arrays c.args.bytes.now [] c.in-Ok.arrays.items) c.in-Ok.ensures
+    (known_texts (columns_of cs) (map plain_node b.nodes) (map (buffer_bytes body) b.buffers) [] (none_known (dictionary_values (columns_of cs)))))
 
 pub returns-then-has_bad_text : goal.returns-then-has_bad_text
 returns-then-has_bad_text c = λ col is.
