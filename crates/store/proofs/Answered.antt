@@ -22,6 +22,7 @@ use Rattle.store.specs.Applying.{GoesOn}
 use Rattle.std.proofs.lemmas.Bool.Decides.{nat_tests}
 use Rattle.store.specs.Places.{call_of, reply_in, calls_of, replies_of, device_in, ShutFits, PlaceFits, PlaceGoes, PlaceRuns, PlaceLives}
 use Rattle.store.specs.laws.Going.{no_run, run_of_one, runs_joined}
+use Rattle.store.specs.laws.Left.{left_from}
 use Rattle.store.specs.laws.Kept.{stops_keep}
 use Rattle.store.specs.laws.Settled.{run_settles, run_settles_all}
 use Rattle.store.specs.laws.Counted.{undisturbed}
@@ -55,6 +56,7 @@ refused_shut s m call story failed needs is allows =
       settles = allows;
       quiet = λ no quiet. refl;
       counts = refl;
+      tells = tt;
     }
 
 -- a closing
@@ -75,6 +77,7 @@ closed size story failed base m store fits =
         settles = λ image may. fits.device.allows image may;
         quiet = λ no quiet. refl;
         counts = refl;
+        tells = tt;
       };
       fits = record { phase = refl; fits = record { in_limits = fits.device.in_limits; allows = λ image may. fits.device.allows image may; fresh = λ early. let f = fits.device.fresh early in record { settled = f.settled; doubt = f.doubt; began = f.began } } };
     }
@@ -144,7 +147,10 @@ lives size story failed base m calls replies old new fits runs =
     let f' = failed (device_in new) in
     record {
       runs = runs;
-      stops = λ i image left. stops_keep s calls replies m before f runs.next after f' runs.run i image (place_allows size story base m old fits) left;
+      stops = λ i image left. (
+        left_from s calls replies m before f runs.next after f' runs.run i image (place_allows size story base m old fits) left,
+        stops_keep s calls replies m before f runs.next after f' runs.run i image (place_allows size story base m old fits) left,
+      );
       settles = run_settles s calls replies m before f runs.next after f' runs.run;
       undisturbed = λ less same. undisturbed s calls replies m before f runs.next after f' runs.run less same;
       all_settled = λ none on no_failure. run_settles_all s calls replies m before f runs.next after f' runs.run none on no_failure;

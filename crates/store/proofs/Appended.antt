@@ -7,6 +7,7 @@ use Rattle.facts.specs.Checks.{when, first_some, unless}
 use Rattle.arrow_schema.specs.Column.{PlainSchema}
 use Rattle.arrow_schema.specs.Integers.{is_integer_schema}
 use Rattle.arrow_schema.specs.OneShape.{have_one_shape}
+use Rattle.arrow_schema.specs.Shape.{HaveOneShape}
 use Rattle.cells.specs.Cell.{Cell, PlainTable}
 use Rattle.cells.specs.Weight.{table_weight}
 use Rattle.cells.specs.declared.limits.TheConstants.{MAX_TABLE_WEIGHT}
@@ -22,7 +23,7 @@ use Rattle.catalogue.specs.Schemas.{is_read}
 use Rattle.catalogue.specs.laws.Changed.{found_passes}
 use Rattle.catalogue.specs.laws.Kept.{entry_is}
 use Rattle.ipc_write.specs.Decoded.{is_not_read}
-use Rattle.store.proofs.Integers.{read_integers}
+use Rattle.store.proofs.Integers.{read_integers, one_schema}
 use Rattle.catalogue.specs.Edits.{entry_of}
 use Rattle.tables.specs.declared.refusal.Limit.TheVariants as limits
 use Rattle.tables.specs.declared.refusal.Refusal.{Refusal}
@@ -183,7 +184,7 @@ not_true_of true h = absurd (cc h)
 not_true_of false h = refl
 
 -- its schema is of integers
-pub entry_integers : (c : PlainCatalogue) (name : List ℕ) (e : PlainEntry) → IsCatalogue c → AreRead c → entry_of c name ≡ Some e → is_integer_schema e.schema ≡ true
+entry_integers : (c : PlainCatalogue) (name : List ℕ) (e : PlainEntry) → IsCatalogue c → AreRead c → entry_of c name ≡ Some e → is_integer_schema e.schema ≡ true
 entry_integers c name e sound read is =
     let within = (entry_is e (found_passes is_entry c name e sound.entries is)).schema in
     read_integers e.schema within (not_true_of (is_not_read e.schema) (found_passes (λ (x : PlainEntry). is_read x.schema) c name e read is))
@@ -193,12 +194,38 @@ shape_by true h = refl
 shape_by false h = absurd (cc h)
 
 -- schemas of one shape, as a test finds it
-pub one_shape : (a b : PlainSchema) → other_shape a b ≡ None → have_one_shape a b ≡ true
+one_shape : (a b : PlainSchema) → other_shape a b ≡ None → have_one_shape a b ≡ true
 one_shape a b h = shape_by (have_one_shape a b) h
 
 -- a table of the entry's schema
-pub same_table : (e : PlainEntry) (table : PlainTable) → e.schema ≡ table.schema → rows_under e.schema table.rows ≡ table
+same_table : (e : PlainEntry) (table : PlainTable) → e.schema ≡ table.schema → rows_under e.schema table.rows ≡ table
 same_table e table same = λ i. record { schema = same i; rows = table.rows }
 
-pub new_rows : (e : PlainEntry) (table : PlainTable) → WeightLaws e.schema → e.schema ≡ table.schema → IsTable table → NewRows e table.rows
+new_rows : (e : PlainEntry) (table : PlainTable) → WeightLaws e.schema → e.schema ≡ table.schema → IsTable table → NewRows e table.rows
 new_rows e table laws same sound = record { laws = laws; sound = subst IsTable (sym (same_table e table same)) sound }
+
+-- what is known of rows and schemas: clauses of laws
+pub record RowLaws : Type 0 where
+  pub weigh : (s : PlainSchema) (rows : List (List Cell)) → is_integer_schema s ≡ true → table_weight s rows ≡ length rows * (1 + length s.columns)
+  pub join : (s : PlainSchema) (a b : List (List Cell)) → IsTable (rows_under s a) → IsTable (rows_under s b) → table_weight s (a ++ b) ≤ MAX_TABLE_WEIGHT → IsTable (rows_under s (a ++ b))
+  pub taken : (t : PlainTable) → IsTable t → table_from t.schema t.rows ≡ Ok t
+  pub shapes : (a b : PlainSchema) → have_one_shape a b ≡ true → HaveOneShape a b
+
+-- a stream whose rows can go behind those of an entry: its table has the same schema
+pub record Follows (e : PlainEntry) (bytes : List ℕ) (table : PlainTable) : Type 0 where
+  pub same : e.schema ≡ table.schema
+  pub new : NewRows e table.rows
+  pub shape : other_shape e.schema e.schema ≡ None
+  pub means : meaning supported_codes bytes ≡ Ok (rows_under e.schema table.rows)
+
+pub follows : RowLaws → (c : PlainCatalogue) (name : List ℕ) (e : PlainEntry) → IsCatalogue c → AreRead c → entry_of c name ≡ Some e → (bytes : List ℕ) (table : PlainTable) → IsTable table → is_integer_schema table.schema ≡ true
+    → meaning supported_codes bytes ≡ Ok table → other_shape e.schema table.schema ≡ None → Follows e bytes table
+follows laws c name e listed read there bytes table sound integers means shape =
+    let own : is_integer_schema e.schema ≡ true = entry_integers c name e listed read there in
+    let same : e.schema ≡ table.schema = one_schema e.schema table.schema own integers (laws.shapes e.schema table.schema (one_shape e.schema table.schema shape)) in
+    record {
+      same = same;
+      new = new_rows e table (record { weigh = λ rows. laws.weigh e.schema rows own; join = laws.join e.schema; taken = λ rows fine. laws.taken (rows_under e.schema rows) fine }) same sound;
+      shape = ap (other_shape e.schema) same ∙ shape;
+      means = means ∙ ap Ok (sym (same_table e table same));
+    }

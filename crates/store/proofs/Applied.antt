@@ -49,13 +49,13 @@ module _ {D : Type 0} {g : Ghosts D} (size : D → ℕ) (story : D → Story) (f
   -- a command of a store that is halted
   pub refuses_halted : (store : Store D g) → store.halted ≡ true → StoreFits size story base m store → GoesOn size story failed base m (apply_call c) (refused refusals.Halted) store store
   unfolding Step
-  refuses_halted store on fits = still size story failed base m (apply_call c) (refused refusals.Halted) store (not_running m.phase store.halted fits.phase on, (refl, refl)) refl fits
+  refuses_halted store on fits = still size story failed base m (apply_call c) (refused refusals.Halted) store (not_running m.phase store.halted fits.phase on, (refl, refl)) refl fits tt
 
   -- one that is refused before anything is read or written
   pub refuses_first : (r : Refusal) (store : Store D g) → store.halted ≡ false → is_failure r ≡ false → StoreFits size story base m store
       → RefusesFirst (origin_of r) (tables_now (setting_of (size store.device) base) m) c r → GoesOn size story failed base m (apply_call c) (refused r) store store
   unfolding Step
-  refuses_first r store on none fits why = still size story failed base m (apply_call c) (refused r) store (by_origin (origin_of r) refl) none fits
+  refuses_first r store on none fits why = still size story failed base m (apply_call c) (refused r) store (by_origin (origin_of r) refl) none fits tt
     where
       running_is : m.phase ≡ running
       running_is = fits.phase ∙ ap (λ (b : Bool). if b then halted else running) on

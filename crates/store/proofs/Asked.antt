@@ -11,6 +11,7 @@ use Rattle.store.specs.declared.store.Store.{Store}
 use Rattle.store.specs.Calls.{PlainCall, PlainReply, is_device_reply}
 use Rattle.store.specs.Machine.{Phase, running, halted, Machine, AllowsEach}
 use Rattle.store.specs.Steps.{Step}
+use Rattle.store.specs.Runs.{TellsFound}
 use Rattle.store.specs.Fits.{setting_of, StoreFits}
 use Rattle.store.specs.Applying.{GoesOn}
 
@@ -30,8 +31,9 @@ told_of r e P is p = subst (λ x. IfErr x P) (sym is) p
 
 -- a step that writes nothing, of a store that stays as it is
 pub still : {D : Type 0} {g : Ghosts D} (size : D → ℕ) (story : D → Story) (failed : D → ℕ) (base : Tables) (m : Machine) (call : PlainCall) (reply : PlainReply) (store : Store D g)
-    → Step (setting_of (size store.device) base) m call reply false m → is_device_reply reply ≡ false → StoreFits size story base m store → GoesOn size story failed base m call reply store store
-still size story failed base m call reply store step answered fits =
+    → Step (setting_of (size store.device) base) m call reply false m → is_device_reply reply ≡ false → StoreFits size story base m store
+    → TellsFound (setting_of (size store.device) base) reply (now (story store.device)) → GoesOn size story failed base m call reply store store
+still size story failed base m call reply store step answered fits tells =
     let s = setting_of (size store.device) base in
     let d = now (story store.device) in
     record {
@@ -43,6 +45,7 @@ still size story failed base m call reply store step answered fits =
         settles = fits.device.allows;
         quiet = λ no device. refl;
         counts = sym (ap (λ (b : Bool). if b then min (failed store.device + 1) (2 ^ 64 - 1) else failed store.device) answered);
+        tells = tells;
       };
       fits = fits;
     }

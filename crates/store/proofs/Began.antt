@@ -1,5 +1,5 @@
 -- Devices with which a run may begin.
-use Rattle.std.proofs.Common.{◌≡◌, ℕ, Bool, true, Option, None, refl, ap, ◌∙◌, inl, inr, if◌then◌else◌}
+use Rattle.std.proofs.Common.{◌≡◌, ℕ, Bool, true, Option, None, refl, ap, ◌∙◌, ◌∷◌, [], inl, inr, ⊎_elim, if◌then◌else◌}
 use Rattle.sector_dev.specs.Disk.{Story, Image, now}
 use Rattle.sector_dev.specs.Time.{LeavesOnly}
 use Rattle.commit.specs.declared.sector.Commit.{Commit}
@@ -9,10 +9,12 @@ use Rattle.commit.specs.Standing.{no_store, by_commit, damaged, is_size, standin
 use Rattle.commit.specs.declared.cause.Cause.TheVariants.{DeviceSize}
 use Rattle.commit.specs.Formatting.{HoldsNoCommit}
 use Rattle.tables.specs.Tables.{Tables, no_tables}
+use Rattle.tables.specs.Commands.{PlainCommand}
 use Rattle.tables.specs.Verdict.{after}
+use Rattle.store.specs.Machine as machines
 use Rattle.store.specs.Machine.{Allows, holds}
 use Rattle.store.specs.Held.{whole_reading, held_of, held_by}
-use Rattle.store.specs.Fits.{DeviceFits, fresh, resumed}
+use Rattle.store.specs.Fits.{DeviceFits, fresh, resumed, doubting, HoldsNoneOrEmpty, HoldsWithOrWithout}
 
 none_newer : (b : Option Commit) → newer None b ≡ b
 unfolding newer
@@ -42,5 +44,26 @@ resumed_fits size story device t limits has =
     record {
       in_limits = limits;
       allows = λ image may. inl (has image may);
+      fresh = λ early. absurd (cc early);
+    }
+
+pub formatting_fits : {D : Type 0} (size : D → ℕ) (story : D → Story) (device : D) → is_size (size device) ≡ true → LeavesOnly (HoldsNoneOrEmpty (size device)) (now (story device))
+    → DeviceFits size story no_tables fresh device
+unfolding Allows after
+formatting_fits size story device limits has =
+    record {
+      in_limits = limits;
+      allows = λ image may. ⊎_elim (λ (none : held_by (size device) image ≡ machines.no_store). inr (inr (refl, none))) (λ (empty : held_by (size device) image ≡ holds no_tables). inl empty) (has image may);
+      fresh = λ early. record { settled = refl; doubt = refl; began = refl };
+    }
+
+pub doubting_fits : {D : Type 0} (size : D → ℕ) (story : D → Story) (device : D) (t : Tables) (c : PlainCommand) → is_size (size device) ≡ true
+    → LeavesOnly (HoldsWithOrWithout (size device) t c) (now (story device)) → DeviceFits size story t (doubting c) device
+unfolding Allows after
+doubting_fits size story device t c limits has =
+    record {
+      in_limits = limits;
+      allows = λ image may.
+          ⊎_elim (λ (without : held_by (size device) image ≡ holds t). inl without) (λ (with' : held_by (size device) image ≡ holds (after t (c ∷ []))). inr (inl with')) (has image may);
       fresh = λ early. absurd (cc early);
     }

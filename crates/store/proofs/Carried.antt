@@ -1,9 +1,10 @@
 -- A command in the words of the machine, from what publishing promises.
-use Rattle.std.specs.Prelude.{◌≡◌, ◌≢◌, ◌<◌, ◌+◌, ◌-◌, ◌%◌, ◌^◌, ℕ, min, Bool, true, false, nat_lt, List, [], ◌∷◌, ◌++◌, Some, Ok, Err, IsOk, is_ok, refl}
+use Rattle.std.specs.Prelude.{None, ◌≡◌, ◌≢◌, ◌<◌, ◌+◌, ◌-◌, ◌%◌, ◌^◌, ℕ, min, Bool, true, false, nat_lt, List, [], ◌∷◌, ◌++◌, Some, Ok, Err, IsOk, is_ok, refl}
 use Rattle.std.proofs.Common.{inl, inr, ⊎_elim, sym, ap, ◌∙◌, subst, arith}
 use Rattle.std.proofs.lemmas.Bool.{lt-ltb}
 use Rattle.std.proofs.lemmas.Bool.Decides.{nat_tests}
 use Rattle.sector_dev.specs.Disk.{Disk, Sector, Story, Image, now, synced_image}
+use Rattle.sector_dev.specs.declared.device.SectorDevice.{Ghosts}
 use Rattle.sector_dev.specs.Time.{Grows, LeavesOnly}
 use Rattle.sector_dev.specs.laws.Time.{weaken, now_has, stays}
 use Rattle.sector_dev.specs.laws.Crash.{only_image}
@@ -11,12 +12,14 @@ use Rattle.segments.specs.declared.run.Run.{Run}
 use Rattle.segments.specs.declared.piece.Piece.{Piece}
 use Rattle.segments.specs.Usages.{Space}
 use Rattle.segments.specs.Writing.{runs_of, HoldsEach}
-use Rattle.catalogue.specs.Entries.{PlainCatalogue, IsCatalogue}
+use Rattle.catalogue.specs.Entries.{PlainCatalogue, IsCatalogue, runs_of as runs_in}
+use Rattle.catalogue.specs.laws.Kept.{catalogue_is}
 use Rattle.catalogue.specs.View.{catalogue_of}
 use Rattle.commit.specs.declared.sector.Commit.{Commit}
 use Rattle.commit.specs.declared.publishing.Plan.{Plan}
 use Rattle.commit.specs.Publishing.{IsOutside, IsOldOrNew, IsPublishing, IsPublished}
 use Rattle.commit.specs.Replacing.{CanReplace, StandsAs}
+use Rattle.commit.specs.Standing.{is_on_device, runs_fault, rules, standing, Stands}
 use Rattle.commit.specs.laws.Frame.{above_used}
 use Rattle.tables.specs.declared.refusal.Refusal.{Refusal}
 use Rattle.tables.specs.declared.refusal.Refusal.TheVariants as refusals
@@ -32,13 +35,15 @@ use Rattle.store.specs.Machine.{holds, Machine, running, tables_now, Allows, All
 use Rattle.store.specs.Steps.{Step, RefusesFrom}
 use Rattle.store.specs.Runs.{Goes, counted}
 use Rattle.store.specs.Held.{whole_reading, tables_held, held_tables, held_by}
-use Rattle.store.specs.Fits.{setting_of}
+use Rattle.store.specs.declared.store.Store.{Store}
+use Rattle.store.specs.Fits.{setting_of, listed_in, IsSound}
 use Rattle.store.specs.Changes.{PlainChange, IsChange, MakesOf, placed_segments}
-use Rattle.store.specs.Applying.{IsCarried}
+use Rattle.store.specs.Deciding.{IsDecided}
+use Rattle.store.specs.Applying.{IsCarried, HasDone, IsOldOrDone}
 use Rattle.store.specs.inner.Prepared.{IsPrepared}
 use Rattle.store.specs.laws.Frame.{held_is, same_tables}
 use Rattle.store.specs.laws.Changed.{edited_held}
-use Rattle.store.proofs.Prepared.{streams_held}
+use Rattle.store.proofs.Prepared.{streams_held, can_replace}
 
 not_less : (n : ℕ) → nat_lt n n ≡ false
 not_less n = grind (arith, nat_tests)
@@ -78,6 +83,7 @@ module _ (size : ℕ) (base : Tables) (m : Machine) (c : PlainCommand) (new : Ta
       settles = allows;
       quiet = λ no device. refl;
       counts = uncounted r failed other;
+      tells = tt;
     }
 
   -- ---- published
@@ -121,6 +127,7 @@ module _ (size : ℕ) (base : Tables) (m : Machine) (c : PlainCommand) (new : Ta
       settles = halted_allows (has_written (now s0) (now s1)) (now s1) (now_has {P = λ d. LeavesOnly (Allows (setting_of size base) (meanwhile (apply_call c) m (has_written (now s0) d))) d} start meantime);
       quiet = λ no device. absurd (cc device);
       counts = counts;
+      tells = tt;
     }
 
     pub done_goes : (failed failed' : ℕ) → failed' ≡ failed → IsPublished (now s0) k' pieces New (now s1) → held_by size (synced_image (now s1)) ≡ holds new
@@ -132,6 +139,7 @@ module _ (size : ℕ) (base : Tables) (m : Machine) (c : PlainCommand) (new : Ta
       settles = λ image may. inl (ap (held_by size) (only_image (now s1) image p.quiet.pending may) ∙ held ∙ ap holds new_after);
       quiet = λ no device. absurd (cc no);
       counts = counts;
+      tells = tt;
     }
 
 -- ---- what the images of a publishing hold
@@ -159,6 +167,92 @@ module _ (old new : Space) (k : Commit) (was : PlainCatalogue) (change : PlainCh
       → held_by size image ≡ holds u
   new_held image outside stands holds_each = held_is size image plan.commit (catalogue_of plan.catalogue.list) stands ∙ ap held_tables (new_tables image outside holds_each)
 
-  -- after it
-  pub synced_outside : (after : Disk) → ((n : ℕ) → IsOutside plan.commit plan.pieces.items n → after.at n ≡ d.at n) → (n : ℕ) → IsOutside plan.commit plan.pieces.items n → synced_image after n ≡ (d.at n).synced
-  synced_outside after same n out = ap (λ (s : Sector). s.synced) (same n out)
+-- what the disk holds of a command that asks for a change
+module _ (old new : Space) (k : Commit) (was : PlainCatalogue) (change : PlainChange) (plan : Plan StoredCatalogue) (back : List Run) (p : IsPrepared old new k was change plan back)
+    (size : ℕ) (sound : IsChange was change) (c : PlainCommand) (decided : IsDecided was c (Ok change)) where
+  pub has_done : (image : Image) → StandsAs whole_reading size plan.commit (catalogue_of plan.catalogue.list) image → HoldsEach image plan.pieces.items → HasDone size was c image
+  has_done image stands holds_each = record {
+    change = change;
+    decides = decided;
+    commit = plan.commit;
+    places = runs_of p.pieces;
+    stands = stands ∙ ap (rules plan.commit) p.catalogue;
+    holds = streams_held old new k was change plan back p image sound holds_each;
+  }
+
+  old_or_done : (d : Disk) → CanReplace whole_reading size d (record { old = k; was = was; new = plan.commit; will = catalogue_of plan.catalogue.list; pieces = plan.pieces.items }) → (x : Disk)
+      → IsPublishing d plan.commit plan.pieces.items (StandsAs whole_reading size k was) (StandsAs whole_reading size plan.commit (catalogue_of plan.catalogue.list)) x
+      → LeavesOnly (IsOldOrDone size k was d c) x
+  old_or_done d can x is image may =
+      let either = is.leaves image may in
+      record {
+        which = ⊎_elim (λ (stood : StandsAs whole_reading size k was image). inl stood)
+            (λ (both : StandsAs whole_reading size plan.commit (catalogue_of plan.catalogue.list) image × HoldsEach image plan.pieces.items). inr (has_done image both.0 both.1)) either.which;
+        kept = λ n within. either.outside n (can.free n within, λ e. let above = above_used whole_reading size (synced_image d) k was n can.stands.found within in omega (arith, above, e, low plan.commit.epoch));
+      }
+
+-- after it
+pub synced_outside : (k' : Commit) (pieces : List Piece) (d after : Disk) → ((n : ℕ) → IsOutside k' pieces n → after.at n ≡ d.at n) → (n : ℕ) → IsOutside k' pieces n → synced_image after n ≡ (d.at n).synced
+synced_outside k' pieces d after same n out = ap (λ (s : Sector). s.synced) (same n out)
+
+-- what stands on the disk is what the store has then
+pub stands_then : (size size' : ℕ) (image : Image) (k k' : Commit) (list list' : StoredCatalogue) → size' ≡ size → k' ≡ k → list' ≡ list → StandsAs whole_reading size k (catalogue_of list.list) image
+    → standing whole_reading size' image ≡ rules k' (catalogue_of list'.list)
+stands_then size size' image k k' list list' sized same listed stands =
+    let number : standing whole_reading size' image ≡ standing whole_reading size image = ap (λ (n : ℕ). standing whole_reading n image) sized in
+    let own : rules k (catalogue_of list.list) ≡ rules k' (catalogue_of list'.list) = λ i. rules (sym same i) (catalogue_of (sym listed i).list) in
+    number ∙ stands ∙ own
+
+-- ---- of a store
+
+-- what the images of a publishing hold: the tables that stood, or the new ones
+pub record Images (size : ℕ) (d : Disk) (k : Commit) (was : PlainCatalogue) (plan : Plan StoredCatalogue) (t u : Tables) : Type 0 where
+  pub can : CanReplace whole_reading size d (record { old = k; was = was; new = plan.commit; will = catalogue_of plan.catalogue.list; pieces = plan.pieces.items })
+  pub olds : (image : Image) → IsOldOrNew d plan.commit plan.pieces.items (StandsAs whole_reading size k was) (StandsAs whole_reading size plan.commit (catalogue_of plan.catalogue.list)) image
+      → StandsAs whole_reading size k was image → held_by size image ≡ holds t
+  pub tables : (image : Image) → ((n : ℕ) → IsOutside plan.commit plan.pieces.items n → image n ≡ (d.at n).synced) → HoldsEach image plan.pieces.items → tables_held image (catalogue_of plan.catalogue.list) ≡ Some u
+  pub news : (image : Image) → ((n : ℕ) → IsOutside plan.commit plan.pieces.items n → image n ≡ (d.at n).synced) → StandsAs whole_reading size plan.commit (catalogue_of plan.catalogue.list) image
+      → HoldsEach image plan.pieces.items → held_by size image ≡ holds u
+
+-- all of a store that a publishing needs to know
+pub can_publish : {D : Type 0} {g : Ghosts D} (s : Store D g) (mid : Space) (change : PlainChange) (plan : Plan StoredCatalogue) (back : List Run)
+    → IsPrepared s.opened.map mid s.opened.commit (listed_in s) change plan back → IsChange (listed_in s) change → (d : Disk) → Stands whole_reading (g.size s.device) d s.opened.commit (listed_in s)
+    → CanReplace whole_reading (g.size s.device) d (record { old = s.opened.commit; was = listed_in s; new = plan.commit; will = catalogue_of plan.catalogue.list; pieces = plan.pieces.items })
+can_publish {g = g} s mid change plan back prep sound d stands =
+    let old = s.opened.map in
+    let k = s.opened.commit in
+    let was = listed_in s in
+    let on = subst (λ (n : ℕ). is_on_device n k.catalogue.run ≡ true) (sym s.same) s.placed in
+    let fit = subst (λ (n : ℕ). runs_fault n k.catalogue.run (runs_in was) ≡ None) (sym s.same) s.fit in
+    subst (λ (n : ℕ). CanReplace whole_reading n d (record { old = k; was = was; new = plan.commit; will = catalogue_of plan.catalogue.list; pieces = plan.pieces.items })) s.same
+    (can_replace old mid k was change plan back prep on fit s.uses sound d (catalogue_is was s.opened.catalogue.list.kept) (s.own ∙ sym s.same) (subst (λ (n : ℕ). Stands whole_reading n d k was) (sym s.same) stands))
+
+-- each moment of a publishing, by the command that asks for the change
+pub writes : {D : Type 0} {g : Ghosts D} (s : Store D g) (mid : Space) (change : PlainChange) (plan : Plan StoredCatalogue) (back : List Run)
+    → IsPrepared s.opened.map mid s.opened.commit (listed_in s) change plan back → IsChange (listed_in s) change → (c : PlainCommand) → IsDecided (listed_in s) c (Ok change) → (s1 : Story)
+    → Stands whole_reading (g.size s.device) (now (g.story s.device)) s.opened.commit (listed_in s)
+    → (CanReplace whole_reading (g.size s.device) (now (g.story s.device)) (record { old = s.opened.commit; was = listed_in s; new = plan.commit; will = catalogue_of plan.catalogue.list; pieces = plan.pieces.items })
+    → Grows (IsPublishing (now (g.story s.device)) plan.commit plan.pieces.items (StandsAs whole_reading (g.size s.device) s.opened.commit (listed_in s)) (StandsAs whole_reading (g.size s.device) plan.commit (catalogue_of plan.catalogue.list)))
+    (g.story s.device) s1)
+    → Grows (LeavesOnly (IsOldOrDone (g.size s.device) s.opened.commit (listed_in s) (now (g.story s.device)) c)) (g.story s.device) s1
+writes {g = g} s mid change plan back prep sound c decided s1 stands moments =
+    let d = now (g.story s.device) in
+    let can = can_publish {g = g} s mid change plan back prep sound d stands in
+    weaken (old_or_done s.opened.map mid s.opened.commit (listed_in s) change plan back prep (g.size s.device) sound c decided d can) (moments can)
+
+pub images : {D : Type 0} {g : Ghosts D} (base : Tables) (m : Machine) (s : Store D g) (mid : Space) (change : PlainChange) (plan : Plan StoredCatalogue) (back : List Run) (new : Tables)
+    → IsPrepared s.opened.map mid s.opened.commit (listed_in s) change plan back → IsChange (listed_in s) change → IsSound g.size g.story base m s → MakesOf (after base m.settled) change new
+    → Images (g.size s.device) (now (g.story s.device)) s.opened.commit (listed_in s) plan (after base m.settled) new
+images {g = g} base m s mid change plan back new prep sound is makes =
+    let size = g.size s.device in
+    let d = now (g.story s.device) in
+    let k = s.opened.commit in
+    let was = listed_in s in
+    let can = can_publish {g = g} s mid change plan back prep sound d is.stands in
+    let listed = catalogue_is was s.opened.catalogue.list.kept in
+    record {
+      can = can;
+      olds = λ image either. old_held s.opened.map mid k was change plan back prep size d can listed sound (after base m.settled) new is.tables makes image either.outside;
+      tables = new_tables s.opened.map mid k was change plan back prep size d can listed sound (after base m.settled) new is.tables makes;
+      news = new_held s.opened.map mid k was change plan back prep size d can listed sound (after base m.settled) new is.tables makes;
+    }

@@ -1,5 +1,6 @@
 -- What is decided by the catalogue, as its tests go.
 use Rattle.std.proofs.Common.{◌≡◌, ℕ, List, length, Option, Some, None, Result, Ok, Err, inl, inr, refl, sym, ap, ◌∙◌}
+use Rattle.std.specs.Prelude.{OnOk}
 use Rattle.facts.specs.Checks.{unless}
 use Rattle.arrow_schema.specs.Column.{PlainSchema}
 use Rattle.cells.specs.Cell.{PlainTable}
@@ -13,11 +14,11 @@ use Rattle.catalogue.specs.Entries.{PlainEntry, PlainCatalogue}
 use Rattle.catalogue.specs.Edits.{entry_of}
 use Rattle.tables.specs.declared.refusal.Refusal.{Refusal}
 use Rattle.tables.specs.declared.refusal.Refusal.TheVariants.{NoTable}
-use Rattle.tables.specs.Commands.{create, import_stream, append_stream, rename, drop_table}
+use Rattle.tables.specs.Commands.{PlainCommand, create, import_stream, append_stream, rename, drop_table}
 use Rattle.tables.specs.Refusals.{import_refusal}
 use Rattle.tables.specs.Verdict.{too_many_bytes, other_shape, of_meaning}
 use Rattle.store.specs.Changes.{put, extend, move, remove, PlainChange}
-use Rattle.store.specs.Deciding.{missing_in, full_in, create_tests, import_tests, rename_tests, heavy_in, names_changed, pieces_put, decided_table, decided_rows, decided_append, IsAnswered}
+use Rattle.store.specs.Deciding.{missing_in, full_in, create_tests, import_tests, rename_tests, heavy_in, names_changed, pieces_put, decided_table, decided_rows, decided_append, IsDecided, IsAnswered}
 
 -- ---- commands that bring no rows
 
@@ -72,3 +73,14 @@ module _ (c : PlainCatalogue) (name bytes : List ℕ) (e : PlainEntry) (there : 
       (ap (λ (x : Option PlainEntry). decided_append x name bytes) there
       ∙ (λ i. unless (tested i) (of_meaning (means i) (decided_rows e name)))
       ∙ (λ i. unless (shape i) (unless (weight i) (Ok (pieces_put (extend name) table))))))
+
+-- ---- what was answered
+
+-- an answer that is a change is what is decided
+pub is_change : (c : PlainCatalogue) (command : PlainCommand) (change : PlainChange) → IsAnswered c command (Ok change) → IsDecided c command (Ok change)
+is_change c command change (inl memory) = absurd (cc memory)
+is_change c command change (inr decided) = decided
+
+pub with_ok : {E P Q : Type 0} (r : Result (Unit {0}) E) → OnOk r P → (P → Q) → OnOk r Q
+with_ok (Ok unit) p f = f p
+with_ok (Err e) p f = tt

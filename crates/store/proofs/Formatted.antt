@@ -1,5 +1,5 @@
 -- A formatting is a call of the machine.
-use Rattle.std.specs.Prelude.{◌≡◌, ◌≢◌, ◌⊎◌, ◌≤◌, ◌&&◌, ℕ, Bool, true, false, nat_le, nat_lt, [], Option, Some, None, Result, Ok, Err, refl}
+use Rattle.std.specs.Prelude.{◌≡◌, ◌≢◌, ◌⊎◌, ◌≤◌, ◌&&◌, ℕ, Bool, true, false, nat_le, nat_lt, [], Option, Some, None, Result, Ok, Err, if◌then◌else◌, refl}
 use Rattle.std.proofs.Common.{inl, inr, ap, sym, subst, ◌∙◌, arith}
 use Rattle.std.proofs.lemmas.Bool.Decides.{nat_tests}
 use Rattle.std.proofs.lemmas.Bool.{and_parts, leb-true, le-leb, lt-ltb}
@@ -13,7 +13,8 @@ use Rattle.commit.specs.declared.cause.Cause.TheVariants.{DeviceSize}
 use Rattle.commit.specs.declared.formatting.FormatError.{FormatError}
 use Rattle.commit.specs.declared.formatting.FormatError.TheVariants as errors
 use Rattle.commit.specs.Ruling.{ruling}
-use Rattle.commit.specs.Standing.{is_size, is_on_device, rules, standing, runs_fault, Stands}
+use Rattle.commit.specs.Standing as standings
+use Rattle.commit.specs.Standing.{is_size, is_on_device, rules, standing, by_runs, by_catalogue, by_commit, named_by, runs_fault, Stands}
 use Rattle.commit.specs.Formatting.{IsNoneOrEmpty, IsEmptyStore, IsFormatting, IsFormatted, first_commit, empty_text, CountsFormat}
 use Rattle.commit.specs.laws.Frame.{stands_nowhere, none_stands, empty_stands}
 use Rattle.segments.specs.declared.run.Run.{Run}
@@ -24,8 +25,8 @@ use Rattle.tables.specs.Verdict.{after}
 use Rattle.store.specs.Calls.{format_call, PlainReply, done, shut_by, may_be_done}
 use Rattle.store.specs.Steps.{Step}
 use Rattle.store.specs.Runs.{Goes, counted}
-use Rattle.store.specs.Machine.{holds, Machine, opened, shut_down, Allows, AllowsEach, meanwhile, has_written}
-use Rattle.store.specs.Held.{whole_reading, catalogue_or_cause, tables_held, held_of, held_by}
+use Rattle.store.specs.Machine.{no_store, holds, Machine, opened, shut_down, Allows, AllowsEach, meanwhile, has_written}
+use Rattle.store.specs.Held.{whole_reading, catalogue_or_cause, tables_held, held_tables, held_of, held_by}
 use Rattle.store.specs.Fits.{setting_of, IsFresh}
 use Rattle.store.specs.Opening.{formatting_of, TellsFormatting}
 use Rattle.store.proofs.Opened.{not_started}
@@ -70,6 +71,30 @@ formatting_tells errors.AlreadyAStore size found already damaged memory = alread
 formatting_tells (errors.Damaged cause) size found already damaged memory = damaged cause refl
 formatting_tells errors.Device size found already damaged memory = tt
 formatting_tells errors.OutOfMemory size found already damaged memory = memory refl
+
+-- where a commit rules there is a store, whole or damaged
+tables_some : (o : Option Tables) → held_tables o ≢ no_store
+tables_some None none = cc none
+tables_some (Some tables) none = cc none
+
+runs_some : (image : Image) (k : Commit) (c : PlainCatalogue) (fault : Option Cause) → held_of image (by_runs k c fault) ≢ no_store
+runs_some image k c None none = tables_some (tables_held image c) none
+runs_some image k c (Some cause) none = cc none
+
+named_some : (size : ℕ) (image : Image) (k : Commit) (named : Result PlainCatalogue Cause) → held_of image (by_catalogue whole_reading size k named) ≢ no_store
+named_some size image k (Err cause) none = cc none
+named_some size image k (Ok c) none = runs_some image k c (runs_fault size k.catalogue.run (runs_of c)) none
+
+some_store : (size : ℕ) (image : Image) → is_size size ≡ true → ruling image ≢ None → held_by size image ≢ no_store
+unfolding held_by standing
+some_store size image limits some = by_ruling (ruling image) refl
+  where
+    found : (o : Option Commit) → ruling image ≡ o → held_by size image ≡ held_of image (by_commit whole_reading size image o)
+    found o is = λ i. held_of image (if limits i then by_commit whole_reading size image (is i) else standings.damaged DeviceSize)
+
+    by_ruling : (o : Option Commit) → ruling image ≡ o → held_by size image ≢ no_store
+    by_ruling None is = absurd (some is)
+    by_ruling (Some k) is = λ none. named_some size image k (named_by whole_reading size image k) (sym (found (Some k) is) ∙ none)
 
 module _ (size : ℕ) (limits : is_size size ≡ true) (spelled : catalogue_at empty_text ≡ Some []) where
   -- the empty store
@@ -147,9 +172,9 @@ module _ (size : ℕ) (limits : is_size size ≡ true) (spelled : catalogue_at e
 
     pub format_refused : (e : FormatError) (s0 s1 : Story) (f f' : ℕ) → (m.started ≡ false → IsFresh base m) → LeavesOnly (Allows (setting_of size base) m) (now s0) → Grows (IsEarly (now s0)) s0 s1
         → ((cause : Cause) → e ≢ errors.Damaged cause) → (e ≢ errors.Device → now s1 ≡ now s0) → f' ≡ counted (shut_by (formatting_of e)) f
-        → Goes (setting_of size base) m format_call (shut_by (formatting_of e)) s0 s1 f f' (shut_down m)
+        → (e ≡ errors.AlreadyAStore → ruling (shown_image (now s0)) ≢ None) → Goes (setting_of size base) m format_call (shut_by (formatting_of e)) s0 s1 f f' (shut_down m)
     unfolding Step
-    format_refused errors.AlreadyAStore s0 s1 f f' fresh allows grows sound quiet counts =
+    format_refused errors.AlreadyAStore s0 s1 f f' fresh allows grows sound quiet counts already =
         let same = quiet (λ is. cc is) in
         record {
           step = (same_written s0 s1 same, refl);
@@ -157,17 +182,19 @@ module _ (size : ℕ) (limits : is_size size ≡ true) (spelled : catalogue_at e
           settles = refused_allows s0 s1 fresh allows grows;
           quiet = λ no device. same;
           counts = counts;
+          tells = some_store size (shown_image (now s0)) limits (already refl);
         }
-    format_refused (errors.Damaged cause) s0 s1 f f' fresh allows grows sound quiet counts = absurd (sound cause refl)
-    format_refused errors.Device s0 s1 f f' fresh allows grows sound quiet counts =
+    format_refused (errors.Damaged cause) s0 s1 f f' fresh allows grows sound quiet counts already = absurd (sound cause refl)
+    format_refused errors.Device s0 s1 f f' fresh allows grows sound quiet counts already =
         record {
           step = refl;
           moments = format_moments (shut_by (formatting_of errors.Device)) s0 s1 fresh allows grows;
           settles = refused_allows s0 s1 fresh allows grows;
           quiet = λ no device. absurd (cc device);
           counts = counts;
+          tells = tt;
         }
-    format_refused errors.OutOfMemory s0 s1 f f' fresh allows grows sound quiet counts =
+    format_refused errors.OutOfMemory s0 s1 f f' fresh allows grows sound quiet counts already =
         let same = quiet (λ is. cc is) in
         record {
           step = (same_written s0 s1 same, refl);
@@ -175,6 +202,7 @@ module _ (size : ℕ) (limits : is_size size ≡ true) (spelled : catalogue_at e
           settles = refused_allows s0 s1 fresh allows grows;
           quiet = λ no device. same;
           counts = counts;
+          tells = tt;
         }
 
     -- ---- one that was done
@@ -200,6 +228,7 @@ module _ (size : ℕ) (limits : is_size size ≡ true) (spelled : catalogue_at e
           settles = settled_new (fresh early) (now s0) (now s1) is;
           quiet = λ no quiet. absurd (cc no);
           counts = same;
+          tells = tt;
         }
 
     -- its tables are those of the settled commands, of which there are none

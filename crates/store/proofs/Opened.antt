@@ -127,6 +127,7 @@ module _ (size : ℕ) (base : Tables) (m : Machine) where
             subst (λ (x : Image). Allows (setting_of size base) found.next x) (sym (only_flushed (now s0) image (subst (λ (d : Disk). MayLeave d image) synced may))) (settled_then (shown_image (now s0)) k c stands found);
         quiet = λ no quiet. absurd (cc no);
         counts = same;
+        tells = tt;
       }
 
   -- after one that is refused the machine allows what it allowed
@@ -156,7 +157,7 @@ module _ (size : ℕ) (base : Tables) (m : Machine) where
   pub opening_refused : (e : OpenError) (s0 s1 : Story) (f f' : ℕ) → ShowsImage (now s0) → LeavesOnly (Allows (setting_of size base) m) (now s0) → Grows (IsOpening (now s0)) s0 s1
       → TellsStanding e (standing whole_reading size (shown_image (now s0))) → (e ≢ errors.Device → now s1 ≡ now s0) → f' ≡ counted (shut_by (opening_of e)) f
       → Goes (setting_of size base) m open_call (shut_by (opening_of e)) s0 s1 f f' (shut_down m)
-  unfolding Step ShowsImage
+  unfolding Step ShowsImage held_by
   opening_refused errors.NotAStore s0 s1 f f' shows allows grows tells quiet counts =
       let opening = now_has {P = IsOpening (now s0)} (inl refl) grows in
       record {
@@ -165,6 +166,7 @@ module _ (size : ℕ) (base : Tables) (m : Machine) where
         settles = same_allows (now s1) (allows_after s0 s1 shows allows opening);
         quiet = λ no device. quiet (λ is. cc is);
         counts = counts;
+        tells = ap (held_of (shown_image (now s0))) tells;
       }
   opening_refused (errors.Damaged cause) s0 s1 f f' shows allows grows tells quiet counts = absurd (not_damaged (shown_image (now s0)) cause (allows (shown_image (now s0)) shows) tells)
   opening_refused errors.Device s0 s1 f f' shows allows grows tells quiet counts =
@@ -175,6 +177,7 @@ module _ (size : ℕ) (base : Tables) (m : Machine) where
         settles = same_allows (now s1) (allows_after s0 s1 shows allows opening);
         quiet = λ no device. absurd (cc device);
         counts = counts;
+        tells = tt;
       }
   opening_refused errors.OutOfMemory s0 s1 f f' shows allows grows tells quiet counts =
       let opening = now_has {P = IsOpening (now s0)} (inl refl) grows in
@@ -184,6 +187,7 @@ module _ (size : ℕ) (base : Tables) (m : Machine) where
         settles = same_allows (now s1) (allows_after s0 s1 shows allows opening);
         quiet = λ no device. quiet (λ is. cc is);
         counts = counts;
+        tells = tt;
       }
 
   pub device_after : (s0 s1 : Story) → ShowsImage (now s0) → LeavesOnly (Allows (setting_of size base) m) (now s0) → Grows (IsOpening (now s0)) s0 s1 → LeavesOnly (Allows (setting_of size base) (shut_down m)) (now s1)

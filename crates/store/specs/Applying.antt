@@ -1,6 +1,7 @@
 -- How commands are decided and carried out, and what each call of an open store leaves.
-use Rattle.std.specs.Prelude.{◌≡◌, ◌<◌, ◌≤◌, ◌-◌, ◌^◌, ◌++◌, ℕ, List, [], ◌∷◌, length, map, Option, Some, None, Result, Ok, Err}
-use Rattle.sector_dev.specs.Disk.{Story}
+use Rattle.std.specs.Prelude.{◌≡◌, ◌⊎◌, ◌<◌, ◌≤◌, ◌-◌, ◌^◌, ◌++◌, ℕ, List, [], ◌∷◌, length, map, Option, Some, None, Result, Ok, Err}
+use Rattle.sector_dev.specs.Disk.{Disk, Image, Story, now, synced_image}
+use Rattle.sector_dev.specs.Time.{Grows, LeavesOnly}
 use Rattle.sector_dev.specs.declared.device.SectorDevice.{Ghosts}
 use Rattle.segments.specs.Sectors.{sector_count}
 use Rattle.segments.specs.Usages.{IsUsedIn, SameUsages}
@@ -14,6 +15,7 @@ use Rattle.catalogue.specs.Text.{list_size}
 use Rattle.commit.specs.declared.sector.Commit.{Commit}
 use Rattle.commit.specs.Publishing.{next_commit}
 use Rattle.commit.specs.Placing.{Takes}
+use Rattle.commit.specs.Standing.{rules, standing, used_runs, InSome, Stands}
 use Rattle.tables.specs.declared.refusal.Refusal.{Refusal}
 use Rattle.tables.specs.declared.refusal.Refusal.TheVariants as refusals
 use Rattle.tables.specs.declared.refusal.Limit.TheVariants as limits
@@ -24,10 +26,11 @@ use Rattle.tables.specs.Verdict.{verdict}
 use Rattle.store.specs.declared.store.Store.{Store}
 use Rattle.store.specs.Calls.{PlainCall, PlainReply, done, refused}
 use Rattle.store.specs.Machine.{Machine}
+use Rattle.store.specs.Held.{whole_reading}
 use Rattle.store.specs.Runs.{Goes}
 use Rattle.store.specs.Fits.{setting_of, StoreFits, device_of, commit_of, listed_in}
-use Rattle.store.specs.Deciding.{IsAnswered}
-use Rattle.store.specs.Changes.{PlainChange, edited, placed_segments, MakesOf}
+use Rattle.store.specs.Deciding.{IsDecided, IsAnswered}
+use Rattle.store.specs.Changes.{PlainChange, edited, placed_segments, HoldsStreams, MakesOf}
 
 -- ---- deciding
 
@@ -104,6 +107,37 @@ pub record IsApplied {D : Type 0} {g : Ghosts D} (size : D → ℕ) (old : Store
 -- what a refusal leaves as it was: the commit, the catalogue and what each run is in use for
 abbrev pub IsKept : {D : Type 0} {g : Ghosts D} → (old new : Store D g) → Type 0
 IsKept old new = (commit_of new ≡ commit_of old) × (listed_in new ≡ listed_in old) × SameUsages old.opened.map.entries new.opened.map.entries
+
+-- ---- what lies on the disk
+
+-- all of a store lies there: its commit and its catalogue are found, and all is synced
+abbrev pub IsOnDisk : {D : Type 0} {g : Ghosts D} → (size : D → ℕ) → (story : D → Story) → Store D g → Type 0
+IsOnDisk size story store = Stands whole_reading (size (device_of store)) (now (story (device_of store))) (commit_of store) (listed_in store)
+
+-- on an image a command was carried out: the catalogue that was decided stands there, and its new segments hold their streams
+pub record HasDone (size : ℕ) (c : PlainCatalogue) (command : PlainCommand) (image : Image) : Type 0 where
+  pub change : PlainChange
+  pub decides : IsDecided c command (Ok change)
+  pub commit : Commit
+  pub places : List Run
+  pub stands : standing whole_reading size image ≡ rules commit (edited c change.edit (placed_segments places change.streams change.counts))
+  pub holds : HoldsStreams image (placed_segments places change.streams change.counts) change.streams change.counts
+
+-- what a stop in a command leaves: the commit and the catalogue that stood, or a command that was carried out; and what lay in the runs of
+-- that catalogue lies there still
+pub record IsOldOrDone (size : ℕ) (k : Commit) (c : PlainCatalogue) (before : Disk) (command : PlainCommand) (image : Image) : Type 0 where
+  pub which : (standing whole_reading size image ≡ rules k c) ⊎ HasDone size c command image
+  pub kept : (n : ℕ) → InSome (used_runs whole_reading k c) n → image n ≡ (before.at n).synced
+
+-- at each moment of a command of a store that lies on its disk
+abbrev pub Writes : {D : Type 0} {g : Ghosts D} → (size : D → ℕ) → (story : D → Story) → (old : Store D g) → PlainCommand → (new : Store D g) → Type 0
+Writes size story old command new =
+    Grows (LeavesOnly (IsOldOrDone (size (device_of old)) (commit_of old) (listed_in old) (now (story (device_of old))) command)) (story (device_of old)) (story (device_of new))
+
+-- and after one that was done
+pub record HasWritten {D : Type 0} {g : Ghosts D} (size : D → ℕ) (story : D → Story) (old : Store D g) (command : PlainCommand) (new : Store D g) : Type 0 where
+  pub stands : IsOnDisk size story new
+  pub holds : HasDone (size (device_of old)) (listed_in old) command (synced_image (now (story (device_of new))))
 
 -- ---- what a call leaves
 

@@ -1,6 +1,6 @@
 -- How a device or a store stands for a machine.
-use Rattle.std.specs.Prelude.{◌≡◌, ℕ, Bool, true, false, if◌then◌else◌, [], Some, None}
-use Rattle.sector_dev.specs.Disk.{Story, now, synced_image, shown_image, flushed}
+use Rattle.std.specs.Prelude.{◌≡◌, ◌⊎◌, ◌∷◌, ℕ, Bool, true, false, if◌then◌else◌, [], Some, None}
+use Rattle.sector_dev.specs.Disk.{Story, Image, now, synced_image, shown_image, flushed}
 use Rattle.sector_dev.specs.Time.{Grows, LeavesOnly}
 use Rattle.sector_dev.specs.declared.device.SectorDevice.{Ghosts}
 use Rattle.commit.specs.Standing.{is_size, used_runs, rules, Stands}
@@ -12,11 +12,12 @@ use Rattle.commit.specs.declared.sector.Commit.{Commit}
 use Rattle.catalogue.specs.Entries.{PlainCatalogue}
 use Rattle.catalogue.specs.View.{catalogue_of}
 use Rattle.tables.specs.Tables.{Tables, no_tables}
+use Rattle.tables.specs.Commands.{PlainCommand}
 use Rattle.tables.specs.Verdict.{after}
 use Rattle.store.specs.declared.store.Store.{Store}
 use Rattle.store.specs.declared.opening_refusal.OpeningRefusal.{OpeningRefusal}
 use Rattle.store.specs.Calls.{PlainCall, done, shut_by}
-use Rattle.store.specs.Machine.{Setting, Machine, shut, running, halted, shut_down, Allows}
+use Rattle.store.specs.Machine.{no_store, holds, Setting, Machine, shut, running, halted, shut_down, Allows}
 use Rattle.store.specs.Runs.{Goes}
 use Rattle.store.specs.Held.{whole_reading, tables_held, held_by}
 
@@ -107,3 +108,15 @@ fresh = record { started = false; phase = shut; settled = []; doubt = None }
 
 abbrev pub resumed : Machine
 resumed = record { started = true; phase = shut; settled = []; doubt = None }
+
+-- one that begins after a command had begun to write and its device failed: it may be done
+abbrev pub doubting : PlainCommand → Machine
+doubting c = record { started = true; phase = shut; settled = []; doubt = Some c }
+
+-- what a stop leaves after a formatting that failed: no store, or one without tables
+abbrev pub HoldsNoneOrEmpty : ℕ → Image → Type 0
+HoldsNoneOrEmpty size image = (held_by size image ≡ no_store) ⊎ (held_by size image ≡ holds no_tables)
+
+-- and after a command whose device failed: these tables, or what it makes of them
+abbrev pub HoldsWithOrWithout : ℕ → Tables → PlainCommand → Image → Type 0
+HoldsWithOrWithout size t c image = (held_by size image ≡ holds t) ⊎ (held_by size image ≡ holds (after t (c ∷ [])))

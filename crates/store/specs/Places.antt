@@ -15,7 +15,7 @@ use Rattle.store.specs.declared.call.Place.TheVariants as places
 use Rattle.store.specs.Calls.{PlainCall, apply_call, format_call, open_call, close_call, tables_call, schema_call, PlainReply, done, counts, schema_is, refused, shut_by, is_device_reply}
 use Rattle.store.specs.Machine.{Machine, shut, halted}
 use Rattle.store.specs.Runs.{Goes, Run}
-use Rattle.store.specs.Since.{story_at}
+use Rattle.store.specs.Since.{story_at, IsLeftFrom}
 use Rattle.store.specs.History.{begun, acknowledged, Settles, SettlesAll, Keeps}
 use Rattle.store.specs.Fits.{setting_of, DeviceFits, StoreFits}
 
@@ -71,10 +71,11 @@ replies_of replies = map reply_in replies
 -- what follows of calls one after another: what each stop leaves, and what is so where no device call failed
 pub record PlaceLives {D : Type 0} {g : Ghosts D} (size : D → ℕ) (story : D → Story) (failed : D → ℕ) (base : Tables) (m : Machine) (calls : List PlainCall) (replies : List PlainReply) (old : D) (new : Place D g) : Type 0 where
   pub runs : PlaceRuns size story failed base m calls replies old new
-  -- an image that a stop may have left since the call of this number began has the tables of what was acknowledged before it
+  -- an image that a stop may have left since the call of this number began is what the machine of that moment allows, and has the tables of what was acknowledged before the call
   pub stops : (i : ℕ) (image : Image)
       → LeftSince (story (device_in new)) (moment (story_at (setting_of (size old) base) calls replies m (story old) (failed old) runs.next (story (device_in new)) (failed (device_in new)) runs.run i)) image
-      → Keeps (setting_of (size old) base) m (acknowledged (take i calls) (take i replies)) (begun calls replies) image
+      → IsLeftFrom (setting_of (size old) base) calls replies m (story old) (failed old) runs.next (story (device_in new)) (failed (device_in new)) runs.run i image
+      × Keeps (setting_of (size old) base) m (acknowledged (take i calls) (take i replies)) (begun calls replies) image
   pub settles : Settles m.settled runs.next.settled m.doubt runs.next.doubt (acknowledged calls replies) (begun calls replies)
   pub undisturbed : failed old < 2 ^ 64 - 1 → failed (device_in new) ≡ failed old → list_any is_device_reply replies ≡ false
   pub all_settled : m.doubt ≡ None → m.phase ≢ halted → list_any is_device_reply replies ≡ false → SettlesAll m runs.next (acknowledged calls replies)

@@ -1,9 +1,10 @@
 -- Calls one after another.
-use Rattle.std.specs.Prelude.{◌≡◌, ◌+◌, ◌-◌, ◌^◌, ℕ, min, Bool, false, if◌then◌else◌, List, [], ◌∷◌}
-use Rattle.sector_dev.specs.Disk.{Story, now}
+use Rattle.std.specs.Prelude.{◌≡◌, ◌≢◌, ◌+◌, ◌-◌, ◌^◌, ℕ, min, Bool, false, if◌then◌else◌, List, [], ◌∷◌}
+use Rattle.sector_dev.specs.Disk.{Disk, Story, now, shown_image}
 use Rattle.sector_dev.specs.Time.{Grows, LeavesOnly}
-use Rattle.store.specs.Calls.{PlainCall, PlainReply, done, is_device_reply, may_change}
-use Rattle.store.specs.Machine.{Setting, Machine, Allows, AllowsEach, has_written}
+use Rattle.store.specs.declared.opening_refusal.OpeningRefusal.TheVariants as openings
+use Rattle.store.specs.Calls.{PlainCall, PlainReply, done, shut_by, is_device_reply, may_change}
+use Rattle.store.specs.Machine.{no_store, Setting, Machine, Allows, AllowsEach, has_written}
 use Rattle.store.specs.Steps.{Step}
 
 -- whether a call was done that may write or sync
@@ -15,6 +16,12 @@ is_change call _ = false
 abbrev pub counted : PlainReply → ℕ → ℕ
 counted reply failed = if is_device_reply reply then min (failed + 1) (2 ^ 64 - 1) else failed
 
+-- what is told of a store that was there already, or of none, is what reads showed when the call began
+abbrev pub TellsFound : Setting → PlainReply → Disk → Type 0
+TellsFound s (shut_by openings.AlreadyAStore) d = s.held (shown_image d) ≢ no_store
+TellsFound s (shut_by openings.NotAStore) d = s.held (shown_image d) ≡ no_store
+TellsFound s _ d = Unit {0}
+
 -- one call: what it answers and how the machine goes on, what each stop meanwhile may leave and what one after it. A call that
 -- was not done, or only reads, changes nothing, unless its device failed.
 pub record Goes (s : Setting) (m : Machine) (call : PlainCall) (reply : PlainReply) (old new : Story) (failed failed' : ℕ) (next : Machine) : Type 0 where
@@ -23,6 +30,7 @@ pub record Goes (s : Setting) (m : Machine) (call : PlainCall) (reply : PlainRep
   pub settles : LeavesOnly (Allows s next) (now new)
   pub quiet : is_change call reply ≡ false → is_device_reply reply ≡ false → now new ≡ now old
   pub counts : failed' ≡ counted reply failed
+  pub tells : TellsFound s reply (now old)
 
 -- a call, and then what P says of the machine, the story and the failures after it
 pub record Then (s : Setting) (m : Machine) (call : PlainCall) (reply : PlainReply) (old : Story) (failed : ℕ) (P : Machine → Story → ℕ → Type 0) : Type 0 where

@@ -46,12 +46,12 @@ fn decide(alloc: Global, catalogue: &Catalogue, command: Command) -> Result<Chan
 }
 
 impl<D: SectorDevice> Store<D> {
-    ghost use Rattle.std.specs.Prelude.{◌≢◌, ◌↔◌, true, Err};
+    ghost use Rattle.std.specs.Prelude.{◌≢◌, ◌↔◌, true, Err, OnOk};
     ghost use Rattle.store.specs.Calls.{apply_call};
     ghost use Rattle.store.specs.Machine.{Machine};
     ghost use Rattle.store.specs.Runs.{counted};
     ghost use Rattle.store.specs.Fits.{StoreFits, device_of, is_halted};
-    ghost use Rattle.store.specs.Applying.{GoesOn, reply_of, IsApplied, IsKept};
+    ghost use Rattle.store.specs.Applying.{GoesOn, reply_of, IsApplied, IsKept, IsOnDisk, Writes, HasWritten};
 
     /// Does what a command asks for, or refuses it. After Ok it is safe: each later stop leaves it.
     ///
@@ -69,6 +69,11 @@ impl<D: SectorDevice> Store<D> {
         ensures quiet { IfErr result (λ e. e ≢ Refusal.Device → D.story (device_of self.new) ≡ D.story (device_of self.old)) }
         ensures halted { is_halted self.old ≡ true → (result ≡ Err Refusal.Halted) × (self.new ≡ self.old) }
         ensures halts { is_halted self.old ≡ false → (is_halted self.new ≡ true) ↔ (result ≡ Err Refusal.Device) }
+        // On a store that lies on its disk, whatever its segments hold: at each moment a stop leaves what stood, or the command done.
+        ensures writes { is_halted self.old ≡ false → D.tells ≡ true → IsOnDisk D.size D.story self.old
+            → Writes D.size D.story self.old (command_of command) self.new }
+        ensures written { OnOk result (D.tells ≡ true → IsOnDisk D.size D.story self.old
+            → HasWritten D.size D.story self.old (command_of command) self.new) }
         ensures size { D.size (device_of self.new) ≡ D.size (device_of self.old) }
         ensures count { D.failed (device_of self.new) ≡ counted (reply_of result) (D.failed (device_of self.old)) }
     {

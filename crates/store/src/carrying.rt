@@ -193,7 +193,7 @@ fn settle(opened: &mut Opened<StoredCatalogue>, prepared: Prepared)
 }
 
 impl<D: SectorDevice> Store<D> {
-    ghost use Rattle.std.specs.Prelude.{false, ◌↔◌};
+    ghost use Rattle.std.specs.Prelude.{false, ◌↔◌, OnOk};
     ghost use Rattle.sector_dev.specs.Disk.{now};
     ghost use Rattle.tables.specs.Tables.{Tables};
     ghost use Rattle.tables.specs.Commands.{PlainCommand};
@@ -203,7 +203,8 @@ impl<D: SectorDevice> Store<D> {
     ghost use Rattle.store.specs.Runs.{counted};
     ghost use Rattle.store.specs.Fits.{StoreFits, device_of, listed_in, setting_of};
     ghost use Rattle.store.specs.Changes.{MakesOf};
-    ghost use Rattle.store.specs.Applying.{GoesOn, reply_of, EndsAs, IsKept};
+    ghost use Rattle.store.specs.Deciding.{IsDecided};
+    ghost use Rattle.store.specs.Applying.{GoesOn, reply_of, EndsAs, IsKept, IsOnDisk, Writes, HasWritten};
 
     /// Carries out a change of the catalogue: takes runs, writes the new segments and the new catalogue, and publishes them.
     ///
@@ -218,6 +219,11 @@ impl<D: SectorDevice> Store<D> {
         ensures halts { (self.new.halted ≡ true) ↔ (result ≡ Err Refusal.Device) }
         ensures kept { IfErr result (λ e. IsKept self.old self.new) }
         ensures quiet { IfErr result (λ e. e ≢ Refusal.Device → D.story (device_of self.new) ≡ D.story (device_of self.old)) }
+        // On a store that lies on its disk, where a command asks for the change.
+        ensures writes { D.tells ≡ true → (c : PlainCommand) → IsOnDisk D.size D.story self.old
+            → IsDecided (listed_in self.old) c (Ok (change_of change)) → Writes D.size D.story self.old c self.new }
+        ensures written { OnOk result (D.tells ≡ true → (c : PlainCommand) → IsOnDisk D.size D.story self.old
+            → IsDecided (listed_in self.old) c (Ok (change_of change)) → HasWritten D.size D.story self.old c self.new) }
         // On a store whose tables the machine knows, where the change makes what a command makes: the machine goes on by the command.
         ensures goes { D.tells ≡ true → (base : Tables) (m : Machine) (c : PlainCommand) (new : Tables)
             → StoreFits D.size D.story base m self.old → m.phase ≡ running

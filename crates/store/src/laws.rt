@@ -6,10 +6,11 @@ ghost use Rattle.sector_dev.specs.Time.{LeavesOnly};
 ghost use Rattle.commit.specs.Standing.{is_size};
 ghost use Rattle.commit.specs.Formatting.{HoldsNoCommit};
 ghost use Rattle.tables.specs.Tables.{Tables, no_tables};
+ghost use Rattle.tables.specs.Commands.{PlainCommand};
 ghost use Rattle.store.specs.Calls.{PlainCall, PlainReply, is_device_reply};
 ghost use Rattle.store.specs.Machine.{Setting, Machine, halted, Allows, holds};
 ghost use Rattle.store.specs.Held.{held_by};
-ghost use Rattle.store.specs.Fits.{DeviceFits, fresh, resumed};
+ghost use Rattle.store.specs.Fits.{DeviceFits, fresh, resumed, doubting, HoldsNoneOrEmpty, HoldsWithOrWithout};
 ghost use Rattle.store.specs.Runs.{Goes, Run};
 ghost use Rattle.store.specs.Since.{story_at, IsLeftFrom};
 ghost use Rattle.store.specs.History.{begun, acknowledged, Settles, SettlesAll, Keeps};
@@ -69,10 +70,15 @@ pub fn a_stop_keeps_what_was_acknowledged()
 {}
 
 /// A run may begin with a device on which no stop leaves a commit: there are no tables. And it may begin with one on which each stop
-/// leaves a store with the same tables, as a device has after a stop.
+/// leaves a store with the same tables, as a device has after a stop. And, where its device failed and the process ended without a stop, after
+/// a formatting, and after a command that is in doubt then.
 pub fn devices_fit<D: SectorDevice>(device: &D)
     ensures new { is_size (D.size device.now) ≡ true → LeavesOnly HoldsNoCommit (now (D.story device.now))
         → DeviceFits D.size D.story no_tables fresh device.now }
+    ensures formatting { is_size (D.size device.now) ≡ true → LeavesOnly (HoldsNoneOrEmpty (D.size device.now)) (now (D.story device.now))
+        → DeviceFits D.size D.story no_tables fresh device.now }
+    ensures doubting { (t : Tables) (c : PlainCommand) → is_size (D.size device.now) ≡ true
+        → LeavesOnly (HoldsWithOrWithout (D.size device.now) t c) (now (D.story device.now)) → DeviceFits D.size D.story t (doubting c) device.now }
     ensures stopped { (t : Tables) → is_size (D.size device.now) ≡ true
         → LeavesOnly (λ image. held_by (D.size device.now) image ≡ holds t) (now (D.story device.now)) → DeviceFits D.size D.story t resumed device.now }
 {

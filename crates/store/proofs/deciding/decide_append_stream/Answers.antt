@@ -1,14 +1,9 @@
-use Rattle.std.proofs.Common.{◌≡◌, ◌<◌, ◌^◌, ℕ, true, List, length, Some, None, Ok, refl, ap, sym, ◌∙◌, subst, string_bytes}
+use Rattle.std.proofs.Common.{◌≡◌, ◌<◌, ◌^◌, ℕ, List, length, Some, None, Ok, refl, ap, sym, ◌∙◌, subst, string_bytes}
 use Rattle.std.specs.List.{AllByRecursion}
 use Rattle.std.proofs.lemmas.Result.{err_from_is_err_and}
 use Rattle.arrow_schema.specs.Column.{PlainSchema}
-use Rattle.arrow_schema.specs.Integers.{is_integer_schema}
 use Rattle.cells.specs.Cell.{PlainTable}
-use Rattle.values.specs.Table.{IsTable}
-use Rattle.values.specs.IntegerTable.{IsIntegerTable}
 use Rattle.values.specs.TableView.{table_of}
-use Rattle.ipc_message.specs.Header.{supported_codes}
-use Rattle.ipc_stream.specs.Meaning.{meaning}
 use Rattle.ipc_stream.specs.Pieces.{piece_streams, piece_counts}
 use Rattle.catalogue.specs.Entries.{PlainEntry, PlainCatalogue, plain_entry}
 use Rattle.catalogue.specs.Edits.{entry_of}
@@ -17,11 +12,10 @@ use Rattle.tables.specs.Commands.{append_stream}
 use Rattle.tables.specs.Verdict.{other_shape}
 use Rattle.store.specs.Applying.{Decides}
 use Rattle.store.specs.declared.change.Edit.TheVariants as edits
-use Rattle.store.specs.Changes.{PlainChange, extend, change_of, IsChange, rows_under, stream_rows}
+use Rattle.store.specs.Changes.{PlainChange, extend, change_of, IsChange, stream_rows}
 use Rattle.store.specs.Deciding.{heavy_in, IsAnswered}
 use Rattle.store.specs.laws.Pieces.{pieces_held, pieces_each, pieces_some, pieces_few}
-use Rattle.store.proofs.Integers.{one_schema}
-use Rattle.store.proofs.Appended.{HasTable, has_table, WeightLaws, stream_missing, stream_long, stream_failed, stream_apart, stream_heavy, stream_decided, found_in, entry_integers, one_shape, same_table, new_rows}
+use Rattle.store.proofs.Appended.{HasTable, has_table, RowLaws, follows, stream_missing, stream_long, stream_failed, stream_apart, stream_heavy, stream_decided, found_in}
 use Rattle.store.proofs.Decided.{none_answers, append_answers, append_failed, rows_answers}
 use Rattle.store.proofs.deciding.decide_append_stream.Goals as goal
 
@@ -74,22 +68,13 @@ returns-in_err-test_weight-clause-decides c = λ t lists tables.
     let name : List ℕ = string_bytes c.args.name in
     let e : PlainEntry = plain_entry c.in-Some.entry.now in
     let there : entry_of listed name ≡ Some e = ap (entry_of listed) (sym c.deref.ensures) ∙ sym c.in-Some.ensures.entry in
-    let has : HasTable t name e = has_table listed t name e lists tables there in
     let table : PlainTable = table_of c.in_ok-new.new in
-    let sound : IsTable table = c.schema.ensures.kept in
-    let own : is_integer_schema e.schema ≡ true = entry_integers listed name e c.get.ensures.kept c.requires there in
-    let ints : IsIntegerTable table = c.in_ok-new.ensures.integers in
-    let shape : other_shape e.schema table.schema ≡ None = ap (other_shape e.schema) (sym c.schema.ensures.schema) ∙ c.in_ok-test_shape.ensures in
-    let same : e.schema ≡ table.schema = one_schema e.schema table.schema own ints.schema ((c.one_shape_is_decided.ensures e.schema table.schema).0 (one_shape e.schema table.schema shape)) in
-    let laws : WeightLaws e.schema = record {
-      weigh = λ rows. c.integer_rows_weigh_alike.ensures.rows e.schema rows own;
-      join = λ a b. c.tables_are_joined_and_cut.ensures.joined e.schema a b;
-      taken = λ rows fine. c.accepted_rows_are_a_table.ensures.accepted (rows_under e.schema rows) fine;
-    } in
-    let means : meaning supported_codes c.args.stream.now ≡ Ok (rows_under e.schema table.rows) = c.in_ok-new.ensures.exact ∙ ap Ok (sym (same_table e table same)) in
+    let laws : RowLaws = record { weigh = c.integer_rows_weigh_alike.ensures.rows; join = c.tables_are_joined_and_cut.ensures.joined; taken = c.accepted_rows_are_a_table.ensures.accepted; shapes = λ a b h. (c.one_shape_is_decided.ensures a b).0 h } in
+    let f = follows laws listed name e c.get.ensures.kept c.requires there c.args.stream.now table c.schema.ensures.kept c.in_ok-new.ensures.integers.schema c.in_ok-new.ensures.exact
+    (ap (other_shape e.schema) (sym c.schema.ensures.schema) ∙ c.in_ok-test_shape.ensures) in
     let p = err_from_is_err_and c.from_residual-in_err-test_weight.result c.from_residual-in_err-test_weight.ensures.1 in
     rw (p.1, p.2)
-    (stream_heavy t name c.args.stream.now e has table.rows _ (new_rows e table laws same sound) c.in_ok-test_bytes.ensures means (ap (other_shape e.schema) same ∙ shape)
+    (stream_heavy t name c.args.stream.now e (has_table listed t name e lists tables there) table.rows _ f.new c.in_ok-test_bytes.ensures f.means f.shape
     (ap (heavy_in e) (sym c.len.ensures) ∙ c.in_err-test_weight.ensures))
 
 pub returns-clause-ok : goal.returns-clause-ok
@@ -117,28 +102,19 @@ returns-clause-decides c = λ t lists tables.
     let name : List ℕ = string_bytes c.args.name in
     let e : PlainEntry = plain_entry c.in-Some.entry.now in
     let there : entry_of listed name ≡ Some e = ap (entry_of listed) (sym c.deref.ensures) ∙ sym c.in-Some.ensures.entry in
-    let has : HasTable t name e = has_table listed t name e lists tables there in
     let table : PlainTable = table_of c.in_ok-new.new in
-    let sound : IsTable table = c.schema.ensures.kept in
-    let own : is_integer_schema e.schema ≡ true = entry_integers listed name e c.get.ensures.kept c.requires there in
-    let ints : IsIntegerTable table = c.in_ok-new.ensures.integers in
-    let shape : other_shape e.schema table.schema ≡ None = ap (other_shape e.schema) (sym c.schema.ensures.schema) ∙ c.in_ok-test_shape.ensures in
-    let same : e.schema ≡ table.schema = one_schema e.schema table.schema own ints.schema ((c.one_shape_is_decided.ensures e.schema table.schema).0 (one_shape e.schema table.schema shape)) in
-    let laws : WeightLaws e.schema = record {
-      weigh = λ rows. c.integer_rows_weigh_alike.ensures.rows e.schema rows own;
-      join = λ a b. c.tables_are_joined_and_cut.ensures.joined e.schema a b;
-      taken = λ rows fine. c.accepted_rows_are_a_table.ensures.accepted (rows_under e.schema rows) fine;
-    } in
-    let means : meaning supported_codes c.args.stream.now ≡ Ok (rows_under e.schema table.rows) = c.in_ok-new.ensures.exact ∙ ap Ok (sym (same_table e table same)) in
+    let laws : RowLaws = record { weigh = c.integer_rows_weigh_alike.ensures.rows; join = c.tables_are_joined_and_cut.ensures.joined; taken = c.accepted_rows_are_a_table.ensures.accepted; shapes = λ a b h. (c.one_shape_is_decided.ensures a b).0 h } in
+    let f = follows laws listed name e c.get.ensures.kept c.requires there c.args.stream.now table c.schema.ensures.kept c.in_ok-new.ensures.integers.schema c.in_ok-new.ensures.exact
+    (ap (other_shape e.schema) (sym c.schema.ensures.schema) ∙ c.in_ok-test_shape.ensures) in
     let change : change_of (record { edit = edits.Extend c.args.name; streams = c.in_ok-pieces.pieces.streams; rows = c.in_ok-pieces.pieces.rows })
     ≡ record { edit = extend name; streams = piece_streams table; counts = piece_counts table } =
     λ i. record { edit = extend name; streams = c.in_ok-pieces.ensures.streams i; counts = c.in_ok-pieces.ensures.rows i } in
     let held : stream_rows e.schema (piece_streams table) (piece_counts table) ≡ Some table.rows =
-    ap (λ (s : PlainSchema). stream_rows s (piece_streams table) (piece_counts table)) same
-    ∙ pieces_held table (c.pieces_are_tables.ensures.each table sound ints) (c.pieces_are_tables.ensures.whole table sound ints) in
+    ap (λ (s : PlainSchema). stream_rows s (piece_streams table) (piece_counts table)) f.same
+    ∙ pieces_held table (c.pieces_are_tables.ensures.each table c.schema.ensures.kept c.in_ok-new.ensures.integers) (c.pieces_are_tables.ensures.whole table c.schema.ensures.kept c.in_ok-new.ensures.integers) in
     subst (λ (x : PlainChange). Decides t (append_stream name c.args.stream.now) (Ok x)) (sym change)
-    (stream_decided t name c.args.stream.now e has table.rows (piece_streams table) (piece_counts table) (new_rows e table laws same sound) c.in_ok-test_bytes.ensures means
-    (ap (other_shape e.schema) same ∙ shape) (ap (heavy_in e) (sym c.len.ensures) ∙ c.in_ok-test_weight.ensures) held)
+    (stream_decided t name c.args.stream.now e (has_table listed t name e lists tables there) table.rows (piece_streams table) (piece_counts table) f.new c.in_ok-test_bytes.ensures f.means
+    f.shape (ap (heavy_in e) (sym c.len.ensures) ∙ c.in_ok-test_weight.ensures) held)
 
 pub returns-in_default-clause-answers : goal.returns-in_default-clause-answers
 returns-in_default-clause-answers c =

@@ -4,6 +4,7 @@ use Rattle.std.proofs.lemmas.Result.{err_from_is_err_and}
 use Rattle.sector_dev.specs.declared.device.DevError.{DevError}
 use Rattle.sector_dev.specs.Disk.{now, synced_image, Counts}
 use Rattle.sector_dev.specs.Time.{LeavesOnly}
+use Rattle.sector_dev.specs.laws.Time.{stays}
 use Rattle.segments.specs.declared.piece.Piece.{Piece}
 use Rattle.segments.specs.Usages.{IsUsedIn}
 use Rattle.segments.specs.Writing.{runs_of}
@@ -12,19 +13,18 @@ use Rattle.catalogue.specs.View.{catalogue_of}
 use Rattle.catalogue.specs.laws.Kept.{catalogue_is}
 use Rattle.commit.specs.declared.sector.Commit.{Commit}
 use Rattle.commit.specs.Placing.{Uses, Takes}
-use Rattle.commit.specs.Replacing.{CanReplace, StandsAs}
-use Rattle.commit.specs.Standing.{is_size, is_on_device, runs_fault, rules, standing, Stands}
+use Rattle.commit.specs.Replacing.{StandsAs}
+use Rattle.commit.specs.Standing.{is_size, is_on_device, runs_fault}
 use Rattle.commit.specs.laws.Taking.{GivesAll, took_takes}
-use Rattle.tables.specs.Verdict.{after}
 use Rattle.store.specs.declared.stored.StoredCatalogue.{StoredCatalogue}
 use Rattle.store.specs.Calls.{apply_call}
 use Rattle.store.specs.Machine.{halted, running, has_written, settle, halt, Allows}
 use Rattle.store.specs.Held.{whole_reading, tables_held}
 use Rattle.store.specs.Fits.{listed_in, setting_of}
 use Rattle.store.specs.Changes.{PlainChange, change_of}
-use Rattle.store.specs.Applying.{IsCarried, asked_sizes}
-use Rattle.store.proofs.Prepared.{failed_usages, placed_then, fit_then, uses_then, can_replace}
-use Rattle.store.proofs.Carried.{refused_goes, failed_goes, done_goes, new_after, old_held, new_tables, new_held, synced_outside}
+use Rattle.store.specs.Applying.{IsCarried, asked_sizes, IsOldOrDone}
+use Rattle.store.proofs.Prepared.{failed_usages, placed_then, fit_then, uses_then}
+use Rattle.store.proofs.Carried.{refused_goes, failed_goes, done_goes, new_after, synced_outside, stands_then, can_publish, images, has_done, writes}
 use Rattle.store.proofs.store.Store.carry_out.Goals as goal
 
 pub returns-in_err-prepared-clause-goes : goal.returns-in_err-prepared-clause-goes
@@ -135,17 +135,12 @@ returns-in-Ok-clause-goes g c = λ told base m cmd new fits run makes mk.
     let fit = subst (λ (n : ℕ). runs_fault n k.catalogue.run (entries.runs_of listed) ≡ None) (sym s.same) s.fit in
     let commit_is = c.settle.ensures.commit in
     let catalogue_is' = c.settle.ensures.catalogue in
-    let sound = fits.sound run in
-    let can = subst (λ (n : ℕ). CanReplace whole_reading n (now s0) (record { old = k; was = listed; new = plan.commit; will = will; pieces = plan.pieces.items })) s.same
-    (can_replace old mid k listed change plan back prep on fit s.uses c.requires.sound (now s0) stands (s.own ∙ sym s.same) (subst (λ (n : ℕ). Stands whole_reading n (now s0) k listed) (sym s.same) sound.stands)) in
-    let p = c.in-Ok.ensures.published told can in
-    let outside = synced_outside old mid k listed change plan back prep size (now s0) can stands c.requires.sound (after base m.settled) new sound.tables mk (now s1) p.touches in
-    let tables = new_tables old mid k listed change plan back prep size (now s0) can stands c.requires.sound (after base m.settled) new sound.tables mk in
-    let news = new_held old mid k listed change plan back prep size (now s0) can stands c.requires.sound (after base m.settled) new sound.tables mk in
-    let olds = old_held old mid k listed change plan back prep size (now s0) can stands c.requires.sound (after base m.settled) new sound.tables mk in
+    let im = images base m s mid change plan back new prep c.requires.sound (fits.sound run) mk in
+    let p = c.in-Ok.ensures.published told im.can in
+    let outside = synced_outside plan.commit plan.pieces.items (now s0) (now s1) p.touches in
     let goes = done_goes size base m cmd new run makes s0 s1 plan.commit plan.pieces.items (StandsAs whole_reading size k listed) (StandsAs whole_reading size plan.commit will) fits.device.allows
-    (λ image is was. olds image is.outside was) (λ image is now_is holds_each. news image is.outside now_is holds_each) (c.publish.ensures.moments told can)
-    (D.failed s.device) (D.failed c.publish.new.device) c.in-Ok.ensures.count p (news (synced_image (now s1)) outside p.stands p.holds) in
+    im.olds (λ image is. im.news image is.outside) (c.publish.ensures.moments told im.can)
+    (D.failed s.device) (D.failed c.publish.new.device) c.in-Ok.ensures.count p (im.news (synced_image (now s1)) outside p.stands p.holds) in
     record {
       next = settle cmd m;
       same = sized;
@@ -161,9 +156,9 @@ returns-in-Ok-clause-goes g c = λ told base m cmd new fits run makes mk.
         sound = λ again. record {
           stands = record {
             quiet = p.quiet;
-            found = ap (λ (n : ℕ). standing whole_reading n (synced_image (now s1))) sized ∙ p.stands ∙ (λ i. rules (sym commit_is i) (catalogue_of (sym catalogue_is' i).list));
+            found = stands_then size (D.size c.publish.new.device) (synced_image (now s1)) plan.commit c.settle.new.opened.commit plan.catalogue c.settle.new.opened.catalogue sized commit_is catalogue_is' p.stands;
           };
-          tables = ap (λ (x : StoredCatalogue). tables_held (synced_image (now s1)) (catalogue_of x.list)) catalogue_is' ∙ tables (synced_image (now s1)) outside p.holds ∙ ap Some (new_after size base m cmd new run makes);
+          tables = ap (λ (x : StoredCatalogue). tables_held (synced_image (now s1)) (catalogue_of x.list)) catalogue_is' ∙ im.tables (synced_image (now s1)) outside p.holds ∙ ap Some (new_after size base m cmd new run makes);
           uses = subst (λ (x : StoredCatalogue). Uses c.settle.new.opened.map.entries (c.settle.new.opened.commit.catalogue.run ∷ entries.runs_of (catalogue_of x.list)) []) (sym catalogue_is')
               (subst (λ (x : Commit). Uses c.settle.new.opened.map.entries (x.catalogue.run ∷ entries.runs_of will) []) (sym commit_is)
               (uses_then old mid k listed change plan back prep on fit s.uses c.requires.sound c.settle.new.opened.map stands c.settle.ensures.map));
@@ -181,25 +176,17 @@ returns-in-Err-clause-goes g c = λ told base m cmd new fits run makes mk.
     let size = D.size s.device in
     let sized = c.publish.ensures.size in
     let listed = listed_in s in
-    let stands = catalogue_is listed s.opened.catalogue.list.kept in
     let change : PlainChange = change_of c.args.change in
     let plan = c.in_ok-prepared.prepared.plan in
     let back = c.in_ok-prepared.prepared.back.items in
-    let old = s.opened.map in
     let mid = c.prepare.new.map in
     let k = s.opened.commit in
     let will = catalogue_of plan.catalogue.list in
     let prep = c.in_ok-prepared.ensures.ok in
-    let on = subst (λ (n : ℕ). is_on_device n k.catalogue.run ≡ true) (sym s.same) s.placed in
-    let fit = subst (λ (n : ℕ). runs_fault n k.catalogue.run (entries.runs_of listed) ≡ None) (sym s.same) s.fit in
-    let sound = fits.sound run in
-    let can = subst (λ (n : ℕ). CanReplace whole_reading n (now s0) (record { old = k; was = listed; new = plan.commit; will = will; pieces = plan.pieces.items })) s.same
-    (can_replace old mid k listed change plan back prep on fit s.uses c.requires.sound (now s0) stands (s.own ∙ sym s.same) (subst (λ (n : ℕ). Stands whole_reading n (now s0) k listed) (sym s.same) sound.stands)) in
-    let news = new_held old mid k listed change plan back prep size (now s0) can stands c.requires.sound (after base m.settled) new sound.tables mk in
-    let olds = old_held old mid k listed change plan back prep size (now s0) can stands c.requires.sound (after base m.settled) new sound.tables mk in
+    let im = images base m s mid change plan back new prep c.requires.sound (fits.sound run) mk in
     let counts = subst (λ (e : DevError). Counts {T = Unit {0}} (D.failed s.device) (D.failed c.publish.new.device) (Err e)) c.in-Err.ensures.error c.in-Err.ensures.count in
     let goes = failed_goes size base m cmd new run makes s0 s1 plan.commit plan.pieces.items (StandsAs whole_reading size k listed) (StandsAs whole_reading size plan.commit will) fits.device.allows
-    (λ image is was. olds image is.outside was) (λ image is now_is holds_each. news image is.outside now_is holds_each) (c.publish.ensures.moments told can)
+    im.olds (λ image is. im.news image is.outside) (c.publish.ensures.moments told im.can)
     (D.failed s.device) (D.failed c.publish.new.device) counts in
     let next = halt (apply_call cmd) (has_written (now s0) (now s1)) m in
     record {
@@ -216,4 +203,42 @@ returns-in-Err-clause-goes g c = λ told base m cmd new fits run makes mk.
         };
         sound = λ again. absurd (cc again);
       };
+    }
+
+-- ---- what the disk holds
+
+pub returns-in_err-prepared-clause-writes : goal.returns-in_err-prepared-clause-writes
+returns-in_err-prepared-clause-writes g c = λ told cmd on decided.
+    let D = g.D.SectorDevice in
+    let s = c.args.self.now in
+    stays (LeavesOnly (IsOldOrDone (D.size s.device) s.opened.commit (listed_in s) (now (D.story s.device)) cmd)) (D.story s.device)
+
+pub returns-in-Ok-clause-writes : goal.returns-in-Ok-clause-writes
+returns-in-Ok-clause-writes g c = λ told cmd on decided.
+    writes c.args.self.now c.prepare.new.map (change_of c.args.change) c.in_ok-prepared.prepared.plan c.in_ok-prepared.prepared.back.items c.in_ok-prepared.ensures.ok c.requires.sound cmd decided
+    (g.D.SectorDevice.story c.publish.new.device) on (c.publish.ensures.moments told)
+
+pub returns-in-Err-clause-writes : goal.returns-in-Err-clause-writes
+returns-in-Err-clause-writes g c = λ told cmd on decided.
+    writes c.args.self.now c.prepare.new.map (change_of c.args.change) c.in_ok-prepared.prepared.plan c.in_ok-prepared.prepared.back.items c.in_ok-prepared.ensures.ok c.requires.sound cmd decided
+    (g.D.SectorDevice.story c.publish.new.device) on (c.publish.ensures.moments told)
+
+pub returns-in-Ok-clause-written : goal.returns-in-Ok-clause-written
+returns-in-Ok-clause-written g c = λ told cmd on decided.
+    let D = g.D.SectorDevice in
+    let s = c.args.self.now in
+    let s1 = D.story c.publish.new.device in
+    let change : PlainChange = change_of c.args.change in
+    let plan = c.in_ok-prepared.prepared.plan in
+    let back = c.in_ok-prepared.prepared.back.items in
+    let prep = c.in_ok-prepared.ensures.ok in
+    let can = can_publish s c.prepare.new.map change plan back prep c.requires.sound (now (D.story s.device)) on in
+    let p = c.in-Ok.ensures.published told can in
+    record {
+      stands = record {
+        quiet = p.quiet;
+        found = stands_then (D.size s.device) (D.size c.publish.new.device) (synced_image (now s1)) plan.commit c.settle.new.opened.commit plan.catalogue c.settle.new.opened.catalogue c.publish.ensures.size
+            c.settle.ensures.commit c.settle.ensures.catalogue p.stands;
+      };
+      holds = has_done s.opened.map c.prepare.new.map s.opened.commit (listed_in s) change plan back prep (D.size s.device) c.requires.sound cmd decided (synced_image (now s1)) p.stands p.holds;
     }

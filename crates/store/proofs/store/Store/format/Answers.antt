@@ -103,7 +103,8 @@ returns-in-Err-clause-refused g c = λ told base m fits.
     let moments = early_moments size fits.in_limits spelled base m s0 s1 shows fits.allows (c.format.ensures.untouched told) (c.format.ensures.moments told) in
     let within = fits.in_limits in
     let sound : (cause : Cause) → c.in-Err.error ≢ errors.Damaged cause = λ cause is. let no = c.in-Err.ensures.damaged cause is in cc (within, no) in
-    let goes = format_refused size fits.in_limits spelled base m c.in-Err.error s0 s1 before after fits.fresh fits.allows moments sound (λ other. c.in-Err.ensures.quiet other told) (formatting_counts c.format.result c.in-Err.error before after c.in-Err.is c.format.ensures.count) in
+    let goes = format_refused size fits.in_limits spelled base m c.in-Err.error s0 s1 before after fits.fresh fits.allows moments sound (λ other. c.in-Err.ensures.quiet other told) (formatting_counts c.format.result c.in-Err.error before after c.in-Err.is c.format.ensures.count)
+    (λ is. c.format.ensures.already (c.in-Err.is ∙ ap Err is) told) in
     record {
       same = same;
       goes = subst (λ (r : OpeningRefusal). Goes (setting_of size base) m format_call (shut_by r) s0 s1 before after (shut_down m)) (sym c.formatting_refusal.ensures) goes;
