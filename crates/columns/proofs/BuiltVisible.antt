@@ -18,6 +18,7 @@ use Rattle.columns.specs.Buildable.{are_nulls_or_fit, is_null_or_entry, names_en
 use Rattle.cells.specs.Nulls.{is_null, is_there}
 use Rattle.columns.specs.Built.{with_validity, fixed_items, list_offsets, entry_index, index_bytes, built, built_kind, built_parts, first_cell, other_cells}
 use Rattle.columns.specs.CellAt.{is_valid, cell_at, span_start, span_size, index_at, entries_of_kind}
+use Rattle.columns.specs.laws.FitTexts.{good_text}
 use Rattle.columns.specs.Visible.{Slot, slot, visible, visible_below, visible_parts, visible_in, is_forbidden, is_bad_text, is_no_text, is_past, has_bad_index, names_no_entry}
 use Rattle.columns.proofs.BuiltCells.{EntriesAreFound, column_found, kind_found, entries_back, index_there, entry_of_cell}
 use Rattle.columns.proofs.Found.{size_is, every_size, count_list, has_size}
@@ -38,23 +39,6 @@ not_forbidden p false (text t) h = refl
 not_forbidden p false (bytes t) h = refl
 not_forbidden p false (items cs) h = refl
 not_forbidden p false (parts cs) h = refl
-
-good_text : (k : Kind) (t : List ℕ) → fits_kind k (text t) ≡ true → is_utf8 t ≡ true
-unfolding fits
-good_text texts t h = h
-good_text large_texts t h = h
-good_text nulls t h = cc
-good_text booleans t h = cc
-good_text (integers bits signed) t h = cc
-good_text (dates unit) t h = cc
-good_text (timestamps unit timezone) t h = cc
-good_text binaries t h = cc
-good_text large_binaries t h = cc
-good_text (fixed_binaries width) t h = cc
-good_text (lists item) t h = cc
-good_text (large_lists item) t h = cc
-good_text (fixed_lists size item) t h = cc
-good_text (structs columns) t h = cc
 
 no_bad_text : (k : Kind) (nullable : Bool) (x : Cell) → null_or nullable (fits_kind k) x ≡ true → is_bad_text x ≡ false
 no_bad_text k nullable null h = refl

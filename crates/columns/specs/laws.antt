@@ -5,3 +5,4 @@ pub mod Everys
 pub mod SoundParts
 pub mod Sounds
 pub mod Grown
+pub mod FitTexts
