@@ -1,24 +1,35 @@
 -- The rows of a table, however they are kept.
-use Rattle.std.specs.Prelude.{slice_get, Vec}
+use Rattle.std.specs.Prelude.{slice_get, Vec, sum, ◌==◌}
 use Rattle.std.specs.Global.{Global}
 use Rattle.std.proofs.Common.{inl, inr, ◌≡◌, ℕ, ◌+◌, ◌*◌, ◌≤◌, ◌<◌, true, List, [], ◌∷◌, map, length, take, drop, Some, None, refl, ap, sym, ◌∙◌, arith}
 use Rattle.std.proofs.lemmas.Bool.{and_parts, eqb-true}
 use Rattle.std.proofs.lemmas.List.{drop_all, drop_more}
+use Rattle.std.proofs.lemmas.List.Elements.{All-get_or}
 use Rattle.std.proofs.lemmas.List.Sums.{sum_by-cons}
 use Rattle.std.proofs.lemmas.Option.{slice_get_past, slice_get_cases, slice_get_within, get_or_from_slice_get}
 use Rattle.values.specs.laws.IntegerRows.{length_rows_from}
-use Rattle.arrow_schema.specs.Column.{PlainSchema}
+use Rattle.arrow_schema.specs.Column.{Columns, columns_of, PlainSchema}
 use Rattle.arrow_schema.specs.declared.types.Schema.{Schema}
 use Rattle.arrow_schema.specs.Integers.{is_integer_schema}
 use Rattle.arrow_schema.specs.View.{schema_of}
 use Rattle.values.specs.declared.content.Content.{Content}
-use Rattle.values.specs.declared.content.Content.TheVariants.{Cells, Integers}
+use Rattle.values.specs.declared.content.Content.TheVariants.{Cells, Integers, Batches as InBatches}
+use Rattle.values.specs.declared.batches.Batches.{Batches}
+use Rattle.values.specs.declared.part.Part.{Part}
+use Rattle.cells.specs.declared.limits.TheConstants.{MAX_TABLE_WEIGHT}
 use Rattle.cells.specs.declared.value.Value.{Value}
-use Rattle.cells.specs.Cell.{Cell}
+use Rattle.cells.specs.Cell.{Cell, cells_of, PlainTable}
+use Rattle.cells.specs.Row.{is_row, row_fits}
+use Rattle.columns.specs.Texts.{have_utf8_texts}
+use Rattle.columns.specs.laws.FitTexts.{row_texts}
 use Rattle.values.specs.Columns.{row_at}
 use Rattle.values.specs.Content.{rows_of, table_with, is_filled}
 use Rattle.values.specs.IntegerTable.{integer_columns, have_rows, plain_table}
 use Rattle.values.specs.IntegerRows.{have_row}
+use Rattle.values.specs.Parts.{are_parts_sound, parts_rows, parts_table}
+use Rattle.values.specs.Table.{IsTable}
+use Rattle.values.specs.inner.Starts.{part_lengths}
+use Rattle.values.proofs.PartLemmas.{length_parts}
 use Rattle.cells.specs.View.{cell}
 use Rattle.cells.specs.Weight.{row_weight, table_weight}
 use Rattle.values.proofs.IntegerRows.{has_row}
@@ -26,13 +37,20 @@ use Rattle.values.proofs.IntegerRows as integers
 use Rattle.values.proofs.RowLemmas.{length_rows, row_within}
 use Rattle.values.proofs.RowLemmas as cells
 
-pub length_content : (s : Schema) (n : ℕ) (content : Content) → length (rows_of s n content) ≡ n
-length_content s n (Cells values) = length_rows (length s.fields.items) n (map cell values.items)
-length_content s n (Integers columns) = length_rows_from (integer_columns (schema_of s)) (map (λ v. v.items) columns.items) 0 n
+-- the columns of a schema of the code
+abbrev own_columns : Schema → Columns
+own_columns s = columns_of (schema_of s).columns
+
+pub length_content : (s : Schema) (n : ℕ) (content : Content) → is_filled s n content ≡ true → length (rows_of s n content) ≡ n
+length_content s n (Cells values) filled = length_rows (length s.fields.items) n (map cell values.items)
+length_content s n (Integers columns) filled = length_rows_from (integer_columns (schema_of s)) (map (λ v. v.items) columns.items) 0 n
+length_content s n (InBatches batches) filled =
+    let parts = and_parts (n == sum (part_lengths batches.parts.items)) (are_parts_sound (own_columns s) batches.parts.items) filled in
+    length_parts (own_columns s) batches.parts.items ∙ sym (eqb-true _ _ parts.0)
 
 -- no row past the last
-pub none_past : (s : Schema) (n : ℕ) (content : Content) (i : ℕ) → n ≤ i → None ≡ slice_get (rows_of s n content) i
-none_past s n content i le = sym (slice_get_past (rows_of s n content) i (omega (arith, length_content s n content, le)))
+pub none_past : (s : Schema) (n : ℕ) (content : Content) (i : ℕ) → is_filled s n content ≡ true → n ≤ i → None ≡ slice_get (rows_of s n content) i
+none_past s n content i filled le = sym (slice_get_past (rows_of s n content) i (omega (arith, length_content s n content filled, le)))
 
 -- the rows from a place on
 pub none_left : {X : Type 0} (xs : List X) (i : ℕ) → None ≡ slice_get xs i → drop i xs ≡ []
@@ -73,8 +91,35 @@ has_integers s n content columns i is filled lt =
 pub integers_filled : (s : Schema) (n : ℕ) (content : Content) (columns : Vec (Vec ℕ Global) Global) → content ≡ Integers columns → is_filled s n content ≡ true
     → have_rows (integer_columns (schema_of s)) (map (λ v. v.items) columns.items) (length (rows_of s n content)) ≡ true
 integers_filled s n content columns is filled =
-    rw (length_content s n content) (and_parts (is_integer_schema (schema_of s)) (have_rows (integer_columns (schema_of s)) (map (λ v. v.items) columns.items) n) (rw is at filled)).1
+    rw (length_content s n content filled) (and_parts (is_integer_schema (schema_of s)) (have_rows (integer_columns (schema_of s)) (map (λ v. v.items) columns.items) n) (rw is at filled)).1
 
-pub integers_given : (s : Schema) (n : ℕ) (content : Content) (columns : Vec (Vec ℕ Global) Global) → content ≡ Integers columns
+pub integers_given : (s : Schema) (n : ℕ) (content : Content) (columns : Vec (Vec ℕ Global) Global) → content ≡ Integers columns → is_filled s n content ≡ true
     → table_with s n content ≡ plain_table (schema_of s) (map (λ v. v.items) columns.items) (length (rows_of s n content))
-integers_given s n content columns is = rw (length_content s n content, is) refl
+integers_given s n content columns is filled = rw (length_content s n content filled, is) refl
+
+-- the record batches of a table
+pub parts_filled : (s : Schema) (n : ℕ) (content : Content) (batches : Batches) → content ≡ InBatches batches → is_filled s n content ≡ true
+    → (n ≡ sum (part_lengths batches.parts.items)) × (are_parts_sound (own_columns s) batches.parts.items ≡ true)
+parts_filled s n content batches is filled =
+    let parts = and_parts (n == sum (part_lengths batches.parts.items)) (are_parts_sound (own_columns s) batches.parts.items) (rw is at filled) in
+    (eqb-true _ _ parts.0, parts.1)
+
+pub parts_given : (s : Schema) (n : ℕ) (content : Content) (batches : Batches) → content ≡ InBatches batches → table_with s n content ≡ parts_table (schema_of s) batches.parts.items
+parts_given s n content batches is = rw is refl
+
+pub rows_of_parts : (s : Schema) (n : ℕ) (content : Content) (batches : Batches) → content ≡ InBatches batches → rows_of s n content ≡ parts_rows (own_columns s) batches.parts.items
+rows_of_parts s n content batches is = rw is refl
+
+-- the texts of a row that a table has
+texts_in_row : (s : PlainSchema) (row : List Cell) → is_row s row ≡ true → have_utf8_texts (cells_of row) ≡ true
+unfolding is_row
+texts_in_row s row h = row_texts (columns_of s.columns) (cells_of row) (and_parts (row_fits s row) _ h).0
+
+pub texts_in_table : (t : PlainTable) (i : ℕ) (row : List Cell) → IsTable t → slice_get t.rows i ≡ Some row → have_utf8_texts (cells_of row) ≡ true
+texts_in_table t i row is there =
+    let all = All-get_or (λ (r : List Cell). is_row t.schema r ≡ true) t.rows i row (slice_get_within t.rows i row there) is.rows in
+    texts_in_row t.schema row (rw (get_or_from_slice_get t.rows i row row there) at all)
+
+-- a table has less rows than a number of the code can tell
+pub parts_few : (s : PlainSchema) (parts : List Part) → IsTable (parts_table s parts) → sum (part_lengths parts) ≤ MAX_TABLE_WEIGHT
+parts_few s parts is = omega (arith, is.weight, few_rows s (parts_table s parts).rows, length_parts (columns_of s.columns) parts)

@@ -7,3 +7,5 @@ mod IntegerRows
 mod IntegerTables
 mod ContentLemmas
 mod IntegerCells
+mod StartLemmas
+mod PartLemmas

@@ -1,6 +1,7 @@
 // Values of a table, as they are borrowed.
 ghost use Rattle.std.specs.Prelude.{◌≡◌};
 ghost use Rattle.cells.specs.View.{cell};
+ghost use Rattle.columns.specs.Borrowed.{borrowed_cell as cell_in_arrays};
 ghost use Rattle.values.specs.Borrowed.{borrowed_cell};
 
 use crate::integers::IntegerRow;
@@ -19,11 +20,12 @@ pub enum ValueRef<'a> {
     Struct(Values<'a>),
 }
 
-/// How the values that are borrowed are kept: as they stand, or in the bytes of integer columns.
+/// How the values that are borrowed are kept: as they stand, in the bytes of integer columns, or in arrays.
 #[derive(Clone, Copy, Debug)]
 pub(crate) enum Form<'a> {
     Cells(&'a [Value]),
     Integers(IntegerRow<'a>),
+    Arrays(columns::Values<'a>),
 }
 
 /// Values that are borrowed, in order: the cells of a row, the items of a list or the parts of a struct.
@@ -34,7 +36,7 @@ pub struct Values<'a> {
 
 impl<'a> Values<'a> {
     ghost use Rattle.std.specs.Prelude.{◌==◌, length, slice_get, option_map};
-    ghost use Rattle.values.specs.Borrowed.{borrowed_cells, values_left, first_borrowed};
+    ghost use Rattle.values.specs.Borrowed.{borrowed_cells, values_left};
 
     /// How many there are.
     pub fn len(&self) -> usize
@@ -43,6 +45,7 @@ impl<'a> Values<'a> {
         match self.form {
             Form::Cells(cells) => cells.len(),
             Form::Integers(row) => row.len(),
+            Form::Arrays(values) => values.len(),
         }
     }
 
@@ -60,6 +63,7 @@ impl<'a> Values<'a> {
         match self.form {
             Form::Cells(cells) => Some(borrow_value(cells.get(i)?)),
             Form::Integers(row) => Some(ValueRef::Int(row.get(i)?)),
+            Form::Arrays(values) => Some(value_in_arrays(values.get(i)?)),
         }
     }
 
@@ -67,24 +71,9 @@ impl<'a> Values<'a> {
     pub fn iter(&self) -> ValuesIter<'a>
         ensures { values_left result ≡ borrowed_cells self.now }
     {
-        ValuesIter { rest: *self }
-    }
-
-    // The first value, and the others.
-    fn split_first(&self) -> Option<(ValueRef<'a>, Values<'a>)>
-        ensures { borrowed_cells self.now ≡ first_borrowed result }
-    {
-        match self.form {
-            Form::Cells(cells) => {
-                let (first, rest) = cells.split_first()?;
-                let form = Form::Cells(rest);
-                Some((borrow_value(first), Values { form }))
-            }
-            Form::Integers(row) => {
-                let (first, rest) = row.split_first()?;
-                let form = Form::Integers(rest);
-                Some((ValueRef::Int(first), Values { form }))
-            }
+        ValuesIter {
+            values: *self,
+            next: 0,
         }
     }
 }
@@ -92,7 +81,8 @@ impl<'a> Values<'a> {
 /// Gives values in order.
 #[derive(Debug, Drop)]
 pub struct ValuesIter<'a> {
-    pub(crate) rest: Values<'a>,
+    pub(crate) values: Values<'a>,
+    pub(crate) next: usize,
 }
 
 impl<'a> Iterator for ValuesIter<'a> {
@@ -106,9 +96,15 @@ impl<'a> Iterator for ValuesIter<'a> {
     ghost remaining = { item_count values_left };
 
     fn next(&mut self) -> Option<ValueRef<'a>> {
-        let (first, rest) = self.rest.split_first()?;
-        self.rest = rest;
-        Some(first)
+        // a number of the code is below 2^64, so that the next place is too
+        let _len = self.values.len();
+        match self.values.get(self.next) {
+            None => None,
+            Some(value) => {
+                self.next += 1;
+                Some(value)
+            }
+        }
     }
 }
 
@@ -127,6 +123,25 @@ pub fn borrow_value(value: &Value) -> ValueRef<'_>
         }),
         Value::Struct(parts) => ValueRef::Struct(Values {
             form: Form::Cells(parts),
+        }),
+    }
+}
+
+// A value of an array.
+fn value_in_arrays(value: columns::ValueRef<'_>) -> ValueRef<'_>
+    ensures { borrowed_cell result ≡ cell_in_arrays value.entry }
+{
+    match value {
+        columns::ValueRef::Null => ValueRef::Null,
+        columns::ValueRef::Bool(boolean) => ValueRef::Bool(boolean),
+        columns::ValueRef::Int(number) => ValueRef::Int(number),
+        columns::ValueRef::Text(text) => ValueRef::Text(text),
+        columns::ValueRef::Bytes(bytes) => ValueRef::Bytes(bytes),
+        columns::ValueRef::List(items) => ValueRef::List(Values {
+            form: Form::Arrays(items),
+        }),
+        columns::ValueRef::Struct(parts) => ValueRef::Struct(Values {
+            form: Form::Arrays(parts),
         }),
     }
 }

@@ -136,8 +136,8 @@ pub(crate) struct IntegerRow<'a> {
 }
 
 impl<'a> IntegerRow<'a> {
-    ghost use Rattle.std.specs.Prelude.{◌∷◌, [], slice_get, option_map, option_to_list};
-    ghost use Rattle.values.specs.Borrowed.{integer_cells, first_integer};
+    ghost use Rattle.std.specs.Prelude.{slice_get, option_map};
+    ghost use Rattle.values.specs.Borrowed.{integer_cells};
 
     pub(crate) fn len(&self) -> usize
         ensures { result ≡ length (integer_cells self.now) }
@@ -152,19 +152,5 @@ impl<'a> IntegerRow<'a> {
             return None;
         }
         Some(integer_at(&self.fields[i], &self.columns[i], self.row))
-    }
-
-    // The first cell, and the others.
-    pub(crate) fn split_first(&self) -> Option<(i128, IntegerRow<'a>)>
-        ensures { integer_cells self.now ≡ first_integer result }
-    {
-        let (field, fields) = self.fields.split_first()?;
-        let (values, columns) = self.columns.split_first()?;
-        let rest = IntegerRow {
-            fields,
-            columns,
-            row: self.row,
-        };
-        Some((integer_at(field, values, self.row), rest))
     }
 }

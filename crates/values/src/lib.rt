@@ -14,13 +14,17 @@
 #![tactic(auto)]
 
 mod accept;
+mod batches;
 mod borrowed;
 mod content;
 mod errors;
 mod integers;
 mod join;
 mod laws;
+mod numbers;
+mod part;
 mod rows;
+mod starts;
 mod table;
 
 pub use borrowed::{ValueRef, Values, ValuesIter, borrow_value};
@@ -33,5 +37,6 @@ pub use laws::{
     accepted_rows_are_a_table, integer_columns_are_integer_tables, integer_columns_are_tables,
     integer_rows_weigh_alike, tables_are_joined_and_cut,
 };
+pub use part::{Batch, Part};
 pub use rows::Rows;
 pub use table::Table;

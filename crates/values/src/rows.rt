@@ -2,6 +2,7 @@
 ghost use Rattle.std.specs.Prelude.{◌≡◌, ◌+◌, ◌*◌, ◌≤◌, map, take, drop, length};
 ghost use Rattle.cells.specs.View.{cell};
 
+use crate::batches::BatchPlace;
 use crate::borrowed::Values;
 use crate::table::Table;
 use cells::Value;
@@ -11,6 +12,8 @@ use cells::Value;
 pub struct Rows<'a> {
     pub(crate) table: &'a Table,
     pub(crate) next: usize,
+    // the batch of the row before, where the table has record batches
+    pub(crate) near: BatchPlace,
 }
 
 impl<'a> Iterator for Rows<'a> {
@@ -25,7 +28,7 @@ impl<'a> Iterator for Rows<'a> {
     ghost remaining = { item_count rows_left };
 
     fn next(&mut self) -> Option<Values<'a>> {
-        match self.table.row(self.next) {
+        match self.table.row_near(self.next, &mut self.near) {
             None => None,
             Some(row) => {
                 self.next += 1;

@@ -4,18 +4,22 @@ ghost use Rattle.values.specs.Table.{IsTable};
 ghost use Rattle.values.specs.Content.{table_with, is_filled};
 
 use crate::accept::{weigh_cells, weigh_rows};
+use crate::batches::{BatchPlace, Batches, part_lengths};
 use crate::borrowed::{Form, Values};
 use crate::content::Content;
 use crate::errors::TableError;
 use crate::integers::{IntegerRow, are_integers, columns_are_bytes, have_rows, is_integer_schema};
 use crate::join::join;
+use crate::numbers::are_rows_of_integers;
+use crate::part::Part;
 use crate::rows::{Rows, row_at};
+use crate::starts::total;
 use arrow_schema::Schema;
 use cells::{MAX_TABLE_WEIGHT, Row, Value};
-use std::alloc::Global;
+use std::alloc::{AllocError, Global};
 
 /// A table: its schema, and its rows in order. Contracts see nothing else of it. Its cells stand in one vector, row
-/// after row, or as the bytes of integer columns, so that a row takes no memory of its own.
+/// after row, or as the bytes of integer columns, or in record batches, so that a row takes no memory of its own.
 #[derive(Debug, Drop)]
 pub struct Table {
     schema: Schema,
@@ -26,12 +30,14 @@ pub struct Table {
 }
 
 impl Table {
-    ghost use Rattle.std.specs.Prelude.{◌==◌, ◌≤◌, ◌+◌, ◌*◌, ◌↔◌, length, slice_get, option_map, map, IfOk, IfErr, IfSome, Ok};
+    ghost use Rattle.std.specs.Prelude.{true, ◌==◌, ◌≤◌, ◌+◌, ◌*◌, ◌↔◌, length, slice_get, option_map, map, IfOk, IfErr, IfSome, Ok};
+    ghost use Rattle.arrow_schema.specs.Column.{columns_of};
     ghost use Rattle.arrow_schema.specs.Integers.{is_integer_schema};
     ghost use Rattle.arrow_schema.specs.View.{schema_of};
     ghost use Rattle.arrow_schema.specs.Limits.{IsWithinLimits};
     ghost use Rattle.values.specs.Borrowed.{borrowed_cells};
     ghost use Rattle.values.specs.IntegerTable.{integer_columns, have_rows, plain_table, IsIntegerTable};
+    ghost use Rattle.values.specs.Parts.{are_parts_sound, parts_table};
     ghost use Rattle.values.specs.Rows.{table_in};
     ghost use Rattle.values.specs.Table.{table_from};
     ghost use Rattle.cells.specs.Row.{row_of};
@@ -112,6 +118,33 @@ impl Table {
         }
     }
 
+    /// The table of the rows of some record batches, in order. No cell is copied.
+    pub fn from_parts(alloc: Global, schema: Schema, parts: Vec<Part>) -> Result<Table, AllocError>
+        requires sound { are_parts_sound (columns_of (schema_of schema).columns) parts.items ≡ true }
+        requires table { IsTable (parts_table (schema_of schema) parts.items) }
+        ensures { IfOk result (λ t. table_of t ≡ parts_table (schema_of schema) parts.items) }
+    {
+        let lengths = part_lengths(alloc, &parts)?;
+        let rows = total(&lengths);
+        let batches = Batches::new(alloc, parts, &lengths)?;
+        Ok(Table {
+            schema,
+            content: Content::Batches(batches),
+            rows,
+        })
+    }
+
+    /// The record batches, where the table is kept so.
+    pub fn parts(&self) -> Option<&[Part]>
+        ensures sound { IfSome result (λ parts. are_parts_sound (columns_of (table_of self.now).schema.columns) parts.now ≡ true) }
+        ensures rows { IfSome result (λ parts. table_of self.now ≡ parts_table (table_of self.now).schema parts.now) }
+    {
+        match &self.content {
+            Content::Batches(batches) => Some(&batches.parts),
+            _ => None,
+        }
+    }
+
     /// The little-endian values of each column, one after another, where the table is kept so.
     pub fn integers(&self) -> Option<&[Vec<u8>]>
         ensures schema { IfSome result (λ _. IsTrue (is_integer_schema (table_of self.now).schema)) }
@@ -121,8 +154,8 @@ impl Table {
             table_of self.now ≡ plain_table (table_of self.now).schema (map (λ v. v.items) columns.now) (length (table_of self.now).rows)) }
     {
         match &self.content {
-            Content::Cells(_) => None,
             Content::Integers(columns) => Some(columns),
+            _ => None,
         }
     }
 
@@ -134,6 +167,8 @@ impl Table {
         match &self.content {
             Content::Cells(cells) => is_integer_schema(&self.schema) && are_integers(cells),
             Content::Integers(_) => true,
+            Content::Batches(_) => is_integer_schema(&self.schema)
+                && are_rows_of_integers(self.rows()),
         }
     }
 
@@ -164,6 +199,14 @@ impl Table {
     pub fn row(&self, i: usize) -> Option<Values<'_>>
         ensures { option_map borrowed_cells result ≡ slice_get (table_of self.now).rows i }
     {
+        let mut near = BatchPlace { part: 0, batch: 0 };
+        self.row_near(i, &mut near)
+    }
+
+    // The same, and the batch that the row is in, which is looked for near the one given.
+    pub(crate) fn row_near<'a>(&'a self, i: usize, near: &mut BatchPlace) -> Option<Values<'a>>
+        ensures { option_map borrowed_cells result ≡ slice_get (table_of self.now).rows i }
+    {
         if i >= self.len() {
             return None;
         }
@@ -174,6 +217,11 @@ impl Table {
                 columns,
                 row: i,
             }),
+            Content::Batches(batches) => {
+                let place = batches.find(i, *near);
+                *near = place;
+                Form::Arrays(batches.row(&self.schema.fields, place, i))
+            }
         };
         Some(Values { form })
     }
@@ -185,6 +233,7 @@ impl Table {
         Rows {
             table: self,
             next: 0,
+            near: BatchPlace { part: 0, batch: 0 },
         }
     }
 }

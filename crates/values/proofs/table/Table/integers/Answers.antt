@@ -7,4 +7,4 @@ returns-in-Integers-clause-filled c =
 
 pub returns-in-Integers-clause-values : goal.returns-in-Integers-clause-values
 returns-in-Integers-clause-values c =
-    rw c.deref.ensures.value (integers_given c.args.self.now.schema c.args.self.now.rows c.args.self.now.content c.in-Integers.columns c.in-Integers.is)
+    rw c.deref.ensures.value (integers_given c.args.self.now.schema c.args.self.now.rows c.args.self.now.content c.in-Integers.columns c.in-Integers.is c.args.self.now.filled)

@@ -1,0 +1,14 @@
+use Rattle.std.proofs.Common.{◌≡◌, ◌<◌, ◌∙◌, ap, arith}
+use Rattle.std.specs.Prelude.{sum}
+use Rattle.arrow_schema.specs.View.{schema_of}
+use Rattle.values.specs.inner.Starts.{part_lengths}
+use Rattle.values.proofs.ContentLemmas.{parts_few}
+use Rattle.values.proofs.table.Table.from_parts.Goals as goal
+
+pub part_lengths-requires : goal.part_lengths-requires
+part_lengths-requires c = rw c.deref.ensures.value (omega (arith, parts_few (schema_of c.args.schema) c.args.parts.items c.requires.table))
+
+pub total-rows-requires : goal.total-rows-requires
+total-rows-requires c =
+    let lengths = rw c.deref.ensures.value at (c.deref-2.ensures.value ∙ c.in_ok-lengths.ensures) in
+    rw lengths (omega (arith, parts_few (schema_of c.args.schema) c.args.parts.items c.requires.table))
