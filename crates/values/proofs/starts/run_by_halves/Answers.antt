@@ -1,7 +1,6 @@
 use Rattle.std.proofs.Common.{◌≡◌, ◌-◌, ℕ, leb, rules, sym, subst}
 use Rattle.std.specs.List.Sorted.{IsPartitionedBy}
 use Rattle.std.proofs.lemmas.List.Sorted.{IsPartitionPoint-from_clause}
-use Rattle.values.specs.inner.Starts.{IsInRun}
 use Rattle.values.proofs.StartLemmas.{starts_parted, by_halves}
 use Rattle.values.proofs.starts.run_by_halves.Goals as goal
 

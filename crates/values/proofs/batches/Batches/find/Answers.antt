@@ -1,6 +1,5 @@
-use Rattle.std.proofs.Common.{◌≡◌, ◌-◌, ◌<◌, ◌∙◌, length, take, ap, arith}
-use Rattle.std.specs.Prelude.{sum}
-use Rattle.values.specs.inner.Starts.{IsInRun, part_lengths, batch_lengths_at}
+use Rattle.std.proofs.Common.{◌∙◌, arith}
+use Rattle.values.specs.inner.Starts.{part_lengths, batch_lengths_at}
 use Rattle.values.proofs.PartLemmas.{many_parts, rest_in_part}
 use Rattle.values.proofs.batches.Batches.find.Goals as goal
 

@@ -1,7 +1,7 @@
-use Rattle.std.proofs.Common.{◌≡◌, ◌+◌, ◌∙◌, Some, ap, sym, arith}
+use Rattle.std.proofs.Common.{◌∙◌, Some, ap, sym, arith}
 use Rattle.cells.specs.laws.Cells.{cells_list}
 use Rattle.columns.specs.View.{fields_of}
-use Rattle.values.proofs.PartLemmas.{row_in_parts, many_parts, batch_start}
+use Rattle.values.proofs.PartLemmas.{row_in_parts, many_parts}
 use Rattle.values.proofs.batches.Batches.row.Goals as goal
 
 pub part_start-requires : goal.part_start-requires

@@ -1,4 +1,4 @@
-use Rattle.std.proofs.Common.{◌∙◌, length, arith}
+use Rattle.std.proofs.Common.{◌∙◌, arith}
 use Rattle.values.proofs.PartLemmas.{many_starts, kept_starts}
 use Rattle.values.proofs.batches.Batches.starts_in.Goals as goal
 

@@ -1,7 +1,5 @@
-use Rattle.std.proofs.Common.{◌≡◌, ◌<◌, ◌∙◌, ap, arith}
-use Rattle.std.specs.Prelude.{sum}
+use Rattle.std.proofs.Common.{◌∙◌, arith}
 use Rattle.arrow_schema.specs.View.{schema_of}
-use Rattle.values.specs.inner.Starts.{part_lengths}
 use Rattle.values.proofs.ContentLemmas.{parts_few}
 use Rattle.values.proofs.table.Table.from_parts.Goals as goal
 
