@@ -1,5 +1,6 @@
 pub mod Texts
 pub mod Entries
+pub mod Ends
 pub mod Runs
 pub mod Left
 pub mod Spans

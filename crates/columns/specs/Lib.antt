@@ -12,6 +12,7 @@ pub mod Texts
 pub mod Offsets
 pub mod Located
 pub mod Places
+pub mod Ends
 pub mod Within
 pub mod View
 pub mod Borrowed

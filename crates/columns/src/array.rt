@@ -1,4 +1,7 @@
 // Arrays by the places of their buffers.
+ghost use Rattle.std.specs.Prelude.{◌≡◌, ◌≤◌, ◌*◌, ◌^◌, length};
+ghost use Rattle.columns.specs.Ends.{entry_count, ends_from};
+
 use crate::span::Span;
 
 /// An array, by the places of its buffers in bytes that are kept elsewhere: it stays true where bytes are appended.
@@ -31,8 +34,14 @@ pub struct DictionaryPart {
     pub known: usize,
 }
 
-/// The arrays of a dictionary: that of the batch that began it, and those of the batches that were appended.
+/// The arrays of a dictionary: that of the batch that began it, and those of the batches that were appended. It keeps how many entries there are up to the end of
+/// each, so that an entry is found by halves.
 #[derive(Debug, Drop)]
 pub struct Dictionary {
     pub arrays: Vec<PlacedArray>,
+    pub(crate) ends: Vec<u128>,
+    pub(crate) entries: u128,
+    pub ghost counted: { entries ≡ entry_count arrays.items },
+    pub ghost ended: { ends.items ≡ ends_from 0 arrays.items },
+    pub ghost few: { entries ≤ length arrays.items * 2 ^ 64 },
 }

@@ -1,5 +1,5 @@
 // The entry of a dictionary that an index names.
-ghost use Rattle.std.specs.Prelude.{◌≡◌, ◌<◌, ◌/◌, true, false, not, nat_le, length, map, get_or, is_some};
+ghost use Rattle.std.specs.Prelude.{◌≡◌, ◌<◌, ◌≤◌, ◌/◌, true, false, not, nat_le, length, map, take, get_or, is_some};
 ghost use Rattle.std.specs.List.{list_all};
 ghost use Rattle.arrow_schema.specs.Column.{Kind};
 ghost use Rattle.arrow_schema.specs.View.{index_of};
@@ -11,8 +11,11 @@ ghost use Rattle.columns.specs.Sound.{is_kind_sound};
 ghost use Rattle.columns.specs.Visible.{is_past};
 ghost use Rattle.columns.specs.View.{view_array, array_in, no_dictionary, placed_dictionary};
 ghost use Rattle.columns.specs.Located.{located_cell, IsSoundPlace};
+ghost use Rattle.columns.specs.Ends.{entry_count};
+ghost use Rattle.columns.specs.inner.ArrayPlaces.{IsArrayPlace};
 
 use crate::array::PlacedArray;
+use crate::dictionary::KnownArrays;
 use crate::numbers::integer_at;
 use crate::view::ArrayView;
 use arrow_schema::DictSpec;
@@ -34,28 +37,46 @@ fn flat_view<'a>(bytes: &'a [u8], array: &'a PlacedArray) -> ArrayView<'a>
     }
 }
 
-// Entries stand one after another in the arrays. Of 128 bits, so that any index can be asked for.
-fn entry_place<'a>(
-    arrays: &'a [PlacedArray],
+// The array that has an entry, by halves.
+fn array_place(known: KnownArrays, index: u128) -> usize
+    ensures { IsArrayPlace known.entry.arrays.now index result }
+{
+    known.ends.partition_point(|end| *end <= index)
+}
+
+fn end_before(known: KnownArrays, i: usize) -> u128
+    requires { i ≤ length known.arrays.now }
+    ensures { result ≡ entry_count (take i known.entry.arrays.now) }
+{
+    if i == 0 { 0 } else { known.ends[i - 1] }
+}
+
+fn place_below(place: u128, slots: usize) -> usize
+    requires { place < slots }
+    ensures { result ≡ place }
+{
+    place as usize
+}
+
+/// Where an entry of a dictionary stands. Of 128 bits, so that any index can be asked for.
+pub fn entry_place<'a>(
+    known: KnownArrays<'a>,
     bytes: &'a [u8],
     index: u128,
 ) -> Option<EntryPlace<'a>>
-    ensures cell { (kind : Kind) → located_cell kind result ≡ get_or (entries_of_kind kind (placed_dictionary bytes.now arrays.now)) index null }
-    ensures present { (kind : Kind) → is_some result ≡ not (nat_le (length (entries_of_kind kind (placed_dictionary bytes.now arrays.now))) index) }
-    ensures sound { (kind : Kind) → list_all (is_kind_sound kind) (map (array_in bytes.now no_dictionary) arrays.now) ≡ true → IsSoundPlace kind result }
+    ensures cell { (kind : Kind) → located_cell kind result ≡ get_or (entries_of_kind kind (placed_dictionary bytes.now known.entry.arrays.now)) index null }
+    ensures present { (kind : Kind) → is_some result ≡ not (nat_le (length (entries_of_kind kind (placed_dictionary bytes.now known.entry.arrays.now))) index) }
+    ensures sound { (kind : Kind) → list_all (is_kind_sound kind) (map (array_in bytes.now no_dictionary) known.entry.arrays.now) ≡ true
+        → IsSoundPlace kind result }
 {
-    let mut rest = index;
-    for array in arrays {
-        let slots = array.slots as u128;
-        if rest < slots {
-            return Some(EntryPlace {
-                view: flat_view(bytes, array),
-                place: rest as usize,
-            });
-        }
-        rest -= slots;
+    let i = array_place(known, index);
+    match known.arrays.get(i) {
+        None => None,
+        Some(array) => Some(EntryPlace {
+            view: flat_view(bytes, array),
+            place: place_below(index - end_before(known, i), array.slots),
+        }),
     }
-    None
 }
 
 /// Where the entry stands that the index of a slot names.

@@ -14,6 +14,7 @@
 mod array;
 mod borrowed;
 mod borrowing;
+mod dictionary;
 mod entry;
 mod laws;
 mod numbers;
@@ -25,7 +26,8 @@ mod view;
 pub use array::{Dictionary, DictionaryPart, PlacedArray, PlacedLayout};
 pub use borrowed::{ValueRef, Values, ValuesIter};
 pub use borrowing::borrow_value;
-pub use entry::{EntryPlace, indexed_entry};
+pub use dictionary::KnownArrays;
+pub use entry::{EntryPlace, entry_place, indexed_entry};
 pub use laws::{
     built_reads_back, listed_reads_back, longer_bytes_keep_arrays, rows_can_be_built, worked_cases,
     written_arrays_pass, written_slots_pass,
@@ -34,4 +36,4 @@ pub use numbers::OffsetWidth;
 pub use read::{row, value};
 pub use span::{Span, bytes_at};
 pub use tests::{counts_wrong, has_short_child, is_short, is_unordered};
-pub use view::{ArrayView, array_or, no_array};
+pub use view::{ArrayView, array_or, known_arrays, no_array};

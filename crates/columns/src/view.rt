@@ -8,6 +8,7 @@ ghost use Rattle.columns.specs.declared.array.Dictionary.{Dictionary};
 ghost use Rattle.columns.specs.View.{view_array, option_array, IsNoArray, array_in, arrays_in, arrays_numbered, placed_arrays, placed_dictionary};
 
 use crate::array::{Dictionary, DictionaryPart, PlacedArray, PlacedLayout};
+use crate::dictionary::KnownArrays;
 use crate::numbers::{OffsetWidth, offset_at};
 use crate::span::{Span, bytes_at};
 
@@ -42,25 +43,14 @@ pub fn array_or<'a>(arrays: &'a [PlacedArray], i: usize, none: &'a PlacedArray) 
     }
 }
 
-fn first_arrays(arrays: &[PlacedArray], count: usize) -> &[PlacedArray]
-    ensures { result.now ≡ take count arrays.now }
+/// The arrays that a part of a dictionary knows: none where there is no such dictionary.
+pub fn known_arrays<'a>(dictionaries: &'a [Dictionary], part: &DictionaryPart) -> KnownArrays<'a>
+    ensures { result.arrays.now ≡ take part.now.known (arrays_numbered dictionaries.now part.now.number) }
 {
-    &arrays[..count.min(arrays.len())]
-}
-
-fn arrays_numbered(dictionaries: &[Dictionary], number: usize) -> &[PlacedArray]
-    ensures { result.now ≡ arrays_numbered dictionaries.now number }
-{
-    match dictionaries.get(number) {
-        Some(dictionary) => &dictionary.arrays,
-        None => &[],
+    match dictionaries.get(part.number) {
+        Some(dictionary) => dictionary.first(part.known),
+        None => KnownArrays::none(),
     }
-}
-
-fn known_arrays<'a>(dictionaries: &'a [Dictionary], part: &DictionaryPart) -> &'a [PlacedArray]
-    ensures { result.now ≡ take part.now.known (arrays_numbered dictionaries.now part.now.number) }
-{
-    first_arrays(arrays_numbered(dictionaries, part.number), part.known)
 }
 
 impl<'a> ArrayView<'a> {
@@ -210,12 +200,12 @@ impl<'a> ArrayView<'a> {
     }
 
     /// The arrays of its dictionary that were there when it was read.
-    pub fn dictionary(self) -> &'a [PlacedArray]
-        ensures { placed_dictionary self.entry.bytes.now result.now ≡ dictionary_in (view_array self.entry) }
+    pub fn dictionary(self) -> KnownArrays<'a>
+        ensures { placed_dictionary self.entry.bytes.now result.arrays.now ≡ dictionary_in (view_array self.entry) }
     {
         match &self.array.layout {
             PlacedLayout::Dictionary(_, part) => known_arrays(self.dictionaries, part),
-            _ => &[],
+            _ => KnownArrays::none(),
         }
     }
 }

@@ -4,3 +4,4 @@ pub mod Lists
 pub mod Grown
 pub mod Steps
 pub mod Parts
+pub mod Within

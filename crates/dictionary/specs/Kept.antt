@@ -1,10 +1,12 @@
 -- What is kept of the dictionaries of a stream: lists of arrays, each begun by a batch that is no delta, and for each id the list that is in effect. A list that is
 -- no longer in effect stays, since arrays that were read before name it.
-use Rattle.std.specs.Prelude.{◌≡◌, ℕ, Bool, ◌==◌, ◌≤◌, ◌<◌, List, [], ◌∷◌, map, length, take, get_or, Option, Some, None, if◌then◌else◌}
+use Rattle.std.specs.List.{list_all}
+use Rattle.std.specs.Prelude.{true, ◌≡◌, ℕ, Bool, ◌==◌, ◌≤◌, ◌<◌, List, [], ◌∷◌, map, length, take, get_or, Option, Some, None, if◌then◌else◌}
 use Rattle.columns.specs.declared.array.PlacedArray.{PlacedArray}
 use Rattle.columns.specs.declared.array.Dictionary.{Dictionary}
 use Rattle.columns.specs.declared.array.DictionaryPart.{DictionaryPart}
-use Rattle.columns.specs.View.{array_in, no_dictionary}
+use Rattle.columns.specs.View.{array_in, arrays_in, no_dictionary}
+use Rattle.columns.specs.Within.{is_within_by, stands_within}
 use Rattle.columns.specs.Array.{Array}
 use Rattle.dictionary.specs.declared.current.CurrentList.{CurrentList}
 use Rattle.dictionary.specs.InEffect.{DictionaryBatch, in_effect}
@@ -32,6 +34,28 @@ arrays_for k id = list_at k.lists (number_in id k.numbers)
 -- for each id these are the arrays in effect after these batches
 abbrev pub HasInEffect : List ℕ → Kept → List DictionaryBatch → Type 0
 HasInEffect bytes k before = (id : ℕ) → map (array_in bytes no_dictionary) (arrays_for k id) ≡ in_effect id before
+
+-- what a part knows of the kept lists is what is in effect for an id, after whichever batches came before
+abbrev pub IsInEffect : Kept → ℕ → DictionaryPart → Type 0
+IsInEffect k id part = (bytes : List ℕ) (before : List DictionaryBatch) (lists : List Dictionary) → HasInEffect bytes k before → lists_of lists ≡ k.lists
+    → arrays_in bytes lists part ≡ in_effect id before
+
+-- and so of parts for ids, in their order
+abbrev pub AreInEffect : Kept → List ℕ → List DictionaryPart → Type 0
+AreInEffect k ids parts = (bytes : List ℕ) (before : List DictionaryBatch) (lists : List Dictionary) → HasInEffect bytes k before → lists_of lists ≡ k.lists
+    → map (arrays_in bytes lists) parts ≡ map (λ id. in_effect id before) ids
+
+-- all arrays end within so many bytes
+abbrev pub are_kept_within : (size : ℕ) → Kept → Bool
+are_kept_within size k = list_all (list_all (is_within_by size (λ p. true))) k.lists
+
+-- they still do where an array is kept that does
+abbrev pub StaysWithin : Kept → PlacedArray → Kept → Type 0
+StaysWithin old a new = (size : ℕ) → are_kept_within size old ≡ true → is_within_by size (λ p. true) a ≡ true → are_kept_within size new ≡ true
+
+-- parts whose arrays stand there and end within as many bytes as all do
+abbrev pub AreWithin : Kept → List DictionaryPart → Type 0
+AreWithin k parts = (size : ℕ) (lists : List Dictionary) → lists_of lists ≡ k.lists → are_kept_within size k ≡ true → list_all (stands_within size lists) parts ≡ true
 
 abbrev pub batch_of : (id : ℕ) → (is_delta : Bool) → Array → DictionaryBatch
 batch_of id is_delta a = record { id = id; is_delta = is_delta; array = a }

@@ -1,14 +1,20 @@
 // The dictionaries of a stream.
-ghost use Rattle.std.specs.Prelude.{◌≡◌, ◌++◌, ◌<◌, ℕ, true, false, List, [], ◌∷◌, OnOk, OnErr, IfOk, length, map, get_or, slice_set};
+ghost use Rattle.std.specs.Prelude.{◌≡◌, ◌++◌, ◌<◌, ℕ, true, false, not, nat_le, is_some, List, [], ◌∷◌, OnOk, OnErr, IfOk, length, get_or};
 ghost use Rattle.std.specs.List.{list_any, AllByRecursion};
-ghost use Rattle.columns.specs.View.{array_in, arrays_in, no_dictionary};
-ghost use Rattle.columns.specs.declared.array.Dictionary.{Dictionary};
+ghost use Rattle.arrow_schema.specs.Column.{Kind};
+ghost use Rattle.cells.specs.Cell.{null};
+ghost use Rattle.columns.specs.Array.{arrays_of};
+ghost use Rattle.columns.specs.CellAt.{entries_of_kind};
+ghost use Rattle.columns.specs.Located.{located_cell};
+ghost use Rattle.columns.specs.View.{array_in, no_dictionary};
 ghost use Rattle.dictionary.specs.InEffect.{DictionaryBatch, has_id, in_effect};
-ghost use Rattle.dictionary.specs.Kept.{HasInEffect, KeepsParts, IsPart, arrays_for, known_arrays, lists_of, batch_of};
+ghost use Rattle.dictionary.specs.Kept.{HasInEffect, IsInEffect, AreInEffect, KeepsParts, IsPart, StaysWithin, AreWithin};
+ghost use Rattle.dictionary.specs.Kept.{arrays_for, known_arrays, lists_of, batch_of, are_kept_within};
 ghost use Rattle.dictionary.specs.inner.Numbers.{with_number};
+ghost use Rattle.dictionary.specs.inner.Lists.{with_array};
 
 use crate::current::{CurrentList, number_of, set_number};
-use columns::{Dictionary, DictionaryPart, PlacedArray};
+use columns::{Dictionary, DictionaryPart, EntryPlace, PlacedArray, entry_place, known_arrays};
 use std::alloc::{AllocError, Global};
 use std::marker::Model;
 
@@ -37,9 +43,9 @@ impl Model for Dictionaries {
 fn list_of(alloc: Global, array: PlacedArray) -> Result<Dictionary, AllocError>
     ensures { IfOk result (λ list. list.arrays.items ≡ array ∷ []) }
 {
-    let mut arrays = Vec::new(alloc);
-    arrays.push(array)?;
-    Ok(Dictionary { arrays })
+    let mut list = Dictionary::new(alloc);
+    list.push(array)?;
+    Ok(list)
 }
 
 // A new list of one array, which is in effect for an id from now on.
@@ -69,18 +75,18 @@ fn append_at(
     array: PlacedArray,
 ) -> Result<(), AllocError>
     requires { number < length lists.old.items }
-    ensures longer { OnOk result (lists_of lists.new.items ≡ slice_set (lists_of lists.old.items) number (get_or (lists_of lists.old.items) number [] ++ array ∷ [])) }
+    ensures longer { OnOk result (lists_of lists.new.items ≡ with_array number array (lists_of lists.old.items)) }
     ensures unchanged { OnErr result (lists_of lists.new.items ≡ lists_of lists.old.items) }
 {
     let list = &mut lists[number];
-    list.arrays.push(array)?;
-    Ok(())
+    list.push(array)
 }
 
 impl Dictionaries {
     /// No id has a dictionary.
     pub fn new(alloc: Global) -> Dictionaries
-        ensures { (bytes : List ℕ) → HasInEffect bytes result [] }
+        ensures effect { (bytes : List ℕ) → HasInEffect bytes result [] }
+        ensures within { (size : ℕ) → are_kept_within size result ≡ true }
     {
         Dictionaries {
             lists: Vec::new(alloc),
@@ -95,6 +101,14 @@ impl Dictionaries {
         &self.lists
     }
 
+    /// The lists themselves.
+    pub fn into_lists(self) -> Vec<Dictionary>
+        ensures { lists_of result.items ≡ self.lists }
+    {
+        let Dictionaries { lists, .. } = self;
+        lists
+    }
+
     /// Whether an id has a dictionary.
     pub fn has(&self, id: u64) -> bool
         ensures { (bytes : List ℕ) (before : List DictionaryBatch) → HasInEffect bytes self.now before → result ≡ list_any (has_id id) before }
@@ -106,8 +120,7 @@ impl Dictionaries {
     pub fn part(&self, id: u64) -> DictionaryPart
         ensures known { known_arrays self.now.lists result ≡ arrays_for self.now id }
         ensures stands { IsPart self.now.lists result }
-        ensures effect { (bytes : List ℕ) (before : List DictionaryBatch) (lists : List Dictionary) → HasInEffect bytes self.now before → lists_of lists ≡ self.now.lists
-            → arrays_in bytes lists result ≡ in_effect id before }
+        ensures effect { IsInEffect self.now id result }
     {
         match number_of(&self.numbers, id) {
             None => DictionaryPart {
@@ -124,8 +137,8 @@ impl Dictionaries {
     /// The parts of the dictionaries of some ids, in their order: those that the columns of a record batch take.
     pub fn parts(&self, alloc: Global, ids: &[u64]) -> Result<Vec<DictionaryPart>, AllocError>
         ensures stand { IfOk result (λ parts. AllByRecursion (IsPart self.now.lists) parts.items) }
-        ensures effect { IfOk result (λ parts. (bytes : List ℕ) (before : List DictionaryBatch) (lists : List Dictionary) → HasInEffect bytes self.now before → lists_of lists ≡ self.now.lists
-            → map (arrays_in bytes lists) parts.items ≡ map (λ id. in_effect id before) ids.now) }
+        ensures effect { IfOk result (λ parts. AreInEffect self.now ids.now parts.items) }
+        ensures within { IfOk result (λ parts. AreWithin self.now parts.items) }
     {
         let mut parts = Vec::with_capacity(alloc, ids.len())?;
         for id in ids {
@@ -134,11 +147,23 @@ impl Dictionaries {
         Ok(parts)
     }
 
+    /// Where an entry of an id's dictionary stands, of those that are in effect. It is found by halves.
+    pub fn entry<'a>(&'a self, id: u64, bytes: &'a [u8], index: u128) -> Option<EntryPlace<'a>>
+        ensures cell { (before : List DictionaryBatch) (kind : Kind) → HasInEffect bytes.now self.now before
+            → located_cell kind result ≡ get_or (entries_of_kind kind (arrays_of (in_effect id before))) index null }
+        ensures present { (before : List DictionaryBatch) (kind : Kind) → HasInEffect bytes.now self.now before
+            → is_some result ≡ not (nat_le (length (entries_of_kind kind (arrays_of (in_effect id before)))) index) }
+    {
+        let part = self.part(id);
+        entry_place(known_arrays(&self.lists, &part), bytes, index)
+    }
+
     /// Begins the dictionary of an id anew, with one array. Arrays that were read before keep theirs.
     pub fn replace(&mut self, alloc: Global, id: u64, array: PlacedArray) -> Result<(), AllocError>
         ensures effect { OnOk result ((bytes : List ℕ) (before : List DictionaryBatch) → HasInEffect bytes self.old before
             → HasInEffect bytes self.new (before ++ batch_of id false (array_in bytes no_dictionary array) ∷ [])) }
         ensures parts { OnOk result (KeepsParts self.old.lists self.new.lists) }
+        ensures within { OnOk result (StaysWithin self.old array self.new) }
         ensures unchanged { OnErr result (self.new ≡ self.old) }
     {
         let (lists, numbers) = (&mut self.lists, &mut self.numbers);
@@ -150,6 +175,7 @@ impl Dictionaries {
         ensures effect { OnOk result ((bytes : List ℕ) (before : List DictionaryBatch) → HasInEffect bytes self.old before
             → HasInEffect bytes self.new (before ++ batch_of id true (array_in bytes no_dictionary array) ∷ [])) }
         ensures parts { OnOk result (KeepsParts self.old.lists self.new.lists) }
+        ensures within { OnOk result (StaysWithin self.old array self.new) }
         ensures unchanged { OnErr result (self.new ≡ self.old) }
     {
         match number_of(&self.numbers, id) {

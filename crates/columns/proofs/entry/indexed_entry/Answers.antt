@@ -19,7 +19,7 @@ returns-clause-present c = λ kind.
 
 pub returns-clause-sound : goal.returns-clause-sound
 returns-clause-sound c = λ kind h.
-    let arrays : List Array = map (array_in c.args.view.bytes.now no_dictionary) c.dictionary.result.now in
+    let arrays : List Array = map (array_in c.args.view.bytes.now no_dictionary) c.dictionary.result.arrays.now in
     let same : list_all (is_kind_sound kind) arrays ≡ true =
     ap (list_all (is_kind_sound kind)) (sym (listed arrays)) ∙ ap (λ (a : Arrays). list_all (is_kind_sound kind) (array_list a)) c.dictionary.ensures ∙ h in
     c.entry_place.ensures.sound kind same

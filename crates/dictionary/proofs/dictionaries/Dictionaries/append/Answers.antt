@@ -1,6 +1,7 @@
 use Rattle.std.proofs.Common.{◌≡◌, ◌<◌, true, Some, None, [], ◌∷◌, length, ap}
-use Rattle.dictionary.specs.Kept.{number_in, list_at, lists_of}
+use Rattle.dictionary.specs.Kept.{Kept, number_in, list_at, lists_of}
 use Rattle.dictionary.proofs.Steps.{began_apart, began_effect, grew_effect, grew_keeps}
+use Rattle.dictionary.proofs.Within.{grew_within}
 use Rattle.dictionary.proofs.dictionaries.Dictionaries.append.Goals as goal
 
 pub invariant_of-self-in-None : goal.invariant_of-self-in-None
@@ -26,3 +27,7 @@ returns-in-Some-clause-parts c =
     let within : c.in-Some.number < length (lists_of c.self.inside.lists.items) = c.self.invariant.within c.args.id c.in-Some.number found in
     grew_keeps c.append_at.result c.args.self.now c.self.inside.lists.items c.append_at.new.lists.items c.self.inside.numbers.items c.in-Some.number c.args.array
     c.self.view_is c.append_at.ensures.longer within
+
+pub returns-in-Some-clause-within : goal.returns-in-Some-clause-within
+returns-in-Some-clause-within c =
+    grew_within c.append_at.result c.args.self.now (record { lists = lists_of c.append_at.new.lists.items; numbers = c.self.inside.numbers.items }) (lists_of c.self.inside.lists.items) c.in-Some.number c.args.array (ap (λ (k : Kept). k.lists) c.self.view_is) c.append_at.ensures.longer
