@@ -1,5 +1,5 @@
 // A command of an open store.
-ghost use Rattle.std.specs.Prelude.{◌≡◌, false, Some, IfOk, IfErr};
+ghost use Rattle.std.specs.Prelude.{◌≡◌, ◌≢◌, false, Some, IfOk, IfErr};
 ghost use Rattle.sector_dev.specs.Disk.{Image};
 ghost use Rattle.catalogue.specs.Entries.{AreRead};
 ghost use Rattle.catalogue.specs.View.{catalogue_of};
@@ -28,6 +28,7 @@ fn decide(alloc: Global, catalogue: &Catalogue, command: Command) -> Result<Chan
     requires { AreRead (catalogue_of catalogue.now) }
     ensures ok { IfOk result (λ change. IsChange (catalogue_of catalogue.now) (change_of change)) }
     ensures no_device { IfErr result (λ e. is_failure e ≡ false) }
+    ensures not_halted { IfErr result (λ e. e ≢ Refusal.Halted) }
     ensures answers { IsAnswered (catalogue_of catalogue.now) (command_of command) (decision_of result) }
     ensures decides { (image : Image) (t : Tables) → tables_held image (catalogue_of catalogue.now) ≡ Some t
         → Decides t (command_of command) (decision_of result) }
@@ -46,7 +47,7 @@ fn decide(alloc: Global, catalogue: &Catalogue, command: Command) -> Result<Chan
 }
 
 impl<D: SectorDevice> Store<D> {
-    ghost use Rattle.std.specs.Prelude.{◌≢◌, ◌↔◌, true, Err, OnOk};
+    ghost use Rattle.std.specs.Prelude.{◌↔◌, true, Err, OnOk};
     ghost use Rattle.store.specs.Calls.{apply_call};
     ghost use Rattle.store.specs.Machine.{Machine};
     ghost use Rattle.store.specs.Runs.{counted};
@@ -67,7 +68,8 @@ impl<D: SectorDevice> Store<D> {
         ensures applied { is_halted self.old ≡ false → IsApplied D.size self.old (command_of command) result self.new }
         ensures refused { IfErr result (λ e. IsKept self.old self.new) }
         ensures quiet { IfErr result (λ e. e ≢ Refusal.Device → D.story (device_of self.new) ≡ D.story (device_of self.old)) }
-        ensures halted { is_halted self.old ≡ true → (result ≡ Err Refusal.Halted) × (self.new ≡ self.old) }
+        ensures halted { (result ≡ Err Refusal.Halted) ↔ (is_halted self.old ≡ true) }
+        ensures still { is_halted self.old ≡ true → self.new ≡ self.old }
         ensures halts { is_halted self.old ≡ false → (is_halted self.new ≡ true) ↔ (result ≡ Err Refusal.Device) }
         // On a store that lies on its disk, whatever its segments hold: at each moment a stop leaves what stood, or the command done.
         ensures writes { is_halted self.old ≡ false → D.tells ≡ true → IsOnDisk D.size D.story self.old

@@ -159,6 +159,7 @@ fn prepare(
     ensures why { IfErr result (λ r. IsCarried map.old.size (IsUsedIn map.old.entries) commit (catalogue_of stored.now.list) (change_of change)
         (Err r) commit (catalogue_of stored.now.list)) }
     ensures device { IfErr result (λ r. r ≢ Refusal.Device) }
+    ensures not_halted { IfErr result (λ r. r ≢ Refusal.Halted) }
     ensures size { map.new.size ≡ map.old.size }
     ensures err { OnErr result (SameUsages map.old.entries map.new.entries) }
 {
@@ -217,6 +218,7 @@ impl<D: SectorDevice> Store<D> {
         ensures count { D.failed (device_of self.new) ≡ counted (reply_of result) (D.failed (device_of self.old)) }
         ensures carried { EndsAs D.size self.old (Ok (change_of change)) result self.new }
         ensures halts { (self.new.halted ≡ true) ↔ (result ≡ Err Refusal.Device) }
+        ensures not_halted { IfErr result (λ e. e ≢ Refusal.Halted) }
         ensures kept { IfErr result (λ e. IsKept self.old self.new) }
         ensures quiet { IfErr result (λ e. e ≢ Refusal.Device → D.story (device_of self.new) ≡ D.story (device_of self.old)) }
         // On a store that lies on its disk, where a command asks for the change.

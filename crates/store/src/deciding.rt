@@ -1,5 +1,5 @@
 // What a command changes, as the catalogue decides it: its tests in their order, and then the change.
-ghost use Rattle.std.specs.Prelude.{◌≡◌, ◌≤◌, [], IfOk, IfErr, false, string_bytes};
+ghost use Rattle.std.specs.Prelude.{◌≡◌, ◌≢◌, ◌≤◌, [], IfOk, IfErr, false, string_bytes};
 ghost use Rattle.arrow_schema.specs.View.{schema_of};
 ghost use Rattle.catalogue.specs.Entries.{plain_entry, row_count, IsCatalogue, AreRead};
 ghost use Rattle.catalogue.specs.View.{catalogue_of};
@@ -153,6 +153,7 @@ pub(crate) fn decide_create(
 ) -> Result<Change, Refusal>
     ensures ok { IfOk result (λ change. IsChange (catalogue_of catalogue.now) (change_of change)) }
     ensures no_device { IfErr result (λ e. is_failure e ≡ false) }
+    ensures not_halted { IfErr result (λ e. e ≢ Refusal.Halted) }
     ensures answers { IsAnswered (catalogue_of catalogue.now) (create (string_bytes new.name) (schema_of new.schema)) (decision_of result) }
     ensures decides { (t : Tables) → Lists (catalogue_of catalogue.now) t
         → Decides t (create (string_bytes new.name) (schema_of new.schema)) (decision_of result) }
@@ -172,6 +173,7 @@ pub(crate) fn decide_import(
 ) -> Result<Change, Refusal>
     ensures ok { IfOk result (λ change. IsChange (catalogue_of catalogue.now) (change_of change)) }
     ensures no_device { IfErr result (λ e. is_failure e ≡ false) }
+    ensures not_halted { IfErr result (λ e. e ≢ Refusal.Halted) }
     ensures answers { IsAnswered (catalogue_of catalogue.now) (import_stream (string_bytes name) bytes.now) (decision_of result) }
     ensures decides { (t : Tables) → Lists (catalogue_of catalogue.now) t
         → Decides t (import_stream (string_bytes name) bytes.now) (decision_of result) }
@@ -201,6 +203,7 @@ pub(crate) fn decide_rename(
 ) -> Result<Change, Refusal>
     ensures ok { IfOk result (λ change. IsChange (catalogue_of catalogue.now) (change_of change)) }
     ensures no_device { IfErr result (λ e. is_failure e ≡ false) }
+    ensures not_halted { IfErr result (λ e. e ≢ Refusal.Halted) }
     ensures answers { IsAnswered (catalogue_of catalogue.now) (rename (string_bytes from) (string_bytes to)) (decision_of result) }
     ensures decides { (t : Tables) → Lists (catalogue_of catalogue.now) t
         → Decides t (rename (string_bytes from) (string_bytes to)) (decision_of result) }
@@ -217,6 +220,7 @@ pub(crate) fn decide_drop(
 ) -> Result<Change, Refusal>
     ensures ok { IfOk result (λ change. IsChange (catalogue_of catalogue.now) (change_of change)) }
     ensures no_device { IfErr result (λ e. is_failure e ≡ false) }
+    ensures not_halted { IfErr result (λ e. e ≢ Refusal.Halted) }
     ensures answers { IsAnswered (catalogue_of catalogue.now) (drop_table (string_bytes name)) (decision_of result) }
     ensures decides { (t : Tables) → Lists (catalogue_of catalogue.now) t → Decides t (drop_table (string_bytes name)) (decision_of result) }
 {
@@ -234,6 +238,7 @@ pub(crate) fn decide_append_stream(
     requires { AreRead (catalogue_of catalogue.now) }
     ensures ok { IfOk result (λ change. IsChange (catalogue_of catalogue.now) (change_of change)) }
     ensures no_device { IfErr result (λ e. is_failure e ≡ false) }
+    ensures not_halted { IfErr result (λ e. e ≢ Refusal.Halted) }
     ensures answers { IsAnswered (catalogue_of catalogue.now) (append_stream (string_bytes name) stream.now) (decision_of result) }
     ensures decides { (t : Tables) → Lists (catalogue_of catalogue.now) t → AreTables t
         → Decides t (append_stream (string_bytes name) stream.now) (decision_of result) }
