@@ -1,17 +1,43 @@
 -- Numbers that are capped are refused as those that they stand for.
 use Rattle.std.proofs.Common.{◌≡◌, ℕ, ◌+◌, ◌-◌, ◌*◌, ◌≤◌, ◌<◌, ◌^◌, Bool, true, false, List, [], ◌∷◌, length, min, refl, sym, ap, ◌∙◌, arith, inl, inr}
-use Rattle.std.specs.Prelude.{pos, neg_ℤ, Option, Some, None, option_map, if◌then◌else◌, ◌==◌}
+use Rattle.std.specs.Prelude.{pos, neg_ℤ, Option, Some, None, option_map, if◌then◌else◌, ◌==◌, ◌&&◌, nat_le}
 use Rattle.std.specs.Prelude.{int_lt, int_le, get_or, drop}
-use Rattle.std.proofs.lemmas.Bool.{cases_lt, false≢true, leb-true}
+use Rattle.std.proofs.lemmas.Bool.{cases_lt, false≢true, leb-true, ne_eqb}
 use Rattle.std.proofs.lemmas.Int.{ints}
 use Rattle.std.proofs.lemmas.List.{drop_more}
+use Rattle.std.proofs.lemmas.Bool.{and_parts}
+use Rattle.std.proofs.lemmas.Str.{digit_value_digit}
 use Rattle.std.proofs.Math.Bool.{and-false}
+use Rattle.std.specs.Char.{digit_value}
+use Rattle.std.specs.Str.{all_ascii_digits}
+use Rattle.std.specs.Str.Parse.{digits_value_after}
 use Rattle.std.proofs.Math.Nat.{pow-le-pow_right}
 use Rattle.arrow_schema.specs.Column.{Kind, Column, column, integers, dates, timestamps, days, date_milliseconds}
+use Rattle.arrow_schema.specs.Parts.{kind_of_column}
 use Rattle.cells.specs.Cell.{Cell, null, number}
+use Rattle.cells.specs.Nulls.{is_there}
+use Rattle.cells.specs.Typed.{is_numeral, typed_number, typed_integer}
 use Rattle.cells.specs.Fit.{fits, fits_kind, in_range}
-use Rattle.text_import.specs.Flat.{is_digit, digits_behind, digits, typed_integer, kind_of_column, number_cell}
-use Rattle.text_import.specs.inner.Capped.{capped, too_large, capped_integer, holds_numbers, is_value}
+use Rattle.text_import.specs.Flat.{number_cell}
+use Rattle.text_import.specs.inner.Capped.{is_digit, digits_behind, digits, capped, too_large, capped_integer, holds_numbers}
+
+-- the number that is counted digit by digit is the one that they spell
+digit_is : (b : ℕ) → is_digit b ≡ true → b - 48 ≡ digit_value b
+digit_is b h = let p = and_parts (nat_le 48 b) (nat_le b 57) h in omega (arith, digit_value_digit b (leb-true 48 b p.0, leb-true b 57 p.1))
+
+spelled_behind : (n : ℕ) (bs : List ℕ) → digits_behind n bs ≡ (if all_ascii_digits bs then Some (digits_value_after 10 n bs) else None)
+unfolding digits_behind
+spelled_behind n [] = refl
+spelled_behind n (b ∷ bs) = by (is_digit b) refl (spelled_behind (n * 10 + (b - 48)) bs)
+  where
+    by : (d : Bool) → is_digit b ≡ d → digits_behind (n * 10 + (b - 48)) bs ≡ (if all_ascii_digits bs then Some (digits_value_after 10 (n * 10 + (b - 48)) bs) else None)
+        → (if d then digits_behind (n * 10 + (b - 48)) bs else None) ≡ (if d && all_ascii_digits bs then Some (digits_value_after 10 (n * 10 + digit_value b) bs) else None)
+    by false h e = refl
+    by true h e = e ∙ ap (λ k. if all_ascii_digits bs then Some (digits_value_after 10 (n * 10 + k) bs) else None) (digit_is b h)
+
+digits_spelled : (t : List ℕ) → digits t ≡ typed_number t
+digits_spelled [] = refl
+digits_spelled (b ∷ bs) = let some : (length (b ∷ bs) == 0) ≡ false = ne_eqb (length (b ∷ bs)) 0 (λ e. absurd (omega (arith, e))) in rw some (spelled_behind 0 (b ∷ bs))
 
 capped_again : (n : ℕ) → capped n ≡ capped (capped n)
 capped_again n = omega arith
@@ -131,12 +157,12 @@ number_capped k (b ∷ bs) h = by (b == 45)
   where
     by : (m : Bool)
         → number_cell k (if m then option_map (λ n. neg_ℤ (pos n)) (option_map capped (digits bs)) else option_map pos (option_map capped (digits (b ∷ bs))))
-        ≡ number_cell k (if m then option_map (λ n. neg_ℤ (pos n)) (digits bs) else option_map pos (digits (b ∷ bs)))
-    by true = capped_digits_neg k (digits bs) h
-    by false = capped_digits_pos k (digits (b ∷ bs)) h
+        ≡ number_cell k (if m then option_map (λ n. neg_ℤ (pos n)) (typed_number bs) else option_map pos (typed_number (b ∷ bs)))
+    by true = capped_digits_neg k (digits bs) h ∙ ap (λ o. number_cell k (option_map (λ n. neg_ℤ (pos n)) o)) (digits_spelled bs)
+    by false = capped_digits_pos k (digits (b ∷ bs)) h ∙ ap (λ o. number_cell k (option_map pos o)) (digits_spelled (b ∷ bs))
 
 -- a value fits a field where it fits the type
-pub fits_value : (f : Column) (x : Cell) → is_value x ≡ true → fits f x ≡ fits_kind (kind_of_column f) x
+pub fits_value : (f : Column) (x : Cell) → is_there x ≡ true → fits f x ≡ fits_kind (kind_of_column f) x
 unfolding fits
 fits_value (column name nullable kind dictionary pairs) null e = absurd (false≢true e)
 fits_value (column name nullable kind dictionary pairs) x e = refl

@@ -18,7 +18,8 @@ use Rattle.cells.specs.declared.row.Row.{Row}
 use Rattle.cells.specs.Row.{row_of}
 use Rattle.text_import.specs.declared.refusal.Refused.{Refused}
 use Rattle.text_import.specs.declared.refusal.CellError.{CellError}
-use Rattle.text_import.specs.Refusals.{Gives, Reports, refusal_of, numbered}
+use Rattle.text_import.specs.Refusals.{refusal_of, numbered}
+use Rattle.facts.specs.Outcomes.{Gives, Reports}
 use Rattle.text_import.specs.Rows.{rows_from}
 use Rattle.cells.specs.Cell.{Cell, cells_of, cell_list}
 use Rattle.text_import.specs.declared.refusal.Refusal.{Refusal}

@@ -3,6 +3,7 @@ use Rattle.std.proofs.Common.{◌≡◌, ℕ, ◌+◌, ◌-◌, ◌≤◌, ◌<�
 use Rattle.std.specs.Prelude.{Option, Some, None, if◌then◌else◌, option_map, unwrap_or, get_or, bytes_eq, Ok, Err}
 use Rattle.std.specs.Borrow.{Bor}
 use Rattle.arrow_schema.specs.Column.{Column, PlainSchema}
+use Rattle.arrow_schema.specs.Parts.{name_of_column}
 use Rattle.cells.specs.Cell.{Cell}
 use Rattle.text_import.specs.declared.refusal.Refusal.{Refusal}
 use Rattle.text_import.specs.Flat.{field_cell}
@@ -16,7 +17,7 @@ use Rattle.csv.specs.declared.reader.Reader.{Reader}
 use Rattle.std.proofs.lemmas.Bool.{false≢true}
 use Rattle.csv.specs.declared.parser.State.{State}
 use Rattle.csv.specs.declared.parser.State.TheVariants as st
-use Rattle.text_import.specs.Records.{records_of, name_of, are_names, field_cells, whole, record_row, rows_behind_header}
+use Rattle.text_import.specs.Records.{records_of, are_names, field_cells, whole, record_row, rows_behind_header}
 use Rattle.text_import.specs.Rows.{rows_from}
 use Rattle.text_import.specs.declared.refusal.Refusal.TheVariants.{Header}
 
@@ -131,16 +132,16 @@ name_none : (ts : List (List ℕ)) (c : Column) (cs : List Column) (i : ℕ) (b 
 unfolding are_names
 name_none ts c cs i b e h = rw (field_past ts i e, ← h) refl
 
-name_some : (ts : List (List ℕ)) (c : Column) (cs : List Column) (i : ℕ) (b : Bool) (t : List ℕ) → field_at ts i ≡ Some t → bytes_eq t (name_of c) ≡ b
+name_some : (ts : List (List ℕ)) (c : Column) (cs : List Column) (i : ℕ) (b : Bool) (t : List ℕ) → field_at ts i ≡ Some t → bytes_eq t (name_of_column c) ≡ b
     → are_names (drop i ts) (c ∷ cs) ≡ (if b then are_names (drop (suc i) ts) cs else false)
 unfolding are_names
 name_some ts c cs i b t e h = rw (field_here ts i t e, h) refl
 
-pub name_here : (ts : List (List ℕ)) (i : ℕ) (c : Column) (cs : List Column) (b : Bool) → is_text (field_at ts i) (name_of c) ≡ b
+pub name_here : (ts : List (List ℕ)) (i : ℕ) (c : Column) (cs : List Column) (b : Bool) → is_text (field_at ts i) (name_of_column c) ≡ b
     → are_names (drop i ts) (c ∷ cs) ≡ (if b then are_names (drop (suc i) ts) cs else false)
 name_here ts i c cs b h = by (field_at ts i) refl h
   where
-    by : (o : Option (List ℕ)) → field_at ts i ≡ o → is_text o (name_of c) ≡ b → are_names (drop i ts) (c ∷ cs) ≡ (if b then are_names (drop (suc i) ts) cs else false)
+    by : (o : Option (List ℕ)) → field_at ts i ≡ o → is_text o (name_of_column c) ≡ b → are_names (drop i ts) (c ∷ cs) ≡ (if b then are_names (drop (suc i) ts) cs else false)
     by None e k = name_none ts c cs i b e k
     by (Some t) e k = name_some ts c cs i b t e k
 
@@ -149,7 +150,7 @@ unfolding are_names
 names_of_other_length [] [] h = absurd (h refl)
 names_of_other_length [] (c ∷ cs) h = refl
 names_of_other_length (t ∷ ts) [] h = refl
-names_of_other_length (t ∷ ts) (c ∷ cs) h = by (bytes_eq t (name_of c)) (names_of_other_length ts cs (λ e. h (ap suc e)))
+names_of_other_length (t ∷ ts) (c ∷ cs) h = by (bytes_eq t (name_of_column c)) (names_of_other_length ts cs (λ e. h (ap suc e)))
   where
     by : (b : Bool) → are_names ts cs ≡ false → (if b then are_names ts cs else false) ≡ false
     by true e = e

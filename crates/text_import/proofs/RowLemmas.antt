@@ -5,7 +5,8 @@ use Rattle.std.proofs.lemmas.List.{append-nil}
 use Rattle.cells.specs.Cell.{Cell, Cells, no_cell, and_cell, cells_of}
 use Rattle.text_import.specs.declared.refusal.Refusal.{Refusal}
 use Rattle.text_import.specs.declared.refusal.Refused.{Refused}
-use Rattle.text_import.specs.Refusals.{Reports, given, numbered}
+use Rattle.text_import.specs.Refusals.{given, numbered}
+use Rattle.facts.specs.Outcomes.{Reports}
 use Rattle.text_import.specs.Rows.{rows_from}
 
 -- what comes behind these

@@ -8,6 +8,7 @@ use Rattle.serde_json.specs.Data as json
 use Rattle.serde_json.specs.Find.{as_integer, get_member}
 use Rattle.serde_json.specs.Read.{read}
 use Rattle.arrow_schema.specs.Column.{Kind, Column, Columns, nulls, booleans, integers, dates, timestamps, texts, large_texts, binaries, large_binaries, fixed_binaries, lists, large_lists, fixed_lists, structs, column, no_column, and_column, columns_of, PlainSchema}
+use Rattle.arrow_schema.specs.Parts.{name_of_column, is_nullable_column}
 use Rattle.cells.specs.Cell.{Cell, Cells, null, boolean, text, items, parts, no_cell, and_cell, cell_list}
 use Rattle.text_import.specs.declared.refusal.Refusal.{Refusal}
 use Rattle.text_import.specs.declared.refusal.Refusal.TheVariants.{Width, NotUtf8, NotANumber, NotABool, NullMismatch, Json, UnknownName, MissingName, AmbiguousNames, WrongKind}
@@ -15,7 +16,6 @@ use Rattle.text_import.specs.declared.refusal.Refused.{Refused}
 use Rattle.text_import.specs.Refusals.{and_then, given}
 use Rattle.text_import.specs.Flat.{number_cell, hex_cell}
 use Rattle.text_import.specs.Rows.{accepted, rows_from}
-use Rattle.text_import.specs.Records.{name_of}
 
 abbrev pub item_count : Items → ℕ
 item_count no_items = 0
@@ -72,13 +72,10 @@ abbrev pub member_in : Bool → (Data → Result Cell Refusal) → Option Data �
 member_in nullable f None = absent nullable
 member_in nullable f (Some d) = f d
 
-abbrev pub is_nullable : Column → Bool
-is_nullable (column name nullable kind dictionary pairs) = nullable
-
 -- names
 abbrev pub names_of : Columns → List (List ℕ)
 names_of no_column = []
-names_of (and_column c cs) = name_of c ∷ names_of cs
+names_of (and_column c cs) = name_of_column c ∷ names_of cs
 
 abbrev pub keys_of : Members → List (List ℕ)
 keys_of no_members = []
@@ -147,7 +144,7 @@ unfoldable mutual
   -- of the members that have the names of the columns, in the order of the columns
   pub cells_by_name : Columns → Members → Result Cells Refusal
   cells_by_name no_column = λ ms. Ok no_cell
-  cells_by_name (and_column c cs) = λ ms. and_then (member_in (is_nullable c) (cell_in c) (get_member (name_of c) ms)) (λ x. given (and_cell x) (cells_by_name cs ms))
+  cells_by_name (and_column c cs) = λ ms. and_then (member_in (is_nullable_column c) (cell_in c) (get_member (name_of_column c) ms)) (λ x. given (and_cell x) (cells_by_name cs ms))
 
 -- the cells of columns, for a row as for a struct
 abbrev pub cells_in : Columns → Data → Result Cells Refusal

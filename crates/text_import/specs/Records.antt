@@ -2,8 +2,9 @@
 use Rattle.std.specs.Prelude.{ℕ, ◌==◌, Bool, true, false, bytes_eq, List, [], ◌∷◌, length, Result, Ok, Err, if◌then◌else◌}
 use Rattle.std.specs.List.{list_any}
 use Rattle.csv.specs.Reading.{default_config, records, strip_bom}
-use Rattle.arrow_schema.specs.Column.{Column, column, PlainSchema}
+use Rattle.arrow_schema.specs.Column.{Column, PlainSchema}
 use Rattle.arrow_schema.specs.Limits.{is_nested}
+use Rattle.arrow_schema.specs.Parts.{name_of_column, kind_of_column}
 use Rattle.cells.specs.Cell.{Cell}
 use Rattle.text_import.specs.declared.refusal.Refusal.{Refusal}
 use Rattle.text_import.specs.declared.refusal.Refusal.TheVariants.{Header, Width, Nested}
@@ -12,16 +13,13 @@ use Rattle.text_import.specs.Refusals.{and_then, given}
 use Rattle.text_import.specs.Flat.{field_cell}
 use Rattle.text_import.specs.Rows.{accepted, rows_from}
 
-abbrev pub name_of : Column → List ℕ
-name_of (column name nullable kind dictionary pairs) = name
-
 abbrev pub is_nested_column : Column → Bool
-is_nested_column (column name nullable kind dictionary pairs) = is_nested kind
+is_nested_column c = is_nested (kind_of_column c)
 
 -- the fields of a record are the names of the columns, in order
 unfoldable pub are_names : List (List ℕ) → List Column → Bool
 are_names [] [] = true
-are_names (t ∷ ts) (c ∷ cs) = if bytes_eq t (name_of c) then are_names ts cs else false
+are_names (t ∷ ts) (c ∷ cs) = if bytes_eq t (name_of_column c) then are_names ts cs else false
 are_names [] (c ∷ cs) = false
 are_names (t ∷ ts) [] = false
 

@@ -1,5 +1,5 @@
--- What a call gives that a definition states, where it may also want memory.
-use Rattle.std.specs.Prelude.{◌≡◌, ℕ, ⊤, Option, Some, None, Result, Ok, Err}
+-- What an error reports, and steps that may be refused.
+use Rattle.std.specs.Prelude.{ℕ, Option, Some, None, Result, Ok, Err}
 use Rattle.text_import.specs.declared.refusal.Refusal.{Refusal}
 use Rattle.text_import.specs.declared.refusal.Refused.{Refused}
 use Rattle.text_import.specs.declared.refusal.TextError.{TextError}
@@ -16,15 +16,6 @@ refused_by errors.OutOfMemory = None
 abbrev pub refusal_of : CellError → Option Refusal
 refusal_of (cell_errors.Refused r) = Some r
 refusal_of cell_errors.OutOfMemory = None
-
-abbrev pub Reports : {Y F : Type 0} → Option F → Result Y F → Type 0
-Reports None stated = ⊤
-Reports (Some f) stated = stated ≡ Err f
-
--- what a call returned, seen by `view`, is what is stated, unless memory was refused
-abbrev pub Gives : {X Y E F : Type 0} → (E → Option F) → (X → Y) → Result X E → Result Y F → Type 0
-Gives reported view (Ok x) stated = stated ≡ Ok (view x)
-Gives reported view (Err e) stated = Reports (reported e) stated
 
 -- the second step where the first gave something, and else the first refusal
 abbrev pub and_then : {A B E : Type 0} → Result A E → (A → Result B E) → Result B E

@@ -1,13 +1,17 @@
 // Numbers, and cells of the types without parts.
 ghost use Rattle.std.specs.Prelude.{◌≡◌, pos, neg_ℤ, true, false, option_map};
 ghost use Rattle.arrow_schema.specs.Column as kinds;
+ghost use Rattle.arrow_schema.specs.Parts.{kind_of_column};
 ghost use Rattle.arrow_schema.specs.View.{column_of};
 ghost use Rattle.cells.specs.Cell as plain;
+ghost use Rattle.cells.specs.Nulls.{is_there};
+ghost use Rattle.cells.specs.Typed.{typed_integer, typed_boolean};
 ghost use Rattle.cells.specs.View.{cell};
 ghost use Rattle.text_import.specs.declared.refusal.Refusal.TheVariants.{NotUtf8};
-ghost use Rattle.text_import.specs.Refusals.{Gives, refusal_of};
-ghost use Rattle.text_import.specs.Flat.{is_digit, digits, typed_integer, kind_of_column, fitting, number_cell, boolean_cell, hex_cell, cell_of_text, field_cell};
-ghost use Rattle.text_import.specs.inner.Capped.{capped, capped_integer, holds_numbers, is_value};
+ghost use Rattle.text_import.specs.Refusals.{refusal_of};
+ghost use Rattle.facts.specs.Outcomes.{Gives};
+ghost use Rattle.text_import.specs.Flat.{fitting, number_cell, boolean_cell, hex_cell, cell_of_text, field_cell};
+ghost use Rattle.text_import.specs.inner.Capped.{is_digit, digits, capped, capped_integer, holds_numbers};
 
 use crate::refusal::{CellError, Refusal};
 use crate::texts::text_of;
@@ -73,7 +77,7 @@ fn integer(text: &[u8]) -> Option<i128>
 
 // A value, where it is one of the field's.
 fn fitting(field: &Field, value: Value, refusal: Refusal) -> Result<Value, CellError>
-    requires { is_value (cell value) ≡ true }
+    requires { is_there (cell value) ≡ true }
     ensures { Gives refusal_of cell result (fitting (kind_of_column (column_of field.now)) refusal (cell value)) }
 {
     if fits(field, &value) {
@@ -100,7 +104,7 @@ fn integer_cell(field: &Field, text: &[u8]) -> Result<Value, CellError>
 }
 
 fn boolean_cell(text: &[u8]) -> Result<Value, CellError>
-    ensures { Gives refusal_of cell result (boolean_cell text.now) }
+    ensures { Gives refusal_of cell result (boolean_cell (typed_boolean text.now)) }
 {
     if text == b"true".as_slice() {
         Ok(Value::Bool(true))

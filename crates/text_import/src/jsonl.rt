@@ -6,7 +6,8 @@ ghost use Rattle.arrow_schema.specs.Column.{columns_of};
 ghost use Rattle.arrow_schema.specs.View.{schema_of};
 ghost use Rattle.cells.specs.Row.{row_of};
 ghost use Rattle.cells.specs.Dictionary.{is_any_limited};
-ghost use Rattle.text_import.specs.Refusals.{Gives, refusal_of, refused_by};
+ghost use Rattle.text_import.specs.Refusals.{refusal_of, refused_by};
+ghost use Rattle.facts.specs.Outcomes.{Gives};
 ghost use Rattle.text_import.specs.Objects.{is_blank, line_value, line_row, jsonl_rows_of};
 ghost use Rattle.text_import.specs.inner.Names.{text_list};
 

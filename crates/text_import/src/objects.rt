@@ -3,14 +3,15 @@ ghost use Rattle.std.specs.Prelude.{◌≡◌, [], ◌∷◌, ◌++◌, true, fa
 ghost use Rattle.serde_json.specs.Find.{get_member};
 ghost use Rattle.serde_json.specs.View.{view, items_view, members_view};
 ghost use Rattle.arrow_schema.specs.Column.{columns_of};
+ghost use Rattle.arrow_schema.specs.Parts.{is_nullable_column, kind_of_column};
 ghost use Rattle.arrow_schema.specs.View.{column_of, schema_of};
 ghost use Rattle.cells.specs.Cell.{cells_of};
 ghost use Rattle.cells.specs.View.{cell};
 ghost use Rattle.cells.specs.Row.{row_of};
 ghost use Rattle.cells.specs.Dictionary.{is_any_limited};
-ghost use Rattle.text_import.specs.Refusals.{Gives, refusal_of};
-ghost use Rattle.text_import.specs.Flat.{kind_of_column};
-ghost use Rattle.text_import.specs.Objects.{boolean_in, number_in, text_in, bytes_in, list_in, each_item, fixed_list_in, cell_in, kind_in, cells_by_place, cells_by_name, cells_in, absent, sized, column_count, is_nullable, has_name, names_of, keys_of, repeats, has_unknown, value_row};
+ghost use Rattle.text_import.specs.Refusals.{refusal_of};
+ghost use Rattle.facts.specs.Outcomes.{Gives};
+ghost use Rattle.text_import.specs.Objects.{boolean_in, number_in, text_in, bytes_in, list_in, each_item, fixed_list_in, cell_in, kind_in, cells_by_place, cells_by_name, cells_in, absent, sized, column_count, has_name, names_of, keys_of, repeats, has_unknown, value_row};
 ghost use Rattle.text_import.specs.inner.Names.{text_list, member_of, tested};
 
 use crate::flat::{hex_cell, number_cell};
@@ -119,7 +120,7 @@ fn member<'a>(members: &'a Map<String, Json>, name: &str) -> Option<&'a Json>
 
 // The cell of a field that an object does not have.
 fn absent(field: &Field) -> Result<Value, CellError>
-    ensures { Gives refusal_of cell result (absent (is_nullable (column_of field.now))) }
+    ensures { Gives refusal_of cell result (absent (is_nullable_column (column_of field.now))) }
 {
     if field.nullable {
         Ok(Value::Null)

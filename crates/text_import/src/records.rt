@@ -7,14 +7,16 @@ ghost use Rattle.csv.specs.Records.{fields_of, field_at};
 ghost use Rattle.csv.specs.declared.parser.State.{State};
 ghost use Rattle.csv.specs.declared.parser.State.TheVariants as st;
 ghost use Rattle.arrow_schema.specs.Column.{columns_of};
+ghost use Rattle.arrow_schema.specs.Parts.{name_of_column};
 ghost use Rattle.arrow_schema.specs.View.{column_of, schema_of};
 ghost use Rattle.cells.specs.View.{cell};
 ghost use Rattle.cells.specs.Row.{row_of};
 ghost use Rattle.cells.specs.Dictionary.{is_any_limited};
 ghost use Rattle.text_import.specs.declared.refusal.TextError.TheVariants as errors;
-ghost use Rattle.text_import.specs.Refusals.{Gives, refusal_of, refused_by};
+ghost use Rattle.text_import.specs.Refusals.{refusal_of, refused_by};
+ghost use Rattle.facts.specs.Outcomes.{Gives};
 ghost use Rattle.text_import.specs.Rows.{rows_from};
-ghost use Rattle.text_import.specs.Records.{whole, name_of, are_names, is_nested_column, field_cells, record_cells, record_row, rows_behind_header, records_of, csv_rows_of};
+ghost use Rattle.text_import.specs.Records.{whole, are_names, is_nested_column, field_cells, record_cells, record_row, rows_behind_header, records_of, csv_rows_of};
 ghost use Rattle.text_import.specs.inner.Stands.{Stands, Reads, is_text};
 
 use crate::flat::field_cell;
@@ -79,7 +81,7 @@ fn has_nested(fields: &[Field]) -> bool
 }
 
 fn is_field(row: &ByteRecord, i: usize, field: &Field) -> bool
-    ensures { result ≡ is_text (field_at (fields_of row.now) i) (name_of (column_of field.now)) }
+    ensures { result ≡ is_text (field_at (fields_of row.now) i) (name_of_column (column_of field.now)) }
 {
     match row.get(i) {
         None => false,

@@ -7,7 +7,8 @@ ghost use Rattle.cells.specs.View.{cell};
 ghost use Rattle.cells.specs.Row.{row_of};
 ghost use Rattle.cells.specs.Dictionary.{is_any_limited};
 ghost use Rattle.text_import.specs.declared.refusal.Refusal.{Refusal};
-ghost use Rattle.text_import.specs.Refusals.{Gives, refusal_of, refused_by, numbered};
+ghost use Rattle.text_import.specs.Refusals.{refusal_of, refused_by, numbered};
+ghost use Rattle.facts.specs.Outcomes.{Gives};
 ghost use Rattle.text_import.specs.Rows.{accepted};
 
 use crate::refusal::{CellError, Refusal, Refused, TextError};

@@ -1,7 +1,7 @@
 // Texts, and the names of fields.
 ghost use Rattle.std.specs.Prelude.{◌≡◌, option_map};
 ghost use Rattle.arrow_schema.specs.View.{column_of};
-ghost use Rattle.text_import.specs.Records.{name_of};
+ghost use Rattle.arrow_schema.specs.Parts.{name_of_column};
 ghost use Rattle.text_import.specs.inner.Names.{text_where_utf8};
 
 use arrow_schema::Field;
@@ -17,7 +17,7 @@ pub(crate) fn text_of(bytes: &[u8]) -> Option<&str>
 }
 
 pub(crate) fn name_of(field: &Field) -> &str
-    ensures { result.now ≡ name_of (column_of field.now) }
+    ensures { result.now ≡ name_of_column (column_of field.now) }
 {
     field.name.as_str()
 }

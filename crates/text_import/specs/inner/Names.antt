@@ -7,9 +7,9 @@ use Rattle.serde_json.specs.Find.{get_member}
 use Rattle.arrow_schema.specs.Column.{Column}
 use Rattle.cells.specs.Cell.{Cell}
 use Rattle.text_import.specs.declared.refusal.Refusal.{Refusal}
-use Rattle.text_import.specs.Records.{name_of}
+use Rattle.arrow_schema.specs.Parts.{name_of_column, is_nullable_column}
 use Rattle.text_import.specs.declared.refusal.Refusal.TheVariants.{AmbiguousNames, UnknownName}
-use Rattle.text_import.specs.Objects.{is_nullable, member_in, cell_in, repeats, has_unknown, keys_of}
+use Rattle.text_import.specs.Objects.{member_in, cell_in, repeats, has_unknown, keys_of}
 
 abbrev pub text_list : List (Bor (List ℕ)) → List (List ℕ)
 text_list texts = map (λ t. t.now) texts
@@ -19,7 +19,7 @@ text_where_utf8 t = if is_utf8 t then Some t else None
 
 -- the cell of a column in an object's members
 abbrev pub member_of : Column → Members → Result Cell Refusal
-member_of c ms = member_in (is_nullable c) (cell_in c) (get_member (name_of c) ms)
+member_of c ms = member_in (is_nullable_column c) (cell_in c) (get_member (name_of_column c) ms)
 
 -- what the test of names refuses
 abbrev pub tested : List (List ℕ) → Members → Result Members Refusal

@@ -1,7 +1,6 @@
 use Rattle.std.proofs.Common.{◌≡◌, ◌≤◌, drop}
 use Rattle.std.specs.Prelude.{option_map}
-use Rattle.text_import.specs.Flat.{digits_behind}
-use Rattle.text_import.specs.inner.Capped.{capped, too_large}
+use Rattle.text_import.specs.inner.Capped.{digits_behind, capped, too_large}
 use Rattle.text_import.proofs.flat.digits.Given as goal
 
 abbrev pub invariant-loop-byte : goal.invariant-loop-byte

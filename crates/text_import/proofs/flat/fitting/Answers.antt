@@ -2,7 +2,7 @@ use Rattle.std.proofs.Common.{◌≡◌, ◌∙◌, sym, refl, true, false}
 use Rattle.arrow_schema.specs.View.{column_of}
 use Rattle.cells.specs.View.{cell}
 use Rattle.cells.specs.Fit.{fits_kind}
-use Rattle.text_import.specs.Flat.{kind_of_column}
+use Rattle.arrow_schema.specs.Parts.{kind_of_column}
 use Rattle.text_import.proofs.NumberLemmas.{fits_value}
 use Rattle.text_import.proofs.flat.fitting.Goals as goal
 

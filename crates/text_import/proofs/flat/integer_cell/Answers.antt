@@ -1,5 +1,5 @@
 use Rattle.arrow_schema.specs.View.{column_of}
-use Rattle.text_import.specs.Flat.{kind_of_column}
+use Rattle.arrow_schema.specs.Parts.{kind_of_column}
 use Rattle.text_import.proofs.NumberLemmas.{number_capped}
 use Rattle.text_import.proofs.flat.integer_cell.Goals as goal
 

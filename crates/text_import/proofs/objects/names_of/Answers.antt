@@ -3,7 +3,7 @@ use Rattle.std.proofs.lemmas.Bool.{not-false, not-true}
 use Rattle.facts.specs.laws.Lists.{drop-item}
 use Rattle.arrow_schema.specs.Column.{columns_of}
 use Rattle.arrow_schema.specs.View.{column_of}
-use Rattle.text_import.specs.Records.{name_of}
+use Rattle.arrow_schema.specs.Parts.{name_of_column}
 use Rattle.text_import.specs.Objects.{names_of, has_name}
 use Rattle.text_import.specs.inner.Names.{text_list}
 use Rattle.text_import.proofs.ObjectLemmas.{repeats_at, repeats_more}
@@ -15,9 +15,9 @@ returns-then-not-branch c =
     let f = c.field-item.result in
     let item = drop-item c.args.fields.now i f c.loop-field-test.true c.field-item.is in
     let all = rw item at c.loop-field.invariant.gathered in
-    let seen : has_name (text_list c.loop-field.names.keys) (name_of (column_of f)) ≡ true =
+    let seen : has_name (text_list c.loop-field.names.keys) (name_of_column (column_of f)) ≡ true =
     not-false _ (rw c.name_of.ensures at (sym c.in_ok-add_name.ensures.added ∙ c.if-not-branch.true)) in
-    rw (← all) (repeats_at (text_list c.loop-field.names.keys) (names_of (columns_of (map column_of (drop (i + 1) c.args.fields.now)))) (name_of (column_of f)) seen)
+    rw (← all) (repeats_at (text_list c.loop-field.names.keys) (names_of (columns_of (map column_of (drop (i + 1) c.args.fields.now)))) (name_of_column (column_of f)) seen)
 
 pub loop-field-preserved : goal.loop-field-preserved
 loop-field-preserved c =
@@ -27,10 +27,10 @@ loop-field-preserved c =
     let rest = names_of (columns_of (map column_of (drop (i + 1) c.args.fields.now))) in
     let item = drop-item c.args.fields.now i f c.loop-field-test.true c.field-item.is in
     let all = rw item at c.loop-field.invariant.gathered in
-    let fresh : has_name old (name_of (column_of f)) ≡ false =
+    let fresh : has_name old (name_of_column (column_of f)) ≡ false =
     not-true _ (rw c.name_of.ensures at (sym c.in_ok-add_name.ensures.added ∙ c.if-not-branch.false)) in
-    let names : text_list c.add_name.new.names.keys ≡ old ++ name_of (column_of f) ∷ [] = rw c.name_of.ensures at (c.in_ok-add_name.ensures.names c.if-not-branch.false) in
+    let names : text_list c.add_name.new.names.keys ≡ old ++ name_of_column (column_of f) ∷ [] = rw c.name_of.ensures at (c.in_ok-add_name.ensures.names c.if-not-branch.false) in
     record {
-      gathered = rw names (append_assoc old (name_of (column_of f) ∷ []) rest ∙ all);
-      distinct = rw names (repeats_more old (name_of (column_of f)) ∙ rw (fresh, c.loop-field.invariant.distinct) refl);
+      gathered = rw names (append_assoc old (name_of_column (column_of f) ∷ []) rest ∙ all);
+      distinct = rw names (repeats_more old (name_of_column (column_of f)) ∙ rw (fresh, c.loop-field.invariant.distinct) refl);
     }
