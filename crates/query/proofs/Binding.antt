@@ -6,7 +6,7 @@ use Rattle.std.specs.Prelude.{Result, Ok, Err}
 use Rattle.query.specs.declared.errors.QueryError.{QueryError}
 use Rattle.query.specs.declared.errors.QueryError.TheVariants.{UnknownColumn, BadCondition, NotComparable, OutOfMemory}
 use Rattle.query.specs.Bound.{Refusal, unknown_column, bad_condition, not_comparable}
-use Rattle.query.specs.Selection.{added, all_ok}
+use Rattle.query.specs.Selection.{all_ok}
 use Rattle.query.specs.View.{Reports}
 
 pub all_bound : {X Y E : Type 0} (f : X → Y) (xs : List X) → all_ok {E = E} (map (λ x. Ok (f x)) xs) ≡ Ok (map f xs)

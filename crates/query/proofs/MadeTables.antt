@@ -1,6 +1,6 @@
 -- The selection, from the cells that are kept; and what its parts report.
-use Rattle.std.proofs.Common.{◌≡◌, ℕ, suc, ◌+◌, ◌*◌, true, List, [], ◌∷◌, ◌++◌, map, length, take, drop, refl, sym, ap, subst, ◌∙◌, arith, length-append}
-use Rattle.std.specs.Prelude.{Option, Some, None, Result, Ok, Err, ◌&&◌, String, string_bytes}
+use Rattle.std.proofs.Common.{◌≡◌, ℕ, suc, ◌*◌, true, List, [], ◌∷◌, ◌++◌, map, length, take, drop, refl, sym, ap, ◌∙◌, arith, length-append}
+use Rattle.std.specs.Prelude.{Some, Result, Ok, String, string_bytes}
 use Rattle.std.specs.Global.{Global}
 use Rattle.std.specs.List.{list_all, flat_map}
 use Rattle.std.proofs.lemmas.Bool.{and_parts}
@@ -25,8 +25,8 @@ use Rattle.values.specs.Rows.{rows_in, table_in}
 use Rattle.query.specs.declared.errors.QueryError.{QueryError}
 use Rattle.query.specs.declared.errors.QueryError.TheVariants.{UnknownColumn, BadCondition, NotComparable, OutOfMemory}
 use Rattle.query.specs.Query.{PlainQuery}
-use Rattle.query.specs.Bound.{Refusal, Bound, bound}
-use Rattle.query.specs.Selection.{chosen, all_ok, selected, selected_where, selection}
+use Rattle.query.specs.Bound.{Bound, bound}
+use Rattle.query.specs.Selection.{chosen, all_ok, selected, selection}
 use Rattle.query.specs.declared.condition.Condition.{Condition}
 use Rattle.query.specs.View.{condition_in, Reports, Unchosen}
 use Rattle.query.proofs.Binding.{reports_first}

@@ -1,21 +1,21 @@
 -- Columns that have a name, found among fields.
 use Rattle.std.proofs.Common.{◌≡◌, ℕ, ◌+◌, ◌<◌, Bool, false, cond, List, [], ◌∷◌, map, length, drop, get_or, refl, ap, ◌∙◌, sym, Bor}
 use Rattle.std.specs.Prelude.{not, count_by, position, find, slice_get, option_map, Option, Some, None}
-use Rattle.std.specs.List.{prefix_len, position_or_len}
+use Rattle.std.specs.List.{prefix_len}
 use Rattle.std.proofs.lemmas.Bool.{eq-eqb, ne_eqb}
 use Rattle.std.proofs.lemmas.Option.{slice_get-map}
 use Rattle.std.proofs.lemmas.List.{length-map, drop_more}
 use Rattle.std.proofs.lemmas.List.Sums.{sum_by-cons}
 use Rattle.arrow_schema.specs.declared.types.Field.{Field, out-Field}
-use Rattle.arrow_schema.specs.declared.types.DataType.TheFolds.{fold_out-Field}
 use Rattle.arrow_schema.specs.Column.{Kind, Column}
-use Rattle.arrow_schema.specs.View.{column_of, kind_of, kind_step, column_step}
+use Rattle.arrow_schema.specs.laws.Parts.{kind_of_field}
+use Rattle.arrow_schema.specs.View.{column_of, kind_of}
 use Rattle.std.specs.Option.{option_copied}
 use Rattle.query.specs.declared.errors.QueryError.{QueryError}
 use Rattle.query.specs.View.{Reports}
 use Rattle.query.proofs.Binding.{reports_first}
 use Rattle.query.specs.Query.{PlainCondition}
-use Rattle.query.specs.Bound.{has_name, place_of, kind_of_column, demand_of, bound_at, bound}
+use Rattle.query.specs.Bound.{has_name, place_of, demand_of, bound_at, bound}
 
 pub count_by-map : {X Y : Type 0} (p : Y → Bool) (f : X → Y) (xs : List X) → count_by p (map f xs) ≡ count_by (λ x. p (f x)) xs
 count_by-map p f [] = refl
@@ -39,10 +39,6 @@ pub place_not : (fields : List Field) (name : List ℕ) → (count_by (λ f. has
 unfolding place_of
 place_not fields name h = rw (ne_eqb (count_by (has_name name) (map column_of fields)) 1 (λ e. h (sym (count_by-map (has_name name) column_of fields) ∙ e))) refl
 
--- the type of a field
-kind_at : (f : Field) → kind_of_column (column_of f) ≡ kind_of (out-Field f).data_type
-kind_at f = ap kind_of_column (fold_out-Field Kind Column kind_step column_step f)
-
 -- the column of a field that was looked up
 pub column_there : (r : Option (Bor Field)) (fields : List Field) (place : ℕ) → option_copied r ≡ slice_get fields place → option_map (λ f. column_of f.now) r ≡ slice_get (map column_of fields) place
 column_there None fields place e = sym (slice_get-map column_of fields place ∙ ap (option_map column_of) (sym e))
@@ -52,7 +48,7 @@ column_there (Some f) fields place e = sym (slice_get-map column_of fields place
 pub bound_is : (cs : List Column) (c : PlainCondition) (place : ℕ) (field : Field) → place_of cs c.column ≡ Some place → slice_get cs place ≡ Some (column_of field)
     → bound cs c ≡ bound_at place (demand_of (kind_of (out-Field field).data_type) c.test)
 unfolding bound
-bound_is cs c place field e h = rw (e, h) (ap (λ (k : Kind). bound_at place (demand_of k c.test)) (kind_at field))
+bound_is cs c place field e h = rw (e, h) (ap (λ (k : Kind). bound_at place (demand_of k c.test)) (kind_of_field field))
 
 -- what it reports, where it is refused
 pub bound_reports : (cs : List Column) (c : PlainCondition) (place : ℕ) (field : Field) → place_of cs c.column ≡ Some place → slice_get cs place ≡ Some (column_of field)

@@ -1,7 +1,7 @@
 -- Rows of some columns of a table's rows are rows of these columns.
-use Rattle.std.proofs.Common.{◌≡◌, ℕ, suc, ◌+◌, ◌≤◌, Bool, true, false, List, [], ◌∷◌, ◌++◌, map, length, refl, sym, ap, subst, ◌∙◌, arith, append_assoc, length-append}
-use Rattle.std.specs.Prelude.{◌&&◌, sum_by, nat_le, slice_get, Some, option_to_list}
-use Rattle.std.specs.List.{list_all, flat_map}
+use Rattle.std.proofs.Common.{◌≡◌, ℕ, ◌+◌, ◌≤◌, true, List, [], ◌∷◌, ◌++◌, map, length, refl, sym, ap, subst, ◌∙◌, arith, append_assoc, length-append}
+use Rattle.std.specs.Prelude.{◌&&◌, sum_by, slice_get, Some}
+use Rattle.std.specs.List.{list_all}
 use Rattle.std.proofs.lemmas.Bool.{and_from, and_parts, leb-true, le-leb}
 use Rattle.std.proofs.lemmas.List.{length-map}
 use Rattle.std.proofs.lemmas.List.Sums.{sum_by-cons}
@@ -10,8 +10,8 @@ use Rattle.arrow_schema.specs.Column.{Pair, Column, columns_of, PlainSchema}
 use Rattle.cells.specs.Cell.{Cell, cells_of}
 use Rattle.cells.specs.Fit.{fits, each_fits}
 use Rattle.cells.specs.Weight.{weight, parts_weight, row_weight}
-use Rattle.cells.specs.Dictionary.{Holding, holdings, holdings_from, has_few_entries, cells_at, dictionaries_fit}
-use Rattle.cells.specs.Row.{row_fits, is_row}
+use Rattle.cells.specs.Dictionary.{holdings, holdings_from, has_few_entries, cells_at}
+use Rattle.cells.specs.Row.{is_row}
 use Rattle.query.specs.Selection.{pick, is_distinct}
 use Rattle.query.proofs.Picks.{pick-map, sum_by-pick, list_all-pick}
 use Rattle.query.proofs.PickedSchemas.{picked_schema}

@@ -1,6 +1,6 @@
 -- The selection of a table is a table.
-use Rattle.std.proofs.Common.{◌≡◌, ℕ, zero, suc, ◌+◌, ◌≤◌, ◌<◌, ◌==◌, Bool, true, false, cond, List, [], ◌∷◌, map, length, take, refl, sym, ap, subst, ◌∙◌, arith}
-use Rattle.std.specs.Prelude.{Option, Some, None, Result, Ok, Err, not, ◌&&◌, filter, sum_by, if◌then◌else◌}
+use Rattle.std.proofs.Common.{◌≡◌, ℕ, zero, suc, ◌+◌, ◌≤◌, ◌<◌, ◌==◌, Bool, true, false, cond, List, [], ◌∷◌, map, length, refl, sym, ap, subst, ◌∙◌, arith}
+use Rattle.std.specs.Prelude.{Option, Some, None, Result, Ok, Err, filter}
 use Rattle.std.specs.List.{list_all, list_any, range_with_len, AllPass}
 use Rattle.std.proofs.lemmas.Bool.{and_from, and_parts, ne_eqb, or_from, not_from_false}
 use Rattle.std.proofs.lemmas.List.Sums.{sum_by-cons, sum_by-take-le, AllPass-from_list_all, list_all-from_AllPass}
@@ -12,7 +12,7 @@ use Rattle.cells.specs.Row.{is_row}
 use Rattle.cells.specs.Weight.{row_weight, table_weight}
 use Rattle.values.specs.Table.{IsTable}
 use Rattle.query.specs.Query.{PlainQuery}
-use Rattle.query.specs.Bound.{Refusal, unknown_column, Bound, bound, place_of}
+use Rattle.query.specs.Bound.{Refusal, Bound, bound, place_of}
 use Rattle.query.specs.Selection.{pick, is_distinct, where_distinct, all_some, chosen, all_ok, limited, holds_all, selected, selected_where, selection}
 use Rattle.query.proofs.PickedSchemas.{picked_schema, limits_picked}
 use Rattle.query.proofs.PickedRows.{picked}

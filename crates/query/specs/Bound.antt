@@ -1,10 +1,12 @@
 -- A condition on the columns of a table, and whether it holds of a row.
-use Rattle.std.specs.Prelude.{ℕ, ◌==◌, Bool, true, false, not, List, [], ◌∷◌, position, count_by, slice_get, bytes_eq, Option, Some, None, Result, Ok, Err, if◌then◌else◌}
+use Rattle.std.specs.Prelude.{ℕ, ◌==◌, Bool, false, List, position, count_by, slice_get, bytes_eq, Option, Some, None, Result, Ok, Err, if◌then◌else◌}
 use Rattle.std.specs.declared.cmp.Ordering.{Ordering}
 use Rattle.std.specs.Ordering.{nat_cmp, int_cmp, bool_cmp, is_eq, is_ne, is_lt, is_le, is_gt, is_ge, is_some_and}
 use Rattle.std.specs.Cmp.Lexicographic.{slice_cmp}
-use Rattle.arrow_schema.specs.Column.{Kind, Column, column}
-use Rattle.cells.specs.Cell.{Cell, null, boolean, number, text, bytes, items, parts}
+use Rattle.arrow_schema.specs.Column.{Kind, Column}
+use Rattle.arrow_schema.specs.Parts.{name_of_column, kind_of_column}
+use Rattle.cells.specs.Cell.{Cell, boolean, number, text, bytes}
+use Rattle.cells.specs.Nulls.{is_null, is_there}
 use Rattle.query.specs.declared.operator.Operator.{Operator}
 use Rattle.query.specs.declared.operator.Operator.TheVariants as operators
 use Rattle.query.specs.Query.{PlainTest, null_test, value_test, comparison, PlainCondition}
@@ -18,7 +20,7 @@ pub data Refusal : Type 0 where
   not_comparable : Refusal
 
 abbrev pub has_name : List ℕ → Column → Bool
-has_name wanted (column name nullable kind dictionary pairs) = bytes_eq name wanted
+has_name wanted c = bytes_eq (name_of_column c) wanted
 
 -- the place of the one column that has this name
 unfoldable pub place_of : List Column → List ℕ → Option ℕ
@@ -26,8 +28,8 @@ place_of cs name = if count_by (has_name name) cs == 1 then position (has_name n
 
 -- what is asked of the cell at a place of a row
 pub data Demand : Type 0 where
-  is_null : Demand
-  is_value : Demand
+  asks_null : Demand
+  asks_value : Demand
   compares : Operator → Cell → Demand
 
 pub record Bound : Type 0 where
@@ -39,12 +41,9 @@ against o None = Err bad_condition
 against o (Some literal) = Ok (compares o literal)
 
 abbrev pub demand_of : Kind → PlainTest → Result Demand Refusal
-demand_of kind null_test = Ok is_null
-demand_of kind value_test = Ok is_value
+demand_of kind null_test = Ok asks_null
+demand_of kind value_test = Ok asks_value
 demand_of kind (comparison o literal) = if is_comparable kind then against o (literal_of kind literal) else Err not_comparable
-
-abbrev pub kind_of_column : Column → Kind
-kind_of_column (column name nullable kind dictionary pairs) = kind
 
 abbrev pub bound_at : ℕ → Result Demand Refusal → Result Bound Refusal
 bound_at place (Ok d) = Ok (record { place = place; demand = d })
@@ -78,14 +77,10 @@ accepts operators.AtMost = is_le
 accepts operators.Greater = is_gt
 accepts operators.AtLeast = is_ge
 
-abbrev pub is_null_cell : Cell → Bool
-is_null_cell null = true
-is_null_cell _ = false
-
 -- whether a cell meets a demand: a comparison with a null is false, whatever the operator
 abbrev pub meets : Demand → Cell → Bool
-meets is_null c = is_null_cell c
-meets is_value c = not (is_null_cell c)
+meets asks_null c = is_null c
+meets asks_value c = is_there c
 meets (compares o literal) c = is_some_and (accepts o) (order c literal)
 
 abbrev pub meets_at : Demand → Option Cell → Bool

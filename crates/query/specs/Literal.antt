@@ -1,32 +1,24 @@
 -- The value that a literal states, by the type of the column that it is compared with.
-use Rattle.std.specs.Prelude.{ℕ, ◌^◌, ◌==◌, ℤ, pos, neg_ℤ, int_lt, int_le, Bool, true, false, not, ◌&&◌, bytes_eq, List, [], ◌∷◌, length, drop, slice_index, codes, Option, Some, None, option_map, if◌then◌else◌}
+use Rattle.std.specs.Prelude.{ℕ, ◌^◌, ℤ, pos, neg_ℤ, int_lt, int_le, Bool, true, false, ◌&&◌, List, Option, Some, None, option_map, if◌then◌else◌}
+use Rattle.std.specs.Option.{option_and_then}
 use Rattle.std.specs.Result.{result_ok}
-use Rattle.std.specs.Str.{all_ascii_digits}
-use Rattle.std.specs.Str.Parse.{digits_value}
 use Rattle.hex.specs.Hex.{decode_of}
 use Rattle.arrow_schema.specs.Column.{Kind, nulls, booleans, integers, dates, timestamps, texts, large_texts, binaries, large_binaries, fixed_binaries, lists, large_lists, fixed_lists, structs}
 use Rattle.cells.specs.Cell.{Cell, boolean, number, text, bytes}
+use Rattle.cells.specs.Typed.{typed_integer, typed_boolean}
 
--- `true` or `false`
 unfoldable pub boolean_in : List ℕ → Option Cell
-boolean_in t = if bytes_eq t (codes "true") then Some (boolean true) else if bytes_eq t (codes "false") then Some (boolean false) else None
-
--- decimal digits, at least one
-abbrev pub is_numeral : List ℕ → Bool
-is_numeral ds = not (length ds == 0) && all_ascii_digits ds
+boolean_in t = option_map boolean (typed_boolean t)
 
 -- a literal is a number that 64 bits hold, with a sign or without
 abbrev pub is_of_64_bits : ℤ → Bool
 is_of_64_bits n = int_le (neg_ℤ (pos (2 ^ 63))) n && int_lt n (pos (2 ^ 64))
 
-abbrev pub number_where : Bool → ℤ → Option Cell
-number_where is_written n = if is_written && is_of_64_bits n then Some (number n) else None
+abbrev pub where_of_64_bits : ℤ → Option Cell
+where_of_64_bits n = if is_of_64_bits n then Some (number n) else None
 
--- `-` or nothing, and then digits
 unfoldable pub number_in : List ℕ → Option Cell
-number_in t =
-    if slice_index t 0 == 45 then number_where (is_numeral (drop 1 t)) (neg_ℤ (pos (digits_value 10 (drop 1 t))))
-    else number_where (is_numeral t) (pos (digits_value 10 t))
+number_in t = option_and_then where_of_64_bits (typed_integer t)
 
 -- pairs of hexadecimal digits in either case
 abbrev pub bytes_in : List ℕ → Option Cell

@@ -2,9 +2,9 @@
 use Rattle.std.specs.Prelude.{ℕ, ◌==◌, Bool, true, not, ◌&&◌, List, [], ◌∷◌, map, filter, take, length, slice_get, Option, Some, None, option_map, Result, Ok, Err, if◌then◌else◌}
 use Rattle.std.specs.List.{filter_map, range_with_len, list_all, list_any}
 use Rattle.std.specs.Option.{option_and_then}
-use Rattle.arrow_schema.specs.Column.{Column, PlainSchema}
+use Rattle.arrow_schema.specs.Column.{Column}
 use Rattle.cells.specs.Cell.{Cell, PlainTable}
-use Rattle.query.specs.Query.{PlainCondition, PlainQuery}
+use Rattle.query.specs.Query.{PlainQuery}
 use Rattle.query.specs.Bound.{Refusal, unknown_column, place_of, Bound, bound, holds}
 
 -- what stands at these places

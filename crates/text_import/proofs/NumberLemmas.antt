@@ -16,7 +16,7 @@ use Rattle.arrow_schema.specs.Column.{Kind, Column, column, integers, dates, tim
 use Rattle.arrow_schema.specs.Parts.{kind_of_column}
 use Rattle.cells.specs.Cell.{Cell, null, number}
 use Rattle.cells.specs.Nulls.{is_there}
-use Rattle.cells.specs.Typed.{is_numeral, typed_number, typed_integer}
+use Rattle.cells.specs.Typed.{typed_number, typed_integer}
 use Rattle.cells.specs.Fit.{fits, fits_kind, in_range}
 use Rattle.text_import.specs.Flat.{number_cell}
 use Rattle.text_import.specs.inner.Capped.{is_digit, digits_behind, digits, capped, too_large, capped_integer, holds_numbers}

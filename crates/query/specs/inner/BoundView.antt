@@ -6,8 +6,8 @@ use Rattle.cells.specs.View.{cell}
 use Rattle.query.specs.Bound as plain
 
 abbrev pub demand_in : Demand → plain.Demand
-demand_in IsNull = plain.is_null
-demand_in IsValue = plain.is_value
+demand_in IsNull = plain.asks_null
+demand_in IsValue = plain.asks_value
 demand_in (Compares o literal) = plain.compares o (cell literal)
 
 abbrev pub bound_in : Bound → plain.Bound

@@ -1,8 +1,8 @@
-use Rattle.std.proofs.Common.{◌≡◌, sym, ap, rules, refl, map, ◌∙◌}
+use Rattle.std.proofs.Common.{sym, ap, map, ◌∙◌}
 use Rattle.std.specs.Prelude.{option_map}
 use Rattle.std.proofs.lemmas.Result.{err_from_is_err_and}
 use Rattle.arrow_schema.specs.View.{column_of}
-use Rattle.query.specs.Bound.{place_of, bound_at}
+use Rattle.query.specs.Bound.{bound_at}
 use Rattle.query.specs.View.{condition_in}
 use Rattle.query.proofs.Naming.{bound_is, bound_reports}
 use Rattle.query.proofs.bound.bind.Goals as goal

@@ -1,11 +1,7 @@
-use Rattle.std.proofs.Common.{◌≡◌, ◌<◌, ◌≤◌, ◌+◌, ◌^◌, ℕ, Bool, true, false, List, [], map, length, get_or, sym, ap, refl, ◌∙◌, arith}
-use Rattle.std.specs.Prelude.{Option, Some, slice_get, option_map}
+use Rattle.std.proofs.Common.{◌≡◌, ◌<◌, ◌+◌, ◌^◌, Bool, List, map, length, sym, ap, ◌∙◌, arith}
 use Rattle.std.specs.List.{flat_map}
-use Rattle.std.proofs.lemmas.Option.{slice_get-get_or, none-some}
-use Rattle.bitmap.specs.Bits.{bit}
 use Rattle.cells.specs.Cell.{Cell}
 use Rattle.cells.specs.View.{cell}
-use Rattle.values.specs.Borrowed.{borrowed_cells}
 use Rattle.values.specs.TableView.{table_of}
 use Rattle.query.specs.Selection.{holds_all}
 use Rattle.query.specs.inner.BoundView.{bound_in}

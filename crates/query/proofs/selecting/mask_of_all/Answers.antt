@@ -1,6 +1,6 @@
-use Rattle.std.proofs.Common.{◌≡◌, ℕ, ◌+◌, List, [], ◌∷◌, ◌++◌, map, length, take, sym, ap, refl, ◌∙◌, arith}
+use Rattle.std.proofs.Common.{◌≡◌, ℕ, ◌+◌, List, [], ◌∷◌, ◌++◌, map, take, sym, ap, ◌∙◌}
 use Rattle.std.proofs.lemmas.List.{take_more, map-append}
-use Rattle.bitmap.specs.Bits.{bit, both}
+use Rattle.bitmap.specs.Bits.{both}
 use Rattle.cells.specs.Cell.{Cell}
 use Rattle.values.specs.TableView.{table_of}
 use Rattle.query.specs.declared.bound.Bound.{Bound}

@@ -1,14 +1,13 @@
-use Rattle.std.proofs.Common.{◌≡◌, sym, ap, subst, refl, rules, map, length, ◌∙◌}
-use Rattle.std.specs.Prelude.{Some, Ok}
+use Rattle.std.proofs.Common.{◌≡◌, sym, ap, subst, map, length, ◌∙◌}
+use Rattle.std.specs.Prelude.{Ok}
 use Rattle.std.specs.List.{flat_map}
 use Rattle.std.proofs.lemmas.Result.{err_from_is_err_and}
 use Rattle.arrow_schema.specs.Column.{PlainSchema}
 use Rattle.arrow_schema.specs.Limits.{IsWithinLimits}
 use Rattle.arrow_schema.specs.View.{schema_of}
-use Rattle.cells.specs.Cell.{PlainTable}
 use Rattle.values.specs.Table.{table_from}
 use Rattle.values.specs.TableView.{table_of}
-use Rattle.query.specs.Selection.{chosen, selected}
+use Rattle.query.specs.Selection.{selected}
 use Rattle.query.specs.View.{query_in}
 use Rattle.query.specs.inner.BoundView.{bound_in}
 use Rattle.query.proofs.PickedSchemas.{picked_schema, limits_picked}
