@@ -1,0 +1,398 @@
+// Commands, one after another: what is answered, and what the device holds then.
+use crate::inputs::{INT, Input};
+use crate::made::{NotMade, assert_no_step};
+use crate::playing::{Slot, WAYS, Way, new_slot, play, shut};
+use crate::shown::layout;
+use crate::steps::{Step, Steps};
+use Input::{Changed, Column, First, Front, Ints};
+use Step::{Append, Close, Create, Format, Import, Open, Remove, Rename, Schema, Tables};
+use sector_dev::ModelDevice;
+use std::alloc::Global;
+
+const TWO: Input = Ints(&[7, -1]);
+
+// A device of so many sectors, what is asked of it, and where the store keeps what in the end.
+type Row = (u64, Steps, &'static str);
+
+// The commit sectors are 0 and 1. Each change takes the lowest runs that are free while the old catalogue and its segments
+// are still in use.
+const PLACES: &[Row] = &[
+    (16, &[(Format, "ok"), (Tables, "")], "epoch 1, 4 in 2"),
+    (
+        16,
+        &[(Format, "ok"), (Create("t", INT), "ok")],
+        "epoch 2, 169 in 3, t:",
+    ),
+    (
+        16,
+        &[
+            (Format, "ok"),
+            (Create("t", INT), "ok"),
+            (Create("u", INT), "ok"),
+            (Tables, "t 0, u 0"),
+        ],
+        "epoch 3, 334 in 2, t:, u:",
+    ),
+    (
+        16,
+        &[
+            (Format, "ok"),
+            (Import("t", TWO), "ok"),
+            (Tables, "t 2"),
+            (Schema("t"), "\"a\":int32?"),
+        ],
+        "epoch 2, 201 in 4, t: 3+1",
+    ),
+    (
+        16,
+        &[
+            (Format, "ok"),
+            (Import("t", TWO), "ok"),
+            (Import("t", TWO), "ok"),
+            (Tables, "t 2"),
+        ],
+        "epoch 3, 201 in 5, t: 2+1",
+    ),
+    (
+        16,
+        &[
+            (Format, "ok"),
+            (Import("t", TWO), "ok"),
+            (Import("t", TWO), "ok"),
+            (Remove("t"), "ok"),
+            (Tables, ""),
+        ],
+        "epoch 4, 4 in 3",
+    ),
+    // The lowest run that fits, and not the smallest: two sectors stand behind a hole of one.
+    (
+        16,
+        &[
+            (Format, "ok"),
+            (Import("t", TWO), "ok"),
+            (Import("u", First(100)), "ok"),
+        ],
+        "epoch 3, 398 in 2, t: 3+1, u: 5+2",
+    ),
+    (
+        16,
+        &[
+            (Format, "ok"),
+            (Import("t", TWO), "ok"),
+            (Import("u", First(100)), "ok"),
+            (Append("t", Ints(&[5])), "ok"),
+            (Tables, "t 3, u 100"),
+        ],
+        "epoch 4, 430 in 7, t: 3+1 4+1, u: 5+2",
+    ),
+    // What is given up is free once the change was published.
+    (
+        16,
+        &[
+            (Format, "ok"),
+            (Import("t", TWO), "ok"),
+            (Import("u", First(100)), "ok"),
+            (Append("t", Ints(&[5])), "ok"),
+            (Remove("t"), "ok"),
+            (Import("v", First(100)), "ok"),
+            (Tables, "u 100, v 100"),
+        ],
+        "epoch 6, 398 in 7, u: 5+2, v: 3+2",
+    ),
+    // A rename keeps the segments.
+    (
+        16,
+        &[
+            (Format, "ok"),
+            (Import("t", TWO), "ok"),
+            (Rename("t", "a"), "ok"),
+            (Tables, "a 2"),
+            (Schema("t"), "S1 NoTable"),
+            (Schema("a"), "\"a\":int32?"),
+        ],
+        "epoch 3, 201 in 2, a: 3+1",
+    ),
+    // Nothing but the catalogue is written of a table without rows, and an append of none publishes an epoch too.
+    (
+        16,
+        &[
+            (Format, "ok"),
+            (Import("t", Ints(&[])), "ok"),
+            (Append("t", Ints(&[])), "ok"),
+            (Tables, "t 0"),
+        ],
+        "epoch 3, 169 in 2, t:",
+    ),
+    // A segment has 4,096 rows at the most: 16,696 bytes.
+    (
+        128,
+        &[
+            (Format, "ok"),
+            (Import("t", First(4097)), "ok"),
+            (Append("t", First(4096)), "ok"),
+            (Tables, "t 8193"),
+        ],
+        "epoch 3, 265 in 2, t: 3+33 36+1 38+33",
+    ),
+    // Opening a store publishes nothing, and closing it neither.
+    (
+        16,
+        &[
+            (Format, "ok"),
+            (Import("t", TWO), "ok"),
+            (Close, "ok"),
+            (Open, "ok"),
+            (Open, "ok"),
+            (Tables, "t 2"),
+            (Schema("t"), "\"a\":int32?"),
+            (Append("t", Ints(&[5])), "ok"),
+            (Tables, "t 3"),
+        ],
+        "epoch 3, 233 in 5, t: 3+1 2+1",
+    ),
+];
+
+// Room is told of a run that stands nowhere, and then nothing has changed.
+const ROOM: &[Row] = &[
+    (
+        16,
+        &[(Format, "ok"), (Import("t", First(1458)), "ok")],
+        "epoch 2, 201 in 15, t: 3+12",
+    ),
+    (
+        16,
+        &[
+            (Format, "ok"),
+            (Import("t", First(1459)), "S8 NoRoom 1"),
+            (Tables, ""),
+            (Import("t", First(1458)), "ok"),
+        ],
+        "epoch 2, 201 in 15, t: 3+12",
+    ),
+    (
+        16,
+        &[
+            (Format, "ok"),
+            (Import("t", First(1458)), "ok"),
+            // the rows that stand are kept until the new ones are published
+            (Import("t", First(1458)), "S8 NoRoom 12"),
+            (Append("t", TWO), "S8 NoRoom 1"),
+            (Tables, "t 1458"),
+        ],
+        "epoch 2, 201 in 15, t: 3+12",
+    ),
+    (
+        16,
+        &[
+            (Format, "ok"),
+            (Import("t", First(1458)), "ok"),
+            (Remove("t"), "ok"),
+            (Import("t", First(1458)), "ok"),
+        ],
+        "epoch 4, 201 in 15, t: 3+12",
+    ),
+    (
+        16,
+        &[
+            (Format, "ok"),
+            (Import("t", First(2000)), "S8 NoRoom 17"),
+            (Import("t", First(4097)), "S8 NoRoom 33"),
+            (Import("t", First(1700)), "S8 NoRoom 14"),
+            (Import("t", TWO), "ok"),
+        ],
+        "epoch 2, 201 in 4, t: 3+1",
+    ),
+];
+
+// Of each command the tests in their order: the first that fails is told, and then nothing has changed.
+const REFUSED: &[Row] = &[
+    (
+        16,
+        &[
+            (Format, "ok"),
+            (Create("t", INT), "ok"),
+            (Create("a b", INT), "S3 BadName"),
+            (Create("", INT), "S3 BadName"),
+            (Create("é", INT), "S3 BadName"),
+            (Create("t/u", INT), "S3 BadName"),
+            (Create("t", &["b:int8"]), "S2 NameTaken"),
+            (Schema("t"), "\"a\":int32?"),
+            (Tables, "t 0"),
+        ],
+        "epoch 2, 169 in 3, t:",
+    ),
+    // 64 bytes of a name, and 65.
+    (
+        16,
+        &[
+            (Format, "ok"),
+            (
+                Create(
+                    "A-z_0.9-aaaaaaaaaaaaaaaaaaaaaaaaaaaaaaaaaaaaaaaaaaaaaaaaaaaaaaaa",
+                    INT,
+                ),
+                "ok",
+            ),
+            (
+                Create(
+                    "A-z_0.9-aaaaaaaaaaaaaaaaaaaaaaaaaaaaaaaaaaaaaaaaaaaaaaaaaaaaaaaaa",
+                    INT,
+                ),
+                "S3 BadName",
+            ),
+        ],
+        "epoch 2, 232 in 3, A-z_0.9-aaaaaaaaaaaaaaaaaaaaaaaaaaaaaaaaaaaaaaaaaaaaaaaaaaaaaaaa:",
+    ),
+    // Byte order of names.
+    (
+        16,
+        &[
+            (Format, "ok"),
+            (Create("b", INT), "ok"),
+            (Create("a", INT), "ok"),
+            (Create("B", INT), "ok"),
+            (Create("a0", INT), "ok"),
+            (Create("_", INT), "ok"),
+            (Tables, "B 0, _ 0, a 0, a0 0, b 0"),
+        ],
+        "epoch 6, 830 in 2, B:, _:, a:, a0:, b:",
+    ),
+    (
+        16,
+        &[
+            (Format, "ok"),
+            (Create("t", INT), "ok"),
+            (Import("a b", Front(0)), "S3 BadName"),
+            (Import("t", Front(0)), "S5 Import F9 NoSchema"),
+            (Import("t", Front(319)), "S5 Import F1 Truncated"),
+            (
+                Import("t", Changed(&[(0, 0)])),
+                "S5 Import F2 NoContinuation",
+            ),
+            (
+                Import("t", Changed(&[(28, 3)])),
+                "S5 Import F6 MetadataVersion",
+            ),
+            (
+                Import("t", Changed(&[(105, 3)])),
+                "S5 Import F12 TypeNotHeld FloatingPoint",
+            ),
+            (
+                Import("t", Changed(&[(206, 12)])),
+                "S5 Import F16 Compressed",
+            ),
+            (Import("t", Front(152)), "ok"),
+            (Tables, "t 0"),
+        ],
+        "epoch 3, 169 in 2, t:",
+    ),
+    (
+        16,
+        &[
+            (Format, "ok"),
+            (Import("t", TWO), "ok"),
+            (Append("u", Front(0)), "S1 NoTable"),
+            (Append("t", Front(0)), "S5 Import F9 NoSchema"),
+            (
+                Append("t", Changed(&[(105, 3)])),
+                "S5 Import F12 TypeNotHeld FloatingPoint",
+            ),
+            // another name, not nullable, another type, no column, two columns
+            (Append("t", Changed(&[(120, 98)])), "S4 SchemaMismatch"),
+            (Append("t", Column("a:int32", &[5])), "S4 SchemaMismatch"),
+            (Append("t", Column("a:uint32?", &[5])), "S4 SchemaMismatch"),
+            (Append("t", Column("a:int64?", &[5])), "S4 SchemaMismatch"),
+            (Append("t", Input::NoColumns(1)), "S4 SchemaMismatch"),
+            (Append("t", Column("a:int32?", &[5])), "ok"),
+            (Tables, "t 3"),
+        ],
+        "epoch 3, 233 in 5, t: 3+1 2+1",
+    ),
+    (
+        16,
+        &[
+            (Format, "ok"),
+            (Create("t", INT), "ok"),
+            (Create("u", INT), "ok"),
+            (Rename("v", "a b"), "S1 NoTable"),
+            (Rename("t", "a b"), "S3 BadName"),
+            (Rename("t", "u"), "S2 NameTaken"),
+            (Rename("t", "t"), "S2 NameTaken"),
+            (Remove("v"), "S1 NoTable"),
+            (Remove("a b"), "S1 NoTable"),
+            (Schema("v"), "S1 NoTable"),
+            (Tables, "t 0, u 0"),
+        ],
+        "epoch 3, 334 in 2, t:, u:",
+    ),
+    // Where no store is open, that is told before all else.
+    (
+        16,
+        &[
+            (Create("a b", INT), "S10 Halted"),
+            (Tables, "S10 Halted"),
+            (Schema("t"), "S10 Halted"),
+            (Open, "C1 NotAStore"),
+            (Close, "S10 Halted"),
+            (Format, "ok"),
+            (Close, "ok"),
+            (Import("a b", Front(0)), "S10 Halted"),
+            (Append("t", Front(0)), "S10 Halted"),
+            (Rename("t", "a b"), "S10 Halted"),
+            (Remove("t"), "S10 Halted"),
+            (Open, "ok"),
+            (Remove("t"), "S1 NoTable"),
+        ],
+        "epoch 1, 4 in 2",
+    ),
+];
+
+// Whether a device holds what the text says.
+fn is_laid_out(alloc: Global, device: &mut ModelDevice, want: &str) -> Result<bool, NotMade> {
+    Ok(layout(alloc, device)?.as_str() == want)
+}
+
+// The place of the step whose reply is wrong, or the number of steps where the layout is.
+fn wrong_step_on(
+    alloc: Global,
+    slot: &mut Slot,
+    row: &Row,
+    way: Way,
+) -> Result<Option<usize>, NotMade> {
+    let (_, steps, want) = *row;
+    let wrong = play(alloc, slot, steps, way)?;
+    if wrong.is_none() && !is_laid_out(alloc, &mut shut(slot)?, want)? {
+        return Ok(Some(steps.len()));
+    }
+    Ok(wrong)
+}
+
+fn wrong_step(alloc: Global, row: &Row, way: Way) -> Result<Option<usize>, NotMade> {
+    wrong_step_on(alloc, &mut new_slot(alloc, row.0)?, row, way)
+}
+
+fn wrong_row(alloc: Global, rows: &[Row]) -> Result<Option<(usize, usize)>, NotMade> {
+    for (place, row) in rows.iter().enumerate() {
+        for way in WAYS {
+            if let Some(step) = wrong_step(alloc, row, *way)? {
+                return Ok(Some((place, step)));
+            }
+        }
+    }
+    Ok(None)
+}
+
+#[test]
+fn changes_take_the_lowest_runs_that_fit(rt: HostRuntime) {
+    assert_no_step(&rt, wrong_row(rt.alloc(), PLACES));
+}
+
+#[test]
+fn room_is_told_of_a_run_that_stands_nowhere(rt: HostRuntime) {
+    assert_no_step(&rt, wrong_row(rt.alloc(), ROOM));
+}
+
+#[test]
+fn the_first_test_that_fails_is_told(rt: HostRuntime) {
+    assert_no_step(&rt, wrong_row(rt.alloc(), REFUSED));
+}

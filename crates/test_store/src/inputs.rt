@@ -1,0 +1,127 @@
+// Streams that are imported and appended, and the schemas of new tables.
+ghost use Rattle.std.specs.Prelude.{◌≡◌, true, IfOk};
+ghost use Rattle.arrow_schema.specs.View.{schema_of};
+ghost use Rattle.arrow_schema.specs.Limits.{IsWithinLimits};
+ghost use Rattle.catalogue.specs.Schemas.{is_read};
+
+use crate::made::NotMade;
+use arrow_schema::{Schema, parse_fields};
+use ipc_stream::{decode, encode, integer_schemas_are_read};
+use std::alloc::{AllocError, Global};
+use values::{Table, Value};
+
+/// One column, as most tests have it.
+pub const INT: &[&str] = &["a:int32?"];
+
+/// A stream.
+#[derive(Clone, Copy)]
+pub enum Input {
+    /// A column `a:int32?` with these values.
+    Ints(&'static [i32]),
+    /// Such a column with so many values, from 0 on.
+    First(u32),
+    /// One column of this field text, with these values.
+    Column(&'static str, &'static [i32]),
+    /// So many rows without a column.
+    NoColumns(usize),
+    /// The stream of 7 and -1, 320 bytes, with these bytes changed.
+    Changed(&'static [(usize, u8)]),
+    /// So many of its first bytes.
+    Front(usize),
+}
+
+fn schema_of(alloc: Global, columns: &[&str]) -> Result<Schema, NotMade> {
+    let fields = parse_fields(alloc, columns)?;
+    Ok(Schema {
+        fields,
+        pairs: Vec::new(alloc),
+    })
+}
+
+// The table of a schema and its cells, row after row, so many rows.
+fn table_of_cells(schema: Schema, cells: Vec<Value>, rows: usize) -> Result<Table, NotMade> {
+    let filled = schema.fields.len().checked_mul(rows) == Some(cells.len());
+    if schema.check().is_err() || !filled {
+        return Err(NotMade);
+    }
+    Table::from_cells(*cells.allocator(), schema, cells, rows).map_err(|_| NotMade)
+}
+
+// The canonical stream of that table.
+fn stream_of(
+    alloc: Global,
+    columns: &[&str],
+    cells: Vec<Value>,
+    rows: usize,
+) -> Result<Vec<u8>, NotMade> {
+    let table = table_of_cells(schema_of(alloc, columns)?, cells, rows)?;
+    if !table.has_only_integers() {
+        return Err(NotMade);
+    }
+    Ok(encode(alloc, &table)?)
+}
+
+fn cells_of(alloc: Global, values: &[i32]) -> Result<Vec<Value>, AllocError> {
+    let mut cells = Vec::with_capacity(alloc, values.len())?;
+    for value in values {
+        cells.push(Value::Int(i128::from(*value)))?;
+    }
+    Ok(cells)
+}
+
+fn first_cells(alloc: Global, count: u32) -> Result<Vec<Value>, AllocError> {
+    let mut cells = Vec::with_capacity(alloc, count as usize)?;
+    for number in 0..count {
+        cells.push(Value::Int(i128::from(number)))?;
+    }
+    Ok(cells)
+}
+
+fn changed(alloc: Global, changes: &[(usize, u8)]) -> Result<Vec<u8>, NotMade> {
+    let mut stream = bytes_of_values(alloc, INT, &[7, -1])?;
+    for (at, byte) in changes {
+        if *at < stream.len() {
+            stream[*at] = *byte;
+        }
+    }
+    Ok(stream)
+}
+
+fn front(alloc: Global, len: usize) -> Result<Vec<u8>, NotMade> {
+    let mut stream = bytes_of_values(alloc, INT, &[7, -1])?;
+    stream.truncate(len);
+    Ok(stream)
+}
+
+fn bytes_of_values(alloc: Global, columns: &[&str], values: &[i32]) -> Result<Vec<u8>, NotMade> {
+    stream_of(alloc, columns, cells_of(alloc, values)?, values.len())
+}
+
+/// The bytes of a stream.
+pub fn bytes_of(alloc: Global, input: Input) -> Result<Vec<u8>, NotMade> {
+    match input {
+        Input::Ints(values) => bytes_of_values(alloc, INT, values),
+        Input::First(count) => stream_of(alloc, INT, first_cells(alloc, count)?, count as usize),
+        Input::Column(text, values) => bytes_of_values(alloc, &[text], values),
+        Input::NoColumns(rows) => stream_of(alloc, &[], Vec::new(alloc), rows),
+        Input::Changed(changes) => changed(alloc, changes),
+        Input::Front(len) => front(alloc, len),
+    }
+}
+
+/// The schema of columns of these field texts, as a stream without rows has it.
+pub fn new_schema(alloc: Global, columns: &[&str]) -> Result<Schema, NotMade>
+    ensures within { IfOk result (λ s. IsWithinLimits (schema_of s)) }
+    ensures read { IfOk result (λ s. is_read (schema_of s) ≡ true) }
+{
+    integer_schemas_are_read();
+    let stream = stream_of(alloc, columns, Vec::new(alloc), 0)?;
+    let Ok(table) = decode(alloc, &stream) else {
+        return Err(NotMade);
+    };
+    let schema = table.schema().copy(alloc)?;
+    if schema.check().is_err() {
+        return Err(NotMade);
+    }
+    Ok(schema)
+}

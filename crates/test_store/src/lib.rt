@@ -1,0 +1,26 @@
+//! Tests of the public calls of `store`, on a device in memory: what no clause says.
+//!
+//! A test is a table of rows, and one function that plays them: a step is a call of a store, and the text of its reply
+//! stands beside it.
+#![tactic(auto)]
+
+#[cfg(test)]
+mod commands;
+#[cfg(test)]
+mod inputs;
+#[cfg(test)]
+mod limits;
+#[cfg(test)]
+mod made;
+#[cfg(test)]
+mod openings;
+#[cfg(test)]
+mod playing;
+#[cfg(test)]
+mod shown;
+#[cfg(test)]
+mod steps;
+#[cfg(test)]
+mod stops;
+#[cfg(test)]
+mod without_memory;

@@ -1,0 +1,313 @@
+// Devices that are formatted or opened: of other sizes, with a store, and with bytes that were changed.
+use crate::inputs::{INT, Input};
+use crate::made::{NotMade, assert_no_row};
+use crate::playing::{Slot, is_played, new_slot, shut};
+use crate::shown::contents;
+use crate::steps::{Step, Steps};
+use Input::{First, Ints};
+use Step::{Create, Format, Import, Open, Remove, Tables};
+use sector_dev::{Choice, ModelDevice, SectorDevice};
+use std::alloc::Global;
+use store::Place;
+
+// How many sectors a device has, and what is answered.
+const SIZES: &[(u64, Steps)] = &[
+    (
+        0,
+        &[
+            (Format, "C3 Damaged DeviceSize"),
+            (Open, "C3 Damaged DeviceSize"),
+        ],
+    ),
+    (
+        15,
+        &[
+            (Format, "C3 Damaged DeviceSize"),
+            (Open, "C3 Damaged DeviceSize"),
+        ],
+    ),
+    (16, &[(Open, "C1 NotAStore"), (Format, "ok"), (Open, "ok")]),
+    (
+        4_194_304,
+        &[
+            (Open, "C1 NotAStore"),
+            (Format, "ok"),
+            (Import("t", Ints(&[7])), "ok"),
+        ],
+    ),
+    (
+        4_194_305,
+        &[
+            (Format, "C3 Damaged DeviceSize"),
+            (Open, "C3 Damaged DeviceSize"),
+        ],
+    ),
+];
+
+fn wrong_size(alloc: Global) -> Result<Option<usize>, NotMade> {
+    for (place, (sectors, steps)) in SIZES.iter().enumerate() {
+        if !is_played(alloc, &mut new_slot(alloc, *sectors)?, steps)? {
+            return Ok(Some(place));
+        }
+    }
+    Ok(None)
+}
+
+#[test]
+fn a_store_has_16_to_4194304_sectors(rt: HostRuntime) {
+    assert_no_row(&rt, wrong_size(rt.alloc()));
+}
+
+// A store of which both commits can be read: epoch 2 in sector 0 has its segment in sector 3 and its catalogue in 4, and
+// epoch 3 in sector 1 its segment in 2 and its catalogue, of 201 bytes, in 5.
+const TWICE: Steps = &[
+    (Format, "ok"),
+    (Import("t", Ints(&[7, -1])), "ok"),
+    (Import("t", Ints(&[1, 2, 3])), "ok"),
+];
+
+const OLDER: &str = "t: 7 -1";
+
+const NEWER: &str = "t: 1 2 3";
+
+fn played(alloc: Global, slot: &mut Slot, steps: Steps) -> Result<ModelDevice, NotMade> {
+    if !is_played(alloc, slot, steps)? {
+        return Err(NotMade);
+    }
+    shut(slot)
+}
+
+// The device after these steps.
+fn device_after(alloc: Global, steps: Steps) -> Result<ModelDevice, NotMade> {
+    played(alloc, &mut new_slot(alloc, 16)?, steps)
+}
+
+// A byte of a sector: its number, the byte's place, and how it is changed.
+type Change = (u64, usize, u8);
+
+fn change(device: &mut ModelDevice, (n, at, bits): Change) -> Result<(), NotMade> {
+    let mut sector = [0; 512];
+    if n >= device.sectors() || device.read(n, &mut sector).is_err() || at >= 512 {
+        return Err(NotMade);
+    }
+    sector[at] ^= bits;
+    device.write(n, &sector).map_err(|_| NotMade)
+}
+
+fn change_all(device: &mut ModelDevice, changes: &[Change]) -> Result<(), NotMade> {
+    for one in changes {
+        change(device, *one)?;
+    }
+    Ok(())
+}
+
+// A device as it is, with these changes.
+fn changed(device: &ModelDevice, changes: &[Change]) -> Result<ModelDevice, NotMade> {
+    let mut left = device.crash(Choice::New)?;
+    change_all(&mut left, changes)?;
+    Ok(left)
+}
+
+// What is changed, and what is answered then. In a commit its epoch stands at byte 8, the catalogue's first sector at 16 and
+// the sectors of the device at 40; in the text the first sector of the segment at 169.
+const CAUSES: &[(&[Change], Steps)] = &[
+    (&[(3, 0, 1)], &[(Open, "ok"), (Tables, "t 3")]),
+    (&[(1, 0, 1)], &[(Open, "ok"), (Tables, "t 2")]),
+    (&[(0, 0, 1)], &[(Open, "ok"), (Tables, "t 3")]),
+    (
+        &[(0, 0, 1), (1, 0, 1)],
+        &[
+            (Open, "C1 NotAStore"),
+            (Tables, "S10 Halted"),
+            (Format, "ok"),
+            (Tables, ""),
+        ],
+    ),
+    (
+        &[(1, 40, 1), (1, 16, 4)],
+        &[
+            (Open, "C3 Damaged DeviceSize"),
+            (Format, "C2 AlreadyAStore"),
+        ],
+    ),
+    (
+        &[(1, 16, 4), (5, 0, 1)],
+        &[
+            (Open, "C3 Damaged CatalogueRange"),
+            (Tables, "S10 Halted"),
+            (Format, "C2 AlreadyAStore"),
+        ],
+    ),
+    (
+        &[(5, 0, 2), (5, 169, 3)],
+        &[(Open, "C3 Damaged CatalogueText")],
+    ),
+    (&[(5, 169, 3)], &[(Open, "C3 Damaged RunRange")]),
+    (&[(5, 170, 1)], &[(Open, "C3 Damaged RunRange")]),
+    (&[(5, 169, 7)], &[(Open, "C3 Damaged RunOverlap")]),
+];
+
+fn is_told(alloc: Global, device: ModelDevice, steps: Steps) -> Result<bool, NotMade> {
+    is_played(alloc, &mut Some(Place::Shut(device)), steps)
+}
+
+fn wrong_cause(alloc: Global, device: &ModelDevice) -> Result<Option<usize>, NotMade> {
+    for (place, (changes, steps)) in CAUSES.iter().enumerate() {
+        if !is_told(alloc, changed(device, changes)?, steps)? {
+            return Ok(Some(place));
+        }
+    }
+    Ok(None)
+}
+
+fn wrongly_told(alloc: Global) -> Result<Option<usize>, NotMade> {
+    wrong_cause(alloc, &device_after(alloc, TWICE)?)
+}
+
+#[test]
+fn the_first_cause_is_told(rt: HostRuntime) {
+    assert_no_row(&rt, wrongly_told(rt.alloc()));
+}
+
+// What a device with one changed byte holds; `None`: a segment does not hold the rows that the catalogue tells.
+fn contents_after(
+    alloc: Global,
+    device: &ModelDevice,
+    one: Change,
+) -> Result<Option<String>, NotMade> {
+    Ok(contents(alloc, &mut changed(device, &[one])?).ok())
+}
+
+// The only byte whose change gives another table: the name `t`.
+const NAME: (u64, usize) = (5, 8);
+
+// Whether these are the tables of an epoch, or none are shown.
+fn may_show(found: Option<&str>, (n, at, _): Change) -> bool {
+    match found {
+        None => n == 5,
+        Some(text) => {
+            text == NEWER
+                || text == "damaged"
+                || text == OLDER && n < 2
+                || (n, at) == NAME && text.ends_with(": 1 2 3")
+        }
+    }
+}
+
+fn is_no_other(alloc: Global, device: &ModelDevice, one: Change) -> Result<bool, NotMade> {
+    let found = contents_after(alloc, device, one)?;
+    Ok(may_show(found.as_deref(), one))
+}
+
+const BITS: &[u8] = &[1, 2, 4, 8, 16, 32, 64, 128];
+
+// Whether each bit of a byte may be changed.
+fn is_sound(alloc: Global, device: &ModelDevice, n: u64, at: usize) -> Result<bool, NotMade> {
+    let mut well = true;
+    for bit in BITS {
+        well = well && is_no_other(alloc, device, (n, at, *bit))?;
+    }
+    Ok(well)
+}
+
+// The first byte of a sector of which the change of a bit shows another table.
+fn wrong_byte(alloc: Global, device: &ModelDevice, n: u64) -> Result<Option<usize>, NotMade> {
+    for at in 0..512 {
+        if !is_sound(alloc, device, n, at)? {
+            return Ok(Some(at));
+        }
+    }
+    Ok(None)
+}
+
+fn wrong_byte_of(alloc: Global, n: u64) -> Result<Option<usize>, NotMade> {
+    wrong_byte(alloc, &device_after(alloc, TWICE)?, n)
+}
+
+// The commits and the catalogue of the newer one.
+#[test]
+fn a_changed_byte_shows_no_other_table(rt: HostRuntime) {
+    assert_no_row(&rt, wrong_byte_of(rt.alloc(), 0));
+    assert_no_row(&rt, wrong_byte_of(rt.alloc(), 1));
+    assert_no_row(&rt, wrong_byte_of(rt.alloc(), 5));
+}
+
+// The bytes of an epoch, all ones, and all but the lowest bit.
+const LAST: &[Change] = &[
+    (1, 8, 0xfe),
+    (1, 9, 0xff),
+    (1, 10, 0xff),
+    (1, 11, 0xff),
+    (1, 12, 0xff),
+    (1, 13, 0xff),
+    (1, 14, 0xff),
+    (1, 15, 0xff),
+];
+
+const LAST_BUT_ONE: &[Change] = &[
+    (0, 8, 0xfc),
+    (0, 9, 0xff),
+    (0, 10, 0xff),
+    (0, 11, 0xff),
+    (0, 12, 0xff),
+    (0, 13, 0xff),
+    (0, 14, 0xff),
+    (0, 15, 0xff),
+];
+
+// A store of epoch 1 or 2, what is changed in its commit, and what is answered: where the greatest epoch rules nothing is
+// published any more. That is told after what the tables tell, and before what there is no room for.
+const EPOCHS: &[(Steps, &[Change], Steps)] = &[
+    (
+        &[(Format, "ok")],
+        LAST,
+        &[
+            (Open, "ok"),
+            (Create("a b", INT), "S3 BadName"),
+            (Import("t", Input::Front(0)), "S5 Import F9 NoSchema"),
+            (Import("t", First(2000)), "S7 TooMany Epochs"),
+            (Create("t", INT), "S7 TooMany Epochs"),
+            (Remove("t"), "S1 NoTable"),
+            (Tables, ""),
+        ],
+    ),
+    (
+        &[(Format, "ok"), (Create("t", INT), "ok")],
+        LAST_BUT_ONE,
+        &[
+            (Open, "ok"),
+            (Create("u", INT), "ok"),
+            (Remove("t"), "S7 TooMany Epochs"),
+            (Tables, "t 0, u 0"),
+            (Open, "ok"),
+            (Tables, "t 0, u 0"),
+        ],
+    ),
+];
+
+fn is_last(
+    alloc: Global,
+    before: Steps,
+    changes: &[Change],
+    steps: Steps,
+) -> Result<bool, NotMade> {
+    is_told(
+        alloc,
+        changed(&device_after(alloc, before)?, changes)?,
+        steps,
+    )
+}
+
+fn wrong_epoch(alloc: Global) -> Result<Option<usize>, NotMade> {
+    for (place, (before, changes, steps)) in EPOCHS.iter().enumerate() {
+        if !is_last(alloc, before, changes, steps)? {
+            return Ok(Some(place));
+        }
+    }
+    Ok(None)
+}
+
+#[test]
+fn the_greatest_epoch_is_the_last(rt: HostRuntime) {
+    assert_no_row(&rt, wrong_epoch(rt.alloc()));
+}

@@ -1,0 +1,184 @@
+// Steps are taken on a device in memory: each by itself, or all of them by `run`.
+use crate::made::NotMade;
+use crate::steps::{Step, Steps, call_of, says};
+use sector_dev::ModelDevice;
+use std::alloc::Global;
+use store::{Call, OpeningRefusal, Place, Reply, Store, run};
+use tables::{Command, Refusal};
+
+/// Where steps are taken; empty only between two of them.
+pub type Slot = Option<Place<ModelDevice>>;
+
+/// How steps are taken.
+#[derive(Clone, Copy)]
+pub enum Way {
+    /// By the calls of a store.
+    EachCall,
+    /// By `run`, as one list.
+    OneRun,
+}
+
+pub const WAYS: &[Way] = &[Way::EachCall, Way::OneRun];
+
+type Opening = Result<Store<ModelDevice>, (OpeningRefusal, ModelDevice)>;
+
+fn opened(opening: Opening) -> (Place<ModelDevice>, Reply) {
+    match opening {
+        Ok(store) => (Place::Open(store), Reply::Done),
+        Err((refusal, device)) => (Place::Shut(device), Reply::NotOpened(refusal)),
+    }
+}
+
+fn on_device(alloc: Global, device: ModelDevice, call: Call) -> (Place<ModelDevice>, Reply) {
+    match call {
+        Call::Format => opened(Store::format(alloc, device)),
+        Call::Open => opened(Store::open(alloc, device)),
+        // nothing else can be asked of a device
+        _ => (Place::Shut(device), Reply::Refused(Refusal::Halted)),
+    }
+}
+
+fn applied(alloc: Global, store: &mut Store<ModelDevice>, command: Command) -> Reply {
+    match store.apply(alloc, command) {
+        Ok(()) => Reply::Done,
+        Err(refusal) => Reply::Refused(refusal),
+    }
+}
+
+fn listed(alloc: Global, store: &Store<ModelDevice>) -> Reply {
+    match store.tables(alloc) {
+        Ok(tables) => Reply::Tables(tables),
+        Err(refusal) => Reply::Refused(refusal),
+    }
+}
+
+fn schema_at(alloc: Global, store: &Store<ModelDevice>, name: &str) -> Reply {
+    match store.schema(alloc, name) {
+        Ok(schema) => Reply::Schema(schema),
+        Err(refusal) => Reply::Refused(refusal),
+    }
+}
+
+fn on_store(alloc: Global, store: Store<ModelDevice>, call: Call) -> (Place<ModelDevice>, Reply) {
+    let mut store = store;
+    let reply = match call {
+        Call::Format => return opened(Store::format(alloc, store.close())),
+        Call::Open => return opened(Store::open(alloc, store.close())),
+        Call::Close => return (Place::Shut(store.close()), Reply::Done),
+        Call::Apply(command) => applied(alloc, &mut store, command),
+        Call::Tables => listed(alloc, &store),
+        Call::Schema(name) => schema_at(alloc, &store, &name),
+    };
+    (Place::Open(store), reply)
+}
+
+/// Takes one call of a store.
+pub fn answer(alloc: Global, slot: &mut Slot, call: Call) -> Option<Reply> {
+    let (place, reply) = match slot.take()? {
+        Place::Open(store) => on_store(alloc, store, call),
+        Place::Shut(device) => on_device(alloc, device, call),
+    };
+    *slot = Some(place);
+    Some(reply)
+}
+
+/// The reply to a step.
+pub fn reply_to(alloc: Global, slot: &mut Slot, step: Step) -> Result<Reply, NotMade> {
+    answer(alloc, slot, call_of(alloc, step)?).ok_or(NotMade)
+}
+
+fn replies_of_each(alloc: Global, slot: &mut Slot, steps: Steps) -> Result<Vec<Reply>, NotMade> {
+    let mut replies = Vec::new(alloc);
+    for (step, _) in steps {
+        replies.push(reply_to(alloc, slot, *step)?)?;
+    }
+    Ok(replies)
+}
+
+fn calls_of(alloc: Global, steps: Steps) -> Result<Vec<Call>, NotMade> {
+    let mut calls = Vec::new(alloc);
+    for (step, _) in steps {
+        calls.push(call_of(alloc, *step)?)?;
+    }
+    Ok(calls)
+}
+
+// What was refused for want of memory is asked again.
+fn run_twice(
+    alloc: Global,
+    place: Place<ModelDevice>,
+    calls: Vec<Call>,
+) -> Result<(Place<ModelDevice>, Vec<Reply>), NotMade> {
+    match run(alloc, place, calls) {
+        Ok(answered) => Ok(answered),
+        Err((place, calls)) => run(alloc, place, calls).map_err(|_| NotMade),
+    }
+}
+
+fn replies_of_run(alloc: Global, slot: &mut Slot, calls: Vec<Call>) -> Result<Vec<Reply>, NotMade> {
+    let Some(place) = slot.take() else {
+        return Err(NotMade);
+    };
+    let (place, replies) = run_twice(alloc, place, calls)?;
+    *slot = Some(place);
+    Ok(replies)
+}
+
+/// The replies to steps.
+pub fn replies_of(
+    alloc: Global,
+    slot: &mut Slot,
+    steps: Steps,
+    way: Way,
+) -> Result<Vec<Reply>, NotMade> {
+    match way {
+        Way::EachCall => replies_of_each(alloc, slot, steps),
+        Way::OneRun => replies_of_run(alloc, slot, calls_of(alloc, steps)?),
+    }
+}
+
+/// The place of the first reply that has another text than its step says.
+pub fn wrong_reply(
+    alloc: Global,
+    replies: &[Reply],
+    steps: Steps,
+) -> Result<Option<usize>, NotMade> {
+    if replies.len() != steps.len() {
+        return Ok(Some(replies.len()));
+    }
+    for (place, (reply, (_, want))) in replies.iter().zip(steps).enumerate() {
+        if !says(alloc, reply, want)? {
+            return Ok(Some(place));
+        }
+    }
+    Ok(None)
+}
+
+/// Takes the steps: the place of the first one whose reply is wrong.
+pub fn play(
+    alloc: Global,
+    slot: &mut Slot,
+    steps: Steps,
+    way: Way,
+) -> Result<Option<usize>, NotMade> {
+    wrong_reply(alloc, &replies_of(alloc, slot, steps, way)?, steps)
+}
+
+/// A device of so many sectors.
+pub fn new_slot(alloc: Global, sectors: u64) -> Result<Slot, NotMade> {
+    Ok(Some(Place::Shut(ModelDevice::new(alloc, sectors)?)))
+}
+
+/// Whether each step, taken by itself, is answered as it is to.
+pub fn is_played(alloc: Global, slot: &mut Slot, steps: Steps) -> Result<bool, NotMade> {
+    Ok(play(alloc, slot, steps, Way::EachCall)?.is_none())
+}
+
+/// The device, on which no store is open any more.
+pub fn shut(slot: &mut Slot) -> Result<ModelDevice, NotMade> {
+    match slot.take() {
+        Some(Place::Open(store)) => Ok(store.close()),
+        Some(Place::Shut(device)) => Ok(device),
+        None => Err(NotMade),
+    }
+}

@@ -1,0 +1,365 @@
+// Each call of the device fails, or stops, in turn: opened again it has the tables of what was acknowledged, or with the
+// command in flight, and goes on.
+use crate::inputs::{INT, Input};
+use crate::made::{NotMade, assert_no_row};
+use crate::playing::{Slot, Way, is_played, play, replies_of, shut};
+use crate::shown::contents;
+use crate::steps::{Step, Steps, says};
+use Input::Ints;
+use Step::{Append, Close, Create, Format, Import, Open, Remove, Rename, Tables};
+use sector_dev::{Choice, ModelDevice};
+use std::alloc::Global;
+use store::{Place, Reply};
+
+/// What is asked of a device of 16 sectors.
+pub const SCRIPT: Steps = &[
+    (Format, "ok"),
+    (Import("t", Ints(&[7, -1])), "ok"),
+    (Create("u", INT), "ok"),
+    (Append("u", Ints(&[5])), "ok"),
+    (Append("t", Ints(&[4])), "ok"),
+    (Import("t", Ints(&[1, 2, 3])), "ok"),
+    (Rename("u", "s"), "ok"),
+    (Remove("t"), "ok"),
+];
+
+const OPENING: Steps = &[(Open, "ok")];
+
+// The values of the tables before the first step, and after each.
+const STATES: &[&str] = &[
+    "none",
+    "",
+    "t: 7 -1",
+    "t: 7 -1, u:",
+    "t: 7 -1, u: 5",
+    "t: 7 -1 4, u: 5",
+    "t: 1 2 3, u: 5",
+    "s: 5, t: 1 2 3",
+    "s: 5",
+];
+
+// How many writes and syncs were made after each step: two sectors and their syncs, the commit and its sync, and before them
+// in a formatting one more sync and one more sector.
+const CALLS: &[u64] = &[6, 11, 15, 20, 25, 30, 34, 38];
+
+// What a stop leaves of the sectors that are not yet synced.
+const CHOICES: &[Choice] = &[
+    Choice::Old,
+    Choice::New,
+    Choice::Bits(0),
+    Choice::Bits(1),
+    Choice::Bits(2),
+    Choice::Bits(3),
+    Choice::Bits(4),
+    Choice::Bits(5),
+    Choice::Bits(6),
+    Choice::Bits(7),
+    Choice::Lost(0),
+    Choice::Lost(1),
+    Choice::Lost(2),
+    Choice::Lost(3),
+    Choice::Lost(4),
+    Choice::Lost(5),
+    Choice::Lost(6),
+    Choice::Lost(7),
+    Choice::Lost(u64::MAX),
+];
+
+// Which write or sync fails, from 1 on: this one alone, or each from it on.
+#[derive(Clone, Copy)]
+enum Fault {
+    Fail(u64),
+    Stop(u64),
+}
+
+// A device of 16 sectors with these faults.
+fn faulty(alloc: Global, faults: &[Fault]) -> Result<Slot, NotMade> {
+    let mut device = ModelDevice::new(alloc, 16)?;
+    for fault in faults {
+        match fault {
+            Fault::Fail(k) => device.fail_at(*k),
+            Fault::Stop(k) => device.stop_at(*k),
+        }
+    }
+    Ok(Some(Place::Shut(device)))
+}
+
+// Whether the first reply is of a device that failed, and each other one of a store that is not open any more.
+fn are_refused(alloc: Global, replies: &[Reply]) -> Result<bool, NotMade> {
+    let [first, rest @ ..] = replies else {
+        return Ok(true);
+    };
+    let mut well = says(alloc, first, "S9 Device")? || says(alloc, first, "C4 Device")?;
+    for reply in rest {
+        well = well && says(alloc, reply, "S10 Halted")?;
+    }
+    Ok(well)
+}
+
+// Whether just so many steps are acknowledged, and the others refused.
+fn are_done(alloc: Global, replies: &[Reply], done: usize) -> Result<bool, NotMade> {
+    let (first, rest) = replies.split_at_checked(done).ok_or(NotMade)?;
+    let mut well = are_refused(alloc, rest)?;
+    for reply in first {
+        well = well && says(alloc, reply, "ok")?;
+    }
+    Ok(well)
+}
+
+// Whether these are the values of the tables after so many steps.
+fn is_state(found: &str, done: usize) -> bool {
+    match STATES.get(done) {
+        Some(state) => *state == found,
+        None => false,
+    }
+}
+
+// How many steps were taken, where so many or one more may have been; `None`: another number.
+fn steps_found(found: &str, done: usize) -> Option<usize> {
+    let next = done.saturating_add(1);
+    if is_state(found, done) {
+        return Some(done);
+    }
+    if is_state(found, next) {
+        Some(next)
+    } else {
+        None
+    }
+}
+
+// Whether the tables of a device have these values.
+fn has(alloc: Global, device: ModelDevice, want: &str) -> Result<bool, NotMade> {
+    let mut device = device;
+    Ok(contents(alloc, &mut device)?.as_str() == want)
+}
+
+// Takes the steps behind the first ones: whether they are done.
+fn goes_on(alloc: Global, slot: &mut Slot, from: usize) -> Result<bool, NotMade> {
+    let rest = SCRIPT.get(from..).unwrap_or_default();
+    if from > 0 && !is_played(alloc, slot, OPENING)? || !is_played(alloc, slot, rest)? {
+        return Ok(false);
+    }
+    has(alloc, shut(slot)?, "s: 5")
+}
+
+// How many steps were taken, of which so many were acknowledged.
+fn steps_left(
+    alloc: Global,
+    device: &mut ModelDevice,
+    done: usize,
+) -> Result<Option<usize>, NotMade> {
+    Ok(steps_found(&contents(alloc, device)?, done))
+}
+
+/// Whether a device has the tables after so many steps, or one more, and goes on.
+pub fn is_whole(alloc: Global, device: ModelDevice, done: usize) -> Result<bool, NotMade> {
+    let mut device = device;
+    match steps_left(alloc, &mut device, done)? {
+        Some(from) => goes_on(alloc, &mut Some(Place::Shut(device)), from),
+        None => Ok(false),
+    }
+}
+
+// Whether it is so whatever a stop leaves.
+fn are_whole(alloc: Global, device: &ModelDevice, done: usize) -> Result<bool, NotMade> {
+    let mut well = true;
+    for choice in CHOICES {
+        well = well && is_whole(alloc, device.crash(*choice)?, done)?;
+    }
+    Ok(well)
+}
+
+// Whether it is so also of the device itself, if it goes on.
+fn is_left_whole(
+    alloc: Global,
+    device: ModelDevice,
+    done: usize,
+    goes_on: bool,
+) -> Result<bool, NotMade> {
+    let mut device = device;
+    let well = are_whole(alloc, &device, done)?;
+    if well && goes_on {
+        // no more of it is to fail
+        device.fail_at(0);
+        is_whole(alloc, device, done)
+    } else {
+        Ok(well)
+    }
+}
+
+// Whether just so many steps of the script are acknowledged.
+fn is_done(alloc: Global, slot: &mut Slot, done: usize, way: Way) -> Result<bool, NotMade> {
+    are_done(alloc, &replies_of(alloc, slot, SCRIPT, way)?, done)
+}
+
+fn survives_on(
+    alloc: Global,
+    slot: &mut Slot,
+    done: usize,
+    way: Way,
+    goes_on: bool,
+) -> Result<bool, NotMade> {
+    if is_done(alloc, slot, done, way)? {
+        is_left_whole(alloc, shut(slot)?, done, goes_on)
+    } else {
+        Ok(false)
+    }
+}
+
+// Runs the script with this fault: whether each step was answered as it is to, and what is left of a stop at its end is
+// whole, and so is the device itself if it goes on.
+fn survives(alloc: Global, fault: Fault, way: Way) -> Result<bool, NotMade> {
+    let (k, goes_on) = match fault {
+        Fault::Fail(k) => (k, true),
+        Fault::Stop(k) => (k, false),
+    };
+    let done = CALLS.iter().filter(|calls| **calls < k).count();
+    survives_on(alloc, &mut faulty(alloc, &[fault])?, done, way, goes_on)
+}
+
+// The first call after whose failure, or stop, something is wrong.
+fn wrong_call(alloc: Global, way: Way) -> Result<Option<usize>, NotMade> {
+    for k in 1..=39u64 {
+        if !survives(alloc, Fault::Fail(k), way)? || !survives(alloc, Fault::Stop(k), way)? {
+            return Ok(Some(k as usize));
+        }
+    }
+    Ok(None)
+}
+
+#[test]
+fn each_call_of_the_device_fails_or_stops_in_turn(rt: HostRuntime) {
+    assert_no_row(&rt, wrong_call(rt.alloc(), Way::EachCall));
+}
+
+#[test]
+fn each_call_of_the_device_fails_or_stops_in_a_run(rt: HostRuntime) {
+    assert_no_row(&rt, wrong_call(rt.alloc(), Way::OneRun));
+}
+
+// Faults of a device, what is asked of it, and what a stop at the end leaves.
+type Row = (&'static [Fault], Steps, &'static [(Choice, &'static str)]);
+
+// Formatting makes the first six calls, and a table without rows four each.
+const STOPPED: &[Row] = &[
+    // A command in doubt is settled by the opening that found it.
+    (
+        &[Fault::Fail(14), Fault::Stop(17)],
+        &[
+            (Format, "ok"),
+            (Create("t", INT), "ok"),
+            (Create("u", INT), "S9 Device"),
+            (Create("a b", INT), "S10 Halted"),
+            (Tables, "S10 Halted"),
+            (Open, "ok"),
+            (Tables, "t 0, u 0"),
+            (Create("v", INT), "S9 Device"),
+        ],
+        &[
+            (Choice::Bits(2), "t:, u:"),
+            (Choice::Old, "t:, u:"),
+            (Choice::New, "t:, u:"),
+            (Choice::Lost(u64::MAX), "t:, u:"),
+        ],
+    ),
+    // The commit is written, and not yet synced.
+    (
+        &[Fault::Stop(9)],
+        &[(Format, "ok"), (Create("t", INT), "S9 Device")],
+        &[
+            (Choice::Old, ""),
+            (Choice::New, "t:"),
+            (Choice::Lost(u64::MAX), ""),
+        ],
+    ),
+    // It is not yet written.
+    (
+        &[Fault::Stop(8)],
+        &[(Format, "ok"), (Create("t", INT), "S9 Device")],
+        &[
+            (Choice::Old, ""),
+            (Choice::New, ""),
+            (Choice::Lost(u64::MAX), ""),
+        ],
+    ),
+    // An opening whose sync fails does not answer what it read.
+    (
+        &[Fault::Fail(10), Fault::Stop(11)],
+        &[
+            (Format, "ok"),
+            (Create("t", INT), "S9 Device"),
+            (Close, "ok"),
+            (Open, "C4 Device"),
+            (Create("u", INT), "S10 Halted"),
+        ],
+        &[(Choice::Old, ""), (Choice::New, "t:")],
+    ),
+    // One that is done makes it safe.
+    (
+        &[Fault::Fail(10)],
+        &[
+            (Format, "ok"),
+            (Create("t", INT), "S9 Device"),
+            (Close, "ok"),
+            (Open, "ok"),
+            (Tables, "t 0"),
+        ],
+        &[
+            (Choice::Old, "t:"),
+            (Choice::New, "t:"),
+            (Choice::Lost(u64::MAX), "t:"),
+        ],
+    ),
+    // After a formatting that failed it is formatted again, or there is a store.
+    (
+        &[Fault::Fail(5)],
+        &[
+            (Format, "C4 Device"),
+            (Tables, "S10 Halted"),
+            (Format, "C2 AlreadyAStore"),
+            (Open, "ok"),
+            (Tables, ""),
+        ],
+        &[(Choice::Old, ""), (Choice::New, "")],
+    ),
+    (
+        &[Fault::Fail(4)],
+        &[
+            (Format, "C4 Device"),
+            (Open, "C1 NotAStore"),
+            (Format, "ok"),
+            (Create("t", INT), "ok"),
+        ],
+        &[(Choice::Old, "t:"), (Choice::New, "t:")],
+    ),
+];
+
+fn leaves(alloc: Global, device: &ModelDevice, wants: &[(Choice, &str)]) -> Result<bool, NotMade> {
+    let mut well = true;
+    for (choice, want) in wants {
+        well = well && has(alloc, device.crash(*choice)?, want)?;
+    }
+    Ok(well)
+}
+
+fn is_answered(alloc: Global, slot: &mut Slot, row: &Row, way: Way) -> Result<bool, NotMade> {
+    if play(alloc, slot, row.1, way)?.is_some() {
+        return Ok(false);
+    }
+    leaves(alloc, &shut(slot)?, row.2)
+}
+
+fn wrong_row(alloc: Global, way: Way) -> Result<Option<usize>, NotMade> {
+    for (place, row) in STOPPED.iter().enumerate() {
+        if !is_answered(alloc, &mut faulty(alloc, row.0)?, row, way)? {
+            return Ok(Some(place));
+        }
+    }
+    Ok(None)
+}
+
+#[test]
+fn what_is_in_doubt_is_settled_by_the_next_opening(rt: HostRuntime) {
+    assert_no_row(&rt, wrong_row(rt.alloc(), Way::EachCall));
+    assert_no_row(&rt, wrong_row(rt.alloc(), Way::OneRun));
+}

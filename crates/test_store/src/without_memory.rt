@@ -1,0 +1,146 @@
+// Scripts of which one allocation at the most is refused, by tests/refused_memory_in_crates.
+use crate::inputs::Input;
+use crate::made::NotMade;
+use crate::playing::{Slot, Way, new_slot, replies_of, reply_to, shut, wrong_reply};
+use crate::shown::layout;
+use crate::steps::{Step, Steps, says};
+use crate::stops::{SCRIPT, is_whole};
+use Step::{Close, Format, Import, Open, Schema, Tables};
+use sector_dev::{ModelDevice, SectorDevice};
+use std::alloc::Global;
+use store::{OpeningRefusal, Reply};
+use tables::Refusal;
+
+// Where the store keeps what after the script.
+const LAYOUT: &str = "epoch 8, 201 in 3, s: 4+1";
+
+fn wants_memory(reply: &Reply) -> bool {
+    match reply {
+        Reply::Refused(refusal) => *refusal == Refusal::OutOfMemory,
+        Reply::NotOpened(refusal) => *refusal == OpeningRefusal::OutOfMemory,
+        _ => false,
+    }
+}
+
+// The reply to a step, or where it was refused for want of memory the one to the same step once more.
+fn second_reply(alloc: Global, slot: &mut Slot, step: Step) -> Result<Reply, NotMade> {
+    let first = reply_to(alloc, slot, step)?;
+    if wants_memory(&first) {
+        reply_to(alloc, slot, step)
+    } else {
+        Ok(first)
+    }
+}
+
+fn is_answered(alloc: Global, slot: &mut Slot, step: Step, want: &str) -> Result<bool, NotMade> {
+    says(alloc, &second_reply(alloc, slot, step)?, want)
+}
+
+// The first step whose reply is wrong: the device had no memory to keep a call.
+fn steps_done(alloc: Global, slot: &mut Slot, steps: Steps) -> Result<usize, NotMade> {
+    for (place, (step, want)) in steps.iter().enumerate() {
+        if !is_answered(alloc, slot, *step, want)? {
+            return Ok(place);
+        }
+    }
+    Ok(steps.len())
+}
+
+fn is_laid_out(alloc: Global, device: ModelDevice) -> Result<bool, NotMade> {
+    let mut device = device;
+    Ok(layout(alloc, &mut device)?.as_str() == LAYOUT)
+}
+
+// Whether a device that failed where so many steps are done is whole, and one that did not holds what the script leaves.
+fn is_left(alloc: Global, device: ModelDevice, done: usize) -> Result<bool, NotMade> {
+    let failures = device.failures();
+    if done < SCRIPT.len() {
+        Ok(failures == 1 && is_whole(alloc, device, done)?)
+    } else {
+        Ok(failures == 0 && is_laid_out(alloc, device)?)
+    }
+}
+
+fn are_done_on(alloc: Global, slot: &mut Slot) -> Result<bool, NotMade> {
+    let done = steps_done(alloc, slot, SCRIPT)?;
+    is_left(alloc, shut(slot)?, done)
+}
+
+// A step that was refused for want of memory has changed nothing: in the end all stands where it stands else. A step that the
+// device failed is done or not.
+fn are_done(alloc: Global) -> Result<bool, NotMade> {
+    are_done_on(alloc, &mut new_slot(alloc, 16)?)
+}
+
+// Of two runs one at the most ended for want of memory.
+fn is_one_well(first: Result<bool, NotMade>, second: Result<bool, NotMade>) -> bool {
+    match (first, second) {
+        (Ok(well), Err(NotMade)) | (Err(NotMade), Ok(well)) => well,
+        (Ok(first), Ok(second)) => first && second,
+        (Err(NotMade), Err(NotMade)) => false,
+    }
+}
+
+#[test]
+fn commands_change_all_or_nothing_also_without_memory(rt: HostRuntime) {
+    let first = are_done(rt.alloc());
+    let second = are_done(rt.alloc());
+    assert!(rt; is_one_well(first, second));
+}
+
+const LISTED: Steps = &[
+    (Format, "ok"),
+    (Import("t", Input::Ints(&[7, -1])), "ok"),
+    (Close, "ok"),
+    (Open, "ok"),
+    (Tables, "t 2"),
+    (Schema("t"), "\"a\":int32?"),
+];
+
+// Whether a reply tells that memory was refused, to the store or to the device.
+fn is_disturbed(replies: &[Reply]) -> bool {
+    replies.iter().any(|reply| match reply {
+        Reply::Refused(refusal) => *refusal == Refusal::OutOfMemory || *refusal == Refusal::Device,
+        Reply::NotOpened(_) => true,
+        _ => false,
+    })
+}
+
+fn are_listed_well(alloc: Global, replies: &[Reply]) -> Result<bool, NotMade> {
+    if is_disturbed(replies) {
+        return Err(NotMade);
+    }
+    Ok(wrong_reply(alloc, replies, LISTED)?.is_none())
+}
+
+fn is_run_on(alloc: Global, slot: &mut Slot) -> Result<bool, NotMade> {
+    are_listed_well(alloc, &replies_of(alloc, slot, LISTED, Way::OneRun)?)
+}
+
+fn is_run(alloc: Global) -> Result<bool, NotMade> {
+    is_run_on(alloc, &mut new_slot(alloc, 16)?)
+}
+
+fn are_listed_on(alloc: Global, slot: &mut Slot) -> Result<bool, NotMade> {
+    let done = steps_done(alloc, slot, LISTED)?;
+    Ok(shut(slot)?.failures() == u64::from(done < LISTED.len()))
+}
+
+// A step that was refused for want of memory is done when it is asked again, unless the device failed.
+fn are_listed(alloc: Global) -> Result<bool, NotMade> {
+    are_listed_on(alloc, &mut new_slot(alloc, 16)?)
+}
+
+#[test]
+fn a_run_is_answered_also_without_memory(rt: HostRuntime) {
+    let first = is_run(rt.alloc());
+    let second = is_run(rt.alloc());
+    assert!(rt; is_one_well(first, second));
+}
+
+#[test]
+fn a_store_is_opened_and_listed_also_without_memory(rt: HostRuntime) {
+    let first = are_listed(rt.alloc());
+    let second = are_listed(rt.alloc());
+    assert!(rt; is_one_well(first, second));
+}
