@@ -6,6 +6,7 @@ pub mod Counted
 pub mod Firsts
 pub mod Everys
 pub mod Rests
+pub mod Ends
 pub mod Answered
 pub mod SpanWeights
 pub mod KindWeights
@@ -13,6 +14,7 @@ pub mod RowWeights
 pub mod VisibleSpans
 pub mod VisibleSlots
 pub mod VisibleTexts
+pub mod VisibleUtf8
 pub mod Ranges
 pub mod BatchRead
 pub mod KnownRead

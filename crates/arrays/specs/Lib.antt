@@ -3,4 +3,5 @@ pub mod Dictionaries
 pub mod DictionaryColumns
 pub mod Entries
 pub mod Known
+pub mod Placed
 pub mod inner

@@ -1,5 +1,5 @@
 // The array of a dictionary batch, or the first fault of its checks (docs/definitions/arrays.md).
-ghost use Rattle.std.specs.Prelude.{◌≡◌, ◌+◌, ◌<◌, ◌^◌, ℕ, [], ◌∷◌, List, map, drop, option_map};
+ghost use Rattle.std.specs.Prelude.{◌≡◌, ◌+◌, ◌<◌, ◌^◌, ℕ, [], ◌∷◌, List, map, drop, option_map, IfOk};
 ghost use Rattle.arrow_schema.specs.Column.{Column};
 ghost use Rattle.arrow_schema.specs.View.{column_of};
 ghost use Rattle.ipc_message.specs.Outcome.{Gives};
@@ -10,13 +10,15 @@ ghost use Rattle.columns.specs.View.{array_in, no_dictionary, placed_arrays};
 ghost use Rattle.dictionary.specs.InEffect.{DictionaryBatch};
 ghost use Rattle.dictionary.specs.Kept.{HasInEffect};
 ghost use Rattle.arrays.specs.Dictionaries.{entries_read, has_no_base, batch_with, dictionary_read};
+ghost use Rattle.columns.specs.declared.span.Span.{Span};
+ghost use Rattle.arrays.specs.Placed.{EndWithin, EndsWithin};
 ghost use Rattle.arrays.specs.DictionaryColumns.{dictionary_columns_of, columns_with, first_alone, values_of_id};
 
 use crate::batch_arrays::read_arrays;
 use crate::dictionary_columns::DictionaryColumns;
 use crate::visible::has_bad_text;
 use arrow_schema::Field;
-use columns::{PlacedArray, Span, no_array};
+use columns::{PlacedArray, PlacedLayout, Span};
 use dictionary::Dictionaries;
 use ipc_message::{Fault, ImportError, RawBatch, RawDictionaryBatch};
 use std::alloc::Global;
@@ -52,11 +54,16 @@ fn find_values_of(columns: &DictionaryColumns, id: u64) -> Option<&[Field]>
 
 // The first of some arrays, or one without slots.
 fn first_of(arrays: Vec<PlacedArray>) -> PlacedArray
-    ensures { (bytes : List ℕ) → array_in bytes no_dictionary result ≡ first_array (placed_arrays bytes [] arrays.items) }
+    ensures array { (bytes : List ℕ) → array_in bytes no_dictionary result ≡ first_array (placed_arrays bytes [] arrays.items) }
+    ensures placed { (body : Span) → EndWithin body [] [] arrays.items → EndsWithin body result }
 {
     let mut arrays = arrays;
     if arrays.len() == 0 {
-        return no_array();
+        return PlacedArray {
+            slots: 0,
+            validity: Span { start: 0, len: 0 },
+            layout: PlacedLayout::Null,
+        };
     }
     arrays.swap_remove(0)
 }
@@ -70,8 +77,9 @@ fn read_entries(
     bytes: &[u8],
 ) -> Result<PlacedArray, ImportError>
     requires { body.start + body.len < 2 ^ 64 }
-    ensures { (c : Column) → map column_of values.now ≡ c ∷ []
+    ensures array { (c : Column) → map column_of values.now ≡ c ∷ []
         → Gives (array_in bytes.now no_dictionary) result (entries_read c (raw_batch_of batch.now) (within bytes.now body)) }
+    ensures placed { IfOk result (λ a. EndsWithin body a) }
 {
     match read_arrays(alloc, values, batch, body, bytes, &[], &[]) {
         Ok(arrays) => {
@@ -103,10 +111,11 @@ pub fn read_dictionary(
     bytes: &[u8],
 ) -> Result<PlacedArray, ImportError>
     requires { body.start + body.len < 2 ^ 64 }
-    ensures { (before : List DictionaryBatch) → HasInEffect bytes.now dictionaries.now before
+    ensures batch { (before : List DictionaryBatch) → HasInEffect bytes.now dictionaries.now before
         → let batch = raw_dictionary_of raw.now in
         let exact = dictionary_read (dictionary_columns_of columns.now) before batch (within bytes.now body) in
         Gives (λ a. batch_with batch (array_in bytes.now no_dictionary a)) result exact }
+    ensures placed { IfOk result (λ a. EndsWithin body a) }
 {
     match find_values_of(columns, raw.id) {
         None => Err(ImportError::Fault(Fault::DictionaryId)),

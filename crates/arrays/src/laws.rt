@@ -1,8 +1,15 @@
 // What the definitions say. The functions do nothing: their contracts are the laws.
-ghost use Rattle.std.specs.Prelude.{◌≡◌, ℕ, true, List, map, Ok};
+ghost use Rattle.std.specs.Prelude.{◌≡◌, ◌<◌, ℕ, true, List, map, Ok};
 ghost use Rattle.std.specs.List.{list_all};
-ghost use Rattle.ipc_message.specs.Raw.{RawDictionaryBatch};
+ghost use Rattle.arrow_schema.specs.Column.{PlainSchema, columns_of};
+ghost use Rattle.arrow_schema.specs.Limits.{has_flat_dictionary};
+ghost use Rattle.arrow_schema.specs.Preorder.{every_column};
+ghost use Rattle.columns.specs.Array.{Array, Arrays};
+ghost use Rattle.columns.specs.CellAt.{part_cells};
+ghost use Rattle.columns.specs.Texts.{have_utf8_texts};
+ghost use Rattle.ipc_message.specs.Raw.{RawBatch, RawDictionaryBatch};
 ghost use Rattle.dictionary.specs.InEffect.{DictionaryBatch};
+ghost use Rattle.arrays.specs.Checks.{batch_read};
 ghost use Rattle.arrays.specs.Dictionaries.{DictionaryColumn, dictionary_read, dictionaries_after};
 ghost use Rattle.arrays.specs.Known.{are_readable, is_readable_batch, HaveOneType};
 
@@ -13,4 +20,11 @@ pub fn read_dictionaries_are_readable()
     ensures known { (columns : List DictionaryColumn) (batches : List DictionaryBatch)
         → HaveOneType columns → list_all (is_readable_batch columns) batches ≡ true
         → are_readable (map (λ c. c.values) columns) (dictionaries_after batches columns) ≡ true }
+{}
+
+/// The texts of each row of a batch that was read are UTF-8, at every level, where the values of dictionaries are flat.
+pub fn read_texts_are_utf8()
+    ensures { (s : PlainSchema) (before : ℕ) (b : RawBatch) (body : List ℕ) (known : List (List Array)) (arrays : Arrays) (i : ℕ)
+        → list_all has_flat_dictionary (every_column s) ≡ true → batch_read s before b body known ≡ Ok arrays → i < b.length
+        → have_utf8_texts (part_cells (columns_of s.columns) arrays i) ≡ true }
 {}

@@ -2,7 +2,7 @@
 ghost use Rattle.std.specs.Prelude.{IfOk, map};
 ghost use Rattle.arrow_schema.specs.Column.{columns_of};
 ghost use Rattle.arrow_schema.specs.View.{kind_of, column_of};
-ghost use Rattle.arrays.specs.inner.Rest.{IsPlaced, IsLaidOut, IsValidity, ArePlaced, IsPlacedBelow, ArePlacedBelow};
+ghost use Rattle.arrays.specs.inner.Rest.{IsPlaced, IsLaidOut, IsValidity, ArePlaced, IsPlacedBelow, ArePlacedBelow, IsInBody, LayoutEnds, ArrayEnds, ArraysEnd};
 
 use crate::counts::column_counts;
 use crate::rest::Rest;
@@ -12,7 +12,8 @@ use std::alloc::{AllocError, Global};
 
 #[tactic(auto, unfolding(columns::specs::FromBuffers::kind_array_from))]
 fn own_validity(data_type: &DataType, rest: Rest<'_>) -> Span
-    ensures { IsValidity (kind_of data_type.now) rest.entry result }
+    ensures validity { IsValidity (kind_of data_type.now) rest.entry result }
+    ensures ends { IsInBody rest.entry result }
 {
     match data_type {
         DataType::Null => Span { start: 0, len: 0 },
@@ -36,7 +37,8 @@ fn own_validity(data_type: &DataType, rest: Rest<'_>) -> Span
 #[tactic(auto, using(crate::proofs::Placed::own_array), unfolding(columns::specs::FromBuffers::array_from))]
 #[cycle(place)]
 fn place(alloc: Global, field: &Field, rest: Rest<'_>) -> Result<PlacedArray, AllocError>
-    ensures { IfOk result (λ a. IsPlaced (column_of field.now) rest.entry a) }
+    ensures placed { IfOk result (λ a. IsPlaced (column_of field.now) rest.entry a) }
+    ensures ends { IfOk result (λ a. ArrayEnds rest.entry a) }
 {
     match &field.dictionary {
         Some(_) => Ok(PlacedArray {
@@ -61,7 +63,8 @@ fn place_items(
     rest: Rest<'_>,
     buffers: usize,
 ) -> Result<Box<PlacedArray>, AllocError>
-    ensures { IfOk result (λ b. IsPlacedBelow (column_of item.now) rest.entry buffers b.value) }
+    ensures placed { IfOk result (λ b. IsPlacedBelow (column_of item.now) rest.entry buffers b.value) }
+    ensures ends { IfOk result (λ b. ArrayEnds rest.entry b.value) }
 {
     let array = place(alloc, item, rest.below(buffers))?;
     Ok(Box::new(alloc, array)?)
@@ -75,7 +78,8 @@ fn place_children(
     fields: &[Field],
     rest: Rest<'_>,
 ) -> Result<Vec<PlacedArray>, AllocError>
-    ensures { IfOk result (λ v. ArePlacedBelow (columns_of (map column_of fields.now)) rest.entry v.items) }
+    ensures placed { IfOk result (λ v. ArePlacedBelow (columns_of (map column_of fields.now)) rest.entry v.items) }
+    ensures end { IfOk result (λ v. ArraysEnd rest.entry v.items) }
 {
     place_all(alloc, fields, rest.below(1))
 }
@@ -87,7 +91,8 @@ fn place_layout(
     data_type: &DataType,
     rest: Rest<'_>,
 ) -> Result<PlacedLayout, AllocError>
-    ensures { IfOk result (λ p. IsLaidOut (kind_of data_type.now) rest.entry p) }
+    ensures laid_out { IfOk result (λ p. IsLaidOut (kind_of data_type.now) rest.entry p) }
+    ensures ends { IfOk result (λ p. LayoutEnds rest.entry p) }
 {
     match data_type {
         DataType::Null => Ok(PlacedLayout::Null),
@@ -122,7 +127,8 @@ pub(crate) fn place_all(
     fields: &[Field],
     rest: Rest<'_>,
 ) -> Result<Vec<PlacedArray>, AllocError>
-    ensures { IfOk result (λ v. ArePlaced (columns_of (map column_of fields.now)) rest.entry v.items) }
+    ensures placed { IfOk result (λ v. ArePlaced (columns_of (map column_of fields.now)) rest.entry v.items) }
+    ensures end { IfOk result (λ v. ArraysEnd rest.entry v.items) }
 {
     let mut arrays = Vec::with_capacity(alloc, fields.len())?;
     let mut left = rest;

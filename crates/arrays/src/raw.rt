@@ -52,7 +52,8 @@ pub(crate) fn after(bytes: &[u8], count: usize) -> &[u8]
 #[tactic(auto, using(crate::proofs::Raws::buffer_within))]
 pub(crate) fn span_in(body: Span, offset: u64, len: u64) -> Span
     requires { body.start + body.len < 2 ^ 64 }
-    ensures { (bytes : List ℕ) → within bytes result ≡ take len (drop offset (within bytes body)) }
+    ensures bytes { (bytes : List ℕ) → within bytes result ≡ take len (drop offset (within bytes body)) }
+    ensures ends { result.start + result.len ≤ body.start + body.len }
 {
     let skipped = body.len.min(offset as usize);
     let left = body.len - skipped;

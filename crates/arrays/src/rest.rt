@@ -1,5 +1,5 @@
 // What is left of a batch to be given to columns.
-ghost use Rattle.std.specs.Prelude.{◌≡◌, ℕ, ◌+◌, ◌<◌, ◌^◌, drop};
+ghost use Rattle.std.specs.Prelude.{◌≡◌, ◌≤◌, true, ℕ, ◌+◌, ◌<◌, ◌^◌, drop};
 ghost use Rattle.arrays.specs.inner.Counted.{capped};
 
 use crate::counts::Counts;
@@ -27,7 +27,7 @@ fn parts_after(parts: &[DictionaryPart], count: usize) -> &[DictionaryPart]
 impl<'a> Rest<'a> {
     ghost use Rattle.columns.specs.FromBuffers.{first_slots, buffer_at};
     ghost use Rattle.columns.specs.Places.{within};
-    ghost use Rattle.arrays.specs.inner.Rest.{rest_nodes, rest_buffers, IsFirstPart, IsLeft};
+    ghost use Rattle.arrays.specs.inner.Rest.{rest_nodes, rest_buffers, IsFirstPart, IsInBody, PartEnds, IsLeft};
 
     /// The slots of the first node.
     #[tactic(auto, using(crate::proofs::Firsts::no_first, crate::proofs::Firsts::first_is))]
@@ -43,7 +43,8 @@ impl<'a> Rest<'a> {
     /// Where a buffer stands; an empty one where there is none.
     #[tactic(auto, using(crate::proofs::Firsts::no_buffer, crate::proofs::Firsts::buffer_is))]
     pub(crate) fn buffer(self, k: usize) -> Span
-        ensures { within self.entry.bytes.now result ≡ buffer_at (rest_buffers self.entry) k }
+        ensures bytes { within self.entry.bytes.now result ≡ buffer_at (rest_buffers self.entry) k }
+        ensures ends { IsInBody self.entry result }
     {
         if k >= count_of(self.buffers) {
             return Span { start: 0, len: 0 };
@@ -54,7 +55,8 @@ impl<'a> Rest<'a> {
 
     /// The first dictionary; one without arrays where there is none.
     pub(crate) fn part(self) -> DictionaryPart
-        ensures { IsFirstPart self.entry result }
+        ensures first { IsFirstPart self.entry result }
+        ensures ends { PartEnds self.entry result }
     {
         match self.parts.first() {
             Some(part) => *part,

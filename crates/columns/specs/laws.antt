@@ -6,3 +6,4 @@ pub mod SoundParts
 pub mod Sounds
 pub mod Grown
 pub mod FitTexts
+pub mod Longer

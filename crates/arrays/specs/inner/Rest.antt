@@ -1,5 +1,6 @@
 -- What is left of a batch to be given to columns, and how much they take.
-use Rattle.std.specs.Prelude.{◌≡◌, ℕ, List, [], map, drop, get_or}
+use Rattle.std.specs.Prelude.{◌≡◌, ℕ, ◌+◌, ◌≤◌, Bool, true, List, [], map, drop, get_or}
+use Rattle.std.specs.List.{list_all}
 use Rattle.arrow_schema.specs.Column.{Kind, Column, Columns}
 use Rattle.ipc_message.specs.Raw.{nodes_in, buffers_in}
 use Rattle.columns.specs.declared.array.PlacedArray.{PlacedArray}
@@ -11,9 +12,11 @@ use Rattle.columns.specs.Array.{Array, Layout, layout_in, validity_in}
 use Rattle.columns.specs.Buffers.{Node}
 use Rattle.columns.specs.FromBuffers.{array_from, kind_array_from, arrays_from}
 use Rattle.columns.specs.Places.{within}
+use Rattle.columns.specs.Within.{layout_within, array_within, stands_within, is_placed_within}
 use Rattle.columns.specs.View.{array_in, arrays_in, layout_step, array_step, placed_arrays}
 use Rattle.arrays.specs.declared.rest.Rest.{Rest}
 use Rattle.arrays.specs.Checks.{plain_node, buffer_bytes}
+use Rattle.arrays.specs.Placed.{EndWithin}
 
 abbrev pub rest_nodes : Rest → List Node
 rest_nodes r = map plain_node (nodes_in r.nodes.now)
@@ -57,10 +60,33 @@ ArePlacedBelow cs r arrays =
 abbrev pub IsFirstPart : Rest → DictionaryPart → Type 0
 IsFirstPart r part = rest_known r part ≡ get_or (rest_dictionaries r) 0 []
 
+-- ---- where they end
+
+abbrev pub IsInBody : Rest → Span → Type 0
+IsInBody r span = span.start + span.len ≤ r.body.start + r.body.len
+
+-- by a test of what is placed within so many bytes
+abbrev pub Ends : Rest → (ℕ → Bool) → Type 0
+Ends r placed = (size : ℕ) → r.body.start + r.body.len ≤ size → list_all (stands_within size r.dictionaries.now) r.parts.now ≡ true → placed size ≡ true
+
+abbrev pub PartEnds : Rest → DictionaryPart → Type 0
+PartEnds r part = Ends r (λ size. stands_within size r.dictionaries.now part)
+
+abbrev pub LayoutEnds : Rest → PlacedLayout → Type 0
+LayoutEnds r p = Ends r (λ size. fold-PlacedLayout Bool Bool (layout_within size (stands_within size r.dictionaries.now)) (array_within size) p)
+
+abbrev pub ArrayEnds : Rest → PlacedArray → Type 0
+ArrayEnds r a = Ends r (λ size. is_placed_within size r.dictionaries.now a)
+
+abbrev pub ArraysEnd : Rest → List PlacedArray → Type 0
+ArraysEnd r arrays = EndWithin r.body r.dictionaries.now r.parts.now arrays
+
 -- what is left after so many nodes, buffers and dictionaries
 pub record IsLeft (r left : Rest) (nodes buffers dictionaries : ℕ) : Type 0 where
+  pub same_body : left.body ≡ r.body
   pub same_bytes : left.bytes.now ≡ r.bytes.now
   pub same_dictionaries : left.dictionaries.now ≡ r.dictionaries.now
   pub nodes_left : rest_nodes left ≡ drop nodes (rest_nodes r)
   pub buffers_left : rest_buffers left ≡ drop buffers (rest_buffers r)
+  pub parts_left : left.parts.now ≡ drop dictionaries r.parts.now
   pub dictionaries_left : rest_dictionaries left ≡ drop dictionaries (rest_dictionaries r)

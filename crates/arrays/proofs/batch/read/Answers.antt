@@ -21,7 +21,7 @@ check_slots-requires-clause-sound c =
     let body : List ℕ = within c.args.bytes.now c.args.body in
     let known : List (List Array) = map (arrays_in c.args.bytes.now c.args.dictionaries.now) c.args.parts.now in
     let arrays : Arrays = placed_arrays c.args.bytes.now c.args.dictionaries.now c.in_ok-arrays.arrays.items in
-    let ok : arrays_read cs b body known ≡ Ok arrays = rw c.deref.ensures.value at c.in_ok-arrays.ensures in
+    let ok : arrays_read cs b body known ≡ Ok arrays = rw c.deref.ensures.value at c.in_ok-arrays.ensures.arrays in
     rw (c.deref-2.ensures.value, c.deref-3.ensures.value) (read_sound cs b body known arrays ok (known_sound cs (map plain_node b.nodes) (map (buffer_bytes body) b.buffers) known c.requires.known))
 
 pub check_slots-requires-clause-entries : goal.check_slots-requires-clause-entries
@@ -31,7 +31,7 @@ check_slots-requires-clause-entries c =
     let body : List ℕ = within c.args.bytes.now c.args.body in
     let known : List (List Array) = map (arrays_in c.args.bytes.now c.args.dictionaries.now) c.args.parts.now in
     let arrays : Arrays = placed_arrays c.args.bytes.now c.args.dictionaries.now c.in_ok-arrays.arrays.items in
-    let ok : arrays_read cs b body known ≡ Ok arrays = rw c.deref.ensures.value at c.in_ok-arrays.ensures in
+    let ok : arrays_read cs b body known ≡ Ok arrays = rw c.deref.ensures.value at c.in_ok-arrays.ensures.arrays in
     rw (c.deref-2.ensures.value, c.deref-3.ensures.value) (read_entries cs b body known arrays ok (known_texts cs (map plain_node b.nodes) (map (buffer_bytes body) b.buffers) known c.requires.known))
 
 pub returns-in_err-arrays-clause-arrays : goal.returns-in_err-arrays-clause-arrays
@@ -40,7 +40,7 @@ returns-in_err-arrays-clause-arrays c =
     let b : RawBatch = raw_batch_of c.args.batch.now in
     let body : List ℕ = within c.args.bytes.now c.args.body in
     let known : List (List Array) = map (arrays_in c.args.bytes.now c.args.dictionaries.now) c.args.parts.now in
-    let failed = rw c.deref.ensures.value at c.in_err-arrays.ensures in
+    let failed = rw c.deref.ensures.value at c.in_err-arrays.ensures.arrays in
     let p = err_from_is_err_and c.from_residual.result c.from_residual.ensures.1 in
     rw (p.1, p.2) (fails_too s c.args.before b body known _ failed)
 
@@ -51,7 +51,7 @@ returns-in-Ok-clause-arrays c =
     let body : List ℕ = within c.args.bytes.now c.args.body in
     let known : List (List Array) = map (arrays_in c.args.bytes.now c.args.dictionaries.now) c.args.parts.now in
     let arrays : Arrays = placed_arrays c.args.bytes.now c.args.dictionaries.now c.in_ok-arrays.arrays.items in
-    let ok : arrays_read (columns_of s.columns) b body known ≡ Ok arrays = rw c.deref.ensures.value at c.in_ok-arrays.ensures in
+    let ok : arrays_read (columns_of s.columns) b body known ≡ Ok arrays = rw c.deref.ensures.value at c.in_ok-arrays.ensures.arrays in
     let found = rw c.deref-3.ensures.value at (c.in-Ok.ensures s (ap (map column_of) (sym c.deref-2.ensures.value))) in
     let passed = unless_passed (first_some (slot_checks s c.args.before b.length arrays)) (Ok (batch_weight s b.length arrays)) c.in-Ok.weight (sym found) in
     slots_pass s c.args.before b body known arrays ok (sym passed.0)
@@ -72,7 +72,7 @@ returns-in-Ok-clause-sound c =
     let body : List ℕ = within c.args.bytes.now c.args.body in
     let known : List (List Array) = map (arrays_in c.args.bytes.now c.args.dictionaries.now) c.args.parts.now in
     let arrays : Arrays = placed_arrays c.args.bytes.now c.args.dictionaries.now c.in_ok-arrays.arrays.items in
-    let ok : arrays_read (columns_of s.columns) b body known ≡ Ok arrays = rw c.deref.ensures.value at c.in_ok-arrays.ensures in
+    let ok : arrays_read (columns_of s.columns) b body known ≡ Ok arrays = rw c.deref.ensures.value at c.in_ok-arrays.ensures.arrays in
     read_sound (columns_of s.columns) b body known arrays ok (known_sound (columns_of s.columns) (map plain_node b.nodes) (map (buffer_bytes body) b.buffers) known c.requires.known)
 
 pub returns-in-Err-clause-arrays : goal.returns-in-Err-clause-arrays
@@ -82,6 +82,6 @@ returns-in-Err-clause-arrays c =
     let body : List ℕ = within c.args.bytes.now c.args.body in
     let known : List (List Array) = map (arrays_in c.args.bytes.now c.args.dictionaries.now) c.args.parts.now in
     let arrays : Arrays = placed_arrays c.args.bytes.now c.args.dictionaries.now c.in_ok-arrays.arrays.items in
-    let ok : arrays_read (columns_of s.columns) b body known ≡ Ok arrays = rw c.deref.ensures.value at c.in_ok-arrays.ensures in
+    let ok : arrays_read (columns_of s.columns) b body known ≡ Ok arrays = rw c.deref.ensures.value at c.in_ok-arrays.ensures.arrays in
     let found = rw c.deref-3.ensures.value at (c.in-Err.ensures s (ap (map column_of) (sym c.deref-2.ensures.value))) in
     slots_fail s c.args.before b body known arrays c.in-Err.fault ok (sym (unless_failed (first_some (slot_checks s c.args.before b.length arrays)) (batch_weight s b.length arrays) c.in-Err.fault (sym found)))

@@ -12,8 +12,8 @@ use Rattle.arrays.specs.Checks.{batch_arrays, array_checks}
 use Rattle.arrays.proofs.Answered.{read_err}
 use Rattle.arrays.proofs.batch_arrays.read_arrays.Goals as goal
 
-pub returns-in-Some : goal.returns-in-Some
-returns-in-Some c =
+pub returns-in-Some-clause-arrays : goal.returns-in-Some-clause-arrays
+returns-in-Some-clause-arrays c =
     let columns : Columns = columns_of (map column_of c.args.fields.now) in
     let b : RawBatch = raw_batch_of c.args.batch.now in
     let body : List ℕ = within c.args.bytes.now c.args.body in
@@ -21,7 +21,7 @@ returns-in-Some c =
     let arrays : Arrays = placed_arrays c.args.bytes.now c.args.dictionaries.now c.deref.result.now in
     let same : c.deref.result.now ≡ c.in_ok-arrays.arrays.items = cc in
     let some : c.in_ok-fault.fault ≡ Some c.in-Some.fault = cc in
-    let is : arrays ≡ batch_arrays columns b body known = ap (λ (xs : List PlacedArray). placed_arrays c.args.bytes.now c.args.dictionaries.now xs) same ∙ c.in_ok-arrays.ensures in
+    let is : arrays ≡ batch_arrays columns b body known = ap (λ (xs : List PlacedArray). placed_arrays c.args.bytes.now c.args.dictionaries.now xs) same ∙ c.in_ok-arrays.ensures.placed in
     let found : Some c.in-Some.fault ≡ first_some (array_checks columns b body arrays)
     = sym some ∙ c.in_ok-fault.ensures ∙ ap (λ (xs : List ℕ). first_some (array_checks columns b xs arrays)) c.bytes_at.ensures in
     read_err columns b body known arrays c.in-Some.fault is found

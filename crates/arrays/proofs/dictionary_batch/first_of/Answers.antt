@@ -1,6 +1,7 @@
-use Rattle.std.proofs.Common.{◌≡◌, length, arith}
-use Rattle.arrays.proofs.DictionaryRead.{none_is}
+use Rattle.std.proofs.Common.{arith}
+use Rattle.arrays.proofs.Ends.{first_ends}
 use Rattle.arrays.proofs.dictionary_batch.first_of.Goals as goal
 
-pub returns-then-len-eq0 : goal.returns-then-len-eq0
-returns-then-len-eq0 c = λ bytes. let none : length c.args.arrays.items ≡ 0 = omega (arith, c.len.ensures) in none_is bytes c.args.arrays.items c.no_array.result none c.no_array.ensures
+pub returns-clause-placed : goal.returns-clause-placed
+returns-clause-placed c = λ body end.
+    first_ends body c.args.arrays.items c.swap_remove.result (omega (arith, c.len.ensures, c.if-len-eq0.false)) c.swap_remove.ensures.value end

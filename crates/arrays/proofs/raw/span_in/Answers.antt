@@ -3,8 +3,8 @@ use Rattle.std.proofs.Common.{◌≡◌, ℕ, ◌-◌, refl, arith}
 use Rattle.arrays.proofs.Raws.{buffer_within}
 use Rattle.arrays.proofs.raw.span_in.Goals as goal
 
-pub returns : goal.returns
-returns c = λ bytes.
+pub returns-clause-bytes : goal.returns-clause-bytes
+returns-clause-bytes c = λ bytes.
     let size : ℕ = c.args.body.len in
     let skipped : ℕ = c.min-skipped.result in
     let s : skipped ≡ min size c.args.offset = omega arith in
