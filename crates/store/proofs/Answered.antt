@@ -26,6 +26,7 @@ use Rattle.store.specs.laws.Left.{left_from}
 use Rattle.store.specs.laws.Kept.{stops_keep}
 use Rattle.store.specs.laws.Settled.{run_settles, run_settles_all}
 use Rattle.store.specs.laws.Counted.{undisturbed}
+use Rattle.store.specs.laws.Never.{tells_none_damaged, tells_a_store}
 
 none_written : (n : ℕ) → nat_lt n n ≡ false
 none_written n = grind (arith, nat_tests)
@@ -151,6 +152,8 @@ lives size story failed base m calls replies old new fits runs =
         left_from s calls replies m before f runs.next after f' runs.run i image (place_allows size story base m old fits) left,
         stops_keep s calls replies m before f runs.next after f' runs.run i image (place_allows size story base m old fits) left,
       );
+      undamaged = tells_none_damaged s calls replies m before f runs.next after f' runs.run;
+      there = λ started. tells_a_store s calls replies m before f runs.next after f' runs.run started;
       settles = run_settles s calls replies m before f runs.next after f' runs.run;
       undisturbed = λ less same. undisturbed s calls replies m before f runs.next after f' runs.run less same;
       all_settled = λ none on no_failure. run_settles_all s calls replies m before f runs.next after f' runs.run none on no_failure;

@@ -1,9 +1,10 @@
 -- The commands of a run: those that may have been done, and those that were acknowledged.
-use Rattle.std.specs.Prelude.{◌≡◌, ◌≢◌, ◌⊎◌, false, if◌then◌else◌, List, [], ◌∷◌, ◌++◌, Option, Some, None}
+use Rattle.std.specs.Prelude.{◌≡◌, ◌≢◌, ◌⊎◌, Bool, true, false, if◌then◌else◌, List, [], ◌∷◌, ◌++◌, Option, Some, None}
 use Rattle.sector_dev.specs.Disk.{Image}
 use Rattle.tables.specs.Commands.{PlainCommand}
 use Rattle.tables.specs.Verdict.{after}
-use Rattle.store.specs.Calls.{PlainCall, apply_call, PlainReply, done, may_be_done}
+use Rattle.store.specs.declared.opening_refusal.OpeningRefusal.TheVariants as openings
+use Rattle.store.specs.Calls.{PlainCall, apply_call, PlainReply, done, shut_by, may_be_done}
 use Rattle.store.specs.Machine.{no_store, holds, Setting, Machine, halted}
 
 -- these stand among those, in their order
@@ -67,3 +68,15 @@ pub record HoldsNone (s : Setting) (m : Machine) (acknowledged : List PlainComma
 
 abbrev pub Keeps : Setting → Machine → List PlainCommand → List PlainCommand → Image → Type 0
 Keeps s m acknowledged begun image = HoldsSettled s m acknowledged begun image ⊎ HoldsNone s m acknowledged image
+
+-- ---- what never comes
+
+-- a store is told as damaged
+abbrev pub tells_damage : PlainReply → Bool
+tells_damage (shut_by (openings.Damaged cause)) = true
+tells_damage _ = false
+
+-- a device is told as one without a store
+abbrev pub tells_no_store : PlainReply → Bool
+tells_no_store (shut_by openings.NotAStore) = true
+tells_no_store _ = false

@@ -1,6 +1,7 @@
 pub mod Going
 pub mod Left
 pub mod Counted
+pub mod Never
 pub mod Settled
 pub mod Kept
 pub mod Frame

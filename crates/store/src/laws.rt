@@ -13,7 +13,7 @@ ghost use Rattle.store.specs.Held.{held_by};
 ghost use Rattle.store.specs.Fits.{DeviceFits, fresh, resumed, doubting, HoldsNoneOrEmpty, HoldsWithOrWithout};
 ghost use Rattle.store.specs.Runs.{Goes, Run};
 ghost use Rattle.store.specs.Since.{story_at, IsLeftFrom};
-ghost use Rattle.store.specs.History.{begun, acknowledged, Settles, SettlesAll, Keeps};
+ghost use Rattle.store.specs.History.{begun, acknowledged, Settles, SettlesAll, Keeps, tells_damage, tells_no_store};
 
 use sector_dev::SectorDevice;
 
@@ -57,6 +57,15 @@ pub fn undisturbed_runs_settle_what_was_acknowledged()
     ensures { (s : Setting) (calls : List PlainCall) (replies : List PlainReply) (m : Machine) (old : Story) (failed : ℕ)
         (m' : Machine) (new : Story) (failed' : ℕ) → Run s calls replies m old failed m' new failed' → m.doubt ≡ None → m.phase ≢ halted
         → list_any is_device_reply replies ≡ false → SettlesAll m m' (acknowledged calls replies) }
+{}
+
+/// No reply of a run tells that a store is damaged; and none tells that there is no store, where there was one when the run began.
+pub fn runs_tell_no_damage()
+    ensures damage { (s : Setting) (calls : List PlainCall) (replies : List PlainReply) (m : Machine) (old : Story) (failed : ℕ)
+        (m' : Machine) (new : Story) (failed' : ℕ) → Run s calls replies m old failed m' new failed' → list_any tells_damage replies ≡ false }
+    ensures no_store { (s : Setting) (calls : List PlainCall) (replies : List PlainReply) (m : Machine) (old : Story) (failed : ℕ)
+        (m' : Machine) (new : Story) (failed' : ℕ) → Run s calls replies m old failed m' new failed' → m.started ≡ true
+        → list_any tells_no_store replies ≡ false }
 {}
 
 /// An image that a stop may have left since some call of a run began has the tables of settled commands: those that were settled at

@@ -1,0 +1,77 @@
+-- Replies that never come in a run.
+use Rattle.std.specs.Prelude.{◌≡◌, ◌||◌, ℕ, Bool, true, false, List, [], ◌∷◌, refl}
+use Rattle.std.specs.List.{list_any}
+use Rattle.std.proofs.Common.{sym, ◌∙◌}
+use Rattle.sector_dev.specs.Disk.{Story}
+use Rattle.commit.specs.declared.cause.Cause.{Cause}
+use Rattle.store.specs.declared.opening_refusal.OpeningRefusal.TheVariants as openings
+use Rattle.store.specs.Calls.{PlainCall, apply_call, format_call, open_call, close_call, tables_call, schema_call, read_call, export_call, PlainReply, shut_by}
+use Rattle.store.specs.Machine.{Setting, Machine}
+use Rattle.store.specs.Steps.{Step}
+use Rattle.store.specs.Runs.{Run}
+use Rattle.store.specs.History.{tells_damage, tells_no_store}
+use Rattle.store.specs.laws.Settled.{one_step}
+
+none_of_two : (a b : Bool) → a ≡ false → b ≡ false → (a || b) ≡ false
+none_of_two false b first others = others
+none_of_two true b first others = absurd (cc first)
+
+-- ---- damage
+
+no_damage : (s : Setting) (m : Machine) (call : PlainCall) (cause : Cause) (wrote : Bool) (next : Machine) → Step s m call (shut_by (openings.Damaged cause)) wrote next → ⊥
+unfolding Step
+no_damage s m (apply_call c) cause wrote next step = step
+no_damage s m format_call cause wrote next step = step
+no_damage s m open_call cause wrote next step = step
+no_damage s m close_call cause wrote next step = step
+no_damage s m tables_call cause wrote next step = step
+no_damage s m (schema_call name) cause wrote next step = step
+no_damage s m (read_call name) cause wrote next step = step
+no_damage s m (export_call name) cause wrote next step = step
+
+sound_reply : (s : Setting) (m : Machine) (call : PlainCall) (reply : PlainReply) (wrote : Bool) (next : Machine) → Step s m call reply wrote next → tells_damage reply ≡ false
+sound_reply s m call (shut_by (openings.Damaged cause)) wrote next step = absurd (no_damage s m call cause wrote next step)
+sound_reply s m call _ wrote next step = refl
+
+pub tells_none_damaged : (s : Setting) (calls : List PlainCall) (replies : List PlainReply) (m : Machine) (old : Story) (failed : ℕ) (m' : Machine) (new : Story) (failed' : ℕ)
+    → Run s calls replies m old failed m' new failed' → list_any tells_damage replies ≡ false
+unfolding Run
+tells_none_damaged s [] [] m old failed m' new failed' run = refl
+tells_none_damaged s (call ∷ calls) (reply ∷ replies) m old failed m' new failed' run =
+    none_of_two (tells_damage reply) (list_any tells_damage replies) (sound_reply s m call reply _ run.machine run.goes.step)
+    (tells_none_damaged s calls replies run.machine run.story run.failures m' new failed' run.others)
+tells_none_damaged s [] (reply ∷ replies) m old failed m' new failed' run = absurd run
+tells_none_damaged s (call ∷ calls) [] m old failed m' new failed' run = absurd run
+
+-- ---- no store
+
+early : (s : Setting) (m : Machine) (call : PlainCall) (wrote : Bool) (next : Machine) → Step s m call (shut_by openings.NotAStore) wrote next → m.started ≡ false
+unfolding Step
+early s m (apply_call c) wrote next step = absurd step
+early s m format_call wrote next step = absurd step
+early s m open_call wrote next step = step.0
+early s m close_call wrote next step = absurd step
+early s m tables_call wrote next step = absurd step
+early s m (schema_call name) wrote next step = absurd step
+early s m (read_call name) wrote next step = absurd step
+early s m (export_call name) wrote next step = absurd step
+
+started_reply : (s : Setting) (m : Machine) (call : PlainCall) (reply : PlainReply) (wrote : Bool) (next : Machine) → m.started ≡ true → Step s m call reply wrote next → tells_no_store reply ≡ false
+started_reply s m call (shut_by openings.NotAStore) wrote next started step = let both : true ≡ false = sym started ∙ early s m call wrote next step in absurd (cc both)
+started_reply s m call _ wrote next started step = refl
+
+-- a run that has started stays so
+true_unless : (a b : Bool) → a ≡ true → (b ≡ false → a ≡ false) → b ≡ true
+true_unless a true is back = refl
+true_unless a false is back = let both : true ≡ false = sym is ∙ back refl in absurd (cc both)
+
+pub tells_a_store : (s : Setting) (calls : List PlainCall) (replies : List PlainReply) (m : Machine) (old : Story) (failed : ℕ) (m' : Machine) (new : Story) (failed' : ℕ)
+    → Run s calls replies m old failed m' new failed' → m.started ≡ true → list_any tells_no_store replies ≡ false
+unfolding Run
+tells_a_store s [] [] m old failed m' new failed' run started = refl
+tells_a_store s (call ∷ calls) (reply ∷ replies) m old failed m' new failed' run started =
+    let moves = one_step s m call reply _ run.machine run.goes.step in
+    none_of_two (tells_no_store reply) (list_any tells_no_store replies) (started_reply s m call reply _ run.machine started run.goes.step)
+    (tells_a_store s calls replies run.machine run.story run.failures m' new failed' run.others (true_unless m.started run.machine.started started (λ no. (moves.starts no).0)))
+tells_a_store s [] (reply ∷ replies) m old failed m' new failed' run started = absurd run
+tells_a_store s (call ∷ calls) [] m old failed m' new failed' run started = absurd run
