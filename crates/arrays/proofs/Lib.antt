@@ -21,3 +21,6 @@ pub mod KnownRead
 pub mod KnownBatches
 pub mod DictionaryRead
 pub mod DictionaryFound
+pub mod RowsFit
+pub mod RowsNamed
+pub mod RowsRead

@@ -4,4 +4,5 @@ pub mod DictionaryColumns
 pub mod Entries
 pub mod Known
 pub mod Placed
+pub mod Bytes
 pub mod inner

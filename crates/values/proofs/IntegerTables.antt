@@ -22,7 +22,7 @@ use Rattle.values.specs.IntegerRows.{AllBytes}
 use Rattle.cells.specs.Row.{is_row}
 use Rattle.values.specs.Table.{IsTable}
 use Rattle.cells.specs.Weight.{weight, kind_weight, parts_weight, first_part, other_parts, row_weight, table_weight}
-use Rattle.values.proofs.RangeLemmas.{integer_fits}
+use Rattle.cells.specs.laws.Ranges.{integer_fits}
 
 -- ---- each cell fits its column
 

@@ -2,7 +2,6 @@ mod RowLemmas
 mod AcceptLemmas
 mod TableLemmas
 mod TableLaws
-mod RangeLemmas
 mod IntegerRows
 mod IntegerTables
 mod ContentLemmas
