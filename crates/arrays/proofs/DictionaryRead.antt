@@ -1,10 +1,10 @@
 -- What is answered of a dictionary batch.
 use Rattle.std.specs.Prelude.{option_map}
-use Rattle.std.specs.List.{list_any, list_all}
+use Rattle.std.specs.List.{list_any}
 use Rattle.std.proofs.Common.{◌≡◌, ℕ, Bool, true, false, List, [], ◌∷◌, length, get_or, ◌<◌, Option, Some, None, Result, Ok, Err, refl, sym, ap, arith, ◌∙◌, subst}
 use Rattle.facts.specs.Checks.{when, first_some, unless}
 use Rattle.facts.specs.laws.Checks.{unless_passed, first_some-after, first_some-before}
-use Rattle.arrow_schema.specs.Column.{Column, nulls, booleans, integers, dates, timestamps, texts, large_texts, binaries, large_binaries, fixed_binaries, lists, large_lists, fixed_lists, structs, column, columns_of}
+use Rattle.arrow_schema.specs.Column.{Column, columns_of}
 use Rattle.ipc_message.specs.declared.fault.Fault.{Fault}
 use Rattle.ipc_message.specs.declared.fault.Fault.TheVariants.{NotUtf8, DictionaryId, DeltaWithoutBase}
 use Rattle.ipc_message.specs.declared.error.ImportError.{ImportError}

@@ -1,5 +1,5 @@
 -- What is read of a dictionary batch is readable, and so is what is in effect after batches that are.
-use Rattle.std.specs.Prelude.{not, ◌&&◌, ◌==◌, option_map, if◌then◌else◌}
+use Rattle.std.specs.Prelude.{not, ◌==◌, option_map, if◌then◌else◌}
 use Rattle.std.specs.List.{list_any, list_all, range_with_len, AllByRecursion}
 use Rattle.std.proofs.Common.{◌≡◌, ℕ, Bool, true, false, List, [], ◌∷◌, ◌++◌, map, Option, Some, None, Ok, refl, sym, ap, subst, ◌∙◌}
 use Rattle.std.proofs.lemmas.Bool.{and_parts, or_parts, eqb-true, not-false}
@@ -19,7 +19,7 @@ use Rattle.dictionary.specs.InEffect.{DictionaryBatch, has_id, after_batch, afte
 use Rattle.arrays.specs.Checks.{plain_node, buffer_bytes, array_checks, arrays_read}
 use Rattle.arrays.specs.Dictionaries.{DictionaryColumn, column_of_id, alone, entries_in, entry_checks, dictionary_checks, dictionary_read, read_with, batch_with, has_no_base, dictionaries_after}
 use Rattle.arrays.specs.Known.{is_readable, are_readable, is_readable_for, is_readable_batch, IsAsFirst}
-use Rattle.arrays.specs.inner.VisibleSpans.{any_slot, any_visible, any_below, any_part}
+use Rattle.arrays.specs.inner.VisibleSpans.{any_slot, any_visible, any_below}
 use Rattle.arrays.proofs.BatchRead.{passed, read_sound, read_lengths}
 use Rattle.arrays.proofs.KnownRead.{known_sound, none_known}
 use Rattle.arrays.proofs.RowWeights.{any_row}

@@ -1,22 +1,22 @@
 -- Where what is known of dictionaries is readable, so are the dictionaries of the arrays of a batch.
-use Rattle.std.specs.Prelude.{not, ◌&&◌, ◌||◌}
-use Rattle.std.specs.List.{list_any, list_all, flat_map, range_with_len}
-use Rattle.std.proofs.Common.{◌≡◌, ℕ, zero, suc, ◌+◌, Bool, true, false, List, [], ◌∷◌, ◌++◌, length, map, drop, get_or, Some, None, refl, sym, ap, ◌∙◌}
-use Rattle.std.proofs.lemmas.Bool.{and_parts, or_from, not-true}
+use Rattle.std.specs.Prelude.{not}
+use Rattle.std.specs.List.{list_any, list_all, flat_map}
+use Rattle.std.proofs.Common.{◌≡◌, ℕ, zero, suc, ◌+◌, Bool, true, false, List, [], ◌∷◌, ◌++◌, length, map, drop, Some, None, refl, sym, ap, ◌∙◌}
+use Rattle.std.proofs.lemmas.Bool.{and_parts}
 use Rattle.std.proofs.lemmas.Grind.{flat_map-append}
 use Rattle.std.proofs.lemmas.List.{append-nil, length-append}
 use Rattle.std.proofs.lemmas.List.Folds.{list_all-append, list_any-append}
 use Rattle.arrow_schema.specs.Column.{Pair, Index, Kind, Column, Columns, nulls, booleans, integers, dates, timestamps, texts, large_texts, binaries, large_binaries, fixed_binaries, lists, large_lists, fixed_lists, structs, column, no_column, and_column}
-use Rattle.columns.specs.Array.{Array, Arrays, array_list, arrays_of, empty_array, no_array, slots_in, items_in, children_in, dictionary_in}
-use Rattle.columns.specs.Buffers.{Node, dictionary_arrays, dictionaries_of, value_column}
-use Rattle.columns.specs.CellAt.{cell_at, cells_in, cells_from, entries_of_kind, unless_null, kind_cell}
+use Rattle.columns.specs.Array.{Array, Arrays, array_list, arrays_of, empty_array, no_array, slots_in, dictionary_in}
+use Rattle.columns.specs.Buffers.{Node, dictionary_arrays, dictionaries_of}
+use Rattle.columns.specs.CellAt.{cell_at, cells_from, entries_of_kind, unless_null, kind_cell}
 use Rattle.columns.specs.FromBuffers.{array_from, kind_array_from, arrays_from, own_index, node_count, buffer_count, dictionary_count}
 use Rattle.columns.specs.Sound.{is_sound}
 use Rattle.columns.specs.Tests.{Typed, typed, arrays_at, arrays_below, every_array}
 use Rattle.columns.specs.Visible.{is_bad_text}
 use Rattle.columns.specs.laws.Places.{listed}
 use Rattle.columns.specs.laws.Sounds.{is_typed_sound}
-use Rattle.arrays.specs.Entries.{has_bad_entries, has_bad_entry}
+use Rattle.arrays.specs.Entries.{has_bad_entry}
 use Rattle.arrays.specs.Known.{is_readable, are_readable, own_values, values_in, dictionary_values}
 
 off : (b : Bool) → not b ≡ true → b ≡ false

@@ -1,32 +1,31 @@
 -- The cells of arrays of which no test of slots finds anything fit their columns.
-use Rattle.std.specs.Prelude.{ℤ, pos, negsuc, not, ◌&&◌, ◌||◌, ◌==◌, nat_lt, nat_le, slice_index, if◌then◌else◌}
+use Rattle.std.specs.Prelude.{ℤ, pos, negsuc, not, ◌&&◌, ◌==◌, nat_lt, nat_le, slice_index, if◌then◌else◌}
 use Rattle.std.specs.List.{list_any, list_all, flat_map, range_with_len}
 use Rattle.std.specs.Str.{is_utf8}
-use Rattle.std.proofs.Common.{◌≡◌, ℕ, zero, suc, ◌+◌, ◌-◌, ◌*◌, ◌/◌, ◌^◌, ◌≤◌, ◌<◌, Bool, true, false, List, [], ◌∷◌, ◌++◌, map, length, take, drop, get_or, Some, None, refl, sym, ap, subst, arith, ◌∙◌, length-take, length-drop}
-use Rattle.std.proofs.lemmas.Bool.{and_parts, and_from, or_parts, or_from, lt-ltb, ltb-true, leb-true, ltb-false, not-false}
+use Rattle.std.proofs.Common.{◌≡◌, ℕ, zero, suc, ◌+◌, ◌*◌, ◌/◌, ◌^◌, ◌≤◌, ◌<◌, Bool, true, false, List, [], ◌∷◌, ◌++◌, map, length, take, drop, get_or, Some, None, refl, sym, subst, arith, ◌∙◌, length-take, length-drop}
+use Rattle.std.proofs.lemmas.Bool.{and_parts, and_from, or_parts, or_from, ltb-true, leb-true, ltb-false}
 use Rattle.std.proofs.lemmas.Bool.Decides.{nat_tests}
 use Rattle.std.proofs.Math.Nat.{mul-le-mul_right}
 use Rattle.std.proofs.lemmas.List.Folds.{list_any-append, list_all-append}
 use Rattle.std.proofs.lemmas.List.Sums.{list_all-from_AllPass}
-use Rattle.byteorder.specs.Endian.{little_number}
 use Rattle.byteorder.specs.Numbers.{little_from-lt}
-use Rattle.arrow_schema.specs.Column.{is_bit_width, DateKind, days, date_milliseconds, Index, Pair, Kind, Column, Columns, nulls, booleans, integers, dates, timestamps, texts, large_texts, binaries, large_binaries, fixed_binaries, lists, large_lists, fixed_lists, structs, column, no_column, and_column, columns_of, PlainSchema}
+use Rattle.arrow_schema.specs.Column.{is_bit_width, DateKind, days, date_milliseconds, Kind, Column, Columns, nulls, booleans, integers, dates, timestamps, texts, large_texts, binaries, large_binaries, fixed_binaries, lists, large_lists, fixed_lists, structs, column, no_column, and_column, columns_of, PlainSchema}
 use Rattle.arrow_schema.specs.Limits.{IsWithinLimits, is_nested, is_kind_of_width, has_flat_dictionary, has_bit_widths}
 use Rattle.arrow_schema.specs.Preorder.{preorder, preorder_below, preorder_all, every_column}
-use Rattle.cells.specs.Cell.{Cell, Cells, null, boolean, number, text, bytes, items, parts, cells_of, cell_list, no_cell, and_cell}
+use Rattle.cells.specs.Cell.{Cell, Cells, null, boolean, number, text, bytes, items, parts, cells_of}
 use Rattle.cells.specs.Fit.{in_range, date_bits, all_cells, count_of, null_or, fits, fits_kind, each_fits}
 use Rattle.cells.specs.Nulls.{is_null}
 use Rattle.cells.specs.Row.{row_fits}
 use Rattle.cells.specs.laws.Cells.{cells_list}
 use Rattle.cells.specs.laws.Ranges.{integer_fits}
-use Rattle.columns.specs.Array.{Array, Arrays, Layout, array, no_array, and_array, null_layout, bit_layout, fixed_layout, binary_layout, list_layout, fixed_list_layout, struct_layout, dictionary_layout, slots_in, values_in, items_in, children_in, dictionary_in, indices_in, contents_in, array_list, first_array, other_arrays}
-use Rattle.columns.specs.CellAt.{is_valid, number_at, integer_at, contents_at, value_at, span_start, span_size, cells_from, unless_null, entries_by, entries_of_kind, entry_at, index_at, cell_at, kind_cell, part_cells, rows_in, row_at}
-use Rattle.columns.specs.Sound.{is_sound, is_sound_by, is_kind_sound, has_sound_children, are_sound}
-use Rattle.columns.specs.Tests.{Typed, typed, arrays_at, arrays_below, every_array, are_few, are_unordered, has_short_validity}
-use Rattle.columns.specs.Visible.{Slot, slot, visible, visible_below, visible_parts, visible_in, cell_of, is_bad_text, is_no_text, is_forbidden, names_no_entry}
+use Rattle.columns.specs.Array.{Array, Arrays, array, no_array, and_array, null_layout, bit_layout, fixed_layout, binary_layout, list_layout, fixed_list_layout, struct_layout, dictionary_layout, slots_in, values_in, items_in, children_in, dictionary_in, indices_in, array_list, first_array, other_arrays}
+use Rattle.columns.specs.CellAt.{is_valid, number_at, integer_at, contents_at, value_at, span_start, span_size, cells_from, unless_null, entries_of_kind, entry_at, index_at, cell_at, kind_cell, part_cells, rows_in, row_at}
+use Rattle.columns.specs.Sound.{is_sound, is_kind_sound, has_sound_children, are_sound}
+use Rattle.columns.specs.Tests.{arrays_at, arrays_below, every_array, are_few, are_unordered, has_short_validity}
+use Rattle.columns.specs.Visible.{Slot, slot, visible, visible_below, visible_parts, visible_in, is_bad_text, is_no_text, is_forbidden}
 use Rattle.columns.specs.laws.Offsets.{spans_fit}
 use Rattle.columns.specs.laws.SoundParts.{sound_buffer, sound_offsets, sound_children}
-use Rattle.arrays.specs.Bytes.{are_bytes, has_bytes, has_layout_bytes, have_bytes}
+use Rattle.arrays.specs.Bytes.{are_bytes, has_bytes, have_bytes}
 use Rattle.arrays.specs.Entries.{has_bad_entry}
 
 -- ---- the tests of some slots

@@ -4,7 +4,7 @@ use Rattle.std.specs.List.{list_any, list_all, flat_map, range_with_len}
 use Rattle.std.specs.List.{IsDistinct}
 use Rattle.std.specs.Cmp.{nat_eq_equiv}
 use Rattle.std.proofs.Common.{◌≡◌, ◌⊎◌, inl, inr, ℕ, zero, suc, ◌+◌, ◌-◌, ◌*◌, ◌/◌, ◌^◌, ◌≤◌, ◌<◌, Bool, true, false, List, [], ◌∷◌, ◌++◌, map, length, drop, get_or, Option, Some, None, refl, sym, ap, subst, arith, ◌∙◌}
-use Rattle.std.proofs.lemmas.Bool.{and_parts, and_from, or_parts, or_from, leb-true, le-leb, eqb-true}
+use Rattle.std.proofs.lemmas.Bool.{and_parts, and_from, or_parts, or_from, le-leb, eqb-true}
 use Rattle.std.proofs.lemmas.Bool.Decides.{Decides-int_eq}
 use Rattle.std.proofs.lemmas.Int.{ints}
 use Rattle.std.proofs.lemmas.List.{length-map, map-append}
@@ -15,12 +15,12 @@ use Rattle.std.proofs.lemmas.Slice.Eq.{bytes_eq-Decides}
 use Rattle.arrow_schema.specs.Column.{is_bit_width, Index, Pair, Kind, Column, Columns, nulls, booleans, integers, dates, timestamps, texts, large_texts, binaries, large_binaries, fixed_binaries, lists, large_lists, fixed_lists, structs, column, no_column, and_column, columns_of, PlainSchema}
 use Rattle.arrow_schema.specs.Limits.{IsWithinLimits, is_nested, is_kind_of_width, has_flat_dictionary, has_bit_widths}
 use Rattle.arrow_schema.specs.Preorder.{preorder, preorder_below, preorder_all}
-use Rattle.cells.specs.Cell.{Cell, Cells, null, boolean, number, text, bytes, items, parts, cells_of, cell_list, no_cell, and_cell}
-use Rattle.cells.specs.Dictionary.{Holding, item_list, part_list, cells_at, holdings, holdings_below, holdings_from, entry_in, is_entry, with_new, with_option, with_entry, with_entries, entries_of, has_few_entries, is_within, entry_limit, dictionaries_fit}
+use Rattle.cells.specs.Cell.{Cell, null, boolean, number, text, bytes, items, parts, cells_of, cell_list}
+use Rattle.cells.specs.Dictionary.{Holding, item_list, part_list, cells_at, holdings, holdings_below, holdings_from, entry_in, is_entry, with_new, with_entry, with_entries, entries_of, has_few_entries, is_within, entry_limit, dictionaries_fit}
 use Rattle.cells.specs.Fit.{in_range}
 use Rattle.cells.specs.laws.Ranges.{integer_fits}
 use Rattle.columns.specs.Array.{Array, Arrays, items_in, children_in, dictionary_in, indices_in, first_array, other_arrays}
-use Rattle.columns.specs.CellAt.{is_valid, number_at, integer_at, span_start, span_size, cells_from, unless_null, entries_of_kind, entry_at, index_at, cell_at, kind_cell, part_cells, rows_in, row_at}
+use Rattle.columns.specs.CellAt.{is_valid, number_at, span_start, span_size, cells_from, entries_of_kind, entry_at, index_at, cell_at, kind_cell, part_cells, rows_in, row_at}
 use Rattle.arrays.specs.Bytes.{are_bytes, has_bytes, have_bytes}
 use Rattle.arrays.proofs.RowsFit.{AreSound, sound_columns, front_sound, rest_sound, not_set, small_number, items_bytes, children_bytes, dictionary_bytes, first_bytes}
 

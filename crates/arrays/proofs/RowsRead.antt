@@ -1,12 +1,12 @@
 -- The rows of a record batch that was read are rows of its schema.
-use Rattle.std.specs.Prelude.{not, ◌&&◌, ◌||◌, nat_lt, nat_le, ◌/◌}
+use Rattle.std.specs.Prelude.{◌||◌, nat_lt, nat_le}
 use Rattle.std.specs.List.{list_any, list_all, AllPass}
-use Rattle.std.proofs.Common.{◌≡◌, ℕ, zero, suc, ◌+◌, ◌≤◌, Bool, true, false, List, [], ◌∷◌, ◌++◌, map, take, drop, get_or, Some, None, Ok, refl, sym, ap, subst, arith, ◌∙◌}
+use Rattle.std.proofs.Common.{◌≡◌, ℕ, zero, suc, ◌+◌, ◌≤◌, Bool, true, false, List, [], ◌∷◌, ◌++◌, map, take, drop, get_or, Some, None, Ok, refl, ap, subst}
 use Rattle.std.proofs.lemmas.Bool.{and_parts, and_from, or_parts, ltb-false, le-leb}
 use Rattle.std.proofs.lemmas.List.Sums.{AllPass-from_list_all}
 use Rattle.facts.specs.Checks.{when, first_some, unless}
 use Rattle.facts.specs.laws.Checks.{unless_passed, first_some-both}
-use Rattle.arrow_schema.specs.Column.{Index, Kind, Column, Columns, nulls, booleans, integers, dates, timestamps, texts, large_texts, binaries, large_binaries, fixed_binaries, lists, large_lists, fixed_lists, structs, column, no_column, and_column, columns_of, PlainSchema}
+use Rattle.arrow_schema.specs.Column.{Kind, Column, Columns, nulls, booleans, integers, dates, timestamps, texts, large_texts, binaries, large_binaries, fixed_binaries, lists, large_lists, fixed_lists, structs, column, no_column, and_column, columns_of, PlainSchema}
 use Rattle.arrow_schema.specs.Limits.{IsWithinLimits}
 use Rattle.cells.specs.declared.limits.TheConstants.{MAX_ROW_WEIGHT, MAX_TABLE_WEIGHT}
 use Rattle.cells.specs.Cell.{Cell}
@@ -15,15 +15,13 @@ use Rattle.cells.specs.Row.{row_fits, is_row}
 use Rattle.cells.specs.Weight.{row_weight, table_weight}
 use Rattle.ipc_message.specs.declared.fault.Fault.{Fault}
 use Rattle.ipc_message.specs.Raw.{RawBuffer, RawBatch}
-use Rattle.columns.specs.Array.{Array, Arrays, array, arrays_of, dictionary_layout}
+use Rattle.columns.specs.Array.{Array, Arrays, arrays_of}
 use Rattle.columns.specs.Buffers.{Node}
 use Rattle.columns.specs.CellAt.{rows_in}
-use Rattle.columns.specs.FromBuffers.{array_from, kind_array_from, arrays_from, node_count, buffer_count, dictionary_count, buffer_at}
-use Rattle.columns.specs.Tests.{every_array}
+use Rattle.columns.specs.FromBuffers.{array_from, kind_array_from, arrays_from, node_count, buffer_count, dictionary_count}
 use Rattle.columns.specs.Visible.{visible_in, is_no_text, is_forbidden, names_no_entry}
 use Rattle.arrays.specs.Bytes.{are_bytes, has_bytes, have_bytes}
 use Rattle.arrays.specs.Checks.{plain_node, buffer_bytes, batch_arrays, array_checks, arrays_read, slot_checks, batch_checks, batch_read, batch_weight}
-use Rattle.arrays.specs.Entries.{has_bad_entry}
 use Rattle.arrays.specs.Known.{are_readable, dictionary_values}
 use Rattle.arrays.proofs.BatchRead.{read_sound}
 use Rattle.arrays.proofs.KnownRead.{known_sound, known_texts}

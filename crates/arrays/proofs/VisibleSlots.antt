@@ -1,8 +1,8 @@
 -- What is asked of a visible slot itself.
-use Rattle.std.specs.Prelude.{◌||◌, ◌&&◌, not, ◌==◌, nat_lt, option_map, if◌then◌else◌}
+use Rattle.std.specs.Prelude.{◌||◌, ◌&&◌, not, ◌==◌, nat_lt, if◌then◌else◌}
 use Rattle.std.specs.List.{list_all, list_any, range_with_len}
 use Rattle.std.specs.Str.{is_utf8}
-use Rattle.std.proofs.Common.{◌≡◌, ℕ, zero, suc, ◌/◌, Option, Bool, true, false, List, length, Some, None, refl, arith, sym, ap, ◌∙◌}
+use Rattle.std.proofs.Common.{◌≡◌, ℕ, zero, suc, ◌/◌, Bool, true, false, List, length, Some, None, refl, arith, sym, ap, ◌∙◌}
 use Rattle.std.proofs.lemmas.Bool.{and_parts}
 use Rattle.std.proofs.lemmas.Bool.Decides.{nat_tests}
 use Rattle.std.proofs.lemmas.List.FromFn.{length-range_with_len}
@@ -10,10 +10,7 @@ use Rattle.arrow_schema.specs.Parts.{is_nullable_column, kind_of_column, index_o
 use Rattle.arrays.proofs.Ranges.{any-none, any-fewer}
 use Rattle.bitmap.specs.Bits.{bit, count_of}
 use Rattle.arrow_schema.specs.declared.types.DictSpec.{DictSpec}
-use Rattle.arrow_schema.specs.declared.types.DataType.{DataType}
-use Rattle.arrow_schema.specs.declared.types.Field.{Field, out-Field}
-use Rattle.arrow_schema.specs.declared.types.DataType.TheFolds.{fold_out-Field}
-use Rattle.arrow_schema.specs.View.{column_of, kind_of, index_of, kind_step, column_step}
+use Rattle.arrow_schema.specs.View.{index_of}
 use Rattle.arrow_schema.specs.Column.{Index, Column, column, Kind, nulls, booleans, integers, dates, timestamps, texts, large_texts, binaries, large_binaries, fixed_binaries, lists, large_lists, fixed_lists, structs}
 use Rattle.cells.specs.Cell.{Cell, null, text}
 use Rattle.columns.specs.declared.numbers.OffsetWidth.{OffsetWidth}

@@ -1,5 +1,5 @@
 -- What is known of dictionaries when a batch is read: arrays of their values that can be looked up, and whose texts are UTF-8.
-use Rattle.std.specs.Prelude.{◌≡◌, ℕ, Bool, true, false, not, ◌&&◌, List, [], ◌∷◌, Option, Some, None, option_map}
+use Rattle.std.specs.Prelude.{◌≡◌, Bool, true, false, not, ◌&&◌, List, [], ◌∷◌, Option, Some, None, option_map}
 use Rattle.std.specs.List.{list_all, list_any, flat_map, AllByRecursion}
 use Rattle.arrow_schema.specs.Column.{Column, Columns, column}
 use Rattle.columns.specs.Array.{Array, no_array}
