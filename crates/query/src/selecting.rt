@@ -1,14 +1,16 @@
 // The selection of a table.
 ghost use Rattle.std.specs.Prelude.{◌≡◌, ◌≤◌, ◌<◌, ◌+◌, ◌*◌, ◌++◌, ◌&&◌, ℕ, Ok, Some, IfOk, IfErr, OnOk, map, filter, take, length, nat_lt, slice_get, string_bytes, slice_index_or, replicate, true, false, []};
 ghost use Rattle.std.specs.List.{flat_map, list_all, range_with_len};
-ghost use Rattle.arrow_schema.specs.Limits.{IsWithinLimits};
 ghost use Rattle.arrow_schema.specs.View.{column_of, schema_of, pair_of};
 ghost use Rattle.bitmap.specs.Bits.{bit, bytes_of};
 ghost use Rattle.cells.specs.View.{cell};
 ghost use Rattle.values.specs.Borrowed.{borrowed_cells};
+ghost use Rattle.values.specs.Rows.{table_in};
+ghost use Rattle.values.specs.Table.{IsTable};
 ghost use Rattle.values.specs.TableView.{table_of};
+ghost use Rattle.query.specs.declared.errors.QueryError.TheVariants.{OutOfMemory};
 ghost use Rattle.query.specs.Bound.{bound, holds};
-ghost use Rattle.query.specs.Selection.{pick, chosen, all_ok, limited, holds_all, selected, selection};
+ghost use Rattle.query.specs.Selection.{pick, chosen, all_ok, limited, holds_all, is_distinct, selected, selection};
 ghost use Rattle.query.specs.View.{condition_in, query_in, Reports, Unchosen};
 ghost use Rattle.query.specs.inner.BoundView.{bound_in};
 ghost use Rattle.query.specs.inner.Masks.{IsMask};
@@ -195,6 +197,39 @@ fn pick_schema(alloc: Global, schema: &Schema, places: &[usize]) -> Result<Schem
     Ok(picked)
 }
 
+// The table of cells that are those of a table's rows.
+fn table_of_kept(alloc: Global, schema: Schema, kept: Kept) -> Result<Table, QueryError>
+    requires filled { length kept.cells.items ≡ length schema.fields.items * kept.rows }
+    requires table { IsTable (table_in schema kept.rows kept.cells.items) }
+    ensures ok { IfOk result (λ t. table_of t ≡ table_in schema kept.rows kept.cells.items) }
+    ensures refused { IfErr result (λ e. e ≡ OutOfMemory) }
+{
+    accepted_rows_are_a_table();
+    match Table::from_cells(alloc, schema, kept.cells, kept.rows) {
+        Ok(table) => Ok(table),
+        Err(TableError::OutOfMemory) => Err(QueryError::OutOfMemory),
+        Err(TableError::Unfit(_)) => unreachable!(),
+        Err(TableError::Weight) => unreachable!(),
+    }
+}
+
+// The rows of which all conditions hold, then the columns at these places, then the first rows.
+fn select_bound(
+    alloc: Global,
+    table: &Table,
+    places: &[usize],
+    bounds: &[Bound],
+    limit: Option<u64>,
+) -> Result<Table, QueryError>
+    requires { is_distinct places.now ≡ true }
+    ensures ok { IfOk result (λ t. table_of t ≡ selected places.now (map bound_in bounds.now) limit (table_of table.now)) }
+    ensures refused { IfErr result (λ e. e ≡ OutOfMemory) }
+{
+    let kept = keep_rows(alloc, table, places, bounds, limit)?;
+    let schema = pick_schema(alloc, table.schema(), places)?;
+    table_of_kept(alloc, schema, kept)
+}
+
 /// The rows of a table of which all conditions hold, then the columns asked for, then the first rows; or the first reason
 /// why the query is refused: the columns asked for are looked at first, and then the conditions in order.
 pub fn select(alloc: Global, table: &Table, query: &Query) -> Result<Table, QueryError>
@@ -204,13 +239,5 @@ pub fn select(alloc: Global, table: &Table, query: &Query) -> Result<Table, Quer
     let schema = table.schema();
     let places = choose(alloc, &schema.fields, &query.columns)?;
     let bounds = bind_all(alloc, &schema.fields, &query.conditions)?;
-    let kept = keep_rows(alloc, table, &places, &bounds, query.limit)?;
-    let schema = pick_schema(alloc, schema, &places)?;
-    accepted_rows_are_a_table();
-    match Table::from_cells(alloc, schema, kept.cells, kept.rows) {
-        Ok(selection) => Ok(selection),
-        Err(TableError::OutOfMemory) => Err(QueryError::OutOfMemory),
-        Err(TableError::Unfit(_)) => unreachable!(),
-        Err(TableError::Weight) => unreachable!(),
-    }
+    select_bound(alloc, table, &places, &bounds, query.limit)
 }
