@@ -15,6 +15,7 @@ pub mod VisibleSpans
 pub mod VisibleSlots
 pub mod VisibleTexts
 pub mod VisibleUtf8
+pub mod MayFind
 pub mod Ranges
 pub mod BatchRead
 pub mod KnownRead

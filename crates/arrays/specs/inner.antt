@@ -4,3 +4,4 @@ pub mod Read
 pub mod Counted
 pub mod Weights
 pub mod VisibleSpans
+pub mod MayFind

@@ -192,7 +192,8 @@ fn items_weight(
     requires some { 0 < count }
     requires within { from + count ≤ slots_in (view_array view) }
     ensures lists { width_of width ≡ 4 → result ≡ capped_weight (valid_weight (lists (column_of item.now)) (view_array view.entry) from count) }
-    ensures large_lists { width_of width ≡ 8 → result ≡ capped_weight (valid_weight (large_lists (column_of item.now)) (view_array view.entry) from count) }
+    ensures large_lists { width_of width ≡ 8
+        → result ≡ capped_weight (valid_weight (large_lists (column_of item.now)) (view_array view.entry) from count) }
 {
     let span = view.spanned(width, from, count);
     let items = span_weight(item, view.items_or(none), span.start, span.len, none);

@@ -12,6 +12,7 @@ ghost use Rattle.arrays.specs.inner.VisibleSpans.{any_slot, any_visible, any_val
 
 use crate::runs::run_to;
 use crate::visible::indices::any_past_entry;
+use crate::visible::may_find::may_find_below;
 use crate::visible::nulls::any_forbidden;
 use crate::visible::slot_test::SlotTest;
 use crate::visible::texts::any_bad_text;
@@ -56,6 +57,10 @@ fn any_visible(
         return true;
     }
     if !has_below(field) {
+        return false;
+    }
+    // by the type alone, so that no run is gone through in vain
+    if !may_find_below(test, &field.data_type) {
         return false;
     }
     // a number of the code is below 2^64, so that the end is too
@@ -122,7 +127,8 @@ fn any_item(
     requires some { 0 < count }
     requires within { from + count ≤ slots_in (view_array view) }
     ensures lists { width_of width ≡ 4 → result ≡ any_valid_below (finds test) (lists (column_of item.now)) (view_array view.entry) from count }
-    ensures large_lists { width_of width ≡ 8 → result ≡ any_valid_below (finds test) (large_lists (column_of item.now)) (view_array view.entry) from count }
+    ensures large_lists { width_of width ≡ 8
+        → result ≡ any_valid_below (finds test) (large_lists (column_of item.now)) (view_array view.entry) from count }
 {
     let items = view.spanned(width, from, count);
     any_visible(

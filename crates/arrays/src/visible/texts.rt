@@ -57,7 +57,7 @@ fn any_not_utf8(width: OffsetWidth, view: ArrayView<'_>, from: usize, count: usi
 }
 
 // How wide the offsets of texts are.
-fn text_width(data_type: &DataType) -> Option<OffsetWidth>
+pub(crate) fn text_width(data_type: &DataType) -> Option<OffsetWidth>
     ensures { option_map width_of result ≡ text_width (kind_of data_type.now) }
 {
     match data_type {

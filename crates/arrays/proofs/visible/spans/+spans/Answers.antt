@@ -11,6 +11,7 @@ use Rattle.facts.specs.laws.Lists.{drop-item}
 use Rattle.arrays.proofs.SpanWeights.{fewer_sound, sound_next}
 use Rattle.arrays.proofs.VisibleSlots.{sound_slots}
 use Rattle.arrays.proofs.VisibleSpans.{own_found, own_not_found, nothing_below, null_run, valid_run, nested_kind, sound_kind, run_found, run_not_found, items_below, fixed_items_below, fixed_within, fields_below, column_found, column_not_found}
+use Rattle.arrays.proofs.MayFind.{none_in_span}
 use Rattle.arrays.proofs.visible.spans.+spans.Goals as goal
 use Rattle.arrays.proofs.visible.spans.+spans.Goals.{any_visible-else-valid-via-then-valid+else-any_valid_below, any_visible-else-valid-via-else-valid}
 
@@ -22,6 +23,11 @@ pub any_visible-returns-then-not-has_below : goal.any_visible-returns-then-not-h
 any_visible-returns-then-not-has_below t c =
     sym (own_not_found (finds c.args.test) (column_of c.args.field.now) (view_array c.args.view) c.args.from c.args.count (sym c.if-any_slot.ensures)
     ∙ nothing_below (finds c.args.test) (column_of c.args.field.now) (view_array c.args.view) c.args.from c.args.count (sym c.if-not-has_below.ensures))
+
+pub any_visible-returns-then-not-may_find_below : goal.any_visible-returns-then-not-may_find_below
+any_visible-returns-then-not-may_find_below t c =
+    sym (own_not_found (finds c.args.test) (column_of c.args.field.now) (view_array c.args.view) c.args.from c.args.count (sym c.if-any_slot.ensures)
+    ∙ none_in_span c.args.test c.args.field.now (view_array c.args.view) c.args.from c.args.count (sym c.if-not-may_find_below.ensures))
 
 pub any_visible-runs-init : goal.any_visible-runs-init
 any_visible-runs-init t c =
