@@ -46,6 +46,8 @@ memory: $(TESTS)
 vectors: bin/arrowstore crates/test_texts/out/test_texts
 	tests/program bin/arrowstore
 	tests/stores bin/arrowstore
+	tests/sessions bin/arrowstore tests/vectors/sessions_store
+	examples/killed bin/arrowstore
 	tests/metadata bin/arrowstore
 	tests/refused_memory bin/arrowstore
 	tests/run_vectors bin/arrowstore tests/vectors/ints

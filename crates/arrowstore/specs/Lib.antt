@@ -4,3 +4,4 @@ pub mod Reported
 pub mod Arguments
 pub mod StoreWords
 pub mod Printed
+pub mod Changing

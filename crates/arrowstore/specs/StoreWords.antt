@@ -3,12 +3,27 @@ use Rattle.std.specs.Prelude.{Bool, false, ◌||◌, List, [], ◌∷◌, codes}
 use Rattle.std.specs.Str.{bytes_eq}
 use Rattle.clap.specs.Words.{Text}
 
-abbrev pub is_store_word : Text → Bool
+-- those that read standard input
+abbrev pub takes_input_word : Text → Bool
+takes_input_word word = bytes_eq (codes "import") word || bytes_eq (codes "append") word
+
+-- those that change the tables
+unfoldable pub changes_word : Text → Bool
+changes_word word =
+    takes_input_word word || (bytes_eq (codes "create") word || (bytes_eq (codes "rename") word || bytes_eq (codes "drop") word))
+
+unfoldable pub is_store_word : Text → Bool
 is_store_word word =
-    bytes_eq (codes "format") word || (bytes_eq (codes "tables") word || bytes_eq (codes "schema") word)
+    changes_word word || (bytes_eq (codes "format") word || (bytes_eq (codes "tables") word || bytes_eq (codes "schema") word))
 
 -- the program's name, and a command of a store
 abbrev pub is_of_store : List Text → Bool
 is_of_store [] = false
 is_of_store (name ∷ []) = false
 is_of_store (name ∷ word ∷ rest) = is_store_word word
+
+-- the program's name, and one that reads standard input
+abbrev pub takes_input : List Text → Bool
+takes_input [] = false
+takes_input (name ∷ []) = false
+takes_input (name ∷ word ∷ rest) = takes_input_word word

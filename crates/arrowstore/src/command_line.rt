@@ -45,7 +45,9 @@ fn program<'a>(alloc: Global) -> Result<Command<'a>, AllocError>
     );
     Command::new(alloc, "arrowstore")
         .about("A crash-safe store of named tables in the Apache Arrow format")
-        .after_help("Commands of a store: format, tables, schema (arrowstore COMMAND --help)")
+        .after_help(
+            "Commands of a store: format, create, import, append, rename, drop, tables, schema (arrowstore COMMAND --help)",
+        )
         .subcommand_required(true)
         .subcommand(recode)
 }

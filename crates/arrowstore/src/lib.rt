@@ -9,7 +9,9 @@
 //! ```
 #![tactic(auto)]
 
+mod changing;
 mod command_line;
+mod creating;
 mod input;
 mod output;
 mod printing;
@@ -17,12 +19,15 @@ mod refusal;
 mod reports;
 mod running;
 mod status;
+mod store_command_line;
 mod store_commands;
 mod store_words;
 mod stream;
 mod unreadable;
 mod with_files;
 
+pub use changing::{append_input, apply_command, import_input};
+pub use creating::new_table;
 pub use input::{LARGEST_INPUT, read_at_most};
 pub use printing::{print_schema, print_tables};
 pub use refusal::Refusal;

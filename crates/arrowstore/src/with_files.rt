@@ -5,45 +5,74 @@ ghost use Rattle.ipc_message.specs.Header.{supported_codes};
 ghost use Rattle.ipc_stream.specs.Meaning.{meaning};
 ghost use Rattle.arrowstore.specs.Recode.{AppendsCanonical, IsTrueFault};
 ghost use Rattle.arrowstore.specs.Arguments.{AreRecode, AskForHelp};
-ghost use Rattle.arrowstore.specs.StoreWords.{is_of_store};
+ghost use Rattle.arrowstore.specs.StoreWords.{is_of_store, takes_input};
 ghost use Rattle.arrowstore.specs.declared.status.Status.TheVariants.{Done, WrongArguments};
 ghost use Rattle.arrowstore.specs.Reported.{refusal_line, IfRefused, IsRefused, IsWrong};
 
 use crate::reports::{end, report_arguments};
+use crate::store_command_line::request_of;
 use crate::store_commands::serve;
-use crate::store_words::{is_of_store, request_of};
+use crate::store_words::{is_of_store, takes_input};
 use crate::{Ended, LARGEST_INPUT, run};
+use sector_dev::LockFile;
 use std::convert::AsStr;
-use std::io::{Read, Write};
+use std::fs::OpenFile;
+use std::io::{self, Read, Seek, Write};
 use std::rt::Files;
 
-// A command of a store.
-fn run_on_store<H: Files + AllocGlobal, S: AsStr, W: Write, E: Write>(
-    rt: &H,
-    arguments: &[S],
-    output: &mut W,
-    errors: &mut E,
-) -> Ended
+// A command of a store, with the input that it may read.
+fn run_request<
+    F: Read + Write + Seek + OpenFile + LockFile + Drop,
+    H: Files<File = F> + AllocGlobal,
+    S: AsStr,
+    R: Read,
+    W: Write,
+    E: Write,
+>(rt: &H, arguments: &[S], input: &mut R, output: &mut W, errors: &mut E) -> Ended
     ensures silent { result.status ≡ Done → errors.new ≡ errors.old }
     ensures nothing_written { result.status ≡ WrongArguments → output.new ≡ output.old }
     ensures line { IfRefused result.status (λ refusal. IsTrue result.is_reported
         → Appends (E.contents errors.old) (E.contents errors.new) (refusal_line refusal)) }
 {
     match request_of(rt.alloc(), arguments) {
-        Ok(request) => end(serve(rt, &request, output), errors),
+        Ok(request) => end(serve(rt, &request, input, output), errors),
         Err(error) => report_arguments(&error, output, errors),
+    }
+}
+
+// A command of a store. The input is handed to those alone that read it.
+fn run_on_store<
+    F: Read + Write + Seek + OpenFile + LockFile + Drop,
+    H: Files<File = F> + AllocGlobal,
+    S: AsStr,
+    R: Read,
+    W: Write,
+    E: Write,
+>(rt: &H, arguments: &[S], input: &mut R, output: &mut W, errors: &mut E) -> Ended
+    ensures silent { result.status ≡ Done → errors.new ≡ errors.old }
+    ensures nothing_written { result.status ≡ WrongArguments → output.new ≡ output.old }
+    ensures input { (takes_input (map S.text arguments.now) ≡ true) ⊎ (input.new ≡ input.old) }
+    ensures line { IfRefused result.status (λ refusal. IsTrue result.is_reported
+        → Appends (E.contents errors.old) (E.contents errors.new) (refusal_line refusal)) }
+{
+    if takes_input(arguments) {
+        run_request(rt, arguments, input, output, errors)
+    } else {
+        run_request(rt, arguments, &mut io::empty(), output, errors)
     }
 }
 
 /// Does what the arguments ask for, of which the first is the program's name, also on the files of stores, and reports
 /// on `errors` why not.
-pub fn run_with_files<H: Files + AllocGlobal, S: AsStr, R: Read, W: Write, E: Write>(
-    rt: &H,
-    arguments: &[S],
-    input: &mut R,
-    output: &mut W,
-    errors: &mut E,
-) -> Ended
+#[tactic(auto, unfolding(crate::specs::StoreWords::is_store_word, crate::specs::StoreWords::changes_word))]
+pub fn run_with_files<
+    F: Read + Write + Seek + OpenFile + LockFile + Drop,
+    H: Files<File = F> + AllocGlobal,
+    S: AsStr,
+    R: Read,
+    W: Write,
+    E: Write,
+>(rt: &H, arguments: &[S], input: &mut R, output: &mut W, errors: &mut E) -> Ended
     // Done: the command was right, or help was asked for, and nothing is reported on `errors`.
     ensures done { result.status ≡ Done → AreRecode (map S.text arguments.now) ⊎ AskForHelp (map S.text arguments.now)
         ⊎ (is_of_store (map S.text arguments.now) ≡ true) }
@@ -63,14 +92,15 @@ pub fn run_with_files<H: Files + AllocGlobal, S: AsStr, R: Read, W: Write, E: Wr
     ensures right_arguments { AreRecode (map S.text arguments.now) → result.status ≢ WrongArguments }
     ensures wrong_arguments { AreRecode (map S.text arguments.now) ⊎ AskForHelp (map S.text arguments.now)
         ⊎ (is_of_store (map S.text arguments.now) ≡ true) ⊎ (IsWrong result.status × (output.new ≡ output.old)) }
-    ensures only_recode_reads { AreRecode (map S.text arguments.now) ⊎ (input.new ≡ input.old) }
+    // The input is read by these commands alone.
+    ensures others_leave_input { AreRecode (map S.text arguments.now) ⊎ (takes_input (map S.text arguments.now) ≡ true) ⊎ (input.new ≡ input.old) }
     ensures nothing_written { result.status ≡ WrongArguments → output.new ≡ output.old }
     // The refusal's line, where `errors` takes what it is given.
     ensures line { IfRefused result.status (λ refusal. IsTrue result.is_reported
         → Appends (E.contents errors.old) (E.contents errors.new) (refusal_line refusal)) }
 {
     if is_of_store(arguments) {
-        return run_on_store(rt, arguments, output, errors);
+        return run_on_store(rt, arguments, input, output, errors);
     }
     run(rt.alloc(), arguments, input, output, errors)
 }

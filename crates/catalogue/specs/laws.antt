@@ -3,3 +3,4 @@ pub mod Kept
 pub mod Order
 pub mod Sums
 pub mod Changed
+pub mod Integers

@@ -7,8 +7,11 @@ use std::fs::OpenFile;
 use std::io::{self, Read, Seek, Write};
 
 mod calls;
+mod locking;
 mod opening;
 mod transfer;
+
+pub use locking::LockFile;
 
 /// Why a file is not opened as a device.
 #[derive(Clone, Copy, Debug, PartialEq, Eq)]

@@ -22,5 +22,5 @@ mod stored;
 
 pub use choice::Choice;
 pub use device::{DevError, SECTOR_BYTES, SectorDevice};
-pub use file::{FileDevice, FileError, LEAST_SECTORS, MOST_SECTORS};
+pub use file::{FileDevice, FileError, LEAST_SECTORS, LockFile, MOST_SECTORS};
 pub use model::ModelDevice;

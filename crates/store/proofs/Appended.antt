@@ -21,9 +21,9 @@ use Rattle.ipc_stream.specs.Meaning.{meaning}
 use Rattle.catalogue.specs.Entries.{PlainEntry, PlainCatalogue, row_count, is_entry, IsCatalogue, AreRead}
 use Rattle.catalogue.specs.Schemas.{is_read}
 use Rattle.catalogue.specs.laws.Changed.{found_passes}
+use Rattle.catalogue.specs.laws.Integers.{read_integers}
 use Rattle.catalogue.specs.laws.Kept.{entry_is}
-use Rattle.ipc_write.specs.Decoded.{is_not_read}
-use Rattle.store.proofs.Integers.{read_integers, one_schema}
+use Rattle.store.proofs.Integers.{one_schema}
 use Rattle.catalogue.specs.Edits.{entry_of}
 use Rattle.tables.specs.declared.refusal.Limit.TheVariants as limits
 use Rattle.tables.specs.declared.refusal.Refusal.{Refusal}
@@ -179,15 +179,11 @@ found_in (x ∷ xs) name e is = by_test (bytes_eq x.name name) is (λ h. found_i
     by_test true h more = let same : x ≡ e = cc h in (0, omega arith, same)
     by_test false h more = let k = more h in (suc k.0, omega (arith, k.1), k.2)
 
-not_true_of : (b : Bool) → not b ≡ true → b ≡ false
-not_true_of true h = absurd (cc h)
-not_true_of false h = refl
-
 -- its schema is of integers
 entry_integers : (c : PlainCatalogue) (name : List ℕ) (e : PlainEntry) → IsCatalogue c → AreRead c → entry_of c name ≡ Some e → is_integer_schema e.schema ≡ true
 entry_integers c name e sound read is =
     let within = (entry_is e (found_passes is_entry c name e sound.entries is)).schema in
-    read_integers e.schema within (not_true_of (is_not_read e.schema) (found_passes (λ (x : PlainEntry). is_read x.schema) c name e read is))
+    read_integers e.schema within (found_passes (λ (x : PlainEntry). is_read x.schema) c name e read is)
 
 shape_by : (b : Bool) → when (not b) SchemaMismatch ≡ None → b ≡ true
 shape_by true h = refl

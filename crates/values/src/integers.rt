@@ -73,8 +73,8 @@ fn are_integer_fields(fields: &[Field]) -> bool
     true
 }
 
-// Whether a schema is of such columns, without pairs.
-pub(crate) fn is_integer_schema(schema: &Schema) -> bool
+/// Whether a schema is of integer columns alone: no dictionary, and no pair of a column or of the schema.
+pub fn is_integer_schema(schema: &Schema) -> bool
     ensures { result ≡ is_integer_schema (schema_of schema.now) }
 {
     are_integer_fields(&schema.fields) && schema.pairs.is_empty()

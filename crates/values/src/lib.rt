@@ -33,6 +33,7 @@ pub use cells::{
     note, row_weight, weight,
 };
 pub use errors::TableError;
+pub use integers::is_integer_schema;
 pub use laws::{
     accepted_rows_are_a_table, integer_columns_are_integer_tables, integer_columns_are_tables,
     integer_rows_weigh_alike, tables_are_joined_and_cut,

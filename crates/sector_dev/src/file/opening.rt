@@ -3,7 +3,7 @@ ghost use Rattle.std.specs.Prelude.{◌≡◌, ◌≤◌, ◌↔◌, length, IfO
 ghost use Rattle.sector_dev.specs.View.{sectors_of, failures_of, HasOtherLength, IsOver};
 ghost use Rattle.sector_dev.specs.Written.{IsEmpty};
 
-use super::{FileDevice, FileError, LEAST_SECTORS, MOST_SECTORS};
+use super::{FileDevice, FileError, LEAST_SECTORS, LockFile, MOST_SECTORS};
 use crate::buffer::Buffer;
 use std::alloc::Global;
 use std::fs::{self, File, OpenFile, OpenOptions};
@@ -33,21 +33,27 @@ fn sync_name<R: Files>(rt: &R, path: &str) -> io::Result<()> {
     }
 }
 
-// Gives a new file its length, and has the system bring it to the disk.
-fn prepare<R: Files>(rt: &R, path: &str, file: &R::File, sectors: u64) -> io::Result<()>
+// Locks a new file, gives it its length, and has the system bring it to the disk.
+fn prepare<F: OpenFile + LockFile, R: Files<File = F>>(
+    rt: &R,
+    path: &str,
+    file: &F,
+    sectors: u64,
+) -> io::Result<()>
     requires { sectors ≤ 4194304 }
 {
+    file.lock_to_write()?;
     file.set_len(sectors * 512)?;
     file.sync_all()?;
     sync_name(rt, path)
 }
 
-impl<F: Read + Write + Seek + OpenFile + Drop> FileDevice<F> {
-    /// Opens a file as a device.
+impl<F: Read + Write + Seek + OpenFile + LockFile + Drop> FileDevice<F> {
+    /// Opens a file as a device, which nobody else has open meanwhile.
     ///
     /// # Errors
-    /// `Io` where the system refuses; `BadSize` where its length is no multiple of 512, or is outside 16 to 4,194,304
-    /// sectors.
+    /// `Io` where the system refuses, or another has the file open; `BadSize` where its length is no multiple of 512, or is
+    /// outside 16 to 4,194,304 sectors.
     pub fn open<R: Files<File = F> + AllocGlobal>(
         rt: &R,
         path: &str,
@@ -58,30 +64,30 @@ impl<F: Read + Write + Seek + OpenFile + Drop> FileDevice<F> {
         ensures empty { IfOk result (λ d. IsEmpty d) }
     {
         let file = OpenOptions::new().read(true).write(true).open(rt, path)?;
+        file.lock_to_write()?;
         FileDevice::from_file(rt.alloc(), file)
     }
 
-    /// A device over a file that is open for reading and writing. Its sectors are all of the file.
+    /// Opens a file as a device that is only read: each write fails. Others may read it meanwhile.
     ///
     /// # Errors
-    /// `Io` where the system refuses; `BadSize` where its length is no multiple of 512, or is outside 16 to 4,194,304
-    /// sectors.
-    pub fn from_file(alloc: Global, mut file: F) -> Result<FileDevice<F>, FileError>
+    /// `Io` where the system refuses, or another has the file open to write; `BadSize` where its length is no multiple of 512,
+    /// or is outside 16 to 4,194,304 sectors.
+    pub fn open_to_read<R: Files<File = F> + AllocGlobal>(
+        rt: &R,
+        path: &str,
+    ) -> Result<FileDevice<F>, FileError>
         ensures size { IfOk result (λ d. (16 ≤ sectors_of d) × (sectors_of d ≤ 4194304)) }
-        ensures length { IfOk result (λ d. IsOver file d) }
-        ensures bad_size { IsErrOf result FileError.BadSize → HasOtherLength ⟦<F as Seek>⟧ file }
+        ensures length { IfOk result (λ d. (opened : F) × IsOver opened d) }
         ensures failed { IfOk result (λ d. failures_of d ≡ 0) }
         ensures empty { IfOk result (λ d. IsEmpty d) }
     {
-        let bytes = file.seek(SeekFrom::End(0))?;
-        let sectors = bytes / 512;
-        if bytes % 512 != 0 || !is_size(sectors) {
-            return Err(FileError::BadSize);
-        }
-        Ok(FileDevice::over(alloc, file, sectors))
+        let file = OpenOptions::new().read(true).open(rt, path)?;
+        file.lock_to_read()?;
+        FileDevice::from_file(rt.alloc(), file)
     }
 
-    /// Makes a file of so many sectors of zeros, and opens it as a device.
+    /// Makes a file of so many sectors of zeros, and opens it as a device, which nobody else has open meanwhile.
     ///
     /// # Errors
     /// `BadSize` where that is outside 16 to 4,194,304, reported first; `Io` where something is at the path already, or the
@@ -106,6 +112,28 @@ impl<F: Read + Write + Seek + OpenFile + Drop> FileDevice<F> {
             return Err(FileError::Io);
         }
         Ok(FileDevice::over(rt.alloc(), file, sectors))
+    }
+}
+
+impl<F: Read + Write + Seek + OpenFile + Drop> FileDevice<F> {
+    /// A device over a file that is open for reading and writing. Its sectors are all of the file.
+    ///
+    /// # Errors
+    /// `Io` where the system refuses; `BadSize` where its length is no multiple of 512, or is outside 16 to 4,194,304
+    /// sectors.
+    pub fn from_file(alloc: Global, mut file: F) -> Result<FileDevice<F>, FileError>
+        ensures size { IfOk result (λ d. (16 ≤ sectors_of d) × (sectors_of d ≤ 4194304)) }
+        ensures length { IfOk result (λ d. IsOver file d) }
+        ensures bad_size { IsErrOf result FileError.BadSize → HasOtherLength ⟦<F as Seek>⟧ file }
+        ensures failed { IfOk result (λ d. failures_of d ≡ 0) }
+        ensures empty { IfOk result (λ d. IsEmpty d) }
+    {
+        let bytes = file.seek(SeekFrom::End(0))?;
+        let sectors = bytes / 512;
+        if bytes % 512 != 0 || !is_size(sectors) {
+            return Err(FileError::BadSize);
+        }
+        Ok(FileDevice::over(alloc, file, sectors))
     }
 
     // A device over a file of this many sectors.

@@ -7,3 +7,6 @@ returns-clause-done g c = λ done. elim (c.run.ensures.done done) [ inl recode �
 pub returns-clause-wrong_arguments : goal.returns-clause-wrong_arguments
 returns-clause-wrong_arguments g c =
     elim c.run.ensures.wrong_arguments [ inl recode ↦ inl recode | inr other ↦ elim other [ inl help ↦ inr (inl help) | inr wrong ↦ inr (inr (inr wrong)) ] ]
+
+pub returns-clause-others_leave_input : goal.returns-clause-others_leave_input
+returns-clause-others_leave_input g c = elim c.run.ensures.only_recode_reads [ inl recode ↦ inl recode | inr same ↦ inr (inr same) ]

@@ -1,0 +1,7 @@
+use Rattle.std.specs.Prelude.{Ok}
+use Rattle.arrowstore.proofs.ChangingLemmas.{follows_write}
+use Rattle.arrowstore.proofs.changing.apply_command.Goals as goal
+
+pub returns-clause-goes : goal.returns-clause-goes
+returns-clause-goes g c = λ tells base m fits.
+    (Ok c.in_ok-apply.field-0, c.in_ok-apply.ensures.goes tells base m fits, follows_write _ c.write_whole.result c.write_whole.ensures.io)
