@@ -7,6 +7,7 @@ pub mod View
 pub mod Fields
 pub mod Types
 pub mod Convert
+pub mod DictionaryTypes
 pub mod Same
 pub mod Checks
 pub mod Outcome

@@ -193,7 +193,7 @@ fn data_type(
 }
 
 #[cycle(convert)]
-fn copy_field(alloc: Global, raw: &RawField) -> Result<Field, AllocError>
+pub(crate) fn copy_field(alloc: Global, raw: &RawField) -> Result<Field, AllocError>
     requires { AreReadable (preorder (raw_field_of raw.now)) }
     ensures { IfOk result (λ field. column_of field ≡ column_of_field (raw_field_of raw.now)) }
 {

@@ -15,6 +15,8 @@
 #![tactic(auto)]
 
 mod convert;
+mod dictionaries;
+mod dictionary_type;
 mod error;
 mod fault;
 mod fault_text;
@@ -35,6 +37,8 @@ pub mod type_codes;
 mod walk_error;
 
 pub use convert::read_schema;
+pub use dictionaries::read_dictionary_types;
+pub use dictionary_type::DictionaryType;
 pub use error::ImportError;
 pub use fault::{Fault, TypeName};
 pub use header_type::{DICTIONARY_BATCH, HeaderType, RECORD_BATCH, SCHEMA};

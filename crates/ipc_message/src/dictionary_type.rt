@@ -1,0 +1,9 @@
+// The dictionaries of a schema: their ids, and the types of their values.
+use arrow_schema::DataType;
+
+/// The dictionary of a field: its id, and the type of its values.
+#[derive(Debug, Drop)]
+pub struct DictionaryType {
+    pub id: u64,
+    pub data_type: DataType,
+}
