@@ -25,3 +25,4 @@ pub mod DictionaryFound
 pub mod RowsFit
 pub mod RowsNamed
 pub mod RowsRead
+pub mod SchemaDictionaries

@@ -5,3 +5,4 @@ pub mod Counted
 pub mod Weights
 pub mod VisibleSpans
 pub mod MayFind
+pub mod SchemaDictionaries
