@@ -22,7 +22,7 @@ not_running p h phase on runs = let stopped : p ≡ halted = phase ∙ ap (λ (b
 pub is_running : (p : Phase) (h : Bool) → p ≡ (if h then halted else running) → h ≡ false → p ≡ running
 is_running p h phase off = phase ∙ ap (λ (b : Bool). if b then halted else running) off
 
-not_less : (n : ℕ) → nat_lt n n ≡ false
+pub not_less : (n : ℕ) → nat_lt n n ≡ false
 not_less n = grind (arith, nat_tests)
 
 -- what holds of the one refusal that there is

@@ -11,4 +11,6 @@ mod Appended
 mod Answered
 mod Began
 mod HeldTables
+mod ReadTables
+mod ReadsStore
 mod Applied

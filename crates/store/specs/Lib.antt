@@ -11,6 +11,7 @@ pub mod Changes
 pub mod Deciding
 pub mod Applying
 pub mod Listing
+pub mod Reading
 pub mod Places
 pub mod laws
 pub mod inner

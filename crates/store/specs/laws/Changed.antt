@@ -46,7 +46,7 @@ joined_after (Some xs) (Some ys) None = refl
 joined_after (Some xs) (Some ys) (Some zs) = ap Some (append_assoc xs ys zs)
 
 -- segments behind others
-rows_behind : (schema : PlainSchema) (a b : List Segment) (image : Image) → rows_held schema (a ++ b) image ≡ joined_rows (rows_held schema a image) (rows_held schema b image)
+pub rows_behind : (schema : PlainSchema) (a b : List Segment) (image : Image) → rows_held schema (a ++ b) image ≡ joined_rows (rows_held schema a image) (rows_held schema b image)
 unfolding rows_held
 rows_behind schema [] b image = by_rows (rows_held schema b image)
   where

@@ -1,0 +1,263 @@
+-- A call that reads a table is a call of the machine: it changes nothing, unless its device fails.
+use Rattle.std.specs.Prelude.{◌||◌, ◌&&◌, min, nat_lt, if◌then◌else◌, Err}
+use Rattle.std.proofs.Common.{◌≡◌, ◌≢◌, ◌+◌, ◌-◌, ◌^◌, ℕ, Bool, true, false, List, [], Option, Some, None, refl, sym, ap, ◌∙◌, subst}
+use Rattle.sector_dev.specs.Disk.{Disk, Story, Image, now, MayLeave, shown_image, synced_image}
+use Rattle.sector_dev.specs.Time.{Grows, LeavesOnly, OnlyReads}
+use Rattle.sector_dev.specs.laws.Time.{weaken, now_read}
+use Rattle.sector_dev.specs.declared.device.SectorDevice.{Ghosts}
+use Rattle.cells.specs.Cell.{PlainTable}
+use Rattle.catalogue.specs.Entries.{PlainEntry, PlainCatalogue, IsCatalogue, is_entry}
+use Rattle.catalogue.specs.Edits.{entry_of}
+use Rattle.catalogue.specs.View.{catalogue_of}
+use Rattle.catalogue.specs.laws.Changed.{found_passes}
+use Rattle.catalogue.specs.laws.Kept.{entry_is}
+use Rattle.commit.specs.Placing.{Uses}
+use Rattle.commit.specs.declared.recovery.Opened.{Opened}
+use Rattle.store.specs.declared.stored.StoredCatalogue.{StoredCatalogue}
+use Rattle.commit.specs.Standing.{is_size, used_runs, Stands}
+use Rattle.tables.specs.declared.refusal.Refusal.{Refusal}
+use Rattle.tables.specs.declared.refusal.Refusal.TheVariants as refusals
+use Rattle.tables.specs.Tables.{Tables, table_at}
+use Rattle.tables.specs.Verdict.{after}
+use Rattle.store.specs.declared.store.Store.{Store}
+use Rattle.store.specs.Calls.{PlainCall, read_call, export_call, PlainReply, refused, is_device_reply, may_be_done}
+use Rattle.store.specs.Machine.{Setting, Machine, running, halted, halt, meanwhile, has_written, tables_now, Allows, AllowsEach}
+use Rattle.store.specs.Steps.{Step, Stays, RefusesReading}
+use Rattle.store.specs.Runs.{Goes, counted}
+use Rattle.store.specs.Held.{whole_reading, tables_held, table_held}
+use Rattle.store.specs.Fits.{setting_of, StoreFits, DeviceFits, IsSound, listed_in}
+use Rattle.store.specs.Applying.{GoesOn}
+use Rattle.store.specs.Reading.{IsUnread, Unreads, RefusesRead, ReadsTable, OnlyReadsStore}
+use Rattle.store.specs.laws.Named.{entry_has, entry_lacks}
+use Rattle.store.proofs.Asked.{not_less, is_running, not_running}
+use Rattle.store.proofs.ReadTables.{TableLaws, unread_not_held}
+
+-- ---- images
+
+-- where nothing is pending reads show what is synced
+pub shown_is_synced : (d : Disk) → ((n : ℕ) → (d.at n).shown ≡ (d.at n).synced) → shown_image d ≡ synced_image d
+shown_is_synced d quiet = λ i n. quiet n i
+
+-- ---- moments
+
+none_written : (old new : Story) → OnlyReads old new → has_written (now old) (now new) ≡ false
+none_written old new reads = ap (has_written (now old)) (now_read old new reads) ∙ not_less (now old).writes
+
+never : (b : Bool) → (b && false) ≡ false
+never true = refl
+never false = refl
+
+-- at each moment the machine allows what it allowed
+moments_read : (s : Setting) (m : Machine) (call : PlainCall) (reply : PlainReply) (old new : Story) → LeavesOnly (Allows s m) (now old) → OnlyReads old new → Grows (AllowsEach s call reply m (now old)) old new
+moments_read s m call reply old new allows reads = weaken each reads
+  where
+    written : (d : Disk) → d ≡ now old → (may_be_done reply && has_written (now old) d) ≡ false
+    written d is = ap (λ (b : Bool). may_be_done reply && b) (ap (has_written (now old)) is ∙ not_less (now old).writes) ∙ never (may_be_done reply)
+
+    each : (d : Disk) → d ≡ now old → AllowsEach s call reply m (now old) d
+    each d is image may =
+        subst (λ (b : Bool). Allows s (meanwhile call m b) image) (sym (written d is)) (allows image (subst (λ (x : Disk). MayLeave x image) is may))
+
+-- why no table is read, in the words of the machine
+abbrev pub RefusesAs : Setting → Machine → PlainCall → List ℕ → Refusal → Machine → Type 0
+RefusesAs s m call name refusals.NoTable next = (m.phase ≡ running) × (table_at (tables_now s m) name ≡ None) × Stays m false next
+RefusesAs s m call name r next = RefusesReading m call r false next
+
+-- ---- what it leaves
+
+module _ {D : Type 0} {g : Ghosts D} (size : D → ℕ) (story : D → Story) (failed : D → ℕ) (base : Tables) (m : Machine) (tells : Bool) (told : tells ≡ true) (old new : Store D g) (fits : StoreFits size story base m old) where
+  abbrev pub own : Setting
+  own = setting_of (size old.device) base
+
+  -- what the store stands for after it
+  sound_after : (ends : PlainReply) → OnlyReadsStore size story failed tells ends old new → IsSound size story base m old → IsSound size story base m new
+  sound_after ends reads sound =
+      let later : now (story new.device) ≡ now (story old.device) = now_read (story old.device) (story new.device) (reads.device.moments told) in
+      let at : Stands whole_reading (size new.device) (now (story new.device)) old.opened.commit (listed_in old) =
+      subst (λ (n : ℕ). Stands whole_reading n (now (story new.device)) old.opened.commit (listed_in old)) (sym reads.device.same) (subst (λ (d : Disk). Stands whole_reading (size old.device) d old.opened.commit (listed_in old)) (sym later) sound.stands) in
+      record {
+        stands = subst (λ (o : Opened StoredCatalogue). Stands whole_reading (size new.device) (now (story new.device)) o.commit (catalogue_of o.catalogue.list)) (sym reads.kept) at;
+        tables = (λ i. tables_held (synced_image (later i)) (catalogue_of (reads.kept i).catalogue.list)) ∙ sound.tables;
+        uses = subst (λ (o : Opened StoredCatalogue). Uses o.map.entries (used_runs whole_reading o.commit (catalogue_of o.catalogue.list)) []) (sym reads.kept) sound.uses;
+        none = sound.none;
+      }
+
+  device_after : (next : Machine) (ends : PlainReply) → OnlyReadsStore size story failed tells ends old new → (next.started ≡ m.started) × (next.settled ≡ m.settled) × (next.doubt ≡ m.doubt) → LeavesOnly (Allows own next) (now (story new.device))
+      → DeviceFits size story base next new.device
+  device_after next ends reads same allows = record {
+    in_limits = subst (λ (n : ℕ). is_size n ≡ true) (sym reads.device.same) fits.device.in_limits;
+    allows = subst (λ (n : ℕ). LeavesOnly (Allows (setting_of n base) next) (now (story new.device))) (sym reads.device.same) allows;
+    fresh = λ early. let never = sym fits.started ∙ sym same.0 ∙ early in absurd (cc never);
+  }
+
+  -- where the device does not fail
+  pub stays_reading : (call : PlainCall) (reply ends : PlainReply) → is_device_reply ends ≡ false → is_device_reply reply ≡ false → Step own m call reply false m → OnlyReadsStore size story failed tells ends old new
+      → GoesOn size story failed base m call reply old new
+  stays_reading call reply ends quiet answered step reads =
+      let moments = reads.device.moments told in
+      let later : now (story new.device) ≡ now (story old.device) = now_read (story old.device) (story new.device) moments in
+      let allows : LeavesOnly (Allows own m) (now (story new.device)) = subst (λ (d : Disk). LeavesOnly (Allows own m) d) (sym later) fits.device.allows in
+      let halts : new.halted ≡ old.halted = reads.halts ∙ ap (λ (b : Bool). old.halted || b) quiet ∙ or_false old.halted in
+      record {
+        next = m;
+        same = reads.device.same;
+        goes = record {
+          step = subst (λ (b : Bool). Step own m call reply b m) (sym (none_written (story old.device) (story new.device) moments)) step;
+          moments = moments_read own m call reply (story old.device) (story new.device) fits.device.allows moments;
+          settles = allows;
+          quiet = λ no device. later;
+          counts = reads.device.count ∙ ap (λ (b : Bool). if b then min (failed old.device + 1) (2 ^ 64 - 1) else failed old.device) (quiet ∙ sym answered);
+        };
+        fits = record {
+          phase = fits.phase ∙ ap (λ (b : Bool). if b then halted else running) (sym halts);
+          started = fits.started;
+          device = device_after m ends reads (refl, refl, refl) allows;
+          sound = λ on. sound_after ends reads (fits.sound on);
+        };
+      }
+    where
+      or_false : (b : Bool) → (b || false) ≡ b
+      or_false true = refl
+      or_false false = refl
+
+  -- where it fails
+  pub halts_reading : (call : PlainCall) → Step own m call (refused refusals.Device) false (halt call false m) → OnlyReadsStore size story failed tells (refused refusals.Device) old new
+      → GoesOn size story failed base m call (refused refusals.Device) old new
+  unfolding Allows
+  halts_reading call step reads =
+      let moments = reads.device.moments told in
+      let later : now (story new.device) ≡ now (story old.device) = now_read (story old.device) (story new.device) moments in
+      let stood : LeavesOnly (Allows own m) (now (story new.device)) = subst (λ (d : Disk). LeavesOnly (Allows own m) d) (sym later) fits.device.allows in
+      let allows : LeavesOnly (Allows own (halt call false m)) (now (story new.device)) = λ image may. stood image may in
+      let halts : new.halted ≡ true = reads.halts ∙ or_true old.halted in
+      record {
+        next = halt call false m;
+        same = reads.device.same;
+        goes = record {
+          step = subst (λ (b : Bool). Step own m call (refused refusals.Device) b (halt call false m)) (sym (none_written (story old.device) (story new.device) moments)) step;
+          moments = moments_read own m call (refused refusals.Device) (story old.device) (story new.device) fits.device.allows moments;
+          settles = allows;
+          quiet = λ no device. later;
+          counts = reads.device.count;
+        };
+        fits = record {
+          phase = ap (λ (b : Bool). if b then halted else running) (sym halts);
+          started = fits.started;
+          device = device_after (halt call false m) (refused refusals.Device) reads (refl, refl, refl) allows;
+          sound = λ on. absurd (cc on);
+        };
+      }
+    where
+      or_true : (b : Bool) → (b || true) ≡ true
+      or_true true = refl
+      or_true false = refl
+
+  -- ---- what it answers
+
+  shown : m.phase ≡ running → shown_image (now (story old.device)) ≡ synced_image (now (story old.device))
+  shown on = shown_is_synced (now (story old.device)) (fits.sound on).stands.quiet.shown
+
+  -- a table that was read is the machine's
+  pub found_table : (name : List ℕ) (t : PlainTable) → ReadsTable old.halted tells (shown_image (now (story old.device))) (entry_of (listed_in old) name) t
+      → (m.phase ≡ running) × (table_at (tables_now own m) name ≡ Some t)
+  found_table name t reads = by_state old.halted (entry_of (listed_in old) name) refl refl reads
+    where
+      by_state : (h : Bool) (o : Option PlainEntry) → old.halted ≡ h → entry_of (listed_in old) name ≡ o → ReadsTable h tells (shown_image (now (story old.device))) o t → (m.phase ≡ running) × (table_at (tables_now own m) name ≡ Some t)
+      by_state true o h found r = absurd r
+      by_state false None h found r = absurd r
+      by_state false (Some e) h found r =
+          let on = is_running m.phase old.halted fits.phase h in
+          let has = entry_has (synced_image (now (story old.device))) (listed_in old) (after base m.settled) (fits.sound on).tables name e found in
+          (on, has.2 ∙ sym has.1 ∙ ap (λ (image : Image). table_held image e) (sym (shown on)) ∙ r told)
+
+  pub refused_reading : TableLaws → IsCatalogue (listed_in old) → (call : PlainCall) (name : List ℕ) → ((q : Refusal) (next : Machine) → RefusesAs own m call name q next → Step own m call (refused q) false next) → (r : Refusal)
+      → RefusesRead old.halted tells (shown_image (now (story old.device))) (entry_of (listed_in old) name) r → OnlyReadsStore size story failed tells (refused r) old new → GoesOn size story failed base m call (refused r) old new
+  refused_reading laws catalogue call name step r refuses reads = by_state old.halted (entry_of (listed_in old) name) refl refl refuses
+    where
+      on : old.halted ≡ false → m.phase ≡ running
+      on h = is_running m.phase old.halted fits.phase h
+
+      is_halted : old.halted ≡ true → r ≡ refusals.Halted → GoesOn size story failed base m call (refused r) old new
+      is_halted h is =
+          subst (λ (q : Refusal). OnlyReadsStore size story failed tells (refused q) old new → GoesOn size story failed base m call (refused q) old new) (sym is)
+          (stays_reading call (refused refusals.Halted) (refused refusals.Halted) refl refl (step refusals.Halted m (not_running m.phase old.halted fits.phase h, (refl, refl)))) reads
+
+      is_missing : old.halted ≡ false → entry_of (listed_in old) name ≡ None → r ≡ refusals.NoTable → GoesOn size story failed base m call (refused r) old new
+      is_missing h none is =
+          let lacks = entry_lacks (synced_image (now (story old.device))) (listed_in old) (after base m.settled) (fits.sound (on h)).tables name none in
+          subst (λ (q : Refusal). OnlyReadsStore size story failed tells (refused q) old new → GoesOn size story failed base m call (refused q) old new) (sym is)
+          (stays_reading call (refused refusals.NoTable) (refused refusals.NoTable) refl refl (step refusals.NoTable m (on h, lacks, (refl, refl)))) reads
+
+      -- no segment of a table that the machine has is unread
+      no_segment : old.halted ≡ false → (e : PlainEntry) (place : ℕ) → entry_of (listed_in old) name ≡ Some e → IsUnread (shown_image (now (story old.device))) e place → ⊥
+      no_segment h e place found unread =
+          let has = entry_has (synced_image (now (story old.device))) (listed_in old) (after base m.settled) (fits.sound (on h)).tables name e found in
+          let within = (entry_is e (found_passes is_entry (listed_in old) name e catalogue.entries found)).schema in
+          unread_not_held laws (shown_image (now (story old.device))) e place has.0 within unread (ap (λ (image : Image). table_held image e) (shown (on h)) ∙ has.1)
+
+      by_refusal : old.halted ≡ false → (e : PlainEntry) → entry_of (listed_in old) name ≡ Some e → (q : Refusal) → Unreads tells (shown_image (now (story old.device))) e q → OnlyReadsStore size story failed tells (refused q) old new
+          → GoesOn size story failed base m call (refused q) old new
+      by_refusal h e found refusals.Device u reads = halts_reading call (step refusals.Device (halt call false m) (on h, refl, refl)) reads
+      by_refusal h e found refusals.OutOfMemory u reads = stays_reading call (refused refusals.OutOfMemory) (refused refusals.OutOfMemory) refl refl (step refusals.OutOfMemory m (on h, (refl, refl))) reads
+      by_refusal h e found (refusals.SegmentUnread place) u reads = absurd (no_segment h e place found (u told))
+      by_refusal h e found refusals.NoTable u reads = absurd u
+      by_refusal h e found refusals.NameTaken u reads = absurd u
+      by_refusal h e found refusals.BadName u reads = absurd u
+      by_refusal h e found refusals.SchemaMismatch u reads = absurd u
+      by_refusal h e found (refusals.Import fault) u reads = absurd u
+      by_refusal h e found (refusals.RowUnfit row) u reads = absurd u
+      by_refusal h e found (refusals.TooMany limit) u reads = absurd u
+      by_refusal h e found (refusals.NoRoom sectors) u reads = absurd u
+      by_refusal h e found refusals.Halted u reads = absurd u
+      by_refusal h e found refusals.NoExport u reads = absurd u
+      by_refusal h e found (refusals.Query refusal) u reads = absurd u
+      by_refusal h e found refusals.Read u reads = absurd u
+      by_refusal h e found (refusals.SegmentDamaged place) u reads = absurd u
+      by_refusal h e found refusals.Write u reads = absurd u
+
+      by_state : (h : Bool) (o : Option PlainEntry) → old.halted ≡ h → entry_of (listed_in old) name ≡ o → RefusesRead h tells (shown_image (now (story old.device))) o r → GoesOn size story failed base m call (refused r) old new
+      by_state true o h found u = is_halted h u
+      by_state false None h found u = is_missing h found u
+      by_state false (Some e) h found u = by_refusal h e found r u reads
+
+-- ---- the call that reads
+
+pub read_step : (s : Setting) (m : Machine) (name : List ℕ) (q : Refusal) (next : Machine) → RefusesAs s m (read_call name) name q next → Step s m (read_call name) (refused q) false next
+unfolding Step
+read_step s m name refusals.NoTable next h = h
+read_step s m name refusals.NameTaken next h = h
+read_step s m name refusals.BadName next h = h
+read_step s m name refusals.SchemaMismatch next h = h
+read_step s m name (refusals.Import fault) next h = h
+read_step s m name (refusals.RowUnfit row) next h = h
+read_step s m name (refusals.TooMany limit) next h = h
+read_step s m name (refusals.NoRoom sectors) next h = h
+read_step s m name refusals.Device next h = h
+read_step s m name refusals.Halted next h = h
+read_step s m name refusals.NoExport next h = h
+read_step s m name (refusals.Query refusal) next h = h
+read_step s m name (refusals.SegmentUnread place) next h = h
+read_step s m name refusals.Read next h = h
+read_step s m name (refusals.SegmentDamaged place) next h = h
+read_step s m name refusals.Write next h = h
+read_step s m name refusals.OutOfMemory next h = h
+
+pub export_step : (s : Setting) (m : Machine) (name : List ℕ) (q : Refusal) (next : Machine) → RefusesAs s m (export_call name) name q next → Step s m (export_call name) (refused q) false next
+unfolding Step
+export_step s m name refusals.NoTable next h = h
+export_step s m name refusals.NameTaken next h = h
+export_step s m name refusals.BadName next h = h
+export_step s m name refusals.SchemaMismatch next h = h
+export_step s m name (refusals.Import fault) next h = h
+export_step s m name (refusals.RowUnfit row) next h = h
+export_step s m name (refusals.TooMany limit) next h = h
+export_step s m name (refusals.NoRoom sectors) next h = h
+export_step s m name refusals.Device next h = h
+export_step s m name refusals.Halted next h = h
+export_step s m name refusals.NoExport next h = h
+export_step s m name (refusals.Query refusal) next h = h
+export_step s m name (refusals.SegmentUnread place) next h = h
+export_step s m name refusals.Read next h = h
+export_step s m name (refusals.SegmentDamaged place) next h = h
+export_step s m name refusals.Write next h = absurd h
+export_step s m name refusals.OutOfMemory next h = h

@@ -1,0 +1,41 @@
+use Rattle.std.proofs.Common.{◌≡◌, true, List, Some, refl, sym, ap, ◌∙◌, subst}
+use Rattle.sector_dev.specs.Disk.{now, shown_image}
+use Rattle.arrow_schema.specs.Column.{PlainSchema}
+use Rattle.arrow_schema.specs.View.{schema_of}
+use Rattle.cells.specs.Cell.{PlainTable}
+use Rattle.values.specs.TableView.{table_of}
+use Rattle.catalogue.specs.declared.entry.Segment.{Segment}
+use Rattle.catalogue.specs.Entries.{PlainEntry, plain_entry}
+use Rattle.catalogue.specs.laws.Kept.{entry_is}
+use Rattle.ipc_stream.specs.View.{gathered_table}
+use Rattle.store.specs.Held.{rows_held}
+use Rattle.store.specs.Reading.{Unreads}
+use Rattle.store.proofs.ReadTables.{TableLaws, read_is_held}
+use Rattle.store.proofs.reading.read_entry.Goals as goal
+
+pub start_table-requires-clause-limits : goal.start_table-requires-clause-limits
+start_table-requires-clause-limits g c = (entry_is (plain_entry c.args.entry.now) c.requires.sound).schema
+
+pub returns-in-Ok-read_segments-clause-table : goal.returns-in-Ok-read_segments-clause-table
+returns-in-Ok-read_segments-clause-table g c = λ told.
+    let D = g.D.SectorDevice in
+    let image = shown_image (now (D.story c.args.device.now)) in
+    let e = plain_entry c.args.entry.now in
+    let laws : TableLaws = record { accepts = c.accepted_rows_are_a_table.ensures.kept; accepted = c.accepted_rows_are_a_table.ensures.accepted; cut = c.tables_are_joined_and_cut.ensures.cut } in
+    let start : (gathered_table c.in-Ok.empty).schema ≡ e.schema = ap (λ (t : PlainTable). t.schema) c.in-Ok.ensures.empty in
+    let segments : c.deref-in-Ok.result.now ≡ e.segments = c.deref-in-Ok.ensures.value in
+    let made = c.finish_table.ensures.table in
+    let schema : (table_of c.finish_table.result).schema ≡ e.schema = ap (λ (t : PlainTable). t.schema) made ∙ c.in-Ok-read_segments.ensures.schema ∙ start in
+    let rows : rows_held e.schema e.segments image ≡ Some (table_of c.finish_table.result).rows =
+    (λ i. rows_held (sym start i) (sym segments i) image) ∙ c.in-Ok-read_segments.ensures.rows told ∙ ap (λ (t : PlainTable). Some t.rows) (sym made) in
+    read_is_held laws image e (table_of c.finish_table.result) c.finish_table.ensures.kept schema rows
+
+pub returns-in-Ok-clause-unread : goal.returns-in-Ok-clause-unread
+returns-in-Ok-clause-unread g c =
+    let D = g.D.SectorDevice in
+    let image = shown_image (now (D.story c.args.device.now)) in
+    let e = plain_entry c.args.entry.now in
+    let start : (gathered_table c.in-Ok.empty).schema ≡ e.schema = ap (λ (t : PlainTable). t.schema) c.in-Ok.ensures.empty in
+    let segments : c.deref-in-Ok.result.now ≡ e.segments = c.deref-in-Ok.ensures.value in
+    let same : record { name = e.name; schema = (gathered_table c.in-Ok.empty).schema; segments = c.deref-in-Ok.result.now } ≡ e = λ i. record { name = e.name; schema = start i; segments = segments i } in
+    subst (λ (x : PlainEntry). Unreads D.tells image x c.in-Err-read_segments.refusal) same (c.in-Err-read_segments.ensures.unread e.name)

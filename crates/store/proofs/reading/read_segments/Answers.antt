@@ -1,0 +1,71 @@
+use Rattle.std.specs.Prelude.{get_or}
+use Rattle.std.proofs.Common.{◌≡◌, ◌<◌, true, ℕ, List, Some, length, refl, sym, ap, ◌∙◌, subst}
+use Rattle.std.proofs.lemmas.List.{get_or_default}
+use Rattle.sector_dev.specs.Disk.{now, shown_image}
+use Rattle.catalogue.specs.declared.entry.Segment.{Segment}
+use Rattle.commit.specs.Standing.{is_on_device}
+use Rattle.ipc_stream.specs.View.{gathered_table}
+use Rattle.store.specs.Calls.{done, refused}
+use Rattle.store.proofs.ReadTables.{run_at, rows_step, rows_of_none, unreads_step, reads_more, reads_none, image_then, light_none}
+use Rattle.store.proofs.reading.read_segments.Goals as goal
+
+pub loop-place-init : goal.loop-place-init
+loop-place-init g c =
+    let D = g.D.SectorDevice in
+    record {
+      reads = reads_none D.size D.story D.failed D.tells c.args.device.now;
+      schema = refl;
+      light = light_none (gathered_table c.args.empty).schema (gathered_table c.args.empty).rows c.requires.none;
+      rows = λ told. rows_of_none (gathered_table c.args.empty).schema (shown_image (now (D.story c.args.device.now))) ∙ ap Some (sym c.requires.none);
+    }
+
+abbrev no_segment : Segment
+no_segment = record { place = record { run = record { start = 0; count = 0 }; bytes = 0 }; rows = 0 }
+
+-- the segment at a place, whatever stands for one past the end
+at_place : (segments : List Segment) (place : ℕ) (segment : Segment) → segment ≡ get_or segments place no_segment → place < length segments → segment ≡ get_or segments place segment
+at_place segments place segment is inside = is ∙ get_or_default segments place no_segment segment inside
+
+pub append_segment-requires-clause-placed : goal.append_segment-requires-clause-placed
+append_segment-requires-clause-placed g c =
+    let D = g.D.SectorDevice in
+    let segments = c.args.segments.now in
+    let place = c.loop-place.place in
+    let segment = get_or segments place no_segment in
+    subst (λ (n : ℕ). is_on_device n segment.place.run ≡ true) (sym c.loop-place.invariant.reads.same)
+    (run_at (D.size c.args.device.now) segments place segment c.requires.placed c.loop-place-test.true (at_place segments place segment refl c.loop-place-test.true))
+
+pub returns-in-Err-clause-reads : goal.returns-in-Err-clause-reads
+returns-in-Err-clause-reads g c =
+    let D = g.D.SectorDevice in
+    reads_more D.size D.story D.failed D.tells (refused c.in-Err.refusal) c.args.device.now c.loop-place.device c.append_segment.new.device c.loop-place.invariant.reads c.in-Err.ensures.reads
+
+pub returns-in-Err-clause-unread : goal.returns-in-Err-clause-unread
+returns-in-Err-clause-unread g c = λ name.
+    let D = g.D.SectorDevice in
+    let segments = c.args.segments.now in
+    let place = c.loop-place.place in
+    let segment = get_or segments place no_segment in
+    let so_far = gathered_table c.loop-place.gathered in
+    let before = D.story c.args.device.now in
+    let mid = D.story c.loop-place.device in
+    unreads_step D.tells (shown_image (now before)) (shown_image (now mid)) (record { name = name; schema = (gathered_table c.args.empty).schema; segments = segments }) so_far.schema so_far.rows segment place c.in-Err.refusal
+    c.loop-place.invariant.schema (λ told. image_then before mid (c.loop-place.invariant.reads.moments told)) c.loop-place-test.true (at_place segments place segment refl c.loop-place-test.true) c.loop-place.invariant.light c.loop-place.invariant.rows c.in-Err.ensures.unread
+
+pub loop-place-preserved : goal.loop-place-preserved
+loop-place-preserved g c =
+    let D = g.D.SectorDevice in
+    let segments = c.args.segments.now in
+    let place = c.loop-place.place in
+    let segment = get_or segments place no_segment in
+    let so_far = gathered_table c.loop-place.gathered in
+    let before = D.story c.args.device.now in
+    let mid = D.story c.loop-place.device in
+    record {
+      reads = reads_more D.size D.story D.failed D.tells done c.args.device.now c.loop-place.device c.append_segment.new.device c.loop-place.invariant.reads c.in-Ok.ensures.reads;
+      schema = c.in-Ok.ensures.schema ∙ c.loop-place.invariant.schema;
+      light = c.in-Ok.ensures.light;
+      rows = λ told.
+          rows_step (gathered_table c.args.empty).schema so_far.schema segments place segment (shown_image (now before)) (shown_image (now mid)) so_far.rows (Some (gathered_table c.in-Ok.more).rows) c.loop-place.invariant.schema
+          (image_then before mid (c.loop-place.invariant.reads.moments told)) c.loop-place-test.true (at_place segments place segment refl c.loop-place-test.true) (c.loop-place.invariant.rows told) (c.in-Ok.ensures.rows told);
+    }

@@ -1,0 +1,18 @@
+use Rattle.std.proofs.Common.{◌≡◌, ◌≤◌, true, Some, take}
+use Rattle.sector_dev.specs.Disk.{now, shown_image}
+use Rattle.cells.specs.Weight.{table_weight}
+use Rattle.cells.specs.declared.limits.TheConstants.{MAX_TABLE_WEIGHT}
+use Rattle.ipc_stream.specs.View.{gathered_table}
+use Rattle.store.specs.Calls.{done}
+use Rattle.store.specs.Held.{rows_held}
+use Rattle.store.specs.Reading.{OnlyReadsDevice}
+use Rattle.store.proofs.reading.read_segments.Given as goal
+
+-- the rows so far are those of the first segments
+abbrev pub invariant-loop-place : goal.invariant-loop-place
+invariant-loop-place g l = let D = g.D.SectorDevice in record {
+  reads : OnlyReadsDevice D.size D.story D.failed D.tells done l.fn.device l.device;
+  schema : (gathered_table l.gathered).schema ≡ (gathered_table l.fn.empty).schema;
+  light : table_weight (gathered_table l.gathered).schema (gathered_table l.gathered).rows ≤ MAX_TABLE_WEIGHT;
+  rows : D.tells ≡ true → rows_held (gathered_table l.fn.empty).schema (take l.place l.segments) (shown_image (now (D.story l.fn.device))) ≡ Some (gathered_table l.gathered).rows;
+}

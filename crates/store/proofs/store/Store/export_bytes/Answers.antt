@@ -1,0 +1,40 @@
+use Rattle.std.specs.Prelude.{Ok}
+use Rattle.std.proofs.Common.{◌≡◌, refl, ap, ◌∙◌}
+use Rattle.catalogue.specs.laws.Kept.{catalogue_is}
+use Rattle.ipc_message.specs.Header.{supported_codes}
+use Rattle.ipc_stream.specs.Meaning.{meaning}
+use Rattle.values.specs.TableView.{table_of}
+use Rattle.tables.specs.declared.refusal.Refusal.TheVariants.{OutOfMemory}
+use Rattle.store.specs.Calls.{done, export_call, bytes_are, refused}
+use Rattle.store.specs.Steps.{Step}
+use Rattle.store.specs.Fits.{listed_in}
+use Rattle.store.proofs.ReadTables.{TableLaws}
+use Rattle.store.proofs.ReadsStore.{found_table, stays_reading, refused_reading, export_step}
+use Rattle.store.proofs.store.Store.export_bytes.Goals as goal
+
+pub returns-in-Ok-encode-clause-goes : goal.returns-in-Ok-encode-clause-goes
+unfolding Step
+returns-in-Ok-encode-clause-goes g c = λ told base m fits.
+    let D = g.D.SectorDevice in
+    let old = c.args.self.now in
+    let name = c.args.name.now in
+    let t = table_of c.in-Ok.table in
+    let found = found_table D.size D.story D.failed base m D.tells told old c.read_named.new.self fits name t c.in-Ok.ensures.found in
+    let means : meaning supported_codes c.in-Ok-encode.bytes.items ≡ Ok t = ap (meaning supported_codes) c.in-Ok-encode.ensures ∙ c.canonical_means_its_table.ensures t c.in-Ok.ensures.kept c.in-Ok.ensures.integers in
+    stays_reading D.size D.story D.failed base m D.tells told old c.read_named.new.self fits (export_call name) (bytes_are c.in-Ok-encode.bytes.items) done refl refl (found.0, (t, found.1, means), (refl, refl)) c.in-Ok.ensures.reads
+
+pub returns-in-Ok-clause-refused : goal.returns-in-Ok-clause-refused
+returns-in-Ok-clause-refused g c = λ told base m fits.
+    let D = g.D.SectorDevice in
+    let old = c.args.self.now in
+    let name = c.args.name.now in
+    let found = found_table D.size D.story D.failed base m D.tells told old c.read_named.new.self fits name (table_of c.in-Ok.table) c.in-Ok.ensures.found in
+    stays_reading D.size D.story D.failed base m D.tells told old c.read_named.new.self fits (export_call name) (refused OutOfMemory) done refl refl (export_step _ m name OutOfMemory m (found.0, (refl, refl))) c.in-Ok.ensures.reads
+
+pub returns-clause-refused : goal.returns-clause-refused
+returns-clause-refused g c = λ told base m fits.
+    let D = g.D.SectorDevice in
+    let old = c.args.self.now in
+    let name = c.args.name.now in
+    let laws : TableLaws = record { accepts = c.accepted_rows_are_a_table.ensures.kept; accepted = c.accepted_rows_are_a_table.ensures.accepted; cut = c.tables_are_joined_and_cut.ensures.cut } in
+    refused_reading D.size D.story D.failed base m D.tells told old c.read_named.new.self fits laws (catalogue_is (listed_in old) old.opened.catalogue.list.kept) (export_call name) name (export_step _ m name) c.in-Err.refusal c.in-Err.ensures.told c.in-Err.ensures.reads

@@ -1,0 +1,67 @@
+-- What reading a table answers, beside what the store is and what reads of its device give, and what it leaves.
+use Rattle.std.specs.Prelude.{◌≡◌, ◌≤◌, ◌<◌, ◌++◌, ◌||◌, ℕ, Bool, true, false, List, take, slice_get, Option, Some, None, IsSome, Result, Ok, Err}
+use Rattle.sector_dev.specs.Disk.{Image, Story}
+use Rattle.sector_dev.specs.Time.{OnlyReads}
+use Rattle.sector_dev.specs.declared.device.SectorDevice.{Ghosts}
+use Rattle.arrow_schema.specs.Column.{PlainSchema}
+use Rattle.cells.specs.Cell.{Cell, PlainTable}
+use Rattle.cells.specs.Weight.{table_weight}
+use Rattle.cells.specs.declared.limits.TheConstants.{MAX_TABLE_WEIGHT}
+use Rattle.catalogue.specs.declared.entry.Segment.{Segment}
+use Rattle.catalogue.specs.Entries.{PlainEntry}
+use Rattle.tables.specs.declared.refusal.Refusal.{Refusal}
+use Rattle.tables.specs.declared.refusal.Refusal.TheVariants as refusals
+use Rattle.store.specs.declared.store.Store.{Store}
+use Rattle.store.specs.Calls.{PlainReply, done, refused, is_device_reply}
+use Rattle.store.specs.Held.{segment_rows, rows_held, table_held}
+use Rattle.store.specs.Runs.{counted}
+
+-- behind these rows a segment has none that can be read, or rows that are too heavy together with them
+abbrev pub ArePast : PlainSchema → List (List Cell) → Option (List (List Cell)) → Type 0
+ArePast schema rows None = Unit {0}
+ArePast schema rows (Some more) = MAX_TABLE_WEIGHT < table_weight schema (rows ++ more)
+
+-- the segment at this place, counted from 0, is the first that does not hold its rows, or whose rows pass the weight of a table
+pub record IsUnread (image : Image) (e : PlainEntry) (place : ℕ) : Type 0 where
+  pub segment : Segment
+  pub at : slice_get e.segments place ≡ Some segment
+  pub rows : List (List Cell)
+  pub before : rows_held e.schema (take place e.segments) image ≡ Some rows
+  pub light : table_weight e.schema rows ≤ MAX_TABLE_WEIGHT
+  pub past : ArePast e.schema rows (segment_rows e.schema segment image)
+
+-- why the table of an entry is not read; where the device does not tell its story nothing is known of the image
+abbrev pub Unreads : (tells : Bool) → Image → PlainEntry → Refusal → Type 0
+Unreads tells image e refusals.Device = Unit {0}
+Unreads tells image e refusals.OutOfMemory = Unit {0}
+Unreads tells image e (refusals.SegmentUnread place) = tells ≡ true → IsUnread image e place
+Unreads tells image e _ = ⊥
+
+-- why the table of a name, with this entry if there is one, is not read
+abbrev pub RefusesRead : (halted tells : Bool) → Image → Option PlainEntry → Refusal → Type 0
+RefusesRead true tells image found r = r ≡ refusals.Halted
+RefusesRead false tells image None r = r ≡ refusals.NoTable
+RefusesRead false tells image (Some e) r = Unreads tells image e r
+
+-- the entry of the table that was read: it has this table
+abbrev pub ReadsTable : (halted tells : Bool) → Image → Option PlainEntry → PlainTable → Type 0
+ReadsTable true tells image found table = ⊥
+ReadsTable false tells image None table = ⊥
+ReadsTable false tells image (Some e) table = tells ≡ true → table_held image e ≡ Some table
+
+-- how a call ended, in the words of replies, whatever it gives
+abbrev pub ended : {T : Type 0} → Result T Refusal → PlainReply
+ended (Ok x) = done
+ended (Err r) = refused r
+
+-- calls of a device that only read: its size stays, and a failure is counted
+pub record OnlyReadsDevice {D : Type 0} (size : D → ℕ) (story : D → Story) (failed : D → ℕ) (tells : Bool) (reply : PlainReply) (old new : D) : Type 0 where
+  pub same : size new ≡ size old
+  pub moments : tells ≡ true → OnlyReads (story old) (story new)
+  pub count : failed new ≡ counted reply (failed old)
+
+-- a call of a store that only reads: the store stays as it is, unless its device failed
+pub record OnlyReadsStore {D : Type 0} {g : Ghosts D} (size : D → ℕ) (story : D → Story) (failed : D → ℕ) (tells : Bool) (reply : PlainReply) (old new : Store D g) : Type 0 where
+  pub device : OnlyReadsDevice size story failed tells reply old.device new.device
+  pub kept : new.opened ≡ old.opened
+  pub halts : new.halted ≡ (old.halted || is_device_reply reply)

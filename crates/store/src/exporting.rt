@@ -1,0 +1,84 @@
+// A table is exported: as the bytes of a stream that means it.
+ghost use Rattle.std.specs.Prelude.{◌≡◌, ◌≢◌, ◌⊎◌, true, IfOk, IfErr, OnOk};
+ghost use Rattle.std.specs.Io.KnownBytes.{Appends, Keeps};
+ghost use Rattle.sector_dev.specs.Disk.{now, shown_image};
+ghost use Rattle.cells.specs.Cell.{PlainTable};
+ghost use Rattle.catalogue.specs.Edits.{entry_of};
+ghost use Rattle.ipc_stream.specs.Canonical.{canonical};
+ghost use Rattle.tables.specs.Tables.{Tables};
+ghost use Rattle.store.specs.Calls.{export_call, bytes_are, refused};
+ghost use Rattle.store.specs.Machine.{Machine};
+ghost use Rattle.store.specs.Fits.{StoreFits, device_of, listed_in, is_halted};
+ghost use Rattle.store.specs.Applying.{GoesOn};
+ghost use Rattle.store.specs.Reading.{RefusesRead, ReadsTable, OnlyReadsStore, ended};
+
+use crate::Store;
+use ipc_stream::{canonical_means_its_table, encode};
+use sector_dev::SectorDevice;
+use std::alloc::Global;
+use std::io::Write;
+use tables::Refusal;
+use values::{accepted_rows_are_a_table, tables_are_joined_and_cut};
+
+impl<D: SectorDevice> Store<D> {
+    /// The canonical stream of the table of a name: it means the table. It only reads, and all of the stream is in memory.
+    ///
+    /// # Errors
+    /// Those of [`Store::read`].
+    pub fn export_bytes(&mut self, alloc: Global, name: &str) -> Result<Vec<u8>, Refusal>
+        // Of a store that stands for a machine it is a stream of the table of the settled commands.
+        ensures goes { IfOk result (λ bytes. D.tells ≡ true → (base : Tables) (m : Machine) → StoreFits D.size D.story base m self.old
+            → GoesOn D.size D.story D.failed base m (export_call name.now) (bytes_are bytes.items) self.old self.new) }
+        ensures refused { IfErr result (λ e. D.tells ≡ true → (base : Tables) (m : Machine) → StoreFits D.size D.story base m self.old
+            → GoesOn D.size D.story D.failed base m (export_call name.now) (refused e) self.old self.new) }
+        // Of any store it is that of what reads show of its catalogue's entry.
+        ensures found { IfOk result (λ bytes. (t : PlainTable) × ReadsTable (is_halted self.old) D.tells (shown_image (now (D.story (device_of self.old))))
+            (entry_of (listed_in self.old) name.now) t × (bytes.items ≡ canonical t)) }
+        ensures told { IfErr result (RefusesRead (is_halted self.old) D.tells (shown_image (now (D.story (device_of self.old))))
+            (entry_of (listed_in self.old) name.now)) }
+        ensures reads { OnlyReadsStore D.size D.story D.failed D.tells (ended result) self.old self.new }
+    {
+        accepted_rows_are_a_table();
+        tables_are_joined_and_cut();
+        canonical_means_its_table();
+        match self.read_named(alloc, name) {
+            Ok(table) => match encode(alloc, &table) {
+                Ok(bytes) => Ok(bytes),
+                Err(_) => Err(Refusal::OutOfMemory),
+            },
+            Err(refusal) => Err(refusal),
+        }
+    }
+
+    /// Writes the canonical stream of the table of a name, and flushes. All of it is made before the first byte is written.
+    ///
+    /// # Errors
+    /// Those of [`Store::read`], and then nothing is written; `Write` where the writer fails, and then some of it may be written.
+    pub fn export<W: Write>(
+        &mut self,
+        alloc: Global,
+        name: &str,
+        writer: &mut W,
+    ) -> Result<(), Refusal>
+        ensures written { OnOk result ((t : PlainTable) × ReadsTable (is_halted self.old) D.tells (shown_image (now (D.story (device_of self.old))))
+            (entry_of (listed_in self.old) name.now) t × Appends (W.contents writer.old) (W.contents writer.new) (canonical t)) }
+        ensures told { IfErr result (λ e. e ≢ Refusal.Write → RefusesRead (is_halted self.old) D.tells
+            (shown_image (now (D.story (device_of self.old)))) (entry_of (listed_in self.old) name.now) e) }
+        ensures silent { IfErr result (λ e. e ≢ Refusal.Write → writer.new ≡ writer.old) }
+        ensures reads { OnlyReadsStore D.size D.story D.failed D.tells (ended result) self.old self.new }
+    {
+        match self.export_bytes(alloc, name) {
+            Ok(bytes) => write_stream(writer, &bytes),
+            Err(refusal) => Err(refusal),
+        }
+    }
+}
+
+// Writes all of the bytes, and flushes.
+fn write_stream<W: Write>(writer: &mut W, bytes: &[u8]) -> Result<(), Refusal>
+    ensures written { OnOk result (Appends (W.contents writer.old) (W.contents writer.new) bytes.now) }
+    ensures failed { IfErr result (λ e. e ≡ Refusal.Write) }
+{
+    writer.write_all(bytes).map_err(|_| Refusal::Write)?;
+    writer.flush().map_err(|_| Refusal::Write)
+}

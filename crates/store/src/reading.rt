@@ -1,0 +1,283 @@
+// A table is read from the segments of its entry.
+ghost use Rattle.std.specs.Prelude.{◌≡◌, ◌≤◌, ℕ, true, List, [], Some, None, option_map, IfOk, IfErr, IfSome};
+ghost use Rattle.std.specs.List.{list_all};
+ghost use Rattle.sector_dev.specs.Disk.{now, shown_image};
+ghost use Rattle.arrow_schema.specs.Column.{PlainSchema};
+ghost use Rattle.arrow_schema.specs.Limits.{IsWithinLimits};
+ghost use Rattle.arrow_schema.specs.View.{schema_of};
+ghost use Rattle.arrow_schema.specs.Integers.{is_integer_schema};
+ghost use Rattle.values.specs.TableView.{table_of};
+ghost use Rattle.values.specs.IntegerTable.{IsIntegerTable};
+ghost use Rattle.cells.specs.Weight.{table_weight};
+ghost use Rattle.ipc_stream.specs.View.{gathered_table};
+ghost use Rattle.ipc_write.specs.Written.{schema_message};
+ghost use Rattle.catalogue.specs.Entries.{is_segment, is_entry, plain_entry};
+ghost use Rattle.commit.specs.Standing.{is_size, is_on_device, all_on_device};
+ghost use Rattle.store.specs.Held.{rows_in_bytes, segment_rows, joined_rows, rows_held, table_held};
+ghost use Rattle.store.specs.Reading.{Unreads, OnlyReadsDevice, ended};
+ghost use Rattle.values.specs.Table.{IsTable};
+ghost use Rattle.store.specs.Calls.{is_failure};
+ghost use Rattle.store.specs.inner.Reading.{UnreadsSegment, FailsReading, runs_in};
+
+use crate::Store;
+use arrow_schema::Schema;
+use catalogue::{Entry, Segment};
+use cells::MAX_TABLE_WEIGHT;
+use ipc_stream::{Gathered, ImportError, decode, the_first_message_is_the_schema};
+use ipc_write::write_schema;
+use sector_dev::SectorDevice;
+use segments::{ReadError, read_run};
+use std::alloc::{AllocError, Global};
+use tables::Refusal;
+use values::{Table, TableError, accepted_rows_are_a_table, tables_are_joined_and_cut};
+
+// The table of so many rows that some bytes hold, if they begin with the message of its schema.
+fn table_in_bytes(
+    alloc: Global,
+    front: &[u8],
+    rows: u64,
+    bytes: &[u8],
+) -> Result<Option<Table>, Refusal>
+    ensures rows { IfOk result (λ found. (s : PlainSchema) → front.now ≡ schema_message s
+        → option_map (λ t. (table_of t).rows) found ≡ rows_in_bytes s rows (Some bytes.now)) }
+    ensures schema { IfOk result (λ found. IfSome found (λ t. (s : PlainSchema) → IsWithinLimits s → front.now ≡ schema_message s
+        → (table_of t).schema ≡ s)) }
+    ensures integers { IfOk result (λ found. IfSome found (λ t. IsIntegerTable (table_of t))) }
+    ensures memory { IfErr result (λ e. e ≡ Refusal.OutOfMemory) }
+{
+    the_first_message_is_the_schema();
+    if !bytes.starts_with(front) {
+        return Ok(None);
+    }
+    match decode(alloc, bytes) {
+        Ok(table) => {
+            if table.len() as u64 == rows {
+                Ok(Some(table))
+            } else {
+                Ok(None)
+            }
+        }
+        Err(ImportError::Fault(_)) => Ok(None),
+        Err(ImportError::OutOfMemory) => Err(Refusal::OutOfMemory),
+    }
+}
+
+// The table that a segment holds.
+fn read_segment<D: SectorDevice>(
+    alloc: Global,
+    device: &mut D,
+    front: &[u8],
+    segment: Segment,
+) -> Result<Option<Table>, Refusal>
+    requires size { is_size (D.size device.old) ≡ true }
+    requires placed { is_on_device (D.size device.old) segment.place.run ≡ true }
+    requires sound { is_segment segment ≡ true }
+    ensures reads { OnlyReadsDevice D.size D.story D.failed D.tells (ended result) device.old device.new }
+    ensures rows { IfOk result (λ found. D.tells ≡ true → (s : PlainSchema) → front.now ≡ schema_message s
+        → option_map (λ t. (table_of t).rows) found ≡ segment_rows s segment (shown_image (now (D.story device.old)))) }
+    ensures schema { IfOk result (λ found. IfSome found (λ t. (s : PlainSchema) → IsWithinLimits s → front.now ≡ schema_message s
+        → (table_of t).schema ≡ s)) }
+    ensures integers { IfOk result (λ found. IfSome found (λ t. IsIntegerTable (table_of t))) }
+    ensures fails { IfErr result FailsReading }
+{
+    match read_run(
+        alloc,
+        device,
+        segment.place.run.start,
+        segment.place.bytes as usize,
+    ) {
+        Ok(bytes) => table_in_bytes(alloc, front, segment.rows, &bytes),
+        Err(ReadError::Unreadable) => Ok(None),
+        Err(ReadError::Failed) => Err(Refusal::Device),
+        Err(ReadError::OutOfMemory) => Err(Refusal::OutOfMemory),
+    }
+}
+
+// The rows of the segment at a place behind those before it.
+fn append_segment<D: SectorDevice>(
+    alloc: Global,
+    device: &mut D,
+    front: &[u8],
+    gathered: Gathered,
+    segment: Segment,
+    place: usize,
+) -> Result<Gathered, Refusal>
+    requires size { is_size (D.size device.old) ≡ true }
+    requires placed { is_on_device (D.size device.old) segment.place.run ≡ true }
+    requires sound { is_segment segment ≡ true }
+    requires limits { IsWithinLimits (gathered_table gathered).schema }
+    requires message { front.now ≡ schema_message (gathered_table gathered).schema }
+    ensures reads { OnlyReadsDevice D.size D.story D.failed D.tells (ended result) device.old device.new }
+    ensures schema { IfOk result (λ g. (gathered_table g).schema ≡ (gathered_table gathered).schema) }
+    ensures light { IfOk result (λ g. table_weight (gathered_table g).schema (gathered_table g).rows ≤ MAX_TABLE_WEIGHT) }
+    ensures rows { IfOk result (λ g. D.tells ≡ true → Some (gathered_table g).rows ≡ joined_rows (Some (gathered_table gathered).rows)
+        (segment_rows (gathered_table gathered).schema segment (shown_image (now (D.story device.old))))) }
+    ensures unread { IfErr result (UnreadsSegment D.tells (shown_image (now (D.story device.old)))
+        (gathered_table gathered).schema (gathered_table gathered).rows segment place) }
+{
+    match read_segment(alloc, device, front, segment) {
+        Ok(Some(table)) => match gathered.append(alloc, &table) {
+            Ok(more) => Ok(more),
+            Err(TableError::OutOfMemory) => Err(Refusal::OutOfMemory),
+            Err(_) => Err(Refusal::SegmentUnread(place)),
+        },
+        Ok(None) => Err(Refusal::SegmentUnread(place)),
+        Err(refusal) => Err(refusal),
+    }
+}
+
+// The rows of all segments, one after another.
+fn read_segments<D: SectorDevice>(
+    alloc: Global,
+    device: &mut D,
+    front: &[u8],
+    empty: Gathered,
+    segments: &[Segment],
+) -> Result<Gathered, Refusal>
+    requires size { is_size (D.size device.old) ≡ true }
+    requires placed { all_on_device (D.size device.old) (runs_in segments.now) ≡ true }
+    requires sound { list_all is_segment segments.now ≡ true }
+    requires limits { IsWithinLimits (gathered_table empty).schema }
+    requires message { front.now ≡ schema_message (gathered_table empty).schema }
+    requires none { (gathered_table empty).rows ≡ [] }
+    ensures reads { OnlyReadsDevice D.size D.story D.failed D.tells (ended result) device.old device.new }
+    ensures schema { IfOk result (λ g. (gathered_table g).schema ≡ (gathered_table empty).schema) }
+    ensures rows { IfOk result (λ g. D.tells ≡ true
+        → rows_held (gathered_table empty).schema segments.now (shown_image (now (D.story device.old))) ≡ Some (gathered_table g).rows) }
+    ensures unread { IfErr result (λ e. (name : List ℕ) → Unreads D.tells (shown_image (now (D.story device.old)))
+        (record { name = name; schema = (gathered_table empty).schema; segments = segments.now }) e) }
+{
+    let mut gathered = empty;
+    for (place, segment) in segments.iter().enumerate() {
+        match append_segment(alloc, device, front, gathered, *segment, place) {
+            Ok(more) => gathered = more,
+            Err(refusal) => return Err(refusal),
+        }
+    }
+    Ok(gathered)
+}
+
+// The message of a schema, and no rows of it.
+fn start_table(alloc: Global, schema: &Schema) -> Result<(Vec<u8>, Gathered), AllocError>
+    requires limits { IsWithinLimits (schema_of schema.now) }
+    requires integers { is_integer_schema (schema_of schema.now) ≡ true }
+    ensures message { IfOk result (λ r. r.0.items ≡ schema_message (schema_of schema.now)) }
+    ensures empty { IfOk result (λ r. gathered_table r.1 ≡ record { schema = schema_of schema.now; rows = [] }) }
+{
+    let mut front = Vec::new(alloc);
+    write_schema(alloc, &mut front, schema)?;
+    let empty = Gathered::empty(alloc, schema.copy(alloc)?)?;
+    Ok((front, empty))
+}
+
+// The table of gathered rows, and that it is one.
+fn finish_table(gathered: Gathered) -> Table
+    ensures table { table_of result ≡ gathered_table gathered }
+    ensures integers { IsIntegerTable (table_of result) }
+    ensures kept { IsTable (table_of result) }
+{
+    let table = gathered.finish();
+    table.schema();
+    table
+}
+
+// The table of an entry.
+fn read_entry<D: SectorDevice>(
+    alloc: Global,
+    device: &mut D,
+    entry: &Entry,
+) -> Result<Table, Refusal>
+    requires size { is_size (D.size device.old) ≡ true }
+    requires placed { all_on_device (D.size device.old) (runs_in (plain_entry entry.now).segments) ≡ true }
+    requires sound { is_entry (plain_entry entry.now) ≡ true }
+    requires integers { is_integer_schema (plain_entry entry.now).schema ≡ true }
+    ensures reads { OnlyReadsDevice D.size D.story D.failed D.tells (ended result) device.old device.new }
+    ensures table { IfOk result (λ t. D.tells ≡ true → table_held (shown_image (now (D.story device.old))) (plain_entry entry.now) ≡ Some (table_of t)) }
+    ensures integers { IfOk result (λ t. IsIntegerTable (table_of t)) }
+    ensures kept { IfOk result (λ t. IsTable (table_of t)) }
+    ensures unread { IfErr result (Unreads D.tells (shown_image (now (D.story device.old))) (plain_entry entry.now)) }
+{
+    accepted_rows_are_a_table();
+    tables_are_joined_and_cut();
+    match start_table(alloc, &entry.schema) {
+        Ok((front, empty)) => {
+            match read_segments(alloc, device, &front, empty, &entry.segments) {
+                Ok(gathered) => Ok(finish_table(gathered)),
+                Err(refusal) => Err(refusal),
+            }
+        }
+        Err(_) => Err(Refusal::OutOfMemory),
+    }
+}
+
+// Whether the device failed.
+fn is_failure(refusal: Refusal) -> bool
+    ensures { result ≡ is_failure refusal }
+{
+    matches!(refusal, Refusal::Device)
+}
+
+impl<D: SectorDevice> Store<D> {
+    ghost use Rattle.catalogue.specs.Edits.{entry_of};
+    ghost use Rattle.tables.specs.Tables.{Tables};
+    ghost use Rattle.store.specs.Calls.{read_call, table_is, refused};
+    ghost use Rattle.store.specs.Machine.{Machine};
+    ghost use Rattle.store.specs.Fits.{StoreFits, device_of, listed_in, is_halted};
+    ghost use Rattle.store.specs.Applying.{GoesOn};
+    ghost use Rattle.store.specs.Reading.{RefusesRead, ReadsTable, OnlyReadsStore};
+
+    // The table of a name, on any store.
+    pub(crate) fn read_named(&mut self, alloc: Global, name: &str) -> Result<Table, Refusal>
+        ensures reads { OnlyReadsStore D.size D.story D.failed D.tells (ended result) self.old self.new }
+        ensures found { IfOk result (λ t. ReadsTable (is_halted self.old) D.tells (shown_image (now (D.story (device_of self.old))))
+            (entry_of (listed_in self.old) name.now) (table_of t)) }
+        ensures told { IfErr result (RefusesRead (is_halted self.old) D.tells (shown_image (now (D.story (device_of self.old))))
+            (entry_of (listed_in self.old) name.now)) }
+        ensures integers { IfOk result (λ t. IsIntegerTable (table_of t)) }
+        ensures kept { IfOk result (λ t. IsTable (table_of t)) }
+    {
+        if self.halted {
+            return Err(Refusal::Halted);
+        }
+        let opened = &self.opened;
+        match opened.catalogue.list.get(name) {
+            Some(entry) => match read_entry(alloc, &mut self.device, entry) {
+                Ok(table) => Ok(table),
+                Err(refusal) => {
+                    self.halted = is_failure(refusal);
+                    Err(refusal)
+                }
+            },
+            None => Err(Refusal::NoTable),
+        }
+    }
+
+    /// The table of a name: the rows of its segments, in order. It only reads.
+    ///
+    /// # Errors
+    /// `Halted` after a failure of the device; `NoTable` where no table has the name; `SegmentUnread` with the first segment, counted from 0,
+    /// that can't be read, is no stream of the table's schema and number of rows, or whose rows pass the weight of a table; `Device`,
+    /// after which the store is halted; `OutOfMemory`.
+    pub fn read(&mut self, alloc: Global, name: &str) -> Result<Table, Refusal>
+        // Of a store that stands for a machine it is that of the settled commands.
+        ensures goes { IfOk result (λ t. D.tells ≡ true → (base : Tables) (m : Machine) → StoreFits D.size D.story base m self.old
+            → GoesOn D.size D.story D.failed base m (read_call name.now) (table_is (table_of t)) self.old self.new) }
+        ensures refused { IfErr result (λ e. D.tells ≡ true → (base : Tables) (m : Machine) → StoreFits D.size D.story base m self.old
+            → GoesOn D.size D.story D.failed base m (read_call name.now) (refused e) self.old self.new) }
+        // Of any store it is what reads show of its catalogue's entry; each refusal has its one reason.
+        ensures found { IfOk result (λ t. ReadsTable (is_halted self.old) D.tells (shown_image (now (D.story (device_of self.old))))
+            (entry_of (listed_in self.old) name.now) (table_of t)) }
+        ensures told { IfErr result (RefusesRead (is_halted self.old) D.tells (shown_image (now (D.story (device_of self.old))))
+            (entry_of (listed_in self.old) name.now)) }
+        ensures reads { OnlyReadsStore D.size D.story D.failed D.tells (ended result) self.old self.new }
+        // Columns of other types are not held yet.
+        ensures integers { IfOk result (λ t. IsIntegerTable (table_of t)) }
+    {
+        accepted_rows_are_a_table();
+        tables_are_joined_and_cut();
+        match self.read_named(alloc, name) {
+            Ok(table) => Ok(table),
+            Err(refusal) => Err(refusal),
+        }
+    }
+}
