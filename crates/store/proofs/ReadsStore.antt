@@ -23,7 +23,7 @@ use Rattle.store.specs.declared.store.Store.{Store}
 use Rattle.store.specs.Calls.{PlainCall, read_call, export_call, PlainReply, refused, is_device_reply, may_be_done}
 use Rattle.store.specs.Machine.{Setting, Machine, running, halted, halt, meanwhile, has_written, tables_now, Allows, AllowsEach}
 use Rattle.store.specs.Steps.{Step, Stays, RefusesReading}
-use Rattle.store.specs.Runs.{Goes, counted}
+use Rattle.store.specs.Runs.{Goes, counted, TellsFound}
 use Rattle.store.specs.Held.{whole_reading, tables_held, table_held}
 use Rattle.store.specs.Fits.{setting_of, StoreFits, DeviceFits, IsSound, listed_in}
 use Rattle.store.specs.Applying.{GoesOn}
@@ -91,9 +91,9 @@ module _ {D : Type 0} {g : Ghosts D} (size : D → ℕ) (story : D → Story) (f
   }
 
   -- where the device does not fail
-  pub stays_reading : (call : PlainCall) (reply ends : PlainReply) → is_device_reply ends ≡ false → is_device_reply reply ≡ false → Step own m call reply false m → OnlyReadsStore size story failed tells ends old new
+  pub stays_reading : (call : PlainCall) (reply ends : PlainReply) → is_device_reply ends ≡ false → is_device_reply reply ≡ false → TellsFound own reply (now (story old.device)) → Step own m call reply false m → OnlyReadsStore size story failed tells ends old new
       → GoesOn size story failed base m call reply old new
-  stays_reading call reply ends quiet answered step reads =
+  stays_reading call reply ends quiet answered found step reads =
       let moments = reads.device.moments told in
       let later : now (story new.device) ≡ now (story old.device) = now_read (story old.device) (story new.device) moments in
       let allows : LeavesOnly (Allows own m) (now (story new.device)) = subst (λ (d : Disk). LeavesOnly (Allows own m) d) (sym later) fits.device.allows in
@@ -107,6 +107,7 @@ module _ {D : Type 0} {g : Ghosts D} (size : D → ℕ) (story : D → Story) (f
           settles = allows;
           quiet = λ no device. later;
           counts = reads.device.count ∙ ap (λ (b : Bool). if b then min (failed old.device + 1) (2 ^ 64 - 1) else failed old.device) (quiet ∙ sym answered);
+          tells = found;
         };
         fits = record {
           phase = fits.phase ∙ ap (λ (b : Bool). if b then halted else running) (sym halts);
@@ -139,6 +140,7 @@ module _ {D : Type 0} {g : Ghosts D} (size : D → ℕ) (story : D → Story) (f
           settles = allows;
           quiet = λ no device. later;
           counts = reads.device.count;
+          tells = tt;
         };
         fits = record {
           phase = ap (λ (b : Bool). if b then halted else running) (sym halts);
@@ -180,13 +182,13 @@ module _ {D : Type 0} {g : Ghosts D} (size : D → ℕ) (story : D → Story) (f
       is_halted : old.halted ≡ true → r ≡ refusals.Halted → GoesOn size story failed base m call (refused r) old new
       is_halted h is =
           subst (λ (q : Refusal). OnlyReadsStore size story failed tells (refused q) old new → GoesOn size story failed base m call (refused q) old new) (sym is)
-          (stays_reading call (refused refusals.Halted) (refused refusals.Halted) refl refl (step refusals.Halted m (not_running m.phase old.halted fits.phase h, (refl, refl)))) reads
+          (stays_reading call (refused refusals.Halted) (refused refusals.Halted) refl refl tt (step refusals.Halted m (not_running m.phase old.halted fits.phase h, (refl, refl)))) reads
 
       is_missing : old.halted ≡ false → entry_of (listed_in old) name ≡ None → r ≡ refusals.NoTable → GoesOn size story failed base m call (refused r) old new
       is_missing h none is =
           let lacks = entry_lacks (synced_image (now (story old.device))) (listed_in old) (after base m.settled) (fits.sound (on h)).tables name none in
           subst (λ (q : Refusal). OnlyReadsStore size story failed tells (refused q) old new → GoesOn size story failed base m call (refused q) old new) (sym is)
-          (stays_reading call (refused refusals.NoTable) (refused refusals.NoTable) refl refl (step refusals.NoTable m (on h, lacks, (refl, refl)))) reads
+          (stays_reading call (refused refusals.NoTable) (refused refusals.NoTable) refl refl tt (step refusals.NoTable m (on h, lacks, (refl, refl)))) reads
 
       -- no segment of a table that the machine has is unread
       no_segment : old.halted ≡ false → (e : PlainEntry) (place : ℕ) → entry_of (listed_in old) name ≡ Some e → IsUnread (shown_image (now (story old.device))) e place → ⊥
@@ -198,7 +200,7 @@ module _ {D : Type 0} {g : Ghosts D} (size : D → ℕ) (story : D → Story) (f
       by_refusal : old.halted ≡ false → (e : PlainEntry) → entry_of (listed_in old) name ≡ Some e → (q : Refusal) → Unreads tells (shown_image (now (story old.device))) e q → OnlyReadsStore size story failed tells (refused q) old new
           → GoesOn size story failed base m call (refused q) old new
       by_refusal h e found refusals.Device u reads = halts_reading call (step refusals.Device (halt call false m) (on h, refl, refl)) reads
-      by_refusal h e found refusals.OutOfMemory u reads = stays_reading call (refused refusals.OutOfMemory) (refused refusals.OutOfMemory) refl refl (step refusals.OutOfMemory m (on h, (refl, refl))) reads
+      by_refusal h e found refusals.OutOfMemory u reads = stays_reading call (refused refusals.OutOfMemory) (refused refusals.OutOfMemory) refl refl tt (step refusals.OutOfMemory m (on h, (refl, refl))) reads
       by_refusal h e found (refusals.SegmentUnread place) u reads = absurd (no_segment h e place found (u told))
       by_refusal h e found refusals.NoTable u reads = absurd u
       by_refusal h e found refusals.NameTaken u reads = absurd u

@@ -2,7 +2,7 @@
 //!
 //! What runs of calls mean stands here: how a reply follows from the tables (`specs/Steps.antt`), what a stop at any moment
 //! may leave (`specs/Machine.antt`), and what follows for a whole run: [`run`] answers any list of calls, and each stop
-//! meanwhile leaves the tables of all that was acknowledged. Tables are not read or exported yet.
+//! meanwhile leaves the tables of all that was acknowledged.
 //!
 //! ```
 //! match Store::open(alloc, device) {
