@@ -180,7 +180,7 @@ found_in (x ∷ xs) name e is = by_test (bytes_eq x.name name) is (λ h. found_i
     by_test false h more = let k = more h in (suc k.0, omega (arith, k.1), k.2)
 
 -- its schema is of integers
-entry_integers : (c : PlainCatalogue) (name : List ℕ) (e : PlainEntry) → IsCatalogue c → AreRead c → entry_of c name ≡ Some e → is_integer_schema e.schema ≡ true
+pub entry_integers : (c : PlainCatalogue) (name : List ℕ) (e : PlainEntry) → IsCatalogue c → AreRead c → entry_of c name ≡ Some e → is_integer_schema e.schema ≡ true
 entry_integers c name e sound read is =
     let within = (entry_is e (found_passes is_entry c name e sound.entries is)).schema in
     read_integers e.schema within (found_passes (λ (x : PlainEntry). is_read x.schema) c name e read is)
