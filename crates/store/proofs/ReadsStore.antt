@@ -1,12 +1,12 @@
 -- A call that reads a table is a call of the machine: it changes nothing, unless its device fails.
-use Rattle.std.specs.Prelude.{◌||◌, ◌&&◌, min, nat_lt, if◌then◌else◌, Err}
-use Rattle.std.proofs.Common.{◌≡◌, ◌≢◌, ◌+◌, ◌-◌, ◌^◌, ℕ, Bool, true, false, List, [], Option, Some, None, refl, sym, ap, ◌∙◌, subst}
+use Rattle.std.specs.Prelude.{◌||◌, ◌&&◌, min, if◌then◌else◌}
+use Rattle.std.proofs.Common.{◌≡◌, ◌+◌, ◌-◌, ◌^◌, ℕ, Bool, true, false, List, [], Option, Some, None, refl, sym, ap, ◌∙◌, subst}
 use Rattle.sector_dev.specs.Disk.{Disk, Story, Image, now, MayLeave, shown_image, synced_image}
 use Rattle.sector_dev.specs.Time.{Grows, LeavesOnly, OnlyReads}
 use Rattle.sector_dev.specs.laws.Time.{weaken, now_read}
 use Rattle.sector_dev.specs.declared.device.SectorDevice.{Ghosts}
 use Rattle.cells.specs.Cell.{PlainTable}
-use Rattle.catalogue.specs.Entries.{PlainEntry, PlainCatalogue, IsCatalogue, is_entry}
+use Rattle.catalogue.specs.Entries.{PlainEntry, IsCatalogue, is_entry}
 use Rattle.catalogue.specs.Edits.{entry_of}
 use Rattle.catalogue.specs.View.{catalogue_of}
 use Rattle.catalogue.specs.laws.Changed.{found_passes}
@@ -23,7 +23,7 @@ use Rattle.store.specs.declared.store.Store.{Store}
 use Rattle.store.specs.Calls.{PlainCall, read_call, export_call, PlainReply, refused, is_device_reply, may_be_done}
 use Rattle.store.specs.Machine.{Setting, Machine, running, halted, halt, meanwhile, has_written, tables_now, Allows, AllowsEach}
 use Rattle.store.specs.Steps.{Step, Stays, RefusesReading}
-use Rattle.store.specs.Runs.{Goes, counted, TellsFound}
+use Rattle.store.specs.Runs.{TellsFound}
 use Rattle.store.specs.Held.{whole_reading, tables_held, table_held}
 use Rattle.store.specs.Fits.{setting_of, StoreFits, DeviceFits, IsSound, listed_in}
 use Rattle.store.specs.Applying.{GoesOn}

@@ -1,5 +1,5 @@
 -- What is read of one segment.
-use Rattle.std.specs.Prelude.{◌≡◌, ℕ, Bool, true, List, [], map, Option}
+use Rattle.std.specs.Prelude.{◌≡◌, ℕ, Bool, true, List, map}
 use Rattle.sector_dev.specs.Disk.{Image}
 use Rattle.segments.specs.declared.run.Run.{Run}
 use Rattle.arrow_schema.specs.Column.{PlainSchema}

@@ -1,8 +1,6 @@
-use Rattle.std.specs.Prelude.{option_map, Err}
-use Rattle.std.proofs.Common.{◌≡◌, true, List, ℕ, Some, Option, refl, sym, ap, ◌∙◌}
+use Rattle.std.specs.Prelude.{Err}
+use Rattle.std.proofs.Common.{List, ℕ, Some, sym, ap, ◌∙◌}
 use Rattle.std.proofs.lemmas.Result.{IfOk-weaker}
-use Rattle.arrow_schema.specs.Column.{PlainSchema}
-use Rattle.sector_dev.specs.Disk.{now, shown_image}
 use Rattle.store.specs.Held.{rows_in_bytes, segment_rows}
 use Rattle.store.proofs.reading.read_segment.Goals as goal
 

@@ -1,4 +1,4 @@
-use Rattle.std.proofs.Common.{◌≡◌, true, refl}
+use Rattle.std.proofs.Common.{refl}
 use Rattle.catalogue.specs.laws.Kept.{catalogue_is}
 use Rattle.values.specs.TableView.{table_of}
 use Rattle.store.specs.Calls.{done, read_call, table_is}

@@ -1,7 +1,6 @@
 use Rattle.std.proofs.Common.{◌≡◌, Some, sym}
-use Rattle.catalogue.specs.Entries.{PlainEntry, is_entry, plain_entry, runs_of}
+use Rattle.catalogue.specs.Entries.{is_entry, plain_entry, runs_of}
 use Rattle.catalogue.specs.Edits.{entry_of}
-use Rattle.catalogue.specs.View.{catalogue_of}
 use Rattle.catalogue.specs.laws.Changed.{found_passes}
 use Rattle.commit.specs.laws.Frame.{fault_none}
 use Rattle.store.specs.Fits.{listed_in}
