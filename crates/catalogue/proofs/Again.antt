@@ -16,13 +16,13 @@ use Rattle.catalogue.specs.declared.limits.TheConstants.{MAX_NAME_BYTES, MAX_SEG
 use Rattle.catalogue.specs.Schemas.{is_read}
 use Rattle.catalogue.specs.Entries.{PlainEntry, PlainCatalogue, is_between, is_name_byte, is_name, is_segment, is_entry, segment_count, IsCatalogue, AreRead}
 use Rattle.catalogue.specs.Text.{sized, counted, segment_text, table_text, entry_text, list_text}
-use Rattle.catalogue.specs.Reading.{◌>>=◌, number_at, sized_at, many_at, counted_at, segment_at, schema_in, table_at, entry_at, catalogue_at}
+use Rattle.catalogue.specs.Reading.{◌>>=◌, front_number, sized_at, many_at, counted_at, segment_at, schema_in, table_at, entry_at, catalogue_at}
 use Rattle.catalogue.specs.inner.Messages.{AllAgain}
 use Rattle.catalogue.specs.laws.Kept.{IsEntry, entry_is, passes_catalogue}
 
 -- ---- numbers and sized bytes
 
-pub number_again : (size x : ℕ) (rest : List ℕ) → x < 256 ^ size → number_at size (little_bytes size x ++ rest) ≡ Some (x, rest)
+pub number_again : (size x : ℕ) (rest : List ℕ) → x < 256 ^ size → front_number size (little_bytes size x ++ rest) ≡ Some (x, rest)
 number_again size x rest lt =
     let len = length-bytes_low_first 0 size x in
     let long : leb size (length (little_bytes size x ++ rest)) ≡ true = le-leb _ _ (omega (arith, length-append (little_bytes size x) rest, len)) in
@@ -35,10 +35,10 @@ bound_is o x f y h k = ap (λ p. p >>= f) h ∙ k
 pub sized_again : (bytes rest : List ℕ) → length bytes < 2 ^ 32 → sized_at (sized bytes ++ rest) ≡ Some (bytes, rest)
 unfolding sized_at
 sized_again bytes rest lt =
-    let front : number_at 4 (sized bytes ++ rest) ≡ Some (length bytes, bytes ++ rest) =
-    ap (number_at 4) (append_assoc (little_bytes 4 (length bytes)) bytes rest) ∙ number_again 4 (length bytes) (bytes ++ rest) (omega (arith, lt)) in
+    let front : front_number 4 (sized bytes ++ rest) ≡ Some (length bytes, bytes ++ rest) =
+    ap (front_number 4) (append_assoc (little_bytes 4 (length bytes)) bytes rest) ∙ number_again 4 (length bytes) (bytes ++ rest) (omega (arith, lt)) in
     let long : leb (length bytes) (length (bytes ++ rest)) ≡ true = le-leb _ _ (omega (arith, length-append bytes rest)) in
-    bound_is (number_at 4 (sized bytes ++ rest)) (length bytes, bytes ++ rest) (λ size. cond (leb size.0 (length size.1)) (Some (take size.0 size.1, drop size.0 size.1)) None) (Some (bytes, rest)) front
+    bound_is (front_number 4 (sized bytes ++ rest)) (length bytes, bytes ++ rest) (λ size. cond (leb size.0 (length size.1)) (Some (take size.0 size.1, drop size.0 size.1)) None) (Some (bytes, rest)) front
     (cond-true (leb (length bytes) (length (bytes ++ rest))) (Some (take (length bytes) (bytes ++ rest), drop (length bytes) (bytes ++ rest))) None long
     ∙ (λ i. Some (take_at bytes rest (length bytes) refl i, drop_at bytes rest (length bytes) refl i)))
 
@@ -91,17 +91,17 @@ segment_again s rest h =
     let parts : (a ++ (b ++ (c ++ d))) ++ rest ≡ a ++ (b ++ (c ++ (d ++ rest))) =
     append_assoc a (b ++ (c ++ d)) rest ∙ ap (λ x. a ++ x) (append_assoc b (c ++ d) rest ∙ ap (λ x. b ++ x) (append_assoc c d rest)) in
     let text = segment_text s ++ rest in
-    let e0 : number_at 8 text ≡ Some (s.place.run.start, b ++ (c ++ (d ++ rest))) = ap (number_at 8) parts ∙ number_again 8 s.place.run.start (b ++ (c ++ (d ++ rest))) f.start in
+    let e0 : front_number 8 text ≡ Some (s.place.run.start, b ++ (c ++ (d ++ rest))) = ap (front_number 8) parts ∙ number_again 8 s.place.run.start (b ++ (c ++ (d ++ rest))) f.start in
     let e1 = number_again 8 s.place.run.count (c ++ (d ++ rest)) f.count in
     let e2 = number_again 8 s.place.bytes (d ++ rest) f.bytes in
     let e3 = number_again 8 s.rows rest f.rows in
-    bound_is (number_at 8 text) (s.place.run.start, b ++ (c ++ (d ++ rest))) (λ start. number_at 8 start.1 >>= λ count. number_at 8 count.1 >>= λ size. number_at 8 size.1 >>= λ rows.
+    bound_is (front_number 8 text) (s.place.run.start, b ++ (c ++ (d ++ rest))) (λ start. front_number 8 start.1 >>= λ count. front_number 8 count.1 >>= λ size. front_number 8 size.1 >>= λ rows.
     Some (record { place = record { run = record { start = start.0; count = count.0 }; bytes = size.0 }; rows = rows.0 }, rows.1)) (Some (s, rest)) e0
-    (bound_is (number_at 8 (b ++ (c ++ (d ++ rest)))) (s.place.run.count, c ++ (d ++ rest)) (λ count. number_at 8 count.1 >>= λ size. number_at 8 size.1 >>= λ rows.
+    (bound_is (front_number 8 (b ++ (c ++ (d ++ rest)))) (s.place.run.count, c ++ (d ++ rest)) (λ count. front_number 8 count.1 >>= λ size. front_number 8 size.1 >>= λ rows.
     Some (record { place = record { run = record { start = s.place.run.start; count = count.0 }; bytes = size.0 }; rows = rows.0 }, rows.1)) (Some (s, rest)) e1
-    (bound_is (number_at 8 (c ++ (d ++ rest))) (s.place.bytes, d ++ rest) (λ size. number_at 8 size.1 >>= λ rows.
+    (bound_is (front_number 8 (c ++ (d ++ rest))) (s.place.bytes, d ++ rest) (λ size. front_number 8 size.1 >>= λ rows.
     Some (record { place = record { run = record { start = s.place.run.start; count = s.place.run.count }; bytes = size.0 }; rows = rows.0 }, rows.1)) (Some (s, rest)) e2
-    (bound_is (number_at 8 (d ++ rest)) (s.rows, rest) (λ rows.
+    (bound_is (front_number 8 (d ++ rest)) (s.rows, rest) (λ rows.
     Some (record { place = record { run = record { start = s.place.run.start; count = s.place.run.count }; bytes = s.place.bytes }; rows = rows.0 }, rows.1)) (Some (s, rest)) e3 refl)))
 
 segments_again : (ss : List Segment) → list_all is_segment ss ≡ true → AllByRecursion (ReadAgain segment_at segment_text) ss

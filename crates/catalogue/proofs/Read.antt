@@ -16,7 +16,7 @@ use Rattle.ipc_write.specs.Decoded.{raw_schema}
 use Rattle.ipc_write.specs.Written.{schema_message}
 use Rattle.catalogue.specs.Schemas.{is_read}
 use Rattle.catalogue.specs.Entries.{PlainEntry, PlainCatalogue, is_name, is_catalogue, AreRead}
-use Rattle.catalogue.specs.Reading.{◌>>=◌, number_at, sized_at, many_at, counted_at, segment_at, raw_schema_in, schema_in, unfaulted, table_at, entry_at, catalogue_at}
+use Rattle.catalogue.specs.Reading.{◌>>=◌, front_number, sized_at, many_at, counted_at, segment_at, raw_schema_in, schema_in, unfaulted, table_at, entry_at, catalogue_at}
 use Rattle.catalogue.specs.inner.Messages.{AllFound}
 use Rattle.catalogue.proofs.Spelled.{bound, tested, named_table, schema_takes}
 
@@ -88,5 +88,5 @@ unfolding catalogue_at
 catalogue_read found bytes c e =
     let a = bound (counted_at entry_at bytes) (λ entries. cond (eqb (length entries.1) 0 && is_catalogue entries.0) (Some entries.0) None) c e in
     let t = tested (eqb (length a.0.1) 0 && is_catalogue a.0.0) a.0.0 c a.2 in
-    let n = bound (number_at 4 bytes) (λ count. many_at entry_at count.0 count.1) a.0 a.1 in
+    let n = bound (front_number 4 bytes) (λ count. many_at entry_at count.0 count.1) a.0 a.1 in
     subst AreRead t.1 (many_pass entry_at (λ (x : PlainEntry). is_read x.schema) (entry_read found) n.0.0 n.0.1 a.0 n.2)

@@ -18,7 +18,7 @@ use Rattle.ipc_write.specs.Written.{schema_message}
 use Rattle.catalogue.specs.declared.entry.Segment.{Segment}
 use Rattle.catalogue.specs.Entries.{PlainEntry, PlainCatalogue, is_name, IsCatalogue, is_catalogue}
 use Rattle.catalogue.specs.Text.{sized, counted, segment_text, table_text, entry_text, list_text}
-use Rattle.catalogue.specs.Reading.{◌>>=◌, number_at, sized_at, many_at, counted_at, segment_at, raw_schema_in, schema_in, unfaulted, table_at, entry_at, catalogue_at}
+use Rattle.catalogue.specs.Reading.{◌>>=◌, front_number, sized_at, many_at, counted_at, segment_at, raw_schema_in, schema_in, unfaulted, table_at, entry_at, catalogue_at}
 use Rattle.catalogue.specs.laws.Kept.{catalogue_is}
 
 -- ---- numbers
@@ -70,7 +70,7 @@ pub tested : {A : Type 0} (b : Bool) (x y : A) → cond b (Some x) None ≡ Some
 tested true x y e = (refl, cc)
 tested false x y e = absurd cc
 
-number_takes : (size : ℕ) (bytes : List ℕ) (r : ℕ × List ℕ) → AreBytes bytes → number_at size bytes ≡ Some r → Takes bytes (little_bytes size r.0) r.1
+number_takes : (size : ℕ) (bytes : List ℕ) (r : ℕ × List ℕ) → AreBytes bytes → front_number size bytes ≡ Some r → Takes bytes (little_bytes size r.0) r.1
 number_takes size bytes r small e =
     let t = tested (leb size (length bytes)) (little_number size bytes, drop size bytes) r e in
     let long : size ≤ length bytes = leb-true _ _ t.0 in
@@ -84,7 +84,7 @@ number_takes size bytes r small e =
 sized_takes : (bytes : List ℕ) (r : List ℕ × List ℕ) → AreBytes bytes → sized_at bytes ≡ Some r → Takes bytes (sized r.0) r.1 × AreBytes r.0
 unfolding sized_at
 sized_takes bytes r small e =
-    let a = bound (number_at 4 bytes) (λ size. cond (leb size.0 (length size.1)) (Some (take size.0 size.1, drop size.0 size.1)) None) r e in
+    let a = bound (front_number 4 bytes) (λ size. cond (leb size.0 (length size.1)) (Some (take size.0 size.1, drop size.0 size.1)) None) r e in
     let n = a.0 in
     let p = number_takes 4 bytes n small a.1 in
     let t = tested (leb n.0 (length n.1)) (take n.0 n.1, drop n.0 n.1) r a.2 in
@@ -121,7 +121,7 @@ many_takes {A = A} one_at text one (suc count) bytes r small e =
 
 counted_takes : {A : Type 0} (one_at : List ℕ → Option (A × List ℕ)) (text : A → List ℕ) → TakesOne one_at text → TakesOne (counted_at one_at) (counted text)
 counted_takes one_at text one bytes r small e =
-    let a = bound (number_at 4 bytes) (λ count. many_at one_at count.0 count.1) r e in
+    let a = bound (front_number 4 bytes) (λ count. many_at one_at count.0 count.1) r e in
     let p = number_takes 4 bytes a.0 small a.1 in
     let q = many_takes one_at text one a.0.0 a.0.1 r p.small a.2 in
     subst (λ k. Takes bytes (little_bytes 4 k ++ flat_map text r.0) r.1) (sym q.1) (then_takes bytes (little_bytes 4 a.0.0) a.0.1 (flat_map text r.0) r.1 p q.0)
@@ -129,13 +129,13 @@ counted_takes one_at text one bytes r small e =
 segment_takes : TakesOne segment_at segment_text
 unfolding segment_at
 segment_takes bytes r small e =
-    let a = bound (number_at 8 bytes) (λ start. number_at 8 start.1 >>= λ count. number_at 8 count.1 >>= λ size. number_at 8 size.1 >>= λ rows.
+    let a = bound (front_number 8 bytes) (λ start. front_number 8 start.1 >>= λ count. front_number 8 count.1 >>= λ size. front_number 8 size.1 >>= λ rows.
     Some (record { place = record { run = record { start = start.0; count = count.0 }; bytes = size.0 }; rows = rows.0 }, rows.1)) r e in
-    let b = bound (number_at 8 a.0.1) (λ count. number_at 8 count.1 >>= λ size. number_at 8 size.1 >>= λ rows.
+    let b = bound (front_number 8 a.0.1) (λ count. front_number 8 count.1 >>= λ size. front_number 8 size.1 >>= λ rows.
     Some (record { place = record { run = record { start = a.0.0; count = count.0 }; bytes = size.0 }; rows = rows.0 }, rows.1)) r a.2 in
-    let c = bound (number_at 8 b.0.1) (λ size. number_at 8 size.1 >>= λ rows.
+    let c = bound (front_number 8 b.0.1) (λ size. front_number 8 size.1 >>= λ rows.
     Some (record { place = record { run = record { start = a.0.0; count = b.0.0 }; bytes = size.0 }; rows = rows.0 }, rows.1)) r b.2 in
-    let d = bound (number_at 8 c.0.1) (λ rows. Some (record { place = record { run = record { start = a.0.0; count = b.0.0 }; bytes = c.0.0 }; rows = rows.0 }, rows.1)) r c.2 in
+    let d = bound (front_number 8 c.0.1) (λ rows. Some (record { place = record { run = record { start = a.0.0; count = b.0.0 }; bytes = c.0.0 }; rows = rows.0 }, rows.1)) r c.2 in
     let p = number_takes 8 bytes a.0 small a.1 in
     let q = number_takes 8 a.0.1 b.0 p.small b.1 in
     let s = number_takes 8 b.0.1 c.0 q.small c.1 in

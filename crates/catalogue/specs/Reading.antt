@@ -36,13 +36,13 @@ decode_error (errors.Fault f) = NoText
 decode_error errors.OutOfMemory = OutOfMemory
 
 -- a number of so many bytes
-abbrev pub number_at : ℕ → List ℕ → Option (ℕ × List ℕ)
-number_at size bytes = if nat_le size (length bytes) then Some (little_number size bytes, drop size bytes) else None
+abbrev pub front_number : ℕ → List ℕ → Option (ℕ × List ℕ)
+front_number size bytes = if nat_le size (length bytes) then Some (little_number size bytes, drop size bytes) else None
 
 -- four bytes of length, and so many bytes
 unfoldable pub sized_at : List ℕ → Option (List ℕ × List ℕ)
 sized_at bytes = do
-  size ← number_at 4 bytes
+  size ← front_number 4 bytes
   if nat_le size.0 (length size.1) then Some (take size.0 size.1, drop size.0 size.1) else None
 
 -- so many parts
@@ -56,15 +56,15 @@ many_at one_at (suc count) bytes = do
 -- four bytes of number, and so many parts
 abbrev pub counted_at : {A : Type 0} → (List ℕ → Option (A × List ℕ)) → List ℕ → Option (List A × List ℕ)
 counted_at one_at bytes = do
-  count ← number_at 4 bytes
+  count ← front_number 4 bytes
   many_at one_at count.0 count.1
 
 unfoldable pub segment_at : List ℕ → Option (Segment × List ℕ)
 segment_at bytes = do
-  start ← number_at 8 bytes
-  count ← number_at 8 start.1
-  size ← number_at 8 count.1
-  rows ← number_at 8 size.1
+  start ← front_number 8 bytes
+  count ← front_number 8 start.1
+  size ← front_number 8 count.1
+  rows ← front_number 8 size.1
   Some (record { place = record { run = record { start = start.0; count = count.0 }; bytes = size.0 }; rows = rows.0 }, rows.1)
 
 -- ---- the schema that a message has

@@ -1,7 +1,7 @@
 // A text is read.
 ghost use Rattle.std.specs.Prelude.{◌≡◌, true, map, string_bytes, IfOk};
 ghost use Rattle.catalogue.specs.Entries.{plain_entry, is_name};
-ghost use Rattle.catalogue.specs.Reading.{Gives, number_at, sized_at, many_at, segment_at, raw_schema_in, schema_in, table_at, entry_at, catalogue_at};
+ghost use Rattle.catalogue.specs.Reading.{Gives, front_number, sized_at, many_at, segment_at, raw_schema_in, schema_in, table_at, entry_at, catalogue_at};
 ghost use Rattle.arrow_schema.specs.View.{schema_of};
 ghost use Rattle.ipc_message.specs.View.{raw_schema_of};
 ghost use Rattle.catalogue.specs.View.{catalogue_of};
@@ -26,7 +26,7 @@ pub enum DecodeError {
 }
 
 fn u32_at(bytes: &[u8]) -> Result<(u32, &[u8]), DecodeError>
-    ensures { Gives (λ x. (x.0, x.1.now)) result (number_at 4 bytes.now) }
+    ensures { Gives (λ x. (x.0, x.1.now)) result (front_number 4 bytes.now) }
 {
     if bytes.len() < 4 {
         return Err(DecodeError::NoText);
@@ -35,7 +35,7 @@ fn u32_at(bytes: &[u8]) -> Result<(u32, &[u8]), DecodeError>
 }
 
 fn u64_at(bytes: &[u8]) -> Result<(u64, &[u8]), DecodeError>
-    ensures { Gives (λ x. (x.0, x.1.now)) result (number_at 8 bytes.now) }
+    ensures { Gives (λ x. (x.0, x.1.now)) result (front_number 8 bytes.now) }
 {
     if bytes.len() < 8 {
         return Err(DecodeError::NoText);

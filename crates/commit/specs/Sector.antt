@@ -30,15 +30,15 @@ unfoldable pub commit_text : Commit → List ℕ
 commit_text c = filled (fields_text c)
 
 -- a number of 64 bits at this byte
-abbrev pub number_at : ℕ → List ℕ → ℕ
-number_at at bytes = little_number 8 (drop at bytes)
+abbrev pub u64_at : ℕ → List ℕ → ℕ
+u64_at at bytes = little_number 8 (drop at bytes)
 
 -- the commit that a sector spells, if it spells one
 abbrev pub fields_of : List ℕ → Commit
 fields_of bytes = record {
-  epoch = number_at 8 bytes;
-  catalogue = record { run = record { start = number_at 16 bytes; count = number_at 24 bytes }; bytes = number_at 32 bytes };
-  device_sectors = number_at 40 bytes;
+  epoch = u64_at 8 bytes;
+  catalogue = record { run = record { start = u64_at 16 bytes; count = u64_at 24 bytes }; bytes = u64_at 32 bytes };
+  device_sectors = u64_at 40 bytes;
   version = One;
   kind = Whole;
 }

@@ -1,7 +1,7 @@
 // The commit sector and its text.
 ghost use Rattle.std.specs.Prelude.{◌≡◌, ◌+◌, ◌≤◌, ◌<◌, ◌^◌, ◌%◌, ◌++◌, ℕ, List, length, Option, Some};
 ghost use Rattle.segments.specs.Sectors.{filled};
-ghost use Rattle.commit.specs.Sector.{version_number, kind_number, commit_text, number_at, fields_of, commit_at, IsCommit};
+ghost use Rattle.commit.specs.Sector.{version_number, kind_number, commit_text, u64_at, fields_of, commit_at, IsCommit};
 ghost use Rattle.commit.specs.laws.Sectors.{IsFoundAt};
 
 use byteorder::{ByteOrder, LittleEndian};
@@ -79,9 +79,9 @@ pub(crate) fn commit_sector(commit: Commit) -> [u8; 512]
 }
 
 // The number at this byte.
-fn number_at(sector: &[u8; 512], at: usize) -> u64
+fn u64_at(sector: &[u8; 512], at: usize) -> u64
     requires { at + 8 ≤ 512 }
-    ensures { result ≡ number_at at sector.now }
+    ensures { result ≡ u64_at at sector.now }
 {
     LittleEndian::read_u64(&sector[at..])
 }
@@ -90,16 +90,16 @@ fn number_at(sector: &[u8; 512], at: usize) -> u64
 fn fields(sector: &[u8; 512]) -> Commit
     ensures { result ≡ fields_of sector.now }
 {
-    let start = number_at(sector, 16);
-    let count = number_at(sector, 24);
-    let bytes = number_at(sector, 32);
+    let start = u64_at(sector, 16);
+    let count = u64_at(sector, 24);
+    let bytes = u64_at(sector, 32);
     Commit {
-        epoch: number_at(sector, 8),
+        epoch: u64_at(sector, 8),
         catalogue: Extent {
             run: Run { start, count },
             bytes,
         },
-        device_sectors: number_at(sector, 40),
+        device_sectors: u64_at(sector, 40),
         version: FormatVersion::One,
         kind: CatalogueKind::Whole,
     }

@@ -18,7 +18,7 @@ use Rattle.std.proofs.lemmas.Bool.{and_parts, not-false, or_parts, ltb-false}
 use Rattle.ipc_message.specs.Raw.{RawParameters, RawEncoding, RawField, RawFields, raw_field, no_raw_field, and_raw_field, raw_fields_of, RawSchema}
 use Rattle.ipc_message.specs.Fields.{preorder, preorder_all, every_field, depth, depth_all, pairs_of}
 use Rattle.ipc_message.specs.Types.{type_name, decoded_type}
-use Rattle.ipc_message.specs.Convert.{index_of, column_of_field, columns_of_fields, plain_schema_of}
+use Rattle.ipc_message.specs.Convert.{decoded_index, column_of_field, columns_of_fields, plain_schema_of}
 use Rattle.ipc_message.specs.Checks.{is_bad, is_index_type, timezone_of, texts_of_pairs, texts_of_field, texts_of, count_of_pairs, is_dictionary_of_nested, schema_checks, checked_schema}
 use Rattle.ipc_message.specs.Framing.{first_some}
 use Rattle.ipc_message.specs.laws.Accepted.{IsAccepted, accepted}
@@ -111,7 +111,7 @@ numbers_fit [] h = refl
 numbers_fit (raw_field name nullable code p d children pairs ∷ fs) h =
     both (field_shape name nullable code p d children pairs ((or_parts _ _ h).0)).number (numbers_fit fs ((or_parts _ _ h).1))
 
-same_some : (d : Option RawEncoding) → is_some (option_map index_of d) ≡ is_some d
+same_some : (d : Option RawEncoding) → is_some (option_map decoded_index d) ≡ is_some d
 same_some None = refl
 same_some (Some e) = refl
 
@@ -120,10 +120,10 @@ unfolding column_of_field
 dictionaries_fit [] h g = refl
 dictionaries_fit (raw_field name nullable code p d children pairs ∷ fs) h g =
     let s = field_shape name nullable code p d children pairs ((or_parts _ _ h).0) in
-    let here : not (is_some (option_map index_of d) && limits.is_nested (unwrap_or (decoded_type (type_name code) p (columns_of_fields children)) nulls)) ≡ true = rw (same_some d, s.nested) (ap not ((or_parts _ _ g).0)) in
+    let here : not (is_some (option_map decoded_index d) && limits.is_nested (unwrap_or (decoded_type (type_name code) p (columns_of_fields children)) nulls)) ≡ true = rw (same_some d, s.nested) (ap not ((or_parts _ _ g).0)) in
     rw here (dictionaries_fit fs ((or_parts _ _ h).1) ((or_parts _ _ g).1))
 
-index_width : (d : Option RawEncoding) → is_index_type d ≡ true → limits.is_index_of_width (option_map index_of d) ≡ true
+index_width : (d : Option RawEncoding) → is_index_type d ≡ true → limits.is_index_of_width (option_map decoded_index d) ≡ true
 index_width None h = refl
 index_width (Some e) h = (and_parts (is_bit_width e.width) _ h).0
 

@@ -4,14 +4,14 @@ use Rattle.arrow_schema.specs.Column.{Index, Column, nulls, column, PlainSchema}
 use Rattle.ipc_message.specs.Raw.{RawEncoding, RawField, RawFields, raw_field, no_raw_field, and_raw_field, RawSchema}
 use Rattle.ipc_message.specs.Types.{type_name, decoded_type}
 
-abbrev pub index_of : RawEncoding → Index
-index_of e = record { bits = e.width; signed = e.signed }
+abbrev pub decoded_index : RawEncoding → Index
+decoded_index e = record { bits = e.width; signed = e.signed }
 
 -- what decodes to no type is read as Null: a schema with such a field is refused
 unfoldable mutual
   pub column_of_field : RawField → Column
   column_of_field (raw_field name nullable code table dictionary children pairs) =
-      column name nullable (unwrap_or (decoded_type (type_name code) table (columns_of_fields children)) nulls) (option_map index_of dictionary) pairs
+      column name nullable (unwrap_or (decoded_type (type_name code) table (columns_of_fields children)) nulls) (option_map decoded_index dictionary) pairs
 
   pub columns_of_fields : RawFields → List Column
   columns_of_fields no_raw_field = []

@@ -124,7 +124,7 @@ fn fixed_binary_type(parameters: &Parameters) -> DataType
 
 fn copy_index(dictionary: &Option<Encoding>) -> Option<DictSpec>
     requires { is_index_type (option_map encoding_of dictionary.now) ≡ true }
-    ensures { option_map index_of result ≡ option_map convert.index_of (option_map encoding_of dictionary.now) }
+    ensures { option_map index_of result ≡ option_map convert.decoded_index (option_map encoding_of dictionary.now) }
 {
     match dictionary {
         None => None,

@@ -7,7 +7,7 @@ use Rattle.ipc_message.specs.Raw.{RawNode}
 use Rattle.arrow_schema.specs.Column.{PlainSchema}
 use Rattle.ipc_message.specs.declared.header_type.TheConstants.{SCHEMA, DICTIONARY_BATCH, RECORD_BATCH}
 use Rattle.ipc_write.specs.Trees.{bit, schema_tree, batch_tree, dictionary_tree, message_tree, node_pair, raw_node, buffer_pair}
-use Rattle.ipc_write.specs.Written.{framed, message_bytes, body, placed, batch_of, dictionary_of, schema_message, batch_message, dictionary_message, IsWritableBatch}
+use Rattle.ipc_write.specs.Written.{framed, message_bytes, body, placed, batch_of, dictionary_batch_of, schema_message, batch_message, dictionary_message, IsWritableBatch}
 use Rattle.flatbuf.specs.Laid.{metadata}
 
 pub fits_more : (ps : List (ℕ × ℕ)) (p : ℕ × ℕ) → FitsStructs ps → p.0 < 2 ^ 64 → p.1 < 2 ^ 64 → FitsStructs (ps ++ p ∷ [])
@@ -59,10 +59,10 @@ abbrev pub dictionary_table : ℕ → Bool → Tree → Tree
 dictionary_table id is_delta batch = table (scalar 8 id (refers batch (scalar 1 (bit is_delta) no_slot)))
 
 pub dictionary_header : (header batch : Tree) (id : ℕ) (is_delta : Bool) (rows : ℕ) (nodes : List RawNode) (buffers : List (List ℕ)) → header ≡ dictionary_table id is_delta batch → batch ≡ batch_tree (batch_of rows nodes buffers)
-    → header ≡ dictionary_tree (dictionary_of id is_delta rows nodes buffers)
+    → header ≡ dictionary_tree (dictionary_batch_of id is_delta rows nodes buffers)
 dictionary_header header batch id is_delta rows nodes buffers h b = h ∙ ap (dictionary_table id is_delta) b
 
-pub dictionary_is : (header : Tree) (id : ℕ) (is_delta : Bool) (rows : ℕ) (nodes : List RawNode) (buffers : List (List ℕ)) → header ≡ dictionary_tree (dictionary_of id is_delta rows nodes buffers)
+pub dictionary_is : (header : Tree) (id : ℕ) (is_delta : Bool) (rows : ℕ) (nodes : List RawNode) (buffers : List (List ℕ)) → header ≡ dictionary_tree (dictionary_batch_of id is_delta rows nodes buffers)
     → message_bytes DICTIONARY_BATCH header (body buffers) ≡ dictionary_message id is_delta rows nodes buffers
 unfolding dictionary_message
 dictionary_is header id is_delta rows nodes buffers is = ap (λ (t : Tree). message_bytes DICTIONARY_BATCH t (body buffers)) is

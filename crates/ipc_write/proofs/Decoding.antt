@@ -10,7 +10,7 @@ use Rattle.arrow_schema.specs.Limits.{IsWithinLimits, number_of, has_number_in_r
 use Rattle.arrow_schema.specs.Preorder.{preorder, preorder_below, preorder_all}
 use Rattle.ipc_message.specs.Raw.{RawFields, no_raw_field, and_raw_field, raw_list_of}
 use Rattle.ipc_message.specs.Types.{type_name, is_size, decoded_type}
-use Rattle.ipc_message.specs.Convert.{index_of, column_of_field, columns_of_fields, plain_schema_of}
+use Rattle.ipc_message.specs.Convert.{decoded_index, column_of_field, columns_of_fields, plain_schema_of}
 use Rattle.ipc_write.specs.Trees.{code_of, ids_for, ids_of}
 use Rattle.ipc_write.specs.Decoded.{parameters_of, encoding_of, raw_of, raw_below, raw_of_all, raw_schema}
 use Rattle.ipc_write.proofs.Room.{has_numbers, schema_numbers}
@@ -26,7 +26,7 @@ list_again : (cs : List Column) → list_of (columns_of cs) ≡ cs
 list_again [] = refl
 list_again (c ∷ cs) = ap (λ (ds : List Column). c ∷ ds) (list_again cs)
 
-index_again : (id : ℕ) (dictionary : Option Index) → option_map index_of (encoding_of id dictionary) ≡ dictionary
+index_again : (id : ℕ) (dictionary : Option Index) → option_map decoded_index (encoding_of id dictionary) ≡ dictionary
 index_again id None = refl
 index_again id (Some index) = refl
 

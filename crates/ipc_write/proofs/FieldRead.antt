@@ -13,14 +13,14 @@ use Rattle.ipc_message.specs.Raw.{raw_fields_of, raw_field}
 use Rattle.ipc_message.specs.Header.{type_things, encoding_things, pairs_things, field_table_things, field_things, parameters_in, pairs_in, field_with, field_at}
 use Rattle.ipc_write.specs.Trees.{bit, code_of, type_tree, pairs_slot, dictionary_slot, ids_for, ids_of, field_tree, child_nodes, field_nodes}
 use Rattle.ipc_write.specs.Decoded.{parameters_of, raw_of, raw_below, raw_of_all}
-use Rattle.ipc_write.specs.Walked.{Holds, type_tables, encoding_tables, tables_of, tables_below, tables_of_all}
+use Rattle.ipc_write.specs.Walked.{HoldsTimes, type_tables, encoding_tables, tables_of, tables_below, tables_of_all}
 use Rattle.ipc_write.proofs.Fine.{Fine, fine_none, fine_append, fine_after, fine_spans, fine_text, fine_references, fine_head, text_read, elements_read}
 use Rattle.ipc_write.proofs.TypeRead.{is_set-bit, parameters_read, type_fine, encoding_read, encoding_fine, after_dictionary, pairs_read, pairs_fine}
 
 mutual
   unfolding field_at field_with field_tree child_nodes field_nodes raw_of raw_below raw_of_all depth depth_below depth_all
 
-  pub field_read : (supported : ℕ → Bool) (left : ℕ) (bytes : List ℕ) (at id : ℕ) (c : Column) → Holds supported → depth c + 2 ≤ left → Has bytes at (field_tree id c) → field_at supported left bytes at ≡ raw_of id c
+  pub field_read : (supported : ℕ → Bool) (left : ℕ) (bytes : List ℕ) (at id : ℕ) (c : Column) → HoldsTimes supported → depth c + 2 ≤ left → Has bytes at (field_tree id c) → field_at supported left bytes at ≡ raw_of id c
   field_read supported zero bytes at id c holds deep has = absurd (omega arith)
   field_read supported (suc left) bytes at id (column name nullable kind dictionary pairs) holds deep has =
       let t : Place = table_at bytes at in
@@ -39,7 +39,7 @@ mutual
       ap (λ (code : ℕ). parameters_in supported bytes code (table_behind bytes (slot bytes t 3))) code_is ∙ type_is in
       λ i. raw_field (name_is i) (flag_is i) (code_is i) (parameters_are i) (dictionary_is i) (children_are i) (pairs_are i)
 
-  children_read : (supported : ℕ → Bool) (left : ℕ) (bytes : List ℕ) (first id : ℕ) (kind : Kind) → Holds supported → depth_below kind + 2 ≤ left → HasAll bytes first (child_nodes id kind)
+  children_read : (supported : ℕ → Bool) (left : ℕ) (bytes : List ℕ) (first id : ℕ) (kind : Kind) → HoldsTimes supported → depth_below kind + 2 ≤ left → HasAll bytes first (child_nodes id kind)
       → raw_fields_of (map (field_at supported left bytes) (targets (count_of (child_nodes id kind)) bytes first)) ≡ raw_below id kind
   children_read supported left bytes first id nulls holds deep has = refl
   children_read supported left bytes first id booleans holds deep has = refl
@@ -56,7 +56,7 @@ mutual
   children_read supported left bytes first id (fixed_lists size item) holds deep has = rw (field_read supported left bytes (target bytes first) id item holds deep has.0) refl
   children_read supported left bytes first id (structs parts) holds deep has = fields_read supported left bytes first id parts holds deep has
 
-  pub fields_read : (supported : ℕ → Bool) (left : ℕ) (bytes : List ℕ) (first id : ℕ) (cs : Columns) → Holds supported → depth_all cs + 2 ≤ left → HasAll bytes first (field_nodes id cs)
+  pub fields_read : (supported : ℕ → Bool) (left : ℕ) (bytes : List ℕ) (first id : ℕ) (cs : Columns) → HoldsTimes supported → depth_all cs + 2 ≤ left → HasAll bytes first (field_nodes id cs)
       → raw_fields_of (map (field_at supported left bytes) (targets (count_of (field_nodes id cs)) bytes first)) ≡ raw_of_all id cs
   fields_read supported left bytes first id no_column holds deep has = refl
   fields_read supported left bytes first id (and_column c cs) holds deep has =
@@ -65,7 +65,7 @@ mutual
 mutual
   unfolding field_things field_table_things field_tree child_nodes field_nodes depth depth_below depth_all
 
-  pub field_fine : (supported : ℕ → Bool) (left : ℕ) (bytes : List ℕ) (at id n : ℕ) (c : Column) → Holds supported → depth c + 2 ≤ left → n + tables_of c ≤ MAX_TABLES → Has bytes at (field_tree id c)
+  pub field_fine : (supported : ℕ → Bool) (left : ℕ) (bytes : List ℕ) (at id n : ℕ) (c : Column) → HoldsTimes supported → depth c + 2 ≤ left → n + tables_of c ≤ MAX_TABLES → Has bytes at (field_tree id c)
       → Fine bytes (field_things supported left bytes at) n (n + tables_of c)
   field_fine supported zero bytes at id n c holds deep room has = absurd (omega arith)
   field_fine supported (suc left) bytes at id n (column name nullable kind dictionary pairs) holds deep room has =
@@ -101,7 +101,7 @@ mutual
       let b2 = fine_append bytes (field_table_things supported left bytes t ++ flat_map (field_things supported left bytes) (elements bytes (slot bytes t 5))) (pairs_things left bytes (slot bytes t 6)) n1 n4 (n4 + length pairs) b1 pairs_here in
       rw all (fine_append bytes (head_things bytes at) (field_table_things supported left bytes t ++ flat_map (field_things supported left bytes) (elements bytes (slot bytes t 5)) ++ pairs_things left bytes (slot bytes t 6)) n n1 (n4 + length pairs) head b2)
 
-  children_fine : (supported : ℕ → Bool) (left : ℕ) (bytes : List ℕ) (first id n : ℕ) (kind : Kind) → Holds supported → depth_below kind + 2 ≤ left → n + tables_below kind ≤ MAX_TABLES → HasAll bytes first (child_nodes id kind)
+  children_fine : (supported : ℕ → Bool) (left : ℕ) (bytes : List ℕ) (first id n : ℕ) (kind : Kind) → HoldsTimes supported → depth_below kind + 2 ≤ left → n + tables_below kind ≤ MAX_TABLES → HasAll bytes first (child_nodes id kind)
       → Fine bytes (flat_map (field_things supported left bytes) (targets (count_of (child_nodes id kind)) bytes first)) n (n + tables_below kind)
   children_fine supported left bytes first id n nulls holds deep room has = rw (add-zero n) (fine_none bytes n)
   children_fine supported left bytes first id n booleans holds deep room has = rw (add-zero n) (fine_none bytes n)
@@ -118,7 +118,7 @@ mutual
   children_fine supported left bytes first id n (fixed_lists size item) holds deep room has = fine_after bytes (field_things supported left bytes (target bytes first)) [] n (n + tables_of item) (field_fine supported left bytes (target bytes first) id n item holds deep room has.0) (fine_none bytes (n + tables_of item))
   children_fine supported left bytes first id n (structs parts) holds deep room has = fields_fine supported left bytes first id n parts holds deep room has
 
-  pub fields_fine : (supported : ℕ → Bool) (left : ℕ) (bytes : List ℕ) (first id n : ℕ) (cs : Columns) → Holds supported → depth_all cs + 2 ≤ left → n + tables_of_all cs ≤ MAX_TABLES → HasAll bytes first (field_nodes id cs)
+  pub fields_fine : (supported : ℕ → Bool) (left : ℕ) (bytes : List ℕ) (first id n : ℕ) (cs : Columns) → HoldsTimes supported → depth_all cs + 2 ≤ left → n + tables_of_all cs ≤ MAX_TABLES → HasAll bytes first (field_nodes id cs)
       → Fine bytes (flat_map (field_things supported left bytes) (targets (count_of (field_nodes id cs)) bytes first)) n (n + tables_of_all cs)
   fields_fine supported left bytes first id n no_column holds deep room has = rw (add-zero n) (fine_none bytes n)
   fields_fine supported left bytes first id n (and_column c cs) holds deep room has =

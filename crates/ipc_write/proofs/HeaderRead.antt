@@ -18,7 +18,7 @@ use Rattle.ipc_message.specs.Raw.{RawNode, RawBuffer, RawField, RawBatch, RawDic
 use Rattle.ipc_message.specs.Header.{schema_in, batch_in, dictionary_in, schema_things, batch_things, dictionary_things, pairs_things, needed_things, field_things, field_at, pairs_in, header_things, header_of, header}
 use Rattle.ipc_write.specs.Trees.{node_pair, buffer_pair, field_nodes, schema_tree, batch_tree, dictionary_tree, message_tree}
 use Rattle.ipc_write.specs.Decoded.{raw_of_all, raw_schema}
-use Rattle.ipc_write.specs.Walked.{Holds, tables_of_all}
+use Rattle.ipc_write.specs.Walked.{HoldsTimes, tables_of_all}
 use Rattle.ipc_write.proofs.Fine.{Fine, fine_append, fine_after, fine_more, fine_spans, fine_references, fine_structs, fine_reference, elements_read}
 use Rattle.ipc_write.proofs.TypeRead.{is_set-bit, pairs_read, pairs_fine}
 use Rattle.ipc_write.proofs.FieldRead.{fields_read, fields_fine}
@@ -30,7 +30,7 @@ listed : (fs : List RawField) → raw_list_of (raw_fields_of fs) ≡ fs
 listed [] = refl
 listed (f ∷ fs) = ap (λ (gs : List RawField). f ∷ gs) (listed fs)
 
-pub schema_read : (supported : ℕ → Bool) (left : ℕ) (bytes : List ℕ) (at : ℕ) (s : PlainSchema) → Holds supported → depth_all (columns_of s.columns) + 2 ≤ left → Has bytes at (schema_tree s)
+pub schema_read : (supported : ℕ → Bool) (left : ℕ) (bytes : List ℕ) (at : ℕ) (s : PlainSchema) → HoldsTimes supported → depth_all (columns_of s.columns) + 2 ≤ left → Has bytes at (schema_tree s)
     → schema_in supported left bytes (Some (table_at bytes at)) ≡ raw_schema s
 unfolding schema_in
 schema_read supported left bytes at s holds deep has =
@@ -46,7 +46,7 @@ schema_read supported left bytes at s holds deep has =
     let pairs : pairs_in bytes (slot bytes t 2) ≡ s.pairs = pairs_read bytes t 2 s.pairs h.1.1 in
     λ i. record { endianness = endian i; fields = each i; pairs = pairs i }
 
-pub schema_fine : (supported : ℕ → Bool) (left : ℕ) (bytes : List ℕ) (at n : ℕ) (s : PlainSchema) → Holds supported → depth_all (columns_of s.columns) + 2 ≤ left
+pub schema_fine : (supported : ℕ → Bool) (left : ℕ) (bytes : List ℕ) (at n : ℕ) (s : PlainSchema) → HoldsTimes supported → depth_all (columns_of s.columns) + 2 ≤ left
     → n + tables_of_all (columns_of s.columns) + length s.pairs ≤ MAX_TABLES → Has bytes at (schema_tree s)
     → Fine bytes (schema_things supported left bytes (Some (table_at bytes at))) n (n + tables_of_all (columns_of s.columns) + length s.pairs)
 unfolding schema_things
@@ -156,7 +156,7 @@ dictionary_fine bytes left at n d deep room has =
 needed_fine : (metadata : List ℕ) (s : Option ℕ) (p slots : ℕ) → s ≡ Some p → p + 4 ≤ length metadata → HasHead metadata (target metadata p) slots → Fine metadata (needed_things 39 metadata s) 1 2
 needed_fine metadata s p slots e reference has = rw e (fine_reference metadata 39 (Some p) p slots 1 refl reference has (omega arith) (omega arith))
 
-pub schema_header_read : (supported : ℕ → Bool) (metadata : List ℕ) (body_len : ℕ) (s : PlainSchema) → Holds supported → depth_all (columns_of s.columns) ≤ 36 → 2 + tables_of_all (columns_of s.columns) + length s.pairs ≤ MAX_TABLES
+pub schema_header_read : (supported : ℕ → Bool) (metadata : List ℕ) (body_len : ℕ) (s : PlainSchema) → HoldsTimes supported → depth_all (columns_of s.columns) ≤ 36 → 2 + tables_of_all (columns_of s.columns) + length s.pairs ≤ MAX_TABLES
     → Has metadata (target metadata 0) (message_tree 1 (schema_tree s) body_len) → header supported metadata ≡ Ok (schema_header (raw_schema s))
 unfolding header header_of header_things
 schema_header_read supported metadata body_len s holds deep room has =

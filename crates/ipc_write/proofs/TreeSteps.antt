@@ -10,6 +10,7 @@ use Rattle.flatbuf.specs.declared.nodes.Slot.{Slot}
 use Rattle.flatbuf.specs.View.{nodes_of, slots_in, node_of, slot_before}
 use Rattle.arrow_schema.specs.declared.types.Field.{Field}
 use Rattle.arrow_schema.specs.Column.{Index, Pair, Kind, Column, column, no_column, columns_of}
+use Rattle.arrow_schema.specs.Parts.{kind_of_column, index_of_column}
 use Rattle.arrow_schema.specs.View.{column_of}
 use Rattle.ipc_write.specs.Trees.{timezone_slot, pair_tree, pair_nodes, pairs_slot, dictionary_slot, ids_for, ids_of, ids_below, ids_of_all, field_tree, child_nodes, field_nodes}
 use Rattle.ipc_write.specs.inner.Steps.{slots_then, nodes_then, field_table}
@@ -59,22 +60,16 @@ nodes_push (m ∷ ns) n rest = ap (and_node m) (nodes_push ns n rest)
 
 -- ---- fields
 
-abbrev pub kind_in : Column → Kind
-kind_in (column name nullable kind dictionary pairs) = kind
-
-abbrev pub dictionary_in : Column → Option Index
-dictionary_in (column name nullable kind dictionary pairs) = dictionary
-
-pub ids_are : (c : Column) → ids_of c ≡ ids_for (dictionary_in c) + ids_below (kind_in c)
+pub ids_are : (c : Column) → ids_of c ≡ ids_for (index_of_column c) + ids_below (kind_of_column c)
 ids_are (column name nullable kind dictionary pairs) = refl
 
-field_again : (id : ℕ) (c : Column) (encoding : Slots → Slots) → ((rest : Slots) → encoding rest ≡ dictionary_slot id (dictionary_in c) rest)
-    → field_table c encoding (child_nodes (id + ids_for (dictionary_in c)) (kind_in c)) ≡ field_tree id c
+field_again : (id : ℕ) (c : Column) (encoding : Slots → Slots) → ((rest : Slots) → encoding rest ≡ dictionary_slot id (index_of_column c) rest)
+    → field_table c encoding (child_nodes (id + ids_for (index_of_column c)) (kind_of_column c)) ≡ field_tree id c
 unfolding field_tree
 field_again id (column name nullable kind dictionary pairs) encoding is = rw (is (refers (references (child_nodes (id + ids_for dictionary) kind)) (pairs_slot pairs))) refl
 
 -- the table of a field, with its dictionary and its children
-pub field_is : (id : ℕ) (c : Column) (kind : Kind) (dictionary : Option Index) (encoding : Slots → Slots) (children : Nodes) → kind_in c ≡ kind → dictionary_in c ≡ dictionary
+pub field_is : (id : ℕ) (c : Column) (kind : Kind) (dictionary : Option Index) (encoding : Slots → Slots) (children : Nodes) → kind_of_column c ≡ kind → index_of_column c ≡ dictionary
     → ((rest : Slots) → encoding rest ≡ dictionary_slot id dictionary rest) → children ≡ child_nodes (id + ids_for dictionary) kind → field_table c encoding children ≡ field_tree id c
 field_is id c kind dictionary encoding children k d is below =
     ap (field_table c encoding) (rw (k, d) below) ∙ field_again id c encoding (λ rest. rw d (is rest))

@@ -19,8 +19,8 @@ use Rattle.ipc_message.specs.Raw.{RawNode, schema_header, dictionary_header, bat
 use Rattle.ipc_message.specs.Header.{header}
 use Rattle.ipc_write.specs.Decoded.{raw_schema}
 use Rattle.ipc_write.specs.Trees.{schema_tree, dictionary_tree, batch_tree, message_tree, node_pair, buffer_pair}
-use Rattle.ipc_write.specs.Walked.{Holds, type_tables, tables_of, tables_below, tables_of_all, IsHeaderType}
-use Rattle.ipc_write.specs.Written.{framed, envelope, message_bytes, padded, body, placed, batch_of, dictionary_of, schema_message, dictionary_message, batch_message, schema_envelope, dictionary_envelope, batch_envelope, IsWritableBatch}
+use Rattle.ipc_write.specs.Walked.{HoldsTimes, type_tables, tables_of, tables_below, tables_of_all, IsHeaderType}
+use Rattle.ipc_write.specs.Written.{framed, envelope, message_bytes, padded, body, placed, batch_of, dictionary_batch_of, schema_message, dictionary_message, batch_message, schema_envelope, dictionary_envelope, batch_envelope, IsWritableBatch}
 use Rattle.ipc_write.specs.laws.Written.{length-placed}
 use Rattle.ipc_write.proofs.Room.{Sizes, schema_fits, batch_fits, batch_room, dictionary_batch_fits, dictionary_batch_room}
 use Rattle.ipc_write.proofs.MessageRead.{NextMessages, next_message_again, type_read}
@@ -140,7 +140,7 @@ all_tables : (cs : List Column) → sum_by own_tables cs ≡ 4 * length cs + sum
 all_tables [] = omega arith
 all_tables (c ∷ cs) = omega (arith, all_tables cs, sum_by-cons own_tables c cs, sum_by-cons pairs_in c cs)
 
-pub schema_read_again : Roots → (supported : ℕ → Bool) (s : PlainSchema) → Holds supported → IsWithinLimits s → length (schema_envelope s).metadata ≤ 16777216
+pub schema_read_again : Roots → (supported : ℕ → Bool) (s : PlainSchema) → HoldsTimes supported → IsWithinLimits s → length (schema_envelope s).metadata ≤ 16777216
     → header supported (schema_envelope s).metadata ≡ Ok (schema_header (raw_schema s))
 schema_read_again roots supported s holds limits small =
     let tables = tables_few_all (columns_of s.columns) in
@@ -204,7 +204,7 @@ batch_after rows nodes buffers rest =
 -- ---- a dictionary batch
 
 dictionary_written : (id : ℕ) (is_delta : Bool) (rows : ℕ) (nodes : List RawNode) (buffers : List (List ℕ))
-    → dictionary_message id is_delta rows nodes buffers ≡ message_bytes DICTIONARY_BATCH (dictionary_tree (dictionary_of id is_delta rows nodes buffers)) (body buffers)
+    → dictionary_message id is_delta rows nodes buffers ≡ message_bytes DICTIONARY_BATCH (dictionary_tree (dictionary_batch_of id is_delta rows nodes buffers)) (body buffers)
 unfolding dictionary_message
 dictionary_written id is_delta rows nodes buffers = refl
 
@@ -214,12 +214,12 @@ dictionary_small size id is_delta rows nodes buffers fits =
     omega (arith, room, length-map nodes node_pair, few_ranges buffers fits.few_buffers, fits.few_nodes)
 
 pub dictionary_tree_fits : (id : ℕ) (is_delta : Bool) (rows : ℕ) (nodes : List RawNode) (buffers : List (List ℕ)) → id < 2 ^ 64 → IsWritableBatch rows nodes buffers
-    → Fits (message_tree DICTIONARY_BATCH (dictionary_tree (dictionary_of id is_delta rows nodes buffers)) (length (body buffers)))
+    → Fits (message_tree DICTIONARY_BATCH (dictionary_tree (dictionary_batch_of id is_delta rows nodes buffers)) (length (body buffers)))
 dictionary_tree_fits id is_delta rows nodes buffers known fits =
     dictionary_batch_fits id is_delta rows (length (body buffers)) (map node_pair nodes) (map buffer_pair (placed 0 buffers)) known fits.rows_fit (omega (arith, fits.short_body)) fits.nodes_fit (buffers_fit rows nodes buffers fits)
 
 dictionary_readable : (id : ℕ) (is_delta : Bool) (rows : ℕ) (nodes : List RawNode) (buffers : List (List ℕ)) → id < 2 ^ 64 → IsWritableBatch rows nodes buffers
-    → length (dictionary_envelope id is_delta rows nodes buffers).metadata ≤ 16777216 → IsReadable DICTIONARY_BATCH (dictionary_tree (dictionary_of id is_delta rows nodes buffers)) (body buffers)
+    → length (dictionary_envelope id is_delta rows nodes buffers).metadata ≤ 16777216 → IsReadable DICTIONARY_BATCH (dictionary_tree (dictionary_batch_of id is_delta rows nodes buffers)) (body buffers)
 dictionary_readable id is_delta rows nodes buffers known fits small =
     record { fits = dictionary_tree_fits id is_delta rows nodes buffers known fits; small = small; short = omega (arith, fits.short_body) }
 
@@ -227,22 +227,22 @@ pub dictionary_next_message : Roots → NextMessages → (id : ℕ) (is_delta : 
     → length (dictionary_envelope id is_delta rows nodes buffers).metadata ≤ 16777216 → next_message (dictionary_message id is_delta rows nodes buffers ++ rest) ≡ Ok (message (dictionary_envelope id is_delta rows nodes buffers))
 dictionary_next_message roots next_messages id is_delta rows nodes buffers rest known fits small =
     ap (λ (bytes : List ℕ). next_message (bytes ++ rest)) (dictionary_written id is_delta rows nodes buffers)
-    ∙ stands roots next_messages DICTIONARY_BATCH (dictionary_tree (dictionary_of id is_delta rows nodes buffers)) (body buffers) rest refl (dictionary_readable id is_delta rows nodes buffers known fits small)
+    ∙ stands roots next_messages DICTIONARY_BATCH (dictionary_tree (dictionary_batch_of id is_delta rows nodes buffers)) (body buffers) rest refl (dictionary_readable id is_delta rows nodes buffers known fits small)
 
 pub dictionary_type : Roots → (id : ℕ) (is_delta : Bool) (rows : ℕ) (nodes : List RawNode) (buffers : List (List ℕ)) → id < 2 ^ 64 → IsWritableBatch rows nodes buffers
     → length (dictionary_envelope id is_delta rows nodes buffers).metadata ≤ 16777216 → type_of (dictionary_envelope id is_delta rows nodes buffers).metadata ≡ DICTIONARY_BATCH
 dictionary_type roots id is_delta rows nodes buffers known fits small =
-    type_again roots DICTIONARY_BATCH (dictionary_tree (dictionary_of id is_delta rows nodes buffers)) (body buffers) (dictionary_readable id is_delta rows nodes buffers known fits small)
+    type_again roots DICTIONARY_BATCH (dictionary_tree (dictionary_batch_of id is_delta rows nodes buffers)) (body buffers) (dictionary_readable id is_delta rows nodes buffers known fits small)
 
 pub dictionary_read_again : Roots → (supported : ℕ → Bool) (id : ℕ) (is_delta : Bool) (rows : ℕ) (nodes : List RawNode) (buffers : List (List ℕ)) → id < 2 ^ 64 → IsWritableBatch rows nodes buffers
     → length (dictionary_envelope id is_delta rows nodes buffers).metadata ≤ 16777216
-    → header supported (dictionary_envelope id is_delta rows nodes buffers).metadata ≡ Ok (dictionary_header (dictionary_of id is_delta rows nodes buffers))
+    → header supported (dictionary_envelope id is_delta rows nodes buffers).metadata ≡ Ok (dictionary_header (dictionary_batch_of id is_delta rows nodes buffers))
 dictionary_read_again roots supported id is_delta rows nodes buffers known fits small =
-    dictionary_header_read supported (dictionary_envelope id is_delta rows nodes buffers).metadata (length (body buffers)) (dictionary_of id is_delta rows nodes buffers) refl fits.nodes_fit (buffers_fit rows nodes buffers fits)
-    (has roots DICTIONARY_BATCH (dictionary_tree (dictionary_of id is_delta rows nodes buffers)) (body buffers) (dictionary_readable id is_delta rows nodes buffers known fits small))
+    dictionary_header_read supported (dictionary_envelope id is_delta rows nodes buffers).metadata (length (body buffers)) (dictionary_batch_of id is_delta rows nodes buffers) refl fits.nodes_fit (buffers_fit rows nodes buffers fits)
+    (has roots DICTIONARY_BATCH (dictionary_tree (dictionary_batch_of id is_delta rows nodes buffers)) (body buffers) (dictionary_readable id is_delta rows nodes buffers known fits small))
 
 pub dictionary_after : (id : ℕ) (is_delta : Bool) (rows : ℕ) (nodes : List RawNode) (buffers : List (List ℕ)) (rest : List ℕ)
     → drop (taken (message (dictionary_envelope id is_delta rows nodes buffers))) (dictionary_message id is_delta rows nodes buffers ++ rest) ≡ rest
 dictionary_after id is_delta rows nodes buffers rest =
     ap (λ (bytes : List ℕ). drop (taken (message (dictionary_envelope id is_delta rows nodes buffers))) (bytes ++ rest)) (dictionary_written id is_delta rows nodes buffers)
-    ∙ after DICTIONARY_BATCH (dictionary_tree (dictionary_of id is_delta rows nodes buffers)) (body buffers) rest
+    ∙ after DICTIONARY_BATCH (dictionary_tree (dictionary_batch_of id is_delta rows nodes buffers)) (body buffers) rest

@@ -5,8 +5,8 @@ use Rattle.ipc_message.specs.Framing.{header_type}
 use Rattle.arrow_schema.specs.Column.{Index, Kind, Column, Columns, nulls, booleans, integers, dates, timestamps, texts, large_texts, binaries, large_binaries, fixed_binaries, lists, large_lists, fixed_lists, structs, column, no_column, and_column}
 
 -- dates and timestamps are held: the types that not every reader holds, and whose tables are read
-abbrev pub Holds : (ℕ → Bool) → Type 0
-Holds supported = (supported DATE ≡ true) × (supported TIMESTAMP ≡ true)
+abbrev pub HoldsTimes : (ℕ → Bool) → Type 0
+HoldsTimes supported = (supported DATE ≡ true) × (supported TIMESTAMP ≡ true)
 
 -- the tables that are entered for a type: none where it has no parameters
 abbrev pub type_tables : Kind → ℕ

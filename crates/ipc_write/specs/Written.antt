@@ -41,15 +41,15 @@ abbrev pub batch_of : ℕ → List RawNode → List (List ℕ) → RawBatch
 batch_of rows nodes buffers = record { length = rows; nodes = nodes; buffers = placed 0 buffers; compressed = false }
 
 -- the entries of the dictionary with this id: all of them, or more
-abbrev pub dictionary_of : ℕ → Bool → ℕ → List RawNode → List (List ℕ) → RawDictionaryBatch
-dictionary_of id is_delta rows nodes buffers = record { id = id; batch = batch_of rows nodes buffers; is_delta = is_delta }
+abbrev pub dictionary_batch_of : ℕ → Bool → ℕ → List RawNode → List (List ℕ) → RawDictionaryBatch
+dictionary_batch_of id is_delta rows nodes buffers = record { id = id; batch = batch_of rows nodes buffers; is_delta = is_delta }
 
 -- the messages of a schema, which has no body, of a dictionary batch and of a record batch
 unfoldable pub schema_message : PlainSchema → List ℕ
 schema_message s = message_bytes SCHEMA (schema_tree s) []
 
 unfoldable pub dictionary_message : ℕ → Bool → ℕ → List RawNode → List (List ℕ) → List ℕ
-dictionary_message id is_delta rows nodes buffers = message_bytes DICTIONARY_BATCH (dictionary_tree (dictionary_of id is_delta rows nodes buffers)) (body buffers)
+dictionary_message id is_delta rows nodes buffers = message_bytes DICTIONARY_BATCH (dictionary_tree (dictionary_batch_of id is_delta rows nodes buffers)) (body buffers)
 
 unfoldable pub batch_message : ℕ → List RawNode → List (List ℕ) → List ℕ
 batch_message rows nodes buffers = message_bytes RECORD_BATCH (batch_tree (batch_of rows nodes buffers)) (body buffers)
@@ -59,7 +59,7 @@ abbrev pub schema_envelope : PlainSchema → Envelope
 schema_envelope s = envelope SCHEMA (schema_tree s) []
 
 abbrev pub dictionary_envelope : ℕ → Bool → ℕ → List RawNode → List (List ℕ) → Envelope
-dictionary_envelope id is_delta rows nodes buffers = envelope DICTIONARY_BATCH (dictionary_tree (dictionary_of id is_delta rows nodes buffers)) (body buffers)
+dictionary_envelope id is_delta rows nodes buffers = envelope DICTIONARY_BATCH (dictionary_tree (dictionary_batch_of id is_delta rows nodes buffers)) (body buffers)
 
 abbrev pub batch_envelope : ℕ → List RawNode → List (List ℕ) → Envelope
 batch_envelope rows nodes buffers = envelope RECORD_BATCH (batch_tree (batch_of rows nodes buffers)) (body buffers)

@@ -15,17 +15,17 @@ ghost use Rattle.ipc_message.specs.Raw.{RawNode, RawBatch, RawDictionaryBatch, s
 ghost use Rattle.ipc_message.specs.Framing.{next_message, message, taken, type_of};
 ghost use Rattle.ipc_message.specs.declared.header_type.TheConstants.{SCHEMA, DICTIONARY_BATCH, RECORD_BATCH};
 ghost use Rattle.ipc_write.specs.Trees.{field_tree, schema_tree, dictionary_tree, batch_tree, message_tree, node_pair, buffer_pair};
-ghost use Rattle.ipc_write.specs.Written.{framed, schema_message, dictionary_message, batch_message, dictionary_of, batch_of, schema_envelope, dictionary_envelope, batch_envelope, IsWritableBatch};
+ghost use Rattle.ipc_write.specs.Written.{framed, schema_message, dictionary_message, batch_message, dictionary_batch_of, batch_of, schema_envelope, dictionary_envelope, batch_envelope, IsWritableBatch};
 ghost use Rattle.ipc_write.specs.Decoded.{raw_of, raw_schema, is_not_read};
-ghost use Rattle.ipc_write.specs.Walked.{Holds, tables_of, tables_of_all, IsHeaderType};
+ghost use Rattle.ipc_write.specs.Walked.{HoldsTimes, tables_of, tables_of_all, IsHeaderType};
 
 /// A field that stands written is the field that is read there, and the walk over it enters its tables and finds
 /// nothing bad.
 pub fn field_is_read_again()
-    ensures read { (supported : ℕ → Bool) (left : ℕ) (bytes : List ℕ) (at id : ℕ) (c : Column) → Holds supported → depth c + 2 ≤ left
+    ensures read { (supported : ℕ → Bool) (left : ℕ) (bytes : List ℕ) (at id : ℕ) (c : Column) → HoldsTimes supported → depth c + 2 ≤ left
         → Has bytes at (field_tree id c)
         → field_at supported left bytes at ≡ raw_of id c }
-    ensures walked { (supported : ℕ → Bool) (left : ℕ) (bytes : List ℕ) (at id n : ℕ) (c : Column) → Holds supported → depth c + 2 ≤ left
+    ensures walked { (supported : ℕ → Bool) (left : ℕ) (bytes : List ℕ) (at id n : ℕ) (c : Column) → HoldsTimes supported → depth c + 2 ≤ left
         → n + tables_of c ≤ MAX_TABLES → Has bytes at (field_tree id c)
         → run bytes (field_things supported left bytes at) n ≡ Ok (n + tables_of c) }
 {}
@@ -42,7 +42,7 @@ pub fn message_is_read_again()
 
 /// The header of a schema message that was written is the schema that was written.
 pub fn schema_is_read_again()
-    ensures { (supported : ℕ → Bool) (metadata : List ℕ) (body_len : ℕ) (s : PlainSchema) → Holds supported → depth_all (columns_of s.columns) ≤ 36
+    ensures { (supported : ℕ → Bool) (metadata : List ℕ) (body_len : ℕ) (s : PlainSchema) → HoldsTimes supported → depth_all (columns_of s.columns) ≤ 36
         → 2 + tables_of_all (columns_of s.columns) + length s.pairs ≤ MAX_TABLES
         → Has metadata (target metadata 0) (message_tree SCHEMA (schema_tree s) body_len) → header supported metadata ≡ Ok (schema_header (raw_schema s)) }
 {}
@@ -78,7 +78,7 @@ pub fn metadata_is_within_its_limit()
 pub fn schema_message_is_read_again()
     ensures next_message { (s : PlainSchema) (rest : List ℕ) → IsWithinLimits s → next_message (schema_message s ++ rest) ≡ Ok (message (schema_envelope s)) }
     ensures kind { (s : PlainSchema) → IsWithinLimits s → type_of (schema_envelope s).metadata ≡ SCHEMA }
-    ensures header { (supported : ℕ → Bool) (s : PlainSchema) → Holds supported → IsWithinLimits s
+    ensures header { (supported : ℕ → Bool) (s : PlainSchema) → HoldsTimes supported → IsWithinLimits s
         → header supported (schema_envelope s).metadata ≡ Ok (schema_header (raw_schema s)) }
     ensures decoded { (s : PlainSchema) → IsWithinLimits s → plain_schema_of (raw_schema s) ≡ s }
     ensures checked { (s : PlainSchema) → IsWithinLimits s → is_not_read s ≡ false → checked_schema supported_codes (raw_schema s) ≡ Ok s }
@@ -99,7 +99,7 @@ pub fn dictionary_message_is_read_again()
     ensures header { (supported : ℕ → Bool) (id : ℕ) (is_delta : Bool) (rows : ℕ) (nodes : List RawNode) (buffers : List (List ℕ))
         → id < 2 ^ 64 → IsWritableBatch rows nodes buffers
         → header supported (dictionary_envelope id is_delta rows nodes buffers).metadata
-        ≡ Ok (dictionary_header (dictionary_of id is_delta rows nodes buffers)) }
+        ≡ Ok (dictionary_header (dictionary_batch_of id is_delta rows nodes buffers)) }
     ensures after { (id : ℕ) (is_delta : Bool) (rows : ℕ) (nodes : List RawNode) (buffers : List (List ℕ)) (rest : List ℕ)
         → drop (taken (message (dictionary_envelope id is_delta rows nodes buffers))) (dictionary_message id is_delta rows nodes buffers ++ rest) ≡ rest }
 {

@@ -10,7 +10,7 @@ use Rattle.commit.specs.declared.sector.CatalogueKind.TheVariants.{Whole}
 use Rattle.commit.specs.declared.sector.FormatVersion.{FormatVersion}
 use Rattle.commit.specs.declared.sector.FormatVersion.TheVariants.{One}
 use Rattle.commit.specs.declared.sector.Commit.{Commit}
-use Rattle.commit.specs.Sector.{version_number, kind_number, commit_text, number_at, fields_of, is_placed, commit_at, IsCommit}
+use Rattle.commit.specs.Sector.{version_number, kind_number, commit_text, u64_at, fields_of, is_placed, commit_at, IsCommit}
 
 one_kind : (k : CatalogueKind) → Whole ≡ k
 one_kind Whole = refl
@@ -28,11 +28,11 @@ fields_again c is =
     let rest2 : List ℕ = little_bytes 8 c.catalogue.bytes ++ rest3 in
     let rest1 : List ℕ = little_bytes 8 c.catalogue.run.count ++ rest2 in
     let rest0 : List ℕ = little_bytes 8 c.catalogue.run.start ++ rest1 in
-    let e : number_at 8 (commit_text c) ≡ c.epoch = little_number-reads_back 8 c.epoch rest0 is.epoch_fits in
-    let s : number_at 16 (commit_text c) ≡ c.catalogue.run.start = little_number-reads_back 8 c.catalogue.run.start rest1 is.start_fits in
-    let n : number_at 24 (commit_text c) ≡ c.catalogue.run.count = little_number-reads_back 8 c.catalogue.run.count rest2 is.count_fits in
-    let b : number_at 32 (commit_text c) ≡ c.catalogue.bytes = little_number-reads_back 8 c.catalogue.bytes rest3 is.bytes_fit in
-    let d : number_at 40 (commit_text c) ≡ c.device_sectors = little_number-reads_back 8 c.device_sectors rest4 is.sectors_fit in
+    let e : u64_at 8 (commit_text c) ≡ c.epoch = little_number-reads_back 8 c.epoch rest0 is.epoch_fits in
+    let s : u64_at 16 (commit_text c) ≡ c.catalogue.run.start = little_number-reads_back 8 c.catalogue.run.start rest1 is.start_fits in
+    let n : u64_at 24 (commit_text c) ≡ c.catalogue.run.count = little_number-reads_back 8 c.catalogue.run.count rest2 is.count_fits in
+    let b : u64_at 32 (commit_text c) ≡ c.catalogue.bytes = little_number-reads_back 8 c.catalogue.bytes rest3 is.bytes_fit in
+    let d : u64_at 40 (commit_text c) ≡ c.device_sectors = little_number-reads_back 8 c.device_sectors rest4 is.sectors_fit in
     λ i. record {
       epoch = e i;
       catalogue = record { run = record { start = s i; count = n i }; bytes = b i };

@@ -1,20 +1,21 @@
 use Rattle.std.specs.Prelude.{option_map}
-use Rattle.std.proofs.Common.{rules, ◌≡◌, ℕ, map, ap, ◌∙◌}
+use Rattle.std.proofs.Common.{◌≡◌, ℕ, map, ap, ◌∙◌}
 use Rattle.std.proofs.lemmas.Result.{IfOk-weaker}
-use Rattle.arrow_schema.specs.declared.types.Field.{the_lemmas as field_lemmas}
 use Rattle.arrow_schema.specs.Column.{Column, Kind}
+use Rattle.arrow_schema.specs.Parts.{kind_of_column, index_of_column}
+use Rattle.arrow_schema.specs.laws.Parts.{kind_of_field, index_of_field}
 use Rattle.arrow_schema.specs.View.{column_of, kind_of, index_of}
 use Rattle.flatbuf.specs.View.{node_of, nodes_of, slot_before}
 use Rattle.ipc_write.specs.Trees.{child_nodes}
-use Rattle.ipc_write.proofs.TreeSteps.{kind_in, dictionary_in, field_is, nodes_after, ids_after, nodes_end}
+use Rattle.ipc_write.proofs.TreeSteps.{field_is, nodes_after, ids_after, nodes_end}
 use Rattle.ipc_write.proofs.fields.+fields.Goals as goal
 
 pub field_node-returns-clause-node : goal.field_node-returns-clause-node
 field_node-returns-clause-node t c =
     let column : Column = column_of c.args.field.now in
     let kind : Kind = kind_of c.args.field.now.data_type in
-    let k : kind_in (column_of c.args.field.now) ≡ kind_of c.args.field.now.data_type = search (rules, field_lemmas) in
-    let d : dictionary_in (column_of c.args.field.now) ≡ option_map index_of c.args.field.now.dictionary = search (rules, field_lemmas) in
+    let k : kind_of_column (column_of c.args.field.now) ≡ kind_of c.args.field.now.data_type = kind_of_field c.args.field.now in
+    let d : index_of_column (column_of c.args.field.now) ≡ option_map index_of c.args.field.now.dictionary = index_of_field c.args.field.now in
     let below = c.in_ok-children.ensures.nodes ∙ ap (λ (id : ℕ). child_nodes id kind) c.in_ok-dictionary.ensures.next in
     IfOk-weaker c.field_table.result _ _
     (λ n h. h ∙ field_is c.args.next_id.now column kind (option_map index_of c.args.field.now.dictionary) (slot_before c.in_ok-dictionary.dictionary) (nodes_of (map node_of c.in_ok-children.children.items)) k d c.in_ok-dictionary.ensures.slot below)

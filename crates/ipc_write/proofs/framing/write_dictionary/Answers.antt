@@ -4,7 +4,7 @@ use Rattle.flatbuf.specs.View.{node_of}
 use Rattle.ipc_message.specs.declared.header_type.TheConstants.{DICTIONARY_BATCH}
 use Rattle.ipc_message.specs.Raw.{RawNode}
 use Rattle.ipc_write.specs.Trees.{raw_node, dictionary_tree}
-use Rattle.ipc_write.specs.Written.{dictionary_of}
+use Rattle.ipc_write.specs.Written.{dictionary_batch_of}
 use Rattle.ipc_write.proofs.BatchNode.{dictionary_header, dictionary_is}
 use Rattle.ipc_write.proofs.Room.{same_fits, same_size}
 use Rattle.ipc_write.proofs.WrittenMessages.{dictionary_tree_fits}
@@ -26,7 +26,7 @@ pub returns-clause-appended : goal.returns-clause-appended
 returns-clause-appended c =
     let nodes : List RawNode = map raw_node c.args.nodes.items in
     let buffers : List (List ℕ) = map (λ b. b.now) c.args.buffers.now in
-    let is : node_of c.in_ok-header.header ≡ dictionary_tree (dictionary_of c.args.id c.args.is_delta c.args.rows nodes buffers) =
+    let is : node_of c.in_ok-header.header ≡ dictionary_tree (dictionary_batch_of c.args.id c.args.is_delta c.args.rows nodes buffers) =
     dictionary_header _ _ c.args.id c.args.is_delta c.args.rows nodes buffers c.in_ok-header.ensures c.in_ok-batch.ensures.node in
     on_ok_weaker c.write_message.result
     (λ done. done ∙ ap (λ (bytes : List ℕ). c.args.out.now.items ++ bytes) (dictionary_is (node_of c.in_ok-header.header) c.args.id c.args.is_delta c.args.rows nodes buffers is))
