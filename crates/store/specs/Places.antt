@@ -4,6 +4,7 @@ use Rattle.std.specs.List.{list_any}
 use Rattle.sector_dev.specs.Disk.{Story, Image, moment, LeftSince}
 use Rattle.sector_dev.specs.declared.device.SectorDevice.{Ghosts}
 use Rattle.arrow_schema.specs.View.{schema_of}
+use Rattle.values.specs.TableView.{table_of}
 use Rattle.tables.specs.Tables.{Tables}
 use Rattle.tables.specs.View.{command_of}
 use Rattle.store.specs.declared.call.Call.{Call}
@@ -12,7 +13,7 @@ use Rattle.store.specs.declared.call.Reply.{Reply}
 use Rattle.store.specs.declared.call.Reply.TheVariants as replies
 use Rattle.store.specs.declared.call.Place.{Place}
 use Rattle.store.specs.declared.call.Place.TheVariants as places
-use Rattle.store.specs.Calls.{PlainCall, apply_call, format_call, open_call, close_call, tables_call, schema_call, PlainReply, done, counts, schema_is, refused, shut_by, is_device_reply}
+use Rattle.store.specs.Calls.{PlainCall, apply_call, format_call, open_call, close_call, tables_call, schema_call, read_call, export_call, PlainReply, done, counts, schema_is, table_is, bytes_are, refused, shut_by, is_device_reply}
 use Rattle.store.specs.Machine.{Machine, shut, halted}
 use Rattle.store.specs.Runs.{Goes, Run}
 use Rattle.store.specs.Since.{story_at, IsLeftFrom}
@@ -26,11 +27,15 @@ call_of calls.Open = open_call
 call_of calls.Close = close_call
 call_of calls.Tables = tables_call
 call_of (calls.Schema name) = schema_call (string_bytes name)
+call_of (calls.Read name) = read_call (string_bytes name)
+call_of (calls.Export name) = export_call (string_bytes name)
 
 abbrev pub reply_in : Reply → PlainReply
 reply_in replies.Done = done
 reply_in (replies.Tables found) = counts (map (λ t. (string_bytes t.0, t.1)) found.items)
 reply_in (replies.Schema schema) = schema_is (schema_of schema)
+reply_in (replies.Table table) = table_is (table_of table)
+reply_in (replies.Bytes bytes) = bytes_are bytes.items
 reply_in (replies.Refused refusal) = refused refusal
 reply_in (replies.NotOpened refusal) = shut_by refusal
 

@@ -3,6 +3,7 @@ use crate::{OpeningRefusal, Store};
 use arrow_schema::Schema;
 use sector_dev::SectorDevice;
 use tables::{Command, Refusal};
+use values::Table;
 
 /// What is asked of a place.
 #[derive(Drop)]
@@ -13,6 +14,9 @@ pub enum Call {
     Close,
     Tables,
     Schema(String),
+    Read(String),
+    /// The canonical stream of a table.
+    Export(String),
 }
 
 /// What is answered.
@@ -23,6 +27,9 @@ pub enum Reply {
     /// The name of each table, and how many rows it has.
     Tables(Vec<(String, u64)>),
     Schema(Schema),
+    Table(Table),
+    /// The bytes of a stream.
+    Bytes(Vec<u8>),
     Refused(Refusal),
     /// The device was not opened or formatted.
     NotOpened(OpeningRefusal),

@@ -2,7 +2,7 @@
 ghost use Rattle.std.specs.Prelude.{◌≡◌, true, IfOk, IfErr};
 ghost use Rattle.tables.specs.Tables.{Tables};
 ghost use Rattle.tables.specs.View.{command_of};
-ghost use Rattle.store.specs.Calls.{needs_store, apply_call, format_call, open_call, tables_call, schema_call};
+ghost use Rattle.store.specs.Calls.{needs_store, apply_call, format_call, open_call, tables_call, schema_call, read_call, export_call};
 ghost use Rattle.store.specs.Machine.{Machine};
 ghost use Rattle.store.specs.Fits.{DeviceFits, StoreFits, device_of};
 ghost use Rattle.store.specs.Places.{call_of, reply_in, calls_of, replies_of, device_in, ShutFits, PlaceFits, PlaceGoes, PlaceRuns, PlaceLives};
@@ -91,6 +91,30 @@ fn list_in<D: SectorDevice>(alloc: Global, store: Store<D>) -> (Place<D>, Reply)
     }
 }
 
+// A table.
+fn read_in<D: SectorDevice>(alloc: Global, store: Store<D>, name: &str) -> (Place<D>, Reply)
+    ensures { D.tells ≡ true → (base : Tables) (m : Machine) → StoreFits D.size D.story base m store
+        → PlaceGoes D.size D.story D.failed base m (read_call name.now) (reply_in result.1) (device_of store) result.0 }
+{
+    let mut store = store;
+    match store.read(alloc, name) {
+        Ok(table) => (Place::Open(store), Reply::Table(table)),
+        Err(refusal) => (Place::Open(store), Reply::Refused(refusal)),
+    }
+}
+
+// The stream of a table.
+fn export_in<D: SectorDevice>(alloc: Global, store: Store<D>, name: &str) -> (Place<D>, Reply)
+    ensures { D.tells ≡ true → (base : Tables) (m : Machine) → StoreFits D.size D.story base m store
+        → PlaceGoes D.size D.story D.failed base m (export_call name.now) (reply_in result.1) (device_of store) result.0 }
+{
+    let mut store = store;
+    match store.export_bytes(alloc, name) {
+        Ok(bytes) => (Place::Open(store), Reply::Bytes(bytes)),
+        Err(refusal) => (Place::Open(store), Reply::Refused(refusal)),
+    }
+}
+
 // A call of an open store.
 fn answer_open<D: SectorDevice>(alloc: Global, store: Store<D>, call: Call) -> (Place<D>, Reply)
     ensures { D.tells ≡ true → (base : Tables) (m : Machine) → StoreFits D.size D.story base m store
@@ -103,6 +127,8 @@ fn answer_open<D: SectorDevice>(alloc: Global, store: Store<D>, call: Call) -> (
         Call::Close => (Place::Shut(store.close()), Reply::Done),
         Call::Tables => list_in(alloc, store),
         Call::Schema(name) => schema_in(alloc, store, &name),
+        Call::Read(name) => read_in(alloc, store, &name),
+        Call::Export(name) => export_in(alloc, store, &name),
     }
 }
 
