@@ -5,7 +5,9 @@ use crate::playing::{Slot, WAYS, Way, new_slot, play, shut};
 use crate::shown::layout;
 use crate::steps::{Step, Steps};
 use Input::{Changed, Column, First, Front, Ints};
-use Step::{Append, Close, Create, Format, Import, Open, Remove, Rename, Schema, Tables};
+use Step::{
+    Append, Close, Create, Export, Format, Import, Open, Read, Remove, Rename, Schema, Tables,
+};
 use sector_dev::ModelDevice;
 use std::alloc::Global;
 
@@ -321,6 +323,8 @@ const REFUSED: &[Row] = &[
             (Remove("v"), "S1 NoTable"),
             (Remove("a b"), "S1 NoTable"),
             (Schema("v"), "S1 NoTable"),
+            (Read("v"), "S1 NoTable"),
+            (Export("v"), "S1 NoTable"),
             (Tables, "t 0, u 0"),
         ],
         "epoch 3, 334 in 2, t:, u:",
@@ -332,6 +336,8 @@ const REFUSED: &[Row] = &[
             (Create("a b", INT), "S10 Halted"),
             (Tables, "S10 Halted"),
             (Schema("t"), "S10 Halted"),
+            (Read("t"), "S10 Halted"),
+            (Export("t"), "S10 Halted"),
             (Open, "C1 NotAStore"),
             (Close, "S10 Halted"),
             (Format, "ok"),
@@ -344,6 +350,46 @@ const REFUSED: &[Row] = &[
             (Remove("t"), "S1 NoTable"),
         ],
         "epoch 1, 4 in 2",
+    ),
+];
+
+// A table that is read is what was imported and appended, and an exported one is its canonical stream.
+const READ: &[Row] = &[
+    (
+        16,
+        &[
+            (Format, "ok"),
+            (Import("t", TWO), "ok"),
+            (Read("t"), "\"a\":int32?: 7 -1"),
+            (Export("t"), "stream of \"a\":int32?: 7 -1"),
+            (Append("t", Ints(&[5, i32::MIN])), "ok"),
+            (Read("t"), "\"a\":int32?: 7 -1 5 -2147483648"),
+            (Export("t"), "stream of \"a\":int32?: 7 -1 5 -2147483648"),
+            (Rename("t", "a"), "ok"),
+            (Read("t"), "S1 NoTable"),
+            (Export("t"), "S1 NoTable"),
+            (Close, "ok"),
+            (Open, "ok"),
+            (Read("a"), "\"a\":int32?: 7 -1 5 -2147483648"),
+            (Export("a"), "stream of \"a\":int32?: 7 -1 5 -2147483648"),
+        ],
+        "epoch 4, 233 in 4, a: 3+1 2+1",
+    ),
+    (
+        16,
+        &[
+            (Format, "ok"),
+            (Create("t", INT), "ok"),
+            (Read("t"), "\"a\":int32?:"),
+            (Export("t"), "stream of \"a\":int32?:"),
+            (Import("u", Column("b:int16?", &[-3])), "ok"),
+            (Read("u"), "\"b\":int16?: -3"),
+            (Export("u"), "stream of \"b\":int16?: -3"),
+            (Import("u", TWO), "ok"),
+            (Read("u"), "\"a\":int32?: 7 -1"),
+            (Read("t"), "\"a\":int32?:"),
+        ],
+        "epoch 4, 366 in 5, t:, u: 3+1",
     ),
 ];
 
@@ -390,6 +436,11 @@ fn changes_take_the_lowest_runs_that_fit(rt: HostRuntime) {
 #[test]
 fn room_is_told_of_a_run_that_stands_nowhere(rt: HostRuntime) {
     assert_no_step(&rt, wrong_row(rt.alloc(), ROOM));
+}
+
+#[test]
+fn a_table_is_read_as_it_was_written(rt: HostRuntime) {
+    assert_no_step(&rt, wrong_row(rt.alloc(), READ));
 }
 
 #[test]

@@ -5,7 +5,7 @@ use crate::playing::{Slot, is_played, new_slot, shut};
 use crate::shown::contents;
 use crate::steps::{Step, Steps};
 use Input::{First, Ints};
-use Step::{Create, Format, Import, Open, Remove, Tables};
+use Step::{Create, Export, Format, Import, Open, Read, Remove, Tables};
 use sector_dev::{Choice, ModelDevice, SectorDevice};
 use std::alloc::Global;
 use store::Place;
@@ -111,8 +111,25 @@ fn changed(device: &ModelDevice, changes: &[Change]) -> Result<ModelDevice, NotM
 // What is changed, and what is answered then. In a commit its epoch stands at byte 8, the catalogue's first sector at 16 and
 // the sectors of the device at 40; in the text the first sector of the segment at 169.
 const CAUSES: &[(&[Change], Steps)] = &[
-    (&[(3, 0, 1)], &[(Open, "ok"), (Tables, "t 3")]),
-    (&[(1, 0, 1)], &[(Open, "ok"), (Tables, "t 2")]),
+    (
+        &[(3, 0, 1)],
+        &[(Open, "ok"), (Read("t"), "\"a\":int32?: 1 2 3")],
+    ),
+    (
+        &[(1, 0, 1)],
+        &[(Open, "ok"), (Read("t"), "\"a\":int32?: 7 -1")],
+    ),
+    // The store is open, and what stands in the segment is not the table.
+    (
+        &[(2, 0, 1)],
+        &[
+            (Open, "ok"),
+            (Tables, "t 3"),
+            (Read("t"), "S13 SegmentUnread 0"),
+            (Export("t"), "S13 SegmentUnread 0"),
+            (Tables, "t 3"),
+        ],
+    ),
     (&[(0, 0, 1)], &[(Open, "ok"), (Tables, "t 3")]),
     (
         &[(0, 0, 1), (1, 0, 1)],

@@ -59,6 +59,20 @@ fn schema_at(alloc: Global, store: &Store<ModelDevice>, name: &str) -> Reply {
     }
 }
 
+fn read_at(alloc: Global, store: &mut Store<ModelDevice>, name: &str) -> Reply {
+    match store.read(alloc, name) {
+        Ok(table) => Reply::Table(table),
+        Err(refusal) => Reply::Refused(refusal),
+    }
+}
+
+fn exported(alloc: Global, store: &mut Store<ModelDevice>, name: &str) -> Reply {
+    match store.export_bytes(alloc, name) {
+        Ok(bytes) => Reply::Bytes(bytes),
+        Err(refusal) => Reply::Refused(refusal),
+    }
+}
+
 fn on_store(alloc: Global, store: Store<ModelDevice>, call: Call) -> (Place<ModelDevice>, Reply) {
     let mut store = store;
     let reply = match call {
@@ -68,6 +82,8 @@ fn on_store(alloc: Global, store: Store<ModelDevice>, call: Call) -> (Place<Mode
         Call::Apply(command) => applied(alloc, &mut store, command),
         Call::Tables => listed(alloc, &store),
         Call::Schema(name) => schema_at(alloc, &store, &name),
+        Call::Read(name) => read_at(alloc, &mut store, &name),
+        Call::Export(name) => exported(alloc, &mut store, &name),
     };
     (Place::Open(store), reply)
 }

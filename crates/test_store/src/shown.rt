@@ -1,6 +1,6 @@
 // What a device holds, as texts: where its store keeps what, and the values of its tables, read without a store.
 use crate::made::NotMade;
-use crate::steps::add_part;
+use crate::steps::{add_part, add_values};
 use arrow_schema::same_shape;
 use catalogue::{Entry, Segment};
 use commit::{Commit, OpenError, recover};
@@ -9,7 +9,6 @@ use sector_dev::{ModelDevice, SectorDevice};
 use segments::read_run;
 use std::alloc::Global;
 use store::StoredCatalogue;
-use values::ValueRef;
 
 // The bytes of a segment on a device of 4,096 sectors at the most.
 fn bytes_at(alloc: Global, device: &mut ModelDevice, segment: Segment) -> Result<Vec<u8>, NotMade> {
@@ -19,17 +18,6 @@ fn bytes_at(alloc: Global, device: &mut ModelDevice, segment: Segment) -> Result
         return Err(NotMade);
     }
     read_run(alloc, device, start, bytes as usize).map_err(|_| NotMade)
-}
-
-// Adds the values of a table of one column.
-fn add_values(alloc: Global, text: &mut String, table: &Table) -> Result<(), NotMade> {
-    for row in table.rows() {
-        let Some(ValueRef::Int(value)) = row.get(0) else {
-            return Err(NotMade);
-        };
-        text.push_str(&format!(in alloc; " {value}")?)?;
-    }
-    Ok(())
 }
 
 // The table that a segment holds.

@@ -2,9 +2,11 @@
 use crate::inputs::{Input, bytes_of, new_schema};
 use crate::made::NotMade;
 use arrow_schema::{Schema, field_text};
+use ipc_stream::{decode, encode};
 use std::alloc::Global;
 use store::{Call, Reply};
 use tables::{Command, NewTable};
+use values::{Table, ValueRef};
 
 /// A call.
 #[derive(Clone, Copy)]
@@ -19,6 +21,8 @@ pub enum Step {
     Remove(&'static str),
     Tables,
     Schema(&'static str),
+    Read(&'static str),
+    Export(&'static str),
 }
 
 /// Calls, and what is to come of each.
@@ -64,6 +68,8 @@ pub fn call_of(alloc: Global, step: Step) -> Result<Call, NotMade> {
         }),
         Step::Tables => Call::Tables,
         Step::Schema(name) => Call::Schema(String::from_str(alloc, name)?),
+        Step::Read(name) => Call::Read(String::from_str(alloc, name)?),
+        Step::Export(name) => Call::Export(String::from_str(alloc, name)?),
     })
 }
 
@@ -93,12 +99,45 @@ fn schema_text(alloc: Global, schema: &Schema) -> Result<String, NotMade> {
     Ok(all)
 }
 
+/// Adds the values of a table of one column.
+pub fn add_values(alloc: Global, text: &mut String, table: &Table) -> Result<(), NotMade> {
+    for row in table.rows() {
+        let Some(ValueRef::Int(value)) = row.get(0) else {
+            return Err(NotMade);
+        };
+        text.push_str(&format!(in alloc; " {value}")?)?;
+    }
+    Ok(())
+}
+
+// As `"a":int32?: 7 -1`, of a table of one column.
+fn table_text(alloc: Global, table: &Table) -> Result<String, NotMade> {
+    let mut text = schema_text(alloc, table.schema())?;
+    text.push_str(":")?;
+    add_values(alloc, &mut text, table)?;
+    Ok(text)
+}
+
+// As `stream of "a":int32?: 7 -1`, where the bytes are the canonical stream of a table.
+fn stream_text(alloc: Global, bytes: &[u8]) -> Result<String, NotMade> {
+    let Ok(table) = decode(alloc, bytes) else {
+        return Err(NotMade);
+    };
+    if encode(alloc, &table)?.as_slice() != bytes {
+        return Ok(String::from_str(alloc, "another stream")?);
+    }
+    let text = table_text(alloc, &table)?;
+    Ok(format!(in alloc; "stream of {text}")?)
+}
+
 /// The text of a reply.
 pub fn text_of(alloc: Global, reply: &Reply) -> Result<String, NotMade> {
     match reply {
         Reply::Done => Ok(String::from_str(alloc, "ok")?),
         Reply::Tables(tables) => tables_text(alloc, tables),
         Reply::Schema(schema) => schema_text(alloc, schema),
+        Reply::Table(table) => table_text(alloc, table),
+        Reply::Bytes(bytes) => stream_text(alloc, bytes),
         Reply::Refused(refusal) => Ok(refusal.to_string(alloc)?),
         Reply::NotOpened(refusal) => Ok(refusal.to_string(alloc)?),
     }

@@ -6,7 +6,7 @@ use crate::playing::{Slot, Way, is_played, play, replies_of, shut};
 use crate::shown::contents;
 use crate::steps::{Step, Steps, says};
 use Input::Ints;
-use Step::{Append, Close, Create, Format, Import, Open, Remove, Rename, Tables};
+use Step::{Append, Close, Create, Export, Format, Import, Open, Read, Remove, Rename, Tables};
 use sector_dev::{Choice, ModelDevice};
 use std::alloc::Global;
 use store::{Place, Reply};
@@ -251,8 +251,11 @@ const STOPPED: &[Row] = &[
             (Create("u", INT), "S9 Device"),
             (Create("a b", INT), "S10 Halted"),
             (Tables, "S10 Halted"),
+            (Read("t"), "S10 Halted"),
+            (Export("t"), "S10 Halted"),
             (Open, "ok"),
             (Tables, "t 0, u 0"),
+            (Read("u"), "\"a\":int32?:"),
             (Create("v", INT), "S9 Device"),
         ],
         &[

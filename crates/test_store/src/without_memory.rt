@@ -5,7 +5,7 @@ use crate::playing::{Slot, Way, new_slot, replies_of, reply_to, shut, wrong_repl
 use crate::shown::layout;
 use crate::steps::{Step, Steps, says};
 use crate::stops::{SCRIPT, is_whole};
-use Step::{Close, Format, Import, Open, Schema, Tables};
+use Step::{Close, Export, Format, Import, Open, Read, Schema, Tables};
 use sector_dev::{ModelDevice, SectorDevice};
 use std::alloc::Global;
 use store::{OpeningRefusal, Reply};
@@ -95,6 +95,8 @@ const LISTED: Steps = &[
     (Open, "ok"),
     (Tables, "t 2"),
     (Schema("t"), "\"a\":int32?"),
+    (Read("t"), "\"a\":int32?: 7 -1"),
+    (Export("t"), "stream of \"a\":int32?: 7 -1"),
 ];
 
 // Whether a reply tells that memory was refused, to the store or to the device.
@@ -139,7 +141,7 @@ fn a_run_is_answered_also_without_memory(rt: HostRuntime) {
 }
 
 #[test]
-fn a_store_is_opened_and_listed_also_without_memory(rt: HostRuntime) {
+fn a_store_is_opened_and_read_also_without_memory(rt: HostRuntime) {
     let first = are_listed(rt.alloc());
     let second = are_listed(rt.alloc());
     assert!(rt; is_one_well(first, second));
