@@ -11,3 +11,4 @@ mod WrittenMessages
 mod Numbered
 mod Decoding
 mod Checked
+mod Bodies

@@ -1,5 +1,6 @@
 // What is written is read again. The functions do nothing: their contracts are the laws.
-ghost use Rattle.std.specs.Prelude.{◌≡◌, ℕ, Bool, false, List, ◌+◌, ◌≤◌, ◌<◌, ◌^◌, ◌++◌, length, map, drop, Ok};
+ghost use Rattle.std.specs.Prelude.{◌≡◌, ℕ, Bool, false, List, ◌+◌, ◌*◌, ◌≤◌, ◌<◌, ◌^◌, ◌++◌, length, map, take, drop, sum_by, Ok};
+ghost use Rattle.std.specs.List.{AllByRecursion};
 ghost use Rattle.arrow_schema.specs.Column.{Column, columns_of, PlainSchema};
 ghost use Rattle.arrow_schema.specs.Limits.{IsWithinLimits};
 ghost use Rattle.arrow_schema.specs.Preorder.{depth, depth_all};
@@ -11,11 +12,11 @@ ghost use Rattle.flatbuf.specs.Walk.{run};
 ghost use Rattle.ipc_message.specs.Checks.{checked_schema};
 ghost use Rattle.ipc_message.specs.Convert.{plain_schema_of};
 ghost use Rattle.ipc_message.specs.Header.{field_at, field_things, header, supported_codes};
-ghost use Rattle.ipc_message.specs.Raw.{RawNode, RawBatch, RawDictionaryBatch, schema_header, dictionary_header, batch_header};
+ghost use Rattle.ipc_message.specs.Raw.{RawNode, RawBuffer, RawBatch, RawDictionaryBatch, schema_header, dictionary_header, batch_header};
 ghost use Rattle.ipc_message.specs.Framing.{next_message, message, taken, type_of};
 ghost use Rattle.ipc_message.specs.declared.header_type.TheConstants.{SCHEMA, DICTIONARY_BATCH, RECORD_BATCH};
 ghost use Rattle.ipc_write.specs.Trees.{field_tree, schema_tree, dictionary_tree, batch_tree, message_tree, node_pair, buffer_pair};
-ghost use Rattle.ipc_write.specs.Written.{framed, schema_message, dictionary_message, batch_message, dictionary_batch_of, batch_of, schema_envelope, dictionary_envelope, batch_envelope, IsWritableBatch};
+ghost use Rattle.ipc_write.specs.Written.{framed, schema_message, dictionary_message, batch_message, dictionary_batch_of, batch_of, schema_envelope, dictionary_envelope, batch_envelope, IsWritableBatch, body, placed};
 ghost use Rattle.ipc_write.specs.Decoded.{raw_of, raw_schema, is_not_read};
 ghost use Rattle.ipc_write.specs.Walked.{HoldsTimes, tables_of, tables_of_all, IsHeaderType};
 
@@ -123,3 +124,10 @@ pub fn batch_message_is_read_again()
     ipc_message::next_message_is_framed();
     metadata_is_within_its_limit();
 }
+
+/// Each buffer stands in the body where it was placed, and ends within it; and the body is no longer than its buffers with 8 bytes more for each.
+pub fn buffers_stand_in_their_body()
+    ensures found { (buffers : List (List ℕ)) → map (λ (b : RawBuffer). take b.length (drop b.offset (body buffers))) (placed 0 buffers) ≡ buffers }
+    ensures inside { (buffers : List (List ℕ)) → AllByRecursion (λ (b : RawBuffer). b.offset + b.length ≤ length (body buffers)) (placed 0 buffers) }
+    ensures size { (buffers : List (List ℕ)) → length (body buffers) ≤ sum_by length buffers + 8 * length buffers }
+{}

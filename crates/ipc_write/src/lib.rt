@@ -20,7 +20,8 @@ mod trees;
 
 pub use framing::{write_batch, write_dictionary, write_end, write_schema};
 pub use laws::{
-    batch_is_read_again, batch_message_is_read_again, dictionary_is_read_again,
-    dictionary_message_is_read_again, field_is_read_again, message_is_read_again,
-    metadata_is_within_its_limit, schema_is_read_again, schema_message_is_read_again,
+    batch_is_read_again, batch_message_is_read_again, buffers_stand_in_their_body,
+    dictionary_is_read_again, dictionary_message_is_read_again, field_is_read_again,
+    message_is_read_again, metadata_is_within_its_limit, schema_is_read_again,
+    schema_message_is_read_again,
 };
