@@ -1,0 +1,3 @@
+mod WeightLemmas
+mod CutSteps
+mod Unlimited

@@ -1,0 +1,88 @@
+use Rattle.std.specs.Prelude.{sum_by, false}
+use Rattle.std.proofs.Common.{◌≡◌, ◌≤◌, ◌+◌, ◌∷◌, ◌++◌, [], List, ℕ, map, length, take, drop, sym, ap, ◌∙◌, refl, arith, length-append}
+use Rattle.std.proofs.lemmas.List.{map-append, length-map}
+use Rattle.arrow_schema.specs.Column.{PlainSchema}
+use Rattle.cells.specs.Cell.{Cell}
+use Rattle.cells.specs.Weight.{row_weight, capped_weight}
+use Rattle.ipc_stream.specs.Cut.{pieces, pieces_from}
+use Rattle.table_cut.specs.Piece.{within_piece}
+use Rattle.table_cut.proofs.CutSteps.{first_row, one_more, no_more, is_within, has_too_many, is_too_heavy, sum_more, one_weight, row_before, one_row_taken}
+use Rattle.table_cut.proofs.Unlimited.{unlimited_fit}
+use Rattle.values.specs.Borrowed.{borrowed_cells}
+use Rattle.values.specs.TableView.{table_of}
+use Rattle.values.specs.declared.borrowed.Values.{Values}
+use Rattle.table_cut.proofs.piece.next_piece.Goals.{then-len-ge-MAX_PIECE_ROWS-via-then-len-ge-MAX_PIECE_ROWS, then-len-ge-MAX_PIECE_ROWS-via-else-len-ge-MAX_PIECE_ROWS+then-weight-gt-MAX_PIECE_WEIGHT}
+use Rattle.table_cut.proofs.piece.next_piece.Goals as goal
+
+pub loop-place-init : goal.loop-place-init
+loop-place-init c =
+    let s : PlainSchema = (table_of c.args.table.now).schema in
+    let rows : List (List Cell) = (table_of c.args.table.now).rows in
+    let from : ℕ = c.args.from in
+    let first : List Cell = borrowed_cells c.row_at-first.result in
+    let pushed : c.push.new.self.items ≡ c.row_at-first.result ∷ [] = c.in_ok-push.ensures.items ∙ ap (λ (x : List Values). x ++ c.row_at-first.result ∷ []) c.new-piece.ensures.items in
+    let next : drop from rows ≡ first ∷ drop (from + 1) rows = row_before rows from first c.requires.left c.row_at-first.ensures in
+    let weighed : c.row_weight-weight.result ≡ capped_weight (row_weight s first) = c.row_weight-weight.ensures ∙ ap (λ (x : PlainSchema). capped_weight (row_weight x first)) c.schema-schema.ensures.schema in
+    record {
+      place = omega (arith, ap length pushed);
+      some = omega (arith, ap length pushed);
+      inside = omega (arith, c.requires.left);
+      cut = ap (λ (x : List Values). pieces_from (within_piece s) (map borrowed_cells x) (drop (from + 1) rows)) pushed ∙ first_row (within_piece s) (drop from rows) (drop (from + 1) rows) first next;
+      taken = rw (pushed, next) refl;
+      weight = weighed ∙ ap capped_weight (sym (one_weight s first)) ∙ ap (λ (x : List Values). capped_weight (sum_by (row_weight s) (map borrowed_cells x))) (sym pushed);
+    }
+
+pub returns-then-len-ge-MAX_PIECE_ROWS-clause-piece : goal.returns-then-len-ge-MAX_PIECE_ROWS-clause-piece
+returns-then-len-ge-MAX_PIECE_ROWS-clause-piece c =
+    let s : PlainSchema = (table_of c.args.table.now).schema in
+    let rows : List (List Cell) = (table_of c.args.table.now).rows in
+    let is = c.loop-place.invariant in
+    let place : ℕ = c.loop-place.place in
+    let front : List (List Cell) = map borrowed_cells c.loop-place.piece.items in
+    let row : List Cell = borrowed_cells c.row_at-row.result in
+    let count = length-map c.loop-place.piece.items borrowed_cells in
+    let next : drop place rows ≡ row ∷ drop (place + 1) rows = row_before rows place row (omega (arith, c.loop-place-test.true)) c.row_at-row.ensures in
+    let weighed : c.row_weight.result ≡ capped_weight (row_weight s row) = c.row_weight.ensures ∙ ap (λ (x : PlainSchema). capped_weight (row_weight x row)) c.schema-schema.ensures.schema in
+    let full : within_piece s (front ++ row ∷ []) ≡ false =
+    elim c.then-len-ge-MAX_PIECE_ROWS.branch [
+      | then-len-ge-MAX_PIECE_ROWS-via-then-len-ge-MAX_PIECE_ROWS w ↦ has_too_many s front row (omega (arith, count, w.if-len-ge-MAX_PIECE_ROWS.true))
+      | then-len-ge-MAX_PIECE_ROWS-via-else-len-ge-MAX_PIECE_ROWS+then-weight-gt-MAX_PIECE_WEIGHT w ↦
+          is_too_heavy s front row (omega (arith, is.weight, weighed, c.add_weights-weight.ensures, w.if-weight-gt-MAX_PIECE_WEIGHT.true))
+    ] in
+    sym is.cut
+    ∙ no_more (within_piece s) front (drop place rows) (drop (place + 1) rows) row next full
+    ∙ ap (λ (p : ℕ). front ∷ pieces (within_piece s) (drop p rows)) (sym is.place)
+
+pub loop-place-preserved : goal.loop-place-preserved
+loop-place-preserved c =
+    let s : PlainSchema = (table_of c.args.table.now).schema in
+    let rows : List (List Cell) = (table_of c.args.table.now).rows in
+    let is = c.loop-place.invariant in
+    let from : ℕ = c.args.from in
+    let place : ℕ = c.loop-place.place in
+    let old : List Values = c.loop-place.piece.items in
+    let new : List Values = c.push-in-loop-place.new.self.items in
+    let front : List (List Cell) = map borrowed_cells old in
+    let row : List Cell = borrowed_cells c.row_at-row.result in
+    let count : length front ≡ length old = length-map old borrowed_cells in
+    let next : drop place rows ≡ row ∷ drop (place + 1) rows = row_before rows place row (omega (arith, c.loop-place-test.true)) c.row_at-row.ensures in
+    let weighed : c.row_weight.result ≡ capped_weight (row_weight s row) = c.row_weight.ensures ∙ ap (λ (x : PlainSchema). capped_weight (row_weight x row)) c.schema-schema.ensures.schema in
+    let pushed : new ≡ old ++ c.row_at-row.result ∷ [] = c.in_ok-push-2.ensures.items in
+    let mapped : map borrowed_cells new ≡ front ++ row ∷ [] = ap (map borrowed_cells) pushed ∙ map-append borrowed_cells old (c.row_at-row.result ∷ []) in
+    let longer : length new ≡ length old + 1 = ap length pushed ∙ length-append old (c.row_at-row.result ∷ []) in
+    let few : length front + 1 ≤ 4096 = omega (arith, count, c.if-len-ge-MAX_PIECE_ROWS.false) in
+    let light : sum_by (row_weight s) front + row_weight s row ≤ 16777216 = omega (arith, is.weight, weighed, c.add_weights-weight.ensures, c.if-weight-gt-MAX_PIECE_WEIGHT.false) in
+    let fits = is_within s front row few light (unlimited_fit s (front ++ row ∷ []) c.requires.unlimited) in
+    let sums : sum_by (row_weight s) (map borrowed_cells new) ≡ sum_by (row_weight s) front + row_weight s row = ap (sum_by (row_weight s)) mapped ∙ sum_more s front row in
+    let here : drop (from + length old) rows ≡ row ∷ drop (place + 1) rows = ap (λ (p : ℕ). drop p rows) is.place ∙ next in
+    record {
+      place = omega (arith, longer, is.place);
+      some = omega (arith, longer);
+      inside = omega (arith, c.loop-place-test.true);
+      cut = ap (λ (x : List (List Cell)). pieces_from (within_piece s) x (drop (place + 1) rows)) mapped
+          ∙ sym (one_more (within_piece s) front (drop place rows) (drop (place + 1) rows) row next fits) ∙ is.cut;
+      taken = mapped ∙ ap (λ (x : List (List Cell)). x ++ row ∷ []) is.taken
+          ∙ sym (one_row_taken rows (drop (place + 1) rows) from (length old) row here)
+          ∙ ap (λ (n : ℕ). take n (drop from rows)) (sym longer);
+      weight = omega (arith, sums, is.weight, weighed, c.add_weights-weight.ensures);
+    }

@@ -1,0 +1,22 @@
+use Rattle.std.specs.Prelude.{sum_by}
+use Rattle.std.proofs.Common.{◌≡◌, ◌+◌, ◌≤◌, map, length, take, drop}
+use Rattle.cells.specs.Weight.{row_weight, capped_weight}
+use Rattle.ipc_stream.specs.Cut.{pieces, pieces_from}
+use Rattle.table_cut.specs.Piece.{within_piece}
+use Rattle.values.specs.Borrowed.{borrowed_cells}
+use Rattle.values.specs.TableView.{table_of}
+use Rattle.table_cut.proofs.piece.next_piece.Given as goal
+
+abbrev pub invariant-loop-place : goal.invariant-loop-place
+invariant-loop-place l =
+    let s = (table_of l.table).schema in
+    let rows = (table_of l.table).rows in
+    let front = map borrowed_cells l.piece.items in
+    record {
+      place : l.from + length l.piece.items ≡ l.place;
+      some : 1 ≤ length l.piece.items;
+      inside : l.place ≤ length rows;
+      cut : pieces_from (within_piece s) front (drop l.place rows) ≡ pieces (within_piece s) (drop l.from rows);
+      taken : front ≡ take (length l.piece.items) (drop l.from rows);
+      weight : l.weight ≡ capped_weight (sum_by (row_weight s) front);
+    }

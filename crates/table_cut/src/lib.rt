@@ -1,0 +1,15 @@
+//! The cut of a table's rows into pieces: each is written as one record batch of a canonical stream.
+//!
+//! [`next_piece`] has the longest front of the rows that are left which is within the limits: at most 4,096 rows, a weight of at most 16,777,216,
+//! and in no dictionary more values than its indices can name. It borrows the rows, and weighs each once, but for the first of the next piece.
+//!
+//! ```ignore
+//! let piece = next_piece(alloc, &table, from)?;
+//! from += piece.len();
+//! ```
+#![tactic(auto)]
+
+mod piece;
+mod weigh;
+
+pub use piece::next_piece;
