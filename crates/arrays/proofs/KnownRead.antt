@@ -8,7 +8,7 @@ use Rattle.std.proofs.lemmas.List.{append-nil, length-append}
 use Rattle.std.proofs.lemmas.List.Folds.{list_all-append, list_any-append}
 use Rattle.arrow_schema.specs.Column.{Pair, Index, Kind, Column, Columns, nulls, booleans, integers, dates, timestamps, texts, large_texts, binaries, large_binaries, fixed_binaries, lists, large_lists, fixed_lists, structs, column, no_column, and_column}
 use Rattle.columns.specs.Array.{Array, Arrays, array_list, arrays_of, empty_array, no_array, slots_in, dictionary_in}
-use Rattle.columns.specs.Buffers.{Node, dictionary_arrays, dictionaries_of}
+use Rattle.columns.specs.Buffers.{Node, typed_dictionaries, dictionaries_of}
 use Rattle.columns.specs.CellAt.{cell_at, cells_from, entries_of_kind, unless_null, kind_cell}
 use Rattle.columns.specs.FromBuffers.{array_from, kind_array_from, arrays_from, own_index, node_count, buffer_count, dictionary_count}
 use Rattle.columns.specs.Sound.{is_sound}
@@ -51,12 +51,12 @@ as_many (t ∷ every) =
 -- ---- arrays whose dictionaries are readable
 
 record AreGood (every : List Typed) : Type 0 where
-  pub sound : list_all is_typed_sound (flat_map dictionary_arrays every) ≡ true
+  pub sound : list_all is_typed_sound (flat_map typed_dictionaries every) ≡ true
   pub texts : list_any has_bad_entry every ≡ false
 
 both_good : (xs ys : List Typed) → AreGood xs → AreGood ys → AreGood (xs ++ ys)
 both_good xs ys g h = record {
-  sound = ap (list_all is_typed_sound) (flat_map-append dictionary_arrays xs ys) ∙ list_all-append is_typed_sound (flat_map dictionary_arrays xs) (flat_map dictionary_arrays ys) ∙ rw g.sound h.sound;
+  sound = ap (list_all is_typed_sound) (flat_map-append typed_dictionaries xs ys) ∙ list_all-append is_typed_sound (flat_map typed_dictionaries xs) (flat_map typed_dictionaries ys) ∙ rw g.sound h.sound;
   texts = list_any-append has_bad_entry xs ys ∙ rw g.texts h.texts;
 }
 
@@ -93,10 +93,10 @@ none_good : AreGood []
 none_good = record { sound = refl; texts = refl }
 
 -- one without
-plain_good : (name : List ℕ) (nullable : Bool) (kind : Kind) (pairs : List Pair) (a : Array) (below : List Typed) → dictionary_arrays (typed (column name nullable kind None pairs) a) ≡ [] → AreGood below
+plain_good : (name : List ℕ) (nullable : Bool) (kind : Kind) (pairs : List Pair) (a : Array) (below : List Typed) → typed_dictionaries (typed (column name nullable kind None pairs) a) ≡ [] → AreGood below
     → AreGood (typed (column name nullable kind None pairs) a ∷ below)
 plain_good name nullable kind pairs a below none h = record {
-  sound = ap (λ (ts : List Typed). list_all is_typed_sound (ts ++ flat_map dictionary_arrays below)) none ∙ h.sound;
+  sound = ap (λ (ts : List Typed). list_all is_typed_sound (ts ++ flat_map typed_dictionaries below)) none ∙ h.sound;
   texts = h.texts;
 }
 

@@ -26,7 +26,7 @@ use Rattle.columns.proofs.Spans.{HaveWidth, have_width, all_width, before, next_
 
 -- ---- buffers that are long enough
 
-not_few : (a b : ℕ) → b ≤ a → nat_lt a b ≡ false
+pub not_few : (a b : ℕ) → b ≤ a → nat_lt a b ≡ false
 not_few a b h = le-ltb a b h
 
 and_false : (b : Bool) → (b && false) ≡ false

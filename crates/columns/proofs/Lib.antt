@@ -16,3 +16,6 @@ pub mod BuiltSound
 pub mod Children
 pub mod Unordered
 pub mod BuiltVisible
+pub mod EachBuilt
+pub mod BuiltShape
+pub mod BuiltDictionaries

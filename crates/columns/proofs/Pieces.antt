@@ -189,7 +189,7 @@ entry_step entries (bytes t) = new_step entries (bytes t)
 entry_step entries (items cs) = inl refl
 entry_step entries (parts cs) = inl refl
 
-entries_weigh : (w : Cell → ℕ) (entries cells : List Cell) → sum_by w (with_entries entries cells) ≤ sum_by w entries + sum_by w cells
+pub entries_weigh : (w : Cell → ℕ) (entries cells : List Cell) → sum_by w (with_entries entries cells) ≤ sum_by w entries + sum_by w cells
 unfolding with_entries
 entries_weigh w entries [] = omega arith
 entries_weigh w entries (c ∷ cells) =
@@ -250,11 +250,11 @@ few_names index n wide few small = and_from _ _ wide (by_size (nat_le 32 index.b
     by_size false signed e s = rw e at few
 
 -- each cell weighs something
-count_weigh : (w : Cell → ℕ) → ((x : Cell) → 1 ≤ w x) → (cells : List Cell) → length cells ≤ sum_by w cells
+pub count_weigh : (w : Cell → ℕ) → ((x : Cell) → 1 ≤ w x) → (cells : List Cell) → length cells ≤ sum_by w cells
 count_weigh w h [] = omega arith
 count_weigh w h (x ∷ xs) = let rest = count_weigh w h xs in let one = h x in let sums : sum_by w (x ∷ xs) ≡ w x + sum_by w xs = sum_by-cons w x xs in omega (arith, rest, one, sums)
 
-split : {X : Type 0} (q : X → Bool) (ys zs : List X) → list_all q (ys ++ zs) ≡ true → (list_all q ys ≡ true) × (list_all q zs ≡ true)
+pub split : {X : Type 0} (q : X → Bool) (ys zs : List X) → list_all q (ys ++ zs) ≡ true → (list_all q ys ≡ true) × (list_all q zs ≡ true)
 split q [] zs h = (refl, h)
 split q (y ∷ ys) zs h = let a = and_parts (q y) (list_all q (ys ++ zs)) h in let b = split q ys zs a.1 in (and_from _ _ a.0 b.0, b.1)
 
@@ -263,11 +263,11 @@ not_true true h = cc
 not_true false h = refl
 
 -- a row as a list and as parts
-first_is : (row : List Cell) → first_part (cells_of row) ≡ first_cell row
+pub first_is : (row : List Cell) → first_part (cells_of row) ≡ first_cell row
 first_is [] = refl
 first_is (x ∷ xs) = refl
 
-others_are : (row : List Cell) → other_parts (cells_of row) ≡ cells_of (other_cells row)
+pub others_are : (row : List Cell) → other_parts (cells_of row) ≡ cells_of (other_cells row)
 others_are [] = refl
 others_are (x ∷ xs) = refl
 
@@ -348,7 +348,7 @@ mutual
 
 -- ---- the rows of a piece
 
-sum_less : {X : Type 0} (w v : X → ℕ) → ((x : X) → w x ≤ v x) → (xs : List X) → sum_by w xs ≤ sum_by v xs
+pub sum_less : {X : Type 0} (w v : X → ℕ) → ((x : X) → w x ≤ v x) → (xs : List X) → sum_by w xs ≤ sum_by v xs
 sum_less w v h [] = omega arith
 sum_less w v h (x ∷ xs) =
     let rest = sum_less w v h xs in

@@ -66,7 +66,7 @@ mutual
   same_below (fixed_lists size item) a b = same_columns item (items_in a) (items_in b)
   same_below (structs columns) a b = same_all columns (children_in a) (children_in b)
 
-  same_all : (cs : Columns) (xs ys : Arrays) → columns_in (every_array cs xs) ≡ columns_in (every_array cs ys)
+  pub same_all : (cs : Columns) (xs ys : Arrays) → columns_in (every_array cs xs) ≡ columns_in (every_array cs ys)
   same_all no_column xs ys = refl
   same_all (and_column c cs) xs ys =
       let f : Typed → Column = λ t. t.column in
@@ -78,7 +78,7 @@ mutual
 heads : (c d : Column) (cs ds : List Column) → c ∷ cs ≡ d ∷ ds → (c ≡ d) × (cs ≡ ds)
 heads c d cs ds e = (cc, cc)
 
-as_many_buffers : (ts us : List Typed) → columns_in ts ≡ columns_in us → length (flat_map buffers_with ts) ≡ length (flat_map buffers_with us)
+pub as_many_buffers : (ts us : List Typed) → columns_in ts ≡ columns_in us → length (flat_map buffers_with ts) ≡ length (flat_map buffers_with us)
 as_many_buffers [] [] e = refl
 as_many_buffers [] (u ∷ us) e = cc
 as_many_buffers (t ∷ ts) [] e = cc

@@ -1,7 +1,7 @@
 -- The nodes and buffers of a batch (Arrow columnar format, "RecordBatch message"): those of each array, each before its children.
 use Rattle.std.specs.Prelude.{ℕ, true, List, [], ◌∷◌, map, Some, None}
 use Rattle.std.specs.List.{flat_map}
-use Rattle.arrow_schema.specs.Column.{Index, Kind, Column, Columns, nulls, booleans, integers, dates, timestamps, texts, large_texts, binaries, large_binaries, fixed_binaries, lists, large_lists, fixed_lists, structs, column}
+use Rattle.arrow_schema.specs.Column.{Kind, Column, Columns, nulls, booleans, integers, dates, timestamps, texts, large_texts, binaries, large_binaries, fixed_binaries, lists, large_lists, fixed_lists, structs, column}
 use Rattle.columns.specs.Array.{Array, Arrays, slots_in, validity_in, bits_in, values_in, offsets_in, contents_in, indices_in, dictionary_in, array_list}
 use Rattle.columns.specs.Tests.{Typed, every_array, unset_bits}
 
@@ -50,8 +50,8 @@ buffers_of columns arrays = flat_map (λ t. column_buffers t.column t.array) (ev
 abbrev pub value_column : Column → Column
 value_column (column name nullable kind dictionary pairs) = column [] true kind None []
 
-abbrev pub dictionary_arrays : Typed → List Typed
-dictionary_arrays t = map (λ a. record { column = value_column t.column; array = a }) (array_list (dictionary_in t.array))
+abbrev pub typed_dictionaries : Typed → List Typed
+typed_dictionaries t = map (λ a. record { column = value_column t.column; array = a }) (array_list (dictionary_in t.array))
 
 abbrev pub dictionaries_of : Columns → Arrays → List Typed
-dictionaries_of columns arrays = flat_map dictionary_arrays (every_array columns arrays)
+dictionaries_of columns arrays = flat_map typed_dictionaries (every_array columns arrays)

@@ -18,3 +18,4 @@ pub mod View
 pub mod Borrowed
 pub mod laws
 pub mod inner
+pub mod Alone

@@ -1,21 +1,23 @@
 // What the definitions say.
-ghost use Rattle.std.specs.Prelude.{◌≡◌, ◌≤◌, ◌++◌, ℕ, true, false, List, length, take};
-ghost use Rattle.std.specs.List.{AllPass, list_all, list_any};
+ghost use Rattle.std.specs.Prelude.{◌≡◌, ◌≤◌, ◌==◌, ◌++◌, ◌+◌, ◌*◌, ℕ, true, false, not, List, [], ◌∷◌, map, length, take, sum_by};
+ghost use Rattle.std.specs.List.{AllByRecursion, AllPass, list_all, list_any};
 ghost use Rattle.arrow_schema.specs.Column.{Column, Columns, PlainSchema, columns_of};
-ghost use Rattle.arrow_schema.specs.Limits.{IsWithinLimits};
+ghost use Rattle.arrow_schema.specs.Limits.{IsWithinLimits, has_flat_dictionary};
+ghost use Rattle.arrow_schema.specs.Preorder.{preorder_all};
 ghost use Rattle.cells.specs.Cell.{Cell, cells_of};
 ghost use Rattle.cells.specs.Dictionary.{dictionaries_fit};
 ghost use Rattle.cells.specs.Fit.{each_fits};
 ghost use Rattle.cells.specs.Row.{is_row};
 ghost use Rattle.cells.specs.Weight.{table_weight};
-ghost use Rattle.columns.specs.Array.{Arrays};
-ghost use Rattle.columns.specs.Buffers.{nodes_of, buffers_of, null_count};
+ghost use Rattle.columns.specs.Alone.{cells_weight, own_column, own_array, IsBuiltAlone};
+ghost use Rattle.columns.specs.Array.{Arrays, no_array, array_list, slots_in};
+ghost use Rattle.columns.specs.Buffers.{nodes_of, buffers_of, null_count, dictionaries_of};
 ghost use Rattle.columns.specs.FromBuffers.{arrays_from};
 ghost use Rattle.columns.specs.Layouts.{HaveLayouts, dictionary_arrays};
 ghost use Rattle.columns.specs.Buildable.{can_build, can_build_rows};
 ghost use Rattle.columns.specs.Built.{built, built_parts};
 ghost use Rattle.columns.specs.CellAt.{cells_in, rows_in};
-ghost use Rattle.columns.specs.Tests.{every_array, is_short, is_unordered, counts_wrong};
+ghost use Rattle.columns.specs.Tests.{every_array, is_short, is_unordered, counts_wrong, has_short_child};
 ghost use Rattle.columns.specs.Visible.{visible_in, names_no_entry, is_no_text, is_forbidden};
 ghost use Rattle.columns.specs.Places.{within};
 ghost use Rattle.columns.specs.View.{array_in, arrays_in, arrays_numbered};
@@ -95,6 +97,37 @@ pub fn written_arrays_pass()
         → list_any (λ t. is_unordered t.column t.array) (every_array columns (built_parts columns rows)) ≡ false }
     ensures counted { (columns : Columns) (arrays : Arrays)
         → list_any (λ t. counts_wrong (null_count t.column t.array) t.column t.array) (every_array columns arrays) ≡ false }
+{}
+
+/// How many slots, nodes, buffers and bytes written arrays have. `slots`: each array of a batch has a slot for each row; `children`: no child is
+/// too short; `nodes`, `buffers`: how many there are is said by the columns alone; `few_nodes`, `few_buffers`: a node at most for each column at any
+/// level, and three buffers for each node; `weight`: the cells weigh no more than their table; `few_slots`, `few_bytes`: no array has more slots than
+/// the cells weigh, nor ten times as many bytes and 8.
+pub fn written_arrays_have_their_shape()
+    ensures slots { (columns : Columns) (rows : List (List Cell))
+        → list_any (λ a. not (slots_in a == length rows)) (array_list (built_parts columns rows)) ≡ false }
+    ensures children { (columns : Columns) (rows : List (List Cell)) → can_build_rows columns rows ≡ true
+        → list_any (λ t. has_short_child t.column t.array) (every_array columns (built_parts columns rows)) ≡ false }
+    ensures nodes { (columns : Columns) (arrays : Arrays) → length (nodes_of columns arrays) ≡ length (nodes_of columns no_array) }
+    ensures buffers { (columns : Columns) (arrays : Arrays) → length (buffers_of columns arrays) ≡ length (buffers_of columns no_array) }
+    ensures few_nodes { (columns : Columns) (arrays : Arrays) → length (nodes_of columns arrays) ≤ length (preorder_all columns) }
+    ensures few_buffers { (columns : Columns) (arrays : Arrays) → length (buffers_of columns arrays) ≤ 3 * length (nodes_of columns arrays) }
+    ensures weight { (s : PlainSchema) (rows : List (List Cell)) → cells_weight (columns_of s.columns) rows ≤ table_weight s rows }
+    ensures few_slots { (most : ℕ) (columns : Columns) (rows : List (List Cell)) → can_build_rows columns rows ≡ true → cells_weight columns rows ≤ most
+        → AllByRecursion (λ t. slots_in t.array ≤ most) (every_array columns (built_parts columns rows)) }
+    ensures few_bytes { (most : ℕ) (columns : Columns) (rows : List (List Cell)) → can_build_rows columns rows ≡ true → cells_weight columns rows ≤ most
+        → sum_by length (buffers_of columns (built_parts columns rows)) ≤ length (nodes_of columns (built_parts columns rows)) * (10 * most + 8) }
+{}
+
+/// The dictionaries of written arrays. `known`: those that a reader has are they, each with one array; `alone`: each is written as a batch of its
+/// entries, one to a row, which can be built, fit the column, and weigh no more than the cells; `flat`: none has a dictionary of its own.
+pub fn dictionaries_are_written_alone()
+    ensures known { (columns : Columns) (rows : List (List Cell)) → can_build_rows columns rows ≡ true
+        → dictionary_arrays columns (built_parts columns rows) ≡ map (λ t. t.array ∷ []) (dictionaries_of columns (built_parts columns rows)) }
+    ensures alone { (most : ℕ) (columns : Columns) (rows : List (List Cell)) → can_build_rows columns rows ≡ true → cells_weight columns rows ≤ most
+        → AllByRecursion (IsBuiltAlone most) (dictionaries_of columns (built_parts columns rows)) }
+    ensures flat { (columns : Columns) (rows : List (List Cell)) → AllPass has_flat_dictionary (preorder_all columns) → can_build_rows columns rows ≡ true
+        → AllByRecursion (λ t. dictionary_arrays (own_column t) (own_array t) ≡ []) (dictionaries_of columns (built_parts columns rows)) }
 {}
 
 /// And of the visible slots of arrays of rows that fit none is refused: each valid index names an entry, each text is UTF-8, and no null stands where

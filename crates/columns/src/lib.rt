@@ -29,8 +29,9 @@ pub use borrowing::borrow_value;
 pub use dictionary::KnownArrays;
 pub use entry::{EntryPlace, entry_place, indexed_entry};
 pub use laws::{
-    built_reads_back, listed_reads_back, longer_bytes_keep_arrays, rows_can_be_built, worked_cases,
-    written_arrays_pass, written_slots_pass,
+    built_reads_back, dictionaries_are_written_alone, listed_reads_back, longer_bytes_keep_arrays,
+    rows_can_be_built, worked_cases, written_arrays_have_their_shape, written_arrays_pass,
+    written_slots_pass,
 };
 pub use numbers::OffsetWidth;
 pub use read::{row, value};

@@ -1,15 +1,15 @@
 -- Arrays of which no test finds anything can be looked up.
-use Rattle.std.specs.Prelude.{not, ◌&&◌, ◌||◌, nat_lt, nat_le, ◌/◌}
+use Rattle.std.specs.Prelude.{not, ◌||◌, nat_lt, nat_le, ◌/◌}
 use Rattle.std.specs.List.{list_any, list_all, flat_map}
-use Rattle.std.proofs.Common.{◌≡◌, ℕ, ◌*◌, Bool, true, false, List, [], ◌∷◌, ◌++◌, map, drop, Some, None, refl, sym, ap, arith, ◌∙◌}
+use Rattle.std.proofs.Common.{◌≡◌, ℕ, ◌*◌, Bool, true, false, List, [], ◌∷◌, ◌++◌, map, drop, Some, None, refl, sym, arith, ◌∙◌}
 use Rattle.std.proofs.lemmas.Bool.{and_parts, or_parts}
 use Rattle.std.proofs.lemmas.Bool.Decides.{nat_tests}
 use Rattle.std.proofs.lemmas.List.Folds.{list_all-append}
 use Rattle.arrow_schema.specs.Column.{Pair, Kind, Column, Columns, nulls, booleans, integers, dates, timestamps, texts, large_texts, binaries, large_binaries, fixed_binaries, lists, large_lists, fixed_lists, structs, column, no_column, and_column}
-use Rattle.columns.specs.Array.{Array, Arrays, slots_in, items_in, children_in, indices_in, dictionary_in, array_list}
+use Rattle.columns.specs.Array.{Array, Arrays, slots_in, items_in, indices_in, dictionary_in, array_list}
 use Rattle.columns.specs.Tests.{Typed, typed, arrays_at, arrays_below, every_array, is_short, is_unordered, has_short_child, has_short_validity, has_short_buffer, has_bad_offsets, are_few}
-use Rattle.columns.specs.Sound.{is_sound, is_sound_by, has_sound_children, are_sound, is_kind_sound}
-use Rattle.columns.specs.Buffers.{Node, dictionary_arrays, value_column}
+use Rattle.columns.specs.Sound.{is_sound, has_sound_children, are_sound, is_kind_sound}
+use Rattle.columns.specs.Buffers.{Node, typed_dictionaries, value_column}
 use Rattle.columns.specs.FromBuffers.{array_from, kind_array_from, arrays_from, node_count, buffer_count, dictionary_count}
 
 abbrev pub is_typed_sound : Typed → Bool
@@ -20,16 +20,16 @@ pub record AreClean (every : List Typed) : Type 0 where
   pub long : list_any (λ t. is_short t.column t.array) every ≡ false
   pub ordered : list_any (λ t. is_unordered t.column t.array) every ≡ false
   pub children : list_any (λ t. has_short_child t.column t.array) every ≡ false
-  pub dictionaries : list_all is_typed_sound (flat_map dictionary_arrays every) ≡ true
+  pub dictionaries : list_all is_typed_sound (flat_map typed_dictionaries every) ≡ true
 
 first_clean : (t : Typed) (every : List Typed) → AreClean (t ∷ every)
-    → (is_short t.column t.array ≡ false) × (is_unordered t.column t.array ≡ false) × (has_short_child t.column t.array ≡ false) × (list_all is_typed_sound (dictionary_arrays t) ≡ true)
+    → (is_short t.column t.array ≡ false) × (is_unordered t.column t.array ≡ false) × (has_short_child t.column t.array ≡ false) × (list_all is_typed_sound (typed_dictionaries t) ≡ true)
 first_clean t every h = (
   (or_parts (is_short t.column t.array) _ h.long).0,
   (or_parts (is_unordered t.column t.array) _ h.ordered).0,
   (or_parts (has_short_child t.column t.array) _ h.children).0,
-  (and_parts (list_all is_typed_sound (dictionary_arrays t)) (list_all is_typed_sound (flat_map dictionary_arrays every))
-      (sym (list_all-append is_typed_sound (dictionary_arrays t) (flat_map dictionary_arrays every)) ∙ h.dictionaries)).0,
+  (and_parts (list_all is_typed_sound (typed_dictionaries t)) (list_all is_typed_sound (flat_map typed_dictionaries every))
+      (sym (list_all-append is_typed_sound (typed_dictionaries t) (flat_map typed_dictionaries every)) ∙ h.dictionaries)).0,
 )
 
 others_clean : (t : Typed) (every : List Typed) → AreClean (t ∷ every) → AreClean every
@@ -37,20 +37,20 @@ others_clean t every h = record {
   long = (or_parts (is_short t.column t.array) _ h.long).1;
   ordered = (or_parts (is_unordered t.column t.array) _ h.ordered).1;
   children = (or_parts (has_short_child t.column t.array) _ h.children).1;
-  dictionaries = (and_parts (list_all is_typed_sound (dictionary_arrays t)) (list_all is_typed_sound (flat_map dictionary_arrays every))
-      (sym (list_all-append is_typed_sound (dictionary_arrays t) (flat_map dictionary_arrays every)) ∙ h.dictionaries)).1;
+  dictionaries = (and_parts (list_all is_typed_sound (typed_dictionaries t)) (list_all is_typed_sound (flat_map typed_dictionaries every))
+      (sym (list_all-append is_typed_sound (typed_dictionaries t) (flat_map typed_dictionaries every)) ∙ h.dictionaries)).1;
 }
 
 none_clean : AreClean []
 none_clean = record { long = refl; ordered = refl; children = refl; dictionaries = refl }
 
 clean_with : (t : Typed) (every : List Typed) → is_short t.column t.array ≡ false → is_unordered t.column t.array ≡ false → has_short_child t.column t.array ≡ false
-    → list_all is_typed_sound (dictionary_arrays t) ≡ true → AreClean every → AreClean (t ∷ every)
+    → list_all is_typed_sound (typed_dictionaries t) ≡ true → AreClean every → AreClean (t ∷ every)
 clean_with t every s u c d h = record {
   long = rw s h.long;
   ordered = rw u h.ordered;
   children = rw c h.children;
-  dictionaries = list_all-append is_typed_sound (dictionary_arrays t) (flat_map dictionary_arrays every) ∙ rw d h.dictionaries;
+  dictionaries = list_all-append is_typed_sound (typed_dictionaries t) (flat_map typed_dictionaries every) ∙ rw d h.dictionaries;
 }
 
 -- of two lists, one after another
