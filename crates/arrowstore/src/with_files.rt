@@ -5,6 +5,7 @@ ghost use Rattle.ipc_message.specs.Header.{supported_codes};
 ghost use Rattle.ipc_stream.specs.Meaning.{meaning};
 ghost use Rattle.arrowstore.specs.Recode.{AppendsCanonical, IsTrueFault};
 ghost use Rattle.arrowstore.specs.Arguments.{AreRecode, AskForHelp};
+ghost use Rattle.arrowstore.specs.OwnTexts.{is_own, own_text};
 ghost use Rattle.arrowstore.specs.StoreWords.{is_of_store, takes_input};
 ghost use Rattle.arrowstore.specs.declared.status.Status.TheVariants.{Done, WrongArguments};
 ghost use Rattle.arrowstore.specs.Reported.{refusal_line, IfRefused, IsRefused, IsWrong};
@@ -73,13 +74,16 @@ pub fn run_with_files<
     W: Write,
     E: Write,
 >(rt: &H, arguments: &[S], input: &mut R, output: &mut W, errors: &mut E) -> Ended
-    // Done: the command was right, or help was asked for, and nothing is reported on `errors`.
+    // Done: the command was right, or help or a text of the program's own was asked for, and nothing is reported on `errors`.
     ensures done { result.status ≡ Done → AreRecode (map S.text arguments.now) ⊎ AskForHelp (map S.text arguments.now)
-        ⊎ (is_of_store (map S.text arguments.now) ≡ true) }
+        ⊎ (is_own (map S.text arguments.now) ≡ true) ⊎ (is_of_store (map S.text arguments.now) ≡ true) }
     ensures silent { result.status ≡ Done → errors.new ≡ errors.old }
     // The output has been given the canonical stream of what the input means, and nothing else.
     ensures recoded { AreRecode (map S.text arguments.now) → result.status ≡ Done
         → IfSome (R.remaining input.old) (AppendsCanonical (W.contents output.old) (W.contents output.new)) }
+    // The output has been given that text, and nothing else.
+    ensures own { is_own (map S.text arguments.now) ≡ true → result.status ≡ Done
+        → Appends (W.contents output.old) (W.contents output.new) (own_text (map S.text arguments.now)) }
     // An input that has no meaning or too many bytes is refused, and nothing is written.
     ensures meaningless { AreRecode (map S.text arguments.now)
         → IfSome (R.remaining input.old) (λ bytes. IsErr (meaning supported_codes bytes) → IsRefused result.status × (output.new ≡ output.old)) }
@@ -91,7 +95,8 @@ pub fn run_with_files<
     // Right arguments are taken. Wrong ones are reported, unless memory is out: nothing is read, nothing is written.
     ensures right_arguments { AreRecode (map S.text arguments.now) → result.status ≢ WrongArguments }
     ensures wrong_arguments { AreRecode (map S.text arguments.now) ⊎ AskForHelp (map S.text arguments.now)
-        ⊎ (is_of_store (map S.text arguments.now) ≡ true) ⊎ (IsWrong result.status × (output.new ≡ output.old)) }
+        ⊎ (is_own (map S.text arguments.now) ≡ true) ⊎ (is_of_store (map S.text arguments.now) ≡ true)
+        ⊎ (IsWrong result.status × (output.new ≡ output.old)) }
     // The input is read by these commands alone.
     ensures others_leave_input { AreRecode (map S.text arguments.now) ⊎ (takes_input (map S.text arguments.now) ≡ true) ⊎ (input.new ≡ input.old) }
     ensures nothing_written { result.status ≡ WrongArguments → output.new ≡ output.old }

@@ -4,8 +4,10 @@ use Rattle.arrowstore.proofs.running.run.Goals as goal
 
 pub returns-in-Err-clause-done : goal.returns-in-Err-clause-done
 returns-in-Err-clause-done g c = λ done.
-    elim c.report_arguments.ensures.request [ inl asked ↦ inr (c.in-Err.ensures.request asked) | inr other ↦ absurd (not_done _ other.0 done) ]
+    elim c.report_arguments.ensures.request [ inl asked ↦ inr (inl (c.in-Err.ensures.request asked)) | inr other ↦ absurd (not_done _ other.0 done) ]
 
 pub returns-in-Err-clause-wrong_arguments : goal.returns-in-Err-clause-wrong_arguments
-returns-in-Err-clause-wrong_arguments g c =
-    elim c.report_arguments.ensures.request [ inl asked ↦ inr (inl (c.in-Err.ensures.request asked)) | inr other ↦ inr (inr other) ]
+returns-in-Err-clause-wrong_arguments g c = elim c.report_arguments.ensures.request [
+  | inl asked ↦ inr (inl (c.in-Err.ensures.request asked))
+  | inr other ↦ inr (inr (inr other))
+]
