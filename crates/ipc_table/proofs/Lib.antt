@@ -1,0 +1,5 @@
+pub mod Ids
+mod NotYet
+mod Firsts
+mod Batches
+mod Messages

@@ -1,0 +1,16 @@
+//! Arrow IPC streams of any types: what a stream of bytes means, and what is known after each of its messages.
+//!
+//! The meaning of a stream goes message by message: a schema, then dictionary batches and record batches, each read with what is known from those before it.
+//! [`add_message`] gives exactly what is known after one message more, or its first fault. Arrays are places in the bytes of the stream: no cell is copied.
+//!
+//! ```ignore
+//! let mut front = None;
+//! front = Some(add_message(alloc, front, &message, body, bytes)?);
+//! ```
+#![tactic(auto)]
+
+mod add;
+mod front;
+
+pub use add::add_message;
+pub use front::Front;
