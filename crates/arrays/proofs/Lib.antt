@@ -4,6 +4,7 @@ pub mod SlotCounts
 pub mod Layouts
 pub mod Counted
 pub mod Firsts
+pub mod SchemaValues
 pub mod Everys
 pub mod Rests
 pub mod Ends

@@ -1,6 +1,6 @@
 // What the definitions say. The functions do nothing: their contracts are the laws.
-ghost use Rattle.std.specs.Prelude.{◌≡◌, ◌≤◌, ◌<◌, ◌+◌, ℕ, true, List, map, Ok};
-ghost use Rattle.std.specs.List.{list_all, AllPass};
+ghost use Rattle.std.specs.Prelude.{◌≡◌, ◌≤◌, ◌<◌, ◌+◌, ℕ, true, false, List, map, Ok};
+ghost use Rattle.std.specs.List.{list_all, list_any, AllPass};
 ghost use Rattle.arrow_schema.specs.Column.{PlainSchema, columns_of};
 ghost use Rattle.arrow_schema.specs.Limits.{has_flat_dictionary, IsWithinLimits};
 ghost use Rattle.arrow_schema.specs.Preorder.{every_column};
@@ -8,11 +8,14 @@ ghost use Rattle.cells.specs.Row.{is_row};
 ghost use Rattle.columns.specs.Array.{Array, Arrays};
 ghost use Rattle.columns.specs.CellAt.{part_cells, rows_in};
 ghost use Rattle.columns.specs.Texts.{have_utf8_texts};
-ghost use Rattle.ipc_message.specs.Raw.{RawBatch, RawDictionaryBatch};
+ghost use Rattle.ipc_message.specs.Checks.{has_two_types, is_bad, is_dictionary_of_nested};
+ghost use Rattle.ipc_message.specs.Convert.{plain_schema_of};
+ghost use Rattle.ipc_message.specs.Fields.{every_field};
+ghost use Rattle.ipc_message.specs.Raw.{RawBatch, RawDictionaryBatch, RawSchema};
 ghost use Rattle.dictionary.specs.InEffect.{DictionaryBatch};
 ghost use Rattle.arrays.specs.Bytes.{are_bytes, has_bytes};
 ghost use Rattle.arrays.specs.Checks.{batch_read, batch_weight};
-ghost use Rattle.arrays.specs.Dictionaries.{DictionaryColumn, dictionary_read, dictionaries_after};
+ghost use Rattle.arrays.specs.Dictionaries.{DictionaryColumn, dictionary_columns, dictionary_read, dictionaries_after};
 ghost use Rattle.arrays.specs.Known.{are_readable, dictionary_values, is_readable_batch, HaveOneType};
 
 use cells::MAX_TABLE_WEIGHT;
@@ -39,4 +42,12 @@ pub fn read_rows_are_rows()
         → are_bytes body ≡ true → list_all (list_all has_bytes) known ≡ true → are_readable (dictionary_values (columns_of s.columns)) known ≡ true
         → batch_read s before b body known ≡ Ok arrays
         → AllPass (is_row s) (rows_in (columns_of s.columns) arrays b.length) × (before + batch_weight s b.length arrays ≤ MAX_TABLE_WEIGHT) }
+{}
+
+/// The dictionaries of a schema that passes its checks are those of its columns, in preorder; and all of one id have values of one type.
+pub fn schemas_give_dictionary_columns()
+    ensures values { (s : RawSchema) → list_any is_bad (every_field s) ≡ false → list_any is_dictionary_of_nested (every_field s) ≡ false
+        → dictionary_values (columns_of (plain_schema_of s).columns) ≡ map (λ c. c.values) (dictionary_columns s) }
+    ensures one_type { (s : RawSchema) → list_any is_bad (every_field s) ≡ false → list_any is_dictionary_of_nested (every_field s) ≡ false
+        → has_two_types (every_field s) ≡ false → HaveOneType (dictionary_columns s) }
 {}
