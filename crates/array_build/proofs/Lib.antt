@@ -1,0 +1,4 @@
+mod Equals
+mod FirstCells
+mod Listed
+mod Low

@@ -1,0 +1,7 @@
+use Rattle.std.proofs.Common.{◌≡◌, ◌++◌, map, drop}
+use Rattle.columns.specs.Built.{is_set}
+use Rattle.values.specs.Borrowed.{borrowed_cell}
+use Rattle.array_build.proofs.boolean_bits.bits.Given as goal
+
+abbrev pub invariant-loop-cell : goal.invariant-loop-cell
+invariant-loop-cell l = l.bits.items ++ map is_set (map borrowed_cell (drop l.cell-index l.cells)) ≡ map is_set (map borrowed_cell l.cells)

@@ -1,0 +1,10 @@
+use Rattle.std.proofs.Common.{◌≡◌, ◌++◌, map, drop}
+use Rattle.cells.specs.Dictionary.{part_list}
+use Rattle.columns.specs.Built.{first_cell}
+use Rattle.values.specs.Borrowed.{borrowed_cell}
+use Rattle.array_build.proofs.part_cells.parts.Given as goal
+
+abbrev pub invariant-loop-cell : goal.invariant-loop-cell
+invariant-loop-cell l =
+    map borrowed_cell l.parts.items ++ map (λ c. first_cell (drop l.place (part_list c))) (map borrowed_cell (drop l.cell-index l.cells))
+    ≡ map (λ c. first_cell (drop l.place (part_list c))) (map borrowed_cell l.cells)

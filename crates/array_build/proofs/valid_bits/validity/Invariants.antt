@@ -1,0 +1,7 @@
+use Rattle.std.proofs.Common.{◌≡◌, ◌++◌, map, drop}
+use Rattle.cells.specs.Nulls.{is_there}
+use Rattle.values.specs.Borrowed.{borrowed_cell}
+use Rattle.array_build.proofs.valid_bits.validity.Given as goal
+
+abbrev pub invariant-loop-cell : goal.invariant-loop-cell
+invariant-loop-cell l = l.bits.items ++ map is_there (map borrowed_cell (drop l.cell-index l.cells)) ≡ map is_there (map borrowed_cell l.cells)

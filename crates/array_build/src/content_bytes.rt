@@ -1,0 +1,94 @@
+// The bytes of texts and binaries, and where they end.
+ghost use Rattle.std.specs.Prelude.{◌≡◌, ◌++◌, true, OnOk, IfOk, length, map};
+ghost use Rattle.std.specs.List.{flat_map};
+ghost use Rattle.byteorder.specs.Endian.{little_bytes};
+ghost use Rattle.cells.specs.Dictionary.{item_list};
+ghost use Rattle.columns.specs.Buildable.{contents_fit, items_fit, large_offset};
+ghost use Rattle.columns.specs.Built.{contents_of, list_offsets, offsets_of};
+ghost use Rattle.columns.specs.Offsets.{width_of};
+ghost use Rattle.values.specs.Borrowed.{borrowed_cell};
+
+use byteorder::{ByteOrder, LittleEndian};
+use columns::OffsetWidth;
+use std::alloc::{AllocError, Global};
+use values::ValueRef;
+
+// What a text or a binary has: nothing where it is another value.
+fn contents_of<'a>(cell: ValueRef<'a>) -> &'a [u8]
+    ensures { result.now ≡ contents_of (borrowed_cell cell.entry) }
+{
+    match cell {
+        ValueRef::Text(text) => text.as_bytes(),
+        ValueRef::Bytes(bytes) => bytes,
+        _ => &[],
+    }
+}
+
+/// The bytes of all texts or binaries, one after another; a null has none.
+pub fn contents(alloc: Global, cells: &[ValueRef<'_>]) -> Result<Vec<u8>, AllocError>
+    ensures { IfOk result (λ bytes. bytes.items ≡ flat_map contents_of (map borrowed_cell cells.now)) }
+{
+    let mut contents = Vec::new(alloc);
+    for cell in cells {
+        contents.extend_from_slice(contents_of(*cell))?;
+    }
+    Ok(contents)
+}
+
+fn push_offset(offsets: &mut Vec<u8>, width: OffsetWidth, offset: u64) -> Result<(), AllocError>
+    ensures { OnOk result (offsets.new.items ≡ offsets.old.items ++ little_bytes (width_of width) offset) }
+{
+    let bytes = offset.to_le_bytes();
+    match width {
+        OffsetWidth::Four => offsets.extend_from_slice(&bytes[..4]),
+        OffsetWidth::Eight => offsets.extend_from_slice(&bytes),
+    }
+}
+
+/// The offsets of texts or binaries: 0, and then where each ends.
+pub fn content_offsets(
+    alloc: Global,
+    width: OffsetWidth,
+    cells: &[ValueRef<'_>],
+) -> Result<Vec<u8>, AllocError>
+    requires { contents_fit large_offset (map borrowed_cell cells.now) ≡ true }
+    ensures { IfOk result (λ bytes. bytes.items ≡ offsets_of (width_of width) (map (λ c. length (contents_of c)) (map borrowed_cell cells.now))) }
+{
+    let mut offsets = Vec::new(alloc);
+    let mut end = 0;
+    for cell in cells {
+        push_offset(&mut offsets, width, end)?;
+        end += contents_of(*cell).len() as u64;
+    }
+    push_offset(&mut offsets, width, end)?;
+    Ok(offsets)
+}
+
+#[tactic(auto, using(crate::proofs::Listed::listed_again))]
+fn item_count(cell: ValueRef<'_>) -> usize
+    ensures { result ≡ length (item_list (borrowed_cell cell.entry)) }
+{
+    match cell {
+        ValueRef::List(items) => items.len(),
+        _ => 0,
+    }
+}
+
+/// The offsets of lists: 0, and then where the items of each end.
+pub fn item_offsets(
+    alloc: Global,
+    width: OffsetWidth,
+    cells: &[ValueRef<'_>],
+) -> Result<Vec<u8>, AllocError>
+    requires { items_fit large_offset (map borrowed_cell cells.now) ≡ true }
+    ensures { IfOk result (λ bytes. bytes.items ≡ list_offsets (width_of width) (map borrowed_cell cells.now)) }
+{
+    let mut offsets = Vec::new(alloc);
+    let mut end = 0;
+    for cell in cells {
+        push_offset(&mut offsets, width, end)?;
+        end += item_count(*cell) as u64;
+    }
+    push_offset(&mut offsets, width, end)?;
+    Ok(offsets)
+}

@@ -1,0 +1,83 @@
+// The cells below lists and structs.
+ghost use Rattle.std.specs.Prelude.{◌≡◌, ◌++◌, OnOk, IfOk, map, replicate};
+ghost use Rattle.std.specs.List.{flat_map};
+ghost use Rattle.cells.specs.Cell.{null};
+ghost use Rattle.cells.specs.Dictionary.{item_list};
+ghost use Rattle.columns.specs.Built.{fixed_items};
+ghost use Rattle.values.specs.Borrowed.{borrowed_cell, borrowed_cells};
+
+use std::alloc::{AllocError, Global};
+use values::{ValueRef, Values};
+
+fn add_all<'a>(items: &mut Vec<ValueRef<'a>>, values: Values<'a>) -> Result<(), AllocError>
+    ensures { OnOk result (map borrowed_cell items.new.items ≡ map borrowed_cell items.old.items ++ borrowed_cells values.entry) }
+{
+    for value in values.iter() {
+        items.push(value)?;
+    }
+    Ok(())
+}
+
+// The items of a list: none of another value.
+#[tactic(auto, using(crate::proofs::Listed::listed_again))]
+fn add_items<'a>(items: &mut Vec<ValueRef<'a>>, cell: ValueRef<'a>) -> Result<(), AllocError>
+    ensures { OnOk result (map borrowed_cell items.new.items ≡ map borrowed_cell items.old.items ++ item_list (borrowed_cell cell.entry)) }
+{
+    match cell {
+        ValueRef::List(values) => add_all(items, values),
+        _ => Ok(()),
+    }
+}
+
+/// The items of lists, one after another; a null has none.
+pub fn items<'a>(alloc: Global, cells: &[ValueRef<'a>]) -> Result<Vec<ValueRef<'a>>, AllocError>
+    ensures { IfOk result (λ items. map borrowed_cell items.items ≡ flat_map item_list (map borrowed_cell cells.now)) }
+{
+    let mut items = Vec::new(alloc);
+    for cell in cells {
+        add_items(&mut items, *cell)?;
+    }
+    Ok(items)
+}
+
+// Adds nulls.
+#[tactic(auto, using(crate::proofs::Equals::one_more))]
+fn add_nulls(items: &mut Vec<ValueRef<'_>>, count: usize) -> Result<(), AllocError>
+    ensures { OnOk result (map borrowed_cell items.new.items ≡ map borrowed_cell items.old.items ++ replicate count null) }
+{
+    for _ in 0..count {
+        items.push(ValueRef::Null)?;
+    }
+    Ok(())
+}
+
+// The items of a list, and as many nulls as a list of this size has below a null.
+#[tactic(auto, using(crate::proofs::Listed::listed_again))]
+fn add_fixed_items<'a>(
+    items: &mut Vec<ValueRef<'a>>,
+    size: usize,
+    cell: ValueRef<'a>,
+) -> Result<(), AllocError>
+    ensures { OnOk result (map borrowed_cell items.new.items ≡ map borrowed_cell items.old.items ++ fixed_items size (borrowed_cell cell.entry)) }
+{
+    match cell {
+        ValueRef::Null => add_nulls(items, size),
+        ValueRef::List(values) => add_all(items, values),
+        _ => Ok(()),
+    }
+}
+
+/// The items of lists of one size, one after another; below a null all are nulls.
+pub fn items_of_size<'a>(
+    alloc: Global,
+    size: usize,
+    cells: &[ValueRef<'a>],
+) -> Result<Vec<ValueRef<'a>>, AllocError>
+    ensures { IfOk result (λ items. map borrowed_cell items.items ≡ flat_map (fixed_items size) (map borrowed_cell cells.now)) }
+{
+    let mut items = Vec::new(alloc);
+    for cell in cells {
+        add_fixed_items(&mut items, size, *cell)?;
+    }
+    Ok(items)
+}

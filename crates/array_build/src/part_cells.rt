@@ -1,0 +1,45 @@
+// The cells of one column of structs.
+ghost use Rattle.std.specs.Prelude.{◌≡◌, IfOk, map, drop};
+ghost use Rattle.cells.specs.Dictionary.{part_list};
+ghost use Rattle.columns.specs.Built.{first_cell};
+ghost use Rattle.values.specs.Borrowed.{borrowed_cell, borrowed_cells};
+
+use std::alloc::{AllocError, Global};
+use values::{ValueRef, Values};
+
+// The cell at a place of a row, and a null past its end.
+#[tactic(auto, using(crate::proofs::FirstCells::part_found, crate::proofs::FirstCells::part_absent))]
+fn cell_at<'a>(row: Values<'a>, place: usize) -> ValueRef<'a>
+    ensures { borrowed_cell result ≡ first_cell (drop place (borrowed_cells row.entry)) }
+{
+    match row.get(place) {
+        Some(cell) => cell,
+        None => ValueRef::Null,
+    }
+}
+
+// The part of a struct at a place: a null where there is none.
+#[tactic(auto, using(crate::proofs::Listed::listed_again))]
+fn part_at<'a>(cell: ValueRef<'a>, place: usize) -> ValueRef<'a>
+    ensures { borrowed_cell result ≡ first_cell (drop place (part_list (borrowed_cell cell.entry))) }
+{
+    match cell {
+        ValueRef::Struct(parts) => cell_at(parts, place),
+        _ => ValueRef::Null,
+    }
+}
+
+/// The parts of structs at a place; below a null all are nulls.
+pub fn parts<'a>(
+    alloc: Global,
+    place: usize,
+    cells: &[ValueRef<'a>],
+) -> Result<Vec<ValueRef<'a>>, AllocError>
+    ensures { IfOk result (λ parts. map borrowed_cell parts.items ≡ map (λ c. first_cell (drop place (part_list c))) (map borrowed_cell cells.now)) }
+{
+    let mut parts = Vec::with_capacity(alloc, cells.len())?;
+    for cell in cells {
+        parts.push(part_at(*cell, place))?;
+    }
+    Ok(parts)
+}
