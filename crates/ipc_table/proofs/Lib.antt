@@ -3,3 +3,4 @@ mod NotYet
 mod Firsts
 mod Batches
 mod Messages
+mod Steps

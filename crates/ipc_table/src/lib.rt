@@ -1,16 +1,18 @@
 //! Arrow IPC streams of any types: what a stream of bytes means, and what is known after each of its messages.
 //!
 //! The meaning of a stream goes message by message: a schema, then dictionary batches and record batches, each read with what is known from those before it.
-//! [`add_message`] gives exactly what is known after one message more, or its first fault. Arrays are places in the bytes of the stream: no cell is copied.
+//! [`add_message`] gives exactly what is known after one message more, or its first fault, and [`read_front`] the same of all messages of a stream up to its end.
+//! Arrays are places in the bytes of the stream: no cell is copied.
 //!
 //! ```ignore
-//! let mut front = None;
-//! front = Some(add_message(alloc, front, &message, body, bytes)?);
+//! let front = read_front(alloc, bytes)?;
 //! ```
 #![tactic(auto)]
 
 mod add;
+mod decoder;
 mod front;
 
 pub use add::add_message;
+pub use decoder::read_front;
 pub use front::Front;
