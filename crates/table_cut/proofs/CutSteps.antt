@@ -10,7 +10,7 @@ use Rattle.arrow_schema.specs.Column.{PlainSchema}
 use Rattle.cells.specs.Cell.{Cell}
 use Rattle.cells.specs.Dictionary.{dictionaries_fit}
 use Rattle.cells.specs.Weight.{row_weight}
-use Rattle.ipc_stream.specs.Cut.{pieces, pieces_from}
+use Rattle.ipc_stream.specs.Cut.{pieces, pieces_from, within_limits}
 use Rattle.table_cut.specs.Piece.{within_piece}
 
 pub first_row : {A : Type 0} (within : List A → Bool) (left rest : List A) (row : A) → left ≡ row ∷ rest → pieces_from within (row ∷ []) rest ≡ pieces within left
@@ -65,3 +65,10 @@ taken_more {A = A} (x ∷ left) rest (suc n) row is = ap (λ (xs : List A). x �
 pub one_row_taken : {A : Type 0} (rows rest : List A) (from n : ℕ) (row : A) → drop (from + n) rows ≡ row ∷ rest
     → take (n + 1) (drop from rows) ≡ take n (drop from rows) ++ row ∷ []
 one_row_taken rows rest from n row is = rw add-one (taken_more (drop from rows) rest n row (drop-drop n from rows ∙ is))
+
+and_last : (b : Bool) → b && false ≡ false
+and_last true = refl
+and_last false = refl
+
+pub has_full_dictionary : (s : PlainSchema) (taken : List (List Cell)) (row : List Cell) → dictionaries_fit s (taken ++ row ∷ []) ≡ false → within_piece s (taken ++ row ∷ []) ≡ false
+has_full_dictionary s taken row full = rw full (and_last (within_limits (row_weight s) 4096 16777216 (taken ++ row ∷ [])))

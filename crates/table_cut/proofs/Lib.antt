@@ -1,3 +1,5 @@
 mod WeightLemmas
 mod CutSteps
 mod Unlimited
+mod SeenLemmas
+mod EntryLemmas

@@ -1,1 +1,2 @@
 pub mod Piece
+pub mod inner

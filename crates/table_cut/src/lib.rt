@@ -9,7 +9,9 @@
 //! ```
 #![tactic(auto)]
 
+mod holding;
 mod piece;
+mod seen;
 mod weigh;
 
 pub use piece::next_piece;

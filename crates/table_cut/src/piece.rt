@@ -1,14 +1,13 @@
 // The next piece of a table's rows.
-ghost use Rattle.std.specs.Prelude.{◌≡◌, ◌<◌, ◌≤◌, ◌+◌, ◌∷◌, false, Some, map, length, take, drop, slice_get, IfOk};
-ghost use Rattle.arrow_schema.specs.Column.{columns_of};
-ghost use Rattle.cells.specs.Dictionary.{is_any_limited};
+ghost use Rattle.std.specs.Prelude.{◌≡◌, ◌<◌, ◌≤◌, ◌+◌, ◌∷◌, Some, map, length, take, drop, slice_get, IfOk};
 ghost use Rattle.ipc_stream.specs.Cut.{pieces};
 ghost use Rattle.table_cut.specs.Piece.{within_piece};
 ghost use Rattle.values.specs.Borrowed.{borrowed_cells};
 ghost use Rattle.values.specs.TableView.{table_of};
 
+use crate::seen::{first_entries, takes_row};
 use crate::weigh::row_weight;
-use cells::{MAX_PIECE_ROWS, MAX_PIECE_WEIGHT, add_weights};
+use cells::{MAX_PIECE_ROWS, MAX_PIECE_WEIGHT, add_weights, has_limits};
 use std::alloc::{AllocError, Global};
 use values::{Table, Values};
 
@@ -22,7 +21,6 @@ fn row_at(table: &Table, place: usize) -> Values<'_>
 /// The rows of the next piece, where the rows before a place are in pieces already: the longest front of the rows that are left which is within the
 /// limits of a piece. Refused only where a growth was.
 pub fn next_piece(alloc: Global, table: &Table, from: usize) -> Result<Vec<Values<'_>>, AllocError>
-    requires unlimited { is_any_limited (columns_of (table_of table.now).schema.columns) ≡ false }
     requires left { from < length (table_of table.now).rows }
     ensures piece { IfOk result (λ piece. pieces (within_piece (table_of table.now).schema) (drop from (table_of table.now).rows)
         ≡ map borrowed_cells piece.items ∷ pieces (within_piece (table_of table.now).schema) (drop (from + length piece.items) (table_of table.now).rows)) }
@@ -31,15 +29,20 @@ pub fn next_piece(alloc: Global, table: &Table, from: usize) -> Result<Vec<Value
     ensures rows { IfOk result (λ piece. map borrowed_cells piece.items ≡ take (length piece.items) (drop from (table_of table.now).rows)) }
 {
     let schema = table.schema();
+    let limited = has_limits(schema);
     let rows = table.len();
     let first = row_at(table, from);
     let mut piece = Vec::new(alloc);
     piece.push(first)?;
     let mut weight = row_weight(schema, first);
+    let mut entries = first_entries(alloc, schema, first, limited)?;
     for place in from + 1..rows {
         let row = row_at(table, place);
         weight = add_weights(weight, row_weight(schema, row));
         if piece.len() >= MAX_PIECE_ROWS || weight > MAX_PIECE_WEIGHT {
+            return Ok(piece);
+        }
+        if !takes_row(alloc, schema, &mut entries, row, limited)? {
             return Ok(piece);
         }
         piece.push(row)?;

@@ -1,13 +1,17 @@
-use Rattle.std.specs.Prelude.{sum_by, false}
-use Rattle.std.proofs.Common.{◌≡◌, ◌≤◌, ◌+◌, ◌∷◌, ◌++◌, [], List, ℕ, map, length, take, drop, sym, ap, ◌∙◌, refl, arith, length-append}
+use Rattle.std.specs.Prelude.{sum_by, true, false}
+use Rattle.std.proofs.Common.{◌≡◌, ◌≤◌, ◌+◌, ◌∷◌, ◌++◌, [], List, ℕ, map, length, take, drop, subst, sym, ap, ◌∙◌, refl, arith, length-append}
 use Rattle.std.proofs.lemmas.List.{map-append, length-map}
 use Rattle.arrow_schema.specs.Column.{PlainSchema}
 use Rattle.cells.specs.Cell.{Cell}
 use Rattle.cells.specs.Weight.{row_weight, capped_weight}
 use Rattle.ipc_stream.specs.Cut.{pieces, pieces_from}
 use Rattle.table_cut.specs.Piece.{within_piece}
-use Rattle.table_cut.proofs.CutSteps.{first_row, one_more, no_more, is_within, has_too_many, is_too_heavy, sum_more, one_weight, row_before, one_row_taken}
-use Rattle.table_cut.proofs.Unlimited.{unlimited_fit}
+use Rattle.table_cut.proofs.CutSteps.{first_row, one_more, no_more, is_within, has_too_many, is_too_heavy, has_full_dictionary, sum_more, one_weight, row_before, one_row_taken}
+use Rattle.table_cut.specs.inner.Seen.{AreSeen, entries_in}
+use Rattle.arrow_schema.specs.View.{schema_of}
+use Rattle.arrow_schema.specs.Column.{columns_of}
+use Rattle.cells.specs.Dictionary.{Holding, holdings_of, entries_of, is_any_limited, dictionaries_fit}
+use Rattle.table_cut.proofs.SeenLemmas.{as_many_more, all_written}
 use Rattle.values.specs.Borrowed.{borrowed_cells}
 use Rattle.values.specs.TableView.{table_of}
 use Rattle.values.specs.declared.borrowed.Values.{Values}
@@ -29,6 +33,8 @@ loop-place-init c =
       inside = omega (arith, c.requires.left);
       cut = ap (λ (x : List Values). pieces_from (within_piece s) (map borrowed_cells x) (drop (from + 1) rows)) pushed ∙ first_row (within_piece s) (drop from rows) (drop (from + 1) rows) first next;
       taken = rw (pushed, next) refl;
+      seen = subst (λ (x : List Values). AreSeen s (map borrowed_cells x) (map entries_in c.in_ok-entries.entries.items)) (sym pushed)
+          (subst (λ (x : PlainSchema). AreSeen x (first ∷ []) (map entries_in c.in_ok-entries.entries.items)) c.schema-schema.ensures.schema c.in_ok-entries.ensures);
       weight = weighed ∙ ap capped_weight (sym (one_weight s first)) ∙ ap (λ (x : List Values). capped_weight (sum_by (row_weight s) (map borrowed_cells x))) (sym pushed);
     }
 
@@ -53,6 +59,25 @@ returns-then-len-ge-MAX_PIECE_ROWS-clause-piece c =
     ∙ no_more (within_piece s) front (drop place rows) (drop (place + 1) rows) row next full
     ∙ ap (λ (p : ℕ). front ∷ pieces (within_piece s) (drop p rows)) (sym is.place)
 
+pub returns-then-not-branch-clause-piece : goal.returns-then-not-branch-clause-piece
+returns-then-not-branch-clause-piece c =
+    let s : PlainSchema = (table_of c.args.table.now).schema in
+    let rows : List (List Cell) = (table_of c.args.table.now).rows in
+    let is = c.loop-place.invariant in
+    let place : ℕ = c.loop-place.place in
+    let front : List (List Cell) = map borrowed_cells c.loop-place.piece.items in
+    let row : List Cell = borrowed_cells c.row_at-row.result in
+    let next : drop place rows ≡ row ∷ drop (place + 1) rows = row_before rows place row (omega (arith, c.loop-place-test.true)) c.row_at-row.ensures in
+    let same : schema_of c.schema-schema.result.now ≡ s = c.schema-schema.ensures.schema in
+    let given : AreSeen (schema_of c.schema-schema.result.now) front (map entries_in c.deref_mut.result.now) =
+    subst (λ x. AreSeen (schema_of c.schema-schema.result.now) front (map entries_in x)) (sym c.deref_mut.ensures.value)
+    (subst (λ (x : PlainSchema). AreSeen x front (map entries_in c.loop-place.entries.items)) (sym same) is.seen) in
+    let full : dictionaries_fit s (front ++ row ∷ []) ≡ false =
+    ap (λ (x : PlainSchema). dictionaries_fit x (front ++ row ∷ [])) (sym same) ∙ sym (c.in_ok-takes_row.ensures.fits front given) ∙ c.if-not-branch.true in
+    sym is.cut
+    ∙ no_more (within_piece s) front (drop place rows) (drop (place + 1) rows) row next (has_full_dictionary s front row full)
+    ∙ ap (λ (p : ℕ). front ∷ pieces (within_piece s) (drop p rows)) (sym is.place)
+
 pub loop-place-preserved : goal.loop-place-preserved
 loop-place-preserved c =
     let s : PlainSchema = (table_of c.args.table.now).schema in
@@ -72,9 +97,28 @@ loop-place-preserved c =
     let longer : length new ≡ length old + 1 = ap length pushed ∙ length-append old (c.row_at-row.result ∷ []) in
     let few : length front + 1 ≤ 4096 = omega (arith, count, c.if-len-ge-MAX_PIECE_ROWS.false) in
     let light : sum_by (row_weight s) front + row_weight s row ≤ 16777216 = omega (arith, is.weight, weighed, c.add_weights-weight.ensures, c.if-weight-gt-MAX_PIECE_WEIGHT.false) in
-    let fits = is_within s front row few light (unlimited_fit s (front ++ row ∷ []) c.requires.unlimited) in
+    let same : schema_of c.schema-schema.result.now ≡ s = c.schema-schema.ensures.schema in
+    let given : AreSeen (schema_of c.schema-schema.result.now) front (map entries_in c.deref_mut.result.now) =
+    subst (λ x. AreSeen (schema_of c.schema-schema.result.now) front (map entries_in x)) (sym c.deref_mut.ensures.value)
+    (subst (λ (x : PlainSchema). AreSeen x front (map entries_in c.loop-place.entries.items)) (sym same) is.seen) in
+    let room : dictionaries_fit s (front ++ row ∷ []) ≡ true =
+    ap (λ (x : PlainSchema). dictionaries_fit x (front ++ row ∷ [])) (sym same) ∙ sym (c.in_ok-takes_row.ensures.fits front given) ∙ c.if-not-branch.false in
+    let fits = is_within s front row few light room in
     let sums : sum_by (row_weight s) (map borrowed_cells new) ≡ sum_by (row_weight s) front + row_weight s row = ap (sum_by (row_weight s)) mapped ∙ sum_more s front row in
     let here : drop (from + length old) rows ≡ row ∷ drop (place + 1) rows = ap (λ (p : ℕ). drop p rows) is.place ∙ next in
+    let seen : AreSeen s (map borrowed_cells new) (map entries_in (take c.loop-place.entries.len (c.takes_row.new.sets ++ drop (length c.takes_row.new.sets) c.loop-place.entries.items))) =
+    λ limited.
+    let limits = ap (λ (x : PlainSchema). is_any_limited (columns_of x.columns)) same ∙ limited in
+    let old_seen = given limits in
+    let new_seen = c.in_ok-takes_row.ensures.seen front given limits in
+    let read : PlainSchema = schema_of c.schema-schema.result.now in
+    let entries : Holding → List Cell = λ h. entries_of h.cells in
+    let kept : length c.takes_row.new.sets ≡ length c.loop-place.entries.items =
+    sym (length-map c.takes_row.new.sets entries_in) ∙ ap length new_seen ∙ length-map (holdings_of read (front ++ row ∷ [])) entries ∙ as_many_more read front row
+    ∙ sym (length-map (holdings_of read front) entries) ∙ sym (ap length old_seen) ∙ length-map c.deref_mut.result.now entries_in ∙ ap length c.deref_mut.ensures.value in
+    let filled : length c.loop-place.entries.items ≡ c.loop-place.entries.len = omega (arith, c.deref_mut.ensures.len, ap length c.deref_mut.ensures.value) in
+    ap (map entries_in) (all_written c.takes_row.new.sets c.loop-place.entries.items c.loop-place.entries.len (kept ∙ filled) filled) ∙ new_seen
+    ∙ (λ j. map entries (holdings_of (same j) (sym mapped j))) in
     record {
       place = omega (arith, longer, is.place);
       some = omega (arith, longer);
@@ -84,5 +128,6 @@ loop-place-preserved c =
       taken = mapped ∙ ap (λ (x : List (List Cell)). x ++ row ∷ []) is.taken
           ∙ sym (one_row_taken rows (drop (place + 1) rows) from (length old) row here)
           ∙ ap (λ (n : ℕ). take n (drop from rows)) (sym longer);
+      seen = seen;
       weight = omega (arith, sums, is.weight, weighed, c.add_weights-weight.ensures);
     }

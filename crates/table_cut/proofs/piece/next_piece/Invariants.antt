@@ -2,6 +2,7 @@ use Rattle.std.specs.Prelude.{sum_by}
 use Rattle.std.proofs.Common.{◌≡◌, ◌+◌, ◌≤◌, map, length, take, drop}
 use Rattle.cells.specs.Weight.{row_weight, capped_weight}
 use Rattle.ipc_stream.specs.Cut.{pieces, pieces_from}
+use Rattle.table_cut.specs.inner.Seen.{AreSeen, entries_in}
 use Rattle.table_cut.specs.Piece.{within_piece}
 use Rattle.values.specs.Borrowed.{borrowed_cells}
 use Rattle.values.specs.TableView.{table_of}
@@ -18,5 +19,6 @@ invariant-loop-place l =
       inside : l.place ≤ length rows;
       cut : pieces_from (within_piece s) front (drop l.place rows) ≡ pieces (within_piece s) (drop l.from rows);
       taken : front ≡ take (length l.piece.items) (drop l.from rows);
+      seen : AreSeen s front (map entries_in l.entries.items);
       weight : l.weight ≡ capped_weight (sum_by (row_weight s) front);
     }
