@@ -32,7 +32,8 @@ placed_rows columns bytes lists batches = flat_map (λ b. rows_in columns (place
 abbrev pub are_batches_sound : Columns → List ℕ → List Dictionary → List Batch → Bool
 are_batches_sound columns bytes lists batches = list_all (λ b. are_sound columns b.rows (placed_arrays bytes lists b.arrays.items)) batches
 
--- what is known stands in these bytes, as the code keeps it. A schema with a dictionary is not read yet, so that there are no columns with dictionaries
+-- what is known stands in these bytes, as the code keeps it. A schema with a dictionary is not read yet, so that there are no columns with
+-- dictionaries
 pub record IsFront (bytes : List ℕ) (f : Front) (k : Known) : Type 0 where
   pub schema : schema_of f.schema ≡ k.schema
   pub columns : dictionary_columns_of f.columns ≡ k.columns

@@ -62,7 +62,8 @@ fn dictionary_parts(
     columns: &DictionaryColumns,
     dictionaries: &Dictionaries,
 ) -> Result<Vec<DictionaryPart>, AllocError>
-    ensures { (bytes : List ℕ) (before : List DictionaryBatch) (lists : List DictionaryList) → HasInEffect bytes dictionaries.now before → lists_of lists ≡ dictionaries.now.lists
+    ensures { (bytes : List ℕ) (before : List DictionaryBatch) (lists : List DictionaryList)
+        → HasInEffect bytes dictionaries.now before → lists_of lists ≡ dictionaries.now.lists
         → IfOk result (λ parts. map (arrays_in bytes lists) parts.items ≡ dictionaries_after before (dictionary_columns_of columns.now)) }
 {
     let count = column_count(columns);
@@ -81,7 +82,8 @@ fn read_arrays(
     requires front { (k : Known) × IsFront bytes.now front.now k }
     requires fits { body.start + body.len < 2 ^ 64 }
     ensures { (k : Known) → IsFront bytes.now front.now k
-        → (lists : List DictionaryList) × (lists_of lists ≡ front.now.dictionaries.lists) × GivesArrays bytes.now lists k (raw_batch_of raw.now) (within bytes.now body) result }
+        → (lists : List DictionaryList) × (lists_of lists ≡ front.now.dictionaries.lists)
+        × GivesArrays bytes.now lists k (raw_batch_of raw.now) (within bytes.now body) result }
 {
     let lists = front.dictionaries.lists();
     let parts = dictionary_parts(alloc, &front.columns, &front.dictionaries)?;
@@ -196,7 +198,8 @@ pub fn add_message(
     requires front { (before : Option Known) × IsBefore bytes.now front before }
     requires fits { body.start + body.len ≤ length bytes.now }
     requires body { within bytes.now body ≡ (envelope_of message.now).body }
-    ensures { (before : Option Known) → IsBefore bytes.now front before → GivesFront bytes.now result (read_next supported_codes before (envelope_of message.now)) }
+    ensures { (before : Option Known) → IsBefore bytes.now front before
+        → GivesFront bytes.now result (read_next supported_codes before (envelope_of message.now)) }
 {
     match front {
         None => add_first(alloc, message),

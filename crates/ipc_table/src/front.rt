@@ -5,7 +5,8 @@ use arrow_schema::Schema;
 use dictionary::Dictionaries;
 use values::Batch;
 
-/// What is known after some messages of a stream: the schema, its columns with dictionaries, the dictionaries and the record batches so far, and what their rows weigh.
+/// What is known after some messages of a stream: the schema, its columns with dictionaries, the dictionaries and the record batches
+/// so far, and what their rows weigh.
 #[derive(Debug, Drop)]
 pub struct Front {
     pub(crate) schema: Schema,
