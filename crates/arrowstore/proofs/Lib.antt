@@ -2,3 +2,4 @@ mod ArgumentLemmas
 mod CommandLemmas
 mod GivenLemmas
 mod ChangingLemmas
+mod ReadingLemmas

@@ -6,3 +6,4 @@ pub mod OwnTexts
 pub mod StoreWords
 pub mod Printed
 pub mod Changing
+pub mod Reading

@@ -12,9 +12,16 @@ unfoldable pub changes_word : Text → Bool
 changes_word word =
     takes_input_word word || (bytes_eq (codes "create") word || (bytes_eq (codes "rename") word || bytes_eq (codes "drop") word))
 
+-- those that read one table
+abbrev pub reads_table_word : Text → Bool
+reads_table_word word = bytes_eq (codes "schema") word || bytes_eq (codes "export") word
+
+-- those that change nothing
+unfoldable pub reads_word : Text → Bool
+reads_word word = reads_table_word word || (bytes_eq (codes "tables") word || bytes_eq (codes "check") word)
+
 unfoldable pub is_store_word : Text → Bool
-is_store_word word =
-    changes_word word || (bytes_eq (codes "format") word || (bytes_eq (codes "tables") word || bytes_eq (codes "schema") word))
+is_store_word word = changes_word word || (bytes_eq (codes "format") word || reads_word word)
 
 -- the program's name, and a command of a store
 abbrev pub is_of_store : List Text → Bool

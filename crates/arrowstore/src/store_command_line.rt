@@ -63,6 +63,8 @@ fn requested<'a>(
         },
         "drop" => StoreRequest::Drop { path, name },
         "schema" => StoreRequest::Schema { path, name },
+        "export" => StoreRequest::Export { path, name },
+        "check" => StoreRequest::Check { path },
         _ => StoreRequest::Tables { path },
     })
 }
@@ -187,6 +189,24 @@ fn schema<'a>(alloc: Global) -> Result<Command<'a>, AllocError> {
     )
 }
 
+fn export<'a>(alloc: Global) -> Result<Command<'a>, AllocError> {
+    table_command(
+        alloc,
+        "export",
+        "Writes the stream of a table to standard output",
+        "Example: arrowstore export store measurements > readings.arrows",
+    )
+}
+
+fn check<'a>(alloc: Global) -> Result<Command<'a>, AllocError> {
+    command(
+        alloc,
+        "check",
+        "Reads all tables, and prints ok where each can be read",
+        "Example: arrowstore check store",
+    )
+}
+
 fn commands<'a>(alloc: Global) -> Result<Command<'a>, AllocError> {
     Command::new(alloc, "arrowstore")
         .about("A crash-safe store of named tables in the Apache Arrow format")
@@ -198,5 +218,7 @@ fn commands<'a>(alloc: Global) -> Result<Command<'a>, AllocError> {
         .subcommand(rename(alloc)?)?
         .subcommand(drop(alloc)?)?
         .subcommand(tables(alloc)?)?
-        .subcommand(schema(alloc)?)
+        .subcommand(schema(alloc)?)?
+        .subcommand(export(alloc)?)?
+        .subcommand(check(alloc)?)
 }

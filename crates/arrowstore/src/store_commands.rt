@@ -2,7 +2,8 @@
 use crate::output::write_whole;
 use crate::store_words::StoreRequest;
 use crate::{
-    Refusal, append_input, apply_command, import_input, new_table, print_schema, print_tables,
+    Refusal, append_input, apply_command, check_tables, export_table, import_input, new_table,
+    print_schema, print_tables,
 };
 use sector_dev::{FileDevice, LockFile, SectorDevice};
 use std::alloc::Global;
@@ -98,5 +99,9 @@ pub(crate) fn serve<
         StoreRequest::Schema { path, name } => {
             print_schema(alloc, &open_to_read(rt, path)?, name, output)
         }
+        StoreRequest::Export { path, name } => {
+            export_table(alloc, &mut open_to_read(rt, path)?, name, output)
+        }
+        StoreRequest::Check { path } => check_tables(alloc, &mut open_to_read(rt, path)?, output),
     }
 }

@@ -1,6 +1,6 @@
 // What a command line asks of a store.
 ghost use Rattle.std.specs.Prelude.{◌≡◌, map};
-ghost use Rattle.arrowstore.specs.StoreWords.{takes_input_word, changes_word, is_store_word, is_of_store, takes_input};
+ghost use Rattle.arrowstore.specs.StoreWords.{takes_input_word, changes_word, reads_table_word, reads_word, is_store_word, is_of_store, takes_input};
 
 use std::convert::AsStr;
 
@@ -48,6 +48,15 @@ pub(crate) enum StoreRequest<'a> {
         path: &'a str,
         name: &'a str,
     },
+    /// The stream of a table.
+    Export {
+        path: &'a str,
+        name: &'a str,
+    },
+    /// Whether all tables can be read.
+    Check {
+        path: &'a str,
+    },
 }
 
 fn takes_input_word(word: &str) -> bool
@@ -63,11 +72,24 @@ fn changes_word(word: &str) -> bool
     takes_input_word(word) || word == "create" || word == "rename" || word == "drop"
 }
 
+fn reads_table_word(word: &str) -> bool
+    ensures { result ≡ reads_table_word word.now }
+{
+    word == "schema" || word == "export"
+}
+
+#[tactic(auto, unfolding(crate::specs::StoreWords::reads_word))]
+fn reads_word(word: &str) -> bool
+    ensures { result ≡ reads_word word.now }
+{
+    reads_table_word(word) || word == "tables" || word == "check"
+}
+
 #[tactic(auto, unfolding(crate::specs::StoreWords::is_store_word))]
 fn is_store_word(word: &str) -> bool
     ensures { result ≡ is_store_word word.now }
 {
-    changes_word(word) || word == "format" || word == "tables" || word == "schema"
+    changes_word(word) || word == "format" || reads_word(word)
 }
 
 /// Whether the arguments, of which the program's name is the first, name a command of a store.

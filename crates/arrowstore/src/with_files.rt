@@ -65,7 +65,7 @@ fn run_on_store<
 
 /// Does what the arguments ask for, of which the first is the program's name, also on the files of stores, and reports
 /// on `errors` why not.
-#[tactic(auto, unfolding(crate::specs::StoreWords::is_store_word, crate::specs::StoreWords::changes_word))]
+#[tactic(auto, unfolding(crate::specs::StoreWords::is_store_word, crate::specs::StoreWords::changes_word, crate::specs::StoreWords::reads_word))]
 pub fn run_with_files<
     F: Read + Write + Seek + OpenFile + LockFile + Drop,
     H: Files<File = F> + AllocGlobal,
