@@ -4,3 +4,4 @@ mod Firsts
 mod Batches
 mod Messages
 mod Steps
+mod OnePart

@@ -2,17 +2,19 @@
 //!
 //! The meaning of a stream goes message by message: a schema, then dictionary batches and record batches, each read with what is known from those before it.
 //! [`add_message`] gives exactly what is known after one message more, or its first fault, and [`read_front`] the same of all messages of a stream up to its end.
-//! Arrays are places in the bytes of the stream: no cell is copied.
+//! [`decode`] gives the table that a stream means. Arrays are places in the bytes of the stream: no cell is copied.
 //!
 //! ```ignore
-//! let front = read_front(alloc, bytes)?;
+//! let table = decode(alloc, bytes)?;
 //! ```
 #![tactic(auto)]
 
 mod add;
 mod decoder;
 mod front;
+mod whole;
 
 pub use add::add_message;
 pub use decoder::read_front;
 pub use front::Front;
+pub use whole::decode;

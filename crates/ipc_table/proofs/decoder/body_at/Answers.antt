@@ -1,4 +1,4 @@
-use Rattle.std.proofs.Common.{◌-◌, ◌+◌, length, sym, ◌∙◌, ap, subst, arith}
+use Rattle.std.proofs.Common.{◌-◌, ◌+◌, length, arith}
 use Rattle.ipc_message.specs.Messages.{envelope_of}
 use Rattle.ipc_table.proofs.Steps.{body_stands}
 use Rattle.ipc_table.proofs.decoder.body_at.Goals as goal

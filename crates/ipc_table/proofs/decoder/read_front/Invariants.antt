@@ -1,4 +1,4 @@
-use Rattle.std.proofs.Common.{ℕ, ◌≤◌, ◌-◌, length, drop}
+use Rattle.std.proofs.Common.{◌≤◌, ◌-◌, length, drop}
 use Rattle.ipc_table.specs.inner.Standing.{StandsAt}
 use Rattle.ipc_table.proofs.decoder.read_front.Given as goal
 
