@@ -1,3 +1,4 @@
+mod Entries
 mod Equals
 mod FirstCells
 mod Listed

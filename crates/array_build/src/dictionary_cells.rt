@@ -1,0 +1,122 @@
+// The entries of a dictionary, and the indices that name them.
+ghost use Rattle.std.specs.Prelude.{◌≡◌, ◌++◌, ◌/◌, OnOk, IfOk, map};
+ghost use Rattle.std.specs.List.{flat_map};
+ghost use Rattle.arrow_schema.specs.View.{bits_of};
+ghost use Rattle.byteorder.specs.Endian.{little_bytes};
+ghost use Rattle.cells.specs.Dictionary.{entry_in, entries_of, with_entry};
+ghost use Rattle.cells.specs.Entry.{entry_cell, entry_cell_of};
+ghost use Rattle.columns.specs.Built.{entry_index, index_bytes};
+ghost use Rattle.values.specs.Borrowed.{borrowed_cell};
+
+use arrow_schema::{BitWidth, IntegerType};
+use cells::Entry;
+use indexmap::IndexSet;
+use std::alloc::{AllocError, Global};
+use values::ValueRef;
+
+fn entry_of(cell: ValueRef<'_>) -> Option<Entry<'_>>
+    ensures { entry_cell_of result ≡ entry_in (borrowed_cell cell.entry) }
+{
+    match cell {
+        ValueRef::Bool(boolean) => Some(Entry::Bool(boolean)),
+        ValueRef::Int(number) => Some(Entry::Int(number)),
+        ValueRef::Text(text) => Some(Entry::Text(text)),
+        ValueRef::Bytes(bytes) => Some(Entry::Bytes(bytes)),
+        ValueRef::Null => None,
+        ValueRef::List(_) => None,
+        ValueRef::Struct(_) => None,
+    }
+}
+
+fn note<'a>(entries: &mut IndexSet<Entry<'a>>, cell: ValueRef<'a>) -> Result<(), AllocError>
+    ensures { OnOk result (map entry_cell entries.new.keys ≡ with_entry (map entry_cell entries.old.keys) (borrowed_cell cell.entry)) }
+{
+    if let Some(entry) = entry_of(cell) {
+        entries.insert(entry)?;
+    }
+    Ok(())
+}
+
+/// The entries of a dictionary that has these cells: the distinct values, in the order in which they are first seen.
+#[tactic(auto, unfolding(cells::specs::Dictionary::with_entries))]
+pub fn entry_set<'a>(
+    alloc: Global,
+    cells: &[ValueRef<'a>],
+) -> Result<IndexSet<Entry<'a>>, AllocError>
+    ensures { IfOk result (λ entries. map entry_cell entries.keys ≡ entries_of (map borrowed_cell cells.now)) }
+{
+    let mut entries = IndexSet::new(alloc);
+    for cell in cells {
+        note(&mut entries, *cell)?;
+    }
+    Ok(entries)
+}
+
+fn cell_of<'a>(entry: &Entry<'a>) -> ValueRef<'a>
+    ensures { borrowed_cell result ≡ entry_cell entry.now }
+{
+    match entry {
+        Entry::Bool(boolean) => ValueRef::Bool(*boolean),
+        Entry::Int(number) => ValueRef::Int(*number),
+        Entry::Text(text) => ValueRef::Text(text),
+        Entry::Bytes(bytes) => ValueRef::Bytes(bytes),
+    }
+}
+
+/// The cells of a dictionary's values, one for each entry.
+pub fn entry_cells<'a>(
+    alloc: Global,
+    entries: &IndexSet<Entry<'a>>,
+) -> Result<Vec<ValueRef<'a>>, AllocError>
+    ensures { IfOk result (λ cells. map borrowed_cell cells.items ≡ map entry_cell entries.now.keys) }
+{
+    let mut cells = Vec::with_capacity(alloc, entries.len())?;
+    for entry in entries {
+        cells.push(cell_of(entry))?;
+    }
+    Ok(cells)
+}
+
+// The index of an entry: 0 where the cell is none.
+fn entry_index(entries: &IndexSet<Entry<'_>>, cell: ValueRef<'_>) -> usize
+    ensures { result ≡ entry_index (map entry_cell entries.now.keys) (borrowed_cell cell.entry) }
+{
+    match entry_of(cell) {
+        None => 0,
+        Some(entry) => match entries.get_index_of(&entry) {
+            None => 0,
+            Some(index) => index,
+        },
+    }
+}
+
+fn push_index(indices: &mut Vec<u8>, width: BitWidth, index: u64) -> Result<(), AllocError>
+    ensures { OnOk result (indices.new.items ≡ indices.old.items ++ little_bytes (bits_of width / 8) index) }
+{
+    let bytes = index.to_le_bytes();
+    match width {
+        BitWidth::Eight => indices.extend_from_slice(&bytes[..1]),
+        BitWidth::Sixteen => indices.extend_from_slice(&bytes[..2]),
+        BitWidth::ThirtyTwo => indices.extend_from_slice(&bytes[..4]),
+        BitWidth::SixtyFour => indices.extend_from_slice(&bytes),
+    }
+}
+
+/// The indices of cells in a dictionary, each the place of its entry; 0 stands at nulls.
+pub fn indices(
+    alloc: Global,
+    index: IntegerType,
+    entries: &IndexSet<Entry<'_>>,
+    cells: &[ValueRef<'_>],
+) -> Result<Vec<u8>, AllocError>
+    ensures { IfOk result (λ bytes. bytes.items
+        ≡ flat_map (index_bytes (record { bits = bits_of index.width; signed = index.signed }) (map entry_cell entries.now.keys))
+        (map borrowed_cell cells.now)) }
+{
+    let mut indices = Vec::new(alloc);
+    for cell in cells {
+        let place = entry_index(entries, *cell) as u64;
+        push_index(&mut indices, index.width, place)?;
+    }
+    Ok(indices)
+}
