@@ -1,0 +1,22 @@
+// What is written is read again.
+ghost use Rattle.std.specs.Prelude.{◌≡◌, false, Ok};
+ghost use Rattle.cells.specs.Cell.{PlainTable};
+ghost use Rattle.ipc_message.specs.Header.{supported_codes};
+ghost use Rattle.ipc_write.specs.Decoded.{is_not_read};
+ghost use Rattle.ipc_table.specs.Meaning.{meaning};
+ghost use Rattle.values.specs.Table.{IsTable};
+ghost use Rattle.canonical_stream.specs.Canonical.{canonical};
+
+/// The canonical stream of a table means that table, where a reader takes its schema.
+pub fn canonical_means_its_table()
+    ensures { (t : PlainTable) → IsTable t → is_not_read t.schema ≡ false → meaning supported_codes (canonical t) ≡ Ok t }
+{
+    canonical_stream::pieces_can_be_built();
+    columns::built_reads_back();
+    columns::written_arrays_have_their_shape();
+    ipc_write::schema_message_is_read_again();
+    ipc_write::batch_message_is_read_again();
+    values::tables_are_joined_and_cut();
+    written_batch::written_batches_pass();
+    written_batch::written_rows_are_read();
+}
