@@ -39,7 +39,8 @@ use Rattle.ipc_message.specs.Outcome.{Gives, Fails}
 use Rattle.ipc_message.specs.Raw.{RawBatch, RawDictionaryBatch, batch_header}
 use Rattle.dictionary.specs.InEffect.{DictionaryBatch}
 use Rattle.ipc_table.specs.declared.front.Front.{Front}
-use Rattle.ipc_table.specs.Meaning.{Known, with_rows, read_after, ◌>>=◌}
+use Rattle.values.specs.Table.{IsTable}
+use Rattle.ipc_table.specs.Meaning.{Known, known_table, with_rows, read_after, ◌>>=◌}
 use Rattle.ipc_table.specs.Progress.{IsFront, GivesFront, AreArrays, GivesArrays, known_batch, placed_rows, are_batches_sound}
 
 -- ---- bytes
@@ -54,7 +55,7 @@ taken_small zero (b ∷ bytes) h = refl
 taken_small (suc n) [] h = refl
 taken_small (suc n) (b ∷ bytes) h = let both = and_parts (nat_lt b 256) (are_bytes bytes) h in and_from (nat_lt b 256) (are_bytes (take n bytes)) both.0 (taken_small n bytes both.1)
 
-dropped_small : (n : ℕ) (bytes : List ℕ) → are_bytes bytes ≡ true → are_bytes (drop n bytes) ≡ true
+pub dropped_small : (n : ℕ) (bytes : List ℕ) → are_bytes bytes ≡ true → are_bytes (drop n bytes) ≡ true
 dropped_small zero [] h = refl
 dropped_small zero (b ∷ bytes) h = h
 dropped_small (suc n) [] h = refl
@@ -102,10 +103,19 @@ RowsAreRows =
     → batch_read s before b body known ≡ Ok arrays
     → AllPass (is_row s) (rows_in (columns_of s.columns) arrays b.length) × (before + batch_weight s b.length arrays ≤ MAX_TABLE_WEIGHT)
 
-rows_read : RowsAreRows → (bytes : List ℕ) (f : Front) (k : Known) (b : RawBatch) (body : List ℕ) (arrays : Arrays) → IsFront bytes f k → are_bytes body ≡ true
+-- what is known is a table, of a schema without dictionaries
+pub record IsPlain (k : Known) : Type 0 where
+  pub no_columns : k.columns ≡ []
+  pub no_values : dictionary_values (columns_of k.schema.columns) ≡ []
+  pub table : IsTable (known_table k)
+
+plain_of : (bytes : List ℕ) (f : Front) (k : Known) → IsFront bytes f k → IsPlain k
+plain_of bytes f k is = record { no_columns = is.no_columns; no_values = is.no_values; table = is.table }
+
+rows_read : RowsAreRows → (k : Known) (b : RawBatch) (body : List ℕ) (arrays : Arrays) → IsPlain k → are_bytes body ≡ true
     → known_batch k b body ≡ Ok arrays
     → AllPass (is_row k.schema) (rows_in (columns_of k.schema.columns) arrays b.length) × (table_weight k.schema k.rows + batch_weight k.schema b.length arrays ≤ MAX_TABLE_WEIGHT)
-rows_read law bytes f k b body arrays is small read =
+rows_read law k b body arrays is small read =
     let known = dictionaries_after k.dictionaries k.columns in
     let none : known ≡ [] = ap (dictionaries_after k.dictionaries) is.no_columns in
     law k.schema (table_weight k.schema k.rows) b body known arrays is.table.schema small (ap (list_all (list_all has_bytes)) none)
@@ -114,12 +124,20 @@ rows_read law bytes f k b body arrays is small read =
 pub weight_fits : RowsAreRows → (bytes : List ℕ) (f : Front) (k : Known) (b : RawBatch) (body : List ℕ) (lists : List Dictionary) (v : PlacedBatch) → IsFront bytes f k → are_bytes body ≡ true
     → AreArrays bytes lists k b body v → f.weight + v.weight ≤ MAX_TABLE_WEIGHT
 weight_fits law bytes f k b body lists v is small given =
-    let light = (rows_read law bytes f k b body (placed_arrays bytes lists v.arrays.items) is small given.read).1 in
+    let light = (rows_read law k b body (placed_arrays bytes lists v.arrays.items) (plain_of bytes f k is) small given.read).1 in
     omega (arith, light, is.weight, given.weight)
 
 rows_joined : (s : PlainSchema) (xs ys : List (List Cell)) → AllPass (is_row s) xs → AllPass (is_row s) ys → AllPass (is_row s) (xs ++ ys)
 rows_joined s xs ys h g =
     AllPass-from_list_all (is_row s) (xs ++ ys) (list_all-append (is_row s) xs ys ∙ and_from _ _ (list_all-from_AllPass (is_row s) xs h) (list_all-from_AllPass (is_row s) ys g))
+
+pub table_after : RowsAreRows → (k : Known) (b : RawBatch) (body : List ℕ) (arrays : Arrays) → IsPlain k → are_bytes body ≡ true → known_batch k b body ≡ Ok arrays
+    → IsTable (known_table (with_rows k (rows_in (columns_of k.schema.columns) arrays b.length)))
+table_after law k b body arrays is small read =
+    let rows : List (List Cell) = rows_in (columns_of k.schema.columns) arrays b.length in
+    let good = rows_read law k b body arrays is small read in
+    let sum : table_weight k.schema (k.rows ++ rows) ≡ table_weight k.schema k.rows + table_weight k.schema rows = sum_by-append (row_weight k.schema) k.rows rows in
+    record { schema = is.table.schema; rows = rows_joined k.schema k.rows rows is.table.rows good.0; weight = rw sum good.1 }
 
 -- the front with one batch more
 pub record HasBatch (f next : Front) (v : PlacedBatch) (batch : Batch) : Type 0 where
@@ -137,7 +155,6 @@ front_after law bytes f next k b body l v batch is small kept given has many =
     let columns : Columns = columns_of k.schema.columns in
     let arrays : Arrays = placed_arrays bytes l v.arrays.items in
     let rows : List (List Cell) = rows_in columns arrays b.length in
-    let good = rows_read law bytes f k b body arrays is small given.read in
     let sum : table_weight k.schema (k.rows ++ rows) ≡ table_weight k.schema k.rows + table_weight k.schema rows = sum_by-append (row_weight k.schema) k.rows rows in
     record {
       schema = ap schema_of has.schema ∙ is.schema;
@@ -160,11 +177,7 @@ front_after law bytes f next k b body l v batch is small kept given has many =
           ∙ flat_map-append (λ (x : Batch). rows_in columns (placed_arrays bytes lists x.arrays.items) x.rows) f.batches.items (batch ∷ [])
           ∙ (λ j. is.rows lists old j ++ append-nil (one j) j);
       weight = has.weight ∙ (λ j. is.weight j + given.weight j) ∙ sym sum;
-      table = record {
-        schema = is.table.schema;
-        rows = rows_joined k.schema k.rows rows is.table.rows good.0;
-        weight = rw sum good.1;
-      };
+      table = table_after law k b body arrays (plain_of bytes f k is) small given.read;
     }
 
 pub batch_added : RowsAreRows → (bytes : List ℕ) (f next : Front) (k : Known) (b : RawBatch) (body : List ℕ) (l : List Dictionary) (v : PlacedBatch) (batch : Batch) → IsFront bytes f k

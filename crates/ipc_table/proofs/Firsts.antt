@@ -28,7 +28,7 @@ reported_err : {A : Type 0} (o : Option Fault) (p : A) (fault : Fault) → unles
 reported_err None p fault h = absurd cc
 reported_err (Some f) p fault h = cc
 
-reported_ok : {A : Type 0} (o : Option Fault) (p q : A) → unless o (Ok p) ≡ Ok q → (o ≡ None) × (p ≡ q)
+pub reported_ok : {A : Type 0} (o : Option Fault) (p q : A) → unless o (Ok p) ≡ Ok q → (o ≡ None) × (p ≡ q)
 reported_ok None p q h = (refl, (cc))
 reported_ok (Some f) p q h = absurd cc
 

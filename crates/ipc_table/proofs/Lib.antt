@@ -5,3 +5,4 @@ mod Batches
 mod Messages
 mod Steps
 mod OnePart
+mod TableMeant

@@ -12,9 +12,11 @@
 mod add;
 mod decoder;
 mod front;
+mod laws;
 mod whole;
 
 pub use add::add_message;
 pub use decoder::read_front;
 pub use front::Front;
+pub use laws::meaning_is_a_table;
 pub use whole::decode;

@@ -1,0 +1,18 @@
+// What the definitions say. The functions do nothing: their contracts are the laws.
+ghost use Rattle.std.specs.Prelude.{◌≡◌, ℕ, Bool, List, Ok};
+ghost use Rattle.facts.specs.Bytes.{AreBytes};
+ghost use Rattle.cells.specs.Cell.{PlainTable};
+ghost use Rattle.values.specs.Table.{IsTable};
+ghost use Rattle.ipc_table.specs.Meaning.{meaning};
+
+use arrays::read_rows_are_rows;
+use ipc_message::{checked_schema_is_within_limits, next_message_is_framed};
+
+/// What a stream of bytes means is a table.
+pub fn meaning_is_a_table()
+    ensures { (supported : ℕ → Bool) (bytes : List ℕ) (t : PlainTable) → AreBytes bytes → meaning supported bytes ≡ Ok t → IsTable t }
+{
+    next_message_is_framed();
+    checked_schema_is_within_limits();
+    read_rows_are_rows();
+}
