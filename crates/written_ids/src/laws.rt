@@ -1,10 +1,11 @@
 // What the definitions say. The functions do nothing: their contracts are the laws.
-ghost use Rattle.std.specs.Prelude.{◌≡◌, ◌++◌, ℕ, List, [], ◌∷◌, Some, length, map};
+ghost use Rattle.std.specs.Prelude.{◌≡◌, ◌++◌, ℕ, false, List, [], ◌∷◌, Some, Ok, length, map};
 ghost use Rattle.std.specs.List.{range_with_len, AllByRecursion};
 ghost use Rattle.arrow_schema.specs.Column.{PlainSchema, columns_of};
 ghost use Rattle.columns.specs.Array.{Array};
 ghost use Rattle.dictionary.specs.InEffect.{DictionaryBatch};
-ghost use Rattle.arrays.specs.Dictionaries.{DictionaryColumn, dictionary_columns, column_of_id, dictionaries_after};
+ghost use Rattle.arrays.specs.Dictionaries.{DictionaryColumn, dictionary_columns, column_of_id, dictionaries_after, entries_read, dictionary_read, batch_with};
+ghost use Rattle.ipc_message.specs.Raw.{RawDictionaryBatch};
 ghost use Rattle.ipc_write.specs.Decoded.{raw_schema};
 ghost use Rattle.ipc_write.specs.Trees.{ids_of_all};
 ghost use Rattle.written_ids.specs.Numbered.{replacing};
@@ -21,4 +22,11 @@ pub fn replaced_dictionaries_are_in_effect()
     ensures { (columns : List DictionaryColumn) (before : List DictionaryBatch) (arrays : List Array)
         → map (λ c. c.id) columns ≡ range_with_len 0 (length arrays)
         → dictionaries_after (before ++ replacing 0 arrays) columns ≡ map (λ a. a ∷ []) arrays }
+{}
+
+/// A dictionary batch that is no delta is read with the array that its entries are read as, whatever stood before.
+pub fn replacing_batches_are_read()
+    ensures { (columns : List DictionaryColumn) (before : List DictionaryBatch) (d : RawDictionaryBatch) (body : List ℕ) (c : DictionaryColumn) (a : Array)
+        → column_of_id d.id columns ≡ Some c → d.is_delta ≡ false → entries_read c.values d.batch body ≡ Ok a
+        → dictionary_read columns before d body ≡ Ok (batch_with d a) }
 {}
