@@ -10,7 +10,7 @@ use Rattle.sector_dev.specs.laws.Time.{weaken, now_has, stays}
 use Rattle.sector_dev.specs.laws.Crash.{only_image}
 use Rattle.segments.specs.declared.run.Run.{Run}
 use Rattle.segments.specs.declared.piece.Piece.{Piece}
-use Rattle.segments.specs.Usages.{Space}
+use Rattle.segments.specs.Usages.{Space, IsUsedIn}
 use Rattle.segments.specs.Writing.{runs_of, HoldsEach}
 use Rattle.catalogue.specs.Entries.{PlainCatalogue, IsCatalogue, runs_of as runs_in}
 use Rattle.catalogue.specs.laws.Kept.{catalogue_is}
@@ -20,7 +20,9 @@ use Rattle.commit.specs.declared.publishing.Plan.{Plan}
 use Rattle.commit.specs.Publishing.{IsOutside, IsOldOrNew, IsPublishing, IsPublished}
 use Rattle.commit.specs.Replacing.{CanReplace, StandsAs}
 use Rattle.commit.specs.Standing.{is_on_device, runs_fault, rules, standing, Stands}
+use Rattle.commit.specs.Placing.{Takes}
 use Rattle.commit.specs.laws.Frame.{above_used}
+use Rattle.commit.specs.laws.Taking.{took_takes}
 use Rattle.tables.specs.declared.refusal.Refusal.{Refusal}
 use Rattle.tables.specs.declared.refusal.Refusal.TheVariants as refusals
 use Rattle.tables.specs.declared.refusal.Limit.TheVariants as limits
@@ -39,7 +41,7 @@ use Rattle.store.specs.declared.store.Store.{Store}
 use Rattle.store.specs.Fits.{setting_of, listed_in, IsSound}
 use Rattle.store.specs.Changes.{PlainChange, IsChange, MakesOf, placed_segments}
 use Rattle.store.specs.Deciding.{IsDecided}
-use Rattle.store.specs.Applying.{IsCarried, HasDone, IsOldOrDone}
+use Rattle.store.specs.Applying.{IsCarried, asked_sizes, HasDone, IsOldOrDone}
 use Rattle.store.specs.inner.Prepared.{IsPrepared}
 use Rattle.store.specs.laws.Frame.{held_is, same_tables}
 use Rattle.store.specs.laws.Changed.{edited_held}
@@ -169,20 +171,27 @@ module _ (old new : Space) (k : Commit) (was : PlainCatalogue) (change : PlainCh
 
 -- what the disk holds of a command that asks for a change
 module _ (old new : Space) (k : Commit) (was : PlainCatalogue) (change : PlainChange) (plan : Plan StoredCatalogue) (back : List Run) (p : IsPrepared old new k was change plan back)
-    (size : ℕ) (sound : IsChange was change) (c : PlainCommand) (decided : IsDecided was c (Ok change)) where
-  pub has_done : (image : Image) → StandsAs whole_reading size plan.commit (catalogue_of plan.catalogue.list) image → HoldsEach image plan.pieces.items → HasDone size was c image
+    (size : ℕ) (same : old.size ≡ size) (sound : IsChange was change) (c : PlainCommand) (decided : IsDecided was c (Ok change)) where
+  takes : Takes size (IsUsedIn old.entries) (asked_sizes was change) (Ok (runs_of p.pieces ++ p.run ∷ []))
+  takes =
+      subst (λ (n : ℕ). Takes n (IsUsedIn old.entries) (asked_sizes was change) (Ok (runs_of p.pieces ++ p.run ∷ []))) same
+      (took_takes old.size (IsUsedIn old.entries) (asked_sizes was change) (runs_of p.pieces ++ p.run ∷ []) p.took.took)
+
+  pub has_done : (image : Image) → StandsAs whole_reading size plan.commit (catalogue_of plan.catalogue.list) image → HoldsEach image plan.pieces.items
+      → HasDone size (IsUsedIn old.entries) k was c image
   has_done image stands holds_each = record {
     change = change;
     decides = decided;
-    commit = plan.commit;
     places = runs_of p.pieces;
-    stands = stands ∙ ap (rules plan.commit) p.catalogue;
+    text = p.run;
+    takes = takes;
+    stands = stands ∙ (λ i. rules (p.commit i) (p.catalogue i));
     holds = streams_held old new k was change plan back p image sound holds_each;
   }
 
   old_or_done : (d : Disk) → CanReplace whole_reading size d (record { old = k; was = was; new = plan.commit; will = catalogue_of plan.catalogue.list; pieces = plan.pieces.items }) → (x : Disk)
       → IsPublishing d plan.commit plan.pieces.items (StandsAs whole_reading size k was) (StandsAs whole_reading size plan.commit (catalogue_of plan.catalogue.list)) x
-      → LeavesOnly (IsOldOrDone size k was d c) x
+      → LeavesOnly (IsOldOrDone size (IsUsedIn old.entries) k was d c) x
   old_or_done d can x is image may =
       let either = is.leaves image may in
       record {
@@ -234,11 +243,11 @@ pub writes : {D : Type 0} {g : Ghosts D} (s : Store D g) (mid : Space) (change :
     → (CanReplace whole_reading (g.size s.device) (now (g.story s.device)) (record { old = s.opened.commit; was = listed_in s; new = plan.commit; will = catalogue_of plan.catalogue.list; pieces = plan.pieces.items })
     → Grows (IsPublishing (now (g.story s.device)) plan.commit plan.pieces.items (StandsAs whole_reading (g.size s.device) s.opened.commit (listed_in s)) (StandsAs whole_reading (g.size s.device) plan.commit (catalogue_of plan.catalogue.list)))
     (g.story s.device) s1)
-    → Grows (LeavesOnly (IsOldOrDone (g.size s.device) s.opened.commit (listed_in s) (now (g.story s.device)) c)) (g.story s.device) s1
+    → Grows (LeavesOnly (IsOldOrDone (g.size s.device) (IsUsedIn s.opened.map.entries) s.opened.commit (listed_in s) (now (g.story s.device)) c)) (g.story s.device) s1
 writes {g = g} s mid change plan back prep sound c decided s1 stands moments =
     let d = now (g.story s.device) in
     let can = can_publish {g = g} s mid change plan back prep sound d stands in
-    weaken (old_or_done s.opened.map mid s.opened.commit (listed_in s) change plan back prep (g.size s.device) sound c decided d can) (moments can)
+    weaken (old_or_done s.opened.map mid s.opened.commit (listed_in s) change plan back prep (g.size s.device) s.same sound c decided d can) (moments can)
 
 pub images : {D : Type 0} {g : Ghosts D} (base : Tables) (m : Machine) (s : Store D g) (mid : Space) (change : PlainChange) (plan : Plan StoredCatalogue) (back : List Run) (new : Tables)
     → IsPrepared s.opened.map mid s.opened.commit (listed_in s) change plan back → IsChange (listed_in s) change → IsSound g.size g.story base m s → MakesOf (after base m.settled) change new

@@ -15,7 +15,7 @@ use Rattle.catalogue.specs.Text.{list_size}
 use Rattle.commit.specs.declared.sector.Commit.{Commit}
 use Rattle.commit.specs.Publishing.{next_commit}
 use Rattle.commit.specs.Placing.{Takes}
-use Rattle.commit.specs.Standing.{rules, standing, used_runs, InSome, Stands}
+use Rattle.commit.specs.Standing.{rules, standing, used_runs, InSome}
 use Rattle.tables.specs.declared.refusal.Refusal.{Refusal}
 use Rattle.tables.specs.declared.refusal.Refusal.TheVariants as refusals
 use Rattle.tables.specs.declared.refusal.Limit.TheVariants as limits
@@ -28,7 +28,7 @@ use Rattle.store.specs.Calls.{PlainCall, PlainReply, done, refused}
 use Rattle.store.specs.Machine.{Machine}
 use Rattle.store.specs.Held.{whole_reading}
 use Rattle.store.specs.Runs.{Goes}
-use Rattle.store.specs.Fits.{setting_of, StoreFits, device_of, commit_of, listed_in}
+use Rattle.store.specs.Fits.{setting_of, StoreFits, device_of, commit_of, listed_in, IsOnDisk}
 use Rattle.store.specs.Deciding.{IsDecided, IsAnswered}
 use Rattle.store.specs.Changes.{PlainChange, edited, placed_segments, HoldsStreams, MakesOf}
 
@@ -110,34 +110,34 @@ IsKept old new = (commit_of new ≡ commit_of old) × (listed_in new ≡ listed_
 
 -- ---- what lies on the disk
 
--- all of a store lies there: its commit and its catalogue are found, and all is synced
-abbrev pub IsOnDisk : {D : Type 0} {g : Ghosts D} → (size : D → ℕ) → (story : D → Story) → Store D g → Type 0
-IsOnDisk size story store = Stands whole_reading (size (device_of store)) (now (story (device_of store))) (commit_of store) (listed_in store)
-
--- on an image a command was carried out: the catalogue that was decided stands there, and its new segments hold their streams
-pub record HasDone (size : ℕ) (c : PlainCatalogue) (command : PlainCommand) (image : Image) : Type 0 where
+-- on an image a command was carried out: beside the runs that were in use the lowest that are free were taken, the next commit rules with the
+-- catalogue that was decided, and its new segments hold their streams
+pub record HasDone (size : ℕ) (used : Run → Type 0) (k : Commit) (c : PlainCatalogue) (command : PlainCommand) (image : Image) : Type 0 where
   pub change : PlainChange
   pub decides : IsDecided c command (Ok change)
-  pub commit : Commit
   pub places : List Run
-  pub stands : standing whole_reading size image ≡ rules commit (edited c change.edit (placed_segments places change.streams change.counts))
+  pub text : Run
+  pub takes : Takes size used (asked_sizes c change) (Ok (places ++ text ∷ []))
+  pub stands : standing whole_reading size image
+      ≡ rules (next_commit k text (list_size (outline c change))) (edited c change.edit (placed_segments places change.streams change.counts))
   pub holds : HoldsStreams image (placed_segments places change.streams change.counts) change.streams change.counts
 
 -- what a stop in a command leaves: the commit and the catalogue that stood, or a command that was carried out; and what lay in the runs of
 -- that catalogue lies there still
-pub record IsOldOrDone (size : ℕ) (k : Commit) (c : PlainCatalogue) (before : Disk) (command : PlainCommand) (image : Image) : Type 0 where
-  pub which : (standing whole_reading size image ≡ rules k c) ⊎ HasDone size c command image
+pub record IsOldOrDone (size : ℕ) (used : Run → Type 0) (k : Commit) (c : PlainCatalogue) (before : Disk) (command : PlainCommand) (image : Image) : Type 0 where
+  pub which : (standing whole_reading size image ≡ rules k c) ⊎ HasDone size used k c command image
   pub kept : (n : ℕ) → InSome (used_runs whole_reading k c) n → image n ≡ (before.at n).synced
 
 -- at each moment of a command of a store that lies on its disk
 abbrev pub Writes : {D : Type 0} {g : Ghosts D} → (size : D → ℕ) → (story : D → Story) → (old : Store D g) → PlainCommand → (new : Store D g) → Type 0
 Writes size story old command new =
-    Grows (LeavesOnly (IsOldOrDone (size (device_of old)) (commit_of old) (listed_in old) (now (story (device_of old))) command)) (story (device_of old)) (story (device_of new))
+    Grows (LeavesOnly (IsOldOrDone (size (device_of old)) (IsUsedIn old.opened.map.entries) (commit_of old) (listed_in old) (now (story (device_of old))) command))
+    (story (device_of old)) (story (device_of new))
 
 -- and after one that was done
 pub record HasWritten {D : Type 0} {g : Ghosts D} (size : D → ℕ) (story : D → Story) (old : Store D g) (command : PlainCommand) (new : Store D g) : Type 0 where
   pub stands : IsOnDisk size story new
-  pub holds : HasDone (size (device_of old)) (listed_in old) command (synced_image (now (story (device_of new))))
+  pub holds : HasDone (size (device_of old)) (IsUsedIn old.opened.map.entries) (commit_of old) (listed_in old) command (synced_image (now (story (device_of new))))
 
 -- ---- what a call leaves
 

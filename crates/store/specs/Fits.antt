@@ -37,9 +37,21 @@ pub record DeviceFits {D : Type 0} (size : D → ℕ) (story : D → Story) (bas
   pub allows : LeavesOnly (Allows (setting_of (size device) base) m) (now (story device))
   pub fresh : m.started ≡ false → IsFresh base m
 
+-- the device of a store
+abbrev pub device_of : {D : Type 0} {g : Ghosts D} → Store D g → D
+device_of store = store.device
+
+-- the commit of a store
+abbrev pub commit_of : {D : Type 0} {g : Ghosts D} → Store D g → Commit
+commit_of store = store.opened.commit
+
 -- the catalogue of a store
 abbrev pub listed_in : {D : Type 0} {g : Ghosts D} → Store D g → PlainCatalogue
 listed_in store = catalogue_of store.opened.catalogue.list
+
+-- all of a store lies on its disk: its commit and its catalogue are found, and all is synced
+abbrev pub IsOnDisk : {D : Type 0} {g : Ghosts D} → (size : D → ℕ) → (story : D → Story) → Store D g → Type 0
+IsOnDisk size story store = Stands whole_reading (size (device_of store)) (now (story (device_of store))) (commit_of store) (listed_in store)
 
 -- its device failed, so it has to be closed
 abbrev pub is_halted : {D : Type 0} {g : Ghosts D} → Store D g → Bool
@@ -47,7 +59,7 @@ is_halted store = store.halted
 
 -- an open store: all is on the disk, and its tables are those of the settled commands
 pub record IsSound {D : Type 0} {g : Ghosts D} (size : D → ℕ) (story : D → Story) (base : Tables) (m : Machine) (store : Store D g) : Type 0 where
-  pub stands : Stands whole_reading (size store.device) (now (story store.device)) store.opened.commit (listed_in store)
+  pub stands : IsOnDisk size story store
   pub tables : tables_held (synced_image (now (story store.device))) (listed_in store) ≡ Some (after base m.settled)
   pub uses : Uses store.opened.map.entries (used_runs whole_reading store.opened.commit (listed_in store)) []
   pub none : m.doubt ≡ None
@@ -58,21 +70,15 @@ pub record StoreFits {D : Type 0} {g : Ghosts D} (size : D → ℕ) (story : D �
   pub device : DeviceFits size story base m store.device
   pub sound : m.phase ≡ running → IsSound size story base m store
 
--- the device of a store
-abbrev pub device_of : {D : Type 0} {g : Ghosts D} → Store D g → D
-device_of store = store.device
-
--- an opening of any device that was done: it found what stood there, by what reads gave, and has synced it, with no write; and the store is not halted
+-- an opening of any device that was done: it found what stood there, by what reads gave, and has synced it, with no write, so that the store lies on
+-- its disk; and the store is not halted
 pub record FindsStore {D : Type 0} {g : Ghosts D} (size : D → ℕ) (story : D → Story) (device : D) (store : Store D g) : Type 0 where
   pub found : standing_shown whole_reading (size device) (story device) ≡ rules store.opened.commit (listed_in store)
   pub moments : Grows (IsOpening (now (story device))) (story device) (story (device_of store))
   pub synced : now (story (device_of store)) ≡ flushed (now (story device))
+  pub stands : IsOnDisk size story store
   pub uses : Uses store.opened.map.entries (used_runs whole_reading store.opened.commit (listed_in store)) []
   pub on : store.halted ≡ false
-
--- the commit of a store
-abbrev pub commit_of : {D : Type 0} {g : Ghosts D} → Store D g → Commit
-commit_of store = store.opened.commit
 
 -- a formatting of any device that was done: reads showed no store there; the empty store is synced, and no stop during it left anything
 -- but what was there, no store or the empty one
@@ -80,6 +86,7 @@ pub record FormatsStore {D : Type 0} {g : Ghosts D} (size : D → ℕ) (story : 
   pub none_before : ruling (shown_image (now (story device))) ≡ None
   pub moments : Grows (IsFormatting (size device) (now (story device))) (story device) (story (device_of store))
   pub formatted : IsFormatted (size device) (now (story device)) (now (story (device_of store)))
+  pub stands : IsOnDisk size story store
   pub made : IsMadeEmpty (size device) (shown_image (now (story device))) (shown_image (now (story (device_of store))))
 
 -- the store that a formatting of a device of this size makes: without tables, and not halted

@@ -51,8 +51,8 @@ impl<D: SectorDevice> Store<D> {
     ghost use Rattle.store.specs.Calls.{apply_call};
     ghost use Rattle.store.specs.Machine.{Machine};
     ghost use Rattle.store.specs.Runs.{counted};
-    ghost use Rattle.store.specs.Fits.{StoreFits, device_of, is_halted};
-    ghost use Rattle.store.specs.Applying.{GoesOn, reply_of, IsApplied, IsKept, IsOnDisk, Writes, HasWritten};
+    ghost use Rattle.store.specs.Fits.{StoreFits, device_of, is_halted, IsOnDisk};
+    ghost use Rattle.store.specs.Applying.{GoesOn, reply_of, IsApplied, IsKept, Writes, HasWritten};
 
     /// Does what a command asks for, or refuses it. After Ok it is safe: each later stop leaves it.
     ///

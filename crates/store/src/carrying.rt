@@ -202,10 +202,10 @@ impl<D: SectorDevice> Store<D> {
     ghost use Rattle.store.specs.Calls.{apply_call};
     ghost use Rattle.store.specs.Machine.{Machine, running, tables_now};
     ghost use Rattle.store.specs.Runs.{counted};
-    ghost use Rattle.store.specs.Fits.{StoreFits, device_of, listed_in, setting_of};
+    ghost use Rattle.store.specs.Fits.{StoreFits, device_of, listed_in, setting_of, IsOnDisk};
     ghost use Rattle.store.specs.Changes.{MakesOf};
     ghost use Rattle.store.specs.Deciding.{IsDecided};
-    ghost use Rattle.store.specs.Applying.{GoesOn, reply_of, EndsAs, IsKept, IsOnDisk, Writes, HasWritten};
+    ghost use Rattle.store.specs.Applying.{GoesOn, reply_of, EndsAs, IsKept, Writes, HasWritten};
 
     /// Carries out a change of the catalogue: takes runs, writes the new segments and the new catalogue, and publishes them.
     ///

@@ -1,6 +1,7 @@
 use Rattle.sector_dev.specs.Disk.{now, synced_image}
 use Rattle.sector_dev.specs.Time.{LeavesOnly}
 use Rattle.sector_dev.specs.laws.Time.{stays}
+use Rattle.segments.specs.Usages.{IsUsedIn}
 use Rattle.tables.specs.View.{command_of}
 use Rattle.store.specs.Machine.{tables_now}
 use Rattle.store.specs.Fits.{setting_of, listed_in}
@@ -45,4 +46,4 @@ pub returns-in-Err-clause-writes : goal.returns-in-Err-clause-writes
 returns-in-Err-clause-writes g c = λ off told on.
     let D = g.D.SectorDevice in
     let s = c.args.self.now in
-    stays (LeavesOnly (IsOldOrDone (D.size s.device) s.opened.commit (listed_in s) (now (D.story s.device)) (command_of c.args.command))) (D.story s.device)
+    stays (LeavesOnly (IsOldOrDone (D.size s.device) (IsUsedIn s.opened.map.entries) s.opened.commit (listed_in s) (now (D.story s.device)) (command_of c.args.command))) (D.story s.device)

@@ -211,7 +211,7 @@ pub returns-in_err-prepared-clause-writes : goal.returns-in_err-prepared-clause-
 returns-in_err-prepared-clause-writes g c = λ told cmd on decided.
     let D = g.D.SectorDevice in
     let s = c.args.self.now in
-    stays (LeavesOnly (IsOldOrDone (D.size s.device) s.opened.commit (listed_in s) (now (D.story s.device)) cmd)) (D.story s.device)
+    stays (LeavesOnly (IsOldOrDone (D.size s.device) (IsUsedIn s.opened.map.entries) s.opened.commit (listed_in s) (now (D.story s.device)) cmd)) (D.story s.device)
 
 pub returns-in-Ok-clause-writes : goal.returns-in-Ok-clause-writes
 returns-in-Ok-clause-writes g c = λ told cmd on decided.
@@ -240,5 +240,5 @@ returns-in-Ok-clause-written g c = λ told cmd on decided.
         found = stands_then (D.size s.device) (D.size c.publish.new.device) (synced_image (now s1)) plan.commit c.settle.new.opened.commit plan.catalogue c.settle.new.opened.catalogue c.publish.ensures.size
             c.settle.ensures.commit c.settle.ensures.catalogue p.stands;
       };
-      holds = has_done s.opened.map c.prepare.new.map s.opened.commit (listed_in s) change plan back prep (D.size s.device) c.requires.sound cmd decided (synced_image (now s1)) p.stands p.holds;
+      holds = has_done s.opened.map c.prepare.new.map s.opened.commit (listed_in s) change plan back prep (D.size s.device) s.same c.requires.sound cmd decided (synced_image (now s1)) p.stands p.holds;
     }

@@ -12,11 +12,12 @@ use Rattle.commit.specs.Placing.{Uses}
 use Rattle.catalogue.specs.Entries.{PlainCatalogue, runs_of}
 use Rattle.catalogue.specs.View.{catalogue_of}
 use Rattle.store.specs.declared.opening_refusal.OpeningRefusal.{OpeningRefusal}
+use Rattle.tables.specs.Tables.{no_tables}
 use Rattle.store.specs.Calls.{format_call, shut_by}
 use Rattle.store.specs.Machine.{opened, shut_down, Allows}
 use Rattle.store.specs.Runs.{Goes, counted}
 use Rattle.store.specs.Held.{whole_reading, tables_held}
-use Rattle.store.specs.Fits.{setting_of}
+use Rattle.store.specs.Fits.{setting_of, fresh}
 use Rattle.store.specs.Opening.{formatting_of, TellsFormatting}
 use Rattle.store.proofs.Formatted.{formatting_counts, formatting_limits, formatted_limits, first_placed, formatting_tells, no_runs, early_moments, early_none, format_refused, refused_allows, format_done, formatted_stands, new_tables}
 use Rattle.store.proofs.store.Store.format.Goals as goal
@@ -75,7 +76,23 @@ returns-in-Ok-clause-opened g c = λ told base m fits.
 
 pub returns-in-Ok-clause-formatted : goal.returns-in-Ok-clause-formatted
 returns-in-Ok-clause-formatted g c = λ told.
-    record { none_before = c.in-Ok.ensures.none_before told; moments = c.format.ensures.moments told; formatted = c.in-Ok.ensures.formatted told; made = c.in-Ok.ensures.made told }
+    let D = g.D.SectorDevice in
+    let s0 = D.story c.args.device in
+    let s1 = D.story c.format.new.device in
+    let size = D.size c.args.device in
+    let commit = c.in-Ok.commit in
+    let listed = catalogue_of c.empty.result in
+    let formatted = c.in-Ok.ensures.formatted told in
+    let within = formatted_limits c.format.result _ (is_size size) c.in-Ok.is c.format.ensures.limits in
+    let stands = formatted_stands size within c.empty_text_has_no_tables.ensures no_tables fresh (now s0) (now s1) formatted in
+    record {
+      none_before = c.in-Ok.ensures.none_before told;
+      moments = c.format.ensures.moments told;
+      formatted = formatted;
+      stands = subst (λ (n : ℕ). Stands whole_reading n (now s1) commit listed) (sym c.format.ensures.size)
+          (subst (λ (k : Commit). Stands whole_reading size (now s1) k listed) (sym c.in-Ok.ensures.commit) (subst (λ (d : PlainCatalogue). Stands whole_reading size (now s1) (first_commit size) d) (sym c.empty.ensures) stands));
+      made = c.in-Ok.ensures.made told;
+    }
 
 pub returns-in-Ok-clause-empty : goal.returns-in-Ok-clause-empty
 returns-in-Ok-clause-empty g c =

@@ -73,7 +73,15 @@ returns-in-Ok-clause-opened g c = λ told base m fits.
 
 pub returns-in-Ok-clause-found : goal.returns-in-Ok-clause-found
 returns-in-Ok-clause-found g c = λ told.
-    record { found = c.in-Ok.ensures.found told; moments = c.recover.ensures.moments told; synced = c.in-Ok.ensures.synced told; uses = c.in-Ok.ensures.uses; on = refl }
+    let D = g.D.SectorDevice in
+    record {
+      found = c.in-Ok.ensures.found told;
+      moments = c.recover.ensures.moments told;
+      synced = c.in-Ok.ensures.synced told;
+      stands = subst (λ (n : ℕ). Stands whole_reading n (now (D.story c.recover.new.device)) c.in-Ok.opened.commit (catalogue_of c.in-Ok.opened.catalogue.list)) (sym c.recover.ensures.size) (c.in-Ok.ensures.stands told);
+      uses = c.in-Ok.ensures.uses;
+      on = refl;
+    }
 
 pub returns-in-Err-clause-told : goal.returns-in-Err-clause-told
 returns-in-Err-clause-told g c = λ told.
