@@ -25,5 +25,6 @@ pub mod DictionaryRead
 pub mod DictionaryFound
 pub mod RowsFit
 pub mod RowsNamed
+pub mod BytesRead
 pub mod RowsRead
 pub mod SchemaDictionaries

@@ -29,6 +29,14 @@ pub fn read_dictionaries_are_readable()
         → are_readable (map (λ c. c.values) columns) (dictionaries_after batches columns) ≡ true }
 {}
 
+/// What is read of a dictionary batch has bytes where its body has; and where all batches so far have, so have the dictionaries in effect after them.
+pub fn read_dictionaries_have_bytes()
+    ensures batch { (columns : List DictionaryColumn) (before : List DictionaryBatch) (d : RawDictionaryBatch) (body : List ℕ) (b : DictionaryBatch)
+        → are_bytes body ≡ true → dictionary_read columns before d body ≡ Ok b → has_bytes b.array ≡ true }
+    ensures known { (columns : List DictionaryColumn) (batches : List DictionaryBatch)
+        → list_all (λ b. has_bytes b.array) batches ≡ true → list_all (list_all has_bytes) (dictionaries_after batches columns) ≡ true }
+{}
+
 /// The texts of each row of a batch that was read are UTF-8, at every level, where the values of dictionaries are flat.
 pub fn read_texts_are_utf8()
     ensures { (s : PlainSchema) (before : ℕ) (b : RawBatch) (body : List ℕ) (known : List (List Array)) (arrays : Arrays) (i : ℕ)

@@ -35,7 +35,10 @@ pub use batch::{PlacedBatch, read};
 pub use batch_arrays::read_arrays;
 pub use dictionary_batch::read_dictionary;
 pub use dictionary_columns::DictionaryColumns;
-pub use laws::{read_dictionaries_are_readable, read_rows_are_rows, read_texts_are_utf8};
+pub use laws::{
+    read_dictionaries_are_readable, read_dictionaries_have_bytes, read_rows_are_rows,
+    read_texts_are_utf8, schemas_give_dictionary_columns,
+};
 pub use limits::MAX_SLOTS;
 pub use schema_dictionaries::read_dictionary_columns;
 pub use visible::{has_bad_text, has_forbidden_null, names_no_entry_in};
