@@ -1,5 +1,6 @@
 pub mod Messages
 pub mod Joined
-pub mod NoDictionaries
+pub mod Values
 pub mod Written
+pub mod Entries
 pub mod Pieces

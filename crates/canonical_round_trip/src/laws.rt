@@ -11,12 +11,19 @@ ghost use Rattle.canonical_stream.specs.Canonical.{canonical};
 pub fn canonical_means_its_table()
     ensures { (t : PlainTable) → IsTable t → is_not_read t.schema ≡ false → meaning supported_codes (canonical t) ≡ Ok t }
 {
+    arrays::schemas_give_dictionary_columns();
     canonical_stream::pieces_can_be_built();
     columns::built_reads_back();
+    columns::dictionaries_are_written_alone();
     columns::written_arrays_have_their_shape();
     ipc_write::schema_message_is_read_again();
+    ipc_write::dictionary_message_is_read_again();
     ipc_write::batch_message_is_read_again();
     values::tables_are_joined_and_cut();
     written_batch::written_batches_pass();
+    written_batch::written_entries_are_read();
     written_batch::written_rows_are_read();
+    written_ids::replaced_dictionaries_are_in_effect();
+    written_ids::replacing_batches_are_read();
+    written_ids::written_ids_count_dictionaries();
 }

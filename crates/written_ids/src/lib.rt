@@ -2,3 +2,7 @@
 #![tactic(auto)]
 
 mod laws;
+
+pub use laws::{
+    replaced_dictionaries_are_in_effect, replacing_batches_are_read, written_ids_count_dictionaries,
+};

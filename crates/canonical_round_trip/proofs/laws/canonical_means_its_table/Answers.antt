@@ -1,13 +1,17 @@
 use Rattle.std.proofs.Common.{refl}
 use Rattle.ipc_message.specs.Header.{supported_codes}
-use Rattle.canonical_round_trip.proofs.Written.{SchemaLaw, BatchLaw, RowsLaw}
-use Rattle.canonical_round_trip.proofs.Pieces.{table_means}
+use Rattle.canonical_round_trip.proofs.Written.{SchemaLaw, DictionaryLaw, BatchLaw, EntriesLaw, RowsLaw}
+use Rattle.canonical_round_trip.proofs.Pieces.{Laws, table_means}
 use Rattle.canonical_round_trip.proofs.laws.canonical_means_its_table.Goals as goal
 
 pub returns : goal.returns
 returns c t table read =
     let first = c.schema_message_is_read_again.ensures in
+    let second = c.dictionary_message_is_read_again.ensures in
     let next = c.batch_message_is_read_again.ensures in
+    let apart = c.dictionaries_are_written_alone.ensures in
+    let counted = c.written_ids_count_dictionaries.ensures in
+    let shape = c.written_arrays_have_their_shape.ensures in
     let schema : SchemaLaw = record {
       found = first.next_message;
       kind = first.kind;
@@ -16,12 +20,26 @@ returns c t table read =
       checked = first.checked;
       after = first.after;
     } in
+    let dictionary : DictionaryLaw = record { found = second.next_message; kind = second.kind; decoded = second.header supported_codes; after = second.after } in
     let batch : BatchLaw = record { found = next.next_message; kind = next.kind; decoded = next.header supported_codes; after = next.after } in
-    let law : RowsLaw = record {
-      weight = c.written_arrays_have_their_shape.ensures.weight;
+    let entries : EntriesLaw = record {
+      writable = c.written_entries_are_read.ensures.writable;
+      read = c.written_entries_are_read.ensures.read;
+      alone = apart.alone;
+      flat = apart.flat;
+      few_nodes = shape.few_nodes;
+      values = c.schemas_give_dictionary_columns.ensures.values;
+      ids = counted.ids;
+      own = counted.own;
+      effect = c.replaced_dictionaries_are_in_effect.ensures;
+      replaced = c.replacing_batches_are_read.ensures;
+    } in
+    let rows : RowsLaw = record {
+      weight = shape.weight;
       writable = c.written_batches_pass.ensures.writable;
       read = c.written_rows_are_read.ensures;
       back = c.built_reads_back.ensures.rows;
       cut = c.tables_are_joined_and_cut.ensures.cut;
     } in
-    table_means schema batch law t (c.pieces_can_be_built.ensures t table) table read
+    let laws : Laws = record { schema = schema; dictionary = dictionary; batch = batch; entries = entries; rows = rows } in
+    table_means laws t (c.pieces_can_be_built.ensures t table) table read
