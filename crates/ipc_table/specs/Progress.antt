@@ -1,5 +1,5 @@
 -- What is known in the middle of a stream, as the code keeps it, and what a call gives that adds to it.
-use Rattle.std.specs.Prelude.{◌≡◌, ℕ, Bool, true, List, [], Option, Some, None, Result, Ok, Err}
+use Rattle.std.specs.Prelude.{◌≡◌, ℕ, Bool, true, List, Option, Some, None, Result, Ok, Err, length, map}
 use Rattle.std.specs.List.{flat_map, list_all}
 use Rattle.arrow_schema.specs.Column.{Columns, columns_of}
 use Rattle.arrow_schema.specs.View.{schema_of}
@@ -9,9 +9,11 @@ use Rattle.columns.specs.declared.array.Dictionary.{Dictionary}
 use Rattle.columns.specs.CellAt.{rows_in}
 use Rattle.columns.specs.Sound.{are_sound}
 use Rattle.columns.specs.View.{placed_arrays}
-use Rattle.dictionary.specs.Kept.{HasInEffect, lists_of}
+use Rattle.columns.specs.Within.{is_placed_within}
+use Rattle.dictionary.specs.Kept.{HasInEffect, lists_of, are_kept_within}
+use Rattle.arrays.specs.Bytes.{has_bytes}
 use Rattle.arrays.specs.DictionaryColumns.{dictionary_columns_of}
-use Rattle.arrays.specs.Known.{dictionary_values}
+use Rattle.arrays.specs.Known.{dictionary_values, is_readable_batch, HaveOneType}
 use Rattle.arrays.specs.Checks.{batch_read, batch_weight}
 use Rattle.arrays.specs.Dictionaries.{dictionaries_after}
 use Rattle.arrays.specs.declared.batch.PlacedBatch.{PlacedBatch}
@@ -32,14 +34,25 @@ placed_rows columns bytes lists batches = flat_map (λ b. rows_in columns (place
 abbrev pub are_batches_sound : Columns → List ℕ → List Dictionary → List Batch → Bool
 are_batches_sound columns bytes lists batches = list_all (λ b. are_sound columns b.rows (placed_arrays bytes lists b.arrays.items)) batches
 
--- what is known stands in these bytes, as the code keeps it. A schema with a dictionary is not read yet, so that there are no columns with
--- dictionaries
+-- the arrays of batches end within so many bytes, and so do those that they know of dictionaries
+abbrev pub are_batches_within : (size : ℕ) → List Dictionary → List Batch → Bool
+are_batches_within size lists batches = list_all (λ b. list_all (is_placed_within size lists) b.arrays.items) batches
+
+-- the columns with dictionaries are those of the schema, and the dictionary batches so far can be looked up
+pub record HasDictionaries (k : Known) : Type 0 where
+  pub values : dictionary_values (columns_of k.schema.columns) ≡ map (λ c. c.values) k.columns
+  pub one_type : HaveOneType k.columns
+  pub readable : list_all (is_readable_batch k.columns) k.dictionaries ≡ true
+  pub bytes : list_all (λ b. has_bytes b.array) k.dictionaries ≡ true
+
+-- what is known stands in these bytes, as the code keeps it
 pub record IsFront (bytes : List ℕ) (f : Front) (k : Known) : Type 0 where
   pub schema : schema_of f.schema ≡ k.schema
   pub columns : dictionary_columns_of f.columns ≡ k.columns
-  pub no_columns : k.columns ≡ []
-  pub no_values : dictionary_values (columns_of k.schema.columns) ≡ []
+  pub dictionaries : HasDictionaries k
   pub effect : HasInEffect bytes f.dictionaries k.dictionaries
+  pub kept : are_kept_within (length bytes) f.dictionaries ≡ true
+  pub within : (lists : List Dictionary) → lists_of lists ≡ f.dictionaries.lists → are_batches_within (length bytes) lists f.batches.items ≡ true
   pub sound : (lists : List Dictionary) → lists_of lists ≡ f.dictionaries.lists → are_batches_sound (columns_of k.schema.columns) bytes lists f.batches.items ≡ true
   pub rows : (lists : List Dictionary) → lists_of lists ≡ f.dictionaries.lists → placed_rows (columns_of k.schema.columns) bytes lists f.batches.items ≡ k.rows
   pub weight : f.weight ≡ table_weight k.schema k.rows
@@ -60,10 +73,11 @@ IsBefore bytes _ _ = ⊥
 abbrev pub known_batch : Known → RawBatch → (body : List ℕ) → Result Arrays Fault
 known_batch k b body = batch_read k.schema (table_weight k.schema k.rows) b body (dictionaries_after k.dictionaries k.columns)
 
--- these are the arrays of a record batch, in these bytes; their slots can be looked up
+-- these are the arrays of a record batch, which end within these bytes; their slots can be looked up
 pub record AreArrays (bytes : List ℕ) (lists : List Dictionary) (k : Known) (b : RawBatch) (body : List ℕ) (v : PlacedBatch) : Type 0 where
   pub read : known_batch k b body ≡ Ok (placed_arrays bytes lists v.arrays.items)
   pub weight : v.weight ≡ batch_weight k.schema b.length (placed_arrays bytes lists v.arrays.items)
+  pub within : list_all (is_placed_within (length bytes) lists) v.arrays.items ≡ true
   pub sound : are_sound (columns_of k.schema.columns) b.length (placed_arrays bytes lists v.arrays.items) ≡ true
 
 -- what reading them gives
