@@ -1,7 +1,9 @@
 pub mod Ids
-mod NotYet
+mod Dictionaries
+mod Grown
 mod Firsts
 mod Batches
+mod Added
 mod Messages
 mod Steps
 mod OnePart

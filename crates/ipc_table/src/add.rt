@@ -1,12 +1,12 @@
 // What one message adds to what is known.
-ghost use Rattle.std.specs.Prelude.{◌≡◌, ◌≤◌, ◌<◌, ◌+◌, ◌^◌, ℕ, length, map, take, slice_index, List, IfOk, Option, None, Some};
+ghost use Rattle.std.specs.Prelude.{◌≡◌, ◌≤◌, ◌<◌, ◌+◌, ◌++◌, ℕ, length, map, take, slice_index, List, [], ◌∷◌, IfOk, OnOk, Option, None, Some};
 ghost use Rattle.columns.specs.Places.{within};
-ghost use Rattle.columns.specs.View.{arrays_in};
+ghost use Rattle.columns.specs.View.{array_in, arrays_in, no_dictionary};
 ghost use Rattle.columns.specs.declared.array.Dictionary.{Dictionary as DictionaryList};
-ghost use Rattle.arrays.specs.Dictionaries.{dictionaries_after};
+ghost use Rattle.arrays.specs.Dictionaries.{batch_with, dictionaries_after};
 ghost use Rattle.arrays.specs.DictionaryColumns.{dictionary_columns_of};
 ghost use Rattle.dictionary.specs.InEffect.{DictionaryBatch, in_effect};
-ghost use Rattle.dictionary.specs.Kept.{HasInEffect, lists_of};
+ghost use Rattle.dictionary.specs.Kept.{HasInEffect, AreWithin, KeepsParts, StaysWithin, lists_of};
 ghost use Rattle.ipc_message.specs.Header.{supported_codes};
 ghost use Rattle.ipc_message.specs.Messages.{envelope_of};
 ghost use Rattle.ipc_message.specs.View.{raw_batch_of, raw_dictionary_of, raw_schema_of};
@@ -16,10 +16,11 @@ ghost use Rattle.ipc_table.specs.Progress.{IsFront, IsBefore, GivesFront, GivesA
 
 use crate::front::Front;
 use arrays::{
-    DictionaryColumns, PlacedBatch, read, read_dictionary, read_dictionary_columns,
-    read_rows_are_rows,
+    DictionaryColumns, PlacedBatch, read, read_dictionaries_are_readable,
+    read_dictionaries_have_bytes, read_dictionary, read_dictionary_columns, read_rows_are_rows,
+    schemas_give_dictionary_columns,
 };
-use columns::{DictionaryPart, Span};
+use columns::{DictionaryPart, PlacedArray, Span};
 use dictionary::Dictionaries;
 use ipc_message::{
     Fault, Header, HeaderType, ImportError, Message, RawBatch, RawDictionaryBatch, RawSchema,
@@ -32,6 +33,7 @@ use values::Batch;
 fn begin(alloc: Global, raw: &RawSchema) -> Result<Front, ImportError>
     ensures { (bytes body : List ℕ) → GivesFront bytes result (read_header supported_codes None body (schema_header (raw_schema_of raw.now))) }
 {
+    schemas_give_dictionary_columns();
     let schema = read_schema(alloc, raw)?;
     let columns = read_dictionary_columns(alloc, raw)?;
     Ok(Front {
@@ -62,9 +64,10 @@ fn dictionary_parts(
     columns: &DictionaryColumns,
     dictionaries: &Dictionaries,
 ) -> Result<Vec<DictionaryPart>, AllocError>
-    ensures { (bytes : List ℕ) (before : List DictionaryBatch) (lists : List DictionaryList)
+    ensures effect { (bytes : List ℕ) (before : List DictionaryBatch) (lists : List DictionaryList)
         → HasInEffect bytes dictionaries.now before → lists_of lists ≡ dictionaries.now.lists
         → IfOk result (λ parts. map (arrays_in bytes lists) parts.items ≡ dictionaries_after before (dictionary_columns_of columns.now)) }
+    ensures within { IfOk result (λ parts. AreWithin dictionaries.now parts.items) }
 {
     let count = column_count(columns);
     let parts = dictionaries.parts(alloc, &columns.ids[..count])?;
@@ -80,11 +83,12 @@ fn read_arrays(
     bytes: &[u8],
 ) -> Result<PlacedBatch, ImportError>
     requires front { (k : Known) × IsFront bytes.now front.now k }
-    requires fits { body.start + body.len < 2 ^ 64 }
+    requires fits { body.start + body.len ≤ length bytes.now }
     ensures { (k : Known) → IsFront bytes.now front.now k
         → (lists : List DictionaryList) × (lists_of lists ≡ front.now.dictionaries.lists)
         × GivesArrays bytes.now lists k (raw_batch_of raw.now) (within bytes.now body) result }
 {
+    read_dictionaries_are_readable();
     let lists = front.dictionaries.lists();
     let parts = dictionary_parts(alloc, &front.columns, &front.dictionaries)?;
     read(
@@ -114,6 +118,8 @@ fn add_batch(
 {
     let placed = read_arrays(alloc, &front, raw, body, bytes)?;
     read_rows_are_rows();
+    read_dictionaries_are_readable();
+    read_dictionaries_have_bytes();
     bytes_are_small(bytes);
     let mut front = front;
     front.batches.push(Batch {
@@ -122,6 +128,32 @@ fn add_batch(
     })?;
     front.weight += placed.weight;
     Ok(front)
+}
+
+// Keeps the array of a dictionary batch: a delta is appended, and any other begins its dictionary anew.
+fn keep_array(
+    alloc: Global,
+    dictionaries: &mut Dictionaries,
+    raw: &RawDictionaryBatch,
+    array: PlacedArray,
+) -> Result<(), AllocError>
+    ensures effect { OnOk result ((bytes : List ℕ) (before : List DictionaryBatch) → HasInEffect bytes dictionaries.old before
+        → HasInEffect bytes dictionaries.new (before ++ batch_with (raw_dictionary_of raw.now) (array_in bytes no_dictionary array) ∷ [])) }
+    ensures parts { OnOk result (KeepsParts dictionaries.old.lists dictionaries.new.lists) }
+    ensures within { OnOk result (StaysWithin dictionaries.old array dictionaries.new) }
+{
+    if raw.is_delta {
+        dictionaries.append(alloc, raw.id, array)
+    } else {
+        dictionaries.replace(alloc, raw.id, array)
+    }
+}
+
+// There are dictionaries of which these lists are kept: a contract knows it of what is lent.
+fn lists_are_kept(dictionaries: &Dictionaries)
+    ensures { (lists : List DictionaryList) × (lists_of lists ≡ dictionaries.now.lists) }
+{
+    let _lists = dictionaries.lists();
 }
 
 /// What is known after a dictionary batch.
@@ -136,13 +168,13 @@ fn add_dictionary(
     ensures { (k : Known) → IsFront bytes.now front k
         → GivesFront bytes.now result (read_after k (within bytes.now body) (dictionary_header (raw_dictionary_of raw.now))) }
 {
+    read_dictionaries_are_readable();
+    read_dictionaries_have_bytes();
+    bytes_are_small(bytes);
     let array = read_dictionary(alloc, &front.columns, &front.dictionaries, raw, body, bytes)?;
     let mut front = front;
-    if raw.is_delta {
-        front.dictionaries.append(alloc, raw.id, array)?;
-    } else {
-        front.dictionaries.replace(alloc, raw.id, array)?;
-    }
+    lists_are_kept(&front.dictionaries);
+    keep_array(alloc, &mut front.dictionaries, raw, array)?;
     Ok(front)
 }
 
@@ -187,7 +219,8 @@ fn add_first(alloc: Global, message: &Message) -> Result<Front, ImportError>
     }
 }
 
-/// What is known after one message more, whose body stands in the bytes, or the first fault of its checks. A schema with a dictionary is not read yet.
+/// What is known after one message more, whose body stands in the bytes, or the first fault of its checks. F0, the last check of a schema, refuses one
+/// with a dictionary yet.
 pub fn add_message(
     alloc: Global,
     front: Option<Front>,

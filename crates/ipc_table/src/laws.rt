@@ -5,7 +5,10 @@ ghost use Rattle.cells.specs.Cell.{PlainTable};
 ghost use Rattle.values.specs.Table.{IsTable};
 ghost use Rattle.ipc_table.specs.Meaning.{meaning};
 
-use arrays::read_rows_are_rows;
+use arrays::{
+    read_dictionaries_are_readable, read_dictionaries_have_bytes, read_rows_are_rows,
+    schemas_give_dictionary_columns,
+};
 use ipc_message::{checked_schema_is_within_limits, next_message_is_framed};
 
 /// What a stream of bytes means is a table.
@@ -14,5 +17,8 @@ pub fn meaning_is_a_table()
 {
     next_message_is_framed();
     checked_schema_is_within_limits();
+    schemas_give_dictionary_columns();
+    read_dictionaries_are_readable();
+    read_dictionaries_have_bytes();
     read_rows_are_rows();
 }

@@ -1,4 +1,4 @@
-use Rattle.std.proofs.Common.{refl}
+use Rattle.std.proofs.Common.{refl, length}
 use Rattle.std.proofs.lemmas.Result.{err_from_is_err_and}
 use Rattle.ipc_message.specs.View.{raw_schema_of}
 use Rattle.ipc_table.proofs.Firsts.{is_accepted, first_refused, first_given}
@@ -19,6 +19,6 @@ read_dictionary_columns-requires-clause-utf8 c = (is_accepted (raw_schema_of c.a
 
 pub returns : goal.returns
 returns c = λ bytes body.
-    first_given bytes body (raw_schema_of c.args.raw.now)
+    first_given (record { values = c.schemas_give_dictionary_columns.ensures.values; one_type = c.schemas_give_dictionary_columns.ensures.one_type }) bytes body (raw_schema_of c.args.raw.now)
     (record { schema = c.in_ok-schema.schema; columns = c.in_ok-columns.columns; dictionaries = c.new.result; batches = c.new-2.result; weight = 0 }) c.in_ok-schema.ensures.exact c.in_ok-schema.ensures.within c.in_ok-columns.ensures (c.new.ensures.effect bytes)
-    c.new-2.ensures.items refl
+    (c.new.ensures.within (length bytes)) c.new-2.ensures.items refl
