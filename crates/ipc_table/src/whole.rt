@@ -33,7 +33,8 @@ fn table_of_front(alloc: Global, front: Front, bytes: Vec<u8>) -> Result<Table, 
     Table::from_parts(alloc, schema, parts)
 }
 
-/// The table that a stream means, or its first fault. It keeps the bytes, so that no cell is copied. A schema with a dictionary is not read yet.
+/// The table that a stream means, or its first fault. It keeps the bytes, so that no cell is copied. F0, the last of the schema's checks, still refuses
+/// dictionaries and other types than integers.
 pub fn decode(alloc: Global, bytes: Vec<u8>) -> Result<Table, ImportError>
     ensures exact { Gives table_of result (meaning supported_codes bytes.items) }
 {
