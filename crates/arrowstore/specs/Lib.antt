@@ -7,3 +7,4 @@ pub mod StoreWords
 pub mod Printed
 pub mod Changing
 pub mod Reading
+pub mod Ending

@@ -95,7 +95,8 @@ have it written again, by another writer or with other options.
 - S9 Device: the file could not be read, written or synced. The command is done whole or not at all:
   see to the disk, and look with `tables`.
 - S13 SegmentUnread N: the segment N of the table, counted from 0, can't be read: its bytes were
-  changed. Other tables are as they were; drop this one, or import it again.
+  changed. Other tables are as they were; drop this one, or import it again. `check` reads all tables,
+  in byte order of their names, and is refused so at the first that can't be read.
 
 ## Memory
 

@@ -1,8 +1,8 @@
 // What is reported of a run that was refused, of wrong arguments and of a request for help.
-ghost use Rattle.std.specs.Prelude.{◌≡◌, ◌⊎◌, IsOk, IfErr, IsTrue};
-ghost use Rattle.std.specs.Io.KnownBytes.{Appends};
+ghost use Rattle.std.specs.Prelude.{◌≡◌, ◌⊎◌, IsOk, IfErr};
 ghost use Rattle.clap.specs.Words.{kind_of};
-ghost use Rattle.arrowstore.specs.Reported.{refusal_line, IfRefused, IsRequest, IsWrong};
+ghost use Rattle.arrowstore.specs.Reported.{IsRequest, IsWrong};
+ghost use Rattle.arrowstore.specs.Ending.{TellsRefusal, HasReported};
 
 use crate::{Ended, Refusal, Status};
 use clap::error::ErrorKind;
@@ -16,10 +16,7 @@ pub(crate) fn report_arguments<W: Write, E: Write>(
 ) -> Ended
     ensures request { IsRequest (kind_of error.now) ⊎ (IsWrong result.status × (output.new ≡ output.old)) }
     ensures memory { kind_of error.now ≡ ErrorKind.OutOfMemory → (result.status ≡ Status.Refused Refusal.OutOfMemory) × (output.new ≡ output.old) }
-    ensures done { result.status ≡ Status.Done → errors.new ≡ errors.old }
-    ensures wrong { result.status ≡ Status.WrongArguments → output.new ≡ output.old }
-    ensures line { IfRefused result.status (λ refusal. IsTrue result.is_reported
-        → Appends (E.contents errors.old) (E.contents errors.new) (refusal_line refusal)) }
+    ensures reports { HasReported E.contents output.old output.new errors.old errors.new result }
 {
     match error.kind() {
         ErrorKind::OutOfMemory => end(Err(Refusal::OutOfMemory), errors),
@@ -37,8 +34,7 @@ pub(crate) fn report_arguments<W: Write, E: Write>(
 pub(crate) fn end<E: Write>(done: Result<(), Refusal>, errors: &mut E) -> Ended
     ensures done { IsOk done → (result.status ≡ Status.Done) × (errors.new ≡ errors.old) }
     ensures refused { IfErr done (λ refusal. result.status ≡ Status.Refused refusal) }
-    ensures line { IfRefused result.status (λ refusal. IsTrue result.is_reported
-        → Appends (E.contents errors.old) (E.contents errors.new) (refusal_line refusal)) }
+    ensures line { TellsRefusal result (E.contents errors.old) (E.contents errors.new) }
 {
     match done {
         Ok(()) => Ended {

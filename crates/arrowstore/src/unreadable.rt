@@ -1,8 +1,7 @@
 // Arguments that can't be read.
-ghost use Rattle.std.specs.Prelude.{◌≡◌, ◌≢◌, IsTrue};
-ghost use Rattle.std.specs.Io.KnownBytes.{Appends};
+ghost use Rattle.std.specs.Prelude.{◌≡◌, ◌≢◌};
 ghost use Rattle.std.specs.IoError.{error_kind};
-ghost use Rattle.arrowstore.specs.Reported.{refusal_line, IfRefused};
+ghost use Rattle.arrowstore.specs.Ending.{TellsRefusal};
 
 use crate::reports::end;
 use crate::{Ended, Refusal, Status};
@@ -13,8 +12,7 @@ use std::io::{ErrorKind, Write};
 pub fn report_unreadable_arguments<E: Write>(error: &io::Error, errors: &mut E) -> Ended
     ensures memory { error_kind error.now ≡ ErrorKind.OutOfMemory → result.status ≡ Status.Refused Refusal.OutOfMemory }
     ensures text { error_kind error.now ≢ ErrorKind.OutOfMemory → result.status ≡ Status.WrongArguments }
-    ensures line { IfRefused result.status (λ refusal. IsTrue result.is_reported
-        → Appends (E.contents errors.old) (E.contents errors.new) (refusal_line refusal)) }
+    ensures line { TellsRefusal result (E.contents errors.old) (E.contents errors.new) }
 {
     if error.kind() == ErrorKind::OutOfMemory {
         return end(Err(Refusal::OutOfMemory), errors);

@@ -1,20 +1,18 @@
 // The program over any files, input and output.
-ghost use Rattle.std.specs.Prelude.{◌≡◌, ◌≢◌, ◌⊎◌, ◌<◌, true, length, map, IfSome, IsErr, IsTrue};
+ghost use Rattle.std.specs.Prelude.{◌≡◌, ◌⊎◌, true, map};
 ghost use Rattle.std.specs.Io.KnownBytes.{Appends};
-ghost use Rattle.ipc_message.specs.Header.{supported_codes};
-ghost use Rattle.ipc_stream.specs.Meaning.{meaning};
-ghost use Rattle.arrowstore.specs.Recode.{AppendsCanonical, IsTrueFault};
 ghost use Rattle.arrowstore.specs.Arguments.{AreRecode, AskForHelp};
+ghost use Rattle.arrowstore.specs.Ending.{Recodes, HasReported};
 ghost use Rattle.arrowstore.specs.OwnTexts.{is_own, own_text};
 ghost use Rattle.arrowstore.specs.StoreWords.{is_of_store, takes_input};
-ghost use Rattle.arrowstore.specs.declared.status.Status.TheVariants.{Done, WrongArguments};
-ghost use Rattle.arrowstore.specs.Reported.{refusal_line, IfRefused, IsRefused, IsWrong};
+ghost use Rattle.arrowstore.specs.Reported.{IsWrong};
+ghost use Rattle.arrowstore.specs.declared.status.Status.TheVariants.{Done};
 
 use crate::reports::{end, report_arguments};
 use crate::store_command_line::request_of;
 use crate::store_commands::serve;
 use crate::store_words::{is_of_store, takes_input};
-use crate::{Ended, LARGEST_INPUT, run};
+use crate::{Ended, run};
 use sector_dev::LockFile;
 use std::convert::AsStr;
 use std::fs::OpenFile;
@@ -30,10 +28,7 @@ fn run_request<
     W: Write,
     E: Write,
 >(rt: &H, arguments: &[S], input: &mut R, output: &mut W, errors: &mut E) -> Ended
-    ensures silent { result.status ≡ Done → errors.new ≡ errors.old }
-    ensures nothing_written { result.status ≡ WrongArguments → output.new ≡ output.old }
-    ensures line { IfRefused result.status (λ refusal. IsTrue result.is_reported
-        → Appends (E.contents errors.old) (E.contents errors.new) (refusal_line refusal)) }
+    ensures reports { HasReported E.contents output.old output.new errors.old errors.new result }
 {
     match request_of(rt.alloc(), arguments) {
         Ok(request) => end(serve(rt, &request, input, output), errors),
@@ -50,11 +45,8 @@ fn run_on_store<
     W: Write,
     E: Write,
 >(rt: &H, arguments: &[S], input: &mut R, output: &mut W, errors: &mut E) -> Ended
-    ensures silent { result.status ≡ Done → errors.new ≡ errors.old }
-    ensures nothing_written { result.status ≡ WrongArguments → output.new ≡ output.old }
     ensures input { (takes_input (map S.text arguments.now) ≡ true) ⊎ (input.new ≡ input.old) }
-    ensures line { IfRefused result.status (λ refusal. IsTrue result.is_reported
-        → Appends (E.contents errors.old) (E.contents errors.new) (refusal_line refusal)) }
+    ensures reports { HasReported E.contents output.old output.new errors.old errors.new result }
 {
     if takes_input(arguments) {
         run_request(rt, arguments, input, output, errors)
@@ -74,35 +66,22 @@ pub fn run_with_files<
     W: Write,
     E: Write,
 >(rt: &H, arguments: &[S], input: &mut R, output: &mut W, errors: &mut E) -> Ended
-    // Done: the command was right, or help or a text of the program's own was asked for, and nothing is reported on `errors`.
+    // Done: the command was right, or help or a text of the program's own was asked for.
     ensures done { result.status ≡ Done → AreRecode (map S.text arguments.now) ⊎ AskForHelp (map S.text arguments.now)
         ⊎ (is_own (map S.text arguments.now) ≡ true) ⊎ (is_of_store (map S.text arguments.now) ≡ true) }
-    ensures silent { result.status ≡ Done → errors.new ≡ errors.old }
-    // The output has been given the canonical stream of what the input means, and nothing else.
-    ensures recoded { AreRecode (map S.text arguments.now) → result.status ≡ Done
-        → IfSome (R.remaining input.old) (AppendsCanonical (W.contents output.old) (W.contents output.new)) }
+    // The arguments that ask for it are taken, and the output is as `Recodes` says.
+    ensures recodes { AreRecode (map S.text arguments.now) → Recodes W.contents (R.remaining input.old) output.old output.new result.status }
     // The output has been given that text, and nothing else.
     ensures own { is_own (map S.text arguments.now) ≡ true → result.status ≡ Done
         → Appends (W.contents output.old) (W.contents output.new) (own_text (map S.text arguments.now)) }
-    // An input that has no meaning or too many bytes is refused, and nothing is written.
-    ensures meaningless { AreRecode (map S.text arguments.now)
-        → IfSome (R.remaining input.old) (λ bytes. IsErr (meaning supported_codes bytes) → IsRefused result.status × (output.new ≡ output.old)) }
-    ensures too_long { AreRecode (map S.text arguments.now)
-        → IfSome (R.remaining input.old) (λ bytes. LARGEST_INPUT < length bytes → IsRefused result.status × (output.new ≡ output.old)) }
-    // A fault that is reported is the fault of the input.
-    ensures fault { AreRecode (map S.text arguments.now)
-        → IfRefused result.status (λ refusal. IfSome (R.remaining input.old) (IsTrueFault refusal)) }
-    // Right arguments are taken. Wrong ones are reported, unless memory is out: nothing is read, nothing is written.
-    ensures right_arguments { AreRecode (map S.text arguments.now) → result.status ≢ WrongArguments }
+    // Wrong arguments are reported, unless memory is out: nothing is read, nothing is written.
     ensures wrong_arguments { AreRecode (map S.text arguments.now) ⊎ AskForHelp (map S.text arguments.now)
         ⊎ (is_own (map S.text arguments.now) ≡ true) ⊎ (is_of_store (map S.text arguments.now) ≡ true)
         ⊎ (IsWrong result.status × (output.new ≡ output.old)) }
     // The input is read by these commands alone.
     ensures others_leave_input { AreRecode (map S.text arguments.now) ⊎ (takes_input (map S.text arguments.now) ≡ true) ⊎ (input.new ≡ input.old) }
-    ensures nothing_written { result.status ≡ WrongArguments → output.new ≡ output.old }
-    // The refusal's line, where `errors` takes what it is given.
-    ensures line { IfRefused result.status (λ refusal. IsTrue result.is_reported
-        → Appends (E.contents errors.old) (E.contents errors.new) (refusal_line refusal)) }
+    // What is on `errors`: the line of a refusal, and nothing where all is done.
+    ensures reports { HasReported E.contents output.old output.new errors.old errors.new result }
 {
     if is_of_store(arguments) {
         return run_on_store(rt, arguments, input, output, errors);
