@@ -7,14 +7,12 @@ use Rattle.std.proofs.lemmas.Option.{slice_get-get_or}
 use Rattle.sector_dev.specs.Disk.{Story, Image, now, shown_image}
 use Rattle.sector_dev.specs.declared.device.SectorDevice.{Ghosts}
 use Rattle.cells.specs.Cell.{PlainTable}
-use Rattle.catalogue.specs.Entries.{PlainEntry}
 use Rattle.catalogue.specs.Edits.{entry_of}
-use Rattle.catalogue.specs.View.{catalogue_of}
 use Rattle.tables.specs.declared.refusal.Refusal as tables
 use Rattle.store.specs.declared.store.Store.{Store}
 use Rattle.store.specs.Fits.{device_of, is_halted, listed_in}
 use Rattle.store.specs.Reading.{ReadsTable, RefusesRead}
-use Rattle.arrowstore.specs.Reading.{IsReadable, FirstUnread}
+use Rattle.arrowstore.specs.Reading.{IsReadable}
 
 -- ---- lists
 
