@@ -4,3 +4,4 @@ pub mod Order
 pub mod Sums
 pub mod Changed
 pub mod Integers
+pub mod ReadSchemas

@@ -1,3 +1,4 @@
 pub mod Meaning
 pub mod Progress
 pub mod inner
+pub mod laws

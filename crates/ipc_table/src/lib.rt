@@ -19,4 +19,4 @@ pub use add::add_message;
 pub use decoder::read_front;
 pub use front::Front;
 pub use laws::meaning_is_a_table;
-pub use whole::decode;
+pub use whole::{Weighed, decode, decode_weighed};

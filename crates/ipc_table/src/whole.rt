@@ -1,10 +1,11 @@
 // The table of a whole stream.
-ghost use Rattle.std.specs.Prelude.{◌≡◌, IfOk};
+ghost use Rattle.std.specs.Prelude.{◌≡◌, true, IfOk};
+ghost use Rattle.cells.specs.Weight.{table_weight};
 ghost use Rattle.ipc_message.specs.Header.{supported_codes};
 ghost use Rattle.ipc_message.specs.Outcome.{Gives};
 ghost use Rattle.ipc_table.specs.Meaning.{Known, known_table, meaning};
 ghost use Rattle.ipc_table.specs.Progress.{IsFront};
-ghost use Rattle.values.specs.TableView.{table_of};
+ghost use Rattle.values.specs.TableView.{table_of, is_in_parts};
 
 use crate::decoder::read_front;
 use crate::front::Front;
@@ -15,7 +16,8 @@ use values::{Part, Table};
 // The table of what is known, whose arrays stand in these bytes.
 fn table_of_front(alloc: Global, front: Front, bytes: Vec<u8>) -> Result<Table, AllocError>
     requires { (k : Known) × IsFront bytes.items front k }
-    ensures { (k : Known) → IsFront bytes.items front k → IfOk result (λ table. table_of table ≡ known_table k) }
+    ensures table { (k : Known) → IsFront bytes.items front k → IfOk result (λ table. table_of table ≡ known_table k) }
+    ensures in_parts { IfOk result (λ table. is_in_parts table ≡ true) }
 {
     let Front {
         schema,
@@ -33,11 +35,31 @@ fn table_of_front(alloc: Global, front: Front, bytes: Vec<u8>) -> Result<Table, 
     Table::from_parts(alloc, schema, parts)
 }
 
-/// The table that a stream means, or its first fault. It keeps the bytes, so that no cell is copied. F0, the last of the schema's checks, still refuses
-/// dictionaries and other types than integers.
-pub fn decode(alloc: Global, bytes: Vec<u8>) -> Result<Table, ImportError>
-    ensures exact { Gives table_of result (meaning supported_codes bytes.items) }
+/// A table that was read, and what its rows weigh.
+#[derive(Debug, Drop)]
+pub struct Weighed {
+    pub table: Table,
+    pub weight: u64,
+}
+
+/// The table that a stream means with the weight of its rows, or the first fault. It keeps the bytes as one part, so that no cell is copied. F0, the last of
+/// the schema's checks, still refuses dictionaries and other types than integers.
+pub fn decode_weighed(alloc: Global, bytes: Vec<u8>) -> Result<Weighed, ImportError>
+    ensures exact { Gives (λ w. table_of w.table) result (meaning supported_codes bytes.items) }
+    ensures weight { IfOk result (λ w. w.weight ≡ table_weight (table_of w.table).schema (table_of w.table).rows) }
+    ensures in_parts { IfOk result (λ w. is_in_parts w.table ≡ true) }
 {
     let front = read_front(alloc, &bytes)?;
-    Ok(table_of_front(alloc, front, bytes)?)
+    let weight = front.weight;
+    let table = table_of_front(alloc, front, bytes)?;
+    Ok(Weighed { table, weight })
+}
+
+/// The table that a stream means, or its first fault, as [`decode_weighed`] gives it.
+pub fn decode(alloc: Global, bytes: Vec<u8>) -> Result<Table, ImportError>
+    ensures exact { Gives table_of result (meaning supported_codes bytes.items) }
+    ensures in_parts { IfOk result (λ table. is_in_parts table ≡ true) }
+{
+    let Weighed { table, .. } = decode_weighed(alloc, bytes)?;
+    Ok(table)
 }

@@ -41,7 +41,7 @@ impl Table {
     ghost use Rattle.values.specs.Rows.{table_in};
     ghost use Rattle.values.specs.Table.{table_from};
     ghost use Rattle.cells.specs.Row.{row_of};
-    ghost use Rattle.values.specs.TableView.{table_of, rows_left, Reports};
+    ghost use Rattle.values.specs.TableView.{table_of, rows_left, is_in_parts, Reports};
 
     /// The table of these rows. It refuses the first row, counted from 0, that does not fit, weighs more than
     /// `MAX_ROW_WEIGHT` or fills a dictionary (`Unfit`), or else rows that weigh more than `MAX_TABLE_WEIGHT` together
@@ -122,7 +122,8 @@ impl Table {
     pub fn from_parts(alloc: Global, schema: Schema, parts: Vec<Part>) -> Result<Table, AllocError>
         requires sound { are_parts_sound (columns_of (schema_of schema).columns) parts.items ≡ true }
         requires table { IsTable (parts_table (schema_of schema) parts.items) }
-        ensures { IfOk result (λ t. table_of t ≡ parts_table (schema_of schema) parts.items) }
+        ensures made { IfOk result (λ t. table_of t ≡ parts_table (schema_of schema) parts.items) }
+        ensures in_parts { IfOk result (λ t. is_in_parts t ≡ true) }
     {
         let lengths = part_lengths(alloc, &parts)?;
         let rows = total(&lengths);
@@ -142,6 +143,22 @@ impl Table {
         match &self.content {
             Content::Batches(batches) => Some(&batches.parts),
             _ => None,
+        }
+    }
+
+    /// The record batches of a table that is kept so.
+    pub fn into_parts(self) -> Vec<Part>
+        requires in_parts { is_in_parts self ≡ true }
+        ensures sound { are_parts_sound (columns_of (table_of self).schema.columns) result.items ≡ true }
+        ensures rows { table_of self ≡ parts_table (table_of self).schema result.items }
+    {
+        let Table { content, .. } = self;
+        match content {
+            Content::Batches(batches) => {
+                let Batches { parts, .. } = batches;
+                parts
+            }
+            _ => unreachable!(),
         }
     }
 

@@ -16,9 +16,9 @@ from_parts-requires-clause-table c =
     part_is_table c.args.front c.requires.0 p c.push.new.self.items (c.in_ok-push.ensures.items ∙ ap (λ (parts : List Part). parts ++ p ∷ []) c.new-parts.ensures.items) c.requires.1
     (record { lists = c.into_lists.ensures; batches = refl })
 
-pub returns : goal.returns
-returns c = λ k is.
+pub returns-clause-table : goal.returns-clause-table
+returns-clause-table c = λ k is.
     let p : Part = record { bytes = c.args.bytes; dictionaries = c.into_lists.result; batches = c.args.front.batches } in
     let same = part_table c.args.front k p c.push.new.self.items (c.in_ok-push.ensures.items ∙ ap (λ (parts : List Part). parts ++ p ∷ []) c.new-parts.ensures.items) is
     (record { lists = c.into_lists.ensures; batches = refl }) in
-    IfOk-weaker c.from_parts.result _ _ (λ table made. made ∙ same) c.from_parts.ensures
+    IfOk-weaker c.from_parts.result _ _ (λ table made. made ∙ same) c.from_parts.ensures.made
