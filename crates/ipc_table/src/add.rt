@@ -3,10 +3,10 @@ ghost use Rattle.std.specs.Prelude.{◌≡◌, ◌≤◌, ◌<◌, ◌+◌, ◌+
 ghost use Rattle.columns.specs.Places.{within};
 ghost use Rattle.columns.specs.View.{array_in, arrays_in, no_dictionary};
 ghost use Rattle.columns.specs.declared.array.Dictionary.{Dictionary as DictionaryList};
-ghost use Rattle.arrays.specs.Dictionaries.{batch_with, dictionaries_after};
+ghost use Rattle.arrays.specs.Dictionaries.{dictionaries_after};
 ghost use Rattle.arrays.specs.DictionaryColumns.{dictionary_columns_of};
 ghost use Rattle.dictionary.specs.InEffect.{DictionaryBatch, in_effect};
-ghost use Rattle.dictionary.specs.Kept.{HasInEffect, AreWithin, KeepsParts, StaysWithin, lists_of};
+ghost use Rattle.dictionary.specs.Kept.{HasInEffect, AreWithin, KeepsParts, StaysWithin, batch_of, lists_of};
 ghost use Rattle.ipc_message.specs.Header.{supported_codes};
 ghost use Rattle.ipc_message.specs.Messages.{envelope_of};
 ghost use Rattle.ipc_message.specs.View.{raw_batch_of, raw_dictionary_of, raw_schema_of};
@@ -134,18 +134,19 @@ fn add_batch(
 fn keep_array(
     alloc: Global,
     dictionaries: &mut Dictionaries,
-    raw: &RawDictionaryBatch,
+    id: u64,
+    is_delta: bool,
     array: PlacedArray,
 ) -> Result<(), AllocError>
     ensures effect { OnOk result ((bytes : List ℕ) (before : List DictionaryBatch) → HasInEffect bytes dictionaries.old before
-        → HasInEffect bytes dictionaries.new (before ++ batch_with (raw_dictionary_of raw.now) (array_in bytes no_dictionary array) ∷ [])) }
+        → HasInEffect bytes dictionaries.new (before ++ batch_of id is_delta (array_in bytes no_dictionary array) ∷ [])) }
     ensures parts { OnOk result (KeepsParts dictionaries.old.lists dictionaries.new.lists) }
     ensures within { OnOk result (StaysWithin dictionaries.old array dictionaries.new) }
 {
-    if raw.is_delta {
-        dictionaries.append(alloc, raw.id, array)
+    if is_delta {
+        dictionaries.append(alloc, id, array)
     } else {
-        dictionaries.replace(alloc, raw.id, array)
+        dictionaries.replace(alloc, id, array)
     }
 }
 
@@ -174,7 +175,7 @@ fn add_dictionary(
     let array = read_dictionary(alloc, &front.columns, &front.dictionaries, raw, body, bytes)?;
     let mut front = front;
     lists_are_kept(&front.dictionaries);
-    keep_array(alloc, &mut front.dictionaries, raw, array)?;
+    keep_array(alloc, &mut front.dictionaries, raw.id, raw.is_delta, array)?;
     Ok(front)
 }
 

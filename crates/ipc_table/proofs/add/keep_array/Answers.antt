@@ -1,7 +1,7 @@
 use Rattle.ipc_table.proofs.add.keep_array.Goals as goal
 
-pub returns-then-raw-clause-effect : goal.returns-then-raw-clause-effect
-returns-then-raw-clause-effect c = rw c.if-raw.true c.append.ensures.effect
+pub returns-then-is_delta-clause-effect : goal.returns-then-is_delta-clause-effect
+returns-then-is_delta-clause-effect c = rw c.if-is_delta.true c.append.ensures.effect
 
-pub returns-else-raw-clause-effect : goal.returns-else-raw-clause-effect
-returns-else-raw-clause-effect c = rw c.if-raw.false c.replace.ensures.effect
+pub returns-else-is_delta-clause-effect : goal.returns-else-is_delta-clause-effect
+returns-else-is_delta-clause-effect c = rw c.if-is_delta.false c.replace.ensures.effect
