@@ -1,5 +1,10 @@
+mod Arrays
+mod Coded
 mod Entries
 mod Equals
+mod Fields
 mod FirstCells
 mod Listed
 mod Low
+mod PartColumns
+mod Premises

@@ -18,7 +18,7 @@ fn is_set(cell: &ValueRef<'_>) -> bool
 }
 
 /// A bit for each cell, set where it is the boolean true.
-pub fn bits(alloc: Global, cells: &[ValueRef<'_>]) -> Result<Vec<u8>, AllocError>
+pub(crate) fn bits(alloc: Global, cells: &[ValueRef<'_>]) -> Result<Vec<u8>, AllocError>
     ensures { IfOk result (λ bytes. bytes.items ≡ packed (map is_set (map borrowed_cell cells.now))) }
 {
     let mut bits = Vec::with_capacity(alloc, cells.len())?;

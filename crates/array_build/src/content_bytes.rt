@@ -25,7 +25,7 @@ fn contents_of<'a>(cell: ValueRef<'a>) -> &'a [u8]
 }
 
 /// The bytes of all texts or binaries, one after another; a null has none.
-pub fn contents(alloc: Global, cells: &[ValueRef<'_>]) -> Result<Vec<u8>, AllocError>
+pub(crate) fn contents(alloc: Global, cells: &[ValueRef<'_>]) -> Result<Vec<u8>, AllocError>
     ensures { IfOk result (λ bytes. bytes.items ≡ flat_map contents_of (map borrowed_cell cells.now)) }
 {
     let mut contents = Vec::new(alloc);
@@ -46,7 +46,7 @@ fn push_offset(offsets: &mut Vec<u8>, width: OffsetWidth, offset: u64) -> Result
 }
 
 /// The offsets of texts or binaries: 0, and then where each ends.
-pub fn content_offsets(
+pub(crate) fn content_offsets(
     alloc: Global,
     width: OffsetWidth,
     cells: &[ValueRef<'_>],
@@ -75,7 +75,7 @@ fn item_count(cell: ValueRef<'_>) -> usize
 }
 
 /// The offsets of lists: 0, and then where the items of each end.
-pub fn item_offsets(
+pub(crate) fn item_offsets(
     alloc: Global,
     width: OffsetWidth,
     cells: &[ValueRef<'_>],

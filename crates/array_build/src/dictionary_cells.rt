@@ -39,7 +39,7 @@ fn note<'a>(entries: &mut IndexSet<Entry<'a>>, cell: ValueRef<'a>) -> Result<(),
 
 /// The entries of a dictionary that has these cells: the distinct values, in the order in which they are first seen.
 #[tactic(auto, unfolding(cells::specs::Dictionary::with_entries))]
-pub fn entry_set<'a>(
+pub(crate) fn entry_set<'a>(
     alloc: Global,
     cells: &[ValueRef<'a>],
 ) -> Result<IndexSet<Entry<'a>>, AllocError>
@@ -64,7 +64,7 @@ fn cell_of<'a>(entry: &Entry<'a>) -> ValueRef<'a>
 }
 
 /// The cells of a dictionary's values, one for each entry.
-pub fn entry_cells<'a>(
+pub(crate) fn entry_cells<'a>(
     alloc: Global,
     entries: &IndexSet<Entry<'a>>,
 ) -> Result<Vec<ValueRef<'a>>, AllocError>
@@ -103,7 +103,7 @@ fn push_index(indices: &mut Vec<u8>, width: BitWidth, index: u64) -> Result<(), 
 }
 
 /// The indices of cells in a dictionary, each the place of its entry; 0 stands at nulls.
-pub fn indices(
+pub(crate) fn indices(
     alloc: Global,
     index: IntegerType,
     entries: &IndexSet<Entry<'_>>,

@@ -30,7 +30,10 @@ fn add_items<'a>(items: &mut Vec<ValueRef<'a>>, cell: ValueRef<'a>) -> Result<()
 }
 
 /// The items of lists, one after another; a null has none.
-pub fn items<'a>(alloc: Global, cells: &[ValueRef<'a>]) -> Result<Vec<ValueRef<'a>>, AllocError>
+pub(crate) fn items<'a>(
+    alloc: Global,
+    cells: &[ValueRef<'a>],
+) -> Result<Vec<ValueRef<'a>>, AllocError>
     ensures { IfOk result (λ items. map borrowed_cell items.items ≡ flat_map item_list (map borrowed_cell cells.now)) }
 {
     let mut items = Vec::new(alloc);
@@ -68,7 +71,7 @@ fn add_fixed_items<'a>(
 }
 
 /// The items of lists of one size, one after another; below a null all are nulls.
-pub fn items_of_size<'a>(
+pub(crate) fn items_of_size<'a>(
     alloc: Global,
     size: usize,
     cells: &[ValueRef<'a>],

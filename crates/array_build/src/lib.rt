@@ -1,26 +1,27 @@
-//! Buffers of arrays that are built from cells (Arrow columnar format, "Physical Memory Layout").
+//! The batch of borrowed rows, and of its dictionaries (Arrow columnar format, "RecordBatch message" and "DictionaryBatch message").
 //!
-//! Each function makes one kind of buffer of the one array that cells are written as (`columns`, `specs/Built.antt`). A dictionary has an entry for each
-//! distinct value, and its cells have indices. What makes whole arrays of them is not built yet (docs/plan.md).
+//! It has the nodes and buffers of the one array that the cells of each column are written as (`columns`, `specs/Built.antt`), each array before those
+//! below it. A column with a dictionary has indices; its dictionary has an entry for each distinct value, and is a batch of its own.
 //!
 //! ```
-//! let validity = validity(alloc, &cells)?;
-//! let null_count = unset_bits(&validity, cells.len());
+//! let batch = build(alloc, &schema.fields, &rows)?;
 //! ```
+//!
+//! gives the nodes, buffers and dictionaries of a batch of these rows, where they have a cell for each field, which fits it, and no more distinct values
+//! than the indices of a dictionary can name.
 #![tactic(auto)]
 
+mod batch;
 mod boolean_bits;
+mod building;
+mod coded_cells;
 mod content_bytes;
 mod dictionary_cells;
+mod flat;
 mod item_cells;
 mod part_cells;
 mod valid_bits;
 mod value_bytes;
 
-pub use boolean_bits::bits;
-pub use content_bytes::{content_offsets, contents, item_offsets};
-pub use dictionary_cells::{entry_cells, entry_set, indices};
-pub use item_cells::{items, items_of_size};
-pub use part_cells::parts;
-pub use valid_bits::{unset_bits, validity};
-pub use value_bytes::{fixed_values, integer_values};
+pub use batch::{BuiltBatch, BuiltDictionary};
+pub use building::build;

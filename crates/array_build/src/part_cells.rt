@@ -30,7 +30,7 @@ fn part_at<'a>(cell: ValueRef<'a>, place: usize) -> ValueRef<'a>
 }
 
 /// The parts of structs at a place; below a null all are nulls.
-pub fn parts<'a>(
+pub(crate) fn parts<'a>(
     alloc: Global,
     place: usize,
     cells: &[ValueRef<'a>],
@@ -42,4 +42,26 @@ pub fn parts<'a>(
         parts.push(part_at(*cell, place))?;
     }
     Ok(parts)
+}
+
+// A row as a struct.
+#[tactic(auto, using(crate::proofs::Listed::listed_again))]
+fn as_struct<'a>(row: &Values<'a>) -> ValueRef<'a>
+    ensures { part_list (borrowed_cell result) ≡ borrowed_cells row.now }
+{
+    ValueRef::Struct(*row)
+}
+
+/// Rows as structs.
+pub(crate) fn structs<'a>(
+    alloc: Global,
+    rows: &[Values<'a>],
+) -> Result<Vec<ValueRef<'a>>, AllocError>
+    ensures { IfOk result (λ structs. map part_list (map borrowed_cell structs.items) ≡ map borrowed_cells rows.now) }
+{
+    let mut structs = Vec::with_capacity(alloc, rows.len())?;
+    for row in rows {
+        structs.push(as_struct(row))?;
+    }
+    Ok(structs)
 }

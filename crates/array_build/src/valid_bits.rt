@@ -32,8 +32,9 @@ fn are_all_there(cells: &[ValueRef<'_>]) -> bool
 }
 
 /// The validity bitmap of cells: no byte where there is no null, and else a bit for each cell, set where it is not a null.
-pub fn validity(alloc: Global, cells: &[ValueRef<'_>]) -> Result<Vec<u8>, AllocError>
-    ensures { IfOk result (λ bytes. bytes.items ≡ validity_of (map borrowed_cell cells.now)) }
+pub(crate) fn validity(alloc: Global, cells: &[ValueRef<'_>]) -> Result<Vec<u8>, AllocError>
+    ensures bits { IfOk result (λ bytes. bytes.items ≡ validity_of (map borrowed_cell cells.now)) }
+    ensures long { IfOk result (λ bytes. (length bytes.items == 0 || nat_le (length cells.now) (8 * length bytes.items)) ≡ true) }
 {
     if are_all_there(cells) {
         return Ok(Vec::new(alloc));
@@ -46,7 +47,7 @@ pub fn validity(alloc: Global, cells: &[ValueRef<'_>]) -> Result<Vec<u8>, AllocE
 }
 
 /// How many of the slots a validity bitmap says to be null. It is empty, or has a bit for each slot.
-pub fn unset_bits(validity: &[u8], slots: usize) -> usize
+pub(crate) fn unset_bits(validity: &[u8], slots: usize) -> usize
     requires { (length validity.now == 0 || nat_le slots (8 * length validity.now)) ≡ true }
     ensures { result ≡ unset_bits validity.now slots }
 {

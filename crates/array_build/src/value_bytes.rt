@@ -36,7 +36,7 @@ fn push_fixed(values: &mut Vec<u8>, width: usize, cell: ValueRef<'_>) -> Result<
 }
 
 /// The values of binaries of one width, with zeros where there is a null.
-pub fn fixed_values(
+pub(crate) fn fixed_values(
     alloc: Global,
     width: usize,
     cells: &[ValueRef<'_>],
@@ -79,7 +79,7 @@ fn push_integer(
 }
 
 /// The values of integers of a type, with zeros where there is a null; dates and timestamps have those of integers with a sign.
-pub fn integer_values(
+pub(crate) fn integer_values(
     alloc: Global,
     integer: IntegerType,
     cells: &[ValueRef<'_>],

@@ -1,0 +1,181 @@
+// Arrays of types that have no fields below them.
+ghost use Rattle.std.specs.Prelude.{◌≡◌, ◌/◌, true, OnOk, None, length, map};
+ghost use Rattle.std.specs.List.{flat_map};
+ghost use Rattle.arrow_schema.specs.Column.{nulls, booleans, integers, dates, timestamps, fixed_binaries};
+ghost use Rattle.arrow_schema.specs.View.{bits_of, date_kind, time_kind};
+ghost use Rattle.array_build.specs.Batch.{batch_in, built_at, plain_column, with_arrays};
+ghost use Rattle.array_build.specs.inner.Nodes.{binary_kind, text_kind, with_buffer, with_slots};
+ghost use Rattle.cells.specs.Fit.{date_bits};
+ghost use Rattle.columns.specs.Buildable.{are_nulls_or_fit, can_build, contents_fit, large_offset};
+ghost use Rattle.columns.specs.Built.{contents_of, integer_bytes, offsets_of};
+ghost use Rattle.columns.specs.Offsets.{width_of};
+ghost use Rattle.values.specs.Borrowed.{borrowed_cell};
+
+use crate::batch::{BuiltBatch, push_buffer, push_node, push_slots};
+use crate::boolean_bits::bits;
+use crate::content_bytes::{content_offsets, contents};
+use crate::value_bytes::{fixed_values, integer_values};
+use arrow_schema::{BitWidth, DateUnit, IntegerType};
+use columns::OffsetWidth;
+use std::alloc::{AllocError, Global};
+use values::ValueRef;
+
+// Nulls have a node alone.
+#[tactic(auto, using(crate::proofs::Arrays::nulls_are))]
+pub(crate) fn build_nulls(batch: &mut BuiltBatch, cells: &[ValueRef<'_>]) -> Result<(), AllocError>
+    ensures { OnOk result (batch_in batch.new ≡ with_arrays (batch_in batch.old) (built_at (plain_column nulls None) (map borrowed_cell cells.now))) }
+{
+    push_node(batch, cells.len(), cells.len())
+}
+
+#[tactic(auto, using(crate::proofs::Arrays::booleans_are))]
+pub(crate) fn build_booleans(
+    alloc: Global,
+    batch: &mut BuiltBatch,
+    cells: &[ValueRef<'_>],
+) -> Result<(), AllocError>
+    ensures { OnOk result (batch_in batch.new ≡ with_arrays (batch_in batch.old) (built_at (plain_column booleans None) (map borrowed_cell cells.now))) }
+{
+    let bits = bits(alloc, cells)?;
+    push_slots(alloc, batch, cells)?;
+    push_buffer(batch, bits)
+}
+
+// The node, the validity bitmap and the values of integers.
+fn push_integers(
+    alloc: Global,
+    batch: &mut BuiltBatch,
+    integer: IntegerType,
+    cells: &[ValueRef<'_>],
+) -> Result<(), AllocError>
+    requires { are_nulls_or_fit (integers (bits_of integer.width) integer.signed) (map borrowed_cell cells.now) ≡ true }
+    ensures { OnOk result (batch_in batch.new ≡ with_buffer (with_slots (batch_in batch.old) (map borrowed_cell cells.now))
+        (flat_map (integer_bytes (bits_of integer.width / 8)) (map borrowed_cell cells.now))) }
+{
+    let values = integer_values(alloc, integer, cells)?;
+    push_slots(alloc, batch, cells)?;
+    push_buffer(batch, values)
+}
+
+#[tactic(auto, using(crate::proofs::Arrays::integers_are), unfolding(columns::specs::Buildable::can_build))]
+pub(crate) fn build_integers(
+    alloc: Global,
+    batch: &mut BuiltBatch,
+    integer: IntegerType,
+    cells: &[ValueRef<'_>],
+) -> Result<(), AllocError>
+    requires { can_build (plain_column (integers (bits_of integer.width) integer.signed) None) (map borrowed_cell cells.now) ≡ true }
+    ensures { OnOk result (batch_in batch.new ≡ with_arrays (batch_in batch.old)
+        (built_at (plain_column (integers (bits_of integer.width) integer.signed) None) (map borrowed_cell cells.now))) }
+{
+    push_integers(alloc, batch, integer, cells)
+}
+
+// The integers that dates are.
+fn date_integer(unit: DateUnit) -> IntegerType
+    ensures bits { bits_of result.width ≡ date_bits (date_kind unit) }
+    ensures signed { result.signed ≡ true }
+{
+    let width = match unit {
+        DateUnit::Day => BitWidth::ThirtyTwo,
+        DateUnit::Millisecond => BitWidth::SixtyFour,
+    };
+    IntegerType {
+        width,
+        signed: true,
+    }
+}
+
+#[tactic(auto, using(crate::proofs::Arrays::dates_are, crate::proofs::Premises::dates_fit))]
+pub(crate) fn build_dates(
+    alloc: Global,
+    batch: &mut BuiltBatch,
+    unit: DateUnit,
+    cells: &[ValueRef<'_>],
+) -> Result<(), AllocError>
+    requires { can_build (plain_column (dates (date_kind unit)) None) (map borrowed_cell cells.now) ≡ true }
+    ensures { OnOk result (batch_in batch.new ≡ with_arrays (batch_in batch.old)
+        (built_at (plain_column (dates (date_kind unit)) None) (map borrowed_cell cells.now))) }
+{
+    push_integers(alloc, batch, date_integer(unit), cells)
+}
+
+/// Timestamps of any unit and timezone: integers of 64 bits with a sign.
+pub(crate) fn build_timestamps(
+    alloc: Global,
+    batch: &mut BuiltBatch,
+    cells: &[ValueRef<'_>],
+) -> Result<(), AllocError>
+    requires { are_nulls_or_fit (integers 64 true) (map borrowed_cell cells.now) ≡ true }
+    ensures { OnOk result (batch_in batch.new ≡ with_buffer (with_slots (batch_in batch.old) (map borrowed_cell cells.now))
+        (flat_map (integer_bytes 8) (map borrowed_cell cells.now))) }
+{
+    let integer = IntegerType {
+        width: BitWidth::SixtyFour,
+        signed: true,
+    };
+    push_integers(alloc, batch, integer, cells)
+}
+
+#[tactic(auto, using(crate::proofs::Arrays::fixed_binaries_are))]
+pub(crate) fn build_fixed_binaries(
+    alloc: Global,
+    batch: &mut BuiltBatch,
+    width: usize,
+    cells: &[ValueRef<'_>],
+) -> Result<(), AllocError>
+    ensures { OnOk result (batch_in batch.new ≡ with_arrays (batch_in batch.old)
+        (built_at (plain_column (fixed_binaries width) None) (map borrowed_cell cells.now))) }
+{
+    let values = fixed_values(alloc, width, cells)?;
+    push_slots(alloc, batch, cells)?;
+    push_buffer(batch, values)
+}
+
+// The node, the validity bitmap, the offsets and the bytes of texts or binaries.
+fn push_contents(
+    alloc: Global,
+    batch: &mut BuiltBatch,
+    width: OffsetWidth,
+    cells: &[ValueRef<'_>],
+) -> Result<(), AllocError>
+    requires { contents_fit large_offset (map borrowed_cell cells.now) ≡ true }
+    ensures { OnOk result (batch_in batch.new
+        ≡ with_buffer (with_buffer (with_slots (batch_in batch.old) (map borrowed_cell cells.now))
+        (offsets_of (width_of width) (map (λ c. length (contents_of c)) (map borrowed_cell cells.now))))
+        (flat_map contents_of (map borrowed_cell cells.now))) }
+{
+    let offsets = content_offsets(alloc, width, cells)?;
+    let contents = contents(alloc, cells)?;
+    push_slots(alloc, batch, cells)?;
+    push_buffer(batch, offsets)?;
+    push_buffer(batch, contents)
+}
+
+#[tactic(auto, using(crate::proofs::Arrays::texts_are, crate::proofs::Premises::texts_fit))]
+pub(crate) fn build_texts(
+    alloc: Global,
+    batch: &mut BuiltBatch,
+    width: OffsetWidth,
+    cells: &[ValueRef<'_>],
+) -> Result<(), AllocError>
+    requires { can_build (plain_column (text_kind width) None) (map borrowed_cell cells.now) ≡ true }
+    ensures { OnOk result (batch_in batch.new ≡ with_arrays (batch_in batch.old)
+        (built_at (plain_column (text_kind width) None) (map borrowed_cell cells.now))) }
+{
+    push_contents(alloc, batch, width, cells)
+}
+
+#[tactic(auto, using(crate::proofs::Arrays::binaries_are, crate::proofs::Premises::binaries_fit))]
+pub(crate) fn build_binaries(
+    alloc: Global,
+    batch: &mut BuiltBatch,
+    width: OffsetWidth,
+    cells: &[ValueRef<'_>],
+) -> Result<(), AllocError>
+    requires { can_build (plain_column (binary_kind width) None) (map borrowed_cell cells.now) ≡ true }
+    ensures { OnOk result (batch_in batch.new ≡ with_arrays (batch_in batch.old)
+        (built_at (plain_column (binary_kind width) None) (map borrowed_cell cells.now))) }
+{
+    push_contents(alloc, batch, width, cells)
+}
