@@ -1,7 +1,7 @@
 -- The pieces of rows are the rows.
 use Rattle.std.proofs.Common.{◌≡◌, Bool, true, false, List, [], ◌∷◌, ◌++◌, refl, ap, ◌∙◌, append_assoc}
-use Rattle.ipc_stream.specs.Cut.{pieces, pieces_from}
-use Rattle.ipc_stream.specs.CutRows.{joined}
+use Rattle.table_cut.specs.Cut.{pieces, pieces_from}
+use Rattle.table_cut.specs.CutRows.{joined}
 
 joined_step : {A : Type 0} (within : List A → Bool) (taken : List A) (row : A) (rows : List A) (b : Bool) → within (taken ++ row ∷ []) ≡ b
     → joined (pieces_from within (taken ++ row ∷ []) rows) ≡ (taken ++ row ∷ []) ++ rows → joined (pieces_from within (row ∷ []) rows) ≡ row ∷ rows

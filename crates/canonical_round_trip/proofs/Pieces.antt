@@ -24,8 +24,8 @@ use Rattle.ipc_message.specs.Framing.{Envelope, first_some}
 use Rattle.ipc_message.specs.Header.{supported_codes}
 use Rattle.ipc_message.specs.Raw.{RawNode}
 use Rattle.ipc_message.specs.laws.Accepted.{accepted}
-use Rattle.ipc_stream.specs.Cut.{within_limits}
-use Rattle.ipc_stream.specs.CutRows.{joined}
+use Rattle.table_cut.specs.Cut.{within_limits}
+use Rattle.table_cut.specs.CutRows.{joined}
 use Rattle.ipc_write.specs.Decoded.{raw_schema, is_not_read}
 use Rattle.ipc_write.specs.Written.{schema_message, schema_envelope, batch_message, batch_envelope, end_of_stream}
 use Rattle.table_cut.specs.Piece.{pieces_of, within_piece}

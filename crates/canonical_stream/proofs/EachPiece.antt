@@ -11,7 +11,7 @@ use Rattle.cells.specs.Dictionary.{dictionaries_fit}
 use Rattle.cells.specs.Row.{is_row, row_fits}
 use Rattle.cells.specs.Weight.{row_weight, table_weight}
 use Rattle.columns.specs.Buildable.{can_build_rows}
-use Rattle.ipc_stream.specs.Cut.{pieces_from, within_limits}
+use Rattle.table_cut.specs.Cut.{pieces_from, within_limits}
 use Rattle.table_cut.specs.Piece.{within_piece, pieces_of}
 use Rattle.values.specs.Table.{IsTable}
 use Rattle.canonical_stream.specs.Pieces.{IsPieceOf}

@@ -7,7 +7,7 @@ use Rattle.std.proofs.lemmas.Bool.{cases_lt, le-leb}
 use Rattle.std.proofs.Math.Seq.{take-nil, drop-nil}
 use Rattle.std.proofs.Math.Bool.{and-true}
 use Rattle.std.proofs.Math.Nat.{mul-le-mul_left}
-use Rattle.ipc_stream.specs.Cut.{pieces, pieces_from, within_limits}
+use Rattle.table_cut.specs.Cut.{pieces, pieces_from, within_limits}
 
 -- no row weighs more than this
 abbrev pub AllLight : {A : Type 0} → (A → ℕ) → ℕ → List A → Type 0

@@ -5,8 +5,8 @@ use Rattle.std.proofs.lemmas.List.{append-nil}
 use Rattle.std.proofs.lemmas.List.Concat.{flat_map-cons}
 use Rattle.std.proofs.lemmas.List.Sums.{sum_by-append}
 use Rattle.std.proofs.lemmas.Bool.{and_parts, le-leb, leb-true}
-use Rattle.ipc_stream.specs.Cut.{pieces, pieces_from, within_limits}
-use Rattle.ipc_stream.specs.CutRows.{HasNoRoom, joined, AreLongest, IsCut, EachWithin}
+use Rattle.table_cut.specs.Cut.{pieces, pieces_from, within_limits}
+use Rattle.table_cut.specs.CutRows.{HasNoRoom, joined, AreLongest, IsCut, EachWithin}
 
 joined-cons : {A : Type 0} (piece : List A) (others : List (List A)) → joined (piece ∷ others) ≡ piece ++ joined others
 joined-cons piece others = flat_map-cons (λ p. p) piece others

@@ -17,7 +17,7 @@ use Rattle.values.specs.IntegerTable.{IsIntegerTable, is_number}
 use Rattle.ipc_message.specs.Header.{supported_codes}
 use Rattle.ipc_write.specs.Written.{schema_message, end_of_stream}
 use Rattle.ipc_stream.specs.Canonical.{canonical, within_piece, pieces_of, piece_message}
-use Rattle.ipc_stream.specs.CutRows.{joined, EachWithin, AreLongest, IsCut}
+use Rattle.table_cut.specs.CutRows.{joined, EachWithin, AreLongest, IsCut}
 use Rattle.ipc_stream.specs.Meaning.{meaning}
 use Rattle.ipc_stream.specs.Pieces.{piece_table, piece_stream, IsPiece}
 use Rattle.ipc_stream.proofs.CutLemmas.{light_within}

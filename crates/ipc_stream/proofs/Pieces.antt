@@ -13,7 +13,7 @@ use Rattle.ipc_write.specs.Written.{schema_message, end_of_stream}
 use Rattle.ipc_stream.specs.Canonical.{canonical, piece_message}
 use Rattle.ipc_stream.specs.Pieces.{piece_stream, piece_streams, piece_counts}
 use Rattle.values.specs.Columns.{IntegerColumn, row_at, rows_from}
-use Rattle.ipc_stream.specs.Cut.{pieces, within_limits}
+use Rattle.table_cut.specs.Cut.{pieces, within_limits}
 use Rattle.arrow_schema.specs.Integers.{is_integer_schema, is_integer_column, is_empty, AreIntegers}
 use Rattle.values.specs.IntegerTable.{integer_columns, plain_table}
 use Rattle.ipc_stream.proofs.CutLemmas.{AllLight, first_piece}

@@ -8,7 +8,7 @@ use Rattle.cells.specs.Weight.{row_weight}
 use Rattle.ipc_message.specs.Raw.{RawNode}
 use Rattle.ipc_write.specs.Written.{schema_message, batch_message, end_of_stream}
 use Rattle.values.specs.Columns.{IntegerColumn, values_of, first_cell, other_cells}
-use Rattle.ipc_stream.specs.Cut.{pieces, within_limits}
+use Rattle.table_cut.specs.Cut.{pieces, within_limits}
 use Rattle.values.specs.IntegerTable.{integer_columns}
 
 -- the buffers of columns without nulls: an empty validity bitmap, and the values

@@ -12,7 +12,7 @@ ghost use Rattle.ipc_message.specs.Header.{supported_codes};
 ghost use Rattle.ipc_write.specs.Decoded.{is_not_read};
 ghost use Rattle.ipc_write.specs.Written.{schema_message};
 ghost use Rattle.ipc_stream.specs.Canonical.{canonical, pieces_of, within_piece};
-ghost use Rattle.ipc_stream.specs.CutRows.{EachWithin, IsCut, joined};
+ghost use Rattle.table_cut.specs.CutRows.{EachWithin, IsCut, joined};
 ghost use Rattle.ipc_stream.specs.FramedFault.{AreRead, FaultStands};
 ghost use Rattle.ipc_stream.specs.FramedTable.{StreamEncodes};
 ghost use Rattle.ipc_stream.specs.Pieces.{IsPiece};

@@ -10,7 +10,7 @@ use Rattle.arrow_schema.specs.Column.{PlainSchema}
 use Rattle.cells.specs.Cell.{Cell}
 use Rattle.cells.specs.Dictionary.{dictionaries_fit}
 use Rattle.cells.specs.Weight.{row_weight}
-use Rattle.ipc_stream.specs.Cut.{pieces, pieces_from, within_limits}
+use Rattle.table_cut.specs.Cut.{pieces, pieces_from, within_limits}
 use Rattle.table_cut.specs.Piece.{within_piece}
 
 pub first_row : {A : Type 0} (within : List A → Bool) (left rest : List A) (row : A) → left ≡ row ∷ rest → pieces_from within (row ∷ []) rest ≡ pieces within left

@@ -1,2 +1,4 @@
+pub mod Cut
+pub mod CutRows
 pub mod Piece
 pub mod inner

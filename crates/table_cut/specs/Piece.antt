@@ -5,7 +5,7 @@ use Rattle.cells.specs.declared.limits.TheConstants.{MAX_PIECE_ROWS, MAX_PIECE_W
 use Rattle.cells.specs.Cell.{Cell, PlainTable}
 use Rattle.cells.specs.Dictionary.{dictionaries_fit}
 use Rattle.cells.specs.Weight.{row_weight}
-use Rattle.ipc_stream.specs.Cut.{pieces, within_limits}
+use Rattle.table_cut.specs.Cut.{pieces, within_limits}
 
 -- at most 4,096 rows, a weight of at most 16,777,216, and in no dictionary more values than its indices can name
 abbrev pub within_piece : PlainSchema → List (List Cell) → Bool

@@ -1,6 +1,6 @@
 // The next piece of a table's rows.
 ghost use Rattle.std.specs.Prelude.{◌≡◌, ◌<◌, ◌≤◌, ◌+◌, ◌∷◌, Some, map, length, take, drop, slice_get, IfOk};
-ghost use Rattle.ipc_stream.specs.Cut.{pieces};
+ghost use Rattle.table_cut.specs.Cut.{pieces};
 ghost use Rattle.table_cut.specs.Piece.{within_piece};
 ghost use Rattle.values.specs.Borrowed.{borrowed_cells};
 ghost use Rattle.values.specs.TableView.{table_of};

@@ -4,7 +4,7 @@ use Rattle.std.proofs.lemmas.List.{map-append, length-map}
 use Rattle.arrow_schema.specs.Column.{PlainSchema}
 use Rattle.cells.specs.Cell.{Cell}
 use Rattle.cells.specs.Weight.{row_weight, capped_weight}
-use Rattle.ipc_stream.specs.Cut.{pieces, pieces_from}
+use Rattle.table_cut.specs.Cut.{pieces, pieces_from}
 use Rattle.table_cut.specs.Piece.{within_piece}
 use Rattle.table_cut.proofs.CutSteps.{first_row, one_more, no_more, is_within, has_too_many, is_too_heavy, has_full_dictionary, sum_more, one_weight, row_before, one_row_taken}
 use Rattle.table_cut.specs.inner.Seen.{AreSeen, entries_in}

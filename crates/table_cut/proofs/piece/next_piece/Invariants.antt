@@ -1,7 +1,7 @@
 use Rattle.std.specs.Prelude.{sum_by}
 use Rattle.std.proofs.Common.{◌≡◌, ◌+◌, ◌≤◌, map, length, take, drop}
 use Rattle.cells.specs.Weight.{row_weight, capped_weight}
-use Rattle.ipc_stream.specs.Cut.{pieces, pieces_from}
+use Rattle.table_cut.specs.Cut.{pieces, pieces_from}
 use Rattle.table_cut.specs.inner.Seen.{AreSeen, entries_in}
 use Rattle.table_cut.specs.Piece.{within_piece}
 use Rattle.values.specs.Borrowed.{borrowed_cells}
