@@ -6,6 +6,7 @@ use Rattle.std.proofs.lemmas.List.{append-nil, length-map}
 use Rattle.std.proofs.lemmas.List.FromFn.{length-range_with_len}
 use Rattle.arrow_schema.specs.Column.{Columns, PlainSchema, columns_of}
 use Rattle.arrow_schema.specs.Limits.{IsWithinLimits}
+use Rattle.arrow_schema.specs.Preorder.{preorder_all}
 use Rattle.cells.specs.Cell.{Cell}
 use Rattle.columns.specs.Alone.{own_column, own_array, IsBuiltAlone}
 use Rattle.columns.specs.Array.{Array, no_array, slots_in}
@@ -26,9 +27,10 @@ use Rattle.ipc_write.specs.Written.{dictionary_envelope, dictionary_batch_of}
 use Rattle.written_batch.specs.WrittenBatch.{raw_nodes, written_body, IsWritable}
 use Rattle.written_ids.specs.Numbered.{replacing}
 use Rattle.canonical_stream.specs.Canonical.{entries_message, entries_messages}
+use Rattle.canonical_stream.specs.laws.FewColumns.{dictionaries_have_few}
 use Rattle.ipc_table.specs.Meaning.{Known, read_next}
 use Rattle.canonical_round_trip.proofs.Messages.{Reads, Stands, message_reads, nothing_reads, both_read}
-use Rattle.canonical_round_trip.proofs.Values.{HasFew, columns_of_dictionaries, few_columns, few_values}
+use Rattle.canonical_round_trip.proofs.Values.{columns_of_dictionaries, few_values}
 use Rattle.canonical_round_trip.proofs.Written.{SchemaLaw, DictionaryLaw, EntriesLaw, IsReadAlone}
 
 -- what is known after these dictionary batches and these rows of a table
@@ -137,7 +139,7 @@ few_dictionaries law s rows within =
     omega (arith, values, count, few_values every, length-map every node_of, law.few_nodes cs no_array, within.fields)
 
 all_read_alone : EntriesLaw → (ts : List Typed) → AllByRecursion (IsBuiltAlone 16777216) ts → AllByRecursion (λ t. dictionary_arrays (own_column t) (own_array t) ≡ []) ts
-    → AllByRecursion (HasFew 2048) (map (λ t. t.column) ts) → AllByRecursion IsReadAlone ts
+    → AllByRecursion (λ t. length (preorder_all (own_column t)) ≤ 2048) ts → AllByRecursion IsReadAlone ts
 all_read_alone law [] alone flat few = tt
 all_read_alone law (t ∷ ts) alone flat few =
     (record { writable = law.writable t alone.0 few.0; read = law.read t alone.0 few.0 flat.0 }, all_read_alone law ts alone.1 flat.1 few.1)
@@ -169,7 +171,7 @@ dictionaries_numbered schema law s rows within accepted w =
     let ts : List Typed = dictionaries_for s rows in
     let ids = ids_counted schema law s rows within accepted in
     let own = law.own all (ids ∙ ap (range_with_len 0) (sym (as_many schema law s rows within accepted))) in
-    let few = subst (AllByRecursion (HasFew 2048)) (sym (columns_of_dictionaries cs rows)) (few_columns 2048 cs within.fields) in
+    let few = dictionaries_have_few 2048 cs (built_parts cs rows) within.fields in
     let alone = all_read_alone law ts (law.alone 16777216 cs rows w.can w.weighs) (law.flat cs rows within.dictionaries w.can) few in
     let count = few_dictionaries law s rows within in
     numbered_from s 0 all ts ids (values_for schema law s rows within accepted) own alone (omega (arith, count))

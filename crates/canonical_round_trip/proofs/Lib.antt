@@ -1,5 +1,4 @@
 pub mod Messages
-pub mod Joined
 pub mod Values
 pub mod Written
 pub mod Entries

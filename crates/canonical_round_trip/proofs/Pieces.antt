@@ -35,7 +35,7 @@ use Rattle.written_ids.specs.Numbered.{replacing}
 use Rattle.canonical_stream.specs.Canonical.{canonical, piece_messages, entries_messages}
 use Rattle.canonical_stream.specs.Pieces.{IsPieceOf}
 use Rattle.ipc_table.specs.Meaning.{Known, known_first, read_next, meaning}
-use Rattle.canonical_round_trip.proofs.Joined.{pieces_joined}
+use Rattle.table_cut.specs.laws.Joined.{pieces_joined}
 use Rattle.canonical_round_trip.proofs.Entries.{known_with, arrays_in, all_entries_read, dictionaries_for, ids_counted, dictionaries_numbered}
 use Rattle.canonical_round_trip.proofs.Written.{SchemaLaw, DictionaryLaw, BatchLaw, EntriesLaw, RowsLaw, table_with}
 use Rattle.canonical_round_trip.proofs.Messages.{Reads, Stands, message_reads, nothing_reads, both_read, whole_means}

@@ -1,4 +1,4 @@
--- The columns of the dictionaries of written arrays: those of the columns that have dictionaries, in preorder, none with more columns than there are.
+-- The columns of the dictionaries of written arrays: those of the columns that have dictionaries, in preorder.
 use Rattle.std.specs.Prelude.{Some, None, flat_map}
 use Rattle.std.specs.List.{AllByRecursion}
 use Rattle.std.proofs.Common.{◌≡◌, ◌≤◌, ℕ, List, [], ◌∷◌, ◌++◌, map, length, refl, sym, ap, subst, ◌∙◌, arith, length-append}
@@ -58,47 +58,6 @@ mutual
 
 pub columns_of_dictionaries : (cs : Columns) (rows : List (List Cell)) → map (λ t. t.column) (dictionaries_of cs (built_parts cs rows)) ≡ dictionary_values cs
 columns_of_dictionaries cs rows = values_of cs rows no_array
-
--- ---- how many columns each has
-
-abbrev pub HasFew : ℕ → Column → Type 0
-HasFew most c = length (preorder_all (and_column c no_column)) ≤ most
-
-few_of_both : (most : ℕ) (ts us : List Typed) → AllByRecursion (HasFew most) (values_in ts) → AllByRecursion (HasFew most) (values_in us) → AllByRecursion (HasFew most) (values_in (ts ++ us))
-few_of_both most ts us first second =
-    subst (AllByRecursion (HasFew most)) (sym (flat_map-append (λ (t : Typed). own_values t.column) ts us)) (All-append (HasFew most) (values_in ts) (values_in us) first second)
-
-mutual
-  unfolding arrays_at preorder
-
-  few_at : (most : ℕ) (c : Column) (a : Array) → length (preorder c) ≤ most → AllByRecursion (HasFew most) (values_in (arrays_at c a))
-  few_at most (column name nullable kind (Some index) pairs) a few = (omega (arith, few, length-append (preorder_below kind) []), tt)
-  few_at most (column name nullable kind None pairs) a few = few_below most kind a (omega (arith, few))
-
-  few_below : (most : ℕ) (k : Kind) (a : Array) → length (preorder_below k) ≤ most → AllByRecursion (HasFew most) (values_in (arrays_below k a))
-  few_below most nulls a few = tt
-  few_below most booleans a few = tt
-  few_below most (integers bits signed) a few = tt
-  few_below most (dates unit) a few = tt
-  few_below most (timestamps unit timezone) a few = tt
-  few_below most texts a few = tt
-  few_below most large_texts a few = tt
-  few_below most binaries a few = tt
-  few_below most large_binaries a few = tt
-  few_below most (fixed_binaries width) a few = tt
-  few_below most (lists item) a few = few_at most item (items_in a) few
-  few_below most (large_lists item) a few = few_at most item (items_in a) few
-  few_below most (fixed_lists size item) a few = few_at most item (items_in a) few
-  few_below most (structs columns) a few = few_of most columns (children_in a) few
-
-  few_of : (most : ℕ) (cs : Columns) (xs : Arrays) → length (preorder_all cs) ≤ most → AllByRecursion (HasFew most) (values_in (every_array cs xs))
-  few_of most no_column xs few = tt
-  few_of most (and_column c cs) xs few =
-      let both = length-append (preorder c) (preorder_all cs) in
-      few_of_both most (arrays_at c (first_array xs)) (every_array cs (other_arrays xs)) (few_at most c (first_array xs) (omega (arith, few, both))) (few_of most cs (other_arrays xs) (omega (arith, few, both)))
-
-pub few_columns : (most : ℕ) (cs : Columns) → length (preorder_all cs) ≤ most → AllByRecursion (HasFew most) (dictionary_values cs)
-few_columns most cs few = few_of most cs no_array few
 
 -- ---- how many there are
 

@@ -1,1 +1,2 @@
+pub mod FewColumns
 pub mod WorkedCases

@@ -4,7 +4,7 @@
 //! and in no dictionary more values than its indices can name. It borrows the rows, and weighs each once, but for the first of the next piece.
 //!
 //! ```ignore
-//! let piece = next_piece(alloc, &table, from)?;
+//! let piece = next_piece(alloc, table.schema(), &table, from)?;
 //! from += piece.len();
 //! ```
 #![tactic(auto)]

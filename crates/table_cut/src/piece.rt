@@ -1,5 +1,6 @@
 // The next piece of a table's rows.
 ghost use Rattle.std.specs.Prelude.{◌≡◌, ◌<◌, ◌≤◌, ◌+◌, ◌∷◌, Some, map, length, take, drop, slice_get, IfOk};
+ghost use Rattle.arrow_schema.specs.View.{schema_of};
 ghost use Rattle.table_cut.specs.Cut.{pieces};
 ghost use Rattle.table_cut.specs.Piece.{within_piece};
 ghost use Rattle.values.specs.Borrowed.{borrowed_cells};
@@ -7,6 +8,7 @@ ghost use Rattle.values.specs.TableView.{table_of};
 
 use crate::seen::{first_entries, takes_row};
 use crate::weigh::row_weight;
+use arrow_schema::Schema;
 use cells::{MAX_PIECE_ROWS, MAX_PIECE_WEIGHT, add_weights, has_limits};
 use std::alloc::{AllocError, Global};
 use values::{Table, Values};
@@ -19,16 +21,20 @@ fn row_at(table: &Table, place: usize) -> Values<'_>
 }
 
 /// The rows of the next piece, where the rows before a place are in pieces already: the longest front of the rows that are left which is within the
-/// limits of a piece. Refused only where a growth was.
-pub fn next_piece(alloc: Global, table: &Table, from: usize) -> Result<Vec<Values<'_>>, AllocError>
+/// limits of a piece, as rows of this schema. Refused only where a growth was.
+pub fn next_piece<'a>(
+    alloc: Global,
+    schema: &Schema,
+    table: &'a Table,
+    from: usize,
+) -> Result<Vec<Values<'a>>, AllocError>
     requires left { from < length (table_of table.now).rows }
-    ensures piece { IfOk result (λ piece. pieces (within_piece (table_of table.now).schema) (drop from (table_of table.now).rows)
-        ≡ map borrowed_cells piece.items ∷ pieces (within_piece (table_of table.now).schema) (drop (from + length piece.items) (table_of table.now).rows)) }
+    ensures piece { IfOk result (λ piece. pieces (within_piece (schema_of schema.now)) (drop from (table_of table.now).rows)
+        ≡ map borrowed_cells piece.items ∷ pieces (within_piece (schema_of schema.now)) (drop (from + length piece.items) (table_of table.now).rows)) }
     ensures some { IfOk result (λ piece. 1 ≤ length piece.items) }
     ensures within { IfOk result (λ piece. from + length piece.items ≤ length (table_of table.now).rows) }
     ensures rows { IfOk result (λ piece. map borrowed_cells piece.items ≡ take (length piece.items) (drop from (table_of table.now).rows)) }
 {
-    let schema = table.schema();
     let limited = has_limits(schema);
     let rows = table.len();
     let first = row_at(table, from);

@@ -9,8 +9,7 @@ use Rattle.table_cut.specs.Piece.{within_piece}
 use Rattle.table_cut.proofs.CutSteps.{first_row, one_more, no_more, is_within, has_too_many, is_too_heavy, has_full_dictionary, sum_more, one_weight, row_before, one_row_taken}
 use Rattle.table_cut.specs.inner.Seen.{AreSeen, entries_in}
 use Rattle.arrow_schema.specs.View.{schema_of}
-use Rattle.arrow_schema.specs.Column.{columns_of}
-use Rattle.cells.specs.Dictionary.{Holding, holdings_of, entries_of, is_any_limited, dictionaries_fit}
+use Rattle.cells.specs.Dictionary.{Holding, holdings_of, entries_of, dictionaries_fit}
 use Rattle.table_cut.proofs.SeenLemmas.{as_many_more, all_written}
 use Rattle.values.specs.Borrowed.{borrowed_cells}
 use Rattle.values.specs.TableView.{table_of}
@@ -20,13 +19,13 @@ use Rattle.table_cut.proofs.piece.next_piece.Goals as goal
 
 pub loop-place-init : goal.loop-place-init
 loop-place-init c =
-    let s : PlainSchema = (table_of c.args.table.now).schema in
+    let s : PlainSchema = schema_of c.args.schema.now in
     let rows : List (List Cell) = (table_of c.args.table.now).rows in
     let from : ℕ = c.args.from in
     let first : List Cell = borrowed_cells c.row_at-first.result in
     let pushed : c.push.new.self.items ≡ c.row_at-first.result ∷ [] = c.in_ok-push.ensures.items ∙ ap (λ (x : List Values). x ++ c.row_at-first.result ∷ []) c.new-piece.ensures.items in
     let next : drop from rows ≡ first ∷ drop (from + 1) rows = row_before rows from first c.requires.left c.row_at-first.ensures in
-    let weighed : c.row_weight-weight.result ≡ capped_weight (row_weight s first) = c.row_weight-weight.ensures ∙ ap (λ (x : PlainSchema). capped_weight (row_weight x first)) c.schema-schema.ensures.schema in
+    let weighed : c.row_weight-weight.result ≡ capped_weight (row_weight s first) = c.row_weight-weight.ensures in
     record {
       place = omega (arith, ap length pushed);
       some = omega (arith, ap length pushed);
@@ -34,13 +33,13 @@ loop-place-init c =
       cut = ap (λ (x : List Values). pieces_from (within_piece s) (map borrowed_cells x) (drop (from + 1) rows)) pushed ∙ first_row (within_piece s) (drop from rows) (drop (from + 1) rows) first next;
       taken = rw (pushed, next) refl;
       seen = subst (λ (x : List Values). AreSeen s (map borrowed_cells x) (map entries_in c.in_ok-entries.entries.items)) (sym pushed)
-          (subst (λ (x : PlainSchema). AreSeen x (first ∷ []) (map entries_in c.in_ok-entries.entries.items)) c.schema-schema.ensures.schema c.in_ok-entries.ensures);
+          c.in_ok-entries.ensures;
       weight = weighed ∙ ap capped_weight (sym (one_weight s first)) ∙ ap (λ (x : List Values). capped_weight (sum_by (row_weight s) (map borrowed_cells x))) (sym pushed);
     }
 
 pub returns-then-len-ge-MAX_PIECE_ROWS-clause-piece : goal.returns-then-len-ge-MAX_PIECE_ROWS-clause-piece
 returns-then-len-ge-MAX_PIECE_ROWS-clause-piece c =
-    let s : PlainSchema = (table_of c.args.table.now).schema in
+    let s : PlainSchema = schema_of c.args.schema.now in
     let rows : List (List Cell) = (table_of c.args.table.now).rows in
     let is = c.loop-place.invariant in
     let place : ℕ = c.loop-place.place in
@@ -48,7 +47,7 @@ returns-then-len-ge-MAX_PIECE_ROWS-clause-piece c =
     let row : List Cell = borrowed_cells c.row_at-row.result in
     let count = length-map c.loop-place.piece.items borrowed_cells in
     let next : drop place rows ≡ row ∷ drop (place + 1) rows = row_before rows place row (omega (arith, c.loop-place-test.true)) c.row_at-row.ensures in
-    let weighed : c.row_weight.result ≡ capped_weight (row_weight s row) = c.row_weight.ensures ∙ ap (λ (x : PlainSchema). capped_weight (row_weight x row)) c.schema-schema.ensures.schema in
+    let weighed : c.row_weight.result ≡ capped_weight (row_weight s row) = c.row_weight.ensures in
     let full : within_piece s (front ++ row ∷ []) ≡ false =
     elim c.then-len-ge-MAX_PIECE_ROWS.branch [
       | then-len-ge-MAX_PIECE_ROWS-via-then-len-ge-MAX_PIECE_ROWS w ↦ has_too_many s front row (omega (arith, count, w.if-len-ge-MAX_PIECE_ROWS.true))
@@ -61,26 +60,22 @@ returns-then-len-ge-MAX_PIECE_ROWS-clause-piece c =
 
 pub returns-then-not-branch-clause-piece : goal.returns-then-not-branch-clause-piece
 returns-then-not-branch-clause-piece c =
-    let s : PlainSchema = (table_of c.args.table.now).schema in
+    let s : PlainSchema = schema_of c.args.schema.now in
     let rows : List (List Cell) = (table_of c.args.table.now).rows in
     let is = c.loop-place.invariant in
     let place : ℕ = c.loop-place.place in
     let front : List (List Cell) = map borrowed_cells c.loop-place.piece.items in
     let row : List Cell = borrowed_cells c.row_at-row.result in
     let next : drop place rows ≡ row ∷ drop (place + 1) rows = row_before rows place row (omega (arith, c.loop-place-test.true)) c.row_at-row.ensures in
-    let same : schema_of c.schema-schema.result.now ≡ s = c.schema-schema.ensures.schema in
-    let given : AreSeen (schema_of c.schema-schema.result.now) front (map entries_in c.deref_mut.result.now) =
-    subst (λ x. AreSeen (schema_of c.schema-schema.result.now) front (map entries_in x)) (sym c.deref_mut.ensures.value)
-    (subst (λ (x : PlainSchema). AreSeen x front (map entries_in c.loop-place.entries.items)) (sym same) is.seen) in
-    let full : dictionaries_fit s (front ++ row ∷ []) ≡ false =
-    ap (λ (x : PlainSchema). dictionaries_fit x (front ++ row ∷ [])) (sym same) ∙ sym (c.in_ok-takes_row.ensures.fits front given) ∙ c.if-not-branch.true in
+    let given : AreSeen s front (map entries_in c.deref_mut.result.now) = subst (λ x. AreSeen s front (map entries_in x)) (sym c.deref_mut.ensures.value) is.seen in
+    let full : dictionaries_fit s (front ++ row ∷ []) ≡ false = sym (c.in_ok-takes_row.ensures.fits front given) ∙ c.if-not-branch.true in
     sym is.cut
     ∙ no_more (within_piece s) front (drop place rows) (drop (place + 1) rows) row next (has_full_dictionary s front row full)
     ∙ ap (λ (p : ℕ). front ∷ pieces (within_piece s) (drop p rows)) (sym is.place)
 
 pub loop-place-preserved : goal.loop-place-preserved
 loop-place-preserved c =
-    let s : PlainSchema = (table_of c.args.table.now).schema in
+    let s : PlainSchema = schema_of c.args.schema.now in
     let rows : List (List Cell) = (table_of c.args.table.now).rows in
     let is = c.loop-place.invariant in
     let from : ℕ = c.args.from in
@@ -91,34 +86,28 @@ loop-place-preserved c =
     let row : List Cell = borrowed_cells c.row_at-row.result in
     let count : length front ≡ length old = length-map old borrowed_cells in
     let next : drop place rows ≡ row ∷ drop (place + 1) rows = row_before rows place row (omega (arith, c.loop-place-test.true)) c.row_at-row.ensures in
-    let weighed : c.row_weight.result ≡ capped_weight (row_weight s row) = c.row_weight.ensures ∙ ap (λ (x : PlainSchema). capped_weight (row_weight x row)) c.schema-schema.ensures.schema in
+    let weighed : c.row_weight.result ≡ capped_weight (row_weight s row) = c.row_weight.ensures in
     let pushed : new ≡ old ++ c.row_at-row.result ∷ [] = c.in_ok-push-2.ensures.items in
     let mapped : map borrowed_cells new ≡ front ++ row ∷ [] = ap (map borrowed_cells) pushed ∙ map-append borrowed_cells old (c.row_at-row.result ∷ []) in
     let longer : length new ≡ length old + 1 = ap length pushed ∙ length-append old (c.row_at-row.result ∷ []) in
     let few : length front + 1 ≤ 4096 = omega (arith, count, c.if-len-ge-MAX_PIECE_ROWS.false) in
     let light : sum_by (row_weight s) front + row_weight s row ≤ 16777216 = omega (arith, is.weight, weighed, c.add_weights-weight.ensures, c.if-weight-gt-MAX_PIECE_WEIGHT.false) in
-    let same : schema_of c.schema-schema.result.now ≡ s = c.schema-schema.ensures.schema in
-    let given : AreSeen (schema_of c.schema-schema.result.now) front (map entries_in c.deref_mut.result.now) =
-    subst (λ x. AreSeen (schema_of c.schema-schema.result.now) front (map entries_in x)) (sym c.deref_mut.ensures.value)
-    (subst (λ (x : PlainSchema). AreSeen x front (map entries_in c.loop-place.entries.items)) (sym same) is.seen) in
-    let room : dictionaries_fit s (front ++ row ∷ []) ≡ true =
-    ap (λ (x : PlainSchema). dictionaries_fit x (front ++ row ∷ [])) (sym same) ∙ sym (c.in_ok-takes_row.ensures.fits front given) ∙ c.if-not-branch.false in
+    let given : AreSeen s front (map entries_in c.deref_mut.result.now) = subst (λ x. AreSeen s front (map entries_in x)) (sym c.deref_mut.ensures.value) is.seen in
+    let room : dictionaries_fit s (front ++ row ∷ []) ≡ true = sym (c.in_ok-takes_row.ensures.fits front given) ∙ c.if-not-branch.false in
     let fits = is_within s front row few light room in
     let sums : sum_by (row_weight s) (map borrowed_cells new) ≡ sum_by (row_weight s) front + row_weight s row = ap (sum_by (row_weight s)) mapped ∙ sum_more s front row in
     let here : drop (from + length old) rows ≡ row ∷ drop (place + 1) rows = ap (λ (p : ℕ). drop p rows) is.place ∙ next in
     let seen : AreSeen s (map borrowed_cells new) (map entries_in (take c.loop-place.entries.len (c.takes_row.new.sets ++ drop (length c.takes_row.new.sets) c.loop-place.entries.items))) =
     λ limited.
-    let limits = ap (λ (x : PlainSchema). is_any_limited (columns_of x.columns)) same ∙ limited in
-    let old_seen = given limits in
-    let new_seen = c.in_ok-takes_row.ensures.seen front given limits in
-    let read : PlainSchema = schema_of c.schema-schema.result.now in
+    let old_seen = given limited in
+    let new_seen = c.in_ok-takes_row.ensures.seen front given limited in
     let entries : Holding → List Cell = λ h. entries_of h.cells in
     let kept : length c.takes_row.new.sets ≡ length c.loop-place.entries.items =
-    sym (length-map c.takes_row.new.sets entries_in) ∙ ap length new_seen ∙ length-map (holdings_of read (front ++ row ∷ [])) entries ∙ as_many_more read front row
-    ∙ sym (length-map (holdings_of read front) entries) ∙ sym (ap length old_seen) ∙ length-map c.deref_mut.result.now entries_in ∙ ap length c.deref_mut.ensures.value in
+    sym (length-map c.takes_row.new.sets entries_in) ∙ ap length new_seen ∙ length-map (holdings_of s (front ++ row ∷ [])) entries ∙ as_many_more s front row
+    ∙ sym (length-map (holdings_of s front) entries) ∙ sym (ap length old_seen) ∙ length-map c.deref_mut.result.now entries_in ∙ ap length c.deref_mut.ensures.value in
     let filled : length c.loop-place.entries.items ≡ c.loop-place.entries.len = omega (arith, c.deref_mut.ensures.len, ap length c.deref_mut.ensures.value) in
     ap (map entries_in) (all_written c.takes_row.new.sets c.loop-place.entries.items c.loop-place.entries.len (kept ∙ filled) filled) ∙ new_seen
-    ∙ (λ j. map entries (holdings_of (same j) (sym mapped j))) in
+    ∙ ap (λ (x : List (List Cell)). map entries (holdings_of s x)) (sym mapped) in
     record {
       place = omega (arith, longer, is.place);
       some = omega (arith, longer);

@@ -1,5 +1,6 @@
 use Rattle.std.specs.Prelude.{sum_by}
 use Rattle.std.proofs.Common.{◌≡◌, ◌+◌, ◌≤◌, map, length, take, drop}
+use Rattle.arrow_schema.specs.View.{schema_of}
 use Rattle.cells.specs.Weight.{row_weight, capped_weight}
 use Rattle.table_cut.specs.Cut.{pieces, pieces_from}
 use Rattle.table_cut.specs.inner.Seen.{AreSeen, entries_in}
@@ -10,7 +11,7 @@ use Rattle.table_cut.proofs.piece.next_piece.Given as goal
 
 abbrev pub invariant-loop-place : goal.invariant-loop-place
 invariant-loop-place l =
-    let s = (table_of l.table).schema in
+    let s = schema_of l.schema in
     let rows = (table_of l.table).rows in
     let front = map borrowed_cells l.piece.items in
     record {

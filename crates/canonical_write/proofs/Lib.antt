@@ -1,0 +1,3 @@
+mod Alone
+mod Meant
+mod Steps

@@ -1,0 +1,28 @@
+use Rattle.std.specs.List.{AllByRecursion}
+use Rattle.std.proofs.Common.{◌≡◌, ◌-◌, ◌≤◌, ◌<◌, ◌^◌, ◌++◌, length, map, drop}
+use Rattle.arrow_schema.specs.View.{schema_of}
+use Rattle.canonical_stream.specs.Pieces.{IsPieceOf}
+use Rattle.canonical_write.specs.Pieces.{piece_stream, piece_streams, piece_counts}
+use Rattle.canonical_write.specs.View.{with_schema}
+use Rattle.table_cut.specs.Cut.{pieces}
+use Rattle.table_cut.specs.Piece.{within_piece}
+use Rattle.values.specs.TableView.{table_of}
+use Rattle.canonical_write.proofs.Alone.{IsAlone}
+use Rattle.canonical_write.proofs.encoder.encode_pieces.Given as goal
+
+-- the streams so far, and those of the pieces that are left, are those of all
+abbrev pub invariant-loop-from : goal.invariant-loop-from
+invariant-loop-from l =
+    let s = schema_of l.schema in
+    let left = pieces (within_piece s) (drop l.from (table_of l.table).rows) in
+    record {
+      within : l.from ≤ length (table_of l.table).rows;
+      each : AllByRecursion (IsPieceOf s) left;
+      alone : AllByRecursion (IsAlone (within_piece s)) left;
+      streams : map (λ v. v.items) l.streams.items ++ map (piece_stream s) left ≡ piece_streams (with_schema s (table_of l.table));
+      counts : l.counts.items ++ map length left ≡ piece_counts (with_schema s (table_of l.table));
+      short : AllByRecursion (λ stream. length stream < 2 ^ 64) (map (λ v. v.items) l.streams.items);
+    }
+
+abbrev pub decreases-loop-from : goal.decreases-loop-from
+decreases-loop-from l = length (table_of l.table).rows - l.from

@@ -1,0 +1,25 @@
+use Rattle.std.specs.List.{AllByRecursion, flat_map}
+use Rattle.std.proofs.Common.{◌≡◌, ◌-◌, ◌≤◌, ◌++◌, length, drop}
+use Rattle.arrow_schema.specs.View.{schema_of}
+use Rattle.canonical_stream.specs.Canonical.{canonical, piece_messages}
+use Rattle.canonical_stream.specs.Pieces.{IsPieceOf}
+use Rattle.canonical_write.specs.View.{with_schema}
+use Rattle.table_cut.specs.Cut.{pieces}
+use Rattle.ipc_write.specs.Written.{end_of_stream}
+use Rattle.table_cut.specs.Piece.{within_piece}
+use Rattle.values.specs.TableView.{table_of}
+use Rattle.canonical_write.proofs.encoder.encode_rows.Given as goal
+
+-- what is written, and the pieces that are left, are the stream
+abbrev pub invariant-loop-from : goal.invariant-loop-from
+invariant-loop-from l =
+    let s = schema_of l.schema in
+    let left = pieces (within_piece s) (drop l.from (table_of l.table).rows) in
+    record {
+      within : l.from ≤ length (table_of l.table).rows;
+      each : AllByRecursion (IsPieceOf s) left;
+      written : l.out.items ++ (flat_map (piece_messages s) left ++ end_of_stream) ≡ canonical (with_schema s (table_of l.table));
+    }
+
+abbrev pub decreases-loop-from : goal.decreases-loop-from
+decreases-loop-from l = length (table_of l.table).rows - l.from

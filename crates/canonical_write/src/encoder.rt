@@ -1,0 +1,103 @@
+// The stream of a table, and the streams of its pieces.
+ghost use Rattle.std.specs.Prelude.{◌≡◌, ◌<◌, ◌^◌, ◌∷◌, [], IfOk, length, map};
+ghost use Rattle.std.specs.List.{AllByRecursion};
+ghost use Rattle.arrow_schema.specs.View.{schema_of};
+ghost use Rattle.canonical_stream.specs.Canonical.{canonical};
+ghost use Rattle.canonical_stream.specs.Pieces.{IsPieceOf};
+ghost use Rattle.canonical_write.specs.Pieces.{piece_stream, piece_streams, piece_counts};
+ghost use Rattle.canonical_write.specs.View.{streams_in, with_schema};
+ghost use Rattle.table_cut.specs.Cut.{pieces};
+ghost use Rattle.table_cut.specs.Piece.{within_piece};
+ghost use Rattle.values.specs.Borrowed.{borrowed_cells};
+ghost use Rattle.values.specs.Table.{IsTable};
+ghost use Rattle.values.specs.TableView.{table_of};
+
+use crate::messages::write_piece;
+use arrow_schema::Schema;
+use canonical_stream::pieces_can_be_built;
+use ipc_write::{write_end, write_schema};
+use std::alloc::{AllocError, Global};
+use table_cut::next_piece;
+use values::{Table, Values};
+
+/// The streams of a table's pieces, in order, and how many rows each has.
+#[derive(Debug, Drop)]
+pub struct EncodedPieces {
+    pub streams: Vec<Vec<u8>>,
+    pub rows: Vec<u64>,
+}
+
+// The one stream of the rows of a table, under a schema.
+fn encode_rows(alloc: Global, schema: &Schema, table: &Table) -> Result<Vec<u8>, AllocError>
+    requires { IsTable (with_schema (schema_of schema.now) (table_of table.now)) }
+    ensures { IfOk result (λ out. out.items ≡ canonical (with_schema (schema_of schema.now) (table_of table.now))) }
+{
+    pieces_can_be_built();
+    let mut out = Vec::new(alloc);
+    write_schema(alloc, &mut out, schema)?;
+    let mut from = 0;
+    while from < table.len() {
+        let piece = next_piece(alloc, schema, table, from)?;
+        write_piece(alloc, &mut out, schema, &piece)?;
+        from += piece.len();
+    }
+    write_end(&mut out)?;
+    Ok(out)
+}
+
+/// The one stream of a table of any types: its schema, the dictionaries and the record batch of each of its pieces, and the end of stream
+/// (docs/formats/writing.md).
+///
+/// Refused only where a growth was. It takes the memory of the stream and that of the arrays of one piece, and time linear in the stream
+/// and in the cells of the table.
+pub fn encode(alloc: Global, table: &Table) -> Result<Vec<u8>, AllocError>
+    ensures { IfOk result (λ out. out.items ≡ canonical (table_of table.now)) }
+{
+    encode_rows(alloc, table.schema(), table)
+}
+
+// The stream of a piece, as a table of its own.
+fn encode_piece(alloc: Global, schema: &Schema, rows: &[Values<'_>]) -> Result<Vec<u8>, AllocError>
+    requires piece { IsPieceOf (schema_of schema.now) (map borrowed_cells rows.now) }
+    requires alone { pieces (within_piece (schema_of schema.now)) (map borrowed_cells rows.now) ≡ map borrowed_cells rows.now ∷ [] }
+    ensures stream { IfOk result (λ out. out.items ≡ piece_stream (schema_of schema.now) (map borrowed_cells rows.now)) }
+    ensures short { IfOk result (λ out. length out.items < 2 ^ 64) }
+{
+    let mut stream = Vec::new(alloc);
+    write_schema(alloc, &mut stream, schema)?;
+    write_piece(alloc, &mut stream, schema, rows)?;
+    write_end(&mut stream)?;
+    Ok(stream)
+}
+
+/// The pieces of the rows of a table of any types, under a schema, each as a stream of its own: cut at the places where `encode` cuts them.
+///
+/// The caller sees to it that the rows are a table under this schema, as they are under their own and under one that differs in pairs alone.
+/// Refused only where a growth was. It takes the memory of all streams, of which each has the message of the schema, and that of the arrays of one
+/// piece; and time linear in the streams and in the cells of the table. The law [`crate::pieces_are_tables`] says what the streams mean.
+pub fn encode_pieces(
+    alloc: Global,
+    schema: &Schema,
+    table: &Table,
+) -> Result<EncodedPieces, AllocError>
+    requires { IsTable (with_schema (schema_of schema.now) (table_of table.now)) }
+    ensures streams { IfOk result (λ pieces. streams_in pieces ≡ piece_streams (with_schema (schema_of schema.now) (table_of table.now))) }
+    ensures rows { IfOk result (λ pieces. pieces.rows.items ≡ piece_counts (with_schema (schema_of schema.now) (table_of table.now))) }
+    ensures short { IfOk result (λ pieces. AllByRecursion (λ stream. length stream < 2 ^ 64) (streams_in pieces)) }
+{
+    pieces_can_be_built();
+    let mut streams = Vec::new(alloc);
+    let mut counts = Vec::new(alloc);
+    let mut from = 0;
+    while from < table.len() {
+        let piece = next_piece(alloc, schema, table, from)?;
+        let stream = encode_piece(alloc, schema, &piece)?;
+        streams.push(stream)?;
+        counts.push(piece.len() as u64)?;
+        from += piece.len();
+    }
+    Ok(EncodedPieces {
+        streams,
+        rows: counts,
+    })
+}

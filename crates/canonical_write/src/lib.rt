@@ -1,0 +1,17 @@
+//! Writing tables of any types (docs/formats/writing.md): the one stream of a table, and the stream of each of its pieces.
+//!
+//! A table is written a piece at a time: its next rows, the arrays of these rows, and then the messages of the arrays. What its bytes are is a definition
+//! (`canonical_stream`, `specs/Canonical.antt`), and a law says what each piece means.
+//!
+//! ```ignore
+//! let stream = encode(alloc, &table)?;
+//! let pieces = encode_pieces(alloc, table.schema(), &table)?;
+//! ```
+#![tactic(auto)]
+
+mod encoder;
+mod laws;
+mod messages;
+
+pub use encoder::{EncodedPieces, encode, encode_pieces};
+pub use laws::pieces_are_tables;
