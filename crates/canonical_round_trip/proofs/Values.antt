@@ -1,12 +1,9 @@
 -- The columns of the dictionaries of written arrays: those of the columns that have dictionaries, in preorder.
 use Rattle.std.specs.Prelude.{Some, None, flat_map}
-use Rattle.std.specs.List.{AllByRecursion}
-use Rattle.std.proofs.Common.{◌≡◌, ◌≤◌, ℕ, List, [], ◌∷◌, ◌++◌, map, length, refl, sym, ap, subst, ◌∙◌, arith, length-append}
-use Rattle.std.proofs.ByRecursion.{All-append}
+use Rattle.std.proofs.Common.{◌≡◌, ◌≤◌, List, [], ◌∷◌, ◌++◌, map, length, refl, sym, ap, ◌∙◌, arith, length-append}
 use Rattle.std.proofs.lemmas.List.{map-append}
 use Rattle.std.proofs.lemmas.List.Concat.{flat_map-append}
 use Rattle.arrow_schema.specs.Column.{Kind, Column, Columns, nulls, booleans, integers, dates, timestamps, texts, large_texts, binaries, large_binaries, fixed_binaries, lists, large_lists, fixed_lists, structs, column, no_column, and_column}
-use Rattle.arrow_schema.specs.Preorder.{preorder, preorder_below, preorder_all}
 use Rattle.cells.specs.Cell.{Cell}
 use Rattle.cells.specs.Dictionary.{item_list, part_list}
 use Rattle.columns.specs.Array.{Array, Arrays, no_array, items_in, children_in, first_array, other_arrays}
