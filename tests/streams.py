@@ -1,6 +1,6 @@
 """Streams of integer columns in the Apache Arrow IPC streaming format, written from the format's description alone.
 
-Little-endian, metadata version V5, no dictionaries, no nulls. Each message is laid out front to back: a table behind
+Little-endian, metadata version V5, no dictionaries. Each message is laid out front to back: a table behind
 its vtable, inline slots in slot order, then what they refer to in slot order. This is also the order of the canonical
 stream, so with batches of 4,096 rows the program gives such a stream back unchanged.
 """
@@ -114,25 +114,46 @@ def schema(fields):
     return message(1, Table((2, 0), Tables(fields)))
 
 
-def record_batch(length, bodies):
-    """`bodies` are the bytes of each column's numbers."""
-    body, buffers = bytearray(), []
-    for numbers in bodies:
-        buffers += [(len(body), 0), (len(body), len(numbers))]
-        body += numbers
-        fill(body, 8)
-    header = Table((8, length), Pairs([(length, 0)] * len(bodies)), Pairs(buffers))
+def arrays_batch(length, arrays):
+    """`arrays` are the null count, the validity bitmap and the bytes of the numbers of each column."""
+    body, nodes, buffers = bytearray(), [], []
+    for nulls, validity, numbers in arrays:
+        nodes.append((length, nulls))
+        for buffer in (validity, numbers):
+            buffers.append((len(body), len(buffer)))
+            body += buffer
+            fill(body, 8)
+    header = Table((8, length), Pairs(nodes), Pairs(buffers))
     return message(3, header, bytes(body))
+
+
+def record_batch(length, bodies):
+    """`bodies` are the bytes of each column's numbers, none of them null."""
+    return arrays_batch(length, [(0, b"", numbers) for numbers in bodies])
 
 
 def numbers(kind, values):
     return struct.pack(f"<{len(values)}{CODES[INTEGERS[kind]]}", *values)
 
 
+def bits(flags):
+    """A bit for each flag, the first one the lowest of the first byte."""
+    out = bytearray((len(flags) + 7) // 8)
+    for place, flag in enumerate(flags):
+        out[place // 8] |= flag << place % 8
+    return bytes(out)
+
+
+def array(kind, values):
+    """A null is None: its number is zero. A column without one has no validity bitmap."""
+    there = [value is not None for value in values]
+    return there.count(False), b"" if all(there) else bits(there), numbers(kind, [value or 0 for value in values])
+
+
 def stream(columns, batches):
     """`columns` are (name, type, nullable), as ("a", "int32", False); `batches` are lists of the columns' values."""
     parts = [schema([field(name, nullable, 2, integer(kind)) for name, kind, nullable in columns])]
     for values in batches:
-        bodies = [numbers(kind, column) for (_, kind, _), column in zip(columns, values)]
-        parts.append(record_batch(len(values[0]), bodies))
+        arrays = [array(kind, column) for (_, kind, _), column in zip(columns, values)]
+        parts.append(arrays_batch(len(values[0]), arrays))
     return b"".join(parts) + END

@@ -2,17 +2,18 @@
 ghost use Rattle.std.specs.Prelude.{◌≡◌, ◌≢◌, ◌+◌, ◌≤◌, ◌<◌, length, IfSome, IfOk, IfErr, OnOk, IsErr, IsErrOf};
 ghost use Rattle.std.specs.Io.KnownBytes.{IsAtEnd};
 ghost use Rattle.ipc_message.specs.Header.{supported_codes};
-ghost use Rattle.ipc_stream.specs.Meaning.{meaning};
-ghost use Rattle.values.specs.IntegerTable.{IsIntegerTable};
+ghost use Rattle.ipc_table.specs.Meaning.{meaning};
 ghost use Rattle.values.specs.TableView.{table_of};
 ghost use Rattle.arrowstore.specs.Given.{HasGiven, HasGivenAtMost, UnlessTooManyBytes};
 ghost use Rattle.arrowstore.specs.Recode.{IsVerdict, AppendsCanonical, IsTrueFault};
 
 use crate::output::write_whole;
 use crate::{LARGEST_INPUT, Refusal, read_at_most};
-use ipc_stream::{Table, decode, encode};
+use canonical_write::encode;
+use ipc_table::decode;
 use std::alloc::Global;
 use std::io::{Read, Write};
+use values::Table;
 
 /// Reads a stream to its end, and writes the canonical stream of its table and nothing else.
 ///
@@ -50,7 +51,6 @@ pub fn recode<R: Read, W: Write>(
 // The table that all the reader has stands for.
 fn read_table<R: Read>(alloc: Global, reader: &mut R) -> Result<Table, Refusal>
     ensures meaning { IfOk result (λ table. IfSome (R.remaining reader.old) (λ input. meaning supported_codes input ≡ Ok (table_of table))) }
-    ensures integers { IfOk result (λ table. IsIntegerTable (table_of table)) }
     ensures fault { IfErr result (λ refusal. IfSome (R.remaining reader.old) (IsTrueFault refusal)) }
     ensures end { IsVerdict result → IsAtEnd (R.remaining reader.new) }
     ensures within { IsVerdict result → IfSome (R.remaining reader.old) (λ input. length input ≤ LARGEST_INPUT) }
@@ -59,5 +59,5 @@ fn read_table<R: Read>(alloc: Global, reader: &mut R) -> Result<Table, Refusal>
     ensures few { UnlessTooManyBytes result (HasGivenAtMost (R.remaining reader.old) (R.remaining reader.new) LARGEST_INPUT) }
 {
     let input = read_at_most(alloc, reader, LARGEST_INPUT)?;
-    Ok(decode(alloc, input.as_slice())?)
+    Ok(decode(alloc, input)?)
 }
