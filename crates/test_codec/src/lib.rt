@@ -28,3 +28,5 @@ mod stream_bytes;
 mod streams;
 #[cfg(test)]
 mod table_calls;
+#[cfg(test)]
+mod table_streams;

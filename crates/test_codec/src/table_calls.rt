@@ -38,8 +38,8 @@ fn are_values(alloc: Global, found: Values<'_>, want: &[&str]) -> Result<bool, A
     Ok(well)
 }
 
-// Whether the table has these rows, by each way to a row.
-fn has_rows(alloc: Global, made: &Table, want: &[&[&str]]) -> Result<bool, AllocError> {
+/// Whether the table has these rows, by each way to a row.
+pub fn has_rows(alloc: Global, made: &Table, want: &[&[&str]]) -> Result<bool, AllocError> {
     let mut well = made.len() == want.len() && made.is_empty() == want.is_empty();
     let mut given = made.rows();
     for (place, row) in want.iter().enumerate() {
