@@ -70,11 +70,12 @@ fn encode_piece(alloc: Global, schema: &Schema, rows: &[Values<'_>]) -> Result<V
     Ok(stream)
 }
 
-/// The pieces of the rows of a table of any types, under a schema, each as a stream of its own: cut at the places where `encode` cuts them.
+/// The pieces of the rows of a table of any types, under a schema, each as a stream of its own. Under the table's own schema they are cut where `encode`
+/// cuts them.
 ///
-/// The caller sees to it that the rows are a table under this schema, as they are under their own and under one that differs in pairs alone.
-/// Refused only where a growth was. It takes the memory of all streams, of which each has the message of the schema, and that of the arrays of one
-/// piece; and time linear in the streams and in the cells of the table. The law [`crate::pieces_are_tables`] says what the streams mean.
+/// The caller sees to it that the rows are a table under this schema, as they are under the table's own. Refused only where a growth was. It takes the
+/// memory of all streams, of which each has the message of the schema, and that of the arrays of one piece; and time linear in the streams and in the
+/// cells of the table. The law [`crate::pieces_are_tables`] says what the streams mean.
 pub fn encode_pieces(
     alloc: Global,
     schema: &Schema,
