@@ -1,5 +1,6 @@
 -- What is known after a dictionary batch.
-use Rattle.std.proofs.Common.{◌≡◌, ℕ, true, List, [], ◌∷◌, ◌++◌, length, Ok, Result, ap, sym, subst, ◌∙◌}
+use Rattle.std.proofs.Common.{◌≡◌, ℕ, true, List, [], ◌∷◌, ◌++◌, length, Ok, Result, ap, sym, subst, ◌∙◌, arith}
+use Rattle.std.proofs.lemmas.List.{append-nil}
 use Rattle.arrow_schema.specs.Column.{Columns, columns_of}
 use Rattle.arrow_schema.specs.View.{schema_of}
 use Rattle.columns.specs.declared.array.Dictionary.{Dictionary}
@@ -45,13 +46,13 @@ front_grown laws bytes f next k d body b old is small read there has =
       dictionaries = dictionaries_more laws k d body b small read is.dictionaries;
       effect = has.effect;
       kept = has.kept;
-      within = λ new e. ap (λ x. are_batches_within (length bytes) new x.items) has.batches ∙ batches_end (length bytes) old new batches (keeps new e) (is.within old there);
+      within = λ new e. ap (λ x. are_batches_within (length bytes) new x.items) has.batches ∙ batches_end (length bytes) (length bytes) old new batches (omega arith) (keeps new e) (is.within old there);
       sound = λ new e.
           ap (λ x. are_batches_sound columns bytes new x.items) has.batches
-          ∙ batches_stay_sound columns bytes old new batches (keeps new e) (is.within old there) ∙ is.sound old there;
+          ∙ ap (λ x. are_batches_sound columns x new batches) (sym (append-nil bytes)) ∙ batches_stay_sound columns bytes [] old new batches (keeps new e) (is.within old there) ∙ is.sound old there;
       rows = λ new e.
           ap (λ x. placed_rows columns bytes new x.items) has.batches
-          ∙ batches_keep_rows columns bytes old new batches (keeps new e) (is.within old there) ∙ is.rows old there;
+          ∙ ap (λ x. placed_rows columns x new batches) (sym (append-nil bytes)) ∙ batches_keep_rows columns bytes [] old new batches (keeps new e) (is.within old there) ∙ is.rows old there;
       weight = has.weight ∙ is.weight;
       table = is.table;
     }

@@ -8,3 +8,9 @@ mod Messages
 mod Steps
 mod OnePart
 mod TableMeant
+mod Longer
+mod Faults
+mod Settled
+mod Reached
+mod Stays
+mod Decoding

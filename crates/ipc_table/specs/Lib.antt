@@ -1,4 +1,6 @@
 pub mod Meaning
 pub mod Progress
+pub mod Fed
+pub mod Feeding
 pub mod inner
 pub mod laws

@@ -1,1 +1,3 @@
-pub mod Standing
+pub mod Reached
+pub mod Decoding
+pub mod Failing

@@ -1,85 +1,170 @@
-// Reads a stream to its end.
-ghost use Rattle.std.specs.Prelude.{◌≡◌, ◌≤◌, ◌+◌, ℕ, suc, false, drop, length, List, IfOk, Option, None, Ok};
-ghost use Rattle.arrow_schema.specs.Integers.{is_empty};
-ghost use Rattle.columns.specs.Places.{within};
-ghost use Rattle.ipc_message.specs.Framing.{next_message, taken, message as framed_message};
+// A decoder that is fed a stream in pieces.
+ghost use Rattle.std.specs.Prelude.{◌≡◌, ◌++◌, [], ℕ, suc, List, None, length};
 ghost use Rattle.ipc_message.specs.Header.{supported_codes};
-ghost use Rattle.ipc_message.specs.Messages.{envelope_of, next_message_of};
-ghost use Rattle.ipc_message.specs.Outcome.{Gives};
-ghost use Rattle.ipc_table.specs.Meaning.{Known, known_at_end, known_at_end_of_stream, read_from};
-ghost use Rattle.ipc_table.specs.Progress.{IsBefore, GivesFront};
+ghost use Rattle.ipc_table.specs.Fed.{fed, reading, held_of, settled_fault};
+ghost use Rattle.ipc_table.specs.Meaning.{meaning, read_from};
+ghost use Rattle.ipc_table.specs.Progress.{GivesFront};
+ghost use Rattle.ipc_table.specs.inner.Failing.{HasFailed};
+ghost use Rattle.ipc_table.specs.inner.Reached.{IsReadTo};
+ghost use Rattle.ipc_table.specs.inner.Decoding.{GivesFed, IsReading};
 
-use crate::add::add_message;
 use crate::front::Front;
-use columns::Span;
-use ipc_message::{Fault, ImportError, Message, NextMessage, next_message_is_framed, read_message};
+use crate::reading::{Reading, read_on, read_to_end};
+use crate::whole::table_of_front;
+use ipc_message::{Fault, ImportError};
 use std::alloc::Global;
+use std::marker::Model;
+use values::Table;
 
-// What stands at the front of the bytes, and how many bytes it takes.
-fn next_message_at(bytes: &[u8]) -> Result<(NextMessage<'_>, usize), ImportError>
-    ensures exact { Gives (λ r. next_message_of r.0) result (next_message bytes.now) }
-    ensures taken { IfOk result (λ r. r.1 ≡ taken (next_message_of r.0)) }
-    ensures within { IfOk result (λ r. r.1 ≤ length bytes.now) }
+/// Reads a stream that comes in pieces, cut wherever they are. It keeps the bytes so far, in which the arrays of the table will stand; after a fault it keeps
+/// that alone. Each message is read once, unless memory was refused.
+#[derive(Debug, Drop)]
+pub struct Decoder {
+    bytes: Vec<u8>,
+    reading: Reading,
+    fault: Option<Fault>,
+}
+
+impl Model for Decoder {
+    ghost use Rattle.ipc_table.specs.Fed.{Fed, fed_with};
+
+    ghost Value = { Fed };
+
+    ghost use Rattle.ipc_table.specs.inner.Decoding.{IsDecoding};
+
+    ghost view = { λ d. fed_with d.fault d.bytes.items };
+
+    ghost invariant = { λ d. IsDecoding d.fault d.bytes.items d.reading };
+}
+
+/// Why a decoder gives no table: its stream has a fault, or memory was refused, and then the decoder is given back as it was.
+#[derive(Debug, Drop)]
+pub enum FinishError {
+    Fault(Fault),
+    OutOfMemory(Decoder),
+}
+
+// Nothing was read.
+fn unread(held: usize) -> Reading
+    ensures { result ≡ record { front = None; start = 0; held = held } }
 {
-    match read_message(bytes) {
-        Ok(found) => Ok(found),
-        Err(fault) => Err(ImportError::Fault(fault)),
+    Reading {
+        front: None,
+        start: 0,
+        held,
     }
 }
 
-// Where the body of a message stands that takes so many bytes.
-fn body_at(bytes: &[u8], start: usize, size: usize, message: &Message) -> Span
-    requires fits { start + size ≤ length bytes.now }
-    requires next { next_message (drop start bytes.now) ≡ Ok (framed_message (envelope_of message.now)) }
-    requires whole { size ≡ taken (framed_message (envelope_of message.now)) }
-    ensures fits { result.start + result.len ≤ length bytes.now }
-    ensures body { within bytes.now result ≡ (envelope_of message.now).body }
+// A decoder of bytes that are to be read again.
+fn decoder_of(bytes: Vec<u8>, held: usize) -> Decoder
+    requires settled { settled_fault supported_codes bytes.items ≡ None }
+    requires held { held ≡ held_of supported_codes bytes.items }
+    ensures { result ≡ reading bytes.items }
 {
-    next_message_is_framed();
-    let len = message.body().len();
-    Span {
-        start: start + size - len,
-        len,
+    Decoder {
+        bytes,
+        reading: unread(held),
+        fault: None,
     }
 }
 
-// What is known at the end of the bytes.
-fn at_end(front: Option<Front>) -> Result<Front, ImportError>
-    ensures { (bytes : List ℕ) (before : Option Known) → IsBefore bytes front before → GivesFront bytes result (known_at_end before) }
+// Why bytes give no table, which are given back where memory was refused.
+fn failed(error: ImportError, bytes: Vec<u8>, held: usize) -> FinishError
+    requires settled { settled_fault supported_codes bytes.items ≡ None }
+    requires held { held ≡ held_of supported_codes bytes.items }
+    ensures { HasFailed error bytes.items result }
 {
-    match front {
-        None => Err(ImportError::Fault(Fault::NoSchema)),
-        Some(front) => Ok(front),
+    match error {
+        ImportError::Fault(fault) => FinishError::Fault(fault),
+        ImportError::OutOfMemory => FinishError::OutOfMemory(decoder_of(bytes, held)),
     }
 }
 
-// The fault where bytes follow the end of stream.
-fn past_end(front: Option<Front>) -> Result<Front, ImportError>
-    ensures { (bytes rest : List ℕ) (before : Option Known) → is_empty rest ≡ false → IsBefore bytes front before → GivesFront bytes result (known_at_end_of_stream before rest) }
+// Reads on with a piece behind the bytes. Where memory is refused they are as they were, and will be read again.
+fn feed_bytes(
+    alloc: Global,
+    bytes: &mut Vec<u8>,
+    reading: &mut Reading,
+    piece: &[u8],
+) -> Result<(), ImportError>
+    requires { IsReading bytes.old.items reading.old }
+    ensures { GivesFed bytes.old.items piece.now bytes.new.items reading.new result }
 {
-    match front {
-        None => Err(ImportError::Fault(Fault::NoSchema)),
-        Some(_) => Err(ImportError::Fault(Fault::AfterEnd)),
+    let (before, held) = (bytes.len(), reading.held);
+    bytes.extend_from_slice(piece)?;
+    match read_on(alloc, reading.front.take(), reading.start, bytes) {
+        Ok(next) => {
+            *reading = next;
+            Ok(())
+        }
+        Err(error) => {
+            bytes.truncate(before);
+            *reading = unread(held);
+            Err(error)
+        }
     }
 }
 
-/// What is known at the end of a stream, or its first fault.
-pub fn read_front(alloc: Global, bytes: &[u8]) -> Result<Front, ImportError>
-    ensures { GivesFront bytes.now result (read_from supported_codes (suc (length bytes.now)) None bytes.now) }
-{
-    let mut front = None;
-    let mut start = 0;
-    while start < bytes.len() {
-        let (next_message, taken) = next_message_at(&bytes[start..])?;
-        let NextMessage::Message(message) = next_message else {
-            if bytes.len() - start > taken {
-                return past_end(front);
+impl Decoder {
+    ghost use Rattle.ipc_table.specs.Feeding.{Tells, UnlessRefused, Finishes, GivesBack};
+
+    /// A decoder that was fed no bytes.
+    pub fn new(alloc: Global) -> Decoder
+        ensures { result ≡ fed supported_codes [] }
+    {
+        decoder_of(Vec::new(alloc), 0)
+    }
+
+    /// Reads on with the next bytes of the stream. It tells the first fault of the bytes so far as soon as no bytes behind them can take it away, and tells it
+    /// again whatever comes then. Where memory is refused nothing has changed, and the piece may be fed again.
+    pub fn feed(&mut self, alloc: Global, piece: &[u8]) -> Result<(), ImportError>
+        ensures told { (bytes : List ℕ) → self.old ≡ fed supported_codes bytes → Tells result (settled_fault supported_codes (bytes ++ piece.now)) }
+        ensures fed { (bytes : List ℕ) → self.old ≡ fed supported_codes bytes
+            → UnlessRefused result (self.new ≡ fed supported_codes (bytes ++ piece.now)) (self.new ≡ self.old) }
+    {
+        if let Some(fault) = self.fault {
+            return Err(ImportError::Fault(fault));
+        }
+        match feed_bytes(alloc, &mut self.bytes, &mut self.reading, piece) {
+            Ok(()) => Ok(()),
+            Err(ImportError::OutOfMemory) => Err(ImportError::OutOfMemory),
+            Err(ImportError::Fault(fault)) => {
+                self.bytes = Vec::new(alloc);
+                self.reading = unread(0);
+                self.fault = Some(fault);
+                Err(ImportError::Fault(fault))
             }
-            return at_end(front);
-        };
-        let body = body_at(bytes, start, taken, &message);
-        front = Some(add_message(alloc, front, &message, body, bytes)?);
-        start += taken;
+        }
     }
-    at_end(front)
+
+    /// How many bytes wait for the rest of their message: those after the last whole message, and none after a fault or the end of stream.
+    pub fn held(&self) -> usize
+        ensures { (bytes : List ℕ) → self.now ≡ fed supported_codes bytes → result ≡ held_of supported_codes bytes }
+    {
+        self.reading.held
+    }
+
+    /// The table that the bytes mean, or their first fault, as [`crate::decode`] gives it of all of them. Where memory is refused the decoder is given back as it was.
+    pub fn finish(self, alloc: Global) -> Result<Table, FinishError>
+        ensures exact { (bytes : List ℕ) → self ≡ fed supported_codes bytes → Finishes result (meaning supported_codes bytes) }
+        ensures back { GivesBack result self }
+    {
+        let Decoder {
+            bytes,
+            reading,
+            fault,
+        } = self;
+        if let Some(fault) = fault {
+            return Err(FinishError::Fault(fault));
+        }
+        let Reading { front, start, held } = reading;
+        let front = match read_to_end(alloc, front, start, &bytes) {
+            Ok(front) => front,
+            Err(error) => return Err(failed(error, bytes, held)),
+        };
+        match table_of_front(alloc, front, bytes) {
+            Ok(table) => Ok(table),
+            Err(bytes) => Err(FinishError::OutOfMemory(decoder_of(bytes, held))),
+        }
+    }
 }

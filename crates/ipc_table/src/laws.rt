@@ -1,15 +1,17 @@
 // What the definitions say. The functions do nothing: their contracts are the laws.
-ghost use Rattle.std.specs.Prelude.{◌≡◌, ℕ, Bool, List, Ok};
+ghost use Rattle.std.specs.Prelude.{◌≡◌, ◌++◌, ℕ, Bool, List, Ok, Err, Some};
 ghost use Rattle.facts.specs.Bytes.{AreBytes};
 ghost use Rattle.cells.specs.Cell.{PlainTable};
 ghost use Rattle.values.specs.Table.{IsTable};
+ghost use Rattle.ipc_message.specs.Header.{supported_codes};
+ghost use Rattle.ipc_table.specs.Fed.{settled_fault};
 ghost use Rattle.ipc_table.specs.Meaning.{meaning};
 
 use arrays::{
     read_dictionaries_are_readable, read_dictionaries_have_bytes, read_rows_are_rows,
     schemas_give_dictionary_columns,
 };
-use ipc_message::{checked_schema_is_within_limits, next_message_is_framed};
+use ipc_message::{Fault, checked_schema_is_within_limits, next_message_is_framed};
 
 /// What a stream of bytes means is a table.
 pub fn meaning_is_a_table()
@@ -22,3 +24,10 @@ pub fn meaning_is_a_table()
     read_dictionaries_have_bytes();
     read_rows_are_rows();
 }
+
+/// A fault that a decoder has reported stays: it is the first fault of the bytes so far, and of these with any bytes behind them.
+pub fn settled_faults_stay()
+    ensures stays { (bytes more : List ℕ) (fault : Fault) → settled_fault supported_codes bytes ≡ Some fault
+        → settled_fault supported_codes (bytes ++ more) ≡ Some fault }
+    ensures meant { (bytes : List ℕ) (fault : Fault) → settled_fault supported_codes bytes ≡ Some fault → meaning supported_codes bytes ≡ Err fault }
+{}

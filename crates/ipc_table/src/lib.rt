@@ -2,10 +2,15 @@
 //!
 //! The meaning of a stream goes message by message: a schema, then dictionary batches and record batches, each read with what is known from those before it.
 //! [`add_message`] gives exactly what is known after one message more, or its first fault, and [`read_front`] the same of all messages of a stream up to its end.
-//! [`decode`] gives the table that a stream means. Arrays are places in the bytes of the stream: no cell is copied.
+//! [`decode`] gives the table that a stream means. Arrays are places in the bytes of the stream: no cell is copied. A [`Decoder`] gives the same of a stream that
+//! comes in pieces.
 //!
 //! ```ignore
 //! let table = decode(alloc, bytes)?;
+//!
+//! let mut decoder = Decoder::new(alloc);
+//! decoder.feed(alloc, piece)?;
+//! let table = decoder.finish(alloc)?;
 //! ```
 #![tactic(auto)]
 
@@ -13,10 +18,12 @@ mod add;
 mod decoder;
 mod front;
 mod laws;
+mod reading;
 mod whole;
 
 pub use add::add_message;
-pub use decoder::read_front;
+pub use decoder::{Decoder, FinishError};
 pub use front::Front;
-pub use laws::meaning_is_a_table;
+pub use laws::{meaning_is_a_table, settled_faults_stay};
+pub use reading::read_front;
 pub use whole::{Weighed, decode, decode_weighed};

@@ -1,23 +1,35 @@
 // The table of a whole stream.
-ghost use Rattle.std.specs.Prelude.{◌≡◌, true, IfOk};
+ghost use Rattle.std.specs.Prelude.{◌≡◌, true, [], ◌∷◌, length, IfOk, IfErr};
 ghost use Rattle.cells.specs.Weight.{table_weight};
 ghost use Rattle.ipc_message.specs.Header.{supported_codes};
 ghost use Rattle.ipc_message.specs.Outcome.{Gives};
 ghost use Rattle.ipc_table.specs.Meaning.{Known, known_table, meaning};
 ghost use Rattle.ipc_table.specs.Progress.{IsFront};
+ghost use Rattle.values.specs.declared.part.Part.{Part as PlainPart};
 ghost use Rattle.values.specs.TableView.{table_of, is_in_parts};
 
-use crate::decoder::read_front;
 use crate::front::Front;
+use crate::reading::read_front;
 use ipc_message::ImportError;
-use std::alloc::{AllocError, Global};
+use std::alloc::Global;
 use values::{Part, Table};
 
-// The table of what is known, whose arrays stand in these bytes.
-fn table_of_front(alloc: Global, front: Front, bytes: Vec<u8>) -> Result<Table, AllocError>
+// The bytes of the only one of some parts.
+fn only_bytes(parts: Vec<Part>) -> Vec<u8>
+    requires { length parts.items ≡ 1 }
+    ensures { (p : PlainPart) → parts.items ≡ p ∷ [] → result.items ≡ p.bytes.items }
+{
+    let mut parts = parts;
+    let Part { bytes, .. } = parts.swap_remove(0);
+    bytes
+}
+
+// The table of what is known, whose arrays stand in these bytes. The bytes are given back where memory is refused.
+pub(crate) fn table_of_front(alloc: Global, front: Front, bytes: Vec<u8>) -> Result<Table, Vec<u8>>
     requires { (k : Known) × IsFront bytes.items front k }
     ensures table { (k : Known) → IsFront bytes.items front k → IfOk result (λ table. table_of table ≡ known_table k) }
     ensures in_parts { IfOk result (λ table. is_in_parts table ≡ true) }
+    ensures back { IfErr result (λ back. back.items ≡ bytes.items) }
 {
     let Front {
         schema,
@@ -25,14 +37,18 @@ fn table_of_front(alloc: Global, front: Front, bytes: Vec<u8>) -> Result<Table, 
         batches,
         ..
     } = front;
-    let part = Part {
+    let Ok(mut parts) = Vec::with_capacity(alloc, 1) else {
+        return Err(bytes);
+    };
+    parts.push_reserved(Part {
         bytes,
         dictionaries: dictionaries.into_lists(),
         batches,
-    };
-    let mut parts = Vec::new(alloc);
-    parts.push(part)?;
-    Table::from_parts(alloc, schema, parts)
+    });
+    match Table::from_parts_or_back(alloc, schema, parts) {
+        Ok(table) => Ok(table),
+        Err(parts) => Err(only_bytes(parts)),
+    }
 }
 
 /// A table that was read, and what its rows weigh.
@@ -51,8 +67,10 @@ pub fn decode_weighed(alloc: Global, bytes: Vec<u8>) -> Result<Weighed, ImportEr
 {
     let front = read_front(alloc, &bytes)?;
     let weight = front.weight;
-    let table = table_of_front(alloc, front, bytes)?;
-    Ok(Weighed { table, weight })
+    match table_of_front(alloc, front, bytes) {
+        Ok(table) => Ok(Weighed { table, weight }),
+        Err(_) => Err(ImportError::OutOfMemory),
+    }
 }
 
 /// The table that a stream means, or its first fault, as [`decode_weighed`] gives it.

@@ -1,5 +1,5 @@
 // The rows of record batches, found by the starts of these.
-ghost use Rattle.std.specs.Prelude.{◌≡◌, ◌<◌, ◌^◌, List, true, map, length, take, sum, slice_get, Some, IfOk};
+ghost use Rattle.std.specs.Prelude.{◌≡◌, ◌<◌, ◌^◌, List, true, map, length, take, sum, slice_get, Some, IfOk, IfErr};
 ghost use Rattle.cells.specs.Cell.{Cell, cells_of};
 ghost use Rattle.columns.specs.Borrowed.{borrowed_cells};
 ghost use Rattle.columns.specs.Texts.{have_utf8_texts};
@@ -61,17 +61,23 @@ fn batch_starts(alloc: Global, parts: &[Part]) -> Result<Vec<Vec<usize>>, AllocE
 }
 
 impl Batches {
+    // The parts are given back where memory is refused.
     pub(crate) fn new(
         alloc: Global,
         parts: Vec<Part>,
         lengths: &[usize],
-    ) -> Result<Batches, AllocError>
+    ) -> Result<Batches, Vec<Part>>
         requires lengths { lengths.now ≡ part_lengths parts.items }
         requires few { sum lengths.now < 2 ^ 64 }
-        ensures { IfOk result (λ b. b.parts.items ≡ parts.items) }
+        ensures parts { IfOk result (λ b. b.parts.items ≡ parts.items) }
+        ensures back { IfErr result (λ back. back.items ≡ parts.items) }
     {
-        let part_starts = starts_of(alloc, lengths)?;
-        let batch_starts = batch_starts(alloc, &parts)?;
+        let Ok(part_starts) = starts_of(alloc, lengths) else {
+            return Err(parts);
+        };
+        let Ok(batch_starts) = batch_starts(alloc, &parts) else {
+            return Err(parts);
+        };
         Ok(Batches {
             parts,
             part_starts,

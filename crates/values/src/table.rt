@@ -125,7 +125,27 @@ impl Table {
         ensures made { IfOk result (λ t. table_of t ≡ parts_table (schema_of schema) parts.items) }
         ensures in_parts { IfOk result (λ t. is_in_parts t ≡ true) }
     {
-        let lengths = part_lengths(alloc, &parts)?;
+        match Table::from_parts_or_back(alloc, schema, parts) {
+            Ok(table) => Ok(table),
+            Err(_) => Err(AllocError),
+        }
+    }
+
+    /// The same, and the parts are given back where memory is refused.
+    pub fn from_parts_or_back(
+        alloc: Global,
+        schema: Schema,
+        parts: Vec<Part>,
+    ) -> Result<Table, Vec<Part>>
+        requires sound { are_parts_sound (columns_of (schema_of schema).columns) parts.items ≡ true }
+        requires table { IsTable (parts_table (schema_of schema) parts.items) }
+        ensures made { IfOk result (λ t. table_of t ≡ parts_table (schema_of schema) parts.items) }
+        ensures in_parts { IfOk result (λ t. is_in_parts t ≡ true) }
+        ensures back { IfErr result (λ back. back.items ≡ parts.items) }
+    {
+        let Ok(lengths) = part_lengths(alloc, &parts) else {
+            return Err(parts);
+        };
         let rows = total(&lengths);
         let batches = Batches::new(alloc, parts, &lengths)?;
         Ok(Table {

@@ -16,12 +16,12 @@ returns-in_err-front c =
     let failed = subst (λ (bytes : List ℕ). Fails c.in_err-front.field-0.0 (read_from supported_codes (suc (length bytes)) None bytes)) c.deref.ensures.value c.in_err-front.ensures in
     record { exact = rw (p.1, p.2) (meaning_refused c.args.bytes.items _ failed); weight = rw (p.1) tt; in_parts = rw (p.1) tt }
 
-pub returns : goal.returns
-returns c =
+pub returns-in-Ok : goal.returns-in-Ok
+returns-in-Ok c =
     let given = subst (λ (bytes : List ℕ). GivesFront bytes (Ok c.in_ok-front.front) (read_from supported_codes (suc (length bytes)) None bytes)) c.deref.ensures.value c.in_ok-front.ensures in
-    let same = c.in_ok-table.ensures.table given.0 given.2 in
+    let same = c.in-Ok.ensures.table given.0 given.2 in
     record {
       exact = meaning_given c.args.bytes.items given.0 _ given.1 same;
       weight = given.2.weight ∙ ap (λ (t : PlainTable). table_weight t.schema t.rows) (sym same);
-      in_parts = c.in_ok-table.ensures.in_parts;
+      in_parts = c.in-Ok.ensures.in_parts;
     }

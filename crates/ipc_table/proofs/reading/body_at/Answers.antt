@@ -1,7 +1,7 @@
 use Rattle.std.proofs.Common.{◌-◌, ◌+◌, length, arith}
 use Rattle.ipc_message.specs.Messages.{envelope_of}
 use Rattle.ipc_table.proofs.Steps.{body_stands}
-use Rattle.ipc_table.proofs.decoder.body_at.Goals as goal
+use Rattle.ipc_table.proofs.reading.body_at.Goals as goal
 
 pub returns-clause-body : goal.returns-clause-body
 returns-clause-body c =
