@@ -1,18 +1,18 @@
 -- Each piece of a table is a piece.
-use Rattle.std.specs.Prelude.{nat_le, sum_by, ◌&&◌}
 use Rattle.std.specs.List.{AllByRecursion, AllPass, list_all}
 use Rattle.std.proofs.Common.{◌≡◌, ◌≤◌, Bool, true, false, List, [], ◌∷◌, ◌++◌, length, refl, sym, subst, arith, length-append, append_assoc}
-use Rattle.std.proofs.lemmas.Bool.{and_parts, le-leb, leb-true}
-use Rattle.std.proofs.lemmas.List.Sums.{sum_by-cons, list_all-from_AllPass}
+use Rattle.std.proofs.lemmas.Bool.{and_parts}
+use Rattle.std.proofs.lemmas.List.Sums.{list_all-from_AllPass}
 use Rattle.arrow_schema.specs.Column.{PlainSchema, columns_of}
 use Rattle.arrow_schema.specs.Limits.{IsWithinLimits}
 use Rattle.cells.specs.Cell.{Cell, PlainTable}
 use Rattle.cells.specs.Dictionary.{dictionaries_fit}
-use Rattle.cells.specs.Row.{is_row, row_fits}
+use Rattle.cells.specs.Row.{is_row}
 use Rattle.cells.specs.Weight.{row_weight, table_weight}
 use Rattle.columns.specs.Buildable.{can_build_rows}
 use Rattle.table_cut.specs.Cut.{pieces_from, within_limits}
 use Rattle.table_cut.specs.Piece.{within_piece, pieces_of}
+use Rattle.table_cut.specs.laws.OneRow.{one_within}
 use Rattle.values.specs.Table.{IsTable}
 use Rattle.canonical_stream.specs.Pieces.{IsPieceOf}
 
@@ -24,16 +24,6 @@ pub record TableLaws : Type 0 where
   pub built : (s : PlainSchema) (rows : List (List Cell)) → IsWithinLimits s → AllPass (is_row s) rows → table_weight s rows ≤ 268435456
       → dictionaries_fit s rows ≡ true → can_build_rows (columns_of s.columns) rows ≡ true
   pub cut : (s : PlainSchema) (a b : List (List Cell)) → IsTable (table_with s (a ++ b)) → IsTable (table_with s a) × IsTable (table_with s b)
-
--- a row that a table takes is within the limits of a piece by itself
-one_within : (s : PlainSchema) (row : List Cell) → is_row s row ≡ true → within_piece s (row ∷ []) ≡ true
-unfolding is_row
-one_within s row is =
-    let parts = and_parts (row_fits s row) (nat_le (row_weight s row) 16777216 && dictionaries_fit s (row ∷ [])) is in
-    let more = and_parts (nat_le (row_weight s row) 16777216) (dictionaries_fit s (row ∷ [])) parts.1 in
-    let light : row_weight s row ≤ 16777216 = leb-true (row_weight s row) 16777216 more.0 in
-    let one = sum_by-cons (row_weight s) row [] in
-    rw (le-leb (sum_by (row_weight s) (row ∷ [])) 16777216 (omega (arith, one, light)), more.1) refl
 
 first_within : (s : PlainSchema) (row : List Cell) (rows : List (List Cell)) → IsTable (table_with s (row ∷ rows)) → within_piece s (row ∷ []) ≡ true
 first_within s row rows table =

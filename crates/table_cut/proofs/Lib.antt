@@ -3,3 +3,5 @@ mod CutSteps
 mod Unlimited
 mod SeenLemmas
 mod EntryLemmas
+pub mod CutRows
+pub mod Fronts

@@ -26,7 +26,7 @@ entries_append es [] b = refl
 entries_append es (c ∷ a) b = entries_append (with_entry es c) a b
 
 -- the dictionary columns of some rows, of rows behind them, and of all of these
-abbrev AreJoined : List Holding → List Holding → List Holding → Type 0
+abbrev pub AreJoined : List Holding → List Holding → List Holding → Type 0
 AreJoined [] [] [] = Unit {0}
 AreJoined (x ∷ xs) (y ∷ ys) (z ∷ zs) = (z.index ≡ y.index) × ((z.cells ≡ x.cells ++ y.cells) × AreJoined xs ys zs)
 AreJoined _ _ _ = ⊥
@@ -61,6 +61,9 @@ mutual
   joined_from i no_column a b all is = tt
   joined_from i (and_column c cs) a b all is =
       both_joined _ _ _ _ _ _ (joined c _ _ _ (ap (cells_at i) is ∙ flat_map-append _ a b)) (joined_from (i + 1) cs a b all is)
+
+pub all_joined : (s : PlainSchema) (a b : List (List Cell)) → AreJoined (holdings_of s a) (holdings_of s b) (holdings_of s (a ++ b))
+all_joined s a b = joined_from 0 (columns_of s.columns) a b (a ++ b) refl
 
 joined_entries : (xs ys zs : List Holding) → AreJoined xs ys zs → with_all (map (λ h. entries_of h.cells) xs) (map held_of ys) ≡ map (λ h. entries_of h.cells) zs
 joined_entries [] [] [] h = refl

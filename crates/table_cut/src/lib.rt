@@ -10,8 +10,10 @@
 #![tactic(auto)]
 
 mod holding;
+mod laws;
 mod piece;
 mod seen;
 mod weigh;
 
+pub use laws::pieces_are_the_cut;
 pub use piece::next_piece;
