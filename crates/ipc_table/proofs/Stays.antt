@@ -14,7 +14,7 @@ use Rattle.dictionary.specs.Kept.{Kept, HasInEffect, are_kept_within, arrays_for
 use Rattle.ipc_table.specs.declared.front.Front.{Front}
 use Rattle.ipc_table.specs.Meaning.{Known}
 use Rattle.ipc_table.specs.Progress.{IsFront, IsBefore}
-use Rattle.ipc_table.specs.inner.Reached.{IsReadTo, known_from, after_all}
+use Rattle.ipc_table.specs.inner.Reached.{IsReadTo, known_from, after_all, accepted_from}
 use Rattle.ipc_table.proofs.Grown.{plains_end, batches_end, batches_stay_sound, batches_keep_rows}
 
 -- ---- dictionaries
@@ -78,8 +78,8 @@ before_stays bytes more (Some f) (Some k) is = front_stays bytes more f k is
 
 -- ---- how far bytes were read
 
-pub reads_stay : (bytes more : List ℕ) (start : ℕ) (front : Option Front) → IsReadTo bytes start front → IsReadTo (bytes ++ more) start front
-reads_stay bytes more start front r =
+pub reads_stay : (bytes more : List ℕ) (number start : ℕ) (front : Option Front) → IsReadTo bytes number start front → IsReadTo (bytes ++ more) number start front
+reads_stay bytes more number start front r =
     let rest = λ (others : List ℕ). sym (append_assoc (drop start bytes) more others) ∙ ap (λ (x : List ℕ). x ++ others) (sym (drop-append-le start bytes more r.within)) in
     record {
       before = r.before;
@@ -88,4 +88,10 @@ reads_stay bytes more start front r =
       begins = r.begins;
       others = λ others. ap (known_from None) (append_assoc bytes more others) ∙ r.others (more ++ others) ∙ ap (known_from r.before) (rest others);
       waits = λ others. ap after_all (append_assoc bytes more others) ∙ r.waits (more ++ others) ∙ ap after_all (rest others);
+      messages = r.messages;
+      counted = r.counted;
+      sized = r.sized;
+      passed = λ others.
+          ap (accepted_from None) (append_assoc bytes more others) ∙ r.passed (more ++ others)
+          ∙ ap (λ (x : List ℕ). r.messages ++ accepted_from r.before x) (rest others);
     }

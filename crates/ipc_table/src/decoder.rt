@@ -46,10 +46,11 @@ pub enum FinishError {
 
 // Nothing was read.
 fn unread(held: usize) -> Reading
-    ensures { result ≡ record { front = None; start = 0; held = held } }
+    ensures { result ≡ record { front = None; number = 0; start = 0; held = held } }
 {
     Reading {
         front: None,
+        number: 0,
         start: 0,
         held,
     }
@@ -92,15 +93,21 @@ fn feed_bytes(
 {
     let (before, held) = (bytes.len(), reading.held);
     bytes.extend_from_slice(piece)?;
-    match read_on(alloc, reading.front.take(), reading.start, bytes) {
+    match read_on(
+        alloc,
+        reading.front.take(),
+        reading.number,
+        reading.start,
+        bytes,
+    ) {
         Ok(next) => {
             *reading = next;
             Ok(())
         }
-        Err(error) => {
+        Err(stopped) => {
             bytes.truncate(before);
             *reading = unread(held);
-            Err(error)
+            Err(stopped.error)
         }
     }
 }
@@ -144,7 +151,8 @@ impl Decoder {
         self.reading.held
     }
 
-    /// The table that the bytes mean, or their first fault, as [`crate::decode`] gives it of all of them. Where memory is refused the decoder is given back as it was.
+    /// The table that the bytes mean, or their first fault, as [`crate::decode`] gives it of all of them. Where memory is refused the decoder is given back as
+    /// it was.
     pub fn finish(self, alloc: Global) -> Result<Table, FinishError>
         ensures exact { (bytes : List ℕ) → self ≡ fed supported_codes bytes → Finishes result (meaning supported_codes bytes) }
         ensures back { GivesBack result self }
@@ -157,8 +165,13 @@ impl Decoder {
         if let Some(fault) = fault {
             return Err(FinishError::Fault(fault));
         }
-        let Reading { front, start, held } = reading;
-        let front = match read_to_end(alloc, front, start, &bytes) {
+        let Reading {
+            front,
+            number,
+            start,
+            held,
+        } = reading;
+        let front = match read_to_end(alloc, front, number, start, &bytes) {
             Ok(front) => front,
             Err(error) => return Err(failed(error, bytes, held)),
         };

@@ -1,9 +1,10 @@
 //! Arrow IPC streams of any types: what a stream of bytes means, and what is known after each of its messages.
 //!
 //! The meaning of a stream goes message by message: a schema, then dictionary batches and record batches, each read with what is known from those before it.
-//! [`add_message`] gives exactly what is known after one message more, or its first fault, and [`read_front`] the same of all messages of a stream up to its end.
-//! [`decode`] gives the table that a stream means. Arrays are places in the bytes of the stream: no cell is copied. A [`Decoder`] gives the same of a stream that
-//! comes in pieces.
+//! [`add_message`] gives exactly what is known after one message more, or its first fault, and [`read_front`] the same of all messages of a stream up to its
+//! end.
+//! [`decode`] gives the table that a stream means. Arrays are places in the bytes of the stream: no cell is copied. A [`Decoder`] gives the same of a stream
+//! that comes in pieces, and [`place`] says where the first fault of a stream stands.
 //!
 //! ```ignore
 //! let table = decode(alloc, bytes)?;
@@ -18,6 +19,7 @@ mod add;
 mod decoder;
 mod front;
 mod laws;
+mod placing;
 mod reading;
 mod whole;
 
@@ -25,5 +27,6 @@ pub use add::add_message;
 pub use decoder::{Decoder, FinishError};
 pub use front::Front;
 pub use laws::{meaning_is_a_table, settled_faults_stay};
+pub use placing::place;
 pub use reading::read_front;
 pub use whole::{Weighed, decode, decode_weighed};

@@ -14,12 +14,21 @@ use columns::Span;
 use ipc_message::{Fault, ImportError, Message, NextMessage, next_message_is_framed, read_message};
 use std::alloc::Global;
 
-/// How far a stream was read: what is known after its first messages, where they end, and how many bytes wait for the rest of their message.
+/// How far a stream was read: what is known after its first messages, how many they are, where they end, and how many bytes wait for the rest of their message.
 #[derive(Debug, Drop)]
 pub(crate) struct Reading {
     pub(crate) front: Option<Front>,
+    pub(crate) number: usize,
     pub(crate) start: usize,
     pub(crate) held: usize,
+}
+
+/// Why a stream was read no further, after how many messages, and where they end.
+#[derive(Clone, Copy, Debug)]
+pub(crate) struct Stopped {
+    pub(crate) error: ImportError,
+    pub(crate) number: usize,
+    pub(crate) start: usize,
 }
 
 // What stands at the front of the bytes, and how many bytes it takes. There is none where they are cut off.
@@ -50,52 +59,80 @@ fn body_at(bytes: &[u8], start: usize, size: usize, message: &Message) -> Span
 }
 
 // The end of stream, behind which stand so many bytes.
-fn end_of_stream(front: Option<Front>, start: usize, behind: usize) -> Result<Reading, ImportError>
-    ensures { (bytes : List ℕ) → IsReadTo bytes start front → EndsReading bytes start behind → GivesReading bytes result }
+fn end_of_stream(
+    front: Option<Front>,
+    number: usize,
+    start: usize,
+    behind: usize,
+) -> Result<Reading, Stopped>
+    ensures { (bytes : List ℕ) → IsReadTo bytes number start front → EndsReading bytes start behind → GivesReading bytes result }
 {
     let Some(front) = front else {
-        return Err(ImportError::Fault(Fault::NoSchema));
+        return Err(stop(ImportError::Fault(Fault::NoSchema), number, start));
     };
     if behind > 0 {
-        return Err(ImportError::Fault(Fault::AfterEnd));
+        return Err(stop(ImportError::Fault(Fault::AfterEnd), number, start));
     }
     Ok(Reading {
         front: Some(front),
+        number,
         start,
         held: 0,
     })
+}
+
+fn stop(error: ImportError, number: usize, start: usize) -> Stopped
+    ensures { result ≡ record { error = error; number = number; start = start } }
+{
+    Stopped {
+        error,
+        number,
+        start,
+    }
 }
 
 /// Reads on, as far as the bytes go.
 pub(crate) fn read_on(
     alloc: Global,
     front: Option<Front>,
+    number: usize,
     start: usize,
     bytes: &[u8],
-) -> Result<Reading, ImportError>
-    requires { IsReadTo bytes.now start front }
+) -> Result<Reading, Stopped>
+    requires { IsReadTo bytes.now number start front }
     ensures { GivesReading bytes.now result }
 {
     let mut front = front;
+    let mut number = number;
     let mut start = start;
     while start < bytes.len() {
         let found = match find_next(&bytes[start..]) {
             Ok(found) => found,
-            Err(fault) => return Err(ImportError::Fault(fault)),
+            Err(fault) => return Err(stop(ImportError::Fault(fault), number, start)),
         };
         let Some((next_message, taken)) = found else {
             let held = bytes.len() - start;
-            return Ok(Reading { front, start, held });
+            return Ok(Reading {
+                front,
+                number,
+                start,
+                held,
+            });
         };
         let NextMessage::Message(message) = next_message else {
-            return end_of_stream(front, start, bytes.len() - start - taken);
+            return end_of_stream(front, number, start, bytes.len() - start - taken);
         };
         let body = body_at(bytes, start, taken, &message);
-        front = Some(add_message(alloc, front, &message, body, bytes)?);
+        front = match add_message(alloc, front, &message, body, bytes) {
+            Ok(front) => Some(front),
+            Err(error) => return Err(stop(error, number, start)),
+        };
+        number += 1;
         start += taken;
     }
     Ok(Reading {
         front,
+        number,
         start,
         held: 0,
     })
@@ -118,19 +155,22 @@ pub(crate) fn at_end(reading: Reading) -> Result<Front, ImportError>
 pub(crate) fn read_to_end(
     alloc: Global,
     front: Option<Front>,
+    number: usize,
     start: usize,
     bytes: &[u8],
 ) -> Result<Front, ImportError>
-    requires { IsReadTo bytes.now start front }
+    requires { IsReadTo bytes.now number start front }
     ensures { GivesFront bytes.now result (read_from supported_codes (suc (length bytes.now)) None bytes.now) }
 {
-    let reading = read_on(alloc, front, start, bytes)?;
-    at_end(reading)
+    match read_on(alloc, front, number, start, bytes) {
+        Ok(reading) => at_end(reading),
+        Err(stopped) => Err(stopped.error),
+    }
 }
 
 /// What is known at the end of a stream, or its first fault.
 pub fn read_front(alloc: Global, bytes: &[u8]) -> Result<Front, ImportError>
     ensures { GivesFront bytes.now result (read_from supported_codes (suc (length bytes.now)) None bytes.now) }
 {
-    read_to_end(alloc, None, 0, bytes)
+    read_to_end(alloc, None, 0, 0, bytes)
 }

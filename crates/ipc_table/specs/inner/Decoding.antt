@@ -11,7 +11,7 @@ use Rattle.ipc_table.specs.inner.Reached.{IsReadTo}
 -- bytes without a settled fault, which were read so far; that may be less far than they go
 pub record IsReading (bytes : List ℕ) (r : Reading) : Type 0 where
   pub settled : settled_fault supported_codes bytes ≡ None
-  pub read : IsReadTo bytes r.start r.front
+  pub read : IsReadTo bytes r.number r.start r.front
   pub held : r.held ≡ held_of supported_codes bytes
 
 -- or a fault alone

@@ -1,17 +1,19 @@
 -- How far the bytes of a stream have been read.
-use Rattle.std.specs.Prelude.{◌≡◌, ◌≤◌, ◌<◌, ◌+◌, ℕ, suc, List, ◌++◌, length, drop, Option, Some, None, Result, Ok, Err}
+use Rattle.std.specs.Prelude.{◌≡◌, ◌≤◌, ◌<◌, ◌+◌, ℕ, suc, List, [], ◌++◌, length, drop, Option, Some, None, Result, Ok, Err}
 use Rattle.ipc_message.specs.declared.error.ImportError.{ImportError}
 use Rattle.ipc_message.specs.declared.error.ImportError.TheVariants as errors
 use Rattle.ipc_message.specs.declared.fault.Fault.{Fault}
 use Rattle.ipc_message.specs.declared.fault.Fault.TheVariants.{Truncated}
 use Rattle.ipc_message.specs.declared.message.NextMessage as code
-use Rattle.ipc_message.specs.Framing.{end_of_stream, next_message, taken}
+use Rattle.ipc_message.specs.Framing.{Envelope, end_of_stream, next_message, taken}
 use Rattle.ipc_message.specs.Header.{supported_codes}
 use Rattle.ipc_message.specs.Messages.{next_message_of}
 use Rattle.ipc_table.specs.declared.front.Front.{Front}
 use Rattle.ipc_table.specs.declared.reading.Reading.{Reading}
+use Rattle.ipc_table.specs.declared.reading.Stopped.{Stopped}
 use Rattle.ipc_table.specs.Fed.{settled_fault, held_of, after_whole}
 use Rattle.ipc_table.specs.Meaning.{Known, known_at_end, read_from}
+use Rattle.ipc_table.specs.Place.{accepted, bytes_taken, place_of}
 use Rattle.ipc_table.specs.Progress.{IsBefore}
 
 -- ---- what stands at the front
@@ -42,28 +44,40 @@ abbrev pub BeginsAt : Option Known → (start : ℕ) → Type 0
 BeginsAt None start = start ≡ 0
 BeginsAt (Some k) start = Unit {0}
 
--- the bytes were read so far: with any bytes behind them they mean what their rest means after what is known
-pub record IsReadTo (bytes : List ℕ) (start : ℕ) (front : Option Front) : Type 0 where
+abbrev pub accepted_from : Option Known → List ℕ → List Envelope
+accepted_from before bytes = accepted supported_codes (length bytes) before bytes
+
+-- the bytes were read so far, so many messages: with any bytes behind them they mean what their rest means after what is known
+pub record IsReadTo (bytes : List ℕ) (number start : ℕ) (front : Option Front) : Type 0 where
   pub before : Option Known
   pub known : IsBefore bytes front before
   pub within : start ≤ length bytes
   pub begins : BeginsAt before start
   pub others : (more : List ℕ) → known_from None (bytes ++ more) ≡ known_from before (drop start bytes ++ more)
   pub waits : (more : List ℕ) → after_all (bytes ++ more) ≡ after_all (drop start bytes ++ more)
+  pub messages : List Envelope
+  pub counted : number ≡ length messages
+  pub sized : start ≡ bytes_taken messages
+  pub passed : (more : List ℕ) → accepted_from None (bytes ++ more) ≡ messages ++ accepted_from before (drop start bytes ++ more)
 
 -- the bytes were read as far as they go
 pub record Rests (bytes : List ℕ) (r : Reading) : Type 0 where
-  pub read : IsReadTo bytes r.start r.front
+  pub read : IsReadTo bytes r.number r.start r.front
   pub settled : settled_fault supported_codes bytes ≡ None
   pub held : r.held ≡ held_of supported_codes bytes
   pub cut_off : 0 < r.held → known_from None bytes ≡ Err Truncated
   pub whole : r.held ≤ 0 → known_from None bytes ≡ known_at_end read.before
+  pub stops : accepted_from read.before (drop r.start bytes) ≡ []
 
--- what reading on gives, or the first fault
-abbrev pub GivesReading : List ℕ → Result Reading ImportError → Type 0
+-- the first fault, and where it stands
+abbrev pub StoppedBy : List ℕ → ImportError → (number start : ℕ) → Type 0
+StoppedBy bytes errors.OutOfMemory number start = Unit {0}
+StoppedBy bytes (errors.Fault fault) number start = (settled_fault supported_codes bytes ≡ Some fault) × (place_of supported_codes bytes ≡ Some (number, start))
+
+-- what reading on gives
+abbrev pub GivesReading : List ℕ → Result Reading Stopped → Type 0
 GivesReading bytes (Ok r) = Rests bytes r
-GivesReading bytes (Err errors.OutOfMemory) = Unit {0}
-GivesReading bytes (Err (errors.Fault fault)) = settled_fault supported_codes bytes ≡ Some fault
+GivesReading bytes (Err s) = StoppedBy bytes s.error s.number s.start
 
 -- the end of stream stands there, with so many bytes behind it
 pub record EndsReading (bytes : List ℕ) (start behind : ℕ) : Type 0 where
