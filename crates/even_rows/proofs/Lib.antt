@@ -1,0 +1,5 @@
+pub mod Alike
+pub mod CutByNumber
+pub mod Numbers
+pub mod Runs
+pub mod RowCells
