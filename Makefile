@@ -50,7 +50,7 @@ vectors: bin/arrowstore crates/test_texts/out/test_texts
 	examples/killed bin/arrowstore
 	tests/metadata bin/arrowstore
 	tests/refused_memory bin/arrowstore
-	tests/run_vectors bin/arrowstore tests/vectors/ints tests/vectors/nulls
+	tests/run_vectors bin/arrowstore tests/vectors/ints tests/vectors/streams tests/vectors/traps
 	tests/texts crates/test_texts/out/test_texts tests/vectors/texts.jsonl tests/vectors/texts_worked.jsonl
 
 crates/test_texts/out/test_texts: $(SOURCES)

@@ -2,8 +2,6 @@
 use Rattle.std.specs.Prelude.{◌≡◌, ◌⊎◌, ℕ, false, List, [], Option, IfSome, Result, Ok, Err, IsErr}
 use Rattle.arrow_schema.specs.Column.{PlainSchema}
 use Rattle.arrow_schema.specs.Reported.{IsReported}
-use Rattle.ipc_message.specs.declared.fault.Fault.TheVariants.{NotYet}
-use Rattle.catalogue.specs.Schemas.{is_read}
 use Rattle.tables.specs.declared.refusal.Refusal as tables
 use Rattle.arrowstore.specs.declared.refusal.Refusal.{Refusal}
 use Rattle.arrowstore.specs.declared.refusal.Refusal.TheVariants.{Fault, Io, Fields, Store, OutOfMemory}
@@ -27,9 +25,8 @@ Hands input P same result = (IsErr result × same) ⊎ ((bytes : List ℕ) × If
 abbrev pub StateSchema : List (List ℕ) → PlainSchema → Type 0
 StateSchema texts s = IsReported texts (Ok s.columns) × (s.pairs ≡ [])
 
--- why no table is made of field texts: the first that is refused, or a schema that can't be kept yet
+-- why no table is made of field texts: the first that is refused
 abbrev pub RefusesFields : List (List ℕ) → Refusal → Type 0
 RefusesFields texts (Fields error) = IsReported texts (Err error)
-RefusesFields texts (Fault NotYet) = (s : PlainSchema) × StateSchema texts s × (is_read s ≡ false)
 RefusesFields texts OutOfMemory = Unit {0}
 RefusesFields texts _ = ⊥

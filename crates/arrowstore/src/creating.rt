@@ -5,14 +5,13 @@ ghost use Rattle.arrowstore.specs.Changing.{StateSchema, RefusesFields};
 
 use crate::Refusal;
 use arrow_schema::{Schema, parse_fields};
-use ipc_message::Fault;
 use std::alloc::Global;
 use tables::NewTable;
 
 /// A table of this name and of the fields that the texts state, to be made.
 ///
 /// # Errors
-/// `Fields` where the texts state no schema; the fault `NotYet` where it has a type that can't be kept yet; `OutOfMemory`.
+/// `Fields` where the texts state no schema; `OutOfMemory`.
 pub fn new_table(alloc: Global, name: &str, fields: &[&str]) -> Result<NewTable, Refusal>
     ensures made { IfOk result (λ new. (string_bytes new.name ≡ name.now) × StateSchema (map (λ t. t.now) fields.now) (schema_of new.schema)) }
     ensures refused { IfErr result (RefusesFields (map (λ t. t.now) fields.now)) }
@@ -23,8 +22,5 @@ pub fn new_table(alloc: Global, name: &str, fields: &[&str]) -> Result<NewTable,
         fields,
         pairs: Vec::new(alloc),
     };
-    match NewTable::new(name, schema) {
-        Some(new) => Ok(new),
-        None => Err(Refusal::Fault(Fault::NotYet)),
-    }
+    Ok(NewTable { name, schema })
 }

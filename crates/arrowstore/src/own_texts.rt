@@ -20,8 +20,6 @@ The first faulty message decides. After `S5 Import` the fault is that of a strea
 imported or appended. A fault without a remedy of its own lies with the program that wrote the stream:
 have it written again, by another writer or with other options.
 
-- F0 NotYet: the stream is sound, but has columns that are not read yet, or nulls, dictionaries or
-  key/value pairs. Give columns of integers without nulls.
 - F1 Truncated: it ends within a message. Get all of it.
 - F2 NoContinuation: a message does not begin with the bytes FF FF FF FF. Give an IPC stream, not an
   Arrow file and not a stream of an Arrow before 0.15.

@@ -26,7 +26,7 @@ use Rattle.ipc_message.specs.Raw.{RawNode}
 use Rattle.ipc_message.specs.laws.Accepted.{accepted}
 use Rattle.table_cut.specs.Cut.{within_limits}
 use Rattle.table_cut.specs.CutRows.{joined}
-use Rattle.ipc_write.specs.Decoded.{raw_schema, is_not_read}
+use Rattle.ipc_write.specs.Decoded.{raw_schema}
 use Rattle.ipc_write.specs.Written.{schema_message, schema_envelope, batch_message, batch_envelope, end_of_stream}
 use Rattle.table_cut.specs.Piece.{pieces_of, within_piece}
 use Rattle.values.specs.Table.{IsTable}
@@ -175,11 +175,11 @@ pieces_read law s batches before (p ∷ ps) passes each table =
     subst (λ (rows : List (List Cell)). Reads supported_codes (Some (known_with s batches before)) (known_with s last rows) (piece_messages s p ++ flat_map (piece_messages s) ps)) same
     (both_read supported_codes (Some (known_with s batches before)) (known_with s now (before ++ p)) (known_with s last ((before ++ p) ++ joined ps)) (piece_messages s p) (flat_map (piece_messages s) ps) first others)
 
-pub table_means : Laws → (t : PlainTable) → AllByRecursion (IsPieceOf t.schema) (pieces_of t) → IsTable t → is_not_read t.schema ≡ false → meaning supported_codes (canonical t) ≡ Ok t
+pub table_means : Laws → (t : PlainTable) → AllByRecursion (IsPieceOf t.schema) (pieces_of t) → IsTable t → meaning supported_codes (canonical t) ≡ Ok t
 unfolding canonical
-table_means law t each table read =
+table_means law t each table =
     let s : PlainSchema = t.schema in
-    let passes : Passes s = schema_passes s (law.schema.checked s table.schema read) in
+    let passes : Passes s = schema_passes s (law.schema.checked s table.schema) in
     let whole : joined (pieces_of t) ≡ t.rows = pieces_joined (within_piece s) t.rows in
     let joined_table : IsTable (table_with s (joined (pieces_of t))) = subst (λ (rows : List (List Cell)). IsTable (table_with s rows)) (sym whole) table in
     let pieces : List ℕ = flat_map (piece_messages s) (pieces_of t) in

@@ -25,7 +25,7 @@ use Rattle.ipc_message.specs.Fields.{every_field}
 use Rattle.ipc_message.specs.Framing.{next_message, message, taken, type_of}
 use Rattle.ipc_message.specs.Header.{header, supported_codes}
 use Rattle.ipc_message.specs.Raw.{RawNode, RawDictionaryBatch, RawSchema, schema_header, dictionary_header, batch_header}
-use Rattle.ipc_write.specs.Decoded.{raw_schema, is_not_read}
+use Rattle.ipc_write.specs.Decoded.{raw_schema}
 use Rattle.ipc_write.specs.Trees.{ids_of_all}
 use Rattle.ipc_write.specs.Written.{schema_message, schema_envelope, dictionary_message, dictionary_envelope, dictionary_batch_of, batch_message, batch_envelope, batch_of, IsWritableBatch}
 use Rattle.values.specs.Table.{IsTable}
@@ -37,7 +37,7 @@ pub record SchemaLaw : Type 0 where
   pub kind : (s : PlainSchema) → IsWithinLimits s → type_of (schema_envelope s).metadata ≡ 1
   pub decoded : (s : PlainSchema) → IsWithinLimits s → header supported_codes (schema_envelope s).metadata ≡ Ok (schema_header (raw_schema s))
   pub again : (s : PlainSchema) → IsWithinLimits s → plain_schema_of (raw_schema s) ≡ s
-  pub checked : (s : PlainSchema) → IsWithinLimits s → is_not_read s ≡ false → checked_schema supported_codes (raw_schema s) ≡ Ok s
+  pub checked : (s : PlainSchema) → IsWithinLimits s → checked_schema supported_codes (raw_schema s) ≡ Ok s
   pub after : (s : PlainSchema) (rest : List ℕ) → drop (taken (message (schema_envelope s))) (schema_message s ++ rest) ≡ rest
 
 pub record BatchLaw : Type 0 where

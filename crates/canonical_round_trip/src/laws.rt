@@ -1,15 +1,14 @@
 // What is written is read again.
-ghost use Rattle.std.specs.Prelude.{◌≡◌, false, Ok};
+ghost use Rattle.std.specs.Prelude.{◌≡◌, Ok};
 ghost use Rattle.cells.specs.Cell.{PlainTable};
 ghost use Rattle.ipc_message.specs.Header.{supported_codes};
-ghost use Rattle.ipc_write.specs.Decoded.{is_not_read};
 ghost use Rattle.ipc_table.specs.Meaning.{meaning};
 ghost use Rattle.values.specs.Table.{IsTable};
 ghost use Rattle.canonical_stream.specs.Canonical.{canonical};
 
-/// The canonical stream of a table means that table, where a reader takes its schema.
+/// The canonical stream of a table means that table.
 pub fn canonical_means_its_table()
-    ensures { (t : PlainTable) → IsTable t → is_not_read t.schema ≡ false → meaning supported_codes (canonical t) ≡ Ok t }
+    ensures { (t : PlainTable) → IsTable t → meaning supported_codes (canonical t) ≡ Ok t }
 {
     arrays::schemas_give_dictionary_columns();
     canonical_stream::pieces_can_be_built();

@@ -1,7 +1,7 @@
 -- The pieces of a table are tables, which their streams mean.
 use Rattle.std.specs.Prelude.{nat_eq, Ok}
 use Rattle.std.specs.List.{AllByRecursion, flat_map, starts_with}
-use Rattle.std.proofs.Common.{◌≡◌, ℕ, ◌≤◌, true, false, List, [], ◌∷◌, ◌++◌, length, refl, arith, length-append}
+use Rattle.std.proofs.Common.{◌≡◌, ℕ, ◌≤◌, true, List, [], ◌∷◌, ◌++◌, length, refl, arith, length-append}
 use Rattle.std.proofs.lemmas.Bool.Decides.{Decides-eqb}
 use Rattle.std.proofs.lemmas.Slice.Eq.{starts_is}
 use Rattle.arrow_schema.specs.Column.{PlainSchema}
@@ -12,7 +12,6 @@ use Rattle.canonical_write.specs.Pieces.{piece_table, piece_stream, IsPiece}
 use Rattle.cells.specs.Cell.{Cell, PlainTable}
 use Rattle.ipc_message.specs.Header.{supported_codes}
 use Rattle.ipc_table.specs.Meaning.{meaning}
-use Rattle.ipc_write.specs.Decoded.{is_not_read}
 use Rattle.ipc_write.specs.Written.{schema_message, end_of_stream}
 use Rattle.table_cut.specs.Piece.{pieces_of}
 use Rattle.values.specs.Table.{IsTable}
@@ -31,18 +30,18 @@ stream_some s rows =
 
 -- what is known of streams: a clause of a law
 abbrev pub MeansLaw : Type 0
-MeansLaw = (t : PlainTable) → IsTable t → is_not_read t.schema ≡ false → meaning supported_codes (canonical t) ≡ Ok t
+MeansLaw = (t : PlainTable) → IsTable t → meaning supported_codes (canonical t) ≡ Ok t
 
-one_meant : MeansLaw → (s : PlainSchema) (rows : List (List Cell)) → is_not_read s ≡ false → IsPieceOf s rows → IsPiece s rows
-one_meant law s rows read piece = record {
+one_meant : MeansLaw → (s : PlainSchema) (rows : List (List Cell)) → IsPieceOf s rows → IsPiece s rows
+one_meant law s rows piece = record {
   table = piece.table;
   some = piece.some;
   few = few_rows s rows piece.within;
-  means = law (piece_table s rows) piece.table read;
+  means = law (piece_table s rows) piece.table;
   begins = stream_begins s rows;
   bytes = stream_some s rows;
 }
 
-pub all_meant : MeansLaw → (s : PlainSchema) (ps : List (List (List Cell))) → is_not_read s ≡ false → AllByRecursion (IsPieceOf s) ps → AllByRecursion (IsPiece s) ps
-all_meant law s [] read each = tt
-all_meant law s (p ∷ ps) read each = (one_meant law s p read each.0, all_meant law s ps read each.1)
+pub all_meant : MeansLaw → (s : PlainSchema) (ps : List (List (List Cell))) → AllByRecursion (IsPieceOf s) ps → AllByRecursion (IsPiece s) ps
+all_meant law s [] each = tt
+all_meant law s (p ∷ ps) each = (one_meant law s p each.0, all_meant law s ps each.1)

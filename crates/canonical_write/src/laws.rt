@@ -1,20 +1,19 @@
 // What the streams of pieces mean. The function does nothing: its contract is the law.
-ghost use Rattle.std.specs.Prelude.{◌≡◌, false};
+ghost use Rattle.std.specs.Prelude.{◌≡◌};
 ghost use Rattle.std.specs.List.{AllByRecursion};
 ghost use Rattle.canonical_write.specs.Pieces.{IsPiece};
 ghost use Rattle.cells.specs.Cell.{PlainTable};
 ghost use Rattle.table_cut.specs.CutRows.{joined};
-ghost use Rattle.ipc_write.specs.Decoded.{is_not_read};
 ghost use Rattle.table_cut.specs.Piece.{pieces_of};
 ghost use Rattle.values.specs.Table.{IsTable};
 
 use canonical_round_trip::canonical_means_its_table;
 use canonical_stream::pieces_can_be_built;
 
-/// The pieces of a table. `each`: a piece is few rows, a table by itself, which its stream means, where a reader takes the schema (`IsPiece`);
-/// `whole`: joined the pieces are the table's rows.
+/// The pieces of a table. `each`: a piece is few rows, a table by itself, which its stream means (`IsPiece`); `whole`: joined the pieces are the table's
+/// rows.
 pub fn pieces_are_tables()
-    ensures each { (t : PlainTable) → IsTable t → is_not_read t.schema ≡ false → AllByRecursion (IsPiece t.schema) (pieces_of t) }
+    ensures each { (t : PlainTable) → IsTable t → AllByRecursion (IsPiece t.schema) (pieces_of t) }
     ensures whole { (t : PlainTable) → joined (pieces_of t) ≡ t.rows }
 {
     pieces_can_be_built();

@@ -13,8 +13,7 @@ use Rattle.ipc_write.specs.Written.{schema_message}
 use Rattle.segments.specs.Sectors.{sector_count}
 use Rattle.catalogue.specs.declared.entry.Segment.{Segment}
 use Rattle.catalogue.specs.declared.limits.TheConstants.{MAX_NAME_BYTES, MAX_SEGMENT_ROWS, MAX_SEGMENTS}
-use Rattle.catalogue.specs.Schemas.{is_read}
-use Rattle.catalogue.specs.Entries.{PlainEntry, PlainCatalogue, is_between, is_name_byte, is_name, is_segment, is_entry, segment_count, IsCatalogue, AreRead}
+use Rattle.catalogue.specs.Entries.{PlainEntry, PlainCatalogue, is_between, is_name_byte, is_name, is_segment, is_entry, segment_count, IsCatalogue}
 use Rattle.catalogue.specs.Text.{sized, counted, segment_text, table_text, entry_text, list_text}
 use Rattle.catalogue.specs.Reading.{◌>>=◌, front_number, sized_at, many_at, counted_at, segment_at, schema_in, table_at, entry_at, catalogue_at}
 use Rattle.catalogue.specs.inner.Messages.{AllAgain}
@@ -129,10 +128,10 @@ name_short bytes h =
 
 -- ---- entries
 
-table_again : AllAgain → (e : PlainEntry) (rest : List ℕ) → IsEntry e → is_read e.schema ≡ true → length e.segments ≤ MAX_SEGMENTS → table_at e.name (table_text e ++ rest) ≡ Some (e, rest)
+table_again : AllAgain → (e : PlainEntry) (rest : List ℕ) → IsEntry e → length e.segments ≤ MAX_SEGMENTS → table_at e.name (table_text e ++ rest) ≡ Some (e, rest)
 unfolding table_at table_text
-table_again schemas e rest known read few =
-    let message = schemas e.schema known.schema read in
+table_again schemas e rest known few =
+    let message = schemas e.schema known.schema in
     let text = schema_message e.schema in
     let after = counted segment_text e.segments ++ rest in
     let e0 : sized_at (table_text e ++ rest) ≡ Some (text, after) = ap sized_at (append_assoc (sized text) (counted segment_text e.segments) rest) ∙ sized_again text after message.short in
@@ -141,34 +140,33 @@ table_again schemas e rest known read few =
     (bound_is (schema_in text) e.schema (λ schema. counted_at segment_at after >>= λ segments. Some (record { name = e.name; schema = schema; segments = segments.0 }, segments.1)) (Some (e, rest)) message.read
     (bound_is (counted_at segment_at after) (e.segments, rest) (λ segments. Some (record { name = e.name; schema = e.schema; segments = segments.0 }, segments.1)) (Some (e, rest)) e2 refl))
 
-entry_again : AllAgain → (e : PlainEntry) → is_entry e ≡ true → is_read e.schema ≡ true → length e.segments ≤ MAX_SEGMENTS → ReadAgain entry_at entry_text e
+entry_again : AllAgain → (e : PlainEntry) → is_entry e ≡ true → length e.segments ≤ MAX_SEGMENTS → ReadAgain entry_at entry_text e
 unfolding entry_at
-entry_again schemas e h read few rest =
+entry_again schemas e h few rest =
     let known = entry_is e h in
     let e0 : sized_at (entry_text e ++ rest) ≡ Some (e.name, table_text e ++ rest) = ap sized_at (append_assoc (sized e.name) (table_text e) rest) ∙ sized_again e.name (table_text e ++ rest) (name_short e.name known.name) in
     bound_is (sized_at (entry_text e ++ rest)) (e.name, table_text e ++ rest) (λ name. cond (is_name name.0) (table_at name.0 name.1) None) (Some (e, rest)) e0
-    (cond-true (is_name e.name) (table_at e.name (table_text e ++ rest)) None known.name ∙ table_again schemas e rest known read few)
+    (cond-true (is_name e.name) (table_at e.name (table_text e ++ rest)) None known.name ∙ table_again schemas e rest known few)
 
-entries_again : AllAgain → (c : PlainCatalogue) → list_all is_entry c ≡ true → AreRead c → segment_count c ≤ MAX_SEGMENTS → AllByRecursion (ReadAgain entry_at entry_text) c
-entries_again schemas [] all read few = tt
-entries_again schemas (e ∷ es) all read few =
+entries_again : AllAgain → (c : PlainCatalogue) → list_all is_entry c ≡ true → segment_count c ≤ MAX_SEGMENTS → AllByRecursion (ReadAgain entry_at entry_text) c
+entries_again schemas [] all few = tt
+entries_again schemas (e ∷ es) all few =
     let parts = and_parts (is_entry e) (list_all is_entry es) all in
-    let reads = and_parts (is_read e.schema) (list_all (λ (x : PlainEntry). is_read x.schema) es) read in
     let count = sum_by-cons (λ (x : PlainEntry). length x.segments) e es in
-    (entry_again schemas e parts.0 reads.0 (omega (arith, few, count)), entries_again schemas es parts.1 reads.1 (omega (arith, few, count)))
+    (entry_again schemas e parts.0 (omega (arith, few, count)), entries_again schemas es parts.1 (omega (arith, few, count)))
 
 -- ---- catalogues
 
 -- the entries of a text, and what follows it
-pub front_again : AllAgain → (c : PlainCatalogue) (rest : List ℕ) → IsCatalogue c → AreRead c → counted_at entry_at (list_text c ++ rest) ≡ Some (c, rest)
-front_again schemas c rest k read =
+pub front_again : AllAgain → (c : PlainCatalogue) (rest : List ℕ) → IsCatalogue c → counted_at entry_at (list_text c ++ rest) ≡ Some (c, rest)
+front_again schemas c rest k =
     let few : length c < 2 ^ 32 = let t = k.tables in omega (arith, t) in
-    counted_again entry_at entry_text c rest few (entries_again schemas c k.entries read k.segments)
+    counted_again entry_at entry_text c rest few (entries_again schemas c k.entries k.segments)
 
-pub catalogue_again : AllAgain → (c : PlainCatalogue) → IsCatalogue c → AreRead c → catalogue_at (list_text c) ≡ Some c
+pub catalogue_again : AllAgain → (c : PlainCatalogue) → IsCatalogue c → catalogue_at (list_text c) ≡ Some c
 unfolding catalogue_at
-catalogue_again schemas c k read =
-    let alone : counted_at entry_at (list_text c) ≡ Some (c, []) = ap (counted_at entry_at) (sym (append-nil (list_text c))) ∙ front_again schemas c [] k read in
+catalogue_again schemas c k =
+    let alone : counted_at entry_at (list_text c) ≡ Some (c, []) = ap (counted_at entry_at) (sym (append-nil (list_text c))) ∙ front_again schemas c [] k in
     rw (alone, passes_catalogue c k) refl
 
 same_front : (a b : PlainCatalogue × List ℕ) → Some a ≡ Some b → a.0 ≡ b.0
@@ -178,5 +176,5 @@ same_front a b h = ap (λ (o : Option (PlainCatalogue × List ℕ)). front o) h
     front None = []
     front (Some p) = p.0
 
-pub texts_apart : AllAgain → (c d : PlainCatalogue) (x y : List ℕ) → IsCatalogue c → AreRead c → IsCatalogue d → AreRead d → list_text c ++ x ≡ list_text d ++ y → c ≡ d
-texts_apart schemas c d x y k read l other same = same_front (c, x) (d, y) (sym (front_again schemas c x k read) ∙ ap (counted_at entry_at) same ∙ front_again schemas d y l other)
+pub texts_apart : AllAgain → (c d : PlainCatalogue) (x y : List ℕ) → IsCatalogue c → IsCatalogue d → list_text c ++ x ≡ list_text d ++ y → c ≡ d
+texts_apart schemas c d x y k l same = same_front (c, x) (d, y) (sym (front_again schemas c x k) ∙ ap (counted_at entry_at) same ∙ front_again schemas d y l)

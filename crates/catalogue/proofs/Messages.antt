@@ -36,10 +36,3 @@ message_again s next head checked small =
 
 pub message_short : (s : PlainSchema) → length (schema_envelope s).metadata ≤ MAX_BUFFER_BYTES → length (schema_message s) < 2 ^ 32
 message_short s small = omega (arith, small, message_size s)
-
--- and what its header holds is what was written
-pub raw_again : (s : PlainSchema) → ((rest : List ℕ) → next_message (schema_message s ++ rest) ≡ Ok (message (schema_envelope s))) → header supported_codes (schema_envelope s).metadata ≡ Ok (schema_header (raw_schema s)) → raw_schema_in (schema_message s) ≡ Some (raw_schema s)
-unfolding raw_schema_in
-raw_again s next head =
-    let alone : next_message (schema_message s) ≡ Ok (message (schema_envelope s)) = ap next_message (sym (append-nil (schema_message s))) ∙ next [] in
-    rw (alone, head) refl

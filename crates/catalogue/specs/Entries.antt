@@ -7,7 +7,7 @@ use Rattle.arrow_schema.specs.Column.{PlainSchema}
 use Rattle.arrow_schema.specs.View.{schema_of}
 use Rattle.segments.specs.Sectors.{sector_count}
 use Rattle.segments.specs.declared.run.Run.{Run}
-use Rattle.catalogue.specs.Schemas.{is_within_limits, is_read}
+use Rattle.catalogue.specs.Schemas.{is_within_limits}
 use Rattle.catalogue.specs.declared.limits.TheConstants.{MAX_NAME_BYTES, MAX_SEGMENT_ROWS, MAX_TABLES, MAX_SEGMENTS}
 use Rattle.catalogue.specs.declared.entry.Segment.{Segment}
 use Rattle.catalogue.specs.declared.entry.Entry.{Entry}
@@ -85,7 +85,3 @@ pub record IsCatalogue (c : PlainCatalogue) : Type 0 where
 -- the same as a test
 abbrev pub is_catalogue : PlainCatalogue → Bool
 is_catalogue c = (list_all is_entry c && ascends (names_of c)) && (nat_le (length c) MAX_TABLES && nat_le (segment_count c) MAX_SEGMENTS)
-
--- its schemas are of those that are read
-abbrev pub AreRead : PlainCatalogue → Type 0
-AreRead c = list_all (λ e. is_read e.schema) c ≡ true

@@ -1,12 +1,11 @@
 -- The limits of a schema, as a test.
-use Rattle.std.specs.Prelude.{◌&&◌, not, Bool, nat_le, length}
+use Rattle.std.specs.Prelude.{◌&&◌, Bool, nat_le, length}
 use Rattle.std.specs.List.{list_all}
 use Rattle.std.specs.Str.{is_utf8}
 use Rattle.arrow_schema.specs.declared.limits.TheConstants.{MAX_FIELDS, MAX_DEPTH, MAX_PAIRS, MAX_TEXT_BYTES}
 use Rattle.arrow_schema.specs.Column.{columns_of, PlainSchema}
 use Rattle.arrow_schema.specs.Preorder.{every_column, depth_all}
 use Rattle.arrow_schema.specs.Limits.{count_of_pairs, count_of_bytes, has_number_in_range, has_flat_dictionary, has_bit_widths, has_utf8_texts, texts_of_pairs}
-use Rattle.ipc_write.specs.Decoded.{is_not_read}
 
 -- its levels, fields, pairs and bytes
 abbrev pub is_small : PlainSchema → Bool
@@ -22,7 +21,3 @@ has_sound_columns s =
 
 unfoldable pub is_within_limits : PlainSchema → Bool
 is_within_limits s = is_small s && (has_sound_columns s && list_all is_utf8 (texts_of_pairs s.pairs))
-
--- a schema that a reader takes so far
-abbrev pub is_read : PlainSchema → Bool
-is_read s = not (is_not_read s)

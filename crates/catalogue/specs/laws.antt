@@ -3,5 +3,3 @@ pub mod Kept
 pub mod Order
 pub mod Sums
 pub mod Changed
-pub mod Integers
-pub mod ReadSchemas

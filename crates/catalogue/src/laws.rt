@@ -4,12 +4,12 @@ ghost use Rattle.std.specs.List.{list_all, Contains};
 ghost use Rattle.arrow_schema.specs.Limits.{IsWithinLimits};
 ghost use Rattle.facts.specs.Bytes.{AreBytes};
 ghost use Rattle.catalogue.specs.declared.entry.Segment.{Segment};
-ghost use Rattle.catalogue.specs.Entries.{PlainEntry, PlainCatalogue, is_name, is_segment, is_entry, row_count, runs_of, IsCatalogue, AreRead};
+ghost use Rattle.catalogue.specs.Entries.{PlainEntry, PlainCatalogue, is_name, is_segment, is_entry, row_count, runs_of, IsCatalogue};
 ghost use Rattle.catalogue.specs.Edits.{entry_of, with_entry, without};
 ghost use Rattle.catalogue.specs.Counts.{HasMore, HasSame, HasFewer};
 ghost use Rattle.catalogue.specs.Text.{list_text, list_size};
 ghost use Rattle.catalogue.specs.Reading.{catalogue_at};
-ghost use Rattle.catalogue.specs.inner.Messages.{AllAgain, AllFound};
+ghost use Rattle.catalogue.specs.inner.Messages.{AllAgain};
 
 // The message of a schema is read again, and its length has 32 bits.
 fn schemas_are_read_again()
@@ -19,26 +19,16 @@ fn schemas_are_read_again()
     ipc_write::metadata_is_within_its_limit();
 }
 
-// What a schema was read of is within the limits, and its message has what it was written of.
-fn read_schemas_were_written()
-    ensures { AllFound }
-{
-    ipc_message::checked_schema_is_within_limits();
-    ipc_write::schema_message_is_read_again();
-}
-
-/// One text for each catalogue, and one catalogue for each text. `kept`, `read`: what is read is a catalogue of schemas that
-/// are read; `found`: it was written so; `again`: what is written is read; `apart`: no text begins another one.
+/// One text for each catalogue, and one catalogue for each text. `kept`: what is read is a catalogue;
+/// `found`: it was written so; `again`: what is written is read; `apart`: no text begins another one.
 pub fn one_text_each()
     ensures kept { (bytes : List ℕ) (c : PlainCatalogue) → catalogue_at bytes ≡ Some c → IsCatalogue c }
-    ensures read { (bytes : List ℕ) (c : PlainCatalogue) → catalogue_at bytes ≡ Some c → AreRead c }
     ensures found { (bytes : List ℕ) (c : PlainCatalogue) → AreBytes bytes → catalogue_at bytes ≡ Some c → bytes ≡ list_text c }
-    ensures again { (c : PlainCatalogue) → IsCatalogue c → AreRead c → catalogue_at (list_text c) ≡ Some c }
-    ensures apart { (c d : PlainCatalogue) (x y : List ℕ) → IsCatalogue c → AreRead c → IsCatalogue d → AreRead d
+    ensures again { (c : PlainCatalogue) → IsCatalogue c → catalogue_at (list_text c) ≡ Some c }
+    ensures apart { (c d : PlainCatalogue) (x y : List ℕ) → IsCatalogue c → IsCatalogue d
         → list_text c ++ x ≡ list_text d ++ y → c ≡ d }
 {
     schemas_are_read_again();
-    read_schemas_were_written();
 }
 
 /// How many bytes a text has. Where runs start makes no difference.

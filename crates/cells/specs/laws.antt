@@ -1,3 +1,4 @@
 pub mod Cells
 pub mod Weights
 pub mod Ranges
+pub mod Shapes

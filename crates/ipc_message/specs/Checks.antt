@@ -4,9 +4,9 @@ use Rattle.std.specs.List.{list_any, list_all}
 use Rattle.std.specs.Str.{is_utf8}
 use Rattle.ipc_message.specs.declared.fault.TypeName.{TypeName}
 use Rattle.ipc_message.specs.declared.fault.TypeName.TheVariants as types
-use Rattle.ipc_message.specs.declared.type_codes.TheConstants.{NONE, INT}
+use Rattle.ipc_message.specs.declared.type_codes.TheConstants.{NONE}
 use Rattle.ipc_message.specs.declared.fault.Fault.{Fault}
-use Rattle.ipc_message.specs.declared.fault.Fault.TheVariants.{NotYet, BigEndian, TypeNotHeld, BadParameter, SchemaLimit, NotUtf8, DictionaryId, DictionaryOfNested}
+use Rattle.ipc_message.specs.declared.fault.Fault.TheVariants.{BigEndian, TypeNotHeld, BadParameter, SchemaLimit, NotUtf8, DictionaryId, DictionaryOfNested}
 use Rattle.arrow_schema.specs.declared.limits.TheConstants.{MAX_FIELDS, MAX_DEPTH, MAX_PAIRS, MAX_TEXT_BYTES}
 use Rattle.arrow_schema.specs.Column.{PlainSchema}
 pub use Rattle.arrow_schema.specs.Limits.{texts_of_pairs}
@@ -82,10 +82,6 @@ is_nested _ = false
 abbrev pub is_dictionary_of_nested : RawField → Bool
 is_dictionary_of_nested f = is_some (dictionary_of f) && is_nested (name_of_type f)
 
--- F0: another type than an integer, a dictionary, or a pair
-abbrev pub is_not_yet : RawField → Bool
-is_not_yet f = not (code_of f == INT) || is_some (dictionary_of f) || not (length (pairs_of f) == 0)
-
 -- the tests of a schema, where the codes with `supported` are of types that are supported
 unfoldable pub schema_checks : (ℕ → Bool) → RawSchema → List (Option Fault)
 schema_checks supported s =
@@ -96,7 +92,6 @@ schema_checks supported s =
     ∷ when (not (list_all is_utf8 (texts_of s))) NotUtf8
     ∷ when (has_two_types (every_field s)) DictionaryId
     ∷ when (list_any is_dictionary_of_nested (every_field s)) DictionaryOfNested
-    ∷ when (not (length s.pairs == 0) || list_any is_not_yet (every_field s)) NotYet
     ∷ []
 
 -- the schema that is read, or the fault of the first test that finds something

@@ -35,7 +35,6 @@ type_text types.LargeListView = codes "LargeListView"
 type_text types.Unknown = codes "Unknown"
 
 abbrev pub fault_text : Fault → List ℕ
-fault_text faults.NotYet = codes "F0 NotYet"
 fault_text faults.Truncated = codes "F1 Truncated"
 fault_text faults.NoContinuation = codes "F2 NoContinuation"
 fault_text faults.MetadataSize = codes "F3 MetadataSize"

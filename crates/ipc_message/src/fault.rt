@@ -35,8 +35,6 @@ pub enum TypeName {
 /// Why a stream has no meaning: the first fault of its first faulty message.
 #[derive(Clone, Copy, Debug, PartialEq, Eq)]
 pub enum Fault {
-    /// F0: a type, dictionary or pair that is not read yet.
-    NotYet,
     /// F1: the input ends within a message.
     Truncated,
     /// F2: a message does not begin with FF FF FF FF.

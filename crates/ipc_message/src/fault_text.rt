@@ -51,7 +51,6 @@ impl fmt::Display for Fault {
 
     fn fmt<W: fmt::Write>(&self, f: &mut fmt::Formatter<W>) -> fmt::Result {
         f.write_str(match self {
-            Fault::NotYet => "F0 NotYet",
             Fault::Truncated => "F1 Truncated",
             Fault::NoContinuation => "F2 NoContinuation",
             Fault::MetadataSize => "F3 MetadataSize",

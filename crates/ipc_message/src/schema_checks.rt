@@ -7,7 +7,7 @@ ghost use Rattle.ipc_message.specs.Raw.{raw_fields_of};
 ghost use Rattle.ipc_message.specs.Fields.{every_field, depth, depth_all, pairs_of, dictionary_of};
 ghost use Rattle.ipc_message.specs.Header.{supported_codes};
 ghost use Rattle.ipc_message.specs.Framing.{first_some, unless};
-ghost use Rattle.ipc_message.specs.Checks.{is_unsupported, name_of_type, is_bad, texts_of, count_of_pairs, exceeds_limit, has_two_types, is_nested, is_dictionary_of_nested, is_not_yet, schema_checks};
+ghost use Rattle.ipc_message.specs.Checks.{is_unsupported, name_of_type, is_bad, texts_of, count_of_pairs, exceeds_limit, has_two_types, is_nested, is_dictionary_of_nested, schema_checks};
 ghost use Rattle.ipc_message.specs.View.{raw_field_of, raw_schema_of};
 ghost use Rattle.ipc_message.specs.inner.Firsts.{Adds};
 ghost use Rattle.ipc_message.specs.inner.Listed.{listed, text_list};
@@ -20,7 +20,7 @@ use crate::raw_header::{RawField, RawSchema};
 use crate::same::have_same_value_type;
 use crate::texts::{are_longer, are_utf8, list_texts};
 use crate::type_checks::is_bad;
-use crate::type_codes::{INT, NONE, is_supported, type_name};
+use crate::type_codes::{NONE, is_supported, type_name};
 use arrow_schema::{MAX_DEPTH, MAX_FIELDS, MAX_PAIRS, MAX_TEXT_BYTES};
 use std::alloc::{AllocError, Global};
 use std::collections::BTreeMap;
@@ -147,18 +147,6 @@ fn has_dictionary_of_nested(fields: &[FieldRef]) -> bool
     false
 }
 
-fn has_not_yet(fields: &[FieldRef]) -> bool
-    ensures { result ≡ list_any is_not_yet (listed fields.now) }
-{
-    for place in fields {
-        let field = place.field;
-        if field.code != INT || field.dictionary.is_some() || !field.pairs.is_empty() {
-            return true;
-        }
-    }
-    false
-}
-
 #[tactic(auto, unfolding(crate::specs::Checks::schema_checks))]
 fn first_fault(
     alloc: Global,
@@ -184,8 +172,6 @@ fn first_fault(
         Ok(Some(Fault::DictionaryId))
     } else if has_dictionary_of_nested(fields) {
         Ok(Some(Fault::DictionaryOfNested))
-    } else if !schema.pairs.is_empty() || has_not_yet(fields) {
-        Ok(Some(Fault::NotYet))
     } else {
         Ok(None)
     }

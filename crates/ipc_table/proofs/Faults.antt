@@ -103,7 +103,7 @@ unfolding schema_checks
 schema_goes supported s =
     on _ faults.BigEndian _ (λ e. cc) (type_goes (find (is_unsupported supported) (every_field s)) _ (on _ faults.BadParameter _ (λ e. cc)
     (on _ faults.SchemaLimit _ (λ e. cc) (on _ faults.NotUtf8 _ (λ e. cc) (on _ faults.DictionaryId _ (λ e. cc)
-    (on _ faults.DictionaryOfNested _ (λ e. cc) (on _ faults.NotYet _ (λ e. cc) done)))))))
+    (on _ faults.DictionaryOfNested _ (λ e. cc) done))))))
 
 -- ---- a message
 

@@ -24,7 +24,7 @@ use Rattle.ipc_table.specs.Meaning.{known_first, read_header}
 use Rattle.ipc_table.specs.Progress.{IsFront, GivesFront}
 use Rattle.ipc_table.proofs.Dictionaries.{ColumnLaws, first_dictionaries}
 
-reported_err : {A : Type 0} (o : Option Fault) (p : A) (fault : Fault) → unless o (Ok p) ≡ Err fault → o ≡ Some fault
+pub reported_err : {A : Type 0} (o : Option Fault) (p : A) (fault : Fault) → unless o (Ok p) ≡ Err fault → o ≡ Some fault
 reported_err None p fault h = absurd cc
 reported_err (Some f) p fault h = cc
 

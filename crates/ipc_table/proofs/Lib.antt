@@ -14,3 +14,8 @@ mod Settled
 mod Reached
 mod Stays
 mod Decoding
+mod NextMessageLaw
+mod ReadMessages
+mod BadMessages
+mod FramedMessages
+mod FramedBack

@@ -1,7 +1,8 @@
 -- What one message gives, after no message and after others.
-use Rattle.std.proofs.Common.{◌≡◌, ℕ, Bool, true, false, List, Ok, Err, refl, ap, ◌∙◌}
-use Rattle.std.specs.Prelude.{Option, Some, None, if◌then◌else◌, ◌==◌, Result}
+use Rattle.std.proofs.Common.{◌≡◌, ℕ, Bool, true, false, List, Ok, Err, refl, sym, ap, ◌∙◌}
+use Rattle.std.specs.Prelude.{Option, Some, None, if◌then◌else◌, ◌==◌, Result, unwrap_or}
 use Rattle.flatbuf.specs.declared.FlatError.{FlatError}
+use Rattle.flatbuf.specs.Lookup.{Place, table_behind}
 use Rattle.ipc_message.specs.declared.header_type.HeaderType.{HeaderType}
 use Rattle.ipc_message.specs.declared.header_type.HeaderType.TheVariants.{Schema, DictionaryBatch, RecordBatch}
 use Rattle.ipc_message.specs.declared.error.ImportError.{ImportError}
@@ -10,10 +11,10 @@ use Rattle.ipc_message.specs.declared.fault.Fault.TheVariants.{NoSchema, SecondS
 use Rattle.ipc_message.specs.declared.raw_header.RawSchema as code_schema
 use Rattle.ipc_message.specs.declared.raw_header.Header as code_header
 use Rattle.ipc_message.specs.declared.raw_header.Header.TheVariants as headers
-use Rattle.ipc_message.specs.Raw.{RawHeader, schema_header, dictionary_header, batch_header}
+use Rattle.ipc_message.specs.Raw.{RawSchema, RawHeader, schema_header, dictionary_header, batch_header}
 use Rattle.ipc_message.specs.View.{raw_header_of}
 use Rattle.ipc_message.specs.Framing.{Envelope, header_type, type_of}
-use Rattle.ipc_message.specs.Header.{supported_codes, decoded, header_of, header}
+use Rattle.ipc_message.specs.Header.{supported_codes, decoded, header_by_type, header_of, header_slot, header, type_in}
 use Rattle.ipc_message.specs.Outcome.{Fails}
 use Rattle.ipc_table.specs.Meaning.{Known, read_header, read_next}
 
@@ -53,16 +54,38 @@ decoded_is : (r : Result ℕ FlatError) (h decoded_header : RawHeader) → decod
 decoded_is (Ok n) h k e = cc
 decoded_is (Err f) h k e = absurd cc
 
-type_read : (supported : ℕ → Bool) (metadata : List ℕ) (k : HeaderType) → header_type (type_of metadata) ≡ Some k → type_of_header (header_of supported metadata) ≡ k
-unfolding header_of
-type_read supported metadata Schema e = rw e refl
-type_read supported metadata DictionaryBatch e = rw e refl
-type_read supported metadata RecordBatch e = rw e refl
+type_made : (supported : ℕ → Bool) (left : ℕ) (metadata : List ℕ) (t : Option Place) (k : HeaderType) → type_of_header (header_by_type supported left metadata t k) ≡ k
+type_made supported left metadata t Schema = refl
+type_made supported left metadata t DictionaryBatch = refl
+type_made supported left metadata t RecordBatch = refl
+
+pub type_decoded : (supported : ℕ → Bool) (metadata : List ℕ) (h : RawHeader) → header supported metadata ≡ Ok h → type_of_header h ≡ type_in metadata
+unfolding header header_of
+type_decoded supported metadata h read =
+    ap type_of_header (decoded_is _ h (header_of supported metadata) read) ∙ type_made supported 38 metadata (table_behind metadata (header_slot metadata)) (type_in metadata)
 
 -- what the header decodes to is of the type that the message says
 pub header_typed : (supported : ℕ → Bool) (metadata : List ℕ) (k : HeaderType) (h : RawHeader) → header_type (type_of metadata) ≡ Some k → header supported metadata ≡ Ok h → type_of_header h ≡ k
-unfolding header
-header_typed supported metadata k h e read = ap type_of_header (decoded_is _ h (header_of supported metadata) read) ∙ type_read supported metadata k e
+header_typed supported metadata k h e read = type_decoded supported metadata h read ∙ ap (λ (o : Option HeaderType). unwrap_or o RecordBatch) e
+
+-- a message whose header is a schema has the type of one, and each other has another
+number_of_schema : (a b c : Bool) → unwrap_or (of_tests a b c) RecordBatch ≡ Schema → a ≡ true
+number_of_schema true b c h = refl
+number_of_schema false true c h = absurd cc
+number_of_schema false false true h = absurd cc
+number_of_schema false false false h = absurd cc
+
+number_of_batch : (a b c : Bool) → (unwrap_or (of_tests a b c) RecordBatch ≡ Schema → ⊥) → a ≡ false
+number_of_batch true b c other = absurd (other refl)
+number_of_batch false b c other = refl
+
+pub schema_number : (supported : ℕ → Bool) (metadata : List ℕ) (s : RawSchema) → header supported metadata ≡ Ok (schema_header s) → (type_of metadata == 1) ≡ true
+schema_number supported metadata s read =
+    let n : ℕ = type_of metadata in number_of_schema (n == 1) (n == 2) (n == 3) (sym (type_decoded supported metadata (schema_header s) read))
+
+pub batch_number : (supported : ℕ → Bool) (metadata : List ℕ) (h : RawHeader) → header supported metadata ≡ Ok h → (type_of_header h ≡ Schema → ⊥) → (type_of metadata == 1) ≡ false
+batch_number supported metadata h read other =
+    let n : ℕ = type_of metadata in number_of_batch (n == 1) (n == 2) (n == 3) (λ is. other (type_decoded supported metadata h read ∙ is))
 
 pub seen_schema : (h : code_header.Header) → ((s : code_schema.RawSchema) → h ≡ headers.Schema s → ⊥) → type_of_header (raw_header_of h) ≡ Schema → ⊥
 seen_schema (headers.Schema s) other e = other s refl

@@ -33,7 +33,7 @@ module _ (s t : ℕ) (before : Option Known) (bytes : List ℕ) (some : is_empty
 
   same_known : (m : Envelope) → next_message bytes ≡ Ok (message m) → (found : Result Known Fault) → read_next supported_codes before m ≡ found → Same
   same_known m e (Err fault) is = step_refused s before bytes m fault some e is ∙ sym (step_refused t before bytes m fault some e is)
-  same_known m e (Ok k) is = step_on s before bytes m k some e is ∙ follows k (taken (message m)) (taken_some (message m)) ∙ sym (step_on t before bytes m k some e is)
+  same_known m e (Ok k) is = step_on supported_codes s before bytes m k some e is ∙ follows k (taken (message m)) (taken_some (message m)) ∙ sym (step_on supported_codes t before bytes m k some e is)
 
   same_next : (found : Result NextMessage Fault) → next_message bytes ≡ found → Same
   same_next (Err fault) e = step_fault s before bytes fault some e ∙ sym (step_fault t before bytes fault some e)
@@ -86,7 +86,7 @@ known_on : (before : Option Known) (bytes : List ℕ) (m : Envelope) (k : Known)
     → known_from before bytes ≡ known_from (Some k) (drop (taken (message m)) bytes)
 known_on before bytes m k some e goes =
     let rest : List ℕ = drop (taken (message m)) bytes in
-    step_on (length bytes) before bytes m k (some_there bytes some) e goes
+    step_on supported_codes (length bytes) before bytes m k (some_there bytes some) e goes
     ∙ known_enough (length bytes) (suc (length rest)) (Some k) rest (omega (arith, some, taken_some (message m), length-drop (taken (message m)) bytes)) (omega arith)
 
 left_behind : (bytes : List ℕ) (f : NextMessage) → next_message bytes ≡ Ok f → after_all bytes ≡ after_all (drop (taken f) bytes)

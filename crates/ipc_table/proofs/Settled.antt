@@ -50,9 +50,9 @@ module _ (steps longer : ℕ) (before : Option Known) (bytes more : List ℕ) (f
       step_refused longer before (bytes ++ more) m other more_there (there (Ok (message m)) e (λ cut. cc)) (sym is) ∙ same
   by_known m e (Ok k) is =
       let size : taken (message m) ≤ length bytes = next_taken bytes (message m) (sym e) in
-      step_on longer before (bytes ++ more) m k more_there (there (Ok (message m)) e (λ cut. cc)) (sym is)
+      step_on supported_codes longer before (bytes ++ more) m k more_there (there (Ok (message m)) e (λ cut. cc)) (sym is)
       ∙ ap (read_from supported_codes longer (Some k)) (drop-append-le (taken (message m)) bytes more size)
-      ∙ follows k (taken (message m)) (taken_some (message m)) size (sym (step_on steps before bytes m k some (sym e) (sym is)) ∙ refused)
+      ∙ follows k (taken (message m)) (taken_some (message m)) size (sym (step_on supported_codes steps before bytes m k some (sym e) (sym is)) ∙ refused)
 
   by_next : (found : Result NextMessage Fault) → found ≡ next_message bytes → Refused
   by_next (Err other) e =

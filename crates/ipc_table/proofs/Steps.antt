@@ -1,6 +1,6 @@
 -- One step of a stream, by what stands at its front.
 use Rattle.std.specs.Prelude.{Option, Some}
-use Rattle.std.proofs.Common.{◌≡◌, ℕ, suc, ◌+◌, ◌<◌, ◌≤◌, false, List, [], ◌∷◌, ◌++◌, length, drop, take, Ok, Err, refl, ap, sym, ◌∙◌, arith}
+use Rattle.std.proofs.Common.{◌≡◌, ℕ, suc, ◌+◌, ◌<◌, ◌≤◌, Bool, false, List, [], ◌∷◌, ◌++◌, length, drop, take, Ok, Err, refl, ap, sym, ◌∙◌, arith}
 use Rattle.std.proofs.Math.Seq.{drop-append-add, drop-append_seam, take-append_seam}
 use Rattle.std.proofs.lemmas.List.{drop-drop}
 use Rattle.arrow_schema.specs.Integers.{is_empty}
@@ -62,10 +62,10 @@ pub step_refused : (less : ℕ) (before : Option Known) (bytes : List ℕ) (m : 
 unfolding read_from
 step_refused less before bytes m fault some e refused = rw (some, e, refused) refl
 
-pub step_on : (less : ℕ) (before : Option Known) (bytes : List ℕ) (m : Envelope) (k : Known) → is_empty bytes ≡ false → next_message bytes ≡ Ok (message m)
-    → read_next supported_codes before m ≡ Ok k → read_from supported_codes (suc less) before bytes ≡ read_from supported_codes less (Some k) (drop (taken (message m)) bytes)
+pub step_on : (supported : ℕ → Bool) (less : ℕ) (before : Option Known) (bytes : List ℕ) (m : Envelope) (k : Known) → is_empty bytes ≡ false → next_message bytes ≡ Ok (message m)
+    → read_next supported before m ≡ Ok k → read_from supported (suc less) before bytes ≡ read_from supported less (Some k) (drop (taken (message m)) bytes)
 unfolding read_from
-step_on less before bytes m k some e goes = rw (some, e, goes) refl
+step_on supported less before bytes m k some e goes = rw (some, e, goes) refl
 
 pub is_end_of_stream : (f : code_next_message.NextMessage) → ((m : code_message.Message) → f ≡ next_messages.Message m → ⊥) → next_message_of f ≡ end_of_stream
 is_end_of_stream (next_messages.Message m) other = absurd (other m refl)

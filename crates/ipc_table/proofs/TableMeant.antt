@@ -42,7 +42,7 @@ IsKnownBefore (Some k) = IsKnown k
 
 -- ---- results
 
-bound : {A B : Type 0} (r : Result A Fault) (f : A → Result B Fault) (y : B) → (r >>= f) ≡ Ok y → (x : A) × (r ≡ Ok x) × (f x ≡ Ok y)
+pub bound : {A B : Type 0} (r : Result A Fault) (f : A → Result B Fault) (y : B) → (r >>= f) ≡ Ok y → (x : A) × (r ≡ Ok x) × (f x ≡ Ok y)
 bound (Ok x) f y h = (x, refl, h)
 bound (Err e) f y h = absurd cc
 
@@ -118,7 +118,7 @@ end_of_stream_known before rest next is e =
     let found = bound (known_at_end before) (λ k. if is_empty rest then Ok k else Err AfterEnd) next e in
     in_either (is_empty rest) (Ok found.0) (Err AfterEnd) next (λ h. subst IsKnown (reported_ok None found.0 next h).1 (at_end_known before found.0 is found.1)) (λ h. absurd (refused AfterEnd next h)) found.2
 
-abbrev after_next : (ℕ → Bool) → (steps : ℕ) → Option Known → List ℕ → NextMessage → Result Known Fault
+abbrev pub after_next : (ℕ → Bool) → (steps : ℕ) → Option Known → List ℕ → NextMessage → Result Known Fault
 after_next supported steps before bytes f =
     by_next_message f (known_at_end_of_stream before (drop 8 bytes)) (λ m. read_next supported before m >>= λ k. read_from supported steps (Some k) (drop (taken f) bytes))
 

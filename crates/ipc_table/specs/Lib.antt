@@ -3,5 +3,7 @@ pub mod Progress
 pub mod Fed
 pub mod Feeding
 pub mod Place
+pub mod FramedTable
+pub mod FramedFault
 pub mod inner
 pub mod laws

@@ -220,8 +220,7 @@ fn add_first(alloc: Global, message: &Message) -> Result<Front, ImportError>
     }
 }
 
-/// What is known after one message more, whose body stands in the bytes, or the first fault of its checks. F0, the last of a schema's checks, still
-/// refuses dictionaries and other types than integers.
+/// What is known after one message more, whose body stands in the bytes, or the first fault of its checks.
 pub fn add_message(
     alloc: Global,
     front: Option<Front>,

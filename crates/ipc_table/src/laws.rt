@@ -5,6 +5,8 @@ ghost use Rattle.cells.specs.Cell.{PlainTable};
 ghost use Rattle.values.specs.Table.{IsTable};
 ghost use Rattle.ipc_message.specs.Header.{supported_codes};
 ghost use Rattle.ipc_table.specs.Fed.{settled_fault};
+ghost use Rattle.ipc_table.specs.FramedFault.{FaultStands};
+ghost use Rattle.ipc_table.specs.FramedTable.{StreamEncodes};
 ghost use Rattle.ipc_table.specs.Meaning.{meaning};
 
 use arrays::{
@@ -12,6 +14,19 @@ use arrays::{
     schemas_give_dictionary_columns,
 };
 use ipc_message::{Fault, checked_schema_is_within_limits, next_message_is_framed};
+
+/// A stream means the table that it encodes, and no other: framed messages, of which the first is the table's schema and each other a dictionary batch or a
+/// record batch that is read after those before it, whose rows one batch after another are the table's, and then nothing or the end of stream. A stream that
+/// means none has messages that are read, one after another, and then what the fault refuses; and a fault that stands is reported.
+pub fn meaning_is_framed()
+    ensures table { (supported : ℕ → Bool) (bytes : List ℕ) (t : PlainTable) → meaning supported bytes ≡ Ok t → StreamEncodes supported bytes t }
+    ensures once { (supported : ℕ → Bool) (bytes : List ℕ) (t u : PlainTable) → StreamEncodes supported bytes t → StreamEncodes supported bytes u → t ≡ u }
+    ensures means { (supported : ℕ → Bool) (bytes : List ℕ) (t : PlainTable) → StreamEncodes supported bytes t → meaning supported bytes ≡ Ok t }
+    ensures fault { (supported : ℕ → Bool) (bytes : List ℕ) (fault : Fault) → meaning supported bytes ≡ Err fault → FaultStands supported bytes fault }
+    ensures reported { (supported : ℕ → Bool) (bytes : List ℕ) (fault : Fault) → FaultStands supported bytes fault → meaning supported bytes ≡ Err fault }
+{
+    next_message_is_framed();
+}
 
 /// What a stream of bytes means is a table.
 pub fn meaning_is_a_table()

@@ -26,7 +26,7 @@ mod whole;
 pub use add::add_message;
 pub use decoder::{Decoder, FinishError};
 pub use front::Front;
-pub use laws::{meaning_is_a_table, settled_faults_stay};
+pub use laws::{meaning_is_a_table, meaning_is_framed, settled_faults_stay};
 pub use placing::place;
 pub use reading::read_front;
 pub use whole::{Weighed, decode, decode_weighed};

@@ -58,8 +58,7 @@ pub struct Weighed {
     pub weight: u64,
 }
 
-/// The table that a stream means with the weight of its rows, or the first fault. It keeps the bytes as one part, so that no cell is copied. F0, the last of
-/// the schema's checks, still refuses dictionaries and other types than integers.
+/// The table that a stream means with the weight of its rows, or the first fault. It keeps the bytes as one part, so that no cell is copied.
 pub fn decode_weighed(alloc: Global, bytes: Vec<u8>) -> Result<Weighed, ImportError>
     ensures exact { Gives (λ w. table_of w.table) result (meaning supported_codes bytes.items) }
     ensures weight { IfOk result (λ w. w.weight ≡ table_weight (table_of w.table).schema (table_of w.table).rows) }

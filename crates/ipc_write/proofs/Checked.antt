@@ -24,7 +24,7 @@ use Rattle.ipc_message.specs.Convert.{columns_of_fields}
 use Rattle.ipc_message.specs.Same.{one_id, same_parameters, same_index, same_pairs, same_parts, same_field, same_fields}
 use Rattle.ipc_message.specs.Checks.{is_unsupported, is_bad, is_index_type, timezone_of as raw_timezone, texts_of_field, texts_of, exceeds_limit, are_at_odds, has_other_type, has_two_types, is_nested as is_nested_name, is_dictionary_of_nested, schema_checks, checked_schema}
 use Rattle.ipc_write.specs.Trees.{code_of, ids_for}
-use Rattle.ipc_write.specs.Decoded.{parameters_of, encoding_of, raw_of, raw_below, raw_of_all, raw_schema, is_not_read}
+use Rattle.ipc_write.specs.Decoded.{parameters_of, encoding_of, raw_of, raw_below, raw_of_all, raw_schema}
 use Rattle.ipc_write.proofs.Room.{has_numbers, schema_numbers}
 use Rattle.ipc_write.proofs.Numbered.{own_ids, numbered, fields_numbered, fields_depth, fields_listed}
 use Rattle.ipc_write.proofs.Decoding.{is_size-number, schema_decoded}
@@ -351,18 +351,18 @@ utf8_is s limits =
     ∙ list_all-append is_utf8 (texts_of_pairs s.pairs) (flat_map texts_in (every_column s))
     ∙ and_from _ _ (list_all-from_AllPass _ _ limits.own_texts) texts
 
--- no check finds anything, where the schema is one that is read
-pub schema_unfaulted : (s : PlainSchema) → IsWithinLimits s → is_not_read s ≡ false → first_some (schema_checks supported_codes (raw_schema s)) ≡ None
+-- no check finds anything
+pub schema_unfaulted : (s : PlainSchema) → IsWithinLimits s → first_some (schema_checks supported_codes (raw_schema s)) ≡ None
 unfolding schema_checks
-schema_unfaulted s limits read =
+schema_unfaulted s limits =
     let cs : List Column = every_column s in
     let supported : find (is_unsupported supported_codes) (every_field (raw_schema s)) ≡ None = ap (find (is_unsupported supported_codes)) (every_is s) ∙ none_unsupported 0 cs in
     let decoded : list_any is_bad (every_field (raw_schema s)) ≡ false = ap (list_any is_bad) (every_is s) ∙ none_of is_bad has_numbers decoded_one 0 cs (schema_numbers s limits) in
     let types : has_two_types (every_field (raw_schema s)) ≡ false = ap has_two_types (every_is s) ∙ one_type_each 0 cs in
     let flat : list_any is_dictionary_of_nested (every_field (raw_schema s)) ≡ false =
     ap (list_any is_dictionary_of_nested) (every_is s) ∙ none_of is_dictionary_of_nested has_flat_dictionary flat_one 0 cs (list_all-from_AllPass _ _ limits.dictionaries) in
-    rw (supported, decoded, small_is s limits, utf8_is s limits, types, flat, read) refl
+    rw (supported, decoded, small_is s limits, utf8_is s limits, types, flat) refl
 
-pub schema_checked : (s : PlainSchema) → IsWithinLimits s → is_not_read s ≡ false → checked_schema supported_codes (raw_schema s) ≡ Ok s
+pub schema_checked : (s : PlainSchema) → IsWithinLimits s → checked_schema supported_codes (raw_schema s) ≡ Ok s
 unfolding checked_schema
-schema_checked s limits read = rw (schema_unfaulted s limits read) (ap Ok (schema_decoded s limits))
+schema_checked s limits = rw (schema_unfaulted s limits) (ap Ok (schema_decoded s limits))

@@ -1,10 +1,7 @@
 -- What the header of a written message decodes to.
-use Rattle.std.specs.Prelude.{ℕ, ◌+◌, Bool, not, ◌||◌, ◌==◌, length, Option, Some, None}
-use Rattle.std.specs.List.{list_any}
+use Rattle.std.specs.Prelude.{ℕ, ◌+◌, Option, Some, None}
 use Rattle.arrow_schema.specs.Column.{Index, Kind, Column, Columns, nulls, booleans, integers, dates, timestamps, texts, large_texts, binaries, large_binaries, fixed_binaries, lists, large_lists, fixed_lists, structs, column, no_column, and_column, columns_of, PlainSchema}
 use Rattle.ipc_message.specs.Raw.{RawParameters, no_parameters, integer_parameters, byte_width, list_size, date_unit, timestamp_parameters, RawEncoding, RawField, RawFields, raw_field, no_raw_field, and_raw_field, raw_list_of, RawSchema}
-use Rattle.ipc_message.specs.Fields.{every_field}
-use Rattle.ipc_message.specs.Checks.{is_not_yet}
 use Rattle.ipc_write.specs.Trees.{code_of, date_unit_of, time_unit_of, ids_for, ids_of}
 
 abbrev pub parameters_of : Kind → RawParameters
@@ -56,7 +53,3 @@ unfoldable mutual
 -- a schema as it is written
 abbrev pub raw_schema : PlainSchema → RawSchema
 raw_schema s = record { endianness = 0; fields = raw_list_of (raw_of_all 0 (columns_of s.columns)); pairs = s.pairs }
-
--- a schema that no reader here takes so far (F0)
-abbrev pub is_not_read : PlainSchema → Bool
-is_not_read s = not (length s.pairs == 0) || list_any is_not_yet (every_field (raw_schema s))

@@ -17,7 +17,7 @@ ghost use Rattle.ipc_message.specs.Framing.{next_message, message, taken, type_o
 ghost use Rattle.ipc_message.specs.declared.header_type.TheConstants.{SCHEMA, DICTIONARY_BATCH, RECORD_BATCH};
 ghost use Rattle.ipc_write.specs.Trees.{field_tree, schema_tree, dictionary_tree, batch_tree, message_tree, node_pair, buffer_pair};
 ghost use Rattle.ipc_write.specs.Written.{framed, schema_message, dictionary_message, batch_message, dictionary_batch_of, batch_of, schema_envelope, dictionary_envelope, batch_envelope, IsWritableBatch, body, placed};
-ghost use Rattle.ipc_write.specs.Decoded.{raw_of, raw_schema, is_not_read};
+ghost use Rattle.ipc_write.specs.Decoded.{raw_of, raw_schema};
 ghost use Rattle.ipc_write.specs.Walked.{HoldsTimes, tables_of, tables_of_all, IsHeaderType};
 
 /// A field that stands written is the field that is read there, and the walk over it enters its tables and finds
@@ -75,14 +75,14 @@ pub fn metadata_is_within_its_limit()
 
 /// The message of a schema within the limits is read again. `next_message`: it stands at the front of whatever follows it;
 /// `kind`: its header is a schema; `header`: what that header holds; `decoded`: that is the schema that was written;
-/// `checked`: no check refuses it, but for those that are not read yet; `after`: past it stands what follows it.
+/// `checked`: no check refuses it; `after`: past it stands what follows it.
 pub fn schema_message_is_read_again()
     ensures next_message { (s : PlainSchema) (rest : List ℕ) → IsWithinLimits s → next_message (schema_message s ++ rest) ≡ Ok (message (schema_envelope s)) }
     ensures kind { (s : PlainSchema) → IsWithinLimits s → type_of (schema_envelope s).metadata ≡ SCHEMA }
     ensures header { (supported : ℕ → Bool) (s : PlainSchema) → HoldsTimes supported → IsWithinLimits s
         → header supported (schema_envelope s).metadata ≡ Ok (schema_header (raw_schema s)) }
     ensures decoded { (s : PlainSchema) → IsWithinLimits s → plain_schema_of (raw_schema s) ≡ s }
-    ensures checked { (s : PlainSchema) → IsWithinLimits s → is_not_read s ≡ false → checked_schema supported_codes (raw_schema s) ≡ Ok s }
+    ensures checked { (s : PlainSchema) → IsWithinLimits s → checked_schema supported_codes (raw_schema s) ≡ Ok s }
     ensures after { (s : PlainSchema) (rest : List ℕ) → drop (taken (message (schema_envelope s))) (schema_message s ++ rest) ≡ rest }
 {
     flatbuf::written_is_read();

@@ -1,7 +1,15 @@
--- A command is decided by the catalogue alone, and then it is carried out or refused.
-use Rattle.std.proofs.Common.{◌≡◌, ℕ, Bool, true, false, refl, sym, ap, ◌∙◌, subst, if◌then◌else◌}
-use Rattle.sector_dev.specs.Disk.{Story}
+-- A command is decided, and then it is carried out or refused.
+use Rattle.std.specs.Prelude.{◌||◌, ◌↔◌, min, IfErr}
+use Rattle.std.proofs.Common.{◌≡◌, ℕ, ◌+◌, ◌-◌, ◌^◌, Bool, true, false, Result, Ok, Err, inl, refl, sym, ap, ◌∙◌, subst, if◌then◌else◌}
+use Rattle.sector_dev.specs.Disk.{Disk, Story, Image, now, MayLeave, shown_image, synced_image}
+use Rattle.sector_dev.specs.Time.{Grows, LeavesOnly}
+use Rattle.sector_dev.specs.laws.Crash.{only_image}
+use Rattle.sector_dev.specs.laws.Time.{stays, goes_on, weaken, now_read}
 use Rattle.sector_dev.specs.declared.device.SectorDevice.{Ghosts}
+use Rattle.segments.specs.Usages.{IsUsedIn, SameUsages}
+use Rattle.catalogue.specs.View.{catalogue_of}
+use Rattle.commit.specs.Standing.{standing, Stands}
+use Rattle.commit.specs.declared.recovery.Opened.{Opened}
 use Rattle.tables.specs.declared.refusal.Refusal.{Refusal}
 use Rattle.tables.specs.declared.refusal.Refusal.TheVariants as refusals
 use Rattle.tables.specs.declared.refusal.Limit.TheVariants as limits
@@ -9,12 +17,19 @@ use Rattle.tables.specs.Refusals.{Origin, by_tables, by_room, by_memory, by_devi
 use Rattle.tables.specs.Tables.{Tables}
 use Rattle.tables.specs.Commands.{PlainCommand}
 use Rattle.store.specs.declared.store.Store.{Store}
-use Rattle.store.specs.Calls.{apply_call, refused, is_failure}
-use Rattle.store.specs.Machine.{Machine, running, halted, tables_now}
+use Rattle.store.specs.declared.stored.StoredCatalogue.{StoredCatalogue}
+use Rattle.store.specs.Calls.{apply_call, PlainReply, refused, is_failure, is_device_reply}
+use Rattle.store.specs.Changes.{PlainChange}
+use Rattle.store.specs.Deciding.{IsDecided}
+use Rattle.store.specs.Held.{whole_reading}
+use Rattle.store.specs.Machine.{Setting, Machine, running, halted, tables_now, has_written, AllowsEach}
+use Rattle.store.specs.Reading.{OnlyReadsStore, ended}
+use Rattle.store.specs.Runs.{Goes, TellsFound, counted}
 use Rattle.store.specs.Steps.{Step, RefusesFrom}
-use Rattle.store.specs.Fits.{setting_of, StoreFits}
-use Rattle.store.specs.Applying.{RefusesFirst, GoesOn}
+use Rattle.store.specs.Fits.{setting_of, StoreFits, commit_of, listed_in, IsOnDisk}
+use Rattle.store.specs.Applying.{RefusesFirst, IsCarried, EndsAs, IsKept, HasDone, IsOldOrDone, Writes, HasWritten, GoesOn, reply_of}
 use Rattle.store.proofs.Asked.{still, not_running}
+use Rattle.store.proofs.ReadsStore.{moments_read, stays_reading, halts_reading}
 
 -- the device alone is the origin of a failure
 abbrev is_by_device : Origin → Bool
@@ -45,31 +60,185 @@ failure_origin (refusals.SegmentDamaged segment) = refl
 failure_origin refusals.Write = refl
 failure_origin refusals.OutOfMemory = refl
 
+-- no other refusal is a failure
+is_device : (r : Refusal) → is_failure r ≡ true → r ≡ refusals.Device
+is_device refusals.Device h = refl
+is_device refusals.NoTable h = absurd (cc h)
+is_device refusals.NameTaken h = absurd (cc h)
+is_device refusals.BadName h = absurd (cc h)
+is_device refusals.SchemaMismatch h = absurd (cc h)
+is_device (refusals.Import fault) h = absurd (cc h)
+is_device (refusals.RowUnfit row) h = absurd (cc h)
+is_device (refusals.TooMany limit) h = absurd (cc h)
+is_device (refusals.NoRoom sectors) h = absurd (cc h)
+is_device refusals.Halted h = absurd (cc h)
+is_device refusals.NoExport h = absurd (cc h)
+is_device (refusals.Query refusal) h = absurd (cc h)
+is_device (refusals.SegmentUnread segment) h = absurd (cc h)
+is_device refusals.Read h = absurd (cc h)
+is_device (refusals.SegmentDamaged segment) h = absurd (cc h)
+is_device refusals.Write h = absurd (cc h)
+is_device refusals.OutOfMemory h = absurd (cc h)
+
+-- a call that does not touch the device
+pub reads_nothing : {D : Type 0} {g : Ghosts D} (size : D → ℕ) (story : D → Story) (failed : D → ℕ) (tells : Bool) (reply : PlainReply) (store : Store D g) → is_device_reply reply ≡ false → OnlyReadsStore size story failed tells reply store store
+reads_nothing size story failed tells reply store quiet = record {
+  device = record {
+    same = refl;
+    moments = λ told. stays (λ (d : Disk). d ≡ now (story store.device)) (story store.device);
+    count = sym (ap (λ (b : Bool). if b then min (failed store.device + 1) (2 ^ 64 - 1) else failed store.device) quiet);
+  };
+  kept = refl;
+  halts = sym (ap (λ (b : Bool). store.halted || b) quiet ∙ or_no store.halted);
+}
+  where
+    or_no : (b : Bool) → (b || false) ≡ b
+    or_no true = refl
+    or_no false = refl
+
 module _ {D : Type 0} {g : Ghosts D} (size : D → ℕ) (story : D → Story) (failed : D → ℕ) (base : Tables) (m : Machine) (c : PlainCommand) where
   -- a command of a store that is halted
   pub refuses_halted : (store : Store D g) → store.halted ≡ true → StoreFits size story base m store → GoesOn size story failed base m (apply_call c) (refused refusals.Halted) store store
   unfolding Step
   refuses_halted store on fits = still size story failed base m (apply_call c) (refused refusals.Halted) store (not_running m.phase store.halted fits.phase on, (refl, refl)) refl fits tt
 
-  -- one that is refused before anything is read or written
-  pub refuses_first : (r : Refusal) (store : Store D g) → store.halted ≡ false → is_failure r ≡ false → StoreFits size story base m store
-      → RefusesFirst (origin_of r) (tables_now (setting_of (size store.device) base) m) c r → GoesOn size story failed base m (apply_call c) (refused r) store store
+  -- one that is refused before anything is written; the device may have been read
+  pub refuses_first : (tells : Bool) → tells ≡ true → (r : Refusal) (old new : Store D g) → old.halted ≡ false → StoreFits size story base m old → OnlyReadsStore size story failed tells (refused r) old new
+      → RefusesFirst (origin_of r) (tables_now (setting_of (size old.device) base) m) c r → GoesOn size story failed base m (apply_call c) (refused r) old new
   unfolding Step
-  refuses_first r store on none fits why = still size story failed base m (apply_call c) (refused r) store (by_origin (origin_of r) refl) none fits tt
+  refuses_first tells told r old new on fits reads why = by_origin (origin_of r) refl
     where
+      s : Setting
+      s = setting_of (size old.device) base
+
       running_is : m.phase ≡ running
       running_is = fits.phase ∙ ap (λ (b : Bool). if b then halted else running) on
 
-      moved : (o : Origin) → origin_of r ≡ o → RefusesFirst o (tables_now (setting_of (size store.device) base) m) c r
-      moved o is = subst (λ (x : Origin). RefusesFirst x (tables_now (setting_of (size store.device) base) m) c r) is why
+      moved : (o : Origin) → origin_of r ≡ o → RefusesFirst o (tables_now s m) c r
+      moved o is = subst (λ (x : Origin). RefusesFirst x (tables_now s m) c r) is why
 
-      back : (o : Origin) → origin_of r ≡ o → RefusesFrom o (setting_of (size store.device) base) m c r false m → Step (setting_of (size store.device) base) m (apply_call c) (refused r) false m
-      back o is step = subst (λ (x : Origin). RefusesFrom x (setting_of (size store.device) base) m c r false m) (sym is) step
+      stays_by : (o : Origin) → origin_of r ≡ o → is_by_device o ≡ false → RefusesFrom o s m c r false m → GoesOn size story failed base m (apply_call c) (refused r) old new
+      stays_by o is none step =
+          let quiet : is_failure r ≡ false = failure_origin r ∙ ap is_by_device is ∙ none in
+          stays_reading size story failed base m tells told old new fits (apply_call c) (refused r) (refused r) quiet quiet tt (subst (λ (x : Origin). RefusesFrom x s m c r false m) (sym is) step) reads
 
-      by_origin : (o : Origin) → origin_of r ≡ o → Step (setting_of (size store.device) base) m (apply_call c) (refused r) false m
-      by_origin by_tables is = back by_tables is (running_is, moved by_tables is, (refl, refl))
-      by_origin by_memory is = back by_memory is (running_is, (refl, refl))
-      by_origin by_device is = let both : false ≡ true = sym none ∙ failure_origin r ∙ ap is_by_device is in absurd (cc both)
+      by_origin : (o : Origin) → origin_of r ≡ o → GoesOn size story failed base m (apply_call c) (refused r) old new
+      by_origin by_tables is = stays_by by_tables is refl (running_is, moved by_tables is, (refl, refl))
+      by_origin by_memory is = stays_by by_memory is refl (running_is, (refl, refl))
+      by_origin by_device is =
+          let device : r ≡ refusals.Device = is_device r (failure_origin r ∙ ap is_by_device is) in
+          subst (λ (q : Refusal). OnlyReadsStore size story failed tells (refused q) old new → GoesOn size story failed base m (apply_call c) (refused q) old new) (sym device)
+          (halts_reading size story failed base m tells told old new fits (apply_call c) (running_is, refl)) reads
       by_origin by_room is = absurd (moved by_room is)
       by_origin by_halt is = absurd (moved by_halt is)
       by_origin elsewhere is = absurd (moved elsewhere is)
+
+  -- a call that goes on from where reads left the store
+  pub goes_after : (tells : Bool) → tells ≡ true → (old mid new : Store D g) (ends reply : PlainReply) → is_device_reply ends ≡ false → StoreFits size story base m old → OnlyReadsStore size story failed tells ends old mid
+      → TellsFound (setting_of (size old.device) base) reply (now (story old.device)) → GoesOn size story failed base m (apply_call c) reply mid new → GoesOn size story failed base m (apply_call c) reply old new
+  goes_after tells told old mid new ends reply quiet fits reads found goes =
+      let moments = reads.device.moments told in
+      let later : now (story mid.device) ≡ now (story old.device) = now_read (story old.device) (story mid.device) moments in
+      let s : Setting = setting_of (size old.device) base in
+      let own : Goes s m (apply_call c) reply (story mid.device) (story new.device) (failed mid.device) (failed new.device) goes.next =
+      subst (λ (n : ℕ). Goes (setting_of n base) m (apply_call c) reply (story mid.device) (story new.device) (failed mid.device) (failed new.device) goes.next) reads.device.same goes.goes in
+      record {
+        next = goes.next;
+        same = goes.same ∙ reads.device.same;
+        goes = record {
+          step = subst (λ (d : Disk). Step s m (apply_call c) reply (has_written d (now (story new.device))) goes.next) later own.step;
+          moments = goes_on (moments_read s m (apply_call c) reply (story old.device) (story mid.device) fits.device.allows moments)
+              (subst (λ (d : Disk). Grows (AllowsEach s (apply_call c) reply m d) (story mid.device) (story new.device)) later own.moments);
+          settles = own.settles;
+          quiet = λ no device. own.quiet no device ∙ later;
+          counts = own.counts ∙ ap (counted reply) (reads.device.count ∙ ap (λ (b : Bool). if b then min (failed old.device + 1) (2 ^ 64 - 1) else failed old.device) quiet);
+          tells = found;
+        };
+        fits = goes.fits;
+      }
+
+-- ---- what a command leaves of a store that was read before
+
+module _ {D : Type 0} {g : Ghosts D} (size : D → ℕ) (story : D → Story) (failed : D → ℕ) (tells : Bool) (old mid : Store D g) (ends : PlainReply) (reads : OnlyReadsStore size story failed tells ends old mid) where
+  pub ends_after : (d : Result PlainChange Refusal) (result : Result (Unit {0}) Refusal) (new : Store D g) → EndsAs size mid d result new → EndsAs size old d result new
+  ends_after (Ok change) result new carried =
+      subst (λ (o : Opened StoredCatalogue). IsCarried (size old.device) (IsUsedIn o.map.entries) o.commit (catalogue_of o.catalogue.list) change result (commit_of new) (listed_in new)) reads.kept
+      (subst (λ (n : ℕ). IsCarried n (IsUsedIn mid.opened.map.entries) mid.opened.commit (catalogue_of mid.opened.catalogue.list) change result (commit_of new) (listed_in new)) reads.device.same carried)
+  ends_after (Err r) result new is = is
+
+  pub kept_after : (new : Store D g) → IsKept mid new → IsKept old new
+  kept_after new is = subst (λ (o : Opened StoredCatalogue). (new.opened.commit ≡ o.commit) × (listed_in new ≡ catalogue_of o.catalogue.list) × SameUsages o.map.entries new.opened.map.entries) reads.kept is
+
+  module _ (told : tells ≡ true) (c : PlainCommand) where
+    later : now (story mid.device) ≡ now (story old.device)
+    later = now_read (story old.device) (story mid.device) (reads.device.moments told)
+
+    pub on_disk_after : IsOnDisk size story old → IsOnDisk size story mid
+    on_disk_after on =
+        subst (λ (o : Opened StoredCatalogue). Stands whole_reading (size mid.device) (now (story mid.device)) o.commit (catalogue_of o.catalogue.list)) (sym reads.kept)
+        (subst (λ (n : ℕ). Stands whole_reading n (now (story mid.device)) old.opened.commit (listed_in old)) (sym reads.device.same)
+        (subst (λ (d : Disk). Stands whole_reading (size old.device) d old.opened.commit (listed_in old)) (sym later) on))
+
+    pub decided_after : (change : PlainChange) → IsDecided true (shown_image (now (story old.device))) (listed_in old) c (Ok change) → IsDecided true (shown_image (now (story mid.device))) (listed_in mid) c (Ok change)
+    decided_after change is =
+        subst (λ (o : Opened StoredCatalogue). IsDecided true (shown_image (now (story mid.device))) (catalogue_of o.catalogue.list) c (Ok change)) (sym reads.kept)
+        (subst (λ (d : Disk). IsDecided true (shown_image d) (listed_in old) c (Ok change)) (sym later) is)
+
+    -- while it was read each image has what stood
+    pub stood : IsOnDisk size story old → Grows (LeavesOnly (IsOldOrDone (size old.device) (IsUsedIn old.opened.map.entries) old.opened.commit (listed_in old) (now (story old.device)) c)) (story old.device) (story mid.device)
+    stood on = weaken each (reads.device.moments told)
+      where
+        each : (d : Disk) → d ≡ now (story old.device) → LeavesOnly (IsOldOrDone (size old.device) (IsUsedIn old.opened.map.entries) old.opened.commit (listed_in old) (now (story old.device)) c) d
+        each d is image may =
+            let one : image ≡ synced_image (now (story old.device)) = only_image (now (story old.device)) image on.quiet.pending (subst (λ (x : Disk). MayLeave x image) is may) in
+            record {
+              which = inl (ap (standing whole_reading (size old.device)) one ∙ on.found);
+              kept = λ n within. ap (λ (i : Image). i n) one;
+            }
+
+    pub writes_after : (new : Store D g) → IsOnDisk size story old → Writes size story mid c new → Writes size story old c new
+    writes_after new on writes =
+        goes_on (stood on)
+        (subst (λ (o : Opened StoredCatalogue). Grows (LeavesOnly (IsOldOrDone (size old.device) (IsUsedIn o.map.entries) o.commit (catalogue_of o.catalogue.list) (now (story old.device)) c)) (story mid.device) (story new.device)) reads.kept
+        (subst (λ (n : ℕ). Grows (LeavesOnly (IsOldOrDone n (IsUsedIn mid.opened.map.entries) mid.opened.commit (listed_in mid) (now (story old.device)) c)) (story mid.device) (story new.device)) reads.device.same
+        (subst (λ (d : Disk). Grows (LeavesOnly (IsOldOrDone (size mid.device) (IsUsedIn mid.opened.map.entries) mid.opened.commit (listed_in mid) d c)) (story mid.device) (story new.device)) later writes)))
+
+    pub written_after : (new : Store D g) → HasWritten size story mid c new → HasWritten size story old c new
+    written_after new has = record {
+      stands = has.stands;
+      holds =
+          subst (λ (o : Opened StoredCatalogue). HasDone (size old.device) (IsUsedIn o.map.entries) o.commit (catalogue_of o.catalogue.list) (now (story old.device)) c (synced_image (now (story new.device)))) reads.kept
+          (subst (λ (n : ℕ). HasDone n (IsUsedIn mid.opened.map.entries) mid.opened.commit (listed_in mid) (now (story old.device)) c (synced_image (now (story new.device)))) reads.device.same
+          (subst (λ (d : Disk). HasDone (size mid.device) (IsUsedIn mid.opened.map.entries) mid.opened.commit (listed_in mid) d c (synced_image (now (story new.device)))) later has.holds));
+    }
+
+-- ---- answers
+
+-- a decision that is no failure of the device
+pub ended_quiet : {T : Type 0} (r : Result T Refusal) → IfErr r (λ e. is_failure e ≡ false) → is_device_reply (ended r) ≡ false
+ended_quiet (Ok x) h = refl
+ended_quiet (Err e) h = h
+
+-- what is found is told of openings and formattings alone
+pub tells_command : (s : Setting) (d : Disk) (r : Result (Unit {0}) Refusal) → TellsFound s (reply_of r) d
+tells_command s d (Ok unit) = tt
+tells_command s d (Err e) = tt
+
+pub err_weaker : (r : Result (Unit {0}) Refusal) (P Q : Refusal → Type 0) → ((e : Refusal) → P e → Q e) → IfErr r P → IfErr r Q
+err_weaker (Ok unit) P Q f h = tt
+err_weaker (Err e) P Q f h = f e h
+
+-- a refusal of a store that was only read
+pub read_kept : {D : Type 0} {g : Ghosts D} (size : D → ℕ) (story : D → Story) (failed : D → ℕ) (tells : Bool) (old new : Store D g) (ends : PlainReply) → OnlyReadsStore size story failed tells ends old new → IsKept old new
+read_kept size story failed tells old new ends reads =
+    kept_after size story failed tells old new ends reads new (refl, refl, λ run. refl)
+
+abbrev refused_by : Refusal → Result (Unit {0}) Refusal
+refused_by r = Err r
+
+-- the store is halted just where the device failed
+pub read_halts : {D : Type 0} {g : Ghosts D} (size : D → ℕ) (story : D → Story) (failed : D → ℕ) (tells : Bool) (old new : Store D g) (r : Refusal) → old.halted ≡ false → OnlyReadsStore size story failed tells (refused r) old new
+    → (new.halted ≡ true) ↔ (refused_by r ≡ Err refusals.Device)
+read_halts size story failed tells old new r on reads =
+    let is : new.halted ≡ is_failure r = reads.halts ∙ ap (λ (b : Bool). b || is_failure r) on in
+    (λ (h : new.halted ≡ true). ap refused_by (is_device r (sym is ∙ h)), λ (h : refused_by r ≡ Err refusals.Device). is ∙ ap is_failure (let e : r ≡ refusals.Device = cc h in e))

@@ -3,7 +3,7 @@ use Rattle.std.specs.Prelude.{None, ◌≡◌, ◌≢◌, ◌<◌, ◌+◌, ◌-
 use Rattle.std.proofs.Common.{inl, inr, ⊎_elim, sym, ap, ◌∙◌, subst, arith}
 use Rattle.std.proofs.lemmas.Bool.{lt-ltb}
 use Rattle.std.proofs.lemmas.Bool.Decides.{nat_tests}
-use Rattle.sector_dev.specs.Disk.{Disk, Sector, Story, Image, now, synced_image}
+use Rattle.sector_dev.specs.Disk.{Disk, Sector, Story, Image, now, synced_image, shown_image}
 use Rattle.sector_dev.specs.declared.device.SectorDevice.{Ghosts}
 use Rattle.sector_dev.specs.Time.{Grows, LeavesOnly}
 use Rattle.sector_dev.specs.laws.Time.{weaken, now_has, stays}
@@ -171,14 +171,14 @@ module _ (old new : Space) (k : Commit) (was : PlainCatalogue) (change : PlainCh
 
 -- what the disk holds of a command that asks for a change
 module _ (old new : Space) (k : Commit) (was : PlainCatalogue) (change : PlainChange) (plan : Plan StoredCatalogue) (back : List Run) (p : IsPrepared old new k was change plan back)
-    (size : ℕ) (same : old.size ≡ size) (sound : IsChange was change) (c : PlainCommand) (decided : IsDecided was c (Ok change)) where
+    (size : ℕ) (same : old.size ≡ size) (sound : IsChange was change) (d : Disk) (c : PlainCommand) (decided : IsDecided true (shown_image d) was c (Ok change)) where
   takes : Takes size (IsUsedIn old.entries) (asked_sizes was change) (Ok (runs_of p.pieces ++ p.run ∷ []))
   takes =
       subst (λ (n : ℕ). Takes n (IsUsedIn old.entries) (asked_sizes was change) (Ok (runs_of p.pieces ++ p.run ∷ []))) same
       (took_takes old.size (IsUsedIn old.entries) (asked_sizes was change) (runs_of p.pieces ++ p.run ∷ []) p.took.took)
 
   pub has_done : (image : Image) → StandsAs whole_reading size plan.commit (catalogue_of plan.catalogue.list) image → HoldsEach image plan.pieces.items
-      → HasDone size (IsUsedIn old.entries) k was c image
+      → HasDone size (IsUsedIn old.entries) k was d c image
   has_done image stands holds_each = record {
     change = change;
     decides = decided;
@@ -189,10 +189,10 @@ module _ (old new : Space) (k : Commit) (was : PlainCatalogue) (change : PlainCh
     holds = streams_held old new k was change plan back p image sound holds_each;
   }
 
-  old_or_done : (d : Disk) → CanReplace whole_reading size d (record { old = k; was = was; new = plan.commit; will = catalogue_of plan.catalogue.list; pieces = plan.pieces.items }) → (x : Disk)
+  old_or_done : CanReplace whole_reading size d (record { old = k; was = was; new = plan.commit; will = catalogue_of plan.catalogue.list; pieces = plan.pieces.items }) → (x : Disk)
       → IsPublishing d plan.commit plan.pieces.items (StandsAs whole_reading size k was) (StandsAs whole_reading size plan.commit (catalogue_of plan.catalogue.list)) x
       → LeavesOnly (IsOldOrDone size (IsUsedIn old.entries) k was d c) x
-  old_or_done d can x is image may =
+  old_or_done can x is image may =
       let either = is.leaves image may in
       record {
         which = ⊎_elim (λ (stood : StandsAs whole_reading size k was image). inl stood)
@@ -238,7 +238,7 @@ can_publish {g = g} s mid change plan back prep sound d stands =
 
 -- each moment of a publishing, by the command that asks for the change
 pub writes : {D : Type 0} {g : Ghosts D} (s : Store D g) (mid : Space) (change : PlainChange) (plan : Plan StoredCatalogue) (back : List Run)
-    → IsPrepared s.opened.map mid s.opened.commit (listed_in s) change plan back → IsChange (listed_in s) change → (c : PlainCommand) → IsDecided (listed_in s) c (Ok change) → (s1 : Story)
+    → IsPrepared s.opened.map mid s.opened.commit (listed_in s) change plan back → IsChange (listed_in s) change → (c : PlainCommand) → IsDecided true (shown_image (now (g.story s.device))) (listed_in s) c (Ok change) → (s1 : Story)
     → Stands whole_reading (g.size s.device) (now (g.story s.device)) s.opened.commit (listed_in s)
     → (CanReplace whole_reading (g.size s.device) (now (g.story s.device)) (record { old = s.opened.commit; was = listed_in s; new = plan.commit; will = catalogue_of plan.catalogue.list; pieces = plan.pieces.items })
     → Grows (IsPublishing (now (g.story s.device)) plan.commit plan.pieces.items (StandsAs whole_reading (g.size s.device) s.opened.commit (listed_in s)) (StandsAs whole_reading (g.size s.device) plan.commit (catalogue_of plan.catalogue.list)))
@@ -247,7 +247,7 @@ pub writes : {D : Type 0} {g : Ghosts D} (s : Store D g) (mid : Space) (change :
 writes {g = g} s mid change plan back prep sound c decided s1 stands moments =
     let d = now (g.story s.device) in
     let can = can_publish {g = g} s mid change plan back prep sound d stands in
-    weaken (old_or_done s.opened.map mid s.opened.commit (listed_in s) change plan back prep (g.size s.device) s.same sound c decided d can) (moments can)
+    weaken (old_or_done s.opened.map mid s.opened.commit (listed_in s) change plan back prep (g.size s.device) s.same sound d c decided can) (moments can)
 
 pub images : {D : Type 0} {g : Ghosts D} (base : Tables) (m : Machine) (s : Store D g) (mid : Space) (change : PlainChange) (plan : Plan StoredCatalogue) (back : List Run) (new : Tables)
     → IsPrepared s.opened.map mid s.opened.commit (listed_in s) change plan back → IsChange (listed_in s) change → IsSound g.size g.story base m s → MakesOf (after base m.settled) change new

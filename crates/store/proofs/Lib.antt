@@ -6,11 +6,11 @@ mod Tested
 mod Decided
 mod Prepared
 mod Carried
-mod Integers
 mod Appended
 mod Answered
 mod Began
 mod HeldTables
+mod MoreRows
 mod ReadTables
 mod ReadsStore
 mod Applied

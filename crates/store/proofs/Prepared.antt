@@ -19,7 +19,7 @@ use Rattle.segments.specs.laws.Usages.{same_run_is}
 use Rattle.segments.specs.Writing.{runs_of, HoldsEach}
 use Rattle.segments.specs.laws.ReadBack.{read_back}
 use Rattle.catalogue.specs.declared.limits.TheConstants.{MAX_SEGMENTS}
-use Rattle.catalogue.specs.Entries.{PlainCatalogue, is_between, is_segment, IsCatalogue, AreRead, segment_count}
+use Rattle.catalogue.specs.Entries.{PlainCatalogue, is_between, is_segment, IsCatalogue, segment_count}
 use Rattle.catalogue.specs.Entries as entries
 use Rattle.catalogue.specs.Text.{list_size}
 use Rattle.catalogue.specs.Reading.{catalogue_at}

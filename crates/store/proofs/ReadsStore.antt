@@ -48,7 +48,7 @@ never true = refl
 never false = refl
 
 -- at each moment the machine allows what it allowed
-moments_read : (s : Setting) (m : Machine) (call : PlainCall) (reply : PlainReply) (old new : Story) → LeavesOnly (Allows s m) (now old) → OnlyReads old new → Grows (AllowsEach s call reply m (now old)) old new
+pub moments_read : (s : Setting) (m : Machine) (call : PlainCall) (reply : PlainReply) (old new : Story) → LeavesOnly (Allows s m) (now old) → OnlyReads old new → Grows (AllowsEach s call reply m (now old)) old new
 moments_read s m call reply old new allows reads = weaken each reads
   where
     written : (d : Disk) → d ≡ now old → (may_be_done reply && has_written (now old) d) ≡ false
@@ -90,6 +90,23 @@ module _ {D : Type 0} {g : Ghosts D} (size : D → ℕ) (story : D → Story) (f
     fresh = λ early. let never = sym fits.started ∙ sym same.0 ∙ early in absurd (cc never);
   }
 
+  -- where the device does not fail it stands for the same machine
+  pub fits_reading : (ends : PlainReply) → is_device_reply ends ≡ false → OnlyReadsStore size story failed tells ends old new → StoreFits size story base m new
+  fits_reading ends quiet reads =
+      let later : now (story new.device) ≡ now (story old.device) = now_read (story old.device) (story new.device) (reads.device.moments told) in
+      let allows : LeavesOnly (Allows own m) (now (story new.device)) = subst (λ (d : Disk). LeavesOnly (Allows own m) d) (sym later) fits.device.allows in
+      let halts : new.halted ≡ old.halted = reads.halts ∙ ap (λ (b : Bool). old.halted || b) quiet ∙ or_no old.halted in
+      record {
+        phase = fits.phase ∙ ap (λ (b : Bool). if b then halted else running) (sym halts);
+        started = fits.started;
+        device = device_after m ends reads (refl, refl, refl) allows;
+        sound = λ on. sound_after ends reads (fits.sound on);
+      }
+    where
+      or_no : (b : Bool) → (b || false) ≡ b
+      or_no true = refl
+      or_no false = refl
+
   -- where the device does not fail
   pub stays_reading : (call : PlainCall) (reply ends : PlainReply) → is_device_reply ends ≡ false → is_device_reply reply ≡ false → TellsFound own reply (now (story old.device)) → Step own m call reply false m → OnlyReadsStore size story failed tells ends old new
       → GoesOn size story failed base m call reply old new
@@ -97,7 +114,6 @@ module _ {D : Type 0} {g : Ghosts D} (size : D → ℕ) (story : D → Story) (f
       let moments = reads.device.moments told in
       let later : now (story new.device) ≡ now (story old.device) = now_read (story old.device) (story new.device) moments in
       let allows : LeavesOnly (Allows own m) (now (story new.device)) = subst (λ (d : Disk). LeavesOnly (Allows own m) d) (sym later) fits.device.allows in
-      let halts : new.halted ≡ old.halted = reads.halts ∙ ap (λ (b : Bool). old.halted || b) quiet ∙ or_false old.halted in
       record {
         next = m;
         same = reads.device.same;
@@ -109,17 +125,8 @@ module _ {D : Type 0} {g : Ghosts D} (size : D → ℕ) (story : D → Story) (f
           counts = reads.device.count ∙ ap (λ (b : Bool). if b then min (failed old.device + 1) (2 ^ 64 - 1) else failed old.device) (quiet ∙ sym answered);
           tells = found;
         };
-        fits = record {
-          phase = fits.phase ∙ ap (λ (b : Bool). if b then halted else running) (sym halts);
-          started = fits.started;
-          device = device_after m ends reads (refl, refl, refl) allows;
-          sound = λ on. sound_after ends reads (fits.sound on);
-        };
+        fits = fits_reading ends quiet reads;
       }
-    where
-      or_false : (b : Bool) → (b || false) ≡ b
-      or_false true = refl
-      or_false false = refl
 
   -- where it fails
   pub halts_reading : (call : PlainCall) → Step own m call (refused refusals.Device) false (halt call false m) → OnlyReadsStore size story failed tells (refused refusals.Device) old new
@@ -156,7 +163,7 @@ module _ {D : Type 0} {g : Ghosts D} (size : D → ℕ) (story : D → Story) (f
 
   -- ---- what it answers
 
-  shown : m.phase ≡ running → shown_image (now (story old.device)) ≡ synced_image (now (story old.device))
+  pub shown : m.phase ≡ running → shown_image (now (story old.device)) ≡ synced_image (now (story old.device))
   shown on = shown_is_synced (now (story old.device)) (fits.sound on).stands.quiet.shown
 
   -- a table that was read is the machine's

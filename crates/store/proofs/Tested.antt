@@ -11,15 +11,14 @@ use Rattle.catalogue.specs.Edits.{entry_of, with_entry}
 use Rattle.catalogue.specs.Counts.{HasMore, HasSame}
 use Rattle.values.specs.Table.{table_from, first_unfit}
 use Rattle.arrow_schema.specs.Limits.{IsWithinLimits}
-use Rattle.catalogue.specs.Schemas.{is_read}
 use Rattle.ipc_message.specs.declared.fault.Fault.{Fault}
 use Rattle.ipc_message.specs.declared.error.ImportError.{ImportError}
 use Rattle.ipc_message.specs.declared.error.ImportError.TheVariants as imports
 use Rattle.ipc_message.specs.Header.{supported_codes}
 use Rattle.ipc_message.specs.Outcome.{Fails}
-use Rattle.ipc_stream.specs.Canonical.{pieces_of}
-use Rattle.ipc_stream.specs.Meaning.{meaning}
-use Rattle.ipc_stream.specs.Pieces.{piece_streams, piece_counts, IsPiece}
+use Rattle.table_cut.specs.Piece.{pieces_of}
+use Rattle.ipc_table.specs.Meaning.{meaning}
+use Rattle.canonical_write.specs.Pieces.{piece_streams, piece_counts, IsPiece}
 use Rattle.store.specs.laws.Pieces.{pieces_each, pieces_some, pieces_few}
 use Rattle.ipc_message.specs.laws.Accepted.{first_none}
 use Rattle.store.specs.Changes.{put, move, remove, HasEntry, IsEdit, IsChange, new_entry, rows_under, stream_rows}
@@ -236,9 +235,9 @@ room_by c e (Some old) is counts sound h = omega (arith, sound.tables, (counts.s
 
 -- a name and a schema may be put where there is room
 pub put_is_edit : (c : PlainCatalogue) (name : List ℕ) (schema : PlainSchema) (streams : List (List ℕ)) → Counts c → IsCatalogue c → bad_name name ≡ None → full_in c name ≡ None
-    → IsWithinLimits schema → is_read schema ≡ true → IsEdit c (put name schema) streams
-put_is_edit c name schema streams counts sound named room within read =
-    (name_passed name named, within, read, room_by c (new_entry name schema []) (entry_of c name) refl counts sound room)
+    → IsWithinLimits schema → IsEdit c (put name schema) streams
+put_is_edit c name schema streams counts sound named room within =
+    (name_passed name named, within, room_by c (new_entry name schema []) (entry_of c name) refl counts sound room)
 
 pub record CreatePassed (c : PlainCatalogue) (name : List ℕ) : Type 0 where
   pub named : bad_name name ≡ None
@@ -251,11 +250,11 @@ create_names c name h =
     let three = first_none (full_in c name) [] two.1 in
     record { named = one.0; room = three.0 }
 
-pub create_is_change : (c : PlainCatalogue) (name : List ℕ) (schema : PlainSchema) → Counts c → IsCatalogue c → create_tests c name ≡ None → IsWithinLimits schema → is_read schema ≡ true
+pub create_is_change : (c : PlainCatalogue) (name : List ℕ) (schema : PlainSchema) → Counts c → IsCatalogue c → create_tests c name ≡ None → IsWithinLimits schema
     → IsChange c (record { edit = put name schema; streams = []; counts = [] })
-create_is_change c name schema counts sound h within read =
+create_is_change c name schema counts sound h within =
     let passed = create_names c name h in
-    record { edit = put_is_edit c name schema [] counts sound passed.named passed.room within read; each = refl; some = tt; short = tt; rows = refl }
+    record { edit = put_is_edit c name schema [] counts sound passed.named passed.room within; each = refl; some = tt; short = tt; rows = refl }
 
 pub create_decided : (c : PlainCatalogue) (t : Tables) (name : List ℕ) (schema : PlainSchema) → Lists c t → create_tests c name ≡ None
     → table_from schema [] ≡ Ok (rows_under schema []) → Decides t (create name schema) (Ok (record { edit = put name schema; streams = []; counts = [] }))
@@ -306,13 +305,13 @@ import_decided c t name bytes table streams counts lists h means room holds = (
 
 -- what is put with the streams of a table's pieces is a change
 pub import_is_change : (c : PlainCatalogue) (name bytes : List ℕ) (table : PlainTable) → Counts c → IsCatalogue c → import_tests name bytes ≡ None → full_in c name ≡ None
-    → IsWithinLimits table.schema → is_read table.schema ≡ true → AllByRecursion (IsPiece table.schema) (pieces_of table)
+    → IsWithinLimits table.schema → AllByRecursion (IsPiece table.schema) (pieces_of table)
     → AllByRecursion (λ (stream : List ℕ). length stream < 2 ^ 64) (piece_streams table)
     → IsChange c (record { edit = put name table.schema; streams = piece_streams table; counts = piece_counts table })
-import_is_change c name bytes table counts sound h room within read pieces short =
+import_is_change c name bytes table counts sound h room within pieces short =
     let one = first_none (bad_name name) (too_many_bytes bytes ∷ []) h in
     record {
-      edit = put_is_edit c name table.schema (piece_streams table) counts sound one.0 room within read;
+      edit = put_is_edit c name table.schema (piece_streams table) counts sound one.0 room within;
       each = pieces_each table;
       some = pieces_some table pieces;
       short = short;

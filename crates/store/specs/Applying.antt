@@ -1,6 +1,6 @@
 -- How commands are decided and carried out, and what each call of an open store leaves.
-use Rattle.std.specs.Prelude.{◌≡◌, ◌⊎◌, ◌<◌, ◌≤◌, ◌-◌, ◌^◌, ◌++◌, ℕ, List, [], ◌∷◌, length, map, Option, Some, None, Result, Ok, Err}
-use Rattle.sector_dev.specs.Disk.{Disk, Image, Story, now, synced_image}
+use Rattle.std.specs.Prelude.{◌≡◌, ◌⊎◌, ◌<◌, ◌≤◌, ◌-◌, ◌^◌, ◌++◌, ℕ, Bool, true, false, List, [], ◌∷◌, length, map, Option, Some, None, Result, Ok, Err}
+use Rattle.sector_dev.specs.Disk.{Disk, Image, Story, now, shown_image, synced_image}
 use Rattle.sector_dev.specs.Time.{Grows, LeavesOnly}
 use Rattle.sector_dev.specs.declared.device.SectorDevice.{Ghosts}
 use Rattle.segments.specs.Sectors.{sector_count}
@@ -21,7 +21,7 @@ use Rattle.tables.specs.declared.refusal.Refusal.TheVariants as refusals
 use Rattle.tables.specs.declared.refusal.Limit.TheVariants as limits
 use Rattle.tables.specs.Refusals.{Origin, by_tables, by_memory, by_device, origin_of}
 use Rattle.tables.specs.Tables.{Tables, table_at, table_count}
-use Rattle.tables.specs.Commands.{PlainCommand}
+use Rattle.tables.specs.Commands.{PlainCommand, append_stream}
 use Rattle.tables.specs.Verdict.{verdict}
 use Rattle.store.specs.declared.store.Store.{Store}
 use Rattle.store.specs.Calls.{PlainCall, PlainReply, done, refused}
@@ -98,11 +98,16 @@ EndsAs size old (Ok change) result new =
     IsCarried (size (device_of old)) (IsUsedIn old.opened.map.entries) (commit_of old) (listed_in old) change result (commit_of new) (listed_in new)
 EndsAs size old (Err r) result new = result ≡ Err r
 
--- a command of a store that is not halted: what is decided by its catalogue, and how that ends
-pub record IsApplied {D : Type 0} {g : Ghosts D} (size : D → ℕ) (old : Store D g) (command : PlainCommand) (result : Result (Unit {0}) Refusal) (new : Store D g) : Type 0 where
+-- a command of a store that is not halted: what is decided by its catalogue and what reads show, and how that ends
+pub record IsApplied {D : Type 0} {g : Ghosts D} (size : D → ℕ) (story : D → Story) (tells : Bool) (old : Store D g) (command : PlainCommand) (result : Result (Unit {0}) Refusal) (new : Store D g) : Type 0 where
   pub decision : Result PlainChange Refusal
-  pub decides : IsAnswered (listed_in old) command decision
+  pub decides : IsAnswered tells (shown_image (now (story (device_of old)))) (listed_in old) command decision
   pub ends : EndsAs size old decision result new
+
+-- commands that read the device: the table that takes more rows is weighed
+abbrev pub reads_device : PlainCommand → Bool
+reads_device (append_stream name bytes) = true
+reads_device _ = false
 
 -- what a refusal leaves as it was: the commit, the catalogue and what each run is in use for
 abbrev pub IsKept : {D : Type 0} {g : Ghosts D} → (old new : Store D g) → Type 0
@@ -112,9 +117,9 @@ IsKept old new = (commit_of new ≡ commit_of old) × (listed_in new ≡ listed_
 
 -- on an image a command was carried out: beside the runs that were in use the lowest that are free were taken, the next commit rules with the
 -- catalogue that was decided, and its new segments hold their streams
-pub record HasDone (size : ℕ) (used : Run → Type 0) (k : Commit) (c : PlainCatalogue) (command : PlainCommand) (image : Image) : Type 0 where
+pub record HasDone (size : ℕ) (used : Run → Type 0) (k : Commit) (c : PlainCatalogue) (before : Disk) (command : PlainCommand) (image : Image) : Type 0 where
   pub change : PlainChange
-  pub decides : IsDecided c command (Ok change)
+  pub decides : IsDecided true (shown_image before) c command (Ok change)
   pub places : List Run
   pub text : Run
   pub takes : Takes size used (asked_sizes c change) (Ok (places ++ text ∷ []))
@@ -125,7 +130,7 @@ pub record HasDone (size : ℕ) (used : Run → Type 0) (k : Commit) (c : PlainC
 -- what a stop in a command leaves: the commit and the catalogue that stood, or a command that was carried out; and what lay in the runs of
 -- that catalogue lies there still
 pub record IsOldOrDone (size : ℕ) (used : Run → Type 0) (k : Commit) (c : PlainCatalogue) (before : Disk) (command : PlainCommand) (image : Image) : Type 0 where
-  pub which : (standing whole_reading size image ≡ rules k c) ⊎ HasDone size used k c command image
+  pub which : (standing whole_reading size image ≡ rules k c) ⊎ HasDone size used k c before command image
   pub kept : (n : ℕ) → InSome (used_runs whole_reading k c) n → image n ≡ (before.at n).synced
 
 -- at each moment of a command of a store that lies on its disk
@@ -137,7 +142,7 @@ Writes size story old command new =
 -- and after one that was done
 pub record HasWritten {D : Type 0} {g : Ghosts D} (size : D → ℕ) (story : D → Story) (old : Store D g) (command : PlainCommand) (new : Store D g) : Type 0 where
   pub stands : IsOnDisk size story new
-  pub holds : HasDone (size (device_of old)) (IsUsedIn old.opened.map.entries) (commit_of old) (listed_in old) command (synced_image (now (story (device_of new))))
+  pub holds : HasDone (size (device_of old)) (IsUsedIn old.opened.map.entries) (commit_of old) (listed_in old) (now (story (device_of old))) command (synced_image (now (story (device_of new))))
 
 -- ---- what a call leaves
 

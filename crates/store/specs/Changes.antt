@@ -12,7 +12,6 @@ use Rattle.cells.specs.Cell.{Cell, PlainTable}
 use Rattle.values.specs.Table.{table_from}
 use Rattle.catalogue.specs.declared.limits.TheConstants.{MAX_TABLES, MAX_SEGMENT_ROWS}
 use Rattle.catalogue.specs.declared.entry.Segment.{Segment}
-use Rattle.catalogue.specs.Schemas.{is_read}
 use Rattle.catalogue.specs.Entries.{PlainEntry, PlainCatalogue, is_name, is_between, runs_in}
 use Rattle.catalogue.specs.Edits.{entry_of, with_entry, without, renamed, with_more}
 use Rattle.tables.specs.Tables.{Tables, table_at, with_table, without_table}
@@ -72,7 +71,7 @@ HasEntry c name = (e : PlainEntry) × (entry_of c name ≡ Some e)
 
 abbrev pub IsEdit : PlainCatalogue → PlainEdit → List (List ℕ) → Type 0
 IsEdit c (put name schema) streams =
-    (is_name name ≡ true) × IsWithinLimits schema × (is_read schema ≡ true) × (length (with_entry c (new_entry name schema [])) ≤ MAX_TABLES)
+    (is_name name ≡ true) × IsWithinLimits schema × (length (with_entry c (new_entry name schema [])) ≤ MAX_TABLES)
 IsEdit c (extend name) streams = HasEntry c name
 IsEdit c (move from to) streams = (is_name to ≡ true) × (entry_of c to ≡ None) × HasEntry c from × (streams ≡ [])
 IsEdit c (remove name) streams = HasEntry c name × (streams ≡ [])

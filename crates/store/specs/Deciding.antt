@@ -1,22 +1,24 @@
--- What is decided of a command by the catalogue alone: the first of its tests that fails, or what it changes. The tests are those of
--- the verdict on the tables that the catalogue lists.
-use Rattle.std.specs.Prelude.{◌≡◌, ◌⊎◌, ◌+◌, ◌*◌, ℕ, Bool, not, ◌&&◌, nat_le, List, [], ◌∷◌, length, is_some, Option, Some, None, Result, Ok, Err}
+-- What is decided of a command by the catalogue, and for an append by the table that stands: the first of its tests that fails, or what it changes.
+-- The tests are those of the verdict on the tables that the catalogue lists.
+use Rattle.std.specs.Prelude.{◌≡◌, ◌⊎◌, ℕ, Bool, true, not, ◌&&◌, nat_le, List, [], ◌∷◌, ◌++◌, length, is_some, Option, Some, None, Result, Ok, Err}
 use Rattle.facts.specs.Checks.{when, first_some, unless}
+use Rattle.sector_dev.specs.Disk.{Image}
 use Rattle.arrow_schema.specs.Column.{PlainSchema}
-use Rattle.cells.specs.Cell.{PlainTable}
-use Rattle.cells.specs.declared.limits.TheConstants.{MAX_TABLE_WEIGHT}
+use Rattle.cells.specs.Cell.{Cell, PlainTable}
 use Rattle.ipc_message.specs.Header.{supported_codes}
-use Rattle.ipc_stream.specs.Meaning.{meaning}
-use Rattle.ipc_stream.specs.Pieces.{piece_streams, piece_counts}
-use Rattle.catalogue.specs.Entries.{PlainEntry, PlainCatalogue, row_count}
+use Rattle.ipc_table.specs.Meaning.{meaning}
+use Rattle.canonical_write.specs.Pieces.{piece_streams, piece_counts}
+use Rattle.catalogue.specs.Entries.{PlainEntry, PlainCatalogue}
 use Rattle.catalogue.specs.Edits.{entry_of}
 use Rattle.catalogue.specs.declared.limits.TheConstants.{MAX_TABLES}
 use Rattle.tables.specs.declared.refusal.Limit.TheVariants as limits
 use Rattle.tables.specs.declared.refusal.Refusal.{Refusal}
 use Rattle.tables.specs.declared.refusal.Refusal.TheVariants.{NoTable, NameTaken, TooMany, OutOfMemory}
 use Rattle.tables.specs.Commands.{PlainCommand, create, import_stream, append_stream, append_rows, save_as, rename, drop_table}
-use Rattle.tables.specs.Verdict.{bad_name, too_many_bytes, other_shape, of_meaning}
-use Rattle.store.specs.Changes.{PlainEdit, put, extend, move, remove, PlainChange}
+use Rattle.tables.specs.Verdict.{bad_name, too_many_bytes, other_shape, unfit_row, too_heavy, of_meaning}
+use Rattle.store.specs.Changes.{PlainEdit, put, extend, move, remove, PlainChange, rows_under}
+use Rattle.store.specs.Held.{table_held}
+use Rattle.store.specs.Reading.{Unreads}
 
 -- ---- the tests
 
@@ -42,10 +44,6 @@ import_tests name bytes = first_some (bad_name name ∷ too_many_bytes bytes ∷
 abbrev pub rename_tests : PlainCatalogue → List ℕ → List ℕ → Option Refusal
 rename_tests c from to = first_some (missing_in c from ∷ bad_name to ∷ taken_in c to ∷ [])
 
--- so many rows more are too heavy for a table of integers: its rows weigh alike
-abbrev pub heavy_in : PlainEntry → ℕ → Option Refusal
-heavy_in e more = when (not (nat_le ((row_count e + more) * (1 + length e.schema.columns)) MAX_TABLE_WEIGHT)) (TooMany limits.Weight)
-
 -- ---- the changes
 
 -- without new segments
@@ -67,13 +65,28 @@ decided_table c name table = unless (full_in c name) (Ok (pieces_put (put name t
 abbrev pub decided_import : PlainCatalogue → (name bytes : List ℕ) → Result PlainChange Refusal
 decided_import c name bytes = unless (import_tests name bytes) (of_meaning (meaning supported_codes bytes) (decided_table c name))
 
--- the rows of a table behind those of an entry
-abbrev pub decided_rows : PlainEntry → List ℕ → PlainTable → Result PlainChange Refusal
-decided_rows e name table = unless (other_shape e.schema table.schema) (unless (heavy_in e (length table.rows)) (Ok (pieces_put (extend name) table)))
+-- rows that go behind those of an entry's table
+pub record Addition : Type 0 where
+  pub entry : PlainEntry
+  pub rows : List (List Cell)
 
-abbrev pub decided_append : Option PlainEntry → (name bytes : List ℕ) → Result PlainChange Refusal
-decided_append None name bytes = Err NoTable
-decided_append (Some e) name bytes = unless (too_many_bytes bytes) (of_meaning (meaning supported_codes bytes) (decided_rows e name))
+-- the rows of a table of the entry's shape, where the entry's table takes each of them
+abbrev pub fitting : PlainEntry → PlainTable → Result Addition Refusal
+fitting e table = unless (first_some (other_shape e.schema table.schema ∷ unfit_row e.schema table.rows ∷ [])) (Ok (record { entry = e; rows = table.rows }))
+
+-- the rows that a stream brings: nothing of the table that stands is read for these tests
+abbrev pub addition : Option PlainEntry → (bytes : List ℕ) → Result Addition Refusal
+addition None bytes = Err NoTable
+addition (Some e) bytes = unless (too_many_bytes bytes) (of_meaning (meaning supported_codes bytes) (fitting e))
+
+-- behind the rows that stand, under the entry's own schema
+abbrev pub decided_behind : List ℕ → Addition → (standing : List (List Cell)) → Result PlainChange Refusal
+decided_behind name a standing = unless (too_heavy a.entry.schema (standing ++ a.rows)) (Ok (pieces_put (extend name) (rows_under a.entry.schema a.rows)))
+
+-- where the device tells its story the rows that stand are those that an image holds
+abbrev pub IsAdded : (tells : Bool) → Image → List ℕ → Result Addition Refusal → Result PlainChange Refusal → Type 0
+IsAdded tells image name (Err r) d = d ≡ Err r
+IsAdded tells image name (Ok a) d = (standing : PlainTable) × (tells ≡ true → table_held image a.entry ≡ Some standing) × (d ≡ decided_behind name a standing.rows)
 
 abbrev pub decided_rename : PlainCatalogue → (from to : List ℕ) → Result PlainChange Refusal
 decided_rename c from to = unless (rename_tests c from to) (Ok (names_changed (move from to)))
@@ -81,16 +94,29 @@ decided_rename c from to = unless (rename_tests c from to) (Ok (names_changed (m
 abbrev pub decided_drop : PlainCatalogue → List ℕ → Result PlainChange Refusal
 decided_drop c name = unless (missing_in c name) (Ok (names_changed (remove name)))
 
--- this is decided of a command. Rows that are given and queries that are saved are no commands of a store yet
-abbrev pub IsDecided : PlainCatalogue → PlainCommand → Result PlainChange Refusal → Type 0
-IsDecided c (create name schema) d = d ≡ decided_create c name schema
-IsDecided c (import_stream name bytes) d = d ≡ decided_import c name bytes
-IsDecided c (append_stream name bytes) d = d ≡ decided_append (entry_of c name) name bytes
-IsDecided c (append_rows name rows) d = ⊥
-IsDecided c (save_as from to query) d = ⊥
-IsDecided c (rename from to) d = d ≡ decided_rename c from to
-IsDecided c (drop_table name) d = d ≡ decided_drop c name
+-- this is decided of a command, where reads of the device show this image: it is asked for the weight of a table that takes more rows. Rows that are
+-- given and queries that are saved are no commands of a store yet
+abbrev pub IsDecided : (tells : Bool) → Image → PlainCatalogue → PlainCommand → Result PlainChange Refusal → Type 0
+IsDecided tells image c (create name schema) d = d ≡ decided_create c name schema
+IsDecided tells image c (import_stream name bytes) d = d ≡ decided_import c name bytes
+IsDecided tells image c (append_stream name bytes) d = IsAdded tells image name (addition (entry_of c name) bytes) d
+IsDecided tells image c (append_rows name rows) d = ⊥
+IsDecided tells image c (save_as from to query) d = ⊥
+IsDecided tells image c (rename from to) d = d ≡ decided_rename c from to
+IsDecided tells image c (drop_table name) d = d ≡ decided_drop c name
 
--- what may be answered: what is decided, or that memory was refused
-abbrev pub IsAnswered : PlainCatalogue → PlainCommand → Result PlainChange Refusal → Type 0
-IsAnswered c command answer = (answer ≡ Err OutOfMemory) ⊎ IsDecided c command answer
+-- the rows behind which others are to go are not read
+pub record IsNotRead (tells : Bool) (image : Image) (found : Option PlainEntry) (bytes : List ℕ) (answer : Result PlainChange Refusal) : Type 0 where
+  pub added : Addition
+  pub tested : addition found bytes ≡ Ok added
+  pub refusal : Refusal
+  pub told : answer ≡ Err refusal
+  pub unread : Unreads tells image added.entry refusal
+
+abbrev pub CannotRead : (tells : Bool) → Image → PlainCatalogue → PlainCommand → Result PlainChange Refusal → Type 0
+CannotRead tells image c (append_stream name bytes) answer = IsNotRead tells image (entry_of c name) bytes answer
+CannotRead tells image c _ answer = ⊥
+
+-- what may be answered: what is decided, that the table was not read, or that memory was refused
+abbrev pub IsAnswered : (tells : Bool) → Image → PlainCatalogue → PlainCommand → Result PlainChange Refusal → Type 0
+IsAnswered tells image c command answer = (answer ≡ Err OutOfMemory) ⊎ CannotRead tells image c command answer ⊎ IsDecided tells image c command answer

@@ -1,3 +1,5 @@
 pub mod Tests
+pub mod Appending
 pub mod Prepared
+pub mod Gathered
 pub mod Reading

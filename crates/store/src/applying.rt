@@ -1,50 +1,25 @@
 // A command of an open store.
 ghost use Rattle.std.specs.Prelude.{◌≡◌, ◌≢◌, false, Some, IfOk, IfErr};
-ghost use Rattle.sector_dev.specs.Disk.{Image};
-ghost use Rattle.catalogue.specs.Entries.{AreRead};
-ghost use Rattle.catalogue.specs.View.{catalogue_of};
+ghost use Rattle.sector_dev.specs.Disk.{now, shown_image};
+ghost use Rattle.sector_dev.specs.Time.{OnlyReads};
 ghost use Rattle.tables.specs.Tables.{Tables};
 ghost use Rattle.tables.specs.View.{command_of};
-ghost use Rattle.store.specs.Calls.{is_failure};
 ghost use Rattle.store.specs.Held.{tables_held};
 ghost use Rattle.store.specs.Changes.{change_of, IsChange};
-ghost use Rattle.store.specs.Applying.{Decides};
+ghost use Rattle.store.specs.Applying.{Decides, reads_device};
 ghost use Rattle.store.specs.Deciding.{IsAnswered};
+ghost use Rattle.store.specs.Fits.{listed_in};
+ghost use Rattle.store.specs.Reading.{OnlyReadsStore, ended};
 ghost use Rattle.store.specs.inner.Tests.{decision_of};
 
 use crate::Store;
 use crate::change::Change;
-use crate::deciding::{
-    decide_append_stream, decide_create, decide_drop, decide_import, decide_rename,
-};
-use catalogue::Catalogue;
+use crate::deciding::{decide_create, decide_drop, decide_import, decide_rename};
+use canonical_write::pieces_are_tables;
 use sector_dev::SectorDevice;
 use std::alloc::Global;
 use tables::{Command, Refusal};
-use values::accepted_rows_are_a_table;
-
-// What a command changes. No call of the device is made.
-fn decide(alloc: Global, catalogue: &Catalogue, command: Command) -> Result<Change, Refusal>
-    requires { AreRead (catalogue_of catalogue.now) }
-    ensures ok { IfOk result (λ change. IsChange (catalogue_of catalogue.now) (change_of change)) }
-    ensures no_device { IfErr result (λ e. is_failure e ≡ false) }
-    ensures not_halted { IfErr result (λ e. e ≢ Refusal.Halted) }
-    ensures answers { IsAnswered (catalogue_of catalogue.now) (command_of command) (decision_of result) }
-    ensures decides { (image : Image) (t : Tables) → tables_held image (catalogue_of catalogue.now) ≡ Some t
-        → Decides t (command_of command) (decision_of result) }
-{
-    accepted_rows_are_a_table();
-    catalogue.len();
-    match command {
-        Command::Create(new) => decide_create(alloc, catalogue, new),
-        Command::ImportStream { name, bytes } => decide_import(alloc, catalogue, name, &bytes),
-        Command::AppendStream { name, bytes } => {
-            decide_append_stream(alloc, catalogue, name, &bytes)
-        }
-        Command::Rename { from, to } => decide_rename(alloc, catalogue, from, to),
-        Command::Drop { name } => decide_drop(alloc, catalogue, name),
-    }
-}
+use values::{accepted_rows_are_a_table, tables_are_joined_and_cut};
 
 impl<D: SectorDevice> Store<D> {
     ghost use Rattle.std.specs.Prelude.{◌↔◌, true, Err, OnOk};
@@ -54,20 +29,51 @@ impl<D: SectorDevice> Store<D> {
     ghost use Rattle.store.specs.Fits.{StoreFits, device_of, is_halted, IsOnDisk};
     ghost use Rattle.store.specs.Applying.{GoesOn, reply_of, IsApplied, IsKept, Writes, HasWritten};
 
+    // What a command changes. Only an append reads the device.
+    fn decide(&mut self, alloc: Global, command: Command) -> Result<Change, Refusal>
+        requires on { is_halted self.old ≡ false }
+        ensures reads { OnlyReadsStore D.size D.story D.failed D.tells (ended result) self.old self.new }
+        ensures still { reads_device (command_of command) ≡ false → self.new ≡ self.old }
+        ensures ok { IfOk result (λ change. IsChange (listed_in self.old) (change_of change)) }
+        ensures not_halted { IfErr result (λ e. e ≢ Refusal.Halted) }
+        ensures answers { IsAnswered D.tells (shown_image (now (D.story (device_of self.old)))) (listed_in self.old) (command_of command)
+            (decision_of result) }
+        ensures decides { D.tells ≡ true → (t : Tables) → tables_held (shown_image (now (D.story (device_of self.old)))) (listed_in self.old) ≡ Some t
+            → Decides t (command_of command) (decision_of result) }
+    {
+        accepted_rows_are_a_table();
+        pieces_are_tables();
+        tables_are_joined_and_cut();
+        let catalogue = &self.opened.catalogue.list;
+        catalogue.len();
+        match command {
+            Command::Create(new) => decide_create(alloc, catalogue, new),
+            Command::ImportStream { name, bytes } => decide_import(alloc, catalogue, name, bytes),
+            Command::AppendStream { name, bytes } => self.decide_append(alloc, name, bytes),
+            Command::Rename { from, to } => decide_rename(alloc, catalogue, from, to),
+            Command::Drop { name } => decide_drop(alloc, catalogue, name),
+        }
+    }
+
     /// Does what a command asks for, or refuses it. After Ok it is safe: each later stop leaves it.
     ///
     /// # Errors
-    /// Those of the command, in the order of its tests; then `TooMany(Epochs)`, `TooMany(Segments)`, `NoRoom` and `Device`. After
+    /// Those of the command, in the order of its tests, where an append reads the table for the last one: `SegmentUnread` as [`Store::read`], and
+    /// `Device`; then `TooMany(Epochs)`, `TooMany(Segments)`, `NoRoom` and `Device`. After
     /// `Device` the store is halted, and whether the command is done is known once the device was opened again; `Halted` before all else
     /// where it is halted; `OutOfMemory`. After any but `Device` nothing has changed.
     pub fn apply(&mut self, alloc: Global, command: Command) -> Result<(), Refusal>
         // On a store that stands for a machine: it does what the command does to the tables of the settled commands, or is refused as they say.
         ensures goes { D.tells ≡ true → (base : Tables) (m : Machine) → StoreFits D.size D.story base m self.old
             → GoesOn D.size D.story D.failed base m (apply_call (command_of command)) (reply_of result) self.old self.new }
-        // On any store and any device: what its catalogue decides of the command is carried out or told; each refusal has its one reason.
-        ensures applied { is_halted self.old ≡ false → IsApplied D.size self.old (command_of command) result self.new }
+        // On any store and any device: what its catalogue decides of the command, and for an append the table that reads show, is carried out or told; each
+        // refusal has its one reason.
+        ensures applied { is_halted self.old ≡ false → IsApplied D.size D.story D.tells self.old (command_of command) result self.new }
         ensures refused { IfErr result (λ e. IsKept self.old self.new) }
-        ensures quiet { IfErr result (λ e. e ≢ Refusal.Device → D.story (device_of self.new) ≡ D.story (device_of self.old)) }
+        ensures quiet { IfErr result (λ e. e ≢ Refusal.Device → reads_device (command_of command) ≡ false
+            → D.story (device_of self.new) ≡ D.story (device_of self.old)) }
+        ensures reads { IfErr result (λ e. e ≢ Refusal.Device → D.tells ≡ true
+            → OnlyReads (D.story (device_of self.old)) (D.story (device_of self.new))) }
         ensures halted { (result ≡ Err Refusal.Halted) ↔ (is_halted self.old ≡ true) }
         ensures still { is_halted self.old ≡ true → self.new ≡ self.old }
         ensures halts { is_halted self.old ≡ false → (is_halted self.new ≡ true) ↔ (result ≡ Err Refusal.Device) }
@@ -82,7 +88,7 @@ impl<D: SectorDevice> Store<D> {
         if self.halted {
             return Err(Refusal::Halted);
         }
-        match decide(alloc, &self.opened.catalogue.list, command) {
+        match self.decide(alloc, command) {
             Ok(change) => self.carry_out(alloc, change),
             Err(refusal) => Err(refusal),
         }

@@ -1,25 +1,26 @@
 // What a command changes, as the catalogue decides it: its tests in their order, and then the change.
-ghost use Rattle.std.specs.Prelude.{◌≡◌, ◌≢◌, ◌≤◌, [], IfOk, IfErr, false, string_bytes};
+ghost use Rattle.std.specs.Prelude.{◌≡◌, ◌≢◌, [], Bool, IfOk, IfErr, false, string_bytes};
+ghost use Rattle.sector_dev.specs.Disk.{Image};
 ghost use Rattle.arrow_schema.specs.View.{schema_of};
-ghost use Rattle.catalogue.specs.Entries.{plain_entry, row_count, IsCatalogue, AreRead};
+ghost use Rattle.catalogue.specs.Entries.{IsCatalogue};
 ghost use Rattle.catalogue.specs.View.{catalogue_of};
-ghost use Rattle.tables.specs.Commands.{create, import_stream, append_stream, rename, drop_table};
-ghost use Rattle.tables.specs.Tables.{Tables, AreTables};
+ghost use Rattle.tables.specs.Commands.{create, import_stream, rename, drop_table};
+ghost use Rattle.tables.specs.Tables.{Tables};
 ghost use Rattle.tables.specs.Verdict.{bad_name, too_many_bytes, other_shape};
 ghost use Rattle.store.specs.Calls.{is_failure};
 ghost use Rattle.store.specs.Applying.{Lists, Decides};
 ghost use Rattle.store.specs.Changes.{change_of, edit_of, IsChange};
-ghost use Rattle.store.specs.Deciding.{IsAnswered, has_entry, missing_in, taken_in, full_in, heavy_in, create_tests, import_tests, rename_tests};
+ghost use Rattle.store.specs.Deciding.{IsAnswered, has_entry, missing_in, taken_in, full_in, create_tests, import_tests, rename_tests};
 ghost use Rattle.store.specs.inner.Tests.{Tests, decision_of};
 
 use crate::change::{Change, Edit};
 use arrow_schema::{Schema, one_shape_is_decided, same_shape};
-use catalogue::{Catalogue, Entry, MAX_TABLES, counts_after_changes, is_name, rows_are_few};
-use cells::MAX_TABLE_WEIGHT;
-use ipc_stream::{decode, encode_pieces, integer_schemas_are_read, pieces_are_tables};
+use canonical_write::{encode_pieces, pieces_are_tables};
+use catalogue::{Catalogue, MAX_TABLES, counts_after_changes, is_name};
+use ipc_table::decode;
 use std::alloc::Global;
 use tables::{Limit, MAX_IMPORT_BYTES, NewTable, Refusal};
-use values::{accepted_rows_are_a_table, integer_rows_weigh_alike, tables_are_joined_and_cut};
+use values::accepted_rows_are_a_table;
 
 fn has_table(catalogue: &Catalogue, name: &str) -> bool
     ensures has { result ≡ has_entry (catalogue_of catalogue.now) name.now }
@@ -74,7 +75,7 @@ fn test_room(catalogue: &Catalogue, name: &str) -> Result<(), Refusal>
 }
 
 // S7 Bytes: more than may be imported.
-fn test_bytes(bytes: &[u8]) -> Result<(), Refusal>
+pub(crate) fn test_bytes(bytes: &[u8]) -> Result<(), Refusal>
     ensures { Tests result (too_many_bytes bytes.now) }
 {
     if bytes.len() > MAX_IMPORT_BYTES {
@@ -85,7 +86,7 @@ fn test_bytes(bytes: &[u8]) -> Result<(), Refusal>
 }
 
 // S4: names, nullability or types differ.
-fn test_shape(own: &Schema, new: &Schema) -> Result<(), Refusal>
+pub(crate) fn test_shape(own: &Schema, new: &Schema) -> Result<(), Refusal>
     ensures { Tests result (other_shape (schema_of own.now) (schema_of new.now)) }
 {
     one_shape_is_decided();
@@ -93,20 +94,6 @@ fn test_shape(own: &Schema, new: &Schema) -> Result<(), Refusal>
         Ok(())
     } else {
         Err(Refusal::SchemaMismatch)
-    }
-}
-
-// S7 Weight: so many rows more would be too heavy. Rows of integers weigh alike, so that no row is read.
-fn test_weight(entry: &Entry, more: usize) -> Result<(), Refusal>
-    requires rows { row_count (plain_entry entry.now) ≤ MAX_TABLE_WEIGHT }
-    requires more { more ≤ MAX_TABLE_WEIGHT }
-    ensures { Tests result (heavy_in (plain_entry entry.now) more) }
-{
-    let rows = entry.rows() + more as u64;
-    if u128::from(rows) * (1 + entry.schema.fields.len() as u128) > u128::from(MAX_TABLE_WEIGHT) {
-        Err(Refusal::TooMany(Limit::Weight))
-    } else {
-        Ok(())
     }
 }
 
@@ -154,7 +141,7 @@ pub(crate) fn decide_create(
     ensures ok { IfOk result (λ change. IsChange (catalogue_of catalogue.now) (change_of change)) }
     ensures no_device { IfErr result (λ e. is_failure e ≡ false) }
     ensures not_halted { IfErr result (λ e. e ≢ Refusal.Halted) }
-    ensures answers { IsAnswered (catalogue_of catalogue.now) (create (string_bytes new.name) (schema_of new.schema)) (decision_of result) }
+    ensures answers { (tells : Bool) (image : Image) → IsAnswered tells image (catalogue_of catalogue.now) (create (string_bytes new.name) (schema_of new.schema)) (decision_of result) }
     ensures decides { (t : Tables) → Lists (catalogue_of catalogue.now) t
         → Decides t (create (string_bytes new.name) (schema_of new.schema)) (decision_of result) }
 {
@@ -169,24 +156,23 @@ pub(crate) fn decide_import(
     alloc: Global,
     catalogue: &Catalogue,
     name: String,
-    bytes: &[u8],
+    bytes: Vec<u8>,
 ) -> Result<Change, Refusal>
     ensures ok { IfOk result (λ change. IsChange (catalogue_of catalogue.now) (change_of change)) }
     ensures no_device { IfErr result (λ e. is_failure e ≡ false) }
     ensures not_halted { IfErr result (λ e. e ≢ Refusal.Halted) }
-    ensures answers { IsAnswered (catalogue_of catalogue.now) (import_stream (string_bytes name) bytes.now) (decision_of result) }
+    ensures answers { (tells : Bool) (image : Image) → IsAnswered tells image (catalogue_of catalogue.now) (import_stream (string_bytes name) bytes.items) (decision_of result) }
     ensures decides { (t : Tables) → Lists (catalogue_of catalogue.now) t
-        → Decides t (import_stream (string_bytes name) bytes.now) (decision_of result) }
+        → Decides t (import_stream (string_bytes name) bytes.items) (decision_of result) }
 {
     accepted_rows_are_a_table();
     counts_after_changes();
-    integer_schemas_are_read();
     pieces_are_tables();
-    test_import(&name, bytes)?;
+    test_import(&name, &bytes)?;
     let table = decode(alloc, bytes)?;
     test_room(catalogue, &name)?;
     let schema = table.schema().copy(alloc)?;
-    let pieces = encode_pieces(alloc, &table)?;
+    let pieces = encode_pieces(alloc, table.schema(), &table)?;
     Ok(Change {
         edit: Edit::Put { name, schema },
         streams: pieces.streams,
@@ -204,7 +190,7 @@ pub(crate) fn decide_rename(
     ensures ok { IfOk result (λ change. IsChange (catalogue_of catalogue.now) (change_of change)) }
     ensures no_device { IfErr result (λ e. is_failure e ≡ false) }
     ensures not_halted { IfErr result (λ e. e ≢ Refusal.Halted) }
-    ensures answers { IsAnswered (catalogue_of catalogue.now) (rename (string_bytes from) (string_bytes to)) (decision_of result) }
+    ensures answers { (tells : Bool) (image : Image) → IsAnswered tells image (catalogue_of catalogue.now) (rename (string_bytes from) (string_bytes to)) (decision_of result) }
     ensures decides { (t : Tables) → Lists (catalogue_of catalogue.now) t
         → Decides t (rename (string_bytes from) (string_bytes to)) (decision_of result) }
 {
@@ -221,45 +207,9 @@ pub(crate) fn decide_drop(
     ensures ok { IfOk result (λ change. IsChange (catalogue_of catalogue.now) (change_of change)) }
     ensures no_device { IfErr result (λ e. is_failure e ≡ false) }
     ensures not_halted { IfErr result (λ e. e ≢ Refusal.Halted) }
-    ensures answers { IsAnswered (catalogue_of catalogue.now) (drop_table (string_bytes name)) (decision_of result) }
+    ensures answers { (tells : Bool) (image : Image) → IsAnswered tells image (catalogue_of catalogue.now) (drop_table (string_bytes name)) (decision_of result) }
     ensures decides { (t : Tables) → Lists (catalogue_of catalogue.now) t → Decides t (drop_table (string_bytes name)) (decision_of result) }
 {
     test_there(catalogue, &name)?;
     Ok(change_of_names(alloc, Edit::Remove { name }))
-}
-
-// The rows that a stream means, behind those of a table.
-pub(crate) fn decide_append_stream(
-    alloc: Global,
-    catalogue: &Catalogue,
-    name: String,
-    stream: &[u8],
-) -> Result<Change, Refusal>
-    requires { AreRead (catalogue_of catalogue.now) }
-    ensures ok { IfOk result (λ change. IsChange (catalogue_of catalogue.now) (change_of change)) }
-    ensures no_device { IfErr result (λ e. is_failure e ≡ false) }
-    ensures not_halted { IfErr result (λ e. e ≢ Refusal.Halted) }
-    ensures answers { IsAnswered (catalogue_of catalogue.now) (append_stream (string_bytes name) stream.now) (decision_of result) }
-    ensures decides { (t : Tables) → Lists (catalogue_of catalogue.now) t → AreTables t
-        → Decides t (append_stream (string_bytes name) stream.now) (decision_of result) }
-{
-    accepted_rows_are_a_table();
-    integer_rows_weigh_alike();
-    one_shape_is_decided();
-    pieces_are_tables();
-    rows_are_few();
-    tables_are_joined_and_cut();
-    let Some(entry) = catalogue.get(&name) else {
-        return Err(Refusal::NoTable);
-    };
-    test_bytes(stream)?;
-    let new = decode(alloc, stream)?;
-    test_shape(&entry.schema, new.schema())?;
-    test_weight(entry, new.len())?;
-    let pieces = encode_pieces(alloc, &new)?;
-    Ok(Change {
-        edit: Edit::Extend { name },
-        streams: pieces.streams,
-        rows: pieces.rows,
-    })
 }

@@ -4,7 +4,7 @@ ghost use Rattle.std.specs.Io.KnownBytes.{Appends, Keeps};
 ghost use Rattle.sector_dev.specs.Disk.{now, shown_image};
 ghost use Rattle.cells.specs.Cell.{PlainTable};
 ghost use Rattle.catalogue.specs.Edits.{entry_of};
-ghost use Rattle.ipc_stream.specs.Canonical.{canonical};
+ghost use Rattle.canonical_stream.specs.Canonical.{canonical};
 ghost use Rattle.tables.specs.Tables.{Tables};
 ghost use Rattle.store.specs.Calls.{export_call, bytes_are, refused};
 ghost use Rattle.store.specs.Machine.{Machine};
@@ -13,7 +13,8 @@ ghost use Rattle.store.specs.Applying.{GoesOn};
 ghost use Rattle.store.specs.Reading.{RefusesRead, ReadsTable, OnlyReadsStore, ended};
 
 use crate::Store;
-use ipc_stream::{canonical_means_its_table, encode};
+use canonical_round_trip::canonical_means_its_table;
+use canonical_write::encode;
 use sector_dev::SectorDevice;
 use std::alloc::Global;
 use std::io::Write;

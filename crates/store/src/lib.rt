@@ -12,6 +12,7 @@
 //! ```
 #![tactic(auto)]
 
+mod appending;
 mod applying;
 mod call;
 mod carrying;
@@ -20,6 +21,7 @@ mod deciding;
 mod editing;
 mod exporting;
 mod formatting;
+mod gathered;
 mod laws;
 mod listing;
 mod opening_refusal;

@@ -5,11 +5,8 @@ ghost use Rattle.sector_dev.specs.Disk.{now, shown_image};
 ghost use Rattle.arrow_schema.specs.Column.{PlainSchema};
 ghost use Rattle.arrow_schema.specs.Limits.{IsWithinLimits};
 ghost use Rattle.arrow_schema.specs.View.{schema_of};
-ghost use Rattle.arrow_schema.specs.Integers.{is_integer_schema};
-ghost use Rattle.values.specs.TableView.{table_of};
-ghost use Rattle.values.specs.IntegerTable.{IsIntegerTable};
+ghost use Rattle.values.specs.TableView.{table_of, is_in_parts};
 ghost use Rattle.cells.specs.Weight.{table_weight};
-ghost use Rattle.ipc_stream.specs.View.{gathered_table};
 ghost use Rattle.ipc_write.specs.Written.{schema_message};
 ghost use Rattle.catalogue.specs.Entries.{is_segment, is_entry, plain_entry};
 ghost use Rattle.commit.specs.Standing.{is_size, is_on_device, all_on_device};
@@ -17,14 +14,17 @@ ghost use Rattle.store.specs.Held.{rows_in_bytes, segment_rows, joined_rows, row
 ghost use Rattle.store.specs.Reading.{Unreads, OnlyReadsDevice, ended};
 ghost use Rattle.values.specs.Table.{IsTable};
 ghost use Rattle.store.specs.Calls.{is_failure};
+ghost use Rattle.store.specs.inner.Gathered.{gathered_table};
 ghost use Rattle.store.specs.inner.Reading.{UnreadsSegment, FailsReading, runs_in};
 
 use crate::Store;
+use crate::gathered::Gathered;
 use arrow_schema::Schema;
 use catalogue::{Entry, Segment};
 use cells::MAX_TABLE_WEIGHT;
-use ipc_stream::{Gathered, ImportError, decode, the_first_message_is_the_schema};
-use ipc_write::write_schema;
+use ipc_message::ImportError;
+use ipc_table::{Weighed, decode_weighed};
+use ipc_write::{schema_message_is_read_again, write_schema};
 use sector_dev::SectorDevice;
 use segments::{ReadError, read_run};
 use std::alloc::{AllocError, Global};
@@ -36,23 +36,24 @@ fn table_in_bytes(
     alloc: Global,
     front: &[u8],
     rows: u64,
-    bytes: &[u8],
-) -> Result<Option<Table>, Refusal>
+    bytes: Vec<u8>,
+) -> Result<Option<Weighed>, Refusal>
     ensures rows { IfOk result (λ found. (s : PlainSchema) → front.now ≡ schema_message s
-        → option_map (λ t. (table_of t).rows) found ≡ rows_in_bytes s rows (Some bytes.now)) }
-    ensures schema { IfOk result (λ found. IfSome found (λ t. (s : PlainSchema) → IsWithinLimits s → front.now ≡ schema_message s
-        → (table_of t).schema ≡ s)) }
-    ensures integers { IfOk result (λ found. IfSome found (λ t. IsIntegerTable (table_of t))) }
+        → option_map (λ w. (table_of w.table).rows) found ≡ rows_in_bytes s rows (Some bytes.items)) }
+    ensures schema { IfOk result (λ found. IfSome found (λ w. (s : PlainSchema) → IsWithinLimits s → front.now ≡ schema_message s
+        → (table_of w.table).schema ≡ s)) }
+    ensures weight { IfOk result (λ found. IfSome found (λ w. w.weight ≡ table_weight (table_of w.table).schema (table_of w.table).rows)) }
+    ensures in_parts { IfOk result (λ found. IfSome found (λ w. is_in_parts w.table ≡ true)) }
     ensures memory { IfErr result (λ e. e ≡ Refusal.OutOfMemory) }
 {
-    the_first_message_is_the_schema();
+    schema_message_is_read_again();
     if !bytes.starts_with(front) {
         return Ok(None);
     }
-    match decode(alloc, bytes) {
-        Ok(table) => {
-            if table.len() as u64 == rows {
-                Ok(Some(table))
+    match decode_weighed(alloc, bytes) {
+        Ok(weighed) => {
+            if weighed.table.len() as u64 == rows {
+                Ok(Some(weighed))
             } else {
                 Ok(None)
             }
@@ -68,16 +69,17 @@ fn read_segment<D: SectorDevice>(
     device: &mut D,
     front: &[u8],
     segment: Segment,
-) -> Result<Option<Table>, Refusal>
+) -> Result<Option<Weighed>, Refusal>
     requires size { is_size (D.size device.old) ≡ true }
     requires placed { is_on_device (D.size device.old) segment.place.run ≡ true }
     requires sound { is_segment segment ≡ true }
     ensures reads { OnlyReadsDevice D.size D.story D.failed D.tells (ended result) device.old device.new }
     ensures rows { IfOk result (λ found. D.tells ≡ true → (s : PlainSchema) → front.now ≡ schema_message s
-        → option_map (λ t. (table_of t).rows) found ≡ segment_rows s segment (shown_image (now (D.story device.old)))) }
-    ensures schema { IfOk result (λ found. IfSome found (λ t. (s : PlainSchema) → IsWithinLimits s → front.now ≡ schema_message s
-        → (table_of t).schema ≡ s)) }
-    ensures integers { IfOk result (λ found. IfSome found (λ t. IsIntegerTable (table_of t))) }
+        → option_map (λ w. (table_of w.table).rows) found ≡ segment_rows s segment (shown_image (now (D.story device.old)))) }
+    ensures schema { IfOk result (λ found. IfSome found (λ w. (s : PlainSchema) → IsWithinLimits s → front.now ≡ schema_message s
+        → (table_of w.table).schema ≡ s)) }
+    ensures weight { IfOk result (λ found. IfSome found (λ w. w.weight ≡ table_weight (table_of w.table).schema (table_of w.table).rows)) }
+    ensures in_parts { IfOk result (λ found. IfSome found (λ w. is_in_parts w.table ≡ true)) }
     ensures fails { IfErr result FailsReading }
 {
     match read_run(
@@ -86,7 +88,7 @@ fn read_segment<D: SectorDevice>(
         segment.place.run.start,
         segment.place.bytes as usize,
     ) {
-        Ok(bytes) => table_in_bytes(alloc, front, segment.rows, &bytes),
+        Ok(bytes) => table_in_bytes(alloc, front, segment.rows, bytes),
         Err(ReadError::Unreadable) => Ok(None),
         Err(ReadError::Failed) => Err(Refusal::Device),
         Err(ReadError::OutOfMemory) => Err(Refusal::OutOfMemory),
@@ -116,7 +118,7 @@ fn append_segment<D: SectorDevice>(
         (gathered_table gathered).schema (gathered_table gathered).rows segment place) }
 {
     match read_segment(alloc, device, front, segment) {
-        Ok(Some(table)) => match gathered.append(alloc, &table) {
+        Ok(Some(weighed)) => match gathered.append(weighed) {
             Ok(more) => Ok(more),
             Err(TableError::OutOfMemory) => Err(Refusal::OutOfMemory),
             Err(_) => Err(Refusal::SegmentUnread(place)),
@@ -160,25 +162,56 @@ fn read_segments<D: SectorDevice>(
 // The message of a schema, and no rows of it.
 fn start_table(alloc: Global, schema: &Schema) -> Result<(Vec<u8>, Gathered), AllocError>
     requires limits { IsWithinLimits (schema_of schema.now) }
-    requires integers { is_integer_schema (schema_of schema.now) ≡ true }
     ensures message { IfOk result (λ r. r.0.items ≡ schema_message (schema_of schema.now)) }
     ensures empty { IfOk result (λ r. gathered_table r.1 ≡ record { schema = schema_of schema.now; rows = [] }) }
 {
     let mut front = Vec::new(alloc);
     write_schema(alloc, &mut front, schema)?;
-    let empty = Gathered::empty(alloc, schema.copy(alloc)?)?;
+    let empty = Gathered::empty(alloc, schema.copy(alloc)?);
     Ok((front, empty))
 }
 
 // The table of gathered rows, and that it is one.
-fn finish_table(gathered: Gathered) -> Table
-    ensures table { table_of result ≡ gathered_table gathered }
-    ensures integers { IsIntegerTable (table_of result) }
-    ensures kept { IsTable (table_of result) }
+fn finish_table(alloc: Global, gathered: Gathered) -> Result<Table, Refusal>
+    ensures table { IfOk result (λ t. table_of t ≡ gathered_table gathered) }
+    ensures kept { IfOk result (λ t. IsTable (table_of t)) }
+    ensures memory { IfErr result (λ e. e ≡ Refusal.OutOfMemory) }
 {
-    let table = gathered.finish();
-    table.schema();
-    table
+    match gathered.finish(alloc) {
+        Ok(table) => {
+            table.schema();
+            Ok(table)
+        }
+        Err(_) => Err(Refusal::OutOfMemory),
+    }
+}
+
+// The rows of an entry's segments.
+pub(crate) fn gather_entry<D: SectorDevice>(
+    alloc: Global,
+    device: &mut D,
+    entry: &Entry,
+) -> Result<Gathered, Refusal>
+    requires size { is_size (D.size device.old) ≡ true }
+    requires placed { all_on_device (D.size device.old) (runs_in (plain_entry entry.now).segments) ≡ true }
+    requires sound { is_entry (plain_entry entry.now) ≡ true }
+    ensures reads { OnlyReadsDevice D.size D.story D.failed D.tells (ended result) device.old device.new }
+    ensures schema { IfOk result (λ g. (gathered_table g).schema ≡ (plain_entry entry.now).schema) }
+    ensures table { IfOk result (λ g. D.tells ≡ true
+        → table_held (shown_image (now (D.story device.old))) (plain_entry entry.now) ≡ Some (gathered_table g)) }
+    ensures unread { IfErr result (Unreads D.tells (shown_image (now (D.story device.old))) (plain_entry entry.now)) }
+{
+    accepted_rows_are_a_table();
+    tables_are_joined_and_cut();
+    match start_table(alloc, &entry.schema) {
+        Ok((front, empty)) => {
+            match read_segments(alloc, device, &front, empty, &entry.segments) {
+                Ok(gathered) => Ok(gathered),
+                Err(refusal) => Err(refusal),
+            }
+        }
+        Err(_) => Err(Refusal::OutOfMemory),
+    }
 }
 
 // The table of an entry.
@@ -190,28 +223,19 @@ fn read_entry<D: SectorDevice>(
     requires size { is_size (D.size device.old) ≡ true }
     requires placed { all_on_device (D.size device.old) (runs_in (plain_entry entry.now).segments) ≡ true }
     requires sound { is_entry (plain_entry entry.now) ≡ true }
-    requires integers { is_integer_schema (plain_entry entry.now).schema ≡ true }
     ensures reads { OnlyReadsDevice D.size D.story D.failed D.tells (ended result) device.old device.new }
     ensures table { IfOk result (λ t. D.tells ≡ true → table_held (shown_image (now (D.story device.old))) (plain_entry entry.now) ≡ Some (table_of t)) }
-    ensures integers { IfOk result (λ t. IsIntegerTable (table_of t)) }
     ensures kept { IfOk result (λ t. IsTable (table_of t)) }
     ensures unread { IfErr result (Unreads D.tells (shown_image (now (D.story device.old))) (plain_entry entry.now)) }
 {
-    accepted_rows_are_a_table();
-    tables_are_joined_and_cut();
-    match start_table(alloc, &entry.schema) {
-        Ok((front, empty)) => {
-            match read_segments(alloc, device, &front, empty, &entry.segments) {
-                Ok(gathered) => Ok(finish_table(gathered)),
-                Err(refusal) => Err(refusal),
-            }
-        }
-        Err(_) => Err(Refusal::OutOfMemory),
+    match gather_entry(alloc, device, entry) {
+        Ok(gathered) => finish_table(alloc, gathered),
+        Err(refusal) => Err(refusal),
     }
 }
 
 // Whether the device failed.
-fn is_failure(refusal: Refusal) -> bool
+pub(crate) fn is_failure(refusal: Refusal) -> bool
     ensures { result ≡ is_failure refusal }
 {
     matches!(refusal, Refusal::Device)
@@ -233,7 +257,6 @@ impl<D: SectorDevice> Store<D> {
             (entry_of (listed_in self.old) name.now) (table_of t)) }
         ensures told { IfErr result (RefusesRead (is_halted self.old) D.tells (shown_image (now (D.story (device_of self.old))))
             (entry_of (listed_in self.old) name.now)) }
-        ensures integers { IfOk result (λ t. IsIntegerTable (table_of t)) }
         ensures kept { IfOk result (λ t. IsTable (table_of t)) }
     {
         if self.halted {
@@ -270,8 +293,6 @@ impl<D: SectorDevice> Store<D> {
         ensures told { IfErr result (RefusesRead (is_halted self.old) D.tells (shown_image (now (D.story (device_of self.old))))
             (entry_of (listed_in self.old) name.now)) }
         ensures reads { OnlyReadsStore D.size D.story D.failed D.tells (ended result) self.old self.new }
-        // Columns of other types are not held yet.
-        ensures integers { IfOk result (λ t. IsIntegerTable (table_of t)) }
     {
         accepted_rows_are_a_table();
         tables_are_joined_and_cut();

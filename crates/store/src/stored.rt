@@ -1,5 +1,5 @@
 // The catalogue of a store, as commits know one.
-ghost use Rattle.catalogue.specs.Entries.{PlainCatalogue, AreRead};
+ghost use Rattle.catalogue.specs.Entries.{PlainCatalogue};
 ghost use Rattle.catalogue.specs.View.{catalogue_of};
 ghost use Rattle.store.specs.Held.{whole_reading, whole_is_local};
 
@@ -13,7 +13,6 @@ use std::alloc::{AllocError, Global};
 #[derive(Drop)]
 pub struct StoredCatalogue {
     pub list: Catalogue,
-    ghost read: { AreRead (catalogue_of list) },
 }
 
 impl ReadCatalogue for StoredCatalogue {

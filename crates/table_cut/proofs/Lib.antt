@@ -5,3 +5,4 @@ mod SeenLemmas
 mod EntryLemmas
 pub mod CutRows
 pub mod Fronts
+mod RowsTaken

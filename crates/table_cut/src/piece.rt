@@ -13,7 +13,7 @@ use cells::{MAX_PIECE_ROWS, MAX_PIECE_WEIGHT, add_weights, has_limits};
 use std::alloc::{AllocError, Global};
 use values::{Table, Values};
 
-fn row_at(table: &Table, place: usize) -> Values<'_>
+pub(crate) fn row_at(table: &Table, place: usize) -> Values<'_>
     requires { place < length (table_of table.now).rows }
     ensures { slice_get (table_of table.now).rows place ≡ Some (borrowed_cells result) }
 {

@@ -135,3 +135,16 @@ pub(crate) fn takes_row<'a>(
     note_each(sets, &held)?;
     Ok(are_within(sets, &held))
 }
+
+/// Whether the dictionaries have room for a row by itself.
+pub(crate) fn fits_dictionaries(
+    alloc: Global,
+    schema: &Schema,
+    row: Values<'_>,
+) -> Result<bool, AllocError>
+    ensures { IfOk result (λ b. b ≡ dictionaries_fit (schema_of schema.now) (borrowed_cells row.entry ∷ [])) }
+{
+    let held = held_in_row(alloc, &schema.fields, row)?;
+    let sets = begin(alloc, &held)?;
+    Ok(are_within(&sets, &held))
+}

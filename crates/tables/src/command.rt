@@ -1,36 +1,15 @@
 // What may be asked of a store's tables.
-ghost use Rattle.std.specs.Prelude.{◌≡◌, true, is_some, IfSome};
 ghost use Rattle.arrow_schema.specs.View.{schema_of};
 ghost use Rattle.arrow_schema.specs.Limits.{IsWithinLimits};
-ghost use Rattle.catalogue.specs.Schemas.{is_read};
 
 use arrow_schema::Schema;
-use ipc_stream::integer_schemas_are_read;
-use values::is_integer_schema;
 
-/// A table to be made: its name, and its schema, which is within the limits and of those that are read so far.
+/// A table to be made: its name, and its schema, which is within the limits.
 #[derive(Drop)]
 pub struct NewTable {
     pub name: String,
     pub schema: Schema,
     pub ghost within: { IsWithinLimits (schema_of schema) },
-    pub ghost read: { is_read (schema_of schema) ≡ true },
-}
-
-impl NewTable {
-    /// The table to be made, or `None` where its schema is not of those that are read so far: of integer columns.
-    pub fn new(name: String, schema: Schema) -> Option<NewTable>
-        requires within { IsWithinLimits (schema_of schema) }
-        ensures exact { is_some result ≡ is_read (schema_of schema) }
-        ensures made { IfSome result (λ new. (new.name ≡ name) × (new.schema ≡ schema)) }
-    {
-        integer_schemas_are_read();
-        if is_integer_schema(&schema) {
-            Some(NewTable { name, schema })
-        } else {
-            None
-        }
-    }
 }
 
 /// A change of the tables, with the tests that are made of it in their order.

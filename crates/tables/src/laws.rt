@@ -11,7 +11,7 @@ ghost use Rattle.tables.specs.Commands.{PlainCommand, create, append_rows, renam
 ghost use Rattle.tables.specs.Verdict.{verdict, step, after, joined, empty_table};
 ghost use Rattle.tables.specs.Refusals.{origin_of, by_tables};
 
-use ipc_stream::meaning_is_a_table;
+use ipc_table::meaning_is_a_table;
 use values::{accepted_rows_are_a_table, tables_are_joined_and_cut};
 
 /// A command that is refused leaves the tables as they are.

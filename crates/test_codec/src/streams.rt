@@ -1,11 +1,12 @@
-// Streams of tables that are made of rows (ipc_stream). What the built program shows of streams is tested by scripts, without
+// Streams of tables that are made of rows (canonical_write, ipc_table). What the built program shows of streams is tested by scripts, without
 // a proof (tests/program, tests/refused_memory).
 use crate::made::{NotMade, assert_no_row, is_one_well, schema_of, sound_table_of, table_of_cells};
 use crate::stream_bytes::{
     END, MINUS_ONE, NO_FIELDS, NUMBERS, SCHEMA, SEVEN, THREE_ROWS, TWO_COLUMNS, batch, joined,
 };
 use arrow_schema::same_shape;
-use ipc_stream::{decode, encode};
+use canonical_write::encode;
+use ipc_table::decode;
 use std::alloc::{AllocError, Global};
 use values::{Row, Table, Value, ValueRef};
 
@@ -92,9 +93,6 @@ fn bytes_of(alloc: Global, made: Made) -> Result<Vec<u8>, AllocError> {
 
 fn is_written(alloc: Global, made: Made) -> Result<bool, NotMade> {
     let table = table_of(alloc, made)?;
-    if !table.has_only_integers() {
-        return Err(NotMade);
-    }
     let stream = encode(alloc, &table)?;
     Ok(stream.as_slice() == bytes_of(alloc, made)?.as_slice())
 }
@@ -142,7 +140,7 @@ fn has_numbers(table: &Table) -> bool {
 
 fn is_read(alloc: Global) -> Result<bool, NotMade> {
     let schema = schema_of(alloc, COLUMNS)?;
-    match decode(alloc, &TWO_COLUMNS) {
+    match decode(alloc, Vec::from_slice(alloc, &TWO_COLUMNS)?) {
         Ok(again) => Ok(has_numbers(&again) && same_shape(again.schema(), &schema)),
         Err(_) => Err(NotMade),
     }

@@ -1,12 +1,11 @@
 // Streams that are imported and appended, and the schemas of new tables.
-ghost use Rattle.std.specs.Prelude.{◌≡◌, true, IfOk};
+ghost use Rattle.std.specs.Prelude.{IfOk};
 ghost use Rattle.arrow_schema.specs.View.{schema_of};
 ghost use Rattle.arrow_schema.specs.Limits.{IsWithinLimits};
-ghost use Rattle.catalogue.specs.Schemas.{is_read};
 
 use crate::made::NotMade;
 use arrow_schema::{Schema, parse_fields};
-use ipc_stream::{decode, encode, integer_schemas_are_read};
+use canonical_write::encode;
 use std::alloc::{AllocError, Global};
 use values::{Table, Value};
 
@@ -55,9 +54,6 @@ fn stream_of(
     rows: usize,
 ) -> Result<Vec<u8>, NotMade> {
     let table = table_of_cells(schema_of(alloc, columns)?, cells, rows)?;
-    if !table.has_only_integers() {
-        return Err(NotMade);
-    }
     Ok(encode(alloc, &table)?)
 }
 
@@ -109,17 +105,11 @@ pub fn bytes_of(alloc: Global, input: Input) -> Result<Vec<u8>, NotMade> {
     }
 }
 
-/// The schema of columns of these field texts, as a stream without rows has it.
+/// The schema of columns of these field texts.
 pub fn new_schema(alloc: Global, columns: &[&str]) -> Result<Schema, NotMade>
     ensures within { IfOk result (λ s. IsWithinLimits (schema_of s)) }
-    ensures read { IfOk result (λ s. is_read (schema_of s) ≡ true) }
 {
-    integer_schemas_are_read();
-    let stream = stream_of(alloc, columns, Vec::new(alloc), 0)?;
-    let Ok(table) = decode(alloc, &stream) else {
-        return Err(NotMade);
-    };
-    let schema = table.schema().copy(alloc)?;
+    let schema = schema_of(alloc, columns)?;
     if schema.check().is_err() {
         return Err(NotMade);
     }

@@ -4,8 +4,8 @@ use crate::made::{NotMade, assert_no_row};
 use crate::playing::{Slot, is_played, new_slot, shut};
 use crate::shown::contents;
 use crate::steps::{Step, Steps};
-use Input::{First, Ints};
-use Step::{Create, Export, Format, Import, Open, Read, Remove, Tables};
+use Input::{Changed, First, Ints};
+use Step::{Append, Create, Export, Format, Import, Open, Read, Remove, Tables};
 use sector_dev::{Choice, ModelDevice, SectorDevice};
 use std::alloc::Global;
 use store::Place;
@@ -127,6 +127,8 @@ const CAUSES: &[(&[Change], Steps)] = &[
             (Tables, "t 3"),
             (Read("t"), "S13 SegmentUnread 0"),
             (Export("t"), "S13 SegmentUnread 0"),
+            (Append("t", Ints(&[])), "S13 SegmentUnread 0"),
+            (Append("t", Changed(&[(120, 98)])), "S4 SchemaMismatch"),
             (Tables, "t 3"),
         ],
     ),

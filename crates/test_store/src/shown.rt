@@ -4,11 +4,12 @@ use crate::steps::{add_part, add_values};
 use arrow_schema::same_shape;
 use catalogue::{Entry, Segment};
 use commit::{Commit, OpenError, recover};
-use ipc_stream::{Table, decode};
+use ipc_table::decode;
 use sector_dev::{ModelDevice, SectorDevice};
 use segments::read_run;
 use std::alloc::Global;
 use store::StoredCatalogue;
+use values::Table;
 
 // The bytes of a segment on a device of 4,096 sectors at the most.
 fn bytes_at(alloc: Global, device: &mut ModelDevice, segment: Segment) -> Result<Vec<u8>, NotMade> {
@@ -23,7 +24,7 @@ fn bytes_at(alloc: Global, device: &mut ModelDevice, segment: Segment) -> Result
 // The table that a segment holds.
 fn table_at(alloc: Global, device: &mut ModelDevice, segment: Segment) -> Result<Table, NotMade> {
     let bytes = bytes_at(alloc, device, segment)?;
-    decode(alloc, &bytes).map_err(|_| NotMade)
+    decode(alloc, bytes).map_err(|_| NotMade)
 }
 
 // Whether a segment's table is the part of a table that the catalogue tells.

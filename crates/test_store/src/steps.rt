@@ -2,7 +2,8 @@
 use crate::inputs::{Input, bytes_of, new_schema};
 use crate::made::NotMade;
 use arrow_schema::{Schema, field_text};
-use ipc_stream::{decode, encode};
+use canonical_write::encode;
+use ipc_table::decode;
 use std::alloc::Global;
 use store::{Call, Reply};
 use tables::{Command, NewTable};
@@ -120,7 +121,7 @@ fn table_text(alloc: Global, table: &Table) -> Result<String, NotMade> {
 
 // As `stream of "a":int32?: 7 -1`, where the bytes are the canonical stream of a table.
 fn stream_text(alloc: Global, bytes: &[u8]) -> Result<String, NotMade> {
-    let Ok(table) = decode(alloc, bytes) else {
+    let Ok(table) = decode(alloc, Vec::from_slice(alloc, bytes)?) else {
         return Err(NotMade);
     };
     if encode(alloc, &table)?.as_slice() != bytes {

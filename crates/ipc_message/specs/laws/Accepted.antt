@@ -6,18 +6,17 @@ use Rattle.std.proofs.Common.{refl}
 use Rattle.std.proofs.lemmas.Bool.{not-false}
 use Rattle.facts.specs.laws.Checks.{unless_passed}
 use Rattle.ipc_message.specs.declared.fault.Fault.{Fault}
-use Rattle.ipc_message.specs.declared.fault.Fault.TheVariants.{BigEndian, TypeNotHeld, BadParameter, SchemaLimit, NotUtf8, DictionaryId, DictionaryOfNested, NotYet}
+use Rattle.ipc_message.specs.declared.fault.Fault.TheVariants.{BigEndian, TypeNotHeld, BadParameter, SchemaLimit, NotUtf8, DictionaryId, DictionaryOfNested}
 use Rattle.ipc_message.specs.Raw.{RawField, RawSchema}
 use Rattle.ipc_message.specs.Fields.{every_field}
 use Rattle.ipc_message.specs.Framing.{first_some, when, unless}
-use Rattle.ipc_message.specs.Checks.{is_unsupported, name_of_type, is_bad, exceeds_limit, texts_of, has_two_types, is_dictionary_of_nested, is_not_yet, schema_checks}
+use Rattle.ipc_message.specs.Checks.{is_unsupported, name_of_type, is_bad, exceeds_limit, texts_of, has_two_types, is_dictionary_of_nested, schema_checks}
 
 pub record IsAccepted (s : RawSchema) : Type 0 where
   pub decoded : list_any is_bad (every_field s) ≡ false
   pub small : exceeds_limit s ≡ false
   pub utf8 : list_all is_utf8 (texts_of s) ≡ true
   pub flat : list_any is_dictionary_of_nested (every_field s) ≡ false
-  pub read : (not (length s.pairs == 0) || list_any is_not_yet (every_field s)) ≡ false
 
 -- no test finds anything
 abbrev pub AllNone : {A : Type 0} → List (Option A) → Type 0
@@ -47,7 +46,6 @@ pub record FindsNothing (supported : ℕ → Bool) (s : RawSchema) : Type 0 wher
   pub not_utf8 : not (list_all is_utf8 (texts_of s)) ≡ false
   pub two_types : has_two_types (every_field s) ≡ false
   pub nested : list_any is_dictionary_of_nested (every_field s) ≡ false
-  pub not_yet : (not (length s.pairs == 0) || list_any is_not_yet (every_field s)) ≡ false
 
 no_field : (o : Option RawField) (f : RawField → Fault) → option_map f o ≡ None → o ≡ None
 no_field None f h = refl
@@ -63,7 +61,6 @@ finds_nothing supported s h =
     let not_utf8 = first_none _ _ large.1 in
     let two_types = first_none _ _ not_utf8.1 in
     let nested = first_none _ _ two_types.1 in
-    let not_yet = first_none _ _ nested.1 in
     record {
       big_endian = when_none _ BigEndian big_endian.0;
       unsupported = no_field _ (λ f. TypeNotHeld (name_of_type f)) unsupported.0;
@@ -72,13 +69,12 @@ finds_nothing supported s h =
       not_utf8 = when_none _ NotUtf8 not_utf8.0;
       two_types = when_none _ DictionaryId two_types.0;
       nested = when_none _ DictionaryOfNested nested.0;
-      not_yet = when_none _ NotYet not_yet.0;
     }
 
 pub accepted : (supported : ℕ → Bool) (s : RawSchema) → first_some (schema_checks supported s) ≡ None → IsAccepted s
 accepted supported s h =
     let found = finds_nothing supported s h in
-    record { decoded = found.bad; small = found.large; utf8 = not-false _ found.not_utf8; flat = found.nested; read = found.not_yet }
+    record { decoded = found.bad; small = found.large; utf8 = not-false _ found.not_utf8; flat = found.nested }
 
 pub accepted_outcome : {A : Type 0} (supported : ℕ → Bool) (s : RawSchema) (x : A) → unless (first_some (schema_checks supported s)) (Ok x) ≡ Ok x → IsAccepted s
 accepted_outcome supported s x h = accepted supported s (unless_passed _ (Ok x) x h).0

@@ -8,8 +8,7 @@ use Rattle.segments.specs.declared.run.Run.{Run}
 use Rattle.arrow_schema.specs.Column.{PlainSchema}
 use Rattle.catalogue.specs.declared.limits.TheConstants.{MAX_SEGMENTS}
 use Rattle.catalogue.specs.declared.entry.Segment.{Segment}
-use Rattle.catalogue.specs.Schemas.{is_read}
-use Rattle.catalogue.specs.Entries.{PlainEntry, PlainCatalogue, is_segment, runs_in, runs_of, segment_count, IsCatalogue, AreRead}
+use Rattle.catalogue.specs.Entries.{PlainEntry, PlainCatalogue, is_segment, runs_in, runs_of, segment_count, IsCatalogue}
 use Rattle.catalogue.specs.Edits.{entry_of, with_entry, without, named, renamed, with_segments, with_more}
 use Rattle.catalogue.specs.Text.{entry_size, list_size}
 use Rattle.catalogue.specs.laws.Kept.{entry_stands, passes_catalogue, catalogue_is}
@@ -213,7 +212,7 @@ pub edit_stands : (c : PlainCatalogue) (edit : PlainEdit) (streams : List (List 
     → segment_count (edited c edit segments) ≤ MAX_SEGMENTS → IsCatalogue (edited c edit segments)
 edit_stands c (put name schema) streams segments k can each most =
     let e : PlainEntry = new_entry name schema segments in
-    let tables = can.3 in
+    let tables = can.2 in
     catalogue_is (with_entry c e) (put_stands c e (passes_catalogue c k) (entry_stands e can.0 can.1 each) (omega (arith, tables, put_tables c name schema segments)) most)
 edit_stands c (extend name) streams segments k can each most =
     let e : PlainEntry = can.0 in
@@ -227,21 +226,3 @@ edit_stands c (remove name) streams segments k can each most = catalogue_is (wit
 pub edited_stands : (c : PlainCatalogue) (change : PlainChange) (segments : List Segment) → IsCatalogue c → IsChange c change → list_all is_segment segments ≡ true
     → segment_count (edited c change.edit segments) ≤ MAX_SEGMENTS → IsCatalogue (edited c change.edit segments)
 edited_stands c change segments k is each most = edit_stands c change.edit change.streams segments k is.edit each most
-
--- ---- its schemas are read
-
-reads : PlainEntry → Bool
-reads e = is_read e.schema
-
-edit_is_read : (c : PlainCatalogue) (edit : PlainEdit) (streams : List (List ℕ)) (segments : List Segment) → AreRead c → IsEdit c edit streams → AreRead (edited c edit segments)
-unfolding reads
-edit_is_read c (put name schema) streams segments read can = with_all reads c (new_entry name schema segments) read can.2
-edit_is_read c (extend name) streams segments read can =
-    subst AreRead (sym (more_is c name can.0 segments can.1)) (refilled_all reads c name (can.0.segments ++ segments) (λ x is. is) read)
-edit_is_read c (move from to) streams segments read can =
-    subst AreRead (sym (renamed_is c from to can.2.0 can.2.1))
-    (with_all reads (without c from) (named to can.2.0) (without_all reads c from read) (found_passes reads c from can.2.0 read can.2.1))
-edit_is_read c (remove name) streams segments read can = without_all reads c name read
-
-pub edited_is_read : (c : PlainCatalogue) (change : PlainChange) (segments : List Segment) → AreRead c → IsChange c change → AreRead (edited c change.edit segments)
-edited_is_read c change segments read is = edit_is_read c change.edit change.streams segments read is.edit

@@ -14,7 +14,7 @@ use Rattle.values.specs.Table as values
 use Rattle.values.specs.Table.{first_unfit, weighed, table_from, IsTable}
 use Rattle.ipc_message.specs.declared.fault.Fault.{Fault}
 use Rattle.ipc_message.specs.Header.{supported_codes}
-use Rattle.ipc_stream.specs.Meaning.{meaning}
+use Rattle.ipc_table.specs.Meaning.{meaning}
 use Rattle.tables.specs.declared.refusal.QueryRefusal.{QueryRefusal}
 use Rattle.tables.specs.declared.refusal.Refusal.{Refusal}
 use Rattle.tables.specs.declared.refusal.Refusal.TheVariants.{RowUnfit, TooMany}

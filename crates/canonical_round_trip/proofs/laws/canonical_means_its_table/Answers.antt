@@ -5,7 +5,7 @@ use Rattle.canonical_round_trip.proofs.Pieces.{Laws, table_means}
 use Rattle.canonical_round_trip.proofs.laws.canonical_means_its_table.Goals as goal
 
 pub returns : goal.returns
-returns c t table read =
+returns c t table =
     let first = c.schema_message_is_read_again.ensures in
     let second = c.dictionary_message_is_read_again.ensures in
     let next = c.batch_message_is_read_again.ensures in
@@ -42,4 +42,4 @@ returns c t table read =
       cut = c.tables_are_joined_and_cut.ensures.cut;
     } in
     let laws : Laws = record { schema = schema; dictionary = dictionary; batch = batch; entries = entries; rows = rows } in
-    table_means laws t (c.pieces_can_be_built.ensures t table) table read
+    table_means laws t (c.pieces_can_be_built.ensures t table) table

@@ -4,7 +4,7 @@ use Rattle.canonical_write.proofs.Meant.{all_meant}
 use Rattle.canonical_write.proofs.laws.pieces_are_tables.Goals as goal
 
 pub returns-clause-each : goal.returns-clause-each
-returns-clause-each c t table read = all_meant c.canonical_means_its_table.ensures t.schema (pieces_of t) read (c.pieces_can_be_built.ensures t table)
+returns-clause-each c t table = all_meant c.canonical_means_its_table.ensures t.schema (pieces_of t) (c.pieces_can_be_built.ensures t table)
 
 pub returns-clause-whole : goal.returns-clause-whole
 returns-clause-whole c t = pieces_joined (within_piece t.schema) t.rows

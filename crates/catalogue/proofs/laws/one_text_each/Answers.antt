@@ -1,13 +1,9 @@
 use Rattle.catalogue.proofs.Again.{catalogue_again, texts_apart}
-use Rattle.catalogue.proofs.Read.{catalogue_read}
 use Rattle.catalogue.proofs.Spelled.{catalogue_spelled}
 use Rattle.catalogue.proofs.laws.one_text_each.Goals as goal
 
 pub returns-clause-kept : goal.returns-clause-kept
 returns-clause-kept c = λ bytes k h. (catalogue_spelled bytes k h).kept
-
-pub returns-clause-read : goal.returns-clause-read
-returns-clause-read c = catalogue_read c.read_schemas_were_written.ensures
 
 pub returns-clause-found : goal.returns-clause-found
 returns-clause-found c = λ bytes k small h. (catalogue_spelled bytes k h).spelled small

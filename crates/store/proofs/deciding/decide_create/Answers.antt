@@ -25,14 +25,14 @@ returns-clause-decides c = λ t lists.
     (sym (ap (create_tests (catalogue_of c.args.catalogue.now)) c.deref.ensures) ∙ c.in_ok-test_create.ensures.test) (empty_rows (schema_of c.args.new.schema)))
 
 pub returns-in_err-test_create-clause-answers : goal.returns-in_err-test_create-clause-answers
-returns-in_err-test_create-clause-answers c =
+returns-in_err-test_create-clause-answers c = λ tells image.
     let p = err_from_is_err_and c.from_residual.result c.from_residual.ensures.1 in
     rw (p.1, p.2)
-    (create_answers (catalogue_of c.args.catalogue.now) (string_bytes c.args.new.name) (schema_of c.args.new.schema) _
+    (create_answers tells image (catalogue_of c.args.catalogue.now) (string_bytes c.args.new.name) (schema_of c.args.new.schema) _
     (sym (ap (create_tests (catalogue_of c.args.catalogue.now)) c.deref.ensures) ∙ c.in_err-test_create.ensures.test))
 
 pub returns-clause-answers : goal.returns-clause-answers
-returns-clause-answers c =
-    subst (λ (x : PlainChange). IsAnswered (catalogue_of c.args.catalogue.now) (create (string_bytes c.args.new.name) (schema_of c.args.new.schema)) (Ok x)) (sym c.change_of_names.ensures)
-    (create_answers (catalogue_of c.args.catalogue.now) (string_bytes c.args.new.name) (schema_of c.args.new.schema) _
+returns-clause-answers c = λ tells image.
+    subst (λ (x : PlainChange). IsAnswered tells image (catalogue_of c.args.catalogue.now) (create (string_bytes c.args.new.name) (schema_of c.args.new.schema)) (Ok x)) (sym c.change_of_names.ensures)
+    (create_answers tells image (catalogue_of c.args.catalogue.now) (string_bytes c.args.new.name) (schema_of c.args.new.schema) _
     (sym (ap (create_tests (catalogue_of c.args.catalogue.now)) c.deref.ensures) ∙ c.in_ok-test_create.ensures.test))

@@ -29,14 +29,14 @@ returns-clause-decides c = λ t lists.
     (sym (ap (missing_in (catalogue_of c.args.catalogue.now)) c.deref.ensures) ∙ c.in_ok-test_there.ensures))
 
 pub returns-in_err-test_there-clause-answers : goal.returns-in_err-test_there-clause-answers
-returns-in_err-test_there-clause-answers c =
+returns-in_err-test_there-clause-answers c = λ tells image.
     let p = err_from_is_err_and c.from_residual.result c.from_residual.ensures.1 in
     rw (p.1, p.2)
-    (drop_answers (catalogue_of c.args.catalogue.now) (string_bytes c.args.name) _
+    (drop_answers tells image (catalogue_of c.args.catalogue.now) (string_bytes c.args.name) _
     (sym (ap (missing_in (catalogue_of c.args.catalogue.now)) c.deref.ensures) ∙ c.in_err-test_there.ensures))
 
 pub returns-clause-answers : goal.returns-clause-answers
-returns-clause-answers c =
-    subst (λ (x : PlainChange). IsAnswered (catalogue_of c.args.catalogue.now) (drop_table (string_bytes c.args.name)) (Ok x)) (sym c.change_of_names.ensures)
-    (drop_answers (catalogue_of c.args.catalogue.now) (string_bytes c.args.name) _
+returns-clause-answers c = λ tells image.
+    subst (λ (x : PlainChange). IsAnswered tells image (catalogue_of c.args.catalogue.now) (drop_table (string_bytes c.args.name)) (Ok x)) (sym c.change_of_names.ensures)
+    (drop_answers tells image (catalogue_of c.args.catalogue.now) (string_bytes c.args.name) _
     (sym (ap (missing_in (catalogue_of c.args.catalogue.now)) c.deref.ensures) ∙ c.in_ok-test_there.ensures))

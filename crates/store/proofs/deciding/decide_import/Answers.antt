@@ -1,11 +1,11 @@
-use Rattle.std.proofs.Common.{◌≡◌, ◌<◌, ◌^◌, length, ℕ, List, not, None, Ok, refl, ap, sym, ◌∙◌, subst, string_bytes}
+use Rattle.std.proofs.Common.{◌≡◌, ◌<◌, ◌^◌, length, ℕ, List, None, Ok, refl, ap, sym, ◌∙◌, subst, string_bytes}
 use Rattle.std.specs.List.{AllByRecursion}
 use Rattle.arrow_schema.specs.View.{schema_of}
 use Rattle.cells.specs.Cell.{PlainTable}
 use Rattle.values.specs.Table.{IsTable}
-use Rattle.values.specs.IntegerTable.{IsIntegerTable}
 use Rattle.values.specs.TableView.{table_of}
-use Rattle.ipc_stream.specs.Pieces.{piece_streams, piece_counts}
+use Rattle.canonical_write.specs.Pieces.{piece_streams, piece_counts}
+use Rattle.canonical_write.specs.View.{with_schema}
 use Rattle.catalogue.specs.Entries.{PlainCatalogue}
 use Rattle.catalogue.specs.View.{catalogue_of}
 use Rattle.tables.specs.Commands.{import_stream}
@@ -23,91 +23,97 @@ pub returns-in_err-test_import-clause-decides : goal.returns-in_err-test_import-
 returns-in_err-test_import-clause-decides c = λ t lists.
     let p = err_from_is_err_and c.from_residual.result c.from_residual.ensures.1 in
     rw (p.1, p.2)
-    (import_refused t (string_bytes c.args.name) c.args.bytes.now _
-    (sym (ap (λ (x : List ℕ). import_tests x c.args.bytes.now) c.deref.ensures) ∙ c.in_err-test_import.ensures))
+    (import_refused t (string_bytes c.args.name) c.args.bytes.items _
+    (sym (λ i. import_tests (c.deref.ensures i) (c.deref-2.ensures.value i)) ∙ c.in_err-test_import.ensures))
 
 pub returns-in_err-table-clause-decides : goal.returns-in_err-table-clause-decides
 returns-in_err-table-clause-decides c = λ t lists.
     let p = err_from_is_err_and c.from_residual-in_err-table.result c.from_residual-in_err-table.ensures.1 in
-    let tested : import_tests (string_bytes c.args.name) c.args.bytes.now ≡ None = sym (ap (λ (x : List ℕ). import_tests x c.args.bytes.now) c.deref.ensures) ∙ c.in_ok-test_import.ensures in
-    rw (p.1, p.2) (import_failed t (string_bytes c.args.name) c.args.bytes.now _ tested c.in_err-table.ensures.exact)
+    let tested : import_tests (string_bytes c.args.name) c.args.bytes.items ≡ None = sym (λ i. import_tests (c.deref.ensures i) (c.deref-2.ensures.value i)) ∙ c.in_ok-test_import.ensures in
+    rw (p.1, p.2) (import_failed t (string_bytes c.args.name) c.args.bytes.items _ tested c.in_err-table.ensures.exact)
 
 pub returns-in_err-test_room-clause-decides : goal.returns-in_err-test_room-clause-decides
 returns-in_err-test_room-clause-decides c = λ t lists.
-    let tested : import_tests (string_bytes c.args.name) c.args.bytes.now ≡ None = sym (ap (λ (x : List ℕ). import_tests x c.args.bytes.now) c.deref.ensures) ∙ c.in_ok-test_import.ensures in
+    let tested : import_tests (string_bytes c.args.name) c.args.bytes.items ≡ None = sym (λ i. import_tests (c.deref.ensures i) (c.deref-2.ensures.value i)) ∙ c.in_ok-test_import.ensures in
     let p = err_from_is_err_and c.from_residual-in_err-test_room.result c.from_residual-in_err-test_room.ensures.1 in
     rw (p.1, p.2)
-    (import_full (catalogue_of c.args.catalogue.now) t (string_bytes c.args.name) c.args.bytes.now (table_of c.in_ok-table.table) _ lists tested c.in_ok-table.ensures.exact
-    (sym (ap (full_in (catalogue_of c.args.catalogue.now)) c.deref-2.ensures) ∙ c.in_err-test_room.ensures.test))
+    (import_full (catalogue_of c.args.catalogue.now) t (string_bytes c.args.name) c.args.bytes.items (table_of c.in_ok-table.table) _ lists tested c.in_ok-table.ensures.exact
+    (sym (ap (full_in (catalogue_of c.args.catalogue.now)) c.deref-3.ensures) ∙ c.in_err-test_room.ensures.test))
+
+pub encode_pieces-requires : goal.encode_pieces-requires
+encode_pieces-requires c =
+    subst IsTable (λ i. record { schema = sym c.schema-2.ensures.schema i; rows = (table_of c.in_ok-table.table).rows }) c.schema-2.ensures.kept
 
 pub returns-clause-ok : goal.returns-clause-ok
 returns-clause-ok c =
     let listed : PlainCatalogue = catalogue_of c.args.catalogue.now in
     let table : PlainTable = table_of c.in_ok-table.table in
     let sound : IsTable table = c.schema.ensures.kept in
-    let ints : IsIntegerTable table = c.in_ok-table.ensures.integers in
     let counts : Counts listed = record { more = c.counts_after_changes.ensures.put listed; same = c.counts_after_changes.ensures.replaced listed } in
-    let tested : import_tests (string_bytes c.args.name) c.args.bytes.now ≡ None = sym (ap (λ (x : List ℕ). import_tests x c.args.bytes.now) c.deref.ensures) ∙ c.in_ok-test_import.ensures in
-    let room : full_in listed (string_bytes c.args.name) ≡ None = sym (ap (full_in listed) c.deref-2.ensures) ∙ c.in_ok-test_room.ensures.test in
+    let tested : import_tests (string_bytes c.args.name) c.args.bytes.items ≡ None = sym (λ i. import_tests (c.deref.ensures i) (c.deref-2.ensures.value i)) ∙ c.in_ok-test_import.ensures in
+    let room : full_in listed (string_bytes c.args.name) ≡ None = sym (ap (full_in listed) c.deref-3.ensures) ∙ c.in_ok-test_room.ensures.test in
     let schema : schema_of c.in_ok-schema.schema ≡ table.schema = c.in_ok-schema.ensures ∙ c.schema.ensures.schema in
+    let under : with_schema (schema_of c.schema-2.result.now) table ≡ table = λ i. record { schema = c.schema-2.ensures.schema i; rows = table.rows } in
     let streams : AllByRecursion (λ (stream : List ℕ). length stream < 2 ^ 64) (piece_streams table) =
-    subst (AllByRecursion (λ (stream : List ℕ). length stream < 2 ^ 64)) c.in_ok-pieces.ensures.streams c.in_ok-pieces.ensures.short in
+    subst (AllByRecursion (λ (stream : List ℕ). length stream < 2 ^ 64)) (c.in_ok-pieces.ensures.streams ∙ ap piece_streams under) c.in_ok-pieces.ensures.short in
+    let own : with_schema (schema_of c.schema-2.result.now) table ≡ table = λ i. record { schema = c.schema-2.ensures.schema i; rows = table.rows } in
     let same : change_of (record { edit = edits.Put c.args.name c.in_ok-schema.schema; streams = c.in_ok-pieces.pieces.streams; rows = c.in_ok-pieces.pieces.rows })
     ≡ record { edit = put (string_bytes c.args.name) table.schema; streams = piece_streams table; counts = piece_counts table } =
-    λ i. record { edit = put (string_bytes c.args.name) (schema i); streams = c.in_ok-pieces.ensures.streams i; counts = c.in_ok-pieces.ensures.rows i } in
+    λ i. record { edit = put (string_bytes c.args.name) (schema i); streams = (c.in_ok-pieces.ensures.streams ∙ ap piece_streams own) i; counts = (c.in_ok-pieces.ensures.rows ∙ ap piece_counts own) i } in
     subst (IsChange listed) (sym same)
-    (import_is_change listed (string_bytes c.args.name) c.args.bytes.now table counts c.in_ok-test_room.ensures.kept tested room sound.schema
-    (ap not (c.integer_schemas_are_read.ensures table.schema ints.schema)) (c.pieces_are_tables.ensures.each table sound ints) streams)
+    (import_is_change listed (string_bytes c.args.name) c.args.bytes.items table counts c.in_ok-test_room.ensures.kept tested room sound.schema
+    (c.pieces_are_tables.ensures.each table sound) streams)
 
 pub returns-clause-decides : goal.returns-clause-decides
 returns-clause-decides c = λ t lists.
     let listed : PlainCatalogue = catalogue_of c.args.catalogue.now in
     let table : PlainTable = table_of c.in_ok-table.table in
     let sound : IsTable table = c.schema.ensures.kept in
-    let ints : IsIntegerTable table = c.in_ok-table.ensures.integers in
-    let tested : import_tests (string_bytes c.args.name) c.args.bytes.now ≡ None = sym (ap (λ (x : List ℕ). import_tests x c.args.bytes.now) c.deref.ensures) ∙ c.in_ok-test_import.ensures in
-    let room : full_in listed (string_bytes c.args.name) ≡ None = sym (ap (full_in listed) c.deref-2.ensures) ∙ c.in_ok-test_room.ensures.test in
+    let tested : import_tests (string_bytes c.args.name) c.args.bytes.items ≡ None = sym (λ i. import_tests (c.deref.ensures i) (c.deref-2.ensures.value i)) ∙ c.in_ok-test_import.ensures in
+    let room : full_in listed (string_bytes c.args.name) ≡ None = sym (ap (full_in listed) c.deref-3.ensures) ∙ c.in_ok-test_room.ensures.test in
     let schema : schema_of c.in_ok-schema.schema ≡ table.schema = c.in_ok-schema.ensures ∙ c.schema.ensures.schema in
+    let own : with_schema (schema_of c.schema-2.result.now) table ≡ table = λ i. record { schema = c.schema-2.ensures.schema i; rows = table.rows } in
     let same : change_of (record { edit = edits.Put c.args.name c.in_ok-schema.schema; streams = c.in_ok-pieces.pieces.streams; rows = c.in_ok-pieces.pieces.rows })
     ≡ record { edit = put (string_bytes c.args.name) table.schema; streams = piece_streams table; counts = piece_counts table } =
-    λ i. record { edit = put (string_bytes c.args.name) (schema i); streams = c.in_ok-pieces.ensures.streams i; counts = c.in_ok-pieces.ensures.rows i } in
+    λ i. record { edit = put (string_bytes c.args.name) (schema i); streams = (c.in_ok-pieces.ensures.streams ∙ ap piece_streams own) i; counts = (c.in_ok-pieces.ensures.rows ∙ ap piece_counts own) i } in
     let holds : HoldsTable table (piece_streams table) (piece_counts table) = record {
-      rows = pieces_held table (c.pieces_are_tables.ensures.each table sound ints) (c.pieces_are_tables.ensures.whole table sound ints);
+      rows = pieces_held table (c.pieces_are_tables.ensures.each table sound) (c.pieces_are_tables.ensures.whole table);
       taken = c.accepted_rows_are_a_table.ensures.accepted table sound;
     } in
-    subst (λ (x : PlainChange). Decides t (import_stream (string_bytes c.args.name) c.args.bytes.now) (Ok x)) (sym same)
-    (import_decided listed t (string_bytes c.args.name) c.args.bytes.now table (piece_streams table) (piece_counts table) lists tested c.in_ok-table.ensures.exact room holds)
+    subst (λ (x : PlainChange). Decides t (import_stream (string_bytes c.args.name) c.args.bytes.items) (Ok x)) (sym same)
+    (import_decided listed t (string_bytes c.args.name) c.args.bytes.items table (piece_streams table) (piece_counts table) lists tested c.in_ok-table.ensures.exact room holds)
 
 pub returns-in_err-test_import-clause-answers : goal.returns-in_err-test_import-clause-answers
-returns-in_err-test_import-clause-answers c =
+returns-in_err-test_import-clause-answers c = λ tells image.
     let p = err_from_is_err_and c.from_residual.result c.from_residual.ensures.1 in
     rw (p.1, p.2)
-    (import_answers (catalogue_of c.args.catalogue.now) (string_bytes c.args.name) c.args.bytes.now _ _
-    (sym (ap (λ (x : List ℕ). import_tests x c.args.bytes.now) c.deref.ensures) ∙ c.in_err-test_import.ensures) refl)
+    (import_answers tells image (catalogue_of c.args.catalogue.now) (string_bytes c.args.name) c.args.bytes.items _ _
+    (sym (λ i. import_tests (c.deref.ensures i) (c.deref-2.ensures.value i)) ∙ c.in_err-test_import.ensures) refl)
 
 pub returns-in_err-table-clause-answers : goal.returns-in_err-table-clause-answers
-returns-in_err-table-clause-answers c =
+returns-in_err-table-clause-answers c = λ tells image.
     let p = err_from_is_err_and c.from_residual-in_err-table.result c.from_residual-in_err-table.ensures.1 in
-    let tested : import_tests (string_bytes c.args.name) c.args.bytes.now ≡ None = sym (ap (λ (x : List ℕ). import_tests x c.args.bytes.now) c.deref.ensures) ∙ c.in_ok-test_import.ensures in
-    rw (p.1, p.2) (failed_answers (catalogue_of c.args.catalogue.now) (string_bytes c.args.name) c.args.bytes.now _ tested c.in_err-table.ensures.exact)
+    let tested : import_tests (string_bytes c.args.name) c.args.bytes.items ≡ None = sym (λ i. import_tests (c.deref.ensures i) (c.deref-2.ensures.value i)) ∙ c.in_ok-test_import.ensures in
+    rw (p.1, p.2) (failed_answers tells image (catalogue_of c.args.catalogue.now) (string_bytes c.args.name) c.args.bytes.items _ tested c.in_err-table.ensures.exact)
 
 pub returns-in_err-test_room-clause-answers : goal.returns-in_err-test_room-clause-answers
-returns-in_err-test_room-clause-answers c =
-    let tested : import_tests (string_bytes c.args.name) c.args.bytes.now ≡ None = sym (ap (λ (x : List ℕ). import_tests x c.args.bytes.now) c.deref.ensures) ∙ c.in_ok-test_import.ensures in
+returns-in_err-test_room-clause-answers c = λ tells image.
+    let tested : import_tests (string_bytes c.args.name) c.args.bytes.items ≡ None = sym (λ i. import_tests (c.deref.ensures i) (c.deref-2.ensures.value i)) ∙ c.in_ok-test_import.ensures in
     let p = err_from_is_err_and c.from_residual-in_err-test_room.result c.from_residual-in_err-test_room.ensures.1 in
     rw (p.1, p.2)
-    (table_answers (catalogue_of c.args.catalogue.now) (string_bytes c.args.name) c.args.bytes.now (table_of c.in_ok-table.table) _ tested c.in_ok-table.ensures.exact
-    (sym (ap (full_in (catalogue_of c.args.catalogue.now)) c.deref-2.ensures) ∙ c.in_err-test_room.ensures.test))
+    (table_answers tells image (catalogue_of c.args.catalogue.now) (string_bytes c.args.name) c.args.bytes.items (table_of c.in_ok-table.table) _ tested c.in_ok-table.ensures.exact
+    (sym (ap (full_in (catalogue_of c.args.catalogue.now)) c.deref-3.ensures) ∙ c.in_err-test_room.ensures.test))
 
 pub returns-clause-answers : goal.returns-clause-answers
-returns-clause-answers c =
+returns-clause-answers c = λ tells image.
     let listed : PlainCatalogue = catalogue_of c.args.catalogue.now in
     let table : PlainTable = table_of c.in_ok-table.table in
-    let tested : import_tests (string_bytes c.args.name) c.args.bytes.now ≡ None = sym (ap (λ (x : List ℕ). import_tests x c.args.bytes.now) c.deref.ensures) ∙ c.in_ok-test_import.ensures in
-    let room : full_in listed (string_bytes c.args.name) ≡ None = sym (ap (full_in listed) c.deref-2.ensures) ∙ c.in_ok-test_room.ensures.test in
+    let tested : import_tests (string_bytes c.args.name) c.args.bytes.items ≡ None = sym (λ i. import_tests (c.deref.ensures i) (c.deref-2.ensures.value i)) ∙ c.in_ok-test_import.ensures in
+    let room : full_in listed (string_bytes c.args.name) ≡ None = sym (ap (full_in listed) c.deref-3.ensures) ∙ c.in_ok-test_room.ensures.test in
     let schema : schema_of c.in_ok-schema.schema ≡ table.schema = c.in_ok-schema.ensures ∙ c.schema.ensures.schema in
+    let own : with_schema (schema_of c.schema-2.result.now) table ≡ table = λ i. record { schema = c.schema-2.ensures.schema i; rows = table.rows } in
     let same : change_of (record { edit = edits.Put c.args.name c.in_ok-schema.schema; streams = c.in_ok-pieces.pieces.streams; rows = c.in_ok-pieces.pieces.rows })
     ≡ record { edit = put (string_bytes c.args.name) table.schema; streams = piece_streams table; counts = piece_counts table } =
-    λ i. record { edit = put (string_bytes c.args.name) (schema i); streams = c.in_ok-pieces.ensures.streams i; counts = c.in_ok-pieces.ensures.rows i } in
-    subst (λ (x : PlainChange). IsAnswered listed (import_stream (string_bytes c.args.name) c.args.bytes.now) (Ok x)) (sym same)
-    (table_answers listed (string_bytes c.args.name) c.args.bytes.now table _ tested c.in_ok-table.ensures.exact room)
+    λ i. record { edit = put (string_bytes c.args.name) (schema i); streams = (c.in_ok-pieces.ensures.streams ∙ ap piece_streams own) i; counts = (c.in_ok-pieces.ensures.rows ∙ ap piece_counts own) i } in
+    subst (λ (x : PlainChange). IsAnswered tells image listed (import_stream (string_bytes c.args.name) c.args.bytes.items) (Ok x)) (sym same)
+    (table_answers tells image listed (string_bytes c.args.name) c.args.bytes.items table _ tested c.in_ok-table.ensures.exact room)

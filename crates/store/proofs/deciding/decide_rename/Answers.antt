@@ -35,15 +35,15 @@ returns-clause-decides c = λ t lists.
     (rename_decided (catalogue_of c.args.catalogue.now) t (string_bytes c.args.from) (string_bytes c.args.to) lists (rename_passed _ _ _ none))
 
 pub returns-in_err-test_rename-clause-answers : goal.returns-in_err-test_rename-clause-answers
-returns-in_err-test_rename-clause-answers c =
+returns-in_err-test_rename-clause-answers c = λ tells image.
     let tested : rename_tests (catalogue_of c.args.catalogue.now) c.deref.result.now c.deref-2.result.now ≡ rename_tests (catalogue_of c.args.catalogue.now) (string_bytes c.args.from) (string_bytes c.args.to) =
     λ i. rename_tests (catalogue_of c.args.catalogue.now) (c.deref.ensures i) (c.deref-2.ensures i) in
     let p = err_from_is_err_and c.from_residual.result c.from_residual.ensures.1 in
-    rw (p.1, p.2) (rename_answers (catalogue_of c.args.catalogue.now) (string_bytes c.args.from) (string_bytes c.args.to) _ (sym tested ∙ c.in_err-test_rename.ensures))
+    rw (p.1, p.2) (rename_answers tells image (catalogue_of c.args.catalogue.now) (string_bytes c.args.from) (string_bytes c.args.to) _ (sym tested ∙ c.in_err-test_rename.ensures))
 
 pub returns-clause-answers : goal.returns-clause-answers
-returns-clause-answers c =
+returns-clause-answers c = λ tells image.
     let tested : rename_tests (catalogue_of c.args.catalogue.now) c.deref.result.now c.deref-2.result.now ≡ rename_tests (catalogue_of c.args.catalogue.now) (string_bytes c.args.from) (string_bytes c.args.to) =
     λ i. rename_tests (catalogue_of c.args.catalogue.now) (c.deref.ensures i) (c.deref-2.ensures i) in
-    subst (λ (x : PlainChange). IsAnswered (catalogue_of c.args.catalogue.now) (rename (string_bytes c.args.from) (string_bytes c.args.to)) (Ok x)) (sym c.change_of_names.ensures)
-    (rename_answers (catalogue_of c.args.catalogue.now) (string_bytes c.args.from) (string_bytes c.args.to) _ (sym tested ∙ c.in_ok-test_rename.ensures))
+    subst (λ (x : PlainChange). IsAnswered tells image (catalogue_of c.args.catalogue.now) (rename (string_bytes c.args.from) (string_bytes c.args.to)) (Ok x)) (sym c.change_of_names.ensures)
+    (rename_answers tells image (catalogue_of c.args.catalogue.now) (string_bytes c.args.from) (string_bytes c.args.to) _ (sym tested ∙ c.in_ok-test_rename.ensures))

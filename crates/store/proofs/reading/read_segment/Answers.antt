@@ -7,7 +7,7 @@ use Rattle.store.proofs.reading.read_segment.Goals as goal
 pub returns-in-Ok-clause-rows : goal.returns-in-Ok-clause-rows
 unfolding segment_rows
 returns-in-Ok-clause-rows g c =
-    IfOk-weaker c.table_in_bytes.result _ _ (λ found rows told s is. rows s is ∙ ap (λ (bytes : List ℕ). rows_in_bytes s c.args.segment.rows (Some bytes)) c.deref.ensures.value ∙ sym (ap (rows_in_bytes s c.args.segment.rows) (c.in-Ok.ensures.found told))) c.table_in_bytes.ensures.rows
+    IfOk-weaker c.table_in_bytes.result _ _ (λ found rows told s is. rows s is ∙ sym (ap (rows_in_bytes s c.args.segment.rows) (c.in-Ok.ensures.found told))) c.table_in_bytes.ensures.rows
 
 pub returns-in-Err-Unreadable-clause-rows : goal.returns-in-Err-Unreadable-clause-rows
 unfolding segment_rows

@@ -4,7 +4,7 @@ use Rattle.std.proofs.lemmas.List.{get_or_default}
 use Rattle.sector_dev.specs.Disk.{now, shown_image}
 use Rattle.catalogue.specs.declared.entry.Segment.{Segment}
 use Rattle.commit.specs.Standing.{is_on_device}
-use Rattle.ipc_stream.specs.View.{gathered_table}
+use Rattle.store.specs.inner.Gathered.{gathered_table}
 use Rattle.store.specs.Calls.{done, refused}
 use Rattle.store.proofs.ReadTables.{run_at, rows_step, rows_of_none, unreads_step, reads_more, reads_none, image_then, light_none}
 use Rattle.store.proofs.reading.read_segments.Goals as goal

@@ -2,7 +2,7 @@ use Rattle.std.proofs.Common.{◌≡◌, ◌≤◌, true, Some, take}
 use Rattle.sector_dev.specs.Disk.{now, shown_image}
 use Rattle.cells.specs.Weight.{table_weight}
 use Rattle.cells.specs.declared.limits.TheConstants.{MAX_TABLE_WEIGHT}
-use Rattle.ipc_stream.specs.View.{gathered_table}
+use Rattle.store.specs.inner.Gathered.{gathered_table}
 use Rattle.store.specs.Calls.{done}
 use Rattle.store.specs.Held.{rows_held}
 use Rattle.store.specs.Reading.{OnlyReadsDevice}

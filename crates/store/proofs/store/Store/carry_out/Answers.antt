@@ -240,5 +240,5 @@ returns-in-Ok-clause-written g c = λ told cmd on decided.
         found = stands_then (D.size s.device) (D.size c.publish.new.device) (synced_image (now s1)) plan.commit c.settle.new.opened.commit plan.catalogue c.settle.new.opened.catalogue c.publish.ensures.size
             c.settle.ensures.commit c.settle.ensures.catalogue p.stands;
       };
-      holds = has_done s.opened.map c.prepare.new.map s.opened.commit (listed_in s) change plan back prep (D.size s.device) s.same c.requires.sound cmd decided (synced_image (now s1)) p.stands p.holds;
+      holds = has_done s.opened.map c.prepare.new.map s.opened.commit (listed_in s) change plan back prep (D.size s.device) s.same c.requires.sound (now (D.story s.device)) cmd decided (synced_image (now s1)) p.stands p.holds;
     }

@@ -2,7 +2,7 @@ use Rattle.std.specs.Prelude.{Ok}
 use Rattle.std.proofs.Common.{◌≡◌, refl, ap, ◌∙◌}
 use Rattle.catalogue.specs.laws.Kept.{catalogue_is}
 use Rattle.ipc_message.specs.Header.{supported_codes}
-use Rattle.ipc_stream.specs.Meaning.{meaning}
+use Rattle.ipc_table.specs.Meaning.{meaning}
 use Rattle.values.specs.TableView.{table_of}
 use Rattle.tables.specs.declared.refusal.Refusal.TheVariants.{OutOfMemory}
 use Rattle.store.specs.Calls.{done, export_call, bytes_are, refused}
@@ -20,7 +20,7 @@ returns-in-Ok-encode-clause-goes g c = λ told base m fits.
     let name = c.args.name.now in
     let t = table_of c.in-Ok.table in
     let found = found_table D.size D.story D.failed base m D.tells told old c.read_named.new.self fits name t c.in-Ok.ensures.found in
-    let means : meaning supported_codes c.in-Ok-encode.bytes.items ≡ Ok t = ap (meaning supported_codes) c.in-Ok-encode.ensures ∙ c.canonical_means_its_table.ensures t c.in-Ok.ensures.kept c.in-Ok.ensures.integers in
+    let means : meaning supported_codes c.in-Ok-encode.bytes.items ≡ Ok t = ap (meaning supported_codes) c.in-Ok-encode.ensures ∙ c.canonical_means_its_table.ensures t c.in-Ok.ensures.kept in
     stays_reading D.size D.story D.failed base m D.tells told old c.read_named.new.self fits (export_call name) (bytes_are c.in-Ok-encode.bytes.items) done refl refl tt (found.0, (t, found.1, means), (refl, refl)) c.in-Ok.ensures.reads
 
 pub returns-in-Ok-clause-refused : goal.returns-in-Ok-clause-refused

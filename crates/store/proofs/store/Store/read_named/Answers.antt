@@ -4,7 +4,6 @@ use Rattle.catalogue.specs.Edits.{entry_of}
 use Rattle.catalogue.specs.laws.Changed.{found_passes}
 use Rattle.commit.specs.laws.Frame.{fault_none}
 use Rattle.store.specs.Fits.{listed_in}
-use Rattle.store.proofs.Appended.{entry_integers}
 use Rattle.store.proofs.ReadTables.{runs_on_device}
 use Rattle.store.proofs.store.Store.read_named.Goals as goal
 
@@ -20,8 +19,3 @@ pub read_entry-requires-clause-sound : goal.read_entry-requires-clause-sound
 read_entry-requires-clause-sound g c =
     let store = c.args.self.now in
     found_passes is_entry (listed_in store) c.args.name.now (plain_entry c.in-Some.entry.now) c.in-Some.ensures.kept.entries (sym c.in-Some.ensures.entry)
-
-pub read_entry-requires-clause-integers : goal.read_entry-requires-clause-integers
-read_entry-requires-clause-integers g c =
-    let store = c.args.self.now in
-    entry_integers (listed_in store) c.args.name.now (plain_entry c.in-Some.entry.now) c.in-Some.ensures.kept store.opened.catalogue.read (sym c.in-Some.ensures.entry)

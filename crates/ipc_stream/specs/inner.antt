@@ -1,5 +1,0 @@
-pub mod Added
-pub mod Columns
-pub mod Packed
-pub mod Progress
-pub mod Joined

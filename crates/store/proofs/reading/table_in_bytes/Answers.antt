@@ -1,0 +1,36 @@
+use Rattle.std.specs.Prelude.{nat_eq}
+use Rattle.std.specs.List.{starts_with}
+use Rattle.std.proofs.Common.{◌≡◌, ◌++◌, true, length, drop, Ok, refl, sym, ap, ◌∙◌, subst}
+use Rattle.std.proofs.lemmas.Slice.Eq.{starts_is}
+use Rattle.std.proofs.lemmas.Bool.Decides.{Decides-eqb}
+use Rattle.facts.specs.laws.Checks.{unless_passed}
+use Rattle.arrow_schema.specs.Column.{PlainSchema}
+use Rattle.ipc_message.specs.Checks.{schema_checks, checked_schema}
+use Rattle.ipc_message.specs.Convert.{plain_schema_of}
+use Rattle.ipc_message.specs.Framing.{Envelope, next_message, message, first_some}
+use Rattle.ipc_message.specs.Header.{header, supported_codes}
+use Rattle.ipc_message.specs.Raw.{schema_header}
+use Rattle.ipc_table.specs.laws.First.{means_begins}
+use Rattle.ipc_write.specs.Decoded.{raw_schema}
+use Rattle.ipc_write.specs.Written.{schema_message, schema_envelope}
+use Rattle.values.specs.TableView.{table_of}
+use Rattle.store.proofs.reading.table_in_bytes.Goals as goal
+
+-- the first message is that of the schema, and a stream means a table of the schema of its first message
+pub returns-then-len-rows-clause-schema : goal.returns-then-len-rows-clause-schema
+unfolding checked_schema
+returns-then-len-rows-clause-schema c = λ s within front.
+    let bytes = c.args.bytes.items in
+    let t = table_of c.in-Ok.weighed.table in
+    let law = c.schema_message_is_read_again.ensures in
+    let begins : starts_with nat_eq bytes (schema_message s) ≡ true = (λ i. starts_with nat_eq (sym c.deref.ensures.value i) (sym front i)) ∙ sym c.starts_with.ensures.value ∙ c.if-not-starts_with.false in
+    let first = means_begins supported_codes bytes t c.in-Ok.ensures.exact in
+    let parts : bytes ≡ schema_message s ++ drop (length (schema_message s)) bytes = (starts_is Decides-eqb bytes (schema_message s) (starts_with nat_eq bytes (schema_message s)) refl).0 begins in
+    let found : next_message bytes ≡ Ok (message (schema_envelope s)) = ap next_message parts ∙ law.next_message s (drop (length (schema_message s)) bytes) within in
+    let one : first.first ≡ schema_envelope s = let both : Ok (message first.first) ≡ Ok (message (schema_envelope s)) = sym first.found ∙ found in cc in
+    let own : header supported_codes (schema_envelope s).metadata ≡ Ok (schema_header first.schema) = subst (λ (m : Envelope). header supported_codes m.metadata ≡ Ok (schema_header first.schema)) one first.decoded in
+    let written : Ok (schema_header first.schema) ≡ Ok (schema_header (raw_schema s)) = sym own ∙ law.header supported_codes s (refl, refl) within in
+    let same : first.schema ≡ raw_schema s = cc in
+    let passed = unless_passed (first_some (schema_checks supported_codes first.schema)) (Ok (plain_schema_of first.schema)) t.schema first.checked in
+    let plain : plain_schema_of first.schema ≡ t.schema = let both = passed.1 in cc in
+    sym plain ∙ ap plain_schema_of same ∙ law.decoded s within

@@ -1,0 +1,35 @@
+// The first row that another schema does not take.
+ghost use Rattle.std.specs.Prelude.{◌≡◌, ◌∷◌, [], IfOk};
+ghost use Rattle.arrow_schema.specs.Shape.{HaveOneShape};
+ghost use Rattle.arrow_schema.specs.View.{schema_of};
+ghost use Rattle.values.specs.Table.{first_unfit};
+ghost use Rattle.values.specs.TableView.{table_of};
+
+use crate::piece::row_at;
+use crate::seen::fits_dictionaries;
+use arrow_schema::Schema;
+use cells::has_limits;
+use std::alloc::{AllocError, Global};
+use values::Table;
+
+/// The first row of a table, counted from 0, that tables of another schema of its shape don't take: it fills a dictionary of that schema. What fits
+/// and what it weighs does not depend on dictionaries. Refused only where a growth was.
+pub fn first_unfit_row(
+    alloc: Global,
+    schema: &Schema,
+    table: &Table,
+) -> Result<Option<usize>, AllocError>
+    requires { HaveOneShape (schema_of schema.now) (table_of table.now).schema }
+    ensures { IfOk result (λ found. found ≡ first_unfit (schema_of schema.now) (table_of table.now).rows) }
+{
+    table.schema();
+    if !has_limits(schema) {
+        return Ok(None);
+    }
+    for place in 0..table.len() {
+        if !fits_dictionaries(alloc, schema, row_at(table, place))? {
+            return Ok(Some(place));
+        }
+    }
+    Ok(None)
+}
