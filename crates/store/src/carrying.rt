@@ -223,9 +223,11 @@ impl<D: SectorDevice> Store<D> {
         ensures quiet { IfErr result (λ e. e ≢ Refusal.Device → D.story (device_of self.new) ≡ D.story (device_of self.old)) }
         // On a store that lies on its disk, where a command asks for the change.
         ensures writes { D.tells ≡ true → (c : PlainCommand) → IsOnDisk D.size D.story self.old
-            → IsDecided true (shown_image (now (D.story (device_of self.old)))) (listed_in self.old) c (Ok (change_of change)) → Writes D.size D.story self.old c self.new }
+            → IsDecided true (shown_image (now (D.story (device_of self.old)))) (listed_in self.old) c (Ok (change_of change))
+            → Writes D.size D.story self.old c self.new }
         ensures written { OnOk result (D.tells ≡ true → (c : PlainCommand) → IsOnDisk D.size D.story self.old
-            → IsDecided true (shown_image (now (D.story (device_of self.old)))) (listed_in self.old) c (Ok (change_of change)) → HasWritten D.size D.story self.old c self.new) }
+            → IsDecided true (shown_image (now (D.story (device_of self.old)))) (listed_in self.old) c (Ok (change_of change))
+            → HasWritten D.size D.story self.old c self.new) }
         // On a store whose tables the machine knows, where the change makes what a command makes: the machine goes on by the command.
         ensures goes { D.tells ≡ true → (base : Tables) (m : Machine) (c : PlainCommand) (new : Tables)
             → StoreFits D.size D.story base m self.old → m.phase ≡ running

@@ -141,7 +141,8 @@ pub(crate) fn decide_create(
     ensures ok { IfOk result (λ change. IsChange (catalogue_of catalogue.now) (change_of change)) }
     ensures no_device { IfErr result (λ e. is_failure e ≡ false) }
     ensures not_halted { IfErr result (λ e. e ≢ Refusal.Halted) }
-    ensures answers { (tells : Bool) (image : Image) → IsAnswered tells image (catalogue_of catalogue.now) (create (string_bytes new.name) (schema_of new.schema)) (decision_of result) }
+    ensures answers { (tells : Bool) (image : Image) → IsAnswered tells image (catalogue_of catalogue.now)
+        (create (string_bytes new.name) (schema_of new.schema)) (decision_of result) }
     ensures decides { (t : Tables) → Lists (catalogue_of catalogue.now) t
         → Decides t (create (string_bytes new.name) (schema_of new.schema)) (decision_of result) }
 {
@@ -161,7 +162,8 @@ pub(crate) fn decide_import(
     ensures ok { IfOk result (λ change. IsChange (catalogue_of catalogue.now) (change_of change)) }
     ensures no_device { IfErr result (λ e. is_failure e ≡ false) }
     ensures not_halted { IfErr result (λ e. e ≢ Refusal.Halted) }
-    ensures answers { (tells : Bool) (image : Image) → IsAnswered tells image (catalogue_of catalogue.now) (import_stream (string_bytes name) bytes.items) (decision_of result) }
+    ensures answers { (tells : Bool) (image : Image) → IsAnswered tells image (catalogue_of catalogue.now)
+        (import_stream (string_bytes name) bytes.items) (decision_of result) }
     ensures decides { (t : Tables) → Lists (catalogue_of catalogue.now) t
         → Decides t (import_stream (string_bytes name) bytes.items) (decision_of result) }
 {
@@ -190,7 +192,8 @@ pub(crate) fn decide_rename(
     ensures ok { IfOk result (λ change. IsChange (catalogue_of catalogue.now) (change_of change)) }
     ensures no_device { IfErr result (λ e. is_failure e ≡ false) }
     ensures not_halted { IfErr result (λ e. e ≢ Refusal.Halted) }
-    ensures answers { (tells : Bool) (image : Image) → IsAnswered tells image (catalogue_of catalogue.now) (rename (string_bytes from) (string_bytes to)) (decision_of result) }
+    ensures answers { (tells : Bool) (image : Image) → IsAnswered tells image (catalogue_of catalogue.now)
+        (rename (string_bytes from) (string_bytes to)) (decision_of result) }
     ensures decides { (t : Tables) → Lists (catalogue_of catalogue.now) t
         → Decides t (rename (string_bytes from) (string_bytes to)) (decision_of result) }
 {
@@ -207,7 +210,8 @@ pub(crate) fn decide_drop(
     ensures ok { IfOk result (λ change. IsChange (catalogue_of catalogue.now) (change_of change)) }
     ensures no_device { IfErr result (λ e. is_failure e ≡ false) }
     ensures not_halted { IfErr result (λ e. e ≢ Refusal.Halted) }
-    ensures answers { (tells : Bool) (image : Image) → IsAnswered tells image (catalogue_of catalogue.now) (drop_table (string_bytes name)) (decision_of result) }
+    ensures answers { (tells : Bool) (image : Image) → IsAnswered tells image (catalogue_of catalogue.now)
+        (drop_table (string_bytes name)) (decision_of result) }
     ensures decides { (t : Tables) → Lists (catalogue_of catalogue.now) t → Decides t (drop_table (string_bytes name)) (decision_of result) }
 {
     test_there(catalogue, &name)?;
