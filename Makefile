@@ -5,7 +5,7 @@ SOURCES := $(shell find crates.txt crates -name out -prune -o -type f -print)
 REFUSING := $(sort $(shell grep -rl _also_without_memory crates/*/src | cut -d/ -f2))
 TESTS := $(foreach crate,$(REFUSING),crates/$(crate)/out/$(crate)_tests)
 
-.PHONY: all test gate-cost memory vectors bench bench-recode bench-device bench-bitmap
+.PHONY: all test gate-cost memory vectors bench bench-recode bench-texts bench-device bench-bitmap
 .DELETE_ON_ERROR:
 
 # Builds the program and runs it once, on the stream of examples/.
@@ -46,8 +46,10 @@ memory: $(TESTS)
 vectors: bin/arrowstore crates/test_texts/out/test_texts
 	tests/program bin/arrowstore
 	tests/stores bin/arrowstore
-	tests/sessions bin/arrowstore tests/vectors/sessions_store
+	tests/queries bin/arrowstore
+	tests/sessions bin/arrowstore tests/vectors/sessions_store tests/vectors/sessions_texts
 	examples/killed bin/arrowstore
+	tests/types bin/arrowstore
 	tests/metadata bin/arrowstore
 	tests/refused_memory bin/arrowstore
 	tests/run_vectors bin/arrowstore tests/vectors/ints tests/vectors/streams tests/vectors/traps
@@ -57,10 +59,13 @@ crates/test_texts/out/test_texts: $(SOURCES)
 	cd crates/test_texts && rt run < /dev/null > /dev/null
 	@touch $@
 
-bench: bench-recode bench-device bench-bitmap
+bench: bench-recode bench-texts bench-device bench-bitmap
 
 bench-recode: bin/arrowstore
 	bench/recode bin/arrowstore
+
+bench-texts: crates/bench_texts/out/bench_texts
+	bench/texts $<
 
 bench-device: crates/bench_device/out/bench_device
 	bench/device.sh $<
@@ -70,6 +75,10 @@ bench-bitmap: crates/bench_bitmap/out/bench_bitmap
 
 crates/bench_device/out/bench_device: $(SOURCES)
 	cd crates/bench_device && rt run -- device 1
+	@touch $@
+
+crates/bench_texts/out/bench_texts: $(SOURCES)
+	cd crates/bench_texts && rt run < /dev/null
 	@touch $@
 
 crates/bench_bitmap/out/bench_bitmap: $(SOURCES)

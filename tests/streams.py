@@ -1,6 +1,6 @@
-"""Streams of integer columns in the Apache Arrow IPC streaming format, written from the format's description alone.
+"""Streams in the Apache Arrow IPC streaming format, written from the format's description alone.
 
-Little-endian, metadata version V5, no dictionaries. Each message is laid out front to back: a table behind
+Little-endian, metadata version V5. Each message is laid out front to back: a table behind
 its vtable, inline slots in slot order, then what they refer to in slot order. This is also the order of the canonical
 stream, so with batches of 4,096 rows the program gives such a stream back unchanged.
 """
@@ -100,9 +100,9 @@ def message(header_type, header, body=b""):
     return CONTINUATION + struct.pack("<i", len(metadata)) + bytes(metadata) + body
 
 
-def field(name, nullable, code, type_table):
-    """A field without children; `code` is that of the union Type in Schema.fbs."""
-    return Table(Text(name), (1, int(nullable)), (1, code), type_table, None, Tables([]))
+def field(name, nullable, code, type_table, children=(), encoding=None):
+    """A field; `code` is that of the union Type in Schema.fbs."""
+    return Table(Text(name), (1, int(nullable)), (1, code), type_table, encoding, Tables(list(children)))
 
 
 def integer(kind):
@@ -114,17 +114,31 @@ def schema(fields):
     return message(1, Table((2, 0), Tables(fields)))
 
 
+def batch(length, nodes, buffers):
+    """The table of a record batch, and its body. `nodes` are lengths and null counts."""
+    body, places = bytearray(), []
+    for buffer in buffers:
+        places.append((len(body), len(buffer)))
+        body += buffer
+        fill(body, 8)
+    return Table((8, length), Pairs(nodes), Pairs(places)), bytes(body)
+
+
+def rows(length, nodes, buffers):
+    """A record batch of any types."""
+    return message(3, *batch(length, nodes, buffers))
+
+
+def entries(number, length, nodes, buffers, is_delta=False):
+    """A dictionary batch of this id."""
+    header, body = batch(length, nodes, buffers)
+    return message(2, Table((8, number), header, (1, int(is_delta))), body)
+
+
 def arrays_batch(length, arrays):
-    """`arrays` are the null count, the validity bitmap and the bytes of the numbers of each column."""
-    body, nodes, buffers = bytearray(), [], []
-    for nulls, validity, numbers in arrays:
-        nodes.append((length, nulls))
-        for buffer in (validity, numbers):
-            buffers.append((len(body), len(buffer)))
-            body += buffer
-            fill(body, 8)
-    header = Table((8, length), Pairs(nodes), Pairs(buffers))
-    return message(3, header, bytes(body))
+    """`arrays` are the null count, the validity bitmap and the other buffers of each column: the bytes of its numbers, or offsets and texts."""
+    nodes = [(length, nulls) for nulls, *_ in arrays]
+    return rows(length, nodes, [buffer for array in arrays for buffer in array[1:]])
 
 
 def record_batch(length, bodies):

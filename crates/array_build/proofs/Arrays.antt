@@ -54,14 +54,18 @@ and_below p t below q h = ap (λ x. with_arrays x below) h ∙ more_arrays p (t 
 abbrev own : Kind → List Cell → Typed
 own kind cells = typed (plain_column kind None) (built_kind kind cells)
 
-pub nulls_are : (p : PlainBatch) (cells : List ValueRef)
-    → with_node p (record { slots = length cells; null_count = length cells }) ≡ with_arrays p (built_at (plain_column nulls None) (map borrowed_cell cells))
+pub nulls_of : (p : PlainBatch) (cells : List Cell) → with_node p (record { slots = length cells; null_count = length cells }) ≡ with_arrays p (built_at (plain_column nulls None) cells)
 unfolding with_arrays with_node built built_kind arrays_at arrays_below
-nulls_are p cells = λ i. record {
-  nodes = p.nodes ++ record { slots = sym (length-map cells borrowed_cell) i; null_count = sym (length-map cells borrowed_cell) i } ∷ [];
+nulls_of p cells = λ i. record {
+  nodes = p.nodes ++ record { slots = length cells; null_count = length cells } ∷ [];
   buffers = sym (append-nil p.buffers) i;
   dictionaries = sym (append-nil p.dictionaries) i;
 }
+
+pub nulls_are : (p : PlainBatch) (cells : List ValueRef)
+    → with_node p (record { slots = length cells; null_count = length cells }) ≡ with_arrays p (built_at (plain_column nulls None) (map borrowed_cell cells))
+nulls_are p cells =
+    ap (λ (n : ℕ). with_node p (record { slots = n; null_count = n })) (sym (length-map cells borrowed_cell)) ∙ nulls_of p (map borrowed_cell cells)
 
 pub booleans_are : (p : PlainBatch) (cells : List Cell) → with_buffer (with_slots p cells) (packed (map is_set cells)) ≡ with_arrays p (built_at (plain_column booleans None) cells)
 unfolding built built_kind arrays_at arrays_below

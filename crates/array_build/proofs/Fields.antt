@@ -16,7 +16,7 @@ use Rattle.array_build.specs.Batch.{PlainBatch, with_arrays, built_at, plain_col
 use Rattle.array_build.proofs.Arrays.{any_name}
 use Rattle.array_build.proofs.Premises.{any_name_can}
 
-field_is : (f : Field) → column_of f ≡ column (string_bytes f.name) f.nullable (kind_of f.data_type) (option_map index_of f.dictionary) (map pair_of f.pairs.items)
+pub field_is : (f : Field) → column_of f ≡ column (string_bytes f.name) f.nullable (kind_of f.data_type) (option_map index_of f.dictionary) (map pair_of f.pairs.items)
 field_is f = fold_out-Field Kind Column kind_step column_step f
 
 plain_can : (f : Field) (o : Option DictSpec) (cells : List Cell) → f.dictionary ≡ o → can_build (column_of f) cells ≡ true

@@ -6,5 +6,12 @@ mod Fields
 mod FirstCells
 mod Listed
 mod Low
+mod Numbers
 mod PartColumns
 mod Premises
+mod Repeated
+mod RunArrays
+mod RunBits
+mod RunColumns
+mod RunContents
+mod RunValues

@@ -1,3 +1,4 @@
 pub mod Batch
+pub mod ByRuns
 pub mod laws
 pub mod inner

@@ -35,7 +35,11 @@ pub(crate) fn contents(alloc: Global, cells: &[ValueRef<'_>]) -> Result<Vec<u8>,
     Ok(contents)
 }
 
-fn push_offset(offsets: &mut Vec<u8>, width: OffsetWidth, offset: u64) -> Result<(), AllocError>
+pub(crate) fn push_offset(
+    offsets: &mut Vec<u8>,
+    width: OffsetWidth,
+    offset: u64,
+) -> Result<(), AllocError>
     ensures { OnOk result (offsets.new.items ≡ offsets.old.items ++ little_bytes (width_of width) offset) }
 {
     let bytes = offset.to_le_bytes();

@@ -14,14 +14,21 @@
 mod batch;
 mod boolean_bits;
 mod building;
+mod by_runs;
 mod coded_cells;
 mod content_bytes;
 mod dictionary_cells;
 mod flat;
+mod flat_runs;
 mod item_cells;
 mod part_cells;
+mod run_bits;
+mod run_contents;
+mod run_slots;
+mod run_values;
 mod valid_bits;
 mod value_bytes;
 
 pub use batch::{BuiltBatch, BuiltDictionary};
 pub use building::build;
+pub use by_runs::{build_runs, is_built_by_runs};

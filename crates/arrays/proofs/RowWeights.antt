@@ -3,11 +3,11 @@ use Rattle.std.specs.Prelude.{◌||◌, nat_lt, if◌then◌else◌}
 use Rattle.std.specs.List.{list_any, range_with_len}
 use Rattle.std.proofs.Common.{Some, None, inl, inr, ◌≡◌, ℕ, zero, suc, ◌+◌, ◌-◌, ◌≤◌, ◌<◌, Bool, true, false, List, ◌∷◌, map, refl, sym, ap, arith, ◌∙◌}
 use Rattle.std.proofs.lemmas.Bool.{cases_lt, le-ltb, lt-ltb, or_right}
-use Rattle.arrow_schema.specs.Column.{Columns, columns_of, PlainSchema}
+use Rattle.arrow_schema.specs.Column.{Column, Columns, columns_of, PlainSchema}
 use Rattle.cells.specs.declared.limits.TheConstants.{MAX_ROW_WEIGHT, MAX_TABLE_WEIGHT}
 use Rattle.cells.specs.Cell.{Cell, Cells}
 use Rattle.cells.specs.laws.Cells.{cells_list}
-use Rattle.cells.specs.Weight.{parts_weight, row_weight, table_weight}
+use Rattle.cells.specs.Weight.{parts_weight, row_weight, table_weight, capped_weight}
 use Rattle.columns.specs.Array.{Arrays}
 use Rattle.columns.specs.CellAt.{part_cells, row_at, rows_in}
 use Rattle.arrays.specs.Checks.{are_too_heavy}
@@ -20,6 +20,11 @@ rows_spanned : (s : PlainSchema) (arrays : Arrays) (start n : ℕ) → sum_from 
 rows_spanned s arrays start n =
     let cs : Columns = columns_of s.columns in
     parts_more cs arrays (row_weight s) (row_at cs arrays) start n (λ i. ap (λ (xs : Cells). 1 + parts_weight cs xs) (cells_list (part_cells cs arrays i)))
+
+pub rows_spanned_from : (s : PlainSchema) (columns : List Column) (arrays : Arrays) (start n w : ℕ) → s.columns ≡ columns → w ≡ capped_weight (rows_weight (columns_of columns) arrays start n)
+    → w ≡ capped_weight (table_weight s (map (row_at (columns_of s.columns) arrays) (range_with_len start n)))
+rows_spanned_from s columns arrays start n w same is =
+    is ∙ ap (λ (cs : List Column). capped_weight (rows_weight (columns_of cs) arrays start n)) (sym same) ∙ sym (ap capped_weight (rows_spanned s arrays start n))
 
 one_row : (s : PlainSchema) (arrays : Arrays) (i : ℕ) → row_weight s (row_at (columns_of s.columns) arrays i) ≡ rows_weight (columns_of s.columns) arrays i 1
 one_row s arrays i =

@@ -3,17 +3,18 @@ ghost use Rattle.std.specs.Prelude.{◌≡◌, ℕ, ◌+◌, ◌<◌, true, map,
 ghost use Rattle.std.specs.List.{list_any, range_with_len};
 ghost use Rattle.arrow_schema.specs.Column.{columns_of, PlainSchema};
 ghost use Rattle.arrow_schema.specs.View.{column_of};
-ghost use Rattle.cells.specs.Weight.{capped_weight};
-ghost use Rattle.columns.specs.CellAt.{rows_in};
+ghost use Rattle.cells.specs.Weight.{capped_weight, table_weight};
+ghost use Rattle.columns.specs.CellAt.{row_at, rows_in};
 ghost use Rattle.columns.specs.Sound.{are_sound};
-ghost use Rattle.columns.specs.View.{IsNoArray};
+ghost use Rattle.columns.specs.View.{IsNoArray, fields_of, placed_arrays};
 ghost use Rattle.arrays.specs.inner.Read.{placed_in};
 ghost use Rattle.arrays.specs.inner.Weights.{rows_weight, weight_within};
 
 use crate::batch_arrays::Placed;
 use crate::weights::parts_weight;
+use arrow_schema::Field;
 use cells::{MAX_ROW_WEIGHT, MAX_TABLE_WEIGHT, add_weights};
-use columns::{PlacedArray, no_array};
+use columns::{Dictionary, PlacedArray, no_array};
 
 // So many rows, from one on.
 fn rows_weight(placed: Placed<'_>, from: usize, count: usize, none: &PlacedArray) -> u64
@@ -73,4 +74,29 @@ pub(crate) fn weigh_rows(before: u64, placed: Placed<'_>, rows: usize) -> Option
 {
     let none = no_array();
     weigh(before, placed, rows, &none)
+}
+
+/// What so many rows of a record batch weigh, from one on, as weights are reported. It makes no value for a cell.
+#[tactic(auto, using(crate::proofs::RowWeights::rows_spanned_from))]
+pub fn row_span_weight(
+    fields: &[Field],
+    arrays: &[PlacedArray],
+    bytes: &[u8],
+    dictionaries: &[Dictionary],
+    from: usize,
+    count: usize,
+) -> u64
+    requires { are_sound (fields_of fields.now) (from + count) (placed_arrays bytes.now dictionaries.now arrays.now) ≡ true }
+    ensures { (s : PlainSchema) → s.columns ≡ map column_of fields.now
+        → result ≡ capped_weight (table_weight s (map (row_at (columns_of s.columns) (placed_arrays bytes.now dictionaries.now arrays.now))
+        (range_with_len from count))) }
+{
+    let none = no_array();
+    let placed = Placed {
+        fields,
+        arrays,
+        bytes,
+        dictionaries,
+    };
+    rows_weight(placed, from, count, &none)
 }

@@ -4,7 +4,7 @@
 //! first check that finds something (docs/definitions/arrays.md). [`read_arrays`] makes the checks of the arrays alone: it looks at every array, hidden or not.
 //! [`read_dictionary`] answers the array of a dictionary batch in the same way.
 //! [`names_no_entry_in`], [`has_bad_text`] and [`has_forbidden_null`] are tests of what is visible: by spans of slots, without memory, and whatever stands
-//! in hidden slots. Nothing is copied.
+//! in hidden slots. Nothing is copied. [`row_span_weight`] weighs rows of a batch by spans too.
 //!
 //! ```ignore
 //! let batch = read(alloc, &schema, before, &raw, body, bytes, &dictionaries, &parts)?;
@@ -35,6 +35,7 @@ pub use batch::{PlacedBatch, read};
 pub use batch_arrays::read_arrays;
 pub use dictionary_batch::read_dictionary;
 pub use dictionary_columns::DictionaryColumns;
+pub use heavy::row_span_weight;
 pub use laws::{
     read_dictionaries_are_readable, read_dictionaries_have_bytes, read_rows_are_rows,
     read_texts_are_utf8, schemas_give_dictionary_columns,

@@ -3,7 +3,7 @@ use Rattle.std.proofs.Common.{◌≡◌, ◌∙◌, ℕ, ◌+◌, ◌-◌, ◌�
 use Rattle.std.specs.Io.KnownBytes.{Consumes, Keeps}
 use Rattle.std.specs.Prelude.{Result, Ok, Err, IsErrOf}
 use Rattle.arrowstore.specs.declared.refusal.Refusal.{Refusal}
-use Rattle.arrowstore.specs.declared.refusal.Refusal.TheVariants.{Fault, TooManyBytes, Io, BadSize, Fields, Opening, Store, OutOfMemory}
+use Rattle.arrowstore.specs.declared.refusal.Refusal.TheVariants.{Fault, TooManyBytes, Io, BadSize, Fields, Text, Query, Opening, Store, OutOfMemory}
 use Rattle.arrowstore.specs.Given.{HasGiven, HasGivenAtMost, UnlessTooManyBytes}
 
 pub consumes_both : (a b c : Option (List ℕ)) (xs ys : List ℕ) → Consumes a b xs → Consumes b c ys → Consumes a c (xs ++ ys)
@@ -33,6 +33,8 @@ unless_more A B TooManyBytes P Q more h = tt
 unless_more A B Io P Q more h = more h
 unless_more A B BadSize P Q more h = more h
 unless_more A B (Fields error) P Q more h = more h
+unless_more A B (Text refused) P Q more h = more h
+unless_more A B (Query refusal) P Q more h = more h
 unless_more A B (Opening refusal) P Q more h = more h
 unless_more A B (Store refusal) P Q more h = more h
 unless_more A B OutOfMemory P Q more h = more h

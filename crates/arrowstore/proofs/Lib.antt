@@ -3,3 +3,4 @@ mod CommandLemmas
 mod GivenLemmas
 mod ChangingLemmas
 mod ReadingLemmas
+mod TextLemmas

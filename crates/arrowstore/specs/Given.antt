@@ -2,7 +2,7 @@
 use Rattle.std.specs.Prelude.{ℕ, List, ◌≡◌, ◌≤◌, length, Option, Result, Ok, Err}
 use Rattle.std.specs.Io.KnownBytes.{Consumes}
 use Rattle.arrowstore.specs.declared.refusal.Refusal.{Refusal}
-use Rattle.arrowstore.specs.declared.refusal.Refusal.TheVariants.{Fault, TooManyBytes, Io, BadSize, Fields, Opening, Store, OutOfMemory}
+use Rattle.arrowstore.specs.declared.refusal.Refusal.TheVariants.{Fault, TooManyBytes, Io, BadSize, Fields, Text, Query, Opening, Store, OutOfMemory}
 
 -- the reader has given its next n bytes
 abbrev pub HasGiven : Option (List ℕ) → Option (List ℕ) → ℕ → Type 0
@@ -20,6 +20,15 @@ UnlessTooManyBytes (Err TooManyBytes) P = Unit {0}
 UnlessTooManyBytes (Err Io) P = P
 UnlessTooManyBytes (Err BadSize) P = P
 UnlessTooManyBytes (Err (Fields error)) P = P
+UnlessTooManyBytes (Err (Text refused)) P = P
+UnlessTooManyBytes (Err (Query refusal)) P = P
 UnlessTooManyBytes (Err (Opening refusal)) P = P
 UnlessTooManyBytes (Err (Store refusal)) P = P
 UnlessTooManyBytes (Err OutOfMemory) P = P
+
+-- why an input is not read: it is too long, a read failed, or memory was refused
+abbrev pub IsOfInput : Refusal → Type 0
+IsOfInput TooManyBytes = Unit {0}
+IsOfInput Io = Unit {0}
+IsOfInput OutOfMemory = Unit {0}
+IsOfInput _ = ⊥

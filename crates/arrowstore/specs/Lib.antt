@@ -6,5 +6,7 @@ pub mod OwnTexts
 pub mod StoreWords
 pub mod Printed
 pub mod Changing
+pub mod TextRows
+pub mod Selecting
 pub mod Reading
 pub mod Ending

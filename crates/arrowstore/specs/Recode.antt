@@ -6,7 +6,7 @@ use Rattle.ipc_message.specs.Header.{supported_codes}
 use Rattle.ipc_table.specs.Meaning.{meaning}
 use Rattle.canonical_stream.specs.Canonical.{canonical}
 use Rattle.arrowstore.specs.declared.refusal.Refusal.{Refusal}
-use Rattle.arrowstore.specs.declared.refusal.Refusal.TheVariants.{Fault, TooManyBytes, Io, BadSize, Fields, Opening, Store, OutOfMemory}
+use Rattle.arrowstore.specs.declared.refusal.Refusal.TheVariants.{Fault, TooManyBytes, Io, BadSize, Fields, Text, Query, Opening, Store, OutOfMemory}
 
 -- the answer speaks of the whole input: it has a meaning, or a fault
 abbrev pub IsVerdict : {A : Type 0} → Result A Refusal → Type 0
@@ -16,6 +16,8 @@ IsVerdict (Err TooManyBytes) = ⊥
 IsVerdict (Err Io) = ⊥
 IsVerdict (Err BadSize) = ⊥
 IsVerdict (Err (Fields error)) = ⊥
+IsVerdict (Err (Text refused)) = ⊥
+IsVerdict (Err (Query refusal)) = ⊥
 IsVerdict (Err (Opening refusal)) = ⊥
 IsVerdict (Err (Store refusal)) = ⊥
 IsVerdict (Err OutOfMemory) = ⊥
@@ -31,6 +33,8 @@ IsTrueFault TooManyBytes input = Unit {0}
 IsTrueFault Io input = Unit {0}
 IsTrueFault BadSize input = Unit {0}
 IsTrueFault (Fields error) input = Unit {0}
+IsTrueFault (Text refused) input = Unit {0}
+IsTrueFault (Query refusal) input = Unit {0}
 IsTrueFault (Opening refusal) input = Unit {0}
 IsTrueFault (Store refusal) input = Unit {0}
 IsTrueFault OutOfMemory input = Unit {0}

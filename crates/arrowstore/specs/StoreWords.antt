@@ -12,11 +12,11 @@ unfoldable pub changes_word : Text → Bool
 changes_word word =
     takes_input_word word || (bytes_eq (codes "create") word || (bytes_eq (codes "rename") word || bytes_eq (codes "drop") word))
 
--- those that read one table
+-- those that read one table; a query may be saved as another one
 abbrev pub reads_table_word : Text → Bool
-reads_table_word word = bytes_eq (codes "schema") word || bytes_eq (codes "export") word
+reads_table_word word = bytes_eq (codes "schema") word || (bytes_eq (codes "export") word || bytes_eq (codes "query") word)
 
--- those that change nothing
+-- those that read tables
 unfoldable pub reads_word : Text → Bool
 reads_word word = reads_table_word word || (bytes_eq (codes "tables") word || bytes_eq (codes "check") word)
 

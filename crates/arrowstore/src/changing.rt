@@ -9,6 +9,7 @@ ghost use Rattle.store.specs.Calls.{apply_call};
 ghost use Rattle.store.specs.Fits.{StoreFits};
 ghost use Rattle.store.specs.Machine.{Machine};
 ghost use Rattle.arrowstore.specs.Changing.{Answered, Hands};
+ghost use Rattle.arrowstore.specs.Reading.{OfStore};
 
 use crate::output::write_whole;
 use crate::{LARGEST_INPUT, Refusal, read_at_most};
@@ -29,6 +30,7 @@ pub fn apply_command<D: SectorDevice, W: Write>(
     // The answer is the store's: done only where it has the command done, and else its refusal.
     ensures goes { D.tells ≡ true → (base : Tables) (m : Machine) → StoreFits D.size D.story base m store.old
         → Answered (λ answer. GoesOn D.size D.story D.failed base m (apply_call (command_of command)) (reply_of answer) store.old store.new) result }
+    ensures told { IfErr result (OfStore (λ _. Unit {0})) }
     ensures written { OnOk result (Appends (W.contents output.old) (W.contents output.new) (codes "ok\n")) }
     ensures silent { IfErr result (λ refusal. refusal ≢ Refusal.Io → output.new ≡ output.old) }
 {

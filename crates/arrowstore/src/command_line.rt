@@ -46,7 +46,7 @@ fn program<'a>(alloc: Global) -> Result<Command<'a>, AllocError>
     Command::new(alloc, "arrowstore")
         .about("A crash-safe store of named tables in the Apache Arrow format")
         .after_help(
-            "Commands of a store: format, create, import, append, export, rename, drop, tables, schema, check (arrowstore COMMAND --help)
+            "Commands of a store: format, create, import, append, query, export, rename, drop, tables, schema, check (arrowstore COMMAND --help)
 What each refusal means: arrowstore help refusals; the version: arrowstore --version",
         )
         .subcommand_required(true)

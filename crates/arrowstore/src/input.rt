@@ -1,7 +1,7 @@
 // Reading all of an input, which may be too long.
-ghost use Rattle.std.specs.Prelude.{◌≡◌, ◌≢◌, ◌⊎◌, ℕ, List, ◌+◌, ◌++◌, ◌≤◌, ◌<◌, length, take, IfSome, IfOk, IfErr, OnErr, OnOk, IsErrOf, vec_len};
+ghost use Rattle.std.specs.Prelude.{◌≡◌, ℕ, List, ◌+◌, ◌++◌, ◌≤◌, ◌<◌, length, take, IfSome, IfOk, IfErr, OnErr, OnOk, IsErrOf, vec_len};
 ghost use Rattle.std.specs.Io.KnownBytes.{Consumes, IsAtEnd, Keeps};
-ghost use Rattle.arrowstore.specs.Given.{HasGiven, HasGivenAtMost, UnlessTooManyBytes};
+ghost use Rattle.arrowstore.specs.Given.{HasGiven, HasGivenAtMost, UnlessTooManyBytes, IsOfInput};
 
 use crate::Refusal;
 use std::alloc::{AllocError, Global};
@@ -29,7 +29,7 @@ pub fn read_at_most<R: Read>(
         → HasGiven (R.remaining reader.old) (R.remaining reader.new) (largest + 1) }
     // Every other refusal comes before the byte that is one too many.
     ensures few { UnlessTooManyBytes result (HasGivenAtMost (R.remaining reader.old) (R.remaining reader.new) largest) }
-    ensures no_fault { IfErr result (λ e. (fault : _) → e ≢ Refusal.Fault fault) }
+    ensures told { IfErr result IsOfInput }
 {
     let mut chunk = zeros(alloc, CHUNK)?;
     let mut bytes = Vec::new(alloc);
@@ -62,7 +62,7 @@ fn append_some<R: Read>(
     ensures end { IfOk result (λ n. n ≡ 0 → IsAtEnd (R.remaining reader.new)) }
     ensures too_many { IsErrOf result Refusal.TooManyBytes → HasGiven (R.remaining reader.old) (R.remaining reader.new) (room + 1) }
     ensures few { UnlessTooManyBytes result (HasGivenAtMost (R.remaining reader.old) (R.remaining reader.new) room) }
-    ensures no_fault { IfErr result (λ e. (fault : _) → e ≢ Refusal.Fault fault) }
+    ensures told { IfErr result IsOfInput }
 {
     let most = chunk.len().min(room + 1);
     let count = read_some(reader, &mut chunk[..most])?;

@@ -76,6 +76,40 @@ have it written again, by another writer or with other options.
   nulls are allowed, as `id:uint64`.
 - P2 Limit: a number in a field text is past 2,147,483,647, or the fields are past a limit of F14.
 
+## X: a text that was to be appended
+
+N is the number of the record that is refused, the first one: counted from 1, in CSV behind the line of
+names, in JSON Lines without blank lines. It is 0 where the whole text is. No row of the input is
+appended. Mend the record, and append all of the text again.
+
+- X1 Header 0: the first line is not the names of the columns, in order. `schema` prints them.
+- X2 Width N: the record has another number of fields than the table has columns, or an array another
+  number of items than its struct or its list of fixed size.
+- X3 NotUtf8 N: a text, or a line of JSON, is not UTF-8.
+- X4 NotANumber N: a value is no integer: digits, with a `-` before them or not.
+- X5 OutOfRange N: an integer is past the range of its type.
+- X6 NotABool N: a value is neither `true` nor `false`.
+- X7 NotHex N: bytes are not written as pairs of hexadecimal digits.
+- X8 NullMismatch N: there is a null where none is allowed, or something else in a column of nulls.
+- X9 Nested 0: the table has lists or structs, which CSV has not. Give JSON Lines.
+- X10 Json N: the line is no JSON value, or nests more than 127 deep.
+- X11 UnknownName N: an object has a name that is no column or field.
+- X12 MissingName N: an object lacks a name, and no null is allowed there.
+- X13 AmbiguousNames N: two columns or fields have one name. Give arrays in place of objects.
+- X14 FixedWidth N: there are more or fewer bytes than the type has.
+- X15 TooHeavy N: the row weighs more than 16,777,216 (F28).
+- X16 DictionaryFull N: the row has more distinct values than the dictionary of a column can number.
+- X17 WrongKind N: the type takes another kind of JSON value: a string for texts and bytes, an array for
+  a list, an array or an object for a struct and for the row.
+
+## Q: a query
+
+- Q1 UnknownColumn: no column has a name of the query, or two have, or `--columns` lists one twice.
+  `schema` prints the names.
+- Q2 BadCondition: a condition is not `NAME OP LITERAL`, `NAME is null` or `NAME is not null` with single
+  spaces between, where OP is one of = != < <= > >=; or its literal is no value of the column's type.
+- Q3 NotComparable: lists, structs and nulls are not compared. Ask `is null` or `is not null` of them.
+
 ## S: the open store refuses
 
 - S1 NoTable: no table has the name. `tables` prints the names.
@@ -92,6 +126,7 @@ have it written again, by another writer or with other options.
   store.
 - S9 Device: the file could not be read, written or synced. The command is done whole or not at all:
   see to the disk, and look with `tables`.
+- S12 Query REASON: the query of `query --save` is refused, for this reason (Q).
 - S13 SegmentUnread N: the segment N of the table, counted from 0, can't be read: its bytes were
   changed. Other tables are as they were; drop this one, or import it again. `check` reads all tables,
   in byte order of their names, and is refused so at the first that can't be read.

@@ -2,14 +2,17 @@
 ghost use Rattle.std.specs.Prelude.{◌≡◌};
 ghost use Rattle.arrowstore.specs.declared.refusal.Refusal.TheVariants.{OutOfMemory};
 ghost use Rattle.arrowstore.specs.declared.refusal.Refusal.TheVariants as refusals;
-ghost use Rattle.arrowstore.specs.Reported.{refusal_of, file_refusal};
+ghost use Rattle.arrowstore.specs.Reported.{refusal_of, file_refusal, text_refusal, query_refusal};
 
 use arrow_schema::ParseError;
 use ipc_message::{Fault, ImportError};
+use query::QueryError;
 use sector_dev::FileError;
 use std::alloc::AllocError;
 use std::fmt;
 use store::OpeningRefusal;
+use tables::QueryRefusal;
+use text_import::{Refused, TextError};
 
 /// Why a command was refused.
 #[derive(Clone, Copy, Debug, PartialEq, Eq)]
@@ -24,6 +27,10 @@ pub enum Refusal {
     BadSize,
     /// P: the texts of fields state no schema.
     Fields(ParseError),
+    /// X: a record of the input is no row of the table.
+    Text(Refused),
+    /// Q: the query selects nothing from the table.
+    Query(QueryRefusal),
     /// C: no store was opened or made.
     Opening(OpeningRefusal),
     /// S: the open store refused.
@@ -70,6 +77,30 @@ impl From<ParseError> for Refusal {
     }
 }
 
+impl From<TextError> for Refusal {
+    ghost from_gives = { λ error refusal. refusal ≡ text_refusal error };
+
+    fn from(error: TextError) -> Refusal {
+        match error {
+            TextError::Refused(refused) => Refusal::Text(refused),
+            TextError::OutOfMemory => Refusal::OutOfMemory,
+        }
+    }
+}
+
+impl From<QueryError> for Refusal {
+    ghost from_gives = { λ error refusal. refusal ≡ query_refusal error };
+
+    fn from(error: QueryError) -> Refusal {
+        match error {
+            QueryError::UnknownColumn => Refusal::Query(QueryRefusal::UnknownColumn),
+            QueryError::BadCondition => Refusal::Query(QueryRefusal::BadCondition),
+            QueryError::NotComparable => Refusal::Query(QueryRefusal::NotComparable),
+            QueryError::OutOfMemory => Refusal::OutOfMemory,
+        }
+    }
+}
+
 impl From<tables::Refusal> for Refusal {
     ghost from_gives = { λ error refusal. refusal ≡ refusals.Store error };
 
@@ -94,6 +125,8 @@ impl fmt::Display for Refusal {
             Refusal::Fields(ParseError::BadText(number)) => write!(f, "P1 BadText {number}"),
             Refusal::Fields(ParseError::Limit) => f.write_str("P2 Limit"),
             Refusal::Fields(ParseError::OutOfMemory) => f.write_str("OutOfMemory"),
+            Refusal::Text(refused) => write!(f, "{refused}"),
+            Refusal::Query(refusal) => write!(f, "{refusal}"),
             Refusal::Opening(refusal) => write!(f, "{refusal}"),
             Refusal::Store(refusal) => write!(f, "{refusal}"),
             Refusal::OutOfMemory => f.write_str("OutOfMemory"),

@@ -30,6 +30,16 @@ pub(crate) fn report_arguments<W: Write, E: Write>(
     }
 }
 
+/// Reports that a number has a sign, which is a wrong argument.
+pub(crate) fn report_signed_number<E: Write>(errors: &mut E) -> Ended
+    ensures { result.status ≡ Status.WrongArguments }
+{
+    Ended {
+        status: Status::WrongArguments,
+        is_reported: writeln!(errors, "error: a number is decimal digits, without a sign").is_ok(),
+    }
+}
+
 /// Reports a refusal on one line.
 pub(crate) fn end<E: Write>(done: Result<(), Refusal>, errors: &mut E) -> Ended
     ensures done { IsOk done → (result.status ≡ Status.Done) × (errors.new ≡ errors.old) }

@@ -1,23 +1,55 @@
 // How `clap` reads a command line of a store.
-use crate::store_words::StoreRequest;
+use crate::TextForm;
+use crate::store_words::{QueryWords, StoreRequest};
 use clap::builder::ValueParser;
 use clap::{Arg, ArgMatches, Command, Error};
 use std::alloc::{AllocError, Global};
 use std::convert::AsStr;
 
 // The forms that `append` takes rows in.
-const FORMS: [&str; 1] = ["stream"];
+const FORMS: [&str; 3] = ["stream", "csv", "jsonl"];
 
-/// Reads a command line of a store. An `Err` is a mistake in it, or asks for help.
+/// Why a command line asks for nothing.
+#[derive(Drop)]
+pub(crate) enum Mistake {
+    /// What `clap` says: it may also ask for help.
+    Words(Error),
+    /// A number has a sign.
+    SignedNumber,
+}
+
+impl From<Error> for Mistake {
+    fn from(error: Error) -> Mistake {
+        Mistake::Words(error)
+    }
+}
+
+impl From<AllocError> for Mistake {
+    fn from(error: AllocError) -> Mistake {
+        Mistake::Words(Error::from(error))
+    }
+}
+
+/// Reads a command line of a store.
 pub(crate) fn request_of<'a, S: AsStr>(
     alloc: Global,
     arguments: &'a [S],
-) -> Result<StoreRequest<'a>, Error> {
+) -> Result<StoreRequest<'a>, Mistake> {
     let matches = commands(alloc)?.try_get_matches_from(arguments)?;
     match matches.subcommand() {
-        Some((name, words)) => Ok(requested(alloc, name, words)?),
+        Some((name, words)) => {
+            if is_signed(words, "SECTORS") || is_signed(words, "limit") {
+                return Err(Mistake::SignedNumber);
+            }
+            Ok(requested(alloc, name, words)?)
+        }
         None => Ok(StoreRequest::Tables { path: "" }),
     }
+}
+
+// Numbers are decimal digits alone. `clap` takes a plus sign before them.
+fn is_signed(matches: &ArgMatches<'_>, id: &str) -> bool {
+    word(matches, id).starts_with('+')
 }
 
 // A required word is always there: `clap` refuses a command line that lacks one.
@@ -35,6 +67,41 @@ fn words_of<'a>(
         words.extend_from_slice(given)?;
     }
     Ok(words)
+}
+
+// Rows are appended from a stream, or from a text.
+fn append_request<'a>(path: &'a str, name: &'a str, words: &ArgMatches<'a>) -> StoreRequest<'a> {
+    let form = match word(words, "as") {
+        "csv" => TextForm::Csv {
+            null_text: word(words, "null"),
+        },
+        "jsonl" => TextForm::JsonLines,
+        _ => return StoreRequest::Append { path, name },
+    };
+    StoreRequest::AppendText { path, name, form }
+}
+
+// What is selected is printed, or saved as a table.
+fn query_request<'a>(
+    alloc: Global,
+    path: &'a str,
+    name: &'a str,
+    words: &ArgMatches<'a>,
+) -> Result<StoreRequest<'a>, AllocError> {
+    let query = QueryWords {
+        conditions: words_of(alloc, words, "CONDITION")?,
+        columns: words.get_str("columns"),
+        limit: words.get_one("limit"),
+    };
+    Ok(match words.get_str("save") {
+        Some(to) => StoreRequest::SaveAs {
+            path,
+            from: name,
+            to,
+            query,
+        },
+        None => StoreRequest::Query { path, name, query },
+    })
 }
 
 fn requested<'a>(
@@ -55,7 +122,8 @@ fn requested<'a>(
             fields: words_of(alloc, words, "FIELD")?,
         },
         "import" => StoreRequest::Import { path, name },
-        "append" => StoreRequest::Append { path, name },
+        "append" => append_request(path, name, words),
+        "query" => query_request(alloc, path, name, words)?,
         "rename" => StoreRequest::Rename {
             path,
             from: name,
@@ -139,16 +207,58 @@ fn import<'a>(alloc: Global) -> Result<Command<'a>, AllocError> {
 fn append<'a>(alloc: Global) -> Result<Command<'a>, AllocError> {
     let form = Arg::new(alloc, "as")
         .long("as")
+        .value_name("FORM")
         .value_parser(ValueParser::Names(&FORMS))
         .default_value("stream")
-        .help("What the input is");
+        .help(
+            "What the input is: CSV begins with the names of the columns, JSON Lines has a row on each line",
+        );
+    let null = Arg::new(alloc, "null")
+        .long("null")
+        .value_name("TEXT")
+        .default_value("")
+        .hide_default_value(true)
+        .help(
+            "In CSV, the text that stands for null where nulls are allowed; without this option the empty one",
+        );
     table_command(
         alloc,
         "append",
         "Reads rows from standard input, and appends them to a table",
-        "Example: arrowstore append store measurements --as stream < readings.arrows",
+        "Example: arrowstore append store measurements --as csv --null NA < readings.csv
+where readings.csv begins with the line id,value",
     )?
-    .arg(form)
+    .arg(form)?
+    .arg(null)
+}
+
+fn query<'a>(alloc: Global) -> Result<Command<'a>, AllocError> {
+    let conditions = Arg::new(alloc, "CONDITION").num_args(0..).help(
+        "What each row must meet: 'NAME OP LITERAL' with OP one of = != < <= > >=, 'NAME is null' or 'NAME is not null', split by single spaces",
+    );
+    let columns = Arg::new(alloc, "columns")
+        .long("columns")
+        .value_name("A,B")
+        .help("The columns, in this order; without this option all of them");
+    let limit = Arg::new(alloc, "limit")
+        .long("limit")
+        .value_name("N")
+        .value_parser(ValueParser::unsigned(0, u64::MAX))
+        .help("How many rows at most");
+    let save = Arg::new(alloc, "save")
+        .long("save")
+        .value_name("NEW")
+        .help("Makes a table of this name of them, in place of printing");
+    table_command(
+        alloc,
+        "query",
+        "Prints the rows of a table that meet all conditions, each as a line of JSON",
+        "Example: arrowstore query store measurements 'value >= 7' --columns id,value --limit 10",
+    )?
+    .arg(conditions)?
+    .arg(columns)?
+    .arg(limit)?
+    .arg(save)
 }
 
 fn rename<'a>(alloc: Global) -> Result<Command<'a>, AllocError> {
@@ -220,5 +330,6 @@ fn commands<'a>(alloc: Global) -> Result<Command<'a>, AllocError> {
         .subcommand(tables(alloc)?)?
         .subcommand(schema(alloc)?)?
         .subcommand(export(alloc)?)?
+        .subcommand(query(alloc)?)?
         .subcommand(check(alloc)?)
 }

@@ -1,14 +1,15 @@
 // The commands of a store, on its file.
 use crate::output::write_whole;
-use crate::store_words::StoreRequest;
+use crate::store_words::{QueryWords, StoreRequest};
 use crate::{
-    Refusal, append_input, apply_command, check_tables, export_table, import_input, new_table,
-    print_schema, print_tables,
+    Refusal, append_input, append_text, apply_command, check_tables, export_table, import_input,
+    new_table, print_schema, print_selection, print_tables, query_of,
 };
+use query::Query;
 use sector_dev::{FileDevice, LockFile, SectorDevice};
 use std::alloc::Global;
-use std::fs::OpenFile;
-use std::io::{Read, Seek, Write};
+use std::fs::{self, OpenFile};
+use std::io::{self, Read, Seek, Write};
 use std::rt::Files;
 use store::{OpeningRefusal, Store};
 use tables::Command;
@@ -64,8 +65,49 @@ fn drop_table(alloc: Global, name: &str) -> Result<Command, Refusal> {
     })
 }
 
-/// Does what is asked of a store.
-pub(crate) fn serve<
+fn query(alloc: Global, words: &QueryWords<'_>) -> Result<Query, Refusal> {
+    query_of(alloc, &words.conditions, words.columns, words.limit)
+}
+
+fn save_as(
+    alloc: Global,
+    from: &str,
+    to: &str,
+    words: &QueryWords<'_>,
+) -> Result<Command, Refusal> {
+    Ok(Command::SaveAs {
+        from: String::from_str(alloc, from)?,
+        to: String::from_str(alloc, to)?,
+        query: query(alloc, words)?,
+    })
+}
+
+// Carries out a command on the store of a file.
+fn change<
+    F: Read + Write + Seek + OpenFile + LockFile + Drop,
+    H: Files<File = F> + AllocGlobal,
+    W: Write,
+>(rt: &H, path: &str, command: Command, output: &mut W) -> Result<(), Refusal> {
+    apply_command(rt.alloc(), &mut open(rt, path)?, command, output)
+}
+
+// Prints what a query selects. Its conditions are read before the file is opened.
+fn print_query<
+    F: Read + Write + Seek + OpenFile + LockFile + Drop,
+    H: Files<File = F> + AllocGlobal,
+    W: Write,
+>(rt: &H, path: &str, name: &str, words: &QueryWords<'_>, output: &mut W) -> Result<(), Refusal> {
+    let query = query(rt.alloc(), words)?;
+    print_selection(
+        rt.alloc(),
+        &mut open_to_read(rt, path)?,
+        name,
+        &query,
+        output,
+    )
+}
+
+fn serve_request<
     F: Read + Write + Seek + OpenFile + LockFile + Drop,
     H: Files<File = F> + AllocGlobal,
     R: Read,
@@ -78,8 +120,7 @@ pub(crate) fn serve<
             write_whole(output, b"ok\n")
         }
         StoreRequest::Create { path, name, fields } => {
-            let command = create(alloc, name, fields)?;
-            apply_command(alloc, &mut open(rt, path)?, command, output)
+            change(rt, path, create(alloc, name, fields)?, output)
         }
         StoreRequest::Import { path, name } => {
             import_input(alloc, &mut open(rt, path)?, name, input, output)
@@ -87,14 +128,20 @@ pub(crate) fn serve<
         StoreRequest::Append { path, name } => {
             append_input(alloc, &mut open(rt, path)?, name, input, output)
         }
+        StoreRequest::AppendText { path, name, form } => {
+            append_text(alloc, &mut open(rt, path)?, name, form, input, output)
+        }
+        StoreRequest::Query { path, name, query } => print_query(rt, path, name, query, output),
+        StoreRequest::SaveAs {
+            path,
+            from,
+            to,
+            query,
+        } => change(rt, path, save_as(alloc, from, to, query)?, output),
         StoreRequest::Rename { path, from, to } => {
-            let command = rename(alloc, from, to)?;
-            apply_command(alloc, &mut open(rt, path)?, command, output)
+            change(rt, path, rename(alloc, from, to)?, output)
         }
-        StoreRequest::Drop { path, name } => {
-            let command = drop_table(alloc, name)?;
-            apply_command(alloc, &mut open(rt, path)?, command, output)
-        }
+        StoreRequest::Drop { path, name } => change(rt, path, drop_table(alloc, name)?, output),
         StoreRequest::Tables { path } => print_tables(alloc, &open_to_read(rt, path)?, output),
         StoreRequest::Schema { path, name } => {
             print_schema(alloc, &open_to_read(rt, path)?, name, output)
@@ -104,4 +151,24 @@ pub(crate) fn serve<
         }
         StoreRequest::Check { path } => check_tables(alloc, &mut open_to_read(rt, path)?, output),
     }
+}
+
+// A program may be started without its standard streams, and the next file that it opens then stands in the place of one: what is printed
+// would go into the store. Folders, which can be neither read nor written, take these places before.
+fn take_places_of_streams<
+    F: Read + Write + Seek + OpenFile + LockFile + Drop,
+    H: Files<File = F> + AllocGlobal,
+>(rt: &H) -> io::Result<(F, F, F)> {
+    Ok((fs::open(rt, "/")?, fs::open(rt, "/")?, fs::open(rt, "/")?))
+}
+
+/// Does what is asked of a store.
+pub(crate) fn serve<
+    F: Read + Write + Seek + OpenFile + LockFile + Drop,
+    H: Files<File = F> + AllocGlobal,
+    R: Read,
+    W: Write,
+>(rt: &H, request: &StoreRequest<'_>, input: &mut R, output: &mut W) -> Result<(), Refusal> {
+    let _places = take_places_of_streams(rt).map_err(|_| Refusal::Io)?;
+    serve_request(rt, request, input, output)
 }

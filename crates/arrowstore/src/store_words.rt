@@ -2,7 +2,16 @@
 ghost use Rattle.std.specs.Prelude.{◌≡◌, map};
 ghost use Rattle.arrowstore.specs.StoreWords.{takes_input_word, changes_word, reads_table_word, reads_word, is_store_word, is_of_store, takes_input};
 
+use crate::TextForm;
 use std::convert::AsStr;
+
+/// Which rows and columns of a table are asked for, as words of a command line.
+#[derive(Drop)]
+pub(crate) struct QueryWords<'a> {
+    pub conditions: Vec<&'a str>,
+    pub columns: Option<&'a str>,
+    pub limit: Option<u64>,
+}
 
 /// What is asked of the store in the file at a path.
 #[derive(Drop)]
@@ -27,6 +36,25 @@ pub(crate) enum StoreRequest<'a> {
     Append {
         path: &'a str,
         name: &'a str,
+    },
+    /// The same of a text.
+    AppendText {
+        path: &'a str,
+        name: &'a str,
+        form: TextForm<'a>,
+    },
+    /// The rows that a query selects, as lines.
+    Query {
+        path: &'a str,
+        name: &'a str,
+        query: QueryWords<'a>,
+    },
+    /// The same, as a new table.
+    SaveAs {
+        path: &'a str,
+        from: &'a str,
+        to: &'a str,
+        query: QueryWords<'a>,
     },
     /// Another name for a table.
     Rename {
@@ -75,7 +103,7 @@ fn changes_word(word: &str) -> bool
 fn reads_table_word(word: &str) -> bool
     ensures { result ≡ reads_table_word word.now }
 {
-    word == "schema" || word == "export"
+    word == "schema" || word == "export" || word == "query"
 }
 
 #[tactic(auto, unfolding(crate::specs::StoreWords::reads_word))]

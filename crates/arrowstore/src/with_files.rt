@@ -8,8 +8,8 @@ ghost use Rattle.arrowstore.specs.StoreWords.{is_of_store, takes_input};
 ghost use Rattle.arrowstore.specs.Reported.{IsWrong};
 ghost use Rattle.arrowstore.specs.declared.status.Status.TheVariants.{Done};
 
-use crate::reports::{end, report_arguments};
-use crate::store_command_line::request_of;
+use crate::reports::{end, report_arguments, report_signed_number};
+use crate::store_command_line::{Mistake, request_of};
 use crate::store_commands::serve;
 use crate::store_words::{is_of_store, takes_input};
 use crate::{Ended, run};
@@ -32,7 +32,8 @@ fn run_request<
 {
     match request_of(rt.alloc(), arguments) {
         Ok(request) => end(serve(rt, &request, input, output), errors),
-        Err(error) => report_arguments(&error, output, errors),
+        Err(Mistake::Words(error)) => report_arguments(&error, output, errors),
+        Err(Mistake::SignedNumber) => report_signed_number(errors),
     }
 }
 

@@ -1,3 +1,4 @@
 mod Alone
 mod Meant
+mod RunSteps
 mod Steps

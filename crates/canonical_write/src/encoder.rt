@@ -12,6 +12,7 @@ ghost use Rattle.values.specs.Borrowed.{borrowed_cells};
 ghost use Rattle.values.specs.Table.{IsTable};
 ghost use Rattle.values.specs.TableView.{table_of};
 
+use crate::by_runs::{encode_parts, goes_by_runs};
 use crate::messages::write_piece;
 use arrow_schema::Schema;
 use canonical_stream::pieces_can_be_built;
@@ -53,7 +54,13 @@ fn encode_rows(alloc: Global, schema: &Schema, table: &Table) -> Result<Vec<u8>,
 pub fn encode(alloc: Global, table: &Table) -> Result<Vec<u8>, AllocError>
     ensures { IfOk result (λ out. out.items ≡ canonical (table_of table.now)) }
 {
-    encode_rows(alloc, table.schema(), table)
+    let schema = table.schema();
+    if let Some(parts) = table.parts() {
+        if goes_by_runs(schema) {
+            return encode_parts(alloc, schema, parts, table.len());
+        }
+    }
+    encode_rows(alloc, schema, table)
 }
 
 // The stream of a piece, as a table of its own.

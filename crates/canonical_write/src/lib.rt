@@ -9,6 +9,7 @@
 //! ```
 #![tactic(auto)]
 
+mod by_runs;
 mod encoder;
 mod laws;
 mod messages;

@@ -1,17 +1,21 @@
 // The messages of a piece: those of its dictionaries, and then its record batch.
-ghost use Rattle.std.specs.Prelude.{◌≡◌, ◌++◌, IfOk, OnOk, length, map};
+ghost use Rattle.std.specs.Prelude.{◌≡◌, ◌++◌, true, IfOk, OnOk, length, map};
 ghost use Rattle.std.specs.List.{AllByRecursion};
 ghost use Rattle.arrow_schema.specs.View.{schema_of};
 ghost use Rattle.canonical_stream.specs.Canonical.{piece_messages};
 ghost use Rattle.canonical_stream.specs.Pieces.{IsPieceOf};
 ghost use Rattle.array_build.specs.Batch.{dictionary_in, node_in};
+ghost use Rattle.array_build.specs.ByRuns.{are_built_by_runs};
+ghost use Rattle.arrow_schema.specs.Column.{columns_of};
+ghost use Rattle.run_pieces.specs.Rows.{runs_rows, are_runs_sound};
 ghost use Rattle.canonical_write.specs.inner.Messages.{AreFew, HasFew, built_message, built_messages, built_batch, entries_of_piece, batch_of_piece};
 ghost use Rattle.values.specs.Borrowed.{borrowed_cells};
 
-use array_build::{BuiltBatch, BuiltDictionary, build};
+use array_build::{BuiltBatch, BuiltDictionary, build, build_runs};
 use arrow_schema::Schema;
 use columns::{dictionaries_are_written_alone, written_arrays_have_their_shape};
 use ipc_write::{write_batch, write_dictionary};
+use run_pieces::{RowRun, RunPiece, column_runs};
 use std::alloc::{AllocError, Global};
 use values::Values;
 use written_batch::{written_batches_pass, written_entries_are_read};
@@ -78,6 +82,27 @@ fn write_rows(
     write_batch(alloc, out, rows as u64, nodes, &buffers)
 }
 
+// The messages of what was built of so many rows.
+fn write_built(
+    alloc: Global,
+    out: &mut Vec<u8>,
+    rows: usize,
+    built: BuiltBatch,
+) -> Result<(), AllocError>
+    requires few_entries { AllByRecursion HasFew (map dictionary_in built.dictionaries.items) }
+    requires few_rows { AreFew (map node_in built.nodes.items) (map (λ v. v.items) built.buffers.items) }
+    ensures { OnOk result (out.new.items ≡ out.old.items ++ (built_messages 0 (map dictionary_in built.dictionaries.items)
+        ++ built_batch rows (map node_in built.nodes.items) (map (λ v. v.items) built.buffers.items))) }
+{
+    let BuiltBatch {
+        nodes,
+        buffers,
+        dictionaries,
+    } = built;
+    write_all_entries(alloc, out, dictionaries)?;
+    write_rows(alloc, out, rows, nodes, buffers)
+}
+
 // The arrays of a piece, which messages have room for.
 fn build_piece(
     alloc: Global,
@@ -110,11 +135,49 @@ pub(crate) fn write_piece(
     requires { IsPieceOf (schema_of schema.now) (map borrowed_cells rows.now) }
     ensures { OnOk result (out.new.items ≡ out.old.items ++ piece_messages (schema_of schema.now) (map borrowed_cells rows.now)) }
 {
-    let BuiltBatch {
-        nodes,
-        buffers,
-        dictionaries,
-    } = build_piece(alloc, schema, rows)?;
-    write_all_entries(alloc, out, dictionaries)?;
-    write_rows(alloc, out, rows.len(), nodes, buffers)
+    let built = build_piece(alloc, schema, rows)?;
+    write_built(alloc, out, rows.len(), built)
+}
+
+// The arrays of a piece whose rows are runs, which messages have room for.
+fn build_run_piece(
+    alloc: Global,
+    schema: &Schema,
+    runs: &[RowRun<'_>],
+) -> Result<BuiltBatch, AllocError>
+    requires piece { IsPieceOf (schema_of schema.now) (runs_rows (columns_of (schema_of schema.now).columns) runs.now) }
+    requires built { are_built_by_runs (columns_of (schema_of schema.now).columns) ≡ true }
+    requires sound { are_runs_sound (columns_of (schema_of schema.now).columns) runs.now ≡ true }
+    ensures entries { IfOk result (λ piece. built_messages 0 (map dictionary_in piece.dictionaries.items)
+        ≡ entries_of_piece (schema_of schema.now) (runs_rows (columns_of (schema_of schema.now).columns) runs.now)) }
+    ensures rows { IfOk result (λ piece. let rows = runs_rows (columns_of (schema_of schema.now).columns) runs.now in
+        built_batch (length rows) (map node_in piece.nodes.items) (map (λ v. v.items) piece.buffers.items) ≡ batch_of_piece (schema_of schema.now) rows) }
+    ensures few_entries { IfOk result (λ piece. AllByRecursion HasFew (map dictionary_in piece.dictionaries.items)) }
+    ensures few_rows { IfOk result (λ piece. AreFew (map node_in piece.nodes.items) (map (λ v. v.items) piece.buffers.items)) }
+{
+    dictionaries_are_written_alone();
+    written_arrays_have_their_shape();
+    written_batches_pass();
+    written_entries_are_read();
+    let columns = column_runs(alloc, &schema.fields, runs)?;
+    build_runs(alloc, &schema.fields, &columns)
+}
+
+/// The same of a piece whose rows are runs: no row is borrowed.
+#[tactic(auto, unfolding(canonical_stream::specs::Canonical::piece_messages))]
+pub(crate) fn write_run_piece(
+    alloc: Global,
+    out: &mut Vec<u8>,
+    schema: &Schema,
+    piece: &RunPiece<'_>,
+) -> Result<(), AllocError>
+    requires piece { IsPieceOf (schema_of schema.now) (runs_rows (columns_of (schema_of schema.now).columns) piece.now.runs.items) }
+    requires built { are_built_by_runs (columns_of (schema_of schema.now).columns) ≡ true }
+    requires sound { are_runs_sound (columns_of (schema_of schema.now).columns) piece.now.runs.items ≡ true }
+    requires count { piece.now.rows ≡ length (runs_rows (columns_of (schema_of schema.now).columns) piece.now.runs.items) }
+    ensures { OnOk result (out.new.items ≡ out.old.items
+        ++ piece_messages (schema_of schema.now) (runs_rows (columns_of (schema_of schema.now).columns) piece.now.runs.items)) }
+{
+    let built = build_run_piece(alloc, schema, &piece.runs)?;
+    write_built(alloc, out, piece.rows, built)
 }

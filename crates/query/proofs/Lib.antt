@@ -12,3 +12,4 @@ pub mod Binding
 pub mod MadeTables
 pub mod Numbers
 pub mod Lines
+pub mod SlotFlags

@@ -1,2 +1,3 @@
 pub mod BoundView
 pub mod Masks
+pub mod Slots

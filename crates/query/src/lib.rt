@@ -23,10 +23,11 @@ mod literal;
 mod operator;
 mod query;
 mod selecting;
+mod slots;
 
 pub use condition::{Condition, Test};
 pub use errors::QueryError;
-pub use laws::selection_is_a_table;
+pub use laws::{rows_refuse_no_query, selection_is_a_table};
 pub use line::json_line;
 pub use operator::Operator;
 pub use query::Query;

@@ -20,6 +20,7 @@ use crate::condition::Condition;
 use crate::copying::copy_value;
 use crate::errors::QueryError;
 use crate::query::Query;
+use crate::slots::comparison_of;
 use arrow_schema::{Field, Schema};
 use cells::Value;
 use std::alloc::{AllocError, Global};
@@ -74,8 +75,8 @@ fn bind_all(
     Ok(bounds)
 }
 
-// A bit for each row, which is set where the condition holds.
-fn mask_of(alloc: Global, table: &Table, bound: &Bound) -> Result<Vec<u8>, AllocError>
+// A bit for each row, which is set where the condition holds, row by row.
+fn mask_of_rows(alloc: Global, table: &Table, bound: &Bound) -> Result<Vec<u8>, AllocError>
     ensures { IfOk result (λ mask. IsMask mask.items (map (holds (bound_in bound.now)) (table_of table.now).rows)) }
 {
     let mut flags = Vec::with_capacity(alloc, table.len())?;
@@ -83,6 +84,17 @@ fn mask_of(alloc: Global, table: &Table, bound: &Bound) -> Result<Vec<u8>, Alloc
         flags.push(holds(bound, row))?;
     }
     bitmap::pack(alloc, &flags)
+}
+
+// The same, from the bytes of arrays where these tell.
+fn mask_of(alloc: Global, table: &Table, bound: &Bound) -> Result<Vec<u8>, AllocError>
+    ensures { IfOk result (λ mask. IsMask mask.items (map (holds (bound_in bound.now)) (table_of table.now).rows)) }
+{
+    let schema = table.schema();
+    match (table.parts(), comparison_of(&schema.fields, bound)) {
+        (Some(parts), Some(comparison)) => comparison.mask_of(alloc, parts, table.len()),
+        _ => mask_of_rows(alloc, table, bound),
+    }
 }
 
 // A bit that is set for each row.

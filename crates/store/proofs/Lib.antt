@@ -6,7 +6,9 @@ mod Tested
 mod Decided
 mod Prepared
 mod Carried
+mod GivenRows
 mod Appended
+mod Saved
 mod Answered
 mod Began
 mod HeldTables

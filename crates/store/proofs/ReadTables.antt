@@ -1,10 +1,11 @@
 -- What is read of a table: its segments one after another, and the table that they make.
-use Rattle.std.specs.Prelude.{◌&&◌, slice_get, get_or, Result, Ok, Err}
+use Rattle.std.specs.Prelude.{◌&&◌, slice_get, get_or, sum_by, min, if◌then◌else◌, Result, Ok, Err}
 use Rattle.std.specs.List.{list_all}
-use Rattle.std.proofs.Common.{◌≡◌, ◌≤◌, ◌<◌, ◌+◌, ◌++◌, ◌∷◌, [], ℕ, zero, suc, Bool, true, List, Option, Some, None, length, map, take, drop, refl, sym, ap, ◌∙◌, subst, arith, append-nil, append_assoc}
+use Rattle.std.proofs.Common.{◌≡◌, ◌≤◌, ◌<◌, ◌+◌, ◌-◌, ◌^◌, ◌++◌, ◌∷◌, [], ℕ, zero, suc, Bool, true, false, List, Option, Some, None, length, map, take, drop, refl, sym, ap, ◌∙◌, subst, arith, append-nil, append_assoc}
 use Rattle.std.proofs.lemmas.Bool.{and_parts}
 use Rattle.std.proofs.lemmas.List.{length-map, get_or-map, take-append-drop, take_more}
 use Rattle.std.proofs.lemmas.List.Concat.{flat_map-cons}
+use Rattle.std.proofs.lemmas.List.Sums.{sum_by-append}
 use Rattle.std.proofs.lemmas.Option.{slice_get_within, get_or_from_slice_get, slice_get-get_or}
 use Rattle.std.proofs.Math.Seq.{drop-cons}
 use Rattle.sector_dev.specs.Disk.{Disk, Story, Image, now, shown_image}
@@ -26,7 +27,7 @@ use Rattle.commit.specs.laws.Apart.{all_at}
 use Rattle.store.specs.Held.{segment_rows, joined_rows, rows_held, table_where, table_of_rows, table_held}
 use Rattle.tables.specs.declared.refusal.Refusal.{Refusal as Told}
 use Rattle.tables.specs.declared.refusal.Refusal.TheVariants as refusals
-use Rattle.store.specs.Calls.{PlainReply, done}
+use Rattle.store.specs.Calls.{PlainReply, done, is_device_reply}
 use Rattle.store.specs.Runs.{counted}
 use Rattle.store.specs.Reading.{ArePast, IsUnread, Unreads, OnlyReadsDevice}
 use Rattle.store.specs.inner.Reading.{UnreadsSegment}
@@ -164,6 +165,16 @@ rows_step schema other segments place segment image other_image rows found same 
     rows_of_more schema (take place segments) (take (place + 1) segments) segment image rows found (take_next segments place segment inside is) held
     (joined ∙ (λ i. joined_rows (Some rows) (segment_rows (same i) segment (at i))))
 
+-- and how many they are
+abbrev pub rows_of : Segment → ℕ
+rows_of s = s.rows
+
+pub count_step : (segments : List Segment) (place : ℕ) (segment : Segment) (so_far all : ℕ) → place < length segments → segment ≡ get_or segments place segment → so_far ≡ sum_by rows_of (take place segments) → all ≡ so_far + segment.rows
+    → all ≡ sum_by rows_of (take (place + 1) segments)
+count_step segments place segment so_far all inside is own more =
+    let next = ap (sum_by rows_of) (take_next segments place segment inside is) ∙ sum_by-append rows_of (take place segments) (segment ∷ []) in
+    omega (arith, own, more, next)
+
 -- why a segment's rows don't go behind those before it, as told of its table
 pub unreads_step : (tells : Bool) (image other_image : Image) (e : PlainEntry) (other : PlainSchema) (rows : List (List Cell)) (segment : Segment) (place : ℕ) (r : Told) → other ≡ e.schema → (tells ≡ true → other_image ≡ image) → place < length e.segments
     → segment ≡ get_or e.segments place segment → table_weight other rows ≤ MAX_TABLE_WEIGHT → (tells ≡ true → rows_held e.schema (take place e.segments) image ≡ Some rows) → UnreadsSegment tells other_image other rows segment place r → Unreads tells image e r
@@ -205,6 +216,14 @@ reads_more size story failed tells reply a b c first second = record {
 
 pub reads_none : {D : Type 0} (size : D → ℕ) (story : D → Story) (failed : D → ℕ) (tells : Bool) (a : D) → OnlyReadsDevice size story failed tells done a a
 reads_none size story failed tells a = record { same = refl; moments = λ told. stays (λ (d : Disk). d ≡ now (story a)) (story a); count = refl }
+
+-- no call at all, and an answer that no device failed
+pub reads_quiet : {D : Type 0} (size : D → ℕ) (story : D → Story) (failed : D → ℕ) (tells : Bool) (reply : PlainReply) (a : D) → is_device_reply reply ≡ false → OnlyReadsDevice size story failed tells reply a a
+reads_quiet size story failed tells reply a quiet = record {
+  same = refl;
+  moments = λ told. stays (λ (d : Disk). d ≡ now (story a)) (story a);
+  count = sym (ap (λ (b : Bool). if b then min (failed a + 1) (2 ^ 64 - 1) else failed a) quiet);
+}
 
 -- what reads show stays
 pub image_then : (old new : Story) → OnlyReads old new → shown_image (now new) ≡ shown_image (now old)

@@ -177,7 +177,7 @@ module _ {D : Type 0} {g : Ghosts D} (size : D → ℕ) (story : D → Story) (f
       by_state false (Some e) h found r =
           let on = is_running m.phase old.halted fits.phase h in
           let has = entry_has (synced_image (now (story old.device))) (listed_in old) (after base m.settled) (fits.sound on).tables name e found in
-          (on, has.2 ∙ sym has.1 ∙ ap (λ (image : Image). table_held image e) (sym (shown on)) ∙ r told)
+          (on, has.2 ∙ sym has.1 ∙ ap (λ (image : Image). table_held image e) (sym (shown on)) ∙ r.held told)
 
   pub refused_reading : TableLaws → IsCatalogue (listed_in old) → (call : PlainCall) (name : List ℕ) → ((q : Refusal) (next : Machine) → RefusesAs own m call name q next → Step own m call (refused q) false next) → (r : Refusal)
       → RefusesRead old.halted tells (shown_image (now (story old.device))) (entry_of (listed_in old) name) r → OnlyReadsStore size story failed tells (refused r) old new → GoesOn size story failed base m call (refused r) old new

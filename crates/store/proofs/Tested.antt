@@ -304,16 +304,18 @@ import_decided c t name bytes table streams counts lists h means room holds = (
 )
 
 -- what is put with the streams of a table's pieces is a change
-pub import_is_change : (c : PlainCatalogue) (name bytes : List ℕ) (table : PlainTable) → Counts c → IsCatalogue c → import_tests name bytes ≡ None → full_in c name ≡ None
+pub table_is_change : (c : PlainCatalogue) (name : List ℕ) (table : PlainTable) → Counts c → IsCatalogue c → bad_name name ≡ None → full_in c name ≡ None
     → IsWithinLimits table.schema → AllByRecursion (IsPiece table.schema) (pieces_of table)
     → AllByRecursion (λ (stream : List ℕ). length stream < 2 ^ 64) (piece_streams table)
     → IsChange c (record { edit = put name table.schema; streams = piece_streams table; counts = piece_counts table })
-import_is_change c name bytes table counts sound h room within pieces short =
-    let one = first_none (bad_name name) (too_many_bytes bytes ∷ []) h in
-    record {
-      edit = put_is_edit c name table.schema (piece_streams table) counts sound one.0 room within;
-      each = pieces_each table;
-      some = pieces_some table pieces;
-      short = short;
-      rows = pieces_few table pieces;
-    }
+table_is_change c name table counts sound named room within pieces short = record {
+  edit = put_is_edit c name table.schema (piece_streams table) counts sound named room within;
+  each = pieces_each table;
+  some = pieces_some table pieces;
+  short = short;
+  rows = pieces_few table pieces;
+}
+
+-- the name passed the tests of an import
+pub import_named : (name bytes : List ℕ) → import_tests name bytes ≡ None → bad_name name ≡ None
+import_named name bytes h = (first_none (bad_name name) (too_many_bytes bytes ∷ []) h).0

@@ -21,7 +21,7 @@ use Rattle.tables.specs.declared.refusal.Refusal.TheVariants as refusals
 use Rattle.tables.specs.declared.refusal.Limit.TheVariants as limits
 use Rattle.tables.specs.Refusals.{Origin, by_tables, by_memory, by_device, origin_of}
 use Rattle.tables.specs.Tables.{Tables, table_at, table_count}
-use Rattle.tables.specs.Commands.{PlainCommand, append_stream}
+use Rattle.tables.specs.Commands.{PlainCommand, append_stream, append_rows, save_as}
 use Rattle.tables.specs.Verdict.{verdict}
 use Rattle.store.specs.declared.store.Store.{Store}
 use Rattle.store.specs.Calls.{PlainCall, PlainReply, done, refused}
@@ -104,9 +104,11 @@ pub record IsApplied {D : Type 0} {g : Ghosts D} (size : D → ℕ) (story : D �
   pub decides : IsAnswered tells (shown_image (now (story (device_of old)))) (listed_in old) command decision
   pub ends : EndsAs size old decision result new
 
--- commands that read the device: the table that takes more rows is weighed
+-- commands that read the device: the table that takes more rows is weighed, and the one that is selected from is read
 abbrev pub reads_device : PlainCommand → Bool
 reads_device (append_stream name bytes) = true
+reads_device (append_rows name rows) = true
+reads_device (save_as from to query) = true
 reads_device _ = false
 
 -- what a refusal leaves as it was: the commit, the catalogue and what each run is in use for

@@ -1,6 +1,7 @@
--- What is decided of a command by the catalogue, and for an append by the table that stands: the first of its tests that fails, or what it changes.
+-- What is decided of a command by the catalogue, and for an append or a query that is saved by the table that stands: the first of its tests that
+-- fails, or what it changes.
 -- The tests are those of the verdict on the tables that the catalogue lists.
-use Rattle.std.specs.Prelude.{◌≡◌, ◌⊎◌, ℕ, Bool, true, not, ◌&&◌, nat_le, List, [], ◌∷◌, ◌++◌, length, is_some, Option, Some, None, Result, Ok, Err}
+use Rattle.std.specs.Prelude.{◌≡◌, ◌⊎◌, ℕ, Bool, not, ◌&&◌, nat_le, List, [], ◌∷◌, ◌++◌, length, is_some, Option, Some, None, Result, Ok, Err}
 use Rattle.facts.specs.Checks.{when, first_some, unless}
 use Rattle.sector_dev.specs.Disk.{Image}
 use Rattle.arrow_schema.specs.Column.{PlainSchema}
@@ -8,6 +9,8 @@ use Rattle.cells.specs.Cell.{Cell, PlainTable}
 use Rattle.ipc_message.specs.Header.{supported_codes}
 use Rattle.ipc_table.specs.Meaning.{meaning}
 use Rattle.canonical_write.specs.Pieces.{piece_streams, piece_counts}
+use Rattle.query.specs.Query.{PlainQuery}
+use Rattle.query.specs.Selection.{selection}
 use Rattle.catalogue.specs.Entries.{PlainEntry, PlainCatalogue}
 use Rattle.catalogue.specs.Edits.{entry_of}
 use Rattle.catalogue.specs.declared.limits.TheConstants.{MAX_TABLES}
@@ -15,10 +18,10 @@ use Rattle.tables.specs.declared.refusal.Limit.TheVariants as limits
 use Rattle.tables.specs.declared.refusal.Refusal.{Refusal}
 use Rattle.tables.specs.declared.refusal.Refusal.TheVariants.{NoTable, NameTaken, TooMany, OutOfMemory}
 use Rattle.tables.specs.Commands.{PlainCommand, create, import_stream, append_stream, append_rows, save_as, rename, drop_table}
-use Rattle.tables.specs.Verdict.{bad_name, too_many_bytes, other_shape, unfit_row, too_heavy, of_meaning}
+use Rattle.tables.specs.Refusals.{query_refusal}
+use Rattle.tables.specs.Verdict.{bad_name, too_many_bytes, other_shape, unfit_row, too_heavy, of_meaning, of_query, empty_table}
 use Rattle.store.specs.Changes.{PlainEdit, put, extend, move, remove, PlainChange, rows_under}
-use Rattle.store.specs.Held.{table_held}
-use Rattle.store.specs.Reading.{Unreads}
+use Rattle.store.specs.Reading.{IsRead, Unreads}
 
 -- ---- the tests
 
@@ -65,28 +68,52 @@ decided_table c name table = unless (full_in c name) (Ok (pieces_put (put name t
 abbrev pub decided_import : PlainCatalogue → (name bytes : List ℕ) → Result PlainChange Refusal
 decided_import c name bytes = unless (import_tests name bytes) (of_meaning (meaning supported_codes bytes) (decided_table c name))
 
+-- the entry of a name at which a table is to stand
+abbrev pub of_entry : {A : Type 0} → Option PlainEntry → (PlainEntry → Result A Refusal) → Result A Refusal
+of_entry None f = Err NoTable
+of_entry (Some e) f = f e
+
 -- rows that go behind those of an entry's table
 pub record Addition : Type 0 where
   pub entry : PlainEntry
   pub rows : List (List Cell)
 
--- the rows of a table of the entry's shape, where the entry's table takes each of them
-abbrev pub fitting : PlainEntry → PlainTable → Result Addition Refusal
-fitting e table = unless (first_some (other_shape e.schema table.schema ∷ unfit_row e.schema table.rows ∷ [])) (Ok (record { entry = e; rows = table.rows }))
+-- rows that are given, where the entry's table takes each of them. Nothing of the table that stands is read for the tests of new rows
+abbrev pub given_rows : List (List Cell) → PlainEntry → Result Addition Refusal
+given_rows rows e = unless (unfit_row e.schema rows) (Ok (record { entry = e; rows = rows }))
 
--- the rows that a stream brings: nothing of the table that stands is read for these tests
-abbrev pub addition : Option PlainEntry → (bytes : List ℕ) → Result Addition Refusal
-addition None bytes = Err NoTable
-addition (Some e) bytes = unless (too_many_bytes bytes) (of_meaning (meaning supported_codes bytes) (fitting e))
+-- the rows of a table of the entry's shape
+abbrev pub rows_of_table : PlainEntry → PlainTable → Result Addition Refusal
+rows_of_table e table = unless (other_shape e.schema table.schema) (given_rows table.rows e)
+
+-- the rows that a stream brings
+abbrev pub streamed_rows : (bytes : List ℕ) → PlainEntry → Result Addition Refusal
+streamed_rows bytes e = unless (too_many_bytes bytes) (of_meaning (meaning supported_codes bytes) (rows_of_table e))
 
 -- behind the rows that stand, under the entry's own schema
 abbrev pub decided_behind : List ℕ → Addition → (standing : List (List Cell)) → Result PlainChange Refusal
 decided_behind name a standing = unless (too_heavy a.entry.schema (standing ++ a.rows)) (Ok (pieces_put (extend name) (rows_under a.entry.schema a.rows)))
 
--- where the device tells its story the rows that stand are those that an image holds
+-- the table that stands is read when all else about the new rows is decided
 abbrev pub IsAdded : (tells : Bool) → Image → List ℕ → Result Addition Refusal → Result PlainChange Refusal → Type 0
 IsAdded tells image name (Err r) d = d ≡ Err r
-IsAdded tells image name (Ok a) d = (standing : PlainTable) × (tells ≡ true → table_held image a.entry ≡ Some standing) × (d ≡ decided_behind name a standing.rows)
+IsAdded tells image name (Ok a) d = (standing : PlainTable) × IsRead tells image a.entry standing × (d ≡ decided_behind name a standing.rows)
+
+-- why a query makes nothing of the tables of a schema: the selection of one without rows tells it
+abbrev pub unselected : PlainSchema → PlainQuery → Option Refusal
+unselected schema query = elim (selection (empty_table schema) query) [ Ok table ↦ None | Err r ↦ Some (query_refusal r) ]
+
+-- the entry whose table is selected from, where the selection can stand at another name. Nothing of its table is read for these tests
+abbrev pub selected_entry : PlainCatalogue → (to : List ℕ) → PlainQuery → PlainEntry → Result PlainEntry Refusal
+selected_entry c to query e = unless (first_some (unselected e.schema query ∷ create_tests c to ∷ [])) (Ok e)
+
+abbrev pub decided_selection : (to : List ℕ) → PlainQuery → PlainTable → Result PlainChange Refusal
+decided_selection to query standing = of_query (selection standing query) (λ table. Ok (pieces_put (put to table.schema) table))
+
+-- the table is read when all else is decided
+abbrev pub IsSaved : (tells : Bool) → Image → (to : List ℕ) → PlainQuery → Result PlainEntry Refusal → Result PlainChange Refusal → Type 0
+IsSaved tells image to query (Err r) d = d ≡ Err r
+IsSaved tells image to query (Ok e) d = (standing : PlainTable) × IsRead tells image e standing × (d ≡ decided_selection to query standing)
 
 abbrev pub decided_rename : PlainCatalogue → (from to : List ℕ) → Result PlainChange Refusal
 decided_rename c from to = unless (rename_tests c from to) (Ok (names_changed (move from to)))
@@ -94,29 +121,39 @@ decided_rename c from to = unless (rename_tests c from to) (Ok (names_changed (m
 abbrev pub decided_drop : PlainCatalogue → List ℕ → Result PlainChange Refusal
 decided_drop c name = unless (missing_in c name) (Ok (names_changed (remove name)))
 
--- this is decided of a command, where reads of the device show this image: it is asked for the weight of a table that takes more rows. Rows that are
--- given and queries that are saved are no commands of a store yet
+-- this is decided of a command, where reads of the device show this image
 abbrev pub IsDecided : (tells : Bool) → Image → PlainCatalogue → PlainCommand → Result PlainChange Refusal → Type 0
 IsDecided tells image c (create name schema) d = d ≡ decided_create c name schema
 IsDecided tells image c (import_stream name bytes) d = d ≡ decided_import c name bytes
-IsDecided tells image c (append_stream name bytes) d = IsAdded tells image name (addition (entry_of c name) bytes) d
-IsDecided tells image c (append_rows name rows) d = ⊥
-IsDecided tells image c (save_as from to query) d = ⊥
+IsDecided tells image c (append_stream name bytes) d = IsAdded tells image name (of_entry (entry_of c name) (streamed_rows bytes)) d
+IsDecided tells image c (append_rows name rows) d = IsAdded tells image name (of_entry (entry_of c name) (given_rows rows)) d
+IsDecided tells image c (save_as from to query) d = IsSaved tells image to query (of_entry (entry_of c from) (selected_entry c to query)) d
 IsDecided tells image c (rename from to) d = d ≡ decided_rename c from to
 IsDecided tells image c (drop_table name) d = d ≡ decided_drop c name
 
--- the rows behind which others are to go are not read
-pub record IsNotRead (tells : Bool) (image : Image) (found : Option PlainEntry) (bytes : List ℕ) (answer : Result PlainChange Refusal) : Type 0 where
-  pub added : Addition
-  pub tested : addition found bytes ≡ Ok added
+-- the entry of the table that is read for a command: no test comes before it that fails
+abbrev pub entry_added : Result Addition Refusal → Option PlainEntry
+entry_added (Ok a) = Some a.entry
+entry_added (Err r) = None
+
+abbrev pub entry_selected : Result PlainEntry Refusal → Option PlainEntry
+entry_selected (Ok e) = Some e
+entry_selected (Err r) = None
+
+abbrev pub entry_read : PlainCatalogue → PlainCommand → Option PlainEntry
+entry_read c (append_stream name bytes) = entry_added (of_entry (entry_of c name) (streamed_rows bytes))
+entry_read c (append_rows name rows) = entry_added (of_entry (entry_of c name) (given_rows rows))
+entry_read c (save_as from to query) = entry_selected (of_entry (entry_of c from) (selected_entry c to query))
+entry_read c _ = None
+
+-- that table is not read
+pub record IsNotRead (tells : Bool) (image : Image) (found : Option PlainEntry) (answer : Result PlainChange Refusal) : Type 0 where
+  pub entry : PlainEntry
+  pub tested : found ≡ Some entry
   pub refusal : Refusal
   pub told : answer ≡ Err refusal
-  pub unread : Unreads tells image added.entry refusal
-
-abbrev pub CannotRead : (tells : Bool) → Image → PlainCatalogue → PlainCommand → Result PlainChange Refusal → Type 0
-CannotRead tells image c (append_stream name bytes) answer = IsNotRead tells image (entry_of c name) bytes answer
-CannotRead tells image c _ answer = ⊥
+  pub unread : Unreads tells image entry refusal
 
 -- what may be answered: what is decided, that the table was not read, or that memory was refused
 abbrev pub IsAnswered : (tells : Bool) → Image → PlainCatalogue → PlainCommand → Result PlainChange Refusal → Type 0
-IsAnswered tells image c command answer = (answer ≡ Err OutOfMemory) ⊎ CannotRead tells image c command answer ⊎ IsDecided tells image c command answer
+IsAnswered tells image c command answer = (answer ≡ Err OutOfMemory) ⊎ IsNotRead tells image (entry_read c command) answer ⊎ IsDecided tells image c command answer

@@ -1,5 +1,5 @@
 -- What reading a table answers, beside what the store is and what reads of its device give, and what it leaves.
-use Rattle.std.specs.Prelude.{◌≡◌, ◌≤◌, ◌<◌, ◌++◌, ◌||◌, ℕ, Bool, true, false, List, take, slice_get, Option, Some, None, Result, Ok, Err}
+use Rattle.std.specs.Prelude.{◌≡◌, ◌≤◌, ◌<◌, ◌++◌, ◌||◌, ℕ, Bool, true, false, List, length, take, slice_get, Option, Some, None, Result, Ok, Err}
 use Rattle.sector_dev.specs.Disk.{Image, Story}
 use Rattle.sector_dev.specs.Time.{OnlyReads}
 use Rattle.sector_dev.specs.declared.device.SectorDevice.{Ghosts}
@@ -7,8 +7,9 @@ use Rattle.arrow_schema.specs.Column.{PlainSchema}
 use Rattle.cells.specs.Cell.{Cell, PlainTable}
 use Rattle.cells.specs.Weight.{table_weight}
 use Rattle.cells.specs.declared.limits.TheConstants.{MAX_TABLE_WEIGHT}
+use Rattle.values.specs.Table.{IsTable}
 use Rattle.catalogue.specs.declared.entry.Segment.{Segment}
-use Rattle.catalogue.specs.Entries.{PlainEntry}
+use Rattle.catalogue.specs.Entries.{PlainEntry, row_count}
 use Rattle.tables.specs.declared.refusal.Refusal.{Refusal}
 use Rattle.tables.specs.declared.refusal.Refusal.TheVariants as refusals
 use Rattle.store.specs.declared.store.Store.{Store}
@@ -37,6 +38,14 @@ Unreads tells image e refusals.OutOfMemory = Unit {0}
 Unreads tells image e (refusals.SegmentUnread place) = tells ≡ true → IsUnread image e place
 Unreads tells image e _ = ⊥
 
+-- a table that was read for an entry: it has the entry's schema and as many rows as the entry says, and where the device tells its story it is the
+-- one that the image holds
+pub record IsRead (tells : Bool) (image : Image) (e : PlainEntry) (table : PlainTable) : Type 0 where
+  pub kept : IsTable table
+  pub schema : table.schema ≡ e.schema
+  pub count : length table.rows ≡ row_count e
+  pub held : tells ≡ true → table_held image e ≡ Some table
+
 -- why the table of a name, with this entry if there is one, is not read
 abbrev pub RefusesRead : (halted tells : Bool) → Image → Option PlainEntry → Refusal → Type 0
 RefusesRead true tells image found r = r ≡ refusals.Halted
@@ -47,7 +56,7 @@ RefusesRead false tells image (Some e) r = Unreads tells image e r
 abbrev pub ReadsTable : (halted tells : Bool) → Image → Option PlainEntry → PlainTable → Type 0
 ReadsTable true tells image found table = ⊥
 ReadsTable false tells image None table = ⊥
-ReadsTable false tells image (Some e) table = tells ≡ true → table_held image e ≡ Some table
+ReadsTable false tells image (Some e) table = IsRead tells image e table
 
 -- how a call ended, in the words of replies, whatever it gives
 abbrev pub ended : {T : Type 0} → Result T Refusal → PlainReply

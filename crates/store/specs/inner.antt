@@ -1,5 +1,6 @@
 pub mod Tests
 pub mod Appending
+pub mod Saving
 pub mod Prepared
 pub mod Gathered
 pub mod Reading

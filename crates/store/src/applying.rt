@@ -15,7 +15,9 @@ ghost use Rattle.store.specs.inner.Tests.{decision_of};
 use crate::Store;
 use crate::change::Change;
 use crate::deciding::{decide_create, decide_drop, decide_import, decide_rename};
+use crate::new_rows::NewRows;
 use canonical_write::pieces_are_tables;
+use query::{rows_refuse_no_query, selection_is_a_table};
 use sector_dev::SectorDevice;
 use std::alloc::Global;
 use tables::{Command, Refusal};
@@ -29,7 +31,7 @@ impl<D: SectorDevice> Store<D> {
     ghost use Rattle.store.specs.Fits.{StoreFits, device_of, is_halted, IsOnDisk};
     ghost use Rattle.store.specs.Applying.{GoesOn, reply_of, IsApplied, IsKept, Writes, HasWritten};
 
-    // What a command changes. Only an append reads the device.
+    // What a command changes. Only an append and a query that is saved read the device.
     fn decide(&mut self, alloc: Global, command: Command) -> Result<Change, Refusal>
         requires on { is_halted self.old ≡ false }
         ensures reads { OnlyReadsStore D.size D.story D.failed D.tells (ended result) self.old self.new }
@@ -44,12 +46,20 @@ impl<D: SectorDevice> Store<D> {
         accepted_rows_are_a_table();
         pieces_are_tables();
         tables_are_joined_and_cut();
+        selection_is_a_table();
+        rows_refuse_no_query();
         let catalogue = &self.opened.catalogue.list;
         catalogue.len();
         match command {
             Command::Create(new) => decide_create(alloc, catalogue, new),
             Command::ImportStream { name, bytes } => decide_import(alloc, catalogue, name, bytes),
-            Command::AppendStream { name, bytes } => self.decide_append(alloc, name, bytes),
+            Command::AppendStream { name, bytes } => {
+                self.decide_append(alloc, name, NewRows::Stream(bytes))
+            }
+            Command::AppendRows { name, rows } => {
+                self.decide_append(alloc, name, NewRows::Given(rows))
+            }
+            Command::SaveAs { from, to, query } => self.decide_save(alloc, from, to, query),
             Command::Rename { from, to } => decide_rename(alloc, catalogue, from, to),
             Command::Drop { name } => decide_drop(alloc, catalogue, name),
         }
@@ -58,16 +68,16 @@ impl<D: SectorDevice> Store<D> {
     /// Does what a command asks for, or refuses it. After Ok it is safe: each later stop leaves it.
     ///
     /// # Errors
-    /// Those of the command, in the order of its tests, where an append reads the table for the last one: `SegmentUnread` as [`Store::read`], and
-    /// `Device`; then `TooMany(Epochs)`, `TooMany(Segments)`, `NoRoom` and `Device`. After
+    /// Those of the command, in the order of its tests, where an append reads the table for the last one, and a query that is saved reads its table behind
+    /// all of them: `SegmentUnread` as [`Store::read`], and `Device`; then `TooMany(Epochs)`, `TooMany(Segments)`, `NoRoom` and `Device`. After
     /// `Device` the store is halted, and whether the command is done is known once the device was opened again; `Halted` before all else
     /// where it is halted; `OutOfMemory`. After any but `Device` nothing has changed.
     pub fn apply(&mut self, alloc: Global, command: Command) -> Result<(), Refusal>
         // On a store that stands for a machine: it does what the command does to the tables of the settled commands, or is refused as they say.
         ensures goes { D.tells ≡ true → (base : Tables) (m : Machine) → StoreFits D.size D.story base m self.old
             → GoesOn D.size D.story D.failed base m (apply_call (command_of command)) (reply_of result) self.old self.new }
-        // On any store and any device: what its catalogue decides of the command, and for an append the table that reads show, is carried out or told; each
-        // refusal has its one reason.
+        // On any store and any device: what its catalogue decides of the command, and for an append or a query that is saved the table that was
+        // read, is carried out or told; each refusal has its one reason.
         ensures applied { is_halted self.old ≡ false → IsApplied D.size D.story D.tells self.old (command_of command) result self.new }
         ensures refused { IfErr result (λ e. IsKept self.old self.new) }
         ensures quiet { IfErr result (λ e. e ≢ Refusal.Device → reads_device (command_of command) ≡ false

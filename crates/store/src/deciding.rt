@@ -11,6 +11,8 @@ ghost use Rattle.store.specs.Calls.{is_failure};
 ghost use Rattle.store.specs.Applying.{Lists, Decides};
 ghost use Rattle.store.specs.Changes.{change_of, edit_of, IsChange};
 ghost use Rattle.store.specs.Deciding.{IsAnswered, has_entry, missing_in, taken_in, full_in, create_tests, import_tests, rename_tests};
+ghost use Rattle.values.specs.TableView.{table_of};
+ghost use Rattle.store.specs.inner.Saving.{IsPut};
 ghost use Rattle.store.specs.inner.Tests.{Tests, decision_of};
 
 use crate::change::{Change, Edit};
@@ -18,9 +20,9 @@ use arrow_schema::{Schema, one_shape_is_decided, same_shape};
 use canonical_write::{encode_pieces, pieces_are_tables};
 use catalogue::{Catalogue, MAX_TABLES, counts_after_changes, is_name};
 use ipc_table::decode;
-use std::alloc::Global;
+use std::alloc::{AllocError, Global};
 use tables::{Limit, MAX_IMPORT_BYTES, NewTable, Refusal};
-use values::accepted_rows_are_a_table;
+use values::{Table, accepted_rows_are_a_table};
 
 fn has_table(catalogue: &Catalogue, name: &str) -> bool
     ensures has { result ≡ has_entry (catalogue_of catalogue.now) name.now }
@@ -97,7 +99,7 @@ pub(crate) fn test_shape(own: &Schema, new: &Schema) -> Result<(), Refusal>
     }
 }
 
-fn test_create(catalogue: &Catalogue, name: &str) -> Result<(), Refusal>
+pub(crate) fn test_create(catalogue: &Catalogue, name: &str) -> Result<(), Refusal>
     ensures test { Tests result (create_tests (catalogue_of catalogue.now) name.now) }
     ensures kept { IsCatalogue (catalogue_of catalogue.now) }
 {
@@ -130,6 +132,19 @@ fn change_of_names(alloc: Global, edit: Edit) -> Change
         streams: Vec::new(alloc),
         rows: Vec::new(alloc),
     }
+}
+
+// A table at a name: its pieces are the new segments.
+pub(crate) fn put_table(alloc: Global, name: String, table: &Table) -> Result<Change, AllocError>
+    ensures { IfOk result (λ change. IsPut (string_bytes name) (table_of table.now) (change_of change)) }
+{
+    let schema = table.schema().copy(alloc)?;
+    let pieces = encode_pieces(alloc, table.schema(), table)?;
+    Ok(Change {
+        edit: Edit::Put { name, schema },
+        streams: pieces.streams,
+        rows: pieces.rows,
+    })
 }
 
 // A table without rows.
@@ -173,13 +188,7 @@ pub(crate) fn decide_import(
     test_import(&name, &bytes)?;
     let table = decode(alloc, bytes)?;
     test_room(catalogue, &name)?;
-    let schema = table.schema().copy(alloc)?;
-    let pieces = encode_pieces(alloc, table.schema(), &table)?;
-    Ok(Change {
-        edit: Edit::Put { name, schema },
-        streams: pieces.streams,
-        rows: pieces.rows,
-    })
+    Ok(put_table(alloc, name, &table)?)
 }
 
 // The table under another name.

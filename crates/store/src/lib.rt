@@ -24,9 +24,11 @@ mod formatting;
 mod gathered;
 mod laws;
 mod listing;
+mod new_rows;
 mod opening_refusal;
 mod reading;
 mod running;
+mod saving;
 mod store;
 mod stored;
 

@@ -1,5 +1,5 @@
 // A table is read from the segments of its entry.
-ghost use Rattle.std.specs.Prelude.{◌≡◌, ◌≤◌, ℕ, true, List, [], Some, None, option_map, IfOk, IfErr, IfSome};
+ghost use Rattle.std.specs.Prelude.{◌≡◌, ◌≤◌, ◌+◌, ℕ, true, List, [], Some, None, length, option_map, sum_by, IfOk, IfErr, IfSome};
 ghost use Rattle.std.specs.List.{list_all};
 ghost use Rattle.sector_dev.specs.Disk.{now, shown_image};
 ghost use Rattle.arrow_schema.specs.Column.{PlainSchema};
@@ -8,10 +8,10 @@ ghost use Rattle.arrow_schema.specs.View.{schema_of};
 ghost use Rattle.values.specs.TableView.{table_of, is_in_parts};
 ghost use Rattle.cells.specs.Weight.{table_weight};
 ghost use Rattle.ipc_write.specs.Written.{schema_message};
-ghost use Rattle.catalogue.specs.Entries.{is_segment, is_entry, plain_entry};
+ghost use Rattle.catalogue.specs.Entries.{is_segment, is_entry, plain_entry, row_count};
 ghost use Rattle.commit.specs.Standing.{is_size, is_on_device, all_on_device};
-ghost use Rattle.store.specs.Held.{rows_in_bytes, segment_rows, joined_rows, rows_held, table_held};
-ghost use Rattle.store.specs.Reading.{Unreads, OnlyReadsDevice, ended};
+ghost use Rattle.store.specs.Held.{rows_in_bytes, segment_rows, joined_rows, rows_held};
+ghost use Rattle.store.specs.Reading.{IsRead, Unreads, OnlyReadsDevice, ended};
 ghost use Rattle.values.specs.Table.{IsTable};
 ghost use Rattle.store.specs.Calls.{is_failure};
 ghost use Rattle.store.specs.inner.Gathered.{gathered_table};
@@ -43,6 +43,7 @@ fn table_in_bytes(
     ensures schema { IfOk result (λ found. IfSome found (λ w. (s : PlainSchema) → IsWithinLimits s → front.now ≡ schema_message s
         → (table_of w.table).schema ≡ s)) }
     ensures weight { IfOk result (λ found. IfSome found (λ w. w.weight ≡ table_weight (table_of w.table).schema (table_of w.table).rows)) }
+    ensures count { IfOk result (λ found. IfSome found (λ w. length (table_of w.table).rows ≡ rows)) }
     ensures in_parts { IfOk result (λ found. IfSome found (λ w. is_in_parts w.table ≡ true)) }
     ensures memory { IfErr result (λ e. e ≡ Refusal.OutOfMemory) }
 {
@@ -79,6 +80,7 @@ fn read_segment<D: SectorDevice>(
     ensures schema { IfOk result (λ found. IfSome found (λ w. (s : PlainSchema) → IsWithinLimits s → front.now ≡ schema_message s
         → (table_of w.table).schema ≡ s)) }
     ensures weight { IfOk result (λ found. IfSome found (λ w. w.weight ≡ table_weight (table_of w.table).schema (table_of w.table).rows)) }
+    ensures count { IfOk result (λ found. IfSome found (λ w. length (table_of w.table).rows ≡ segment.rows)) }
     ensures in_parts { IfOk result (λ found. IfSome found (λ w. is_in_parts w.table ≡ true)) }
     ensures fails { IfErr result FailsReading }
 {
@@ -114,6 +116,7 @@ fn append_segment<D: SectorDevice>(
     ensures light { IfOk result (λ g. table_weight (gathered_table g).schema (gathered_table g).rows ≤ MAX_TABLE_WEIGHT) }
     ensures rows { IfOk result (λ g. D.tells ≡ true → Some (gathered_table g).rows ≡ joined_rows (Some (gathered_table gathered).rows)
         (segment_rows (gathered_table gathered).schema segment (shown_image (now (D.story device.old))))) }
+    ensures count { IfOk result (λ g. length (gathered_table g).rows ≡ length (gathered_table gathered).rows + segment.rows) }
     ensures unread { IfErr result (UnreadsSegment D.tells (shown_image (now (D.story device.old)))
         (gathered_table gathered).schema (gathered_table gathered).rows segment place) }
 {
@@ -144,6 +147,7 @@ fn read_segments<D: SectorDevice>(
     requires none { (gathered_table empty).rows ≡ [] }
     ensures reads { OnlyReadsDevice D.size D.story D.failed D.tells (ended result) device.old device.new }
     ensures schema { IfOk result (λ g. (gathered_table g).schema ≡ (gathered_table empty).schema) }
+    ensures count { IfOk result (λ g. length (gathered_table g).rows ≡ sum_by (λ s. s.rows) segments.now) }
     ensures rows { IfOk result (λ g. D.tells ≡ true
         → rows_held (gathered_table empty).schema segments.now (shown_image (now (D.story device.old))) ≡ Some (gathered_table g).rows) }
     ensures unread { IfErr result (λ e. (name : List ℕ) → Unreads D.tells (shown_image (now (D.story device.old)))
@@ -171,17 +175,13 @@ fn start_table(alloc: Global, schema: &Schema) -> Result<(Vec<u8>, Gathered), Al
     Ok((front, empty))
 }
 
-// The table of gathered rows, and that it is one.
+// The table of gathered rows.
 fn finish_table(alloc: Global, gathered: Gathered) -> Result<Table, Refusal>
     ensures table { IfOk result (λ t. table_of t ≡ gathered_table gathered) }
-    ensures kept { IfOk result (λ t. IsTable (table_of t)) }
     ensures memory { IfErr result (λ e. e ≡ Refusal.OutOfMemory) }
 {
     match gathered.finish(alloc) {
-        Ok(table) => {
-            table.schema();
-            Ok(table)
-        }
+        Ok(table) => Ok(table),
         Err(_) => Err(Refusal::OutOfMemory),
     }
 }
@@ -196,9 +196,7 @@ pub(crate) fn gather_entry<D: SectorDevice>(
     requires placed { all_on_device (D.size device.old) (runs_in (plain_entry entry.now).segments) ≡ true }
     requires sound { is_entry (plain_entry entry.now) ≡ true }
     ensures reads { OnlyReadsDevice D.size D.story D.failed D.tells (ended result) device.old device.new }
-    ensures schema { IfOk result (λ g. (gathered_table g).schema ≡ (plain_entry entry.now).schema) }
-    ensures table { IfOk result (λ g. D.tells ≡ true
-        → table_held (shown_image (now (D.story device.old))) (plain_entry entry.now) ≡ Some (gathered_table g)) }
+    ensures table { IfOk result (λ g. IsRead D.tells (shown_image (now (D.story device.old))) (plain_entry entry.now) (gathered_table g)) }
     ensures unread { IfErr result (Unreads D.tells (shown_image (now (D.story device.old))) (plain_entry entry.now)) }
 {
     accepted_rows_are_a_table();
@@ -215,7 +213,7 @@ pub(crate) fn gather_entry<D: SectorDevice>(
 }
 
 // The table of an entry.
-fn read_entry<D: SectorDevice>(
+pub(crate) fn read_entry<D: SectorDevice>(
     alloc: Global,
     device: &mut D,
     entry: &Entry,
@@ -224,8 +222,7 @@ fn read_entry<D: SectorDevice>(
     requires placed { all_on_device (D.size device.old) (runs_in (plain_entry entry.now).segments) ≡ true }
     requires sound { is_entry (plain_entry entry.now) ≡ true }
     ensures reads { OnlyReadsDevice D.size D.story D.failed D.tells (ended result) device.old device.new }
-    ensures table { IfOk result (λ t. D.tells ≡ true → table_held (shown_image (now (D.story device.old))) (plain_entry entry.now) ≡ Some (table_of t)) }
-    ensures kept { IfOk result (λ t. IsTable (table_of t)) }
+    ensures table { IfOk result (λ t. IsRead D.tells (shown_image (now (D.story device.old))) (plain_entry entry.now) (table_of t)) }
     ensures unread { IfErr result (Unreads D.tells (shown_image (now (D.story device.old))) (plain_entry entry.now)) }
 {
     match gather_entry(alloc, device, entry) {

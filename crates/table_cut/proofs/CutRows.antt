@@ -108,3 +108,8 @@ pieces_are_cut t table = is_cut (within_piece t.schema) t.rows (each_within t.sc
 
 pub no_other_cut : (t : PlainTable) (ps : List (List (List Cell))) → IsCut (within_piece t.schema) t.rows ps → ps ≡ pieces_of t
 no_other_cut t ps cut = only_cut (within_piece t.schema) t.rows ps (piece_of_fronts t.schema) cut
+
+pub next_piece : (s : PlainSchema) (piece rest : List (List Cell)) → piece ≢ [] → within_piece s piece ≡ true → HasNoRoom (within_piece s) piece rest
+    → pieces (within_piece s) (piece ++ rest) ≡ piece ∷ pieces (within_piece s) rest
+next_piece s [] rest some fits room = absurd (some refl)
+next_piece s (row ∷ rows) rest some fits room = filled (within_piece s) (row ∷ []) rows rest (piece_of_fronts s) fits room

@@ -1,5 +1,5 @@
 -- A dictionary whose indices have no limit takes any values.
-use Rattle.std.proofs.Common.{◌≡◌, ℕ, ◌+◌, true, false, List, map, refl, ◌∙◌}
+use Rattle.std.proofs.Common.{◌≡◌, ℕ, ◌+◌, Bool, true, false, List, map, refl, ◌∙◌}
 use Rattle.std.specs.Prelude.{Option, Some, None, is_some}
 use Rattle.std.specs.List.{list_all, flat_map}
 use Rattle.std.proofs.lemmas.Bool.{and_from, or_parts}
@@ -7,7 +7,11 @@ use Rattle.std.proofs.lemmas.List.Folds.{list_all-append}
 use Rattle.arrow_schema.specs.Column.{Index, Kind, Column, Columns, columns_of, lists, large_lists, fixed_lists, structs, column, no_column, and_column, PlainSchema}
 use Rattle.cells.specs.Cell.{Cell}
 use Rattle.cells.specs.Dictionary.{own_holding, entry_limit, is_within, has_few_entries, holdings, holdings_below, holdings_from, entries_of, item_list, part_list, cells_at, has_limit, is_limited, is_kind_limited, is_any_limited, dictionaries_fit}
-use Rattle.std.specs.Prelude.{length}
+use Rattle.std.specs.Prelude.{length, ◌&&◌}
+use Rattle.cells.specs.Weight.{row_weight}
+use Rattle.cells.specs.declared.limits.TheConstants.{MAX_PIECE_ROWS, MAX_PIECE_WEIGHT}
+use Rattle.table_cut.specs.Cut.{within_limits}
+use Rattle.table_cut.specs.Piece.{within_piece}
 
 within_no_limit : (o : Option ℕ) (n : ℕ) → is_some o ≡ false → is_within o n ≡ true
 within_no_limit None n h = refl
@@ -40,3 +44,10 @@ mutual
 
 pub unlimited_fit : (s : PlainSchema) (rows : List (List Cell)) → is_any_limited (columns_of s.columns) ≡ false → dictionaries_fit s rows ≡ true
 unlimited_fit s rows h = from_unlimited 0 (columns_of s.columns) rows h
+
+and_fits : (b : Bool) → (b && true) ≡ b
+and_fits true = refl
+and_fits false = refl
+
+pub unlimited_piece : (s : PlainSchema) (rows : List (List Cell)) → is_any_limited (columns_of s.columns) ≡ false → within_piece s rows ≡ within_limits (row_weight s) MAX_PIECE_ROWS MAX_PIECE_WEIGHT rows
+unlimited_piece s rows h = rw (unlimited_fit s rows h) (and_fits (within_limits (row_weight s) MAX_PIECE_ROWS MAX_PIECE_WEIGHT rows))

@@ -17,6 +17,6 @@ mod seen;
 mod unfit;
 mod weigh;
 
-pub use laws::pieces_are_the_cut;
+pub use laws::{longest_fronts_are_pieces, pieces_are_the_cut};
 pub use piece::next_piece;
 pub use unfit::first_unfit_row;

@@ -1,11 +1,10 @@
 -- Commands on tables as plain data.
-use Rattle.std.specs.Prelude.{◌≡◌, ℕ, List, [], ◌∷◌, Result, Ok}
+use Rattle.std.specs.Prelude.{ℕ, List, [], ◌∷◌}
 use Rattle.facts.specs.Bytes.{AreBytes}
 use Rattle.arrow_schema.specs.Column.{PlainSchema}
 use Rattle.arrow_schema.specs.Limits.{IsWithinLimits}
-use Rattle.cells.specs.Cell.{Cell, PlainTable}
-use Rattle.values.specs.Table.{IsTable}
-use Rattle.tables.specs.declared.refusal.QueryRefusal.{QueryRefusal}
+use Rattle.cells.specs.Cell.{Cell}
+use Rattle.query.specs.Query.{PlainQuery}
 
 -- names and streams are bytes
 pub data PlainCommand : Type 0 where
@@ -13,8 +12,7 @@ pub data PlainCommand : Type 0 where
   import_stream : (name : List ℕ) → (bytes : List ℕ) → PlainCommand
   append_stream : (name : List ℕ) → (bytes : List ℕ) → PlainCommand
   append_rows : (name : List ℕ) → List (List Cell) → PlainCommand
-  -- the query is what it makes of a table, or why it makes nothing of it
-  save_as : (from to : List ℕ) → (PlainTable → Result PlainTable QueryRefusal) → PlainCommand
+  save_as : (from to : List ℕ) → PlainQuery → PlainCommand
   rename : (from to : List ℕ) → PlainCommand
   drop_table : (name : List ℕ) → PlainCommand
 
@@ -28,13 +26,13 @@ changed_names (save_as from to query) = to ∷ []
 changed_names (rename from to) = from ∷ to ∷ []
 changed_names (drop_table name) = name ∷ []
 
--- what a command brings makes tables: a schema within the limits, bytes, a query that answers tables of tables
+-- what a command brings makes tables: a schema within the limits, bytes
 abbrev pub BringsTables : PlainCommand → Type 0
 BringsTables (create name schema) = IsWithinLimits schema
 BringsTables (import_stream name bytes) = AreBytes bytes
 BringsTables (append_stream name bytes) = Unit {0}
 BringsTables (append_rows name rows) = Unit {0}
-BringsTables (save_as from to query) = (table new : PlainTable) → IsTable table → query table ≡ Ok new → IsTable new
+BringsTables (save_as from to query) = Unit {0}
 BringsTables (rename from to) = Unit {0}
 BringsTables (drop_table name) = Unit {0}
 

@@ -4,6 +4,9 @@ use Rattle.std.specs.Fmt.{decimal}
 use Rattle.ipc_message.specs.FaultText.{fault_text}
 use Rattle.ipc_message.specs.declared.error.ImportError.{ImportError}
 use Rattle.ipc_message.specs.declared.error.ImportError.TheVariants as imports
+use Rattle.query.specs.Bound as bounds
+use Rattle.query.specs.declared.errors.QueryError.{QueryError}
+use Rattle.query.specs.declared.errors.QueryError.TheVariants as selects
 use Rattle.tables.specs.declared.refusal.Limit.{Limit}
 use Rattle.tables.specs.declared.refusal.Limit.TheVariants as limits
 use Rattle.tables.specs.declared.refusal.QueryRefusal.{QueryRefusal}
@@ -51,6 +54,19 @@ origin_of refusals.OutOfMemory = by_memory
 abbrev pub import_refusal : ImportError → Refusal
 import_refusal (imports.Fault fault) = refusals.Import fault
 import_refusal imports.OutOfMemory = refusals.OutOfMemory
+
+-- why a query makes nothing of a table, as it is told of a command
+abbrev pub query_refusal : bounds.Refusal → Refusal
+query_refusal bounds.unknown_column = refusals.Query queries.UnknownColumn
+query_refusal bounds.bad_condition = refusals.Query queries.BadCondition
+query_refusal bounds.not_comparable = refusals.Query queries.NotComparable
+
+-- how a selection that was not made is refused
+abbrev pub select_refusal : QueryError → Refusal
+select_refusal selects.UnknownColumn = refusals.Query queries.UnknownColumn
+select_refusal selects.BadCondition = refusals.Query queries.BadCondition
+select_refusal selects.NotComparable = refusals.Query queries.NotComparable
+select_refusal selects.OutOfMemory = refusals.OutOfMemory
 
 abbrev pub limit_text : Limit → List ℕ
 limit_text limits.Tables = codes "Tables"

@@ -10,11 +10,14 @@ use Rattle.values.specs.Table.{first_unfit}
 use Rattle.ipc_message.specs.declared.fault.Fault.{Fault}
 use Rattle.ipc_message.specs.Header.{supported_codes}
 use Rattle.ipc_table.specs.Meaning.{meaning}
+use Rattle.query.specs.Bound as queries
+use Rattle.query.specs.Query.{PlainQuery}
+use Rattle.query.specs.Selection.{selection}
 use Rattle.tables.specs.declared.limits.TheConstants.{MAX_IMPORT_BYTES}
 use Rattle.tables.specs.declared.refusal.Limit.TheVariants as limits
-use Rattle.tables.specs.declared.refusal.QueryRefusal.{QueryRefusal}
 use Rattle.tables.specs.declared.refusal.Refusal.{Refusal}
-use Rattle.tables.specs.declared.refusal.Refusal.TheVariants.{NoTable, NameTaken, BadName, SchemaMismatch, Import, RowUnfit, TooMany, Query}
+use Rattle.tables.specs.declared.refusal.Refusal.TheVariants.{NoTable, NameTaken, BadName, SchemaMismatch, Import, RowUnfit, TooMany}
+use Rattle.tables.specs.Refusals.{query_refusal}
 use Rattle.catalogue.specs.declared.limits.TheConstants.{MAX_TABLES}
 use Rattle.catalogue.specs.Entries.{is_name}
 use Rattle.tables.specs.Tables.{Tables, table_at, has_table, with_table, without_table, table_count}
@@ -57,9 +60,9 @@ abbrev pub of_meaning : {A : Type 0} → Result PlainTable Fault → (PlainTable
 of_meaning (Err fault) f = Err (Import fault)
 of_meaning (Ok table) f = f table
 
--- the table that a query makes
-abbrev pub of_query : {A : Type 0} → Result PlainTable QueryRefusal → (PlainTable → Result A Refusal) → Result A Refusal
-of_query (Err refusal) f = Err (Query refusal)
+-- the table that a query makes of another
+abbrev pub of_query : {A : Type 0} → Result PlainTable queries.Refusal → (PlainTable → Result A Refusal) → Result A Refusal
+of_query (Err refusal) f = Err (query_refusal refusal)
 of_query (Ok table) f = f table
 
 -- ---- effects
@@ -90,8 +93,8 @@ appended_table t name table new = unless (other_shape table.schema new.schema) (
 abbrev pub appended_stream : Tables → List ℕ → List ℕ → PlainTable → Result Tables Refusal
 appended_stream t name bytes table = unless (too_many_bytes bytes) (of_meaning (meaning supported_codes bytes) (appended_table t name table))
 
-abbrev pub saved : Tables → List ℕ → (PlainTable → Result PlainTable QueryRefusal) → PlainTable → Result Tables Refusal
-saved t to query table = of_query (query table) (made t to)
+abbrev pub saved : Tables → List ℕ → PlainQuery → PlainTable → Result Tables Refusal
+saved t to query table = of_query (selection table query) (made t to)
 
 abbrev pub renamed : Tables → List ℕ → List ℕ → PlainTable → Result Tables Refusal
 renamed t from to table = unless (first_some (bad_name to ∷ name_taken t to ∷ [])) (Ok (with_table (without_table t from) to table))

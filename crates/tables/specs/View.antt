@@ -1,13 +1,17 @@
 -- The plain command that a command of the code is.
-use Rattle.std.specs.Prelude.{string_bytes}
+use Rattle.std.specs.Prelude.{map, string_bytes}
 use Rattle.arrow_schema.specs.View.{schema_of}
+use Rattle.cells.specs.Row.{row_of}
+use Rattle.query.specs.View.{query_in}
 use Rattle.tables.specs.declared.command.Command.{Command}
-use Rattle.tables.specs.declared.command.Command.TheVariants.{Create, ImportStream, AppendStream, Rename, Drop}
-use Rattle.tables.specs.Commands.{PlainCommand, create, import_stream, append_stream, rename, drop_table}
+use Rattle.tables.specs.declared.command.Command.TheVariants.{Create, ImportStream, AppendStream, AppendRows, SaveAs, Rename, Drop}
+use Rattle.tables.specs.Commands.{PlainCommand, create, import_stream, append_stream, append_rows, save_as, rename, drop_table}
 
 abbrev pub command_of : Command → PlainCommand
 command_of (Create new) = create (string_bytes new.name) (schema_of new.schema)
 command_of (ImportStream name bytes) = import_stream (string_bytes name) bytes.items
 command_of (AppendStream name bytes) = append_stream (string_bytes name) bytes.items
+command_of (AppendRows name rows) = append_rows (string_bytes name) (map row_of rows.items)
+command_of (SaveAs from to query) = save_as (string_bytes from) (string_bytes to) (query_in query)
 command_of (Rename from to) = rename (string_bytes from) (string_bytes to)
 command_of (Drop name) = drop_table (string_bytes name)

@@ -2,6 +2,7 @@
 ghost use Rattle.std.specs.Prelude.{◌≡◌, ◌≢◌, ℕ, ◌+◌, List, [], ◌∷◌, ◌++◌, Option, Some, None, Result, Ok, Err, IfOk, codes};
 ghost use Rattle.std.specs.List.{Contains};
 ghost use Rattle.arrow_schema.specs.Column.{PlainSchema};
+ghost use Rattle.facts.specs.Bytes.{AreBytes};
 ghost use Rattle.cells.specs.Cell.{Cell, PlainTable};
 ghost use Rattle.cells.specs.Weight.{table_weight};
 ghost use Rattle.tables.specs.declared.refusal.Refusal.{Refusal};
@@ -10,8 +11,11 @@ ghost use Rattle.tables.specs.Tables.{Tables, no_tables, table_at, with_table, w
 ghost use Rattle.tables.specs.Commands.{PlainCommand, create, append_rows, rename, drop_table, changed_names, BringsTables, BringTables};
 ghost use Rattle.tables.specs.Verdict.{verdict, step, after, joined, empty_table};
 ghost use Rattle.tables.specs.Refusals.{origin_of, by_tables};
+ghost use Rattle.tables.specs.View.{command_of};
 
+use crate::command::Command;
 use ipc_table::meaning_is_a_table;
+use query::selection_is_a_table;
 use values::{accepted_rows_are_a_table, tables_are_joined_and_cut};
 
 /// A command that is refused leaves the tables as they are.
@@ -45,8 +49,24 @@ pub fn tables_stay_tables()
     ensures all { (t : Tables) (cs : List PlainCommand) → AreTables t → BringTables cs → AreTables (after t cs) }
 {
     meaning_is_a_table();
+    selection_is_a_table();
     accepted_rows_are_a_table();
     tables_are_joined_and_cut();
+}
+
+// A byte is below 256: a contract knows it of a slice that it is given.
+fn are_bytes(bytes: &[u8])
+    ensures { AreBytes bytes.now }
+{}
+
+/// A command of the code brings tables: its schema is within the limits, and its stream is of bytes.
+pub fn commands_bring_tables(command: &Command)
+    ensures { BringsTables (command_of command.now) }
+{
+    match command {
+        Command::ImportStream { bytes, .. } => are_bytes(bytes),
+        _ => {}
+    }
 }
 
 /// Rows that are appended stand behind those of the table, all of them, and a table is found at the name that it was given.

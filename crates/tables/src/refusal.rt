@@ -1,5 +1,6 @@
 // Why a call of an open store is refused.
 use ipc_message::{Fault, ImportError};
+use query::QueryError;
 use std::alloc::{AllocError, AllocFailed};
 
 /// A limit that would be passed.
@@ -102,6 +103,23 @@ impl From<ImportError> for Refusal {
         match error {
             ImportError::Fault(fault) => Refusal::Import(fault),
             ImportError::OutOfMemory => Refusal::OutOfMemory,
+        }
+    }
+}
+
+/// A query that makes nothing of a table is refused by its reason.
+impl From<QueryError> for Refusal {
+    ghost use Rattle.std.specs.Prelude.{◌≡◌};
+    ghost use Rattle.tables.specs.Refusals.{select_refusal};
+
+    ghost from_gives = { λ e r. r ≡ select_refusal e };
+
+    fn from(error: QueryError) -> Self {
+        match error {
+            QueryError::UnknownColumn => Refusal::Query(QueryRefusal::UnknownColumn),
+            QueryError::BadCondition => Refusal::Query(QueryRefusal::BadCondition),
+            QueryError::NotComparable => Refusal::Query(QueryRefusal::NotComparable),
+            QueryError::OutOfMemory => Refusal::OutOfMemory,
         }
     }
 }

@@ -19,6 +19,8 @@ mod messages;
 #[cfg(test)]
 mod program;
 #[cfg(test)]
+mod read_streams;
+#[cfg(test)]
 mod rows;
 #[cfg(test)]
 mod schemas;
@@ -28,5 +30,3 @@ mod stream_bytes;
 mod streams;
 #[cfg(test)]
 mod table_calls;
-#[cfg(test)]
-mod table_streams;

@@ -1,6 +1,7 @@
 // Schemas, values and tables, made from texts, and values as texts.
 use arrow_schema::{ParseError, Schema, parse_fields};
 use std::alloc::{AllocError, AllocFailed, Global};
+use std::fmt::Write;
 use std::num::ParseIntError;
 use std::process::Abort;
 use values::{Row, Table, TableError, Value, ValueRef, Values};
@@ -207,23 +208,36 @@ fn flat_text_of(alloc: Global, value: ValueRef<'_>) -> Result<String, AllocError
     }
 }
 
+// Adds a byte behind the others.
+fn add_byte(text: &mut String, byte: u8) -> Result<(), AllocError> {
+    if text.len() > 1 {
+        text.push(' ')?;
+    }
+    write!(text, "{byte}")
+}
+
 fn text_of_bytes(alloc: Global, bytes: &[u8]) -> Result<String, AllocError> {
     let mut text = String::from_str(alloc, "#")?;
     for byte in bytes {
-        if text.len() > 1 {
-            text.push(' ')?;
-        }
-        let number = format!(in alloc; "{byte}")?;
-        text.push_str(&number)?;
+        add_byte(&mut text, *byte)?;
     }
     Ok(text)
 }
 
+fn add_list(text: &mut String, size: u32) -> Result<(), AllocError> {
+    write!(text, "fixed_list({size},")
+}
+
 /// The text of a nullable field: nulls below so many levels of fixed lists, of this size but for the outermost.
 pub fn nested(alloc: Global, outermost: u32, size: u32, levels: u32) -> Result<String, AllocError> {
-    let mut below = String::from_str(alloc, "null?")?;
+    let mut text = String::from_str(alloc, "a:")?;
+    add_list(&mut text, outermost)?;
     for _ in 1..levels {
-        below = format!(in alloc; "fixed_list({size},{below})?")?;
+        add_list(&mut text, size)?;
     }
-    format!(in alloc; "a:fixed_list({outermost},{below})?")
+    text.push_str("null?")?;
+    for _ in 0..levels {
+        text.push_str(")?")?;
+    }
+    Ok(text)
 }

@@ -1,12 +1,14 @@
 // Commands, one after another: what is answered, and what the device holds then.
-use crate::inputs::{INT, Input};
+use crate::inputs::{Cell, INT, Input};
 use crate::made::{NotMade, assert_no_step};
 use crate::playing::{Slot, WAYS, Way, new_slot, play, shut};
 use crate::shown::layout;
 use crate::steps::{Step, Steps};
+use Cell::{Null, Number, Text};
 use Input::{Changed, Column, First, Front, Ints};
 use Step::{
-    Append, Close, Create, Export, Format, Import, Open, Read, Remove, Rename, Schema, Tables,
+    Append, Close, Create, Export, Format, Give, Import, Open, Read, Remove, Rename, Save, Schema,
+    Tables,
 };
 use sector_dev::ModelDevice;
 use std::alloc::Global;
@@ -316,6 +318,29 @@ const REFUSED: &[Row] = &[
             (Format, "ok"),
             (Create("t", INT), "ok"),
             (Create("u", INT), "ok"),
+            // a row that has too many cells, another value, or too great a one
+            (Give("v", &[&[Text("x")]]), "S1 NoTable"),
+            (Give("t", &[&[Number(1)], &[]]), "S6 RowUnfit 1"),
+            (
+                Give("t", &[&[Null], &[Number(1)], &[Text("x")], &[]]),
+                "S6 RowUnfit 2",
+            ),
+            (Save("v", "a b", (&["b"], &[], None)), "S1 NoTable"),
+            (
+                Save("t", "a b", (&["b"], &["a = x"], None)),
+                "S12 Query Q1 UnknownColumn",
+            ),
+            (
+                Save("t", "a b", (&["a", "a"], &[], None)),
+                "S12 Query Q1 UnknownColumn",
+            ),
+            (
+                Save("t", "a b", (&[], &["a = x"], None)),
+                "S12 Query Q2 BadCondition",
+            ),
+            (Save("t", "a b", (&[], &[], None)), "S3 BadName"),
+            (Save("t", "u", (&[], &[], None)), "S2 NameTaken"),
+            (Save("t", "t", (&[], &[], None)), "S2 NameTaken"),
             (Rename("v", "a b"), "S1 NoTable"),
             (Rename("t", "a b"), "S3 BadName"),
             (Rename("t", "u"), "S2 NameTaken"),
@@ -344,6 +369,8 @@ const REFUSED: &[Row] = &[
             (Close, "ok"),
             (Import("a b", Front(0)), "S10 Halted"),
             (Append("t", Front(0)), "S10 Halted"),
+            (Give("t", &[]), "S10 Halted"),
+            (Save("t", "a b", (&[], &[], None)), "S10 Halted"),
             (Rename("t", "a b"), "S10 Halted"),
             (Remove("t"), "S10 Halted"),
             (Open, "ok"),
@@ -390,6 +417,59 @@ const READ: &[Row] = &[
             (Read("t"), "\"a\":int32?:"),
         ],
         "epoch 4, 366 in 5, t:, u: 3+1",
+    ),
+    // Rows that are given stand behind those of the table, also none.
+    (
+        16,
+        &[
+            (Format, "ok"),
+            (Import("t", TWO), "ok"),
+            (Give("t", &[&[Number(5)], &[Null]]), "ok"),
+            (Read("t"), "\"a\":int32?: 7 -1 5 null"),
+            (Give("t", &[]), "ok"),
+            (Tables, "t 4"),
+        ],
+        "epoch 4, 233 in 4, t: 3+1 2+1",
+    ),
+    // A query that is saved is a table of its own: what becomes of the other one does not change it.
+    (
+        16,
+        &[
+            (Format, "ok"),
+            (Import("t", Ints(&[3, 1, 2, 5])), "ok"),
+            (Save("t", "w", (&[], &["a >= 2"], Some(2))), "ok"),
+            (Give("t", &[&[Number(9)]]), "ok"),
+            (Read("w"), "\"a\":int32?: 3 2"),
+            (Read("t"), "\"a\":int32?: 3 1 2 5 9"),
+        ],
+        "epoch 4, 430 in 6, t: 3+1 4+1, w: 2+1",
+    ),
+    (
+        16,
+        &[
+            (Format, "ok"),
+            (Create("t", &["a:int32?", "s:utf8"]), "ok"),
+            (
+                Give(
+                    "t",
+                    &[
+                        &[Number(1), Text("x")],
+                        &[Null, Text("")],
+                        &[Number(3), Text("y")],
+                    ],
+                ),
+                "ok",
+            ),
+            (Save("t", "w", (&["s", "a"], &["a >= 1"], None)), "ok"),
+            (Save("t", "v", (&[], &[], Some(0))), "ok"),
+            (Read("w"), "\"s\":utf8, \"a\":int32?: x/1 y/3"),
+            (Read("v"), "\"a\":int32?, \"s\":utf8:"),
+            (Read("t"), "\"a\":int32?, \"s\":utf8: 1/x null/ 3/y"),
+            (Remove("w"), "ok"),
+            (Remove("v"), "ok"),
+            (Remove("t"), "ok"),
+        ],
+        "epoch 8, 4 in 4",
     ),
 ];
 

@@ -7,10 +7,46 @@ use crate::made::NotMade;
 use arrow_schema::{Schema, parse_fields};
 use canonical_write::encode;
 use std::alloc::{AllocError, Global};
-use values::{Table, Value};
+use values::{Row, Table, Value};
 
 /// One column, as most tests have it.
 pub const INT: &[&str] = &["a:int32?"];
+
+/// A cell of a row that is given.
+#[derive(Clone, Copy)]
+pub enum Cell {
+    Null,
+    Number(i32),
+    Text(&'static str),
+}
+
+/// Rows that are given.
+pub type Given = &'static [&'static [Cell]];
+
+fn value_of(alloc: Global, cell: Cell) -> Result<Value, AllocError> {
+    match cell {
+        Cell::Null => Ok(Value::Null),
+        Cell::Number(number) => Ok(Value::Int(i128::from(number))),
+        Cell::Text(text) => Ok(Value::Text(String::from_str(alloc, text)?)),
+    }
+}
+
+fn row_of(alloc: Global, cells: &[Cell]) -> Result<Row, AllocError> {
+    let mut row = Vec::with_capacity(alloc, cells.len())?;
+    for cell in cells {
+        row.push(value_of(alloc, *cell)?)?;
+    }
+    Ok(Row { cells: row })
+}
+
+/// Rows of these cells.
+pub fn rows_of(alloc: Global, given: &[&[Cell]]) -> Result<Vec<Row>, AllocError> {
+    let mut rows = Vec::with_capacity(alloc, given.len())?;
+    for cells in given {
+        rows.push(row_of(alloc, cells)?)?;
+    }
+    Ok(rows)
+}
 
 /// A stream.
 #[derive(Clone, Copy)]

@@ -4,7 +4,7 @@ use crate::made::{NotMade, assert_no_row};
 use crate::playing::{Slot, Way, answer, is_played, new_slot, play};
 use crate::steps::{Step, Steps, creation, says};
 use Input::{Front, Ints, NoColumns};
-use Step::{Append, Create, Format, Import, Remove, Rename, Tables};
+use Step::{Append, Create, Format, Give, Import, Remove, Rename, Save, Tables};
 use std::alloc::Global;
 use store::Call;
 
@@ -37,6 +37,7 @@ const FULL: Steps = &[
     (Import("t", Ints(&[7])), "S7 TooMany Tables"),
     (Import("t0", Ints(&[7])), "ok"),
     (Append("t0", Ints(&[7])), "ok"),
+    (Save("t0", "t", (&[], &[], None)), "S7 TooMany Tables"),
     (Rename("t0", "t"), "ok"),
     (Remove("t"), "ok"),
     (Create("u", INT), "ok"),
@@ -68,9 +69,10 @@ const HEAVY: Steps = &[
     (Tables, "t 268435456, u 0"),
     (Append("t", NoColumns(1)), "S7 TooMany Weight"),
     (Append("u", NoColumns(1)), "S7 TooMany Segments"),
+    (Give("u", &[&[]]), "S7 TooMany Segments"),
     (Import("v", NoColumns(1)), "S7 TooMany Segments"),
     (Append("u", NoColumns(0)), "ok"),
-    (Import("t", NoColumns(268_431_360)), "S8 NoRoom 1"),
+    (Import("u", NoColumns(53_248_000)), "S7 TooMany Segments"),
     (Remove("t"), "ok"),
     (Append("u", NoColumns(1)), "ok"),
     (Tables, "u 1"),

@@ -1,5 +1,6 @@
 // What the tests have in common.
 use arrow_schema::ParseError;
+use query::QueryError;
 use std::alloc::{AllocError, AllocFailed};
 use std::process::Abort;
 
@@ -31,6 +32,12 @@ impl<T: Drop> From<AllocFailed<T>> for NotMade {
 
 impl From<ParseError> for NotMade {
     fn from(_: ParseError) -> Self {
+        NotMade
+    }
+}
+
+impl From<QueryError> for NotMade {
+    fn from(_: QueryError) -> Self {
         NotMade
     }
 }

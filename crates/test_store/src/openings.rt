@@ -77,8 +77,8 @@ fn played(alloc: Global, slot: &mut Slot, steps: Steps) -> Result<ModelDevice, N
     shut(slot)
 }
 
-// The device after these steps.
-fn device_after(alloc: Global, steps: Steps) -> Result<ModelDevice, NotMade> {
+/// The device of 16 sectors after these steps.
+pub fn device_after(alloc: Global, steps: Steps) -> Result<ModelDevice, NotMade> {
     played(alloc, &mut new_slot(alloc, 16)?, steps)
 }
 

@@ -34,14 +34,13 @@ fn is_part(entry: &Entry, segment: Segment, table: &Table) -> bool {
 
 // Adds the values of a segment of a table.
 fn add_segment(
-    alloc: Global,
     text: &mut String,
     entry: &Entry,
     segment: Segment,
     table: Table,
 ) -> Result<(), NotMade> {
     if is_part(entry, segment, &table) {
-        add_values(alloc, text, &table)
+        add_values(text, &table)
     } else {
         Err(NotMade)
     }
@@ -53,7 +52,7 @@ fn values_of(alloc: Global, device: &mut ModelDevice, entry: &Entry) -> Result<S
     let mut text = format!(in alloc; "{name}:")?;
     for segment in &entry.segments {
         let table = table_at(alloc, device, *segment)?;
-        add_segment(alloc, &mut text, entry, *segment, table)?;
+        add_segment(&mut text, entry, *segment, table)?;
     }
     Ok(text)
 }

@@ -1,13 +1,14 @@
 // Calls of a place as data, and replies as texts.
-use crate::inputs::{Input, bytes_of, new_schema};
+use crate::inputs::{Given, Input, bytes_of, new_schema, rows_of};
 use crate::made::NotMade;
 use arrow_schema::{Schema, field_text};
 use canonical_write::encode;
 use ipc_table::decode;
+use query::{Condition, Query};
 use std::alloc::Global;
 use store::{Call, Reply};
 use tables::{Command, NewTable};
-use values::{Table, ValueRef};
+use values::{Table, ValueRef, Values};
 
 /// A call.
 #[derive(Clone, Copy)]
@@ -18,6 +19,8 @@ pub enum Step {
     Create(&'static str, &'static [&'static str]),
     Import(&'static str, Input),
     Append(&'static str, Input),
+    Give(&'static str, Given),
+    Save(&'static str, &'static str, Asked),
     Rename(&'static str, &'static str),
     Remove(&'static str),
     Tables,
@@ -25,6 +28,13 @@ pub enum Step {
     Read(&'static str),
     Export(&'static str),
 }
+
+/// The columns, the conditions and the limit of a query.
+pub type Asked = (
+    &'static [&'static str],
+    &'static [&'static str],
+    Option<u64>,
+);
 
 /// Calls, and what is to come of each.
 pub type Steps = &'static [(Step, &'static str)];
@@ -48,6 +58,43 @@ fn append(alloc: Global, name: &str, input: Input) -> Result<Command, NotMade> {
     Ok(Command::AppendStream { name, bytes })
 }
 
+fn gift(alloc: Global, name: &str, given: Given) -> Result<Command, NotMade> {
+    let rows = rows_of(alloc, given)?;
+    let name = String::from_str(alloc, name)?;
+    Ok(Command::AppendRows { name, rows })
+}
+
+fn texts(alloc: Global, all: &[&str]) -> Result<Vec<String>, NotMade> {
+    let mut texts = Vec::with_capacity(alloc, all.len())?;
+    for text in all {
+        texts.push(String::from_str(alloc, text)?)?;
+    }
+    Ok(texts)
+}
+
+fn conditions(alloc: Global, all: &[&str]) -> Result<Vec<Condition>, NotMade> {
+    let mut conditions = Vec::with_capacity(alloc, all.len())?;
+    for text in all {
+        conditions.push(Condition::parse(alloc, text)?)?;
+    }
+    Ok(conditions)
+}
+
+fn query(alloc: Global, asked: Asked) -> Result<Query, NotMade> {
+    Ok(Query {
+        columns: texts(alloc, asked.0)?,
+        conditions: conditions(alloc, asked.1)?,
+        limit: asked.2,
+    })
+}
+
+fn saving(alloc: Global, from: &str, to: &str, asked: Asked) -> Result<Command, NotMade> {
+    let query = query(alloc, asked)?;
+    let from = String::from_str(alloc, from)?;
+    let to = String::from_str(alloc, to)?;
+    Ok(Command::SaveAs { from, to, query })
+}
+
 fn renaming(alloc: Global, from: &str, to: &str) -> Result<Command, NotMade> {
     let from = String::from_str(alloc, from)?;
     let to = String::from_str(alloc, to)?;
@@ -63,6 +110,8 @@ pub fn call_of(alloc: Global, step: Step) -> Result<Call, NotMade> {
         Step::Create(name, columns) => Call::Apply(creation(alloc, name, columns)?),
         Step::Import(name, input) => Call::Apply(import(alloc, name, input)?),
         Step::Append(name, input) => Call::Apply(append(alloc, name, input)?),
+        Step::Give(name, given) => Call::Apply(gift(alloc, name, given)?),
+        Step::Save(from, to, asked) => Call::Apply(saving(alloc, from, to, asked)?),
         Step::Rename(from, to) => Call::Apply(renaming(alloc, from, to)?),
         Step::Remove(name) => Call::Apply(Command::Drop {
             name: String::from_str(alloc, name)?,
@@ -100,22 +149,39 @@ fn schema_text(alloc: Global, schema: &Schema) -> Result<String, NotMade> {
     Ok(all)
 }
 
-/// Adds the values of a table of one column.
-pub fn add_values(alloc: Global, text: &mut String, table: &Table) -> Result<(), NotMade> {
-    for row in table.rows() {
-        let Some(ValueRef::Int(value)) = row.get(0) else {
-            return Err(NotMade);
-        };
-        text.push_str(&format!(in alloc; " {value}")?)?;
+fn add_value(text: &mut String, value: ValueRef<'_>) -> Result<(), NotMade> {
+    match value {
+        ValueRef::Null => Ok(text.push_str("null")?),
+        ValueRef::Int(number) => Ok(write!(text, "{number}")?),
+        ValueRef::Text(own) => Ok(text.push_str(own)?),
+        _ => Err(NotMade),
+    }
+}
+
+// As ` 7` of a row of one column, and ` 7/x` of one of two.
+fn add_row(text: &mut String, row: Values<'_>) -> Result<(), NotMade> {
+    let mut first = true;
+    for value in row.iter() {
+        text.push_str(if first { " " } else { "/" })?;
+        add_value(text, value)?;
+        first = false;
     }
     Ok(())
 }
 
-// As `"a":int32?: 7 -1`, of a table of one column.
+/// Adds the values of a table, row after row.
+pub fn add_values(text: &mut String, table: &Table) -> Result<(), NotMade> {
+    for row in table.rows() {
+        add_row(text, row)?;
+    }
+    Ok(())
+}
+
+// As `"a":int32?: 7 -1`.
 fn table_text(alloc: Global, table: &Table) -> Result<String, NotMade> {
     let mut text = schema_text(alloc, table.schema())?;
     text.push_str(":")?;
-    add_values(alloc, &mut text, table)?;
+    add_values(&mut text, table)?;
     Ok(text)
 }
 

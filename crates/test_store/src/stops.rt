@@ -1,12 +1,14 @@
 // Each call of the device fails, or stops, in turn: opened again it has the tables of what was acknowledged, or with the
 // command in flight, and goes on.
-use crate::inputs::{INT, Input};
+use crate::inputs::{Cell, INT, Input};
 use crate::made::{NotMade, assert_no_row};
 use crate::playing::{Slot, Way, is_played, play, replies_of, shut};
 use crate::shown::contents;
 use crate::steps::{Step, Steps, says};
 use Input::Ints;
-use Step::{Append, Close, Create, Export, Format, Import, Open, Read, Remove, Rename, Tables};
+use Step::{
+    Append, Close, Create, Export, Format, Give, Import, Open, Read, Remove, Rename, Save, Tables,
+};
 use sector_dev::{Choice, ModelDevice};
 use std::alloc::Global;
 use store::{Place, Reply};
@@ -17,10 +19,11 @@ pub const SCRIPT: Steps = &[
     (Import("t", Ints(&[7, -1])), "ok"),
     (Create("u", INT), "ok"),
     (Append("u", Ints(&[5])), "ok"),
-    (Append("t", Ints(&[4])), "ok"),
+    (Give("t", &[&[Cell::Number(4)]]), "ok"),
     (Import("t", Ints(&[1, 2, 3])), "ok"),
     (Rename("u", "s"), "ok"),
     (Remove("t"), "ok"),
+    (Save("s", "w", (&[], &[], None)), "ok"),
 ];
 
 const OPENING: Steps = &[(Open, "ok")];
@@ -36,11 +39,12 @@ const STATES: &[&str] = &[
     "t: 1 2 3, u: 5",
     "s: 5, t: 1 2 3",
     "s: 5",
+    "s: 5, w: 5",
 ];
 
 // How many writes and syncs were made after each step: two sectors and their syncs, the commit and its sync, and before them
 // in a formatting one more sync and one more sector.
-const CALLS: &[u64] = &[6, 11, 15, 20, 25, 30, 34, 38];
+const CALLS: &[u64] = &[6, 11, 15, 20, 25, 30, 34, 38, 43];
 
 // What a stop leaves of the sectors that are not yet synced.
 const CHOICES: &[Choice] = &[
@@ -84,8 +88,8 @@ fn faulty(alloc: Global, faults: &[Fault]) -> Result<Slot, NotMade> {
     Ok(Some(Place::Shut(device)))
 }
 
-// Whether the first reply is of a device that failed, and each other one of a store that is not open any more.
-fn are_refused(alloc: Global, replies: &[Reply]) -> Result<bool, NotMade> {
+/// Whether the first reply is of a device that failed, and each other one of a store that is not open any more.
+pub fn are_refused(alloc: Global, replies: &[Reply]) -> Result<bool, NotMade> {
     let [first, rest @ ..] = replies else {
         return Ok(true);
     };
@@ -139,7 +143,7 @@ fn goes_on(alloc: Global, slot: &mut Slot, from: usize) -> Result<bool, NotMade>
     if from > 0 && !is_played(alloc, slot, OPENING)? || !is_played(alloc, slot, rest)? {
         return Ok(false);
     }
-    has(alloc, shut(slot)?, "s: 5")
+    has(alloc, shut(slot)?, "s: 5, w: 5")
 }
 
 // How many steps were taken, of which so many were acknowledged.
@@ -219,7 +223,7 @@ fn survives(alloc: Global, fault: Fault, way: Way) -> Result<bool, NotMade> {
 
 // The first call after whose failure, or stop, something is wrong.
 fn wrong_call(alloc: Global, way: Way) -> Result<Option<usize>, NotMade> {
-    for k in 1..=39u64 {
+    for k in 1..=44u64 {
         if !survives(alloc, Fault::Fail(k), way)? || !survives(alloc, Fault::Stop(k), way)? {
             return Ok(Some(k as usize));
         }

@@ -12,7 +12,7 @@ use store::{OpeningRefusal, Reply};
 use tables::Refusal;
 
 // Where the store keeps what after the script.
-const LAYOUT: &str = "epoch 8, 201 in 3, s: 4+1";
+const LAYOUT: &str = "epoch 9, 398 in 5, s: 4+1, w: 2+1";
 
 fn wants_memory(reply: &Reply) -> bool {
     match reply {

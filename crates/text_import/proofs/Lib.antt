@@ -2,3 +2,5 @@ pub mod NumberLemmas
 pub mod RecordLemmas
 pub mod RowLemmas
 pub mod ObjectLemmas
+pub mod FittingCells
+pub mod AcceptedRows

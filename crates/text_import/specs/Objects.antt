@@ -14,7 +14,7 @@ use Rattle.text_import.specs.declared.refusal.Refusal.{Refusal}
 use Rattle.text_import.specs.declared.refusal.Refusal.TheVariants.{Width, NotUtf8, NotANumber, NotABool, NullMismatch, Json, UnknownName, MissingName, AmbiguousNames, WrongKind}
 use Rattle.text_import.specs.declared.refusal.Refused.{Refused}
 use Rattle.text_import.specs.Refusals.{and_then, given}
-use Rattle.text_import.specs.Flat.{number_cell, hex_cell}
+use Rattle.text_import.specs.Flat.{fitting, number_cell, hex_cell}
 use Rattle.text_import.specs.Rows.{accepted, rows_from}
 
 abbrev pub item_count : Items → ℕ
@@ -34,8 +34,9 @@ abbrev pub number_in : Kind → Data → Result Cell Refusal
 number_in kind (json.number n) = number_cell kind (as_integer n)
 number_in kind _ = Err NotANumber
 
+-- a text of a line that is UTF-8 is UTF-8 too
 abbrev pub text_in : Data → Result Cell Refusal
-text_in (json.string t) = Ok (text t)
+text_in (json.string t) = fitting texts NotUtf8 (text t)
 text_in _ = Err WrongKind
 
 abbrev pub bytes_in : Kind → Data → Result Cell Refusal

@@ -1,5 +1,5 @@
 // Numbers, and cells of the types without parts.
-ghost use Rattle.std.specs.Prelude.{◌≡◌, pos, neg_ℤ, true, false, option_map};
+ghost use Rattle.std.specs.Prelude.{◌≡◌, pos, neg_ℤ, true, false, option_map, IfOk};
 ghost use Rattle.arrow_schema.specs.Column as kinds;
 ghost use Rattle.arrow_schema.specs.Parts.{kind_of_column};
 ghost use Rattle.arrow_schema.specs.View.{column_of};
@@ -18,7 +18,7 @@ use crate::texts::text_of;
 use arrow_schema::{DataType, Field};
 use cells::{Value, fits};
 use hex::FromHexError;
-use std::alloc::Global;
+use std::alloc::{AllocError, Global};
 
 // No integer type holds a number of this size.
 const TOO_LARGE: u128 = 1 << 64;
@@ -115,12 +115,26 @@ fn boolean_cell(text: &[u8]) -> Result<Value, CellError>
     }
 }
 
+fn copy_text(alloc: Global, text: &str) -> Result<Value, AllocError>
+    ensures { IfOk result (λ value. cell value ≡ plain.text text.now) }
+{
+    Ok(Value::Text(String::from_str(alloc, text)?))
+}
+
+// A text is UTF-8 by its type.
+pub(crate) fn own_text(alloc: Global, text: &str) -> Result<Value, CellError>
+    ensures { Gives refusal_of cell result (fitting kinds.texts NotUtf8 (plain.text text.now)) }
+{
+    let value = copy_text(alloc, text)?;
+    Ok(value)
+}
+
 #[tactic(auto, unfolding(cells::specs::Fit::fits_kind))]
 fn text_cell(alloc: Global, text: &[u8]) -> Result<Value, CellError>
     ensures { Gives refusal_of cell result (fitting kinds.texts NotUtf8 (plain.text text.now)) }
 {
     match text_of(text) {
-        Some(text) => Ok(Value::Text(String::from_str(alloc, text)?)),
+        Some(text) => own_text(alloc, text),
         None => Err(CellError::Refused(Refusal::NotUtf8)),
     }
 }

@@ -15,6 +15,7 @@
 
 mod flat;
 mod jsonl;
+mod laws;
 mod objects;
 mod records;
 mod refusal;
@@ -22,5 +23,6 @@ mod rows;
 mod texts;
 
 pub use jsonl::jsonl_rows;
+pub use laws::rows_of_texts_are_rows;
 pub use records::csv_rows;
 pub use refusal::{Refusal, Refused, TextError};

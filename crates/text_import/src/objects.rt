@@ -14,7 +14,7 @@ ghost use Rattle.facts.specs.Outcomes.{Gives};
 ghost use Rattle.text_import.specs.Objects.{boolean_in, number_in, text_in, bytes_in, list_in, each_item, fixed_list_in, cell_in, kind_in, cells_by_place, cells_by_name, cells_in, absent, sized, column_count, has_name, names_of, keys_of, repeats, has_unknown, value_row};
 ghost use Rattle.text_import.specs.inner.Names.{text_list, member_of, tested};
 
-use crate::flat::{hex_cell, number_cell};
+use crate::flat::{hex_cell, number_cell, own_text};
 use crate::refusal::{CellError, Refusal};
 use crate::rows::accepted;
 use crate::texts::name_of;
@@ -46,7 +46,7 @@ fn text_in(alloc: Global, value: &Json) -> Result<Value, CellError>
     ensures { Gives refusal_of cell result (text_in (view value.now)) }
 {
     match value {
-        Json::String(text) => Ok(Value::Text(String::from_str(alloc, text.as_str())?)),
+        Json::String(text) => own_text(alloc, text.as_str()),
         _ => Err(CellError::Refused(Refusal::WrongKind)),
     }
 }

@@ -15,7 +15,9 @@ use Rattle.values.specs.Table.{first_unfit, weighed, table_from, IsTable}
 use Rattle.ipc_message.specs.declared.fault.Fault.{Fault}
 use Rattle.ipc_message.specs.Header.{supported_codes}
 use Rattle.ipc_table.specs.Meaning.{meaning}
-use Rattle.tables.specs.declared.refusal.QueryRefusal.{QueryRefusal}
+use Rattle.query.specs.Bound as queries
+use Rattle.query.specs.Query.{PlainQuery}
+use Rattle.query.specs.Selection.{selection}
 use Rattle.tables.specs.declared.refusal.Refusal.{Refusal}
 use Rattle.tables.specs.declared.refusal.Refusal.TheVariants.{RowUnfit, TooMany}
 use Rattle.tables.specs.declared.refusal.Limit.TheVariants as limits
@@ -57,7 +59,7 @@ are_of_meaning : (r : Result PlainTable Fault) (f : PlainTable → Result Tables
 are_of_meaning (Err fault) f are = tt
 are_of_meaning (Ok table) f are = are table refl
 
-are_of_query : (r : Result PlainTable QueryRefusal) (f : PlainTable → Result Tables Refusal) → ((table : PlainTable) → r ≡ Ok table → Are (f table)) → Are (of_query r f)
+are_of_query : (r : Result PlainTable queries.Refusal) (f : PlainTable → Result Tables Refusal) → ((table : PlainTable) → r ≡ Ok table → Are (f table)) → Are (of_query r f)
 are_of_query (Err refusal) f are = tt
 are_of_query (Ok table) f are = are table refl
 
@@ -83,7 +85,7 @@ rows_accepted s rows fit light =
 
 -- ---- the commands
 
--- what is known of streams and of rows: a stream means a table, rows that are accepted are one, and so are rows that are joined
+-- what is known of streams, rows and queries: a stream means a table, rows that are accepted are one, and so are rows that are joined and what a query makes of a table
 abbrev pub Means : Type 0
 Means = (bytes : List ℕ) (table : PlainTable) → AreBytes bytes → meaning supported_codes bytes ≡ Ok table → IsTable table
 
@@ -95,7 +97,10 @@ Joins =
     (s : PlainSchema) (a b : List (List Cell)) → IsTable (record { schema = s; rows = a }) → IsTable (record { schema = s; rows = b })
     → table_weight s (a ++ b) ≤ MAX_TABLE_WEIGHT → IsTable (record { schema = s; rows = a ++ b })
 
-module _ (means : Means) (accepts : Accepts) (joins : Joins) where
+abbrev pub Selects : Type 0
+Selects = (table : PlainTable) (query : PlainQuery) (new : PlainTable) → IsTable table → selection table query ≡ Ok new → IsTable new
+
+module _ (means : Means) (accepts : Accepts) (joins : Joins) (selects : Selects) where
   empty_is : (s : PlainSchema) → IsWithinLimits s → IsTable (empty_table s)
   unfolding first_unfit
   empty_is s within = accepts s [] (empty_table s) within (rows_accepted s [] refl (omega arith))
@@ -131,7 +136,7 @@ module _ (means : Means) (accepts : Accepts) (joins : Joins) where
     are_after (append_stream name bytes) brings = are_of_table (table_at t name) (appended_stream t name bytes) (λ table found. are_appended_stream name bytes table (are name table found))
     are_after (append_rows name rows) brings = are_of_table (table_at t name) (appended t name rows) (λ table found. are_appended name rows table (are name table found))
     are_after (save_as from to query) brings =
-        are_of_table (table_at t from) (saved t to query) (λ table found. are_of_query (query table) (made t to) (λ new made_is. are_made to new (brings table new (are from table found) made_is)))
+        are_of_table (table_at t from) (saved t to query) (λ table found. are_of_query (selection table query) (made t to) (λ new made_is. are_made to new (selects table query new (are from table found) made_is)))
     are_after (rename from to) brings =
         are_of_table (table_at t from) (renamed t from to) (λ table found.
         are_unless (first_some (bad_name to ∷ name_taken t to ∷ [])) (Ok (with_table (without_table t from) to table)) (λ free. with_one (without_table t from) to table (without_one t from are) (are from table found)))

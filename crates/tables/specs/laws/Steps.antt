@@ -10,7 +10,8 @@ use Rattle.values.specs.Table.{first_unfit}
 use Rattle.ipc_message.specs.declared.fault.Fault.{Fault}
 use Rattle.ipc_message.specs.Header.{supported_codes}
 use Rattle.ipc_table.specs.Meaning.{meaning}
-use Rattle.tables.specs.declared.refusal.QueryRefusal.{QueryRefusal}
+use Rattle.query.specs.Bound as queries
+use Rattle.query.specs.Selection.{selection}
 use Rattle.tables.specs.declared.refusal.Refusal.{Refusal}
 use Rattle.tables.specs.declared.refusal.Refusal.TheVariants.{NameTaken, BadName, SchemaMismatch, RowUnfit, TooMany}
 use Rattle.tables.specs.declared.refusal.Limit.TheVariants as limits
@@ -56,7 +57,7 @@ keeps_of_meaning : (t : Tables) (name : List ℕ) (r : Result PlainTable Fault) 
 keeps_of_meaning t name (Err fault) f keeps = refl
 keeps_of_meaning t name (Ok table) f keeps = keeps table
 
-keeps_of_query : (t : Tables) (name : List ℕ) (r : Result PlainTable QueryRefusal) (f : PlainTable → Result Tables Refusal) → ((table : PlainTable) → Keeps t name (f table)) → Keeps t name (of_query r f)
+keeps_of_query : (t : Tables) (name : List ℕ) (r : Result PlainTable queries.Refusal) (f : PlainTable → Result Tables Refusal) → ((table : PlainTable) → Keeps t name (f table)) → Keeps t name (of_query r f)
 keeps_of_query t name (Err refusal) f keeps = refl
 keeps_of_query t name (Ok table) f keeps = keeps table
 
@@ -99,7 +100,7 @@ module _ (t : Tables) (name : List ℕ) where
       keeps_of_table t name (table_at t own) (appended_stream t own bytes) (λ table. keeps_appended_stream own bytes table (apart_one own lacks))
   others_keep (append_rows own rows) lacks = keeps_of_table t name (table_at t own) (appended t own rows) (λ table. keeps_appended own rows table (apart_one own lacks))
   others_keep (save_as from to query) lacks =
-      keeps_of_table t name (table_at t from) (saved t to query) (λ table. keeps_of_query t name (query table) (made t to) (λ new. keeps_made to new (apart_one to lacks)))
+      keeps_of_table t name (table_at t from) (saved t to query) (λ table. keeps_of_query t name (selection table query) (made t to) (λ new. keeps_made to new (apart_one to lacks)))
   others_keep (rename from to) lacks =
       keeps_of_table t name (table_at t from) (renamed t from to) (λ table. keeps_renamed from to table (λ e. lacks (0, omega arith, sym e)) (λ e. lacks (1, omega arith, sym e)))
   others_keep (drop_table own) lacks = keeps_of_table t name (table_at t own) (dropped t own) (λ table. gone_elsewhere t own name (apart_one own lacks))
@@ -136,8 +137,10 @@ tells_of_meaning : (r : Result PlainTable Fault) (f : PlainTable → Result Tabl
 tells_of_meaning (Err fault) f tells = refl
 tells_of_meaning (Ok table) f tells = tells table
 
-tells_of_query : (r : Result PlainTable QueryRefusal) (f : PlainTable → Result Tables Refusal) → ((table : PlainTable) → TellsTables (f table)) → TellsTables (of_query r f)
-tells_of_query (Err refusal) f tells = refl
+tells_of_query : (r : Result PlainTable queries.Refusal) (f : PlainTable → Result Tables Refusal) → ((table : PlainTable) → TellsTables (f table)) → TellsTables (of_query r f)
+tells_of_query (Err queries.unknown_column) f tells = refl
+tells_of_query (Err queries.bad_condition) f tells = refl
+tells_of_query (Err queries.not_comparable) f tells = refl
 tells_of_query (Ok table) f tells = tells table
 
 tests_free : (t : Tables) (name : List ℕ) → TestsTables (first_some (bad_name name ∷ name_taken t name ∷ too_many_tables t name ∷ []))
@@ -189,7 +192,7 @@ module _ (t : Tables) where
       (tells_of_meaning (meaning supported_codes bytes) (put t name) (tells_put name))
   tells_each (append_stream name bytes) = tells_of_table (table_at t name) (appended_stream t name bytes) (tells_appended_stream name bytes)
   tells_each (append_rows name rows) = tells_of_table (table_at t name) (appended t name rows) (tells_appended name rows)
-  tells_each (save_as from to query) = tells_of_table (table_at t from) (saved t to query) (λ table. tells_of_query (query table) (made t to) (tells_made to))
+  tells_each (save_as from to query) = tells_of_table (table_at t from) (saved t to query) (λ table. tells_of_query (selection table query) (made t to) (tells_made to))
   tells_each (rename from to) = tells_of_table (table_at t from) (renamed t from to) (tells_renamed from to)
   tells_each (drop_table name) = tells_of_table (table_at t name) (dropped t name) (λ table. tt)
 

@@ -1,18 +1,12 @@
-use Rattle.std.proofs.Common.{◌≡◌, sym, ap, subst, map, length, ◌∙◌}
+use Rattle.std.proofs.Common.{sym, ap, map, ◌∙◌}
 use Rattle.std.specs.Prelude.{Ok}
-use Rattle.std.specs.List.{flat_map}
 use Rattle.std.proofs.lemmas.Result.{IfOk-weaker, err_from_is_err_and}
-use Rattle.arrow_schema.specs.Column.{PlainSchema}
-use Rattle.arrow_schema.specs.Limits.{IsWithinLimits}
-use Rattle.arrow_schema.specs.View.{schema_of}
-use Rattle.values.specs.Table.{table_from}
 use Rattle.values.specs.TableView.{table_of}
 use Rattle.query.specs.Selection.{selected}
 use Rattle.query.specs.View.{query_in}
 use Rattle.query.specs.inner.BoundView.{bound_in}
-use Rattle.query.proofs.PickedSchemas.{picked_schema, limits_picked}
-use Rattle.query.proofs.SelectedTables.{selected_is_table, chosen_distinct}
-use Rattle.query.proofs.MadeTables.{same_choice, same_bounds, columns_report, conditions_report, selection_is, made_table, made_cells, never_refused}
+use Rattle.query.proofs.SelectedTables.{chosen_distinct}
+use Rattle.query.proofs.MadeTables.{same_choice, same_bounds, columns_report, conditions_report, selection_is}
 use Rattle.query.proofs.selecting.select.Goals as goal
 
 pub returns-in_err-places-clause-refused : goal.returns-in_err-places-clause-refused

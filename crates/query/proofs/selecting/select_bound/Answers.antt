@@ -1,4 +1,4 @@
-use Rattle.std.proofs.Common.{◌≡◌, sym, ap, subst, map, ◌∙◌}
+use Rattle.std.proofs.Common.{sym, ap, subst, map, ◌∙◌}
 use Rattle.std.proofs.lemmas.Result.{IfOk-weaker}
 use Rattle.cells.specs.Cell.{PlainTable}
 use Rattle.values.specs.Table.{IsTable}

@@ -1,4 +1,3 @@
-use Rattle.std.proofs.Common.{◌≡◌}
 use Rattle.values.specs.Rows.{table_in}
 use Rattle.query.proofs.MadeTables.{never_refused}
 use Rattle.query.proofs.selecting.table_of_kept.Goals as goal

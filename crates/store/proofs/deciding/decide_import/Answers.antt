@@ -13,9 +13,10 @@ use Rattle.store.specs.Applying.{Decides}
 use Rattle.store.specs.declared.change.Edit.TheVariants as edits
 use Rattle.store.specs.Changes.{PlainChange, put, change_of, IsChange}
 use Rattle.store.specs.Deciding.{import_tests, full_in, IsAnswered}
+use Rattle.store.specs.inner.Saving.{IsPut}
 use Rattle.store.specs.laws.Pieces.{pieces_held}
 use Rattle.std.proofs.lemmas.Result.{err_from_is_err_and}
-use Rattle.store.proofs.Tested.{Counts, HoldsTable, import_refused, import_failed, import_full, import_decided, import_is_change}
+use Rattle.store.proofs.Tested.{Counts, HoldsTable, import_refused, import_failed, import_full, import_decided, import_named, table_is_change}
 use Rattle.store.proofs.Decided.{import_answers, failed_answers, table_answers}
 use Rattle.store.proofs.deciding.decide_import.Goals as goal
 
@@ -40,47 +41,32 @@ returns-in_err-test_room-clause-decides c = λ t lists.
     (import_full (catalogue_of c.args.catalogue.now) t (string_bytes c.args.name) c.args.bytes.items (table_of c.in_ok-table.table) _ lists tested c.in_ok-table.ensures.exact
     (sym (ap (full_in (catalogue_of c.args.catalogue.now)) c.deref-3.ensures) ∙ c.in_err-test_room.ensures.test))
 
-pub encode_pieces-requires : goal.encode_pieces-requires
-encode_pieces-requires c =
-    subst IsTable (λ i. record { schema = sym c.schema-2.ensures.schema i; rows = (table_of c.in_ok-table.table).rows }) c.schema-2.ensures.kept
-
 pub returns-clause-ok : goal.returns-clause-ok
 returns-clause-ok c =
     let listed : PlainCatalogue = catalogue_of c.args.catalogue.now in
     let table : PlainTable = table_of c.in_ok-table.table in
-    let sound : IsTable table = c.schema.ensures.kept in
+    let sound : IsTable table = c.in_ok-table.table.kept in
     let counts : Counts listed = record { more = c.counts_after_changes.ensures.put listed; same = c.counts_after_changes.ensures.replaced listed } in
     let tested : import_tests (string_bytes c.args.name) c.args.bytes.items ≡ None = sym (λ i. import_tests (c.deref.ensures i) (c.deref-2.ensures.value i)) ∙ c.in_ok-test_import.ensures in
     let room : full_in listed (string_bytes c.args.name) ≡ None = sym (ap (full_in listed) c.deref-3.ensures) ∙ c.in_ok-test_room.ensures.test in
-    let schema : schema_of c.in_ok-schema.schema ≡ table.schema = c.in_ok-schema.ensures ∙ c.schema.ensures.schema in
-    let under : with_schema (schema_of c.schema-2.result.now) table ≡ table = λ i. record { schema = c.schema-2.ensures.schema i; rows = table.rows } in
-    let streams : AllByRecursion (λ (stream : List ℕ). length stream < 2 ^ 64) (piece_streams table) =
-    subst (AllByRecursion (λ (stream : List ℕ). length stream < 2 ^ 64)) (c.in_ok-pieces.ensures.streams ∙ ap piece_streams under) c.in_ok-pieces.ensures.short in
-    let own : with_schema (schema_of c.schema-2.result.now) table ≡ table = λ i. record { schema = c.schema-2.ensures.schema i; rows = table.rows } in
-    let same : change_of (record { edit = edits.Put c.args.name c.in_ok-schema.schema; streams = c.in_ok-pieces.pieces.streams; rows = c.in_ok-pieces.pieces.rows })
-    ≡ record { edit = put (string_bytes c.args.name) table.schema; streams = piece_streams table; counts = piece_counts table } =
-    λ i. record { edit = put (string_bytes c.args.name) (schema i); streams = (c.in_ok-pieces.ensures.streams ∙ ap piece_streams own) i; counts = (c.in_ok-pieces.ensures.rows ∙ ap piece_counts own) i } in
-    subst (IsChange listed) (sym same)
-    (import_is_change listed (string_bytes c.args.name) c.args.bytes.items table counts c.in_ok-test_room.ensures.kept tested room sound.schema
-    (c.pieces_are_tables.ensures.each table sound) streams)
+    let put : IsPut (string_bytes c.args.name) table (change_of c.in_ok-put_table.field-0) = c.in_ok-put_table.ensures in
+    subst (IsChange listed) (sym put.is)
+    (table_is_change listed (string_bytes c.args.name) table counts c.in_ok-test_room.ensures.kept (import_named (string_bytes c.args.name) c.args.bytes.items tested) room sound.schema
+    (c.pieces_are_tables.ensures.each table sound) (subst (λ (x : PlainChange). AllByRecursion (λ (stream : List ℕ). length stream < 2 ^ 64) x.streams) put.is put.short))
 
 pub returns-clause-decides : goal.returns-clause-decides
 returns-clause-decides c = λ t lists.
     let listed : PlainCatalogue = catalogue_of c.args.catalogue.now in
     let table : PlainTable = table_of c.in_ok-table.table in
-    let sound : IsTable table = c.schema.ensures.kept in
+    let sound : IsTable table = c.in_ok-table.table.kept in
     let tested : import_tests (string_bytes c.args.name) c.args.bytes.items ≡ None = sym (λ i. import_tests (c.deref.ensures i) (c.deref-2.ensures.value i)) ∙ c.in_ok-test_import.ensures in
     let room : full_in listed (string_bytes c.args.name) ≡ None = sym (ap (full_in listed) c.deref-3.ensures) ∙ c.in_ok-test_room.ensures.test in
-    let schema : schema_of c.in_ok-schema.schema ≡ table.schema = c.in_ok-schema.ensures ∙ c.schema.ensures.schema in
-    let own : with_schema (schema_of c.schema-2.result.now) table ≡ table = λ i. record { schema = c.schema-2.ensures.schema i; rows = table.rows } in
-    let same : change_of (record { edit = edits.Put c.args.name c.in_ok-schema.schema; streams = c.in_ok-pieces.pieces.streams; rows = c.in_ok-pieces.pieces.rows })
-    ≡ record { edit = put (string_bytes c.args.name) table.schema; streams = piece_streams table; counts = piece_counts table } =
-    λ i. record { edit = put (string_bytes c.args.name) (schema i); streams = (c.in_ok-pieces.ensures.streams ∙ ap piece_streams own) i; counts = (c.in_ok-pieces.ensures.rows ∙ ap piece_counts own) i } in
     let holds : HoldsTable table (piece_streams table) (piece_counts table) = record {
       rows = pieces_held table (c.pieces_are_tables.ensures.each table sound) (c.pieces_are_tables.ensures.whole table);
       taken = c.accepted_rows_are_a_table.ensures.accepted table sound;
     } in
-    subst (λ (x : PlainChange). Decides t (import_stream (string_bytes c.args.name) c.args.bytes.items) (Ok x)) (sym same)
+    let put : IsPut (string_bytes c.args.name) table (change_of c.in_ok-put_table.field-0) = c.in_ok-put_table.ensures in
+    subst (λ (x : PlainChange). Decides t (import_stream (string_bytes c.args.name) c.args.bytes.items) (Ok x)) (sym put.is)
     (import_decided listed t (string_bytes c.args.name) c.args.bytes.items table (piece_streams table) (piece_counts table) lists tested c.in_ok-table.ensures.exact room holds)
 
 pub returns-in_err-test_import-clause-answers : goal.returns-in_err-test_import-clause-answers
@@ -110,10 +96,6 @@ returns-clause-answers c = λ tells image.
     let table : PlainTable = table_of c.in_ok-table.table in
     let tested : import_tests (string_bytes c.args.name) c.args.bytes.items ≡ None = sym (λ i. import_tests (c.deref.ensures i) (c.deref-2.ensures.value i)) ∙ c.in_ok-test_import.ensures in
     let room : full_in listed (string_bytes c.args.name) ≡ None = sym (ap (full_in listed) c.deref-3.ensures) ∙ c.in_ok-test_room.ensures.test in
-    let schema : schema_of c.in_ok-schema.schema ≡ table.schema = c.in_ok-schema.ensures ∙ c.schema.ensures.schema in
-    let own : with_schema (schema_of c.schema-2.result.now) table ≡ table = λ i. record { schema = c.schema-2.ensures.schema i; rows = table.rows } in
-    let same : change_of (record { edit = edits.Put c.args.name c.in_ok-schema.schema; streams = c.in_ok-pieces.pieces.streams; rows = c.in_ok-pieces.pieces.rows })
-    ≡ record { edit = put (string_bytes c.args.name) table.schema; streams = piece_streams table; counts = piece_counts table } =
-    λ i. record { edit = put (string_bytes c.args.name) (schema i); streams = (c.in_ok-pieces.ensures.streams ∙ ap piece_streams own) i; counts = (c.in_ok-pieces.ensures.rows ∙ ap piece_counts own) i } in
-    subst (λ (x : PlainChange). IsAnswered tells image listed (import_stream (string_bytes c.args.name) c.args.bytes.items) (Ok x)) (sym same)
+    let put : IsPut (string_bytes c.args.name) table (change_of c.in_ok-put_table.field-0) = c.in_ok-put_table.ensures in
+    subst (λ (x : PlainChange). IsAnswered tells image listed (import_stream (string_bytes c.args.name) c.args.bytes.items) (Ok x)) (sym put.is)
     (table_answers tells image listed (string_bytes c.args.name) c.args.bytes.items table _ tested c.in_ok-table.ensures.exact room)

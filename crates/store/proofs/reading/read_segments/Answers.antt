@@ -1,12 +1,12 @@
-use Rattle.std.specs.Prelude.{get_or}
-use Rattle.std.proofs.Common.{◌≡◌, ◌<◌, true, ℕ, List, Some, length, refl, sym, ap, ◌∙◌, subst}
+use Rattle.std.specs.Prelude.{get_or, sum_by}
+use Rattle.std.proofs.Common.{◌≡◌, ◌<◌, true, ℕ, List, Some, length, refl, sym, ap, ◌∙◌, subst, arith, take_all}
 use Rattle.std.proofs.lemmas.List.{get_or_default}
 use Rattle.sector_dev.specs.Disk.{now, shown_image}
 use Rattle.catalogue.specs.declared.entry.Segment.{Segment}
 use Rattle.commit.specs.Standing.{is_on_device}
 use Rattle.store.specs.inner.Gathered.{gathered_table}
 use Rattle.store.specs.Calls.{done, refused}
-use Rattle.store.proofs.ReadTables.{run_at, rows_step, rows_of_none, unreads_step, reads_more, reads_none, image_then, light_none}
+use Rattle.store.proofs.ReadTables.{run_at, rows_step, rows_of, count_step, rows_of_none, unreads_step, reads_more, reads_none, image_then, light_none}
 use Rattle.store.proofs.reading.read_segments.Goals as goal
 
 pub loop-place-init : goal.loop-place-init
@@ -16,6 +16,7 @@ loop-place-init g c =
       reads = reads_none D.size D.story D.failed D.tells c.args.device.now;
       schema = refl;
       light = light_none (gathered_table c.args.empty).schema (gathered_table c.args.empty).rows c.requires.none;
+      count = ap length c.requires.none;
       rows = λ told. rows_of_none (gathered_table c.args.empty).schema (shown_image (now (D.story c.args.device.now))) ∙ ap Some (sym c.requires.none);
     }
 
@@ -65,7 +66,11 @@ loop-place-preserved g c =
       reads = reads_more D.size D.story D.failed D.tells done c.args.device.now c.loop-place.device c.append_segment.new.device c.loop-place.invariant.reads c.in-Ok.ensures.reads;
       schema = c.in-Ok.ensures.schema ∙ c.loop-place.invariant.schema;
       light = c.in-Ok.ensures.light;
+      count = count_step segments place segment (length so_far.rows) (length (gathered_table c.in-Ok.more).rows) c.loop-place-test.true (at_place segments place segment refl c.loop-place-test.true) c.loop-place.invariant.count c.in-Ok.ensures.count;
       rows = λ told.
           rows_step (gathered_table c.args.empty).schema so_far.schema segments place segment (shown_image (now before)) (shown_image (now mid)) so_far.rows (Some (gathered_table c.in-Ok.more).rows) c.loop-place.invariant.schema
           (image_then before mid (c.loop-place.invariant.reads.moments told)) c.loop-place-test.true (at_place segments place segment refl c.loop-place-test.true) (c.loop-place.invariant.rows told) (c.in-Ok.ensures.rows told);
     }
+
+pub returns-clause-count : goal.returns-clause-count
+returns-clause-count g c = c.loop-place.invariant.count ∙ ap (sum_by rows_of) (take_all c.loop-place.place c.args.segments.now (omega (arith, c.loop-place-test.false)))

@@ -1,4 +1,5 @@
-use Rattle.std.proofs.Common.{◌≡◌, ◌≤◌, true, Some, take}
+use Rattle.std.specs.Prelude.{sum_by}
+use Rattle.std.proofs.Common.{◌≡◌, ◌≤◌, true, Some, length, take}
 use Rattle.sector_dev.specs.Disk.{now, shown_image}
 use Rattle.cells.specs.Weight.{table_weight}
 use Rattle.cells.specs.declared.limits.TheConstants.{MAX_TABLE_WEIGHT}
@@ -6,6 +7,7 @@ use Rattle.store.specs.inner.Gathered.{gathered_table}
 use Rattle.store.specs.Calls.{done}
 use Rattle.store.specs.Held.{rows_held}
 use Rattle.store.specs.Reading.{OnlyReadsDevice}
+use Rattle.store.proofs.ReadTables.{rows_of}
 use Rattle.store.proofs.reading.read_segments.Given as goal
 
 -- the rows so far are those of the first segments
@@ -14,5 +16,6 @@ invariant-loop-place g l = let D = g.D.SectorDevice in record {
   reads : OnlyReadsDevice D.size D.story D.failed D.tells done l.fn.device l.device;
   schema : (gathered_table l.gathered).schema ≡ (gathered_table l.fn.empty).schema;
   light : table_weight (gathered_table l.gathered).schema (gathered_table l.gathered).rows ≤ MAX_TABLE_WEIGHT;
+  count : length (gathered_table l.gathered).rows ≡ sum_by rows_of (take l.place l.segments);
   rows : D.tells ≡ true → rows_held (gathered_table l.fn.empty).schema (take l.place l.segments) (shown_image (now (D.story l.fn.device))) ≡ Some (gathered_table l.gathered).rows;
 }

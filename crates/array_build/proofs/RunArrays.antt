@@ -1,0 +1,192 @@
+-- The array of runs whose slots are valid, as what is added to a batch for it.
+use Rattle.std.specs.Prelude.{Some, None, replicate}
+use Rattle.std.specs.List.{flat_map, list_all, range_with_len}
+use Rattle.std.proofs.Common.{◌≡◌, ℕ, zero, suc, ◌+◌, Bool, true, false, List, [], ◌∷◌, ◌++◌, map, length, refl, ap, ap₂, sym, ◌∙◌, length-append}
+use Rattle.std.proofs.lemmas.Bool.{and_parts}
+use Rattle.std.proofs.lemmas.List.{length-map, length-replicate, map-append}
+use Rattle.std.proofs.lemmas.List.Folds.{list_all-map}
+use Rattle.std.proofs.lemmas.List.FromFn.{length-map-range_with_len}
+use Rattle.arrow_schema.specs.Column.{Kind, nulls, booleans, integers, dates, timestamps, texts, large_texts, binaries, large_binaries, fixed_binaries, lists, large_lists, fixed_lists, structs}
+use Rattle.array_build.proofs.Arrays.{nulls_of, booleans_are, integers_are, dates_are, timestamps_are, fixed_binaries_are, texts_are, binaries_are}
+use Rattle.array_build.proofs.Repeated.{repeated_map}
+use Rattle.array_build.specs.Batch.{PlainBatch, built_at, plain_column, with_arrays}
+use Rattle.array_build.specs.inner.Nodes.{with_node, with_buffer, with_slots}
+use Rattle.array_build.specs.inner.Runs.{bitmap_of, cell_sizes, contents_width, fixed_value, fixed_width, kind_cells, run_bits, runs_bits, with_run_slots}
+use Rattle.array_runs.specs.Runs.{are_runs_valid, is_run_valid, run_cells}
+use Rattle.array_runs.specs.declared.run.Run.{Run}
+use Rattle.array_runs.specs.declared.run.Run.TheVariants.{Slots, Nulls}
+use Rattle.bitmap.specs.Bits.{packed}
+use Rattle.cells.specs.Cell.{Cell, null}
+use Rattle.cells.specs.Nulls.{is_there}
+use Rattle.columns.specs.Array.{Array}
+use Rattle.columns.specs.Built.{is_set, contents_of, offsets_of, validity_of}
+use Rattle.columns.specs.CellAt.{cell_at, kind_cell, cells_from, is_valid}
+use Rattle.columns.specs.Tests.{unset_bits}
+use Rattle.columns.specs.View.{view_array}
+use Rattle.columns.specs.declared.numbers.OffsetWidth.TheVariants.{Four, Eight}
+
+-- a type whose valid slots are no nulls
+abbrev pub has_values : Kind → Bool
+has_values nulls = false
+has_values _ = true
+
+there : (kind : Kind) (a : Array) (i : ℕ) → has_values kind ≡ true → is_valid a i ≡ true → is_there (cell_at (plain_column kind None) a i) ≡ true
+unfolding cell_at kind_cell
+there nulls a i has valid = cc
+there booleans a i has valid = rw valid refl
+there (integers bits signed) a i has valid = rw valid refl
+there (dates unit) a i has valid = rw valid refl
+there (timestamps unit timezone) a i has valid = rw valid refl
+there texts a i has valid = rw valid refl
+there large_texts a i has valid = rw valid refl
+there binaries a i has valid = rw valid refl
+there large_binaries a i has valid = rw valid refl
+there (fixed_binaries width) a i has valid = rw valid refl
+there (lists item) a i has valid = rw valid refl
+there (large_lists item) a i has valid = rw valid refl
+there (fixed_lists size item) a i has valid = rw valid refl
+there (structs columns) a i has valid = rw valid refl
+
+slots_there : (kind : Kind) (a : Array) (from n : ℕ) → has_values kind ≡ true → list_all (is_valid a) (range_with_len from n) ≡ true
+    → map is_there (cells_from (cell_at (plain_column kind None) a) from n) ≡ replicate n true
+slots_there kind a from zero has valid = refl
+slots_there kind a from (suc n) has valid =
+    let parts = and_parts (is_valid a from) (list_all (is_valid a) (range_with_len (from + 1) n)) valid in
+    ap₂ (λ (b : Bool) (bs : List Bool). b ∷ bs) (there kind a from has parts.0) (slots_there kind a (from + 1) n has parts.1)
+
+run_there : (kind : Kind) (run : Run) → has_values kind ≡ true → is_run_valid run ≡ true → map is_there (run_cells (plain_column kind None) run) ≡ run_bits run
+run_there kind (Slots v from n) has valid = slots_there kind (view_array v) from n has valid
+run_there kind (Nulls n) has valid = repeated_map is_there n null
+
+runs_there : (kind : Kind) (runs : List Run) → has_values kind ≡ true → are_runs_valid runs ≡ true → map is_there (kind_cells kind runs) ≡ runs_bits runs
+runs_there kind [] has valid = refl
+runs_there kind (run ∷ runs) has valid =
+    let parts = and_parts (is_run_valid run) (are_runs_valid runs) valid in
+    map-append is_there (run_cells (plain_column kind None) run) (kind_cells kind runs)
+    ∙ ap₂ (λ (xs ys : List Bool). xs ++ ys) (run_there kind run has parts.0) (runs_there kind runs has parts.1)
+
+bitmap_is : (cells : List Cell) (bits : List Bool) → map is_there cells ≡ bits → validity_of cells ≡ bitmap_of bits
+bitmap_is cells bits is =
+    let all : list_all is_there cells ≡ list_all (λ b. b) bits = sym (list_all-map (λ (b : Bool). b) is_there cells) ∙ ap (list_all (λ b. b)) is in
+    rw (all, is) refl
+
+-- the node and the validity bitmap of runs are those of their cells
+slots_are : (p : PlainBatch) (cells : List Cell) (bits : List Bool) → map is_there cells ≡ bits → with_run_slots p bits ≡ with_slots p cells
+slots_are p cells bits is =
+    let map_is : bitmap_of bits ≡ validity_of cells = sym (bitmap_is cells bits is) in
+    let count : length bits ≡ length cells = sym (ap length is) ∙ length-map cells is_there in
+    λ i. with_buffer (with_node p (record { slots = count i; null_count = unset_bits (map_is i) (count i) })) (map_is i)
+
+kind_slots : (p : PlainBatch) (kind : Kind) (runs : List Run) → has_values kind ≡ true → are_runs_valid runs ≡ true → with_run_slots p (runs_bits runs) ≡ with_slots p (kind_cells kind runs)
+kind_slots p kind runs has valid = slots_are p (kind_cells kind runs) (runs_bits runs) (runs_there kind runs has valid)
+
+-- ---- how many cells there are
+
+count_cells : (kind : Kind) (runs : List Run) → length (runs_bits runs) ≡ length (kind_cells kind runs)
+count_cells kind [] = refl
+count_cells kind (run ∷ runs) =
+    length-append (run_bits run) (runs_bits runs)
+    ∙ ap₂ (λ (m n : ℕ). m + n) (count_run run) (count_cells kind runs)
+    ∙ sym (length-append (run_cells (plain_column kind None) run) (kind_cells kind runs))
+  where
+    count_run : (run : Run) → length (run_bits run) ≡ length (run_cells (plain_column kind None) run)
+    count_run (Slots v from n) = length-replicate n true ∙ sym (length-map-range_with_len (cell_at (plain_column kind None) (view_array v)) from n)
+    count_run (Nulls n) = length-replicate n false ∙ sym (length-replicate n null)
+
+-- ---- the arrays
+
+pub null_runs_are : (p : PlainBatch) (kind : Kind) (runs : List Run) (slots : ℕ) → kind ≡ nulls → slots ≡ length (runs_bits runs)
+    → with_node p (record { slots = slots; null_count = slots }) ≡ with_arrays p (built_at (plain_column kind None) (kind_cells kind runs))
+null_runs_are p kind runs slots is count =
+    let all : slots ≡ length (kind_cells kind runs) = count ∙ count_cells kind runs in
+    ap (λ (n : ℕ). with_node p (record { slots = n; null_count = n })) all
+    ∙ nulls_of p (kind_cells kind runs)
+    ∙ ap (λ (k : Kind). with_arrays p (built_at (plain_column k None) (kind_cells kind runs))) (sym is)
+
+pub boolean_runs_are : (p : PlainBatch) (runs : List Run) → are_runs_valid runs ≡ true
+    → with_buffer (with_run_slots p (runs_bits runs)) (packed (map is_set (kind_cells booleans runs))) ≡ with_arrays p (built_at (plain_column booleans None) (kind_cells booleans runs))
+boolean_runs_are p runs valid =
+    ap (λ (q : PlainBatch). with_buffer q (packed (map is_set (kind_cells booleans runs)))) (kind_slots p booleans runs refl valid)
+    ∙ booleans_are p (kind_cells booleans runs)
+
+fixed_are : (p : PlainBatch) (kind : Kind) (width : ℕ) (cells : List Cell) → fixed_width kind ≡ Some width
+    → with_buffer (with_slots p cells) (flat_map (fixed_value kind) cells) ≡ with_arrays p (built_at (plain_column kind None) cells)
+fixed_are p (integers bits signed) width cells is = integers_are bits signed p cells
+fixed_are p (dates unit) width cells is = dates_are unit p cells
+fixed_are p (timestamps unit timezone) width cells is = timestamps_are unit timezone p cells
+fixed_are p (fixed_binaries size) width cells is = fixed_binaries_are size p cells
+fixed_are p nulls width cells is = cc
+fixed_are p booleans width cells is = cc
+fixed_are p texts width cells is = cc
+fixed_are p large_texts width cells is = cc
+fixed_are p binaries width cells is = cc
+fixed_are p large_binaries width cells is = cc
+fixed_are p (lists item) width cells is = cc
+fixed_are p (large_lists item) width cells is = cc
+fixed_are p (fixed_lists size item) width cells is = cc
+fixed_are p (structs columns) width cells is = cc
+
+fixed_has : (kind : Kind) (width : ℕ) → fixed_width kind ≡ Some width → has_values kind ≡ true
+fixed_has nulls width is = cc
+fixed_has booleans width is = refl
+fixed_has (integers bits signed) width is = refl
+fixed_has (dates unit) width is = refl
+fixed_has (timestamps unit timezone) width is = refl
+fixed_has texts width is = refl
+fixed_has large_texts width is = refl
+fixed_has binaries width is = refl
+fixed_has large_binaries width is = refl
+fixed_has (fixed_binaries size) width is = refl
+fixed_has (lists item) width is = refl
+fixed_has (large_lists item) width is = refl
+fixed_has (fixed_lists size item) width is = refl
+fixed_has (structs columns) width is = refl
+
+pub fixed_runs_are : (p : PlainBatch) (kind : Kind) (width : ℕ) (runs : List Run) → fixed_width kind ≡ Some width → are_runs_valid runs ≡ true
+    → with_buffer (with_run_slots p (runs_bits runs)) (flat_map (fixed_value kind) (kind_cells kind runs)) ≡ with_arrays p (built_at (plain_column kind None) (kind_cells kind runs))
+fixed_runs_are p kind width runs is valid =
+    ap (λ (q : PlainBatch). with_buffer q (flat_map (fixed_value kind) (kind_cells kind runs))) (kind_slots p kind runs (fixed_has kind width is) valid)
+    ∙ fixed_are p kind width (kind_cells kind runs) is
+
+-- a batch with the array of texts or binaries
+abbrev pub with_contents_of : (width : ℕ) → PlainBatch → List Cell → PlainBatch
+with_contents_of width p cells = with_buffer (with_buffer p (offsets_of width (cell_sizes cells))) (flat_map contents_of cells)
+
+contents_are : (p : PlainBatch) (kind : Kind) (width : ℕ) (cells : List Cell) → contents_width kind ≡ Some width
+    → with_contents_of width (with_slots p cells) cells ≡ with_arrays p (built_at (plain_column kind None) cells)
+contents_are p texts width cells is = let e : 4 ≡ width = cc in rw (← e) (texts_are Four p cells)
+contents_are p large_texts width cells is = let e : 8 ≡ width = cc in rw (← e) (texts_are Eight p cells)
+contents_are p binaries width cells is = let e : 4 ≡ width = cc in rw (← e) (binaries_are Four p cells)
+contents_are p large_binaries width cells is = let e : 8 ≡ width = cc in rw (← e) (binaries_are Eight p cells)
+contents_are p nulls width cells is = cc
+contents_are p booleans width cells is = cc
+contents_are p (integers bits signed) width cells is = cc
+contents_are p (dates unit) width cells is = cc
+contents_are p (timestamps unit timezone) width cells is = cc
+contents_are p (fixed_binaries size) width cells is = cc
+contents_are p (lists item) width cells is = cc
+contents_are p (large_lists item) width cells is = cc
+contents_are p (fixed_lists size item) width cells is = cc
+contents_are p (structs columns) width cells is = cc
+
+contents_has : (kind : Kind) (width : ℕ) → contents_width kind ≡ Some width → has_values kind ≡ true
+contents_has nulls width is = cc
+contents_has booleans width is = refl
+contents_has (integers bits signed) width is = refl
+contents_has (dates unit) width is = refl
+contents_has (timestamps unit timezone) width is = refl
+contents_has texts width is = refl
+contents_has large_texts width is = refl
+contents_has binaries width is = refl
+contents_has large_binaries width is = refl
+contents_has (fixed_binaries size) width is = refl
+contents_has (lists item) width is = refl
+contents_has (large_lists item) width is = refl
+contents_has (fixed_lists size item) width is = refl
+contents_has (structs columns) width is = refl
+
+pub content_runs_are : (p : PlainBatch) (kind : Kind) (width : ℕ) (runs : List Run) → contents_width kind ≡ Some width → are_runs_valid runs ≡ true
+    → with_contents_of width (with_run_slots p (runs_bits runs)) (kind_cells kind runs) ≡ with_arrays p (built_at (plain_column kind None) (kind_cells kind runs))
+content_runs_are p kind width runs is valid =
+    ap (λ (q : PlainBatch). with_contents_of width q (kind_cells kind runs)) (kind_slots p kind runs (contents_has kind width is) valid)
+    ∙ contents_are p kind width (kind_cells kind runs) is

@@ -1,0 +1,94 @@
+-- The arrays of runs, and what a run has in each buffer, where its slots are valid.
+use Rattle.std.specs.Prelude.{◌≡◌, ℕ, ◌+◌, ◌-◌, ◌/◌, Bool, true, false, List, [], ◌∷◌, ◌++◌, length, map, take, drop, replicate, Option, Some, None, if◌then◌else◌}
+use Rattle.std.specs.List.{flat_map, list_all, range_with_len}
+use Rattle.byteorder.specs.Endian.{little_bytes}
+use Rattle.arrow_schema.specs.Column.{Kind, Columns, integers, dates, timestamps, texts, large_texts, binaries, large_binaries, fixed_binaries, no_column, and_column}
+use Rattle.array_runs.specs.Runs.{runs_cells, are_runs_sound, are_runs_valid}
+use Rattle.array_runs.specs.declared.run.Run.{Run}
+use Rattle.array_runs.specs.declared.run.Run.TheVariants.{Slots, Nulls}
+use Rattle.bitmap.specs.Bits.{packed}
+use Rattle.cells.specs.Cell.{Cell}
+use Rattle.cells.specs.Fit.{date_bits}
+use Rattle.columns.specs.Buildable.{can_build}
+use Rattle.columns.specs.Array.{Array, contents_in, offsets_in}
+use Rattle.columns.specs.Built.{contents_of, integer_bytes, fixed_bytes, sums_from}
+use Rattle.columns.specs.CellAt.{number_at}
+use Rattle.columns.specs.Tests.{Typed, unset_bits}
+use Rattle.array_build.specs.Batch.{PlainBatch, built_at, plain_column}
+use Rattle.array_build.specs.inner.Nodes.{with_node, with_buffer}
+
+-- the arrays of each column, and all below them
+unfoldable pub built_columns : Columns → List (List Run) → List Typed
+built_columns no_column rs = []
+built_columns (and_column c cs) [] = []
+built_columns (and_column c cs) (r ∷ rs) = built_at c (runs_cells c r) ++ built_columns cs rs
+
+-- the cells of runs as those of a type
+abbrev pub kind_cells : Kind → List Run → List Cell
+kind_cells kind runs = runs_cells (plain_column kind None) runs
+
+-- the array of such runs can be built by copying what stands in them
+pub record AreReady (kind : Kind) (runs : List Run) : Type 0 where
+  pub sound : are_runs_sound (plain_column kind None) runs ≡ true
+  pub valid : are_runs_valid runs ≡ true
+  pub fit : can_build (plain_column kind None) (kind_cells kind runs) ≡ true
+
+-- ---- which slots are valid
+
+abbrev pub run_bits : Run → List Bool
+run_bits (Slots view from len) = replicate len true
+run_bits (Nulls n) = replicate n false
+
+abbrev pub runs_bits : List Run → List Bool
+runs_bits runs = flat_map run_bits runs
+
+abbrev pub bitmap_of : List Bool → List ℕ
+bitmap_of bits = if list_all (λ b. b) bits then [] else packed bits
+
+-- the node and the validity bitmap of slots
+abbrev pub with_run_slots : PlainBatch → List Bool → PlainBatch
+with_run_slots p bits =
+    with_buffer (with_node p (record { slots = length bits; null_count = unset_bits (bitmap_of bits) (length bits) })) (bitmap_of bits)
+
+-- ---- values of one width
+
+abbrev pub fixed_width : Kind → Option ℕ
+fixed_width (integers bits signed) = Some (bits / 8)
+fixed_width (dates unit) = Some (date_bits unit / 8)
+fixed_width (timestamps unit timezone) = Some 8
+fixed_width (fixed_binaries width) = Some width
+fixed_width _ = None
+
+-- what a cell has among them
+abbrev pub fixed_value : Kind → Cell → List ℕ
+fixed_value (integers bits signed) = integer_bytes (bits / 8)
+fixed_value (dates unit) = integer_bytes (date_bits unit / 8)
+fixed_value (timestamps unit timezone) = integer_bytes 8
+fixed_value (fixed_binaries width) = fixed_bytes width
+fixed_value _ = λ c. []
+
+-- ---- texts and binaries
+
+-- how many bytes an offset has
+abbrev pub contents_width : Kind → Option ℕ
+contents_width texts = Some 4
+contents_width large_texts = Some 8
+contents_width binaries = Some 4
+contents_width large_binaries = Some 8
+contents_width _ = None
+
+-- the bytes of the texts or binaries of some slots
+abbrev pub span_contents : (width : ℕ) → Array → (from len : ℕ) → List ℕ
+span_contents width a from len = take (number_at width (offsets_in a) (from + len) - number_at width (offsets_in a) from) (drop (number_at width (offsets_in a) from) (contents_in a))
+
+-- how many bytes each of some slots has, and each of some cells
+abbrev pub slot_sizes : (width : ℕ) → Array → (from len : ℕ) → List ℕ
+slot_sizes width a from len = map (λ i. number_at width (offsets_in a) (i + 1) - number_at width (offsets_in a) i) (range_with_len from len)
+
+abbrev pub cell_sizes : List Cell → List ℕ
+cell_sizes cells = map (λ c. length (contents_of c)) cells
+
+-- the offsets at which so many bytes begin, where the first begin at one place and what follows them at another
+abbrev pub AreOffsetsAdded : (width : ℕ) → (old new : List ℕ) → (start next : ℕ) → (sizes : List ℕ) → Type 0
+AreOffsetsAdded width old new start next sizes =
+    (rest : List ℕ) → new ++ flat_map (little_bytes width) (sums_from next rest) ≡ old ++ flat_map (little_bytes width) (sums_from start (sizes ++ rest))

@@ -1,0 +1,176 @@
+// Arrays of columns that are given as runs of slots: bytes of valid slots are copied, and no cell is made.
+ghost use Rattle.std.specs.Prelude.{◌≡◌, ◌/◌, true, OnOk, IfOk, List, None, map};
+ghost use Rattle.arrow_schema.specs.Column.{columns_of};
+ghost use Rattle.arrow_schema.specs.View.{kind_of, column_of, date_kind};
+ghost use Rattle.array_build.specs.Batch.{batch_in, batch_of, built_at, built_below, plain_column, with_arrays};
+ghost use Rattle.array_build.specs.ByRuns.{is_built_by_runs as is_built, is_kind_built_by_runs, are_built_by_runs};
+ghost use Rattle.array_build.specs.inner.Runs.{AreReady, built_columns, kind_cells};
+ghost use Rattle.array_runs.specs.Runs.{HaveRuns, are_columns_sound, are_runs_sound, can_build_columns, runs_cells};
+ghost use Rattle.cells.specs.Cell.{Cell};
+ghost use Rattle.cells.specs.Fit.{date_bits};
+ghost use Rattle.columns.specs.Buildable.{can_build};
+
+use crate::batch::{BuiltBatch, empty_batch};
+use crate::flat_runs::{build_run_bits, build_run_contents, build_run_nulls, build_run_values};
+use array_runs::{Run, valid_runs};
+use arrow_schema::{DataType, DateUnit, Field};
+use columns::OffsetWidth;
+use std::alloc::{AllocError, Global};
+
+// Whether columns of a type are built from runs.
+#[tactic(auto, using(crate::proofs::Fields::timestamp_kind), unfolding(crate::specs::ByRuns::is_kind_built_by_runs))]
+fn is_type_built(data_type: &DataType) -> bool
+    ensures { result ≡ is_kind_built_by_runs (kind_of data_type.now) }
+{
+    match data_type {
+        DataType::Null
+        | DataType::Bool
+        | DataType::Int(_)
+        | DataType::Date(_)
+        | DataType::Timestamp(_, _)
+        | DataType::Utf8
+        | DataType::LargeUtf8
+        | DataType::Binary
+        | DataType::LargeBinary
+        | DataType::FixedSizeBinary(_) => true,
+        DataType::List(_)
+        | DataType::LargeList(_)
+        | DataType::FixedSizeList(_, _)
+        | DataType::Struct(_) => false,
+    }
+}
+
+#[tactic(auto, using(crate::proofs::RunColumns::field_built_is))]
+fn is_field_built(field: &Field) -> bool
+    ensures { result ≡ is_built (column_of field.now) }
+{
+    field.dictionary.is_none() && is_type_built(&field.data_type)
+}
+
+/// Whether the arrays of such fields are built from runs.
+#[tactic(auto, unfolding(crate::specs::ByRuns::are_built_by_runs))]
+pub fn is_built_by_runs(fields: &[Field]) -> bool
+    ensures { result ≡ are_built_by_runs (columns_of (map column_of fields.now)) }
+{
+    for field in fields {
+        if !is_field_built(field) {
+            return false;
+        }
+    }
+    true
+}
+
+fn date_width(unit: DateUnit) -> usize
+    ensures { result ≡ date_bits (date_kind unit) / 8 }
+{
+    match unit {
+        DateUnit::Day => 4,
+        DateUnit::Millisecond => 8,
+    }
+}
+
+// Adds the array of runs of a type that have no null among their slots, and all below it.
+#[tactic(auto, unfolding(crate::specs::ByRuns::is_kind_built_by_runs))]
+fn build_valid_kind(
+    alloc: Global,
+    batch: &mut BuiltBatch,
+    data_type: &DataType,
+    runs: &[Run<'_>],
+) -> Result<(), AllocError>
+    requires built { is_kind_built_by_runs (kind_of data_type.now) ≡ true }
+    requires ready { AreReady (kind_of data_type.now) runs.now }
+    ensures { OnOk result (batch_in batch.new ≡ with_arrays (batch_in batch.old)
+        (built_at (plain_column (kind_of data_type.now) None) (kind_cells (kind_of data_type.now) runs.now))) }
+{
+    match data_type {
+        DataType::Null => build_run_nulls(batch, data_type, runs),
+        DataType::Bool => build_run_bits(alloc, batch, data_type, runs),
+        DataType::Int(integer) => {
+            build_run_values(alloc, batch, data_type, integer.width.bytes(), runs)
+        }
+        DataType::Date(unit) => build_run_values(alloc, batch, data_type, date_width(*unit), runs),
+        DataType::Timestamp(_, _) => build_run_values(alloc, batch, data_type, 8, runs),
+        DataType::FixedSizeBinary(width) => {
+            build_run_values(alloc, batch, data_type, *width as usize, runs)
+        }
+        DataType::Utf8 | DataType::Binary => {
+            build_run_contents(alloc, batch, data_type, OffsetWidth::Four, runs)
+        }
+        DataType::LargeUtf8 | DataType::LargeBinary => {
+            build_run_contents(alloc, batch, data_type, OffsetWidth::Eight, runs)
+        }
+        DataType::List(_)
+        | DataType::LargeList(_)
+        | DataType::FixedSizeList(_, _)
+        | DataType::Struct(_) => unreachable!(),
+    }
+}
+
+// Adds the array of a column of a type, whatever its name, and all below it.
+fn build_run_kind(
+    alloc: Global,
+    batch: &mut BuiltBatch,
+    data_type: &DataType,
+    runs: &[Run<'_>],
+) -> Result<(), AllocError>
+    requires built { is_kind_built_by_runs (kind_of data_type.now) ≡ true }
+    requires sound { are_runs_sound (plain_column (kind_of data_type.now) None) runs.now ≡ true }
+    requires fits { can_build (plain_column (kind_of data_type.now) None) (kind_cells (kind_of data_type.now) runs.now) ≡ true }
+    ensures { OnOk result (batch_in batch.new ≡ with_arrays (batch_in batch.old)
+        (built_at (plain_column (kind_of data_type.now) None) (kind_cells (kind_of data_type.now) runs.now))) }
+{
+    let valid = valid_runs(alloc, runs)?;
+    build_valid_kind(alloc, batch, data_type, &valid)
+}
+
+// The same of a field.
+fn build_run_column(
+    alloc: Global,
+    batch: &mut BuiltBatch,
+    field: &Field,
+    runs: &[Run<'_>],
+) -> Result<(), AllocError>
+    requires built { is_built (column_of field.now) ≡ true }
+    requires sound { are_runs_sound (column_of field.now) runs.now ≡ true }
+    requires fits { can_build (column_of field.now) (runs_cells (column_of field.now) runs.now) ≡ true }
+    ensures { OnOk result (batch_in batch.new ≡ with_arrays (batch_in batch.old)
+        (built_at (column_of field.now) (runs_cells (column_of field.now) runs.now))) }
+{
+    build_run_kind(alloc, batch, &field.data_type, runs)
+}
+
+// Adds the arrays of columns, and all below them.
+fn build_run_parts(
+    alloc: Global,
+    batch: &mut BuiltBatch,
+    fields: &[Field],
+    columns: &[Vec<Run<'_>>],
+) -> Result<(), AllocError>
+    requires built { are_built_by_runs (columns_of (map column_of fields.now)) ≡ true }
+    requires sound { are_columns_sound (columns_of (map column_of fields.now)) (map (λ v. v.items) columns.now) ≡ true }
+    requires fits { can_build_columns (columns_of (map column_of fields.now)) (map (λ v. v.items) columns.now) ≡ true }
+    ensures { OnOk result (batch_in batch.new ≡ with_arrays (batch_in batch.old)
+        (built_columns (columns_of (map column_of fields.now)) (map (λ v. v.items) columns.now))) }
+{
+    for (place, field) in fields.iter().enumerate() {
+        build_run_column(alloc, batch, field, &columns[place])?;
+    }
+    Ok(())
+}
+
+/// The same of rows whose columns are runs of slots: no cell is looked at by itself, and the bytes of valid slots are copied run by run.
+pub fn build_runs(
+    alloc: Global,
+    fields: &[Field],
+    columns: &[Vec<Run<'_>>],
+) -> Result<BuiltBatch, AllocError>
+    requires built { are_built_by_runs (columns_of (map column_of fields.now)) ≡ true }
+    requires sound { are_columns_sound (columns_of (map column_of fields.now)) (map (λ v. v.items) columns.now) ≡ true }
+    requires fits { can_build_columns (columns_of (map column_of fields.now)) (map (λ v. v.items) columns.now) ≡ true }
+    ensures { IfOk result (λ batch. (rows : List (List Cell)) → HaveRuns (columns_of (map column_of fields.now)) (map (λ v. v.items) columns.now) rows
+        → batch_in batch ≡ batch_of (built_below (columns_of (map column_of fields.now)) rows)) }
+{
+    let mut batch = empty_batch(alloc);
+    build_run_parts(alloc, &mut batch, fields, columns)?;
+    Ok(batch)
+}

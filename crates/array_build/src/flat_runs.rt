@@ -1,0 +1,90 @@
+// Arrays of types that have no fields below them, from runs whose slots are all valid.
+ghost use Rattle.std.specs.Prelude.{◌≡◌, true, OnOk, IfOk, Some, None, length, map};
+ghost use Rattle.std.specs.List.{flat_map};
+ghost use Rattle.arrow_schema.specs.Column.{nulls, booleans};
+ghost use Rattle.arrow_schema.specs.View.{kind_of};
+ghost use Rattle.array_build.specs.Batch.{batch_in, built_at, plain_column, with_arrays};
+ghost use Rattle.array_build.specs.inner.Runs.{AreReady, contents_width, fixed_width, kind_cells};
+ghost use Rattle.columns.specs.Offsets.{width_of};
+
+use crate::batch::{BuiltBatch, push_buffer, push_node};
+use crate::run_bits::run_booleans;
+use crate::run_contents::{run_contents, run_offsets};
+use crate::run_slots::{count_slots, push_run_slots};
+use crate::run_values::run_values;
+use array_runs::Run;
+use arrow_schema::DataType;
+use columns::OffsetWidth;
+use std::alloc::{AllocError, Global};
+
+// Nulls have a node alone.
+#[tactic(auto, using(crate::proofs::RunArrays::null_runs_are))]
+pub(crate) fn build_run_nulls(
+    batch: &mut BuiltBatch,
+    data_type: &DataType,
+    runs: &[Run<'_>],
+) -> Result<(), AllocError>
+    requires nulls { kind_of data_type.now ≡ nulls }
+    ensures { OnOk result (batch_in batch.new ≡ with_arrays (batch_in batch.old)
+        (built_at (plain_column (kind_of data_type.now) None) (kind_cells (kind_of data_type.now) runs.now))) }
+{
+    let slots = count_slots(runs)?;
+    push_node(batch, slots, slots)
+}
+
+#[tactic(auto, using(crate::proofs::RunArrays::boolean_runs_are))]
+pub(crate) fn build_run_bits(
+    alloc: Global,
+    batch: &mut BuiltBatch,
+    data_type: &DataType,
+    runs: &[Run<'_>],
+) -> Result<(), AllocError>
+    requires booleans { kind_of data_type.now ≡ booleans }
+    requires ready { AreReady (kind_of data_type.now) runs.now }
+    ensures { OnOk result (batch_in batch.new ≡ with_arrays (batch_in batch.old)
+        (built_at (plain_column (kind_of data_type.now) None) (kind_cells (kind_of data_type.now) runs.now))) }
+{
+    let bits = run_booleans(alloc, runs)?;
+    push_run_slots(alloc, batch, runs)?;
+    push_buffer(batch, bits)
+}
+
+/// Values of one width.
+#[tactic(auto, using(crate::proofs::RunArrays::fixed_runs_are))]
+pub(crate) fn build_run_values(
+    alloc: Global,
+    batch: &mut BuiltBatch,
+    data_type: &DataType,
+    width: usize,
+    runs: &[Run<'_>],
+) -> Result<(), AllocError>
+    requires width { fixed_width (kind_of data_type.now) ≡ Some width }
+    requires ready { AreReady (kind_of data_type.now) runs.now }
+    ensures { OnOk result (batch_in batch.new ≡ with_arrays (batch_in batch.old)
+        (built_at (plain_column (kind_of data_type.now) None) (kind_cells (kind_of data_type.now) runs.now))) }
+{
+    let values = run_values(alloc, data_type, width, runs)?;
+    push_run_slots(alloc, batch, runs)?;
+    push_buffer(batch, values)
+}
+
+/// Texts and binaries.
+#[tactic(auto, using(crate::proofs::RunArrays::content_runs_are))]
+pub(crate) fn build_run_contents(
+    alloc: Global,
+    batch: &mut BuiltBatch,
+    data_type: &DataType,
+    width: OffsetWidth,
+    runs: &[Run<'_>],
+) -> Result<(), AllocError>
+    requires width { contents_width (kind_of data_type.now) ≡ Some (width_of width) }
+    requires ready { AreReady (kind_of data_type.now) runs.now }
+    ensures { OnOk result (batch_in batch.new ≡ with_arrays (batch_in batch.old)
+        (built_at (plain_column (kind_of data_type.now) None) (kind_cells (kind_of data_type.now) runs.now))) }
+{
+    let offsets = run_offsets(alloc, data_type, width, runs)?;
+    let contents = run_contents(alloc, data_type, width, runs)?;
+    push_run_slots(alloc, batch, runs)?;
+    push_buffer(batch, offsets)?;
+    push_buffer(batch, contents)
+}

@@ -1,0 +1,174 @@
+// The bytes of texts and binaries, and where they end, of runs whose slots are all valid.
+ghost use Rattle.std.specs.Prelude.{◌≡◌, ◌≤◌, ◌+◌, ◌++◌, ◌*◌, false, true, OnOk, IfOk, Some, None, length, replicate};
+ghost use Rattle.std.specs.List.{flat_map};
+ghost use Rattle.array_build.specs.Batch.{plain_column};
+ghost use Rattle.array_build.specs.inner.Runs.{AreReady, AreOffsetsAdded, cell_sizes, contents_width, kind_cells, slot_sizes, span_contents};
+ghost use Rattle.array_runs.specs.Runs.{is_run_sound, is_run_valid, run_cells};
+ghost use Rattle.arrow_schema.specs.View.{kind_of};
+ghost use Rattle.columns.specs.Array.{slots_in, contents_in};
+ghost use Rattle.columns.specs.Buildable.{large_offset};
+ghost use Rattle.columns.specs.Built.{contents_of, offsets_of};
+ghost use Rattle.columns.specs.CellAt.{number_at};
+ghost use Rattle.columns.specs.Offsets.{width_of};
+ghost use Rattle.columns.specs.Tests.{are_few_offsets, are_unordered};
+ghost use Rattle.columns.specs.View.{view_array};
+
+use crate::content_bytes::push_offset;
+use crate::run_slots::count_slots;
+use array_runs::Run;
+use arrow_schema::DataType;
+use byteorder::{ByteOrder, LittleEndian};
+use columns::{ArrayView, OffsetWidth, bytes_at};
+use std::alloc::{AllocError, Global};
+
+// The bytes of some slots' texts or binaries.
+fn slot_contents<'a>(array: ArrayView<'a>, width: OffsetWidth, from: usize, len: usize) -> &'a [u8]
+    requires long { are_few_offsets (width_of width) (view_array array) ≡ false }
+    requires within { from + len ≤ slots_in (view_array array) }
+    ensures { result.now ≡ span_contents (width_of width) (view_array array.entry) from len }
+{
+    if len == 0 {
+        return &[];
+    }
+    bytes_at(array.contents(), array.spanned(width, from, len))
+}
+
+// The bytes of a run.
+#[tactic(auto, using(crate::proofs::RunContents::no_contents))]
+fn push_contents(
+    contents: &mut Vec<u8>,
+    data_type: &DataType,
+    width: OffsetWidth,
+    run: &Run<'_>,
+) -> Result<(), AllocError>
+    requires width { contents_width (kind_of data_type.now) ≡ Some (width_of width) }
+    requires sound { is_run_sound (plain_column (kind_of data_type.now) None) run.now ≡ true }
+    requires valid { is_run_valid run.now ≡ true }
+    ensures { OnOk result (contents.new.items
+        ≡ contents.old.items ++ flat_map contents_of (run_cells (plain_column (kind_of data_type.now) None) run.now)) }
+{
+    match run {
+        Run::Slots { array, from, len } => {
+            contents.extend_from_slice(slot_contents(*array, width, *from, *len))?;
+            Ok(())
+        }
+        Run::Nulls(_) => Ok(()),
+    }
+}
+
+/// The bytes of all texts or binaries, one after another; a null has none.
+pub(crate) fn run_contents(
+    alloc: Global,
+    data_type: &DataType,
+    width: OffsetWidth,
+    runs: &[Run<'_>],
+) -> Result<Vec<u8>, AllocError>
+    requires width { contents_width (kind_of data_type.now) ≡ Some (width_of width) }
+    requires ready { AreReady (kind_of data_type.now) runs.now }
+    ensures { IfOk result (λ bytes. bytes.items ≡ flat_map contents_of (kind_cells (kind_of data_type.now) runs.now)) }
+{
+    let mut contents = Vec::new(alloc);
+    for run in runs {
+        push_contents(&mut contents, data_type, width, run)?;
+    }
+    Ok(contents)
+}
+
+fn offset_at(offsets: &[u8], width: OffsetWidth, i: usize) -> u64
+    requires { (i + 1) * width_of width ≤ length offsets.now }
+    ensures { result ≡ number_at (width_of width) offsets.now i }
+{
+    match width {
+        OffsetWidth::Four => u64::from(LittleEndian::read_u32(&offsets[i * 4..])),
+        OffsetWidth::Eight => LittleEndian::read_u64(&offsets[i * 8..]),
+    }
+}
+
+// The offsets at which the bytes of some slots begin, where the first begin at `start`; and where the last end.
+fn push_slot_offsets(
+    offsets: &mut Vec<u8>,
+    width: OffsetWidth,
+    array: ArrayView<'_>,
+    from: usize,
+    len: usize,
+    start: u64,
+) -> Result<u64, AllocError>
+    requires long { are_few_offsets (width_of width) (view_array array) ≡ false }
+    requires ordered { are_unordered (width_of width) (length (contents_in (view_array array))) (view_array array) ≡ false }
+    requires within { from + len ≤ slots_in (view_array array) }
+    requires room { start + length (span_contents (width_of width) (view_array array) from len) ≤ large_offset }
+    ensures offsets { IfOk result (λ next. AreOffsetsAdded (width_of width) offsets.old.items offsets.new.items start next
+        (slot_sizes (width_of width) (view_array array.entry) from len)) }
+    ensures next { IfOk result (λ next. next ≡ start + length (span_contents (width_of width) (view_array array.entry) from len)) }
+{
+    let source = array.offsets();
+    let mut next = start;
+    for i in from..from + len {
+        push_offset(offsets, width, next)?;
+        next += offset_at(source, width, i + 1) - offset_at(source, width, i);
+    }
+    Ok(next)
+}
+
+// The same offset for each of some nulls.
+fn push_null_offsets(
+    offsets: &mut Vec<u8>,
+    width: OffsetWidth,
+    count: usize,
+    start: u64,
+) -> Result<(), AllocError>
+    ensures { OnOk result (AreOffsetsAdded (width_of width) offsets.old.items offsets.new.items start start (replicate count 0)) }
+{
+    for _ in 0..count {
+        push_offset(offsets, width, start)?;
+    }
+    Ok(())
+}
+
+// The offsets at which the bytes of a run begin; and where its last end.
+fn push_run_offsets(
+    offsets: &mut Vec<u8>,
+    data_type: &DataType,
+    width: OffsetWidth,
+    run: &Run<'_>,
+    start: u64,
+) -> Result<u64, AllocError>
+    requires width { contents_width (kind_of data_type.now) ≡ Some (width_of width) }
+    requires sound { is_run_sound (plain_column (kind_of data_type.now) None) run.now ≡ true }
+    requires valid { is_run_valid run.now ≡ true }
+    requires room { start + length (flat_map contents_of (run_cells (plain_column (kind_of data_type.now) None) run.now)) ≤ large_offset }
+    ensures offsets { IfOk result (λ next. AreOffsetsAdded (width_of width) offsets.old.items offsets.new.items start next
+        (cell_sizes (run_cells (plain_column (kind_of data_type.now) None) run.now))) }
+    ensures next { IfOk result (λ next. next ≡ start + length (flat_map contents_of (run_cells (plain_column (kind_of data_type.now) None) run.now))) }
+{
+    match run {
+        Run::Slots { array, from, len } => {
+            push_slot_offsets(offsets, width, *array, *from, *len, start)
+        }
+        Run::Nulls(count) => {
+            push_null_offsets(offsets, width, *count, start)?;
+            Ok(start)
+        }
+    }
+}
+
+/// The offsets of texts or binaries: 0, and then where each ends.
+pub(crate) fn run_offsets(
+    alloc: Global,
+    data_type: &DataType,
+    width: OffsetWidth,
+    runs: &[Run<'_>],
+) -> Result<Vec<u8>, AllocError>
+    requires width { contents_width (kind_of data_type.now) ≡ Some (width_of width) }
+    requires ready { AreReady (kind_of data_type.now) runs.now }
+    ensures { IfOk result (λ bytes. bytes.items ≡ offsets_of (width_of width) (cell_sizes (kind_cells (kind_of data_type.now) runs.now))) }
+{
+    let size = count_slots(runs)?.saturating_add(1).saturating_mul(8);
+    let mut offsets = Vec::with_capacity(alloc, size)?;
+    let mut next = 0;
+    for run in runs {
+        next = push_run_offsets(&mut offsets, data_type, width, run, next)?;
+    }
+    push_offset(&mut offsets, width, next)?;
+    Ok(offsets)
+}

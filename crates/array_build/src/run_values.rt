@@ -1,0 +1,91 @@
+// Values of one width, of runs whose slots are all valid.
+ghost use Rattle.std.specs.Prelude.{◌≡◌, ◌≤◌, ◌+◌, ◌*◌, ◌++◌, true, OnOk, IfOk, Some, None, take, drop, replicate, length};
+ghost use Rattle.std.specs.List.{flat_map};
+ghost use Rattle.array_build.specs.Batch.{plain_column};
+ghost use Rattle.array_build.specs.inner.Runs.{AreReady, fixed_value, fixed_width, kind_cells};
+ghost use Rattle.array_runs.specs.Runs.{is_run_sound, is_run_valid, run_cells};
+ghost use Rattle.arrow_schema.specs.View.{kind_of};
+ghost use Rattle.columns.specs.Array.{slots_in, values_in};
+ghost use Rattle.columns.specs.View.{view_array};
+ghost use Rattle.facts.specs.Bytes.{AreBytes};
+
+use crate::run_slots::count_slots;
+use array_runs::Run;
+use arrow_schema::DataType;
+use columns::ArrayView;
+use std::alloc::{AllocError, Global};
+
+// A byte is below 256: a contract knows it of a slice that it is given.
+fn are_bytes(bytes: &[u8])
+    ensures { AreBytes bytes.now }
+{}
+
+// The values of some slots of an array.
+fn slot_values<'a>(array: ArrayView<'a>, width: usize, from: usize, len: usize) -> &'a [u8]
+    requires long { (from + len) * width ≤ length (values_in (view_array array)) }
+    requires within { from + len ≤ slots_in (view_array array) }
+    ensures values { result.now ≡ take (len * width) (drop (from * width) (values_in (view_array array.entry))) }
+    ensures bytes { AreBytes (values_in (view_array array.entry)) }
+{
+    // a number of the code is below 2^64, so that the sum is too
+    let _slots = array.slots();
+    let values = array.values();
+    are_bytes(values);
+    &values[from * width..(from + len) * width]
+}
+
+/// Zeros for so many values. More bytes than a number counts have no room in memory.
+fn push_zeros(values: &mut Vec<u8>, width: usize, count: usize) -> Result<(), AllocError>
+    ensures { OnOk result (values.new.items ≡ values.old.items ++ replicate (count * width) 0) }
+{
+    let end = match count.checked_mul(width) {
+        Some(size) => values.len().checked_add(size),
+        None => None,
+    };
+    match end {
+        Some(end) => values.resize(end, 0),
+        None => Err(AllocError),
+    }
+}
+
+// The values of a run of a type.
+#[tactic(auto, using(crate::proofs::RunValues::null_bytes))]
+fn push_run(
+    values: &mut Vec<u8>,
+    data_type: &DataType,
+    width: usize,
+    run: &Run<'_>,
+) -> Result<(), AllocError>
+    requires width { fixed_width (kind_of data_type.now) ≡ Some width }
+    requires sound { is_run_sound (plain_column (kind_of data_type.now) None) run.now ≡ true }
+    requires valid { is_run_valid run.now ≡ true }
+    ensures { OnOk result (values.new.items
+        ≡ values.old.items ++ flat_map (fixed_value (kind_of data_type.now)) (run_cells (plain_column (kind_of data_type.now) None) run.now)) }
+{
+    match run {
+        Run::Slots { array, from, len } => {
+            values.extend_from_slice(slot_values(*array, width, *from, *len))?;
+            Ok(())
+        }
+        Run::Nulls(count) => push_zeros(values, width, *count),
+    }
+}
+
+/// The values of runs, with zeros where there is a null.
+pub(crate) fn run_values(
+    alloc: Global,
+    data_type: &DataType,
+    width: usize,
+    runs: &[Run<'_>],
+) -> Result<Vec<u8>, AllocError>
+    requires width { fixed_width (kind_of data_type.now) ≡ Some width }
+    requires ready { AreReady (kind_of data_type.now) runs.now }
+    ensures { IfOk result (λ bytes. bytes.items ≡ flat_map (fixed_value (kind_of data_type.now)) (kind_cells (kind_of data_type.now) runs.now)) }
+{
+    let size = count_slots(runs)?.saturating_mul(width);
+    let mut values = Vec::with_capacity(alloc, size)?;
+    for run in runs {
+        push_run(&mut values, data_type, width, run)?;
+    }
+    Ok(values)
+}

@@ -1,0 +1,13 @@
+// Runs of slots.
+use columns::ArrayView;
+
+/// Slots of an array one after another, or so many nulls.
+#[derive(Clone, Copy, Debug)]
+pub enum Run<'a> {
+    Slots {
+        array: ArrayView<'a>,
+        from: usize,
+        len: usize,
+    },
+    Nulls(usize),
+}

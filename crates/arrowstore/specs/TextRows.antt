@@ -1,0 +1,37 @@
+-- Rows of an input that is a text, for a table of a store.
+use Rattle.std.specs.Prelude.{◌≡◌, ◌⊎◌, ℕ, List, Option, Some, None, IfSome, Result, Ok, Err, IsErr}
+use Rattle.arrow_schema.specs.Column.{PlainSchema}
+use Rattle.cells.specs.Cell.{Cell}
+use Rattle.catalogue.specs.Entries.{PlainEntry}
+use Rattle.text_import.specs.declared.refusal.Refused.{Refused}
+use Rattle.text_import.specs.Objects.{jsonl_rows_of}
+use Rattle.text_import.specs.Records.{csv_rows_of}
+use Rattle.tables.specs.declared.refusal.Refusal as tables
+use Rattle.tables.specs.declared.refusal.Refusal.TheVariants as refusals
+use Rattle.arrowstore.specs.declared.refusal.Refusal.{Refusal}
+use Rattle.arrowstore.specs.declared.refusal.Refusal.TheVariants.{Text, Store}
+use Rattle.arrowstore.specs.declared.text_rows.TextForm.{TextForm}
+use Rattle.arrowstore.specs.declared.text_rows.TextForm.TheVariants.{Csv, JsonLines}
+use Rattle.arrowstore.specs.Changing.{Answered}
+
+-- the rows that a text has for a schema, or its first refusal
+abbrev pub rows_in : TextForm → PlainSchema → List ℕ → Result (List (List Cell)) Refused
+rows_in (Csv null_text) schema text = csv_rows_of schema null_text.now text
+rows_in JsonLines schema text = jsonl_rows_of schema text
+
+-- all of an input, as a text for the schema of the table that is found, gives this
+pub record InputGives (form : TextForm) (found : Option PlainEntry) (input : Option (List ℕ)) (given : Result (List (List Cell)) Refused) : Type 0 where
+  pub entry : PlainEntry
+  pub is_there : found ≡ Some entry
+  pub bytes : List ℕ
+  pub whole : IfSome input (λ all. bytes ≡ all)
+  pub gives : rows_in form entry.schema bytes ≡ given
+
+-- the rows of all of an input were handed to the store, which gave an answer, and the program's follows it; or it was refused before, and the store is as it was
+abbrev pub HandsRows : TextForm → Option PlainEntry → Option (List ℕ) → (List (List Cell) → Result (Unit {0}) tables.Refusal → Type 0) → Type 0 → Result (Unit {0}) Refusal → Type 0
+HandsRows form found input P same result = (IsErr result × same) ⊎ ((rows : List (List Cell)) × InputGives form found input (Ok rows) × Answered (P rows) result)
+
+-- a refusal of the text is that of all of the input
+abbrev pub IfOfText : TextForm → Option PlainEntry → Option (List ℕ) → Refusal → Type 0
+IfOfText form found input (Text refused) = InputGives form found input (Err refused)
+IfOfText form found input _ = Unit {0}

@@ -1,0 +1,76 @@
+// Rows of an input that is a text: CSV or JSON Lines.
+ghost use Rattle.std.specs.Prelude.{◌≡◌, ◌≢◌, true, codes, map, IfErr, OnOk};
+ghost use Rattle.std.specs.Io.KnownBytes.{Appends};
+ghost use Rattle.facts.specs.Outcomes.{Gives};
+ghost use Rattle.arrow_schema.specs.View.{schema_of};
+ghost use Rattle.cells.specs.Row.{row_of};
+ghost use Rattle.catalogue.specs.Edits.{entry_of};
+ghost use Rattle.text_import.specs.Refusals.{refused_by};
+ghost use Rattle.tables.specs.Commands.{append_rows};
+ghost use Rattle.tables.specs.Tables.{Tables};
+ghost use Rattle.store.specs.Applying.{GoesOn, reply_of};
+ghost use Rattle.store.specs.Calls.{apply_call};
+ghost use Rattle.store.specs.Fits.{StoreFits, listed_in};
+ghost use Rattle.store.specs.Machine.{Machine};
+ghost use Rattle.arrowstore.specs.TextRows.{rows_in, HandsRows, IfOfText};
+
+use crate::{LARGEST_INPUT, Refusal, apply_command, read_at_most};
+use arrow_schema::Schema;
+use cells::Row;
+use sector_dev::SectorDevice;
+use std::alloc::Global;
+use std::io::{Read, Write};
+use store::Store;
+use tables::Command;
+use text_import::{TextError, csv_rows, jsonl_rows};
+
+/// What a text of rows is.
+#[derive(Clone, Copy, Debug)]
+pub enum TextForm<'a> {
+    /// CSV, in which this text stands for a null where nulls are allowed.
+    Csv { null_text: &'a str },
+    /// JSON Lines: a line for each row.
+    JsonLines,
+}
+
+fn rows_in(
+    alloc: Global,
+    form: &TextForm<'_>,
+    schema: &Schema,
+    text: &[u8],
+) -> Result<Vec<Row>, TextError>
+    ensures { Gives refused_by (λ v. map row_of v.items) result (rows_in form.now (schema_of schema.now) text.now) }
+{
+    match form {
+        TextForm::Csv { null_text } => csv_rows(alloc, schema, text, null_text),
+        TextForm::JsonLines => jsonl_rows(alloc, schema, text),
+    }
+}
+
+/// Appends the rows that all of the input has, as a text for the table's schema, and writes `ok`.
+///
+/// That there is no such table is told before anything is read.
+pub fn append_text<D: SectorDevice, R: Read, W: Write>(
+    alloc: Global,
+    store: &mut Store<D>,
+    name: &str,
+    form: &TextForm<'_>,
+    input: &mut R,
+    output: &mut W,
+) -> Result<(), Refusal>
+    // What the store is given are the rows of the input, as they are defined.
+    ensures goes { D.tells ≡ true → (base : Tables) (m : Machine) → StoreFits D.size D.story base m store.old
+        → HandsRows form.now (entry_of (listed_in store.old) name.now) (R.remaining input.old)
+        (λ rows answer. GoesOn D.size D.story D.failed base m (apply_call (append_rows name.now rows)) (reply_of answer) store.old store.new)
+        (store.new ≡ store.old) result }
+    // A record that is refused is the first one that is none.
+    ensures refused { IfErr result (IfOfText form.now (entry_of (listed_in store.old) name.now) (R.remaining input.old)) }
+    ensures written { OnOk result (Appends (W.contents output.old) (W.contents output.new) (codes "ok\n")) }
+    ensures silent { IfErr result (λ refusal. refusal ≢ Refusal.Io → output.new ≡ output.old) }
+{
+    let schema = store.schema(alloc, name)?;
+    let text = read_at_most(alloc, input, LARGEST_INPUT)?;
+    let rows = rows_in(alloc, form, &schema, &text)?;
+    let name = String::from_str(alloc, name)?;
+    apply_command(alloc, store, Command::AppendRows { name, rows }, output)
+}

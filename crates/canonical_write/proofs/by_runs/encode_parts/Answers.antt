@@ -1,0 +1,74 @@
+use Rattle.std.specs.List.{AllByRecursion, list_all}
+use Rattle.std.proofs.Common.{◌≡◌, ◌++◌, List, ℕ, length, ap, sym, subst, ◌∙◌, arith}
+use Rattle.std.proofs.lemmas.List.Sums.{list_all-from_AllPass}
+use Rattle.arrow_schema.specs.Column.{PlainSchema, Columns, columns_of}
+use Rattle.arrow_schema.specs.View.{schema_of}
+use Rattle.canonical_stream.specs.Canonical.{canonical, piece_messages}
+use Rattle.canonical_stream.specs.Pieces.{IsPieceOf}
+use Rattle.canonical_write.proofs.RunSteps.{not_empty, rows_behind, count_behind}
+use Rattle.canonical_write.proofs.Steps.{first_written, next_written}
+use Rattle.cells.specs.Cell.{Cell, PlainTable}
+use Rattle.cells.specs.Row.{is_row}
+use Rattle.ipc_write.specs.Written.{schema_message, end_of_stream}
+use Rattle.run_pieces.specs.Left.{rows_left}
+use Rattle.run_pieces.specs.Rows.{runs_rows}
+use Rattle.std.specs.List.{flat_map}
+use Rattle.table_cut.specs.Cut.{pieces}
+use Rattle.table_cut.specs.Piece.{within_piece}
+use Rattle.values.specs.Parts.{parts_rows, parts_table}
+use Rattle.canonical_write.proofs.by_runs.encode_parts.Goals as goal
+
+pub loop-from-init : goal.loop-from-init
+loop-from-init c =
+    let s : PlainSchema = schema_of c.args.schema.now in
+    let cs : Columns = columns_of s.columns in
+    let t : PlainTable = parts_table s c.args.parts.now in
+    let all : rows_left cs c.in_ok-left.left ≡ parts_rows cs c.args.parts.now = c.in_ok-left.ensures.rows cs in
+    let first : c.write_schema.new.out.items ≡ schema_message s = c.in_ok-write_schema.ensures.appended ∙ ap (λ (x : List ℕ). x ++ schema_message s) c.new-out.ensures.items in
+    record {
+      within = omega (arith, ap length all, c.requires.count);
+      are = ap (list_all (is_row s)) all ∙ list_all-from_AllPass (is_row s) t.rows c.requires.table.rows;
+      sound = c.in_ok-left.ensures.sound cs c.requires.sound;
+      each = subst (λ (rows : List (List Cell)). AllByRecursion (IsPieceOf s) (pieces (within_piece s) rows)) (sym all) (c.pieces_can_be_built.ensures t c.requires.table);
+      written = ap (λ (rows : List (List Cell)). c.write_schema.new.out.items ++ (flat_map (piece_messages s) (pieces (within_piece s) rows) ++ end_of_stream)) all ∙ first_written s t c.write_schema.new.out.items first;
+    }
+
+pub next_piece-requires-clause-some : goal.next_piece-requires-clause-some
+next_piece-requires-clause-some c =
+    let cs : Columns = columns_of (schema_of c.args.schema.now).columns in
+    not_empty (rows_left cs c.loop-from.left) (omega (arith, c.loop-from.invariant.within, c.loop-from-test.true))
+
+pub write_run_piece-requires-clause-piece : goal.write_run_piece-requires-clause-piece
+write_run_piece-requires-clause-piece c =
+    let s : PlainSchema = schema_of c.args.schema.now in
+    (subst (AllByRecursion (IsPieceOf s)) c.in_ok-piece.ensures.piece c.loop-from.invariant.each).0
+
+pub overflow_add-from : goal.overflow_add-from
+overflow_add-from c =
+    let cs : Columns = columns_of (schema_of c.args.schema.now).columns in
+    let whole = count_behind (rows_left cs c.loop-from.left) (runs_rows cs c.in_ok-piece.piece.runs.items) (rows_left cs c.next_piece.new.self) c.in_ok-piece.ensures.front in
+    omega (arith, whole, c.loop-from.invariant.within, c.in_ok-piece.ensures.count)
+
+pub loop-from-preserved : goal.loop-from-preserved
+loop-from-preserved c =
+    let s : PlainSchema = schema_of c.args.schema.now in
+    let cs : Columns = columns_of s.columns in
+    let is = c.loop-from.invariant in
+    let old : List (List Cell) = rows_left cs c.loop-from.left in
+    let new : List (List Cell) = rows_left cs c.next_piece.new.self in
+    let piece : List (List Cell) = runs_rows cs c.in_ok-piece.piece.runs.items in
+    let whole = count_behind old piece new c.in_ok-piece.ensures.front in
+    record {
+      within = omega (arith, whole, is.within, c.in_ok-piece.ensures.count);
+      are = rows_behind s old piece new c.in_ok-piece.ensures.front is.are;
+      sound = c.in_ok-piece.ensures.left;
+      each = (subst (AllByRecursion (IsPieceOf s)) c.in_ok-piece.ensures.piece is.each).1;
+      written = next_written (piece_messages s) c.loop-from.out.items c.write_run_piece.new.out.items end_of_stream (canonical (parts_table s c.args.parts.now)) piece
+          (pieces (within_piece s) old) (pieces (within_piece s) new) c.in_ok-piece.ensures.piece c.in_ok-write_run_piece.ensures is.written;
+    }
+
+pub loop-from-smaller : goal.loop-from-smaller
+loop-from-smaller c =
+    let s : PlainSchema = schema_of c.args.schema.now in
+    let first = (subst (AllByRecursion (IsPieceOf s)) c.in_ok-piece.ensures.piece c.loop-from.invariant.each).0 in
+    omega (arith, first.some, c.in_ok-piece.ensures.count, c.loop-from-test.true)

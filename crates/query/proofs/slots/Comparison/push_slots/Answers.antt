@@ -1,0 +1,23 @@
+use Rattle.std.proofs.Common.{◌≡◌, ℕ, Bool, List, [], ◌∷◌, ◌++◌, map, sym, ap, ◌∙◌, append_assoc, arith}
+use Rattle.std.specs.List.{range_with_len}
+use Rattle.std.proofs.lemmas.List.FromFn.{map-range_with_len_more}
+use Rattle.columns.specs.Array.{validity_in}
+use Rattle.columns.specs.View.{view_array}
+use Rattle.query.specs.inner.Slots.{holds_in, holds_at}
+use Rattle.query.proofs.slots.Comparison.push_slots.Goals as goal
+
+pub loop-i-preserved : goal.loop-i-preserved
+loop-i-preserved c =
+    let i = c.loop-i.i in
+    let start = c.args.flags.now.items in
+    let a = view_array c.args.view in
+    let f = holds_at c.args.self a in
+    let flag : c.holds.result ≡ f i =
+    c.holds.ensures
+    ∙ ap (λ (v : List ℕ). holds_in c.args.self v c.values-values.result.now i) c.validity-validity.ensures
+    ∙ ap (λ (v : List ℕ). holds_in c.args.self (validity_in a) v i) c.values-values.ensures in
+    c.in_ok-push.ensures.items
+    ∙ ap (λ (xs : List Bool). xs ++ c.holds.result ∷ []) c.loop-i.invariant
+    ∙ append_assoc start (map f (range_with_len 0 i)) (c.holds.result ∷ [])
+    ∙ ap (λ (b : Bool). start ++ (map f (range_with_len 0 i) ++ b ∷ [])) flag
+    ∙ ap (λ (xs : List Bool). start ++ xs) (sym (map-range_with_len_more f 0 i i (omega arith)))

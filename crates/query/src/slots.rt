@@ -1,0 +1,200 @@
+// Comparisons with integers, made with the bytes of the arrays of record batches: no value is borrowed.
+ghost use Rattle.std.specs.Prelude.{◌≡◌, ◌≤◌, ◌<◌, ◌+◌, ◌*◌, ◌/◌, ◌-ℤ◌, ◌++◌, ◌&&◌, pos, true, nat_lt, length, map, IfOk, IfSome, OnOk, if◌then◌else◌};
+ghost use Rattle.std.specs.List.{list_all, range_with_len};
+ghost use Rattle.byteorder.specs.Endian.{little_number, twos_complement};
+ghost use Rattle.arrow_schema.specs.View.{kind_of, column_of, bits_of};
+ghost use Rattle.columns.specs.CellAt.{integer_at};
+ghost use Rattle.columns.specs.View.{view_array};
+ghost use Rattle.query.specs.inner.BoundView.{bound_in};
+ghost use Rattle.query.specs.inner.Masks.{IsMask};
+ghost use Rattle.query.specs.inner.Slots.{width_of, IsIntegerKind, IsIntegerColumn, IsComparison, holds_in, holds_at, batch_flags, part_flags, parts_flags, has_slots, batch_has_slots, part_has_slots};
+
+use crate::bound::{Bound, Demand, field_at};
+use crate::operator::{Operator, accepts};
+use arrow_schema::{BitWidth, DataType, DateUnit, Field, IntegerType};
+use byteorder::{ByteOrder, LittleEndian};
+use cells::Value;
+use columns::{ArrayView, array_or, no_array};
+use std::alloc::{AllocError, Global};
+use values::{Batch, Part};
+
+/// What is asked of the integers of the column at a place.
+#[derive(Clone, Copy, Debug)]
+pub(crate) struct Comparison {
+    place: usize,
+    integer: IntegerType,
+    operator: Operator,
+    literal: i128,
+}
+
+fn signed(width: BitWidth) -> IntegerType
+    ensures width { result.width ≡ width }
+    ensures signed { result.signed ≡ true }
+{
+    IntegerType {
+        width,
+        signed: true,
+    }
+}
+
+// The integers that the values of a type are.
+#[tactic(auto, unfolding(columns::specs::CellAt::kind_cell))]
+fn integer_of(data_type: &DataType) -> Option<IntegerType>
+    ensures { IfSome result (λ t. IsIntegerKind (kind_of data_type.now) t) }
+{
+    match data_type {
+        DataType::Int(integer) => Some(*integer),
+        DataType::Date(DateUnit::Day) => Some(signed(BitWidth::ThirtyTwo)),
+        DataType::Date(DateUnit::Millisecond) => Some(signed(BitWidth::SixtyFour)),
+        DataType::Timestamp(_, _) => Some(signed(BitWidth::SixtyFour)),
+        _ => None,
+    }
+}
+
+fn field_integer(field: &Field) -> Option<IntegerType>
+    ensures { IfSome result (λ t. IsIntegerColumn (column_of field.now) t) }
+{
+    match field.dictionary {
+        None => integer_of(&field.data_type),
+        Some(_) => None,
+    }
+}
+
+/// The comparison that a condition is, where its column has integers and no dictionary.
+pub(crate) fn comparison_of(fields: &[Field], bound: &Bound) -> Option<Comparison>
+    ensures { IfSome result (λ c. IsComparison (map column_of fields.now) (bound_in bound.now) c) }
+{
+    let field = field_at(fields, bound.place)?;
+    let integer = field_integer(field)?;
+    match &bound.demand {
+        Demand::Compares(operator, Value::Int(literal)) => Some(Comparison {
+            place: bound.place,
+            integer,
+            operator: *operator,
+            literal: *literal,
+        }),
+        _ => None,
+    }
+}
+
+fn first_number(width: BitWidth, bytes: &[u8]) -> u64
+    requires { bits_of width / 8 ≤ length bytes.now }
+    ensures { result ≡ little_number (bits_of width / 8) bytes.now }
+{
+    match width {
+        BitWidth::Eight => u64::from(bytes[0]),
+        BitWidth::Sixteen => u64::from(LittleEndian::read_u16(bytes)),
+        BitWidth::ThirtyTwo => u64::from(LittleEndian::read_u32(bytes)),
+        BitWidth::SixtyFour => LittleEndian::read_u64(bytes),
+    }
+}
+
+// From half of all numbers on they are negative.
+fn folded(number: u64, half: u64) -> i128
+    ensures { result ≡ (if nat_lt number half then pos number else pos number -ℤ pos (2 * half)) }
+{
+    if number < half {
+        i128::from(number)
+    } else {
+        i128::from(number) - 2 * i128::from(half)
+    }
+}
+
+fn signed_number(width: BitWidth, number: u64) -> i128
+    ensures { result ≡ twos_complement (bits_of width / 8) number }
+{
+    match width {
+        BitWidth::Eight => folded(number, 0x80),
+        BitWidth::Sixteen => folded(number, 0x8000),
+        BitWidth::ThirtyTwo => folded(number, 0x8000_0000),
+        BitWidth::SixtyFour => folded(number, 0x8000_0000_0000_0000),
+    }
+}
+
+fn number_at(integer: IntegerType, values: &[u8], i: usize) -> i128
+    requires { (i + 1) * width_of integer ≤ length values.now }
+    ensures { result ≡ integer_at (width_of integer) integer.signed values.now i }
+{
+    let start = i * integer.width.bytes();
+    let number = first_number(integer.width, &values[start..]);
+    if integer.signed {
+        signed_number(integer.width, number)
+    } else {
+        i128::from(number)
+    }
+}
+
+impl Comparison {
+    // Whether it holds of a slot: never of a null.
+    fn holds(self, validity: &[u8], values: &[u8], i: usize) -> bool
+        requires valid { 0 < length validity.now → i < 8 * length validity.now }
+        requires long { (i + 1) * width_of self.integer ≤ length values.now }
+        ensures { result ≡ holds_in self validity.now values.now i }
+    {
+        if !validity.is_empty() && !bitmap::get(validity, i) {
+            return false;
+        }
+        let number = number_at(self.integer, values, i);
+        accepts(self.operator, number.cmp(&self.literal))
+    }
+
+    // Adds whether it holds of each of the first slots.
+    fn push_slots(
+        self,
+        flags: &mut Vec<bool>,
+        view: ArrayView<'_>,
+        rows: usize,
+    ) -> Result<(), AllocError>
+        requires { has_slots self rows (view_array view) ≡ true }
+        ensures { OnOk result (flags.new.items ≡ flags.old.items ++ map (holds_at self (view_array view.entry)) (range_with_len 0 rows)) }
+    {
+        let validity = view.validity();
+        let values = view.values();
+        for i in 0..rows {
+            flags.push(self.holds(validity, values, i))?;
+        }
+        Ok(())
+    }
+
+    // The same of the rows of a batch.
+    fn push_batch(self, flags: &mut Vec<bool>, part: &Part, batch: &Batch) -> Result<(), AllocError>
+        requires { batch_has_slots self part.now batch.now ≡ true }
+        ensures { OnOk result (flags.new.items ≡ flags.old.items ++ batch_flags self part.now batch.now) }
+    {
+        let none = no_array();
+        let view = ArrayView {
+            array: array_or(&batch.arrays, self.place, &none),
+            bytes: &part.bytes,
+            dictionaries: &part.dictionaries,
+        };
+        self.push_slots(flags, view, batch.rows)
+    }
+
+    fn push_part(self, flags: &mut Vec<bool>, part: &Part) -> Result<(), AllocError>
+        requires { part_has_slots self part.now ≡ true }
+        ensures { OnOk result (flags.new.items ≡ flags.old.items ++ part_flags self part.now) }
+    {
+        for batch in &part.batches {
+            self.push_batch(flags, part, batch)?;
+        }
+        Ok(())
+    }
+
+    /// A bit for each row of some record batches, which is set where it holds.
+    pub(crate) fn mask_of(
+        self,
+        alloc: Global,
+        parts: &[Part],
+        rows: usize,
+    ) -> Result<Vec<u8>, AllocError>
+        requires { list_all (part_has_slots self) parts.now ≡ true }
+        ensures { IfOk result (λ mask. IsMask mask.items (parts_flags self parts.now)) }
+    {
+        let mut flags = Vec::with_capacity(alloc, rows)?;
+        for part in parts {
+            self.push_part(&mut flags, part)?;
+        }
+        let mask = bitmap::pack(alloc, &flags)?;
+        Ok(mask)
+    }
+}

@@ -1,0 +1,6 @@
+pub mod RowLemmas
+pub mod WeightLemmas
+pub mod PieceLemmas
+pub mod ColumnLemmas
+pub mod PartLemmas
+pub mod RunSteps

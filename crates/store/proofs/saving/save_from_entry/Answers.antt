@@ -1,0 +1,38 @@
+use Rattle.std.proofs.Common.{◌≡◌, ◌<◌, ◌^◌, ◌∷◌, [], ℕ, List, None, length, sym, ◌∙◌, subst, string_bytes}
+use Rattle.std.proofs.lemmas.Result.{IfOk-weaker}
+use Rattle.std.specs.List.{AllByRecursion}
+use Rattle.facts.specs.Checks.{first_some}
+use Rattle.arrow_schema.specs.View.{schema_of}
+use Rattle.catalogue.specs.Entries.{PlainCatalogue, plain_entry}
+use Rattle.catalogue.specs.View.{catalogue_of}
+use Rattle.catalogue.specs.laws.Kept.{entry_is}
+use Rattle.ipc_message.specs.laws.Accepted.{first_none}
+use Rattle.query.specs.View.{query_in}
+use Rattle.store.specs.Changes.{PlainChange, change_of, IsChange}
+use Rattle.store.specs.Deciding.{create_tests, unselected}
+use Rattle.store.proofs.ReadTables.{reads_quiet}
+use Rattle.store.proofs.Tested.{Counts, create_names, table_is_change}
+use Rattle.store.proofs.saving.save_from_entry.Goals as goal
+
+pub test_save-requires : goal.test_save-requires
+test_save-requires g c = (entry_is (plain_entry c.args.entry.now) c.requires.sound).schema
+
+pub returns-in-Err-clause-reads : goal.returns-in-Err-clause-reads
+returns-in-Err-clause-reads g c =
+    let D = g.D.SectorDevice in reads_quiet D.size D.story D.failed D.tells _ c.args.device.now c.in-Err.ensures.no_device
+
+pub returns-in-Ok-read_entry-clause-ok : goal.returns-in-Ok-read_entry-clause-ok
+returns-in-Ok-read_entry-clause-ok g c =
+    let listed : PlainCatalogue = catalogue_of c.args.catalogue.now in
+    let to : List ℕ = string_bytes c.args.to in
+    let counts : Counts listed = record { more = c.counts_after_changes.ensures.put listed; same = c.counts_after_changes.ensures.replaced listed } in
+    let schema = schema_of c.args.entry.now.schema in
+    let query = query_in c.args.query.now in
+    let tested : first_some (unselected schema query ∷ create_tests listed to ∷ []) ≡ None = sym (λ i. first_some (unselected schema query ∷ create_tests listed (c.deref.ensures i) ∷ [])) ∙ c.in-Ok.ensures.ok in
+    let one = first_none (unselected schema query) (create_tests listed to ∷ []) tested in
+    let names = create_names listed to (first_none (create_tests listed to) [] one.1).0 in
+    IfOk-weaker c.put_selection.result _ (λ change. IsChange listed (change_of change))
+    (λ change put.
+    subst (IsChange listed) (sym put.2.is)
+    (table_is_change listed to put.0 counts c.in-Ok.ensures.kept names.named names.room put.1.schema (c.pieces_are_tables.ensures.each put.0 put.1)
+    (subst (λ (x : PlainChange). AllByRecursion (λ (stream : List ℕ). length stream < 2 ^ 64) x.streams) put.2.is put.2.short))) c.put_selection.ensures.put

@@ -1,0 +1,166 @@
+// A query is saved: the selection of a table, as a table of its own.
+ghost use Rattle.std.specs.Prelude.{◌≡◌, ◌≢◌, ◌⊎◌, ◌∷◌, [], true, false, None, Some, Err, IfOk, IfErr, OnOk, string_bytes};
+ghost use Rattle.facts.specs.Checks.{first_some};
+ghost use Rattle.sector_dev.specs.Disk.{now, shown_image};
+ghost use Rattle.arrow_schema.specs.Limits.{IsWithinLimits};
+ghost use Rattle.arrow_schema.specs.View.{schema_of};
+ghost use Rattle.cells.specs.Cell.{PlainTable};
+ghost use Rattle.catalogue.specs.Entries.{plain_entry, is_entry, IsCatalogue};
+ghost use Rattle.catalogue.specs.View.{catalogue_of};
+ghost use Rattle.commit.specs.Standing.{is_size, all_on_device};
+ghost use Rattle.query.specs.View.{query_in};
+ghost use Rattle.tables.specs.Commands.{save_as};
+ghost use Rattle.tables.specs.Verdict.{empty_table};
+ghost use Rattle.values.specs.Table.{IsTable};
+ghost use Rattle.values.specs.TableView.{table_of};
+ghost use Rattle.store.specs.Calls.{is_failure};
+ghost use Rattle.store.specs.Changes.{change_of, IsChange};
+ghost use Rattle.store.specs.Deciding.{create_tests, unselected, selected_entry, decided_selection};
+ghost use Rattle.store.specs.Reading.{OnlyReadsDevice, ended};
+ghost use Rattle.store.specs.inner.Reading.{runs_in};
+ghost use Rattle.store.specs.inner.Saving.{IsPut, IsSelected};
+ghost use Rattle.store.specs.inner.Tests.{decision_of};
+
+use crate::Store;
+use crate::change::Change;
+use crate::deciding::{put_table, test_create};
+use crate::gathered::Gathered;
+use crate::reading::{is_failure, read_entry};
+use arrow_schema::Schema;
+use canonical_write::pieces_are_tables;
+use catalogue::{Catalogue, Entry, counts_after_changes};
+use query::{Query, select, selection_is_a_table};
+use sector_dev::SectorDevice;
+use std::alloc::{AllocError, Global};
+use tables::Refusal;
+use values::Table;
+
+// A table of this schema without rows.
+fn without_rows(alloc: Global, schema: &Schema) -> Result<Table, AllocError>
+    requires { IsWithinLimits (schema_of schema.now) }
+    ensures { IfOk result (λ t. table_of t ≡ empty_table (schema_of schema.now)) }
+{
+    Gathered::empty(alloc, schema.copy(alloc)?).finish(alloc)
+}
+
+// S12: the query makes nothing of tables of this schema.
+fn test_query(alloc: Global, schema: &Schema, query: &Query) -> Result<(), Refusal>
+    requires { IsWithinLimits (schema_of schema.now) }
+    ensures ok { OnOk result (unselected (schema_of schema.now) (query_in query.now) ≡ None) }
+    ensures err { IfErr result (λ e. (e ≡ Refusal.OutOfMemory) ⊎ (unselected (schema_of schema.now) (query_in query.now) ≡ Some e)) }
+    ensures no_device { IfErr result (λ e. is_failure e ≡ false) }
+{
+    let table = without_rows(alloc, schema)?;
+    match select(alloc, &table, query) {
+        Ok(_) => Ok(()),
+        Err(error) => Err(Refusal::from(error)),
+    }
+}
+
+// The tests of a selection of tables of this schema that is to stand at a name.
+fn test_save(
+    alloc: Global,
+    catalogue: &Catalogue,
+    schema: &Schema,
+    to: &str,
+    query: &Query,
+) -> Result<(), Refusal>
+    requires { IsWithinLimits (schema_of schema.now) }
+    ensures ok { OnOk result
+        (first_some (unselected (schema_of schema.now) (query_in query.now) ∷ create_tests (catalogue_of catalogue.now) to.now ∷ []) ≡ None) }
+    ensures err { IfErr result (λ e. (e ≡ Refusal.OutOfMemory)
+        ⊎ (first_some (unselected (schema_of schema.now) (query_in query.now) ∷ create_tests (catalogue_of catalogue.now) to.now ∷ []) ≡ Some e)) }
+    ensures kept { OnOk result (IsCatalogue (catalogue_of catalogue.now)) }
+    ensures no_device { IfErr result (λ e. is_failure e ≡ false) }
+{
+    match test_query(alloc, schema, query) {
+        Ok(()) => test_create(catalogue, to),
+        Err(refusal) => Err(refusal),
+    }
+}
+
+// The selection of a table, at a name.
+fn put_selection(
+    alloc: Global,
+    to: String,
+    standing: &Table,
+    query: &Query,
+) -> Result<Change, Refusal>
+    requires { IsTable (table_of standing.now) }
+    ensures put { IfOk result (λ change. (t : PlainTable) × IsTable t × IsPut (string_bytes to) t (change_of change)) }
+    ensures answers { (decision_of result ≡ Err Refusal.OutOfMemory)
+        ⊎ (decision_of result ≡ decided_selection (string_bytes to) (query_in query.now) (table_of standing.now)) }
+    ensures no_device { IfErr result (λ e. is_failure e ≡ false) }
+    ensures not_halted { IfErr result (λ e. e ≢ Refusal.Halted) }
+{
+    selection_is_a_table();
+    match select(alloc, standing, query) {
+        Ok(table) => Ok(put_table(alloc, to, &table)?),
+        Err(error) => Err(Refusal::from(error)),
+    }
+}
+
+// A query on the table of an entry: its tests in order, and then the table is read.
+fn save_from_entry<D: SectorDevice>(
+    alloc: Global,
+    device: &mut D,
+    catalogue: &Catalogue,
+    entry: &Entry,
+    to: String,
+    query: &Query,
+) -> Result<Change, Refusal>
+    requires size { is_size (D.size device.old) ≡ true }
+    requires placed { all_on_device (D.size device.old) (runs_in (plain_entry entry.now).segments) ≡ true }
+    requires sound { is_entry (plain_entry entry.now) ≡ true }
+    ensures reads { OnlyReadsDevice D.size D.story D.failed D.tells (ended result) device.old device.new }
+    ensures ok { IfOk result (λ change. IsChange (catalogue_of catalogue.now) (change_of change)) }
+    ensures answers { IsSelected D.tells (shown_image (now (D.story device.old))) (string_bytes to) (query_in query.now)
+        (selected_entry (catalogue_of catalogue.now) (string_bytes to) (query_in query.now) (plain_entry entry.now)) (decision_of result) }
+    ensures not_halted { IfErr result (λ e. e ≢ Refusal.Halted) }
+{
+    counts_after_changes();
+    pieces_are_tables();
+    match test_save(alloc, catalogue, &entry.schema, &to, query) {
+        Ok(()) => match read_entry(alloc, device, entry) {
+            Ok(standing) => put_selection(alloc, to, &standing, query),
+            Err(refusal) => Err(refusal),
+        },
+        Err(refusal) => Err(refusal),
+    }
+}
+
+impl<D: SectorDevice> Store<D> {
+    ghost use Rattle.store.specs.Deciding.{IsAnswered};
+    ghost use Rattle.store.specs.Fits.{device_of, listed_in};
+    ghost use Rattle.store.specs.Reading.{OnlyReadsStore};
+
+    // What a query on a table changes, saved as another table.
+    pub(crate) fn decide_save(
+        &mut self,
+        alloc: Global,
+        from: String,
+        to: String,
+        query: Query,
+    ) -> Result<Change, Refusal>
+        requires on { self.old.halted ≡ false }
+        ensures reads { OnlyReadsStore D.size D.story D.failed D.tells (ended result) self.old self.new }
+        ensures ok { IfOk result (λ change. IsChange (listed_in self.old) (change_of change)) }
+        ensures answers { IsAnswered D.tells (shown_image (now (D.story (device_of self.old)))) (listed_in self.old)
+            (save_as (string_bytes from) (string_bytes to) (query_in query)) (decision_of result) }
+        ensures not_halted { IfErr result (λ e. e ≢ Refusal.Halted) }
+    {
+        let list = &self.opened.catalogue.list;
+        match list.get(&from) {
+            Some(entry) => {
+                match save_from_entry(alloc, &mut self.device, list, entry, to, &query) {
+                    Ok(change) => Ok(change),
+                    Err(refusal) => {
+                        self.halted = is_failure(refusal);
+                        Err(refusal)
+                    }
+                }
+            }
+            None => Err(Refusal::NoTable),
+        }
+    }
+}

@@ -1,0 +1,448 @@
+// Streams that are read whole (decode), in pieces (Decoder), and for the place of their first fault (place): ipc_table.
+use crate::made::{NotMade, assert_no_row, is_one_well};
+use crate::stream_bytes::{DEEP, DICTIONARY, LIST_OF_NULLS, NULL_LAST, SHORT_NULL_LAST, TEXTS};
+use crate::table_calls::has_rows;
+use Fault::{
+    AfterEnd, BadParameter, BigEndian, BodyLength, BufferRange, BufferShort, Compressed,
+    DeltaWithoutBase, DictionaryId, DictionaryIndex, DictionaryOfNested, FlatBounds, FlatBudget,
+    HeaderKind, LayoutCount, MetadataSize, MetadataVersion, NoContinuation, NoSchema, NotUtf8,
+    NullCount, NullForbidden, Offsets, RowCount, SchemaLimit, SecondSchema, TooHeavy, Truncated,
+    TypeNotHeld,
+};
+use ipc_message::{Fault, ImportError, TypeName};
+use ipc_table::{Decoder, FinishError, decode, place};
+use std::alloc::Global;
+use values::Table;
+
+// The rows of the table, or its fault, the number of the faulty message, and that one's first byte.
+type Wanted = Result<&'static [&'static [&'static str]], (Fault, usize, usize)>;
+
+// Bytes of a stream, from one up to another and so many times, which bytes of these are changed, and what is wanted.
+type Row = (
+    &'static [(usize, usize, usize)],
+    &'static [(usize, u8)],
+    Wanted,
+);
+
+const ALL: &[(usize, usize, usize)] = &[(0, 1000, 1)];
+
+const ONE_NULL: Wanted = Ok(&[&["1"], &["null"]]);
+
+const NO_ROWS: Wanted = Ok(&[]);
+
+// Of `NULL_LAST`, whose schema ends at 152, and its record batch at 320.
+const CHANGED: &[Row] = &[
+    (ALL, &[], ONE_NULL),
+    (ALL, &[(0, 0x00)], Err((NoContinuation, 0, 0))),
+    (ALL, &[(6, 0x01)], Err((Truncated, 0, 0))),
+    (ALL, &[(7, 0x01)], Err((MetadataSize, 0, 0))),
+    (ALL, &[(7, 0x80)], Err((MetadataSize, 0, 0))),
+    (ALL, &[(8, 0xff)], Err((FlatBounds, 0, 0))),
+    (ALL, &[(28, 0x03)], Err((MetadataVersion, 0, 0))),
+    (ALL, &[(30, 0x04)], Err((HeaderKind, 0, 0))),
+    (ALL, &[(47, 0x80)], Err((BodyLength, 0, 0))),
+    (ALL, &[(60, 0x01)], Err((BigEndian, 0, 0))),
+    (
+        ALL,
+        &[(105, 0x03)],
+        Err((TypeNotHeld(TypeName::FloatingPoint), 0, 0)),
+    ),
+    (
+        ALL,
+        &[(105, 0x1b)],
+        Err((TypeNotHeld(TypeName::Unknown), 0, 0)),
+    ),
+    (ALL, &[(105, 0x00)], Err((BadParameter, 0, 0))),
+    (ALL, &[(105, 0x0c)], Err((BadParameter, 0, 0))),
+    (ALL, &[(140, 0x21)], Err((BadParameter, 0, 0))),
+    (ALL, &[(120, 0xff)], Err((NotUtf8, 0, 0))),
+    (ALL, &[(206, 0x0c)], Err((Compressed, 1, 152))),
+    (ALL, &[(105, 0x05)], Err((LayoutCount, 1, 152))),
+    (ALL, &[(288, 0x09)], Err((BufferRange, 1, 152))),
+    (ALL, &[(296, 0x07)], Err((BufferShort, 1, 152))),
+    (ALL, &[(224, 0x03)], Err((RowCount, 1, 152))),
+    (ALL, &[(256, 0x00)], Err((NullCount, 1, 152))),
+    (ALL, &[(304, 0x03)], Err((NullCount, 1, 152))),
+    (ALL, &[(104, 0x00)], Err((NullForbidden, 1, 152))),
+    // without bytes at the end, or at the front
+    (&[], &[], Err((NoSchema, 0, 0))),
+    (&[(0, 151, 1)], &[], Err((Truncated, 0, 0))),
+    (&[(0, 152, 1)], &[], NO_ROWS),
+    (&[(0, 153, 1)], &[], Err((Truncated, 1, 152))),
+    (&[(0, 319, 1)], &[], Err((Truncated, 1, 152))),
+    (&[(0, 320, 1)], &[], ONE_NULL),
+    (&[(0, 327, 1)], &[], Err((Truncated, 2, 320))),
+    (&[(152, 328, 1)], &[], Err((NoSchema, 0, 0))),
+    (&[(320, 328, 1)], &[], Err((NoSchema, 0, 0))),
+    // with more
+    (
+        &[(0, 152, 2), (152, 328, 1)],
+        &[],
+        Err((SecondSchema, 1, 152)),
+    ),
+    (
+        &[(0, 152, 1), (152, 320, 2), (320, 328, 1)],
+        &[],
+        Ok(&[&["1"], &["null"], &["1"], &["null"]]),
+    ),
+    (
+        &[(0, 152, 1), (152, 320, 2)],
+        &[(424, 0x00)],
+        Err((NullCount, 2, 320)),
+    ),
+    (&[(0, 328, 1), (0, 1, 1)], &[], Err((AfterEnd, 2, 320))),
+    (&[(0, 328, 1), (0, 328, 1)], &[], Err((AfterEnd, 2, 320))),
+];
+
+// Of `SHORT_NULL_LAST`: whether the column is nullable stands at 104, the null count at 256, the lengths of the buffers at 280 and 296, the
+// validity at 304 and the last value at 314.
+const SHORT_CHANGED: &[Row] = &[
+    (ALL, &[], Ok(LAST_NULL)),
+    (ALL, &[(104, 0)], Err((NullForbidden, 1, 152))),
+    (ALL, &[(256, 0)], Err((NullCount, 1, 152))),
+    (ALL, &[(280, 0)], Err((NullCount, 1, 152))),
+    (ALL, &[(296, 2)], Err((BufferShort, 1, 152))),
+    (ALL, &[(304, 0x07)], Err((NullCount, 1, 152))),
+    (ALL, &[(304, 0x05)], Ok(&[&["123"], &["null"], &["0"]])),
+    (ALL, &[(304, 0xfb)], Ok(LAST_NULL)),
+    (ALL, &[(314, 9)], Ok(LAST_NULL)),
+];
+
+const LAST_NULL: &[&[&str]] = &[&["123"], &["-20"], &["null"]];
+
+// Of `TEXTS`, with the offsets at 312, 316, 320 and 324.
+const TEXTS_CHANGED: &[Row] = &[
+    (ALL, &[], Ok(&[&["'"], &["null"], &["'héllo"]])),
+    (ALL, &[(324, 0x07)], Err((Offsets, 1, 136))),
+    (ALL, &[(316, 0x01)], Err((Offsets, 1, 136))),
+    (ALL, &[(324, 0x02)], Err((NotUtf8, 1, 136))),
+    (ALL, &[(324, 0x05)], Ok(&[&["'"], &["null"], &["'héll"]])),
+];
+
+const WITHOUT_DICTIONARY: &[(usize, usize, usize)] = &[(0, 200, 1), (432, 608, 1)];
+
+const TWICE: &[(usize, usize, usize)] = &[(0, 200, 1), (200, 600, 2), (600, 608, 1)];
+
+// Of `DICTIONARY`: the schema ends at 200, the dictionary batch at 432 and the record batch at 600.
+const DICTIONARY_CHANGED: &[Row] = &[
+    (ALL, &[], Ok(&[&["'b"], &["'a"], &["'b"], &["null"]])),
+    (ALL, &[(105, 0x0d)], Err((DictionaryOfNested, 0, 0))),
+    (ALL, &[(272, 0x01)], Err((DictionaryId, 1, 200))),
+    (ALL, &[(284, 0x01)], Err((DeltaWithoutBase, 1, 200))),
+    (ALL, &[(424, 0xff)], Err((NotUtf8, 1, 200))),
+    (ALL, &[(593, 0xff)], Err((DictionaryIndex, 2, 432))),
+    (ALL, &[(593, 0x02)], Err((DictionaryIndex, 2, 432))),
+    // what is below a null may be anything
+    (
+        ALL,
+        &[(595, 0xff)],
+        Ok(&[&["'b"], &["'a"], &["'b"], &["null"]]),
+    ),
+    (WITHOUT_DICTIONARY, &[], Err((DictionaryIndex, 1, 200))),
+    (
+        WITHOUT_DICTIONARY,
+        &[(304, 0x04), (352, 0x00)],
+        Ok(&[&["null"], &["null"], &["null"], &["null"]]),
+    ),
+    // the texts of another dictionary, in place of the first one and behind it
+    (
+        TWICE,
+        &[(824, 0x63), (825, 0x64)],
+        Ok(&[
+            &["'b"],
+            &["'a"],
+            &["'b"],
+            &["null"],
+            &["'c"],
+            &["'d"],
+            &["'c"],
+            &["null"],
+        ]),
+    ),
+    (
+        TWICE,
+        &[(684, 0x01), (824, 0x63), (825, 0x64), (994, 0x03)],
+        Ok(&[
+            &["'b"],
+            &["'a"],
+            &["'b"],
+            &["null"],
+            &["'b"],
+            &["'a"],
+            &["'d"],
+            &["null"],
+        ]),
+    ),
+];
+
+// Of `LIST_OF_NULLS`, whose schema ends at 208: the length of the batch stands at 280, of its lists at 304, of the nulls at 320, and of
+// the offsets at 368.
+const LISTS_CHANGED: &[Row] = &[
+    (ALL, &[], NO_ROWS),
+    (ALL, &[(320, 0x01)], Err((RowCount, 1, 208))),
+    (ALL, &[(323, 0x00), (327, 0x10)], Err((RowCount, 1, 208))),
+];
+
+// Of `DEEP`: a front, whose number of columns stands at 64, a struct of one child, one that names its child twice, and nulls. The
+// size of the metadata stands at 4.
+const DEEP_CHANGED: &[Row] = &[
+    (
+        &[(0, 104, 1), (104, 140, 31), (180, 204, 1)],
+        &[(4, 0xd4), (5, 0x04)],
+        NO_ROWS,
+    ),
+    (
+        &[(0, 104, 1), (104, 140, 32), (180, 204, 1)],
+        &[(4, 0xf8), (5, 0x04)],
+        Err((SchemaLimit, 0, 0)),
+    ),
+    (
+        &[(0, 104, 1), (104, 140, 37), (180, 204, 1)],
+        &[(4, 0xac), (5, 0x05)],
+        Err((SchemaLimit, 0, 0)),
+    ),
+    (
+        &[(0, 104, 1), (104, 140, 38), (180, 204, 1)],
+        &[(4, 0xd0), (5, 0x05)],
+        Err((FlatBudget, 0, 0)),
+    ),
+];
+
+// A list of 16,777,216 nulls; structs of 21 levels, each of which names the next one twice; 2,048 fields, and 2,049. Each takes a while.
+const LARGE: &[(&[u8], Row)] = &[
+    (
+        &LIST_OF_NULLS,
+        (
+            ALL,
+            &[(280, 0x01), (304, 0x01), (368, 0x08)],
+            Err((TooHeavy, 1, 208)),
+        ),
+    ),
+    (
+        &DEEP,
+        (
+            &[(0, 104, 1), (140, 180, 20), (180, 204, 1)],
+            &[(4, 0x98), (5, 0x03)],
+            Err((FlatBudget, 0, 0)),
+        ),
+    ),
+    (
+        &DEEP,
+        (
+            &[(0, 104, 1), (140, 180, 10), (180, 204, 1)],
+            &[(4, 0x08), (5, 0x02), (64, 0x02)],
+            NO_ROWS,
+        ),
+    ),
+    (
+        &DEEP,
+        (
+            &[(0, 104, 1), (140, 180, 10), (180, 204, 1)],
+            &[(4, 0x08), (5, 0x02), (64, 0x03)],
+            Err((SchemaLimit, 0, 0)),
+        ),
+    ),
+];
+
+// The bytes of a row.
+fn bytes_of(alloc: Global, stream: &[u8], row: &Row) -> Result<Vec<u8>, NotMade> {
+    let mut bytes = Vec::new(alloc);
+    for (from, to, times) in row.0 {
+        let end = stream.len().min(*to);
+        let part = stream.get(*from..end).unwrap_or_default();
+        for _ in 0..*times {
+            bytes.extend_from_slice(part)?;
+        }
+    }
+    for (at, byte) in row.1 {
+        if let Some(to) = bytes.get_mut(*at) {
+            *to = *byte;
+        }
+    }
+    Ok(bytes)
+}
+
+fn is_meant(alloc: Global, table: &Table, wanted: &Wanted) -> Result<bool, NotMade> {
+    match wanted {
+        Ok(rows) => Ok(has_rows(alloc, table, rows)?),
+        Err(_) => Ok(false),
+    }
+}
+
+fn is_told(fault: Fault, wanted: &Wanted) -> bool {
+    match wanted {
+        Ok(_) => false,
+        Err((same, _, _)) => fault == *same,
+    }
+}
+
+fn is_decoded(alloc: Global, bytes: &[u8], wanted: &Wanted) -> Result<bool, NotMade> {
+    match decode(alloc, Vec::from_slice(alloc, bytes)?) {
+        Ok(table) => is_meant(alloc, &table, wanted),
+        Err(ImportError::Fault(fault)) => Ok(is_told(fault, wanted)),
+        Err(ImportError::OutOfMemory) => Err(NotMade),
+    }
+}
+
+fn is_placed(alloc: Global, bytes: &[u8], wanted: &Wanted) -> Result<bool, NotMade> {
+    match (place(alloc, bytes)?, wanted) {
+        (None, Ok(_)) => Ok(true),
+        (Some(found), Err((_, number, start))) => Ok(found == (*number, *start)),
+        _ => Ok(false),
+    }
+}
+
+// Whether a decoder that is fed a piece may go on, or tells what is wanted.
+fn is_fed(
+    alloc: Global,
+    decoder: &mut Decoder,
+    piece: &[u8],
+    wanted: &Wanted,
+) -> Result<bool, NotMade> {
+    match decoder.feed(alloc, piece) {
+        Ok(()) => Ok(true),
+        Err(ImportError::Fault(fault)) => Ok(is_told(fault, wanted)),
+        Err(ImportError::OutOfMemory) => Err(NotMade),
+    }
+}
+
+fn is_finished(alloc: Global, decoder: Decoder, wanted: &Wanted) -> Result<bool, NotMade> {
+    match decoder.finish(alloc) {
+        Ok(table) => is_meant(alloc, &table, wanted),
+        Err(FinishError::Fault(fault)) => Ok(is_told(fault, wanted)),
+        Err(FinishError::OutOfMemory(_)) => Err(NotMade),
+    }
+}
+
+// Fed the first bytes at once, and the others in pieces of this size.
+fn is_read_in_pieces(
+    alloc: Global,
+    first: usize,
+    size: usize,
+    bytes: &[u8],
+    wanted: &Wanted,
+) -> Result<bool, NotMade> {
+    let (front, rest) = bytes.split_at_checked(first).ok_or(NotMade)?;
+    let mut decoder = Decoder::new(alloc);
+    let mut well = is_fed(alloc, &mut decoder, front, wanted)?;
+    for piece in rest.chunks(size.max(1)) {
+        well = is_fed(alloc, &mut decoder, piece, wanted)? && well;
+    }
+    Ok(is_finished(alloc, decoder, wanted)? && well)
+}
+
+// Read whole, for its place, and byte by byte.
+fn is_read(alloc: Global, bytes: &[u8], wanted: &Wanted) -> Result<bool, NotMade> {
+    Ok(
+        is_decoded(alloc, bytes, wanted)?
+            && is_placed(alloc, bytes, wanted)?
+            && is_read_in_pieces(alloc, 0, 1, bytes, wanted)?,
+    )
+}
+
+// Cut in two at every byte.
+fn is_read_in_two(alloc: Global, bytes: &[u8], wanted: &Wanted) -> Result<bool, NotMade> {
+    let mut well = true;
+    for first in 0..=bytes.len() {
+        well = well && is_read_in_pieces(alloc, first, bytes.len(), bytes, wanted)?;
+    }
+    Ok(well)
+}
+
+fn is_row_read(alloc: Global, stream: &[u8], row: &Row) -> Result<bool, NotMade> {
+    is_read(alloc, &bytes_of(alloc, stream, row)?, &row.2)
+}
+
+fn is_row_read_in_two(alloc: Global, stream: &[u8], row: &Row) -> Result<bool, NotMade> {
+    is_read_in_two(alloc, &bytes_of(alloc, stream, row)?, &row.2)
+}
+
+fn wrongly_read(alloc: Global, stream: &[u8], rows: &[Row]) -> Result<Option<usize>, NotMade> {
+    for (place, row) in rows.iter().enumerate() {
+        if !is_row_read(alloc, stream, row)? || !is_row_read_in_two(alloc, stream, row)? {
+            return Ok(Some(place));
+        }
+    }
+    Ok(None)
+}
+
+fn wrongly_read_of_large(alloc: Global) -> Result<Option<usize>, NotMade> {
+    for (place, (stream, row)) in LARGE.iter().enumerate() {
+        if !is_row_read(alloc, stream, row)? {
+            return Ok(Some(place));
+        }
+    }
+    Ok(None)
+}
+
+#[test]
+fn integers_are_read_or_have_their_fault(rt: HostRuntime) {
+    assert_no_row(&rt, wrongly_read(rt.alloc(), &NULL_LAST, CHANGED));
+    assert_no_row(
+        &rt,
+        wrongly_read(rt.alloc(), &SHORT_NULL_LAST, SHORT_CHANGED),
+    );
+}
+
+#[test]
+fn texts_and_dictionaries_are_read_or_have_their_fault(rt: HostRuntime) {
+    assert_no_row(&rt, wrongly_read(rt.alloc(), &TEXTS, TEXTS_CHANGED));
+    assert_no_row(
+        &rt,
+        wrongly_read(rt.alloc(), &DICTIONARY, DICTIONARY_CHANGED),
+    );
+}
+
+#[test]
+fn lists_and_structs_are_read_or_have_their_fault(rt: HostRuntime) {
+    assert_no_row(&rt, wrongly_read(rt.alloc(), &LIST_OF_NULLS, LISTS_CHANGED));
+    assert_no_row(&rt, wrongly_read(rt.alloc(), &DEEP, DEEP_CHANGED));
+    assert_no_row(&rt, wrongly_read_of_large(rt.alloc()));
+}
+
+// Bytes of `NULL_LAST`, from one up to another, and how many of them wait for the rest of their message where they were fed one by one.
+const HELD: &[(usize, usize, usize)] = &[
+    (0, 0, 0),
+    (0, 1, 1),
+    (0, 151, 151),
+    (0, 152, 0),
+    (0, 319, 167),
+    (0, 320, 0),
+    (0, 327, 7),
+    (0, 328, 0),
+    (1, 4, 3),
+    // after a fault none do
+    (1, 5, 0),
+];
+
+fn held_of(alloc: Global, bytes: &[u8]) -> usize {
+    let mut decoder = Decoder::new(alloc);
+    for byte in bytes {
+        let _ = decoder.feed(alloc, &[*byte]);
+    }
+    decoder.held()
+}
+
+fn wrongly_held(alloc: Global) -> Option<usize> {
+    for (place, (from, to, held)) in HELD.iter().enumerate() {
+        if held_of(alloc, NULL_LAST.get(*from..*to).unwrap_or_default()) != *held {
+            return Some(place);
+        }
+    }
+    None
+}
+
+#[test]
+fn what_is_left_of_a_message_waits(rt: HostRuntime) {
+    assert_no_row(&rt, Ok(wrongly_held(rt.alloc())));
+}
+
+fn is_null_read(alloc: Global) -> Result<bool, NotMade> {
+    is_read(alloc, &SHORT_NULL_LAST, &Ok(LAST_NULL))
+}
+
+// tests/refused_memory_in_crates refuses each allocation in turn: then one of two runs ends for want of memory.
+#[test]
+fn a_stream_with_nulls_is_read_also_without_memory(rt: HostRuntime) {
+    assert!(rt; is_one_well(is_null_read(rt.alloc()), is_null_read(rt.alloc())));
+}

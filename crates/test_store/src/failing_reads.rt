@@ -1,0 +1,117 @@
+// A read of the device that fails while a store is opened, a table is read or exported, or its rows are weighed for an append. The store is halted
+// then; opened again it has all that it had.
+use crate::inputs::{INT, Input};
+use crate::made::{NotMade, assert_no_row};
+use crate::openings::device_after;
+use crate::playing::{Slot, Way, is_played, replies_of, shut, wrong_reply};
+use crate::steps::{Step, Steps};
+use crate::stops::are_refused;
+use Input::{Column, Ints};
+use Step::{Append, Create, Export, Format, Import, Open, Read, Tables};
+use sector_dev::ModelDevice;
+use std::alloc::Global;
+use store::{Place, Reply, Store};
+use tables::Refusal;
+
+// The table t has two segments of a sector each, and u one of two: 312 bytes and 8 for each of 26 values.
+const STORED: Steps = &[
+    (Format, "ok"),
+    (Import("t", Ints(&[7, -1])), "ok"),
+    (Append("t", Ints(&[5])), "ok"),
+    (Import("u", Column("b:int64", &[1; 26])), "ok"),
+    (Create("v", INT), "ok"),
+];
+
+const READING: Steps = &[
+    (Open, "ok"),
+    (Read("t"), "\"a\":int32?: 7 -1 5"),
+    (Read("v"), "\"a\":int32?:"),
+    (
+        Read("u"),
+        "\"b\":int64: 1 1 1 1 1 1 1 1 1 1 1 1 1 1 1 1 1 1 1 1 1 1 1 1 1 1",
+    ),
+    (Export("t"), "stream of \"a\":int32?: 7 -1 5"),
+    (Append("u", Column("b:int64", &[2])), "ok"),
+    (Tables, "t 3, u 27, v 0"),
+];
+
+// How many sectors were read after each step: both commits and two of the catalogue, and those of the table's segments.
+const READS: &[u64] = &[4, 6, 6, 8, 10, 12, 12];
+
+// Whether just so many steps are answered as they are to, and the others refused.
+fn are_answered(alloc: Global, replies: &[Reply], done: usize) -> Result<bool, NotMade> {
+    let (first, rest) = replies.split_at_checked(done).ok_or(NotMade)?;
+    let steps = READING.get(..done).unwrap_or_default();
+    Ok(are_refused(alloc, rest)? && wrong_reply(alloc, first, steps)?.is_none())
+}
+
+// A device that holds these tables, of which a read fails, from 1 on.
+fn failing(alloc: Global, k: u64) -> Result<ModelDevice, NotMade> {
+    let mut device = device_after(alloc, STORED)?;
+    device.fail_read_at(k);
+    Ok(device)
+}
+
+// Whether each step is answered as it is to, where so many are done before the read fails.
+fn is_halted(alloc: Global, slot: &mut Slot, done: usize, way: Way) -> Result<bool, NotMade> {
+    are_answered(alloc, &replies_of(alloc, slot, READING, way)?, done)
+}
+
+// Whether the same device has lost nothing, if a step was refused.
+fn is_read_again(alloc: Global, slot: &mut Slot, done: usize) -> Result<bool, NotMade> {
+    Ok(done == READING.len() || is_played(alloc, slot, READING)?)
+}
+
+fn survives_on(alloc: Global, slot: &mut Slot, done: usize, way: Way) -> Result<bool, NotMade> {
+    if !is_halted(alloc, slot, done, way)? {
+        return Ok(false);
+    }
+    is_read_again(alloc, &mut Some(Place::Shut(shut(slot)?)), done)
+}
+
+fn survives(alloc: Global, k: u64, way: Way) -> Result<bool, NotMade> {
+    let done = READS.iter().filter(|reads| **reads < k).count();
+    survives_on(alloc, &mut Some(Place::Shut(failing(alloc, k)?)), done, way)
+}
+
+// The first read after whose failure something is wrong. In the last run none fails.
+fn wrong_read(alloc: Global, way: Way) -> Result<Option<usize>, NotMade> {
+    for k in 1..=13u64 {
+        if !survives(alloc, k, way)? {
+            return Ok(Some(k as usize));
+        }
+    }
+    Ok(None)
+}
+
+#[test]
+fn each_read_of_the_device_fails_in_turn(rt: HostRuntime) {
+    assert_no_row(&rt, wrong_read(rt.alloc(), Way::EachCall));
+    assert_no_row(&rt, wrong_read(rt.alloc(), Way::OneRun));
+}
+
+// Whether the export to a writer is refused twice, and writes nothing.
+fn is_nothing_written(alloc: Global, device: ModelDevice) -> Result<bool, NotMade> {
+    let Ok(mut store) = Store::open(alloc, device) else {
+        return Err(NotMade);
+    };
+    let mut written = Vec::new(alloc);
+    let first = store.export(alloc, "t", &mut written);
+    let second = store.export(alloc, "t", &mut written);
+    Ok(first == Err(Refusal::Device) && second == Err(Refusal::Halted) && written.is_empty())
+}
+
+// The first read of a segment that fails and lets something be written.
+fn wrong_export(alloc: Global) -> Result<Option<usize>, NotMade> {
+    for k in 5..=6u64 {
+        if !is_nothing_written(alloc, failing(alloc, k)?)? {
+            return Ok(Some(k as usize));
+        }
+    }
+    Ok(None)
+}
+
+#[test]
+fn an_export_that_fails_writes_nothing(rt: HostRuntime) {
+    assert_no_row(&rt, wrong_export(rt.alloc()));
+}
