@@ -2,7 +2,7 @@
 use Rattle.std.specs.Prelude.{◌≡◌, ◌≢◌, ◌<◌, ℕ, List, length, Option, IfSome, IsErr, IsTrue}
 use Rattle.std.specs.Io.KnownBytes.{Appends}
 use Rattle.ipc_message.specs.Header.{supported_codes}
-use Rattle.ipc_table.specs.Meaning.{meaning}
+use Rattle.ipc_stream.specs.Meaning.{meaning}
 use Rattle.arrowstore.specs.declared.input.TheConstants.{LARGEST_INPUT}
 use Rattle.arrowstore.specs.declared.status.Ended.{Ended}
 use Rattle.arrowstore.specs.declared.status.Status.{Status}

@@ -3,7 +3,7 @@ use Rattle.std.specs.Prelude.{◌≡◌, ℕ, List, Option, Result, Ok, Err}
 use Rattle.std.specs.Io.KnownBytes.{Appends}
 use Rattle.cells.specs.Cell.{PlainTable}
 use Rattle.ipc_message.specs.Header.{supported_codes}
-use Rattle.ipc_table.specs.Meaning.{meaning}
+use Rattle.ipc_stream.specs.Meaning.{meaning}
 use Rattle.canonical_stream.specs.Canonical.{canonical}
 use Rattle.arrowstore.specs.declared.refusal.Refusal.{Refusal}
 use Rattle.arrowstore.specs.declared.refusal.Refusal.TheVariants.{Fault, TooManyBytes, Io, BadSize, Fields, Text, Query, Opening, Store, OutOfMemory}

@@ -2,7 +2,7 @@
 ghost use Rattle.std.specs.Prelude.{◌≡◌, ◌≢◌, ◌+◌, ◌≤◌, ◌<◌, length, IfSome, IfOk, IfErr, OnOk, IsErr, IsErrOf};
 ghost use Rattle.std.specs.Io.KnownBytes.{IsAtEnd};
 ghost use Rattle.ipc_message.specs.Header.{supported_codes};
-ghost use Rattle.ipc_table.specs.Meaning.{meaning};
+ghost use Rattle.ipc_stream.specs.Meaning.{meaning};
 ghost use Rattle.values.specs.TableView.{table_of};
 ghost use Rattle.arrowstore.specs.Given.{HasGiven, HasGivenAtMost, UnlessTooManyBytes};
 ghost use Rattle.arrowstore.specs.Recode.{IsVerdict, AppendsCanonical, IsTrueFault};
@@ -10,7 +10,7 @@ ghost use Rattle.arrowstore.specs.Recode.{IsVerdict, AppendsCanonical, IsTrueFau
 use crate::output::write_whole;
 use crate::{LARGEST_INPUT, Refusal, read_at_most};
 use canonical_write::encode;
-use ipc_table::decode;
+use ipc_stream::decode;
 use std::alloc::Global;
 use std::io::{Read, Write};
 use values::Table;

@@ -47,7 +47,7 @@ fn run(alloc: Global, words: &[String], given: Vec<u8>, output: &mut impl Write)
         }
         "query" => {
             let query = query_of(alloc, words)?;
-            let table = ipc_table::decode(alloc, given).ok().context("no stream")?;
+            let table = ipc_stream::decode(alloc, given).ok().context("no stream")?;
             let selected = select(alloc, &table, &query)?;
             print_rows(alloc, output, &selected)
         }

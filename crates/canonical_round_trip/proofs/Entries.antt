@@ -28,7 +28,7 @@ use Rattle.written_batch.specs.WrittenBatch.{raw_nodes, written_body, IsWritable
 use Rattle.written_ids.specs.Numbered.{replacing}
 use Rattle.canonical_stream.specs.Canonical.{entries_message, entries_messages}
 use Rattle.canonical_stream.specs.laws.FewColumns.{dictionaries_have_few}
-use Rattle.ipc_table.specs.Meaning.{Known, read_next}
+use Rattle.ipc_stream.specs.Meaning.{Known, read_next}
 use Rattle.canonical_round_trip.proofs.Messages.{Reads, Stands, message_reads, nothing_reads, both_read}
 use Rattle.canonical_round_trip.proofs.Values.{columns_of_dictionaries, few_values}
 use Rattle.canonical_round_trip.proofs.Written.{SchemaLaw, DictionaryLaw, EntriesLaw, IsReadAlone}

@@ -34,7 +34,7 @@ use Rattle.written_batch.specs.WrittenBatch.{raw_nodes, written_batch, written_b
 use Rattle.written_ids.specs.Numbered.{replacing}
 use Rattle.canonical_stream.specs.Canonical.{canonical, piece_messages, entries_messages}
 use Rattle.canonical_stream.specs.Pieces.{IsPieceOf}
-use Rattle.ipc_table.specs.Meaning.{Known, known_first, read_next, meaning}
+use Rattle.ipc_stream.specs.Meaning.{Known, known_first, read_next, meaning}
 use Rattle.table_cut.specs.laws.Joined.{pieces_joined}
 use Rattle.canonical_round_trip.proofs.Entries.{known_with, arrays_in, all_entries_read, dictionaries_for, ids_counted, dictionaries_numbered}
 use Rattle.canonical_round_trip.proofs.Written.{SchemaLaw, DictionaryLaw, BatchLaw, EntriesLaw, RowsLaw, table_with}

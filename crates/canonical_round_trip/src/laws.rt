@@ -2,7 +2,7 @@
 ghost use Rattle.std.specs.Prelude.{◌≡◌, Ok};
 ghost use Rattle.cells.specs.Cell.{PlainTable};
 ghost use Rattle.ipc_message.specs.Header.{supported_codes};
-ghost use Rattle.ipc_table.specs.Meaning.{meaning};
+ghost use Rattle.ipc_stream.specs.Meaning.{meaning};
 ghost use Rattle.values.specs.Table.{IsTable};
 ghost use Rattle.canonical_stream.specs.Canonical.{canonical};
 

@@ -11,7 +11,7 @@ use Rattle.canonical_write.proofs.Steps.{few_rows}
 use Rattle.canonical_write.specs.Pieces.{piece_table, piece_stream, IsPiece}
 use Rattle.cells.specs.Cell.{Cell, PlainTable}
 use Rattle.ipc_message.specs.Header.{supported_codes}
-use Rattle.ipc_table.specs.Meaning.{meaning}
+use Rattle.ipc_stream.specs.Meaning.{meaning}
 use Rattle.ipc_write.specs.Written.{schema_message, end_of_stream}
 use Rattle.table_cut.specs.Piece.{pieces_of}
 use Rattle.values.specs.Table.{IsTable}

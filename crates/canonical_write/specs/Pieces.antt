@@ -6,7 +6,7 @@ use Rattle.canonical_stream.specs.Canonical.{canonical}
 use Rattle.cells.specs.Cell.{Cell, PlainTable}
 use Rattle.cells.specs.declared.limits.TheConstants.{MAX_PIECE_ROWS}
 use Rattle.ipc_message.specs.Header.{supported_codes}
-use Rattle.ipc_table.specs.Meaning.{meaning}
+use Rattle.ipc_stream.specs.Meaning.{meaning}
 use Rattle.ipc_write.specs.Written.{schema_message}
 use Rattle.table_cut.specs.Piece.{pieces_of}
 use Rattle.values.specs.Table.{IsTable}

@@ -15,7 +15,7 @@ use Rattle.cells.specs.declared.limits.TheConstants.{MAX_TABLE_WEIGHT}
 use Rattle.values.specs.Table.{IsTable, table_from, first_unfit}
 use Rattle.ipc_message.specs.declared.fault.Fault.{Fault}
 use Rattle.ipc_message.specs.Header.{supported_codes}
-use Rattle.ipc_table.specs.Meaning.{meaning}
+use Rattle.ipc_stream.specs.Meaning.{meaning}
 use Rattle.canonical_write.specs.Pieces.{piece_streams, piece_counts}
 use Rattle.catalogue.specs.Entries.{PlainEntry, PlainCatalogue, is_entry, IsCatalogue}
 use Rattle.catalogue.specs.laws.Changed.{found_passes}

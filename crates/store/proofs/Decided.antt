@@ -11,7 +11,7 @@ use Rattle.ipc_message.specs.declared.error.ImportError.{ImportError}
 use Rattle.ipc_message.specs.declared.error.ImportError.TheVariants as imports
 use Rattle.ipc_message.specs.Header.{supported_codes}
 use Rattle.ipc_message.specs.Outcome.{Fails}
-use Rattle.ipc_table.specs.Meaning.{meaning}
+use Rattle.ipc_stream.specs.Meaning.{meaning}
 use Rattle.query.specs.Query.{PlainQuery}
 use Rattle.catalogue.specs.Entries.{PlainEntry, PlainCatalogue}
 use Rattle.catalogue.specs.Edits.{entry_of}

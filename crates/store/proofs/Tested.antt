@@ -17,7 +17,7 @@ use Rattle.ipc_message.specs.declared.error.ImportError.TheVariants as imports
 use Rattle.ipc_message.specs.Header.{supported_codes}
 use Rattle.ipc_message.specs.Outcome.{Fails}
 use Rattle.table_cut.specs.Piece.{pieces_of}
-use Rattle.ipc_table.specs.Meaning.{meaning}
+use Rattle.ipc_stream.specs.Meaning.{meaning}
 use Rattle.canonical_write.specs.Pieces.{piece_streams, piece_counts, IsPiece}
 use Rattle.store.specs.laws.Pieces.{pieces_each, pieces_some, pieces_few}
 use Rattle.ipc_message.specs.laws.Accepted.{first_none}

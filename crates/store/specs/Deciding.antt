@@ -7,7 +7,7 @@ use Rattle.sector_dev.specs.Disk.{Image}
 use Rattle.arrow_schema.specs.Column.{PlainSchema}
 use Rattle.cells.specs.Cell.{Cell, PlainTable}
 use Rattle.ipc_message.specs.Header.{supported_codes}
-use Rattle.ipc_table.specs.Meaning.{meaning}
+use Rattle.ipc_stream.specs.Meaning.{meaning}
 use Rattle.canonical_write.specs.Pieces.{piece_streams, piece_counts}
 use Rattle.query.specs.Query.{PlainQuery}
 use Rattle.query.specs.Selection.{selection}

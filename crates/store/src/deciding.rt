@@ -19,7 +19,7 @@ use crate::change::{Change, Edit};
 use arrow_schema::{Schema, one_shape_is_decided, same_shape};
 use canonical_write::{encode_pieces, pieces_are_tables};
 use catalogue::{Catalogue, MAX_TABLES, counts_after_changes, is_name};
-use ipc_table::decode;
+use ipc_stream::decode;
 use std::alloc::{AllocError, Global};
 use tables::{Limit, MAX_IMPORT_BYTES, NewTable, Refusal};
 use values::{Table, accepted_rows_are_a_table};

@@ -8,7 +8,7 @@ ghost use Rattle.values.specs.Table.{IsTable};
 
 use arrow_schema::Schema;
 use cells::MAX_TABLE_WEIGHT;
-use ipc_table::Weighed;
+use ipc_stream::Weighed;
 use std::alloc::{AllocError, Global};
 use values::{Part, Table, TableError, tables_are_joined_and_cut};
 

@@ -17,7 +17,7 @@ use crate::deciding::{test_bytes, test_shape};
 use arrow_schema::{Schema, one_shape_is_decided};
 use catalogue::Entry;
 use cells::{Row, add_weights, row_weight};
-use ipc_table::{Weighed, decode_weighed};
+use ipc_stream::{Weighed, decode_weighed};
 use std::alloc::Global;
 use table_cut::first_unfit_row;
 use tables::Refusal;

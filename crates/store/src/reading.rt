@@ -23,7 +23,7 @@ use arrow_schema::Schema;
 use catalogue::{Entry, Segment};
 use cells::MAX_TABLE_WEIGHT;
 use ipc_message::ImportError;
-use ipc_table::{Weighed, decode_weighed};
+use ipc_stream::{Weighed, decode_weighed};
 use ipc_write::{schema_message_is_read_again, write_schema};
 use sector_dev::SectorDevice;
 use segments::{ReadError, read_run};

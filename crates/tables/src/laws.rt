@@ -14,7 +14,7 @@ ghost use Rattle.tables.specs.Refusals.{origin_of, by_tables};
 ghost use Rattle.tables.specs.View.{command_of};
 
 use crate::command::Command;
-use ipc_table::meaning_is_a_table;
+use ipc_stream::meaning_is_a_table;
 use query::selection_is_a_table;
 use values::{accepted_rows_are_a_table, tables_are_joined_and_cut};
 

@@ -1,4 +1,4 @@
-// Streams that are read whole (decode), in pieces (Decoder), and for the place of their first fault (place): ipc_table.
+// Streams that are read whole (decode), in pieces (Decoder), and for the place of their first fault (place): ipc_stream.
 use crate::made::{NotMade, assert_no_row, is_one_well};
 use crate::stream_bytes::{DEEP, DICTIONARY, LIST_OF_NULLS, NULL_LAST, SHORT_NULL_LAST, TEXTS};
 use crate::table_calls::has_rows;
@@ -10,7 +10,7 @@ use Fault::{
     TypeNotHeld,
 };
 use ipc_message::{Fault, ImportError, TypeName};
-use ipc_table::{Decoder, FinishError, decode, place};
+use ipc_stream::{Decoder, FinishError, decode, place};
 use std::alloc::Global;
 use values::Table;
 

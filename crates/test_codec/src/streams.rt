@@ -1,4 +1,4 @@
-// Streams of tables that are made of rows (canonical_write, ipc_table). What the built program shows of streams is tested by scripts, without
+// Streams of tables that are made of rows (canonical_write, ipc_stream). What the built program shows of streams is tested by scripts, without
 // a proof (tests/program, tests/refused_memory).
 use crate::made::{NotMade, assert_no_row, is_one_well, schema_of, sound_table_of, table_of_cells};
 use crate::stream_bytes::{
@@ -6,7 +6,7 @@ use crate::stream_bytes::{
 };
 use arrow_schema::same_shape;
 use canonical_write::encode;
-use ipc_table::decode;
+use ipc_stream::decode;
 use std::alloc::{AllocError, Global};
 use values::{Row, Table, Value, ValueRef};
 

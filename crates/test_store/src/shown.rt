@@ -4,7 +4,7 @@ use crate::steps::{add_part, add_values};
 use arrow_schema::same_shape;
 use catalogue::{Entry, Segment};
 use commit::{Commit, OpenError, recover};
-use ipc_table::decode;
+use ipc_stream::decode;
 use sector_dev::{ModelDevice, SectorDevice};
 use segments::read_run;
 use std::alloc::Global;

@@ -3,7 +3,7 @@ use crate::inputs::{Given, Input, bytes_of, new_schema, rows_of};
 use crate::made::NotMade;
 use arrow_schema::{Schema, field_text};
 use canonical_write::encode;
-use ipc_table::decode;
+use ipc_stream::decode;
 use query::{Condition, Query};
 use std::alloc::Global;
 use store::{Call, Reply};

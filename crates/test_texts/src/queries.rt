@@ -20,7 +20,7 @@ pub(crate) fn table_of(alloc: Global, case: &Case<'_>) -> Result<Table> {
 /// The table that a table's stream means, kept in its record batches.
 pub(crate) fn read_again(alloc: Global, table: &Table) -> Result<Table> {
     let stream = canonical_write::encode(alloc, table)?;
-    ipc_table::decode(alloc, stream).ok().context("no stream")
+    ipc_stream::decode(alloc, stream).ok().context("no stream")
 }
 
 pub(crate) fn query_answer(alloc: Global, case: &Case<'_>, table: &Table) -> Result<String> {

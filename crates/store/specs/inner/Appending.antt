@@ -7,7 +7,7 @@ use Rattle.cells.specs.Weight.{table_weight}
 use Rattle.cells.specs.declared.limits.TheConstants.{MAX_TABLE_WEIGHT}
 use Rattle.values.specs.Table.{IsTable}
 use Rattle.values.specs.TableView.{table_of}
-use Rattle.ipc_table.specs.declared.whole.Weighed.{Weighed}
+use Rattle.ipc_stream.specs.declared.whole.Weighed.{Weighed}
 use Rattle.catalogue.specs.Entries.{PlainEntry}
 use Rattle.tables.specs.declared.refusal.Refusal.{Refusal}
 use Rattle.tables.specs.declared.refusal.Refusal.TheVariants.{OutOfMemory}

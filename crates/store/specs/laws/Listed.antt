@@ -18,7 +18,7 @@ use Rattle.cells.specs.Cell.{Cell, PlainTable}
 use Rattle.ipc_message.specs.declared.fault.Fault.{Fault}
 use Rattle.ipc_message.specs.Header.{supported_codes}
 use Rattle.ipc_write.specs.Written.{schema_message}
-use Rattle.ipc_table.specs.Meaning.{meaning}
+use Rattle.ipc_stream.specs.Meaning.{meaning}
 use Rattle.catalogue.specs.declared.entry.Segment.{Segment}
 use Rattle.catalogue.specs.Entries.{PlainEntry, PlainCatalogue, names_of, comes_before, ascends, row_count, IsCatalogue}
 use Rattle.catalogue.specs.Edits.{entry_of, tables_of}

@@ -14,7 +14,7 @@ use Rattle.values.specs.Table as values
 use Rattle.values.specs.Table.{first_unfit, weighed, table_from, IsTable}
 use Rattle.ipc_message.specs.declared.fault.Fault.{Fault}
 use Rattle.ipc_message.specs.Header.{supported_codes}
-use Rattle.ipc_table.specs.Meaning.{meaning}
+use Rattle.ipc_stream.specs.Meaning.{meaning}
 use Rattle.query.specs.Bound as queries
 use Rattle.query.specs.Query.{PlainQuery}
 use Rattle.query.specs.Selection.{selection}

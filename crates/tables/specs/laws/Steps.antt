@@ -9,7 +9,7 @@ use Rattle.cells.specs.declared.limits.TheConstants.{MAX_TABLE_WEIGHT}
 use Rattle.values.specs.Table.{first_unfit}
 use Rattle.ipc_message.specs.declared.fault.Fault.{Fault}
 use Rattle.ipc_message.specs.Header.{supported_codes}
-use Rattle.ipc_table.specs.Meaning.{meaning}
+use Rattle.ipc_stream.specs.Meaning.{meaning}
 use Rattle.query.specs.Bound as queries
 use Rattle.query.specs.Selection.{selection}
 use Rattle.tables.specs.declared.refusal.Refusal.{Refusal}

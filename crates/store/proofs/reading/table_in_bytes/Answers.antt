@@ -10,7 +10,7 @@ use Rattle.ipc_message.specs.Convert.{plain_schema_of}
 use Rattle.ipc_message.specs.Framing.{Envelope, next_message, message, first_some}
 use Rattle.ipc_message.specs.Header.{header, supported_codes}
 use Rattle.ipc_message.specs.Raw.{schema_header}
-use Rattle.ipc_table.specs.laws.First.{means_begins}
+use Rattle.ipc_stream.specs.laws.First.{means_begins}
 use Rattle.ipc_write.specs.Decoded.{raw_schema}
 use Rattle.ipc_write.specs.Written.{schema_message, schema_envelope}
 use Rattle.values.specs.TableView.{table_of}

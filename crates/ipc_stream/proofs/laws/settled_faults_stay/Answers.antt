@@ -1,0 +1,5 @@
+use Rattle.ipc_stream.proofs.Settled.{settled_stays, settled_meant}
+use Rattle.ipc_stream.proofs.laws.settled_faults_stay.Goals as goal
+
+pub returns : goal.returns
+returns c = record { stays = settled_stays; meant = settled_meant }

@@ -1,0 +1,48 @@
+// What the definitions say. The functions do nothing: their contracts are the laws.
+ghost use Rattle.std.specs.Prelude.{◌≡◌, ◌++◌, ℕ, Bool, List, Ok, Err, Some};
+ghost use Rattle.facts.specs.Bytes.{AreBytes};
+ghost use Rattle.cells.specs.Cell.{PlainTable};
+ghost use Rattle.values.specs.Table.{IsTable};
+ghost use Rattle.ipc_message.specs.Header.{supported_codes};
+ghost use Rattle.ipc_stream.specs.Fed.{settled_fault};
+ghost use Rattle.ipc_stream.specs.FramedFault.{FaultStands};
+ghost use Rattle.ipc_stream.specs.FramedTable.{StreamEncodes};
+ghost use Rattle.ipc_stream.specs.Meaning.{meaning};
+
+use arrays::{
+    read_dictionaries_are_readable, read_dictionaries_have_bytes, read_rows_are_rows,
+    schemas_give_dictionary_columns,
+};
+use ipc_message::{Fault, checked_schema_is_within_limits, next_message_is_framed};
+
+/// A stream means the table that it encodes, and no other: framed messages, of which the first is the table's schema and each other a dictionary batch or a
+/// record batch that is read after those before it, whose rows one batch after another are the table's, and then nothing or the end of stream. A stream that
+/// means none has messages that are read, one after another, and then what the fault refuses; and a fault that stands is reported.
+pub fn meaning_is_framed()
+    ensures table { (supported : ℕ → Bool) (bytes : List ℕ) (t : PlainTable) → meaning supported bytes ≡ Ok t → StreamEncodes supported bytes t }
+    ensures once { (supported : ℕ → Bool) (bytes : List ℕ) (t u : PlainTable) → StreamEncodes supported bytes t → StreamEncodes supported bytes u → t ≡ u }
+    ensures means { (supported : ℕ → Bool) (bytes : List ℕ) (t : PlainTable) → StreamEncodes supported bytes t → meaning supported bytes ≡ Ok t }
+    ensures fault { (supported : ℕ → Bool) (bytes : List ℕ) (fault : Fault) → meaning supported bytes ≡ Err fault → FaultStands supported bytes fault }
+    ensures reported { (supported : ℕ → Bool) (bytes : List ℕ) (fault : Fault) → FaultStands supported bytes fault → meaning supported bytes ≡ Err fault }
+{
+    next_message_is_framed();
+}
+
+/// What a stream of bytes means is a table.
+pub fn meaning_is_a_table()
+    ensures { (supported : ℕ → Bool) (bytes : List ℕ) (t : PlainTable) → AreBytes bytes → meaning supported bytes ≡ Ok t → IsTable t }
+{
+    next_message_is_framed();
+    checked_schema_is_within_limits();
+    schemas_give_dictionary_columns();
+    read_dictionaries_are_readable();
+    read_dictionaries_have_bytes();
+    read_rows_are_rows();
+}
+
+/// A fault that a decoder has reported stays: it is the first fault of the bytes so far, and of these with any bytes behind them.
+pub fn settled_faults_stay()
+    ensures stays { (bytes more : List ℕ) (fault : Fault) → settled_fault supported_codes bytes ≡ Some fault
+        → settled_fault supported_codes (bytes ++ more) ≡ Some fault }
+    ensures meant { (bytes : List ℕ) (fault : Fault) → settled_fault supported_codes bytes ≡ Some fault → meaning supported_codes bytes ≡ Err fault }
+{}

@@ -1,7 +1,0 @@
-use Rattle.ipc_table.proofs.Stays.{reads_stay}
-use Rattle.ipc_table.proofs.decoder.feed_bytes.Goals as goal
-
-pub read_on-requires : goal.read_on-requires
-read_on-requires c =
-    rw (c.deref.ensures.value, c.in_ok-extend_from_slice.ensures.items, c.take.ensures.value)
-    (reads_stay c.args.bytes.now.items c.args.piece.now c.args.reading.now.number c.args.reading.now.start c.args.reading.now.front c.requires.read)

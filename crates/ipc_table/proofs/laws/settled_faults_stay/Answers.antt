@@ -1,5 +1,0 @@
-use Rattle.ipc_table.proofs.Settled.{settled_stays, settled_meant}
-use Rattle.ipc_table.proofs.laws.settled_faults_stay.Goals as goal
-
-pub returns : goal.returns
-returns c = record { stays = settled_stays; meant = settled_meant }
