@@ -1,48 +1,14 @@
--- Entries of the code, as cells.
-use Rattle.std.proofs.Common.{◌≡◌, ◌+◌, Bool, true, false, not, List, [], ◌∷◌, ◌++◌, map, refl, ap, sym, ◌∙◌}
-use Rattle.std.specs.Prelude.{ℕ, Option, Some, None, position, if◌then◌else◌}
-use mathlib.Core.Bool.{beq}
-use Rattle.std.specs.List.{list_any, position_from}
-use Rattle.std.proofs.lemmas.List.{map-append}
+-- The place of an entry of the code is that of its cell.
+use Rattle.std.proofs.Common.{◌≡◌, ◌+◌, Bool, false, List, [], ◌∷◌, map, refl, ap, sym, ◌∙◌}
+use Rattle.std.specs.Prelude.{ℕ, Option, Some, None, position}
+use Rattle.std.specs.List.{position_from}
 use Rattle.std.proofs.lemmas.Iterator.Adapters.{position_from-zero}
-use Rattle.indexmap.specs.IndexSet.{insert_key}
-use Rattle.cells.specs.contracts.entry.EntryPartialEq.TheImpl.{eq-value}
 use Rattle.cells.specs.declared.entry.Entry.{Entry}
-use Rattle.cells.specs.declared.entry.Entry.TheVariants as entries
 use Rattle.cells.specs.Cell.{Cell, null, boolean, number, text, bytes, items, parts}
 use Rattle.cells.specs.Entry.{entry_cell}
-use Rattle.cells.specs.Dictionary.{is_entry, with_new, entry_in}
+use Rattle.cells.specs.laws.EntryEquality.{entry_eq, entry_eq_is}
+use Rattle.cells.specs.Dictionary.{is_entry, entry_in}
 use Rattle.columns.specs.Built.{entry_index, place_or_zero}
-
-abbrev pub entry_eq : Entry → Entry → Bool
-entry_eq = (eq-value).it
-
-beq_is : (a b : Bool) → beq a b ≡ (if a then b else not b)
-beq_is true true = refl
-beq_is true false = refl
-beq_is false true = refl
-beq_is false false = refl
-
-entry_eq_is : (a b : Entry) → entry_eq a b ≡ is_entry (entry_cell a) (entry_cell b)
-entry_eq_is (entries.Bool a) (entries.Bool b) = beq_is a b
-entry_eq_is (entries.Int a) (entries.Int b) = refl
-entry_eq_is (entries.Text a) (entries.Text b) = refl
-entry_eq_is (entries.Bytes a) (entries.Bytes b) = refl
-entry_eq_is (entries.Bool a) _ = refl
-entry_eq_is (entries.Int a) _ = refl
-entry_eq_is (entries.Text a) _ = refl
-entry_eq_is (entries.Bytes a) _ = refl
-
-any_entry : (e : Entry) (es : List Entry) → list_any (entry_eq e) es ≡ list_any (is_entry (entry_cell e)) (map entry_cell es)
-any_entry e [] = refl
-any_entry e (x ∷ xs) = rw (entry_eq_is e x, any_entry e xs) refl
-
-put_cond : (b : Bool) (e : Entry) (es : List Entry) → map entry_cell (if b then es else es ++ e ∷ []) ≡ (if b then map entry_cell es else map entry_cell es ++ entry_cell e ∷ [])
-put_cond true e es = refl
-put_cond false e es = map-append entry_cell es (e ∷ [])
-
-pub put_is : (e : Entry) (es : List Entry) → map entry_cell (insert_key entry_eq es e) ≡ with_new (map entry_cell es) (entry_cell e)
-put_is e es = rw (← any_entry e es) (put_cond (list_any (entry_eq e) es) e es)
 
 place_from : (e : Entry) (es : List Entry) (i : ℕ) → position_from (is_entry (entry_cell e)) i (map entry_cell es) ≡ position_from (entry_eq e) i es
 place_from e [] i = refl

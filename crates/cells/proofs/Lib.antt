@@ -1,4 +1,3 @@
 mod CellLemmas
 mod DistinctEntries
-mod EntryLemmas
 mod HoldingLemmas

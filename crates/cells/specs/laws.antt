@@ -2,3 +2,5 @@ pub mod Cells
 pub mod Weights
 pub mod Ranges
 pub mod Shapes
+pub mod EntryEquality
+pub mod Unlimited

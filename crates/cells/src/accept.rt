@@ -16,7 +16,7 @@ use std::alloc::{AllocError, Global};
 
 /// Whether a row leaves each dictionary within its index type. `limited` is what [`crate::has_limits`] tells of the schema: it
 /// is asked once for many rows.
-#[tactic(auto, using(crate::proofs::HoldingLemmas::from_unlimited))]
+#[tactic(auto, using(crate::specs::laws::Unlimited::from_unlimited))]
 pub fn dictionaries_fit(
     schema: &Schema,
     row: &[Value],
@@ -33,7 +33,7 @@ pub fn dictionaries_fit(
 }
 
 /// The weight of a row, where a table takes it. `limited` is what [`crate::has_limits`] tells of the schema: it is asked once for many rows.
-#[tactic(auto, using(crate::proofs::HoldingLemmas::from_unlimited), unfolding(crate::specs::Row::is_row))]
+#[tactic(auto, using(crate::specs::laws::Unlimited::from_unlimited), unfolding(crate::specs::Row::is_row))]
 pub fn accepted_weight(
     schema: &Schema,
     row: &[Value],

@@ -16,7 +16,7 @@ use Rattle.cells.specs.Weight.{row_weight}
 use Rattle.cells.specs.laws.Shapes.{one_shape_fits, one_shape_weighs}
 use Rattle.values.specs.Table.{IsTable, first_unfit}
 use Rattle.table_cut.proofs.CutSteps.{row_before}
-use Rattle.table_cut.proofs.Unlimited.{unlimited_fit}
+use Rattle.cells.specs.laws.Unlimited.{unlimited_fit}
 
 -- which of the rows from this place on is the first that is not taken
 abbrev pub unfit_from : PlainSchema → ℕ → List (List Cell) → Option ℕ

@@ -4,7 +4,7 @@ use Rattle.cells.specs.declared.entry.Entry.{Entry}
 use Rattle.cells.specs.Cell.{Cell}
 use Rattle.cells.specs.Entry.{entry_cell}
 use Rattle.cells.specs.Dictionary.{with_option}
-use Rattle.array_build.proofs.Entries.{put_is}
+use Rattle.cells.specs.laws.EntryEquality.{put_is}
 use Rattle.array_build.proofs.dictionary_cells.note.Goals as goal
 
 pub returns-in_ok-insert : goal.returns-in_ok-insert

@@ -4,7 +4,7 @@ use Rattle.cells.specs.declared.entry.Entry.{Entry}
 use Rattle.cells.specs.Cell.{Cell}
 use Rattle.cells.specs.Entry.{entry_cell}
 use Rattle.cells.specs.Dictionary.{with_option}
-use Rattle.cells.proofs.EntryLemmas.{put_is}
+use Rattle.cells.specs.laws.EntryEquality.{put_is}
 use Rattle.cells.proofs.entry.note.Goals as goal
 
 pub returns-in_ok-insert-clause-noted : goal.returns-in_ok-insert-clause-noted

@@ -1,4 +1,4 @@
--- Entries of the code, as cells.
+-- Entries of the code, as cells: equality, and a new entry of an index set.
 use Rattle.std.proofs.Common.{◌≡◌, Bool, true, false, List, [], ◌∷◌, ◌++◌, map, refl}
 use Rattle.std.specs.Prelude.{if◌then◌else◌, not}
 use mathlib.Core.Bool.{beq}
@@ -20,7 +20,7 @@ beq_is true false = refl
 beq_is false true = refl
 beq_is false false = refl
 
-entry_eq_is : (a b : Entry) → entry_eq a b ≡ is_entry (entry_cell a) (entry_cell b)
+pub entry_eq_is : (a b : Entry) → entry_eq a b ≡ is_entry (entry_cell a) (entry_cell b)
 entry_eq_is (entries.Bool a) (entries.Bool b) = beq_is a b
 entry_eq_is (entries.Int a) (entries.Int b) = refl
 entry_eq_is (entries.Text a) (entries.Text b) = refl
