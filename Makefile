@@ -5,7 +5,7 @@ SOURCES := $(shell find crates.txt crates -name out -prune -o -type f -print)
 REFUSING := $(sort $(shell grep -rl _also_without_memory crates/*/src | cut -d/ -f2))
 TESTS := $(foreach crate,$(REFUSING),crates/$(crate)/out/$(crate)_tests)
 
-.PHONY: all test gate-cost memory vectors bench bench-recode bench-texts bench-device bench-bitmap
+.PHONY: all test gate-cost memory vectors bench bench-recode bench-texts bench-store bench-device bench-bitmap
 .DELETE_ON_ERROR:
 
 # Builds the program and runs it once, on the stream of examples/.
@@ -59,13 +59,16 @@ crates/test_texts/out/test_texts: $(SOURCES)
 	cd crates/test_texts && rt run < /dev/null > /dev/null
 	@touch $@
 
-bench: bench-recode bench-texts bench-device bench-bitmap
+bench: bench-recode bench-texts bench-store bench-device bench-bitmap
 
 bench-recode: bin/arrowstore
 	bench/recode bin/arrowstore
 
 bench-texts: crates/bench_texts/out/bench_texts
 	bench/texts $<
+
+bench-store: bin/arrowstore
+	bench/store bin/arrowstore
 
 bench-device: crates/bench_device/out/bench_device
 	bench/device.sh $<

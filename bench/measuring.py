@@ -1,0 +1,42 @@
+"""What the benchmarks share: the cost of a run, and the stream of one column of integers."""
+import os
+import random
+import shutil
+import sys
+
+sys.path.insert(0, os.path.join(os.path.dirname(os.path.abspath(__file__)), "..", "tests"))
+import streams
+
+RUNS = 3
+ROWS_IN_BATCH = 65536
+CAT = shutil.which("cat")
+
+
+def cost(words, path=os.devnull, environment=None):
+    """Seconds of the processor, in user and system code, and peak megabytes of one run."""
+    with open(path, "rb") as given, open(os.devnull, "wb") as taken:
+        child = os.posix_spawn(words[0], words, environment or os.environ, file_actions=[
+            (os.POSIX_SPAWN_DUP2, given.fileno(), 0), (os.POSIX_SPAWN_DUP2, taken.fileno(), 1)])
+    _, status, used = os.wait4(child, 0)
+    if status:
+        sys.exit(f"{' '.join(words)} ended with {os.waitstatus_to_exitcode(status)}")
+    return used.ru_utime + used.ru_stime, used.ru_maxrss / 1024
+
+
+def least(words, path=os.devnull):
+    """The least seconds of some runs, and the most megabytes."""
+    runs = [cost(words, path) for _ in range(RUNS)]
+    return min(seconds for seconds, _ in runs), max(peak for _, peak in runs)
+
+
+def ratio(seconds, plain):
+    return f"{seconds / plain:.1f}" if plain else "-"
+
+
+def column_of_integers(size, most):
+    """About so many bytes of a stream of one int32 column, of numbers below a limit."""
+    pick = random.Random(1)
+    values = b"".join(pick.randrange(most).to_bytes(4, "little") for _ in range(ROWS_IN_BATCH))
+    batch = streams.record_batch(ROWS_IN_BATCH, [values])
+    head = streams.schema([streams.field("a", False, 2, streams.integer("int32"))])
+    return head + batch * (size // len(batch)) + streams.END
