@@ -12,8 +12,8 @@ def answer_of(command, given, **extra):
     return done.returncode, done.stdout, done.stderr
 
 
-def each_refused(command, given=b""):
-    """The program's answer undisturbed, and its answers with the first, the second .. allocation refused."""
+def each_refused(command, given=b"", runs_at_once=None):
+    """The program's answer undisturbed, and its answers with the first, the second .. allocation refused. Commands that lock one file run one at once."""
     with tempfile.TemporaryDirectory() as room:
         library, counted = os.path.join(room, "refuse_allocation.so"), os.path.join(room, "count")
         source = os.path.join(HERE, "refuse_allocation.c")
@@ -21,6 +21,6 @@ def each_refused(command, given=b""):
         undisturbed = answer_of(command, given, LD_PRELOAD=library, ALLOCATIONS=counted)
         with open(counted, encoding="ascii") as count:
             numbers = range(1, int(count.read()) + 1)
-        with ThreadPoolExecutor(os.cpu_count()) as pool:
+        with ThreadPoolExecutor(runs_at_once or os.cpu_count()) as pool:
             answers = pool.map(lambda n: answer_of(command, given, LD_PRELOAD=library, REFUSED=str(n)), numbers)
             return undisturbed, list(answers)
