@@ -44,6 +44,7 @@ memory: $(TESTS)
 
 # The program as it is built, on whole streams, with failing input and output, and with each allocation refused; then texts.
 vectors: bin/arrowstore crates/test_texts/out/test_texts
+	tests/readme bin/arrowstore
 	tests/program bin/arrowstore
 	tests/stores bin/arrowstore
 	tests/queries bin/arrowstore
