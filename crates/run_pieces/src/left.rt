@@ -90,7 +90,8 @@ impl<'a> RowsLeft<'a> {
     }
 
     /// The rows of the next piece: the longest front of the rows that are left which is within the limits of a piece. It takes time linear in the runs of
-    /// the piece, and for a piece that is too heavy with one run more, in the rows of that run. Refused only where a growth was.
+    /// the piece, and for a piece that is too heavy with one run more, in the rows of that run. Refused only where a growth was; from then on it is not
+    /// told which rows are left, and a caller that tries again begins with [`RowsLeft::new`].
     pub fn next_piece(&mut self, alloc: Global, schema: &Schema) -> Result<RunPiece<'a>, AllocError>
         requires unlimited { is_any_limited (columns_of (schema_of schema.now).columns) ≡ false }
         requires sound { are_runs_sound (columns_of (schema_of schema.now).columns) (runs_left self.old) ≡ true }
