@@ -1,20 +1,28 @@
-// The stream of a table that is kept in record batches, without borrowing a row.
-ghost use Rattle.std.specs.Prelude.{◌≡◌, ◌&&◌, not, true, false, length, IfOk};
+// The streams of a table that is kept in record batches, and of its pieces, without borrowing a row.
+ghost use Rattle.std.specs.Prelude.{◌≡◌, ◌<◌, ◌^◌, ◌∷◌, [], ◌&&◌, not, true, false, length, IfOk};
+ghost use Rattle.std.specs.List.{AllByRecursion};
 ghost use Rattle.array_build.specs.ByRuns.{are_built_by_runs};
 ghost use Rattle.arrow_schema.specs.Column.{columns_of};
 ghost use Rattle.arrow_schema.specs.View.{schema_of};
 ghost use Rattle.canonical_stream.specs.Canonical.{canonical};
+ghost use Rattle.canonical_stream.specs.Pieces.{IsPieceOf};
+ghost use Rattle.canonical_write.specs.Pieces.{piece_stream, piece_streams, piece_counts};
+ghost use Rattle.canonical_write.specs.View.{streams_in};
 ghost use Rattle.cells.specs.Dictionary.{is_any_limited};
+ghost use Rattle.run_pieces.specs.Rows.{runs_rows, are_runs_sound};
+ghost use Rattle.table_cut.specs.Cut.{pieces};
+ghost use Rattle.table_cut.specs.Piece.{within_piece};
 ghost use Rattle.values.specs.Parts.{are_parts_sound, parts_rows, parts_table};
 ghost use Rattle.values.specs.Table.{IsTable};
 
+use crate::encoder::EncodedPieces;
 use crate::messages::write_run_piece;
 use array_build::is_built_by_runs;
 use arrow_schema::Schema;
 use canonical_stream::pieces_can_be_built;
 use cells::has_limits;
 use ipc_write::{write_end, write_schema};
-use run_pieces::RowsLeft;
+use run_pieces::{RowsLeft, RunPiece};
 use std::alloc::{AllocError, Global};
 use values::Part;
 
@@ -51,4 +59,61 @@ pub(crate) fn encode_parts(
     }
     write_end(&mut out)?;
     Ok(out)
+}
+
+// The stream of a piece, as a table of its own.
+fn encode_run_piece(
+    alloc: Global,
+    schema: &Schema,
+    piece: &RunPiece<'_>,
+) -> Result<Vec<u8>, AllocError>
+    requires piece { IsPieceOf (schema_of schema.now) (runs_rows (columns_of (schema_of schema.now).columns) piece.now.runs.items) }
+    requires alone { let rows = runs_rows (columns_of (schema_of schema.now).columns) piece.now.runs.items in
+        pieces (within_piece (schema_of schema.now)) rows ≡ rows ∷ [] }
+    requires built { are_built_by_runs (columns_of (schema_of schema.now).columns) ≡ true }
+    requires sound { are_runs_sound (columns_of (schema_of schema.now).columns) piece.now.runs.items ≡ true }
+    requires count { piece.now.rows ≡ length (runs_rows (columns_of (schema_of schema.now).columns) piece.now.runs.items) }
+    ensures stream { IfOk result (λ out. out.items
+        ≡ piece_stream (schema_of schema.now) (runs_rows (columns_of (schema_of schema.now).columns) piece.now.runs.items)) }
+    ensures short { IfOk result (λ out. length out.items < 2 ^ 64) }
+{
+    let mut stream = Vec::new(alloc);
+    write_schema(alloc, &mut stream, schema)?;
+    write_run_piece(alloc, &mut stream, schema, piece)?;
+    write_end(&mut stream)?;
+    Ok(stream)
+}
+
+/// The streams of their pieces.
+pub(crate) fn encode_parts_pieces(
+    alloc: Global,
+    schema: &Schema,
+    parts: &[Part],
+    rows: usize,
+) -> Result<EncodedPieces, AllocError>
+    requires table { IsTable (parts_table (schema_of schema.now) parts.now) }
+    requires sound { are_parts_sound (columns_of (schema_of schema.now).columns) parts.now ≡ true }
+    requires count { rows ≡ length (parts_rows (columns_of (schema_of schema.now).columns) parts.now) }
+    requires built { are_built_by_runs (columns_of (schema_of schema.now).columns) ≡ true }
+    requires unlimited { is_any_limited (columns_of (schema_of schema.now).columns) ≡ false }
+    ensures streams { IfOk result (λ pieces. streams_in pieces ≡ piece_streams (parts_table (schema_of schema.now) parts.now)) }
+    ensures rows { IfOk result (λ pieces. pieces.rows.items ≡ piece_counts (parts_table (schema_of schema.now) parts.now)) }
+    ensures short { IfOk result (λ pieces. AllByRecursion (λ stream. length stream < 2 ^ 64) (streams_in pieces)) }
+{
+    pieces_can_be_built();
+    let mut left = RowsLeft::new(alloc, parts)?;
+    let mut streams = Vec::new(alloc);
+    let mut counts = Vec::new(alloc);
+    let mut from = 0;
+    while from < rows {
+        let piece = left.next_piece(alloc, schema)?;
+        let stream = encode_run_piece(alloc, schema, &piece)?;
+        streams.push(stream)?;
+        counts.push(piece.rows as u64)?;
+        from += piece.rows;
+    }
+    Ok(EncodedPieces {
+        streams,
+        rows: counts,
+    })
 }

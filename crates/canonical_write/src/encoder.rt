@@ -12,7 +12,7 @@ ghost use Rattle.values.specs.Borrowed.{borrowed_cells};
 ghost use Rattle.values.specs.Table.{IsTable};
 ghost use Rattle.values.specs.TableView.{table_of};
 
-use crate::by_runs::{encode_parts, goes_by_runs};
+use crate::by_runs::{encode_parts, encode_parts_pieces, goes_by_runs};
 use crate::messages::write_piece;
 use arrow_schema::Schema;
 use canonical_stream::pieces_can_be_built;
@@ -108,4 +108,23 @@ pub fn encode_pieces(
         streams,
         rows: counts,
     })
+}
+
+/// The pieces of the rows of a table of any types, under its own schema, each as a stream of its own: those of [`encode_pieces`]. They are cut where
+/// [`encode`] cuts them.
+///
+/// Refused only where a growth was. It takes the memory of all streams, of which each has the message of the schema, and that of the arrays of one piece;
+/// and time linear in the streams, and where the table is not kept in record batches of flat columns without dictionaries, in its cells.
+pub fn encode_own_pieces(alloc: Global, table: &Table) -> Result<EncodedPieces, AllocError>
+    ensures streams { IfOk result (λ pieces. streams_in pieces ≡ piece_streams (table_of table.now)) }
+    ensures rows { IfOk result (λ pieces. pieces.rows.items ≡ piece_counts (table_of table.now)) }
+    ensures short { IfOk result (λ pieces. AllByRecursion (λ stream. length stream < 2 ^ 64) (streams_in pieces)) }
+{
+    let schema = table.schema();
+    if let Some(parts) = table.parts() {
+        if goes_by_runs(schema) {
+            return encode_parts_pieces(alloc, schema, parts, table.len());
+        }
+    }
+    encode_pieces(alloc, schema, table)
 }

@@ -5,7 +5,7 @@
 //!
 //! ```ignore
 //! let stream = encode(alloc, &table)?;
-//! let pieces = encode_pieces(alloc, table.schema(), &table)?;
+//! let pieces = encode_own_pieces(alloc, &table)?;
 //! ```
 #![tactic(auto)]
 
@@ -14,5 +14,5 @@ mod encoder;
 mod laws;
 mod messages;
 
-pub use encoder::{EncodedPieces, encode, encode_pieces};
+pub use encoder::{EncodedPieces, encode, encode_own_pieces, encode_pieces};
 pub use laws::pieces_are_tables;

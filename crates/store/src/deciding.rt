@@ -17,7 +17,7 @@ ghost use Rattle.store.specs.inner.Tests.{Tests, decision_of};
 
 use crate::change::{Change, Edit};
 use arrow_schema::{Schema, one_shape_is_decided, same_shape};
-use canonical_write::{encode_pieces, pieces_are_tables};
+use canonical_write::{encode_own_pieces, pieces_are_tables};
 use catalogue::{Catalogue, MAX_TABLES, counts_after_changes, is_name};
 use ipc_stream::decode;
 use std::alloc::{AllocError, Global};
@@ -139,7 +139,7 @@ pub(crate) fn put_table(alloc: Global, name: String, table: &Table) -> Result<Ch
     ensures { IfOk result (λ change. IsPut (string_bytes name) (table_of table.now) (change_of change)) }
 {
     let schema = table.schema().copy(alloc)?;
-    let pieces = encode_pieces(alloc, table.schema(), table)?;
+    let pieces = encode_own_pieces(alloc, table)?;
     Ok(Change {
         edit: Edit::Put { name, schema },
         streams: pieces.streams,

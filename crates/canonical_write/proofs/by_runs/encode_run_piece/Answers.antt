@@ -1,0 +1,21 @@
+use Rattle.std.proofs.Common.{◌≡◌, ◌++◌, List, ℕ, ap, sym, ◌∙◌, append_assoc}
+use Rattle.arrow_schema.specs.Column.{PlainSchema, columns_of}
+use Rattle.arrow_schema.specs.View.{schema_of}
+use Rattle.canonical_stream.specs.Canonical.{piece_messages}
+use Rattle.canonical_write.proofs.Steps.{one_stream}
+use Rattle.cells.specs.Cell.{Cell}
+use Rattle.ipc_write.specs.Written.{schema_message, end_of_stream}
+use Rattle.run_pieces.specs.Rows.{runs_rows}
+use Rattle.canonical_write.proofs.by_runs.encode_run_piece.Goals as goal
+
+pub returns-clause-stream : goal.returns-clause-stream
+returns-clause-stream c =
+    let s : PlainSchema = schema_of c.args.schema.now in
+    let rows : List (List Cell) = runs_rows (columns_of s.columns) c.args.piece.now.runs.items in
+    let first : c.write_schema.new.out.items ≡ schema_message s = c.in_ok-write_schema.ensures.appended ∙ ap (λ (x : List ℕ). x ++ schema_message s) c.new-stream.ensures.items in
+    let second : c.write_run_piece.new.out.items ≡ schema_message s ++ piece_messages s rows = c.in_ok-write_run_piece.ensures ∙ ap (λ (x : List ℕ). x ++ piece_messages s rows) first in
+    let last : c.write_end.new.out.items ≡ c.write_run_piece.new.out.items ++ end_of_stream = c.in_ok-write_end.ensures.appended in
+    last
+    ∙ ap (λ (x : List ℕ). x ++ end_of_stream) second
+    ∙ append_assoc (schema_message s) (piece_messages s rows) end_of_stream
+    ∙ sym (one_stream s rows c.requires.alone)
