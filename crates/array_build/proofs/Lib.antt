@@ -14,4 +14,5 @@ mod RunArrays
 mod RunBits
 mod RunColumns
 mod RunContents
+mod RunParts
 mod RunValues

@@ -77,7 +77,7 @@ slots_are p cells bits is =
     let count : length bits ≡ length cells = sym (ap length is) ∙ length-map cells is_there in
     λ i. with_buffer (with_node p (record { slots = count i; null_count = unset_bits (map_is i) (count i) })) (map_is i)
 
-kind_slots : (p : PlainBatch) (kind : Kind) (runs : List Run) → has_values kind ≡ true → are_runs_valid runs ≡ true → with_run_slots p (runs_bits runs) ≡ with_slots p (kind_cells kind runs)
+pub kind_slots : (p : PlainBatch) (kind : Kind) (runs : List Run) → has_values kind ≡ true → are_runs_valid runs ≡ true → with_run_slots p (runs_bits runs) ≡ with_slots p (kind_cells kind runs)
 kind_slots p kind runs has valid = slots_are p (kind_cells kind runs) (runs_bits runs) (runs_there kind runs has valid)
 
 -- ---- how many cells there are

@@ -21,7 +21,7 @@ unfoldable mutual
   is_kind_built_by_runs (lists item) = false
   is_kind_built_by_runs (large_lists item) = false
   is_kind_built_by_runs (fixed_lists size item) = false
-  is_kind_built_by_runs (structs columns) = false
+  is_kind_built_by_runs (structs columns) = are_built_by_runs columns
 
   pub are_built_by_runs : Columns → Bool
   are_built_by_runs no_column = true

@@ -1,3 +1,4 @@
 pub mod Coded
 pub mod Nodes
+pub mod RunParts
 pub mod Runs

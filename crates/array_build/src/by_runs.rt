@@ -1,6 +1,6 @@
 // Arrays of columns that are given as runs of slots: bytes of valid slots are copied, and no cell is made.
 ghost use Rattle.std.specs.Prelude.{◌≡◌, ◌/◌, true, OnOk, IfOk, List, None, map};
-ghost use Rattle.arrow_schema.specs.Column.{columns_of};
+ghost use Rattle.arrow_schema.specs.Column.{columns_of, structs};
 ghost use Rattle.arrow_schema.specs.View.{kind_of, column_of, date_kind};
 ghost use Rattle.array_build.specs.Batch.{batch_in, batch_of, built_at, built_below, plain_column, with_arrays};
 ghost use Rattle.array_build.specs.ByRuns.{is_built_by_runs as is_built, is_kind_built_by_runs, are_built_by_runs};
@@ -12,6 +12,8 @@ ghost use Rattle.columns.specs.Buildable.{can_build};
 
 use crate::batch::{BuiltBatch, empty_batch};
 use crate::flat_runs::{build_run_bits, build_run_contents, build_run_nulls, build_run_values};
+use crate::run_parts::part_runs;
+use crate::run_slots::push_run_slots;
 use array_runs::{Run, valid_runs};
 use arrow_schema::{DataType, DateUnit, Field};
 use columns::OffsetWidth;
@@ -19,6 +21,7 @@ use std::alloc::{AllocError, Global};
 
 // Whether columns of a type are built from runs.
 #[tactic(auto, using(crate::proofs::Fields::timestamp_kind), unfolding(crate::specs::ByRuns::is_kind_built_by_runs))]
+#[cycle(built)]
 fn is_type_built(data_type: &DataType) -> bool
     ensures { result ≡ is_kind_built_by_runs (kind_of data_type.now) }
 {
@@ -33,14 +36,13 @@ fn is_type_built(data_type: &DataType) -> bool
         | DataType::Binary
         | DataType::LargeBinary
         | DataType::FixedSizeBinary(_) => true,
-        DataType::List(_)
-        | DataType::LargeList(_)
-        | DataType::FixedSizeList(_, _)
-        | DataType::Struct(_) => false,
+        DataType::List(_) | DataType::LargeList(_) | DataType::FixedSizeList(_, _) => false,
+        DataType::Struct(fields) => is_built_by_runs(fields),
     }
 }
 
 #[tactic(auto, using(crate::proofs::RunColumns::field_built_is))]
+#[cycle(built)]
 fn is_field_built(field: &Field) -> bool
     ensures { result ≡ is_built (column_of field.now) }
 {
@@ -49,6 +51,7 @@ fn is_field_built(field: &Field) -> bool
 
 /// Whether the arrays of such fields are built from runs.
 #[tactic(auto, unfolding(crate::specs::ByRuns::are_built_by_runs))]
+#[cycle(built)]
 pub fn is_built_by_runs(fields: &[Field]) -> bool
     ensures { result ≡ are_built_by_runs (columns_of (map column_of fields.now)) }
 {
@@ -71,6 +74,7 @@ fn date_width(unit: DateUnit) -> usize
 
 // Adds the array of runs of a type that have no null among their slots, and all below it.
 #[tactic(auto, unfolding(crate::specs::ByRuns::is_kind_built_by_runs))]
+#[cycle(by_runs)]
 fn build_valid_kind(
     alloc: Global,
     batch: &mut BuiltBatch,
@@ -99,14 +103,33 @@ fn build_valid_kind(
         DataType::LargeUtf8 | DataType::LargeBinary => {
             build_run_contents(alloc, batch, data_type, OffsetWidth::Eight, runs)
         }
-        DataType::List(_)
-        | DataType::LargeList(_)
-        | DataType::FixedSizeList(_, _)
-        | DataType::Struct(_) => unreachable!(),
+        DataType::Struct(fields) => build_run_structs(alloc, batch, fields, runs),
+        DataType::List(_) | DataType::LargeList(_) | DataType::FixedSizeList(_, _) => {
+            unreachable!()
+        }
     }
 }
 
+// Structs have a node and a validity bitmap, and below them the same slots of each field.
+#[cycle(by_runs)]
+fn build_run_structs(
+    alloc: Global,
+    batch: &mut BuiltBatch,
+    fields: &[Field],
+    runs: &[Run<'_>],
+) -> Result<(), AllocError>
+    requires built { are_built_by_runs (columns_of (map column_of fields.now)) ≡ true }
+    requires ready { AreReady (structs (columns_of (map column_of fields.now))) runs.now }
+    ensures { OnOk result (batch_in batch.new ≡ with_arrays (batch_in batch.old)
+        (built_at (plain_column (structs (columns_of (map column_of fields.now))) None) (kind_cells (structs (columns_of (map column_of fields.now))) runs.now))) }
+{
+    let parts = part_runs(alloc, fields, runs)?;
+    push_run_slots(alloc, batch, runs)?;
+    build_run_parts(alloc, batch, fields, &parts)
+}
+
 // Adds the array of a column of a type, whatever its name, and all below it.
+#[cycle(by_runs)]
 fn build_run_kind(
     alloc: Global,
     batch: &mut BuiltBatch,
@@ -124,6 +147,7 @@ fn build_run_kind(
 }
 
 // The same of a field.
+#[cycle(by_runs)]
 fn build_run_column(
     alloc: Global,
     batch: &mut BuiltBatch,
@@ -140,6 +164,7 @@ fn build_run_column(
 }
 
 // Adds the arrays of columns, and all below them.
+#[cycle(by_runs)]
 fn build_run_parts(
     alloc: Global,
     batch: &mut BuiltBatch,

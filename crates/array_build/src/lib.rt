@@ -24,6 +24,7 @@ mod item_cells;
 mod part_cells;
 mod run_bits;
 mod run_contents;
+mod run_parts;
 mod run_slots;
 mod run_values;
 mod valid_bits;

@@ -1,0 +1,118 @@
+use Rattle.std.specs.Prelude.{Vec, None}
+use Rattle.std.specs.Global.{Global}
+use Rattle.std.proofs.Common.{◌≡◌, true, ◌∙◌, List, map, drop, ap, subst, sym, rules}
+use Rattle.std.proofs.lemmas.Result.{on_ok_weaker}
+use Rattle.array_build.proofs.RunColumns.{are_ready, built_field, column_arrays, field_built, field_fits, field_sound, have_validity, last_column, lists_of, next_left, place_left, same_cells}
+use Rattle.array_build.proofs.RunParts.{parts_fit, struct_runs_are}
+use Rattle.array_build.proofs.by_runs.+by_runs.Goals as goal
+use Rattle.array_build.specs.Batch.{batch_in, built_at, plain_column, with_arrays}
+use Rattle.array_build.specs.inner.Runs.{AreReady, kind_cells}
+use Rattle.array_runs.specs.Runs.{HaveRuns, are_columns_sound, are_runs_sound, runs_cells}
+use Rattle.array_runs.specs.declared.run.Run.{Run}
+use Rattle.arrow_schema.specs.Column.{Columns, Kind, columns_of, structs}
+use Rattle.arrow_schema.specs.View.{column_of, kind_of}
+use Rattle.arrow_schema.specs.declared.types.Field.{Field}
+use Rattle.arrow_schema.specs.declared.types.Field.{the_lemmas as field_lemmas}
+use Rattle.cells.specs.Cell.{Cell}
+use Rattle.cells.specs.Dictionary.{part_list}
+use Rattle.columns.specs.Buildable.{can_build}
+use Rattle.facts.specs.laws.Lists.{drop-item}
+
+-- ---- structs
+
+pub build_run_structs-build_run_parts-requires : goal.build_run_structs-build_run_parts-requires
+build_run_structs-build_run_parts-requires t c =
+    let cs : Columns = columns_of (map column_of c.args.fields.now) in
+    let have : HaveRuns cs (lists_of c.deref.result.now) (map part_list (kind_cells (structs cs) c.args.runs.now)) =
+    subst (λ (vs : List (Vec Run Global)). HaveRuns cs (lists_of vs) (map part_list (kind_cells (structs cs) c.args.runs.now))) (sym c.deref.ensures.value) c.in_ok-parts.ensures.have in
+    let sound : are_columns_sound cs (lists_of c.deref.result.now) ≡ true =
+    subst (λ (vs : List (Vec Run Global)). are_columns_sound cs (lists_of vs) ≡ true) (sym c.deref.ensures.value) c.in_ok-parts.ensures.sound in
+    (search (rules, field_lemmas), (c.requires.built, (sound, parts_fit cs c.args.runs.now (lists_of c.deref.result.now) have c.requires.ready)))
+
+pub build_run_structs-returns : goal.build_run_structs-returns
+build_run_structs-returns t c =
+    let cs : Columns = columns_of (map column_of c.args.fields.now) in
+    let have : HaveRuns cs (lists_of c.deref.result.now) (map part_list (kind_cells (structs cs) c.args.runs.now)) =
+    subst (λ (vs : List (Vec Run Global)). HaveRuns cs (lists_of vs) (map part_list (kind_cells (structs cs) c.args.runs.now))) (sym c.deref.ensures.value) c.in_ok-parts.ensures.have in
+    on_ok_weaker c.build_run_parts.result
+    (λ h. h ∙ struct_runs_are (batch_in c.args.batch.now) (batch_in c.push_run_slots.new.batch) cs c.args.runs.now (lists_of c.deref.result.now) c.requires.ready.valid have c.in_ok-push_run_slots.ensures)
+    c.build_run_parts.ensures
+
+-- ---- a type, and a field
+
+pub build_run_kind-valid_runs-requires : goal.build_run_kind-valid_runs-requires
+build_run_kind-valid_runs-requires t c = have_validity (kind_of c.args.data_type.now) c.args.runs.now c.requires.sound
+
+pub build_run_kind-build_valid_kind-requires : goal.build_run_kind-build_valid_kind-requires
+build_run_kind-build_valid_kind-requires t c =
+    let kind : Kind = kind_of c.args.data_type.now in (
+      search (rules, field_lemmas),
+      (
+        c.requires.built,
+        subst (λ (runs : List Run). AreReady kind runs) (sym c.deref.ensures.value)
+            (are_ready kind c.in_ok-valid.valid.items c.args.runs.now c.in_ok-valid.ensures.same c.in_ok-valid.ensures.valid c.requires.sound c.requires.fits),
+      ),
+    )
+
+pub build_run_kind-returns : goal.build_run_kind-returns
+build_run_kind-returns t c =
+    let kind : Kind = kind_of c.args.data_type.now in
+    let same = ap (λ (runs : List Run). kind_cells kind runs) c.deref.ensures.value ∙ same_cells kind c.in_ok-valid.valid.items c.args.runs.now c.in_ok-valid.ensures.same c.requires.sound in
+    on_ok_weaker c.build_valid_kind.result
+    (λ h. h ∙ ap (λ (cells : List Cell). with_arrays (batch_in c.args.batch.now) (built_at (plain_column kind None) cells)) same)
+    c.build_valid_kind.ensures
+
+pub build_run_column-build_run_kind-requires : goal.build_run_column-build_run_kind-requires
+build_run_column-build_run_kind-requires t c =
+    let own = built_field c.args.field.now c.requires.built in
+    (search (rules, field_lemmas), (own.1, (field_sound c.args.field.now c.args.runs.now own.0 c.requires.sound, field_fits c.args.field.now c.args.runs.now own.0 c.requires.fits)))
+
+pub build_run_column-returns : goal.build_run_column-returns
+build_run_column-returns t c =
+    on_ok_weaker c.build_run_kind.result
+    (λ h. h ∙ field_built (batch_in c.args.batch.now) c.args.field.now c.args.runs.now (built_field c.args.field.now c.requires.built).0)
+    c.build_run_kind.ensures
+
+-- ---- columns, one after another
+
+pub build_run_parts-bounds-columns-place : goal.build_run_parts-bounds-columns-place
+build_run_parts-bounds-columns-place t c =
+    let item = drop-item c.args.fields.now c.loop-place.place c.index-fields-place.result c.loop-place-test.true c.index-fields-place.is in
+    place_left c.args.fields.now c.loop-place.place c.index-fields-place.result c.args.columns.now item c.loop-place.invariant.left
+
+pub build_run_parts-build_run_column-requires : goal.build_run_parts-build_run_column-requires
+build_run_parts-build_run_column-requires t c =
+    let field : Field = c.index-fields-place.result in
+    let item = drop-item c.args.fields.now c.loop-place.place field c.loop-place-test.true c.index-fields-place.is in
+    let within = place_left c.args.fields.now c.loop-place.place field c.args.columns.now item c.loop-place.invariant.left in
+    let here = drop-item c.args.columns.now c.loop-place.place c.index-columns-place.result within c.index-columns-place.is in
+    let own = (next_left c.args.fields.now c.loop-place.place field c.args.columns.now c.index-columns-place.result item here c.loop-place.invariant.left).0 in (
+      search (rules, field_lemmas),
+      (
+        own.built,
+        (
+          subst (λ (runs : List Run). are_runs_sound (column_of field) runs ≡ true) (sym c.deref.ensures.value) own.sound,
+          subst (λ (runs : List Run). can_build (column_of field) (runs_cells (column_of field) runs) ≡ true) (sym c.deref.ensures.value) own.fits,
+        ),
+      ),
+    )
+
+pub build_run_parts-loop-place-preserved : goal.build_run_parts-loop-place-preserved
+build_run_parts-loop-place-preserved t c =
+    let fields : List Field = c.args.fields.now in
+    let field : Field = c.index-fields-place.result in
+    let columns : List (Vec Run Global) = c.args.columns.now in
+    let column : Vec Run Global = c.index-columns-place.result in
+    let item = drop-item fields c.loop-place.place field c.loop-place-test.true c.index-fields-place.is in
+    let within = place_left fields c.loop-place.place field columns item c.loop-place.invariant.left in
+    let here = drop-item columns c.loop-place.place column within c.index-columns-place.is in
+    let built = c.in_ok-build_run_column.ensures
+    ∙ ap (λ (runs : List Run). with_arrays (batch_in c.loop-place.batch) (built_at (column_of field) (runs_cells (column_of field) runs))) c.deref.ensures.value in
+    record {
+      left = (next_left fields c.loop-place.place field columns column item here c.loop-place.invariant.left).1;
+      batch = column_arrays fields c.loop-place.place field columns column (batch_in c.loop-place.batch) (batch_in c.build_run_column.new.batch) item here built ∙ c.loop-place.invariant.batch;
+    }
+
+pub build_run_parts-returns : goal.build_run_parts-returns
+build_run_parts-returns t c =
+    sym (last_column c.args.fields.now c.loop-place.place (drop c.loop-place.place c.args.columns.now) (batch_in c.loop-place.batch) c.loop-place-test.false) ∙ c.loop-place.invariant.batch
