@@ -1,7 +1,8 @@
 -- The rows that are kept, gathered one by one.
-use Rattle.std.proofs.Common.{◌≡◌, ℕ, zero, suc, ◌+◌, ◌-◌, ◌^◌, ◌≤◌, ◌<◌, Bool, true, false, List, [], ◌∷◌, ◌++◌, map, length, take, get_or, refl, sym, ap, ◌∙◌, arith, length-append}
+use Rattle.std.proofs.Common.{◌≡◌, ℕ, inl, inr, zero, suc, ◌+◌, ◌-◌, ◌^◌, ◌≤◌, ◌<◌, Bool, true, false, List, [], ◌∷◌, ◌++◌, map, length, take, get_or, refl, sym, ap, ◌∙◌, arith, length-append}
 use Rattle.std.specs.Prelude.{Option, Some, None, filter, slice_get, unwrap_or, option_map}
 use Rattle.std.specs.List.{flat_map}
+use Rattle.std.proofs.lemmas.Bool.{cases_lt}
 use Rattle.std.proofs.lemmas.List.{length-map, take_more, take_all, append-nil, map-append}
 use Rattle.std.proofs.lemmas.List.Elements.{filter-append}
 use Rattle.std.proofs.lemmas.Grind.{flat_map-append}
@@ -96,6 +97,58 @@ kept_same before after cells more count next e c n h = record {
   count_is = n ∙ (h.count_is ∙ ap (λ (rs : List (List Cell)). length rs) (sym e));
 }
 
-pub kept_end : (limit : Option ℕ) (most : ℕ) (ps : List ℕ) (p : List Cell → Bool) (rows : List (List Cell)) (i : ℕ) → most ≡ unwrap_or limit (2 ^ 64 - 1) → i ≡ length rows → length rows < 2 ^ 64
+-- rows that are passed over
+kept_over : (most : ℕ) (ps : List ℕ) (p : List Cell → Bool) (rows : List (List Cell)) (from n : ℕ) → from + n ≤ length rows
+    → ((i : ℕ) → from ≤ i → i < from + n → p (get_or rows i []) ≡ false) → kept_front most ps p rows (from + n) ≡ kept_front most ps p rows from
+kept_over most ps p rows from zero within fails = let e : from + 0 ≡ from = omega arith in ap (kept_front most ps p rows) e
+kept_over most ps p rows from (suc n) within fails =
+    let e : from + suc n ≡ from + n + 1 = omega arith in
+    ap (kept_front most ps p rows) e
+    ∙ kept_not most ps p rows (from + n) (omega arith) (fails (from + n) (omega arith) (omega arith))
+    ∙ kept_over most ps p rows from n (omega arith) (λ i above below. fails i above (omega (arith, below)))
+
+-- where there is room for no more
+full_over : (most : ℕ) (ps : List ℕ) (p : List Cell → Bool) (rows : List (List Cell)) (from n : ℕ) → from + n ≤ length rows → most ≤ length (kept_front most ps p rows from)
+    → kept_front most ps p rows (from + n) ≡ kept_front most ps p rows from
+full_over most ps p rows from zero within full = let e : from + 0 ≡ from = omega arith in ap (kept_front most ps p rows) e
+full_over most ps p rows from (suc n) within full =
+    let e : from + suc n ≡ from + n + 1 = omega arith in
+    let before = full_over most ps p rows from n (omega arith) full in
+    ap (kept_front most ps p rows) e ∙ kept_full most ps p rows (from + n) (omega arith) (omega (arith, full, ap (λ (rs : List (List Cell)). length rs) before)) ∙ before
+
+-- no row yet
+pub kept_start : (most : ℕ) (ps : List ℕ) (p : List Cell → Bool) (rows : List (List Cell)) (cells : List Cell) → cells ≡ [] → AreKept (kept_front most ps p rows 0) cells 0
+kept_start most ps p rows cells e = record {
+  cells_are = e ∙ sym (ap (λ (rs : List (List Cell)). flat_map (λ row. row) rs) (take-none most));
+  count_is = sym (ap (λ (rs : List (List Cell)). length rs) (take-none most));
+}
+
+-- up to the next row that the mask has
+pub kept_next : (most : ℕ) (ps : List ℕ) (p : List Cell → Bool) (rows : List (List Cell)) (mask : List ℕ) (from to : ℕ) (cells : List Cell) (count : ℕ)
+    → IsMask mask (map p rows) → from ≤ to → to ≤ length rows → ((i : ℕ) → from ≤ i → i < to → bit mask i ≡ false)
+    → AreKept (kept_front most ps p rows from) cells count → AreKept (kept_front most ps p rows to) cells count
+kept_next most ps p rows mask from to cells count is order within unset h =
+    let e : from + (to - from) ≡ to = omega arith in
+    let over =
+    kept_over most ps p rows from (to - from) (omega arith)
+    (λ i above below. sym (bit_of_row mask p rows i is (omega (arith, below, e))) ∙ unset i above (omega (arith, below, e))) in
+    kept_same (kept_front most ps p rows from) (kept_front most ps p rows to) cells cells count count (ap (kept_front most ps p rows) (sym e) ∙ over) refl refl h
+
+kept_end : (limit : Option ℕ) (most : ℕ) (ps : List ℕ) (p : List Cell → Bool) (rows : List (List Cell)) (i : ℕ) → most ≡ unwrap_or limit (2 ^ 64 - 1) → i ≡ length rows → length rows < 2 ^ 64
     → kept_front most ps p rows i ≡ limited limit (kept_rows ps p rows)
 kept_end limit most ps p rows i e all few = (λ k. kept_front (e k) ps p rows (all k)) ∙ kept_all limit ps p rows few
+
+-- where no row is left, or there is room for no more
+pub kept_done : (limit : Option ℕ) (most : ℕ) (ps : List ℕ) (p : List Cell → Bool) (rows : List (List Cell)) (i : ℕ) (cells : List Cell) (count : ℕ) → most ≡ unwrap_or limit (2 ^ 64 - 1)
+    → length rows < 2 ^ 64 → i ≤ length rows → (i < length rows → most ≤ count) → AreKept (kept_front most ps p rows i) cells count
+    → AreKept (limited limit (kept_rows ps p rows)) cells count
+kept_done limit most ps p rows i cells count e few within full h =
+    kept_same (kept_front most ps p rows i) (limited limit (kept_rows ps p rows)) cells cells count count (sym (kept_end limit most ps p rows (length rows) e refl few) ∙ all) refl refl h
+  where
+    all : kept_front most ps p rows (length rows) ≡ kept_front most ps p rows i
+    all = elim (cases_lt i (length rows)) [
+      | inl lt ↦
+          (let whole : i + (length rows - i) ≡ length rows = omega arith in
+          ap (kept_front most ps p rows) (sym whole) ∙ full_over most ps p rows i (length rows - i) (omega arith) (omega (arith, full lt, h.count_is)))
+      | inr le ↦ (let whole : length rows ≡ i = omega arith in ap (kept_front most ps p rows) whole)
+    ]

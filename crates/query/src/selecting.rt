@@ -1,5 +1,6 @@
 // The selection of a table.
-ghost use Rattle.std.specs.Prelude.{◌≡◌, ◌≤◌, ◌<◌, ◌+◌, ◌*◌, ◌++◌, ◌&&◌, ℕ, Ok, Some, IfOk, IfErr, OnOk, map, filter, take, length, nat_lt, slice_get, string_bytes, slice_index_or, replicate, true, false, []};
+ghost use Rattle.std.specs.Prelude.{◌≡◌, ◌≤◌, ◌<◌, ◌+◌, ◌*◌, ◌++◌, ◌&&◌, ℕ, Ok, Some, IfOk, IfErr, OnOk};
+ghost use Rattle.std.specs.Prelude.{map, filter, take, length, nat_lt, slice_get, string_bytes, slice_index_or, replicate, true, false, []};
 ghost use Rattle.std.specs.List.{flat_map, list_all, range_with_len};
 ghost use Rattle.arrow_schema.specs.View.{column_of, schema_of, pair_of};
 ghost use Rattle.bitmap.specs.Bits.{bit, bytes_of};
@@ -101,25 +102,40 @@ fn mask_of(alloc: Global, table: &Table, bound: &Bound) -> Result<Vec<u8>, Alloc
 fn all_rows(alloc: Global, rows: usize) -> Result<Vec<u8>, AllocError>
     ensures { IfOk result (λ mask. IsMask mask.items (replicate rows true)) }
 {
-    let mut flags = Vec::with_capacity(alloc, rows)?;
-    for row in 0..rows {
-        flags.push(row < rows)?;
-    }
-    let mask = bitmap::pack(alloc, &flags)?;
+    let whole = vec![in alloc; 255u8; bitmap::bytes_for(rows)]?;
+    let mask = bitmap::and(alloc, &whole, &whole, rows)?;
     Ok(mask)
 }
 
-// The same where all conditions hold.
+// A bit for each row, which is set where all conditions hold.
 fn mask_of_all(alloc: Global, table: &Table, bounds: &[Bound]) -> Result<Vec<u8>, AllocError>
     ensures { IfOk result (λ mask. IsMask mask.items (map (holds_all (map bound_in bounds.now)) (table_of table.now).rows)) }
 {
     let rows = table.len();
-    let mut mask = all_rows(alloc, rows)?;
-    for bound in bounds {
+    let Some((first, others)) = bounds.split_first() else {
+        return all_rows(alloc, rows);
+    };
+    let mut mask = mask_of(alloc, table, first)?;
+    for bound in others {
         let own = mask_of(alloc, table, bound)?;
         mask = bitmap::and(alloc, &mask, &own, rows)?;
     }
     Ok(mask)
+}
+
+// The first row from one on whose bit is set, or the end.
+fn next_set(mask: &[u8], from: usize, end: usize) -> usize
+    requires within { end ≤ 8 * length mask.now }
+    requires order { from ≤ end }
+    ensures begins { from ≤ result }
+    ensures ends { result ≤ end }
+    ensures unset { (i : ℕ) → from ≤ i → i < result → bit mask.now i ≡ false }
+    ensures set { result < end → bit mask.now result ≡ true }
+{
+    if from == end || bitmap::get(mask, from) {
+        return from;
+    }
+    bitmap::run_end(mask, from, end)
 }
 
 // Adds the values at these places of a row.
@@ -177,13 +193,14 @@ fn keep_rows(
 {
     let mask = mask_of_all(alloc, table, bounds)?;
     let most = limit.unwrap_or(u64::MAX);
+    let end = table.len();
     let mut cells = Vec::new(alloc);
     let mut rows = 0usize;
-    for i in 0..table.len() {
-        if (rows as u64) < most && bitmap::get(&mask, i) {
-            push_row_at(alloc, &mut cells, table, i, places)?;
-            rows += 1;
-        }
+    let mut next = next_set(&mask, 0, end);
+    while next < end && (rows as u64) < most {
+        push_row_at(alloc, &mut cells, table, next, places)?;
+        rows += 1;
+        next = next_set(&mask, next + 1, end);
     }
     Ok(Kept { cells, rows })
 }

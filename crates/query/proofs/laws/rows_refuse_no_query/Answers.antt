@@ -1,4 +1,4 @@
-use Rattle.std.proofs.Common.{◌≡◌, ℕ, List, Option, Some, None, Result, Ok, Err, map, sym, ◌∙◌, ap}
+use Rattle.std.proofs.Common.{◌≡◌, ℕ, List, Option, Some, None, Result, Ok, Err, map, sym, ◌∙◌}
 use Rattle.cells.specs.Cell.{PlainTable}
 use Rattle.arrow_schema.specs.Column.{PlainSchema}
 use Rattle.query.specs.Query.{PlainQuery}
