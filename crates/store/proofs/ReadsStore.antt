@@ -268,5 +268,5 @@ export_step s m name (refusals.Query refusal) next h = h
 export_step s m name (refusals.SegmentUnread place) next h = h
 export_step s m name refusals.Read next h = h
 export_step s m name (refusals.SegmentDamaged place) next h = h
-export_step s m name refusals.Write next h = absurd h
+export_step s m name refusals.Write next h = h
 export_step s m name refusals.OutOfMemory next h = h

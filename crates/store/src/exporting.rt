@@ -65,6 +65,9 @@ impl<D: SectorDevice> Store<D> {
             (entry_of (listed_in self.old) name.now) t × Appends (W.contents writer.old) (W.contents writer.new) (canonical t)) }
         ensures told { IfErr result (λ e. e ≢ Refusal.Write → RefusesRead (is_halted self.old) D.tells
             (shown_image (now (D.story (device_of self.old)))) (entry_of (listed_in self.old) name.now) e) }
+        // A writer fails only where there is something to write.
+        ensures failed { IfErr result (λ e. e ≡ Refusal.Write → (t : PlainTable) × ReadsTable (is_halted self.old) D.tells
+            (shown_image (now (D.story (device_of self.old)))) (entry_of (listed_in self.old) name.now) t) }
         ensures silent { IfErr result (λ e. e ≢ Refusal.Write → writer.new ≡ writer.old) }
         ensures reads { OnlyReadsStore D.size D.story D.failed D.tells (ended result) self.old self.new }
     {
