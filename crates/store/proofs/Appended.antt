@@ -172,7 +172,7 @@ decides_unread laws image c t catalogue held name e there command refusals.Devic
 decides_unread laws image c t catalogue held name e there command refusals.OutOfMemory u = tt
 decides_unread laws image c t catalogue held name e there command (refusals.SegmentUnread place) u =
     let has = entry_has image c t held name e there in
-    absurd (unread_not_held laws image e place has.0 (entry_is e (found_passes is_entry c name e catalogue.entries there)).schema (u refl) has.1)
+    absurd (unread_not_held laws image e place has.0 (entry_is e (found_passes is_entry c name e catalogue.entries there)).schema (u.1 refl) has.1)
 decides_unread laws image c t catalogue held name e there command refusals.NoTable u = absurd u
 decides_unread laws image c t catalogue held name e there command refusals.NameTaken u = absurd u
 decides_unread laws image c t catalogue held name e there command refusals.BadName u = absurd u

@@ -180,15 +180,17 @@ pub unreads_step : (tells : Bool) (image other_image : Image) (e : PlainEntry) (
     → segment ≡ get_or e.segments place segment → table_weight other rows ≤ MAX_TABLE_WEIGHT → (tells ≡ true → rows_held e.schema (take place e.segments) image ≡ Some rows) → UnreadsSegment tells other_image other rows segment place r → Unreads tells image e r
 unreads_step tells image other_image e other rows segment place refusals.Device same at inside is light held u = tt
 unreads_step tells image other_image e other rows segment place refusals.OutOfMemory same at inside is light held u = tt
-unreads_step tells image other_image e other rows segment place (refusals.SegmentUnread k) same at inside is light held u = λ told.
-    subst (IsUnread image e) (sym u.0) (record {
+unreads_step tells image other_image e other rows segment place (refusals.SegmentUnread k) same at inside is light held u = (subst (λ (n : ℕ). n < length e.segments) (sym u.0) inside, λ told. subst (IsUnread image e) (sym u.0) (unread told))
+  where
+    unread : tells ≡ true → IsUnread image e place
+    unread told = record {
       segment = segment;
       at = slice_get-get_or e.segments place segment inside ∙ ap Some (sym is);
       rows = rows;
       before = held told;
       light = subst (λ (s : PlainSchema). table_weight s rows ≤ MAX_TABLE_WEIGHT) same light;
       past = subst (λ (i : Image). ArePast e.schema rows (segment_rows e.schema segment i)) (at told) (subst (λ (s : PlainSchema). ArePast s rows (segment_rows s segment other_image)) same (u.1 told));
-    })
+    }
 unreads_step tells image other_image e other rows segment place refusals.NoTable same at inside is light held u = absurd u
 unreads_step tells image other_image e other rows segment place refusals.NameTaken same at inside is light held u = absurd u
 unreads_step tells image other_image e other rows segment place refusals.BadName same at inside is light held u = absurd u

@@ -208,7 +208,7 @@ module _ {D : Type 0} {g : Ghosts D} (size : D → ℕ) (story : D → Story) (f
           → GoesOn size story failed base m call (refused q) old new
       by_refusal h e found refusals.Device u reads = halts_reading call (step refusals.Device (halt call false m) (on h, refl, refl)) reads
       by_refusal h e found refusals.OutOfMemory u reads = stays_reading call (refused refusals.OutOfMemory) (refused refusals.OutOfMemory) refl refl tt (step refusals.OutOfMemory m (on h, (refl, refl))) reads
-      by_refusal h e found (refusals.SegmentUnread place) u reads = absurd (no_segment h e place found (u told))
+      by_refusal h e found (refusals.SegmentUnread place) u reads = absurd (no_segment h e place found (u.1 told))
       by_refusal h e found refusals.NoTable u reads = absurd u
       by_refusal h e found refusals.NameTaken u reads = absurd u
       by_refusal h e found refusals.BadName u reads = absurd u
@@ -268,5 +268,5 @@ export_step s m name (refusals.Query refusal) next h = h
 export_step s m name (refusals.SegmentUnread place) next h = h
 export_step s m name refusals.Read next h = h
 export_step s m name (refusals.SegmentDamaged place) next h = h
-export_step s m name refusals.Write next h = absurd h
+export_step s m name refusals.Write next h = h
 export_step s m name refusals.OutOfMemory next h = h

@@ -31,11 +31,11 @@ pub record IsUnread (image : Image) (e : PlainEntry) (place : ℕ) : Type 0 wher
   pub light : table_weight e.schema rows ≤ MAX_TABLE_WEIGHT
   pub past : ArePast e.schema rows (segment_rows e.schema segment image)
 
--- why the table of an entry is not read; where the device does not tell its story nothing is known of the image
+-- why the table of an entry is not read; where the device does not tell its story nothing is known of the image, but the segment is one of the entry's
 abbrev pub Unreads : (tells : Bool) → Image → PlainEntry → Refusal → Type 0
 Unreads tells image e refusals.Device = Unit {0}
 Unreads tells image e refusals.OutOfMemory = Unit {0}
-Unreads tells image e (refusals.SegmentUnread place) = tells ≡ true → IsUnread image e place
+Unreads tells image e (refusals.SegmentUnread place) = (place < length e.segments) × (tells ≡ true → IsUnread image e place)
 Unreads tells image e _ = ⊥
 
 -- a table that was read for an entry: it has the entry's schema and as many rows as the entry says, and where the device tells its story it is the

@@ -86,8 +86,6 @@ StepExport s m name (bytes_are bytes) wrote new =
     × ((table : PlainTable) × (table_at (tables_now s m) name ≡ Some table) × (meaning supported_codes bytes ≡ Ok table))
     × Stays m wrote new
 StepExport s m name (refused refusals.NoTable) wrote new = (m.phase ≡ running) × (table_at (tables_now s m) name ≡ None) × Stays m wrote new
-StepExport s m name (refused refusals.Write) wrote new =
-    (m.phase ≡ running) × ((table : PlainTable) × (table_at (tables_now s m) name ≡ Some table)) × Stays m wrote new
 StepExport s m name (refused r) wrote new = RefusesReading m (export_call name) r wrote new
 StepExport s m name _ wrote new = ⊥
 

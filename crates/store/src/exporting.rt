@@ -1,6 +1,6 @@
 // A table is exported: as the bytes of a stream that means it.
-ghost use Rattle.std.specs.Prelude.{◌≡◌, ◌≢◌, ◌⊎◌, true, IfOk, IfErr, OnOk};
-ghost use Rattle.std.specs.Io.KnownBytes.{Appends, Keeps};
+ghost use Rattle.std.specs.Prelude.{◌≡◌, ◌≢◌, ℕ, List, true, IfOk, IfErr, OnOk};
+ghost use Rattle.std.specs.Io.KnownBytes.{Appends};
 ghost use Rattle.sector_dev.specs.Disk.{now, shown_image};
 ghost use Rattle.cells.specs.Cell.{PlainTable};
 ghost use Rattle.catalogue.specs.Edits.{entry_of};
@@ -61,10 +61,23 @@ impl<D: SectorDevice> Store<D> {
         name: &str,
         writer: &mut W,
     ) -> Result<(), Refusal>
+        // Of a store that stands for a machine it is a stream of the table of the settled commands.
+        ensures goes { OnOk result (D.tells ≡ true → (base : Tables) (m : Machine) → StoreFits D.size D.story base m self.old → (bytes : List ℕ)
+            × Appends (W.contents writer.old) (W.contents writer.new) bytes
+            × GoesOn D.size D.story D.failed base m (export_call name.now) (bytes_are bytes) self.old self.new) }
+        ensures refused { IfErr result (λ e. e ≢ Refusal.Write → D.tells ≡ true → (base : Tables) (m : Machine) → StoreFits D.size D.story base m self.old
+            → GoesOn D.size D.story D.failed base m (export_call name.now) (refused e) self.old self.new) }
+        // A writer that fails is no failure of the store: it has given such a stream all the same.
+        ensures unwritten { IfErr result (λ e. e ≡ Refusal.Write → D.tells ≡ true → (base : Tables) (m : Machine) → StoreFits D.size D.story base m self.old
+            → (bytes : List ℕ) × GoesOn D.size D.story D.failed base m (export_call name.now) (bytes_are bytes) self.old self.new) }
+        // Of any store it is that of what reads show of its catalogue's entry.
         ensures written { OnOk result ((t : PlainTable) × ReadsTable (is_halted self.old) D.tells (shown_image (now (D.story (device_of self.old))))
             (entry_of (listed_in self.old) name.now) t × Appends (W.contents writer.old) (W.contents writer.new) (canonical t)) }
         ensures told { IfErr result (λ e. e ≢ Refusal.Write → RefusesRead (is_halted self.old) D.tells
             (shown_image (now (D.story (device_of self.old)))) (entry_of (listed_in self.old) name.now) e) }
+        // A writer fails only where there is something to write.
+        ensures failed { IfErr result (λ e. e ≡ Refusal.Write → (t : PlainTable) × ReadsTable (is_halted self.old) D.tells
+            (shown_image (now (D.story (device_of self.old)))) (entry_of (listed_in self.old) name.now) t) }
         ensures silent { IfErr result (λ e. e ≢ Refusal.Write → writer.new ≡ writer.old) }
         ensures reads { OnlyReadsStore D.size D.story D.failed D.tells (ended result) self.old self.new }
     {

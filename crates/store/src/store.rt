@@ -55,6 +55,7 @@ impl<D: SectorDevice> Store<D> {
         // On any device: what is found or told is so, and no moment has a write.
         ensures found { IfOk result (λ store. D.tells ≡ true → FindsStore D.size D.story device store) }
         ensures told { IfErr result (λ e. D.tells ≡ true → TellsOpening e.0 (standing_shown whole_reading (D.size device) (D.story device))) }
+        ensures not_already { IfErr result (λ e. e.0 ≢ OpeningRefusal.AlreadyAStore) }
         ensures quiet { IfErr result (λ e. e.0 ≢ OpeningRefusal.Device → D.tells ≡ true → now (D.story e.1) ≡ now (D.story device)) }
         ensures moments { IfErr result (λ e. D.tells ≡ true → Grows (IsOpening (now (D.story device))) (D.story device) (D.story e.1)) }
         // Also of a device that doesn't tell its story.

@@ -224,7 +224,6 @@ one_step s m (read_call name) (refused refusals.Device) wrote new step = is_halt
 one_step s m (read_call name) _ wrote new step = absurd step
 one_step s m (export_call name) (bytes_are bytes) wrote new step = is_same m new (export_call name) (bytes_are bytes) refl step.2.1
 one_step s m (export_call name) (refused refusals.NoTable) wrote new step = is_same m new (export_call name) (refused refusals.NoTable) refl step.2.1
-one_step s m (export_call name) (refused refusals.Write) wrote new step = is_same m new (export_call name) (refused refusals.Write) refl step.2.1
 one_step s m (export_call name) (refused refusals.Halted) wrote new step = is_same m new (export_call name) (refused refusals.Halted) refl step.1.1
 one_step s m (export_call name) (refused refusals.OutOfMemory) wrote new step = is_same m new (export_call name) (refused refusals.OutOfMemory) refl step.1.1
 one_step s m (export_call name) (refused refusals.Device) wrote new step = is_halted m new (export_call name) (refused refusals.Device) refl refl step.2
