@@ -1,6 +1,6 @@
 -- A command ends by what stood on the disk when it was called: its commit, its catalogue and the runs that they use.
-use Rattle.std.specs.Prelude.{◌||◌, nat_lt}
-use Rattle.std.proofs.Common.{◌≡◌, ℕ, Bool, true, false, [], Result, Ok, Err, refl, ap, ◌∙◌, subst}
+use Rattle.std.specs.Prelude.{◌||◌}
+use Rattle.std.proofs.Common.{◌≡◌, ℕ, Bool, true, false, Result, Ok, Err, refl, ap, ◌∙◌, subst}
 use Rattle.sector_dev.specs.Disk.{Disk, Story, now, shown_image}
 use Rattle.sector_dev.specs.declared.device.SectorDevice.{Ghosts}
 use Rattle.segments.specs.declared.run.Run.{Run}
@@ -20,7 +20,7 @@ use Rattle.store.specs.Runs.{RoomFrom}
 use Rattle.store.specs.Fits.{listed_in, IsSound}
 use Rattle.store.specs.Changes.{PlainChange}
 use Rattle.store.specs.Deciding.{IsDecided}
-use Rattle.store.specs.Carrying.{IsCarried, IsRuling, IsCarriedOut}
+use Rattle.store.specs.Carrying.{IsCarried, IsCarriedOut}
 use Rattle.store.proofs.ReadsStore.{shown_is_synced}
 
 pub room_by : (o : Origin) (size : ℕ) (before after : Disk) (c : PlainCommand) (r : Refusal) → IsCarriedOut size before after c (Err r) → RoomFrom o size before after c r

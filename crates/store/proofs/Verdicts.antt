@@ -28,12 +28,12 @@ use Rattle.tables.specs.Commands.{PlainCommand, create, import_stream, append_st
 use Rattle.tables.specs.Tables.{Tables, table_at, with_table, without_table}
 use Rattle.tables.specs.Verdict.{import_tests, of_meaning, empty_table, verdict}
 use Rattle.store.specs.Machine.{holds}
-use Rattle.store.specs.Held.{catalogue_or_cause, whole_reading, tables_held, table_held, held_tables, held_by}
+use Rattle.store.specs.Held.{catalogue_or_cause, whole_reading, tables_held, held_tables, held_by}
 use Rattle.store.specs.Changes.{put, move, remove, PlainChange, edited, placed_segments, stream_rows, MakesOf}
 use Rattle.store.specs.Reading.{Unreads}
 use Rattle.store.specs.Deciding.{missing_in, full_in, create_tests, rename_tests, names_changed, pieces_put, decided_create, decided_table, of_entry, Addition, given_rows, streamed_rows, unselected, entry_added, entry_selected, entry_read, reads_device, IsNotRead, IsDecided, IsAnswered}
 use Rattle.store.specs.Carrying.{outline}
-use Rattle.store.specs.Applying.{HasDone, IsOldOrDone}
+use Rattle.store.specs.Applying.{HasDone}
 use Rattle.store.specs.Verdicts.{Lists, AreListed, IsVerdict, IsUndecided, HoldsVerdict}
 use Rattle.store.specs.laws.Changed.{edited_held}
 use Rattle.store.specs.laws.Frame.{held_is, same_tables}

@@ -1,5 +1,5 @@
 // A command of an open store.
-ghost use Rattle.std.specs.Prelude.{◌≡◌, ◌≢◌, false, Some, IfOk, IfErr};
+ghost use Rattle.std.specs.Prelude.{◌≡◌, ◌≢◌, false, IfOk, IfErr};
 ghost use Rattle.sector_dev.specs.Disk.{now, shown_image};
 ghost use Rattle.sector_dev.specs.Time.{OnlyReads};
 ghost use Rattle.tables.specs.Tables.{Tables};

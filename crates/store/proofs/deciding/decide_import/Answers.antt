@@ -1,13 +1,12 @@
 use Rattle.std.proofs.Common.{◌≡◌, ◌<◌, ◌^◌, length, ℕ, List, None, Ok, refl, ap, sym, ◌∙◌, subst, string_bytes}
 use Rattle.std.specs.List.{AllByRecursion}
-use Rattle.arrow_schema.specs.View.{schema_of}
 use Rattle.cells.specs.Cell.{PlainTable}
 use Rattle.values.specs.Table.{IsTable}
 use Rattle.values.specs.TableView.{table_of}
 use Rattle.catalogue.specs.Entries.{PlainCatalogue}
 use Rattle.catalogue.specs.View.{catalogue_of}
 use Rattle.tables.specs.Commands.{import_stream}
-use Rattle.store.specs.Changes.{PlainChange, put, change_of, IsChange}
+use Rattle.store.specs.Changes.{PlainChange, change_of, IsChange}
 use Rattle.tables.specs.Verdict.{import_tests}
 use Rattle.store.specs.Deciding.{full_in, IsAnswered}
 use Rattle.store.specs.inner.Saving.{IsPut}

@@ -2,7 +2,6 @@ use Rattle.std.proofs.Common.{◌≡◌, ◌≢◌, Bool, true, false, Some, Ok,
 use Rattle.sector_dev.specs.Disk.{Story, now, shown_image}
 use Rattle.sector_dev.specs.Time.{OnlyReads}
 use Rattle.catalogue.specs.laws.Kept.{catalogue_is}
-use Rattle.tables.specs.declared.refusal.Refusal.{Refusal}
 use Rattle.tables.specs.declared.refusal.Refusal.TheVariants as refusals
 use Rattle.tables.specs.View.{command_of}
 use Rattle.store.specs.Calls.{done, refused}
@@ -12,7 +11,6 @@ use Rattle.store.specs.Machine.{tables_now}
 use Rattle.store.specs.Fits.{setting_of, listed_in}
 use Rattle.store.specs.Applying.{IsKept, reply_of}
 use Rattle.store.specs.Deciding.{IsAnswered, reads_device}
-use Rattle.store.specs.Reading.{ended}
 use Rattle.store.proofs.Decided.{is_change, with_ok}
 use Rattle.store.proofs.Asked.{is_running}
 use Rattle.store.proofs.ReadsStore.{shown, fits_reading}
