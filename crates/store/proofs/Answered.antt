@@ -21,12 +21,13 @@ use Rattle.store.specs.Fits.{setting_of, StoreFits, Opens, Shuts}
 use Rattle.store.specs.Applying.{GoesOn}
 use Rattle.std.proofs.lemmas.Bool.Decides.{nat_tests}
 use Rattle.store.specs.Places.{call_of, reply_in, calls_of, replies_of, device_in, ShutFits, PlaceFits, PlaceGoes, PlaceRuns, PlaceLives}
+use Rattle.store.proofs.Asked.{refused_elsewhere}
 use Rattle.store.specs.laws.Going.{no_run, run_of_one, runs_joined}
 use Rattle.store.specs.laws.Left.{left_from}
 use Rattle.store.specs.laws.Kept.{stops_keep}
 use Rattle.store.specs.laws.Settled.{run_settles, run_settles_all}
 use Rattle.store.specs.laws.Counted.{undisturbed}
-use Rattle.store.specs.laws.Never.{tells_none_damaged, tells_a_store}
+use Rattle.store.specs.laws.Never.{tells_none_damaged, tells_a_store_since}
 
 none_written : (n : ℕ) → nat_lt n n ≡ false
 none_written n = grind (arith, nat_tests)
@@ -58,6 +59,7 @@ refused_shut s m call story failed needs is allows =
       quiet = λ no quiet. refl;
       counts = refl;
       tells = tt;
+      room = refused_elsewhere s call refusals.Halted (now story) (now story) (λ is. cc is);
     }
 
 -- a closing
@@ -79,6 +81,7 @@ closed size story failed base m store fits =
         quiet = λ no quiet. refl;
         counts = refl;
         tells = tt;
+        room = tt;
       };
       fits = record { phase = refl; fits = record { in_limits = fits.device.in_limits; allows = λ image may. fits.device.allows image may; fresh = λ early. let f = fits.device.fresh early in record { settled = f.settled; doubt = f.doubt; began = f.began } } };
     }
@@ -153,7 +156,7 @@ lives size story failed base m calls replies old new fits runs =
         stops_keep s calls replies m before f runs.next after f' runs.run i image (place_allows size story base m old fits) left,
       );
       undamaged = tells_none_damaged s calls replies m before f runs.next after f' runs.run;
-      there = λ started. tells_a_store s calls replies m before f runs.next after f' runs.run started;
+      there = λ i was. tells_a_store_since s calls replies m before f runs.next after f' runs.run i was;
       settles = run_settles s calls replies m before f runs.next after f' runs.run;
       undisturbed = λ less same. undisturbed s calls replies m before f runs.next after f' runs.run less same;
       all_settled = λ none on no_failure. run_settles_all s calls replies m before f runs.next after f' runs.run none on no_failure;

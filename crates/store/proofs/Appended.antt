@@ -1,6 +1,6 @@
--- Rows behind those of a table.
-use Rattle.std.specs.Prelude.{nat_le, not, map}
-use Rattle.std.proofs.Common.{◌≡◌, ℕ, ◌+◌, ◌≤◌, Bool, true, false, List, [], ◌∷◌, ◌++◌, Option, Some, None, Result, Ok, Err, inl, inr, refl, sym, ap, ◌∙◌, subst, arith}
+-- Rows behind those of a table: what is decided of an append is the verdict.
+use Rattle.std.specs.Prelude.{nat_le, not}
+use Rattle.std.proofs.Common.{◌≡◌, ℕ, ◌≤◌, Bool, true, false, List, [], ◌∷◌, ◌++◌, Option, Some, None, Result, Ok, Err, refl, sym, ap, ◌∙◌, subst, arith}
 use Rattle.std.proofs.lemmas.Bool.{leb-true, le-leb}
 use Rattle.std.proofs.lemmas.List.Sums.{sum_by-append}
 use Rattle.facts.specs.Checks.{when, first_some, unless}
@@ -9,7 +9,6 @@ use Rattle.arrow_schema.specs.Column.{PlainSchema}
 use Rattle.arrow_schema.specs.Limits.{IsWithinLimits}
 use Rattle.arrow_schema.specs.OneShape.{have_one_shape}
 use Rattle.cells.specs.Cell.{Cell, PlainTable}
-use Rattle.cells.specs.Row.{row_of}
 use Rattle.cells.specs.Weight.{row_weight, table_weight}
 use Rattle.cells.specs.declared.limits.TheConstants.{MAX_TABLE_WEIGHT}
 use Rattle.values.specs.Table.{IsTable, table_from, first_unfit}
@@ -17,30 +16,20 @@ use Rattle.ipc_message.specs.declared.fault.Fault.{Fault}
 use Rattle.ipc_message.specs.Header.{supported_codes}
 use Rattle.ipc_stream.specs.Meaning.{meaning}
 use Rattle.canonical_write.specs.Pieces.{piece_streams, piece_counts}
-use Rattle.catalogue.specs.Entries.{PlainEntry, PlainCatalogue, is_entry, IsCatalogue}
-use Rattle.catalogue.specs.laws.Changed.{found_passes}
-use Rattle.catalogue.specs.laws.Kept.{entry_is}
+use Rattle.catalogue.specs.Entries.{PlainEntry, PlainCatalogue}
 use Rattle.catalogue.specs.Edits.{entry_of}
 use Rattle.tables.specs.declared.refusal.Limit.TheVariants as limits
 use Rattle.tables.specs.declared.refusal.Refusal.{Refusal}
 use Rattle.tables.specs.declared.refusal.Refusal.TheVariants as refusals
-use Rattle.tables.specs.declared.refusal.Refusal.TheVariants.{NoTable, TooMany, OutOfMemory}
+use Rattle.tables.specs.declared.refusal.Refusal.TheVariants.{NoTable, TooMany}
 use Rattle.tables.specs.Commands.{PlainCommand, append_stream, append_rows}
 use Rattle.tables.specs.Tables.{Tables, table_at, with_table}
 use Rattle.tables.specs.Verdict.{too_many_bytes, other_shape, unfit_row, too_heavy, of_table, of_meaning, appended, appended_table, appended_stream, verdict}
-use Rattle.store.specs.Applying.{Decides}
 use Rattle.store.specs.Changes.{PlainChange, extend, rows_under, stream_rows}
-use Rattle.store.specs.declared.new_rows.NewRows.{NewRows}
-use Rattle.store.specs.declared.new_rows.NewRows.TheVariants.{Stream, Given}
-use Rattle.store.specs.Deciding.{Addition, given_rows, rows_of_table, entry_added, pieces_put, IsAdded, IsAnswered}
-use Rattle.store.specs.Held.{tables_held, table_held}
-use Rattle.store.specs.Reading.{Unreads}
-use Rattle.store.specs.inner.Appending.{append_of, added_to, IsAppended}
-use Rattle.store.specs.laws.Named.{entry_has, entry_lacks, held_has}
-use Rattle.store.proofs.Decided.{IsAddedAt}
-use Rattle.store.proofs.HeldTables.{held_are_tables}
-use Rattle.store.proofs.ReadTables.{TableLaws, unread_not_held}
-use Rattle.store.proofs.Tested.{refuses}
+use Rattle.store.specs.Deciding.{of_entry, Addition, given_rows, rows_of_table, streamed_rows, pieces_put, IsAdded}
+use Rattle.store.specs.Held.{table_held}
+use Rattle.store.specs.Verdicts.{TellsTable, AreListed, IsVerdict}
+use Rattle.store.proofs.ReadTables.{TableLaws}
 
 -- ---- tests in turn
 
@@ -77,14 +66,17 @@ module _ (t : Tables) (name : List ℕ) (e : PlainEntry) (rows : List (List Cell
   table_same : (new : PlainTable) → onto (rows_of_table e new) behind ≡ appended_table t name (rows_under e.schema rows) new
   table_same new = test_then (other_shape e.schema new.schema) (given_rows new.rows e) behind ∙ ap (unless (other_shape e.schema new.schema)) (given_same new.rows)
 
-  pub verdict_is : (new : NewRows) → verdict t (append_of name new) ≡ onto (added_to new e) behind
+  pub rows_verdict : (new : List (List Cell)) → verdict t (append_rows name new) ≡ onto (given_rows new e) behind
   unfolding verdict
-  verdict_is (Given rows) = ap (λ (o : Option PlainTable). of_table o (appended t name (map row_of rows.items))) found ∙ sym (given_same (map row_of rows.items))
-  verdict_is (Stream bytes) =
-      ap (λ (o : Option PlainTable). of_table o (appended_stream t name bytes.items)) found
-      ∙ sym (test_then (too_many_bytes bytes.items) (of_meaning (meaning supported_codes bytes.items) (rows_of_table e)) behind
-      ∙ ap (unless (too_many_bytes bytes.items))
-      (meaning_then (meaning supported_codes bytes.items) (rows_of_table e) behind ∙ ap (of_meaning (meaning supported_codes bytes.items)) (λ i new. table_same new i)))
+  rows_verdict new = ap (λ (o : Option PlainTable). of_table o (appended t name new)) found ∙ sym (given_same new)
+
+  pub stream_verdict : (bytes : List ℕ) → verdict t (append_stream name bytes) ≡ onto (streamed_rows bytes e) behind
+  unfolding verdict
+  stream_verdict bytes =
+      ap (λ (o : Option PlainTable). of_table o (appended_stream t name bytes)) found
+      ∙ sym (test_then (too_many_bytes bytes) (of_meaning (meaning supported_codes bytes) (rows_of_table e)) behind
+      ∙ ap (unless (too_many_bytes bytes))
+      (meaning_then (meaning supported_codes bytes) (rows_of_table e) behind ∙ ap (of_meaning (meaning supported_codes bytes)) (λ i new. table_same new i)))
 
 -- ---- rows that can be added
 
@@ -112,7 +104,7 @@ none_unfit s rows h = by_first (first_unfit s rows) refl h
     by_first None is h = is
     by_first (Some i) is h = absurd (cc h)
 
-given_is : (e : PlainEntry) (rows : List (List Cell)) (a : Addition) → given_rows rows e ≡ Ok a → IsFitting e a
+pub given_is : (e : PlainEntry) (rows : List (List Cell)) (a : Addition) → given_rows rows e ≡ Ok a → IsFitting e a
 given_is e rows a h = by_test (unfit_row e.schema rows) refl h
   where
     by_test : (u : Option Refusal) → unfit_row e.schema rows ≡ u → unless u (Ok (record { entry = e; rows = rows })) ≡ Ok a → IsFitting e a
@@ -129,9 +121,8 @@ passed : {A : Type 0} (o : Option Refusal) (r : Result A Refusal) (a : A) → un
 passed None r a h = h
 passed (Some e) r a h = absurd (cc h)
 
-pub added_is : (e : PlainEntry) (new : NewRows) (a : Addition) → added_to new e ≡ Ok a → IsFitting e a
-added_is e (Given rows) a h = given_is e (map row_of rows.items) a h
-added_is e (Stream bytes) a h = by_meaning (meaning supported_codes bytes.items) (passed (too_many_bytes bytes.items) (of_meaning (meaning supported_codes bytes.items) (rows_of_table e)) a h)
+pub streamed_is : (e : PlainEntry) (bytes : List ℕ) (a : Addition) → streamed_rows bytes e ≡ Ok a → IsFitting e a
+streamed_is e bytes a h = by_meaning (meaning supported_codes bytes) (passed (too_many_bytes bytes) (of_meaning (meaning supported_codes bytes) (rows_of_table e)) a h)
   where
     by_meaning : (m : Result PlainTable Fault) → of_meaning m (rows_of_table e) ≡ Ok a → IsFitting e a
     by_meaning (Err fault) h = absurd (cc h)
@@ -165,111 +156,79 @@ new_table laws e a standing within fitting light =
 
 -- ---- what is decided
 
--- a table that a catalogue lists is not read: its device fails, or memory is refused
-pub decides_unread : TableLaws → (image : Image) (c : PlainCatalogue) (t : Tables) → IsCatalogue c → tables_held image c ≡ Some t → (name : List ℕ) (e : PlainEntry) → entry_of c name ≡ Some e → (command : PlainCommand) (r : Refusal) → Unreads true image e r
-    → Decides t command (Err r)
-decides_unread laws image c t catalogue held name e there command refusals.Device u = tt
-decides_unread laws image c t catalogue held name e there command refusals.OutOfMemory u = tt
-decides_unread laws image c t catalogue held name e there command (refusals.SegmentUnread place) u =
-    let has = entry_has image c t held name e there in
-    absurd (unread_not_held laws image e place has.0 (entry_is e (found_passes is_entry c name e catalogue.entries there)).schema (u.1 refl) has.1)
-decides_unread laws image c t catalogue held name e there command refusals.NoTable u = absurd u
-decides_unread laws image c t catalogue held name e there command refusals.NameTaken u = absurd u
-decides_unread laws image c t catalogue held name e there command refusals.BadName u = absurd u
-decides_unread laws image c t catalogue held name e there command refusals.SchemaMismatch u = absurd u
-decides_unread laws image c t catalogue held name e there command (refusals.Import fault) u = absurd u
-decides_unread laws image c t catalogue held name e there command (refusals.RowUnfit row) u = absurd u
-decides_unread laws image c t catalogue held name e there command (refusals.TooMany limit) u = absurd u
-decides_unread laws image c t catalogue held name e there command (refusals.NoRoom sectors) u = absurd u
-decides_unread laws image c t catalogue held name e there command refusals.Halted u = absurd u
-decides_unread laws image c t catalogue held name e there command refusals.NoExport u = absurd u
-decides_unread laws image c t catalogue held name e there command (refusals.Query refusal) u = absurd u
-decides_unread laws image c t catalogue held name e there command refusals.Read u = absurd u
-decides_unread laws image c t catalogue held name e there command (refusals.SegmentDamaged k) u = absurd u
-decides_unread laws image c t catalogue held name e there command refusals.Write u = absurd u
+-- the table of a name, as the catalogue's entry tells of it
+pub listed_at : (image : Image) (c : PlainCatalogue) (t : Tables) (name : List ℕ) (e : PlainEntry) → AreListed image c t → entry_of c name ≡ Some e
+    → (table : PlainTable) × (table_at t name ≡ Some table) × (table.schema ≡ e.schema)
+listed_at image c t name e listed there =
+    let tells = subst (λ (o : Option PlainEntry). TellsTable o (table_at t name)) there (listed.lists.each name) in
+    (tells.0, tells.1, tells.2)
 
-module _ (laws : RowLaws) (image : Image) (c : PlainCatalogue) (t : Tables) (catalogue : IsCatalogue c) (held : tables_held image c ≡ Some t) (name : List ℕ) (new : NewRows) (e : PlainEntry)
-    (there : entry_of c name ≡ Some e) where
-  within : IsWithinLimits e.schema
-  within = (entry_is e (found_passes is_entry c name e catalogue.entries there)).schema
+-- and where there is no entry there is none
+pub none_listed : (image : Image) (c : PlainCatalogue) (t : Tables) (name : List ℕ) → AreListed image c t → entry_of c name ≡ None → table_at t name ≡ None
+none_listed image c t name listed none = subst (λ (o : Option PlainEntry). TellsTable o (table_at t name)) none (listed.lists.each name)
 
-  abbrev command : PlainCommand
-  command = append_of name new
+-- a table of this schema, by its rows
+under : (t : Tables) (name : List ℕ) (s : PlainSchema) (table : PlainTable) → table_at t name ≡ Some table → table.schema ≡ s → table_at t name ≡ Some (rows_under s table.rows)
+under t name s table at same = at ∙ (λ i. Some (rows_under (same i) table.rows))
 
-  -- the table that stands
-  pub standing_rows : (rows : List (List Cell)) × (table_held image e ≡ Some (rows_under e.schema rows)) × (table_at t name ≡ Some (rows_under e.schema rows))
-  standing_rows =
-      let has = entry_has image c t held name e there in
-      let own = held_has image e has.0 has.1 in
-      (own.0, has.1 ∙ ap Some own.2, has.2 ∙ ap Some own.2)
-
-  abbrev rows : List (List Cell)
-  rows = standing_rows.0
-
-  -- the verdict, by what the tests of the new rows find
-  verdict_by : (tested : Result Addition Refusal) → added_to new e ≡ tested → verdict t command ≡ onto tested (behind t name e rows standing_rows.2)
-  verdict_by tested is = verdict_is t name e rows standing_rows.2 new ∙ ap (λ (x : Result Addition Refusal). onto x (behind t name e rows standing_rows.2)) is
-
-  decides_behind : (a : Addition) (w : Option Refusal) → added_to new e ≡ Ok a → too_heavy e.schema (rows ++ a.rows) ≡ w
-      → Decides t command (unless w (Ok (pieces_put (extend name) (rows_under e.schema a.rows))))
-  decides_behind a (Some r) added heavy =
-      refuses t command r (verdict_by (Ok a) added ∙ ap (λ (o : Option Refusal). unless o (Ok (with_table t name (rows_under e.schema (rows ++ a.rows))))) heavy)
-  decides_behind a None added light =
-      let fits = added_is e new a added in
+-- of rows for the table of an entry, by whatever command
+module _ (laws : RowLaws) (image : Image) (c : PlainCatalogue) (t : Tables) (listed : AreListed image c t) (name : List ℕ) (e : PlainEntry) (there : entry_of c name ≡ Some e)
+    (command : PlainCommand) (tested : Result Addition Refusal) (fitting : (a : Addition) → tested ≡ Ok a → IsFitting e a)
+    (verdict_is : (rows : List (List Cell)) (found : table_at t name ≡ Some (rows_under e.schema rows)) → verdict t command ≡ onto tested (behind t name e rows found)) where
+  by_weight : (rows : List (List Cell)) (found : table_at t name ≡ Some (rows_under e.schema rows)) → IsTable (rows_under e.schema rows) → (a : Addition) (w : Option Refusal) → tested ≡ Ok a
+      → too_heavy e.schema (rows ++ a.rows) ≡ w → IsVerdict t command (unless w (Ok (pieces_put (extend name) (rows_under e.schema a.rows))))
+  by_weight rows found old a (Some r) is heavy =
+      verdict_is rows found ∙ ap (λ (x : Result Addition Refusal). onto x (behind t name e rows found)) is
+      ∙ ap (λ (o : Option Refusal). unless o (Ok (with_table t name (rows_under e.schema (rows ++ a.rows))))) heavy
+  by_weight rows found old a None is light =
       let test : nat_le (table_weight e.schema (rows ++ a.rows)) MAX_TABLE_WEIGHT ≡ true = light_none (nat_le (table_weight e.schema (rows ++ a.rows)) MAX_TABLE_WEIGHT) light in
-      let more = new_table laws e a rows within fits test in
-      let old = standing_is_table in
+      let more = new_table laws e a rows old.schema (fitting a is) test in
       let whole = laws.join e.schema rows a.rows old more (leb-true (table_weight e.schema (rows ++ a.rows)) MAX_TABLE_WEIGHT test) in (
         with_table t name (rows_under e.schema (rows ++ a.rows)),
-        verdict_by (Ok a) added ∙ ap (λ (o : Option Refusal). unless o (Ok (with_table t name (rows_under e.schema (rows ++ a.rows))))) light,
-        (rows_under e.schema rows, standing_rows.2, (a.rows, laws.held (rows_under e.schema a.rows) more, laws.tables.accepted (rows_under e.schema (rows ++ a.rows)) whole, refl)),
+        verdict_is rows found ∙ ap (λ (x : Result Addition Refusal). onto x (behind t name e rows found)) is
+            ∙ ap (λ (o : Option Refusal). unless o (Ok (with_table t name (rows_under e.schema (rows ++ a.rows))))) light,
+        (rows_under e.schema rows, found, (a.rows, laws.held (rows_under e.schema a.rows) more, laws.tables.accepted (rows_under e.schema (rows ++ a.rows)) whole, refl)),
       )
+
+  pub added_verdict : (d : Result PlainChange Refusal) → IsAdded true image name tested d → IsVerdict t command d
+  added_verdict d is = by_tests tested refl is
     where
-      standing_is_table : IsTable (rows_under e.schema rows)
-      standing_is_table = held_are_tables laws.tables.accepts image c t catalogue held name (rows_under e.schema rows) standing_rows.2
+      by_tests : (x : Result Addition Refusal) → tested ≡ x → IsAdded true image name x d → IsVerdict t command d
+      by_tests (Err r) test same =
+          let own = listed_at image c t name e listed there in
+          let found = under t name e.schema own.0 own.1 own.2 in
+          subst (IsVerdict t command) (sym same) (verdict_is own.0.rows found ∙ ap (λ (x : Result Addition Refusal). onto x (behind t name e own.0.rows found)) test)
+      by_tests (Ok a) test stands =
+          let own : a.entry ≡ e = (fitting a test).entry in
+          let schema : stands.0.schema ≡ e.schema = stands.1.schema ∙ ap (λ (x : PlainEntry). x.schema) own in
+          let at = listed.held name e stands.0 there (ap (table_held image) (sym own) ∙ stands.1.held refl) in
+          let old : IsTable (rows_under e.schema stands.0.rows) = subst (λ (s : PlainSchema). IsTable (rows_under s stands.0.rows)) schema stands.1.kept in
+          let same : d ≡ unless (too_heavy e.schema (stands.0.rows ++ a.rows)) (Ok (pieces_put (extend name) (rows_under e.schema a.rows))) =
+          stands.2 ∙ (λ i. unless (too_heavy (own i).schema (stands.0.rows ++ a.rows)) (Ok (pieces_put (extend name) (rows_under (own i).schema a.rows)))) in
+          subst (IsVerdict t command) (sym same) (by_weight stands.0.rows (under t name e.schema stands.0 at schema) old a (too_heavy e.schema (stands.0.rows ++ a.rows)) test refl)
 
-  pub decides_added : (added : Result Addition Refusal) (d : Result PlainChange Refusal) → added_to new e ≡ added → IsAdded true image name added d → Decides t command d
-  decides_added (Err r) d is same = subst (Decides t command) (sym same) (refuses t command r (verdict_by (Err r) is))
-  decides_added (Ok a) d is stands =
-      let own = (added_is e new a is).entry in
-      let both : Some stands.0 ≡ Some (rows_under e.schema rows) = sym (ap (table_held image) (sym own) ∙ stands.1.held refl) ∙ standing_rows.1 in
-      let one : stands.0 ≡ rows_under e.schema rows = cc both in
-      let same : d ≡ unless (too_heavy e.schema (rows ++ a.rows)) (Ok (pieces_put (extend name) (rows_under e.schema a.rows))) =
-      stands.2 ∙ (λ i. unless (too_heavy (own i).schema ((one i).rows ++ a.rows)) (Ok (pieces_put (extend name) (rows_under (own i).schema a.rows)))) in
-      subst (Decides t command) (sym same) (decides_behind a (too_heavy e.schema (rows ++ a.rows)) is refl)
+module _ (laws : RowLaws) (image : Image) (c : PlainCatalogue) (t : Tables) (listed : AreListed image c t) (name : List ℕ) (d : Result PlainChange Refusal) where
+  -- no table has the name
+  missing_rows : (rows : List (List Cell)) → entry_of c name ≡ None → verdict t (append_rows name rows) ≡ Err NoTable
+  unfolding verdict
+  missing_rows rows none = ap (λ (o : Option PlainTable). of_table o (appended t name rows)) (none_listed image c t name listed none)
 
-  -- the entry whose table was not read is this one
-  own_entry : (tested : Result Addition Refusal) (x : PlainEntry) → added_to new e ≡ tested → entry_added tested ≡ Some x → x ≡ e
-  own_entry (Err r) x is h = absurd (cc h)
-  own_entry (Ok a) x is h = let same : a.entry ≡ x = cc h in sym same ∙ (added_is e new a is).entry
+  missing_stream : (bytes : List ℕ) → entry_of c name ≡ None → verdict t (append_stream name bytes) ≡ Err NoTable
+  unfolding verdict
+  missing_stream bytes none = ap (λ (o : Option PlainTable). of_table o (appended_stream t name bytes)) (none_listed image c t name listed none)
 
-  pub decides_appended : (d : Result PlainChange Refusal) → IsAppended true image name (added_to new e) d → Decides t command d
-  decides_appended d (inl memory) = subst (Decides t command) (sym memory) tt
-  decides_appended d (inr (inl not_read)) =
-      let own = own_entry (added_to new e) not_read.entry refl not_read.tested in
-      subst (Decides t command) (sym not_read.told)
-      (decides_unread laws.tables image c t catalogue held name e there command not_read.refusal (subst (λ (x : PlainEntry). Unreads true image x not_read.refusal) own not_read.unread))
-  decides_appended d (inr (inr added)) = decides_added (added_to new e) d refl added
+  pub rows_decided : (rows : List (List Cell)) → IsAdded true image name (of_entry (entry_of c name) (given_rows rows)) d → IsVerdict t (append_rows name rows) d
+  rows_decided rows is = by_entry (entry_of c name) refl is
+    where
+      by_entry : (o : Option PlainEntry) → entry_of c name ≡ o → IsAdded true image name (of_entry o (given_rows rows)) d → IsVerdict t (append_rows name rows) d
+      by_entry (Some e) there added =
+          added_verdict laws image c t listed name e there (append_rows name rows) (given_rows rows e) (given_is e rows) (λ old found. rows_verdict t name e old found rows) d added
+      by_entry None none same = subst (IsVerdict t (append_rows name rows)) (sym same) (missing_rows rows none)
 
--- no table has the name
-pub decides_missing : (image : Image) (c : PlainCatalogue) (t : Tables) (name : List ℕ) (new : NewRows) → tables_held image c ≡ Some t → entry_of c name ≡ None → Decides t (append_of name new) (Err NoTable)
-unfolding verdict
-decides_missing image c t name (Stream bytes) held none =
-    refuses t (append_stream name bytes.items) NoTable (ap (λ (o : Option PlainTable). of_table o (appended_stream t name bytes.items)) (entry_lacks image c t held name none))
-decides_missing image c t name (Given rows) held none =
-    refuses t (append_rows name (map row_of rows.items)) NoTable (ap (λ (o : Option PlainTable). of_table o (appended t name (map row_of rows.items))) (entry_lacks image c t held name none))
-
--- what is answered of an append is what the tables decide
-pub decides_answered : RowLaws → (image : Image) (c : PlainCatalogue) (t : Tables) → IsCatalogue c → tables_held image c ≡ Some t → (name : List ℕ) (new : NewRows) (d : Result PlainChange Refusal)
-    → IsAnswered true image c (append_of name new) d → Decides t (append_of name new) d
-decides_answered laws image c t catalogue held name new d answers = by_entry (entry_of c name) refl (answers_at new answers)
-  where
-    answers_at : (new : NewRows) → IsAnswered true image c (append_of name new) d → IsAddedAt true image name (added_to new) (entry_of c name) d
-    answers_at (Stream bytes) a = a
-    answers_at (Given rows) a = a
-
-    by_entry : (o : Option PlainEntry) → entry_of c name ≡ o → IsAddedAt true image name (added_to new) o d → Decides t (append_of name new) d
-    by_entry (Some e) there a = decides_appended laws image c t catalogue held name new e there d a
-    by_entry None none (inl memory) = subst (Decides t (append_of name new)) (sym memory) tt
-    by_entry None none (inr (inl not_read)) = absurd (let both : None ≡ Some not_read.entry = not_read.tested in cc both)
-    by_entry None none (inr (inr is)) = subst (Decides t (append_of name new)) (sym is) (decides_missing image c t name new held none)
+  pub stream_decided : (bytes : List ℕ) → IsAdded true image name (of_entry (entry_of c name) (streamed_rows bytes)) d → IsVerdict t (append_stream name bytes) d
+  stream_decided bytes is = by_entry (entry_of c name) refl is
+    where
+      by_entry : (o : Option PlainEntry) → entry_of c name ≡ o → IsAdded true image name (of_entry o (streamed_rows bytes)) d → IsVerdict t (append_stream name bytes) d
+      by_entry (Some e) there added =
+          added_verdict laws image c t listed name e there (append_stream name bytes) (streamed_rows bytes e) (streamed_is e bytes) (λ old found. stream_verdict t name e old found bytes) d added
+      by_entry None none same = subst (IsVerdict t (append_stream name bytes)) (sym same) (missing_stream bytes none)

@@ -1,6 +1,6 @@
 -- A command is decided, and then it is carried out or refused.
-use Rattle.std.specs.Prelude.{◌||◌, ◌↔◌, min, IfErr}
-use Rattle.std.proofs.Common.{◌≡◌, ℕ, ◌+◌, ◌-◌, ◌^◌, Bool, true, false, Result, Ok, Err, inl, refl, sym, ap, ◌∙◌, subst, if◌then◌else◌}
+use Rattle.std.specs.Prelude.{◌≢◌, ◌⊎◌, ◌||◌, ◌↔◌, min, IfErr}
+use Rattle.std.proofs.Common.{◌≡◌, ℕ, ◌+◌, ◌-◌, ◌^◌, Bool, true, false, Result, Ok, Err, inl, inr, refl, sym, ap, ◌∙◌, subst, if◌then◌else◌}
 use Rattle.sector_dev.specs.Disk.{Disk, Story, Image, now, MayLeave, shown_image, synced_image}
 use Rattle.sector_dev.specs.Time.{Grows, LeavesOnly}
 use Rattle.sector_dev.specs.laws.Crash.{only_image}
@@ -16,19 +16,23 @@ use Rattle.tables.specs.declared.refusal.Limit.TheVariants as limits
 use Rattle.tables.specs.Refusals.{Origin, by_tables, by_room, by_memory, by_device, by_halt, elsewhere, origin_of}
 use Rattle.tables.specs.Tables.{Tables}
 use Rattle.tables.specs.Commands.{PlainCommand}
+use Rattle.tables.specs.Verdict.{verdict}
+use Rattle.tables.specs.laws.Steps.{told_by_tables}
 use Rattle.store.specs.declared.store.Store.{Store}
 use Rattle.store.specs.declared.stored.StoredCatalogue.{StoredCatalogue}
-use Rattle.store.specs.Calls.{apply_call, PlainReply, refused, is_failure, is_device_reply}
+use Rattle.store.specs.Calls.{apply_call, PlainReply, refused, is_failure, is_device_reply, counted}
 use Rattle.store.specs.Changes.{PlainChange}
 use Rattle.store.specs.Deciding.{IsDecided}
 use Rattle.store.specs.Held.{whole_reading}
 use Rattle.store.specs.Machine.{Setting, Machine, running, halted, tables_now, has_written, AllowsEach}
 use Rattle.store.specs.Reading.{OnlyReadsStore, ended}
-use Rattle.store.specs.Runs.{Goes, TellsFound, counted}
+use Rattle.store.specs.Runs.{Goes, TellsFound, TellsRoom}
 use Rattle.store.specs.Steps.{Step, RefusesFrom}
 use Rattle.store.specs.Fits.{setting_of, StoreFits, commit_of, listed_in, IsOnDisk}
-use Rattle.store.specs.Applying.{RefusesFirst, IsCarried, EndsAs, IsKept, HasDone, IsOldOrDone, Writes, HasWritten, GoesOn, reply_of}
-use Rattle.store.proofs.Asked.{still, not_running}
+use Rattle.store.specs.Applying.{EndsAs, IsKept, HasDone, IsOldOrDone, Writes, HasWritten, GoesOn, reply_of}
+use Rattle.store.specs.Carrying.{IsCarried}
+use Rattle.store.specs.Verdicts.{IsVerdict, IsUndecided}
+use Rattle.store.proofs.Asked.{still, not_running, refused_elsewhere}
 use Rattle.store.proofs.ReadsStore.{moments_read, stays_reading, halts_reading}
 
 -- the device alone is the origin of a failure
@@ -96,17 +100,35 @@ reads_nothing size story failed tells reply store quiet = record {
     or_no true = refl
     or_no false = refl
 
+-- why a command is refused before anything is written, by where its refusal comes from
+abbrev RefusesFirst : Origin → Tables → PlainCommand → Refusal → Type 0
+RefusesFirst by_tables t c r = verdict t c ≡ Err r
+RefusesFirst by_memory t c r = Unit {0}
+RefusesFirst by_device t c r = Unit {0}
+RefusesFirst _ t c r = ⊥
+
+refuses_as : (t : Tables) (c : PlainCommand) (r : Refusal) → IsUndecided c (Err r) ⊎ IsVerdict t c (Err r) → RefusesFirst (origin_of r) t c r
+refuses_as t c r (inl (inl memory)) = let same : r ≡ refusals.OutOfMemory = cc memory in subst (λ (q : Refusal). RefusesFirst (origin_of q) t c q) (sym same) tt
+refuses_as t c r (inl (inr fails)) = let same : r ≡ refusals.Device = cc fails.0 in subst (λ (q : Refusal). RefusesFirst (origin_of q) t c q) (sym same) tt
+refuses_as t c r (inr is) = subst (λ (o : Origin). RefusesFirst o t c r) (sym (told_by_tables t c r is)) is
+
+-- a change that was decided is the verdict
+pub change_verdict : (t : Tables) (c : PlainCommand) (change : PlainChange) → IsUndecided c (Ok change) ⊎ IsVerdict t c (Ok change) → IsVerdict t c (Ok change)
+change_verdict t c change (inl (inl memory)) = absurd (cc memory)
+change_verdict t c change (inl (inr fails)) = absurd (cc fails.0)
+change_verdict t c change (inr is) = is
+
 module _ {D : Type 0} {g : Ghosts D} (size : D → ℕ) (story : D → Story) (failed : D → ℕ) (base : Tables) (m : Machine) (c : PlainCommand) where
   -- a command of a store that is halted
   pub refuses_halted : (store : Store D g) → store.halted ≡ true → StoreFits size story base m store → GoesOn size story failed base m (apply_call c) (refused refusals.Halted) store store
   unfolding Step
-  refuses_halted store on fits = still size story failed base m (apply_call c) (refused refusals.Halted) store (not_running m.phase store.halted fits.phase on, (refl, refl)) refl fits tt
+  refuses_halted store on fits = still size story failed base m (apply_call c) (refused refusals.Halted) store (not_running m.phase store.halted fits.phase on, (refl, refl)) refl fits tt tt
 
   -- one that is refused before anything is written; the device may have been read
   pub refuses_first : (tells : Bool) → tells ≡ true → (r : Refusal) (old new : Store D g) → old.halted ≡ false → StoreFits size story base m old → OnlyReadsStore size story failed tells (refused r) old new
-      → RefusesFirst (origin_of r) (tables_now (setting_of (size old.device) base) m) c r → GoesOn size story failed base m (apply_call c) (refused r) old new
+      → IsUndecided c (Err r) ⊎ IsVerdict (tables_now (setting_of (size old.device) base) m) c (Err r) → GoesOn size story failed base m (apply_call c) (refused r) old new
   unfolding Step
-  refuses_first tells told r old new on fits reads why = by_origin (origin_of r) refl
+  refuses_first tells told r old new on fits reads answered = by_origin (origin_of r) refl
     where
       s : Setting
       s = setting_of (size old.device) base
@@ -115,16 +137,17 @@ module _ {D : Type 0} {g : Ghosts D} (size : D → ℕ) (story : D → Story) (f
       running_is = fits.phase ∙ ap (λ (b : Bool). if b then halted else running) on
 
       moved : (o : Origin) → origin_of r ≡ o → RefusesFirst o (tables_now s m) c r
-      moved o is = subst (λ (x : Origin). RefusesFirst x (tables_now s m) c r) is why
+      moved o is = subst (λ (x : Origin). RefusesFirst x (tables_now s m) c r) is (refuses_as (tables_now s m) c r answered)
 
-      stays_by : (o : Origin) → origin_of r ≡ o → is_by_device o ≡ false → RefusesFrom o s m c r false m → GoesOn size story failed base m (apply_call c) (refused r) old new
-      stays_by o is none step =
+      stays_by : (o : Origin) → origin_of r ≡ o → is_by_device o ≡ false → o ≢ by_room → RefusesFrom o s m c r false m → GoesOn size story failed base m (apply_call c) (refused r) old new
+      stays_by o is none other step =
           let quiet : is_failure r ≡ false = failure_origin r ∙ ap is_by_device is ∙ none in
-          stays_reading size story failed base m tells told old new fits (apply_call c) (refused r) (refused r) quiet quiet tt (subst (λ (x : Origin). RefusesFrom x s m c r false m) (sym is) step) reads
+          stays_reading size story failed base m tells told old new fits (apply_call c) (refused r) (refused r) quiet quiet tt
+          (refused_elsewhere s (apply_call c) r (now (story old.device)) (now (story new.device)) (λ room. other (sym is ∙ room))) (subst (λ (x : Origin). RefusesFrom x s m c r false m) (sym is) step) reads
 
       by_origin : (o : Origin) → origin_of r ≡ o → GoesOn size story failed base m (apply_call c) (refused r) old new
-      by_origin by_tables is = stays_by by_tables is refl (running_is, moved by_tables is, (refl, refl))
-      by_origin by_memory is = stays_by by_memory is refl (running_is, (refl, refl))
+      by_origin by_tables is = stays_by by_tables is refl (λ room. cc room) (running_is, moved by_tables is, (refl, refl))
+      by_origin by_memory is = stays_by by_memory is refl (λ room. cc room) (running_is, (refl, refl))
       by_origin by_device is =
           let device : r ≡ refusals.Device = is_device r (failure_origin r ∙ ap is_by_device is) in
           subst (λ (q : Refusal). OnlyReadsStore size story failed tells (refused q) old new → GoesOn size story failed base m (apply_call c) (refused q) old new) (sym device)
@@ -153,6 +176,7 @@ module _ {D : Type 0} {g : Ghosts D} (size : D → ℕ) (story : D → Story) (f
           quiet = λ no device. own.quiet no device ∙ later;
           counts = own.counts ∙ ap (counted reply) (reads.device.count ∙ ap (λ (b : Bool). if b then min (failed old.device + 1) (2 ^ 64 - 1) else failed old.device) quiet);
           tells = found;
+          room = subst (λ (d : Disk). TellsRoom s (apply_call c) reply d (now (story new.device))) later own.room;
         };
         fits = goes.fits;
       }

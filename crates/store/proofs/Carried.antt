@@ -32,20 +32,22 @@ use Rattle.tables.specs.Commands.{PlainCommand}
 use Rattle.tables.specs.Verdict.{verdict, after}
 use Rattle.tables.specs.laws.Steps.{accepted, after_one_more}
 use Rattle.store.specs.declared.stored.StoredCatalogue.{StoredCatalogue}
-use Rattle.store.specs.Calls.{apply_call, done, refused}
+use Rattle.store.specs.Calls.{apply_call, done, refused, counted}
 use Rattle.store.specs.Machine.{holds, Machine, running, tables_now, Allows, AllowsEach, meanwhile, has_written, settle, halt}
 use Rattle.store.specs.Steps.{Step, RefusesFrom}
-use Rattle.store.specs.Runs.{Goes, counted}
+use Rattle.store.specs.Runs.{Goes}
 use Rattle.store.specs.Held.{whole_reading, tables_held, held_tables, held_by}
 use Rattle.store.specs.declared.store.Store.{Store}
 use Rattle.store.specs.Fits.{setting_of, listed_in, IsSound}
 use Rattle.store.specs.Changes.{PlainChange, IsChange, MakesOf, placed_segments}
 use Rattle.store.specs.Deciding.{IsDecided}
-use Rattle.store.specs.Applying.{IsCarried, asked_sizes, HasDone, IsOldOrDone}
+use Rattle.store.specs.Applying.{HasDone, IsOldOrDone}
+use Rattle.store.specs.Carrying.{IsCarried, IsCarriedOut, asked_sizes}
 use Rattle.store.specs.inner.Prepared.{IsPrepared}
 use Rattle.store.specs.laws.Frame.{held_is, same_tables}
 use Rattle.store.specs.laws.Changed.{edited_held}
 use Rattle.store.proofs.Prepared.{streams_held, can_replace}
+use Rattle.store.proofs.Roomed.{room_by}
 
 not_less : (n : ℕ) → nat_lt n n ≡ false
 not_less n = grind (arith, nat_tests)
@@ -77,15 +79,16 @@ module _ (size : ℕ) (base : Tables) (m : Machine) (c : PlainCommand) (new : Ta
     refused_step s0 _ carried other = absurd carried
 
     pub refused_goes : (s0 : Story) (failed : ℕ) (r : Refusal) → LeavesOnly (Allows (setting_of size base) m) (now s0) → IsCarried size used k was change (Err r) k was → r ≢ refusals.Device
-        → Goes (setting_of size base) m (apply_call c) (refused r) s0 s0 failed failed m
+        → IsCarriedOut size (now s0) (now s0) c (Err r) → Goes (setting_of size base) m (apply_call c) (refused r) s0 s0 failed failed m
     unfolding Step
-    refused_goes s0 failed r allows carried other = record {
+    refused_goes s0 failed r allows carried other ended = record {
       step = refused_step s0 r carried other;
       moments = stays (AllowsEach (setting_of size base) (apply_call c) (refused r) m (now s0)) s0;
       settles = allows;
       quiet = λ no device. refl;
       counts = uncounted r failed other;
       tells = tt;
+      room = room_by (origin_of r) size (now s0) (now s0) c r ended;
     }
 
   -- ---- published
@@ -130,18 +133,20 @@ module _ (size : ℕ) (base : Tables) (m : Machine) (c : PlainCommand) (new : Ta
       quiet = λ no device. absurd (cc device);
       counts = counts;
       tells = tt;
+      room = tt;
     }
 
-    pub done_goes : (failed failed' : ℕ) → failed' ≡ failed → IsPublished (now s0) k' pieces New (now s1) → held_by size (synced_image (now s1)) ≡ holds new
+    pub done_goes : (failed failed' : ℕ) → failed' ≡ failed → IsPublished (now s0) k' pieces New (now s1) → held_by size (synced_image (now s1)) ≡ holds new → IsCarriedOut size (now s0) (now s1) c (Ok tt)
         → Goes (setting_of size base) m (apply_call c) done s0 s1 failed failed' (settle c m)
     unfolding Step Allows
-    done_goes failed failed' counts p held = record {
+    done_goes failed failed' counts p held ended = record {
       step = (on, is_accepted, lt-ltb (now s0).writes (now s1).writes p.begun, refl);
       moments = meantime;
       settles = λ image may. inl (ap (held_by size) (only_image (now s1) image p.quiet.pending may) ∙ held ∙ ap holds new_after);
       quiet = λ no device. absurd (cc no);
       counts = counts;
       tells = tt;
+      room = ended;
     }
 
 -- ---- what the images of a publishing hold
@@ -163,7 +168,7 @@ module _ (old new : Space) (k : Commit) (was : PlainCatalogue) (change : PlainCh
   pub new_tables : (image : Image) → ((n : ℕ) → IsOutside plan.commit plan.pieces.items n → image n ≡ (d.at n).synced) → HoldsEach image plan.pieces.items → tables_held image (catalogue_of plan.catalogue.list) ≡ Some u
   new_tables image outside holds_each =
       ap (tables_held image) p.catalogue
-      ∙ edited_held image was change t u (placed_segments (runs_of p.pieces) change.streams change.counts) listed (was_held image outside) sound makes (streams_held old new k was change plan back p image sound holds_each)
+      ∙ edited_held image was change t u (placed_segments (runs_of p.pieces) change.streams change.counts) listed (was_held image outside) makes (streams_held old new k was change plan back p image sound holds_each)
 
   pub new_held : (image : Image) → ((n : ℕ) → IsOutside plan.commit plan.pieces.items n → image n ≡ (d.at n).synced) → StandsAs whole_reading size plan.commit (catalogue_of plan.catalogue.list) image → HoldsEach image plan.pieces.items
       → held_by size image ≡ holds u

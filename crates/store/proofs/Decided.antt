@@ -19,9 +19,9 @@ use Rattle.tables.specs.declared.refusal.Refusal.{Refusal}
 use Rattle.tables.specs.declared.refusal.Refusal.TheVariants.{NoTable, OutOfMemory}
 use Rattle.tables.specs.Commands.{PlainCommand, create, import_stream, save_as, rename, drop_table}
 use Rattle.tables.specs.Refusals.{import_refusal}
-use Rattle.tables.specs.Verdict.{of_meaning}
+use Rattle.tables.specs.Verdict.{of_meaning, import_tests}
 use Rattle.store.specs.Changes.{put, move, remove, PlainChange}
-use Rattle.store.specs.Deciding.{missing_in, full_in, create_tests, import_tests, rename_tests, names_changed, pieces_put, decided_table, of_entry, Addition, given_rows, streamed_rows, selected_entry, entry_added, entry_selected, IsAdded, IsSaved, IsNotRead, IsDecided, IsAnswered}
+use Rattle.store.specs.Deciding.{missing_in, full_in, create_tests, rename_tests, names_changed, pieces_put, decided_table, of_entry, Addition, given_rows, streamed_rows, selected_entry, entry_added, entry_selected, IsAdded, IsSaved, IsNotRead, IsDecided, IsAnswered}
 use Rattle.store.specs.declared.new_rows.NewRows.{NewRows}
 use Rattle.store.specs.declared.new_rows.NewRows.TheVariants.{Stream, Given}
 use Rattle.store.specs.inner.Appending.{append_of, added_to, IsAppended}

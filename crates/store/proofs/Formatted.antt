@@ -22,9 +22,9 @@ use Rattle.catalogue.specs.Entries.{PlainCatalogue, runs_of}
 use Rattle.catalogue.specs.Reading.{catalogue_at}
 use Rattle.tables.specs.Tables.{Tables, no_tables}
 use Rattle.tables.specs.Verdict.{after}
-use Rattle.store.specs.Calls.{format_call, PlainReply, done, shut_by, may_be_done}
+use Rattle.store.specs.Calls.{format_call, PlainReply, done, shut_by, may_be_done, counted}
 use Rattle.store.specs.Steps.{Step}
-use Rattle.store.specs.Runs.{Goes, counted}
+use Rattle.store.specs.Runs.{Goes}
 use Rattle.store.specs.Machine.{no_store, holds, Machine, opened, shut_down, Allows, AllowsEach, meanwhile, has_written}
 use Rattle.store.specs.Held.{whole_reading, catalogue_or_cause, tables_held, held_tables, held_of, held_by}
 use Rattle.store.specs.Fits.{setting_of, IsFresh}
@@ -183,6 +183,7 @@ module _ (size : ℕ) (limits : is_size size ≡ true) (spelled : catalogue_at e
           quiet = λ no device. same;
           counts = counts;
           tells = some_store size (shown_image (now s0)) limits (already refl);
+          room = tt;
         }
     format_refused (errors.Damaged cause) s0 s1 f f' fresh allows grows sound quiet counts already = absurd (sound cause refl)
     format_refused errors.Device s0 s1 f f' fresh allows grows sound quiet counts already =
@@ -193,6 +194,7 @@ module _ (size : ℕ) (limits : is_size size ≡ true) (spelled : catalogue_at e
           quiet = λ no device. absurd (cc device);
           counts = counts;
           tells = tt;
+          room = tt;
         }
     format_refused errors.OutOfMemory s0 s1 f f' fresh allows grows sound quiet counts already =
         let same = quiet (λ is. cc is) in
@@ -203,6 +205,7 @@ module _ (size : ℕ) (limits : is_size size ≡ true) (spelled : catalogue_at e
           quiet = λ no device. same;
           counts = counts;
           tells = tt;
+          room = tt;
         }
 
     -- ---- one that was done
@@ -229,6 +232,7 @@ module _ (size : ℕ) (limits : is_size size ≡ true) (spelled : catalogue_at e
           quiet = λ no quiet. absurd (cc no);
           counts = same;
           tells = tt;
+          room = tt;
         }
 
     -- its tables are those of the settled commands, of which there are none

@@ -9,10 +9,12 @@ mod Carried
 mod GivenRows
 mod Appended
 mod Saved
+mod Verdicts
 mod Answered
 mod Began
 mod HeldTables
 mod MoreRows
 mod ReadTables
 mod ReadsStore
+mod Roomed
 mod Applied

@@ -16,9 +16,9 @@ use Rattle.commit.specs.declared.reading.OpenError.TheVariants as errors
 use Rattle.catalogue.specs.Entries.{PlainCatalogue}
 use Rattle.tables.specs.Tables.{Tables}
 use Rattle.tables.specs.Verdict.{after}
-use Rattle.store.specs.Calls.{open_call, PlainReply, done, shut_by, may_be_done}
+use Rattle.store.specs.Calls.{open_call, PlainReply, done, shut_by, may_be_done, counted}
 use Rattle.store.specs.Steps.{Step}
-use Rattle.store.specs.Runs.{Goes, counted}
+use Rattle.store.specs.Runs.{Goes}
 use Rattle.store.specs.Machine as machines
 use Rattle.store.specs.Machine.{Held, broken, holds, Setting, Machine, with_doubt, running, opened, shut_down, Allows, AllowsEach, meanwhile, has_written}
 use Rattle.store.specs.Held.{whole_reading, tables_held, held_tables, held_of, held_by}
@@ -128,6 +128,7 @@ module _ (size : ℕ) (base : Tables) (m : Machine) where
         quiet = λ no quiet. absurd (cc no);
         counts = same;
         tells = tt;
+        room = tt;
       }
 
   -- after one that is refused the machine allows what it allowed
@@ -167,6 +168,7 @@ module _ (size : ℕ) (base : Tables) (m : Machine) where
         quiet = λ no device. quiet (λ is. cc is);
         counts = counts;
         tells = ap (held_of (shown_image (now s0))) tells;
+        room = tt;
       }
   opening_refused (errors.Damaged cause) s0 s1 f f' shows allows grows tells quiet counts = absurd (not_damaged (shown_image (now s0)) cause (allows (shown_image (now s0)) shows) tells)
   opening_refused errors.Device s0 s1 f f' shows allows grows tells quiet counts =
@@ -178,6 +180,7 @@ module _ (size : ℕ) (base : Tables) (m : Machine) where
         quiet = λ no device. absurd (cc device);
         counts = counts;
         tells = tt;
+        room = tt;
       }
   opening_refused errors.OutOfMemory s0 s1 f f' shows allows grows tells quiet counts =
       let opening = now_has {P = IsOpening (now s0)} (inl refl) grows in
@@ -188,6 +191,7 @@ module _ (size : ℕ) (base : Tables) (m : Machine) where
         quiet = λ no device. quiet (λ is. cc is);
         counts = counts;
         tells = tt;
+        room = tt;
       }
 
   pub device_after : (s0 s1 : Story) → ShowsImage (now s0) → LeavesOnly (Allows (setting_of size base) m) (now s0) → Grows (IsOpening (now s0)) s0 s1 → LeavesOnly (Allows (setting_of size base) (shut_down m)) (now s1)

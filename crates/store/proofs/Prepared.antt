@@ -39,7 +39,7 @@ use Rattle.commit.specs.laws.Fit.{fit_again, times_both, times_some, some_times,
 use Rattle.store.specs.declared.stored.StoredCatalogue.{StoredCatalogue}
 use Rattle.store.specs.Held.{whole_reading, catalogue_or_cause}
 use Rattle.store.specs.Changes.{PlainChange, PlainEdit, IsChange, edited, given_up, placed_segments, HoldsStreams}
-use Rattle.store.specs.Applying.{HasNext, unplaced, outline, asked_sizes, IsCarried}
+use Rattle.store.specs.Carrying.{HasNext, unplaced, outline, asked_sizes, IsCarried}
 use Rattle.store.specs.inner.Prepared.{bytes_of, placed, taking_refusal, IsPrepared}
 use Rattle.store.specs.laws.Segments.{stream_sectors, are_streams, placed_number, placed_runs, placed_sound, took_front, same_sectors, unplaced_number, unplaced_sound}
 use Rattle.store.specs.laws.Edited.{edited_stands, edited_size, edited_count, edited_times, given_up_times, edited_runs}

@@ -27,8 +27,7 @@ use Rattle.commit.specs.laws.Apart.{all_at}
 use Rattle.store.specs.Held.{segment_rows, joined_rows, rows_held, table_where, table_of_rows, table_held}
 use Rattle.tables.specs.declared.refusal.Refusal.{Refusal as Told}
 use Rattle.tables.specs.declared.refusal.Refusal.TheVariants as refusals
-use Rattle.store.specs.Calls.{PlainReply, done, is_device_reply}
-use Rattle.store.specs.Runs.{counted}
+use Rattle.store.specs.Calls.{PlainReply, done, is_device_reply, counted}
 use Rattle.store.specs.Reading.{ArePast, IsUnread, Unreads, OnlyReadsDevice}
 use Rattle.store.specs.inner.Reading.{UnreadsSegment}
 use Rattle.store.specs.laws.Changed.{rows_behind}

@@ -1,5 +1,5 @@
 -- A call that reads a table is a call of the machine: it changes nothing, unless its device fails.
-use Rattle.std.specs.Prelude.{◌||◌, ◌&&◌, min, if◌then◌else◌}
+use Rattle.std.specs.Prelude.{◌≢◌, ◌||◌, ◌&&◌, min, if◌then◌else◌}
 use Rattle.std.proofs.Common.{◌≡◌, ◌+◌, ◌-◌, ◌^◌, ℕ, Bool, true, false, List, [], Option, Some, None, refl, sym, ap, ◌∙◌, subst}
 use Rattle.sector_dev.specs.Disk.{Disk, Story, Image, now, MayLeave, shown_image, synced_image}
 use Rattle.sector_dev.specs.Time.{Grows, LeavesOnly, OnlyReads}
@@ -17,19 +17,20 @@ use Rattle.store.specs.declared.stored.StoredCatalogue.{StoredCatalogue}
 use Rattle.commit.specs.Standing.{is_size, used_runs, Stands}
 use Rattle.tables.specs.declared.refusal.Refusal.{Refusal}
 use Rattle.tables.specs.declared.refusal.Refusal.TheVariants as refusals
+use Rattle.tables.specs.Refusals.{by_room, origin_of}
 use Rattle.tables.specs.Tables.{Tables, table_at}
 use Rattle.tables.specs.Verdict.{after}
 use Rattle.store.specs.declared.store.Store.{Store}
 use Rattle.store.specs.Calls.{PlainCall, read_call, export_call, PlainReply, refused, is_device_reply, may_be_done}
 use Rattle.store.specs.Machine.{Setting, Machine, running, halted, halt, meanwhile, has_written, tables_now, Allows, AllowsEach}
 use Rattle.store.specs.Steps.{Step, Stays, RefusesReading}
-use Rattle.store.specs.Runs.{TellsFound}
+use Rattle.store.specs.Runs.{TellsFound, TellsRoom}
 use Rattle.store.specs.Held.{whole_reading, tables_held, table_held}
 use Rattle.store.specs.Fits.{setting_of, StoreFits, DeviceFits, IsSound, listed_in}
 use Rattle.store.specs.Applying.{GoesOn}
 use Rattle.store.specs.Reading.{IsUnread, Unreads, RefusesRead, ReadsTable, OnlyReadsStore}
 use Rattle.store.specs.laws.Named.{entry_has, entry_lacks}
-use Rattle.store.proofs.Asked.{not_less, is_running, not_running}
+use Rattle.store.proofs.Asked.{not_less, is_running, not_running, refused_elsewhere}
 use Rattle.store.proofs.ReadTables.{TableLaws, unread_not_held}
 
 -- ---- images
@@ -108,9 +109,9 @@ module _ {D : Type 0} {g : Ghosts D} (size : D → ℕ) (story : D → Story) (f
       or_no false = refl
 
   -- where the device does not fail
-  pub stays_reading : (call : PlainCall) (reply ends : PlainReply) → is_device_reply ends ≡ false → is_device_reply reply ≡ false → TellsFound own reply (now (story old.device)) → Step own m call reply false m → OnlyReadsStore size story failed tells ends old new
-      → GoesOn size story failed base m call reply old new
-  stays_reading call reply ends quiet answered found step reads =
+  pub stays_reading : (call : PlainCall) (reply ends : PlainReply) → is_device_reply ends ≡ false → is_device_reply reply ≡ false → TellsFound own reply (now (story old.device))
+      → TellsRoom own call reply (now (story old.device)) (now (story new.device)) → Step own m call reply false m → OnlyReadsStore size story failed tells ends old new → GoesOn size story failed base m call reply old new
+  stays_reading call reply ends quiet answered found room step reads =
       let moments = reads.device.moments told in
       let later : now (story new.device) ≡ now (story old.device) = now_read (story old.device) (story new.device) moments in
       let allows : LeavesOnly (Allows own m) (now (story new.device)) = subst (λ (d : Disk). LeavesOnly (Allows own m) d) (sym later) fits.device.allows in
@@ -124,6 +125,7 @@ module _ {D : Type 0} {g : Ghosts D} (size : D → ℕ) (story : D → Story) (f
           quiet = λ no device. later;
           counts = reads.device.count ∙ ap (λ (b : Bool). if b then min (failed old.device + 1) (2 ^ 64 - 1) else failed old.device) (quiet ∙ sym answered);
           tells = found;
+          room = room;
         };
         fits = fits_reading ends quiet reads;
       }
@@ -148,6 +150,7 @@ module _ {D : Type 0} {g : Ghosts D} (size : D → ℕ) (story : D → Story) (f
           quiet = λ no device. later;
           counts = reads.device.count;
           tells = tt;
+          room = refused_elsewhere own call refusals.Device (now (story old.device)) (now (story new.device)) (λ is. cc is);
         };
         fits = record {
           phase = ap (λ (b : Bool). if b then halted else running) (sym halts);
@@ -183,19 +186,22 @@ module _ {D : Type 0} {g : Ghosts D} (size : D → ℕ) (story : D → Story) (f
       → RefusesRead old.halted tells (shown_image (now (story old.device))) (entry_of (listed_in old) name) r → OnlyReadsStore size story failed tells (refused r) old new → GoesOn size story failed base m call (refused r) old new
   refused_reading laws catalogue call name step r refuses reads = by_state old.halted (entry_of (listed_in old) name) refl refl refuses
     where
+      elsewhere_told : (q : Refusal) → origin_of q ≢ by_room → TellsRoom own call (refused q) (now (story old.device)) (now (story new.device))
+      elsewhere_told q other = refused_elsewhere own call q (now (story old.device)) (now (story new.device)) other
+
       on : old.halted ≡ false → m.phase ≡ running
       on h = is_running m.phase old.halted fits.phase h
 
       is_halted : old.halted ≡ true → r ≡ refusals.Halted → GoesOn size story failed base m call (refused r) old new
       is_halted h is =
           subst (λ (q : Refusal). OnlyReadsStore size story failed tells (refused q) old new → GoesOn size story failed base m call (refused q) old new) (sym is)
-          (stays_reading call (refused refusals.Halted) (refused refusals.Halted) refl refl tt (step refusals.Halted m (not_running m.phase old.halted fits.phase h, (refl, refl)))) reads
+          (stays_reading call (refused refusals.Halted) (refused refusals.Halted) refl refl tt (elsewhere_told refusals.Halted (λ is. cc is)) (step refusals.Halted m (not_running m.phase old.halted fits.phase h, (refl, refl)))) reads
 
       is_missing : old.halted ≡ false → entry_of (listed_in old) name ≡ None → r ≡ refusals.NoTable → GoesOn size story failed base m call (refused r) old new
       is_missing h none is =
           let lacks = entry_lacks (synced_image (now (story old.device))) (listed_in old) (after base m.settled) (fits.sound (on h)).tables name none in
           subst (λ (q : Refusal). OnlyReadsStore size story failed tells (refused q) old new → GoesOn size story failed base m call (refused q) old new) (sym is)
-          (stays_reading call (refused refusals.NoTable) (refused refusals.NoTable) refl refl tt (step refusals.NoTable m (on h, lacks, (refl, refl)))) reads
+          (stays_reading call (refused refusals.NoTable) (refused refusals.NoTable) refl refl tt (elsewhere_told refusals.NoTable (λ is. cc is)) (step refusals.NoTable m (on h, lacks, (refl, refl)))) reads
 
       -- no segment of a table that the machine has is unread
       no_segment : old.halted ≡ false → (e : PlainEntry) (place : ℕ) → entry_of (listed_in old) name ≡ Some e → IsUnread (shown_image (now (story old.device))) e place → ⊥
@@ -207,7 +213,7 @@ module _ {D : Type 0} {g : Ghosts D} (size : D → ℕ) (story : D → Story) (f
       by_refusal : old.halted ≡ false → (e : PlainEntry) → entry_of (listed_in old) name ≡ Some e → (q : Refusal) → Unreads tells (shown_image (now (story old.device))) e q → OnlyReadsStore size story failed tells (refused q) old new
           → GoesOn size story failed base m call (refused q) old new
       by_refusal h e found refusals.Device u reads = halts_reading call (step refusals.Device (halt call false m) (on h, refl, refl)) reads
-      by_refusal h e found refusals.OutOfMemory u reads = stays_reading call (refused refusals.OutOfMemory) (refused refusals.OutOfMemory) refl refl tt (step refusals.OutOfMemory m (on h, (refl, refl))) reads
+      by_refusal h e found refusals.OutOfMemory u reads = stays_reading call (refused refusals.OutOfMemory) (refused refusals.OutOfMemory) refl refl tt (elsewhere_told refusals.OutOfMemory (λ is. cc is)) (step refusals.OutOfMemory m (on h, (refl, refl))) reads
       by_refusal h e found (refusals.SegmentUnread place) u reads = absurd (no_segment h e place found (u.1 told))
       by_refusal h e found refusals.NoTable u reads = absurd u
       by_refusal h e found refusals.NameTaken u reads = absurd u

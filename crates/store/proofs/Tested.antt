@@ -1,7 +1,7 @@
 -- Tests by a catalogue are those by the tables that it lists.
 use Rattle.std.specs.Prelude.{◌&&◌, nat_le, is_some, not}
 use Rattle.std.specs.List.{AllByRecursion}
-use Rattle.std.proofs.Common.{◌≡◌, ℕ, Bool, true, false, List, [], ◌∷◌, length, ◌^◌, ◌<◌, ◌≤◌, Option, Some, None, Result, Ok, Err, refl, sym, ap, ◌∙◌, subst, arith}
+use Rattle.std.proofs.Common.{◌≡◌, ℕ, Bool, true, false, List, [], ◌∷◌, length, ◌^◌, ◌<◌, ◌≤◌, Option, Some, None, Result, Ok, Err, refl, sym, ap, ◌∙◌, arith}
 use Rattle.std.proofs.lemmas.Bool.{leb-false}
 use Rattle.facts.specs.Checks.{when, first_some, unless}
 use Rattle.catalogue.specs.Entries as entries
@@ -12,30 +12,25 @@ use Rattle.catalogue.specs.Counts.{HasMore, HasSame}
 use Rattle.values.specs.Table.{table_from, first_unfit}
 use Rattle.arrow_schema.specs.Limits.{IsWithinLimits}
 use Rattle.ipc_message.specs.declared.fault.Fault.{Fault}
-use Rattle.ipc_message.specs.declared.error.ImportError.{ImportError}
-use Rattle.ipc_message.specs.declared.error.ImportError.TheVariants as imports
 use Rattle.ipc_message.specs.Header.{supported_codes}
-use Rattle.ipc_message.specs.Outcome.{Fails}
 use Rattle.table_cut.specs.Piece.{pieces_of}
 use Rattle.ipc_stream.specs.Meaning.{meaning}
 use Rattle.canonical_write.specs.Pieces.{piece_streams, piece_counts, IsPiece}
 use Rattle.store.specs.laws.Pieces.{pieces_each, pieces_some, pieces_few}
 use Rattle.ipc_message.specs.laws.Accepted.{first_none}
-use Rattle.store.specs.Changes.{put, move, remove, HasEntry, IsEdit, IsChange, new_entry, rows_under, stream_rows}
+use Rattle.store.specs.Changes.{put, move, remove, HasEntry, IsEdit, IsChange, new_entry, rows_under}
 use Rattle.cells.specs.Cell.{PlainTable}
 use Rattle.arrow_schema.specs.Column.{PlainSchema}
 use Rattle.catalogue.specs.declared.limits.TheConstants.{MAX_TABLES}
 use Rattle.tables.specs.declared.refusal.Limit.TheVariants as limits
 use Rattle.tables.specs.declared.refusal.Refusal.{Refusal}
-use Rattle.tables.specs.declared.refusal.Refusal.TheVariants.{NoTable, NameTaken, BadName, Import, TooMany}
-use Rattle.tables.specs.Commands.{PlainCommand, create, import_stream, rename, drop_table}
-use Rattle.tables.specs.Refusals.{Origin, import_refusal}
+use Rattle.tables.specs.declared.refusal.Refusal.TheVariants.{NoTable, NameTaken, BadName, TooMany}
+use Rattle.tables.specs.Commands.{create, import_stream, rename, drop_table}
 use Rattle.tables.specs.Tables.{Tables, table_at, has_table, with_table, without_table}
 use Rattle.tables.specs.Verdict.{put as tables_put}
-use Rattle.tables.specs.Verdict.{bad_name, name_taken, too_many_tables, too_many_bytes, of_table, of_meaning, empty_table, renamed, dropped, verdict}
-use Rattle.tables.specs.laws.Steps.{told_by_tables}
-use Rattle.store.specs.Applying.{TellsTable, Lists, RefusesFirst, Decides}
-use Rattle.store.specs.Deciding.{has_entry, missing_in, taken_in, full_in, create_tests, import_tests, rename_tests}
+use Rattle.tables.specs.Verdict.{bad_name, name_taken, too_many_tables, too_many_bytes, of_table, of_meaning, empty_table, renamed, dropped, verdict, import_tests}
+use Rattle.store.specs.Verdicts.{TellsTable, Lists}
+use Rattle.store.specs.Deciding.{has_entry, missing_in, taken_in, full_in, create_tests, rename_tests}
 
 -- ---- what the tables have
 
@@ -52,37 +47,17 @@ taken_same c t name lists = ap (λ (b : Bool). when b NameTaken) (has_same c t n
 pub full_same : (c : PlainCatalogue) (t : Tables) (name : List ℕ) → Lists c t → too_many_tables t name ≡ full_in c name
 full_same c t name lists = λ i. when (not (has_same c t name lists i) && nat_le MAX_TABLES (lists.count i)) (TooMany limits.Tables)
 
--- ---- refusals
-
--- a verdict's refusal is decided by the tables
-pub refuses : (t : Tables) (c : PlainCommand) (r : Refusal) → verdict t c ≡ Err r → Decides t c (Err r)
-refuses t c r is = subst (λ (o : Origin). RefusesFirst o t c r) (sym (told_by_tables t c r is)) is
-
-none_there : (o : Option PlainTable) (r : Refusal) → when (not (is_some o)) NoTable ≡ Some r → (o ≡ None) × (r ≡ NoTable)
-none_there None r h = (refl, cc)
-none_there (Some table) r h = absurd (cc h)
-
 -- ---- create
 
-create_same : (c : PlainCatalogue) (t : Tables) (name : List ℕ) (schema : PlainSchema) → Lists c t
+pub create_same : (c : PlainCatalogue) (t : Tables) (name : List ℕ) (schema : PlainSchema) → Lists c t
     → verdict t (create name schema) ≡ unless (create_tests c name) (Ok (with_table t name (empty_table schema)))
 unfolding verdict
 create_same c t name schema lists =
     λ i. unless (first_some (bad_name name ∷ taken_same c t name lists i ∷ full_same c t name lists i ∷ [])) (Ok (with_table t name (empty_table schema)))
 
-pub create_refused : (c : PlainCatalogue) (t : Tables) (name : List ℕ) (schema : PlainSchema) (r : Refusal) → Lists c t → create_tests c name ≡ Some r
-    → Decides t (create name schema) (Err r)
-create_refused c t name schema r lists h =
-    refuses t (create name schema) r (create_same c t name schema lists ∙ ap (λ (o : Option Refusal). unless o (Ok (with_table t name (empty_table schema)))) h)
-
-pub create_passed : (c : PlainCatalogue) (t : Tables) (name : List ℕ) (schema : PlainSchema) → Lists c t → create_tests c name ≡ None
-    → verdict t (create name schema) ≡ Ok (with_table t name (empty_table schema))
-create_passed c t name schema lists h =
-    create_same c t name schema lists ∙ ap (λ (o : Option Refusal). unless o (Ok (with_table t name (empty_table schema)))) h
-
 -- ---- rename
 
-rename_by : (c : PlainCatalogue) (t : Tables) (from to : List ℕ) (r : Refusal) → Lists c t → (o : Option PlainTable) → table_at t from ≡ o → rename_tests c from to ≡ Some r
+pub rename_by : (c : PlainCatalogue) (t : Tables) (from to : List ℕ) (r : Refusal) → Lists c t → (o : Option PlainTable) → table_at t from ≡ o → rename_tests c from to ≡ Some r
     → verdict t (rename from to) ≡ Err r
 unfolding verdict
 rename_by c t from to r lists None e h =
@@ -96,9 +71,6 @@ rename_by c t from to r lists (Some table) e h =
     (λ i. first_some (bad_name to ∷ taken_same c t to lists i ∷ [])) ∙ sym (λ i. first_some (when (not (there i)) NoTable ∷ bad_name to ∷ taken_in c to ∷ [])) ∙ h in
     ap (λ (o : Option PlainTable). of_table o (renamed t from to)) e
     ∙ ap (λ (o : Option Refusal). unless o (Ok (with_table (without_table t from) to table))) later
-
-pub rename_refused : (c : PlainCatalogue) (t : Tables) (from to : List ℕ) (r : Refusal) → Lists c t → rename_tests c from to ≡ Some r → Decides t (rename from to) (Err r)
-rename_refused c t from to r lists h = refuses t (rename from to) r (rename_by c t from to r lists (table_at t from) refl h)
 
 -- a table that is there
 abbrev pub IsThere : Tables → List ℕ → Type 0
@@ -179,15 +151,9 @@ rename_is_change c from to passed = record {
   rows = refl;
 }
 
-pub rename_decided : (c : PlainCatalogue) (t : Tables) (from to : List ℕ) → Lists c t → RenamePassed c from to
-    → Decides t (rename from to) (Ok (record { edit = move from to; streams = []; counts = [] }))
-rename_decided c t from to lists passed =
-    let made = rename_made c t from to lists passed in
-    (with_table (without_table t from) to made.0, made.2, (made.0, made.1, refl))
-
 -- ---- drop
 
-drop_by : (c : PlainCatalogue) (t : Tables) (name : List ℕ) (r : Refusal) → Lists c t → (o : Option PlainTable) → table_at t name ≡ o → missing_in c name ≡ Some r → verdict t (drop_table name) ≡ Err r
+pub drop_by : (c : PlainCatalogue) (t : Tables) (name : List ℕ) (r : Refusal) → Lists c t → (o : Option PlainTable) → table_at t name ≡ o → missing_in c name ≡ Some r → verdict t (drop_table name) ≡ Err r
 unfolding verdict
 drop_by c t name r lists None e h =
     let none : has_entry c name ≡ false = sym (has_same c t name lists) ∙ ap is_some e in
@@ -199,18 +165,14 @@ drop_by c t name r lists (Some table) e h =
     let none : None ≡ Some r = sym (ap (λ (b : Bool). when (not b) NoTable) there) ∙ h in
     absurd (cc none)
 
-pub drop_refused : (c : PlainCatalogue) (t : Tables) (name : List ℕ) (r : Refusal) → Lists c t → missing_in c name ≡ Some r → Decides t (drop_table name) (Err r)
-drop_refused c t name r lists h = refuses t (drop_table name) r (drop_by c t name r lists (table_at t name) refl h)
-
 pub drop_is_change : (c : PlainCatalogue) (name : List ℕ) → missing_in c name ≡ None → IsChange c (record { edit = remove name; streams = []; counts = [] })
 drop_is_change c name h = record { edit = (entry_there c name (there_passed c name h), refl); each = refl; some = tt; short = tt; rows = refl }
 
-pub drop_decided : (c : PlainCatalogue) (t : Tables) (name : List ℕ) → Lists c t → missing_in c name ≡ None
-    → Decides t (drop_table name) (Ok (record { edit = remove name; streams = []; counts = [] }))
+pub drop_made : (c : PlainCatalogue) (t : Tables) (name : List ℕ) → Lists c t → missing_in c name ≡ None → verdict t (drop_table name) ≡ Ok (without_table t name)
 unfolding verdict
-drop_decided c t name lists h =
+drop_made c t name lists h =
     let table = there_in c t name lists (there_passed c name h) in
-    (without_table t name, ap (λ (o : Option PlainTable). of_table o (dropped t name)) table.1, refl)
+    ap (λ (o : Option PlainTable). of_table o (dropped t name)) table.1
 
 -- ---- a table that is put
 
@@ -256,12 +218,6 @@ create_is_change c name schema counts sound h within =
     let passed = create_names c name h in
     record { edit = put_is_edit c name schema [] counts sound passed.named passed.room within; each = refl; some = tt; short = tt; rows = refl }
 
-pub create_decided : (c : PlainCatalogue) (t : Tables) (name : List ℕ) (schema : PlainSchema) → Lists c t → create_tests c name ≡ None
-    → table_from schema [] ≡ Ok (rows_under schema []) → Decides t (create name schema) (Ok (record { edit = put name schema; streams = []; counts = [] }))
-unfolding stream_rows
-create_decided c t name schema lists h empty =
-    (with_table t name (rows_under schema []), create_passed c t name schema lists h, ([], refl, empty, refl))
-
 -- no rows are a table of any schema
 pub empty_rows : (schema : PlainSchema) → table_from schema [] ≡ Ok (rows_under schema [])
 unfolding table_from first_unfit
@@ -269,39 +225,10 @@ empty_rows schema = refl
 
 -- ---- import
 
-import_by : (t : Tables) (name bytes : List ℕ) (o : Option Refusal) (m : Result PlainTable Fault) → import_tests name bytes ≡ o → meaning supported_codes bytes ≡ m
+pub import_by : (t : Tables) (name bytes : List ℕ) (o : Option Refusal) (m : Result PlainTable Fault) → import_tests name bytes ≡ o → meaning supported_codes bytes ≡ m
     → verdict t (import_stream name bytes) ≡ unless o (of_meaning m (tables_put t name))
 unfolding verdict
 import_by t name bytes o m tested means = λ i. unless (tested i) (of_meaning (means i) (tables_put t name))
-
-pub import_refused : (t : Tables) (name bytes : List ℕ) (r : Refusal) → import_tests name bytes ≡ Some r → Decides t (import_stream name bytes) (Err r)
-import_refused t name bytes r h = refuses t (import_stream name bytes) r (import_by t name bytes (Some r) (meaning supported_codes bytes) h refl)
-
-pub import_failed : (t : Tables) (name bytes : List ℕ) (e : ImportError) → import_tests name bytes ≡ None → Fails e (meaning supported_codes bytes)
-    → Decides t (import_stream name bytes) (Err (import_refusal e))
-import_failed t name bytes imports.OutOfMemory h fails = tt
-import_failed t name bytes (imports.Fault fault) h fails =
-    refuses t (import_stream name bytes) (Import fault) (import_by t name bytes None (Err fault) h fails)
-
-pub import_full : (c : PlainCatalogue) (t : Tables) (name bytes : List ℕ) (table : PlainTable) (r : Refusal) → Lists c t → import_tests name bytes ≡ None → meaning supported_codes bytes ≡ Ok table
-    → full_in c name ≡ Some r → Decides t (import_stream name bytes) (Err r)
-import_full c t name bytes table r lists h means full =
-    refuses t (import_stream name bytes) r
-    (import_by t name bytes None (Ok table) h means ∙ ap (λ (o : Option Refusal). unless o (Ok (with_table t name table))) (full_same c t name lists ∙ full))
-
--- the streams hold the rows of a table
-pub record HoldsTable (table : PlainTable) (streams : List (List ℕ)) (counts : List ℕ) : Type 0 where
-  pub rows : stream_rows table.schema streams counts ≡ Some table.rows
-  pub taken : table_from table.schema table.rows ≡ Ok table
-
-pub import_decided : (c : PlainCatalogue) (t : Tables) (name bytes : List ℕ) (table : PlainTable) (streams : List (List ℕ)) (counts : List ℕ) → Lists c t → import_tests name bytes ≡ None
-    → meaning supported_codes bytes ≡ Ok table → full_in c name ≡ None → HoldsTable table streams counts
-    → Decides t (import_stream name bytes) (Ok (record { edit = put name table.schema; streams = streams; counts = counts }))
-import_decided c t name bytes table streams counts lists h means room holds = (
-  with_table t name table,
-  import_by t name bytes None (Ok table) h means ∙ ap (λ (o : Option Refusal). unless o (Ok (with_table t name table))) (full_same c t name lists ∙ room),
-  (table.rows, holds.rows, holds.taken, refl),
-)
 
 -- what is put with the streams of a table's pieces is a change
 pub table_is_change : (c : PlainCatalogue) (name : List ℕ) (table : PlainTable) → Counts c → IsCatalogue c → bad_name name ≡ None → full_in c name ≡ None

@@ -1,28 +1,19 @@
 -- How commands are decided and carried out, and what each call of an open store leaves.
-use Rattle.std.specs.Prelude.{◌≡◌, ◌⊎◌, ◌<◌, ◌≤◌, ◌-◌, ◌^◌, ◌++◌, ℕ, Bool, true, false, List, [], ◌∷◌, length, map, Option, Some, None, Result, Ok, Err}
+use Rattle.std.specs.Prelude.{◌≡◌, ◌⊎◌, ◌++◌, ℕ, Bool, true, List, [], ◌∷◌, Result, Ok, Err}
 use Rattle.sector_dev.specs.Disk.{Disk, Image, Story, now, shown_image, synced_image}
 use Rattle.sector_dev.specs.Time.{Grows, LeavesOnly}
 use Rattle.sector_dev.specs.declared.device.SectorDevice.{Ghosts}
-use Rattle.segments.specs.Sectors.{sector_count}
 use Rattle.segments.specs.Usages.{IsUsedIn, SameUsages}
 use Rattle.segments.specs.declared.run.Run.{Run}
-use Rattle.cells.specs.Cell.{PlainTable}
-use Rattle.catalogue.specs.declared.limits.TheConstants.{MAX_SEGMENTS}
-use Rattle.catalogue.specs.declared.entry.Segment.{Segment}
-use Rattle.catalogue.specs.Entries.{PlainEntry, PlainCatalogue, segment_count, row_count}
-use Rattle.catalogue.specs.Edits.{entry_of}
+use Rattle.catalogue.specs.Entries.{PlainCatalogue}
 use Rattle.catalogue.specs.Text.{list_size}
 use Rattle.commit.specs.declared.sector.Commit.{Commit}
 use Rattle.commit.specs.Publishing.{next_commit}
 use Rattle.commit.specs.Placing.{Takes}
 use Rattle.commit.specs.Standing.{rules, standing, used_runs, InSome}
 use Rattle.tables.specs.declared.refusal.Refusal.{Refusal}
-use Rattle.tables.specs.declared.refusal.Refusal.TheVariants as refusals
-use Rattle.tables.specs.declared.refusal.Limit.TheVariants as limits
-use Rattle.tables.specs.Refusals.{Origin, by_tables, by_memory, by_device, origin_of}
-use Rattle.tables.specs.Tables.{Tables, table_at, table_count}
-use Rattle.tables.specs.Commands.{PlainCommand, append_stream, append_rows, save_as}
-use Rattle.tables.specs.Verdict.{verdict}
+use Rattle.tables.specs.Tables.{Tables}
+use Rattle.tables.specs.Commands.{PlainCommand}
 use Rattle.store.specs.declared.store.Store.{Store}
 use Rattle.store.specs.Calls.{PlainCall, PlainReply, done, refused}
 use Rattle.store.specs.Machine.{Machine}
@@ -30,67 +21,8 @@ use Rattle.store.specs.Held.{whole_reading}
 use Rattle.store.specs.Runs.{Goes}
 use Rattle.store.specs.Fits.{setting_of, StoreFits, device_of, commit_of, listed_in, IsOnDisk}
 use Rattle.store.specs.Deciding.{IsDecided, IsAnswered}
-use Rattle.store.specs.Changes.{PlainChange, edited, placed_segments, HoldsStreams, MakesOf}
-
--- ---- deciding
-
--- what a catalogue tells of a table, by its entry
-abbrev pub TellsTable : Option PlainEntry → Option PlainTable → Type 0
-TellsTable None found = found ≡ None
-TellsTable (Some e) found = (table : PlainTable) × (found ≡ Some table) × (table.schema ≡ e.schema) × (length table.rows ≡ row_count e)
-
--- a catalogue lists these tables
-pub record Lists (c : PlainCatalogue) (t : Tables) : Type 0 where
-  pub each : (name : List ℕ) → TellsTable (entry_of c name) (table_at t name)
-  pub count : table_count t ≡ length c
-
--- why a command is refused before anything is written, beside its place among the tests
-abbrev pub RefusesFirst : Origin → Tables → PlainCommand → Refusal → Type 0
-RefusesFirst by_tables t c r = verdict t c ≡ Err r
-RefusesFirst by_memory t c r = Unit {0}
-RefusesFirst by_device t c r = Unit {0}
-RefusesFirst _ t c r = ⊥
-
--- what is decided of a command on these tables: a change that makes what the command makes, or why it is refused
-abbrev pub Decides : Tables → PlainCommand → Result PlainChange Refusal → Type 0
-Decides t c (Ok change) = (new : Tables) × (verdict t c ≡ Ok new) × MakesOf t change new
-Decides t c (Err r) = RefusesFirst (origin_of r) t c r
-
--- ---- carrying out
-
--- new segments of which no place is known yet
-abbrev pub unplaced : (streams : List (List ℕ)) → (counts : List ℕ) → List Segment
-unplaced [] counts = []
-unplaced (stream ∷ streams) [] = []
-unplaced (stream ∷ streams) (count ∷ counts) =
-    record { place = record { run = record { start = 0; count = sector_count (length stream) }; bytes = length stream }; rows = count } ∷ unplaced streams counts
-
--- the catalogue that a change makes, but for the places of its new segments
-abbrev pub outline : PlainCatalogue → PlainChange → PlainCatalogue
-outline c change = edited c change.edit (unplaced change.streams change.counts)
-
--- the sectors that are asked for: those of each stream in order, and then those of the catalogue's text
-abbrev pub asked_sizes : PlainCatalogue → PlainChange → List ℕ
-asked_sizes c change = map (λ (stream : List ℕ). sector_count (length stream)) change.streams ++ sector_count (list_size (outline c change)) ∷ []
-
--- an epoch behind this one has 64 bits
-abbrev pub HasNext : Commit → Type 0
-HasNext k = k.epoch < 2 ^ 64 - 1
-
--- how a change of this catalogue ends, beside these runs in use, and which commit and catalogue rule then; each refusal has its one reason, tested in order
-abbrev pub IsCarried : (size : ℕ) → (used : Run → Type 0) → Commit → PlainCatalogue → PlainChange → Result (Unit {0}) Refusal → Commit → PlainCatalogue → Type 0
-IsCarried size used k c change (Ok unit) k' c' =
-    HasNext k × (segment_count (outline c change) ≤ MAX_SEGMENTS)
-    × ((places : List Run) × (text : Run) × Takes size used (asked_sizes c change) (Ok (places ++ text ∷ []))
-    × (c' ≡ edited c change.edit (placed_segments places change.streams change.counts))
-    × (k' ≡ next_commit k text (list_size (outline c change))))
-IsCarried size used k c change (Err (refusals.TooMany limits.Epochs)) k' c' = k.epoch ≡ 2 ^ 64 - 1
-IsCarried size used k c change (Err (refusals.TooMany limits.Segments)) k' c' = HasNext k × (MAX_SEGMENTS < segment_count (outline c change))
-IsCarried size used k c change (Err (refusals.NoRoom count)) k' c' =
-    HasNext k × (segment_count (outline c change) ≤ MAX_SEGMENTS) × Takes size used (asked_sizes c change) (Err count)
-IsCarried size used k c change (Err refusals.Device) k' c' = Unit {0}
-IsCarried size used k c change (Err refusals.OutOfMemory) k' c' = Unit {0}
-IsCarried size used k c change (Err _) k' c' = ⊥
+use Rattle.store.specs.Changes.{PlainChange, edited, placed_segments, HoldsStreams}
+use Rattle.store.specs.Carrying.{outline, asked_sizes, IsCarried}
 
 -- how a decision ends on a store: a change is carried out, and a refusal is told
 abbrev pub EndsAs : {D : Type 0} {g : Ghosts D} → (size : D → ℕ) → (old : Store D g) → Result PlainChange Refusal → Result (Unit {0}) Refusal → (new : Store D g) → Type 0
@@ -103,13 +35,6 @@ pub record IsApplied {D : Type 0} {g : Ghosts D} (size : D → ℕ) (story : D �
   pub decision : Result PlainChange Refusal
   pub decides : IsAnswered tells (shown_image (now (story (device_of old)))) (listed_in old) command decision
   pub ends : EndsAs size old decision result new
-
--- commands that read the device: the table that takes more rows is weighed, and the one that is selected from is read
-abbrev pub reads_device : PlainCommand → Bool
-reads_device (append_stream name bytes) = true
-reads_device (append_rows name rows) = true
-reads_device (save_as from to query) = true
-reads_device _ = false
 
 -- what a refusal leaves as it was: the commit, the catalogue and what each run is in use for
 abbrev pub IsKept : {D : Type 0} {g : Ghosts D} → (old new : Store D g) → Type 0

@@ -1,5 +1,5 @@
 -- What is asked of a place, which is an open store or a shut device, and what it answers, as plain data.
-use Rattle.std.specs.Prelude.{ℕ, Bool, true, false, List, Option, Some, None}
+use Rattle.std.specs.Prelude.{◌+◌, ◌-◌, ◌^◌, ℕ, min, Bool, true, false, if◌then◌else◌, List, Option, Some, None}
 use Rattle.arrow_schema.specs.Column.{PlainSchema}
 use Rattle.cells.specs.Cell.{PlainTable}
 use Rattle.tables.specs.declared.refusal.Refusal.{Refusal}
@@ -68,3 +68,12 @@ abbrev pub needs_store : PlainCall → Bool
 needs_store format_call = false
 needs_store open_call = false
 needs_store _ = true
+
+-- whether a call was done that may write or sync
+abbrev pub is_change : PlainCall → PlainReply → Bool
+is_change call done = may_change call
+is_change call _ = false
+
+-- a call that failed by its device counts one failure more, up to the greatest number; no other call counts one
+abbrev pub counted : PlainReply → ℕ → ℕ
+counted reply failed = if is_device_reply reply then min (failed + 1) (2 ^ 64 - 1) else failed

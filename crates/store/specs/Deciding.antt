@@ -1,7 +1,7 @@
 -- What is decided of a command by the catalogue, and for an append or a query that is saved by the table that stands: the first of its tests that
 -- fails, or what it changes.
 -- The tests are those of the verdict on the tables that the catalogue lists.
-use Rattle.std.specs.Prelude.{◌≡◌, ◌⊎◌, ℕ, Bool, not, ◌&&◌, nat_le, List, [], ◌∷◌, ◌++◌, length, is_some, Option, Some, None, Result, Ok, Err}
+use Rattle.std.specs.Prelude.{◌≡◌, ◌⊎◌, ℕ, Bool, true, false, not, ◌&&◌, nat_le, List, [], ◌∷◌, ◌++◌, length, is_some, Option, Some, None, Result, Ok, Err}
 use Rattle.facts.specs.Checks.{when, first_some, unless}
 use Rattle.sector_dev.specs.Disk.{Image}
 use Rattle.arrow_schema.specs.Column.{PlainSchema}
@@ -19,7 +19,7 @@ use Rattle.tables.specs.declared.refusal.Refusal.{Refusal}
 use Rattle.tables.specs.declared.refusal.Refusal.TheVariants.{NoTable, NameTaken, TooMany, OutOfMemory}
 use Rattle.tables.specs.Commands.{PlainCommand, create, import_stream, append_stream, append_rows, save_as, rename, drop_table}
 use Rattle.tables.specs.Refusals.{query_refusal}
-use Rattle.tables.specs.Verdict.{bad_name, too_many_bytes, other_shape, unfit_row, too_heavy, of_meaning, of_query, empty_table}
+use Rattle.tables.specs.Verdict.{bad_name, too_many_bytes, import_tests, other_shape, unfit_row, too_heavy, of_meaning, of_query, empty_table}
 use Rattle.store.specs.Changes.{PlainEdit, put, extend, move, remove, PlainChange, rows_under}
 use Rattle.store.specs.Reading.{IsRead, Unreads}
 
@@ -40,9 +40,6 @@ full_in c name = when (not (has_entry c name) && nat_le MAX_TABLES (length c)) (
 -- the tests of each command that need no table, in their order
 abbrev pub create_tests : PlainCatalogue → List ℕ → Option Refusal
 create_tests c name = first_some (bad_name name ∷ taken_in c name ∷ full_in c name ∷ [])
-
-abbrev pub import_tests : List ℕ → List ℕ → Option Refusal
-import_tests name bytes = first_some (bad_name name ∷ too_many_bytes bytes ∷ [])
 
 abbrev pub rename_tests : PlainCatalogue → List ℕ → List ℕ → Option Refusal
 rename_tests c from to = first_some (missing_in c from ∷ bad_name to ∷ taken_in c to ∷ [])
@@ -120,6 +117,13 @@ decided_rename c from to = unless (rename_tests c from to) (Ok (names_changed (m
 
 abbrev pub decided_drop : PlainCatalogue → List ℕ → Result PlainChange Refusal
 decided_drop c name = unless (missing_in c name) (Ok (names_changed (remove name)))
+
+-- commands that read the device: the table that takes more rows is weighed, and the one that is selected from is read
+abbrev pub reads_device : PlainCommand → Bool
+reads_device (append_stream name bytes) = true
+reads_device (append_rows name rows) = true
+reads_device (save_as from to query) = true
+reads_device _ = false
 
 -- this is decided of a command, where reads of the device show this image
 abbrev pub IsDecided : (tells : Bool) → Image → PlainCatalogue → PlainCommand → Result PlainChange Refusal → Type 0

@@ -23,7 +23,7 @@ use Rattle.store.specs.Held.{whole_reading, tables_held, held_by}
 
 -- how a run on a device of this size is judged
 abbrev pub setting_of : ℕ → Tables → Setting
-setting_of size base = record { held = held_by size; base = base }
+setting_of size base = record { size = size; held = held_by size; base = base }
 
 -- nothing was done yet
 pub record IsFresh (base : Tables) (m : Machine) : Type 0 where

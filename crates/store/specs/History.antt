@@ -1,10 +1,10 @@
 -- The commands of a run: those that may have been done, and those that were acknowledged.
-use Rattle.std.specs.Prelude.{◌≡◌, ◌≢◌, ◌⊎◌, Bool, true, false, if◌then◌else◌, List, [], ◌∷◌, ◌++◌, Option, Some, None}
+use Rattle.std.specs.Prelude.{◌≡◌, ◌≢◌, ◌⊎◌, ◌||◌, Bool, true, false, if◌then◌else◌, List, [], ◌∷◌, ◌++◌, Option, Some, None}
 use Rattle.sector_dev.specs.Disk.{Image}
 use Rattle.tables.specs.Commands.{PlainCommand}
 use Rattle.tables.specs.Verdict.{after}
 use Rattle.store.specs.declared.opening_refusal.OpeningRefusal.TheVariants as openings
-use Rattle.store.specs.Calls.{PlainCall, apply_call, PlainReply, done, shut_by, may_be_done}
+use Rattle.store.specs.Calls.{PlainCall, apply_call, PlainReply, done, shut_by, may_be_done, is_change}
 use Rattle.store.specs.Machine.{no_store, holds, Setting, Machine, halted}
 
 -- these stand among those, in their order
@@ -41,6 +41,12 @@ acknowledged [] replies = []
 acknowledged (call ∷ calls) [] = []
 acknowledged (call ∷ calls) (reply ∷ replies) = acknowledged_by call reply ++ acknowledged calls replies
 
+-- one of them was done that may write or sync: a command, a formatting or an opening. From then on a store is there
+abbrev pub any_change : List PlainCall → List PlainReply → Bool
+any_change [] replies = false
+any_change (call ∷ calls) [] = false
+any_change (call ∷ calls) (reply ∷ replies) = is_change call reply || any_change calls replies
+
 -- how the settled commands grew: by all that were acknowledged, and by none that did not begin or was not in doubt before; with the one in doubt at the end
 pub record Settles (settled settled' : List PlainCommand) (doubt doubt' : Option PlainCommand) (acknowledged begun : List PlainCommand) : Type 0 where
   pub more : List PlainCommand
@@ -60,14 +66,15 @@ pub record HoldsSettled (s : Setting) (m : Machine) (acknowledged begun : List P
   pub held : s.held image ≡ holds (after s.base settled)
   pub settles : Settles m.settled settled m.doubt None acknowledged begun
 
--- or it has no store, and there was none: nothing was acknowledged
-pub record HoldsNone (s : Setting) (m : Machine) (acknowledged : List PlainCommand) (image : Image) : Type 0 where
+-- or it has no store, and there was none: nothing was acknowledged, no command and no formatting or opening
+pub record HoldsNone (s : Setting) (m : Machine) (changed : Bool) (acknowledged : List PlainCommand) (image : Image) : Type 0 where
   pub none : s.held image ≡ no_store
   pub fresh : m.started ≡ false
+  pub unchanged : changed ≡ false
   pub silent : acknowledged ≡ []
 
-abbrev pub Keeps : Setting → Machine → List PlainCommand → List PlainCommand → Image → Type 0
-Keeps s m acknowledged begun image = HoldsSettled s m acknowledged begun image ⊎ HoldsNone s m acknowledged image
+abbrev pub Keeps : Setting → Machine → (changed : Bool) → (acknowledged begun : List PlainCommand) → Image → Type 0
+Keeps s m changed acknowledged begun image = HoldsSettled s m acknowledged begun image ⊎ HoldsNone s m changed acknowledged image
 
 -- ---- what never comes
 

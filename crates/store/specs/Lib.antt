@@ -9,7 +9,9 @@ pub mod Held
 pub mod Fits
 pub mod Changes
 pub mod Deciding
+pub mod Carrying
 pub mod Applying
+pub mod Verdicts
 pub mod Listing
 pub mod Reading
 pub mod Places

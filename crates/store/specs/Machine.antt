@@ -1,5 +1,5 @@
 -- How a run is judged: by the commands that are settled, at most one in doubt, and whether a store is open.
-use Rattle.std.specs.Prelude.{◌≡◌, ◌⊎◌, ◌++◌, ◌&&◌, Bool, true, false, if◌then◌else◌, nat_lt, List, [], ◌∷◌, Option, Some, None}
+use Rattle.std.specs.Prelude.{◌≡◌, ◌⊎◌, ◌++◌, ◌&&◌, ℕ, Bool, true, false, if◌then◌else◌, nat_lt, List, [], ◌∷◌, Option, Some, None}
 use Rattle.sector_dev.specs.Disk.{Disk, Image}
 use Rattle.sector_dev.specs.Time.{LeavesOnly}
 use Rattle.tables.specs.Tables.{Tables}
@@ -13,8 +13,9 @@ pub data Held : Type 0 where
   broken : Held
   holds : Tables → Held
 
--- what a run is judged by: how images are read, and the tables with which it began
+-- what a run is judged by: the sectors of its device, how images are read, and the tables with which it began
 pub record Setting : Type 0 where
+  pub size : ℕ
   pub held : Image → Held
   pub base : Tables
 

@@ -1,5 +1,5 @@
 -- Calls of a place, which is an open store or a shut device, and what a run of them leaves.
-use Rattle.std.specs.Prelude.{◌≡◌, ◌≢◌, ◌<◌, ◌-◌, ◌^◌, ℕ, true, false, List, map, take, string_bytes, None}
+use Rattle.std.specs.Prelude.{◌≡◌, ◌≢◌, ◌<◌, ◌-◌, ◌^◌, ◌||◌, ℕ, true, false, List, map, take, drop, string_bytes, None}
 use Rattle.std.specs.List.{list_any}
 use Rattle.sector_dev.specs.Disk.{Story, Image, moment, LeftSince}
 use Rattle.sector_dev.specs.declared.device.SectorDevice.{Ghosts}
@@ -17,7 +17,7 @@ use Rattle.store.specs.Calls.{PlainCall, apply_call, format_call, open_call, clo
 use Rattle.store.specs.Machine.{Machine, shut, halted}
 use Rattle.store.specs.Runs.{Goes, Run}
 use Rattle.store.specs.Since.{story_at, IsLeftFrom}
-use Rattle.store.specs.History.{begun, acknowledged, Settles, SettlesAll, Keeps, tells_damage, tells_no_store}
+use Rattle.store.specs.History.{any_change, begun, acknowledged, Settles, SettlesAll, Keeps, tells_damage, tells_no_store}
 use Rattle.store.specs.Fits.{setting_of, DeviceFits, StoreFits}
 
 abbrev pub call_of : Call → PlainCall
@@ -80,9 +80,9 @@ pub record PlaceLives {D : Type 0} {g : Ghosts D} (size : D → ℕ) (story : D 
   pub stops : (i : ℕ) (image : Image)
       → LeftSince (story (device_in new)) (moment (story_at (setting_of (size old) base) calls replies m (story old) (failed old) runs.next (story (device_in new)) (failed (device_in new)) runs.run i)) image
       → IsLeftFrom (setting_of (size old) base) calls replies m (story old) (failed old) runs.next (story (device_in new)) (failed (device_in new)) runs.run i image
-      × Keeps (setting_of (size old) base) m (acknowledged (take i calls) (take i replies)) (begun calls replies) image
+      × Keeps (setting_of (size old) base) m (any_change (take i calls) (take i replies)) (acknowledged (take i calls) (take i replies)) (begun calls replies) image
   pub undamaged : list_any tells_damage replies ≡ false
-  pub there : m.started ≡ true → list_any tells_no_store replies ≡ false
+  pub there : (i : ℕ) → (m.started || any_change (take i calls) (take i replies)) ≡ true → list_any tells_no_store (drop i replies) ≡ false
   pub settles : Settles m.settled runs.next.settled m.doubt runs.next.doubt (acknowledged calls replies) (begun calls replies)
   pub undisturbed : failed old < 2 ^ 64 - 1 → failed (device_in new) ≡ failed old → list_any is_device_reply replies ≡ false
   pub all_settled : m.doubt ≡ None → m.phase ≢ halted → list_any is_device_reply replies ≡ false → SettlesAll m runs.next (acknowledged calls replies)

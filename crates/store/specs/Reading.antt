@@ -13,9 +13,8 @@ use Rattle.catalogue.specs.Entries.{PlainEntry, row_count}
 use Rattle.tables.specs.declared.refusal.Refusal.{Refusal}
 use Rattle.tables.specs.declared.refusal.Refusal.TheVariants as refusals
 use Rattle.store.specs.declared.store.Store.{Store}
-use Rattle.store.specs.Calls.{PlainReply, done, refused, is_device_reply}
+use Rattle.store.specs.Calls.{PlainReply, done, refused, is_device_reply, counted}
 use Rattle.store.specs.Held.{segment_rows, rows_held, table_held}
-use Rattle.store.specs.Runs.{counted}
 
 -- behind these rows a segment has none that can be read, or rows that are too heavy together with them
 abbrev pub ArePast : PlainSchema → List (List Cell) → Option (List (List Cell)) → Type 0

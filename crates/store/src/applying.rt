@@ -1,13 +1,11 @@
 // A command of an open store.
-ghost use Rattle.std.specs.Prelude.{◌≡◌, ◌≢◌, false, Some, IfOk, IfErr};
+ghost use Rattle.std.specs.Prelude.{◌≡◌, ◌≢◌, false, IfOk, IfErr};
 ghost use Rattle.sector_dev.specs.Disk.{now, shown_image};
 ghost use Rattle.sector_dev.specs.Time.{OnlyReads};
 ghost use Rattle.tables.specs.Tables.{Tables};
 ghost use Rattle.tables.specs.View.{command_of};
-ghost use Rattle.store.specs.Held.{tables_held};
 ghost use Rattle.store.specs.Changes.{change_of, IsChange};
-ghost use Rattle.store.specs.Applying.{Decides, reads_device};
-ghost use Rattle.store.specs.Deciding.{IsAnswered};
+ghost use Rattle.store.specs.Deciding.{IsAnswered, reads_device};
 ghost use Rattle.store.specs.Fits.{listed_in};
 ghost use Rattle.store.specs.Reading.{OnlyReadsStore, ended};
 ghost use Rattle.store.specs.inner.Tests.{decision_of};
@@ -15,19 +13,16 @@ ghost use Rattle.store.specs.inner.Tests.{decision_of};
 use crate::Store;
 use crate::change::Change;
 use crate::deciding::{decide_create, decide_drop, decide_import, decide_rename};
+use crate::laws::decisions_are_verdicts;
 use crate::new_rows::NewRows;
-use canonical_write::pieces_are_tables;
-use query::{rows_refuse_no_query, selection_is_a_table};
 use sector_dev::SectorDevice;
 use std::alloc::Global;
-use tables::{Command, Refusal};
-use values::{accepted_rows_are_a_table, tables_are_joined_and_cut};
+use tables::{Command, Refusal, commands_bring_tables};
 
 impl<D: SectorDevice> Store<D> {
     ghost use Rattle.std.specs.Prelude.{◌↔◌, true, Err, OnOk};
-    ghost use Rattle.store.specs.Calls.{apply_call};
+    ghost use Rattle.store.specs.Calls.{apply_call, counted};
     ghost use Rattle.store.specs.Machine.{Machine};
-    ghost use Rattle.store.specs.Runs.{counted};
     ghost use Rattle.store.specs.Fits.{StoreFits, device_of, is_halted, IsOnDisk};
     ghost use Rattle.store.specs.Applying.{GoesOn, reply_of, IsApplied, IsKept, Writes, HasWritten};
 
@@ -40,16 +35,8 @@ impl<D: SectorDevice> Store<D> {
         ensures not_halted { IfErr result (λ e. e ≢ Refusal.Halted) }
         ensures answers { IsAnswered D.tells (shown_image (now (D.story (device_of self.old)))) (listed_in self.old) (command_of command)
             (decision_of result) }
-        ensures decides { D.tells ≡ true → (t : Tables) → tables_held (shown_image (now (D.story (device_of self.old)))) (listed_in self.old) ≡ Some t
-            → Decides t (command_of command) (decision_of result) }
     {
-        accepted_rows_are_a_table();
-        pieces_are_tables();
-        tables_are_joined_and_cut();
-        selection_is_a_table();
-        rows_refuse_no_query();
         let catalogue = &self.opened.catalogue.list;
-        catalogue.len();
         match command {
             Command::Create(new) => decide_create(alloc, catalogue, new),
             Command::ImportStream { name, bytes } => decide_import(alloc, catalogue, name, bytes),
@@ -98,6 +85,8 @@ impl<D: SectorDevice> Store<D> {
         if self.halted {
             return Err(Refusal::Halted);
         }
+        commands_bring_tables(&command);
+        decisions_are_verdicts();
         match self.decide(alloc, command) {
             Ok(change) => self.carry_out(alloc, change),
             Err(refusal) => Err(refusal),

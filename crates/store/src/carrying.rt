@@ -12,7 +12,7 @@ ghost use Rattle.commit.specs.Placing.{Takes};
 ghost use Rattle.commit.specs.Standing.{is_size};
 ghost use Rattle.commit.specs.laws.Taking.{GivesAll};
 ghost use Rattle.store.specs.Changes.{change_of, edit_of, IsChange, edited, given_up, placed_segments};
-ghost use Rattle.store.specs.Applying.{HasNext, asked_sizes, IsCarried, outline};
+ghost use Rattle.store.specs.Carrying.{HasNext, asked_sizes, IsCarried, outline};
 ghost use Rattle.store.specs.inner.Prepared.{bytes_of, taking_refusal, IsPrepared};
 
 use crate::Store;
@@ -199,9 +199,8 @@ impl<D: SectorDevice> Store<D> {
     ghost use Rattle.tables.specs.Tables.{Tables};
     ghost use Rattle.tables.specs.Commands.{PlainCommand};
     ghost use Rattle.tables.specs.Verdict.{verdict};
-    ghost use Rattle.store.specs.Calls.{apply_call};
+    ghost use Rattle.store.specs.Calls.{apply_call, counted};
     ghost use Rattle.store.specs.Machine.{Machine, running, tables_now};
-    ghost use Rattle.store.specs.Runs.{counted};
     ghost use Rattle.store.specs.Fits.{StoreFits, device_of, listed_in, setting_of, IsOnDisk};
     ghost use Rattle.store.specs.Changes.{MakesOf};
     ghost use Rattle.store.specs.Deciding.{IsDecided};
@@ -233,6 +232,7 @@ impl<D: SectorDevice> Store<D> {
             → StoreFits D.size D.story base m self.old → m.phase ≡ running
             → verdict (tables_now (setting_of (D.size (device_of self.old)) base) m) c ≡ Ok new
             → MakesOf (tables_now (setting_of (D.size (device_of self.old)) base) m) (change_of change) new
+            → IsDecided true (shown_image (now (D.story (device_of self.old)))) (listed_in self.old) c (Ok (change_of change))
             → GoesOn D.size D.story D.failed base m (apply_call c) (reply_of result) self.old self.new }
     {
         let prepared = prepare(

@@ -5,12 +5,10 @@ ghost use Rattle.arrow_schema.specs.View.{schema_of};
 ghost use Rattle.catalogue.specs.Entries.{IsCatalogue};
 ghost use Rattle.catalogue.specs.View.{catalogue_of};
 ghost use Rattle.tables.specs.Commands.{create, import_stream, rename, drop_table};
-ghost use Rattle.tables.specs.Tables.{Tables};
-ghost use Rattle.tables.specs.Verdict.{bad_name, too_many_bytes, other_shape};
+ghost use Rattle.tables.specs.Verdict.{bad_name, too_many_bytes, other_shape, import_tests};
 ghost use Rattle.store.specs.Calls.{is_failure};
-ghost use Rattle.store.specs.Applying.{Lists, Decides};
 ghost use Rattle.store.specs.Changes.{change_of, edit_of, IsChange};
-ghost use Rattle.store.specs.Deciding.{IsAnswered, has_entry, missing_in, taken_in, full_in, create_tests, import_tests, rename_tests};
+ghost use Rattle.store.specs.Deciding.{IsAnswered, has_entry, missing_in, taken_in, full_in, create_tests, rename_tests};
 ghost use Rattle.values.specs.TableView.{table_of};
 ghost use Rattle.store.specs.inner.Saving.{IsPut};
 ghost use Rattle.store.specs.inner.Tests.{Tests, decision_of};
@@ -22,7 +20,7 @@ use catalogue::{Catalogue, MAX_TABLES, counts_after_changes, is_name};
 use ipc_stream::decode;
 use std::alloc::{AllocError, Global};
 use tables::{Limit, MAX_IMPORT_BYTES, NewTable, Refusal};
-use values::{Table, accepted_rows_are_a_table};
+use values::Table;
 
 fn has_table(catalogue: &Catalogue, name: &str) -> bool
     ensures has { result ≡ has_entry (catalogue_of catalogue.now) name.now }
@@ -158,8 +156,6 @@ pub(crate) fn decide_create(
     ensures not_halted { IfErr result (λ e. e ≢ Refusal.Halted) }
     ensures answers { (tells : Bool) (image : Image) → IsAnswered tells image (catalogue_of catalogue.now)
         (create (string_bytes new.name) (schema_of new.schema)) (decision_of result) }
-    ensures decides { (t : Tables) → Lists (catalogue_of catalogue.now) t
-        → Decides t (create (string_bytes new.name) (schema_of new.schema)) (decision_of result) }
 {
     counts_after_changes();
     test_create(catalogue, &new.name)?;
@@ -179,10 +175,7 @@ pub(crate) fn decide_import(
     ensures not_halted { IfErr result (λ e. e ≢ Refusal.Halted) }
     ensures answers { (tells : Bool) (image : Image) → IsAnswered tells image (catalogue_of catalogue.now)
         (import_stream (string_bytes name) bytes.items) (decision_of result) }
-    ensures decides { (t : Tables) → Lists (catalogue_of catalogue.now) t
-        → Decides t (import_stream (string_bytes name) bytes.items) (decision_of result) }
 {
-    accepted_rows_are_a_table();
     counts_after_changes();
     pieces_are_tables();
     test_import(&name, &bytes)?;
@@ -203,8 +196,6 @@ pub(crate) fn decide_rename(
     ensures not_halted { IfErr result (λ e. e ≢ Refusal.Halted) }
     ensures answers { (tells : Bool) (image : Image) → IsAnswered tells image (catalogue_of catalogue.now)
         (rename (string_bytes from) (string_bytes to)) (decision_of result) }
-    ensures decides { (t : Tables) → Lists (catalogue_of catalogue.now) t
-        → Decides t (rename (string_bytes from) (string_bytes to)) (decision_of result) }
 {
     test_rename(catalogue, &from, &to)?;
     Ok(change_of_names(alloc, Edit::Move { from, to }))
@@ -221,7 +212,6 @@ pub(crate) fn decide_drop(
     ensures not_halted { IfErr result (λ e. e ≢ Refusal.Halted) }
     ensures answers { (tells : Bool) (image : Image) → IsAnswered tells image (catalogue_of catalogue.now)
         (drop_table (string_bytes name)) (decision_of result) }
-    ensures decides { (t : Tables) → Lists (catalogue_of catalogue.now) t → Decides t (drop_table (string_bytes name)) (decision_of result) }
 {
     test_there(catalogue, &name)?;
     Ok(change_of_names(alloc, Edit::Remove { name }))

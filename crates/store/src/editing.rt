@@ -9,7 +9,7 @@ ghost use Rattle.catalogue.specs.declared.entry.Segment.{Segment};
 ghost use Rattle.catalogue.specs.Entries.{plain_entry, is_segment, segment_count, IsCatalogue};
 ghost use Rattle.catalogue.specs.View.{catalogue_of};
 ghost use Rattle.store.specs.Changes.{edit_of, new_entry, edited, runs_at, given_up, placed_segments, IsEdit};
-ghost use Rattle.store.specs.Applying.{unplaced};
+ghost use Rattle.store.specs.Carrying.{unplaced};
 ghost use Rattle.store.specs.laws.Edited.{segments_at};
 
 use crate::change::Edit;

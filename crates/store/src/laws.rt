@@ -1,21 +1,35 @@
 // Laws of runs. The functions do nothing: their contracts are the laws.
-ghost use Rattle.std.specs.Prelude.{◌≡◌, ◌≢◌, ◌<◌, ◌-◌, ◌^◌, ℕ, true, false, None, List, [], ◌∷◌, ◌++◌, take};
+ghost use Rattle.std.specs.Prelude.{◌≡◌, ◌≢◌, ◌⊎◌, ◌<◌, ◌-◌, ◌^◌, ◌||◌, ℕ, true, false, Some, None, List, [], ◌∷◌, ◌++◌, take, drop, Result};
 ghost use Rattle.std.specs.List.{list_any};
-ghost use Rattle.sector_dev.specs.Disk.{Story, Image, now, moment, LeftSince};
+ghost use Rattle.sector_dev.specs.Disk.{Disk, Story, Image, now, moment, synced_image, LeftSince};
 ghost use Rattle.sector_dev.specs.Time.{LeavesOnly};
-ghost use Rattle.commit.specs.Standing.{is_size};
+ghost use Rattle.segments.specs.declared.entries.UsageEntry.{UsageEntry};
+ghost use Rattle.segments.specs.Usages.{IsUsedIn};
+ghost use Rattle.catalogue.specs.Entries.{PlainCatalogue, IsCatalogue};
+ghost use Rattle.commit.specs.declared.sector.Commit.{Commit};
+ghost use Rattle.commit.specs.Standing.{is_size, used_runs, rules, standing, Stands, InSome};
 ghost use Rattle.commit.specs.Formatting.{HoldsNoCommit};
 ghost use Rattle.tables.specs.Tables.{Tables, no_tables};
-ghost use Rattle.tables.specs.Commands.{PlainCommand};
+ghost use Rattle.tables.specs.declared.refusal.Refusal.{Refusal};
+ghost use Rattle.tables.specs.Commands.{PlainCommand, BringsTables};
 ghost use Rattle.store.specs.Calls.{PlainCall, PlainReply, is_device_reply};
 ghost use Rattle.store.specs.Machine.{Setting, Machine, halted, Allows, holds};
-ghost use Rattle.store.specs.Held.{held_by};
+ghost use Rattle.store.specs.Held.{whole_reading, tables_held, held_by};
+ghost use Rattle.store.specs.Changes.{PlainChange};
+ghost use Rattle.store.specs.Deciding.{IsDecided, IsAnswered};
+ghost use Rattle.store.specs.Applying.{HasDone, IsOldOrDone};
+ghost use Rattle.store.specs.Verdicts.{AreListed, IsVerdict, IsUndecided, HoldsVerdict};
 ghost use Rattle.store.specs.Fits.{DeviceFits, fresh, resumed, doubting, HoldsNoneOrEmpty, HoldsWithOrWithout};
 ghost use Rattle.store.specs.Runs.{Goes, Run};
 ghost use Rattle.store.specs.Since.{story_at, IsLeftFrom};
-ghost use Rattle.store.specs.History.{begun, acknowledged, Settles, SettlesAll, Keeps, tells_damage, tells_no_store};
+ghost use Rattle.store.specs.History.{any_change, begun, acknowledged, Settles, SettlesAll, Keeps, tells_damage, tells_no_store};
 
+use canonical_write::pieces_are_tables;
+use catalogue::one_text_each;
+use ipc_stream::meaning_is_a_table;
+use query::{rows_refuse_no_query, selection_is_a_table};
 use sector_dev::SectorDevice;
+use values::{accepted_rows_are_a_table, tables_are_joined_and_cut};
 
 /// An image that a stop may have left since some call of a run began was left before one of the calls from it on, at a moment
 /// of one of them or after the last, and is what the machine of that very moment allows.
@@ -59,23 +73,25 @@ pub fn undisturbed_runs_settle_what_was_acknowledged()
         → list_any is_device_reply replies ≡ false → SettlesAll m m' (acknowledged calls replies) }
 {}
 
-/// No reply of a run tells that a store is damaged; and none tells that there is no store, where there was one when the run began.
+/// No reply of a run tells that a store is damaged; and none tells that there is no store once there was one: when the run began, or after
+/// a command, a formatting or an opening that was done.
 pub fn runs_tell_no_damage()
     ensures damage { (s : Setting) (calls : List PlainCall) (replies : List PlainReply) (m : Machine) (old : Story) (failed : ℕ)
         (m' : Machine) (new : Story) (failed' : ℕ) → Run s calls replies m old failed m' new failed' → list_any tells_damage replies ≡ false }
     ensures no_store { (s : Setting) (calls : List PlainCall) (replies : List PlainReply) (m : Machine) (old : Story) (failed : ℕ)
-        (m' : Machine) (new : Story) (failed' : ℕ) → Run s calls replies m old failed m' new failed' → m.started ≡ true
-        → list_any tells_no_store replies ≡ false }
+        (m' : Machine) (new : Story) (failed' : ℕ) → Run s calls replies m old failed m' new failed' → (i : ℕ)
+        → (m.started || any_change (take i calls) (take i replies)) ≡ true → list_any tells_no_store (drop i replies) ≡ false }
 {}
 
 /// An image that a stop may have left since some call of a run began has the tables of settled commands: those that were settled at
 /// first, and all that were acknowledged before that call, in order, among none but the one in doubt at first and those that were
-/// acknowledged or whose device failed. Or it has no store, where there was none before and nothing was acknowledged.
+/// acknowledged or whose device failed. Or it has no store, where there was none before and nothing was acknowledged, also no formatting and
+/// no opening.
 pub fn a_stop_keeps_what_was_acknowledged()
     ensures { (s : Setting) (calls : List PlainCall) (replies : List PlainReply) (m : Machine) (old : Story) (failed : ℕ)
         (m' : Machine) (new : Story) (failed' : ℕ) (run : Run s calls replies m old failed m' new failed') (i : ℕ) (image : Image)
         → LeavesOnly (Allows s m) (now old) → LeftSince new (moment (story_at s calls replies m old failed m' new failed' run i)) image
-        → Keeps s m (acknowledged (take i calls) (take i replies)) (begun calls replies) image }
+        → Keeps s m (any_change (take i calls) (take i replies)) (acknowledged (take i calls) (take i replies)) (begun calls replies) image }
 {}
 
 /// A run may begin with a device on which no stop leaves a commit: there are no tables. And it may begin with one on which each stop
@@ -92,4 +108,45 @@ pub fn devices_fit<D: SectorDevice>(device: &D)
         → LeavesOnly (λ image. held_by (D.size device.now) image ≡ holds t) (now (D.story device.now)) → DeviceFits D.size D.story t resumed device.now }
 {
     let _ = device;
+}
+
+/// What is decided of a command by a catalogue, and by what reads show, is the verdict on the tables that the catalogue lists: a change that makes
+/// of them what the command makes, or the same refusal. `decided` is also of a store of which some segment can't be read. Where each can be read
+/// (`listed`) there is no other answer, but that memory was refused, or that the device failed (`answered`). `catalogues`: what stands is a catalogue.
+pub fn decisions_are_verdicts()
+    ensures decided { (image : Image) (c : PlainCatalogue) (t : Tables) (command : PlainCommand) (d : Result PlainChange Refusal)
+        → AreListed image c t → BringsTables command → IsDecided true image c command d → IsVerdict t command d }
+    ensures listed { (image : Image) (c : PlainCatalogue) (t : Tables) → IsCatalogue c → tables_held image c ≡ Some t → AreListed image c t }
+    ensures answered { (image : Image) (c : PlainCatalogue) (t : Tables) (command : PlainCommand) (d : Result PlainChange Refusal)
+        → IsCatalogue c → tables_held image c ≡ Some t → BringsTables command → IsAnswered true image c command d
+        → IsUndecided command d ⊎ IsVerdict t command d }
+    ensures catalogues { (size : ℕ) (image : Image) (k : Commit) (c : PlainCatalogue) → standing whole_reading size image ≡ rules k c → IsCatalogue c }
+{
+    accepted_rows_are_a_table();
+    tables_are_joined_and_cut();
+    pieces_are_tables();
+    selection_is_a_table();
+    rows_refuse_no_query();
+    meaning_is_a_table();
+    one_text_each();
+}
+
+/// Of a store that lies on its disk, with these tables: an image on which a command is done has the tables that the verdict says, where what lay in
+/// the runs of the catalogue lies there still (`done`); so what a stop leaves has those tables, or the ones that stood (`left`).
+pub fn what_is_done_is_the_verdict()
+    ensures done { (size : ℕ) (entries : List UsageEntry) (k : Commit) (c : PlainCatalogue) (before : Disk) (t : Tables) (command : PlainCommand)
+        (image : Image) → Stands whole_reading size before k c → tables_held (synced_image before) c ≡ Some t → BringsTables command
+        → ((n : ℕ) → InSome (used_runs whole_reading k c) n → image n ≡ (before.at n).synced)
+        → HasDone size (IsUsedIn entries) k c before command image → HoldsVerdict size image t command }
+    ensures left { (size : ℕ) (entries : List UsageEntry) (k : Commit) (c : PlainCatalogue) (before : Disk) (t : Tables) (command : PlainCommand)
+        (image : Image) → Stands whole_reading size before k c → tables_held (synced_image before) c ≡ Some t → BringsTables command
+        → IsOldOrDone size (IsUsedIn entries) k c before command image → (held_by size image ≡ holds t) ⊎ HoldsVerdict size image t command }
+{
+    accepted_rows_are_a_table();
+    tables_are_joined_and_cut();
+    pieces_are_tables();
+    selection_is_a_table();
+    rows_refuse_no_query();
+    meaning_is_a_table();
+    one_text_each();
 }

@@ -1,5 +1,5 @@
 // Calls of a place are answered in order.
-ghost use Rattle.std.specs.Prelude.{◌≡◌, true, IfOk, IfErr};
+ghost use Rattle.std.specs.Prelude.{◌≡◌, true, length, IfOk, IfErr};
 ghost use Rattle.tables.specs.Tables.{Tables};
 ghost use Rattle.tables.specs.View.{command_of};
 ghost use Rattle.store.specs.Calls.{needs_store, apply_call, format_call, open_call, tables_call, schema_call, read_call, export_call};
@@ -151,6 +151,7 @@ fn answer_all<D: SectorDevice>(
 ) -> Result<(Place<D>, Vec<Reply>), (Place<D>, Vec<Call>)>
     ensures ok { IfOk result (λ r. D.tells ≡ true → (base : Tables) (m : Machine) → PlaceFits D.size D.story base m place
         → PlaceRuns D.size D.story D.failed base m (calls_of calls.items) (replies_of r.1.items) (device_in place) r.0) }
+    ensures each { IfOk result (λ r. length r.1.items ≡ length calls.items) }
     ensures err { IfErr result (λ e. (e.0 ≡ place) × (e.1 ≡ calls)) }
 {
     let Ok(mut replies) = Vec::with_capacity(alloc, calls.len()) else {
@@ -177,6 +178,7 @@ pub fn run<D: SectorDevice>(
 ) -> Result<(Place<D>, Vec<Reply>), (Place<D>, Vec<Call>)>
     ensures lives { IfOk result (λ r. D.tells ≡ true → (base : Tables) (m : Machine) → PlaceFits D.size D.story base m place
         → PlaceLives D.size D.story D.failed base m (calls_of calls.items) (replies_of r.1.items) (device_in place) r.0) }
+    ensures each { IfOk result (λ r. length r.1.items ≡ length calls.items) }
     ensures err { IfErr result (λ e. (e.0 ≡ place) × (e.1 ≡ calls)) }
 {
     match answer_all(alloc, place, calls) {

@@ -33,12 +33,11 @@ impl<D: SectorDevice> Store<D> {
     ghost use Rattle.commit.specs.Opening.{IsOpening, standing_shown};
     ghost use Rattle.commit.specs.declared.cause.Cause.TheVariants.{DeviceSize};
     ghost use Rattle.tables.specs.Tables.{Tables};
-    ghost use Rattle.store.specs.Calls.{open_call, shut_by};
+    ghost use Rattle.store.specs.Calls.{open_call, shut_by, counted};
     ghost use Rattle.store.specs.Machine.{Machine};
     ghost use Rattle.store.specs.Fits.{DeviceFits, FindsStore, Opens, Shuts, device_of};
     ghost use Rattle.store.specs.Held.{whole_reading};
     ghost use Rattle.store.specs.Opening.{TellsOpening};
-    ghost use Rattle.store.specs.Runs.{counted};
 
     /// Opens the store that stands on a device: what its commit sectors and its catalogue say, after a sync. Where it is refused
     /// the device is given back.

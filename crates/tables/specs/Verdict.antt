@@ -38,6 +38,10 @@ too_many_tables t name = when (not (has_table t name) && nat_le MAX_TABLES (tabl
 abbrev pub too_many_bytes : List ℕ → Option Refusal
 too_many_bytes bytes = when (nat_lt MAX_IMPORT_BYTES (length bytes)) (TooMany limits.Bytes)
 
+-- those of an import, before its bytes are read
+abbrev pub import_tests : (name bytes : List ℕ) → Option Refusal
+import_tests name bytes = first_some (bad_name name ∷ too_many_bytes bytes ∷ [])
+
 abbrev pub other_shape : PlainSchema → PlainSchema → Option Refusal
 other_shape own new = when (not (have_one_shape own new)) SchemaMismatch
 
@@ -106,8 +110,7 @@ dropped t name table = Ok (without_table t name)
 
 unfoldable pub verdict : Tables → PlainCommand → Result Tables Refusal
 verdict t (create name schema) = made t name (empty_table schema)
-verdict t (import_stream name bytes) =
-    unless (first_some (bad_name name ∷ too_many_bytes bytes ∷ [])) (of_meaning (meaning supported_codes bytes) (put t name))
+verdict t (import_stream name bytes) = unless (import_tests name bytes) (of_meaning (meaning supported_codes bytes) (put t name))
 verdict t (append_stream name bytes) = of_table (table_at t name) (appended_stream t name bytes)
 verdict t (append_rows name rows) = of_table (table_at t name) (appended t name rows)
 verdict t (save_as from to query) = of_table (table_at t from) (saved t to query)

@@ -20,7 +20,7 @@ use Rattle.tables.specs.declared.refusal.Refusal.{Refusal}
 use Rattle.tables.specs.declared.refusal.Refusal.TheVariants as refusals
 use Rattle.store.specs.declared.stored.StoredCatalogue.{StoredCatalogue}
 use Rattle.store.specs.Changes.{PlainChange, edited, given_up, placed_segments}
-use Rattle.store.specs.Applying.{HasNext, asked_sizes, outline}
+use Rattle.store.specs.Carrying.{HasNext, asked_sizes, outline}
 
 -- the bytes of some pieces
 abbrev pub bytes_of : List Piece → List (List ℕ)

@@ -22,8 +22,8 @@ use Rattle.tables.specs.Tables.{Tables, no_tables, table_at, with_table, without
 use Rattle.tables.specs.Verdict.{joined}
 use Rattle.tables.specs.laws.Maps.{put_apart, put_over, put_and_taken, put_not_taken, none_taken}
 use Rattle.store.specs.Held.{rows_in_bytes, segment_rows, joined_rows, rows_held, table_where, table_of_rows, table_held, with_held, tables_held}
-use Rattle.store.specs.Changes.{PlainEdit, put, extend, move, remove, PlainChange, new_entry, edited, HasEntry, IsEdit, IsChange, stream_rows, rows_under, Makes, MakesOf, HoldsStreams}
-use Rattle.store.specs.laws.Named.{entry_has, held_has}
+use Rattle.store.specs.Changes.{PlainEdit, put, extend, move, remove, PlainChange, new_entry, edited, HasEntry, stream_rows, rows_under, Makes, MakesOf, HoldsStreams}
+use Rattle.store.specs.laws.Named.{entry_has, entry_lacks, held_has}
 use Rattle.store.specs.laws.Listed.{count_held}
 
 -- ---- the rows of new segments
@@ -213,12 +213,17 @@ module _ (image : Image) where
       ∙ ap Some (sym becomes)
 
   -- an image that holds the tables of a catalogue and the streams of a change holds the tables that the change makes
-  pub edited_held : (c : PlainCatalogue) (change : PlainChange) (t new : Tables) (segments : List Segment) → IsCatalogue c → tables_held image c ≡ Some t → IsChange c change → MakesOf t change new
+  pub edited_held : (c : PlainCatalogue) (change : PlainChange) (t new : Tables) (segments : List Segment) → IsCatalogue c → tables_held image c ≡ Some t → MakesOf t change new
       → HoldsStreams image segments change.streams change.counts → tables_held image (edited c change.edit segments) ≡ Some new
-  edited_held c change t new segments catalogue is sound makes holds = by_edit change.edit sound.edit makes
+  edited_held c change t new segments catalogue is makes holds = by_edit change.edit makes
     where
-      by_edit : (edit : PlainEdit) → IsEdit c edit change.streams → Makes t edit change.streams change.counts new → tables_held image (edited c edit segments) ≡ Some new
-      by_edit (put name schema) allowed made = held_put c t new name schema segments change.streams change.counts is made holds
-      by_edit (extend name) allowed made = held_extended c t new name segments change.streams change.counts is allowed made holds
-      by_edit (move from to) allowed made = held_moved c t new from to catalogue.order is allowed.2 made
-      by_edit (remove name) allowed made = held_without c t name catalogue.order is ∙ ap Some (sym made)
+      -- a table that is there has an entry
+      has_entry : (name : List ℕ) (table : PlainTable) (o : Option PlainEntry) → entry_of c name ≡ o → table_at t name ≡ Some table → HasEntry c name
+      has_entry name table None none at = let both : None ≡ Some table = sym (entry_lacks image c t is name none) ∙ at in absurd (cc both)
+      has_entry name table (Some e) found at = (e, found)
+
+      by_edit : (edit : PlainEdit) → Makes t edit change.streams change.counts new → tables_held image (edited c edit segments) ≡ Some new
+      by_edit (put name schema) made = held_put c t new name schema segments change.streams change.counts is made holds
+      by_edit (extend name) made = held_extended c t new name segments change.streams change.counts is (has_entry name made.0 (entry_of c name) refl made.1) made holds
+      by_edit (move from to) made = held_moved c t new from to catalogue.order is (has_entry from made.0 (entry_of c from) refl made.1) made
+      by_edit (remove name) made = held_without c t name catalogue.order is ∙ ap Some (sym made)

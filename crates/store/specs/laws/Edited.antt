@@ -12,9 +12,8 @@ use Rattle.catalogue.specs.Entries.{PlainEntry, PlainCatalogue, is_segment, runs
 use Rattle.catalogue.specs.Edits.{entry_of, with_entry, without, named, renamed, with_segments, with_more}
 use Rattle.catalogue.specs.Text.{entry_size, list_size}
 use Rattle.catalogue.specs.laws.Kept.{entry_stands, passes_catalogue, catalogue_is}
-use Rattle.catalogue.specs.laws.Order.{with_all, without_all}
 use Rattle.catalogue.specs.laws.Sums.{refilled, put_new, put_over, put_alike, taken_out, refilled_sum, one, number, segments_in}
-use Rattle.catalogue.specs.laws.Changed.{put_stands, removed_stands, none_without, found_passes, renamed_is, renamed_stands, refilled_all, more_is, more_none, more_stands}
+use Rattle.catalogue.specs.laws.Changed.{put_stands, removed_stands, none_without, renamed_is, renamed_stands, more_is, more_none, more_stands}
 use Rattle.commit.specs.Placing.{is_among, times_among}
 use Rattle.commit.specs.laws.Fit.{times_both, times_some, some_times}
 use Rattle.store.specs.Changes.{PlainEdit, PlainChange, put, extend, move, remove, new_entry, edited, runs_at, given_up, IsEdit, IsChange}

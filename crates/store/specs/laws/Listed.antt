@@ -24,7 +24,7 @@ use Rattle.catalogue.specs.Entries.{PlainEntry, PlainCatalogue, names_of, comes_
 use Rattle.catalogue.specs.Edits.{entry_of, tables_of}
 use Rattle.tables.specs.Tables.{Tables, no_tables, table_at, with_table, table_count, row_counts}
 use Rattle.store.specs.Held.{rows_where, rows_in_bytes, segment_rows, joined_rows, rows_held, table_held, with_held, tables_held}
-use Rattle.store.specs.Applying.{TellsTable, Lists}
+use Rattle.store.specs.Verdicts.{TellsTable, Lists}
 use Rattle.store.specs.laws.Named.{entry_has, entry_lacks, held_has}
 
 -- ---- how many rows there are

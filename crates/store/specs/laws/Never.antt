@@ -1,16 +1,16 @@
 -- Replies that never come in a run.
-use Rattle.std.specs.Prelude.{◌≡◌, ◌||◌, ℕ, Bool, true, false, List, [], ◌∷◌, refl}
+use Rattle.std.specs.Prelude.{◌≡◌, ◌||◌, ℕ, zero, suc, Bool, true, false, List, [], ◌∷◌, take, drop, refl}
 use Rattle.std.specs.List.{list_any}
-use Rattle.std.proofs.Common.{sym, ◌∙◌}
+use Rattle.std.proofs.Common.{sym, ap, ◌∙◌}
 use Rattle.sector_dev.specs.Disk.{Story}
 use Rattle.commit.specs.declared.cause.Cause.{Cause}
 use Rattle.store.specs.declared.opening_refusal.OpeningRefusal.TheVariants as openings
-use Rattle.store.specs.Calls.{PlainCall, apply_call, format_call, open_call, close_call, tables_call, schema_call, read_call, export_call, PlainReply, shut_by}
+use Rattle.store.specs.Calls.{PlainCall, apply_call, format_call, open_call, close_call, tables_call, schema_call, read_call, export_call, PlainReply, shut_by, is_change}
 use Rattle.store.specs.Machine.{Setting, Machine}
 use Rattle.store.specs.Steps.{Step}
 use Rattle.store.specs.Runs.{Run}
-use Rattle.store.specs.History.{tells_damage, tells_no_store}
-use Rattle.store.specs.laws.Settled.{one_step}
+use Rattle.store.specs.History.{any_change, tells_damage, tells_no_store}
+use Rattle.store.specs.laws.Settled.{Moves, one_step}
 
 none_of_two : (a b : Bool) → a ≡ false → b ≡ false → (a || b) ≡ false
 none_of_two false b first others = others
@@ -65,7 +65,7 @@ true_unless : (a b : Bool) → a ≡ true → (b ≡ false → a ≡ false) → 
 true_unless a true is back = refl
 true_unless a false is back = let both : true ≡ false = sym is ∙ back refl in absurd (cc both)
 
-pub tells_a_store : (s : Setting) (calls : List PlainCall) (replies : List PlainReply) (m : Machine) (old : Story) (failed : ℕ) (m' : Machine) (new : Story) (failed' : ℕ)
+tells_a_store : (s : Setting) (calls : List PlainCall) (replies : List PlainReply) (m : Machine) (old : Story) (failed : ℕ) (m' : Machine) (new : Story) (failed' : ℕ)
     → Run s calls replies m old failed m' new failed' → m.started ≡ true → list_any tells_no_store replies ≡ false
 unfolding Run
 tells_a_store s [] [] m old failed m' new failed' run started = refl
@@ -75,3 +75,33 @@ tells_a_store s (call ∷ calls) (reply ∷ replies) m old failed m' new failed'
     (tells_a_store s calls replies run.machine run.story run.failures m' new failed' run.others (true_unless m.started run.machine.started started (λ no. (moves.starts no).0)))
 tells_a_store s [] (reply ∷ replies) m old failed m' new failed' run started = absurd run
 tells_a_store s (call ∷ calls) [] m old failed m' new failed' run started = absurd run
+
+or_none : (b : Bool) → (b || false) ≡ true → b ≡ true
+or_none true is = refl
+or_none false is = absurd (cc is)
+
+-- and a call that was done starts it
+or_true : (a b : Bool) → a ≡ true → (a || b) ≡ true
+or_true a b is = ap (λ (x : Bool). x || b) is
+
+started_next : (m next : Machine) (call : PlainCall) (reply : PlainReply) → Moves m call reply next → (more : Bool) → (m.started || (is_change call reply || more)) ≡ true → (next.started || more) ≡ true
+started_next m next call reply moves more is = by_next next.started refl
+  where
+    by_next : (b : Bool) → next.started ≡ b → (next.started || more) ≡ true
+    by_next true now = or_true next.started more now
+    by_next false early =
+        let before = moves.starts early in
+        ap (λ (b : Bool). b || more) early ∙ sym (λ i. before.0 i || (before.1 i || more)) ∙ is
+
+pub tells_a_store_since : (s : Setting) (calls : List PlainCall) (replies : List PlainReply) (m : Machine) (old : Story) (failed : ℕ) (m' : Machine) (new : Story) (failed' : ℕ)
+    → Run s calls replies m old failed m' new failed' → (i : ℕ) → (m.started || any_change (take i calls) (take i replies)) ≡ true → list_any tells_no_store (drop i replies) ≡ false
+unfolding Run
+tells_a_store_since s [] [] m old failed m' new failed' run zero there = refl
+tells_a_store_since s [] [] m old failed m' new failed' run (suc i) there = refl
+tells_a_store_since s (call ∷ calls) (reply ∷ replies) m old failed m' new failed' run zero there =
+    tells_a_store s (call ∷ calls) (reply ∷ replies) m old failed m' new failed' run (or_none m.started there)
+tells_a_store_since s (call ∷ calls) (reply ∷ replies) m old failed m' new failed' run (suc i) there =
+    tells_a_store_since s calls replies run.machine run.story run.failures m' new failed' run.others i
+    (started_next m run.machine call reply (one_step s m call reply _ run.machine run.goes.step) (any_change (take i calls) (take i replies)) there)
+tells_a_store_since s [] (reply ∷ replies) m old failed m' new failed' run i there = absurd run
+tells_a_store_since s (call ∷ calls) [] m old failed m' new failed' run i there = absurd run

@@ -13,7 +13,7 @@ use Rattle.catalogue.specs.Entries.{is_between, is_segment}
 use Rattle.commit.specs.Placing.{sectors_of, counts_of}
 use Rattle.commit.specs.laws.Taking.{Took, TookAll}
 use Rattle.store.specs.Changes.{placed_segments}
-use Rattle.store.specs.Applying.{unplaced}
+use Rattle.store.specs.Carrying.{unplaced}
 
 -- how many sectors a stream takes
 abbrev pub stream_sectors : List ℕ → ℕ

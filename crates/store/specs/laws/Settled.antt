@@ -11,7 +11,7 @@ use Rattle.tables.specs.declared.refusal.Refusal.TheVariants as refusals
 use Rattle.tables.specs.Refusals.{Origin, by_tables, by_room, by_memory, by_device, by_halt, elsewhere, origin_of_limit, origin_of}
 use Rattle.tables.specs.Commands.{PlainCommand}
 use Rattle.store.specs.declared.opening_refusal.OpeningRefusal.TheVariants as openings
-use Rattle.store.specs.Calls.{PlainCall, apply_call, format_call, open_call, close_call, tables_call, schema_call, read_call, export_call, PlainReply, done, counts, schema_is, table_is, bytes_are, refused, shut_by, is_failure, is_device_reply}
+use Rattle.store.specs.Calls.{PlainCall, apply_call, format_call, open_call, close_call, tables_call, schema_call, read_call, export_call, PlainReply, done, counts, schema_is, table_is, bytes_are, refused, shut_by, is_failure, is_device_reply, is_change}
 use Rattle.store.specs.Machine.{Setting, Machine, shut, halted, with_doubt, settle, opened, shut_down, halt}
 use Rattle.store.specs.Steps.{RefusesFrom, Step}
 use Rattle.store.specs.Runs.{Run}
@@ -58,7 +58,7 @@ in_turn (x ∷ xs) (y ∷ ys) (z ∷ zs) (inr a) (inl b) = inr (in_turn (x ∷ x
 pub record Moves (m : Machine) (call : PlainCall) (reply : PlainReply) (new : Machine) : Type 0 where
   pub settles : Settles m.settled new.settled m.doubt new.doubt (acknowledged_by call reply) (begun_by call reply)
   pub undisturbed : is_device_reply reply ≡ false → m.doubt ≡ None → m.phase ≢ halted → SettlesAll m new (acknowledged_by call reply)
-  pub starts : new.started ≡ false → (m.started ≡ false) × (acknowledged_by call reply ≡ [])
+  pub starts : new.started ≡ false → (m.started ≡ false) × (is_change call reply ≡ false) × (acknowledged_by call reply ≡ [])
 
 moved : (m : Machine) (call : PlainCall) (reply : PlainReply) (new is : Machine) → new ≡ is → Moves m call reply is → Moves m call reply new
 moved m call reply new is same moves = subst (λ (k : Machine). Moves m call reply k) (sym same) moves
@@ -116,7 +116,7 @@ not_both b holds fails = let is : true ≡ false = sym holds ∙ fails in absurd
 
 module _ (m : Machine) (c : PlainCommand) where
   halted_one : (r : Refusal) (wrote : Bool) → is_failure r ≡ true → Moves m (apply_call c) (refused r) (halt (apply_call c) wrote m)
-  halted_one r wrote failed = record { settles = halted_list m c r wrote failed; undisturbed = λ quiet none on. not_both (is_failure r) failed quiet; starts = λ no. (no, refl) }
+  halted_one r wrote failed = record { settles = halted_list m c r wrote failed; undisturbed = λ quiet none on. not_both (is_failure r) failed quiet; starts = λ no. (no, refl, refl) }
 
   done_one : Moves m (apply_call c) done (settle c m)
   done_one = record { settles = settled_one m.settled m.doubt c; undisturbed = λ quiet none on. record { settled = refl; none = refl; on = λ is. cc is }; starts = λ no. absurd (cc no) }
@@ -148,9 +148,9 @@ module _ (m : Machine) where
 
 -- a call after which the settled commands and the one in doubt are as they were
 module _ (m : Machine) (new : Machine) where
-  as_it_was : (call : PlainCall) (reply : PlainReply) → acknowledged_by call reply ≡ [] → new.settled ≡ m.settled → new.doubt ≡ m.doubt → new.started ≡ m.started
+  as_it_was : (call : PlainCall) (reply : PlainReply) → is_change call reply ≡ false → acknowledged_by call reply ≡ [] → new.settled ≡ m.settled → new.doubt ≡ m.doubt → new.started ≡ m.started
       → (is_device_reply reply ≡ false → m.phase ≢ halted → new.phase ≢ halted) → Moves m call reply new
-  as_it_was call reply silent settled doubt started phase =
+  as_it_was call reply plain silent settled doubt started phase =
       record {
         settles = record {
           more = [];
@@ -163,26 +163,26 @@ module _ (m : Machine) (new : Machine) where
           none = doubt ∙ none;
           on = phase quiet on;
         };
-        starts = λ no. (sym started ∙ no, silent);
+        starts = λ no. (sym started ∙ no, plain, silent);
       }
 
-  is_same : (call : PlainCall) (reply : PlainReply) → acknowledged_by call reply ≡ [] → new ≡ m → Moves m call reply new
-  is_same call reply silent is = as_it_was call reply silent (ap (λ (k : Machine). k.settled) is) (ap (λ (k : Machine). k.doubt) is) (ap (λ (k : Machine). k.started) is) (λ quiet on halts. on (sym (ap (λ (k : Machine). k.phase) is) ∙ halts))
+  is_same : (call : PlainCall) (reply : PlainReply) → is_change call reply ≡ false → acknowledged_by call reply ≡ [] → new ≡ m → Moves m call reply new
+  is_same call reply plain silent is = as_it_was call reply plain silent (ap (λ (k : Machine). k.settled) is) (ap (λ (k : Machine). k.doubt) is) (ap (λ (k : Machine). k.started) is) (λ quiet on halts. on (sym (ap (λ (k : Machine). k.phase) is) ∙ halts))
 
-  is_shut : (call : PlainCall) (reply : PlainReply) → acknowledged_by call reply ≡ [] → new ≡ shut_down m → Moves m call reply new
-  is_shut call reply silent is =
-      as_it_was call reply silent (ap (λ (k : Machine). k.settled) is) (ap (λ (k : Machine). k.doubt) is) (ap (λ (k : Machine). k.started) is) (λ quiet on halts. let no : shut ≡ halted = sym (ap (λ (k : Machine). k.phase) is) ∙ halts in cc no)
+  is_shut : (call : PlainCall) (reply : PlainReply) → is_change call reply ≡ false → acknowledged_by call reply ≡ [] → new ≡ shut_down m → Moves m call reply new
+  is_shut call reply plain silent is =
+      as_it_was call reply plain silent (ap (λ (k : Machine). k.settled) is) (ap (λ (k : Machine). k.doubt) is) (ap (λ (k : Machine). k.started) is) (λ quiet on halts. let no : shut ≡ halted = sym (ap (λ (k : Machine). k.phase) is) ∙ halts in cc no)
 
-  is_halted : (call : PlainCall) (reply : PlainReply) → acknowledged_by call reply ≡ [] → is_device_reply reply ≡ true → new ≡ halt call false m → Moves m call reply new
-  is_halted call reply silent failed is =
-      as_it_was call reply silent (ap (λ (k : Machine). k.settled) is) (ap (λ (k : Machine). k.doubt) is) (ap (λ (k : Machine). k.started) is) (λ quiet on halts. not_both (is_device_reply reply) failed quiet)
+  is_halted : (call : PlainCall) (reply : PlainReply) → is_change call reply ≡ false → acknowledged_by call reply ≡ [] → is_device_reply reply ≡ true → new ≡ halt call false m → Moves m call reply new
+  is_halted call reply plain silent failed is =
+      as_it_was call reply plain silent (ap (λ (k : Machine). k.settled) is) (ap (λ (k : Machine). k.doubt) is) (ap (λ (k : Machine). k.started) is) (λ quiet on halts. not_both (is_device_reply reply) failed quiet)
 
 by_origin : (o : Origin) (s : Setting) (m : Machine) (c : PlainCommand) (r : Refusal) (wrote : Bool) (new : Machine) → origin_of r ≡ o → RefusesFrom o s m c r wrote new → Moves m (apply_call c) (refused r) new
-by_origin by_tables s m c r wrote new is step = is_same m new (apply_call c) (refused r) refl step.2.1
-by_origin by_room s m c r wrote new is step = is_same m new (apply_call c) (refused r) refl step.2.1
-by_origin by_memory s m c r wrote new is step = is_same m new (apply_call c) (refused r) refl step.1.1
+by_origin by_tables s m c r wrote new is step = is_same m new (apply_call c) (refused r) refl refl step.2.1
+by_origin by_room s m c r wrote new is step = is_same m new (apply_call c) (refused r) refl refl step.2.1
+by_origin by_memory s m c r wrote new is step = is_same m new (apply_call c) (refused r) refl refl step.1.1
 by_origin by_device s m c r wrote new is step = moved m (apply_call c) (refused r) new (halt (apply_call c) wrote m) step.1 (halted_one m c r wrote (device_fails r is))
-by_origin by_halt s m c r wrote new is step = is_same m new (apply_call c) (refused r) refl step.1.1
+by_origin by_halt s m c r wrote new is step = is_same m new (apply_call c) (refused r) refl refl step.1.1
 by_origin elsewhere s m c r wrote new is step = absurd step
 
 pub one_step : (s : Setting) (m : Machine) (call : PlainCall) (reply : PlainReply) (wrote : Bool) (new : Machine) → Step s m call reply wrote new → Moves m call reply new
@@ -191,42 +191,42 @@ one_step s m (apply_call c) done wrote new step = moved m (apply_call c) done ne
 one_step s m (apply_call c) (refused r) wrote new step = by_origin (origin_of r) s m c r wrote new refl step
 one_step s m (apply_call c) _ wrote new step = absurd step
 one_step s m format_call done wrote new step = moved m format_call done new (opened []) step.3 (formatted_one m step.1)
-one_step s m format_call (shut_by openings.AlreadyAStore) wrote new step = is_shut m new format_call (shut_by openings.AlreadyAStore) refl step.1
-one_step s m format_call (shut_by openings.OutOfMemory) wrote new step = is_shut m new format_call (shut_by openings.OutOfMemory) refl step.1
-one_step s m format_call (shut_by openings.Device) wrote new step = is_shut m new format_call (shut_by openings.Device) refl step
+one_step s m format_call (shut_by openings.AlreadyAStore) wrote new step = is_shut m new format_call (shut_by openings.AlreadyAStore) refl refl step.1
+one_step s m format_call (shut_by openings.OutOfMemory) wrote new step = is_shut m new format_call (shut_by openings.OutOfMemory) refl refl step.1
+one_step s m format_call (shut_by openings.Device) wrote new step = is_shut m new format_call (shut_by openings.Device) refl refl step
 one_step s m format_call _ wrote new step = absurd step
 one_step s m open_call done wrote new step = by_choice step.1
   where
     by_choice : (new ≡ opened m.settled) ⊎ (new ≡ opened (with_doubt m.settled m.doubt)) → Moves m open_call done new
     by_choice (inl is) = moved m open_call done new (opened m.settled) is (opened_without m)
     by_choice (inr is) = moved m open_call done new (opened (with_doubt m.settled m.doubt)) is (opened_with m)
-one_step s m open_call (shut_by openings.NotAStore) wrote new step = is_shut m new open_call (shut_by openings.NotAStore) refl step.2
-one_step s m open_call (shut_by openings.Device) wrote new step = is_shut m new open_call (shut_by openings.Device) refl step.1
-one_step s m open_call (shut_by openings.OutOfMemory) wrote new step = is_shut m new open_call (shut_by openings.OutOfMemory) refl step.1
+one_step s m open_call (shut_by openings.NotAStore) wrote new step = is_shut m new open_call (shut_by openings.NotAStore) refl refl step.2
+one_step s m open_call (shut_by openings.Device) wrote new step = is_shut m new open_call (shut_by openings.Device) refl refl step.1
+one_step s m open_call (shut_by openings.OutOfMemory) wrote new step = is_shut m new open_call (shut_by openings.OutOfMemory) refl refl step.1
 one_step s m open_call _ wrote new step = absurd step
-one_step s m close_call done wrote new step = is_shut m new close_call done refl step.2
-one_step s m close_call (refused refusals.Halted) wrote new step = is_same m new close_call (refused refusals.Halted) refl step.1.1
+one_step s m close_call done wrote new step = is_shut m new close_call done refl refl step.2
+one_step s m close_call (refused refusals.Halted) wrote new step = is_same m new close_call (refused refusals.Halted) refl refl step.1.1
 one_step s m close_call _ wrote new step = absurd step
-one_step s m tables_call (counts ns) wrote new step = is_same m new tables_call (counts ns) refl step.2.1
-one_step s m tables_call (refused refusals.Halted) wrote new step = is_same m new tables_call (refused refusals.Halted) refl step.1.1
-one_step s m tables_call (refused refusals.OutOfMemory) wrote new step = is_same m new tables_call (refused refusals.OutOfMemory) refl step.1.1
+one_step s m tables_call (counts ns) wrote new step = is_same m new tables_call (counts ns) refl refl step.2.1
+one_step s m tables_call (refused refusals.Halted) wrote new step = is_same m new tables_call (refused refusals.Halted) refl refl step.1.1
+one_step s m tables_call (refused refusals.OutOfMemory) wrote new step = is_same m new tables_call (refused refusals.OutOfMemory) refl refl step.1.1
 one_step s m tables_call _ wrote new step = absurd step
-one_step s m (schema_call name) (schema_is schema) wrote new step = is_same m new (schema_call name) (schema_is schema) refl step.2.1
-one_step s m (schema_call name) (refused refusals.NoTable) wrote new step = is_same m new (schema_call name) (refused refusals.NoTable) refl step.2.1
-one_step s m (schema_call name) (refused refusals.Halted) wrote new step = is_same m new (schema_call name) (refused refusals.Halted) refl step.1.1
-one_step s m (schema_call name) (refused refusals.OutOfMemory) wrote new step = is_same m new (schema_call name) (refused refusals.OutOfMemory) refl step.1.1
+one_step s m (schema_call name) (schema_is schema) wrote new step = is_same m new (schema_call name) (schema_is schema) refl refl step.2.1
+one_step s m (schema_call name) (refused refusals.NoTable) wrote new step = is_same m new (schema_call name) (refused refusals.NoTable) refl refl step.2.1
+one_step s m (schema_call name) (refused refusals.Halted) wrote new step = is_same m new (schema_call name) (refused refusals.Halted) refl refl step.1.1
+one_step s m (schema_call name) (refused refusals.OutOfMemory) wrote new step = is_same m new (schema_call name) (refused refusals.OutOfMemory) refl refl step.1.1
 one_step s m (schema_call name) _ wrote new step = absurd step
-one_step s m (read_call name) (table_is table) wrote new step = is_same m new (read_call name) (table_is table) refl step.2.1
-one_step s m (read_call name) (refused refusals.NoTable) wrote new step = is_same m new (read_call name) (refused refusals.NoTable) refl step.2.1
-one_step s m (read_call name) (refused refusals.Halted) wrote new step = is_same m new (read_call name) (refused refusals.Halted) refl step.1.1
-one_step s m (read_call name) (refused refusals.OutOfMemory) wrote new step = is_same m new (read_call name) (refused refusals.OutOfMemory) refl step.1.1
-one_step s m (read_call name) (refused refusals.Device) wrote new step = is_halted m new (read_call name) (refused refusals.Device) refl refl step.2
+one_step s m (read_call name) (table_is table) wrote new step = is_same m new (read_call name) (table_is table) refl refl step.2.1
+one_step s m (read_call name) (refused refusals.NoTable) wrote new step = is_same m new (read_call name) (refused refusals.NoTable) refl refl step.2.1
+one_step s m (read_call name) (refused refusals.Halted) wrote new step = is_same m new (read_call name) (refused refusals.Halted) refl refl step.1.1
+one_step s m (read_call name) (refused refusals.OutOfMemory) wrote new step = is_same m new (read_call name) (refused refusals.OutOfMemory) refl refl step.1.1
+one_step s m (read_call name) (refused refusals.Device) wrote new step = is_halted m new (read_call name) (refused refusals.Device) refl refl refl step.2
 one_step s m (read_call name) _ wrote new step = absurd step
-one_step s m (export_call name) (bytes_are bytes) wrote new step = is_same m new (export_call name) (bytes_are bytes) refl step.2.1
-one_step s m (export_call name) (refused refusals.NoTable) wrote new step = is_same m new (export_call name) (refused refusals.NoTable) refl step.2.1
-one_step s m (export_call name) (refused refusals.Halted) wrote new step = is_same m new (export_call name) (refused refusals.Halted) refl step.1.1
-one_step s m (export_call name) (refused refusals.OutOfMemory) wrote new step = is_same m new (export_call name) (refused refusals.OutOfMemory) refl step.1.1
-one_step s m (export_call name) (refused refusals.Device) wrote new step = is_halted m new (export_call name) (refused refusals.Device) refl refl step.2
+one_step s m (export_call name) (bytes_are bytes) wrote new step = is_same m new (export_call name) (bytes_are bytes) refl refl step.2.1
+one_step s m (export_call name) (refused refusals.NoTable) wrote new step = is_same m new (export_call name) (refused refusals.NoTable) refl refl step.2.1
+one_step s m (export_call name) (refused refusals.Halted) wrote new step = is_same m new (export_call name) (refused refusals.Halted) refl refl step.1.1
+one_step s m (export_call name) (refused refusals.OutOfMemory) wrote new step = is_same m new (export_call name) (refused refusals.OutOfMemory) refl refl step.1.1
+one_step s m (export_call name) (refused refusals.Device) wrote new step = is_halted m new (export_call name) (refused refusals.Device) refl refl refl step.2
 one_step s m (export_call name) _ wrote new step = absurd step
 
 -- ---- a run

@@ -1,4 +1,4 @@
-use Rattle.std.proofs.Common.{◌≡◌, ◌<◌, ◌^◌, length, ℕ, List, Some, sym, subst, string_bytes}
+use Rattle.std.proofs.Common.{◌≡◌, ◌<◌, ◌^◌, length, ℕ, List, sym, subst, string_bytes}
 use Rattle.std.specs.List.{AllByRecursion}
 use Rattle.cells.specs.Cell.{PlainTable}
 use Rattle.values.specs.TableView.{table_of}

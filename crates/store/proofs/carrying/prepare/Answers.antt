@@ -8,7 +8,7 @@ use Rattle.catalogue.specs.Entries.{segment_count}
 use Rattle.catalogue.specs.View.{catalogue_of}
 use Rattle.tables.specs.declared.refusal.Refusal.{Refusal}
 use Rattle.store.specs.Changes.{PlainChange, change_of}
-use Rattle.store.specs.Applying.{HasNext, IsCarried, outline, unplaced}
+use Rattle.store.specs.Carrying.{HasNext, IsCarried, outline, unplaced}
 use Rattle.store.specs.laws.Segments.{unplaced_number}
 use Rattle.store.proofs.Prepared.{taking_carried}
 use Rattle.store.proofs.carrying.prepare.Goals as goal

@@ -4,7 +4,7 @@ use Rattle.std.specs.List.{list_all}
 use Rattle.catalogue.specs.declared.entry.Segment.{Segment}
 use Rattle.catalogue.specs.Entries.{is_segment}
 use Rattle.store.specs.Changes.{PlainChange, change_of}
-use Rattle.store.specs.Applying.{unplaced}
+use Rattle.store.specs.Carrying.{unplaced}
 use Rattle.store.specs.laws.Segments.{are_streams, unplaced_sound}
 use Rattle.store.proofs.carrying.text_size.Goals as goal
 

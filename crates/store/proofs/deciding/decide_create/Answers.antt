@@ -3,26 +3,11 @@ use Rattle.std.proofs.lemmas.Result.{err_from_is_err_and}
 use Rattle.arrow_schema.specs.View.{schema_of}
 use Rattle.catalogue.specs.View.{catalogue_of}
 use Rattle.tables.specs.Commands.{create}
-use Rattle.store.specs.Applying.{Decides}
 use Rattle.store.specs.Changes.{PlainChange}
 use Rattle.store.specs.Deciding.{IsAnswered}
 use Rattle.store.specs.Deciding.{create_tests}
-use Rattle.store.proofs.Tested.{create_refused, create_decided, empty_rows}
 use Rattle.store.proofs.Decided.{create_answers}
 use Rattle.store.proofs.deciding.decide_create.Goals as goal
-
-pub returns-in_err-test_create-clause-decides : goal.returns-in_err-test_create-clause-decides
-returns-in_err-test_create-clause-decides c = λ t lists.
-    let p = err_from_is_err_and c.from_residual.result c.from_residual.ensures.1 in
-    rw (p.1, p.2)
-    (create_refused (catalogue_of c.args.catalogue.now) t (string_bytes c.args.new.name) (schema_of c.args.new.schema) _ lists
-    (sym (ap (create_tests (catalogue_of c.args.catalogue.now)) c.deref.ensures) ∙ c.in_err-test_create.ensures.test))
-
-pub returns-clause-decides : goal.returns-clause-decides
-returns-clause-decides c = λ t lists.
-    subst (λ (x : PlainChange). Decides t (create (string_bytes c.args.new.name) (schema_of c.args.new.schema)) (Ok x)) (sym c.change_of_names.ensures)
-    (create_decided (catalogue_of c.args.catalogue.now) t (string_bytes c.args.new.name) (schema_of c.args.new.schema) lists
-    (sym (ap (create_tests (catalogue_of c.args.catalogue.now)) c.deref.ensures) ∙ c.in_ok-test_create.ensures.test) (empty_rows (schema_of c.args.new.schema)))
 
 pub returns-in_err-test_create-clause-answers : goal.returns-in_err-test_create-clause-answers
 returns-in_err-test_create-clause-answers c = λ tells image.

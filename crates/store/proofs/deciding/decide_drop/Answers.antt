@@ -2,30 +2,16 @@ use Rattle.std.proofs.Common.{Ok, ap, sym, ◌∙◌, subst, string_bytes}
 use Rattle.std.proofs.lemmas.Result.{err_from_is_err_and}
 use Rattle.catalogue.specs.View.{catalogue_of}
 use Rattle.tables.specs.Commands.{drop_table}
-use Rattle.store.specs.Applying.{Decides}
 use Rattle.store.specs.Changes.{PlainChange, IsChange}
 use Rattle.store.specs.Deciding.{missing_in, IsAnswered}
-use Rattle.store.proofs.Tested.{drop_refused, drop_is_change, drop_decided}
+use Rattle.store.proofs.Tested.{drop_is_change}
 use Rattle.store.proofs.Decided.{drop_answers}
 use Rattle.store.proofs.deciding.decide_drop.Goals as goal
-
-pub returns-in_err-test_there-clause-decides : goal.returns-in_err-test_there-clause-decides
-returns-in_err-test_there-clause-decides c = λ t lists.
-    let p = err_from_is_err_and c.from_residual.result c.from_residual.ensures.1 in
-    rw (p.1, p.2)
-    (drop_refused (catalogue_of c.args.catalogue.now) t (string_bytes c.args.name) _ lists
-    (sym (ap (missing_in (catalogue_of c.args.catalogue.now)) c.deref.ensures) ∙ c.in_err-test_there.ensures))
 
 pub returns-clause-ok : goal.returns-clause-ok
 returns-clause-ok c =
     subst (IsChange (catalogue_of c.args.catalogue.now)) (sym c.change_of_names.ensures)
     (drop_is_change (catalogue_of c.args.catalogue.now) (string_bytes c.args.name)
-    (sym (ap (missing_in (catalogue_of c.args.catalogue.now)) c.deref.ensures) ∙ c.in_ok-test_there.ensures))
-
-pub returns-clause-decides : goal.returns-clause-decides
-returns-clause-decides c = λ t lists.
-    subst (λ (x : PlainChange). Decides t (drop_table (string_bytes c.args.name)) (Ok x)) (sym c.change_of_names.ensures)
-    (drop_decided (catalogue_of c.args.catalogue.now) t (string_bytes c.args.name) lists
     (sym (ap (missing_in (catalogue_of c.args.catalogue.now)) c.deref.ensures) ∙ c.in_ok-test_there.ensures))
 
 pub returns-in_err-test_there-clause-answers : goal.returns-in_err-test_there-clause-answers

@@ -2,21 +2,11 @@ use Rattle.std.proofs.Common.{◌≡◌, None, Ok, sym, ◌∙◌, subst, string
 use Rattle.std.proofs.lemmas.Result.{err_from_is_err_and}
 use Rattle.catalogue.specs.View.{catalogue_of}
 use Rattle.tables.specs.Commands.{rename}
-use Rattle.store.specs.Applying.{Decides}
 use Rattle.store.specs.Changes.{PlainChange, IsChange}
 use Rattle.store.specs.Deciding.{rename_tests, IsAnswered}
-use Rattle.store.proofs.Tested.{rename_refused, rename_passed, rename_is_change, rename_decided}
+use Rattle.store.proofs.Tested.{rename_passed, rename_is_change}
 use Rattle.store.proofs.Decided.{rename_answers}
 use Rattle.store.proofs.deciding.decide_rename.Goals as goal
-
-pub returns-in_err-test_rename-clause-decides : goal.returns-in_err-test_rename-clause-decides
-returns-in_err-test_rename-clause-decides c = λ t lists.
-    let tested : rename_tests (catalogue_of c.args.catalogue.now) c.deref.result.now c.deref-2.result.now ≡ rename_tests (catalogue_of c.args.catalogue.now) (string_bytes c.args.from) (string_bytes c.args.to) =
-    λ i. rename_tests (catalogue_of c.args.catalogue.now) (c.deref.ensures i) (c.deref-2.ensures i) in
-    let p = err_from_is_err_and c.from_residual.result c.from_residual.ensures.1 in
-    rw (p.1, p.2)
-    (rename_refused (catalogue_of c.args.catalogue.now) t (string_bytes c.args.from) (string_bytes c.args.to) _ lists
-    (sym tested ∙ c.in_err-test_rename.ensures))
 
 pub returns-clause-ok : goal.returns-clause-ok
 returns-clause-ok c =
@@ -25,14 +15,6 @@ returns-clause-ok c =
     let none : rename_tests (catalogue_of c.args.catalogue.now) (string_bytes c.args.from) (string_bytes c.args.to) ≡ None = sym tested ∙ c.in_ok-test_rename.ensures in
     subst (IsChange (catalogue_of c.args.catalogue.now)) (sym c.change_of_names.ensures)
     (rename_is_change (catalogue_of c.args.catalogue.now) (string_bytes c.args.from) (string_bytes c.args.to) (rename_passed _ _ _ none))
-
-pub returns-clause-decides : goal.returns-clause-decides
-returns-clause-decides c = λ t lists.
-    let tested : rename_tests (catalogue_of c.args.catalogue.now) c.deref.result.now c.deref-2.result.now ≡ rename_tests (catalogue_of c.args.catalogue.now) (string_bytes c.args.from) (string_bytes c.args.to) =
-    λ i. rename_tests (catalogue_of c.args.catalogue.now) (c.deref.ensures i) (c.deref-2.ensures i) in
-    let none : rename_tests (catalogue_of c.args.catalogue.now) (string_bytes c.args.from) (string_bytes c.args.to) ≡ None = sym tested ∙ c.in_ok-test_rename.ensures in
-    subst (λ (x : PlainChange). Decides t (rename (string_bytes c.args.from) (string_bytes c.args.to)) (Ok x)) (sym c.change_of_names.ensures)
-    (rename_decided (catalogue_of c.args.catalogue.now) t (string_bytes c.args.from) (string_bytes c.args.to) lists (rename_passed _ _ _ none))
 
 pub returns-in_err-test_rename-clause-answers : goal.returns-in_err-test_rename-clause-answers
 returns-in_err-test_rename-clause-answers c = λ tells image.

@@ -1,6 +1,6 @@
 use Rattle.std.proofs.Common.{◌≡◌, ◌++◌, ℕ, drop, map}
 use Rattle.std.specs.Global.{Vec}
-use Rattle.store.specs.Applying.{unplaced}
+use Rattle.store.specs.Carrying.{unplaced}
 use Rattle.store.proofs.editing.unplaced.Given as goal
 
 abbrev pub invariant-loop-place : goal.invariant-loop-place

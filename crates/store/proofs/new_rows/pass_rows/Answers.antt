@@ -1,16 +1,13 @@
-use Rattle.std.proofs.Common.{◌≡◌, ◌≤◌, ℕ, List, Result, Ok, Err, inr, sym, ap, ◌∙◌, subst, map, arith}
+use Rattle.std.proofs.Common.{◌≡◌, List, Ok, Err, inr, sym, ap, ◌∙◌, subst, map, arith}
 use Rattle.arrow_schema.specs.Column.{PlainSchema}
 use Rattle.cells.specs.Cell.{Cell, PlainTable}
 use Rattle.cells.specs.Row.{row_of}
 use Rattle.cells.specs.Weight.{table_weight, capped_weight}
-use Rattle.cells.specs.declared.limits.TheConstants.{MAX_TABLE_WEIGHT}
-use Rattle.values.specs.Table.{Refusal, IsTable, unfit, too_heavy, table_from}
+use Rattle.values.specs.Table.{IsTable, unfit, too_heavy, table_from}
 use Rattle.values.specs.TableView.{table_of, Reports}
 use Rattle.values.specs.declared.errors.TableError.{TableError}
 use Rattle.catalogue.specs.Entries.{PlainEntry, plain_entry}
 use Rattle.store.specs.Changes.{rows_under}
-use Rattle.store.specs.Deciding.{Addition}
-use Rattle.tables.specs.declared.refusal.Refusal.{Refusal as Told}
 use Rattle.store.proofs.GivenRows.{made_by, heavy_by, unfit_by, given_fit, given_unfit}
 use Rattle.store.proofs.new_rows.pass_rows.Goals as goal
 

@@ -4,7 +4,6 @@ use Rattle.std.proofs.Common.{◌≡◌, ◌++◌, true, length, drop, Ok, refl,
 use Rattle.std.proofs.lemmas.Slice.Eq.{starts_is}
 use Rattle.std.proofs.lemmas.Bool.Decides.{Decides-eqb}
 use Rattle.facts.specs.laws.Checks.{unless_passed}
-use Rattle.arrow_schema.specs.Column.{PlainSchema}
 use Rattle.ipc_message.specs.Checks.{schema_checks, checked_schema}
 use Rattle.ipc_message.specs.Convert.{plain_schema_of}
 use Rattle.ipc_message.specs.Framing.{Envelope, next_message, message, first_some}

@@ -1,6 +1,6 @@
-use Rattle.std.proofs.Common.{◌≡◌, ◌≤◌, ◌++◌, List, sym, ap, ◌∙◌, subst, arith}
+use Rattle.std.proofs.Common.{◌≤◌, ◌++◌, List, sym, ap, ◌∙◌, subst, arith}
 use Rattle.arrow_schema.specs.View.{schema_of}
-use Rattle.cells.specs.Cell.{Cell, PlainTable}
+use Rattle.cells.specs.Cell.{Cell}
 use Rattle.cells.specs.Weight.{table_weight}
 use Rattle.cells.specs.declared.limits.TheConstants.{MAX_TABLE_WEIGHT}
 use Rattle.values.specs.Parts.{parts_table}

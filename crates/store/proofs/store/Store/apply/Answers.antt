@@ -1,7 +1,7 @@
-use Rattle.std.proofs.Common.{◌≡◌, ◌≢◌, true, false, Some, Ok, Err, refl, sym, ap, ◌∙◌, subst}
+use Rattle.std.proofs.Common.{◌≡◌, ◌≢◌, Bool, true, false, Some, Ok, Err, refl, sym, ap, ◌∙◌, subst}
 use Rattle.sector_dev.specs.Disk.{Story, now, shown_image}
 use Rattle.sector_dev.specs.Time.{OnlyReads}
-use Rattle.tables.specs.declared.refusal.Refusal.{Refusal}
+use Rattle.catalogue.specs.laws.Kept.{catalogue_is}
 use Rattle.tables.specs.declared.refusal.Refusal.TheVariants as refusals
 use Rattle.tables.specs.View.{command_of}
 use Rattle.store.specs.Calls.{done, refused}
@@ -9,12 +9,12 @@ use Rattle.store.specs.Changes.{change_of}
 use Rattle.store.specs.Held.{tables_held}
 use Rattle.store.specs.Machine.{tables_now}
 use Rattle.store.specs.Fits.{setting_of, listed_in}
-use Rattle.store.specs.Applying.{IsKept, reads_device, reply_of}
-use Rattle.store.specs.Reading.{ended}
+use Rattle.store.specs.Applying.{IsKept, reply_of}
+use Rattle.store.specs.Deciding.{IsAnswered, reads_device}
 use Rattle.store.proofs.Decided.{is_change, with_ok}
 use Rattle.store.proofs.Asked.{is_running}
 use Rattle.store.proofs.ReadsStore.{shown, fits_reading}
-use Rattle.store.proofs.Applied.{refuses_first, refuses_halted, goes_after, tells_command, err_weaker, ends_after, kept_after, on_disk_after, decided_after, stood, writes_after, written_after, read_kept, read_halts}
+use Rattle.store.proofs.Applied.{change_verdict, refuses_first, refuses_halted, goes_after, tells_command, err_weaker, ends_after, kept_after, on_disk_after, decided_after, stood, writes_after, written_after, read_kept, read_halts}
 use Rattle.store.proofs.store.Store.apply.Goals as goal
 
 pub returns-then-self-clause-goes : goal.returns-then-self-clause-goes
@@ -32,10 +32,15 @@ returns-in-Ok-clause-goes g c = λ told base m fits.
     let t = tables_now (setting_of (D.size old.device) base) m in
     let held : tables_held (shown_image (now (D.story old.device))) (listed_in old) ≡ Some t =
     ap (λ i. tables_held i (listed_in old)) (shown D.size D.story D.failed base m D.tells told old mid fits runs) ∙ sound.tables in
-    let decided = c.in-Ok.ensures.decides told t held in
+    let image = shown_image (now (D.story old.device)) in
+    let answers = subst (λ (b : Bool). IsAnswered b image (listed_in old) cmd (Ok (change_of c.in-Ok.change))) told c.in-Ok.ensures.answers in
+    let decided = change_verdict t cmd (change_of c.in-Ok.change)
+    (c.decisions_are_verdicts.ensures.answered image (listed_in old) t cmd (Ok (change_of c.in-Ok.change)) (catalogue_is (listed_in old) old.opened.catalogue.list.kept) held c.commands_bring_tables.ensures answers) in
     let there = fits_reading D.size D.story D.failed base m D.tells told old mid fits done refl c.in-Ok.ensures.reads in
     goes_after D.size D.story D.failed base m cmd D.tells told old mid c.carry_out.new.self done (reply_of c.carry_out.result) refl fits c.in-Ok.ensures.reads
-    (tells_command (setting_of (D.size old.device) base) (now (D.story old.device)) c.carry_out.result) (c.carry_out.ensures.goes told base m cmd decided.0 there runs decided.1 decided.2)
+    (tells_command (setting_of (D.size old.device) base) (now (D.story old.device)) c.carry_out.result) (c.carry_out.ensures.goes told base m cmd decided.0 there runs decided.1 decided.2
+    (decided_after D.size D.story D.failed D.tells old mid done c.in-Ok.ensures.reads told cmd (change_of c.in-Ok.change)
+    (is_change D.tells (shown_image (now (D.story old.device))) (listed_in old) cmd (change_of c.in-Ok.change) told c.in-Ok.ensures.answers)))
 
 pub returns-in-Err-clause-goes : goal.returns-in-Err-clause-goes
 returns-in-Err-clause-goes g c = λ told base m fits.
@@ -45,9 +50,12 @@ returns-in-Err-clause-goes g c = λ told base m fits.
     let runs = is_running m.phase old.halted fits.phase c.if-self.false in
     let sound = fits.sound runs in
     let t = tables_now (setting_of (D.size old.device) base) m in
-    let held : tables_held (shown_image (now (D.story old.device))) (listed_in old) ≡ Some t =
-    ap (λ i. tables_held i (listed_in old)) (shown D.size D.story D.failed base m D.tells told old mid fits runs) ∙ sound.tables in
-    refuses_first D.size D.story D.failed base m (command_of c.args.command) D.tells told c.in-Err.refusal old mid c.if-self.false fits c.in-Err.ensures.reads (c.in-Err.ensures.decides told t held)
+    let cmd = command_of c.args.command in
+    let image = shown_image (now (D.story old.device)) in
+    let held : tables_held image (listed_in old) ≡ Some t = ap (λ i. tables_held i (listed_in old)) (shown D.size D.story D.failed base m D.tells told old mid fits runs) ∙ sound.tables in
+    let answers = subst (λ (b : Bool). IsAnswered b image (listed_in old) cmd (Err c.in-Err.refusal)) told c.in-Err.ensures.answers in
+    refuses_first D.size D.story D.failed base m cmd D.tells told c.in-Err.refusal old mid c.if-self.false fits c.in-Err.ensures.reads
+    (c.decisions_are_verdicts.ensures.answered image (listed_in old) t cmd (Err c.in-Err.refusal) (catalogue_is (listed_in old) old.opened.catalogue.list.kept) held c.commands_bring_tables.ensures answers)
 
 pub returns-in-Ok-clause-applied : goal.returns-in-Ok-clause-applied
 returns-in-Ok-clause-applied g c = λ on.

@@ -14,7 +14,7 @@ use Rattle.catalogue.specs.laws.Kept.{catalogue_is}
 use Rattle.commit.specs.declared.sector.Commit.{Commit}
 use Rattle.commit.specs.Placing.{Uses, Takes}
 use Rattle.commit.specs.Replacing.{StandsAs}
-use Rattle.commit.specs.Standing.{is_size, is_on_device, runs_fault}
+use Rattle.commit.specs.Standing.{is_size, is_on_device, runs_fault, standing}
 use Rattle.commit.specs.laws.Taking.{GivesAll, took_takes}
 use Rattle.store.specs.declared.stored.StoredCatalogue.{StoredCatalogue}
 use Rattle.store.specs.Calls.{apply_call}
@@ -22,13 +22,16 @@ use Rattle.store.specs.Machine.{halted, running, has_written, settle, halt, Allo
 use Rattle.store.specs.Held.{whole_reading, tables_held}
 use Rattle.store.specs.Fits.{listed_in, setting_of}
 use Rattle.store.specs.Changes.{PlainChange, change_of}
-use Rattle.store.specs.Applying.{IsCarried, asked_sizes, IsOldOrDone}
+use Rattle.store.specs.Applying.{IsOldOrDone}
+use Rattle.store.specs.Carrying.{IsCarried, asked_sizes}
+use Rattle.store.proofs.ReadsStore.{shown_is_synced}
+use Rattle.store.proofs.Roomed.{carried_out, refused_out}
 use Rattle.store.proofs.Prepared.{failed_usages, placed_then, fit_then, uses_then}
 use Rattle.store.proofs.Carried.{refused_goes, failed_goes, done_goes, new_after, synced_outside, stands_then, can_publish, images, has_done, writes}
 use Rattle.store.proofs.store.Store.carry_out.Goals as goal
 
 pub returns-in_err-prepared-clause-goes : goal.returns-in_err-prepared-clause-goes
-returns-in_err-prepared-clause-goes g c = λ told base m cmd new fits on makes mk.
+returns-in_err-prepared-clause-goes g c = λ told base m cmd new fits on makes mk decided.
     let D = g.D.SectorDevice in
     let s = c.args.self.now in
     let change : PlainChange = change_of c.args.change in
@@ -38,7 +41,8 @@ returns-in_err-prepared-clause-goes g c = λ told base m cmd new fits on makes m
     rw (p.1, p.2) (record {
       next = m;
       same = refl;
-      goes = refused_goes (D.size s.device) base m cmd new on makes s.opened.commit (listed_in s) (IsUsedIn s.opened.map.entries) change (D.story s.device) (D.failed s.device) r fits.device.allows carried c.in_err-prepared.ensures.device;
+      goes = refused_goes (D.size s.device) base m cmd new on makes s.opened.commit (listed_in s) (IsUsedIn s.opened.map.entries) change (D.story s.device) (D.failed s.device) r fits.device.allows carried c.in_err-prepared.ensures.device
+          (refused_out D.size D.story base m s (fits.sound on) cmd change r decided carried);
       fits = record {
         phase = fits.phase;
         started = fits.started;
@@ -114,7 +118,7 @@ returns-in-Ok-clause-carried g c =
     )
 
 pub returns-in-Ok-clause-goes : goal.returns-in-Ok-clause-goes
-returns-in-Ok-clause-goes g c = λ told base m cmd new fits run makes mk.
+returns-in-Ok-clause-goes g c = λ told base m cmd new fits run makes mk decided.
     let D = g.D.SectorDevice in
     let s = c.args.self.now in
     let s0 = D.story s.device in
@@ -138,9 +142,15 @@ returns-in-Ok-clause-goes g c = λ told base m cmd new fits run makes mk.
     let im = images base m s mid change plan back new prep c.requires.sound (fits.sound run) mk in
     let p = c.in-Ok.ensures.published told im.can in
     let outside = synced_outside plan.commit plan.pieces.items (now s0) (now s1) p.touches in
+    let sizes = asked_sizes listed change in
+    let takes = took_takes old.size (IsUsedIn old.entries) sizes (runs_of prep.pieces ++ prep.run ∷ []) prep.took.took in
+    let taken = subst (λ (n : ℕ). Takes n (IsUsedIn old.entries) sizes (Ok (runs_of prep.pieces ++ prep.run ∷ []))) s.same takes in
+    let ended = carried_out D.size D.story base m s (fits.sound run) cmd change (Ok tt) plan.commit will (now s1) decided
+    (ap (standing whole_reading size) (shown_is_synced (now s1) p.quiet.shown) ∙ p.stands)
+    (prep.next, prep.few, (runs_of prep.pieces, prep.run, taken, prep.catalogue, prep.commit)) in
     let goes = done_goes size base m cmd new run makes s0 s1 plan.commit plan.pieces.items (StandsAs whole_reading size k listed) (StandsAs whole_reading size plan.commit will) fits.device.allows
     im.olds (λ image is. im.news image is.outside) (c.publish.ensures.moments told im.can)
-    (D.failed s.device) (D.failed c.publish.new.device) c.in-Ok.ensures.count p (im.news (synced_image (now s1)) outside p.stands p.holds) in
+    (D.failed s.device) (D.failed c.publish.new.device) c.in-Ok.ensures.count p (im.news (synced_image (now s1)) outside p.stands p.holds) ended in
     record {
       next = settle cmd m;
       same = sized;
@@ -168,7 +178,7 @@ returns-in-Ok-clause-goes g c = λ told base m cmd new fits run makes mk.
     }
 
 pub returns-in-Err-clause-goes : goal.returns-in-Err-clause-goes
-returns-in-Err-clause-goes g c = λ told base m cmd new fits run makes mk.
+returns-in-Err-clause-goes g c = λ told base m cmd new fits run makes mk decided.
     let D = g.D.SectorDevice in
     let s = c.args.self.now in
     let s0 = D.story s.device in

@@ -1,12 +1,9 @@
-use Rattle.std.proofs.Common.{◌≡◌, List, ℕ, Some, None, sym, ap, ◌∙◌, string_bytes}
-use Rattle.sector_dev.specs.Disk.{now, shown_image}
+use Rattle.std.proofs.Common.{◌≡◌, Some, sym, ap, ◌∙◌, string_bytes}
 use Rattle.catalogue.specs.Edits.{entry_of}
 use Rattle.catalogue.specs.Entries.{is_entry, plain_entry, runs_of}
 use Rattle.catalogue.specs.laws.Changed.{found_passes}
 use Rattle.commit.specs.laws.Frame.{fault_none}
 use Rattle.store.specs.Fits.{listed_in}
-use Rattle.store.specs.inner.Tests.{decision_of}
-use Rattle.store.proofs.Decided.{no_source_answers, saved_answers}
 use Rattle.store.proofs.ReadTables.{runs_on_device}
 use Rattle.store.proofs.store.Store.decide_save.Goals as goal
 

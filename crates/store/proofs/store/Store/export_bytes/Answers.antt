@@ -21,7 +21,7 @@ returns-in-Ok-encode-clause-goes g c = λ told base m fits.
     let t = table_of c.in-Ok.table in
     let found = found_table D.size D.story D.failed base m D.tells told old c.read_named.new.self fits name t c.in-Ok.ensures.found in
     let means : meaning supported_codes c.in-Ok-encode.bytes.items ≡ Ok t = ap (meaning supported_codes) c.in-Ok-encode.ensures ∙ c.canonical_means_its_table.ensures t c.in-Ok.ensures.kept in
-    stays_reading D.size D.story D.failed base m D.tells told old c.read_named.new.self fits (export_call name) (bytes_are c.in-Ok-encode.bytes.items) done refl refl tt (found.0, (t, found.1, means), (refl, refl)) c.in-Ok.ensures.reads
+    stays_reading D.size D.story D.failed base m D.tells told old c.read_named.new.self fits (export_call name) (bytes_are c.in-Ok-encode.bytes.items) done refl refl tt tt (found.0, (t, found.1, means), (refl, refl)) c.in-Ok.ensures.reads
 
 pub returns-in-Ok-clause-refused : goal.returns-in-Ok-clause-refused
 returns-in-Ok-clause-refused g c = λ told base m fits.
@@ -29,7 +29,7 @@ returns-in-Ok-clause-refused g c = λ told base m fits.
     let old = c.args.self.now in
     let name = c.args.name.now in
     let found = found_table D.size D.story D.failed base m D.tells told old c.read_named.new.self fits name (table_of c.in-Ok.table) c.in-Ok.ensures.found in
-    stays_reading D.size D.story D.failed base m D.tells told old c.read_named.new.self fits (export_call name) (refused OutOfMemory) done refl refl tt (export_step _ m name OutOfMemory m (found.0, (refl, refl))) c.in-Ok.ensures.reads
+    stays_reading D.size D.story D.failed base m D.tells told old c.read_named.new.self fits (export_call name) (refused OutOfMemory) done refl refl tt tt (export_step _ m name OutOfMemory m (found.0, (refl, refl))) c.in-Ok.ensures.reads
 
 pub returns-clause-refused : goal.returns-clause-refused
 returns-clause-refused g c = λ told base m fits.

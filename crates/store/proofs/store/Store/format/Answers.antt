@@ -13,9 +13,9 @@ use Rattle.catalogue.specs.Entries.{PlainCatalogue, runs_of}
 use Rattle.catalogue.specs.View.{catalogue_of}
 use Rattle.store.specs.declared.opening_refusal.OpeningRefusal.{OpeningRefusal}
 use Rattle.tables.specs.Tables.{no_tables}
-use Rattle.store.specs.Calls.{format_call, shut_by}
+use Rattle.store.specs.Calls.{format_call, shut_by, counted}
 use Rattle.store.specs.Machine.{opened, shut_down, Allows}
-use Rattle.store.specs.Runs.{Goes, counted}
+use Rattle.store.specs.Runs.{Goes}
 use Rattle.store.specs.Held.{whole_reading, tables_held}
 use Rattle.store.specs.Fits.{setting_of, fresh}
 use Rattle.store.specs.Opening.{formatting_of, TellsFormatting}

@@ -5,9 +5,9 @@ use Rattle.commit.specs.Standing.{is_size, Stands}
 use Rattle.commit.specs.Opening.{standing_shown}
 use Rattle.catalogue.specs.View.{catalogue_of}
 use Rattle.store.specs.declared.opening_refusal.OpeningRefusal.{OpeningRefusal}
-use Rattle.store.specs.Calls.{open_call, shut_by}
+use Rattle.store.specs.Calls.{open_call, shut_by, counted}
 use Rattle.store.specs.Machine.{shut_down, Allows}
-use Rattle.store.specs.Runs.{Goes, counted}
+use Rattle.store.specs.Runs.{Goes}
 use Rattle.store.specs.Held.{whole_reading}
 use Rattle.store.specs.Fits.{setting_of}
 use Rattle.store.specs.Opening.{opening_of, TellsOpening}

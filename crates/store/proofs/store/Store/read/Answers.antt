@@ -15,7 +15,7 @@ returns-in-Ok-clause-goes g c = λ told base m fits.
     let old = c.args.self.now in
     let name = c.args.name.now in
     let found = found_table D.size D.story D.failed base m D.tells told old c.read_named.new.self fits name (table_of c.in-Ok.table) c.in-Ok.ensures.found in
-    stays_reading D.size D.story D.failed base m D.tells told old c.read_named.new.self fits (read_call name) (table_is (table_of c.in-Ok.table)) done refl refl tt (found.0, found.1, (refl, refl)) c.in-Ok.ensures.reads
+    stays_reading D.size D.story D.failed base m D.tells told old c.read_named.new.self fits (read_call name) (table_is (table_of c.in-Ok.table)) done refl refl tt tt (found.0, found.1, (refl, refl)) c.in-Ok.ensures.reads
 
 pub returns-in-Err-clause-refused : goal.returns-in-Err-clause-refused
 returns-in-Err-clause-refused g c = λ told base m fits.

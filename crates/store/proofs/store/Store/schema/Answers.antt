@@ -22,7 +22,7 @@ returns-in_err-list-clause-refused g c =
     let store = c.args.self.now in
     let p = err_from_is_err_and c.from_residual.result c.from_residual.ensures.1 in
     told_of c.from_residual.result Halted _ (p.1 ∙ ap Err p.2 ∙ ap Err c.in_err-list.ensures.0) (λ told base m fits.
-    still D.size D.story D.failed base m (schema_call c.args.name.now) (refused Halted) store (not_running m.phase store.halted fits.phase c.in_err-list.ensures.1, (refl, refl)) refl fits tt)
+    still D.size D.story D.failed base m (schema_call c.args.name.now) (refused Halted) store (not_running m.phase store.halted fits.phase c.in_err-list.ensures.1, (refl, refl)) refl fits tt tt)
 
 pub returns-in_ok-copy-in-Some-clause-goes : goal.returns-in_ok-copy-in-Some-clause-goes
 unfolding Step
@@ -36,7 +36,7 @@ returns-in_ok-copy-in-Some-clause-goes g c = λ told base m fits.
     let own = entry_has image (listed_in store) (after base m.settled) (fits.sound on).tables c.args.name.now e found in
     let has = held_has image e own.0 own.1 in
     still D.size D.story D.failed base m (schema_call c.args.name.now) (schema_is _) store
-    (on, (own.0, own.2, c.in_ok-copy-in-Some.ensures ∙ sym (ap (λ (t : PlainTable). t.schema) has.2)), (refl, refl)) refl fits tt
+    (on, (own.0, own.2, c.in_ok-copy-in-Some.ensures ∙ sym (ap (λ (t : PlainTable). t.schema) has.2)), (refl, refl)) refl fits tt tt
 
 pub returns-in_err-copy-in-Some-clause-refused : goal.returns-in_err-copy-in-Some-clause-refused
 unfolding Step
@@ -45,7 +45,7 @@ returns-in_err-copy-in-Some-clause-refused g c =
     let store = c.args.self.now in
     let p = err_from_is_err_and c.from_residual-in_err-copy-in-Some.result c.from_residual-in_err-copy-in-Some.ensures.1 in
     told_of c.from_residual-in_err-copy-in-Some.result OutOfMemory _ (p.1 ∙ ap Err p.2) (λ told base m fits.
-    still D.size D.story D.failed base m (schema_call c.args.name.now) (refused OutOfMemory) store (is_running m.phase store.halted fits.phase c.in_ok-list.ensures.1, (refl, refl)) refl fits tt)
+    still D.size D.story D.failed base m (schema_call c.args.name.now) (refused OutOfMemory) store (is_running m.phase store.halted fits.phase c.in_ok-list.ensures.1, (refl, refl)) refl fits tt tt)
 
 pub returns-in-None-clause-refused : goal.returns-in-None-clause-refused
 unfolding Step
@@ -55,4 +55,4 @@ returns-in-None-clause-refused g c = λ told base m fits.
     let on = is_running m.phase store.halted fits.phase c.in_ok-list.ensures.1 in
     let absent : entry_of (listed_in store) c.args.name.now ≡ None = sym (c.in-None.ensures.entry ∙ ap (λ (list : Catalogue). entry_of (catalogue_of list) c.args.name.now) c.in_ok-list.ensures.0) in
     let none = entry_lacks (synced_image (now (D.story store.device))) (listed_in store) (after base m.settled) (fits.sound on).tables c.args.name.now absent in
-    still D.size D.story D.failed base m (schema_call c.args.name.now) (refused NoTable) store (on, none, (refl, refl)) refl fits tt
+    still D.size D.story D.failed base m (schema_call c.args.name.now) (refused NoTable) store (on, none, (refl, refl)) refl fits tt tt

@@ -1,0 +1,65 @@
+-- A command ends by what stood on the disk when it was called: its commit, its catalogue and the runs that they use.
+use Rattle.std.specs.Prelude.{◌||◌}
+use Rattle.std.proofs.Common.{◌≡◌, ℕ, Bool, true, false, Result, Ok, Err, refl, ap, ◌∙◌, subst}
+use Rattle.sector_dev.specs.Disk.{Disk, Story, now, shown_image}
+use Rattle.sector_dev.specs.declared.device.SectorDevice.{Ghosts}
+use Rattle.segments.specs.declared.run.Run.{Run}
+use Rattle.segments.specs.Usages.{is_used, usage_of, IsUsedIn}
+use Rattle.catalogue.specs.Entries.{PlainCatalogue}
+use Rattle.commit.specs.declared.sector.Commit.{Commit}
+use Rattle.commit.specs.Placing.{is_among}
+use Rattle.commit.specs.Standing.{rules, standing, used_runs}
+use Rattle.tables.specs.declared.refusal.Refusal.{Refusal}
+use Rattle.tables.specs.Refusals.{Origin, by_tables, by_room, by_memory, by_device, by_halt, elsewhere}
+use Rattle.tables.specs.Tables.{Tables}
+use Rattle.tables.specs.Commands.{PlainCommand}
+use Rattle.store.specs.declared.store.Store.{Store}
+use Rattle.store.specs.Machine.{Machine}
+use Rattle.store.specs.Held.{whole_reading}
+use Rattle.store.specs.Runs.{RoomFrom}
+use Rattle.store.specs.Fits.{listed_in, IsSound}
+use Rattle.store.specs.Changes.{PlainChange}
+use Rattle.store.specs.Deciding.{IsDecided}
+use Rattle.store.specs.Carrying.{IsCarried, IsCarriedOut}
+use Rattle.store.proofs.ReadsStore.{shown_is_synced}
+
+pub room_by : (o : Origin) (size : ℕ) (before after : Disk) (c : PlainCommand) (r : Refusal) → IsCarriedOut size before after c (Err r) → RoomFrom o size before after c r
+room_by by_tables size before after c r ended = tt
+room_by by_room size before after c r ended = ended
+room_by by_memory size before after c r ended = tt
+room_by by_device size before after c r ended = tt
+room_by by_halt size before after c r ended = tt
+room_by elsewhere size before after c r ended = tt
+
+or_no : (b : Bool) → (b || false) ≡ b
+or_no true = refl
+or_no false = refl
+
+module _ {D : Type 0} {g : Ghosts D} (size : D → ℕ) (story : D → Story) (base : Tables) (m : Machine) (store : Store D g) (sound : IsSound size story base m store) where
+  -- the runs in use are those of the commit and its catalogue
+  same_used : (run : Run) → is_used (usage_of store.opened.map.entries run) ≡ is_among (used_runs whole_reading store.opened.commit (listed_in store)) run
+  same_used run = ap is_used (sound.uses run) ∙ or_no (is_among (used_runs whole_reading store.opened.commit (listed_in store)) run)
+
+  pub carried_out : (c : PlainCommand) (change : PlainChange) (result : Result (Unit {0}) Refusal) (k' : Commit) (c' : PlainCatalogue) (after : Disk)
+      → IsDecided true (shown_image (now (story store.device))) (listed_in store) c (Ok change) → standing whole_reading (size store.device) (shown_image after) ≡ rules k' c'
+      → IsCarried (size store.device) (IsUsedIn store.opened.map.entries) store.opened.commit (listed_in store) change result k' c' → IsCarriedOut (size store.device) (now (story store.device)) after c result
+  carried_out c change result k' c' after decided stands carried = record {
+    commit = store.opened.commit;
+    catalogue = listed_in store;
+    stood = ap (standing whole_reading (size store.device)) (shown_is_synced (now (story store.device)) sound.stands.quiet.shown) ∙ sound.stands.found;
+    change = change;
+    decides = decided;
+    new_commit = k';
+    new_catalogue = c';
+    stands = stands;
+    carried =
+        subst (λ (used : Run → Bool). IsCarried (size store.device) (λ run. used run ≡ true) store.opened.commit (listed_in store) change result k' c') (λ i run. same_used run i) carried;
+  }
+
+  -- where nothing has changed
+  pub refused_out : (c : PlainCommand) (change : PlainChange) (r : Refusal) → IsDecided true (shown_image (now (story store.device))) (listed_in store) c (Ok change)
+      → IsCarried (size store.device) (IsUsedIn store.opened.map.entries) store.opened.commit (listed_in store) change (Err r) store.opened.commit (listed_in store)
+      → IsCarriedOut (size store.device) (now (story store.device)) (now (story store.device)) c (Err r)
+  refused_out c change r decided carried =
+      carried_out c change (Err r) store.opened.commit (listed_in store) (now (story store.device)) decided
+      (ap (standing whole_reading (size store.device)) (shown_is_synced (now (story store.device)) sound.stands.quiet.shown) ∙ sound.stands.found) carried

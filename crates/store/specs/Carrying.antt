@@ -1,0 +1,70 @@
+-- How a change of a catalogue is carried out: which runs it asks for, and how it ends.
+use Rattle.std.specs.Prelude.{◌≡◌, ◌<◌, ◌≤◌, ◌-◌, ◌^◌, ◌++◌, ℕ, true, List, [], ◌∷◌, length, map, Result, Ok, Err}
+use Rattle.sector_dev.specs.Disk.{Disk, shown_image}
+use Rattle.segments.specs.Sectors.{sector_count}
+use Rattle.segments.specs.declared.run.Run.{Run}
+use Rattle.catalogue.specs.declared.limits.TheConstants.{MAX_SEGMENTS}
+use Rattle.catalogue.specs.declared.entry.Segment.{Segment}
+use Rattle.catalogue.specs.Entries.{PlainCatalogue, segment_count}
+use Rattle.catalogue.specs.Text.{list_size}
+use Rattle.commit.specs.declared.sector.Commit.{Commit}
+use Rattle.commit.specs.Publishing.{next_commit}
+use Rattle.commit.specs.Placing.{Takes, is_among}
+use Rattle.commit.specs.Standing.{rules, standing, used_runs}
+use Rattle.tables.specs.declared.refusal.Refusal.{Refusal}
+use Rattle.tables.specs.declared.refusal.Refusal.TheVariants as refusals
+use Rattle.tables.specs.declared.refusal.Limit.TheVariants as limits
+use Rattle.tables.specs.Commands.{PlainCommand}
+use Rattle.store.specs.Held.{whole_reading}
+use Rattle.store.specs.Changes.{PlainChange, edited, placed_segments}
+use Rattle.store.specs.Deciding.{IsDecided}
+
+-- new segments of which no place is known yet
+abbrev pub unplaced : (streams : List (List ℕ)) → (counts : List ℕ) → List Segment
+unplaced [] counts = []
+unplaced (stream ∷ streams) [] = []
+unplaced (stream ∷ streams) (count ∷ counts) =
+    record { place = record { run = record { start = 0; count = sector_count (length stream) }; bytes = length stream }; rows = count } ∷ unplaced streams counts
+
+-- the catalogue that a change makes, but for the places of its new segments
+abbrev pub outline : PlainCatalogue → PlainChange → PlainCatalogue
+outline c change = edited c change.edit (unplaced change.streams change.counts)
+
+-- the sectors that are asked for: those of each stream in order, and then those of the catalogue's text
+abbrev pub asked_sizes : PlainCatalogue → PlainChange → List ℕ
+asked_sizes c change = map (λ (stream : List ℕ). sector_count (length stream)) change.streams ++ sector_count (list_size (outline c change)) ∷ []
+
+-- an epoch behind this one has 64 bits
+abbrev pub HasNext : Commit → Type 0
+HasNext k = k.epoch < 2 ^ 64 - 1
+
+-- how a change of this catalogue ends, beside these runs in use, and which commit and catalogue rule then; each refusal has its one reason, tested in order
+abbrev pub IsCarried : (size : ℕ) → (used : Run → Type 0) → Commit → PlainCatalogue → PlainChange → Result (Unit {0}) Refusal → Commit → PlainCatalogue → Type 0
+IsCarried size used k c change (Ok unit) k' c' =
+    HasNext k × (segment_count (outline c change) ≤ MAX_SEGMENTS)
+    × ((places : List Run) × (text : Run) × Takes size used (asked_sizes c change) (Ok (places ++ text ∷ []))
+    × (c' ≡ edited c change.edit (placed_segments places change.streams change.counts))
+    × (k' ≡ next_commit k text (list_size (outline c change))))
+IsCarried size used k c change (Err (refusals.TooMany limits.Epochs)) k' c' = k.epoch ≡ 2 ^ 64 - 1
+IsCarried size used k c change (Err (refusals.TooMany limits.Segments)) k' c' = HasNext k × (MAX_SEGMENTS < segment_count (outline c change))
+IsCarried size used k c change (Err (refusals.NoRoom count)) k' c' =
+    HasNext k × (segment_count (outline c change) ≤ MAX_SEGMENTS) × Takes size used (asked_sizes c change) (Err count)
+IsCarried size used k c change (Err refusals.Device) k' c' = Unit {0}
+IsCarried size used k c change (Err refusals.OutOfMemory) k' c' = Unit {0}
+IsCarried size used k c change (Err _) k' c' = ⊥
+
+-- a run is that of the catalogue's text, or one that the catalogue names
+abbrev pub IsRuling : Commit → PlainCatalogue → Run → Type 0
+IsRuling k c run = is_among (used_runs whole_reading k c) run ≡ true
+
+-- how a command ended that is decided as a change, by what reads showed when it was called, and what they show after it
+pub record IsCarriedOut (size : ℕ) (before after : Disk) (command : PlainCommand) (result : Result (Unit {0}) Refusal) : Type 0 where
+  pub commit : Commit
+  pub catalogue : PlainCatalogue
+  pub stood : standing whole_reading size (shown_image before) ≡ rules commit catalogue
+  pub change : PlainChange
+  pub decides : IsDecided true (shown_image before) catalogue command (Ok change)
+  pub new_commit : Commit
+  pub new_catalogue : PlainCatalogue
+  pub stands : standing whole_reading size (shown_image after) ≡ rules new_commit new_catalogue
+  pub carried : IsCarried size (IsRuling commit catalogue) commit catalogue change result new_commit new_catalogue
