@@ -4,11 +4,13 @@ use Rattle.std.specs.Io.KnownBytes.{Appends}
 use Rattle.ipc_message.specs.Header.{supported_codes}
 use Rattle.ipc_stream.specs.Meaning.{meaning}
 use Rattle.arrowstore.specs.declared.input.TheConstants.{LARGEST_INPUT}
+use Rattle.arrowstore.specs.declared.refusal.Refusal.{Refusal}
+use Rattle.arrowstore.specs.declared.refusal.Refusal.TheVariants.{Io, OutOfMemory}
 use Rattle.arrowstore.specs.declared.status.Ended.{Ended}
 use Rattle.arrowstore.specs.declared.status.Status.{Status}
-use Rattle.arrowstore.specs.declared.status.Status.TheVariants.{Done, WrongArguments}
+use Rattle.arrowstore.specs.declared.status.Status.TheVariants.{Done, Refused, WrongArguments}
 use Rattle.arrowstore.specs.Recode.{AppendsCanonical, IsTrueFault}
-use Rattle.arrowstore.specs.Reported.{refusal_line, IfRefused, IsRefused}
+use Rattle.arrowstore.specs.Reported.{IfRefused, IsRefused}
 
 -- a run of `recode`, of which the input had these bytes left
 pub record Recodes {W : Type 0} (contents : W → Option (List ℕ)) (input : Option (List ℕ)) (output output' : W) (status : Status) : Type 0 where
@@ -22,13 +24,26 @@ pub record Recodes {W : Type 0} (contents : W → Option (List ℕ)) (input : Op
   -- its arguments are taken
   pub right_arguments : status ≢ WrongArguments
 
--- the line of a refusal, where standard error takes what it is given
-abbrev pub TellsRefusal : Ended → Option (List ℕ) → Option (List ℕ) → Type 0
-TellsRefusal ended errors errors' = IfRefused ended.status (λ refusal. IsTrue ended.is_reported → Appends errors errors' (refusal_line refusal))
+-- why a text of the program's own is not written: the output failed, or memory was refused
+abbrev pub IsOfOutput : Refusal → Type 0
+IsOfOutput Io = Unit {0}
+IsOfOutput OutOfMemory = Unit {0}
+IsOfOutput _ = ⊥
+
+-- a run that is asked for such a text gives it, unless its output fails or memory is refused
+abbrev pub GivesText : (given : Type 0) → Status → Type 0
+GivesText given Done = given
+GivesText given (Refused refusal) = IsOfOutput refusal
+GivesText given WrongArguments = ⊥
+
+-- what is told of a refusal, where standard error takes what it is given
+abbrev pub TellsRefusal : (tells : Refusal → List ℕ) → Ended → Option (List ℕ) → Option (List ℕ) → Type 0
+TellsRefusal tells ended errors errors' = IfRefused ended.status (λ refusal. IsTrue ended.is_reported → Appends errors errors' (tells refusal))
 
 -- a run that has ended, whatever it was asked for
-pub record HasReported {W E : Type 0} (contents : E → Option (List ℕ)) (output output' : W) (errors errors' : E) (ended : Ended) : Type 0 where
+pub record HasReported {W E : Type 0} (contents : E → Option (List ℕ)) (tells : Refusal → List ℕ)
+    (output output' : W) (errors errors' : E) (ended : Ended) : Type 0 where
   -- nothing is reported of what is done
   pub silent : ended.status ≡ Done → errors' ≡ errors
   pub nothing_written : ended.status ≡ WrongArguments → output' ≡ output
-  pub line : TellsRefusal ended (contents errors) (contents errors')
+  pub line : TellsRefusal tells ended (contents errors) (contents errors')

@@ -1,6 +1,8 @@
 pub mod Given
 pub mod Recode
+pub mod Remedies
 pub mod Reported
+pub mod Told
 pub mod Arguments
 pub mod OwnTexts
 pub mod StoreWords

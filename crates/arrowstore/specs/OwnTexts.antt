@@ -1,5 +1,5 @@
 -- Texts of the program's own: its version, and what each refusal means.
-use Rattle.std.specs.Prelude.{ℕ, Bool, ◌||◌, ◌&&◌, if◌then◌else◌, List, [], Option, Some, None, codes, slice_get}
+use Rattle.std.specs.Prelude.{ℕ, Bool, ◌||◌, ◌&&◌, if◌then◌else◌, List, [], flat_map, Option, Some, None, codes, slice_get}
 use Rattle.std.specs.Str.{bytes_eq}
 use Rattle.clap.specs.Words.{Text}
 use Rattle.arrowstore.specs.declared.own_texts.TheConstants.{VERSION, REFUSALS}
@@ -28,6 +28,10 @@ asks_refusals arguments = is_refusals_topic (word_at arguments 1) (word_at argum
 abbrev pub is_own : List Text → Bool
 is_own arguments = asks_version arguments || asks_refusals arguments
 
+-- what each refusal means, and what to do
+unfoldable pub refusals_page : Text
+refusals_page = flat_map (λ piece. piece.now) REFUSALS
+
 -- the text that they ask for
 abbrev pub own_text : List Text → Text
-own_text arguments = if asks_version arguments then VERSION.now else REFUSALS.now
+own_text arguments = if asks_version arguments then VERSION.now else refusals_page

@@ -1,9 +1,11 @@
 // What is reported of a run that was refused, of wrong arguments and of a request for help.
-ghost use Rattle.std.specs.Prelude.{◌≡◌, ◌⊎◌, IsOk, IfErr};
+ghost use Rattle.std.specs.Prelude.{◌≡◌, ◌⊎◌, None, IsOk, IfErr};
 ghost use Rattle.clap.specs.Words.{kind_of};
 ghost use Rattle.arrowstore.specs.Reported.{IsRequest, IsWrong};
 ghost use Rattle.arrowstore.specs.Ending.{TellsRefusal, HasReported};
+ghost use Rattle.arrowstore.specs.Told.{told};
 
+use crate::telling::{Audience, Word, tell};
 use crate::{Ended, Refusal, Status};
 use clap::error::ErrorKind;
 use std::io::Write;
@@ -13,15 +15,17 @@ pub(crate) fn report_arguments<W: Write, E: Write>(
     error: &clap::Error,
     output: &mut W,
     errors: &mut E,
+    audience: Audience,
 ) -> Ended
     ensures request { IsRequest (kind_of error.now) ⊎ (IsWrong result.status × (output.new ≡ output.old)) }
     ensures memory { kind_of error.now ≡ ErrorKind.OutOfMemory → (result.status ≡ Status.Refused Refusal.OutOfMemory) × (output.new ≡ output.old) }
-    ensures reports { HasReported E.contents output.old output.new errors.old errors.new result }
+    ensures reports { HasReported E.contents (told audience None) output.old output.new errors.old errors.new result }
 {
     match error.kind() {
-        ErrorKind::OutOfMemory => end(Err(Refusal::OutOfMemory), errors),
+        ErrorKind::OutOfMemory => end(Err(Refusal::OutOfMemory), None, audience, errors),
         ErrorKind::DisplayHelp | ErrorKind::DisplayVersion => {
-            end(write!(output, "{error}").map_err(|_| Refusal::Io), errors)
+            let written = write!(output, "{error}").map_err(|_| Refusal::Io);
+            end(written, None, audience, errors)
         }
         _ => Ended {
             status: Status::WrongArguments,
@@ -40,11 +44,16 @@ pub(crate) fn report_signed_number<E: Write>(errors: &mut E) -> Ended
     }
 }
 
-/// Reports a refusal on one line.
-pub(crate) fn end<E: Write>(done: Result<(), Refusal>, errors: &mut E) -> Ended
+/// Reports a refusal, with the word that is refused where it is known.
+pub(crate) fn end<E: Write>(
+    done: Result<(), Refusal>,
+    word: Option<Word<'_>>,
+    audience: Audience,
+    errors: &mut E,
+) -> Ended
     ensures done { IsOk done → (result.status ≡ Status.Done) × (errors.new ≡ errors.old) }
     ensures refused { IfErr done (λ refusal. result.status ≡ Status.Refused refusal) }
-    ensures line { TellsRefusal result (E.contents errors.old) (E.contents errors.new) }
+    ensures line { TellsRefusal (told audience word.entry) result (E.contents errors.old) (E.contents errors.new) }
 {
     match done {
         Ok(()) => Ended {
@@ -53,7 +62,7 @@ pub(crate) fn end<E: Write>(done: Result<(), Refusal>, errors: &mut E) -> Ended
         },
         Err(refusal) => Ended {
             status: Status::Refused(refusal),
-            is_reported: writeln!(errors, "refused {refusal}").is_ok(),
+            is_reported: tell(refusal, word, audience, errors).is_ok(),
         },
     }
 }

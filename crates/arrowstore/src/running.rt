@@ -1,17 +1,17 @@
 // The program over any input and output.
-ghost use Rattle.std.specs.Prelude.{◌≡◌, ◌⊎◌, true, map};
+ghost use Rattle.std.specs.Prelude.{◌≡◌, ◌⊎◌, true, map, None};
 ghost use Rattle.std.specs.Io.KnownBytes.{Appends};
 ghost use Rattle.arrowstore.specs.Arguments.{AreRecode, AskForHelp};
-ghost use Rattle.arrowstore.specs.Ending.{Recodes, HasReported};
+ghost use Rattle.arrowstore.specs.Ending.{Recodes, GivesText, HasReported};
 ghost use Rattle.arrowstore.specs.OwnTexts.{is_own, own_text};
 ghost use Rattle.arrowstore.specs.Reported.{IsWrong};
+ghost use Rattle.arrowstore.specs.Told.{told};
 ghost use Rattle.arrowstore.specs.declared.status.Status.TheVariants.{Done};
 
 use crate::command_line::{Action, action_of};
-use crate::output::write_whole;
-use crate::own_texts::{is_own, own_text};
+use crate::own_texts::{is_own, write_own_text};
 use crate::reports::{end, report_arguments};
-use crate::{Ended, recode};
+use crate::{Audience, Ended, recode};
 use std::alloc::Global;
 use std::convert::AsStr;
 use std::io::{Read, Write};
@@ -23,6 +23,7 @@ pub fn run<S: AsStr, R: Read, W: Write, E: Write>(
     input: &mut R,
     output: &mut W,
     errors: &mut E,
+    audience: Audience,
 ) -> Ended
     // Done: the command was right, or help or a text of the program's own was asked for.
     ensures done { result.status ≡ Done → AreRecode (map S.text arguments.now) ⊎ AskForHelp (map S.text arguments.now)
@@ -30,20 +31,25 @@ pub fn run<S: AsStr, R: Read, W: Write, E: Write>(
     // The arguments that ask for it are taken, and the output is as `Recodes` says.
     ensures recodes { AreRecode (map S.text arguments.now) → Recodes W.contents (R.remaining input.old) output.old output.new result.status }
     // The output has been given that text, and nothing else.
-    ensures own { is_own (map S.text arguments.now) ≡ true → result.status ≡ Done
-        → Appends (W.contents output.old) (W.contents output.new) (own_text (map S.text arguments.now)) }
+    ensures own { is_own (map S.text arguments.now) ≡ true
+        → GivesText (Appends (W.contents output.old) (W.contents output.new) (own_text (map S.text arguments.now))) result.status }
     // Wrong arguments are reported, unless memory is out: nothing is read, nothing is written.
     ensures wrong_arguments { AreRecode (map S.text arguments.now) ⊎ AskForHelp (map S.text arguments.now)
         ⊎ (is_own (map S.text arguments.now) ≡ true) ⊎ (IsWrong result.status × (output.new ≡ output.old)) }
     ensures only_recode_reads { AreRecode (map S.text arguments.now) ⊎ (input.new ≡ input.old) }
-    // What is on `errors`: the line of a refusal, and nothing where all is done.
-    ensures reports { HasReported E.contents output.old output.new errors.old errors.new result }
+    // What is on `errors`: what is told of a refusal to such an audience, and nothing where all is done.
+    ensures reports { HasReported E.contents (told audience None) output.old output.new errors.old errors.new result }
 {
     if is_own(arguments) {
-        return end(write_whole(output, own_text(arguments).as_bytes()), errors);
+        return end(
+            write_own_text(alloc, arguments, output),
+            None,
+            audience,
+            errors,
+        );
     }
     match action_of(alloc, arguments) {
-        Ok(Action::Recode) => end(recode(alloc, input, output), errors),
-        Err(error) => report_arguments(&error, output, errors),
+        Ok(Action::Recode) => end(recode(alloc, input, output), None, audience, errors),
+        Err(error) => report_arguments(&error, output, errors, audience),
     }
 }

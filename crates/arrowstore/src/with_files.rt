@@ -1,25 +1,53 @@
 // The program over any files, input and output.
-ghost use Rattle.std.specs.Prelude.{◌≡◌, ◌⊎◌, true, map};
+ghost use Rattle.std.specs.Prelude.{◌≡◌, ◌⊎◌, true, map, Option, None};
 ghost use Rattle.std.specs.Io.KnownBytes.{Appends};
 ghost use Rattle.arrowstore.specs.Arguments.{AreRecode, AskForHelp};
-ghost use Rattle.arrowstore.specs.Ending.{Recodes, HasReported};
+ghost use Rattle.arrowstore.specs.Ending.{Recodes, GivesText, HasReported};
 ghost use Rattle.arrowstore.specs.OwnTexts.{is_own, own_text};
 ghost use Rattle.arrowstore.specs.StoreWords.{is_of_store, takes_input};
 ghost use Rattle.arrowstore.specs.Reported.{IsWrong};
+ghost use Rattle.arrowstore.specs.Told.{told};
 ghost use Rattle.arrowstore.specs.declared.status.Status.TheVariants.{Done};
+ghost use Rattle.arrowstore.specs.declared.telling.Word.{Word};
 
+use crate::naming::refused_word;
 use crate::reports::{end, report_arguments, report_signed_number};
 use crate::store_command_line::{Mistake, request_of};
 use crate::store_commands::serve;
-use crate::store_words::{is_of_store, takes_input};
-use crate::{Ended, run};
+use crate::store_words::{StoreRequest, is_of_store, takes_input};
+use crate::{Audience, Ended, run};
 use sector_dev::LockFile;
 use std::convert::AsStr;
 use std::fs::OpenFile;
 use std::io::{self, Read, Seek, Write};
 use std::rt::Files;
 
-// A command of a store, with the input that it may read.
+// A command of a store, of which a word is named where it is refused.
+fn serve_and_tell<
+    F: Read + Write + Seek + OpenFile + LockFile + Drop,
+    H: Files<File = F> + AllocGlobal,
+    R: Read,
+    W: Write,
+    E: Write,
+>(
+    rt: &H,
+    request: &StoreRequest<'_>,
+    input: &mut R,
+    output: &mut W,
+    errors: &mut E,
+    audience: Audience,
+) -> Ended
+    ensures reports { (word : Option Word) × HasReported E.contents (told audience word) output.old output.new errors.old errors.new result }
+{
+    let done = serve(rt, request, input, output);
+    let word = match &done {
+        Ok(()) => None,
+        Err(refusal) => refused_word(rt.alloc(), request, refusal),
+    };
+    end(done, word, audience, errors)
+}
+
+// A command line of a store, with the input that it may read.
 fn run_request<
     F: Read + Write + Seek + OpenFile + LockFile + Drop,
     H: Files<File = F> + AllocGlobal,
@@ -27,12 +55,19 @@ fn run_request<
     R: Read,
     W: Write,
     E: Write,
->(rt: &H, arguments: &[S], input: &mut R, output: &mut W, errors: &mut E) -> Ended
-    ensures reports { HasReported E.contents output.old output.new errors.old errors.new result }
+>(
+    rt: &H,
+    arguments: &[S],
+    input: &mut R,
+    output: &mut W,
+    errors: &mut E,
+    audience: Audience,
+) -> Ended
+    ensures reports { (word : Option Word) × HasReported E.contents (told audience word) output.old output.new errors.old errors.new result }
 {
     match request_of(rt.alloc(), arguments) {
-        Ok(request) => end(serve(rt, &request, input, output), errors),
-        Err(Mistake::Words(error)) => report_arguments(&error, output, errors),
+        Ok(request) => serve_and_tell(rt, &request, input, output, errors, audience),
+        Err(Mistake::Words(error)) => report_arguments(&error, output, errors, audience),
         Err(Mistake::SignedNumber) => report_signed_number(errors),
     }
 }
@@ -45,14 +80,21 @@ fn run_on_store<
     R: Read,
     W: Write,
     E: Write,
->(rt: &H, arguments: &[S], input: &mut R, output: &mut W, errors: &mut E) -> Ended
+>(
+    rt: &H,
+    arguments: &[S],
+    input: &mut R,
+    output: &mut W,
+    errors: &mut E,
+    audience: Audience,
+) -> Ended
     ensures input { (takes_input (map S.text arguments.now) ≡ true) ⊎ (input.new ≡ input.old) }
-    ensures reports { HasReported E.contents output.old output.new errors.old errors.new result }
+    ensures reports { (word : Option Word) × HasReported E.contents (told audience word) output.old output.new errors.old errors.new result }
 {
     if takes_input(arguments) {
-        run_request(rt, arguments, input, output, errors)
+        run_request(rt, arguments, input, output, errors, audience)
     } else {
-        run_request(rt, arguments, &mut io::empty(), output, errors)
+        run_request(rt, arguments, &mut io::empty(), output, errors, audience)
     }
 }
 
@@ -66,26 +108,34 @@ pub fn run_with_files<
     R: Read,
     W: Write,
     E: Write,
->(rt: &H, arguments: &[S], input: &mut R, output: &mut W, errors: &mut E) -> Ended
+>(
+    rt: &H,
+    arguments: &[S],
+    input: &mut R,
+    output: &mut W,
+    errors: &mut E,
+    audience: Audience,
+) -> Ended
     // Done: the command was right, or help or a text of the program's own was asked for.
     ensures done { result.status ≡ Done → AreRecode (map S.text arguments.now) ⊎ AskForHelp (map S.text arguments.now)
         ⊎ (is_own (map S.text arguments.now) ≡ true) ⊎ (is_of_store (map S.text arguments.now) ≡ true) }
     // The arguments that ask for it are taken, and the output is as `Recodes` says.
     ensures recodes { AreRecode (map S.text arguments.now) → Recodes W.contents (R.remaining input.old) output.old output.new result.status }
     // The output has been given that text, and nothing else.
-    ensures own { is_own (map S.text arguments.now) ≡ true → result.status ≡ Done
-        → Appends (W.contents output.old) (W.contents output.new) (own_text (map S.text arguments.now)) }
+    ensures own { is_own (map S.text arguments.now) ≡ true
+        → GivesText (Appends (W.contents output.old) (W.contents output.new) (own_text (map S.text arguments.now))) result.status }
     // Wrong arguments are reported, unless memory is out: nothing is read, nothing is written.
     ensures wrong_arguments { AreRecode (map S.text arguments.now) ⊎ AskForHelp (map S.text arguments.now)
         ⊎ (is_own (map S.text arguments.now) ≡ true) ⊎ (is_of_store (map S.text arguments.now) ≡ true)
         ⊎ (IsWrong result.status × (output.new ≡ output.old)) }
     // The input is read by these commands alone.
     ensures others_leave_input { AreRecode (map S.text arguments.now) ⊎ (takes_input (map S.text arguments.now) ≡ true) ⊎ (input.new ≡ input.old) }
-    // What is on `errors`: the line of a refusal, and nothing where all is done.
-    ensures reports { HasReported E.contents output.old output.new errors.old errors.new result }
+    // What is on `errors`: what is told of a refusal to such an audience, and nothing where all is done. Only commands of a store name a word.
+    ensures reports { (word : Option Word) × ((is_of_store (map S.text arguments.now) ≡ true) ⊎ (word ≡ None))
+        × HasReported E.contents (told audience word) output.old output.new errors.old errors.new result }
 {
     if is_of_store(arguments) {
-        return run_on_store(rt, arguments, input, output, errors);
+        return run_on_store(rt, arguments, input, output, errors, audience);
     }
-    run(rt.alloc(), arguments, input, output, errors)
+    run(rt.alloc(), arguments, input, output, errors, audience)
 }

@@ -1,13 +1,15 @@
 //! The program `arrowstore`: hands the process's arguments and streams to the library of that name, and exits with its status.
 //!
-//! Status 0 is done, 1 refused, with one line `refused CODE NAME ..` on standard error, and 2 wrong arguments.
+//! Status 0 is done, 1 refused, with a line `refused CODE NAME ..` on standard error, and 2 wrong arguments.
 #![tactic(auto)]
 
-use arrowstore::{report_unreadable_arguments, run_with_files};
+use arrowstore::{Audience, report_unreadable_arguments, run_with_files};
 use std::process::ExitCode;
 use std::{env, io};
 
 fn main(rt: HostRuntime) -> ExitCode {
+    // Told before a file is opened, which may take the place of a stream that is closed.
+    let audience = Audience::of(&rt.stderr());
     let ended = match arguments_of(&rt) {
         Ok(arguments) => run_with_files(
             &rt,
@@ -15,8 +17,9 @@ fn main(rt: HostRuntime) -> ExitCode {
             &mut rt.reader(),
             &mut rt.stdout(),
             &mut rt.stderr(),
+            audience,
         ),
-        Err(error) => report_unreadable_arguments(&error, &mut rt.stderr()),
+        Err(error) => report_unreadable_arguments(&error, &mut rt.stderr(), audience),
     };
     ExitCode::from(ended.status.code())
 }

@@ -3,7 +3,7 @@
 use crate::fakes::{Kept, Moment, Pieces};
 use crate::made::{NotMade, assert_no_row};
 use crate::stream_bytes::{BATCH, END, SCHEMA, joined};
-use arrowstore::{Refusal, Status, read_at_most, recode, run};
+use arrowstore::{Audience, Refusal, Status, read_at_most, recode, run};
 use ipc_message::Fault;
 use std::alloc::{AllocError, Global};
 
@@ -208,7 +208,14 @@ fn ends(alloc: Global, stream: &[u8], case: &Run) -> Result<bool, AllocError> {
     let mut input = Pieces::new(&stream[..given.min(stream.len())], reads.0, reads.1);
     let mut output = Kept::new(alloc, writes.0, writes.1)?;
     let mut errors = Kept::new(alloc, reports.0, reports.1)?;
-    let ended = run(alloc, arguments, &mut input, &mut output, &mut errors);
+    let ended = run(
+        alloc,
+        arguments,
+        &mut input,
+        &mut output,
+        &mut errors,
+        Audience::Program,
+    );
     let is_reported = matches!(reports.1, Moment::Never);
     let is_ended = ended.status == status && ended.is_reported == is_reported;
     let is_written = Some(output.bytes()) == stream.get(..written);
