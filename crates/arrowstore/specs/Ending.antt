@@ -9,6 +9,7 @@ use Rattle.arrowstore.specs.declared.refusal.Refusal.TheVariants.{Io, OutOfMemor
 use Rattle.arrowstore.specs.declared.status.Ended.{Ended}
 use Rattle.arrowstore.specs.declared.status.Status.{Status}
 use Rattle.arrowstore.specs.declared.status.Status.TheVariants.{Done, Refused, WrongArguments}
+use Rattle.arrowstore.specs.declared.refusal.Refusal.TheVariants.{TooManyBytes}
 use Rattle.arrowstore.specs.Recode.{AppendsCanonical, IsTrueFault}
 use Rattle.arrowstore.specs.Reported.{IfRefused, IsRefused}
 
@@ -19,8 +20,10 @@ pub record Recodes {W : Type 0} (contents : W → Option (List ℕ)) (input : Op
   -- an input that has no meaning or too many bytes is refused, and nothing is written
   pub meaningless : IfSome input (λ bytes. IsErr (meaning supported_codes bytes) → IsRefused status × (output' ≡ output))
   pub too_long : IfSome input (λ bytes. LARGEST_INPUT < length bytes → IsRefused status × (output' ≡ output))
-  -- a fault that is reported is the fault of the input
-  pub fault : IfRefused status (λ refusal. IfSome input (IsTrueFault refusal))
+  -- a fault that is reported is the fault of the input, and no refusal is of anything but the input, the output and memory
+  pub fault : IfRefused status (λ refusal. IsTrueFault refusal input)
+  -- too many bytes are reported only of an input that has them
+  pub too_many : status ≡ Refused TooManyBytes → IfSome input (λ bytes. LARGEST_INPUT < length bytes)
   -- its arguments are taken
   pub right_arguments : status ≢ WrongArguments
 

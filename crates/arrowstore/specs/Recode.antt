@@ -1,5 +1,5 @@
 -- What recoding answers and writes.
-use Rattle.std.specs.Prelude.{◌≡◌, ℕ, List, Option, Result, Ok, Err}
+use Rattle.std.specs.Prelude.{◌≡◌, ℕ, List, Option, IfSome, Result, Ok, Err}
 use Rattle.std.specs.Io.KnownBytes.{Appends}
 use Rattle.cells.specs.Cell.{PlainTable}
 use Rattle.ipc_message.specs.Header.{supported_codes}
@@ -26,15 +26,11 @@ IsVerdict (Err OutOfMemory) = ⊥
 abbrev pub AppendsCanonical : Option (List ℕ) → Option (List ℕ) → List ℕ → Type 0
 AppendsCanonical old new input = (table : PlainTable) × (meaning supported_codes input ≡ Ok table) × Appends old new (canonical table)
 
--- a fault that is reported is the fault of the input
-abbrev pub IsTrueFault : Refusal → List ℕ → Type 0
-IsTrueFault (Fault fault) input = meaning supported_codes input ≡ Err fault
+-- why an input, which had these bytes left, is not recoded: it has this fault, it is too long, a read or a write failed, or memory was refused. A fault that is
+-- reported is the fault of the input
+abbrev pub IsTrueFault : Refusal → Option (List ℕ) → Type 0
+IsTrueFault (Fault fault) input = IfSome input (λ bytes. meaning supported_codes bytes ≡ Err fault)
 IsTrueFault TooManyBytes input = Unit {0}
 IsTrueFault Io input = Unit {0}
-IsTrueFault BadSize input = Unit {0}
-IsTrueFault (Fields error) input = Unit {0}
-IsTrueFault (Text refused) input = Unit {0}
-IsTrueFault (Query refusal) input = Unit {0}
-IsTrueFault (Opening refusal) input = Unit {0}
-IsTrueFault (Store refusal) input = Unit {0}
 IsTrueFault OutOfMemory input = Unit {0}
+IsTrueFault _ input = ⊥

@@ -27,8 +27,8 @@ pub fn recode<R: Read, W: Write>(
 ) -> Result<(), Refusal>
     // What is written is the canonical stream of what the input means, and nothing else.
     ensures written { OnOk result (IfSome (R.remaining reader.old) (AppendsCanonical (W.contents writer.old) (W.contents writer.new))) }
-    // A fault that is reported is the fault of the input.
-    ensures fault { IfErr result (λ refusal. IfSome (R.remaining reader.old) (IsTrueFault refusal)) }
+    // A fault that is reported is the fault of the input, and no refusal is of anything but the input, the output and memory.
+    ensures fault { IfErr result (λ refusal. IsTrueFault refusal (R.remaining reader.old)) }
     // A verdict comes only where the input was read to its end, and is not too long.
     ensures end { IsVerdict result → IsAtEnd (R.remaining reader.new) }
     ensures within { IsVerdict result → IfSome (R.remaining reader.old) (λ input. length input ≤ LARGEST_INPUT) }
@@ -51,7 +51,7 @@ pub fn recode<R: Read, W: Write>(
 // The table that all the reader has stands for.
 fn read_table<R: Read>(alloc: Global, reader: &mut R) -> Result<Table, Refusal>
     ensures meaning { IfOk result (λ table. IfSome (R.remaining reader.old) (λ input. meaning supported_codes input ≡ Ok (table_of table))) }
-    ensures fault { IfErr result (λ refusal. IfSome (R.remaining reader.old) (IsTrueFault refusal)) }
+    ensures fault { IfErr result (λ refusal. IsTrueFault refusal (R.remaining reader.old)) }
     ensures end { IsVerdict result → IsAtEnd (R.remaining reader.new) }
     ensures within { IsVerdict result → IfSome (R.remaining reader.old) (λ input. length input ≤ LARGEST_INPUT) }
     ensures too_many { IsErrOf result Refusal.TooManyBytes
