@@ -14,5 +14,7 @@ mod RunArrays
 mod RunBits
 mod RunColumns
 mod RunContents
+mod RunFixedItems
+mod RunItems
 mod RunParts
 mod RunValues

@@ -82,16 +82,16 @@ kind_slots p kind runs has valid = slots_are p (kind_cells kind runs) (runs_bits
 
 -- ---- how many cells there are
 
+pub count_run : (kind : Kind) (run : Run) → length (run_bits run) ≡ length (run_cells (plain_column kind None) run)
+count_run kind (Slots v from n) = length-replicate n true ∙ sym (length-map-range_with_len (cell_at (plain_column kind None) (view_array v)) from n)
+count_run kind (Nulls n) = length-replicate n false ∙ sym (length-replicate n null)
+
 count_cells : (kind : Kind) (runs : List Run) → length (runs_bits runs) ≡ length (kind_cells kind runs)
 count_cells kind [] = refl
 count_cells kind (run ∷ runs) =
     length-append (run_bits run) (runs_bits runs)
-    ∙ ap₂ (λ (m n : ℕ). m + n) (count_run run) (count_cells kind runs)
+    ∙ ap₂ (λ (m n : ℕ). m + n) (count_run kind run) (count_cells kind runs)
     ∙ sym (length-append (run_cells (plain_column kind None) run) (kind_cells kind runs))
-  where
-    count_run : (run : Run) → length (run_bits run) ≡ length (run_cells (plain_column kind None) run)
-    count_run (Slots v from n) = length-replicate n true ∙ sym (length-map-range_with_len (cell_at (plain_column kind None) (view_array v)) from n)
-    count_run (Nulls n) = length-replicate n false ∙ sym (length-replicate n null)
 
 -- ---- the arrays
 

@@ -18,9 +18,9 @@ unfoldable mutual
   is_kind_built_by_runs binaries = true
   is_kind_built_by_runs large_binaries = true
   is_kind_built_by_runs (fixed_binaries width) = true
-  is_kind_built_by_runs (lists item) = false
-  is_kind_built_by_runs (large_lists item) = false
-  is_kind_built_by_runs (fixed_lists size item) = false
+  is_kind_built_by_runs (lists item) = is_built_by_runs item
+  is_kind_built_by_runs (large_lists item) = is_built_by_runs item
+  is_kind_built_by_runs (fixed_lists size item) = is_built_by_runs item
   is_kind_built_by_runs (structs columns) = are_built_by_runs columns
 
   pub are_built_by_runs : Columns → Bool

@@ -1,4 +1,5 @@
 pub mod Coded
 pub mod Nodes
+pub mod RunItems
 pub mod RunParts
 pub mod Runs

@@ -1,17 +1,20 @@
 // Arrays of columns that are given as runs of slots: bytes of valid slots are copied, and no cell is made.
 ghost use Rattle.std.specs.Prelude.{◌≡◌, ◌/◌, true, OnOk, IfOk, List, None, map};
-ghost use Rattle.arrow_schema.specs.Column.{columns_of, structs};
+ghost use Rattle.arrow_schema.specs.Column.{columns_of, fixed_lists, structs};
 ghost use Rattle.arrow_schema.specs.View.{kind_of, column_of, date_kind};
 ghost use Rattle.array_build.specs.Batch.{batch_in, batch_of, built_at, built_below, plain_column, with_arrays};
 ghost use Rattle.array_build.specs.ByRuns.{is_built_by_runs as is_built, is_kind_built_by_runs, are_built_by_runs};
+ghost use Rattle.array_build.specs.inner.Nodes.{list_kind};
 ghost use Rattle.array_build.specs.inner.Runs.{AreReady, built_columns, kind_cells};
 ghost use Rattle.array_runs.specs.Runs.{HaveRuns, are_columns_sound, are_runs_sound, can_build_columns, runs_cells};
 ghost use Rattle.cells.specs.Cell.{Cell};
 ghost use Rattle.cells.specs.Fit.{date_bits};
 ghost use Rattle.columns.specs.Buildable.{can_build};
 
-use crate::batch::{BuiltBatch, empty_batch};
+use crate::batch::{BuiltBatch, empty_batch, push_buffer};
 use crate::flat_runs::{build_run_bits, build_run_contents, build_run_nulls, build_run_values};
+use crate::run_fixed_items::fixed_item_runs;
+use crate::run_items::{item_runs, run_list_offsets};
 use crate::run_parts::part_runs;
 use crate::run_slots::push_run_slots;
 use array_runs::{Run, valid_runs};
@@ -36,7 +39,9 @@ fn is_type_built(data_type: &DataType) -> bool
         | DataType::Binary
         | DataType::LargeBinary
         | DataType::FixedSizeBinary(_) => true,
-        DataType::List(_) | DataType::LargeList(_) | DataType::FixedSizeList(_, _) => false,
+        DataType::List(item) => is_field_built(item),
+        DataType::LargeList(item) => is_field_built(item),
+        DataType::FixedSizeList(_, item) => is_field_built(item),
         DataType::Struct(fields) => is_built_by_runs(fields),
     }
 }
@@ -103,11 +108,53 @@ fn build_valid_kind(
         DataType::LargeUtf8 | DataType::LargeBinary => {
             build_run_contents(alloc, batch, data_type, OffsetWidth::Eight, runs)
         }
-        DataType::Struct(fields) => build_run_structs(alloc, batch, fields, runs),
-        DataType::List(_) | DataType::LargeList(_) | DataType::FixedSizeList(_, _) => {
-            unreachable!()
+        DataType::List(item) => build_run_lists(alloc, batch, OffsetWidth::Four, item, runs),
+        DataType::LargeList(item) => build_run_lists(alloc, batch, OffsetWidth::Eight, item, runs),
+        DataType::FixedSizeList(size, item) => {
+            build_run_fixed_lists(alloc, batch, *size as usize, item, runs)
         }
+        DataType::Struct(fields) => build_run_structs(alloc, batch, fields, runs),
     }
+}
+
+// Lists have a node, a validity bitmap and offsets, and below them the items of all.
+#[cycle(by_runs)]
+fn build_run_lists(
+    alloc: Global,
+    batch: &mut BuiltBatch,
+    width: OffsetWidth,
+    item: &Field,
+    runs: &[Run<'_>],
+) -> Result<(), AllocError>
+    requires built { is_built (column_of item.now) ≡ true }
+    requires ready { AreReady (list_kind width (column_of item.now)) runs.now }
+    ensures { OnOk result (batch_in batch.new ≡ with_arrays (batch_in batch.old)
+        (built_at (plain_column (list_kind width (column_of item.now)) None) (kind_cells (list_kind width (column_of item.now)) runs.now))) }
+{
+    let offsets = run_list_offsets(alloc, item, width, runs)?;
+    let items = item_runs(alloc, item, width, runs)?;
+    push_run_slots(alloc, batch, runs)?;
+    push_buffer(batch, offsets)?;
+    build_run_column(alloc, batch, item, &items)
+}
+
+// Fixed lists have a node and a validity bitmap, and below them the items of all, which are nulls below a null.
+#[cycle(by_runs)]
+fn build_run_fixed_lists(
+    alloc: Global,
+    batch: &mut BuiltBatch,
+    size: usize,
+    item: &Field,
+    runs: &[Run<'_>],
+) -> Result<(), AllocError>
+    requires built { is_built (column_of item.now) ≡ true }
+    requires ready { AreReady (fixed_lists size (column_of item.now)) runs.now }
+    ensures { OnOk result (batch_in batch.new ≡ with_arrays (batch_in batch.old)
+        (built_at (plain_column (fixed_lists size (column_of item.now)) None) (kind_cells (fixed_lists size (column_of item.now)) runs.now))) }
+{
+    let items = fixed_item_runs(alloc, item, size, runs)?;
+    push_run_slots(alloc, batch, runs)?;
+    build_run_column(alloc, batch, item, &items)
 }
 
 // Structs have a node and a validity bitmap, and below them the same slots of each field.
@@ -120,8 +167,8 @@ fn build_run_structs(
 ) -> Result<(), AllocError>
     requires built { are_built_by_runs (columns_of (map column_of fields.now)) ≡ true }
     requires ready { AreReady (structs (columns_of (map column_of fields.now))) runs.now }
-    ensures { OnOk result (batch_in batch.new ≡ with_arrays (batch_in batch.old)
-        (built_at (plain_column (structs (columns_of (map column_of fields.now))) None) (kind_cells (structs (columns_of (map column_of fields.now))) runs.now))) }
+    ensures { OnOk result (batch_in batch.new ≡ with_arrays (batch_in batch.old) (built_at (plain_column (structs (columns_of (map column_of fields.now))) None)
+        (kind_cells (structs (columns_of (map column_of fields.now))) runs.now))) }
 {
     let parts = part_runs(alloc, fields, runs)?;
     push_run_slots(alloc, batch, runs)?;

@@ -10,7 +10,7 @@ use array_runs::Run;
 use bitmap::pack;
 use std::alloc::{AllocError, Global};
 
-fn run_len(run: &Run<'_>) -> usize
+pub(crate) fn run_len(run: &Run<'_>) -> usize
     ensures { result ≡ length (run_bits run.now) }
 {
     match run {

@@ -1,21 +1,27 @@
 use Rattle.std.specs.Prelude.{Vec, None}
 use Rattle.std.specs.Global.{Global}
+use Rattle.std.specs.List.{flat_map}
 use Rattle.std.proofs.Common.{◌≡◌, true, ◌∙◌, List, map, drop, ap, subst, sym, rules}
 use Rattle.std.proofs.lemmas.Result.{on_ok_weaker}
 use Rattle.array_build.proofs.RunColumns.{are_ready, built_field, column_arrays, field_built, field_fits, field_sound, have_validity, last_column, lists_of, next_left, place_left, same_cells}
+use Rattle.array_build.proofs.Premises.{items_can_be_built, fixed_items_can_be_built}
+use Rattle.array_build.proofs.RunFixedItems.{fixed_list_runs_are}
+use Rattle.array_build.proofs.RunItems.{list_runs_are}
 use Rattle.array_build.proofs.RunParts.{parts_fit, struct_runs_are}
 use Rattle.array_build.proofs.by_runs.+by_runs.Goals as goal
 use Rattle.array_build.specs.Batch.{batch_in, built_at, plain_column, with_arrays}
+use Rattle.array_build.specs.inner.Nodes.{list_kind}
 use Rattle.array_build.specs.inner.Runs.{AreReady, kind_cells}
 use Rattle.array_runs.specs.Runs.{HaveRuns, are_columns_sound, are_runs_sound, runs_cells}
 use Rattle.array_runs.specs.declared.run.Run.{Run}
-use Rattle.arrow_schema.specs.Column.{Columns, Kind, columns_of, structs}
+use Rattle.arrow_schema.specs.Column.{Column, Columns, Kind, columns_of, fixed_lists, structs}
 use Rattle.arrow_schema.specs.View.{column_of, kind_of}
 use Rattle.arrow_schema.specs.declared.types.Field.{Field}
 use Rattle.arrow_schema.specs.declared.types.Field.{the_lemmas as field_lemmas}
 use Rattle.cells.specs.Cell.{Cell}
-use Rattle.cells.specs.Dictionary.{part_list}
+use Rattle.cells.specs.Dictionary.{item_list, part_list}
 use Rattle.columns.specs.Buildable.{can_build}
+use Rattle.columns.specs.Built.{fixed_items}
 use Rattle.facts.specs.laws.Lists.{drop-item}
 
 -- ---- structs
@@ -37,6 +43,49 @@ build_run_structs-returns t c =
     on_ok_weaker c.build_run_parts.result
     (λ h. h ∙ struct_runs_are (batch_in c.args.batch.now) (batch_in c.push_run_slots.new.batch) cs c.args.runs.now (lists_of c.deref.result.now) c.requires.ready.valid have c.in_ok-push_run_slots.ensures)
     c.build_run_parts.ensures
+
+-- ---- lists
+
+pub build_run_lists-build_run_column-requires : goal.build_run_lists-build_run_column-requires
+build_run_lists-build_run_column-requires t c =
+    let item : Column = column_of c.args.item.now in
+    let cells : List Cell = kind_cells (list_kind c.args.width item) c.args.runs.now in
+    let below : runs_cells item c.deref.result.now ≡ flat_map item_list cells = ap (runs_cells item) c.deref.ensures.value ∙ c.in_ok-items.ensures.cells in (
+      search (rules, field_lemmas),
+      (
+        c.requires.built,
+        (ap (are_runs_sound item) c.deref.ensures.value ∙ c.in_ok-items.ensures.sound, ap (can_build item) below ∙ items_can_be_built c.args.width item cells c.requires.ready.fit),
+      ),
+    )
+
+pub build_run_lists-returns : goal.build_run_lists-returns
+build_run_lists-returns t c =
+    let item : Column = column_of c.args.item.now in
+    let below : runs_cells item c.deref.result.now ≡ flat_map item_list (kind_cells (list_kind c.args.width item) c.args.runs.now) = ap (runs_cells item) c.deref.ensures.value ∙ c.in_ok-items.ensures.cells in
+    on_ok_weaker c.build_run_column.result
+    (λ h. h ∙ list_runs_are (batch_in c.args.batch.now) (batch_in c.push_run_slots.new.batch) (batch_in c.push_buffer.new.batch) c.args.width item c.args.runs.now c.deref.result.now _
+    c.requires.ready.valid below c.in_ok-offsets.ensures c.in_ok-push_run_slots.ensures c.in_ok-push_buffer.ensures)
+    c.build_run_column.ensures
+
+pub build_run_fixed_lists-build_run_column-requires : goal.build_run_fixed_lists-build_run_column-requires
+build_run_fixed_lists-build_run_column-requires t c =
+    let item : Column = column_of c.args.item.now in
+    let cells : List Cell = kind_cells (fixed_lists c.args.size item) c.args.runs.now in
+    let below : runs_cells item c.deref.result.now ≡ flat_map (fixed_items c.args.size) cells = ap (runs_cells item) c.deref.ensures.value ∙ c.in_ok-items.ensures.cells in (
+      search (rules, field_lemmas),
+      (
+        c.requires.built,
+        (ap (are_runs_sound item) c.deref.ensures.value ∙ c.in_ok-items.ensures.sound, ap (can_build item) below ∙ fixed_items_can_be_built c.args.size item cells c.requires.ready.fit),
+      ),
+    )
+
+pub build_run_fixed_lists-returns : goal.build_run_fixed_lists-returns
+build_run_fixed_lists-returns t c =
+    let item : Column = column_of c.args.item.now in
+    let below : runs_cells item c.deref.result.now ≡ flat_map (fixed_items c.args.size) (kind_cells (fixed_lists c.args.size item) c.args.runs.now) = ap (runs_cells item) c.deref.ensures.value ∙ c.in_ok-items.ensures.cells in
+    on_ok_weaker c.build_run_column.result
+    (λ h. h ∙ fixed_list_runs_are (batch_in c.args.batch.now) (batch_in c.push_run_slots.new.batch) c.args.size item c.args.runs.now c.deref.result.now c.requires.ready.valid below c.in_ok-push_run_slots.ensures)
+    c.build_run_column.ensures
 
 -- ---- a type, and a field
 

@@ -1,0 +1,292 @@
+-- The items of lists, and their offsets, of slots one after another.
+use Rattle.std.specs.Prelude.{nat_le, replicate}
+use Rattle.std.specs.List.{flat_map, list_all, range_with_len}
+use Rattle.std.proofs.Common.{◌≡◌, ℕ, zero, suc, ◌+◌, ◌-◌, ◌≤◌, ◌<◌, ◌++◌, Bool, true, false, List, [], ◌∷◌, length, get_or, drop, refl, ap, ap₂, sym, ◌∙◌, arith, append_assoc, append-nil, length-append}
+use Rattle.std.proofs.lemmas.Bool.{and_parts, and_from, leb-true, le-leb}
+use Rattle.std.proofs.lemmas.List.{drop_more, length-replicate}
+use Rattle.std.proofs.lemmas.List.Concat.{flat_map-append}
+use Rattle.std.proofs.lemmas.List.Folds.{list_all-append}
+use Rattle.std.proofs.lemmas.List.FromFn.{length-map-range_with_len}
+use Rattle.byteorder.specs.Endian.{little_bytes}
+use Rattle.arrow_schema.specs.Column.{Column, lists, large_lists}
+use Rattle.array_build.proofs.Arrays.{lists_are}
+use Rattle.array_build.proofs.Listed.{listed_again}
+use Rattle.array_build.proofs.Premises.{lists_fit}
+use Rattle.array_build.proofs.Repeated.{none_each}
+use Rattle.array_build.proofs.RunArrays.{kind_slots, count_run}
+use Rattle.array_build.proofs.RunContents.{offsets_with, one_offset}
+use Rattle.array_build.specs.Batch.{PlainBatch, built_at, with_arrays}
+use Rattle.array_build.specs.inner.Nodes.{list_kind, with_buffer, with_slots}
+use Rattle.array_build.specs.inner.RunItems.{AreItems, HasSlots, list_column, list_sizes, run_lists}
+use Rattle.array_build.specs.inner.Runs.{kind_cells, run_bits, runs_bits, with_run_slots}
+use Rattle.array_runs.specs.Runs.{run_cells, runs_cells, is_run_sound, are_runs_sound, is_run_valid, are_runs_valid}
+use Rattle.array_runs.specs.declared.run.Run.{Run}
+use Rattle.array_runs.specs.declared.run.Run.TheVariants.{Slots, Nulls}
+use Rattle.cells.specs.Cell.{Cell, null}
+use Rattle.cells.specs.Dictionary.{item_list}
+use Rattle.columns.specs.Array.{Array, empty_array, slots_in, offsets_in, items_in}
+use Rattle.columns.specs.Buildable.{can_build, large_offset}
+use Rattle.columns.specs.Built.{list_offsets}
+use Rattle.columns.specs.CellAt.{cell_at, kind_cell, cells_from, is_valid, number_at, span_cells, span_size, span_start}
+use Rattle.columns.specs.Offsets.{width_of}
+use Rattle.columns.specs.Sound.{is_sound, has_sound_children}
+use Rattle.columns.specs.Tests.{are_few_offsets, are_unordered}
+use Rattle.columns.specs.View.{view_array}
+use Rattle.columns.specs.declared.numbers.OffsetWidth.{OffsetWidth}
+use Rattle.columns.specs.declared.numbers.OffsetWidth.TheVariants.{Four, Eight}
+use Rattle.columns.specs.declared.view.ArrayView.{ArrayView}
+use Rattle.columns.specs.laws.Offsets.{offsets_ascend, spans_fit}
+use Rattle.columns.specs.laws.SoundParts.{sound_buffer, sound_offsets, sound_children}
+
+-- ---- cells one after another
+
+pub cells_join : (g : ℕ → Cell) (s m n : ℕ) → cells_from g s (m + n) ≡ cells_from g s m ++ cells_from g (s + m) n
+cells_join g s zero n =
+    let whole : 0 + n ≡ n = omega arith in
+    let start : s ≡ s + 0 = omega arith in
+    ap₂ (λ (a k : ℕ). cells_from g a k) start whole
+cells_join g s (suc m) n =
+    let whole : suc m + n ≡ suc (m + n) = omega arith in
+    let start : s + 1 + m ≡ s + suc m = omega arith in
+    ap (cells_from g s) whole ∙ ap (λ (xs : List Cell). g s ∷ xs) (cells_join g (s + 1) m n) ∙ ap (λ (a : ℕ). g s ∷ (cells_from g (s + 1) m ++ cells_from g a n)) start
+
+cell_get : (g : ℕ → Cell) (s n i : ℕ) → i < n → get_or (cells_from g s n) i null ≡ g (s + i)
+cell_get g s zero i lt = absurd (omega arith)
+cell_get g s (suc n) zero lt = let e : s ≡ s + 0 = omega arith in ap g e
+cell_get g s (suc n) (suc i) lt = let e : s + 1 + i ≡ s + suc i = omega arith in cell_get g (s + 1) n i (omega arith) ∙ ap g e
+
+null_get : (n i : ℕ) → get_or (replicate n null) i null ≡ null
+null_get zero zero = refl
+null_get zero (suc i) = refl
+null_get (suc n) zero = refl
+null_get (suc n) (suc i) = null_get n i
+
+valid_at : (p : ℕ → Bool) (s n i : ℕ) → list_all p (range_with_len s n) ≡ true → i < n → p (s + i) ≡ true
+valid_at p s zero i h lt = absurd (omega arith)
+valid_at p s (suc n) zero h lt = let e : s + 0 ≡ s = omega arith in ap p e ∙ (and_parts (p s) (list_all p (range_with_len (s + 1) n)) h).0
+valid_at p s (suc n) (suc i) h lt =
+    let e : s + suc i ≡ s + 1 + i = omega arith in
+    ap p e ∙ valid_at p (s + 1) n i (and_parts (p s) (list_all p (range_with_len (s + 1) n)) h).1 (omega arith)
+
+-- ---- lists that are valid
+
+-- what is known of a run of slots
+pub record AreLists (width : OffsetWidth) (item : Column) (v : ArrayView) (from n : ℕ) : Type 0 where
+  pub few : are_few_offsets (width_of width) (view_array v) ≡ false
+  pub up : are_unordered (width_of width) (slots_in (items_in (view_array v))) (view_array v) ≡ false
+  pub sound : is_sound item (items_in (view_array v)) ≡ true
+  pub within : from + n ≤ slots_in (view_array v)
+  pub valid : list_all (is_valid (view_array v)) (range_with_len from n) ≡ true
+
+list_tests : (width : OffsetWidth) (item : Column) (a : Array) → is_sound (list_column width item) a ≡ true
+    → (are_few_offsets (width_of width) a ≡ false) × ((are_unordered (width_of width) (slots_in (items_in a)) a ≡ false) × (is_sound item (items_in a) ≡ true))
+unfolding is_sound has_sound_children
+list_tests Four item a h = (sound_buffer (lists item) a h, (sound_offsets (lists item) a h, sound_children (lists item) a h))
+list_tests Eight item a h = (sound_buffer (large_lists item) a h, (sound_offsets (large_lists item) a h, sound_children (large_lists item) a h))
+
+pub are_lists : (width : OffsetWidth) (item : Column) (v : ArrayView) (from n : ℕ) (run : Run) → run ≡ Slots v from n → is_run_sound (list_column width item) run ≡ true → is_run_valid run ≡ true
+    → AreLists width item v from n
+are_lists width item v from n run is sound valid =
+    let sound_slots : is_run_sound (list_column width item) (Slots v from n) ≡ true = ap (is_run_sound (list_column width item)) (sym is) ∙ sound in
+    let valid_slots : is_run_valid (Slots v from n) ≡ true = ap is_run_valid (sym is) ∙ valid in
+    let parts = and_parts (is_sound (list_column width item) (view_array v)) (nat_le (from + n) (slots_in (view_array v))) sound_slots in
+    let tests = list_tests width item (view_array v) parts.0 in
+    record { few = tests.0; up = tests.1.0; sound = tests.1.1; within = leb-true _ _ parts.1; valid = valid_slots }
+
+slot_items : (width : OffsetWidth) (item : Column) (a : Array) (i : ℕ) → is_valid a i ≡ true
+    → item_list (cell_at (list_column width item) a i) ≡ span_cells (width_of width) (cell_at item (items_in a)) a i
+unfolding cell_at kind_cell
+slot_items Four item a i valid = rw valid (listed_again (span_cells 4 (cell_at item (items_in a)) a i))
+slot_items Eight item a i valid = rw valid (listed_again (span_cells 8 (cell_at item (items_in a)) a i))
+
+-- the items of slots are those between the first offset and the last
+slots_items : (width : OffsetWidth) (item : Column) (a : Array) (from n : ℕ) → are_unordered (width_of width) (slots_in (items_in a)) a ≡ false → from + n ≤ slots_in a
+    → list_all (is_valid a) (range_with_len from n) ≡ true
+    → flat_map item_list (cells_from (cell_at (list_column width item) a) from n)
+    ≡ cells_from (cell_at item (items_in a)) (span_start (width_of width) a from) (number_at (width_of width) (offsets_in a) (from + n) - span_start (width_of width) a from)
+slots_items width item a from zero up within valid =
+    let f : ℕ → ℕ = number_at (width_of width) (offsets_in a) in
+    let end : f from ≡ f (from + 0) = (let e : from ≡ from + 0 = omega arith in ap f e) in
+    let none : 0 ≡ f (from + 0) - f from = omega (arith, end) in
+    ap (cells_from (cell_at item (items_in a)) (f from)) none
+slots_items width item a from (suc n) up within valid =
+    let f : ℕ → ℕ = number_at (width_of width) (offsets_in a) in
+    let g : ℕ → Cell = cell_at item (items_in a) in
+    let both = and_parts (is_valid a from) (list_all (is_valid a) (range_with_len (from + 1) n)) valid in
+    let first : f from ≤ f (from + 1) = offsets_ascend (width_of width) (slots_in (items_in a)) a from 1 up (omega arith) (omega arith) in
+    let others : f (from + 1) ≤ f (from + 1 + n) = offsets_ascend (width_of width) (slots_in (items_in a)) a (from + 1) n up (omega arith) (omega arith) in
+    let end : f (from + 1 + n) ≡ f (from + suc n) = (let e : from + 1 + n ≡ from + suc n = omega arith in ap f e) in
+    let next : f (from + 1) ≡ f from + (f (from + 1) - f from) = omega (arith, first) in
+    let whole : (f (from + 1) - f from) + (f (from + 1 + n) - f (from + 1)) ≡ f (from + suc n) - f from = omega (arith, first, others, end) in
+    ap₂ (λ (xs ys : List Cell). xs ++ ys) (slot_items width item a from both.0) (slots_items width item a (from + 1) n up (omega arith) both.1)
+    ∙ ap (λ (s : ℕ). cells_from g (f from) (f (from + 1) - f from) ++ cells_from g s (f (from + 1 + n) - f (from + 1))) next
+    ∙ sym (cells_join g (f from) (f (from + 1) - f from) (f (from + 1 + n) - f (from + 1)))
+    ∙ ap (cells_from g (f from)) whole
+
+pub item_found : (a : Array) (child : ArrayView) (from n : ℕ) → view_array child ≡ a → from + n ≤ slots_in a → HasSlots a from n (Slots child from n)
+item_found a child from n same within =
+    let most : from + n ≤ slots_in (view_array child) = (let slots = ap slots_in same in omega (arith, within, slots)) in
+    record {
+      cells = λ c. ap (λ (x : Array). cells_from (cell_at c x) from n) same;
+      sound = λ c h. and_from _ _ (ap (is_sound c) same ∙ h) (le-leb _ _ most);
+    }
+
+pub item_absent : (a : Array) (from n : ℕ) → empty_array ≡ a → from + n ≤ slots_in a → HasSlots a from n (Nulls 0)
+item_absent a from n none within =
+    let short : 0 ≡ n = (let slots : 0 ≡ slots_in a = ap slots_in none in omega (arith, within, slots)) in
+    record {
+      cells = λ c. ap (cells_from (cell_at c a) from) short;
+      sound = λ c h. refl;
+    }
+
+-- the span of a run lies within the items
+pub span_within : (width : OffsetWidth) (item : Column) (v : ArrayView) (from n start size : ℕ) → AreLists width item v from n → (n ≡ 0 → ⊥) → start ≡ span_start (width_of width) (view_array v) from
+    → size ≡ number_at (width_of width) (offsets_in (view_array v)) (from + n) - span_start (width_of width) (view_array v) from → start + size ≤ slots_in (items_in (view_array v))
+span_within width item v from n start size are some begins sizes =
+    let a : Array = view_array v in
+    let some_slot : 0 < slots_in a = (let within = are.within in let filled : 0 < n = omega (arith, some) in omega (arith, within, filled)) in
+    let fits = spans_fit (width_of width) (slots_in (items_in a)) a from n are.up some_slot are.within in
+    omega (arith, fits, begins, sizes)
+
+pub items_found : (width : OffsetWidth) (item : Column) (v : ArrayView) (from n start size : ℕ) (run part : Run) → run ≡ Slots v from n → AreLists width item v from n
+    → start ≡ span_start (width_of width) (view_array v) from
+    → size ≡ number_at (width_of width) (offsets_in (view_array v)) (from + n) - span_start (width_of width) (view_array v) from
+    → HasSlots (items_in (view_array v)) start size part → AreItems item_list item part (run_lists width item run)
+items_found width item v from n start size run part is are begins sizes has = record {
+  cells = has.cells item
+      ∙ ap₂ (λ (s k : ℕ). cells_from (cell_at item (items_in (view_array v))) s k) begins sizes
+      ∙ sym (slots_items width item (view_array v) from n are.up are.within are.valid)
+      ∙ ap (λ (r : Run). flat_map item_list (run_lists width item r)) (sym is);
+  sound = has.sound item are.sound;
+}
+
+pub items_of_none : (width : OffsetWidth) (item : Column) (v : ArrayView) (from n : ℕ) (run : Run) → run ≡ Slots v from n → n ≡ 0 → AreItems item_list item (Nulls 0) (run_lists width item run)
+items_of_none width item v from n run is none = record {
+  cells = ap (λ (k : ℕ). flat_map item_list (cells_from (cell_at (list_column width item) (view_array v)) from k)) (sym none)
+      ∙ ap (λ (r : Run). flat_map item_list (run_lists width item r)) (sym is);
+  sound = refl;
+}
+
+pub items_of_nulls : (width : OffsetWidth) (item : Column) (n : ℕ) (run : Run) → run ≡ Nulls n → AreItems item_list item (Nulls 0) (run_lists width item run)
+items_of_nulls width item n run is = record {
+  cells = sym (none_each item_list null n refl) ∙ ap (λ (r : Run). flat_map item_list (run_lists width item r)) (sym is);
+  sound = refl;
+}
+
+-- ---- how many items a list has
+
+pub slot_count : (v : ArrayView) (from n i : ℕ) (run : Run) → run ≡ Slots v from n → i < length (run_bits run) → i < n
+slot_count v from n i run is lt =
+    let count : length (run_bits run) ≡ n = ap (λ (r : Run). length (run_bits r)) is ∙ length-replicate n true in
+    omega (arith, count, lt)
+
+pub slot_list : (width : OffsetWidth) (item : Column) (v : ArrayView) (from n i : ℕ) (run : Run) → run ≡ Slots v from n → AreLists width item v from n → i < n
+    → length (item_list (get_or (run_lists width item run) i null)) ≡ span_size (width_of width) (view_array v) (from + i)
+slot_list width item v from n i run is are lt =
+    let a : Array = view_array v in
+    ap (λ (r : Run). length (item_list (get_or (run_lists width item r) i null))) is
+    ∙ ap (λ (c : Cell). length (item_list c)) (cell_get (cell_at (list_column width item) a) from n i lt)
+    ∙ ap length (slot_items width item a (from + i) (valid_at (is_valid a) from n i are.valid lt))
+    ∙ length-map-range_with_len (cell_at item (items_in a)) (span_start (width_of width) a (from + i)) (span_size (width_of width) a (from + i))
+
+pub null_list : (width : OffsetWidth) (item : Column) (n i : ℕ) (run : Run) → run ≡ Nulls n → 0 ≡ length (item_list (get_or (run_lists width item run) i null))
+null_list width item n i run is =
+    sym (ap (λ (r : Run). length (item_list (get_or (run_lists width item r) i null))) is ∙ ap (λ (c : Cell). length (item_list c)) (null_get n i))
+
+-- ---- offsets, one by one
+
+pub count_lists : (width : OffsetWidth) (item : Column) (run : Run) (count : ℕ) → count ≡ length (run_bits run) → count ≡ length (run_lists width item run)
+count_lists width item run count is = is ∙ count_run (list_kind width item) run
+
+sizes_more : (cells : List Cell) (i size : ℕ) → i < length cells → size ≡ length (item_list (get_or cells i null)) → list_sizes (drop i cells) ≡ size ∷ list_sizes (drop (i + 1) cells)
+sizes_more cells i size lt is = ap list_sizes (drop_more cells i null lt) ∙ ap (λ (k : ℕ). k ∷ list_sizes (drop (i + 1) cells)) (sym is)
+
+pub list_offset : (width : ℕ) (written : List ℕ) (next : ℕ) (cells : List Cell) (i size : ℕ) (rest : List ℕ) → i < length cells → size ≡ length (item_list (get_or cells i null))
+    → offsets_with width (written ++ little_bytes width next) (next + size) (list_sizes (drop (i + 1) cells)) rest ≡ offsets_with width written next (list_sizes (drop i cells)) rest
+list_offset width written next cells i size rest lt is =
+    one_offset width written next size (list_sizes (drop (i + 1) cells)) rest
+    ∙ ap (λ (ns : List ℕ). offsets_with width written next ns rest) (sym (sizes_more cells i size lt is))
+
+pub list_end : (cells : List Cell) (i size : ℕ) → i < length cells → size ≡ length (item_list (get_or cells i null))
+    → length (flat_map item_list (drop i cells)) ≡ size + length (flat_map item_list (drop (i + 1) cells))
+list_end cells i size lt is =
+    ap (λ (cs : List Cell). length (flat_map item_list cs)) (drop_more cells i null lt)
+    ∙ length-append (item_list (get_or cells i null)) (flat_map item_list (drop (i + 1) cells))
+    ∙ ap (λ (k : ℕ). k + length (flat_map item_list (drop (i + 1) cells))) (sym is)
+
+-- offsets up to the largest hold the items of the run that a loop is at
+pub list_room : (width : OffsetWidth) (item : Column) (runs : List Run) (i : ℕ) (run : Run) (next : ℕ) → can_build (list_column width item) (kind_cells (list_kind width item) runs) ≡ true
+    → drop i runs ≡ run ∷ drop (i + 1) runs
+    → next + length (flat_map item_list (kind_cells (list_kind width item) (drop i runs))) ≡ length (flat_map item_list (kind_cells (list_kind width item) runs))
+    → next + length (flat_map item_list (run_lists width item run)) ≤ large_offset
+list_room width item runs i run next can here h =
+    let own : List Cell = run_lists width item run in
+    let others : List Cell = kind_cells (list_kind width item) (drop (i + 1) runs) in
+    let both : length (flat_map item_list (kind_cells (list_kind width item) (drop i runs))) ≡ length (flat_map item_list own) + length (flat_map item_list others) =
+    ap (λ (rs : List Run). length (flat_map item_list (kind_cells (list_kind width item) rs))) here ∙ ap length (flat_map-append item_list own others)
+    ∙ length-append (flat_map item_list own) (flat_map item_list others) in
+    let most = leb-true _ _ (lists_fit width item (kind_cells (list_kind width item) runs) can) in
+    omega (arith, both, most, h)
+
+-- ---- the items of all runs
+
+-- those of the runs so far, and of the others
+pub record AreItemsLeft (below : Cell → List Cell) (c item : Column) (all left parts : List Run) : Type 0 where
+  pub sound : are_runs_sound c left ≡ true
+  pub valid : are_runs_valid left ≡ true
+  pub good : are_runs_sound item parts ≡ true
+  pub cells : runs_cells item parts ++ flat_map below (runs_cells c left) ≡ flat_map below (runs_cells c all)
+
+pub no_items_yet : (below : Cell → List Cell) (c item : Column) (all : List Run) → are_runs_sound c all ≡ true → are_runs_valid all ≡ true → AreItemsLeft below c item all all []
+no_items_yet below c item all sound valid = record { sound = sound; valid = valid; good = refl; cells = refl }
+
+-- the run that a loop is at can be looked up, and is valid
+pub first_is : (below : Cell → List Cell) (c item : Column) (all left rest parts : List Run) (run : Run) → left ≡ run ∷ rest → AreItemsLeft below c item all left parts
+    → (is_run_sound c run ≡ true) × (is_run_valid run ≡ true)
+first_is below c item all left rest parts run here was = (
+  (and_parts (is_run_sound c run) (are_runs_sound c rest) (ap (are_runs_sound c) (sym here) ∙ was.sound)).0,
+  (and_parts (is_run_valid run) (are_runs_valid rest) (ap are_runs_valid (sym here) ∙ was.valid)).0,
+)
+
+pub items_more : (below : Cell → List Cell) (c item : Column) (all left rest old new : List Run) (run part : Run) → left ≡ run ∷ rest → new ≡ old ++ part ∷ []
+    → AreItems below item part (run_cells c run) → AreItemsLeft below c item all left old → AreItemsLeft below c item all rest new
+items_more below c item all left rest old new run part here pushed own was =
+    let others : List Cell = flat_map below (runs_cells c rest) in
+    let one : runs_cells item (old ++ part ∷ []) ≡ runs_cells item old ++ run_cells item part =
+    flat_map-append (run_cells item) old (part ∷ []) ∙ ap (λ (xs : List Cell). runs_cells item old ++ xs) (append-nil (run_cells item part)) in
+    let both : flat_map below (runs_cells c left) ≡ flat_map below (run_cells c run) ++ others =
+    ap (λ (rs : List Run). flat_map below (runs_cells c rs)) here ∙ flat_map-append below (run_cells c run) (runs_cells c rest) in
+    record {
+      sound = (and_parts (is_run_sound c run) (are_runs_sound c rest) (ap (are_runs_sound c) (sym here) ∙ was.sound)).1;
+      valid = (and_parts (is_run_valid run) (are_runs_valid rest) (ap are_runs_valid (sym here) ∙ was.valid)).1;
+      good = ap (are_runs_sound item) pushed ∙ list_all-append (is_run_sound item) old (part ∷ []) ∙ and_from _ _ was.good (and_from _ _ own.sound refl);
+      cells = ap (λ (rs : List Run). runs_cells item rs ++ others) pushed
+          ∙ ap (λ (xs : List Cell). xs ++ others) one
+          ∙ append_assoc (runs_cells item old) (run_cells item part) others
+          ∙ ap (λ (xs : List Cell). runs_cells item old ++ (xs ++ others)) own.cells
+          ∙ ap (λ (xs : List Cell). runs_cells item old ++ xs) (sym both)
+          ∙ was.cells;
+    }
+
+pub all_items : (below : Cell → List Cell) (c item : Column) (all left parts : List Run) → left ≡ [] → AreItemsLeft below c item all left parts → runs_cells item parts ≡ flat_map below (runs_cells c all)
+all_items below c item all left parts none was =
+    let end : runs_cells item parts ++ flat_map below (runs_cells c left) ≡ runs_cells item parts =
+    ap (λ (rs : List Run). runs_cells item parts ++ flat_map below (runs_cells c rs)) none ∙ append-nil (runs_cells item parts) in
+    sym end ∙ was.cells
+
+-- ---- the arrays
+
+list_has : (width : OffsetWidth) (item : Column) (p : PlainBatch) (runs : List Run) → are_runs_valid runs ≡ true → with_run_slots p (runs_bits runs) ≡ with_slots p (kind_cells (list_kind width item) runs)
+list_has Four item p runs valid = kind_slots p (lists item) runs refl valid
+list_has Eight item p runs valid = kind_slots p (large_lists item) runs refl valid
+
+-- the node, the validity bitmap and the offsets of lists, and the arrays of their items
+pub list_runs_are : (p q r : PlainBatch) (width : OffsetWidth) (item : Column) (runs items : List Run) (offsets : List ℕ) → are_runs_valid runs ≡ true
+    → runs_cells item items ≡ flat_map item_list (kind_cells (list_kind width item) runs) → offsets ≡ list_offsets (width_of width) (kind_cells (list_kind width item) runs)
+    → q ≡ with_run_slots p (runs_bits runs) → r ≡ with_buffer q offsets
+    → with_arrays r (built_at item (runs_cells item items)) ≡ with_arrays p (built_at (list_column width item) (kind_cells (list_kind width item) runs))
+list_runs_are p q r width item runs items offsets valid below ends slots buffer =
+    let cells : List Cell = kind_cells (list_kind width item) runs in
+    let batch : r ≡ with_buffer (with_slots p cells) (list_offsets (width_of width) cells) =
+    buffer ∙ ap₂ (λ (x : PlainBatch) (b : List ℕ). with_buffer x b) (slots ∙ list_has width item p runs valid) ends in
+    ap₂ (λ (x : PlainBatch) (cs : List Cell). with_arrays x (built_at item cs)) batch below ∙ lists_are width item p cells

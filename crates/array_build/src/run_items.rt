@@ -1,0 +1,120 @@
+// The items of lists, and where they end, of runs that are all valid.
+ghost use Rattle.std.specs.Prelude.{◌≡◌, ◌≤◌, ◌<◌, ◌+◌, true, IfOk, length, get_or};
+ghost use Rattle.std.specs.List.{flat_map};
+ghost use Rattle.array_build.specs.inner.Nodes.{list_kind};
+ghost use Rattle.array_build.specs.inner.RunItems.{AreItems, list_column, list_sizes, run_lists};
+ghost use Rattle.array_build.specs.inner.Runs.{AreOffsetsAdded, AreReady, kind_cells, run_bits};
+ghost use Rattle.array_runs.specs.Runs.{are_runs_sound, is_run_sound, is_run_valid, runs_cells};
+ghost use Rattle.arrow_schema.specs.View.{column_of};
+ghost use Rattle.cells.specs.Cell.{null};
+ghost use Rattle.cells.specs.Dictionary.{item_list};
+ghost use Rattle.columns.specs.Buildable.{large_offset};
+ghost use Rattle.columns.specs.Built.{list_offsets};
+ghost use Rattle.columns.specs.Offsets.{width_of};
+
+use crate::content_bytes::push_offset;
+use crate::item_slots::item_slots;
+use crate::run_slots::{count_slots, run_len};
+use array_runs::Run;
+use arrow_schema::Field;
+use columns::OffsetWidth;
+use std::alloc::{AllocError, Global};
+
+// How many items the list at a place of a run has.
+fn list_size(item: &Field, width: OffsetWidth, run: &Run<'_>, i: usize) -> usize
+    requires sound { is_run_sound (list_column width (column_of item.now)) run.now ≡ true }
+    requires valid { is_run_valid run.now ≡ true }
+    requires within { i < length (run_bits run.now) }
+    ensures { result ≡ length (item_list (get_or (run_lists width (column_of item.now) run.now) i null)) }
+{
+    match run {
+        Run::Slots { array, from, .. } => {
+            // a number of the code is below 2^64, so that the sum is too
+            let _slots = array.slots();
+            let slot = *from + i;
+            array.spanned(width, slot, 1).len
+        }
+        Run::Nulls(_) => 0,
+    }
+}
+
+// The offsets at which the items of a run begin, where the first begin at `start`; and where the last end.
+fn push_list_offsets(
+    offsets: &mut Vec<u8>,
+    item: &Field,
+    width: OffsetWidth,
+    run: &Run<'_>,
+    start: u64,
+) -> Result<u64, AllocError>
+    requires sound { is_run_sound (list_column width (column_of item.now)) run.now ≡ true }
+    requires valid { is_run_valid run.now ≡ true }
+    requires room { start + length (flat_map item_list (run_lists width (column_of item.now) run.now)) ≤ large_offset }
+    ensures offsets { IfOk result (λ next. AreOffsetsAdded (width_of width) offsets.old.items offsets.new.items start next
+        (list_sizes (run_lists width (column_of item.now) run.now))) }
+    ensures next { IfOk result (λ next. next ≡ start + length (flat_map item_list (run_lists width (column_of item.now) run.now))) }
+{
+    let count = run_len(run);
+    let mut next = start;
+    for i in 0..count {
+        push_offset(offsets, width, next)?;
+        next += list_size(item, width, run, i) as u64;
+    }
+    Ok(next)
+}
+
+/// The offsets of lists: 0, and then where the items of each end.
+pub(crate) fn run_list_offsets(
+    alloc: Global,
+    item: &Field,
+    width: OffsetWidth,
+    runs: &[Run<'_>],
+) -> Result<Vec<u8>, AllocError>
+    requires { AreReady (list_kind width (column_of item.now)) runs.now }
+    ensures { IfOk result (λ bytes. bytes.items ≡ list_offsets (width_of width) (kind_cells (list_kind width (column_of item.now)) runs.now)) }
+{
+    let size = count_slots(runs)?.saturating_add(1).saturating_mul(8);
+    let mut offsets = Vec::with_capacity(alloc, size)?;
+    let mut next = 0;
+    for run in runs {
+        next = push_list_offsets(&mut offsets, item, width, run, next)?;
+    }
+    push_offset(&mut offsets, width, next)?;
+    Ok(offsets)
+}
+
+// The items of a run, which are one span: a null has none.
+fn item_run<'a>(item: &Field, width: OffsetWidth, run: &Run<'a>) -> Run<'a>
+    requires sound { is_run_sound (list_column width (column_of item.now)) run.now ≡ true }
+    requires valid { is_run_valid run.now ≡ true }
+    ensures { AreItems item_list (column_of item.now) result (run_lists width (column_of item.now) run.now) }
+{
+    match run {
+        Run::Slots { array, from, len } => {
+            if *len == 0 {
+                return Run::Nulls(0);
+            }
+            let span = array.spanned(width, *from, *len);
+            item_slots(*array, span.start, span.len)
+        }
+        Run::Nulls(_) => Run::Nulls(0),
+    }
+}
+
+/// The items of lists, one after another; a null has none.
+pub(crate) fn item_runs<'a>(
+    alloc: Global,
+    item: &Field,
+    width: OffsetWidth,
+    runs: &[Run<'a>],
+) -> Result<Vec<Run<'a>>, AllocError>
+    requires { AreReady (list_kind width (column_of item.now)) runs.now }
+    ensures cells { IfOk result (λ items. runs_cells (column_of item.now) items.items
+        ≡ flat_map item_list (kind_cells (list_kind width (column_of item.now)) runs.now)) }
+    ensures sound { IfOk result (λ items. are_runs_sound (column_of item.now) items.items ≡ true) }
+{
+    let mut items = Vec::with_capacity(alloc, runs.len())?;
+    for run in runs {
+        items.push(item_run(item, width, run))?;
+    }
+    Ok(items)
+}
