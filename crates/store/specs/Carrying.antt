@@ -38,7 +38,8 @@ asked_sizes c change = map (λ (stream : List ℕ). sector_count (length stream)
 abbrev pub HasNext : Commit → Type 0
 HasNext k = k.epoch < 2 ^ 64 - 1
 
--- how a change of this catalogue ends, beside these runs in use, and which commit and catalogue rule then; each refusal has its one reason, tested in order
+-- how a change of this catalogue ends, beside these runs in use, and which commit and catalogue rule then; each refusal has its one reason, tested in
+-- order, and the device is written to only behind these tests
 abbrev pub IsCarried : (size : ℕ) → (used : Run → Type 0) → Commit → PlainCatalogue → PlainChange → Result (Unit {0}) Refusal → Commit → PlainCatalogue → Type 0
 IsCarried size used k c change (Ok unit) k' c' =
     HasNext k × (segment_count (outline c change) ≤ MAX_SEGMENTS)
@@ -49,7 +50,8 @@ IsCarried size used k c change (Err (refusals.TooMany limits.Epochs)) k' c' = k.
 IsCarried size used k c change (Err (refusals.TooMany limits.Segments)) k' c' = HasNext k × (MAX_SEGMENTS < segment_count (outline c change))
 IsCarried size used k c change (Err (refusals.NoRoom count)) k' c' =
     HasNext k × (segment_count (outline c change) ≤ MAX_SEGMENTS) × Takes size used (asked_sizes c change) (Err count)
-IsCarried size used k c change (Err refusals.Device) k' c' = Unit {0}
+IsCarried size used k c change (Err refusals.Device) k' c' =
+    HasNext k × (segment_count (outline c change) ≤ MAX_SEGMENTS) × ((runs : List Run) × Takes size used (asked_sizes c change) (Ok runs))
 IsCarried size used k c change (Err refusals.OutOfMemory) k' c' = Unit {0}
 IsCarried size used k c change (Err _) k' c' = ⊥
 

@@ -117,6 +117,15 @@ returns-in-Ok-clause-carried g c =
       ),
     )
 
+pub returns-in-Err-clause-carried : goal.returns-in-Err-clause-carried
+returns-in-Err-clause-carried g c =
+    let s = c.args.self.now in
+    let prep = c.in_ok-prepared.ensures.ok in
+    let sizes = asked_sizes (listed_in s) (change_of c.args.change) in
+    let runs = runs_of prep.pieces ++ prep.run ∷ [] in
+    let takes = took_takes s.opened.map.size (IsUsedIn s.opened.map.entries) sizes runs prep.took.took in
+    (prep.next, prep.few, (runs, subst (λ (n : ℕ). Takes n (IsUsedIn s.opened.map.entries) sizes (Ok runs)) s.same takes))
+
 pub returns-in-Ok-clause-goes : goal.returns-in-Ok-clause-goes
 returns-in-Ok-clause-goes g c = λ told base m cmd new fits run makes mk decided.
     let D = g.D.SectorDevice in
