@@ -1,5 +1,5 @@
 // Values of booleans, of runs whose slots are all valid.
-ghost use Rattle.std.specs.Prelude.{◌≡◌, ◌≤◌, ◌-◌, ◌*◌, ◌++◌, false, true, OnOk, IfOk, None, length, map, replicate};
+ghost use Rattle.std.specs.Prelude.{◌≡◌, ◌≤◌, ◌<◌, ◌^◌, ◌-◌, ◌*◌, ◌++◌, false, true, OnOk, IfOk, None, length, map, replicate};
 ghost use Rattle.array_build.specs.Batch.{plain_column};
 ghost use Rattle.array_build.specs.inner.Runs.{AreReady, kind_cells};
 ghost use Rattle.array_runs.specs.Runs.{is_run_sound, is_run_valid, run_cells};
@@ -15,9 +15,14 @@ use arrow_schema::DataType;
 use bitmap::{get, pack};
 use std::alloc::{AllocError, Global};
 
-// Some bits of a bitmap.
+// Some bits of a bitmap, one by one.
 #[tactic(auto, using(crate::proofs::RunBits::next_bit))]
-fn push_bits(bits: &mut Vec<bool>, bitmap: &[u8], from: usize, to: usize) -> Result<(), AllocError>
+fn push_singly(
+    bits: &mut Vec<bool>,
+    bitmap: &[u8],
+    from: usize,
+    to: usize,
+) -> Result<(), AllocError>
     requires within { to ≤ 8 * length bitmap.now }
     requires order { from ≤ to }
     ensures { OnOk result (bits.new.items ≡ bits.old.items ++ map (bit bitmap.now) (range_with_len from (to - from))) }
@@ -26,6 +31,45 @@ fn push_bits(bits: &mut Vec<bool>, bitmap: &[u8], from: usize, to: usize) -> Res
         bits.push(get(bitmap, i))?;
     }
     Ok(())
+}
+
+// All bits of some bytes of a bitmap, a byte at a time.
+fn push_bytes(bits: &mut Vec<bool>, bitmap: &[u8], from: usize, to: usize) -> Result<(), AllocError>
+    requires within { to ≤ length bitmap.now }
+    requires order { from ≤ to }
+    requires counted { 8 * to < 2 ^ 64 }
+    ensures { OnOk result (bits.new.items ≡ bits.old.items ++ map (bit bitmap.now) (range_with_len (8 * from) (8 * (to - from)))) }
+{
+    for byte in from..to {
+        let i = 8 * byte;
+        bits.extend_from_slice(&[
+            get(bitmap, i),
+            get(bitmap, i + 1),
+            get(bitmap, i + 2),
+            get(bitmap, i + 3),
+            get(bitmap, i + 4),
+            get(bitmap, i + 5),
+            get(bitmap, i + 6),
+            get(bitmap, i + 7),
+        ])?;
+    }
+    Ok(())
+}
+
+// Some bits of a bitmap: one by one up to the first whole byte, and behind the last.
+fn push_bits(bits: &mut Vec<bool>, bitmap: &[u8], from: usize, to: usize) -> Result<(), AllocError>
+    requires within { to ≤ 8 * length bitmap.now }
+    requires order { from ≤ to }
+    ensures { OnOk result (bits.new.items ≡ bits.old.items ++ map (bit bitmap.now) (range_with_len from (to - from))) }
+{
+    let first = from.div_ceil(8);
+    let end = to / 8;
+    if end < first {
+        return push_singly(bits, bitmap, from, to);
+    }
+    push_singly(bits, bitmap, from, 8 * first)?;
+    push_bytes(bits, bitmap, first, end)?;
+    push_singly(bits, bitmap, 8 * end, to)
 }
 
 fn push_unset(bits: &mut Vec<bool>, count: usize) -> Result<(), AllocError>
