@@ -1,10 +1,12 @@
 -- What a reader gives in two goes.
 use Rattle.std.proofs.Common.{◌≡◌, ◌∙◌, ℕ, ◌+◌, ◌-◌, ◌≤◌, List, [], ◌++◌, length, Option, Some, None, ap, sym, append_assoc, length-append, arith}
 use Rattle.std.specs.Io.KnownBytes.{Consumes, Keeps}
-use Rattle.std.specs.Prelude.{Result, Ok, Err, IsErrOf}
+use Rattle.std.specs.Prelude.{Result, Ok, Err, IsErrOf, IfSome, vec_len}
+use Rattle.std.specs.Global.{Vec}
 use Rattle.arrowstore.specs.declared.refusal.Refusal.{Refusal}
 use Rattle.arrowstore.specs.declared.refusal.Refusal.TheVariants.{Fault, TooManyBytes, Io, BadSize, Fields, Text, Query, Opening, Store, OutOfMemory}
-use Rattle.arrowstore.specs.Given.{HasGiven, HasGivenAtMost, UnlessTooManyBytes}
+use Rattle.arrowstore.specs.declared.input.TheConstants.{LARGEST_INPUT}
+use Rattle.arrowstore.specs.Given.{HasGiven, HasGivenAtMost, UnlessTooManyBytes, IsWholeInput}
 
 pub consumes_both : (a b c : Option (List ℕ)) (xs ys : List ℕ) → Consumes a b xs → Consumes b c ys → Consumes a c (xs ++ ys)
 consumes_both None b c xs ys first second = tt
@@ -51,3 +53,7 @@ error_in A (Err e) = e
 pub same_error : (A B : Type 0) (e f : Refusal) → IsErrOf {T = A} (Err e) f → IsErrOf {T = B} (Err e) f
 unfolding error_in
 same_error A B e f h = ap (λ x. Err x) (ap (error_in A) h)
+
+-- bytes that were read to the end
+pub whole_input : (input : Option (List ℕ)) (bytes : Vec ℕ) → IfSome input (λ all. bytes.items ≡ all) → vec_len bytes ≤ LARGEST_INPUT → IsWholeInput input bytes.items
+whole_input input bytes all within = (all, omega (arith, within, bytes.ok.0))

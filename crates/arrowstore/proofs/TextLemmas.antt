@@ -1,6 +1,6 @@
 -- What a text and a query give of the table that is found.
 use Rattle.std.proofs.Common.{◌≡◌, ◌∙◌, ℕ, Bool, List, refl, ap, sym, subst}
-use Rattle.std.specs.Prelude.{Option, Some, None, option_map, unwrap_or, IfSome, Result, Ok, Err, OnOk}
+use Rattle.std.specs.Prelude.{Option, Some, None, option_map, unwrap_or, Result, Ok, Err, OnOk}
 use Rattle.std.specs.Io.KnownBytes.{Appends}
 use Rattle.sector_dev.specs.Disk.{Image}
 use Rattle.arrow_schema.specs.Column.{PlainSchema}
@@ -12,12 +12,13 @@ use Rattle.text_import.specs.declared.refusal.Refused.{Refused}
 use Rattle.store.specs.Reading.{ReadsTable}
 use Rattle.arrowstore.specs.declared.refusal.Refusal.{Refusal}
 use Rattle.arrowstore.specs.declared.text_rows.TextForm.{TextForm}
+use Rattle.arrowstore.specs.Given.{IsWholeInput}
 use Rattle.arrowstore.specs.TextRows.{rows_in, InputGives}
 use Rattle.arrowstore.specs.Selecting.{rows_text, QueryAnswers}
 
 -- the schema is that of the entry that is found
 pub input_gives : (form : TextForm) (found : Option PlainEntry) (input : Option (List ℕ)) (s : PlainSchema) (bytes text : List ℕ) (given : Result (List (List Cell)) Refused)
-    → option_map (λ e. e.schema) found ≡ Some s → IfSome input (λ all. bytes ≡ all) → text ≡ bytes → rows_in form s text ≡ given → InputGives form found input given
+    → option_map (λ e. e.schema) found ≡ Some s → IsWholeInput input bytes → text ≡ bytes → rows_in form s text ≡ given → InputGives form found input given
 input_gives form None input s bytes text given is whole same gives = cc
 input_gives form (Some e) input s bytes text given is whole same gives = record {
   entry = e;

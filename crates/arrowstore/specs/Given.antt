@@ -1,6 +1,7 @@
 -- What a reader has given.
-use Rattle.std.specs.Prelude.{ℕ, List, ◌≡◌, ◌≤◌, length, Option, Result, Ok, Err}
+use Rattle.std.specs.Prelude.{ℕ, List, ◌≡◌, ◌+◌, ◌≤◌, length, Option, IfSome, Result, Ok, Err}
 use Rattle.std.specs.Io.KnownBytes.{Consumes}
+use Rattle.arrowstore.specs.declared.input.TheConstants.{LARGEST_INPUT}
 use Rattle.arrowstore.specs.declared.refusal.Refusal.{Refusal}
 use Rattle.arrowstore.specs.declared.refusal.Refusal.TheVariants.{Fault, TooManyBytes, Io, BadSize, Fields, Text, Query, Opening, Store, OutOfMemory}
 
@@ -32,3 +33,14 @@ IsOfInput TooManyBytes = Unit {0}
 IsOfInput Io = Unit {0}
 IsOfInput OutOfMemory = Unit {0}
 IsOfInput _ = ⊥
+
+-- these bytes are all that an input had left, and no more than an input may have
+abbrev pub IsWholeInput : Option (List ℕ) → List ℕ → Type 0
+IsWholeInput input bytes = IfSome input (λ all. bytes ≡ all) × (length bytes ≤ LARGEST_INPUT)
+
+-- why an input is not handed on, and what was read of it: one byte more than an input may have; or a read failed, or memory was refused, before that byte
+abbrev pub RefusesInput : (old new : Option (List ℕ)) → Refusal → Type 0
+RefusesInput old new TooManyBytes = HasGiven old new (LARGEST_INPUT + 1)
+RefusesInput old new Io = HasGivenAtMost old new LARGEST_INPUT
+RefusesInput old new OutOfMemory = HasGivenAtMost old new LARGEST_INPUT
+RefusesInput old new _ = ⊥

@@ -1,5 +1,6 @@
 -- Rows of an input that is a text, for a table of a store.
-use Rattle.std.specs.Prelude.{◌≡◌, ◌⊎◌, ℕ, List, Option, Some, None, IfSome, Result, Ok, Err, IsErr}
+use Rattle.std.specs.Prelude.{◌≡◌, ◌⊎◌, ℕ, Bool, false, List, Option, Some, Result, Ok, Err, IsErrAnd}
+use Rattle.std.specs.Io.KnownBytes.{IsAtEnd}
 use Rattle.arrow_schema.specs.Column.{PlainSchema}
 use Rattle.cells.specs.Cell.{Cell}
 use Rattle.catalogue.specs.Entries.{PlainEntry}
@@ -7,12 +8,12 @@ use Rattle.text_import.specs.declared.refusal.Refused.{Refused}
 use Rattle.text_import.specs.Objects.{jsonl_rows_of}
 use Rattle.text_import.specs.Records.{csv_rows_of}
 use Rattle.tables.specs.declared.refusal.Refusal as tables
-use Rattle.tables.specs.declared.refusal.Refusal.TheVariants as refusals
 use Rattle.arrowstore.specs.declared.refusal.Refusal.{Refusal}
-use Rattle.arrowstore.specs.declared.refusal.Refusal.TheVariants.{Text, Store}
+use Rattle.arrowstore.specs.declared.refusal.Refusal.TheVariants.{Text}
 use Rattle.arrowstore.specs.declared.text_rows.TextForm.{TextForm}
 use Rattle.arrowstore.specs.declared.text_rows.TextForm.TheVariants.{Csv, JsonLines}
-use Rattle.arrowstore.specs.Changing.{Answered}
+use Rattle.arrowstore.specs.Given.{IsWholeInput}
+use Rattle.arrowstore.specs.Changing.{Answered, RefusesAppend}
 
 -- the rows that a text has for a schema, or its first refusal
 abbrev pub rows_in : TextForm → PlainSchema → List ℕ → Result (List (List Cell)) Refused
@@ -24,12 +25,17 @@ pub record InputGives (form : TextForm) (found : Option PlainEntry) (input : Opt
   pub entry : PlainEntry
   pub is_there : found ≡ Some entry
   pub bytes : List ℕ
-  pub whole : IfSome input (λ all. bytes ≡ all)
+  pub whole : IsWholeInput input bytes
   pub gives : rows_in form entry.schema bytes ≡ given
 
--- the rows of all of an input were handed to the store, which gave an answer, and the program's follows it; or it was refused before, and the store is as it was
-abbrev pub HandsRows : TextForm → Option PlainEntry → Option (List ℕ) → (List (List Cell) → Result (Unit {0}) tables.Refusal → Type 0) → Type 0 → Result (Unit {0}) Refusal → Type 0
-HandsRows form found input P same result = (IsErr result × same) ⊎ ((rows : List (List Cell)) × InputGives form found input (Ok rows) × Answered (P rows) result)
+-- the rows of all of an input were handed to the store, which gave an answer, and the program's follows it; or it was refused before, for a reason of which this holds
+abbrev pub HandsRows : TextForm → Option PlainEntry → Option (List ℕ) → (List (List Cell) → Result (Unit {0}) tables.Refusal → Type 0) → (before : Refusal → Type 0) → Result (Unit {0}) Refusal → Type 0
+HandsRows form found input P before result = IsErrAnd result before ⊎ ((rows : List (List Cell)) × InputGives form found input (Ok rows) × Answered (P rows) result)
+
+-- why no rows are handed to the store: all of the input was read, and as a text it is refused; or it is refused as each append is
+abbrev pub RefusesText : {R : Type 0} → (remaining : R → Option (List ℕ)) → TextForm → (halted : Bool) → (found : Option PlainEntry) → (old new : R) → Refusal → Type 0
+RefusesText remaining form halted found old new (Text refused) = (halted ≡ false) × InputGives form found (remaining old) (Err refused) × IsAtEnd (remaining new)
+RefusesText remaining form halted found old new refusal = RefusesAppend remaining halted found old new refusal
 
 -- a refusal of the text is that of all of the input
 abbrev pub IfOfText : TextForm → Option PlainEntry → Option (List ℕ) → Refusal → Type 0

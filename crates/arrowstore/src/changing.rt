@@ -1,15 +1,15 @@
 // What changes the tables of an open store.
 ghost use Rattle.std.specs.Prelude.{◌≡◌, ◌≢◌, true, codes, IfErr, OnOk};
 ghost use Rattle.std.specs.Io.KnownBytes.{Appends};
+ghost use Rattle.catalogue.specs.Edits.{entry_of};
 ghost use Rattle.tables.specs.Commands.{import_stream, append_stream};
 ghost use Rattle.tables.specs.Tables.{Tables};
 ghost use Rattle.tables.specs.View.{command_of};
 ghost use Rattle.store.specs.Applying.{GoesOn, reply_of};
 ghost use Rattle.store.specs.Calls.{apply_call};
-ghost use Rattle.store.specs.Fits.{StoreFits};
+ghost use Rattle.store.specs.Fits.{StoreFits, is_halted, listed_in};
 ghost use Rattle.store.specs.Machine.{Machine};
-ghost use Rattle.arrowstore.specs.Changing.{Answered, Hands};
-ghost use Rattle.arrowstore.specs.Reading.{OfStore};
+ghost use Rattle.arrowstore.specs.Changing.{Answered, AnswersCommand, Hands, RefusesImport, RefusesAppend};
 
 use crate::output::write_whole;
 use crate::{LARGEST_INPUT, Refusal, read_at_most};
@@ -30,7 +30,8 @@ pub fn apply_command<D: SectorDevice, W: Write>(
     // The answer is the store's: done only where it has the command done, and else its refusal.
     ensures goes { D.tells ≡ true → (base : Tables) (m : Machine) → StoreFits D.size D.story base m store.old
         → Answered (λ answer. GoesOn D.size D.story D.failed base m (apply_call (command_of command)) (reply_of answer) store.old store.new) result }
-    ensures told { IfErr result (OfStore (λ _. Unit {0})) }
+    // On every store and every device: the store was given the command, and what it answered is told.
+    ensures told { Answered (λ answer. AnswersCommand D.size D.story D.tells (command_of command) answer store.old store.new) result }
     ensures written { OnOk result (Appends (W.contents output.old) (W.contents output.new) (codes "ok\n")) }
     ensures silent { IfErr result (λ refusal. refusal ≢ Refusal.Io → output.new ≡ output.old) }
 {
@@ -51,7 +52,11 @@ pub fn import_input<D: SectorDevice, R: Read, W: Write>(
     ensures goes { D.tells ≡ true → (base : Tables) (m : Machine) → StoreFits D.size D.story base m store.old
         → Hands (R.remaining input.old)
         (λ bytes answer. GoesOn D.size D.story D.failed base m (apply_call (import_stream name.now bytes)) (reply_of answer) store.old store.new)
-        (store.new ≡ store.old) result }
+        (λ refusal. store.new ≡ store.old) result }
+    // On any store: it was given all of the input, and what it answered is told; or there was a reason before, and nothing is changed or written.
+    ensures told { Hands (R.remaining input.old)
+        (λ bytes answer. AnswersCommand D.size D.story D.tells (import_stream name.now bytes) answer store.old store.new)
+        (λ refusal. RefusesImport R.remaining name.now input.old input.new refusal × (store.new ≡ store.old) × (output.new ≡ output.old)) result }
     ensures written { OnOk result (Appends (W.contents output.old) (W.contents output.new) (codes "ok\n")) }
     ensures silent { IfErr result (λ refusal. refusal ≢ Refusal.Io → output.new ≡ output.old) }
 {
@@ -76,7 +81,11 @@ pub fn append_input<D: SectorDevice, R: Read, W: Write>(
     ensures goes { D.tells ≡ true → (base : Tables) (m : Machine) → StoreFits D.size D.story base m store.old
         → Hands (R.remaining input.old)
         (λ bytes answer. GoesOn D.size D.story D.failed base m (apply_call (append_stream name.now bytes)) (reply_of answer) store.old store.new)
-        (store.new ≡ store.old) result }
+        (λ refusal. store.new ≡ store.old) result }
+    ensures told { Hands (R.remaining input.old)
+        (λ bytes answer. AnswersCommand D.size D.story D.tells (append_stream name.now bytes) answer store.old store.new)
+        (λ refusal. RefusesAppend R.remaining (is_halted store.old) (entry_of (listed_in store.old) name.now) input.old input.new refusal
+        × (store.new ≡ store.old) × (output.new ≡ output.old)) result }
     ensures written { OnOk result (Appends (W.contents output.old) (W.contents output.new) (codes "ok\n")) }
     ensures silent { IfErr result (λ refusal. refusal ≢ Refusal.Io → output.new ≡ output.old) }
 {

@@ -10,9 +10,10 @@ ghost use Rattle.tables.specs.Commands.{append_rows};
 ghost use Rattle.tables.specs.Tables.{Tables};
 ghost use Rattle.store.specs.Applying.{GoesOn, reply_of};
 ghost use Rattle.store.specs.Calls.{apply_call};
-ghost use Rattle.store.specs.Fits.{StoreFits, listed_in};
+ghost use Rattle.store.specs.Fits.{StoreFits, is_halted, listed_in};
 ghost use Rattle.store.specs.Machine.{Machine};
-ghost use Rattle.arrowstore.specs.TextRows.{rows_in, HandsRows, IfOfText};
+ghost use Rattle.arrowstore.specs.Changing.{AnswersCommand};
+ghost use Rattle.arrowstore.specs.TextRows.{rows_in, HandsRows, RefusesText, IfOfText};
 
 use crate::{LARGEST_INPUT, Refusal, apply_command, read_at_most};
 use arrow_schema::Schema;
@@ -62,7 +63,12 @@ pub fn append_text<D: SectorDevice, R: Read, W: Write>(
     ensures goes { D.tells ≡ true → (base : Tables) (m : Machine) → StoreFits D.size D.story base m store.old
         → HandsRows form.now (entry_of (listed_in store.old) name.now) (R.remaining input.old)
         (λ rows answer. GoesOn D.size D.story D.failed base m (apply_call (append_rows name.now rows)) (reply_of answer) store.old store.new)
-        (store.new ≡ store.old) result }
+        (λ refusal. store.new ≡ store.old) result }
+    // On any store: it was given these rows, and what it answered is told; or there was a reason before, and nothing is changed or written.
+    ensures told { HandsRows form.now (entry_of (listed_in store.old) name.now) (R.remaining input.old)
+        (λ rows answer. AnswersCommand D.size D.story D.tells (append_rows name.now rows) answer store.old store.new)
+        (λ refusal. RefusesText R.remaining form.now (is_halted store.old) (entry_of (listed_in store.old) name.now) input.old input.new refusal
+        × (store.new ≡ store.old) × (output.new ≡ output.old)) result }
     // A record that is refused is the first one that is none.
     ensures refused { IfErr result (IfOfText form.now (entry_of (listed_in store.old) name.now) (R.remaining input.old)) }
     ensures written { OnOk result (Appends (W.contents output.old) (W.contents output.new) (codes "ok\n")) }

@@ -1,6 +1,7 @@
 use Rattle.std.proofs.Common.{map, inr}
 use Rattle.arrow_schema.specs.View.{schema_of}
 use Rattle.cells.specs.Row.{row_of}
+use Rattle.arrowstore.proofs.GivenLemmas.{whole_input}
 use Rattle.arrowstore.proofs.TextLemmas.{input_gives}
 use Rattle.arrowstore.proofs.text_rows.append_text.Goals as goal
 
@@ -8,6 +9,14 @@ pub returns-clause-goes : goal.returns-clause-goes
 returns-clause-goes g c = λ tells base m fits.
     inr (
       map row_of c.in_ok-rows.rows.items,
-      input_gives _ _ _ (schema_of c.in_ok-schema.schema) c.in_ok-text.text.items c.deref.result.now _ c.in_ok-schema.ensures.found.1 c.in_ok-text.ensures.all c.deref.ensures.value c.in_ok-rows.ensures,
+      input_gives _ _ _ (schema_of c.in_ok-schema.schema) c.in_ok-text.text.items c.deref.result.now _ c.in_ok-schema.ensures.found.1 (whole_input _ c.in_ok-text.text c.in_ok-text.ensures.all c.in_ok-text.ensures.within) c.deref.ensures.value c.in_ok-rows.ensures,
       rw (← c.in_ok-name.ensures.ok) (c.apply_command.ensures.goes tells base m fits),
+    )
+
+pub returns-clause-told : goal.returns-clause-told
+returns-clause-told g c =
+    inr (
+      map row_of c.in_ok-rows.rows.items,
+      input_gives _ _ _ (schema_of c.in_ok-schema.schema) c.in_ok-text.text.items c.deref.result.now _ c.in_ok-schema.ensures.found.1 (whole_input _ c.in_ok-text.text c.in_ok-text.ensures.all c.in_ok-text.ensures.within) c.deref.ensures.value c.in_ok-rows.ensures,
+      rw (← c.in_ok-name.ensures.ok) c.apply_command.ensures.told,
     )
