@@ -25,7 +25,7 @@ impl<D: SectorDevice> Store<D> {
     /// The canonical stream of the table of a name: it means the table. It only reads, and all of the stream is in memory.
     ///
     /// # Errors
-    /// Those of [`Store::read`].
+    /// Those of [`Store::read`], `OutOfMemory` also where the stream finds no memory.
     pub fn export_bytes(&mut self, alloc: Global, name: &str) -> Result<Vec<u8>, Refusal>
         // Of a store that stands for a machine it is a stream of the table of the settled commands.
         ensures goes { IfOk result (λ bytes. D.tells ≡ true → (base : Tables) (m : Machine) → StoreFits D.size D.story base m self.old
@@ -54,7 +54,8 @@ impl<D: SectorDevice> Store<D> {
     /// Writes the canonical stream of the table of a name, and flushes. All of it is made before the first byte is written.
     ///
     /// # Errors
-    /// Those of [`Store::read`], and then nothing is written; `Write` where the writer fails, and then some of it may be written.
+    /// Those of [`Store::export_bytes`], and then nothing is written; `Write` where the writer fails, also a `Vec` that finds no memory, and then
+    /// some of it may be written.
     pub fn export<W: Write>(
         &mut self,
         alloc: Global,

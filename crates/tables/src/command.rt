@@ -24,12 +24,12 @@ pub enum Command {
         name: String,
         bytes: Vec<u8>,
     },
-    /// The rows that a stream means, behind those of the table. S1, S7 Bytes, S5, S4, S6, S7 Weight.
+    /// The rows that a stream means, behind those of the table. S1, S7 Bytes, S5, S4, S6; then the table is read, and S7 Weight.
     AppendStream {
         name: String,
         bytes: Vec<u8>,
     },
-    /// Rows behind those of the table. S1, S6, S7 Weight.
+    /// Rows behind those of the table. S1, S6; then the table is read, and S7 Weight.
     AppendRows {
         name: String,
         rows: Vec<Row>,

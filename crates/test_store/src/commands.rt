@@ -5,7 +5,7 @@ use crate::playing::{Slot, WAYS, Way, new_slot, play, shut};
 use crate::shown::layout;
 use crate::steps::{Step, Steps};
 use Cell::{Null, Number, Text};
-use Input::{Changed, Column, First, Front, Ints};
+use Input::{Changed, Column, First, Front, Ints, Texts};
 use Step::{
     Append, Close, Create, Export, Format, Give, Import, Open, Read, Remove, Rename, Save, Schema,
     Tables,
@@ -311,6 +311,19 @@ const REFUSED: &[Row] = &[
             (Tables, "t 3"),
         ],
         "epoch 3, 233 in 5, t: 3+1 2+1",
+    ),
+    // A stream of texts goes into dictionaries, and no row may have more than the 128 that indices of 8 bits can name.
+    (
+        32,
+        &[
+            (Format, "ok"),
+            (Create("t", &["l:list<dict<int8,utf8>>"]), "ok"),
+            (Append("t", Texts(&[128, 129])), "S6 RowUnfit 1"),
+            (Append("t", Texts(&[128, 1])), "ok"),
+            (Tables, "t 2"),
+            (Remove("t"), "ok"),
+        ],
+        "epoch 4, 4 in 3",
     ),
     (
         16,

@@ -1,4 +1,4 @@
-// A read of the device that fails while a store is opened, a table is read or exported, or its rows are weighed for an append. The store is halted
+// A read of the device that fails while a store is opened, a table is read or exported, or its rows are weighed for an append or selected from. The store is halted
 // then; opened again it has all that it had.
 use crate::inputs::{INT, Input};
 use crate::made::{NotMade, assert_no_row};
@@ -7,7 +7,7 @@ use crate::playing::{Slot, Way, is_played, replies_of, shut, wrong_reply};
 use crate::steps::{Step, Steps};
 use crate::stops::are_refused;
 use Input::{Column, Ints};
-use Step::{Append, Create, Export, Format, Import, Open, Read, Tables};
+use Step::{Append, Create, Export, Format, Give, Import, Open, Read, Remove, Save, Tables};
 use sector_dev::ModelDevice;
 use std::alloc::Global;
 use store::{Place, Reply, Store};
@@ -31,12 +31,15 @@ const READING: Steps = &[
         "\"b\":int64: 1 1 1 1 1 1 1 1 1 1 1 1 1 1 1 1 1 1 1 1 1 1 1 1 1 1",
     ),
     (Export("t"), "stream of \"a\":int32?: 7 -1 5"),
+    (Give("t", &[]), "ok"),
+    (Save("t", "w", (&[], &[], None)), "ok"),
+    (Remove("w"), "ok"),
     (Append("u", Column("b:int64", &[2])), "ok"),
     (Tables, "t 3, u 27, v 0"),
 ];
 
 // How many sectors were read after each step: both commits and two of the catalogue, and those of the table's segments.
-const READS: &[u64] = &[4, 6, 6, 8, 10, 12, 12];
+const READS: &[u64] = &[4, 6, 6, 8, 10, 12, 14, 14, 16, 16];
 
 // Whether just so many steps are answered as they are to, and the others refused.
 fn are_answered(alloc: Global, replies: &[Reply], done: usize) -> Result<bool, NotMade> {
@@ -76,7 +79,7 @@ fn survives(alloc: Global, k: u64, way: Way) -> Result<bool, NotMade> {
 
 // The first read after whose failure something is wrong. In the last run none fails.
 fn wrong_read(alloc: Global, way: Way) -> Result<Option<usize>, NotMade> {
-    for k in 1..=13u64 {
+    for k in 1..=17u64 {
         if !survives(alloc, k, way)? {
             return Ok(Some(k as usize));
         }
@@ -90,11 +93,13 @@ fn each_read_of_the_device_fails_in_turn(rt: HostRuntime) {
     assert_no_row(&rt, wrong_read(rt.alloc(), Way::OneRun));
 }
 
+fn opened(alloc: Global, device: ModelDevice) -> Result<Store<ModelDevice>, NotMade> {
+    Store::open(alloc, device).map_err(|_| NotMade)
+}
+
 // Whether the export to a writer is refused twice, and writes nothing.
 fn is_nothing_written(alloc: Global, device: ModelDevice) -> Result<bool, NotMade> {
-    let Ok(mut store) = Store::open(alloc, device) else {
-        return Err(NotMade);
-    };
+    let mut store = opened(alloc, device)?;
     let mut written = Vec::new(alloc);
     let first = store.export(alloc, "t", &mut written);
     let second = store.export(alloc, "t", &mut written);
@@ -111,7 +116,41 @@ fn wrong_export(alloc: Global) -> Result<Option<usize>, NotMade> {
     Ok(None)
 }
 
+// How many bytes a writer takes before each further write fails, and what the export of 328 bytes answers.
+const ROOMS: &[(usize, Result<(), Refusal>)] = &[
+    (0, Err(Refusal::Write)),
+    (1, Err(Refusal::Write)),
+    (327, Err(Refusal::Write)),
+    (328, Ok(())),
+];
+
+const STILL_THERE: Steps = &[(Read("t"), "\"a\":int32?: 7 -1 5")];
+
+fn is_written(
+    alloc: Global,
+    device: ModelDevice,
+    room: usize,
+    want: Result<(), Refusal>,
+) -> Result<bool, NotMade> {
+    let mut store = opened(alloc, device)?;
+    let mut bytes = [0; 328];
+    let mut writer = bytes.get_mut(..room).ok_or(NotMade)?;
+    let answer = store.export(alloc, "t", &mut writer);
+    Ok(answer == want && is_played(alloc, &mut Some(Place::Open(store)), STILL_THERE)?)
+}
+
+// The first writer of which something else is answered, or after which the table can't be read.
+fn wrong_writer(alloc: Global) -> Result<Option<usize>, NotMade> {
+    for (place, (room, want)) in ROOMS.iter().enumerate() {
+        if !is_written(alloc, device_after(alloc, STORED)?, *room, *want)? {
+            return Ok(Some(place));
+        }
+    }
+    Ok(None)
+}
+
 #[test]
 fn an_export_that_fails_writes_nothing(rt: HostRuntime) {
     assert_no_row(&rt, wrong_export(rt.alloc()));
+    assert_no_row(&rt, wrong_writer(rt.alloc()));
 }

@@ -57,6 +57,8 @@ pub enum Input {
     First(u32),
     /// One column of this field text, with these values.
     Column(&'static str, &'static [i32]),
+    /// One column `l:list<utf8>` with a row for each number: so many texts, no two the same.
+    Texts(&'static [u32]),
     /// So many rows without a column.
     NoColumns(usize),
     /// The stream of 7 and -1, 320 bytes, with these bytes changed.
@@ -109,6 +111,23 @@ fn first_cells(alloc: Global, count: u32) -> Result<Vec<Value>, AllocError> {
     Ok(cells)
 }
 
+// A list of so many texts.
+fn list_of(alloc: Global, count: u32) -> Result<Value, NotMade> {
+    let mut items = Vec::with_capacity(alloc, count as usize)?;
+    for number in 0..count {
+        items.push(Value::Text(format!(in alloc; "{number}")?))?;
+    }
+    Ok(Value::List(items))
+}
+
+fn lists_of(alloc: Global, counts: &[u32]) -> Result<Vec<Value>, NotMade> {
+    let mut lists = Vec::with_capacity(alloc, counts.len())?;
+    for count in counts {
+        lists.push(list_of(alloc, *count)?)?;
+    }
+    Ok(lists)
+}
+
 fn changed(alloc: Global, changes: &[(usize, u8)]) -> Result<Vec<u8>, NotMade> {
     let mut stream = bytes_of_values(alloc, INT, &[7, -1])?;
     for (at, byte) in changes {
@@ -135,6 +154,12 @@ pub fn bytes_of(alloc: Global, input: Input) -> Result<Vec<u8>, NotMade> {
         Input::Ints(values) => bytes_of_values(alloc, INT, values),
         Input::First(count) => stream_of(alloc, INT, first_cells(alloc, count)?, count as usize),
         Input::Column(text, values) => bytes_of_values(alloc, &[text], values),
+        Input::Texts(counts) => stream_of(
+            alloc,
+            &["l:list<utf8>"],
+            lists_of(alloc, counts)?,
+            counts.len(),
+        ),
         Input::NoColumns(rows) => stream_of(alloc, &[], Vec::new(alloc), rows),
         Input::Changed(changes) => changed(alloc, changes),
         Input::Front(len) => front(alloc, len),

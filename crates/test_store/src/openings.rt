@@ -1,11 +1,12 @@
 // Devices that are formatted or opened: of other sizes, with a store, and with bytes that were changed.
-use crate::inputs::{INT, Input};
+use crate::inputs::{Cell, INT, Input};
 use crate::made::{NotMade, assert_no_row};
 use crate::playing::{Slot, is_played, new_slot, shut};
 use crate::shown::contents;
 use crate::steps::{Step, Steps};
+use Cell::Text;
 use Input::{Changed, First, Ints};
-use Step::{Append, Create, Export, Format, Import, Open, Read, Remove, Tables};
+use Step::{Append, Create, Export, Format, Give, Import, Open, Read, Remove, Save, Tables};
 use sector_dev::{Choice, ModelDevice, SectorDevice};
 use std::alloc::Global;
 use store::Place;
@@ -129,6 +130,14 @@ const CAUSES: &[(&[Change], Steps)] = &[
             (Export("t"), "S13 SegmentUnread 0"),
             (Append("t", Ints(&[])), "S13 SegmentUnread 0"),
             (Append("t", Changed(&[(120, 98)])), "S4 SchemaMismatch"),
+            (Give("t", &[]), "S13 SegmentUnread 0"),
+            (Give("t", &[&[Text("x")]]), "S6 RowUnfit 0"),
+            (Save("t", "w", (&[], &[], None)), "S13 SegmentUnread 0"),
+            (Save("t", "a b", (&[], &[], None)), "S3 BadName"),
+            (
+                Save("t", "w", (&["b"], &[], None)),
+                "S12 Query Q1 UnknownColumn",
+            ),
             (Tables, "t 3"),
         ],
     ),

@@ -67,8 +67,9 @@ fn read_at(alloc: Global, store: &mut Store<ModelDevice>, name: &str) -> Reply {
 }
 
 fn exported(alloc: Global, store: &mut Store<ModelDevice>, name: &str) -> Reply {
-    match store.export_bytes(alloc, name) {
-        Ok(bytes) => Reply::Bytes(bytes),
+    let mut bytes = Vec::new(alloc);
+    match store.export(alloc, name, &mut bytes) {
+        Ok(()) => Reply::Bytes(bytes),
         Err(refusal) => Reply::Refused(refusal),
     }
 }

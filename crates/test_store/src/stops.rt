@@ -244,31 +244,32 @@ fn each_call_of_the_device_fails_or_stops_in_a_run(rt: HostRuntime) {
 // Faults of a device, what is asked of it, and what a stop at the end leaves.
 type Row = (&'static [Fault], Steps, &'static [(Choice, &'static str)]);
 
+const DOUBTFUL: Steps = &[
+    (Format, "ok"),
+    (Create("t", INT), "ok"),
+    (Create("u", INT), "S9 Device"),
+    (Create("a b", INT), "S10 Halted"),
+    (Tables, "S10 Halted"),
+    (Read("t"), "S10 Halted"),
+    (Export("t"), "S10 Halted"),
+    (Open, "ok"),
+    (Tables, "t 0, u 0"),
+    (Read("u"), "\"a\":int32?:"),
+    (Create("v", INT), "S9 Device"),
+];
+
+const WITH_IT: &[(Choice, &str)] = &[
+    (Choice::Bits(2), "t:, u:"),
+    (Choice::Old, "t:, u:"),
+    (Choice::New, "t:, u:"),
+    (Choice::Lost(u64::MAX), "t:, u:"),
+];
+
 // Formatting makes the first six calls, and a table without rows four each.
 const STOPPED: &[Row] = &[
-    // A command in doubt is settled by the opening that found it.
-    (
-        &[Fault::Fail(14), Fault::Stop(17)],
-        &[
-            (Format, "ok"),
-            (Create("t", INT), "ok"),
-            (Create("u", INT), "S9 Device"),
-            (Create("a b", INT), "S10 Halted"),
-            (Tables, "S10 Halted"),
-            (Read("t"), "S10 Halted"),
-            (Export("t"), "S10 Halted"),
-            (Open, "ok"),
-            (Tables, "t 0, u 0"),
-            (Read("u"), "\"a\":int32?:"),
-            (Create("v", INT), "S9 Device"),
-        ],
-        &[
-            (Choice::Bits(2), "t:, u:"),
-            (Choice::Old, "t:, u:"),
-            (Choice::New, "t:, u:"),
-            (Choice::Lost(u64::MAX), "t:, u:"),
-        ],
-    ),
+    // A command in doubt is settled by the opening that found it, also where the next write, or the next sync, is the last call.
+    (&[Fault::Fail(14), Fault::Stop(16)], DOUBTFUL, WITH_IT),
+    (&[Fault::Fail(14), Fault::Stop(17)], DOUBTFUL, WITH_IT),
     // The commit is written, and not yet synced.
     (
         &[Fault::Stop(9)],

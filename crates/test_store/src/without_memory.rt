@@ -14,9 +14,10 @@ use tables::Refusal;
 // Where the store keeps what after the script.
 const LAYOUT: &str = "epoch 9, 398 in 5, s: 4+1, w: 2+1";
 
+// A `Vec` that an export is written to fails where it has no memory.
 fn wants_memory(reply: &Reply) -> bool {
     match reply {
-        Reply::Refused(refusal) => *refusal == Refusal::OutOfMemory,
+        Reply::Refused(refusal) => matches!(refusal, Refusal::OutOfMemory | Refusal::Write),
         Reply::NotOpened(refusal) => *refusal == OpeningRefusal::OutOfMemory,
         _ => false,
     }
