@@ -1,6 +1,6 @@
 -- What a text and a query give of the table that is found.
 use Rattle.std.proofs.Common.{◌≡◌, ◌∙◌, ℕ, Bool, List, refl, ap, sym, subst}
-use Rattle.std.specs.Prelude.{Option, Some, None, option_map, unwrap_or, Result, Ok, Err, OnOk}
+use Rattle.std.specs.Prelude.{Option, Some, None, option_map, unwrap_or, Result, Ok, Err, OnOk, IfErr}
 use Rattle.std.specs.Io.KnownBytes.{Appends}
 use Rattle.sector_dev.specs.Disk.{Image}
 use Rattle.arrow_schema.specs.Column.{PlainSchema}
@@ -11,10 +11,11 @@ use Rattle.query.specs.Selection.{selection}
 use Rattle.text_import.specs.declared.refusal.Refused.{Refused}
 use Rattle.store.specs.Reading.{ReadsTable}
 use Rattle.arrowstore.specs.declared.refusal.Refusal.{Refusal}
+use Rattle.arrowstore.specs.declared.refusal.Refusal.TheVariants.{Io}
 use Rattle.arrowstore.specs.declared.text_rows.TextForm.{TextForm}
 use Rattle.arrowstore.specs.Given.{IsWholeInput}
 use Rattle.arrowstore.specs.TextRows.{rows_in, InputGives}
-use Rattle.arrowstore.specs.Selecting.{rows_text, QueryAnswers}
+use Rattle.arrowstore.specs.Selecting.{rows_text, QueryAnswers, RefusesQuery}
 
 -- the schema is that of the entry that is found
 pub input_gives : (form : TextForm) (found : Option PlainEntry) (input : Option (List ℕ)) (s : PlainSchema) (bytes text : List ℕ) (given : Result (List (List Cell)) Refused)
@@ -35,3 +36,10 @@ pub lines_written : (halted tells : Bool) (image : Image) (found : Option PlainE
 lines_written halted tells image found q table selected text old new (Ok done) reads answers is appends =
     (selected, record { table = table; reads = reads; answers = answers }, subst (λ b. Appends old new b) is appends)
 lines_written halted tells image found q table selected text old new (Err e) reads answers is appends = appends
+
+-- where the output failed there is a selection
+pub selection_told : (halted tells : Bool) (image : Image) (found : Option PlainEntry) (q : PlainQuery) (table selected : PlainTable) (r : Result (Unit {0}) Refusal)
+    → IfErr r (λ e. e ≡ Io) → ReadsTable halted tells image found table → selection table q ≡ Ok selected → IfErr r (RefusesQuery halted tells image found q)
+selection_told halted tells image found q table selected (Ok done) io reads answers = tt
+selection_told halted tells image found q table selected (Err e) io reads answers =
+    subst (RefusesQuery halted tells image found q) (sym io) (selected, record { table = table; reads = reads; answers = answers })

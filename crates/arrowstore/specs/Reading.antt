@@ -1,21 +1,28 @@
 -- What the program answers of commands that read the tables of a store.
-use Rattle.std.specs.Prelude.{◌≡◌, ◌⊎◌, ℕ, Bool, true, List, take, slice_get, Some}
+use Rattle.std.specs.Prelude.{◌≡◌, ◌⊎◌, ℕ, Bool, true, List, take, slice_get, Some, Result, Ok, Err}
 use Rattle.std.specs.List.{AllByRecursion}
 use Rattle.sector_dev.specs.Disk.{Image}
 use Rattle.cells.specs.Cell.{PlainTable}
 use Rattle.catalogue.specs.Entries.{PlainCatalogue}
 use Rattle.catalogue.specs.Edits.{entry_of, tables_of}
 use Rattle.tables.specs.declared.refusal.Refusal as tables
+use Rattle.store.specs.Calls.{PlainReply, done, refused}
 use Rattle.store.specs.Listing.{RefusesTables}
 use Rattle.store.specs.Reading.{ReadsTable, RefusesRead}
 use Rattle.arrowstore.specs.declared.refusal.Refusal.{Refusal}
 use Rattle.arrowstore.specs.declared.refusal.Refusal.TheVariants.{Io, Store}
 
--- a refusal of the store, of which this holds; or the output failed
-abbrev pub OfStore : (tables.Refusal → Type 0) → Refusal → Type 0
-OfStore P (Store r) = P r
-OfStore P Io = Unit {0}
-OfStore P _ = ⊥
+-- a refusal of the store, of which this holds; or the output failed, and that holds of what was to be written
+abbrev pub OfStore : (tables.Refusal → Type 0) → (there : Type 0) → Refusal → Type 0
+OfStore P there (Store r) = P r
+OfStore P there Io = there
+OfStore P there _ = ⊥
+
+-- how the store's own calls ended where the program answers so
+abbrev pub store_ended : Result (Unit {0}) Refusal → PlainReply
+store_ended (Ok unit) = done
+store_ended (Err (Store r)) = refused r
+store_ended (Err _) = done
 
 -- the table of a name can be read
 abbrev pub IsReadable : (halted : Bool) → Image → PlainCatalogue → (List ℕ × ℕ) → Type 0

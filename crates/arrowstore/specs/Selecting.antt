@@ -49,10 +49,10 @@ plain_reason UnknownColumn = query.unknown_column
 plain_reason BadCondition = query.bad_condition
 plain_reason NotComparable = query.not_comparable
 
--- why nothing is selected: the table is not read, or the query is refused; or memory was, or the output failed
+-- why nothing is printed of a query: the table is not read; or it is, and the query is refused or memory was; or there is a selection, and the output failed
 abbrev pub RefusesQuery : (halted tells : Bool) → Image → Option PlainEntry → PlainQuery → Refusal → Type 0
 RefusesQuery halted tells image found q (Store refusal) = RefusesRead halted tells image found refusal
 RefusesQuery halted tells image found q (Query refusal) = QueryAnswers halted tells image found q (Err (plain_reason refusal))
-RefusesQuery halted tells image found q Io = Unit {0}
-RefusesQuery halted tells image found q OutOfMemory = Unit {0}
+RefusesQuery halted tells image found q Io = (selected : PlainTable) × QueryAnswers halted tells image found q (Ok selected)
+RefusesQuery halted tells image found q OutOfMemory = (table : PlainTable) × ReadsTable halted tells image found table
 RefusesQuery halted tells image found q _ = ⊥

@@ -1,12 +1,13 @@
 // What an open store is asked for, as lines on an output.
-ghost use Rattle.std.specs.Prelude.{◌≡◌, ◌≢◌, ◌++◌, map, option_map, string_bytes, Some, IfSome, IfOk, IfErr, OnOk};
+ghost use Rattle.std.specs.Prelude.{◌≡◌, ◌≢◌, ◌++◌, map, option_map, string_bytes, false, Some, IfSome, IsSome, IfOk, IfErr, OnOk};
 ghost use Rattle.std.specs.Fmt.{decimal};
 ghost use Rattle.std.specs.Io.KnownBytes.{Appends};
 ghost use Rattle.arrow_schema.specs.Column.{Column};
 ghost use Rattle.arrow_schema.specs.View.{column_of, schema_of};
 ghost use Rattle.catalogue.specs.Edits.{entry_of, tables_of};
-ghost use Rattle.store.specs.Fits.{listed_in};
-ghost use Rattle.arrowstore.specs.Printed.{tables_text, schema_text};
+ghost use Rattle.store.specs.Fits.{listed_in, is_halted};
+ghost use Rattle.store.specs.Listing.{RefusesTables, RefusesSchema};
+ghost use Rattle.arrowstore.specs.Printed.{tables_text, schema_text, RefusesPrinting};
 
 use crate::Refusal;
 use crate::output::write_whole;
@@ -55,6 +56,7 @@ pub fn print_tables<D: SectorDevice, W: Write>(
 ) -> Result<(), Refusal>
     // What is printed is what the store has, and nothing else.
     ensures written { OnOk result (Appends (W.contents output.old) (W.contents output.new) (tables_text (tables_of (listed_in store.now)))) }
+    ensures told { IfErr result (RefusesPrinting (RefusesTables (is_halted store.now)) (is_halted store.now ≡ false)) }
     // Where it is refused nothing is printed, unless a write failed.
     ensures silent { IfErr result (λ refusal. refusal ≢ Refusal.Io → output.new ≡ output.old) }
 {
@@ -72,6 +74,8 @@ pub fn print_schema<D: SectorDevice, W: Write>(
 ) -> Result<(), Refusal>
     ensures written { OnOk result ((e : _) × (entry_of (listed_in store.now) name.now ≡ Some e)
         × Appends (W.contents output.old) (W.contents output.new) (schema_text e.schema.columns)) }
+    ensures told { IfErr result (RefusesPrinting (RefusesSchema (is_halted store.now) (entry_of (listed_in store.now) name.now))
+        ((is_halted store.now ≡ false) × IsSome (entry_of (listed_in store.now) name.now))) }
     ensures silent { IfErr result (λ refusal. refusal ≢ Refusal.Io → output.new ≡ output.old) }
 {
     let schema = store.schema(alloc, name)?;

@@ -7,8 +7,8 @@ ghost use Rattle.cells.specs.Cell.{PlainTable};
 ghost use Rattle.catalogue.specs.Edits.{entry_of, tables_of};
 ghost use Rattle.canonical_stream.specs.Canonical.{canonical};
 ghost use Rattle.store.specs.Fits.{device_of, is_halted, listed_in};
-ghost use Rattle.store.specs.Reading.{ReadsTable, RefusesRead};
-ghost use Rattle.arrowstore.specs.Reading.{OfStore, IsReadable, FirstUnread, RefusesCheck};
+ghost use Rattle.store.specs.Reading.{ReadsTable, RefusesRead, OnlyReadsStore, ended};
+ghost use Rattle.arrowstore.specs.Reading.{OfStore, store_ended, IsReadable, FirstUnread, RefusesCheck};
 
 use crate::Refusal;
 use crate::output::write_whole;
@@ -28,7 +28,10 @@ pub fn export_table<D: SectorDevice, W: Write>(
     ensures written { OnOk result ((t : PlainTable) × ReadsTable (is_halted store.old) D.tells (shown_image (now (D.story (device_of store.old))))
         (entry_of (listed_in store.old) name.now) t × Appends (W.contents output.old) (W.contents output.new) (canonical t)) }
     ensures told { IfErr result (OfStore (RefusesRead (is_halted store.old) D.tells (shown_image (now (D.story (device_of store.old))))
-        (entry_of (listed_in store.old) name.now))) }
+        (entry_of (listed_in store.old) name.now)) ((t : PlainTable) × ReadsTable (is_halted store.old) D.tells
+        (shown_image (now (D.story (device_of store.old)))) (entry_of (listed_in store.old) name.now) t)) }
+    // The store is only read.
+    ensures reads { OnlyReadsStore D.size D.story D.failed D.tells (store_ended result) store.old store.new }
     // Where it is refused nothing is written, unless a write failed.
     ensures silent { IfErr result (λ refusal. refusal ≢ Refusal.Io → output.new ≡ output.old) }
 {
@@ -48,6 +51,7 @@ fn read_each<D: SectorDevice>(
     ensures told { IfErr result (λ refusal. D.tells ≡ true
         → FirstUnread (is_halted store.old) (shown_image (now (D.story (device_of store.old)))) (listed_in store.old)
         (map (λ t. (string_bytes t.0, t.1)) tables.now) refusal) }
+    ensures reads { OnlyReadsStore D.size D.story D.failed D.tells (ended result) store.old store.new }
 {
     for table in tables {
         match store.read(alloc, table.0.as_str()) {
@@ -71,7 +75,11 @@ pub fn check_tables<D: SectorDevice, W: Write>(
         → AllByRecursion (IsReadable (is_halted store.old) (shown_image (now (D.story (device_of store.old)))) (listed_in store.old))
         (tables_of (listed_in store.old))) }
     ensures told { IfErr result (OfStore (λ refusal. D.tells ≡ true
-        → RefusesCheck (is_halted store.old) (shown_image (now (D.story (device_of store.old)))) (listed_in store.old) refusal)) }
+        → RefusesCheck (is_halted store.old) (shown_image (now (D.story (device_of store.old)))) (listed_in store.old) refusal)
+        (D.tells ≡ true → AllByRecursion (IsReadable (is_halted store.old) (shown_image (now (D.story (device_of store.old)))) (listed_in store.old))
+        (tables_of (listed_in store.old)))) }
+    // The store is only read.
+    ensures reads { OnlyReadsStore D.size D.story D.failed D.tells (store_ended result) store.old store.new }
     ensures silent { IfErr result (λ refusal. refusal ≢ Refusal.Io → output.new ≡ output.old) }
 {
     let tables = store.tables(alloc)?;

@@ -10,6 +10,8 @@ ghost use Rattle.values.specs.Borrowed.{borrowed_cells};
 ghost use Rattle.query.specs.Line.{line};
 ghost use Rattle.query.specs.View.{query_in, condition_in};
 ghost use Rattle.store.specs.Fits.{device_of, is_halted, listed_in};
+ghost use Rattle.store.specs.Reading.{OnlyReadsStore};
+ghost use Rattle.arrowstore.specs.Reading.{store_ended};
 ghost use Rattle.arrowstore.specs.Selecting.{named_columns, conditions_of, stated_query, RefusesWords, rows_text, QueryAnswers, RefusesQuery};
 
 use crate::Refusal;
@@ -114,6 +116,8 @@ pub fn print_selection<D: SectorDevice, W: Write>(
         × Appends (W.contents output.old) (W.contents output.new) (rows_text selected.rows)) }
     ensures told { IfErr result (RefusesQuery (is_halted store.old) D.tells (shown_image (now (D.story (device_of store.old))))
         (entry_of (listed_in store.old) name.now) (query_in query.now)) }
+    // The store is only read.
+    ensures reads { OnlyReadsStore D.size D.story D.failed D.tells (store_ended result) store.old store.new }
     // Where it is refused nothing is written, unless a write failed.
     ensures silent { IfErr result (λ refusal. refusal ≢ Refusal.Io → output.new ≡ output.old) }
 {
