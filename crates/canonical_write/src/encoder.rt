@@ -114,7 +114,7 @@ pub fn encode_pieces(
 /// [`encode`] cuts them.
 ///
 /// Refused only where a growth was. It takes the memory of all streams, of which each has the message of the schema, and that of the arrays of one piece;
-/// and time linear in the streams, and where the table is not kept in record batches of flat columns without dictionaries, in its cells.
+/// and time linear in the streams, and where the table is not kept in record batches of columns without dictionaries, in its cells.
 pub fn encode_own_pieces(alloc: Global, table: &Table) -> Result<EncodedPieces, AllocError>
     ensures streams { IfOk result (λ pieces. streams_in pieces ≡ piece_streams (table_of table.now)) }
     ensures rows { IfOk result (λ pieces. pieces.rows.items ≡ piece_counts (table_of table.now)) }
