@@ -14,8 +14,7 @@ use Rattle.catalogue.specs.View.{catalogue_of}
 use Rattle.tables.specs.declared.refusal.Refusal as tables
 use Rattle.store.specs.declared.store.Store.{Store}
 use Rattle.store.specs.Fits.{device_of, is_halted, listed_in}
-use Rattle.store.specs.Calls.{PlainReply, done, is_device_reply}
-use Rattle.store.specs.Runs.{counted}
+use Rattle.store.specs.Calls.{PlainReply, done, is_device_reply, counted}
 use Rattle.store.specs.Reading.{ReadsTable, RefusesRead, OnlyReadsStore}
 use Rattle.arrowstore.specs.declared.refusal.Refusal.{Refusal}
 use Rattle.arrowstore.specs.declared.refusal.Refusal.TheVariants.{Io}
