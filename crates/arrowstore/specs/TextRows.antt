@@ -28,7 +28,8 @@ pub record InputGives (form : TextForm) (found : Option PlainEntry) (input : Opt
   pub whole : IsWholeInput input bytes
   pub gives : rows_in form entry.schema bytes ≡ given
 
--- the rows of all of an input were handed to the store, which gave an answer, and the program's follows it; or it was refused before, for a reason of which this holds
+-- the rows of all of an input were handed to the store, which gave an answer, and the program's follows it; or it was refused before, and this holds of
+-- the refusal
 abbrev pub HandsRows : TextForm → Option PlainEntry → Option (List ℕ) → (List (List Cell) → Result (Unit {0}) tables.Refusal → Type 0) → (before : Refusal → Type 0) → Result (Unit {0}) Refusal → Type 0
 HandsRows form found input P before result = IsErrAnd result before ⊎ ((rows : List (List Cell)) × InputGives form found input (Ok rows) × Answered (P rows) result)
 
