@@ -19,9 +19,9 @@ returns c =
     let size : 8 * (end - first) ≡ 8 * end - 8 * first = omega (arith, c.if-end-first.false) in
     on_ok_weaker c.push_singly-3.result
     (λ last. last
-      ∙ ap (λ (bits : List Bool). bits ++ map f (range_with_len (8 * end) (to - 8 * end)))
-        (c.in_ok-push_bytes.ensures
-        ∙ ap (λ (n : ℕ). c.push_singly-2.new.bits.items ++ map f (range_with_len (8 * first) n)) size
-        ∙ ap (λ (bits : List Bool). bits ++ map f (range_with_len (8 * first) (8 * end - 8 * first))) c.in_ok-push_singly.ensures)
-      ∙ three_ranges f old from (8 * first) (8 * end) to before order after)
+    ∙ ap (λ (bits : List Bool). bits ++ map f (range_with_len (8 * end) (to - 8 * end)))
+    (c.in_ok-push_bytes.ensures
+    ∙ ap (λ (n : ℕ). c.push_singly-2.new.bits.items ++ map f (range_with_len (8 * first) n)) size
+    ∙ ap (λ (bits : List Bool). bits ++ map f (range_with_len (8 * first) (8 * end - 8 * first))) c.in_ok-push_singly.ensures)
+    ∙ three_ranges f old from (8 * first) (8 * end) to before order after)
     c.push_singly-3.ensures
