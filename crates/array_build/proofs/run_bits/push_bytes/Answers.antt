@@ -1,5 +1,5 @@
 use Rattle.std.specs.List.{range_with_len}
-use Rattle.std.proofs.Common.{◌≡◌, [], ◌∷◌, ◌+◌, ◌-◌, ◌*◌, ◌++◌, ◌∙◌, ℕ, List, Bool, ap, map}
+use Rattle.std.proofs.Common.{◌≡◌, ◌+◌, ◌-◌, ◌*◌, ◌++◌, ◌∙◌, ℕ, List, Bool, ap, map}
 use Rattle.array_build.proofs.RunBits.{eight_bits, next_bits}
 use Rattle.array_build.proofs.run_bits.push_bytes.Goals as goal
 use Rattle.bitmap.specs.Bits.{bit}
