@@ -73,6 +73,7 @@ const HEAVY: Steps = &[
     (Import("v", NoColumns(1)), "S7 TooMany Segments"),
     (Append("u", NoColumns(0)), "ok"),
     (Import("u", NoColumns(53_248_000)), "S7 TooMany Segments"),
+    (Import("t", NoColumns(268_431_360)), "S8 NoRoom 1"),
     (Remove("t"), "ok"),
     (Append("u", NoColumns(1)), "ok"),
     (Tables, "u 1"),
