@@ -1,7 +1,9 @@
 //! What the program `arrowstore` does, over any reader and writer: its contracts say which bytes are taken and given.
 //!
-//! [`run`] does what a command line asks for, and [`recode`] reads a stream and writes its canonical form. The crate
-//! `program` hands them the process's arguments, standard input and standard output.
+//! [`run_with_files`] does what a command line asks for; the crate `program` hands it the process's arguments, streams and files. [`run`] is
+//! that without files, and [`recode`] reads a stream and writes its canonical form. Each command of a store is a function over an open
+//! store on any device: [`apply_command`], [`import_input`], [`append_input`], [`append_text`], [`print_tables`], [`print_schema`],
+//! [`print_selection`], [`export_table`] and [`check_tables`].
 //!
 //! ```
 //! let mut output = Vec::new(alloc);

@@ -33,7 +33,7 @@ pub fn run<S: AsStr, R: Read, W: Write, E: Write>(
     // The output has been given that text, and nothing else.
     ensures own { is_own (map S.text arguments.now) ≡ true
         → GivesText (Appends (W.contents output.old) (W.contents output.new) (own_text (map S.text arguments.now))) result.status }
-    // Wrong arguments are reported, unless memory is out: nothing is read, nothing is written.
+    // Wrong arguments are reported, unless memory is out: nothing is read, and nothing is written but on `errors`.
     ensures wrong_arguments { AreRecode (map S.text arguments.now) ⊎ AskForHelp (map S.text arguments.now)
         ⊎ (is_own (map S.text arguments.now) ≡ true) ⊎ (IsWrong result.status × (output.new ≡ output.old)) }
     ensures only_recode_reads { AreRecode (map S.text arguments.now) ⊎ (input.new ≡ input.old) }

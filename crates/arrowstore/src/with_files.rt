@@ -124,7 +124,7 @@ pub fn run_with_files<
     // The output has been given that text, and nothing else.
     ensures own { is_own (map S.text arguments.now) ≡ true
         → GivesText (Appends (W.contents output.old) (W.contents output.new) (own_text (map S.text arguments.now))) result.status }
-    // Wrong arguments are reported, unless memory is out: nothing is read, nothing is written.
+    // Wrong arguments are reported, unless memory is out: nothing is read, and nothing is written but on `errors`.
     ensures wrong_arguments { AreRecode (map S.text arguments.now) ⊎ AskForHelp (map S.text arguments.now)
         ⊎ (is_own (map S.text arguments.now) ≡ true) ⊎ (is_of_store (map S.text arguments.now) ≡ true)
         ⊎ (IsWrong result.status × (output.new ≡ output.old)) }
