@@ -6,6 +6,7 @@ ghost use Rattle.arrow_schema.specs.Limits.{IsWithinLimits};
 use crate::made::NotMade;
 use arrow_schema::{Schema, parse_fields};
 use canonical_write::encode;
+use ipc_write::{write_batch, write_end, write_schema};
 use std::alloc::{AllocError, Global};
 use values::{Row, Table, Value};
 
@@ -95,6 +96,17 @@ fn stream_of(
     Ok(encode(alloc, &table)?)
 }
 
+// So many rows without a column, in one record batch: it takes no longer to make for many.
+fn rows_alone(alloc: Global, rows: usize) -> Result<Vec<u8>, NotMade> {
+    let mut stream = Vec::new(alloc);
+    write_schema(alloc, &mut stream, &schema_of(alloc, &[])?)?;
+    if rows > 0 {
+        write_batch(alloc, &mut stream, rows as u64, Vec::new(alloc), &[])?;
+    }
+    write_end(&mut stream)?;
+    Ok(stream)
+}
+
 fn cells_of(alloc: Global, values: &[i32]) -> Result<Vec<Value>, AllocError> {
     let mut cells = Vec::with_capacity(alloc, values.len())?;
     for value in values {
@@ -160,7 +172,7 @@ pub fn bytes_of(alloc: Global, input: Input) -> Result<Vec<u8>, NotMade> {
             lists_of(alloc, counts)?,
             counts.len(),
         ),
-        Input::NoColumns(rows) => stream_of(alloc, &[], Vec::new(alloc), rows),
+        Input::NoColumns(rows) => rows_alone(alloc, rows),
         Input::Changed(changes) => changed(alloc, changes),
         Input::Front(len) => front(alloc, len),
     }
