@@ -99,7 +99,7 @@ fn stream_of(
 // So many rows without a column, in one record batch: it takes no longer to make for many.
 fn rows_alone(alloc: Global, rows: usize) -> Result<Vec<u8>, NotMade> {
     let mut stream = Vec::new(alloc);
-    write_schema(alloc, &mut stream, &schema_of(alloc, &[])?)?;
+    write_schema(alloc, &mut stream, &new_schema(alloc, &[])?)?;
     if rows > 0 {
         write_batch(alloc, &mut stream, rows as u64, Vec::new(alloc), &[])?;
     }
