@@ -14,8 +14,8 @@ all: bin/arrowstore
 
 # What the gate has built is taken, and built here only where a source is newer.
 crates/program/out/program: $(SOURCES)
-	@echo "Proving and building arrowstore. The first build proves every crate: on four processors that takes"
-	@echo "some ten minutes. A line comes for each crate and function; later builds prove only what changed."
+	@echo "Proving and building arrowstore. The first build proves every crate, which takes more than an hour of processor"
+	@echo "time. A line comes for each crate and function; later builds prove only what changed."
 	cd crates/program && rt run -- recode < stdin > /dev/null
 	@touch $@
 
@@ -30,7 +30,7 @@ $(TESTS): crates/%_tests: $(SOURCES)
 
 # The gate proves every crate from nothing and builds the program and the tests, which then run with refused memory.
 test:
-	@echo "The gate proves every crate from nothing: on two processors that takes about an hour."
+	@echo "The gate proves every crate from nothing, twice where it has tests or edits: that takes one to two hours."
 	rt ci
 	@$(MAKE) --no-print-directory memory vectors
 
