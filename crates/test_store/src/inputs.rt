@@ -96,12 +96,25 @@ fn stream_of(
     Ok(encode(alloc, &table)?)
 }
 
-// So many rows without a column, in one record batch: it takes no longer to make for many.
+// As many rows as a record batch may have.
+const ROWS_IN_BATCH: usize = 16_777_216;
+
+// So many rows without a column, in as few record batches as they may have: many take no longer to make than few.
 fn rows_alone(alloc: Global, rows: usize) -> Result<Vec<u8>, NotMade> {
     let mut stream = Vec::new(alloc);
     write_schema(alloc, &mut stream, &new_schema(alloc, &[])?)?;
-    if rows > 0 {
-        write_batch(alloc, &mut stream, rows as u64, Vec::new(alloc), &[])?;
+    for _ in 0..rows / ROWS_IN_BATCH {
+        write_batch(
+            alloc,
+            &mut stream,
+            ROWS_IN_BATCH as u64,
+            Vec::new(alloc),
+            &[],
+        )?;
+    }
+    let rest = rows % ROWS_IN_BATCH;
+    if rest > 0 {
+        write_batch(alloc, &mut stream, rest as u64, Vec::new(alloc), &[])?;
     }
     write_end(&mut stream)?;
     Ok(stream)
