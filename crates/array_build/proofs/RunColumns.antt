@@ -11,7 +11,6 @@ use Rattle.arrow_schema.specs.declared.types.DictSpec.{DictSpec}
 use Rattle.arrow_schema.specs.declared.types.Field.{Field}
 use Rattle.array_build.proofs.Fields.{field_is, plain_can_be_built, plain_field}
 use Rattle.array_build.specs.Batch.{PlainBatch, built_at, built_below, plain_column, with_arrays}
-use Rattle.array_build.specs.ByRuns.{are_built_by_runs, is_built_by_runs, is_kind_built_by_runs}
 use Rattle.array_build.specs.inner.Runs.{AreReady, built_columns, kind_cells}
 use Rattle.array_build.specs.laws.Joined.{more_arrays, no_arrays}
 use Rattle.array_runs.specs.Runs.{HaveRuns, HaveSameCells, are_columns_sound, are_runs_sound, are_runs_valid, can_build_columns, has_validity, is_run_sound, run_cells, runs_cells}
@@ -62,26 +61,6 @@ names_sound : (name : List ℕ) (nullable : Bool) (kind : Kind) (pairs : List Pa
 names_sound name nullable kind pairs [] = refl
 names_sound name nullable kind pairs (run ∷ runs) = ap₂ (λ (a b : Bool). a && b) (name_sound name nullable kind pairs run) (names_sound name nullable kind pairs runs)
 
--- a field of which arrays are built from runs has no dictionary
-no_dictionary : (o : Option DictSpec) (name : List ℕ) (nullable : Bool) (kind : Kind) (pairs : List Pair) → is_built_by_runs (column name nullable kind (option_map index_of o) pairs) ≡ true
-    → (o ≡ None) × (is_kind_built_by_runs kind ≡ true)
-unfolding is_built_by_runs
-no_dictionary None name nullable kind pairs h = (refl, h)
-no_dictionary (Some d) name nullable kind pairs h = cc
-
-pub built_field : (f : Field) → is_built_by_runs (column_of f) ≡ true → (f.dictionary ≡ None) × (is_kind_built_by_runs (kind_of f.data_type) ≡ true)
-built_field f h =
-    no_dictionary f.dictionary (string_bytes f.name) f.nullable (kind_of f.data_type) (map pair_of f.pairs.items) (ap is_built_by_runs (sym (field_is f)) ∙ h)
-
-field_test : (o : Option DictSpec) (name : List ℕ) (nullable : Bool) (kind : Kind) (pairs : List Pair)
-    → is_built_by_runs (column name nullable kind (option_map index_of o) pairs) ≡ (is_none o && is_kind_built_by_runs kind)
-unfolding is_built_by_runs
-field_test None name nullable kind pairs = refl
-field_test (Some d) name nullable kind pairs = refl
-
-pub field_built_is : (f : Field) → is_built_by_runs (column_of f) ≡ (is_none f.dictionary && is_kind_built_by_runs (kind_of f.data_type))
-field_built_is f = ap is_built_by_runs (field_is f) ∙ field_test f.dictionary (string_bytes f.name) f.nullable (kind_of f.data_type) (map pair_of f.pairs.items)
-
 plain_form : (f : Field) → f.dictionary ≡ None → column_of f ≡ column (string_bytes f.name) f.nullable (kind_of f.data_type) None (map pair_of f.pairs.items)
 plain_form f none =
     field_is f ∙ ap (λ (o : Option DictSpec). column (string_bytes f.name) f.nullable (kind_of f.data_type) (option_map index_of o) (map pair_of f.pairs.items)) none
@@ -114,7 +93,6 @@ lists_of columns = map (λ v. v.items) columns
 
 -- what is left is sound, can be built, and completes the batch
 pub record AreLeft (fields : List Field) (rs : List (List Run)) : Type 0 where
-  pub built : are_built_by_runs (columns_of (map column_of fields)) ≡ true
   pub sound : are_columns_sound (columns_of (map column_of fields)) rs ≡ true
   pub fits : can_build_columns (columns_of (map column_of fields)) rs ≡ true
 
@@ -140,19 +118,17 @@ place_left all i f columns item left =
 
 -- of the first column that is left, and of the others
 pub record IsFirst (f : Field) (r : List Run) : Type 0 where
-  pub built : is_built_by_runs (column_of f) ≡ true
   pub sound : are_runs_sound (column_of f) r ≡ true
   pub fits : can_build (column_of f) (runs_cells (column_of f) r) ≡ true
 
 pub first_left : (f : Field) (fields : List Field) (r : List Run) (rs : List (List Run)) → AreLeft (f ∷ fields) (r ∷ rs) → IsFirst f r × AreLeft fields rs
-unfolding are_built_by_runs are_columns_sound can_build_columns
+unfolding are_columns_sound can_build_columns
 first_left f fields r rs left =
     let c : Column = column_of f in
     let cs : Columns = columns_of (map column_of fields) in
-    let b = and_parts (is_built_by_runs c) (are_built_by_runs cs) left.built in
     let s = and_parts (are_runs_sound c r) (are_columns_sound cs rs) left.sound in
     let t = and_parts (can_build c (runs_cells c r)) (can_build_columns cs rs) left.fits in
-    (record { built = b.0; sound = s.0; fits = t.0 }, record { built = b.1; sound = s.1; fits = t.1 })
+    (record { sound = s.0; fits = t.0 }, record { sound = s.1; fits = t.1 })
 
 -- the column at a place, and those behind it
 pub next_left : (all : List Field) (i : ℕ) (f : Field) (columns : List (Vec Run Global)) (v : Vec Run Global) → drop i all ≡ f ∷ drop (i + 1) all → drop i columns ≡ v ∷ drop (i + 1) columns

@@ -1,4 +1,3 @@
 pub mod Batch
-pub mod ByRuns
 pub mod laws
 pub mod inner

@@ -1,5 +1,6 @@
 pub mod Coded
 pub mod Nodes
+pub mod RunCells
 pub mod RunItems
 pub mod RunParts
 pub mod Runs

@@ -23,10 +23,10 @@ use columns::OffsetWidth;
 use std::alloc::{AllocError, Global};
 use values::{ValueRef, Values};
 
-// Adds the array of a field's cells, and all below it.
+/// Adds the array of a field's cells, and all below it.
 #[tactic(auto, using(crate::proofs::Fields::plain_field, crate::proofs::Fields::dictionary_field))]
 #[cycle(building)]
-fn build_column(
+pub(crate) fn build_column(
     alloc: Global,
     batch: &mut BuiltBatch,
     field: &Field,

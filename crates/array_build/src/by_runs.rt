@@ -1,9 +1,8 @@
-// Arrays of columns that are given as runs of slots: bytes of valid slots are copied, and no cell is made.
-ghost use Rattle.std.specs.Prelude.{◌≡◌, ◌/◌, true, OnOk, IfOk, List, None, map};
+// Arrays of columns that are given as runs of slots: bytes of valid slots are copied, and no cell is made but of a column with a dictionary.
+ghost use Rattle.std.specs.Prelude.{◌≡◌, ◌/◌, true, OnOk, IfOk, List, None, is_some, map};
 ghost use Rattle.arrow_schema.specs.Column.{columns_of, fixed_lists, structs};
 ghost use Rattle.arrow_schema.specs.View.{kind_of, column_of, date_kind};
 ghost use Rattle.array_build.specs.Batch.{batch_in, batch_of, built_at, built_below, plain_column, with_arrays};
-ghost use Rattle.array_build.specs.ByRuns.{is_built_by_runs as is_built, is_kind_built_by_runs, are_built_by_runs};
 ghost use Rattle.array_build.specs.inner.Nodes.{list_kind};
 ghost use Rattle.array_build.specs.inner.Runs.{AreReady, built_columns, kind_cells};
 ghost use Rattle.array_runs.specs.Runs.{HaveRuns, are_columns_sound, are_runs_sound, can_build_columns, runs_cells};
@@ -12,7 +11,9 @@ ghost use Rattle.cells.specs.Fit.{date_bits};
 ghost use Rattle.columns.specs.Buildable.{can_build};
 
 use crate::batch::{BuiltBatch, empty_batch, push_buffer};
+use crate::building::build_column;
 use crate::flat_runs::{build_run_bits, build_run_contents, build_run_nulls, build_run_values};
+use crate::run_cells::cells_of_runs;
 use crate::run_fixed_items::fixed_item_runs;
 use crate::run_items::{item_runs, run_list_offsets};
 use crate::run_parts::part_runs;
@@ -21,52 +22,6 @@ use array_runs::{Run, valid_runs};
 use arrow_schema::{DataType, DateUnit, Field};
 use columns::OffsetWidth;
 use std::alloc::{AllocError, Global};
-
-// Whether columns of a type are built from runs.
-#[tactic(auto, using(crate::proofs::Fields::timestamp_kind), unfolding(crate::specs::ByRuns::is_kind_built_by_runs))]
-#[cycle(built)]
-fn is_type_built(data_type: &DataType) -> bool
-    ensures { result ≡ is_kind_built_by_runs (kind_of data_type.now) }
-{
-    match data_type {
-        DataType::Null
-        | DataType::Bool
-        | DataType::Int(_)
-        | DataType::Date(_)
-        | DataType::Timestamp(_, _)
-        | DataType::Utf8
-        | DataType::LargeUtf8
-        | DataType::Binary
-        | DataType::LargeBinary
-        | DataType::FixedSizeBinary(_) => true,
-        DataType::List(item) => is_field_built(item),
-        DataType::LargeList(item) => is_field_built(item),
-        DataType::FixedSizeList(_, item) => is_field_built(item),
-        DataType::Struct(fields) => is_built_by_runs(fields),
-    }
-}
-
-#[tactic(auto, using(crate::proofs::RunColumns::field_built_is))]
-#[cycle(built)]
-fn is_field_built(field: &Field) -> bool
-    ensures { result ≡ is_built (column_of field.now) }
-{
-    field.dictionary.is_none() && is_type_built(&field.data_type)
-}
-
-/// Whether the arrays of such fields are built from runs.
-#[tactic(auto, unfolding(crate::specs::ByRuns::are_built_by_runs))]
-#[cycle(built)]
-pub fn is_built_by_runs(fields: &[Field]) -> bool
-    ensures { result ≡ are_built_by_runs (columns_of (map column_of fields.now)) }
-{
-    for field in fields {
-        if !is_field_built(field) {
-            return false;
-        }
-    }
-    true
-}
 
 fn date_width(unit: DateUnit) -> usize
     ensures { result ≡ date_bits (date_kind unit) / 8 }
@@ -77,8 +32,24 @@ fn date_width(unit: DateUnit) -> usize
     }
 }
 
+// Adds the indices of a column with a dictionary, whose cells are gone through, and its entries.
+fn build_coded_column(
+    alloc: Global,
+    batch: &mut BuiltBatch,
+    field: &Field,
+    runs: &[Run<'_>],
+) -> Result<(), AllocError>
+    requires coded { is_some field.now.dictionary ≡ true }
+    requires sound { are_runs_sound (column_of field.now) runs.now ≡ true }
+    requires fits { can_build (column_of field.now) (runs_cells (column_of field.now) runs.now) ≡ true }
+    ensures { OnOk result (batch_in batch.new ≡ with_arrays (batch_in batch.old)
+        (built_at (column_of field.now) (runs_cells (column_of field.now) runs.now))) }
+{
+    let cells = cells_of_runs(alloc, field, runs)?;
+    build_column(alloc, batch, field, &cells)
+}
+
 // Adds the array of runs of a type that have no null among their slots, and all below it.
-#[tactic(auto, unfolding(crate::specs::ByRuns::is_kind_built_by_runs))]
 #[cycle(by_runs)]
 fn build_valid_kind(
     alloc: Global,
@@ -86,7 +57,6 @@ fn build_valid_kind(
     data_type: &DataType,
     runs: &[Run<'_>],
 ) -> Result<(), AllocError>
-    requires built { is_kind_built_by_runs (kind_of data_type.now) ≡ true }
     requires ready { AreReady (kind_of data_type.now) runs.now }
     ensures { OnOk result (batch_in batch.new ≡ with_arrays (batch_in batch.old)
         (built_at (plain_column (kind_of data_type.now) None) (kind_cells (kind_of data_type.now) runs.now))) }
@@ -126,7 +96,6 @@ fn build_run_lists(
     item: &Field,
     runs: &[Run<'_>],
 ) -> Result<(), AllocError>
-    requires built { is_built (column_of item.now) ≡ true }
     requires ready { AreReady (list_kind width (column_of item.now)) runs.now }
     ensures { OnOk result (batch_in batch.new ≡ with_arrays (batch_in batch.old)
         (built_at (plain_column (list_kind width (column_of item.now)) None) (kind_cells (list_kind width (column_of item.now)) runs.now))) }
@@ -147,7 +116,6 @@ fn build_run_fixed_lists(
     item: &Field,
     runs: &[Run<'_>],
 ) -> Result<(), AllocError>
-    requires built { is_built (column_of item.now) ≡ true }
     requires ready { AreReady (fixed_lists size (column_of item.now)) runs.now }
     ensures { OnOk result (batch_in batch.new ≡ with_arrays (batch_in batch.old)
         (built_at (plain_column (fixed_lists size (column_of item.now)) None) (kind_cells (fixed_lists size (column_of item.now)) runs.now))) }
@@ -165,7 +133,6 @@ fn build_run_structs(
     fields: &[Field],
     runs: &[Run<'_>],
 ) -> Result<(), AllocError>
-    requires built { are_built_by_runs (columns_of (map column_of fields.now)) ≡ true }
     requires ready { AreReady (structs (columns_of (map column_of fields.now))) runs.now }
     ensures { OnOk result (batch_in batch.new ≡ with_arrays (batch_in batch.old) (built_at (plain_column (structs (columns_of (map column_of fields.now))) None)
         (kind_cells (structs (columns_of (map column_of fields.now))) runs.now))) }
@@ -183,7 +150,6 @@ fn build_run_kind(
     data_type: &DataType,
     runs: &[Run<'_>],
 ) -> Result<(), AllocError>
-    requires built { is_kind_built_by_runs (kind_of data_type.now) ≡ true }
     requires sound { are_runs_sound (plain_column (kind_of data_type.now) None) runs.now ≡ true }
     requires fits { can_build (plain_column (kind_of data_type.now) None) (kind_cells (kind_of data_type.now) runs.now) ≡ true }
     ensures { OnOk result (batch_in batch.new ≡ with_arrays (batch_in batch.old)
@@ -201,13 +167,15 @@ fn build_run_column(
     field: &Field,
     runs: &[Run<'_>],
 ) -> Result<(), AllocError>
-    requires built { is_built (column_of field.now) ≡ true }
     requires sound { are_runs_sound (column_of field.now) runs.now ≡ true }
     requires fits { can_build (column_of field.now) (runs_cells (column_of field.now) runs.now) ≡ true }
     ensures { OnOk result (batch_in batch.new ≡ with_arrays (batch_in batch.old)
         (built_at (column_of field.now) (runs_cells (column_of field.now) runs.now))) }
 {
-    build_run_kind(alloc, batch, &field.data_type, runs)
+    match field.dictionary {
+        None => build_run_kind(alloc, batch, &field.data_type, runs),
+        Some(_) => build_coded_column(alloc, batch, field, runs),
+    }
 }
 
 // Adds the arrays of columns, and all below them.
@@ -218,7 +186,6 @@ fn build_run_parts(
     fields: &[Field],
     columns: &[Vec<Run<'_>>],
 ) -> Result<(), AllocError>
-    requires built { are_built_by_runs (columns_of (map column_of fields.now)) ≡ true }
     requires sound { are_columns_sound (columns_of (map column_of fields.now)) (map (λ v. v.items) columns.now) ≡ true }
     requires fits { can_build_columns (columns_of (map column_of fields.now)) (map (λ v. v.items) columns.now) ≡ true }
     ensures { OnOk result (batch_in batch.new ≡ with_arrays (batch_in batch.old)
@@ -230,13 +197,13 @@ fn build_run_parts(
     Ok(())
 }
 
-/// The same of rows whose columns are runs of slots: no cell is looked at by itself, and the bytes of valid slots are copied run by run.
+/// The same of rows whose columns are runs of slots: the bytes of valid slots are copied run by run, and no cell is looked at by itself but in a column
+/// with a dictionary.
 pub fn build_runs(
     alloc: Global,
     fields: &[Field],
     columns: &[Vec<Run<'_>>],
 ) -> Result<BuiltBatch, AllocError>
-    requires built { are_built_by_runs (columns_of (map column_of fields.now)) ≡ true }
     requires sound { are_columns_sound (columns_of (map column_of fields.now)) (map (λ v. v.items) columns.now) ≡ true }
     requires fits { can_build_columns (columns_of (map column_of fields.now)) (map (λ v. v.items) columns.now) ≡ true }
     ensures { IfOk result (λ batch. (rows : List (List Cell)) → HaveRuns (columns_of (map column_of fields.now)) (map (λ v. v.items) columns.now) rows

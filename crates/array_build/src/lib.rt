@@ -24,6 +24,7 @@ mod item_cells;
 mod item_slots;
 mod part_cells;
 mod run_bits;
+mod run_cells;
 mod run_contents;
 mod run_fixed_items;
 mod run_items;
@@ -35,4 +36,4 @@ mod value_bytes;
 
 pub use batch::{BuiltBatch, BuiltDictionary};
 pub use building::build;
-pub use by_runs::{build_runs, is_built_by_runs};
+pub use by_runs::build_runs;

@@ -3,7 +3,7 @@ use Rattle.std.specs.Global.{Global}
 use Rattle.std.specs.List.{flat_map}
 use Rattle.std.proofs.Common.{◌≡◌, true, ◌∙◌, List, map, drop, ap, subst, sym, rules}
 use Rattle.std.proofs.lemmas.Result.{on_ok_weaker}
-use Rattle.array_build.proofs.RunColumns.{are_ready, built_field, column_arrays, field_built, field_fits, field_sound, have_validity, last_column, lists_of, next_left, place_left, same_cells}
+use Rattle.array_build.proofs.RunColumns.{are_ready, column_arrays, field_built, field_fits, field_sound, have_validity, last_column, lists_of, next_left, place_left, same_cells}
 use Rattle.array_build.proofs.Premises.{items_can_be_built, fixed_items_can_be_built}
 use Rattle.array_build.proofs.RunFixedItems.{fixed_list_runs_are}
 use Rattle.array_build.proofs.RunItems.{list_runs_are}
@@ -33,7 +33,7 @@ build_run_structs-build_run_parts-requires t c =
     subst (λ (vs : List (Vec Run Global)). HaveRuns cs (lists_of vs) (map part_list (kind_cells (structs cs) c.args.runs.now))) (sym c.deref.ensures.value) c.in_ok-parts.ensures.have in
     let sound : are_columns_sound cs (lists_of c.deref.result.now) ≡ true =
     subst (λ (vs : List (Vec Run Global)). are_columns_sound cs (lists_of vs) ≡ true) (sym c.deref.ensures.value) c.in_ok-parts.ensures.sound in
-    (search (rules, field_lemmas), (c.requires.built, (sound, parts_fit cs c.args.runs.now (lists_of c.deref.result.now) have c.requires.ready)))
+    (search (rules, field_lemmas), (sound, parts_fit cs c.args.runs.now (lists_of c.deref.result.now) have c.requires.ready))
 
 pub build_run_structs-returns : goal.build_run_structs-returns
 build_run_structs-returns t c =
@@ -52,10 +52,7 @@ build_run_lists-build_run_column-requires t c =
     let cells : List Cell = kind_cells (list_kind c.args.width item) c.args.runs.now in
     let below : runs_cells item c.deref.result.now ≡ flat_map item_list cells = ap (runs_cells item) c.deref.ensures.value ∙ c.in_ok-items.ensures.cells in (
       search (rules, field_lemmas),
-      (
-        c.requires.built,
-        (ap (are_runs_sound item) c.deref.ensures.value ∙ c.in_ok-items.ensures.sound, ap (can_build item) below ∙ items_can_be_built c.args.width item cells c.requires.ready.fit),
-      ),
+      (ap (are_runs_sound item) c.deref.ensures.value ∙ c.in_ok-items.ensures.sound, ap (can_build item) below ∙ items_can_be_built c.args.width item cells c.requires.ready.fit),
     )
 
 pub build_run_lists-returns : goal.build_run_lists-returns
@@ -73,10 +70,7 @@ build_run_fixed_lists-build_run_column-requires t c =
     let cells : List Cell = kind_cells (fixed_lists c.args.size item) c.args.runs.now in
     let below : runs_cells item c.deref.result.now ≡ flat_map (fixed_items c.args.size) cells = ap (runs_cells item) c.deref.ensures.value ∙ c.in_ok-items.ensures.cells in (
       search (rules, field_lemmas),
-      (
-        c.requires.built,
-        (ap (are_runs_sound item) c.deref.ensures.value ∙ c.in_ok-items.ensures.sound, ap (can_build item) below ∙ fixed_items_can_be_built c.args.size item cells c.requires.ready.fit),
-      ),
+      (ap (are_runs_sound item) c.deref.ensures.value ∙ c.in_ok-items.ensures.sound, ap (can_build item) below ∙ fixed_items_can_be_built c.args.size item cells c.requires.ready.fit),
     )
 
 pub build_run_fixed_lists-returns : goal.build_run_fixed_lists-returns
@@ -96,11 +90,8 @@ pub build_run_kind-build_valid_kind-requires : goal.build_run_kind-build_valid_k
 build_run_kind-build_valid_kind-requires t c =
     let kind : Kind = kind_of c.args.data_type.now in (
       search (rules, field_lemmas),
-      (
-        c.requires.built,
-        subst (λ (runs : List Run). AreReady kind runs) (sym c.deref.ensures.value)
-            (are_ready kind c.in_ok-valid.valid.items c.args.runs.now c.in_ok-valid.ensures.same c.in_ok-valid.ensures.valid c.requires.sound c.requires.fits),
-      ),
+      subst (λ (runs : List Run). AreReady kind runs) (sym c.deref.ensures.value)
+          (are_ready kind c.in_ok-valid.valid.items c.args.runs.now c.in_ok-valid.ensures.same c.in_ok-valid.ensures.valid c.requires.sound c.requires.fits),
     )
 
 pub build_run_kind-returns : goal.build_run_kind-returns
@@ -113,13 +104,13 @@ build_run_kind-returns t c =
 
 pub build_run_column-build_run_kind-requires : goal.build_run_column-build_run_kind-requires
 build_run_column-build_run_kind-requires t c =
-    let own = built_field c.args.field.now c.requires.built in
-    (search (rules, field_lemmas), (own.1, (field_sound c.args.field.now c.args.runs.now own.0 c.requires.sound, field_fits c.args.field.now c.args.runs.now own.0 c.requires.fits)))
+    let none = c.in-None.is in
+    (search (rules, field_lemmas), (field_sound c.args.field.now c.args.runs.now none c.requires.sound, field_fits c.args.field.now c.args.runs.now none c.requires.fits))
 
-pub build_run_column-returns : goal.build_run_column-returns
-build_run_column-returns t c =
+pub build_run_column-returns-in-None : goal.build_run_column-returns-in-None
+build_run_column-returns-in-None t c =
     on_ok_weaker c.build_run_kind.result
-    (λ h. h ∙ field_built (batch_in c.args.batch.now) c.args.field.now c.args.runs.now (built_field c.args.field.now c.requires.built).0)
+    (λ h. h ∙ field_built (batch_in c.args.batch.now) c.args.field.now c.args.runs.now c.in-None.is)
     c.build_run_kind.ensures
 
 -- ---- columns, one after another
@@ -138,11 +129,8 @@ build_run_parts-build_run_column-requires t c =
     let own = (next_left c.args.fields.now c.loop-place.place field c.args.columns.now c.index-columns-place.result item here c.loop-place.invariant.left).0 in (
       search (rules, field_lemmas),
       (
-        own.built,
-        (
-          subst (λ (runs : List Run). are_runs_sound (column_of field) runs ≡ true) (sym c.deref.ensures.value) own.sound,
-          subst (λ (runs : List Run). can_build (column_of field) (runs_cells (column_of field) runs) ≡ true) (sym c.deref.ensures.value) own.fits,
-        ),
+        subst (λ (runs : List Run). are_runs_sound (column_of field) runs ≡ true) (sym c.deref.ensures.value) own.sound,
+        subst (λ (runs : List Run). can_build (column_of field) (runs_cells (column_of field) runs) ≡ true) (sym c.deref.ensures.value) own.fits,
       ),
     )
 
