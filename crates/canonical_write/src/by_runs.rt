@@ -1,7 +1,6 @@
 // The streams of a table that is kept in record batches, and of its pieces, without borrowing a row.
-ghost use Rattle.std.specs.Prelude.{◌≡◌, ◌<◌, ◌^◌, ◌∷◌, [], ◌&&◌, not, true, false, length, IfOk};
+ghost use Rattle.std.specs.Prelude.{◌≡◌, ◌<◌, ◌^◌, ◌∷◌, [], true, false, length, IfOk};
 ghost use Rattle.std.specs.List.{AllByRecursion};
-ghost use Rattle.array_build.specs.ByRuns.{are_built_by_runs};
 ghost use Rattle.arrow_schema.specs.Column.{columns_of};
 ghost use Rattle.arrow_schema.specs.View.{schema_of};
 ghost use Rattle.canonical_stream.specs.Canonical.{canonical};
@@ -17,21 +16,12 @@ ghost use Rattle.values.specs.Table.{IsTable};
 
 use crate::encoder::EncodedPieces;
 use crate::messages::write_run_piece;
-use array_build::is_built_by_runs;
 use arrow_schema::Schema;
 use canonical_stream::pieces_can_be_built;
-use cells::has_limits;
 use ipc_write::{write_end, write_schema};
 use run_pieces::{RowsLeft, RunPiece};
 use std::alloc::{AllocError, Global};
 use values::Part;
-
-/// Whether tables of a schema are written so: their arrays are built from runs, and the cut is by number and weight alone.
-pub(crate) fn goes_by_runs(schema: &Schema) -> bool
-    ensures { result ≡ (are_built_by_runs (columns_of (schema_of schema.now).columns) && not (is_any_limited (columns_of (schema_of schema.now).columns))) }
-{
-    is_built_by_runs(&schema.fields) && !has_limits(schema)
-}
 
 /// The one stream of the rows of record batches, of which there are so many.
 pub(crate) fn encode_parts(
@@ -43,7 +33,6 @@ pub(crate) fn encode_parts(
     requires table { IsTable (parts_table (schema_of schema.now) parts.now) }
     requires sound { are_parts_sound (columns_of (schema_of schema.now).columns) parts.now ≡ true }
     requires count { rows ≡ length (parts_rows (columns_of (schema_of schema.now).columns) parts.now) }
-    requires built { are_built_by_runs (columns_of (schema_of schema.now).columns) ≡ true }
     requires unlimited { is_any_limited (columns_of (schema_of schema.now).columns) ≡ false }
     ensures { IfOk result (λ out. out.items ≡ canonical (parts_table (schema_of schema.now) parts.now)) }
 {
@@ -70,7 +59,6 @@ fn encode_run_piece(
     requires piece { IsPieceOf (schema_of schema.now) (runs_rows (columns_of (schema_of schema.now).columns) piece.now.runs.items) }
     requires alone { let rows = runs_rows (columns_of (schema_of schema.now).columns) piece.now.runs.items in
         pieces (within_piece (schema_of schema.now)) rows ≡ rows ∷ [] }
-    requires built { are_built_by_runs (columns_of (schema_of schema.now).columns) ≡ true }
     requires sound { are_runs_sound (columns_of (schema_of schema.now).columns) piece.now.runs.items ≡ true }
     requires count { piece.now.rows ≡ length (runs_rows (columns_of (schema_of schema.now).columns) piece.now.runs.items) }
     ensures stream { IfOk result (λ out. out.items
@@ -94,7 +82,6 @@ pub(crate) fn encode_parts_pieces(
     requires table { IsTable (parts_table (schema_of schema.now) parts.now) }
     requires sound { are_parts_sound (columns_of (schema_of schema.now).columns) parts.now ≡ true }
     requires count { rows ≡ length (parts_rows (columns_of (schema_of schema.now).columns) parts.now) }
-    requires built { are_built_by_runs (columns_of (schema_of schema.now).columns) ≡ true }
     requires unlimited { is_any_limited (columns_of (schema_of schema.now).columns) ≡ false }
     ensures streams { IfOk result (λ pieces. streams_in pieces ≡ piece_streams (parts_table (schema_of schema.now) parts.now)) }
     ensures rows { IfOk result (λ pieces. pieces.rows.items ≡ piece_counts (parts_table (schema_of schema.now) parts.now)) }

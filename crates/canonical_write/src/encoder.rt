@@ -12,10 +12,11 @@ ghost use Rattle.values.specs.Borrowed.{borrowed_cells};
 ghost use Rattle.values.specs.Table.{IsTable};
 ghost use Rattle.values.specs.TableView.{table_of};
 
-use crate::by_runs::{encode_parts, encode_parts_pieces, goes_by_runs};
+use crate::by_runs::{encode_parts, encode_parts_pieces};
 use crate::messages::write_piece;
 use arrow_schema::Schema;
 use canonical_stream::pieces_can_be_built;
+use cells::has_limits;
 use ipc_write::{write_end, write_schema};
 use std::alloc::{AllocError, Global};
 use table_cut::next_piece;
@@ -56,7 +57,7 @@ pub fn encode(alloc: Global, table: &Table) -> Result<Vec<u8>, AllocError>
 {
     let schema = table.schema();
     if let Some(parts) = table.parts() {
-        if goes_by_runs(schema) {
+        if !has_limits(schema) {
             return encode_parts(alloc, schema, parts, table.len());
         }
     }
@@ -114,7 +115,8 @@ pub fn encode_pieces(
 /// [`encode`] cuts them.
 ///
 /// Refused only where a growth was. It takes the memory of all streams, of which each has the message of the schema, and that of the arrays of one piece;
-/// and time linear in the streams, and where the table is not kept in record batches of columns without dictionaries, in its cells.
+/// and time linear in the streams, and in the cells of the table where it is not kept in record batches, or has a dictionary whose indices have 8 or
+/// 16 bits.
 pub fn encode_own_pieces(alloc: Global, table: &Table) -> Result<EncodedPieces, AllocError>
     ensures streams { IfOk result (λ pieces. streams_in pieces ≡ piece_streams (table_of table.now)) }
     ensures rows { IfOk result (λ pieces. pieces.rows.items ≡ piece_counts (table_of table.now)) }
@@ -122,7 +124,7 @@ pub fn encode_own_pieces(alloc: Global, table: &Table) -> Result<EncodedPieces, 
 {
     let schema = table.schema();
     if let Some(parts) = table.parts() {
-        if goes_by_runs(schema) {
+        if !has_limits(schema) {
             return encode_parts_pieces(alloc, schema, parts, table.len());
         }
     }

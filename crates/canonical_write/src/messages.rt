@@ -5,7 +5,6 @@ ghost use Rattle.arrow_schema.specs.View.{schema_of};
 ghost use Rattle.canonical_stream.specs.Canonical.{piece_messages};
 ghost use Rattle.canonical_stream.specs.Pieces.{IsPieceOf};
 ghost use Rattle.array_build.specs.Batch.{dictionary_in, node_in};
-ghost use Rattle.array_build.specs.ByRuns.{are_built_by_runs};
 ghost use Rattle.arrow_schema.specs.Column.{columns_of};
 ghost use Rattle.run_pieces.specs.Rows.{runs_rows, are_runs_sound};
 ghost use Rattle.canonical_write.specs.inner.Messages.{AreFew, HasFew, built_message, built_messages, built_batch, entries_of_piece, batch_of_piece};
@@ -146,7 +145,6 @@ fn build_run_piece(
     runs: &[RowRun<'_>],
 ) -> Result<BuiltBatch, AllocError>
     requires piece { IsPieceOf (schema_of schema.now) (runs_rows (columns_of (schema_of schema.now).columns) runs.now) }
-    requires built { are_built_by_runs (columns_of (schema_of schema.now).columns) ≡ true }
     requires sound { are_runs_sound (columns_of (schema_of schema.now).columns) runs.now ≡ true }
     ensures entries { IfOk result (λ piece. built_messages 0 (map dictionary_in piece.dictionaries.items)
         ≡ entries_of_piece (schema_of schema.now) (runs_rows (columns_of (schema_of schema.now).columns) runs.now)) }
@@ -172,7 +170,6 @@ pub(crate) fn write_run_piece(
     piece: &RunPiece<'_>,
 ) -> Result<(), AllocError>
     requires piece { IsPieceOf (schema_of schema.now) (runs_rows (columns_of (schema_of schema.now).columns) piece.now.runs.items) }
-    requires built { are_built_by_runs (columns_of (schema_of schema.now).columns) ≡ true }
     requires sound { are_runs_sound (columns_of (schema_of schema.now).columns) piece.now.runs.items ≡ true }
     requires count { piece.now.rows ≡ length (runs_rows (columns_of (schema_of schema.now).columns) piece.now.runs.items) }
     ensures { OnOk result (out.new.items ≡ out.old.items

@@ -2,7 +2,6 @@ use Rattle.std.proofs.Common.{◌≡◌, true, List, map, ap, sym, subst, ◌∙
 use Rattle.std.specs.Prelude.{IfOk}
 use Rattle.std.proofs.lemmas.Result.{IfOk-weaker}
 use Rattle.array_build.specs.Batch.{batch_of, built_below}
-use Rattle.array_build.specs.ByRuns.{are_built_by_runs}
 use Rattle.array_runs.specs.Runs.{HaveRuns, can_build_columns}
 use Rattle.array_runs.specs.declared.run.Run.{Run}
 use Rattle.arrow_schema.specs.Column.{PlainSchema, columns_of}
@@ -29,7 +28,6 @@ build_runs-requires c =
     let have : AreRunsOf own given c.args.runs.now = same_runs c.deref.result.now own lists given c.args.runs.now c.deref.ensures.value is c.in_ok-columns.ensures.have in
     let can : can_build_columns (fields_of own) given ≡ true = piece_can s (runs_rows (columns_of s.columns) c.args.runs.now) given c.requires.piece have in
     record {
-      built = subst (λ (fs : List Field). are_built_by_runs (fields_of fs) ≡ true) to c.requires.built;
       sound = same_sound c.deref.result.now c.deref-2.result.now lists given (c.deref.ensures.value ∙ to) is c.in_ok-columns.ensures.sound;
       fits = subst (λ (fs : List Field). can_build_columns (fields_of fs) given ≡ true) to can;
     }
