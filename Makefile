@@ -65,8 +65,8 @@ bench: bench-recode bench-texts bench-store bench-device bench-bitmap
 bench-recode: bin/arrowstore
 	bench/recode bin/arrowstore
 
-bench-texts: crates/bench_texts/out/bench_texts
-	bench/texts $<
+bench-texts: bin/arrowstore
+	bench/texts bin/arrowstore
 
 bench-store: bin/arrowstore
 	bench/store bin/arrowstore
@@ -79,10 +79,6 @@ bench-bitmap: crates/bench_bitmap/out/bench_bitmap
 
 crates/bench_device/out/bench_device: $(SOURCES)
 	cd crates/bench_device && rt run -- device 1
-	@touch $@
-
-crates/bench_texts/out/bench_texts: $(SOURCES)
-	cd crates/bench_texts && rt run < /dev/null
 	@touch $@
 
 crates/bench_bitmap/out/bench_bitmap: $(SOURCES)
