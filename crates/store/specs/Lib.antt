@@ -15,5 +15,6 @@ pub mod Verdicts
 pub mod Listing
 pub mod Reading
 pub mod Places
+pub mod Answering
 pub mod laws
 pub mod inner
