@@ -5,6 +5,7 @@ pub mod Steps
 pub mod Runs
 pub mod Since
 pub mod History
+pub mod Halting
 pub mod Held
 pub mod Fits
 pub mod Changes
