@@ -18,3 +18,4 @@ mod ReadTables
 mod ReadsStore
 mod Roomed
 mod Applied
+mod Replied

@@ -5,6 +5,7 @@ pub mod Steps
 pub mod Runs
 pub mod Since
 pub mod History
+pub mod Halting
 pub mod Held
 pub mod Fits
 pub mod Changes
@@ -15,5 +16,6 @@ pub mod Verdicts
 pub mod Listing
 pub mod Reading
 pub mod Places
+pub mod Answering
 pub mod laws
 pub mod inner

@@ -1,5 +1,5 @@
 // Laws of runs. The functions do nothing: their contracts are the laws.
-ghost use Rattle.std.specs.Prelude.{◌≡◌, ◌≢◌, ◌⊎◌, ◌<◌, ◌-◌, ◌^◌, ◌||◌, ℕ, true, false, Some, None, List, [], ◌∷◌, ◌++◌, take, drop, Result};
+ghost use Rattle.std.specs.Prelude.{◌≡◌, ◌≢◌, ◌⊎◌, ◌<◌, ◌-◌, ◌^◌, ◌||◌, ℕ, Bool, true, false, Some, None, List, [], ◌∷◌, ◌++◌, take, drop, Result};
 ghost use Rattle.std.specs.List.{list_any};
 ghost use Rattle.sector_dev.specs.Disk.{Disk, Story, Image, now, moment, synced_image, LeftSince};
 ghost use Rattle.sector_dev.specs.Time.{LeavesOnly};
@@ -22,6 +22,7 @@ ghost use Rattle.store.specs.Verdicts.{AreListed, IsVerdict, IsUndecided, HoldsV
 ghost use Rattle.store.specs.Fits.{DeviceFits, fresh, resumed, doubting, HoldsNoneOrEmpty, HoldsWithOrWithout};
 ghost use Rattle.store.specs.Runs.{Goes, Run};
 ghost use Rattle.store.specs.Since.{story_at, IsLeftFrom};
+ghost use Rattle.store.specs.Halting.{phase_where, tells_halt_while_open};
 ghost use Rattle.store.specs.History.{any_change, begun, acknowledged, Settles, SettlesAll, Keeps, tells_damage, tells_no_store};
 
 use canonical_write::pieces_are_tables;
@@ -71,6 +72,14 @@ pub fn undisturbed_runs_settle_what_was_acknowledged()
     ensures { (s : Setting) (calls : List PlainCall) (replies : List PlainReply) (m : Machine) (old : Story) (failed : ℕ)
         (m' : Machine) (new : Story) (failed' : ℕ) → Run s calls replies m old failed m' new failed' → m.doubt ≡ None → m.phase ≢ halted
         → list_any is_device_reply replies ≡ false → SettlesAll m m' (acknowledged calls replies) }
+{}
+
+/// Where no store is halted at first and no reply says that a device failed, no call of a run is refused as halted while a store is open: only a failure
+/// of the device halts one.
+pub fn undisturbed_runs_tell_no_halt()
+    ensures { (s : Setting) (calls : List PlainCall) (replies : List PlainReply) (m : Machine) (old : Story) (failed : ℕ)
+        (m' : Machine) (new : Story) (failed' : ℕ) → Run s calls replies m old failed m' new failed' → (is_open : Bool) → m.phase ≡ phase_where is_open
+        → list_any is_device_reply replies ≡ false → tells_halt_while_open is_open calls replies ≡ false }
 {}
 
 /// No reply of a run tells that a store is damaged; and none tells that there is no store once there was one: when the run began, or after

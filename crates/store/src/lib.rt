@@ -38,7 +38,7 @@ pub use laws::{
     a_stop_keeps_what_was_acknowledged, acknowledged_commands_are_settled, decisions_are_verdicts,
     devices_fit, each_stop_is_allowed, runs_go_on, runs_tell_no_damage,
     undisturbed_runs_settle_what_was_acknowledged, undisturbed_runs_tell_no_failure,
-    what_is_done_is_the_verdict,
+    undisturbed_runs_tell_no_halt, what_is_done_is_the_verdict,
 };
 pub use opening_refusal::OpeningRefusal;
 pub use running::run;

@@ -2,8 +2,9 @@
 ghost use Rattle.std.specs.Prelude.{◌≡◌, true, length, IfOk, IfErr};
 ghost use Rattle.tables.specs.Tables.{Tables};
 ghost use Rattle.tables.specs.View.{command_of};
-ghost use Rattle.store.specs.Calls.{needs_store, apply_call, format_call, open_call, tables_call, schema_call, read_call, export_call};
+ghost use Rattle.store.specs.Calls.{needs_store, apply_call, format_call, open_call, tables_call, schema_call, read_call, export_call, counted};
 ghost use Rattle.store.specs.Machine.{Machine};
+ghost use Rattle.store.specs.Answering.{AnswersOpening, AnswersFormatting, Answers, AnswersEach};
 ghost use Rattle.store.specs.Fits.{DeviceFits, StoreFits, device_of};
 ghost use Rattle.store.specs.Places.{call_of, reply_in, calls_of, replies_of, device_in, ShutFits, PlaceFits, PlaceGoes, PlaceRuns, PlaceLives};
 
@@ -14,8 +15,11 @@ use tables::{Command, Refusal};
 
 // Opens the store of a device.
 fn open_place<D: SectorDevice>(alloc: Global, device: D) -> (Place<D>, Reply)
-    ensures { D.tells ≡ true → (base : Tables) (m : Machine) → DeviceFits D.size D.story base m device
+    ensures goes { D.tells ≡ true → (base : Tables) (m : Machine) → DeviceFits D.size D.story base m device
         → PlaceGoes D.size D.story D.failed base m open_call (reply_in result.1) device result.0 }
+    ensures answers { AnswersOpening D.size D.story D.tells device (reply_in result.1) result.0 }
+    ensures same { D.size (device_in result.0) ≡ D.size device }
+    ensures count { D.failed (device_in result.0) ≡ counted (reply_in result.1) (D.failed device) }
 {
     match Store::open(alloc, device) {
         Ok(store) => (Place::Open(store), Reply::Done),
@@ -25,8 +29,11 @@ fn open_place<D: SectorDevice>(alloc: Global, device: D) -> (Place<D>, Reply)
 
 // Makes an empty store of a device.
 fn format_place<D: SectorDevice>(alloc: Global, device: D) -> (Place<D>, Reply)
-    ensures { D.tells ≡ true → (base : Tables) (m : Machine) → DeviceFits D.size D.story base m device
+    ensures goes { D.tells ≡ true → (base : Tables) (m : Machine) → DeviceFits D.size D.story base m device
         → PlaceGoes D.size D.story D.failed base m format_call (reply_in result.1) device result.0 }
+    ensures answers { AnswersFormatting D.size D.story D.tells device (reply_in result.1) result.0 }
+    ensures same { D.size (device_in result.0) ≡ D.size device }
+    ensures count { D.failed (device_in result.0) ≡ counted (reply_in result.1) (D.failed device) }
 {
     match Store::format(alloc, device) {
         Ok(store) => (Place::Open(store), Reply::Done),
@@ -37,8 +44,9 @@ fn format_place<D: SectorDevice>(alloc: Global, device: D) -> (Place<D>, Reply)
 // A call that needs an open store, where none is open.
 fn refuse<D: SectorDevice>(device: D, call: Call) -> (Place<D>, Reply)
     requires { needs_store (call_of call) ≡ true }
-    ensures { D.tells ≡ true → (base : Tables) (m : Machine) → ShutFits D.size D.story base m device
+    ensures goes { D.tells ≡ true → (base : Tables) (m : Machine) → ShutFits D.size D.story base m device
         → PlaceGoes D.size D.story D.failed base m (call_of call) (reply_in result.1) device result.0 }
+    ensures answers { Answers D.size D.story D.failed D.tells (Place.Shut device) (call_of call) (reply_in result.1) result.0 }
 {
     let _ = call;
     (Place::Shut(device), Reply::Refused(Refusal::Halted))
@@ -46,8 +54,9 @@ fn refuse<D: SectorDevice>(device: D, call: Call) -> (Place<D>, Reply)
 
 // A call of a device on which no store is open.
 fn answer_shut<D: SectorDevice>(alloc: Global, device: D, call: Call) -> (Place<D>, Reply)
-    ensures { D.tells ≡ true → (base : Tables) (m : Machine) → ShutFits D.size D.story base m device
+    ensures goes { D.tells ≡ true → (base : Tables) (m : Machine) → ShutFits D.size D.story base m device
         → PlaceGoes D.size D.story D.failed base m (call_of call) (reply_in result.1) device result.0 }
+    ensures answers { Answers D.size D.story D.failed D.tells (Place.Shut device) (call_of call) (reply_in result.1) result.0 }
 {
     match call {
         Call::Format => format_place(alloc, device),
@@ -58,8 +67,9 @@ fn answer_shut<D: SectorDevice>(alloc: Global, device: D, call: Call) -> (Place<
 
 // A command.
 fn apply_in<D: SectorDevice>(alloc: Global, store: Store<D>, command: Command) -> (Place<D>, Reply)
-    ensures { D.tells ≡ true → (base : Tables) (m : Machine) → StoreFits D.size D.story base m store
+    ensures goes { D.tells ≡ true → (base : Tables) (m : Machine) → StoreFits D.size D.story base m store
         → PlaceGoes D.size D.story D.failed base m (apply_call (command_of command)) (reply_in result.1) (device_of store) result.0 }
+    ensures answers { Answers D.size D.story D.failed D.tells (Place.Open store) (apply_call (command_of command)) (reply_in result.1) result.0 }
 {
     let mut store = store;
     match store.apply(alloc, command) {
@@ -70,8 +80,9 @@ fn apply_in<D: SectorDevice>(alloc: Global, store: Store<D>, command: Command) -
 
 // The schema of a table.
 fn schema_in<D: SectorDevice>(alloc: Global, store: Store<D>, name: &str) -> (Place<D>, Reply)
-    ensures { D.tells ≡ true → (base : Tables) (m : Machine) → StoreFits D.size D.story base m store
+    ensures goes { D.tells ≡ true → (base : Tables) (m : Machine) → StoreFits D.size D.story base m store
         → PlaceGoes D.size D.story D.failed base m (schema_call name.now) (reply_in result.1) (device_of store) result.0 }
+    ensures answers { Answers D.size D.story D.failed D.tells (Place.Open store) (schema_call name.now) (reply_in result.1) result.0 }
 {
     let mut store = store;
     match store.schema(alloc, name) {
@@ -82,8 +93,9 @@ fn schema_in<D: SectorDevice>(alloc: Global, store: Store<D>, name: &str) -> (Pl
 
 // The names of the tables.
 fn list_in<D: SectorDevice>(alloc: Global, store: Store<D>) -> (Place<D>, Reply)
-    ensures { D.tells ≡ true → (base : Tables) (m : Machine) → StoreFits D.size D.story base m store
+    ensures goes { D.tells ≡ true → (base : Tables) (m : Machine) → StoreFits D.size D.story base m store
         → PlaceGoes D.size D.story D.failed base m tables_call (reply_in result.1) (device_of store) result.0 }
+    ensures answers { Answers D.size D.story D.failed D.tells (Place.Open store) tables_call (reply_in result.1) result.0 }
 {
     match store.tables(alloc) {
         Ok(tables) => (Place::Open(store), Reply::Tables(tables)),
@@ -93,8 +105,9 @@ fn list_in<D: SectorDevice>(alloc: Global, store: Store<D>) -> (Place<D>, Reply)
 
 // A table.
 fn read_in<D: SectorDevice>(alloc: Global, store: Store<D>, name: &str) -> (Place<D>, Reply)
-    ensures { D.tells ≡ true → (base : Tables) (m : Machine) → StoreFits D.size D.story base m store
+    ensures goes { D.tells ≡ true → (base : Tables) (m : Machine) → StoreFits D.size D.story base m store
         → PlaceGoes D.size D.story D.failed base m (read_call name.now) (reply_in result.1) (device_of store) result.0 }
+    ensures answers { Answers D.size D.story D.failed D.tells (Place.Open store) (read_call name.now) (reply_in result.1) result.0 }
 {
     let mut store = store;
     match store.read(alloc, name) {
@@ -105,8 +118,9 @@ fn read_in<D: SectorDevice>(alloc: Global, store: Store<D>, name: &str) -> (Plac
 
 // The stream of a table.
 fn export_in<D: SectorDevice>(alloc: Global, store: Store<D>, name: &str) -> (Place<D>, Reply)
-    ensures { D.tells ≡ true → (base : Tables) (m : Machine) → StoreFits D.size D.story base m store
+    ensures goes { D.tells ≡ true → (base : Tables) (m : Machine) → StoreFits D.size D.story base m store
         → PlaceGoes D.size D.story D.failed base m (export_call name.now) (reply_in result.1) (device_of store) result.0 }
+    ensures answers { Answers D.size D.story D.failed D.tells (Place.Open store) (export_call name.now) (reply_in result.1) result.0 }
 {
     let mut store = store;
     match store.export_bytes(alloc, name) {
@@ -117,8 +131,9 @@ fn export_in<D: SectorDevice>(alloc: Global, store: Store<D>, name: &str) -> (Pl
 
 // A call of an open store.
 fn answer_open<D: SectorDevice>(alloc: Global, store: Store<D>, call: Call) -> (Place<D>, Reply)
-    ensures { D.tells ≡ true → (base : Tables) (m : Machine) → StoreFits D.size D.story base m store
+    ensures goes { D.tells ≡ true → (base : Tables) (m : Machine) → StoreFits D.size D.story base m store
         → PlaceGoes D.size D.story D.failed base m (call_of call) (reply_in result.1) (device_of store) result.0 }
+    ensures answers { Answers D.size D.story D.failed D.tells (Place.Open store) (call_of call) (reply_in result.1) result.0 }
 {
     match call {
         Call::Apply(command) => apply_in(alloc, store, command),
@@ -134,8 +149,9 @@ fn answer_open<D: SectorDevice>(alloc: Global, store: Store<D>, call: Call) -> (
 
 // One call.
 fn answer<D: SectorDevice>(alloc: Global, place: Place<D>, call: Call) -> (Place<D>, Reply)
-    ensures { D.tells ≡ true → (base : Tables) (m : Machine) → PlaceFits D.size D.story base m place
+    ensures goes { D.tells ≡ true → (base : Tables) (m : Machine) → PlaceFits D.size D.story base m place
         → PlaceGoes D.size D.story D.failed base m (call_of call) (reply_in result.1) (device_in place) result.0 }
+    ensures answers { Answers D.size D.story D.failed D.tells place (call_of call) (reply_in result.1) result.0 }
 {
     match place {
         Place::Open(store) => answer_open(alloc, store, call),
@@ -151,6 +167,7 @@ fn answer_all<D: SectorDevice>(
 ) -> Result<(Place<D>, Vec<Reply>), (Place<D>, Vec<Call>)>
     ensures ok { IfOk result (λ r. D.tells ≡ true → (base : Tables) (m : Machine) → PlaceFits D.size D.story base m place
         → PlaceRuns D.size D.story D.failed base m (calls_of calls.items) (replies_of r.1.items) (device_in place) r.0) }
+    ensures answers { IfOk result (λ r. AnswersEach D.size D.story D.failed D.tells place (calls_of calls.items) (replies_of r.1.items) r.0) }
     ensures each { IfOk result (λ r. length r.1.items ≡ length calls.items) }
     ensures err { IfErr result (λ e. (e.0 ≡ place) × (e.1 ≡ calls)) }
 {
@@ -178,6 +195,7 @@ pub fn run<D: SectorDevice>(
 ) -> Result<(Place<D>, Vec<Reply>), (Place<D>, Vec<Call>)>
     ensures lives { IfOk result (λ r. D.tells ≡ true → (base : Tables) (m : Machine) → PlaceFits D.size D.story base m place
         → PlaceLives D.size D.story D.failed base m (calls_of calls.items) (replies_of r.1.items) (device_in place) r.0) }
+    ensures answers { IfOk result (λ r. AnswersEach D.size D.story D.failed D.tells place (calls_of calls.items) (replies_of r.1.items) r.0) }
     ensures each { IfOk result (λ r. length r.1.items ≡ length calls.items) }
     ensures err { IfErr result (λ e. (e.0 ≡ place) × (e.1 ≡ calls)) }
 {

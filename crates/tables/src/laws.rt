@@ -8,7 +8,11 @@ ghost use Rattle.cells.specs.Weight.{table_weight};
 ghost use Rattle.tables.specs.declared.refusal.Refusal.{Refusal};
 ghost use Rattle.tables.specs.declared.refusal.Refusal.TheVariants.{NoTable, NameTaken, BadName};
 ghost use Rattle.tables.specs.Tables.{Tables, no_tables, table_at, with_table, without_table, AreTables};
-ghost use Rattle.tables.specs.Commands.{PlainCommand, create, append_rows, rename, drop_table, changed_names, BringsTables, BringTables};
+ghost use Rattle.ipc_message.specs.Header.{supported_codes};
+ghost use Rattle.ipc_stream.specs.Meaning.{meaning};
+ghost use Rattle.query.specs.Query.{PlainQuery};
+ghost use Rattle.query.specs.Selection.{selection};
+ghost use Rattle.tables.specs.Commands.{PlainCommand, create, append_stream, append_rows, save_as, rename, drop_table, changed_names, BringsTables, BringTables};
 ghost use Rattle.tables.specs.Verdict.{verdict, step, after, joined, empty_table};
 ghost use Rattle.tables.specs.Refusals.{origin_of, by_tables};
 ghost use Rattle.tables.specs.View.{command_of};
@@ -69,10 +73,15 @@ pub fn commands_bring_tables(command: &Command)
     }
 }
 
-/// Rows that are appended stand behind those of the table, all of them, and a table is found at the name that it was given.
+/// Rows that are appended, given or as a stream, stand behind those of the table, all of them; a query that is saved is the table at its name; and a table
+/// is found at the name that it was given.
 pub fn worked_commands()
     ensures appended { (t u : Tables) (name : List ℕ) (table : PlainTable) (rows : List (List Cell)) → table_at t name ≡ Some table
         → verdict t (append_rows name rows) ≡ Ok u → u ≡ with_table t name (joined table rows) }
+    ensures streamed { (t u : Tables) (name bytes : List ℕ) (table new : PlainTable) → table_at t name ≡ Some table → meaning supported_codes bytes ≡ Ok new
+        → verdict t (append_stream name bytes) ≡ Ok u → u ≡ with_table t name (joined table new.rows) }
+    ensures saved { (t u : Tables) (from to : List ℕ) (query : PlainQuery) (table selected : PlainTable) → table_at t from ≡ Some table
+        → selection table query ≡ Ok selected → verdict t (save_as from to query) ≡ Ok u → u ≡ with_table t to selected }
     ensures created { (t u : Tables) (name : List ℕ) (s : PlainSchema) → verdict t (create name s) ≡ Ok u → u ≡ with_table t name (empty_table s) }
     ensures found { (t : Tables) (name : List ℕ) (table : PlainTable) → table_at (with_table t name table) name ≡ Some table }
     ensures away { (t : Tables) (name : List ℕ) → table_at (without_table t name) name ≡ None }

@@ -95,7 +95,7 @@ not_a_limit limits.Weight is = cc is
 not_a_limit limits.Bytes is = cc is
 not_a_limit limits.Exports is = cc is
 
-device_fails : (r : Refusal) → origin_of r ≡ by_device → is_failure r ≡ true
+pub device_fails : (r : Refusal) → origin_of r ≡ by_device → is_failure r ≡ true
 device_fails refusals.Device is = refl
 device_fails (refusals.TooMany limit) is = absurd (not_a_limit limit is)
 device_fails _ is = absurd (cc is)

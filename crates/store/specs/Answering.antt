@@ -1,0 +1,164 @@
+-- What each call of a place answers and leaves, on any device and any place: also where it stands for no machine, as one whose store is damaged.
+use Rattle.std.specs.Prelude.{◌≡◌, ◌≢◌, ◌↔◌, ℕ, Bool, true, false, List, [], ◌∷◌, Option, Some, None, option_map, Result, Ok, Err, IfErr, OnOk}
+use Rattle.sector_dev.specs.Disk.{Story, Image, now, shown_image}
+use Rattle.sector_dev.specs.Time.{Grows, OnlyReads}
+use Rattle.sector_dev.specs.declared.device.SectorDevice.{Ghosts}
+use Rattle.cells.specs.Cell.{PlainTable}
+use Rattle.canonical_stream.specs.Canonical.{canonical}
+use Rattle.catalogue.specs.Entries.{PlainEntry}
+use Rattle.catalogue.specs.Edits.{entry_of, tables_of}
+use Rattle.commit.specs.Standing.{is_size}
+use Rattle.commit.specs.Opening.{IsOpening, standing_shown}
+use Rattle.commit.specs.Ruling.{ruling}
+use Rattle.commit.specs.Formatting.{IsFormatting}
+use Rattle.commit.specs.declared.cause.Cause.TheVariants.{DeviceSize}
+use Rattle.tables.specs.declared.refusal.Refusal.{Refusal}
+use Rattle.tables.specs.declared.refusal.Refusal.TheVariants as refusals
+use Rattle.tables.specs.Commands.{PlainCommand}
+use Rattle.store.specs.declared.store.Store.{Store}
+use Rattle.store.specs.declared.call.Place.{Place}
+use Rattle.store.specs.declared.call.Place.TheVariants as places
+use Rattle.store.specs.declared.opening_refusal.OpeningRefusal.{OpeningRefusal}
+use Rattle.store.specs.declared.opening_refusal.OpeningRefusal.TheVariants as openings
+use Rattle.store.specs.Calls.{PlainCall, apply_call, format_call, open_call, close_call, tables_call, schema_call, read_call, export_call, PlainReply, done, counts, schema_is, table_is, bytes_are, refused, shut_by, counted}
+use Rattle.store.specs.Opening.{TellsOpening, TellsFormatting}
+use Rattle.store.specs.Held.{whole_reading}
+use Rattle.store.specs.Fits.{device_of, listed_in, is_halted, IsOnDisk, FindsStore, FormatsStore, IsNewStore}
+use Rattle.store.specs.Deciding.{reads_device}
+use Rattle.store.specs.Applying.{IsApplied, IsKept, Writes, HasWritten}
+use Rattle.store.specs.Listing.{RefusesTables, RefusesSchema}
+use Rattle.store.specs.Reading.{RefusesRead, ReadsTable, OnlyReadsStore}
+use Rattle.store.specs.Places.{device_in}
+
+-- ---- where a call leaves the place
+
+abbrev pub IsOpenWith : {D : Type 0} {g : Ghosts D} → (Store D g → Type 0) → Place D g → Type 0
+IsOpenWith P (places.Open store) = P store
+IsOpenWith P (places.Shut device) = ⊥
+
+abbrev pub IsShutWith : {D : Type 0} {g : Ghosts D} → (D → Type 0) → Place D g → Type 0
+IsShutWith P (places.Open store) = ⊥
+IsShutWith P (places.Shut device) = P device
+
+-- ---- calls of a device
+
+-- a refusal by the size of a device, before any call of it
+abbrev pub RefusesSize : {D : Type 0} → (size : D → ℕ) → (story : D → Story) → D → OpeningRefusal → D → Type 0
+RefusesSize size story device refusal back = is_size (size device) ≡ false → (refusal ≡ openings.Damaged DeviceSize) × (story back ≡ story device)
+
+-- a device that was not opened: what is told of it is so, and no moment has a write
+pub record LeavesUnopened {D : Type 0} (size : D → ℕ) (story : D → Story) (tells : Bool) (device : D) (refusal : OpeningRefusal) (back : D) : Type 0 where
+  pub told : tells ≡ true → TellsOpening refusal (standing_shown whole_reading (size device) (story device))
+  pub not_already : refusal ≢ openings.AlreadyAStore
+  pub quiet : refusal ≢ openings.Device → tells ≡ true → now (story back) ≡ now (story device)
+  pub moments : tells ≡ true → Grows (IsOpening (now (story device))) (story device) (story back)
+  pub limits : RefusesSize size story device refusal back
+
+-- and one that was not formatted
+pub record LeavesUnformatted {D : Type 0} (size : D → ℕ) (story : D → Story) (tells : Bool) (device : D) (refusal : OpeningRefusal) (back : D) : Type 0 where
+  pub told : tells ≡ true → TellsFormatting refusal (size device) (ruling (shown_image (now (story device))))
+  pub untouched : tells ≡ true → ruling (shown_image (now (story device))) ≢ None → OnlyReads (story device) (story back)
+  pub quiet : refusal ≢ openings.Device → tells ≡ true → now (story back) ≡ now (story device)
+  pub moments : tells ≡ true → Grows (IsFormatting (size device) (now (story device))) (story device) (story back)
+  pub limits : RefusesSize size story device refusal back
+
+abbrev pub AnswersOpening : {D : Type 0} {g : Ghosts D} → (size : D → ℕ) → (story : D → Story) → (tells : Bool) → D → PlainReply → Place D g → Type 0
+AnswersOpening size story tells device done new =
+    (is_size (size device) ≡ true) × IsOpenWith (λ store. tells ≡ true → FindsStore size story device store) new
+AnswersOpening size story tells device (shut_by refusal) new = IsShutWith (λ back. LeavesUnopened size story tells device refusal back) new
+AnswersOpening size story tells device _ new = ⊥
+
+abbrev pub AnswersFormatting : {D : Type 0} {g : Ghosts D} → (size : D → ℕ) → (story : D → Story) → (tells : Bool) → D → PlainReply → Place D g → Type 0
+AnswersFormatting size story tells device done new =
+    (is_size (size device) ≡ true) × IsOpenWith (λ store. IsNewStore (size device) store × (tells ≡ true → FormatsStore size story device store)) new
+AnswersFormatting size story tells device (shut_by refusal) new = IsShutWith (λ back. LeavesUnformatted size story tells device refusal back) new
+AnswersFormatting size story tells device _ new = ⊥
+
+-- ---- calls of an open store
+
+-- a command: what it does or why it is refused, and what each moment and the end of it leave
+pub record Applies {D : Type 0} {g : Ghosts D} (size : D → ℕ) (story : D → Story) (tells : Bool) (old : Store D g) (command : PlainCommand) (result : Result (Unit {0}) Refusal) (new : Store D g) : Type 0 where
+  pub applied : is_halted old ≡ false → IsApplied size story tells old command result new
+  pub refused : IfErr result (λ e. IsKept old new)
+  pub quiet : IfErr result (λ e. e ≢ refusals.Device → reads_device command ≡ false → story (device_of new) ≡ story (device_of old))
+  pub reads : IfErr result (λ e. e ≢ refusals.Device → tells ≡ true → OnlyReads (story (device_of old)) (story (device_of new)))
+  pub halted : (result ≡ Err refusals.Halted) ↔ (is_halted old ≡ true)
+  pub still : is_halted old ≡ true → new ≡ old
+  pub halts : is_halted old ≡ false → (is_halted new ≡ true) ↔ (result ≡ Err refusals.Device)
+  pub writes : is_halted old ≡ false → tells ≡ true → IsOnDisk size story old → Writes size story old command new
+  pub written : OnOk result (tells ≡ true → IsOnDisk size story old → HasWritten size story old command new)
+
+abbrev pub AnswersCommand : {D : Type 0} {g : Ghosts D} → (size : D → ℕ) → (story : D → Story) → (tells : Bool) → Store D g → PlainCommand → PlainReply → Store D g → Type 0
+AnswersCommand size story tells old command done new = Applies size story tells old command (Ok tt) new
+AnswersCommand size story tells old command (refused r) new = Applies size story tells old command (Err r) new
+AnswersCommand size story tells old command _ new = ⊥
+
+-- the names of the tables: those of the catalogue
+abbrev pub AnswersTables : {D : Type 0} {g : Ghosts D} → Store D g → PlainReply → Type 0
+AnswersTables old (counts ns) = (is_halted old ≡ false) × (ns ≡ tables_of (listed_in old))
+AnswersTables old (refused r) = RefusesTables (is_halted old) r
+AnswersTables old _ = ⊥
+
+-- a schema: that of the catalogue's entry
+abbrev pub AnswersSchema : {D : Type 0} {g : Ghosts D} → Store D g → List ℕ → PlainReply → Type 0
+AnswersSchema old name (schema_is schema) = (is_halted old ≡ false) × (option_map (λ (e : PlainEntry). e.schema) (entry_of (listed_in old) name) ≡ Some schema)
+AnswersSchema old name (refused r) = RefusesSchema (is_halted old) (entry_of (listed_in old) name) r
+AnswersSchema old name _ = ⊥
+
+-- a table: what reads show of the catalogue's entry
+abbrev pub AnswersRead : (halted tells : Bool) → Image → Option PlainEntry → PlainReply → Type 0
+AnswersRead halted tells image found (table_is table) = ReadsTable halted tells image found table
+AnswersRead halted tells image found (refused r) = RefusesRead halted tells image found r
+AnswersRead halted tells image found _ = ⊥
+
+-- its stream
+abbrev pub AnswersExport : (halted tells : Bool) → Image → Option PlainEntry → PlainReply → Type 0
+AnswersExport halted tells image found (bytes_are bytes) = (t : PlainTable) × ReadsTable halted tells image found t × (bytes ≡ canonical t)
+AnswersExport halted tells image found (refused r) = RefusesRead halted tells image found r
+AnswersExport halted tells image found _ = ⊥
+
+abbrev pub AnswersOpen : {D : Type 0} {g : Ghosts D} → (size : D → ℕ) → (story : D → Story) → (failed : D → ℕ) → (tells : Bool) → Store D g → PlainCall → PlainReply → Place D g → Type 0
+AnswersOpen size story failed tells old (apply_call c) reply new = IsOpenWith (λ store. AnswersCommand size story tells old c reply store) new
+AnswersOpen size story failed tells old format_call reply new = AnswersFormatting size story tells (device_of old) reply new
+AnswersOpen size story failed tells old open_call reply new = AnswersOpening size story tells (device_of old) reply new
+AnswersOpen size story failed tells old close_call reply new = (reply ≡ done) × (new ≡ places.Shut (device_of old))
+AnswersOpen size story failed tells old tables_call reply new = AnswersTables old reply × (new ≡ places.Open old)
+AnswersOpen size story failed tells old (schema_call name) reply new = AnswersSchema old name reply × (new ≡ places.Open old)
+AnswersOpen size story failed tells old (read_call name) reply new =
+    AnswersRead (is_halted old) tells (shown_image (now (story (device_of old)))) (entry_of (listed_in old) name) reply
+    × IsOpenWith (λ store. OnlyReadsStore size story failed tells reply old store) new
+AnswersOpen size story failed tells old (export_call name) reply new =
+    AnswersExport (is_halted old) tells (shown_image (now (story (device_of old)))) (entry_of (listed_in old) name) reply
+    × IsOpenWith (λ store. OnlyReadsStore size story failed tells reply old store) new
+
+-- ---- calls of a place
+
+-- where no store is open, what needs one is refused, and nothing happens
+abbrev pub AnswersShut : {D : Type 0} {g : Ghosts D} → (size : D → ℕ) → (story : D → Story) → (tells : Bool) → D → PlainCall → PlainReply → Place D g → Type 0
+AnswersShut size story tells device format_call reply new = AnswersFormatting size story tells device reply new
+AnswersShut size story tells device open_call reply new = AnswersOpening size story tells device reply new
+AnswersShut size story tells device _ reply new = (reply ≡ refused refusals.Halted) × (new ≡ places.Shut device)
+
+abbrev pub AnswersPlace : {D : Type 0} {g : Ghosts D} → (size : D → ℕ) → (story : D → Story) → (failed : D → ℕ) → (tells : Bool) → Place D g → PlainCall → PlainReply → Place D g → Type 0
+AnswersPlace size story failed tells (places.Open store) call reply new = AnswersOpen size story failed tells store call reply new
+AnswersPlace size story failed tells (places.Shut device) call reply new = AnswersShut size story tells device call reply new
+
+-- one call: its device has the size that it had, and counts a failure where the reply tells one
+pub record Answers {D : Type 0} {g : Ghosts D} (size : D → ℕ) (story : D → Story) (failed : D → ℕ) (tells : Bool) (old : Place D g) (call : PlainCall) (reply : PlainReply) (new : Place D g) : Type 0 where
+  pub answers : AnswersPlace size story failed tells old call reply new
+  pub same : size (device_in new) ≡ size (device_in old)
+  pub count : failed (device_in new) ≡ counted reply (failed (device_in old))
+
+-- a call, and then what P says of the place after it
+pub record AnswersThen {D : Type 0} {g : Ghosts D} (size : D → ℕ) (story : D → Story) (failed : D → ℕ) (tells : Bool) (old : Place D g) (call : PlainCall) (reply : PlainReply) (P : Place D g → Type 0) : Type 0 where
+  pub next : Place D g
+  pub one : Answers size story failed tells old call reply next
+  pub others : P next
+
+-- and calls one after another
+unfoldable pub AnswersEach : {D : Type 0} {g : Ghosts D} → (size : D → ℕ) → (story : D → Story) → (failed : D → ℕ) → (tells : Bool) → Place D g → List PlainCall → List PlainReply → Place D g → Type 0
+AnswersEach size story failed tells old [] [] new = new ≡ old
+AnswersEach size story failed tells old (call ∷ calls) (reply ∷ replies) new =
+    AnswersThen size story failed tells old call reply (λ next. AnswersEach size story failed tells next calls replies new)
+AnswersEach size story failed tells old [] (reply ∷ replies) new = ⊥
+AnswersEach size story failed tells old (call ∷ calls) [] new = ⊥
