@@ -1,5 +1,5 @@
 -- What each call answers of any place, from what the calls of a store promise.
-use Rattle.std.proofs.Common.{◌≡◌, ◌++◌, ◌∷◌, [], ℕ, Bool, true, false, List, Some, None, Err, Result, refl, subst}
+use Rattle.std.proofs.Common.{◌≡◌, ◌++◌, ◌∷◌, [], ℕ, Bool, true, false, List, refl, subst}
 use Rattle.std.specs.Prelude.{Option}
 use Rattle.sector_dev.specs.Disk.{Story}
 use Rattle.sector_dev.specs.declared.device.SectorDevice.{Ghosts}
@@ -12,7 +12,7 @@ use Rattle.store.specs.declared.call.Place.TheVariants as places
 use Rattle.store.specs.Calls.{PlainCall, needs_store, apply_call, format_call, open_call, close_call, tables_call, schema_call, read_call, export_call, PlainReply, done, refused, is_device_reply, counted}
 use Rattle.store.specs.Listing.{RefusesTables, RefusesSchema}
 use Rattle.store.specs.Reading.{OnlyReadsStore}
-use Rattle.store.specs.Answering.{AnswersPlace, AnswersOpening, AnswersFormatting, Answers, AnswersEach}
+use Rattle.store.specs.Answering.{Answers, AnswersEach}
 
 -- a call without a device's failure counts none
 pub none_counted : (reply : PlainReply) (failed : ℕ) → is_device_reply reply ≡ false → failed ≡ counted reply failed
