@@ -20,17 +20,17 @@ not_empty [] some = absurd (some refl)
 not_empty (x ∷ xs) some = refl
 
 -- bytes with something at their front
-some_next_message : (bytes : List ℕ) (f : NextMessage) → next_message bytes ≡ Ok f → is_empty bytes ≡ false
+pub some_next_message : (bytes : List ℕ) (f : NextMessage) → next_message bytes ≡ Ok f → is_empty bytes ≡ false
 unfolding next_message marker_faults
 some_next_message [] f h = absurd cc
 some_next_message (x ∷ xs) f h = refl
 
-some_length : (bytes : List ℕ) → is_empty bytes ≡ false → 0 < length bytes
+pub some_length : (bytes : List ℕ) → is_empty bytes ≡ false → 0 < length bytes
 some_length [] h = absurd cc
 some_length (b ∷ bytes) h = omega arith
 
 -- what follows a message
-follows : (bytes others : List ℕ) (m : Envelope) → Framed bytes m others → drop (taken (message m)) bytes ≡ others
+pub follows : (bytes others : List ℕ) (m : Envelope) → Framed bytes m others → drop (taken (message m)) bytes ≡ others
 follows bytes others m framed =
     let before : List ℕ = continuation_marker ++ (framed.size ++ (m.metadata ++ m.body)) in
     let cut : bytes ≡ before ++ others =

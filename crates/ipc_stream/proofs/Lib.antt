@@ -19,3 +19,4 @@ mod ReadMessages
 mod BadMessages
 mod FramedMessages
 mod FramedBack
+mod FaultPlace

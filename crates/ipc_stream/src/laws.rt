@@ -1,5 +1,5 @@
 // What the definitions say. The functions do nothing: their contracts are the laws.
-ghost use Rattle.std.specs.Prelude.{◌≡◌, ◌++◌, ℕ, Bool, List, Ok, Err, Some};
+ghost use Rattle.std.specs.Prelude.{◌≡◌, ◌++◌, ℕ, Bool, List, Ok, Err, None, Some, length};
 ghost use Rattle.facts.specs.Bytes.{AreBytes};
 ghost use Rattle.cells.specs.Cell.{PlainTable};
 ghost use Rattle.values.specs.Table.{IsTable};
@@ -8,6 +8,7 @@ ghost use Rattle.ipc_stream.specs.Fed.{settled_fault};
 ghost use Rattle.ipc_stream.specs.FramedFault.{FaultStands};
 ghost use Rattle.ipc_stream.specs.FramedTable.{StreamEncodes};
 ghost use Rattle.ipc_stream.specs.Meaning.{meaning};
+ghost use Rattle.ipc_stream.specs.Place.{bytes_taken, place_of};
 
 use arrays::{
     read_dictionaries_are_readable, read_dictionaries_have_bytes, read_rows_are_rows,
@@ -24,6 +25,15 @@ pub fn meaning_is_framed()
     ensures means { (supported : ℕ → Bool) (bytes : List ℕ) (t : PlainTable) → StreamEncodes supported bytes t → meaning supported bytes ≡ Ok t }
     ensures fault { (supported : ℕ → Bool) (bytes : List ℕ) (fault : Fault) → meaning supported bytes ≡ Err fault → FaultStands supported bytes fault }
     ensures reported { (supported : ℕ → Bool) (bytes : List ℕ) (fault : Fault) → FaultStands supported bytes fault → meaning supported bytes ≡ Err fault }
+{
+    next_message_is_framed();
+}
+
+/// A fault stands behind the messages that its place counts, at the byte where they end; no place is told of a stream that means a table.
+pub fn faults_stand_at_their_place()
+    ensures placed { (supported : ℕ → Bool) (bytes : List ℕ) (fault : Fault) → (stands : FaultStands supported bytes fault)
+        → place_of supported bytes ≡ Some (length stands.messages, bytes_taken stands.messages) }
+    ensures nowhere { (supported : ℕ → Bool) (bytes : List ℕ) (t : PlainTable) → meaning supported bytes ≡ Ok t → place_of supported bytes ≡ None }
 {
     next_message_is_framed();
 }

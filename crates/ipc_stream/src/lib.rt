@@ -26,7 +26,9 @@ mod whole;
 pub use add::add_message;
 pub use decoder::{Decoder, FinishError};
 pub use front::Front;
-pub use laws::{meaning_is_a_table, meaning_is_framed, settled_faults_stay};
+pub use laws::{
+    faults_stand_at_their_place, meaning_is_a_table, meaning_is_framed, settled_faults_stay,
+};
 pub use placing::place;
 pub use reading::read_front;
 pub use whole::{Weighed, decode, decode_weighed};
