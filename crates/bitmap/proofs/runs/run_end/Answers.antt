@@ -1,4 +1,4 @@
-use Rattle.std.proofs.Common.{◌≡◌, arith}
+use Rattle.std.proofs.Common.{arith}
 use Rattle.bitmap.proofs.Alike.{all_alike}
 use Rattle.bitmap.proofs.runs.run_end.Goals as goal
 
