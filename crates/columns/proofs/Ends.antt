@@ -1,6 +1,6 @@
 -- The ends of the arrays of a dictionary, and the entry that an index names by them.
 use Rattle.std.specs.Prelude.{not, nat_le}
-use Rattle.std.specs.List.{list_all, sum_by}
+use Rattle.std.specs.List.{list_all}
 use Rattle.std.proofs.Common.{◌≡◌, ◌≢◌, ℕ, zero, suc, ◌+◌, ◌-◌, ◌*◌, ◌^◌, ◌≤◌, ◌<◌, Bool, true, List, [], ◌∷◌, ◌++◌, length, get_or, map, take, drop, refl, ap, arith, sym, ◌∙◌, subst, length-append}
 use Rattle.std.specs.List.Sorted.{IsNonDecreasingBy}
 use Rattle.std.proofs.lemmas.Bool.{and_parts}
@@ -9,10 +9,13 @@ use Rattle.std.proofs.lemmas.List.Sums.{sum_by-cons, sum_by_push}
 use Rattle.arrow_schema.specs.Column.{Kind}
 use Rattle.cells.specs.Cell.{null}
 use Rattle.columns.specs.declared.array.PlacedArray.{PlacedArray}
-use Rattle.columns.specs.Array.{Array}
+use Rattle.columns.specs.Array.{Array, slots_in}
+use Rattle.columns.specs.CellAt.{kind_cell, unless_null}
 use Rattle.columns.specs.Ends.{entry_count, ends_from}
 use Rattle.columns.specs.inner.ArrayPlaces.{IsArrayPlace}
-use Rattle.columns.proofs.Entries.{entries, found_later, present_later}
+use Rattle.columns.specs.View.{array_in, no_dictionary}
+use Rattle.columns.specs.laws.Places.{slots_is}
+use Rattle.columns.proofs.Entries.{entries, found_later, many, present_later}
 
 pub ends_taken : (before : ℕ) (xs : List PlacedArray) (k : ℕ) → take k (ends_from before xs) ≡ ends_from before (take k xs)
 ends_taken before xs zero = refl
@@ -46,6 +49,17 @@ pub count_next : (xs : List PlacedArray) (i : ℕ) (x : PlacedArray) → i < len
 count_next xs i x lt is =
     ap entry_count (take_more xs i x lt) ∙ sum_by_push (λ (y : PlacedArray). y.slots) (take i xs) (get_or xs i x)
     ∙ ap (λ (y : PlacedArray). entry_count (take i xs) + y.slots) (sym is)
+
+-- that many entries there are
+pub all_counted : (bytes : List ℕ) (kind : Kind) (xs : List PlacedArray) → entry_count xs ≡ length (entries bytes kind xs)
+all_counted bytes kind [] = refl
+all_counted bytes kind (x ∷ xs) =
+    let a : Array = array_in bytes no_dictionary x in
+    let cons : entry_count (x ∷ xs) ≡ x.slots + entry_count xs = sum_by-cons (λ (y : PlacedArray). y.slots) x xs in
+    let first : length (entries bytes kind (x ∷ xs)) ≡ slots_in a + length (entries bytes kind xs) = many (unless_null (kind_cell kind) a) (slots_in a) (entries bytes kind xs) in
+    let slots : slots_in a ≡ x.slots = slots_is bytes no_dictionary x in
+    let others = all_counted bytes kind xs in
+    omega arith
 
 -- ---- what is found from an array on is what is found from the first on
 

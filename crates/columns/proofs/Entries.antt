@@ -1,5 +1,5 @@
 -- The entries of a dictionary, array by array.
-use Rattle.std.specs.Prelude.{nat_le, nat_lt, not, ◌&&◌, ℤ, pos}
+use Rattle.std.specs.Prelude.{nat_le, not, ℤ, pos, negsuc, Some, None}
 use Rattle.std.proofs.Common.{◌≡◌, ℕ, zero, suc, ◌+◌, ◌-◌, ◌≤◌, ◌<◌, Bool, true, List, [], ◌∷◌, ◌++◌, length, get_or, map, drop, false, length-append, refl, ap, arith, sym, ◌∙◌}
 use Rattle.std.specs.List.{list_all}
 use Rattle.std.proofs.Math.Seq.{drop-cons}
@@ -10,9 +10,8 @@ use Rattle.std.proofs.lemmas.List.FromFn.{length-map-range_with_len, get_or-map-
 use Rattle.arrow_schema.specs.Column.{Kind}
 use Rattle.cells.specs.Cell.{Cell, null}
 use Rattle.columns.specs.declared.array.PlacedArray.{PlacedArray}
-use Rattle.columns.specs.declared.array.DictionaryPart.{DictionaryPart}
 use Rattle.columns.specs.Array.{Array, arrays_of, slots_in}
-use Rattle.columns.specs.CellAt.{cells_from, unless_null, kind_cell, entries_of_kind}
+use Rattle.columns.specs.CellAt.{cells_from, unless_null, kind_cell, entries_of_kind, entry_at, named_number}
 use Rattle.columns.specs.Visible.{is_past}
 use Rattle.columns.specs.View.{array_in, no_dictionary}
 use Rattle.columns.specs.laws.Places.{slots_is}
@@ -64,7 +63,7 @@ found_nowhere bytes kind xs i r le = rw (ended xs i le) refl
 
 -- ---- how many there are
 
-many : (f : ℕ → Cell) (n : ℕ) (others : List Cell) → length (cells_from f 0 n ++ others) ≡ n + length others
+pub many : (f : ℕ → Cell) (n : ℕ) (others : List Cell) → length (cells_from f 0 n ++ others) ≡ n + length others
 many f n others = length-append (cells_from f 0 n) others ∙ ap (λ (k : ℕ). k + length others) (length-map-range_with_len f 0 n)
 
 below : (r n m : ℕ) → r < n → not (nat_le (n + m) r) ≡ true
@@ -101,9 +100,18 @@ none_below r = grind (arith, nat_tests)
 pub present_nowhere : (bytes : List ℕ) (kind : Kind) (xs : List PlacedArray) (i r : ℕ) → length xs ≤ i → not (nat_le (length (entries bytes kind (drop i xs))) r) ≡ false
 present_nowhere bytes kind xs i r le = rw (ended xs i le) (none_below r)
 
--- by the number that an integer is
-pub named : (k : ℕ) (z y : ℤ) (others entries : List Cell) (b : Bool) → b ≡ not (nat_le (length others) k) → z ≡ y → others ≡ entries → z ≡ pos k → b ≡ not (is_past y entries)
-named k z y others entries b is e f number = is ∙ (λ j. not (is_past ((sym number ∙ e) j) (f j)))
+-- by the number that an index is
+pub named : (k : ℕ) (z : ℤ) → Some k ≡ named_number z → z ≡ pos k
+named k (pos n) is = cc
+named k (negsuc n) is = cc
+
+pub unnamed_is_past : (z : ℤ) (entries : List Cell) → None ≡ named_number z → false ≡ not (is_past z entries)
+unnamed_is_past (pos n) entries is = cc
+unnamed_is_past (negsuc n) entries is = refl
+
+pub unnamed_is_null : (z : ℤ) (entries : List Cell) → None ≡ named_number z → null ≡ entry_at entries z
+unnamed_is_null (pos n) entries is = cc
+unnamed_is_null (negsuc n) entries is = refl
 
 -- a test that holds of all holds of the next
 pub sound_here : (p : Array → Bool) (g : PlacedArray → Array) (xs : List PlacedArray) (i : ℕ) (x : PlacedArray) → i < length xs → x ≡ get_or xs i x

@@ -1,5 +1,5 @@
 -- The cell at a slot of an array (Arrow columnar format, "Physical Memory Layout"). Each is found by itself in the bytes of the array.
-use Rattle.std.specs.Prelude.{ℕ, ◌+◌, ◌-◌, ◌*◌, ◌/◌, Bool, true, false, ◌==◌, ◌||◌, ℤ, pos, negsuc, List, [], ◌∷◌, length, map, take, drop, get_or, Some, None, if◌then◌else◌}
+use Rattle.std.specs.Prelude.{ℕ, ◌+◌, ◌-◌, ◌*◌, ◌/◌, Bool, true, ◌==◌, ◌||◌, ℤ, pos, negsuc, List, length, map, take, drop, get_or, Option, Some, None, if◌then◌else◌}
 use Rattle.std.specs.List.{flat_map, range_with_len}
 use Rattle.byteorder.specs.Endian.{little_number}
 use Rattle.arrow_schema.specs.Column.{Index, Kind, Column, Columns, nulls, booleans, integers, dates, timestamps, texts, large_texts, binaries, large_binaries, fixed_binaries, lists, large_lists, fixed_lists, structs, column, no_column, and_column}
@@ -58,6 +58,11 @@ entries_by f dictionary = flat_map (λ a. cells_from (f a) 0 (slots_in a)) (arra
 -- the index of a slot
 abbrev pub index_at : Index → Array → ℕ → ℤ
 index_at index a i = integer_at (index.bits / 8) index.signed (indices_in a) i
+
+-- the number that an index is: none where it is negative
+abbrev pub named_number : ℤ → Option ℕ
+named_number (pos n) = Some n
+named_number (negsuc n) = None
 
 -- the entry that an index names: no index but those from 0 up to the number of entries names one
 abbrev pub entry_at : List Cell → ℤ → Cell

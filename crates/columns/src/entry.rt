@@ -1,11 +1,11 @@
 // The entry of a dictionary that an index names.
-ghost use Rattle.std.specs.Prelude.{◌≡◌, ◌<◌, ◌≤◌, ◌/◌, true, false, not, nat_le, length, map, take, get_or, is_some};
+ghost use Rattle.std.specs.Prelude.{◌≡◌, ◌<◌, ◌≤◌, ◌/◌, true, false, not, nat_le, length, map, take, get_or, is_some, ℕ, List};
 ghost use Rattle.std.specs.List.{list_all};
 ghost use Rattle.arrow_schema.specs.Column.{Kind};
 ghost use Rattle.arrow_schema.specs.View.{index_of};
 ghost use Rattle.cells.specs.Cell.{null};
 ghost use Rattle.columns.specs.Array.{slots_in, indices_in, dictionary_in, array_list};
-ghost use Rattle.columns.specs.CellAt.{entries_of_kind, indexed_cell, index_at};
+ghost use Rattle.columns.specs.CellAt.{entries_of_kind, indexed_cell, index_at, named_number};
 ghost use Rattle.columns.specs.Tests.{are_few};
 ghost use Rattle.columns.specs.Sound.{is_kind_sound};
 ghost use Rattle.columns.specs.Visible.{is_past};
@@ -79,6 +79,26 @@ pub fn entry_place<'a>(
     }
 }
 
+/// How many entries a dictionary has.
+pub fn entry_count(known: KnownArrays<'_>) -> u128
+    ensures { (bytes : List ℕ) (kind : Kind) → result ≡ length (entries_of_kind kind (placed_dictionary bytes known.entry.arrays.now)) }
+{
+    end_before(known, known.arrays.len())
+}
+
+/// The number that the index of a slot is: none where it is negative. Of 128 bits, as any index is.
+pub fn index_number(spec: DictSpec, view: ArrayView<'_>, i: usize) -> Option<u128>
+    requires long { are_few ((index_of spec).bits / 8) (view_array view) (indices_in (view_array view)) ≡ false }
+    requires within { i < slots_in (view_array view) }
+    ensures { result ≡ named_number (index_at (index_of spec) (view_array view.entry) i) }
+{
+    let index = integer_at(spec.index, view.indices(), view.slots(), i);
+    if index < 0 {
+        return None;
+    }
+    Some(index as u128)
+}
+
 /// Where the entry stands that the index of a slot names.
 pub fn indexed_entry<'a>(spec: DictSpec, view: ArrayView<'a>, i: usize) -> Option<EntryPlace<'a>>
     requires long { are_few ((index_of spec).bits / 8) (view_array view) (indices_in (view_array view)) ≡ false }
@@ -88,9 +108,8 @@ pub fn indexed_entry<'a>(spec: DictSpec, view: ArrayView<'a>, i: usize) -> Optio
         (kind : Kind) → is_some result ≡ not (is_past (index_at (index_of spec) a i) (entries_of_kind kind (dictionary_in a))) }
     ensures sound { (kind : Kind) → list_all (is_kind_sound kind) (array_list (dictionary_in (view_array view.entry))) ≡ true → IsSoundPlace kind result }
 {
-    let index = integer_at(spec.index, view.indices(), view.slots(), i);
-    if index < 0 {
-        return None;
+    match index_number(spec, view, i) {
+        None => None,
+        Some(number) => entry_place(view.dictionary(), view.bytes, number),
     }
-    entry_place(view.dictionary(), view.bytes, index as u128)
 }
