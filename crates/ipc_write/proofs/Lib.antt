@@ -1,5 +1,6 @@
 mod Worked
 mod Fine
+mod Fronts
 mod TypeRead
 mod FieldRead
 mod MessageRead

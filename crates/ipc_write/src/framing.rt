@@ -1,5 +1,5 @@
 // The messages of a stream, as bytes.
-ghost use Rattle.std.specs.Prelude.{◌≡◌, ◌≤◌, ◌<◌, ◌+◌, ◌^◌, ◌++◌, [], ◌∷◌, ℕ, List, map, length, take, OnOk, OnErr, IfOk, replicate};
+ghost use Rattle.std.specs.Prelude.{◌≡◌, ◌≤◌, ◌<◌, ◌+◌, ◌-◌, ◌%◌, ◌^◌, ◌++◌, [], ◌∷◌, ℕ, List, map, length, take, OnOk, OnErr, IfOk, replicate};
 ghost use Rattle.byteorder.specs.Endian.{little_bytes};
 ghost use Rattle.arrow_schema.specs.View.{schema_of};
 ghost use Rattle.arrow_schema.specs.Limits.{IsWithinLimits};
@@ -28,13 +28,21 @@ fn put_metadata(out: &mut Vec<u8>, metadata: &[u8]) -> Result<(), AllocError>
     out.extend_from_slice(metadata)
 }
 
+/// Appends the zeros that fill a buffer of so many bytes to a multiple of 8, or nothing where memory is refused.
+pub fn write_padding(out: &mut Vec<u8>, length: usize) -> Result<(), AllocError>
+    ensures appended { OnOk result (out.new.items ≡ out.old.items ++ replicate ((8 - length % 8) % 8) 0) }
+    ensures kept { OnErr result (out.new.items ≡ out.old.items) }
+{
+    out.resize(out.len() + (8 - length % 8) % 8, 0)
+}
+
 /// Appends bytes, and zeros up to a multiple of 8.
 fn put_padded(out: &mut Vec<u8>, bytes: &[u8]) -> Result<(), AllocError>
     ensures appended { OnOk result (out.new.items ≡ out.old.items ++ padded bytes.now) }
     ensures begins { take (length out.old.items) out.new.items ≡ out.old.items }
 {
     out.extend_from_slice(bytes)?;
-    out.resize(out.len() + (8 - bytes.len() % 8) % 8, 0)
+    write_padding(out, bytes.len())
 }
 
 /// Appends the body of a message: each buffer, filled to a multiple of 8.
@@ -48,48 +56,51 @@ fn put_body(out: &mut Vec<u8>, buffers: &[&[u8]]) -> Result<(), AllocError>
     Ok(())
 }
 
-/// Appends the metadata of a message and its body; a part of them where memory is refused.
-fn put_parts(out: &mut Vec<u8>, metadata: &[u8], buffers: &[&[u8]]) -> Result<(), AllocError>
-    requires { length metadata.now < 2 ^ 31 }
-    ensures appended { OnOk result (out.new.items ≡ out.old.items ++ framed metadata.now (body (map (λ b. b.now) buffers.now))) }
-    ensures begins { take (length out.old.items) out.new.items ≡ out.old.items }
+/// Appends the body of a message. Where memory is refused, all that stands behind the place `before` goes.
+fn put_body_or_cut(out: &mut Vec<u8>, buffers: &[&[u8]], before: usize) -> Result<(), AllocError>
+    requires { before ≤ length out.old.items }
+    ensures appended { OnOk result (out.new.items ≡ out.old.items ++ body (map (λ b. b.now) buffers.now)) }
+    ensures cut { OnErr result (out.new.items ≡ take before out.old.items) }
 {
-    put_metadata(out, metadata)?;
-    put_body(out, buffers)
-}
-
-/// Appends a message with this metadata and the body of these buffers, or nothing where memory is refused.
-fn put_message(out: &mut Vec<u8>, metadata: &[u8], buffers: &[&[u8]]) -> Result<(), AllocError>
-    requires { length metadata.now < 2 ^ 31 }
-    ensures appended { OnOk result (out.new.items ≡ out.old.items ++ framed metadata.now (body (map (λ b. b.now) buffers.now))) }
-    ensures kept { OnErr result (out.new.items ≡ out.old.items) }
-{
-    let before = out.len();
-    let put = put_parts(out, metadata, buffers);
+    let put = put_body(out, buffers);
     if put.is_err() {
         out.truncate(before);
     }
     put
 }
 
-/// Appends a message with a header of this type and the body of these buffers, or nothing where memory is refused.
-fn write_message(
+/// Appends all of a message but its body, or nothing where memory is refused.
+fn put_front(out: &mut Vec<u8>, metadata: &[u8]) -> Result<(), AllocError>
+    requires { length metadata.now < 2 ^ 31 }
+    ensures appended { OnOk result (out.new.items ≡ out.old.items ++ framed metadata.now []) }
+    ensures begins { take (length out.old.items) out.new.items ≡ out.old.items }
+    ensures kept { OnErr result (out.new.items ≡ out.old.items) }
+{
+    let before = out.len();
+    let front = put_metadata(out, metadata);
+    if front.is_err() {
+        out.truncate(before);
+    }
+    front
+}
+
+/// Appends all but the body of a message with a header of this type and a body of so many bytes, or nothing where memory is refused.
+fn write_front(
     alloc: Global,
     out: &mut Vec<u8>,
     header_type: u8,
     header: Node,
     body_length: u64,
-    buffers: &[&[u8]],
 ) -> Result<(), AllocError>
-    requires length { body_length ≡ length (body (map (λ b. b.now) buffers.now)) }
     requires fits { Fits (message_tree header_type (node_of header) body_length) }
     requires small { length (metadata (message_tree header_type (node_of header) body_length)) ≤ MAX_BUFFER_BYTES }
-    ensures appended { OnOk result (out.new.items ≡ out.old.items ++ message_bytes header_type (node_of header) (body (map (λ b. b.now) buffers.now))) }
+    ensures appended { OnOk result (out.new.items ≡ out.old.items ++ framed (metadata (message_tree header_type (node_of header) body_length)) []) }
+    ensures begins { take (length out.old.items) out.new.items ≡ out.old.items }
     ensures kept { OnErr result (out.new.items ≡ out.old.items) }
 {
     let root = message_node(alloc, header_type, header, body_length)?;
     let metadata = Writer::new(alloc).write(&root)?;
-    put_message(out, &metadata, buffers)
+    put_front(out, &metadata)
 }
 
 /// Appends the message of a schema (docs/formats/writing.md), or nothing where memory is refused.
@@ -100,7 +111,7 @@ pub fn write_schema(alloc: Global, out: &mut Vec<u8>, schema: &Schema) -> Result
 {
     metadata_is_within_its_limit();
     let header = schema_node(alloc, schema)?;
-    write_message(alloc, out, SCHEMA, header, 0, &[])
+    write_front(alloc, out, SCHEMA, header, 0)
 }
 
 /// Where each buffer stands in the body, and how long the body is.
@@ -150,6 +161,33 @@ fn batch_header(
     Ok((header, body_length))
 }
 
+/// Appends all but the body of the message that [`write_dictionary`] appends, or nothing where memory is refused. The body is each buffer, filled to a
+/// multiple of 8 as [`write_padding`] does.
+///
+/// The caller sees to it that there are at most 2,048 nodes and 65,536 buffers, and that the body is below 2^62 bytes.
+pub fn write_dictionary_front(
+    alloc: Global,
+    out: &mut Vec<u8>,
+    id: u64,
+    is_delta: bool,
+    rows: u64,
+    nodes: Vec<(u64, u64)>,
+    buffers: &[&[u8]],
+) -> Result<(), AllocError>
+    requires nodes { length nodes.items ≤ 2048 }
+    requires buffers { length buffers.now ≤ 65536 }
+    requires body { length (body (map (λ b. b.now) buffers.now)) < 2 ^ 62 }
+    ensures appended { OnOk result (out.new.items ++ body (map (λ b. b.now) buffers.now) ≡ out.old.items
+        ++ dictionary_message id is_delta rows (map raw_node nodes.items) (map (λ b. b.now) buffers.now)) }
+    ensures begins { take (length out.old.items) out.new.items ≡ out.old.items }
+    ensures kept { OnErr result (out.new.items ≡ out.old.items) }
+{
+    metadata_is_within_its_limit();
+    let (batch, body_length) = batch_header(alloc, rows, nodes, buffers)?;
+    let header = dictionary_node(alloc, id, batch, is_delta)?;
+    write_front(alloc, out, DICTIONARY_BATCH, header, body_length)
+}
+
 /// Appends a dictionary batch of so many entries, with a node for each array and these buffers, or nothing where memory
 /// is refused: they replace the entries of this id, or a delta is appended to them.
 ///
@@ -170,10 +208,33 @@ pub fn write_dictionary(
         ++ dictionary_message id is_delta rows (map raw_node nodes.items) (map (λ b. b.now) buffers.now)) }
     ensures kept { OnErr result (out.new.items ≡ out.old.items) }
 {
+    let before = out.len();
+    write_dictionary_front(alloc, out, id, is_delta, rows, nodes, buffers)?;
+    put_body_or_cut(out, buffers, before)
+}
+
+/// Appends all but the body of the message that [`write_batch`] appends, or nothing where memory is refused. The body is each buffer, filled to a
+/// multiple of 8 as [`write_padding`] does.
+///
+/// The caller sees to it that there are at most 2,048 nodes and 65,536 buffers, and that the body is below 2^62 bytes.
+pub fn write_batch_front(
+    alloc: Global,
+    out: &mut Vec<u8>,
+    rows: u64,
+    nodes: Vec<(u64, u64)>,
+    buffers: &[&[u8]],
+) -> Result<(), AllocError>
+    requires nodes { length nodes.items ≤ 2048 }
+    requires buffers { length buffers.now ≤ 65536 }
+    requires body { length (body (map (λ b. b.now) buffers.now)) < 2 ^ 62 }
+    ensures appended { OnOk result (out.new.items ++ body (map (λ b. b.now) buffers.now) ≡ out.old.items
+        ++ batch_message rows (map raw_node nodes.items) (map (λ b. b.now) buffers.now)) }
+    ensures begins { take (length out.old.items) out.new.items ≡ out.old.items }
+    ensures kept { OnErr result (out.new.items ≡ out.old.items) }
+{
     metadata_is_within_its_limit();
-    let (batch, body_length) = batch_header(alloc, rows, nodes, buffers)?;
-    let header = dictionary_node(alloc, id, batch, is_delta)?;
-    write_message(alloc, out, DICTIONARY_BATCH, header, body_length, buffers)
+    let (header, body_length) = batch_header(alloc, rows, nodes, buffers)?;
+    write_front(alloc, out, RECORD_BATCH, header, body_length)
 }
 
 /// Appends a record batch of so many rows, with a node for each array (its length and null count) and these buffers, or
@@ -193,9 +254,9 @@ pub fn write_batch(
     ensures appended { OnOk result (out.new.items ≡ out.old.items ++ batch_message rows (map raw_node nodes.items) (map (λ b. b.now) buffers.now)) }
     ensures kept { OnErr result (out.new.items ≡ out.old.items) }
 {
-    metadata_is_within_its_limit();
-    let (header, body_length) = batch_header(alloc, rows, nodes, buffers)?;
-    write_message(alloc, out, RECORD_BATCH, header, body_length, buffers)
+    let before = out.len();
+    write_batch_front(alloc, out, rows, nodes, buffers)?;
+    put_body_or_cut(out, buffers, before)
 }
 
 /// The continuation marker, and a size of 0.

@@ -18,7 +18,10 @@ mod framing;
 mod laws;
 mod trees;
 
-pub use framing::{write_batch, write_dictionary, write_end, write_schema};
+pub use framing::{
+    write_batch, write_batch_front, write_dictionary, write_dictionary_front, write_end,
+    write_padding, write_schema,
+};
 pub use laws::{
     batch_is_read_again, batch_message_is_read_again, buffers_stand_in_their_body,
     dictionary_is_read_again, dictionary_message_is_read_again, field_is_read_again,
