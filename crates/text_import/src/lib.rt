@@ -14,6 +14,7 @@
 #![tactic(auto)]
 
 mod flat;
+mod form;
 mod jsonl;
 mod laws;
 mod objects;
@@ -22,6 +23,7 @@ mod refusal;
 mod rows;
 mod texts;
 
+pub use form::{TextForm, rows_in};
 pub use jsonl::jsonl_rows;
 pub use laws::rows_of_texts_are_rows;
 pub use records::csv_rows;
