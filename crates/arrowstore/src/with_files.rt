@@ -19,9 +19,7 @@ use std::convert::AsStr;
 use std::fs::OpenFile;
 use std::io::{self, Read, Seek, Write};
 use std::rt::Files;
-use store_requests::{
-    Mistake, StoreRequest, is_of_store, refused_word, request_of, takes_input,
-};
+use store_requests::{Mistake, StoreRequest, is_of_store, refused_word, request_of, takes_input};
 
 // A command of a store, of which a word is named where it is refused.
 fn serve_and_tell<

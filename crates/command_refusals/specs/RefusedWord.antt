@@ -3,7 +3,7 @@ use Rattle.std.specs.Prelude.{ℕ, List, codes}
 use Rattle.command_refusals.specs.declared.refused_word.Role.{Role}
 use Rattle.command_refusals.specs.declared.refused_word.Role.TheVariants as roles
 
-unfoldable pub role_text : Role → List ℕ
+abbrev pub role_text : Role → List ℕ
 role_text roles.File = codes "file"
 role_text roles.Name = codes "name"
 role_text roles.Field = codes "field"

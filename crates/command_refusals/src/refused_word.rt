@@ -22,7 +22,6 @@ impl fmt::Display for Role {
 
     ghost output = { λ role. Some (role_text role) };
 
-    #[tactic(auto, unfolding(crate::specs::RefusedWord::role_text))]
     fn fmt<W: fmt::Write>(&self, f: &mut fmt::Formatter<W>) -> fmt::Result {
         f.write_str(match self {
             Role::File => "file",

@@ -12,8 +12,8 @@ ghost use Rattle.store.specs.Machine.{Machine};
 ghost use Rattle.store_commands.specs.Changing.{Answered, AnswersCommand, Hands, RefusesImport, RefusesAppend};
 
 use crate::{LARGEST_INPUT, read_at_most};
-use command_refusals::{Refusal, write_whole};
 use catalogue::is_name;
+use command_refusals::{Refusal, write_whole};
 use sector_dev::SectorDevice;
 use std::alloc::Global;
 use std::io::{Read, Write};

@@ -3,8 +3,8 @@ ghost use Rattle.std.specs.Prelude.{◌≡◌, map, string_bytes, IfOk, IfErr};
 ghost use Rattle.arrow_schema.specs.View.{schema_of};
 ghost use Rattle.store_commands.specs.Changing.{StateSchema, RefusesFields};
 
-use command_refusals::Refusal;
 use arrow_schema::{Schema, parse_fields};
+use command_refusals::Refusal;
 use std::alloc::Global;
 use tables::NewTable;
 

@@ -8,8 +8,8 @@ ghost use Rattle.store_commands.specs.Given.{HasGiven, HasGivenAtMost, UnlessToo
 ghost use Rattle.store_commands.specs.Recode.{IsVerdict, AppendsCanonical, IsTrueFault};
 
 use crate::{LARGEST_INPUT, read_at_most};
-use command_refusals::{Refusal, write_whole};
 use canonical_write::encode;
+use command_refusals::{Refusal, write_whole};
 use ipc_stream::decode;
 use std::alloc::Global;
 use std::io::{Read, Write};

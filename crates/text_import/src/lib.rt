@@ -1,6 +1,6 @@
 //! Rows of texts: CSV and JSON Lines, under a schema.
 //!
-//! [`csv_rows`] and [`jsonl_rows`] answer the rows of a text, or the first refusal with the number of its record. Which
+//! [`csv_rows`] and [`jsonl_rows`] (or [`rows_in`], of either form) answer the rows of a text, or the first refusal with the number of its record. Which
 //! records a text has is the word of the crate `csv`, and which values its lines have that of `serde_json`; what becomes
 //! of them, cell by cell, is stated in `specs/` and promised exactly, for every text.
 //!
