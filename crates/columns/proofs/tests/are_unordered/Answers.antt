@@ -1,5 +1,6 @@
 use Rattle.std.specs.Prelude.{nat_lt}
 use Rattle.std.proofs.Common.{◌≡◌, ℕ, ◌+◌, List, arith, sym}
+use Rattle.columns.specs.Array.{Array}
 use Rattle.columns.specs.CellAt.{number_at}
 use Rattle.columns.specs.Offsets.{width_of}
 use Rattle.columns.specs.View.{view_array}
