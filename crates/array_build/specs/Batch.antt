@@ -3,6 +3,8 @@
 use Rattle.std.specs.Prelude.{ℕ, true, List, [], ◌++◌, map, Option}
 use Rattle.std.specs.List.{flat_map}
 use Rattle.arrow_schema.specs.Column.{Index, Kind, Column, Columns, column}
+use Rattle.array_build.specs.declared.batch.Buffer.{Buffer}
+use Rattle.array_build.specs.declared.batch.Buffer.TheVariants.{Made, Borrowed}
 use Rattle.array_build.specs.declared.batch.BuiltBatch.{BuiltBatch}
 use Rattle.array_build.specs.declared.batch.BuiltDictionary.{BuiltDictionary}
 use Rattle.cells.specs.Cell.{Cell}
@@ -42,17 +44,25 @@ batch_of ts = with_arrays no_batch ts
 
 -- ---- the batch of the code
 
+-- the bytes of a buffer, wherever they stand
+abbrev pub buffer_bytes : Buffer → List ℕ
+buffer_bytes (Made v) = v.items
+buffer_bytes (Borrowed b) = b.now
+
+abbrev pub buffers_in : List Buffer → List (List ℕ)
+buffers_in buffers = map buffer_bytes buffers
+
 -- slots, and how many of them are null
 abbrev pub node_in : ℕ × ℕ → Node
 node_in n = record { slots = n.0; null_count = n.1 }
 
 abbrev pub dictionary_in : BuiltDictionary → PlainDictionary
-dictionary_in d = record { slots = d.slots; nodes = map node_in d.nodes.items; buffers = map (λ v. v.items) d.buffers.items }
+dictionary_in d = record { slots = d.slots; nodes = map node_in d.nodes.items; buffers = buffers_in d.buffers.items }
 
 unfoldable pub batch_in : BuiltBatch → PlainBatch
 batch_in b = record {
   nodes = map node_in b.nodes.items;
-  buffers = map (λ v. v.items) b.buffers.items;
+  buffers = buffers_in b.buffers.items;
   dictionaries = map dictionary_in b.dictionaries.items;
 }
 

@@ -1,6 +1,6 @@
 // The nodes and buffers of a batch, as they are built.
 ghost use Rattle.std.specs.Prelude.{◌≡◌, OnOk, map, length};
-ghost use Rattle.array_build.specs.Batch.{batch_in, no_batch, node_in};
+ghost use Rattle.array_build.specs.Batch.{batch_in, buffer_bytes, no_batch, node_in};
 ghost use Rattle.array_build.specs.inner.Nodes.{with_node, with_buffer, with_slots};
 ghost use Rattle.values.specs.Borrowed.{borrowed_cell};
 
@@ -8,26 +8,44 @@ use crate::valid_bits::{unset_bits, validity};
 use std::alloc::{AllocError, Global};
 use values::ValueRef;
 
+/// The bytes of a buffer: made for it, or those that stand in an array already.
+#[derive(Debug, Drop)]
+pub enum Buffer<'a> {
+    Made(Vec<u8>),
+    Borrowed(&'a [u8]),
+}
+
+impl Buffer<'_> {
+    pub fn bytes(&self) -> &[u8]
+        ensures { result.now ≡ buffer_bytes self.now }
+    {
+        match self {
+            Buffer::Made(bytes) => bytes,
+            Buffer::Borrowed(bytes) => bytes,
+        }
+    }
+}
+
 /// The batch of a dictionary's values: how many there are, a node of each array (its slots and its null count), and all buffers.
 #[derive(Debug, Drop)]
-pub struct BuiltDictionary {
+pub struct BuiltDictionary<'a> {
     pub slots: u64,
     pub nodes: Vec<(u64, u64)>,
-    pub buffers: Vec<Vec<u8>>,
+    pub buffers: Vec<Buffer<'a>>,
 }
 
 /// A batch: a node of each array (its slots and its null count), all buffers, and the dictionaries of its columns, in the order of their columns
 /// (Arrow columnar format, "RecordBatch message").
 #[derive(Debug, Drop)]
-pub struct BuiltBatch {
+pub struct BuiltBatch<'a> {
     pub nodes: Vec<(u64, u64)>,
-    pub buffers: Vec<Vec<u8>>,
-    pub dictionaries: Vec<BuiltDictionary>,
+    pub buffers: Vec<Buffer<'a>>,
+    pub dictionaries: Vec<BuiltDictionary<'a>>,
 }
 
 /// A batch without columns.
 #[tactic(auto, unfolding(crate::specs::Batch::batch_in))]
-pub(crate) fn empty_batch(alloc: Global) -> BuiltBatch
+pub(crate) fn empty_batch<'a>(alloc: Global) -> BuiltBatch<'a>
     ensures { batch_in result ≡ no_batch }
 {
     BuiltBatch {
@@ -40,7 +58,7 @@ pub(crate) fn empty_batch(alloc: Global) -> BuiltBatch
 /// Adds a node: slots, and how many of them are null.
 #[tactic(auto, unfolding(crate::specs::Batch::batch_in, crate::specs::inner::Nodes::with_node))]
 pub(crate) fn push_node(
-    batch: &mut BuiltBatch,
+    batch: &mut BuiltBatch<'_>,
     slots: usize,
     null_count: usize,
 ) -> Result<(), AllocError>
@@ -50,18 +68,28 @@ pub(crate) fn push_node(
     Ok(())
 }
 
+/// Adds a buffer, wherever its bytes stand.
 #[tactic(auto, unfolding(crate::specs::Batch::batch_in, crate::specs::inner::Nodes::with_buffer))]
-pub(crate) fn push_buffer(batch: &mut BuiltBatch, buffer: Vec<u8>) -> Result<(), AllocError>
-    ensures { OnOk result (batch_in batch.new ≡ with_buffer (batch_in batch.old) buffer.items) }
+pub(crate) fn push_any_buffer<'a>(
+    batch: &mut BuiltBatch<'a>,
+    buffer: Buffer<'a>,
+) -> Result<(), AllocError>
+    ensures { OnOk result (batch_in batch.new ≡ with_buffer (batch_in batch.old) (buffer_bytes buffer.entry)) }
 {
     batch.buffers.push(buffer)?;
     Ok(())
 }
 
+pub(crate) fn push_buffer(batch: &mut BuiltBatch<'_>, buffer: Vec<u8>) -> Result<(), AllocError>
+    ensures { OnOk result (batch_in batch.new ≡ with_buffer (batch_in batch.old) buffer.items) }
+{
+    push_any_buffer(batch, Buffer::Made(buffer))
+}
+
 /// Adds the node and the validity bitmap of cells of any type but that of nulls.
 pub(crate) fn push_slots(
     alloc: Global,
-    batch: &mut BuiltBatch,
+    batch: &mut BuiltBatch<'_>,
     cells: &[ValueRef<'_>],
 ) -> Result<(), AllocError>
     ensures { OnOk result (batch_in batch.new ≡ with_slots (batch_in batch.old) (map borrowed_cell cells.now)) }

@@ -28,7 +28,7 @@ use values::{ValueRef, Values};
 #[cycle(building)]
 pub(crate) fn build_column(
     alloc: Global,
-    batch: &mut BuiltBatch,
+    batch: &mut BuiltBatch<'_>,
     field: &Field,
     cells: &[ValueRef<'_>],
 ) -> Result<(), AllocError>
@@ -45,7 +45,7 @@ pub(crate) fn build_column(
 #[cycle(building)]
 fn build_kind(
     alloc: Global,
-    batch: &mut BuiltBatch,
+    batch: &mut BuiltBatch<'_>,
     data_type: &DataType,
     cells: &[ValueRef<'_>],
 ) -> Result<(), AllocError>
@@ -79,7 +79,7 @@ fn build_kind(
 #[cycle(building)]
 fn build_lists(
     alloc: Global,
-    batch: &mut BuiltBatch,
+    batch: &mut BuiltBatch<'_>,
     width: OffsetWidth,
     item: &Field,
     cells: &[ValueRef<'_>],
@@ -99,7 +99,7 @@ fn build_lists(
 #[cycle(building)]
 fn build_fixed_lists(
     alloc: Global,
-    batch: &mut BuiltBatch,
+    batch: &mut BuiltBatch<'_>,
     size: usize,
     item: &Field,
     cells: &[ValueRef<'_>],
@@ -117,7 +117,7 @@ fn build_fixed_lists(
 #[cycle(building)]
 fn build_structs(
     alloc: Global,
-    batch: &mut BuiltBatch,
+    batch: &mut BuiltBatch<'_>,
     fields: &[Field],
     cells: &[ValueRef<'_>],
 ) -> Result<(), AllocError>
@@ -133,7 +133,7 @@ fn build_structs(
 #[cycle(building)]
 fn build_parts(
     alloc: Global,
-    batch: &mut BuiltBatch,
+    batch: &mut BuiltBatch<'_>,
     fields: &[Field],
     cells: &[ValueRef<'_>],
 ) -> Result<(), AllocError>
@@ -150,11 +150,11 @@ fn build_parts(
 
 // The batch of a dictionary's values.
 #[cycle(building)]
-fn build_values(
+fn build_values<'a>(
     alloc: Global,
     data_type: &DataType,
     entries: &[ValueRef<'_>],
-) -> Result<BuiltDictionary, AllocError>
+) -> Result<BuiltDictionary<'a>, AllocError>
     requires { can_build (plain_column (kind_of data_type.now) None) (map borrowed_cell entries.now) ≡ true }
     ensures { IfOk result (λ dictionary. dictionary_in dictionary ≡ values_batch (kind_of data_type.now) (map borrowed_cell entries.now)) }
 {
@@ -165,9 +165,9 @@ fn build_values(
 
 // Adds the indices of cells, and the batch of the dictionary that they name.
 #[cycle(building)]
-fn build_dictionary(
+fn build_dictionary<'a>(
     alloc: Global,
-    batch: &mut BuiltBatch,
+    batch: &mut BuiltBatch<'a>,
     data_type: &DataType,
     dictionary: DictSpec,
     cells: &[ValueRef<'_>],
@@ -183,7 +183,11 @@ fn build_dictionary(
 
 /// The nodes and buffers of a batch of rows, and of the dictionaries of its columns: those of the one array that each column is written as
 /// (Arrow columnar format, "RecordBatch message"). Each array stands before those below it.
-pub fn build(alloc: Global, fields: &[Field], rows: &[Values<'_>]) -> Result<BuiltBatch, AllocError>
+pub fn build<'a>(
+    alloc: Global,
+    fields: &[Field],
+    rows: &[Values<'_>],
+) -> Result<BuiltBatch<'a>, AllocError>
     requires { can_build_rows (columns_of (map column_of fields.now)) (map borrowed_cells rows.now) ≡ true }
     ensures { IfOk result (λ batch. batch_in batch ≡ batch_of (built_below (columns_of (map column_of fields.now)) (map borrowed_cells rows.now))) }
 {

@@ -35,7 +35,7 @@ fn date_width(unit: DateUnit) -> usize
 // Adds the indices of a column with a dictionary, whose cells are gone through, and its entries.
 fn build_coded_column(
     alloc: Global,
-    batch: &mut BuiltBatch,
+    batch: &mut BuiltBatch<'_>,
     field: &Field,
     runs: &[Run<'_>],
 ) -> Result<(), AllocError>
@@ -51,11 +51,11 @@ fn build_coded_column(
 
 // Adds the array of runs of a type that have no null among their slots, and all below it.
 #[cycle(by_runs)]
-fn build_valid_kind(
+fn build_valid_kind<'a>(
     alloc: Global,
-    batch: &mut BuiltBatch,
+    batch: &mut BuiltBatch<'a>,
     data_type: &DataType,
-    runs: &[Run<'_>],
+    runs: &[Run<'a>],
 ) -> Result<(), AllocError>
     requires ready { AreReady (kind_of data_type.now) runs.now }
     ensures { OnOk result (batch_in batch.new ≡ with_arrays (batch_in batch.old)
@@ -89,12 +89,12 @@ fn build_valid_kind(
 
 // Lists have a node, a validity bitmap and offsets, and below them the items of all.
 #[cycle(by_runs)]
-fn build_run_lists(
+fn build_run_lists<'a>(
     alloc: Global,
-    batch: &mut BuiltBatch,
+    batch: &mut BuiltBatch<'a>,
     width: OffsetWidth,
     item: &Field,
-    runs: &[Run<'_>],
+    runs: &[Run<'a>],
 ) -> Result<(), AllocError>
     requires ready { AreReady (list_kind width (column_of item.now)) runs.now }
     ensures { OnOk result (batch_in batch.new ≡ with_arrays (batch_in batch.old)
@@ -109,12 +109,12 @@ fn build_run_lists(
 
 // Fixed lists have a node and a validity bitmap, and below them the items of all, which are nulls below a null.
 #[cycle(by_runs)]
-fn build_run_fixed_lists(
+fn build_run_fixed_lists<'a>(
     alloc: Global,
-    batch: &mut BuiltBatch,
+    batch: &mut BuiltBatch<'a>,
     size: usize,
     item: &Field,
-    runs: &[Run<'_>],
+    runs: &[Run<'a>],
 ) -> Result<(), AllocError>
     requires ready { AreReady (fixed_lists size (column_of item.now)) runs.now }
     ensures { OnOk result (batch_in batch.new ≡ with_arrays (batch_in batch.old)
@@ -127,11 +127,11 @@ fn build_run_fixed_lists(
 
 // Structs have a node and a validity bitmap, and below them the same slots of each field.
 #[cycle(by_runs)]
-fn build_run_structs(
+fn build_run_structs<'a>(
     alloc: Global,
-    batch: &mut BuiltBatch,
+    batch: &mut BuiltBatch<'a>,
     fields: &[Field],
-    runs: &[Run<'_>],
+    runs: &[Run<'a>],
 ) -> Result<(), AllocError>
     requires ready { AreReady (structs (columns_of (map column_of fields.now))) runs.now }
     ensures { OnOk result (batch_in batch.new ≡ with_arrays (batch_in batch.old) (built_at (plain_column (structs (columns_of (map column_of fields.now))) None)
@@ -144,11 +144,11 @@ fn build_run_structs(
 
 // Adds the array of a column of a type, whatever its name, and all below it.
 #[cycle(by_runs)]
-fn build_run_kind(
+fn build_run_kind<'a>(
     alloc: Global,
-    batch: &mut BuiltBatch,
+    batch: &mut BuiltBatch<'a>,
     data_type: &DataType,
-    runs: &[Run<'_>],
+    runs: &[Run<'a>],
 ) -> Result<(), AllocError>
     requires sound { are_runs_sound (plain_column (kind_of data_type.now) None) runs.now ≡ true }
     requires fits { can_build (plain_column (kind_of data_type.now) None) (kind_cells (kind_of data_type.now) runs.now) ≡ true }
@@ -161,11 +161,11 @@ fn build_run_kind(
 
 // The same of a field.
 #[cycle(by_runs)]
-fn build_run_column(
+fn build_run_column<'a>(
     alloc: Global,
-    batch: &mut BuiltBatch,
+    batch: &mut BuiltBatch<'a>,
     field: &Field,
-    runs: &[Run<'_>],
+    runs: &[Run<'a>],
 ) -> Result<(), AllocError>
     requires sound { are_runs_sound (column_of field.now) runs.now ≡ true }
     requires fits { can_build (column_of field.now) (runs_cells (column_of field.now) runs.now) ≡ true }
@@ -180,11 +180,11 @@ fn build_run_column(
 
 // Adds the arrays of columns, and all below them.
 #[cycle(by_runs)]
-fn build_run_parts(
+fn build_run_parts<'a>(
     alloc: Global,
-    batch: &mut BuiltBatch,
+    batch: &mut BuiltBatch<'a>,
     fields: &[Field],
-    columns: &[Vec<Run<'_>>],
+    columns: &[Vec<Run<'a>>],
 ) -> Result<(), AllocError>
     requires sound { are_columns_sound (columns_of (map column_of fields.now)) (map (λ v. v.items) columns.now) ≡ true }
     requires fits { can_build_columns (columns_of (map column_of fields.now)) (map (λ v. v.items) columns.now) ≡ true }
@@ -199,11 +199,11 @@ fn build_run_parts(
 
 /// The same of rows whose columns are runs of slots: the bytes of valid slots are copied run by run, and no cell is looked at by itself but in a column
 /// with a dictionary.
-pub fn build_runs(
+pub fn build_runs<'a>(
     alloc: Global,
     fields: &[Field],
-    columns: &[Vec<Run<'_>>],
-) -> Result<BuiltBatch, AllocError>
+    columns: &[Vec<Run<'a>>],
+) -> Result<BuiltBatch<'a>, AllocError>
     requires sound { are_columns_sound (columns_of (map column_of fields.now)) (map (λ v. v.items) columns.now) ≡ true }
     requires fits { can_build_columns (columns_of (map column_of fields.now)) (map (λ v. v.items) columns.now) ≡ true }
     ensures { IfOk result (λ batch. (rows : List (List Cell)) → HaveRuns (columns_of (map column_of fields.now)) (map (λ v. v.items) columns.now) rows

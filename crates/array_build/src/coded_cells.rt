@@ -15,7 +15,7 @@ use values::ValueRef;
 /// Adds the node, the validity bitmap and the indices of cells, and gives the cells of the entries that they name.
 pub(crate) fn push_indices<'a>(
     alloc: Global,
-    batch: &mut BuiltBatch,
+    batch: &mut BuiltBatch<'_>,
     index: IntegerType,
     cells: &[ValueRef<'a>],
 ) -> Result<Vec<ValueRef<'a>>, AllocError>
@@ -31,8 +31,8 @@ pub(crate) fn push_indices<'a>(
 
 /// The batch of so many values, as a dictionary.
 #[tactic(auto, unfolding(crate::specs::Batch::batch_in))]
-pub(crate) fn values_of(count: usize, batch: BuiltBatch) -> BuiltDictionary
-    ensures { dictionary_in result ≡ record { slots = count; nodes = (batch_in batch).nodes; buffers = (batch_in batch).buffers } }
+pub(crate) fn values_of(count: usize, batch: BuiltBatch<'_>) -> BuiltDictionary<'_>
+    ensures { dictionary_in result ≡ record { slots = count; nodes = (batch_in batch.entry).nodes; buffers = (batch_in batch.entry).buffers } }
 {
     let BuiltBatch {
         nodes,
@@ -49,11 +49,11 @@ pub(crate) fn values_of(count: usize, batch: BuiltBatch) -> BuiltDictionary
 
 /// Adds the batch of a dictionary's values.
 #[tactic(auto, unfolding(crate::specs::Batch::batch_in, crate::specs::inner::Coded::with_dictionary))]
-pub(crate) fn push_dictionary(
-    batch: &mut BuiltBatch,
-    dictionary: BuiltDictionary,
+pub(crate) fn push_dictionary<'a>(
+    batch: &mut BuiltBatch<'a>,
+    dictionary: BuiltDictionary<'a>,
 ) -> Result<(), AllocError>
-    ensures { OnOk result (batch_in batch.new ≡ with_dictionary (batch_in batch.old) (dictionary_in dictionary)) }
+    ensures { OnOk result (batch_in batch.new ≡ with_dictionary (batch_in batch.old) (dictionary_in dictionary.entry)) }
 {
     batch.dictionaries.push(dictionary)?;
     Ok(())

@@ -22,7 +22,10 @@ use values::ValueRef;
 
 // Nulls have a node alone.
 #[tactic(auto, using(crate::proofs::Arrays::nulls_are))]
-pub(crate) fn build_nulls(batch: &mut BuiltBatch, cells: &[ValueRef<'_>]) -> Result<(), AllocError>
+pub(crate) fn build_nulls(
+    batch: &mut BuiltBatch<'_>,
+    cells: &[ValueRef<'_>],
+) -> Result<(), AllocError>
     ensures { OnOk result (batch_in batch.new ≡ with_arrays (batch_in batch.old) (built_at (plain_column nulls None) (map borrowed_cell cells.now))) }
 {
     push_node(batch, cells.len(), cells.len())
@@ -31,7 +34,7 @@ pub(crate) fn build_nulls(batch: &mut BuiltBatch, cells: &[ValueRef<'_>]) -> Res
 #[tactic(auto, using(crate::proofs::Arrays::booleans_are))]
 pub(crate) fn build_booleans(
     alloc: Global,
-    batch: &mut BuiltBatch,
+    batch: &mut BuiltBatch<'_>,
     cells: &[ValueRef<'_>],
 ) -> Result<(), AllocError>
     ensures { OnOk result (batch_in batch.new ≡ with_arrays (batch_in batch.old) (built_at (plain_column booleans None) (map borrowed_cell cells.now))) }
@@ -44,7 +47,7 @@ pub(crate) fn build_booleans(
 // The node, the validity bitmap and the values of integers.
 fn push_integers(
     alloc: Global,
-    batch: &mut BuiltBatch,
+    batch: &mut BuiltBatch<'_>,
     integer: IntegerType,
     cells: &[ValueRef<'_>],
 ) -> Result<(), AllocError>
@@ -60,7 +63,7 @@ fn push_integers(
 #[tactic(auto, using(crate::proofs::Arrays::integers_are), unfolding(columns::specs::Buildable::can_build))]
 pub(crate) fn build_integers(
     alloc: Global,
-    batch: &mut BuiltBatch,
+    batch: &mut BuiltBatch<'_>,
     integer: IntegerType,
     cells: &[ValueRef<'_>],
 ) -> Result<(), AllocError>
@@ -89,7 +92,7 @@ fn date_integer(unit: DateUnit) -> IntegerType
 #[tactic(auto, using(crate::proofs::Arrays::dates_are, crate::proofs::Premises::dates_fit))]
 pub(crate) fn build_dates(
     alloc: Global,
-    batch: &mut BuiltBatch,
+    batch: &mut BuiltBatch<'_>,
     unit: DateUnit,
     cells: &[ValueRef<'_>],
 ) -> Result<(), AllocError>
@@ -103,7 +106,7 @@ pub(crate) fn build_dates(
 /// Timestamps of any unit and timezone: integers of 64 bits with a sign.
 pub(crate) fn build_timestamps(
     alloc: Global,
-    batch: &mut BuiltBatch,
+    batch: &mut BuiltBatch<'_>,
     cells: &[ValueRef<'_>],
 ) -> Result<(), AllocError>
     requires { are_nulls_or_fit (integers 64 true) (map borrowed_cell cells.now) ≡ true }
@@ -120,7 +123,7 @@ pub(crate) fn build_timestamps(
 #[tactic(auto, using(crate::proofs::Arrays::fixed_binaries_are))]
 pub(crate) fn build_fixed_binaries(
     alloc: Global,
-    batch: &mut BuiltBatch,
+    batch: &mut BuiltBatch<'_>,
     width: usize,
     cells: &[ValueRef<'_>],
 ) -> Result<(), AllocError>
@@ -135,7 +138,7 @@ pub(crate) fn build_fixed_binaries(
 // The node, the validity bitmap, the offsets and the bytes of texts or binaries.
 fn push_contents(
     alloc: Global,
-    batch: &mut BuiltBatch,
+    batch: &mut BuiltBatch<'_>,
     width: OffsetWidth,
     cells: &[ValueRef<'_>],
 ) -> Result<(), AllocError>
@@ -155,7 +158,7 @@ fn push_contents(
 #[tactic(auto, using(crate::proofs::Arrays::texts_are, crate::proofs::Premises::texts_fit))]
 pub(crate) fn build_texts(
     alloc: Global,
-    batch: &mut BuiltBatch,
+    batch: &mut BuiltBatch<'_>,
     width: OffsetWidth,
     cells: &[ValueRef<'_>],
 ) -> Result<(), AllocError>
@@ -169,7 +172,7 @@ pub(crate) fn build_texts(
 #[tactic(auto, using(crate::proofs::Arrays::binaries_are, crate::proofs::Premises::binaries_fit))]
 pub(crate) fn build_binaries(
     alloc: Global,
-    batch: &mut BuiltBatch,
+    batch: &mut BuiltBatch<'_>,
     width: OffsetWidth,
     cells: &[ValueRef<'_>],
 ) -> Result<(), AllocError>

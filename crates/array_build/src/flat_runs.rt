@@ -7,7 +7,7 @@ ghost use Rattle.array_build.specs.Batch.{batch_in, built_at, plain_column, with
 ghost use Rattle.array_build.specs.inner.Runs.{AreReady, contents_width, fixed_width, kind_cells};
 ghost use Rattle.columns.specs.Offsets.{width_of};
 
-use crate::batch::{BuiltBatch, push_buffer, push_node};
+use crate::batch::{BuiltBatch, push_any_buffer, push_buffer, push_node};
 use crate::run_bits::run_booleans;
 use crate::run_contents::{run_contents, run_offsets};
 use crate::run_slots::{count_slots, push_run_slots};
@@ -20,7 +20,7 @@ use std::alloc::{AllocError, Global};
 // Nulls have a node alone.
 #[tactic(auto, using(crate::proofs::RunArrays::null_runs_are))]
 pub(crate) fn build_run_nulls(
-    batch: &mut BuiltBatch,
+    batch: &mut BuiltBatch<'_>,
     data_type: &DataType,
     runs: &[Run<'_>],
 ) -> Result<(), AllocError>
@@ -35,7 +35,7 @@ pub(crate) fn build_run_nulls(
 #[tactic(auto, using(crate::proofs::RunArrays::boolean_runs_are))]
 pub(crate) fn build_run_bits(
     alloc: Global,
-    batch: &mut BuiltBatch,
+    batch: &mut BuiltBatch<'_>,
     data_type: &DataType,
     runs: &[Run<'_>],
 ) -> Result<(), AllocError>
@@ -51,12 +51,12 @@ pub(crate) fn build_run_bits(
 
 /// Values of one width.
 #[tactic(auto, using(crate::proofs::RunArrays::fixed_runs_are))]
-pub(crate) fn build_run_values(
+pub(crate) fn build_run_values<'a>(
     alloc: Global,
-    batch: &mut BuiltBatch,
+    batch: &mut BuiltBatch<'a>,
     data_type: &DataType,
     width: usize,
-    runs: &[Run<'_>],
+    runs: &[Run<'a>],
 ) -> Result<(), AllocError>
     requires width { fixed_width (kind_of data_type.now) ≡ Some width }
     requires ready { AreReady (kind_of data_type.now) runs.now }
@@ -65,17 +65,17 @@ pub(crate) fn build_run_values(
 {
     let values = run_values(alloc, data_type, width, runs)?;
     push_run_slots(alloc, batch, runs)?;
-    push_buffer(batch, values)
+    push_any_buffer(batch, values)
 }
 
 /// Texts and binaries.
 #[tactic(auto, using(crate::proofs::RunArrays::content_runs_are))]
-pub(crate) fn build_run_contents(
+pub(crate) fn build_run_contents<'a>(
     alloc: Global,
-    batch: &mut BuiltBatch,
+    batch: &mut BuiltBatch<'a>,
     data_type: &DataType,
     width: OffsetWidth,
-    runs: &[Run<'_>],
+    runs: &[Run<'a>],
 ) -> Result<(), AllocError>
     requires width { contents_width (kind_of data_type.now) ≡ Some (width_of width) }
     requires ready { AreReady (kind_of data_type.now) runs.now }
@@ -86,5 +86,5 @@ pub(crate) fn build_run_contents(
     let contents = run_contents(alloc, data_type, width, runs)?;
     push_run_slots(alloc, batch, runs)?;
     push_buffer(batch, offsets)?;
-    push_buffer(batch, contents)
+    push_any_buffer(batch, contents)
 }

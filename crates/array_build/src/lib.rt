@@ -34,6 +34,6 @@ mod run_values;
 mod valid_bits;
 mod value_bytes;
 
-pub use batch::{BuiltBatch, BuiltDictionary};
+pub use batch::{Buffer, BuiltBatch, BuiltDictionary};
 pub use building::build;
 pub use by_runs::build_runs;

@@ -1,9 +1,10 @@
 // The bytes of texts and binaries, and where they end, of runs whose slots are all valid.
 ghost use Rattle.std.specs.Prelude.{◌≡◌, ◌≤◌, ◌+◌, ◌++◌, ◌*◌, false, true, OnOk, IfOk, Some, None, length, replicate};
 ghost use Rattle.std.specs.List.{flat_map};
-ghost use Rattle.array_build.specs.Batch.{plain_column};
+ghost use Rattle.array_build.specs.Batch.{buffer_bytes, plain_column};
 ghost use Rattle.array_build.specs.inner.Runs.{AreReady, AreOffsetsAdded, cell_sizes, contents_width, kind_cells, slot_sizes, span_contents};
 ghost use Rattle.array_runs.specs.Runs.{is_run_sound, is_run_valid, run_cells};
+ghost use Rattle.array_runs.specs.declared.run.Run.TheVariants.{Slots};
 ghost use Rattle.arrow_schema.specs.View.{kind_of};
 ghost use Rattle.columns.specs.Array.{slots_in, contents_in};
 ghost use Rattle.columns.specs.Buildable.{large_offset};
@@ -13,8 +14,9 @@ ghost use Rattle.columns.specs.Offsets.{width_of};
 ghost use Rattle.columns.specs.Tests.{are_few_offsets, are_unordered};
 ghost use Rattle.columns.specs.View.{view_array};
 
+use crate::batch::Buffer;
 use crate::content_bytes::push_offset;
-use crate::run_slots::count_slots;
+use crate::run_slots::{count_slots, only_run};
 use array_runs::Run;
 use arrow_schema::DataType;
 use byteorder::{ByteOrder, LittleEndian};
@@ -33,6 +35,22 @@ fn slot_contents<'a>(array: ArrayView<'a>, width: OffsetWidth, from: usize, len:
     bytes_at(array.contents(), array.spanned(width, from, len))
 }
 
+// The bytes of the slots of a run.
+fn run_slice<'a>(
+    data_type: &DataType,
+    width: OffsetWidth,
+    array: ArrayView<'a>,
+    from: usize,
+    len: usize,
+) -> &'a [u8]
+    requires width { contents_width (kind_of data_type.now) ≡ Some (width_of width) }
+    requires sound { is_run_sound (plain_column (kind_of data_type.now) None) (Slots array from len) ≡ true }
+    requires valid { is_run_valid (Slots array from len) ≡ true }
+    ensures { result.now ≡ flat_map contents_of (run_cells (plain_column (kind_of data_type.now) None) (Slots array.entry from len)) }
+{
+    slot_contents(array, width, from, len)
+}
+
 // The bytes of a run.
 #[tactic(auto, using(crate::proofs::RunContents::no_contents))]
 fn push_contents(
@@ -49,15 +67,15 @@ fn push_contents(
 {
     match run {
         Run::Slots { array, from, len } => {
-            contents.extend_from_slice(slot_contents(*array, width, *from, *len))?;
+            contents.extend_from_slice(run_slice(data_type, width, *array, *from, *len))?;
             Ok(())
         }
         Run::Nulls(_) => Ok(()),
     }
 }
 
-/// The bytes of all texts or binaries, one after another; a null has none.
-pub(crate) fn run_contents(
+// The bytes of all texts or binaries, copied.
+fn copied_contents(
     alloc: Global,
     data_type: &DataType,
     width: OffsetWidth,
@@ -72,6 +90,23 @@ pub(crate) fn run_contents(
         push_contents(&mut contents, data_type, width, run)?;
     }
     Ok(contents)
+}
+
+/// The bytes of all texts or binaries, one after another; a null has none. They are where they stand, if the slots of one run are all.
+pub(crate) fn run_contents<'a>(
+    alloc: Global,
+    data_type: &DataType,
+    width: OffsetWidth,
+    runs: &[Run<'a>],
+) -> Result<Buffer<'a>, AllocError>
+    requires width { contents_width (kind_of data_type.now) ≡ Some (width_of width) }
+    requires ready { AreReady (kind_of data_type.now) runs.now }
+    ensures { IfOk result (λ buffer. buffer_bytes buffer ≡ flat_map contents_of (kind_cells (kind_of data_type.now) runs.now)) }
+{
+    if let Some(Run::Slots { array, from, len }) = only_run(runs) {
+        return Ok(Buffer::Borrowed(run_slice(data_type, width, array, from, len)));
+    }
+    Ok(Buffer::Made(copied_contents(alloc, data_type, width, runs)?))
 }
 
 fn offset_at(offsets: &[u8], width: OffsetWidth, i: usize) -> u64

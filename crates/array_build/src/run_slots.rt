@@ -1,5 +1,5 @@
 // Which slots of runs are valid.
-ghost use Rattle.std.specs.Prelude.{◌≡◌, ◌++◌, ◌==◌, ◌||◌, ◌*◌, nat_le, true, OnOk, IfOk, length, replicate};
+ghost use Rattle.std.specs.Prelude.{◌≡◌, ◌++◌, ◌∷◌, [], IfSome, ◌==◌, ◌||◌, ◌*◌, nat_le, true, OnOk, IfOk, length, replicate};
 ghost use Rattle.std.specs.List.{list_all};
 ghost use Rattle.array_build.specs.Batch.{batch_in};
 ghost use Rattle.array_build.specs.inner.Runs.{bitmap_of, run_bits, runs_bits, with_run_slots};
@@ -16,6 +16,16 @@ pub(crate) fn run_len(run: &Run<'_>) -> usize
     match run {
         Run::Slots { len, .. } => *len,
         Run::Nulls(count) => *count,
+    }
+}
+
+/// The run, where there is no other.
+pub(crate) fn only_run<'a>(runs: &[Run<'a>]) -> Option<Run<'a>>
+    ensures { IfSome result (λ run. runs.now ≡ run ∷ []) }
+{
+    match runs {
+        [run] => Some(*run),
+        _ => None,
     }
 }
 
@@ -92,7 +102,7 @@ fn run_validity(alloc: Global, slots: usize, runs: &[Run<'_>]) -> Result<Vec<u8>
 /// Adds the node and the validity bitmap of runs of any type but that of nulls.
 pub(crate) fn push_run_slots(
     alloc: Global,
-    batch: &mut BuiltBatch,
+    batch: &mut BuiltBatch<'_>,
     runs: &[Run<'_>],
 ) -> Result<(), AllocError>
     ensures { OnOk result (batch_in batch.new ≡ with_run_slots (batch_in batch.old) (runs_bits runs.now)) }

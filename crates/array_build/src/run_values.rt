@@ -1,15 +1,17 @@
 // Values of one width, of runs whose slots are all valid.
 ghost use Rattle.std.specs.Prelude.{◌≡◌, ◌≤◌, ◌+◌, ◌*◌, ◌++◌, true, OnOk, IfOk, Some, None, take, drop, replicate, length};
 ghost use Rattle.std.specs.List.{flat_map};
-ghost use Rattle.array_build.specs.Batch.{plain_column};
+ghost use Rattle.array_build.specs.Batch.{buffer_bytes, plain_column};
 ghost use Rattle.array_build.specs.inner.Runs.{AreReady, fixed_value, fixed_width, kind_cells};
 ghost use Rattle.array_runs.specs.Runs.{is_run_sound, is_run_valid, run_cells};
+ghost use Rattle.array_runs.specs.declared.run.Run.TheVariants.{Slots};
 ghost use Rattle.arrow_schema.specs.View.{kind_of};
 ghost use Rattle.columns.specs.Array.{slots_in, values_in};
 ghost use Rattle.columns.specs.View.{view_array};
 ghost use Rattle.facts.specs.Bytes.{AreBytes};
 
-use crate::run_slots::count_slots;
+use crate::batch::Buffer;
+use crate::run_slots::{count_slots, only_run};
 use array_runs::Run;
 use arrow_schema::DataType;
 use columns::ArrayView;
@@ -32,6 +34,22 @@ fn slot_values<'a>(array: ArrayView<'a>, width: usize, from: usize, len: usize) 
     let values = array.values();
     are_bytes(values);
     &values[from * width..(from + len) * width]
+}
+
+// The values of the slots of a run.
+fn run_slice<'a>(
+    data_type: &DataType,
+    width: usize,
+    array: ArrayView<'a>,
+    from: usize,
+    len: usize,
+) -> &'a [u8]
+    requires width { fixed_width (kind_of data_type.now) ≡ Some width }
+    requires sound { is_run_sound (plain_column (kind_of data_type.now) None) (Slots array from len) ≡ true }
+    requires valid { is_run_valid (Slots array from len) ≡ true }
+    ensures { result.now ≡ flat_map (fixed_value (kind_of data_type.now)) (run_cells (plain_column (kind_of data_type.now) None) (Slots array.entry from len)) }
+{
+    slot_values(array, width, from, len)
 }
 
 /// Zeros for so many values. More bytes than a number counts have no room in memory.
@@ -64,15 +82,15 @@ fn push_run(
 {
     match run {
         Run::Slots { array, from, len } => {
-            values.extend_from_slice(slot_values(*array, width, *from, *len))?;
+            values.extend_from_slice(run_slice(data_type, width, *array, *from, *len))?;
             Ok(())
         }
         Run::Nulls(count) => push_zeros(values, width, *count),
     }
 }
 
-/// The values of runs, with zeros where there is a null.
-pub(crate) fn run_values(
+// The values of runs, copied.
+fn copied_values(
     alloc: Global,
     data_type: &DataType,
     width: usize,
@@ -88,4 +106,21 @@ pub(crate) fn run_values(
         push_run(&mut values, data_type, width, run)?;
     }
     Ok(values)
+}
+
+/// The values of runs, with zeros where there is a null: where they stand, if the slots of one run are all.
+pub(crate) fn run_values<'a>(
+    alloc: Global,
+    data_type: &DataType,
+    width: usize,
+    runs: &[Run<'a>],
+) -> Result<Buffer<'a>, AllocError>
+    requires width { fixed_width (kind_of data_type.now) ≡ Some width }
+    requires ready { AreReady (kind_of data_type.now) runs.now }
+    ensures { IfOk result (λ buffer. buffer_bytes buffer ≡ flat_map (fixed_value (kind_of data_type.now)) (kind_cells (kind_of data_type.now) runs.now)) }
+{
+    if let Some(Run::Slots { array, from, len }) = only_run(runs) {
+        return Ok(Buffer::Borrowed(run_slice(data_type, width, array, from, len)));
+    }
+    Ok(Buffer::Made(copied_values(alloc, data_type, width, runs)?))
 }

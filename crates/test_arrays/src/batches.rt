@@ -1,7 +1,7 @@
 // Batches that are built of rows (array_build). What is wanted of a case is worked by hand from the standard (Arrow columnar format, "Physical Memory
 // Layout").
 use anyhow::{Context, Result, bail};
-use array_build::{BuiltBatch, BuiltDictionary, build};
+use array_build::{Buffer, BuiltBatch, BuiltDictionary, build};
 use arrow_schema::{Schema, parse_fields};
 use columns::rows_can_be_built;
 use std::alloc::Global;
@@ -159,7 +159,7 @@ fn table_of(alloc: Global, fields: &[&str], rows: &str) -> Result<Table> {
 }
 
 // The batch of the first row of a table.
-fn batch_of_row(alloc: Global, table: &Table) -> Result<BuiltBatch> {
+fn batch_of_row(alloc: Global, table: &Table) -> Result<BuiltBatch<'_>> {
     rows_can_be_built();
     match table.row(0) {
         None => bail!("no row"),
@@ -167,15 +167,15 @@ fn batch_of_row(alloc: Global, table: &Table) -> Result<BuiltBatch> {
     }
 }
 
-fn are_buffers(built: &[Vec<u8>], want: Buffers) -> bool {
+fn are_buffers(built: &[Buffer<'_>], want: Buffers) -> bool {
     built.len() == want.len()
         && built
             .iter()
             .zip(want)
-            .all(|(built, want)| built.as_slice() == *want)
+            .all(|(built, want)| built.bytes() == *want)
 }
 
-fn are_dictionaries(built: &[BuiltDictionary], want: &[(u64, Nodes, Buffers)]) -> bool {
+fn are_dictionaries(built: &[BuiltDictionary<'_>], want: &[(u64, Nodes, Buffers)]) -> bool {
     if built.len() != want.len() {
         return false;
     }

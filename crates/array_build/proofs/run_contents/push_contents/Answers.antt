@@ -1,18 +1,21 @@
+use Rattle.std.specs.Prelude.{None}
+use Rattle.std.specs.List.{flat_map}
 use Rattle.std.proofs.Common.{◌++◌, ◌∙◌, List, ℕ, ap, sym}
 use Rattle.std.proofs.lemmas.List.{append-nil}
 use Rattle.arrow_schema.specs.View.{kind_of}
-use Rattle.columns.specs.Offsets.{width_of}
-use Rattle.array_build.proofs.RunContents.{no_contents, run_texts}
+use Rattle.array_build.proofs.RunContents.{no_contents}
 use Rattle.array_build.proofs.run_contents.push_contents.Goals as goal
-
-pub slot_contents-requires-clause-long : goal.slot_contents-requires-clause-long
-slot_contents-requires-clause-long c =
-    (run_texts (kind_of c.args.data_type.now) (width_of c.args.width) c.in-Slots.array c.in-Slots.from c.in-Slots.len c.args.run.now c.in-Slots.is c.requires.width c.requires.sound c.requires.valid).few
+use Rattle.array_build.specs.Batch.{plain_column}
+use Rattle.array_runs.specs.Runs.{run_cells}
+use Rattle.array_runs.specs.declared.run.Run.{Run}
+use Rattle.arrow_schema.specs.Column.{Kind}
+use Rattle.columns.specs.Built.{contents_of}
 
 pub returns-in_ok-extend_from_slice-in-Slots : goal.returns-in_ok-extend_from_slice-in-Slots
 returns-in_ok-extend_from_slice-in-Slots c =
-    let known = run_texts (kind_of c.args.data_type.now) (width_of c.args.width) c.in-Slots.array c.in-Slots.from c.in-Slots.len c.args.run.now c.in-Slots.is c.requires.width c.requires.sound c.requires.valid in
-    c.in_ok-extend_from_slice-in-Slots.ensures.items ∙ ap (λ (bytes : List ℕ). c.args.contents.now.items ++ bytes) (c.slot_contents.ensures ∙ sym known.contents)
+    let kind : Kind = kind_of c.args.data_type.now in
+    c.in_ok-extend_from_slice-in-Slots.ensures.items ∙ ap (λ (bytes : List ℕ). c.args.contents.now.items ++ bytes)
+    (c.run_slice.ensures ∙ ap (λ (run : Run). flat_map contents_of (run_cells (plain_column kind None) run)) (sym c.in-Slots.is))
 
 pub returns-in-Nulls : goal.returns-in-Nulls
 returns-in-Nulls c =
