@@ -1,5 +1,5 @@
 -- The cells of a column with a dictionary: each is null or an entry, and texts among them are UTF-8.
-use Rattle.std.specs.Prelude.{None, Some, ◌&&◌, ◌||◌, Option, is_some, option_map, replicate, string_bytes, if◌then◌else◌}
+use Rattle.std.specs.Prelude.{None, Some, ◌&&◌, ◌||◌, Option, is_some, option_map, not, ◌/◌, string_bytes, if◌then◌else◌}
 use Rattle.std.specs.List.{list_all, list_any, range_with_len}
 use Rattle.std.specs.Str.{is_utf8}
 use Rattle.std.proofs.Common.{◌≡◌, ℕ, zero, suc, ◌+◌, ◌-◌, ◌≤◌, ◌<◌, ◌++◌, Bool, true, false, List, [], ◌∷◌, map, refl, ap, sym, ◌∙◌, arith, append_assoc}
@@ -14,13 +14,16 @@ use Rattle.cells.specs.Cell.{Cell, and_cell, no_cell, null, boolean, number, tex
 use Rattle.cells.specs.Dictionary.{entries_of, is_entry, with_entries, with_entry}
 use Rattle.cells.specs.Fit.{each_fits, fits}
 use Rattle.columns.specs.Buildable.{are_nulls_or_fit, can_build, can_build_below, is_null_or_entry, names_entries}
-use Rattle.columns.specs.CellAt.{cells_from}
+use Rattle.columns.specs.Array.{Array, dictionary_in, indices_in}
+use Rattle.columns.specs.CellAt.{cell_at, cells_from, entries_of_kind, entry_at, index_at, is_valid}
+use Rattle.columns.specs.Sound.{is_sound}
+use Rattle.columns.specs.Tests.{are_few, has_short_validity}
 use Rattle.columns.specs.Texts.{has_utf8_texts, have_utf8_texts}
 use Rattle.array_build.specs.inner.RunCells.{is_coded}
 use Rattle.array_build.specs.Batch.{plain_column}
 use Rattle.columns.specs.laws.FitTexts.{row_texts}
 
-all_front : (test : Cell → Bool) (xs ys : List Cell) → list_all test (xs ++ ys) ≡ true → (list_all test xs ≡ true) × (list_all test ys ≡ true)
+pub all_front : (test : Cell → Bool) (xs ys : List Cell) → list_all test (xs ++ ys) ≡ true → (list_all test xs ≡ true) × (list_all test ys ≡ true)
 all_front test [] ys h = (refl, h)
 all_front test (x ∷ xs) ys h =
     let both = and_parts (test x) (list_all test (xs ++ ys)) h in
@@ -115,15 +118,8 @@ coded_cells name nullable kind index pairs cells h =
 
 -- ---- in loops
 
-pub next_null : (cells : List Cell) (i count : ℕ) → i < count → (cells ++ null ∷ []) ++ replicate (count - (i + 1)) null ≡ cells ++ replicate (count - i) null
-next_null cells i count lt =
-    let size : count - i ≡ suc (count - (i + 1)) = omega (arith, lt) in
-    rw size (append_assoc cells (null ∷ []) (replicate (count - (i + 1)) null))
-
-pub next_cell : (f : ℕ → Cell) (cells : List Cell) (i to : ℕ) → i < to → (cells ++ f i ∷ []) ++ cells_from f (i + 1) (to - (i + 1)) ≡ cells ++ cells_from f i (to - i)
-next_cell f cells i to lt =
-    let size : to - i ≡ suc (to - (i + 1)) = omega (arith, lt) in
-    rw size (append_assoc cells (f i ∷ []) (cells_from f (i + 1) (to - (i + 1))))
+pub first_cell : (f : ℕ → Cell) (i to : ℕ) → i < to → cells_from f i (to - i) ≡ f i ∷ cells_from f (i + 1) (to - (i + 1))
+first_cell f i to lt = let size : to - i ≡ suc (to - (i + 1)) = omega (arith, lt) in ap (cells_from f i) size
 
 -- the cell at a slot is coded where all that are left are, and so are those behind it
 pub coded_here : (f : ℕ → Cell) (i to : ℕ) → i < to → list_all is_coded (cells_from f i (to - i)) ≡ true
@@ -141,3 +137,32 @@ coded_some (Some d) name nullable kind pairs cells some h = coded_cells name nul
 pub field_coded : (f : Field) (cells : List Cell) → is_some f.dictionary ≡ true → can_build (column_of f) cells ≡ true → list_all is_coded cells ≡ true
 field_coded f cells some h =
     coded_some f.dictionary (string_bytes f.name) f.nullable (kind_of f.data_type) (map pair_of f.pairs.items) cells some (ap (λ (c : Column). can_build c cells) (sym (field_is f)) ∙ h)
+
+-- ---- the cell at a slot
+
+coded_column : (f : Field) (d : DictSpec) → f.dictionary ≡ Some d → column_of f ≡ column (string_bytes f.name) f.nullable (kind_of f.data_type) (Some (index_of d)) (map pair_of f.pairs.items)
+coded_column f d is =
+    field_is f ∙ ap (λ (o : Option DictSpec). column (string_bytes f.name) f.nullable (kind_of f.data_type) (option_map index_of o) (map pair_of f.pairs.items)) is
+
+pub valid_cell : (f : Field) (d : DictSpec) (a : Array) (i : ℕ) → f.dictionary ≡ Some d → is_valid a i ≡ true
+    → cell_at (column_of f) a i ≡ entry_at (entries_of_kind (kind_of f.data_type) (dictionary_in a)) (index_at (index_of d) a i)
+unfolding cell_at
+valid_cell f d a i is valid = ap (λ (c : Column). cell_at c a i) (coded_column f d is) ∙ rw valid refl
+
+pub hidden_cell : (f : Field) (d : DictSpec) (a : Array) (i : ℕ) → f.dictionary ≡ Some d → is_valid a i ≡ false → cell_at (column_of f) a i ≡ null
+unfolding cell_at
+hidden_cell f d a i is hidden = ap (λ (c : Column). cell_at c a i) (coded_column f d is) ∙ rw hidden refl
+
+not_so : (b : Bool) → not b ≡ true → b ≡ false
+not_so true h = cc
+not_so false h = refl
+
+-- its buffers are long enough
+pub long_buffers : (f : Field) (d : DictSpec) (a : Array) → f.dictionary ≡ Some d → is_sound (column_of f) a ≡ true
+    → (has_short_validity a ≡ false) × (are_few ((index_of d).bits / 8) a (indices_in a) ≡ false)
+unfolding is_sound
+long_buffers f d a is sound =
+    let whole = ap (λ (c : Column). is_sound c a) (sym (coded_column f d is)) ∙ sound in
+    let own = and_parts (not (has_short_validity a)) _ whole in
+    let rest = and_parts (not (are_few ((index_of d).bits / 8) a (indices_in a))) _ own.1 in
+    (not_so (has_short_validity a) own.0, not_so (are_few ((index_of d).bits / 8) a (indices_in a)) rest.0)

@@ -18,7 +18,7 @@ place_from e (x ∷ xs) i = rw (entry_eq_is e x, place_from e xs (i + 1)) refl
 pub place_is : (e : Entry) (es : List Entry) → position (entry_eq e) es ≡ position (is_entry (entry_cell e)) (map entry_cell es)
 place_is e es = position_from-zero (entry_eq e) es ∙ sym (place_from e es 0) ∙ sym (position_from-zero (is_entry (entry_cell e)) (map entry_cell es))
 
-nowhere_from : (test : Cell → Bool) (cells : List Cell) (i : ℕ) → ((c : Cell) → test c ≡ false) → position_from test i cells ≡ None
+pub nowhere_from : (test : Cell → Bool) (cells : List Cell) (i : ℕ) → ((c : Cell) → test c ≡ false) → position_from test i cells ≡ None
 nowhere_from test [] i never = refl
 nowhere_from test (c ∷ cells) i never = rw (never c) (nowhere_from test cells (i + 1) never)
 

@@ -1,5 +1,6 @@
 mod Arrays
 mod Coded
+mod Codes
 mod CodedRuns
 mod Entries
 mod Equals

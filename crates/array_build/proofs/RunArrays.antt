@@ -71,7 +71,7 @@ bitmap_is cells bits is =
     rw (all, is) refl
 
 -- the node and the validity bitmap of runs are those of their cells
-slots_are : (p : PlainBatch) (cells : List Cell) (bits : List Bool) → map is_there cells ≡ bits → with_run_slots p bits ≡ with_slots p cells
+pub slots_are : (p : PlainBatch) (cells : List Cell) (bits : List Bool) → map is_there cells ≡ bits → with_run_slots p bits ≡ with_slots p cells
 slots_are p cells bits is =
     let map_is : bitmap_of bits ≡ validity_of cells = sym (bitmap_is cells bits is) in
     let count : length bits ≡ length cells = sym (ap length is) ∙ length-map cells is_there in

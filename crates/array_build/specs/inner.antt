@@ -1,4 +1,5 @@
 pub mod Coded
+pub mod Codes
 pub mod Nodes
 pub mod RunCells
 pub mod RunItems

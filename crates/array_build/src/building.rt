@@ -148,9 +148,9 @@ fn build_parts(
     Ok(())
 }
 
-// The batch of a dictionary's values.
+/// The batch of a dictionary's values.
 #[cycle(building)]
-fn build_values<'a>(
+pub(crate) fn build_values<'a>(
     alloc: Global,
     data_type: &DataType,
     entries: &[ValueRef<'_>],

@@ -1,5 +1,5 @@
-// Arrays of columns that are given as runs of slots: bytes of valid slots are copied, and no cell is made but of a column with a dictionary.
-ghost use Rattle.std.specs.Prelude.{◌≡◌, ◌/◌, true, OnOk, IfOk, List, None, is_some, map};
+// Arrays of columns that are given as runs of slots: bytes of valid slots are copied, and no cell is made but of the entries of a dictionary.
+ghost use Rattle.std.specs.Prelude.{◌≡◌, ◌/◌, true, OnOk, IfOk, List, Some, None, map};
 ghost use Rattle.arrow_schema.specs.Column.{columns_of, fixed_lists, structs};
 ghost use Rattle.arrow_schema.specs.View.{kind_of, column_of, date_kind};
 ghost use Rattle.array_build.specs.Batch.{batch_in, batch_of, built_at, built_below, plain_column, with_arrays};
@@ -11,15 +11,15 @@ ghost use Rattle.cells.specs.Fit.{date_bits};
 ghost use Rattle.columns.specs.Buildable.{can_build};
 
 use crate::batch::{BuiltBatch, empty_batch, push_buffer};
-use crate::building::build_column;
+use crate::building::build_values;
+use crate::coded_cells::{push_dictionary, push_run_indices};
 use crate::flat_runs::{build_run_bits, build_run_contents, build_run_nulls, build_run_values};
-use crate::run_cells::cells_of_runs;
 use crate::run_fixed_items::fixed_item_runs;
 use crate::run_items::{item_runs, run_list_offsets};
 use crate::run_parts::part_runs;
 use crate::run_slots::push_run_slots;
 use array_runs::{Run, valid_runs};
-use arrow_schema::{DataType, DateUnit, Field};
+use arrow_schema::{DataType, DateUnit, DictSpec, Field};
 use columns::OffsetWidth;
 use std::alloc::{AllocError, Global};
 
@@ -32,21 +32,23 @@ fn date_width(unit: DateUnit) -> usize
     }
 }
 
-// Adds the indices of a column with a dictionary, whose cells are gone through, and its entries.
+// Adds the indices of a column with a dictionary, and its entries.
 fn build_coded_column(
     alloc: Global,
     batch: &mut BuiltBatch<'_>,
     field: &Field,
+    spec: DictSpec,
     runs: &[Run<'_>],
 ) -> Result<(), AllocError>
-    requires coded { is_some field.now.dictionary ≡ true }
+    requires spec { field.now.dictionary ≡ Some spec }
     requires sound { are_runs_sound (column_of field.now) runs.now ≡ true }
     requires fits { can_build (column_of field.now) (runs_cells (column_of field.now) runs.now) ≡ true }
     ensures { OnOk result (batch_in batch.new ≡ with_arrays (batch_in batch.old)
         (built_at (column_of field.now) (runs_cells (column_of field.now) runs.now))) }
 {
-    let cells = cells_of_runs(alloc, field, runs)?;
-    build_column(alloc, batch, field, &cells)
+    let entries = push_run_indices(alloc, batch, field, spec, runs)?;
+    let values = build_values(alloc, &field.data_type, &entries)?;
+    push_dictionary(batch, values)
 }
 
 // Adds the array of runs of a type that have no null among their slots, and all below it.
@@ -174,7 +176,7 @@ fn build_run_column<'a>(
 {
     match field.dictionary {
         None => build_run_kind(alloc, batch, &field.data_type, runs),
-        Some(_) => build_coded_column(alloc, batch, field, runs),
+        Some(spec) => build_coded_column(alloc, batch, field, spec, runs),
     }
 }
 
@@ -197,8 +199,8 @@ fn build_run_parts<'a>(
     Ok(())
 }
 
-/// The same of rows whose columns are runs of slots: the bytes of valid slots are copied run by run, and no cell is looked at by itself but in a column
-/// with a dictionary.
+/// The same of rows whose columns are runs of slots: the bytes of valid slots are copied run by run, and no cell is looked at by itself but the entries of
+/// a dictionary.
 pub fn build_runs<'a>(
     alloc: Global,
     fields: &[Field],

@@ -1,14 +1,21 @@
 // The node and the buffers of a column with a dictionary, and what its dictionary has.
-ghost use Rattle.std.specs.Prelude.{◌≡◌, OnOk, IfOk, map};
-ghost use Rattle.arrow_schema.specs.View.{bits_of};
+ghost use Rattle.std.specs.Prelude.{◌≡◌, true, OnOk, IfOk, Some, map};
+ghost use Rattle.std.specs.List.{list_all};
+ghost use Rattle.arrow_schema.specs.View.{bits_of, column_of, index_of};
 ghost use Rattle.array_build.specs.Batch.{batch_in, dictionary_in};
 ghost use Rattle.array_build.specs.inner.Coded.{with_dictionary, with_indices};
+ghost use Rattle.array_build.specs.inner.RunCells.{is_coded};
+ghost use Rattle.array_runs.specs.Runs.{are_runs_sound, runs_cells};
 ghost use Rattle.cells.specs.Dictionary.{entries_of};
 ghost use Rattle.values.specs.Borrowed.{borrowed_cell};
 
 use crate::batch::{BuiltBatch, BuiltDictionary, push_buffer, push_slots};
-use crate::dictionary_cells::{entry_cells, entry_set, indices};
-use arrow_schema::IntegerType;
+use crate::dictionary_cells::{code_indices, entry_cells, entry_set, indices};
+use crate::run_codes::codes_of_runs;
+use crate::run_slots::push_code_slots;
+use array_runs::Run;
+use arrow_schema::{DictSpec, Field, IntegerType};
+use indexmap::IndexSet;
 use std::alloc::{AllocError, Global};
 use values::ValueRef;
 
@@ -27,6 +34,29 @@ pub(crate) fn push_indices<'a>(
     let entries = entry_set(alloc, cells)?;
     push_buffer(batch, indices(alloc, index, &entries, cells)?)?;
     entry_cells(alloc, &entries)
+}
+
+/// The same of the cells of runs.
+pub(crate) fn push_run_indices<'a>(
+    alloc: Global,
+    batch: &mut BuiltBatch<'_>,
+    field: &'a Field,
+    spec: DictSpec,
+    runs: &[Run<'a>],
+) -> Result<Vec<ValueRef<'a>>, AllocError>
+    requires spec { field.now.dictionary ≡ Some spec }
+    requires sound { are_runs_sound (column_of field.now) runs.now ≡ true }
+    requires coded { list_all is_coded (runs_cells (column_of field.now) runs.now) ≡ true }
+    ensures entries { IfOk result (λ entries. map borrowed_cell entries.items ≡ entries_of (runs_cells (column_of field.now) runs.now)) }
+    ensures batch { OnOk result (batch_in batch.new ≡ with_indices (batch_in batch.old) (index_of spec) (runs_cells (column_of field.now) runs.now)) }
+{
+    let mut entries = IndexSet::new(alloc);
+    let codes = codes_of_runs(alloc, &mut entries, field, spec, runs)?;
+    let indices = code_indices(alloc, spec.index, &codes)?;
+    let cells = entry_cells(alloc, &entries)?;
+    push_code_slots(alloc, batch, &codes)?;
+    push_buffer(batch, indices)?;
+    Ok(cells)
 }
 
 /// The batch of so many values, as a dictionary.

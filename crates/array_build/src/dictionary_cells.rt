@@ -2,6 +2,7 @@
 ghost use Rattle.std.specs.Prelude.{◌≡◌, ◌++◌, ◌/◌, OnOk, IfOk, map};
 ghost use Rattle.std.specs.List.{flat_map};
 ghost use Rattle.arrow_schema.specs.View.{bits_of};
+ghost use Rattle.array_build.specs.inner.Codes.{code_bytes, code_in};
 ghost use Rattle.byteorder.specs.Endian.{little_bytes};
 ghost use Rattle.cells.specs.Dictionary.{entry_in, entries_of, with_entry};
 ghost use Rattle.cells.specs.Entry.{entry_cell, entry_cell_of};
@@ -50,6 +51,23 @@ pub(crate) fn entry_set<'a>(
         note(&mut entries, *cell)?;
     }
     Ok(entries)
+}
+
+/// The place of a cell among the entries, to which it is added where it is none of them: a null has none.
+pub(crate) fn code_of<'a>(
+    entries: &mut IndexSet<Entry<'a>>,
+    cell: ValueRef<'a>,
+) -> Result<Option<usize>, AllocError>
+    ensures entries { OnOk result (map entry_cell entries.new.keys ≡ with_entry (map entry_cell entries.old.keys) (borrowed_cell cell.entry)) }
+    ensures code { IfOk result (λ code. code ≡ code_in (map entry_cell entries.new.keys) (borrowed_cell cell.entry)) }
+{
+    match entry_of(cell) {
+        None => Ok(None),
+        Some(entry) => {
+            let (place, _) = entries.insert_full(entry)?;
+            Ok(Some(place))
+        }
+    }
 }
 
 fn cell_of<'a>(entry: &Entry<'a>) -> ValueRef<'a>
@@ -117,6 +135,21 @@ pub(crate) fn indices(
     for cell in cells {
         let place = entry_index(entries, *cell) as u64;
         push_index(&mut indices, index.width, place)?;
+    }
+    Ok(indices)
+}
+
+/// The indices that are codes; 0 stands where there is none.
+pub(crate) fn code_indices(
+    alloc: Global,
+    index: IntegerType,
+    codes: &[Option<usize>],
+) -> Result<Vec<u8>, AllocError>
+    ensures { IfOk result (λ bytes. bytes.items ≡ flat_map (code_bytes (record { bits = bits_of index.width; signed = index.signed })) codes.now) }
+{
+    let mut indices = Vec::new(alloc);
+    for code in codes {
+        push_index(&mut indices, index.width, code.unwrap_or(0) as u64)?;
     }
     Ok(indices)
 }

@@ -25,6 +25,7 @@ mod item_slots;
 mod part_cells;
 mod run_bits;
 mod run_cells;
+mod run_codes;
 mod run_contents;
 mod run_fixed_items;
 mod run_items;

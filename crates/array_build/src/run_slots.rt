@@ -1,8 +1,8 @@
 // Which slots of runs are valid.
-ghost use Rattle.std.specs.Prelude.{◌≡◌, ◌++◌, ◌∷◌, [], IfSome, ◌==◌, ◌||◌, ◌*◌, nat_le, true, OnOk, IfOk, length, replicate};
+ghost use Rattle.std.specs.Prelude.{◌≡◌, ◌++◌, ◌∷◌, [], IfSome, ◌==◌, ◌||◌, ◌*◌, nat_le, true, OnOk, IfOk, is_some, length, map, replicate};
 ghost use Rattle.std.specs.List.{list_all};
 ghost use Rattle.array_build.specs.Batch.{batch_in};
-ghost use Rattle.array_build.specs.inner.Runs.{bitmap_of, run_bits, runs_bits, with_run_slots};
+ghost use Rattle.array_build.specs.inner.Runs.{bitmap_of, run_bits, runs_bits, with_run_slots, with_validity};
 
 use crate::batch::{BuiltBatch, push_buffer, push_node};
 use crate::valid_bits::unset_bits;
@@ -99,6 +99,20 @@ fn run_validity(alloc: Global, slots: usize, runs: &[Run<'_>]) -> Result<Vec<u8>
     pack(alloc, &bits)
 }
 
+// Adds the node and the validity bitmap of so many slots.
+fn push_validity(
+    batch: &mut BuiltBatch<'_>,
+    slots: usize,
+    validity: Vec<u8>,
+) -> Result<(), AllocError>
+    requires long { (length validity.items == 0 || nat_le slots (8 * length validity.items)) ≡ true }
+    ensures { OnOk result (batch_in batch.new ≡ with_validity (batch_in batch.old) slots validity.items) }
+{
+    let null_count = unset_bits(&validity, slots);
+    push_node(batch, slots, null_count)?;
+    push_buffer(batch, validity)
+}
+
 /// Adds the node and the validity bitmap of runs of any type but that of nulls.
 pub(crate) fn push_run_slots(
     alloc: Global,
@@ -109,7 +123,43 @@ pub(crate) fn push_run_slots(
 {
     let slots = count_slots(runs)?;
     let validity = run_validity(alloc, slots, runs)?;
-    let null_count = unset_bits(&validity, slots);
-    push_node(batch, slots, null_count)?;
-    push_buffer(batch, validity)
+    push_validity(batch, slots, validity)
+}
+
+fn have_codes(codes: &[Option<usize>]) -> bool
+    ensures { result ≡ list_all (λ b. b) (map is_some codes.now) }
+{
+    for code in codes {
+        if code.is_none() {
+            return false;
+        }
+    }
+    true
+}
+
+// The validity bitmap of slots that are null where they have no code.
+fn code_validity(alloc: Global, codes: &[Option<usize>]) -> Result<Vec<u8>, AllocError>
+    ensures bits { IfOk result (λ bytes. bytes.items ≡ bitmap_of (map is_some codes.now)) }
+    ensures long { IfOk result (λ bytes. (length bytes.items == 0 || nat_le (length codes.now) (8 * length bytes.items)) ≡ true) }
+{
+    if have_codes(codes) {
+        return Ok(Vec::new(alloc));
+    }
+    let mut bits = Vec::with_capacity(alloc, codes.len())?;
+    for code in codes {
+        bits.push(code.is_some())?;
+    }
+    pack(alloc, &bits)
+}
+
+/// The same of slots that are null where they have no code.
+pub(crate) fn push_code_slots(
+    alloc: Global,
+    batch: &mut BuiltBatch<'_>,
+    codes: &[Option<usize>],
+) -> Result<(), AllocError>
+    ensures { OnOk result (batch_in batch.new ≡ with_run_slots (batch_in batch.old) (map is_some codes.now)) }
+{
+    let validity = code_validity(alloc, codes)?;
+    push_validity(batch, codes.len(), validity)
 }

@@ -46,9 +46,11 @@ abbrev pub bitmap_of : List Bool → List ℕ
 bitmap_of bits = if list_all (λ b. b) bits then [] else packed bits
 
 -- the node and the validity bitmap of slots
+abbrev pub with_validity : PlainBatch → (slots : ℕ) → (validity : List ℕ) → PlainBatch
+with_validity p slots validity = with_buffer (with_node p (record { slots = slots; null_count = unset_bits validity slots })) validity
+
 abbrev pub with_run_slots : PlainBatch → List Bool → PlainBatch
-with_run_slots p bits =
-    with_buffer (with_node p (record { slots = length bits; null_count = unset_bits (bitmap_of bits) (length bits) })) (bitmap_of bits)
+with_run_slots p bits = with_validity p (length bits) (bitmap_of bits)
 
 -- ---- values of one width
 

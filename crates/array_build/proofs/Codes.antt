@@ -1,0 +1,329 @@
+-- The places of cells among the entries of a dictionary, as entries are added one by one.
+use Rattle.std.specs.Prelude.{Option, Some, None, position, ℤ, pos, negsuc, not, set, is_some, replicate, ◌||◌, ◌&&◌, if◌then◌else◌, get_or}
+use Rattle.std.specs.List.{flat_map, list_all, list_any, position_from, position_or_len}
+use Rattle.std.proofs.Common.{◌≡◌, ◌≢◌, ℕ, zero, suc, ◌+◌, ◌<◌, ◌≤◌, ◌++◌, Bool, true, false, List, [], ◌∷◌, map, length, length-append, append_assoc, append-nil, inl, inr, refl, ap, ap₂, sym, ◌∙◌, subst, arith}
+use Rattle.std.proofs.lemmas.Bool.{and_parts, cases_lt}
+use Rattle.std.proofs.lemmas.Bool.Decides.{Decides-int_eq}
+use Rattle.std.proofs.lemmas.Iterator.Adapters.{position_from-zero}
+use Rattle.std.proofs.lemmas.List.{get_or-set_other, get_or-set_same, map-append, set_past}
+use Rattle.std.proofs.lemmas.List.Folds.{list_any-append}
+use Rattle.std.proofs.lemmas.Slice.Eq.{bytes_eq-Decides}
+use Rattle.arrow_schema.specs.Column.{Index}
+use Rattle.array_build.proofs.Entries.{nowhere_from}
+use Rattle.array_build.proofs.RunArrays.{slots_are}
+use Rattle.array_build.specs.Batch.{PlainBatch}
+use Rattle.array_build.specs.inner.Codes.{AreKnown, IsCoded, IsKnown, code_bytes, code_in, known_at, noted}
+use Rattle.array_build.specs.inner.Coded.{with_indices}
+use Rattle.array_build.specs.inner.Nodes.{with_buffer, with_slots}
+use Rattle.array_build.specs.inner.RunCells.{is_coded}
+use Rattle.array_build.specs.inner.Runs.{with_run_slots}
+use Rattle.cells.specs.Cell.{Cell, null, boolean, number, text, bytes, items, parts}
+use Rattle.cells.specs.Dictionary.{entry_in, entries_of, is_entry, with_entries, with_entry, with_new, with_option}
+use Rattle.cells.specs.Nulls.{is_there}
+use Rattle.columns.specs.Buildable.{is_null_or_entry}
+use Rattle.columns.specs.Built.{index_bytes}
+use Rattle.columns.specs.CellAt.{entry_at, named_number}
+use Rattle.columns.specs.Texts.{has_utf8_texts}
+
+-- ---- the first place at which a test passes
+
+first_kept : {X : Type 0} (p : X → Bool) (xs ys : List X) (i : ℕ) → list_any p xs ≡ true → position_from p i (xs ++ ys) ≡ position_from p i xs
+first_kept p [] ys i h = cc
+first_kept p (x ∷ xs) ys i h = by (λ g. first_kept p xs ys (i + 1) g) (p x) h
+  where
+    by : (list_any p xs ≡ true → position_from p (i + 1) (xs ++ ys) ≡ position_from p (i + 1) xs) → (b : Bool) → (b || list_any p xs) ≡ true
+        → (if b then Some i else position_from p (i + 1) (xs ++ ys)) ≡ (if b then Some i else position_from p (i + 1) xs)
+    by later true g = refl
+    by later false g = later g
+
+first_found : {X : Type 0} (p : X → Bool) (xs : List X) (i : ℕ) → list_any p xs ≡ true → position_from p i xs ≡ Some (i + position_or_len p xs)
+first_found p [] i h = cc
+first_found p (x ∷ xs) i h = by (λ g. first_found p xs (i + 1) g) (p x) h
+  where
+    by : (list_any p xs ≡ true → position_from p (i + 1) xs ≡ Some (i + 1 + position_or_len p xs)) → (b : Bool) → (b || list_any p xs) ≡ true
+        → (if b then Some i else position_from p (i + 1) xs) ≡ Some (i + (if not b then 1 + position_or_len p xs else 0))
+    by later true g = let e : i ≡ i + 0 = omega arith in ap Some e
+    by later false g = let e : i + 1 + position_or_len p xs ≡ i + (1 + position_or_len p xs) = omega arith in later g ∙ ap Some e
+
+first_pushed : {X : Type 0} (p : X → Bool) (xs : List X) (y : X) (i : ℕ) → list_any p xs ≡ false → p y ≡ true → position_from p i (xs ++ y ∷ []) ≡ Some (i + position_or_len p xs)
+first_pushed p [] y i h own = let e : i ≡ i + 0 = omega arith in rw own (ap Some e)
+first_pushed p (x ∷ xs) y i h own = by (λ g. first_pushed p xs y (i + 1) g own) (p x) h
+  where
+    by : (list_any p xs ≡ false → position_from p (i + 1) (xs ++ y ∷ []) ≡ Some (i + 1 + position_or_len p xs)) → (b : Bool) → (b || list_any p xs) ≡ false
+        → (if b then Some i else position_from p (i + 1) (xs ++ y ∷ [])) ≡ Some (i + (if not b then 1 + position_or_len p xs else 0))
+    by later true g = cc
+    by later false g = let e : i + 1 + position_or_len p xs ≡ i + (1 + position_or_len p xs) = omega arith in later g ∙ ap Some e
+
+found_at : {X : Type 0} (p : X → Bool) (xs : List X) → list_any p xs ≡ true → position p xs ≡ Some (position_or_len p xs)
+found_at p xs h = let e : 0 + position_or_len p xs ≡ position_or_len p xs = omega arith in position_from-zero p xs ∙ first_found p xs 0 h ∙ ap Some e
+
+-- the place of what is added unless it is there
+pub place_added : {X : Type 0} (p : X → Bool) (xs : List X) (y : X) → p y ≡ true → Some (position_or_len p xs) ≡ position p (if list_any p xs then xs else xs ++ y ∷ [])
+place_added p xs y own = by (list_any p xs) refl
+  where
+    by : (b : Bool) → list_any p xs ≡ b → Some (position_or_len p xs) ≡ position p (if b then xs else xs ++ y ∷ [])
+    by true h = sym (found_at p xs h)
+    by false h =
+        let e : 0 + position_or_len p xs ≡ position_or_len p xs = omega arith in
+        sym (position_from-zero p (xs ++ y ∷ []) ∙ first_pushed p xs y 0 h own ∙ ap Some e)
+
+kept : {X : Type 0} (p : X → Bool) (xs ys : List X) → list_any p xs ≡ true → position p (xs ++ ys) ≡ position p xs
+kept p xs ys h = position_from-zero p (xs ++ ys) ∙ first_kept p xs ys 0 h ∙ sym (position_from-zero p xs)
+
+any_kept : {X : Type 0} (p : X → Bool) (xs ys : List X) → list_any p xs ≡ true → list_any p (xs ++ ys) ≡ true
+any_kept p xs ys h = list_any-append p xs ys ∙ rw h refl
+
+-- ---- entries
+
+no_code : (test : Cell → Bool) (cells : List Cell) → ((c : Cell) → test c ≡ false) → None ≡ position test cells
+no_code test cells never = sym (position_from-zero test cells ∙ nowhere_from test cells 0 never)
+
+both_ways : (b : Bool) → (if b then b else not b) ≡ true
+both_ways true = refl
+both_ways false = refl
+
+-- a value is the entry that it is added as
+pub is_itself : (c : Cell) → is_some (entry_in c) ≡ true → is_entry c c ≡ true
+is_itself null h = cc
+is_itself (boolean b) h = both_ways b
+is_itself (number n) h = (Decides-int_eq n n).1 refl
+is_itself (text t) h = (bytes_eq-Decides t t).1 refl
+is_itself (bytes t) h = (bytes_eq-Decides t t).1 refl
+is_itself (items cs) h = cc
+is_itself (parts cs) h = cc
+
+longer : (es : List Cell) (e : Cell) → es ++ e ∷ [] ≡ es → false ≡ true
+longer es e h =
+    let same : length (es ++ e ∷ []) ≡ length es = ap length h in
+    let more : length (es ++ e ∷ []) ≡ length es + 1 = length-append es (e ∷ []) in
+    absurd (omega arith)
+
+is_found : (es : List Cell) (e : Cell) → with_new es e ≡ es → list_any (is_entry e) es ≡ true
+is_found es e h = by (list_any (is_entry e) es) h
+  where
+    by : (b : Bool) → (if b then es else es ++ e ∷ []) ≡ es → b ≡ true
+    by true g = refl
+    by false g = longer es e g
+
+new_stays : (es ys : List Cell) (e : Cell) → with_new es e ≡ es → (with_new (es ++ ys) e ≡ es ++ ys) × (code_in (es ++ ys) e ≡ code_in es e)
+new_stays es ys e h =
+    let here : list_any (is_entry e) es ≡ true = is_found es e h in
+    let more : list_any (is_entry e) (es ++ ys) ≡ true = any_kept (is_entry e) es ys here in
+    (rw more refl, kept (is_entry e) es ys here)
+
+-- a cell that adds nothing adds nothing to more entries either, and its place stays
+cell_stays : (es ys : List Cell) (c : Cell) → with_entry es c ≡ es → (with_entry (es ++ ys) c ≡ es ++ ys) × (code_in (es ++ ys) c ≡ code_in es c)
+cell_stays es ys null h = (refl, sym (no_code (is_entry null) (es ++ ys) (λ c. refl)) ∙ no_code (is_entry null) es (λ c. refl))
+cell_stays es ys (boolean b) h = new_stays es ys (boolean b) h
+cell_stays es ys (number n) h = new_stays es ys (number n) h
+cell_stays es ys (text t) h = new_stays es ys (text t) h
+cell_stays es ys (bytes t) h = new_stays es ys (bytes t) h
+cell_stays es ys (items cs) h = (refl, sym (no_code (is_entry (items cs)) (es ++ ys) (λ c. refl)) ∙ no_code (is_entry (items cs)) es (λ c. refl))
+cell_stays es ys (parts cs) h = (refl, sym (no_code (is_entry (parts cs)) (es ++ ys) (λ c. refl)) ∙ no_code (is_entry (parts cs)) es (λ c. refl))
+
+found_new : (es : List Cell) (e : Cell) → is_entry e e ≡ true → list_any (is_entry e) (with_new es e) ≡ true
+found_new es e own = by (list_any (is_entry e) es) refl
+  where
+    by : (b : Bool) → list_any (is_entry e) es ≡ b → list_any (is_entry e) (if b then es else es ++ e ∷ []) ≡ true
+    by true h = h
+    by false h = list_any-append (is_entry e) es (e ∷ []) ∙ rw (h, own) refl
+
+new_twice : (es : List Cell) (e : Cell) → is_entry e e ≡ true → with_new (with_new es e) e ≡ with_new es e
+new_twice es e own = let found : list_any (is_entry e) (with_new es e) ≡ true = found_new es e own in rw found refl
+
+-- what was added adds nothing
+twice : (es : List Cell) (c : Cell) → with_entry (with_entry es c) c ≡ with_entry es c
+twice es null = refl
+twice es (boolean b) = new_twice es (boolean b) (is_itself (boolean b) refl)
+twice es (number n) = new_twice es (number n) (is_itself (number n) refl)
+twice es (text t) = new_twice es (text t) (is_itself (text t) refl)
+twice es (bytes t) = new_twice es (bytes t) (is_itself (bytes t) refl)
+twice es (items cs) = refl
+twice es (parts cs) = refl
+
+abbrev Adds : (es new : List Cell) → Type 0
+Adds es new = (ys : List Cell) × (new ≡ es ++ ys)
+
+option_adds : (es : List Cell) (o : Option Cell) → Adds es (with_option es o)
+option_adds es None = ([], sym (append-nil es))
+option_adds es (Some c) = by (list_any (is_entry c) es)
+  where
+    by : (b : Bool) → Adds es (if b then es else es ++ c ∷ [])
+    by true = ([], sym (append-nil es))
+    by false = (c ∷ [], refl)
+
+adds : (es : List Cell) (cs : List Cell) → Adds es (with_entries es cs)
+unfolding with_entries
+adds es [] = ([], sym (append-nil es))
+adds es (c ∷ cs) =
+    let first : Adds es (with_entry es c) = option_adds es (entry_in c) in
+    let rest : Adds (with_entry es c) (with_entries (with_entry es c) cs) = adds (with_entry es c) cs in
+    (first.0 ++ rest.0, rest.1 ∙ ap (λ (xs : List Cell). xs ++ rest.0) first.1 ∙ append_assoc es first.0 rest.0)
+
+-- the place of what was added stays
+code_stays : (es cs : List Cell) (c : Cell) → code_in (with_entries (with_entry es c) cs) c ≡ code_in (with_entry es c) c
+code_stays es cs c =
+    let more : Adds (with_entry es c) (with_entries (with_entry es c) cs) = adds (with_entry es c) cs in
+    ap (λ (xs : List Cell). code_in xs c) more.1 ∙ (cell_stays (with_entry es c) more.0 c (twice es c)).1
+
+joined : (es xs ys : List Cell) → with_entries es (xs ++ ys) ≡ with_entries (with_entries es xs) ys
+unfolding with_entries
+joined es [] ys = refl
+joined es (c ∷ xs) ys = joined (with_entry es c) xs ys
+
+-- ---- codes, cell by cell
+
+pub record IsUnderway (start : List Cell) (old : List (Option ℕ)) (all : List Cell) (es : List Cell) (ks : List (Option ℕ)) (left : List Cell) : Type 0 where
+  pub entries : with_entries es left ≡ with_entries start all
+  pub codes : (more : List Cell) → ks ++ map (code_in (with_entries (with_entries start all) more)) left ≡ old ++ map (code_in (with_entries (with_entries start all) more)) all
+
+pub begun : (start : List Cell) (old : List (Option ℕ)) (all : List Cell) → IsUnderway start old all start old all
+begun start old all = record { entries = refl; codes = λ more. refl }
+
+pub one_coded : (start : List Cell) (old : List (Option ℕ)) (all es : List Cell) (codes : List (Option ℕ)) (c : Cell) (left es' : List Cell) (k : Option ℕ)
+    → IsUnderway start old all es codes (c ∷ left) → es' ≡ with_entry es c → k ≡ code_in es' c → IsUnderway start old all es' (codes ++ k ∷ []) left
+unfolding with_entries
+one_coded start old all es codes c left es' k h added code = record {
+  entries = ap (λ (xs : List Cell). with_entries xs left) added ∙ h.entries;
+  codes = λ more.
+      let final : List Cell = with_entries (with_entries start all) more in
+      let own : k ≡ code_in final c =
+      code ∙ ap (λ (xs : List Cell). code_in xs c) added ∙ sym (code_stays es (left ++ more) c)
+      ∙ ap (λ (xs : List Cell). code_in xs c) (joined (with_entry es c) left more ∙ ap (λ (xs : List Cell). with_entries xs more) h.entries) in
+      append_assoc codes (k ∷ []) (map (code_in final) left) ∙ ap (λ (j : Option ℕ). codes ++ j ∷ map (code_in final) left) own ∙ h.codes more;
+}
+
+pub some_coded : (start : List Cell) (old : List (Option ℕ)) (all es : List Cell) (codes : List (Option ℕ)) (cs left es' : List Cell) (codes' : List (Option ℕ))
+    → IsUnderway start old all es codes (cs ++ left) → IsCoded es codes es' codes' cs → IsUnderway start old all es' codes' left
+some_coded start old all es codes cs left es' codes' h coded =
+    let whole : with_entries es' left ≡ with_entries start all = ap (λ (xs : List Cell). with_entries xs left) coded.entries ∙ sym (joined es cs left) ∙ h.entries in
+    record {
+      entries = whole;
+      codes = λ more.
+          let final : List Cell = with_entries (with_entries start all) more in
+          let same : with_entries es' (left ++ more) ≡ final = joined es' left more ∙ ap (λ (xs : List Cell). with_entries xs more) whole in
+          let own : codes' ≡ codes ++ map (code_in final) cs = coded.codes (left ++ more) ∙ ap (λ (xs : List Cell). codes ++ map (code_in xs) cs) same in
+          ap (λ (ks : List (Option ℕ)). ks ++ map (code_in final) left) own
+          ∙ append_assoc codes (map (code_in final) cs) (map (code_in final) left)
+          ∙ ap (λ (ks : List (Option ℕ)). codes ++ ks) (sym (map-append (code_in final) cs left))
+          ∙ h.codes more;
+    }
+
+pub all_coded : (start : List Cell) (old : List (Option ℕ)) (all es : List Cell) (codes : List (Option ℕ)) → IsUnderway start old all es codes [] → IsCoded start old es codes all
+unfolding with_entries
+all_coded start old all es codes h = record {
+  entries = h.entries;
+  codes = λ more.
+      sym (append-nil codes) ∙ h.codes more ∙ ap (λ (xs : List Cell). old ++ map (code_in (with_entries xs more)) all) (sym h.entries);
+}
+
+nulls_add_nothing : (es : List Cell) (n : ℕ) → with_entries es (replicate n null) ≡ es
+unfolding with_entries
+nulls_add_nothing es zero = refl
+nulls_add_nothing es (suc n) = nulls_add_nothing es n
+
+nulls_have_none : (es : List Cell) (n : ℕ) → replicate n None ≡ map (code_in es) (replicate n null)
+nulls_have_none es zero = refl
+nulls_have_none es (suc n) = ap₂ (λ (k : Option ℕ) (ks : List (Option ℕ)). k ∷ ks) (no_code (is_entry null) es (λ c. refl)) (nulls_have_none es n)
+
+pub nulls_coded : (es : List Cell) (codes : List (Option ℕ)) (n : ℕ) (codes' : List (Option ℕ)) → codes' ≡ codes ++ replicate n None → IsCoded es codes es codes' (replicate n null)
+nulls_coded es codes n codes' is = record {
+  entries = sym (nulls_add_nothing es n);
+  codes = λ more. is ∙ ap (λ (ks : List (Option ℕ)). codes ++ ks) (nulls_have_none (with_entries es more) n);
+}
+
+-- a cell that is no entry has no code
+pub none_coded : (es : List Cell) (c : Cell) → None ≡ entry_in c → None ≡ code_in es c
+none_coded es null is = no_code (is_entry null) es (λ c. refl)
+none_coded es (boolean b) is = cc
+none_coded es (number n) is = cc
+none_coded es (text t) is = cc
+none_coded es (bytes t) is = cc
+none_coded es (items cs) is = no_code (is_entry (items cs)) es (λ c. refl)
+none_coded es (parts cs) is = no_code (is_entry (parts cs)) es (λ c. refl)
+
+pub entry_is : (c e : Cell) → Some e ≡ entry_in c → e ≡ c
+entry_is null e is = cc
+entry_is (boolean b) e is = cc
+entry_is (number n) e is = cc
+entry_is (text t) e is = cc
+entry_is (bytes t) e is = cc
+entry_is (items cs) e is = cc
+entry_is (parts cs) e is = cc
+
+-- a null has no code, and adds nothing
+pub null_code : (es : List Cell) (c : Cell) → c ≡ null → (es ≡ with_entry es c) × (None ≡ code_in es c)
+null_code es c is = (ap (with_entry es) (sym is), no_code (is_entry null) es (λ d. refl) ∙ ap (code_in es) (sym is))
+
+-- ---- what is known of the entries of an array's own dictionary
+
+pub known_more : (es : List Cell) (c d : Cell) (k : ℕ) → IsKnown es c k → IsKnown (with_entry es d) c k
+known_more es c d k h =
+    let more : Adds es (with_entry es d) = option_adds es (entry_in d) in
+    let stays = cell_stays es more.0 c h.stays in
+    record {
+      stays = ap (λ (xs : List Cell). with_entry xs c) more.1 ∙ stays.0 ∙ sym more.1;
+      code = h.code ∙ sym stays.1 ∙ ap (λ (xs : List Cell). code_in xs c) (sym more.1);
+    }
+
+pub is_known : (es own : List Cell) (known : List (Option ℕ)) (z : ℤ) (k : ℕ) → AreKnown es own known → Some k ≡ known_at known (named_number z) → IsKnown es (entry_at own z) k
+is_known es own known (pos n) k h is = h n k is
+is_known es own known (negsuc n) k h is = cc
+
+set_known : (es own : List Cell) (known : List (Option ℕ)) (n : ℕ) (code : Option ℕ) → AreKnown es own known
+    → code ≡ code_in (with_entry es (get_or own n null)) (get_or own n null) → AreKnown (with_entry es (get_or own n null)) own (set known n code)
+set_known es own known n code h is m k some =
+    let c : Cell = get_or own n null in
+    let other : get_or (set known n code) m None ≡ get_or known m None → IsKnown (with_entry es c) (get_or own m null) k =
+    λ e. known_more es (get_or own m null) c k (h m k (some ∙ e)) in
+    elim (cases_lt n (length known)) [
+      | inl within ↦ elim (cases_lt m n) [
+          | inl below ↦ other (get_or-set_other known n m code None (omega arith))
+          | inr le ↦ elim (cases_lt n m) [
+              | inl above ↦ other (get_or-set_other known n m code None (omega arith))
+              | inr ge ↦
+                  let e : m ≡ n = omega arith in
+                  let here : Some k ≡ code = some ∙ ap (λ (j : ℕ). get_or (set known n code) j None) e ∙ get_or-set_same known n code None within in
+                  subst (λ (j : ℕ). IsKnown (with_entry es c) (get_or own j null) k) (sym e) (record { stays = twice es c; code = here ∙ is })
+            ]
+        ]
+      | inr past ↦ other (ap (λ (ks : List (Option ℕ)). get_or ks m None) (set_past known n code past))
+    ]
+
+pub noted_known : (es own : List Cell) (known : List (Option ℕ)) (z : ℤ) (code : Option ℕ) → AreKnown es own known
+    → code ≡ code_in (with_entry es (entry_at own z)) (entry_at own z) → AreKnown (with_entry es (entry_at own z)) own (noted known (named_number z) code)
+noted_known es own known (pos n) code h is = set_known es own known n code h is
+noted_known es own known (negsuc n) code h is = λ m k some. known_more es (get_or own m null) null k (h m k some)
+
+-- ---- the node and the buffers of codes
+
+code_there : (es : List Cell) (c : Cell) → is_null_or_entry c ≡ true → is_some (code_in (with_entry es c) c) ≡ is_there c
+code_there es null h = ap is_some (sym (no_code (is_entry null) es (λ c. refl)))
+code_there es (boolean b) h = ap is_some (found_at (is_entry (boolean b)) (with_new es (boolean b)) (found_new es (boolean b) (is_itself (boolean b) refl)))
+code_there es (number n) h = ap is_some (found_at (is_entry (number n)) (with_new es (number n)) (found_new es (number n) (is_itself (number n) refl)))
+code_there es (text t) h = ap is_some (found_at (is_entry (text t)) (with_new es (text t)) (found_new es (text t) (is_itself (text t) refl)))
+code_there es (bytes t) h = ap is_some (found_at (is_entry (bytes t)) (with_new es (bytes t)) (found_new es (bytes t) (is_itself (bytes t) refl)))
+code_there es (items cs) h = cc
+code_there es (parts cs) h = cc
+
+all_there : (es cells : List Cell) → list_all is_coded cells ≡ true → map is_there cells ≡ map is_some (map (code_in (with_entries es cells)) cells)
+unfolding with_entries
+all_there es [] h = refl
+all_there es (c ∷ cs) h =
+    let both = and_parts (is_coded c) (list_all is_coded cs) h in
+    let own = and_parts (is_null_or_entry c) (has_utf8_texts c) both.0 in
+    ap₂ (λ (b : Bool) (bs : List Bool). b ∷ bs) (sym (ap is_some (code_stays es cs c) ∙ code_there es c own.0)) (all_there (with_entry es c) cs both.1)
+
+same_bytes : (index : Index) (es cells : List Cell) → flat_map (code_bytes index) (map (code_in es) cells) ≡ flat_map (index_bytes index es) cells
+same_bytes index es [] = refl
+same_bytes index es (c ∷ cs) = ap (λ (xs : List ℕ). index_bytes index es c ++ xs) (same_bytes index es cs)
+
+pub codes_are : (p : PlainBatch) (index : Index) (cells es : List Cell) (codes : List (Option ℕ)) → list_all is_coded cells ≡ true → IsCoded [] [] es codes cells
+    → with_buffer (with_run_slots p (map is_some codes)) (flat_map (code_bytes index) codes) ≡ with_indices p index cells
+unfolding with_entries
+codes_are p index cells es codes h coded =
+    let same : codes ≡ map (code_in (entries_of cells)) cells = coded.codes [] ∙ ap (λ (xs : List Cell). map (code_in xs) cells) coded.entries in
+    let bits : map is_there cells ≡ map is_some codes = all_there [] cells h ∙ ap (map is_some) (sym same) in
+    ap (λ (q : PlainBatch). with_buffer q (flat_map (code_bytes index) codes)) (slots_are p cells (map is_some codes) bits)
+    ∙ ap (λ (ks : List (Option ℕ)). with_buffer (with_slots p cells) (flat_map (code_bytes index) ks)) same
+    ∙ ap (with_buffer (with_slots p cells)) (same_bytes index (entries_of cells) cells)

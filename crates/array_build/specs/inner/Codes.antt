@@ -1,0 +1,48 @@
+-- The place that each cell of a column has among the entries of its dictionary, as cells and their entries are added.
+use Rattle.std.specs.Prelude.{◌≡◌, ℕ, List, ◌++◌, map, get_or, set, position, Option, Some, None, ◌/◌}
+use Rattle.byteorder.specs.Endian.{little_bytes}
+use Rattle.arrow_schema.specs.Column.{Index}
+use Rattle.arrow_schema.specs.View.{kind_of}
+use Rattle.arrow_schema.specs.declared.types.Field.{Field}
+use Rattle.cells.specs.Cell.{Cell, null}
+use Rattle.cells.specs.Dictionary.{is_entry, with_entries, with_entry}
+use Rattle.columns.specs.Array.{dictionary_in}
+use Rattle.columns.specs.Built.{place_or_zero}
+use Rattle.columns.specs.CellAt.{entries_of_kind}
+use Rattle.columns.specs.View.{view_array}
+use Rattle.columns.specs.declared.view.ArrayView.{ArrayView}
+
+-- the place of a cell among entries: a null has none
+abbrev pub code_in : List Cell → Cell → Option ℕ
+code_in entries c = position (is_entry c) entries
+
+-- the index that stands for it
+abbrev pub code_bytes : Index → Option ℕ → List ℕ
+code_bytes index code = little_bytes (index.bits / 8) (place_or_zero code)
+
+-- codes of some cells more, which stay the same whatever entries are added
+pub record IsCoded (old_entries : List Cell) (old : List (Option ℕ)) (new_entries : List Cell) (new : List (Option ℕ)) (cells : List Cell) : Type 0 where
+  pub entries : new_entries ≡ with_entries old_entries cells
+  pub codes : (more : List Cell) → new ≡ old ++ map (code_in (with_entries new_entries more)) cells
+
+-- ---- what is known of the entries of an array's own dictionary
+
+abbrev pub own_entries : Field → ArrayView → List Cell
+own_entries field view = entries_of_kind (kind_of field.data_type) (dictionary_in (view_array view))
+
+-- the cell is among the entries, and this is its place
+pub record IsKnown (entries : List Cell) (c : Cell) (place : ℕ) : Type 0 where
+  pub stays : with_entry entries c ≡ entries
+  pub code : Some place ≡ code_in entries c
+
+-- the code of the entry that has a number
+abbrev pub known_at : List (Option ℕ) → Option ℕ → Option ℕ
+known_at known None = None
+known_at known (Some n) = get_or known n None
+
+abbrev pub noted : List (Option ℕ) → Option ℕ → Option ℕ → List (Option ℕ)
+noted known None code = known
+noted known (Some n) code = set known n code
+
+abbrev pub AreKnown : (entries own : List Cell) → (known : List (Option ℕ)) → Type 0
+AreKnown entries own known = (n place : ℕ) → Some place ≡ get_or known n None → IsKnown entries (get_or own n null) place

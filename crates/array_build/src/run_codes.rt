@@ -1,0 +1,173 @@
+// The places of cells among the entries of a dictionary, of runs of slots. An entry of an array's own dictionary is looked up once for each run, and
+// then known by its number.
+ghost use Rattle.std.specs.Prelude.{◌≡◌, ◌≤◌, ◌<◌, ◌-◌, ◌++◌, true, false, OnOk, IfOk, Some, None, List, [], map, replicate};
+ghost use Rattle.std.specs.List.{list_all};
+ghost use Rattle.arrow_schema.specs.View.{column_of};
+ghost use Rattle.array_build.specs.inner.Codes.{AreKnown, IsCoded, code_in, known_at, noted, own_entries};
+ghost use Rattle.array_build.specs.inner.RunCells.{is_coded};
+ghost use Rattle.array_runs.specs.Runs.{are_runs_sound, is_run_sound, run_cells, runs_cells};
+ghost use Rattle.cells.specs.Dictionary.{with_entry};
+ghost use Rattle.cells.specs.Entry.{entry_cell};
+ghost use Rattle.columns.specs.Array.{slots_in};
+ghost use Rattle.columns.specs.CellAt.{cell_at, cells_from};
+ghost use Rattle.columns.specs.Sound.{is_sound};
+ghost use Rattle.columns.specs.View.{view_array};
+ghost use Rattle.cells.specs.Cell.{Cell};
+
+use crate::dictionary_cells::code_of;
+use crate::run_cells::slot_cell;
+use crate::run_slots::count_slots;
+use array_runs::Run;
+use arrow_schema::{DictSpec, Field};
+use cells::Entry;
+use columns::{ArrayView, entry_count, index_number};
+use indexmap::IndexSet;
+use std::alloc::{AllocError, Global};
+
+// Room for what will be known of each entry of an array's dictionary: none where it has more entries than there are slots to be gone through.
+fn unknown(
+    alloc: Global,
+    array: ArrayView<'_>,
+    slots: usize,
+) -> Result<Vec<Option<usize>>, AllocError>
+    ensures { IfOk result (λ known. (entries own : List Cell) → AreKnown entries own known.items) }
+{
+    let mut known = Vec::new(alloc);
+    let entries = entry_count(array.dictionary());
+    if entries <= slots as u128 {
+        known.resize(entries as usize, None)?;
+    }
+    Ok(known)
+}
+
+fn known_code(known: &[Option<usize>], number: Option<u128>) -> Option<usize>
+    ensures { result ≡ known_at known.now number }
+{
+    match number {
+        Some(number) if number < known.len() as u128 => known[number as usize],
+        _ => None,
+    }
+}
+
+fn note_code(known: &mut Vec<Option<usize>>, number: Option<u128>, code: Option<usize>)
+    ensures { known.new.items ≡ noted known.old.items number code }
+{
+    if let Some(number) = number {
+        if number < known.len() as u128 {
+            known[number as usize] = code;
+        }
+    }
+}
+
+// The code of a slot.
+fn slot_code<'a>(
+    entries: &mut IndexSet<Entry<'a>>,
+    known: &mut Vec<Option<usize>>,
+    field: &'a Field,
+    spec: DictSpec,
+    array: ArrayView<'a>,
+    i: usize,
+) -> Result<Option<usize>, AllocError>
+    requires spec { field.now.dictionary ≡ Some spec }
+    requires sound { is_sound (column_of field.now) (view_array array) ≡ true }
+    requires within { i < slots_in (view_array array) }
+    requires coded { is_coded (cell_at (column_of field.now) (view_array array) i) ≡ true }
+    requires known { AreKnown (map entry_cell entries.old.keys) (own_entries field.now array) known.old.items }
+    ensures entries { OnOk result (map entry_cell entries.new.keys
+        ≡ with_entry (map entry_cell entries.old.keys) (cell_at (column_of field.now) (view_array array.entry) i)) }
+    ensures code { IfOk result (λ code. code ≡ code_in (map entry_cell entries.new.keys) (cell_at (column_of field.now) (view_array array.entry) i)) }
+    ensures known { OnOk result (AreKnown (map entry_cell entries.new.keys) (own_entries field.now array.entry) known.new.items) }
+{
+    if !array.is_valid(i) {
+        return Ok(None);
+    }
+    let number = index_number(spec, array, i);
+    if let Some(code) = known_code(known, number) {
+        return Ok(Some(code));
+    }
+    let code = code_of(entries, slot_cell(field, array, i))?;
+    note_code(known, number, code);
+    Ok(code)
+}
+
+// Those of some slots of an array.
+fn push_slot_codes<'a>(
+    entries: &mut IndexSet<Entry<'a>>,
+    known: &mut Vec<Option<usize>>,
+    codes: &mut Vec<Option<usize>>,
+    field: &'a Field,
+    spec: DictSpec,
+    array: ArrayView<'a>,
+    from: usize,
+    to: usize,
+) -> Result<(), AllocError>
+    requires spec { field.now.dictionary ≡ Some spec }
+    requires sound { is_sound (column_of field.now) (view_array array) ≡ true }
+    requires within { to ≤ slots_in (view_array array) }
+    requires coded { list_all is_coded (cells_from (cell_at (column_of field.now) (view_array array)) from (to - from)) ≡ true }
+    requires known { AreKnown (map entry_cell entries.old.keys) (own_entries field.now array) known.old.items }
+    ensures { OnOk result (IsCoded (map entry_cell entries.old.keys) codes.old.items (map entry_cell entries.new.keys) codes.new.items
+        (cells_from (cell_at (column_of field.now) (view_array array.entry)) from (to - from))) }
+{
+    for i in from..to {
+        let code = slot_code(entries, known, field, spec, array, i)?;
+        codes.push(code)?;
+    }
+    Ok(())
+}
+
+fn push_null_codes(codes: &mut Vec<Option<usize>>, count: usize) -> Result<(), AllocError>
+    ensures { OnOk result (codes.new.items ≡ codes.old.items ++ replicate count None) }
+{
+    match codes.len().checked_add(count) {
+        Some(end) => codes.resize(end, None),
+        None => Err(AllocError),
+    }
+}
+
+fn push_run_codes<'a>(
+    alloc: Global,
+    entries: &mut IndexSet<Entry<'a>>,
+    codes: &mut Vec<Option<usize>>,
+    field: &'a Field,
+    spec: DictSpec,
+    run: &Run<'a>,
+) -> Result<(), AllocError>
+    requires spec { field.now.dictionary ≡ Some spec }
+    requires sound { is_run_sound (column_of field.now) run.now ≡ true }
+    requires coded { list_all is_coded (run_cells (column_of field.now) run.now) ≡ true }
+    ensures { OnOk result (IsCoded (map entry_cell entries.old.keys) codes.old.items (map entry_cell entries.new.keys) codes.new.items
+        (run_cells (column_of field.now) run.now)) }
+{
+    match run {
+        Run::Slots { array, from, len } => {
+            // a number of the code is below 2^64, so that the sum is too
+            let _slots = array.slots();
+            let mut known = unknown(alloc, *array, *len)?;
+            let to = *from + *len;
+            push_slot_codes(entries, &mut known, codes, field, spec, *array, *from, to)
+        }
+        Run::Nulls(count) => push_null_codes(codes, *count),
+    }
+}
+
+/// The places of the cells of runs, one after another, among the entries of their dictionary, to which they are added.
+pub(crate) fn codes_of_runs<'a>(
+    alloc: Global,
+    entries: &mut IndexSet<Entry<'a>>,
+    field: &'a Field,
+    spec: DictSpec,
+    runs: &[Run<'a>],
+) -> Result<Vec<Option<usize>>, AllocError>
+    requires spec { field.now.dictionary ≡ Some spec }
+    requires sound { are_runs_sound (column_of field.now) runs.now ≡ true }
+    requires coded { list_all is_coded (runs_cells (column_of field.now) runs.now) ≡ true }
+    ensures { IfOk result (λ codes. IsCoded (map entry_cell entries.old.keys) [] (map entry_cell entries.new.keys) codes.items
+        (runs_cells (column_of field.now) runs.now)) }
+{
+    let mut codes = Vec::with_capacity(alloc, count_slots(runs)?)?;
+    for run in runs {
+        push_run_codes(alloc, entries, &mut codes, field, spec, run)?;
+    }
+    Ok(codes)
+}
