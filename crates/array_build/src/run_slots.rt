@@ -90,11 +90,7 @@ fn run_validity(alloc: Global, slots: usize, runs: &[Run<'_>]) -> Result<Vec<u8>
 }
 
 // Adds the node and the validity bitmap of so many slots.
-fn push_validity(
-    batch: &mut BuiltBatch,
-    slots: usize,
-    validity: Vec<u8>,
-) -> Result<(), AllocError>
+fn push_validity(batch: &mut BuiltBatch, slots: usize, validity: Vec<u8>) -> Result<(), AllocError>
     requires long { (length validity.items == 0 || nat_le slots (8 * length validity.items)) ≡ true }
     ensures { OnOk result (batch_in batch.new ≡ with_validity (batch_in batch.old) slots validity.items) }
 {
