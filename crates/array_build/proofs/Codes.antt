@@ -278,15 +278,15 @@ set_known es own known n code h is m k some =
     λ e. known_more es (get_or own m null) c k (h m k (some ∙ e)) in
     elim (cases_lt n (length known)) [
       | inl within ↦ elim (cases_lt m n) [
-          | inl below ↦ other (get_or-set_other known n m code None (omega arith))
-          | inr le ↦ elim (cases_lt n m) [
-              | inl above ↦ other (get_or-set_other known n m code None (omega arith))
-              | inr ge ↦
-                  let e : m ≡ n = omega arith in
-                  let here : Some k ≡ code = some ∙ ap (λ (j : ℕ). get_or (set known n code) j None) e ∙ get_or-set_same known n code None within in
-                  subst (λ (j : ℕ). IsKnown (with_entry es c) (get_or own j null) k) (sym e) (record { stays = twice es c; code = here ∙ is })
-            ]
+        | inl below ↦ other (get_or-set_other known n m code None (omega arith))
+        | inr le ↦ elim (cases_lt n m) [
+          | inl above ↦ other (get_or-set_other known n m code None (omega arith))
+          | inr ge ↦
+              let e : m ≡ n = omega arith in
+              let here : Some k ≡ code = some ∙ ap (λ (j : ℕ). get_or (set known n code) j None) e ∙ get_or-set_same known n code None within in
+              subst (λ (j : ℕ). IsKnown (with_entry es c) (get_or own j null) k) (sym e) (record { stays = twice es c; code = here ∙ is })
         ]
+      ]
       | inr past ↦ other (ap (λ (ks : List (Option ℕ)). get_or ks m None) (set_past known n code past))
     ]
 

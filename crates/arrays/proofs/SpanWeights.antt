@@ -1,5 +1,5 @@
 -- Sums over spans of slots.
-use Rattle.std.specs.Prelude.{nat_le}
+use Rattle.std.specs.Prelude.{ℤ, nat_le, negsuc, pos, Some, get_or}
 use Rattle.std.proofs.Common.{◌≡◌, ℕ, zero, suc, ◌+◌, ◌-◌, ◌*◌, ◌≤◌, ◌<◌, true, false, List, ◌∷◌, length, map, drop, refl, sym, ap, subst, arith, ◌∙◌}
 use Rattle.std.specs.List.{range_with_len}
 use Rattle.std.proofs.lemmas.Bool.{and_parts, leb-true, le-leb}
@@ -7,17 +7,17 @@ use Rattle.std.proofs.lemmas.List.{drop_all}
 use Rattle.std.proofs.lemmas.List.Sums.{sum_by-cons}
 use Rattle.arrow_schema.specs.declared.types.Field.{Field}
 use Rattle.arrow_schema.specs.View.{column_of}
-use Rattle.arrow_schema.specs.Column.{Kind, Column, Columns, nulls, booleans, integers, dates, timestamps, texts, large_texts, binaries, large_binaries, fixed_binaries, lists, large_lists, fixed_lists, structs, column, no_column, and_column, columns_of}
+use Rattle.arrow_schema.specs.Column.{Index, Kind, Column, Columns, nulls, booleans, integers, dates, timestamps, texts, large_texts, binaries, large_binaries, fixed_binaries, lists, large_lists, fixed_lists, structs, column, no_column, and_column, columns_of}
 use Rattle.arrow_schema.specs.Parts.{kind_of_column}
 use Rattle.cells.specs.Cell.{Cell, null}
 use Rattle.cells.specs.Weight.{weight, kind_weight, capped_weight}
 use Rattle.columns.specs.declared.array.PlacedArray.{PlacedArray}
 use Rattle.columns.specs.declared.array.Dictionary.{Dictionary}
-use Rattle.columns.specs.Array.{Array, Arrays, slots_in, first_array, other_arrays}
-use Rattle.columns.specs.CellAt.{is_valid, unless_null, kind_cell}
+use Rattle.columns.specs.Array.{Array, Arrays, dictionary_in, slots_in, first_array, other_arrays}
+use Rattle.columns.specs.CellAt.{entries_of_kind, entry_at, index_at, indexed_cell, is_valid, named_number, unless_null, kind_cell}
 use Rattle.columns.specs.Sound.{is_sound, are_sound}
 use Rattle.columns.specs.View.{placed_arrays}
-use Rattle.arrays.specs.inner.Weights.{sum_from, span_weight, plain_weight, valid_weight, parts_span_weight, has_one_weight}
+use Rattle.arrays.specs.inner.Weights.{AreEntryWeights, sum_from, span_weight, plain_weight, valid_weight, parts_span_weight, has_one_weight}
 use Rattle.arrays.proofs.Everys.{next_placed}
 
 pub next : {X : Type 0} (w : X → ℕ) (f : ℕ → X) (start n : ℕ) → sum_from w f start (suc n) ≡ w (f start) + sum_from w f (start + 1) n
@@ -191,3 +191,26 @@ fewer_sound (and_column c cs) arrays slots fewer h le =
     let parts = and_parts (is_sound c (first_array arrays)) _ long.1 in
     let most : slots ≤ slots_in (first_array arrays) = leb-true _ _ long.0 in
     rw (le-leb fewer (slots_in (first_array arrays)) (omega arith), parts.0) (fewer_sound cs (other_arrays arrays) slots fewer parts.1 le)
+
+-- ---- entries of dictionaries
+
+pub one_slot : (w : Cell → ℕ) (f : ℕ → Cell) (i : ℕ) → sum_from w f i 1 ≡ w (f i)
+one_slot w f i =
+    let first = next w f i 0 in
+    let none : sum_from w f (i + 1) 0 ≡ 0 = refl in
+    omega (arith, first, none)
+
+number_is : (z : ℤ) (n : ℕ) → Some n ≡ named_number z → pos n ≡ z
+number_is (pos k) n is = cc
+number_is (negsuc k) n is = cc
+
+-- a valid slot weighs as much as the entry that its index names
+pub known_weight : (kind : Kind) (index : Index) (a : Array) (i n : ℕ) (known : List ℕ) → is_valid a i ≡ true → Some n ≡ named_number (index_at index a i)
+    → AreEntryWeights kind (dictionary_in a) known → n < length known → get_or known n 0 ≡ capped_weight (kind_weight kind (unless_null (indexed_cell index kind) a i))
+known_weight kind index a i n known valid named weights lt =
+    let own = ap (λ (z : ℤ). capped_weight (kind_weight kind (entry_at (entries_of_kind kind (dictionary_in a)) z))) (number_is (index_at index a i) n named) in
+    weights n lt ∙ own ∙ rw valid refl
+
+pub valid_weighs : (kind : Kind) (index : Index) (a : Array) (i : ℕ) (c : Cell) → is_valid a i ≡ true → c ≡ indexed_cell index kind a i
+    → capped_weight (kind_weight kind c) ≡ capped_weight (kind_weight kind (unless_null (indexed_cell index kind) a i))
+valid_weighs kind index a i c valid is = ap (λ (d : Cell). capped_weight (kind_weight kind d)) is ∙ rw valid refl

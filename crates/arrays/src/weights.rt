@@ -7,16 +7,23 @@ ghost use Rattle.cells.specs.Cell.{null};
 ghost use Rattle.cells.specs.Weight.{kind_weight, capped_weight};
 ghost use Rattle.columns.specs.Array.{slots_in, contents_in, items_in, children_in, indices_in, dictionary_in, array_list};
 ghost use Rattle.columns.specs.CellAt.{is_valid, unless_null, indexed_cell};
+ghost use Rattle.columns.specs.Located.{IsSoundPlace, located_cell};
 ghost use Rattle.columns.specs.Offsets.{width_of};
 ghost use Rattle.columns.specs.Sound.{is_sound, is_kind_sound, are_sound};
 ghost use Rattle.columns.specs.Tests.{are_few, are_few_offsets, are_unordered, has_short_validity};
 ghost use Rattle.columns.specs.View.{view_array, placed_arrays, IsNoArray};
-ghost use Rattle.arrays.specs.inner.Weights.{sum_from, span_weight, plain_weight, valid_weight, parts_span_weight, has_one_weight};
+ghost use Rattle.arrays.specs.inner.Weights.{AreEntryWeights, sum_from, span_weight, plain_weight, valid_weight, parts_span_weight, has_one_weight};
 
 use crate::runs::run_to;
 use arrow_schema::{DataType, DictSpec, Field};
 use cells::{TOO_HEAVY, Value, add_weights, multiply_weight, weight};
-use columns::{ArrayView, Dictionary, OffsetWidth, PlacedArray, array_or, indexed_entry};
+use columns::{
+    ArrayView, Dictionary, EntryPlace, OffsetWidth, PlacedArray, array_or, entry_place,
+    index_number, indexed_entry,
+};
+
+// Of how many entries of a dictionary the weights are kept while its slots are gone through.
+const FIRST_ENTRIES: usize = 256;
 
 fn has_one_weight(data_type: &DataType) -> bool
     ensures { result ≡ has_one_weight (kind_of data_type.now) }
@@ -277,7 +284,37 @@ pub(crate) fn parts_weight(
     total
 }
 
-// With a dictionary: slot by slot, the entries that the indices name.
+// The entry that stands at a place, or a null where there is none.
+#[cycle(weights)]
+fn place_weight(field: &Field, found: Option<EntryPlace<'_>>, none: &PlacedArray) -> u64
+    requires empty { IsNoArray none.now }
+    requires varied { has_one_weight (kind_of field.now.data_type) ≡ false }
+    requires sound { IsSoundPlace (kind_of field.now.data_type) found }
+    ensures { let kind = kind_of field.now.data_type in result ≡ capped_weight (kind_weight kind (located_cell kind found.entry)) }
+{
+    match found {
+        Some(entry) => plain_weight(field, entry.view, entry.place, 1, none),
+        None => nulls_weight(field, 1),
+    }
+}
+
+// The first entries of a dictionary, each by itself; those that are not there as nulls.
+#[cycle(weights)]
+fn first_weights(field: &Field, view: ArrayView<'_>, none: &PlacedArray) -> [u64; FIRST_ENTRIES]
+    requires empty { IsNoArray none.now }
+    requires varied { has_one_weight (kind_of field.now.data_type) ≡ false }
+    requires sound { list_all (is_kind_sound (kind_of field.now.data_type)) (array_list (dictionary_in (view_array view))) ≡ true }
+    ensures { AreEntryWeights (kind_of field.now.data_type) (dictionary_in (view_array view.entry)) result }
+{
+    let known = view.dictionary();
+    let mut weights = [0; FIRST_ENTRIES];
+    for n in 0..FIRST_ENTRIES {
+        weights[n] = place_weight(field, entry_place(known, view.bytes, n as u128), none);
+    }
+    weights
+}
+
+// With a dictionary: slot by slot, the entries that the indices name. Where there are many slots, the first entries are weighed once.
 #[cycle(weights)]
 fn entries_weight(
     field: &Field,
@@ -296,6 +333,34 @@ fn entries_weight(
     ensures { let kind = kind_of field.now.data_type in
         result ≡ capped_weight (sum_from (kind_weight kind) (unless_null (indexed_cell (index_of spec) kind) (view_array view.entry)) from count) }
 {
+    if count < FIRST_ENTRIES {
+        return slots_weight(field, spec, view, from, count, &[], none);
+    }
+    let first = first_weights(field, view, none);
+    slots_weight(field, spec, view, from, count, &first, none)
+}
+
+// The same, where the weights of some first entries are known.
+#[cycle(weights)]
+fn slots_weight(
+    field: &Field,
+    spec: DictSpec,
+    view: ArrayView<'_>,
+    from: usize,
+    count: usize,
+    known: &[u64],
+    none: &PlacedArray,
+) -> u64
+    requires empty { IsNoArray none.now }
+    requires varied { has_one_weight (kind_of field.now.data_type) ≡ false }
+    requires valid { has_short_validity (view_array view) ≡ false }
+    requires long { are_few ((index_of spec).bits / 8) (view_array view) (indices_in (view_array view)) ≡ false }
+    requires sound { list_all (is_kind_sound (kind_of field.now.data_type)) (array_list (dictionary_in (view_array view))) ≡ true }
+    requires within { from + count ≤ slots_in (view_array view) }
+    requires known { AreEntryWeights (kind_of field.now.data_type) (dictionary_in (view_array view)) known.now }
+    ensures { let kind = kind_of field.now.data_type in
+        result ≡ capped_weight (sum_from (kind_weight kind) (unless_null (indexed_cell (index_of spec) kind) (view_array view.entry)) from count) }
+{
     // a number of the code is below 2^64, so that the sum is too
     let _slots = view.slots();
     let mut total = 0;
@@ -303,18 +368,19 @@ fn entries_weight(
         if total == TOO_HEAVY {
             return TOO_HEAVY;
         }
-        let entry = entry_weight(field, spec, view, i, none);
+        let entry = slot_weight(field, spec, view, i, known, none);
         total = add_weights(total, entry);
     }
     total
 }
 
 #[cycle(weights)]
-fn entry_weight(
+fn slot_weight(
     field: &Field,
     spec: DictSpec,
     view: ArrayView<'_>,
     i: usize,
+    known: &[u64],
     none: &PlacedArray,
 ) -> u64
     requires empty { IsNoArray none.now }
@@ -323,14 +389,15 @@ fn entry_weight(
     requires long { are_few ((index_of spec).bits / 8) (view_array view) (indices_in (view_array view)) ≡ false }
     requires sound { list_all (is_kind_sound (kind_of field.now.data_type)) (array_list (dictionary_in (view_array view))) ≡ true }
     requires within { i < slots_in (view_array view) }
+    requires known { AreEntryWeights (kind_of field.now.data_type) (dictionary_in (view_array view)) known.now }
     ensures { let kind = kind_of field.now.data_type in
         result ≡ capped_weight (kind_weight kind (unless_null (indexed_cell (index_of spec) kind) (view_array view.entry) i)) }
 {
     if !view.is_valid(i) {
         return nulls_weight(field, 1);
     }
-    match indexed_entry(spec, view, i) {
-        Some(entry) => plain_weight(field, entry.view, entry.place, 1, none),
-        None => nulls_weight(field, 1),
+    match index_number(spec, view, i) {
+        Some(number) if number < known.len() as u128 => known[number as usize],
+        _ => place_weight(field, indexed_entry(spec, view, i), none),
     }
 }

@@ -1,11 +1,11 @@
 -- What spans of slots weigh.
-use Rattle.std.specs.Prelude.{ℕ, ◌+◌, Bool, true, false, List, map, sum_by, Option, Some, None, if◌then◌else◌}
+use Rattle.std.specs.Prelude.{◌≡◌, ◌<◌, get_or, length, ℕ, ◌+◌, Bool, true, false, List, map, sum_by, Option, Some, None, if◌then◌else◌}
 use Rattle.std.specs.List.{range_with_len}
 use Rattle.arrow_schema.specs.Column.{PlainSchema, Kind, Column, Columns, nulls, booleans, integers, dates, timestamps, texts, large_texts, binaries, large_binaries, fixed_binaries, lists, large_lists, fixed_lists, structs, no_column, and_column}
-use Rattle.cells.specs.Cell.{Cell}
-use Rattle.cells.specs.Weight.{weight, kind_weight, table_weight}
+use Rattle.cells.specs.Cell.{Cell, null}
+use Rattle.cells.specs.Weight.{capped_weight, weight, kind_weight, table_weight}
 use Rattle.columns.specs.Array.{Array, Arrays, first_array, other_arrays}
-use Rattle.columns.specs.CellAt.{cell_at, kind_cell, unless_null}
+use Rattle.columns.specs.CellAt.{cell_at, entries_of_kind, kind_cell, unless_null}
 use Rattle.arrays.specs.Checks.{are_too_heavy}
 
 -- the sum over n places, from one on
@@ -45,6 +45,10 @@ has_one_weight (lists item) = false
 has_one_weight (large_lists item) = false
 has_one_weight (fixed_lists size item) = false
 has_one_weight (structs columns) = false
+
+-- the weights of the first entries of a dictionary, where what is no entry is a null
+abbrev pub AreEntryWeights : Kind → (dictionary : Arrays) → (weights : List ℕ) → Type 0
+AreEntryWeights kind dictionary weights = (n : ℕ) → n < length weights → get_or weights n 0 ≡ capped_weight (kind_weight kind (get_or (entries_of_kind kind dictionary) n null))
 
 -- so many rows, from one on: one each, and their cells
 abbrev pub rows_weight : Columns → Arrays → (start n : ℕ) → ℕ

@@ -1,18 +1,26 @@
-use Rattle.std.proofs.Common.{◌≡◌, ◌+◌, ◌*◌, true, map, drop, refl, sym, ap, arith, rules, ◌∙◌}
+use Rattle.std.specs.Prelude.{Option, Some}
+use Rattle.std.specs.List.{list_all}
+use Rattle.std.proofs.Common.{◌≡◌, ◌+◌, ◌*◌, ℕ, ◌<◌, List, get_or, inl, inr, length, set, subst, true, map, drop, refl, sym, ap, arith, rules, ◌∙◌}
 use Rattle.arrow_schema.specs.declared.types.Field.{the_lemmas as field_lemmas}
 use Rattle.arrow_schema.specs.Column.{Kind, columns_of}
 use Rattle.arrow_schema.specs.View.{kind_of, column_of, index_of}
 use Rattle.arrow_schema.specs.Parts.{kind_of_column}
-use Rattle.cells.specs.Cell.{null}
+use Rattle.std.proofs.lemmas.Bool.{cases_lt}
+use Rattle.std.proofs.lemmas.List.{get_or-set_other, get_or-set_same, length-set}
+use Rattle.cells.specs.Cell.{Cell, null}
 use Rattle.cells.specs.Weight.{kind_weight, capped_weight}
-use Rattle.columns.specs.Array.{Array, slots_in, items_in, children_in}
-use Rattle.columns.specs.CellAt.{cell_at, is_valid, unless_null, indexed_cell}
+use Rattle.columns.specs.Array.{Array, Arrays, array_list, dictionary_in, slots_in, items_in, children_in}
+use Rattle.columns.specs.CellAt.{cell_at, entries_of_kind, is_valid, kind_cell, unless_null, indexed_cell}
 use Rattle.columns.specs.Offsets.{width_of}
-use Rattle.columns.specs.View.{view_array, placed_arrays}
+use Rattle.columns.specs.Located.{IsSoundPlace, located_cell}
+use Rattle.columns.specs.Sound.{is_kind_sound}
+use Rattle.columns.specs.View.{array_in, no_dictionary, view_array, placed_arrays}
+use Rattle.columns.specs.declared.entry.EntryPlace.{EntryPlace}
+use Rattle.columns.specs.laws.Places.{listed}
 use Rattle.columns.specs.laws.Offsets.{spans_fit}
 use Rattle.facts.specs.laws.Lists.{drop-item}
 use Rattle.arrays.specs.inner.Weights.{has_one_weight}
-use Rattle.arrays.proofs.SpanWeights.{column_one_weight, valid_run, null_run, run_more, slot_more, next_total, parts_next, parts_end, sound_next, fewer_sound}
+use Rattle.arrays.proofs.SpanWeights.{known_weight, one_slot, valid_weighs, column_one_weight, valid_run, null_run, run_more, slot_more, next_total, parts_next, parts_end, sound_next, fewer_sound}
 use Rattle.arrays.proofs.KindWeights.{items_total, fixed_total, fields_total, fixed_within}
 use Rattle.arrays.proofs.weights.+weights.Goals as goal
 
@@ -113,24 +121,87 @@ parts_weight-returns t c =
     let none = parts_end c.args.fields.now c.loop-i.i (placed_arrays c.args.bytes.now c.args.dictionaries.now (drop c.loop-i.i c.args.arrays.now)) c.args.from c.args.count c.loop-i-test.false in
     omega (arith, none, c.loop-i.invariant.sums, c.loop-i.invariant.capped)
 
-pub entries_weight-loop-i-preserved : goal.entries_weight-loop-i-preserved
-entries_weight-loop-i-preserved t c =
+pub slots_weight-loop-i-preserved : goal.slots_weight-loop-i-preserved
+slots_weight-loop-i-preserved t c =
     let kind : Kind = kind_of c.args.field.now.data_type in
     let more = slot_more (kind_weight kind) (unless_null (indexed_cell (index_of c.args.spec) kind) (view_array c.args.view)) c.loop-i.i (c.args.from + c.args.count) c.loop-i-test.true in
-    let total = next_total _ _ _ _ _ _ _ c.loop-i.invariant.sums more c.entry_weight-entry.ensures c.add_weights-total.ensures in
+    let total = next_total _ _ _ _ _ _ _ c.loop-i.invariant.sums more c.slot_weight-entry.ensures c.add_weights-total.ensures in
     record { sums = total.0; capped = total.1 }
 
-pub entry_weight-plain_weight-requires : goal.entry_weight-plain_weight-requires
-entry_weight-plain_weight-requires t c =
-    let place = c.in-Some.ensures.sound (kind_of c.args.field.now.data_type) c.requires.sound in (
+pub place_weight-plain_weight-requires : goal.place_weight-plain_weight-requires
+place_weight-plain_weight-requires t c =
+    let kind : Kind = kind_of c.args.field.now.data_type in
+    let place : IsSoundPlace kind (Some c.in-Some.entry) = subst (λ (found : Option EntryPlace). IsSoundPlace kind found) c.in-Some.is c.requires.sound in (
       search (rules, field_lemmas),
       (c.requires.empty, (c.requires.varied, (place.1, omega (arith, place.0)))),
     )
 
-pub entry_weight-returns-in-None : goal.entry_weight-returns-in-None
-entry_weight-returns-in-None t c =
+pub place_weight-returns-in-Some : goal.place_weight-returns-in-Some
+place_weight-returns-in-Some t c =
     let kind : Kind = kind_of c.args.field.now.data_type in
-    let cell : null ≡ indexed_cell (index_of c.args.spec) kind (view_array c.args.view) c.args.i = c.in-None.ensures.cell kind in
-    let valid : is_valid (view_array c.args.view) c.args.i ≡ true = sym c.if-not-is_valid.ensures in
+    let a : Array = view_array c.in-Some.entry.view in
+    c.plain_weight.ensures
+    ∙ ap capped_weight (one_slot (kind_weight kind) (unless_null (kind_cell kind) a) c.in-Some.entry.place)
+    ∙ ap (λ (found : Option EntryPlace). capped_weight (kind_weight kind (located_cell kind found))) (sym c.in-Some.is)
+
+pub place_weight-returns-in-None : goal.place_weight-returns-in-None
+place_weight-returns-in-None t c =
+    let kind : Kind = kind_of c.args.field.now.data_type in
     let one : 1 * kind_weight kind null ≡ kind_weight kind null = omega arith in
-    c.nulls_weight-in-None.ensures ∙ ap capped_weight one ∙ rw (valid, ← cell) refl
+    c.nulls_weight.ensures ∙ ap capped_weight one ∙ ap (λ (found : Option EntryPlace). capped_weight (kind_weight kind (located_cell kind found))) (sym c.in-None.is)
+
+pub first_weights-place_weight-requires : goal.first_weights-place_weight-requires
+first_weights-place_weight-requires t c =
+    let kind : Kind = kind_of c.args.field.now.data_type in
+    let arrays : List Array = map (array_in c.args.view.bytes.now no_dictionary) c.dictionary-known.result.arrays.now in
+    let same : list_all (is_kind_sound kind) arrays ≡ true =
+    ap (list_all (is_kind_sound kind)) (sym (listed arrays)) ∙ ap (λ (d : Arrays). list_all (is_kind_sound kind) (array_list d)) c.dictionary-known.ensures ∙ c.requires.sound in (
+      search (rules, field_lemmas),
+      (c.requires.empty, (c.requires.varied, c.entry_place.ensures.sound kind same)),
+    )
+
+pub first_weights-loop-n-preserved : goal.first_weights-loop-n-preserved
+first_weights-loop-n-preserved t c =
+    let kind : Kind = kind_of c.args.field.now.data_type in
+    let entries : List Cell = entries_of_kind kind (dictionary_in (view_array c.args.view)) in
+    let n : ℕ = c.loop-n.n in
+    let lt : n < 256 = c.loop-n-test.true in
+    let own : c.place_weight.result ≡ capped_weight (kind_weight kind (get_or entries n null)) =
+    c.place_weight.ensures
+    ∙ ap (λ (x : Cell). capped_weight (kind_weight kind x)) (c.entry_place.ensures.cell kind ∙ ap (λ (d : Arrays). get_or (entries_of_kind kind d) n null) c.dictionary-known.ensures) in
+    record {
+      long = length-set c.loop-n.weights n c.place_weight.result ∙ c.loop-n.invariant.long;
+      weights = λ m le.
+          let within : n < length c.loop-n.weights = omega (arith, lt, c.loop-n.invariant.long) in
+          elim (cases_lt m n) [
+            | inl before ↦ get_or-set_other c.loop-n.weights n m c.place_weight.result 0 (omega arith) ∙ c.loop-n.invariant.weights m before
+            | inr after ↦
+                let here : m ≡ n = omega arith in
+                ap (λ (j : ℕ). get_or (set c.loop-n.weights n c.place_weight.result) j 0) here
+                ∙ get_or-set_same c.loop-n.weights n c.place_weight.result 0 within
+                ∙ own
+                ∙ ap (λ (j : ℕ). capped_weight (kind_weight kind (get_or entries j null))) (sym here)
+          ];
+    }
+
+pub first_weights-returns : goal.first_weights-returns
+first_weights-returns t c = λ m lt. c.loop-n.invariant.weights m (omega (arith, lt, c.loop-n.invariant.long, c.loop-n-test.false))
+
+pub slot_weight-returns-in-Some : goal.slot_weight-returns-in-Some
+slot_weight-returns-in-Some t c =
+    let kind : Kind = kind_of c.args.field.now.data_type in
+    let valid : is_valid (view_array c.args.view) c.args.i ≡ true = sym c.if-not-is_valid.ensures in
+    known_weight kind (index_of c.args.spec) (view_array c.args.view) c.args.i c.in-Some.number c.args.known.now valid (sym c.in-Some.is ∙ c.index_number.ensures) c.requires.known (omega arith)
+
+pub slot_weight-place_weight-requires : goal.slot_weight-place_weight-requires
+slot_weight-place_weight-requires t c = (
+  search (rules, field_lemmas),
+  (c.requires.empty, (c.requires.varied, c.indexed_entry.ensures.sound (kind_of c.args.field.now.data_type) c.requires.sound)),
+)
+
+pub slot_weight-returns-in_default : goal.slot_weight-returns-in_default
+slot_weight-returns-in_default t c =
+    let kind : Kind = kind_of c.args.field.now.data_type in
+    let valid : is_valid (view_array c.args.view) c.args.i ≡ true = sym c.if-not-is_valid.ensures in
+    c.place_weight.ensures
+    ∙ valid_weighs kind (index_of c.args.spec) (view_array c.args.view) c.args.i (located_cell kind c.indexed_entry.result) valid (c.indexed_entry.ensures.cell kind)

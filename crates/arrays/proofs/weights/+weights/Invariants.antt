@@ -1,8 +1,10 @@
-use Rattle.std.proofs.Common.{◌≡◌, ◌+◌, ◌-◌, ◌≤◌, true, map, drop}
+use Rattle.std.proofs.Common.{◌≡◌, ℕ, ◌+◌, ◌-◌, ◌≤◌, ◌<◌, get_or, length, true, map, drop}
 use Rattle.arrow_schema.specs.Column.{columns_of}
 use Rattle.arrow_schema.specs.View.{kind_of, column_of, index_of}
+use Rattle.cells.specs.Cell.{null}
+use Rattle.columns.specs.Array.{dictionary_in}
 use Rattle.cells.specs.Weight.{kind_weight, capped_weight}
-use Rattle.columns.specs.CellAt.{unless_null, indexed_cell}
+use Rattle.columns.specs.CellAt.{entries_of_kind, unless_null, indexed_cell}
 use Rattle.columns.specs.Sound.{are_sound}
 use Rattle.columns.specs.View.{view_array, placed_arrays}
 use Rattle.arrays.specs.inner.Weights.{sum_from, plain_weight, parts_span_weight}
@@ -28,9 +30,18 @@ invariant-parts_weight-loop-i l = record {
   sound : are_sound (columns_of (map column_of (drop l.i l.fields))) (l.from + l.count) (placed_arrays l.bytes l.dictionaries (drop l.i l.arrays)) ≡ true;
 }
 
-abbrev pub invariant-entries_weight-loop-i : goal.invariant-entries_weight-loop-i
-invariant-entries_weight-loop-i l = record {
+abbrev pub invariant-slots_weight-loop-i : goal.invariant-slots_weight-loop-i
+invariant-slots_weight-loop-i l = record {
   sums : capped_weight (l.total + sum_from (kind_weight (kind_of l.field.data_type)) (unless_null (indexed_cell (index_of l.spec) (kind_of l.field.data_type)) (view_array l.view)) l.i (l.i-end - l.i))
       ≡ capped_weight (sum_from (kind_weight (kind_of l.field.data_type)) (unless_null (indexed_cell (index_of l.spec) (kind_of l.field.data_type)) (view_array l.view)) l.from l.count);
   capped : capped_weight l.total ≡ l.total;
 }
+
+-- the first entries are weighed
+abbrev pub invariant-first_weights-loop-n : goal.invariant-first_weights-loop-n
+invariant-first_weights-loop-n l =
+    let kind = kind_of l.field.data_type in
+    record {
+      long : length l.weights ≡ 256;
+      weights : (m : ℕ) → m < l.n → get_or l.weights m 0 ≡ capped_weight (kind_weight kind (get_or (entries_of_kind kind (dictionary_in (view_array l.view))) m null));
+    }

@@ -1,8 +1,14 @@
-use Rattle.std.proofs.Common.{◌≡◌, ◌+◌, ◌-◌, ℕ, true, false, arith, ap, sym, ◌∙◌}
+use Rattle.std.proofs.Common.{◌≡◌, ◌+◌, ◌-◌, ℕ, length, true, false, arith, ap, sym, ◌∙◌}
 use Rattle.std.specs.List.{list_any, range_with_len}
+use Rattle.columns.specs.Array.{Arrays}
+use Rattle.columns.specs.CellAt.{entries_of_kind}
 use Rattle.arrays.proofs.Ranges.{any-here, any-later, any-end}
 use Rattle.arrays.proofs.VisibleSlots.{past}
 use Rattle.arrays.proofs.visible.indices.any_past.Goals as goal
+
+pub has_no_entry-requires-clause-count : goal.has_no_entry-requires-clause-count
+has_no_entry-requires-clause-count c = λ kind.
+    c.entry_count-entries.ensures c.args.view.bytes.now kind ∙ ap (λ (d : Arrays). length (entries_of_kind kind d)) c.dictionary.ensures
 
 pub loop-i-init : goal.loop-i-init
 loop-i-init c = λ kind.

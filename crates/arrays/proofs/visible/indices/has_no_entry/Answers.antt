@@ -1,5 +1,5 @@
-use Rattle.std.specs.Prelude.{◌&&◌, not}
-use Rattle.std.proofs.Common.{◌≡◌, Bool, true, false, ap, refl, sym, ◌∙◌}
+use Rattle.std.specs.Prelude.{◌&&◌}
+use Rattle.std.proofs.Common.{◌≡◌, Bool, true, ap, sym, ◌∙◌}
 use Rattle.arrow_schema.specs.View.{index_of}
 use Rattle.columns.specs.Array.{dictionary_in}
 use Rattle.columns.specs.CellAt.{is_valid, index_at, entries_of_kind}
@@ -7,12 +7,9 @@ use Rattle.columns.specs.View.{view_array}
 use Rattle.columns.specs.Visible.{is_past}
 use Rattle.arrays.proofs.visible.indices.has_no_entry.Goals as goal
 
-twice : (b : Bool) → not (not b) ≡ b
-twice true = refl
-twice false = refl
-
 pub returns-then-is_valid : goal.returns-then-is_valid
 returns-then-is_valid c = λ kind.
     let past : Bool = is_past (index_at (index_of c.args.spec) (view_array c.args.view) c.args.i) (entries_of_kind kind (dictionary_in (view_array c.args.view))) in
     let valid : is_valid (view_array c.args.view) c.args.i ≡ true = sym c.is_valid.ensures ∙ c.if-is_valid.true in
-    sym (twice c.is_none.result) ∙ sym (ap not c.is_none.ensures) ∙ ap not (c.indexed_entry.ensures.present kind) ∙ twice past ∙ ap (λ (b : Bool). b && past) (sym valid)
+    c.is_past.ensures (index_at (index_of c.args.spec) (view_array c.args.view) c.args.i) (entries_of_kind kind (dictionary_in (view_array c.args.view))) c.index_number.ensures (c.requires.count kind)
+    ∙ ap (λ (b : Bool). b && past) (sym valid)
