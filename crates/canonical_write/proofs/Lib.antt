@@ -2,3 +2,4 @@ mod Alone
 mod Meant
 mod RunSteps
 mod Steps
+mod Streams

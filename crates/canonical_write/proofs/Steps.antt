@@ -11,7 +11,7 @@ use Rattle.arrow_schema.specs.Preorder.{preorder_all}
 use Rattle.canonical_stream.specs.Canonical.{canonical, entries_message, entries_messages, piece_messages}
 use Rattle.canonical_stream.specs.Pieces.{IsPieceOf}
 use Rattle.canonical_stream.specs.laws.FewColumns.{dictionaries_have_few}
-use Rattle.array_build.specs.Batch.{PlainBatch, dictionary_of, node_in, dictionary_in, batch_in, with_arrays, batch_of, built_below}
+use Rattle.array_build.specs.Batch.{PlainBatch, buffers_in, dictionary_of, node_in, dictionary_in, batch_in, with_arrays, batch_of, built_below}
 use Rattle.canonical_write.specs.Pieces.{piece_stream, piece_streams, piece_counts}
 use Rattle.canonical_write.specs.View.{with_schema}
 use Rattle.array_build.specs.declared.batch.BuiltBatch.{BuiltBatch}
@@ -91,7 +91,7 @@ pub nodes_built : (b : BuiltBatch) (ts : List Typed) → batch_in b ≡ batch_of
 unfolding batch_in with_arrays
 nodes_built b ts is = ap (λ (p : PlainBatch). p.nodes) is
 
-pub buffers_built : (b : BuiltBatch) (ts : List Typed) → batch_in b ≡ batch_of ts → map items_in b.buffers.items ≡ flat_map (λ t. column_buffers t.column t.array) ts
+pub buffers_built : (b : BuiltBatch) (ts : List Typed) → batch_in b ≡ batch_of ts → buffers_in b.buffers.items ≡ flat_map (λ t. column_buffers t.column t.array) ts
 unfolding batch_in with_arrays
 buffers_built b ts is = ap (λ (p : PlainBatch). p.buffers) is
 
@@ -157,9 +157,9 @@ pub record PieceLaws : Type 0 where
 -- what was built of a piece: its messages are those of the piece, and have room
 pub record IsBuiltPiece (s : PlainSchema) (rows : List (List Cell)) (b : BuiltBatch) : Type 0 where
   pub entries : built_messages 0 (map dictionary_in b.dictionaries.items) ≡ entries_of_piece s rows
-  pub batch : built_batch (length rows) (map node_in b.nodes.items) (map items_in b.buffers.items) ≡ batch_of_piece s rows
+  pub batch : built_batch (length rows) (map node_in b.nodes.items) (buffers_in b.buffers.items) ≡ batch_of_piece s rows
   pub few_entries : AllByRecursion HasFew (map dictionary_in b.dictionaries.items)
-  pub few_rows : AreFew (map node_in b.nodes.items) (map items_in b.buffers.items)
+  pub few_rows : AreFew (map node_in b.nodes.items) (buffers_in b.buffers.items)
 
 pub built_piece : PieceLaws → (s : PlainSchema) (rows : List (List Cell)) (b : BuiltBatch) → IsPieceOf s rows → batch_in b ≡ batch_of (built_below (columns_of s.columns) rows)
     → IsBuiltPiece s rows b
@@ -171,7 +171,7 @@ built_piece laws s rows b piece is =
     let small = light s rows piece.within in
     let weighs : cells_weight cs rows ≤ 16777216 = omega (arith, cells, small) in
     let nodes : map node_in b.nodes.items ≡ map node_of ts = nodes_built b ts is in
-    let buffers : map items_in b.buffers.items ≡ buffers_of cs (built_parts cs rows) = buffers_built b ts is in
+    let buffers : buffers_in b.buffers.items ≡ buffers_of cs (built_parts cs rows) = buffers_built b ts is in
     let dictionaries : map dictionary_in b.dictionaries.items ≡ map dictionary_of ds = dictionaries_built b ts is in
     record {
       entries = ap (built_messages 0) dictionaries ∙ sym (entries_built 0 ds);

@@ -7,6 +7,7 @@ ghost use Rattle.canonical_stream.specs.Canonical.{canonical};
 ghost use Rattle.canonical_stream.specs.Pieces.{IsPieceOf};
 ghost use Rattle.canonical_write.specs.Pieces.{piece_stream, piece_streams, piece_counts};
 ghost use Rattle.canonical_write.specs.View.{streams_in};
+ghost use Rattle.canonical_write.specs.inner.Stream.{stream_in};
 ghost use Rattle.cells.specs.Dictionary.{is_any_limited};
 ghost use Rattle.run_pieces.specs.Rows.{runs_rows, are_runs_sound};
 ghost use Rattle.table_cut.specs.Cut.{pieces};
@@ -16,38 +17,37 @@ ghost use Rattle.values.specs.Table.{IsTable};
 
 use crate::encoder::EncodedPieces;
 use crate::messages::write_run_piece;
+use crate::stream::{Stream, begin_stream, end_stream, into_bytes};
 use arrow_schema::Schema;
 use canonical_stream::pieces_can_be_built;
-use ipc_write::{write_end, write_schema};
 use run_pieces::{RowsLeft, RunPiece};
 use std::alloc::{AllocError, Global};
 use values::Part;
 
 /// The one stream of the rows of record batches, of which there are so many.
-pub(crate) fn encode_parts(
+pub(crate) fn encode_parts<'a>(
     alloc: Global,
     schema: &Schema,
-    parts: &[Part],
+    parts: &'a [Part],
     rows: usize,
-) -> Result<Vec<u8>, AllocError>
+) -> Result<Stream<'a>, AllocError>
     requires table { IsTable (parts_table (schema_of schema.now) parts.now) }
     requires sound { are_parts_sound (columns_of (schema_of schema.now).columns) parts.now ≡ true }
     requires count { rows ≡ length (parts_rows (columns_of (schema_of schema.now).columns) parts.now) }
     requires unlimited { is_any_limited (columns_of (schema_of schema.now).columns) ≡ false }
-    ensures { IfOk result (λ out. out.items ≡ canonical (parts_table (schema_of schema.now) parts.now)) }
+    ensures { IfOk result (λ stream. stream_in stream ≡ canonical (parts_table (schema_of schema.now) parts.now)) }
 {
     pieces_can_be_built();
-    let mut out = Vec::new(alloc);
-    write_schema(alloc, &mut out, schema)?;
+    let mut stream = begin_stream(alloc, schema)?;
     let mut left = RowsLeft::new(alloc, parts)?;
     let mut from = 0;
     while from < rows {
         let piece = left.next_piece(alloc, schema)?;
-        write_run_piece(alloc, &mut out, schema, &piece)?;
+        write_run_piece(alloc, &mut stream, schema, &piece)?;
         from += piece.rows;
     }
-    write_end(&mut out)?;
-    Ok(out)
+    end_stream(&mut stream)?;
+    Ok(stream)
 }
 
 // The stream of a piece, as a table of its own.
@@ -65,11 +65,10 @@ fn encode_run_piece(
         ≡ piece_stream (schema_of schema.now) (runs_rows (columns_of (schema_of schema.now).columns) piece.now.runs.items)) }
     ensures short { IfOk result (λ out. length out.items < 2 ^ 64) }
 {
-    let mut stream = Vec::new(alloc);
-    write_schema(alloc, &mut stream, schema)?;
+    let mut stream = begin_stream(alloc, schema)?;
     write_run_piece(alloc, &mut stream, schema, piece)?;
-    write_end(&mut stream)?;
-    Ok(stream)
+    end_stream(&mut stream)?;
+    into_bytes(alloc, stream)
 }
 
 /// The streams of their pieces.

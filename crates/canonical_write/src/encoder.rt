@@ -5,7 +5,8 @@ ghost use Rattle.arrow_schema.specs.View.{schema_of};
 ghost use Rattle.canonical_stream.specs.Canonical.{canonical};
 ghost use Rattle.canonical_stream.specs.Pieces.{IsPieceOf};
 ghost use Rattle.canonical_write.specs.Pieces.{piece_stream, piece_streams, piece_counts};
-ghost use Rattle.canonical_write.specs.View.{streams_in, with_schema};
+ghost use Rattle.canonical_write.specs.View.{joined_parts, streams_in, with_schema};
+ghost use Rattle.canonical_write.specs.inner.Stream.{stream_in};
 ghost use Rattle.table_cut.specs.Cut.{pieces};
 ghost use Rattle.table_cut.specs.Piece.{within_piece};
 ghost use Rattle.values.specs.Borrowed.{borrowed_cells};
@@ -14,10 +15,11 @@ ghost use Rattle.values.specs.TableView.{table_of};
 
 use crate::by_runs::{encode_parts, encode_parts_pieces};
 use crate::messages::write_piece;
+use crate::stream::{Stream, begin_stream, end_stream, into_bytes, into_parts};
+use array_build::Buffer;
 use arrow_schema::Schema;
 use canonical_stream::pieces_can_be_built;
 use cells::has_limits;
-use ipc_write::{write_end, write_schema};
 use std::alloc::{AllocError, Global};
 use table_cut::next_piece;
 use values::{Table, Values};
@@ -30,30 +32,25 @@ pub struct EncodedPieces {
 }
 
 // The one stream of the rows of a table, under a schema.
-fn encode_rows(alloc: Global, schema: &Schema, table: &Table) -> Result<Vec<u8>, AllocError>
+fn encode_rows<'a>(alloc: Global, schema: &Schema, table: &Table) -> Result<Stream<'a>, AllocError>
     requires { IsTable (with_schema (schema_of schema.now) (table_of table.now)) }
-    ensures { IfOk result (λ out. out.items ≡ canonical (with_schema (schema_of schema.now) (table_of table.now))) }
+    ensures { IfOk result (λ stream. stream_in stream ≡ canonical (with_schema (schema_of schema.now) (table_of table.now))) }
 {
     pieces_can_be_built();
-    let mut out = Vec::new(alloc);
-    write_schema(alloc, &mut out, schema)?;
+    let mut stream = begin_stream(alloc, schema)?;
     let mut from = 0;
     while from < table.len() {
         let piece = next_piece(alloc, schema, table, from)?;
-        write_piece(alloc, &mut out, schema, &piece)?;
+        write_piece(alloc, &mut stream, schema, &piece)?;
         from += piece.len();
     }
-    write_end(&mut out)?;
-    Ok(out)
+    end_stream(&mut stream)?;
+    Ok(stream)
 }
 
-/// The one stream of a table of any types: its schema, the dictionaries and the record batch of each of its pieces, and the end of stream
-/// (docs/formats/writing.md).
-///
-/// Refused only where a growth was. It takes the memory of the stream and that of the arrays of one piece, and time linear in the stream
-/// and in the cells of the table.
-pub fn encode(alloc: Global, table: &Table) -> Result<Vec<u8>, AllocError>
-    ensures { IfOk result (λ out. out.items ≡ canonical (table_of table.now)) }
+// The one stream of a table.
+fn encode_table<'a>(alloc: Global, table: &'a Table) -> Result<Stream<'a>, AllocError>
+    ensures { IfOk result (λ stream. stream_in stream ≡ canonical (table_of table.now)) }
 {
     let schema = table.schema();
     if let Some(parts) = table.parts() {
@@ -64,6 +61,27 @@ pub fn encode(alloc: Global, table: &Table) -> Result<Vec<u8>, AllocError>
     encode_rows(alloc, schema, table)
 }
 
+/// The one stream of a table of any types: its schema, the dictionaries and the record batch of each of its pieces, and the end of stream
+/// (docs/formats/writing.md).
+///
+/// Refused only where a growth was. It takes the memory of the stream, and of the buffers that had to be made, and time linear in the stream
+/// and in the cells of the table. [`encode_shared`] takes no more than it has to.
+pub fn encode(alloc: Global, table: &Table) -> Result<Vec<u8>, AllocError>
+    ensures { IfOk result (λ out. out.items ≡ canonical (table_of table.now)) }
+{
+    let stream = encode_table(alloc, table)?;
+    into_bytes(alloc, stream)
+}
+
+/// The same stream as parts, one after another. A buffer of a piece that stands in the table's bytes as it is written is such a part where it stands, and no
+/// copy of it is made, but for small ones.
+pub fn encode_shared<'a>(alloc: Global, table: &'a Table) -> Result<Vec<Buffer<'a>>, AllocError>
+    ensures { IfOk result (λ parts. joined_parts parts.items ≡ canonical (table_of table.now)) }
+{
+    let stream = encode_table(alloc, table)?;
+    into_parts(stream)
+}
+
 // The stream of a piece, as a table of its own.
 fn encode_piece(alloc: Global, schema: &Schema, rows: &[Values<'_>]) -> Result<Vec<u8>, AllocError>
     requires piece { IsPieceOf (schema_of schema.now) (map borrowed_cells rows.now) }
@@ -71,11 +89,10 @@ fn encode_piece(alloc: Global, schema: &Schema, rows: &[Values<'_>]) -> Result<V
     ensures stream { IfOk result (λ out. out.items ≡ piece_stream (schema_of schema.now) (map borrowed_cells rows.now)) }
     ensures short { IfOk result (λ out. length out.items < 2 ^ 64) }
 {
-    let mut stream = Vec::new(alloc);
-    write_schema(alloc, &mut stream, schema)?;
+    let mut stream = begin_stream(alloc, schema)?;
     write_piece(alloc, &mut stream, schema, rows)?;
-    write_end(&mut stream)?;
-    Ok(stream)
+    end_stream(&mut stream)?;
+    into_bytes(alloc, stream)
 }
 
 /// The pieces of the rows of a table of any types, under a schema, each as a stream of its own. Under the table's own schema they are cut where `encode`

@@ -5,6 +5,7 @@
 //!
 //! ```ignore
 //! let stream = encode(alloc, &table)?;
+//! let parts = encode_shared(alloc, &table)?;
 //! let pieces = encode_own_pieces(alloc, &table)?;
 //! ```
 #![tactic(auto)]
@@ -13,6 +14,8 @@ mod by_runs;
 mod encoder;
 mod laws;
 mod messages;
+mod stream;
 
-pub use encoder::{EncodedPieces, encode, encode_own_pieces, encode_pieces};
+pub use array_build::Buffer;
+pub use encoder::{EncodedPieces, encode, encode_own_pieces, encode_pieces, encode_shared};
 pub use laws::pieces_are_tables;

@@ -4,117 +4,154 @@ ghost use Rattle.std.specs.List.{AllByRecursion};
 ghost use Rattle.arrow_schema.specs.View.{schema_of};
 ghost use Rattle.canonical_stream.specs.Canonical.{piece_messages};
 ghost use Rattle.canonical_stream.specs.Pieces.{IsPieceOf};
-ghost use Rattle.array_build.specs.Batch.{dictionary_in, node_in};
+ghost use Rattle.array_build.specs.Batch.{buffers_in, dictionary_in, node_in};
 ghost use Rattle.arrow_schema.specs.Column.{columns_of};
 ghost use Rattle.run_pieces.specs.Rows.{runs_rows, are_runs_sound};
 ghost use Rattle.canonical_write.specs.inner.Messages.{AreFew, HasFew, built_message, built_messages, built_batch, entries_of_piece, batch_of_piece};
+ghost use Rattle.canonical_write.specs.inner.Stream.{stream_in};
+ghost use Rattle.ipc_write.specs.Written.{body};
 ghost use Rattle.values.specs.Borrowed.{borrowed_cells};
 
-use array_build::{BuiltBatch, BuiltDictionary, build, build_runs};
+use crate::stream::{Stream, push_body};
+use array_build::{Buffer, BuiltBatch, BuiltDictionary, build, build_runs};
 use arrow_schema::Schema;
 use columns::{dictionaries_are_written_alone, written_arrays_have_their_shape};
-use ipc_write::{write_batch, write_dictionary};
+use ipc_write::{write_batch_front, write_dictionary_front};
 use run_pieces::{RowRun, RunPiece, column_runs};
 use std::alloc::{AllocError, Global};
 use values::Values;
 use written_batch::{written_batches_pass, written_entries_are_read};
 
 // Buffers as they are handed to a message.
-fn borrowed(alloc: Global, buffers: &[Vec<u8>]) -> Result<Vec<&[u8]>, AllocError>
-    ensures { IfOk result (λ slices. map (λ b. b.now) slices.items ≡ map (λ v. v.items) buffers.now) }
+fn borrowed<'a>(alloc: Global, buffers: &'a [Buffer<'_>]) -> Result<Vec<&'a [u8]>, AllocError>
+    ensures { IfOk result (λ slices. map (λ b. b.now) slices.items ≡ buffers_in buffers.now) }
 {
     let mut slices: Vec<&[u8]> = Vec::with_capacity(alloc, buffers.len())?;
     for buffer in buffers {
-        slices.push(buffer)?;
+        slices.push(buffer.bytes())?;
     }
     Ok(slices)
 }
 
-// All entries of the dictionary with this id.
-fn write_entries(
+// All but the body of the message of a dictionary's entries.
+fn write_entries_front(
     alloc: Global,
     out: &mut Vec<u8>,
     id: u64,
-    dictionary: BuiltDictionary,
+    slots: u64,
+    nodes: Vec<(u64, u64)>,
+    buffers: &[Buffer<'_>],
+) -> Result<(), AllocError>
+    requires { AreFew (map node_in nodes.items) (buffers_in buffers.now) }
+    ensures { OnOk result (out.new.items ++ body (buffers_in buffers.now)
+        ≡ out.old.items ++ built_message id (record { slots = slots; nodes = map node_in nodes.items; buffers = buffers_in buffers.now })) }
+{
+    let buffers = borrowed(alloc, buffers)?;
+    write_dictionary_front(alloc, out, id, false, slots, nodes, &buffers)
+}
+
+// All entries of the dictionary with this id.
+fn write_entries<'a>(
+    alloc: Global,
+    stream: &mut Stream<'a>,
+    id: u64,
+    dictionary: BuiltDictionary<'a>,
 ) -> Result<(), AllocError>
     requires { HasFew (dictionary_in dictionary) }
-    ensures { OnOk result (out.new.items ≡ out.old.items ++ built_message id (dictionary_in dictionary)) }
+    ensures { OnOk result (stream_in stream.new ≡ stream_in stream.old ++ built_message id (dictionary_in dictionary.entry)) }
 {
     let BuiltDictionary {
         slots,
         nodes,
         buffers,
     } = dictionary;
-    let buffers = borrowed(alloc, &buffers)?;
-    write_dictionary(alloc, out, id, false, slots, nodes, &buffers)
+    write_entries_front(alloc, &mut stream.last, id, slots, nodes, &buffers)?;
+    push_body(alloc, stream, buffers)
 }
 
 // Those of the dictionaries with the ids 0, 1, ..
-fn write_all_entries(
+fn write_all_entries<'a>(
     alloc: Global,
-    out: &mut Vec<u8>,
-    dictionaries: Vec<BuiltDictionary>,
+    stream: &mut Stream<'a>,
+    dictionaries: Vec<BuiltDictionary<'a>>,
 ) -> Result<(), AllocError>
     requires { AllByRecursion HasFew (map dictionary_in dictionaries.items) }
-    ensures { OnOk result (out.new.items ≡ out.old.items ++ built_messages 0 (map dictionary_in dictionaries.items)) }
+    ensures { OnOk result (stream_in stream.new ≡ stream_in stream.old ++ built_messages 0 (map dictionary_in dictionaries.entry.items)) }
 {
     let mut id: u64 = 0;
     for dictionary in dictionaries {
-        write_entries(alloc, out, id, dictionary)?;
+        write_entries(alloc, stream, id, dictionary)?;
         id += 1;
     }
     Ok(())
 }
 
-// The record batch of so many rows.
-fn write_rows(
+// All but the body of the record batch of so many rows.
+fn write_rows_front(
     alloc: Global,
     out: &mut Vec<u8>,
     rows: usize,
     nodes: Vec<(u64, u64)>,
-    buffers: Vec<Vec<u8>>,
+    buffers: &[Buffer<'_>],
 ) -> Result<(), AllocError>
-    requires { AreFew (map node_in nodes.items) (map (λ v. v.items) buffers.items) }
-    ensures { OnOk result (out.new.items ≡ out.old.items ++ built_batch rows (map node_in nodes.items) (map (λ v. v.items) buffers.items)) }
+    requires { AreFew (map node_in nodes.items) (buffers_in buffers.now) }
+    ensures { OnOk result (out.new.items ++ body (buffers_in buffers.now)
+        ≡ out.old.items ++ built_batch rows (map node_in nodes.items) (buffers_in buffers.now)) }
 {
-    let buffers = borrowed(alloc, &buffers)?;
-    write_batch(alloc, out, rows as u64, nodes, &buffers)
+    let buffers = borrowed(alloc, buffers)?;
+    write_batch_front(alloc, out, rows as u64, nodes, &buffers)
+}
+
+// The record batch of so many rows.
+fn write_rows<'a>(
+    alloc: Global,
+    stream: &mut Stream<'a>,
+    rows: usize,
+    nodes: Vec<(u64, u64)>,
+    buffers: Vec<Buffer<'a>>,
+) -> Result<(), AllocError>
+    requires { AreFew (map node_in nodes.items) (buffers_in buffers.items) }
+    ensures { OnOk result (stream_in stream.new
+        ≡ stream_in stream.old ++ built_batch rows (map node_in nodes.items) (buffers_in buffers.entry.items)) }
+{
+    write_rows_front(alloc, &mut stream.last, rows, nodes, &buffers)?;
+    push_body(alloc, stream, buffers)
 }
 
 // The messages of what was built of so many rows.
-fn write_built(
+fn write_built<'a>(
     alloc: Global,
-    out: &mut Vec<u8>,
+    stream: &mut Stream<'a>,
     rows: usize,
-    built: BuiltBatch,
+    built: BuiltBatch<'a>,
 ) -> Result<(), AllocError>
     requires few_entries { AllByRecursion HasFew (map dictionary_in built.dictionaries.items) }
-    requires few_rows { AreFew (map node_in built.nodes.items) (map (λ v. v.items) built.buffers.items) }
-    ensures { OnOk result (out.new.items ≡ out.old.items ++ (built_messages 0 (map dictionary_in built.dictionaries.items)
-        ++ built_batch rows (map node_in built.nodes.items) (map (λ v. v.items) built.buffers.items))) }
+    requires few_rows { AreFew (map node_in built.nodes.items) (buffers_in built.buffers.items) }
+    ensures { OnOk result (stream_in stream.new ≡ stream_in stream.old ++ (built_messages 0 (map dictionary_in built.entry.dictionaries.items)
+        ++ built_batch rows (map node_in built.entry.nodes.items) (buffers_in built.entry.buffers.items))) }
 {
     let BuiltBatch {
         nodes,
         buffers,
         dictionaries,
     } = built;
-    write_all_entries(alloc, out, dictionaries)?;
-    write_rows(alloc, out, rows, nodes, buffers)
+    write_all_entries(alloc, stream, dictionaries)?;
+    write_rows(alloc, stream, rows, nodes, buffers)
 }
 
 // The arrays of a piece, which messages have room for.
-fn build_piece(
+fn build_piece<'a>(
     alloc: Global,
     schema: &Schema,
     rows: &[Values<'_>],
-) -> Result<BuiltBatch, AllocError>
+) -> Result<BuiltBatch<'a>, AllocError>
     requires { IsPieceOf (schema_of schema.now) (map borrowed_cells rows.now) }
     ensures entries { IfOk result (λ piece. built_messages 0 (map dictionary_in piece.dictionaries.items)
         ≡ entries_of_piece (schema_of schema.now) (map borrowed_cells rows.now)) }
-    ensures rows { IfOk result (λ piece. built_batch (length rows.now) (map node_in piece.nodes.items) (map (λ v. v.items) piece.buffers.items)
+    ensures rows { IfOk result (λ piece. built_batch (length rows.now) (map node_in piece.nodes.items) (buffers_in piece.buffers.items)
         ≡ batch_of_piece (schema_of schema.now) (map borrowed_cells rows.now)) }
     ensures few_entries { IfOk result (λ piece. AllByRecursion HasFew (map dictionary_in piece.dictionaries.items)) }
-    ensures few_rows { IfOk result (λ piece. AreFew (map node_in piece.nodes.items) (map (λ v. v.items) piece.buffers.items)) }
+    ensures few_rows { IfOk result (λ piece. AreFew (map node_in piece.nodes.items) (buffers_in piece.buffers.items)) }
 {
     dictionaries_are_written_alone();
     written_arrays_have_their_shape();
@@ -127,31 +164,31 @@ fn build_piece(
 #[tactic(auto, unfolding(canonical_stream::specs::Canonical::piece_messages))]
 pub(crate) fn write_piece(
     alloc: Global,
-    out: &mut Vec<u8>,
+    stream: &mut Stream<'_>,
     schema: &Schema,
     rows: &[Values<'_>],
 ) -> Result<(), AllocError>
     requires { IsPieceOf (schema_of schema.now) (map borrowed_cells rows.now) }
-    ensures { OnOk result (out.new.items ≡ out.old.items ++ piece_messages (schema_of schema.now) (map borrowed_cells rows.now)) }
+    ensures { OnOk result (stream_in stream.new ≡ stream_in stream.old ++ piece_messages (schema_of schema.now) (map borrowed_cells rows.now)) }
 {
     let built = build_piece(alloc, schema, rows)?;
-    write_built(alloc, out, rows.len(), built)
+    write_built(alloc, stream, rows.len(), built)
 }
 
 // The arrays of a piece whose rows are runs, which messages have room for.
-fn build_run_piece(
+fn build_run_piece<'a>(
     alloc: Global,
     schema: &Schema,
-    runs: &[RowRun<'_>],
-) -> Result<BuiltBatch, AllocError>
+    runs: &[RowRun<'a>],
+) -> Result<BuiltBatch<'a>, AllocError>
     requires piece { IsPieceOf (schema_of schema.now) (runs_rows (columns_of (schema_of schema.now).columns) runs.now) }
     requires sound { are_runs_sound (columns_of (schema_of schema.now).columns) runs.now ≡ true }
     ensures entries { IfOk result (λ piece. built_messages 0 (map dictionary_in piece.dictionaries.items)
         ≡ entries_of_piece (schema_of schema.now) (runs_rows (columns_of (schema_of schema.now).columns) runs.now)) }
     ensures rows { IfOk result (λ piece. let rows = runs_rows (columns_of (schema_of schema.now).columns) runs.now in
-        built_batch (length rows) (map node_in piece.nodes.items) (map (λ v. v.items) piece.buffers.items) ≡ batch_of_piece (schema_of schema.now) rows) }
+        built_batch (length rows) (map node_in piece.nodes.items) (buffers_in piece.buffers.items) ≡ batch_of_piece (schema_of schema.now) rows) }
     ensures few_entries { IfOk result (λ piece. AllByRecursion HasFew (map dictionary_in piece.dictionaries.items)) }
-    ensures few_rows { IfOk result (λ piece. AreFew (map node_in piece.nodes.items) (map (λ v. v.items) piece.buffers.items)) }
+    ensures few_rows { IfOk result (λ piece. AreFew (map node_in piece.nodes.items) (buffers_in piece.buffers.items)) }
 {
     dictionaries_are_written_alone();
     written_arrays_have_their_shape();
@@ -163,18 +200,18 @@ fn build_run_piece(
 
 /// The same of a piece whose rows are runs: no row is borrowed.
 #[tactic(auto, unfolding(canonical_stream::specs::Canonical::piece_messages))]
-pub(crate) fn write_run_piece(
+pub(crate) fn write_run_piece<'a>(
     alloc: Global,
-    out: &mut Vec<u8>,
+    stream: &mut Stream<'a>,
     schema: &Schema,
-    piece: &RunPiece<'_>,
+    piece: &RunPiece<'a>,
 ) -> Result<(), AllocError>
     requires piece { IsPieceOf (schema_of schema.now) (runs_rows (columns_of (schema_of schema.now).columns) piece.now.runs.items) }
     requires sound { are_runs_sound (columns_of (schema_of schema.now).columns) piece.now.runs.items ≡ true }
     requires count { piece.now.rows ≡ length (runs_rows (columns_of (schema_of schema.now).columns) piece.now.runs.items) }
-    ensures { OnOk result (out.new.items ≡ out.old.items
+    ensures { OnOk result (stream_in stream.new ≡ stream_in stream.old
         ++ piece_messages (schema_of schema.now) (runs_rows (columns_of (schema_of schema.now).columns) piece.now.runs.items)) }
 {
     let built = build_run_piece(alloc, schema, &piece.runs)?;
-    write_built(alloc, out, piece.rows, built)
+    write_built(alloc, stream, piece.rows, built)
 }

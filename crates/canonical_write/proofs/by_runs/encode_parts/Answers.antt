@@ -1,5 +1,5 @@
 use Rattle.std.specs.List.{AllByRecursion, list_all}
-use Rattle.std.proofs.Common.{◌≡◌, ◌++◌, List, ℕ, length, ap, sym, subst, ◌∙◌, arith}
+use Rattle.std.proofs.Common.{◌≡◌, ◌++◌, List, length, ap, sym, subst, ◌∙◌, arith}
 use Rattle.std.proofs.lemmas.List.Sums.{list_all-from_AllPass}
 use Rattle.arrow_schema.specs.Column.{PlainSchema, Columns, columns_of}
 use Rattle.arrow_schema.specs.View.{schema_of}
@@ -7,9 +7,10 @@ use Rattle.canonical_stream.specs.Canonical.{canonical, piece_messages}
 use Rattle.canonical_stream.specs.Pieces.{IsPieceOf}
 use Rattle.canonical_write.proofs.RunSteps.{not_empty, rows_behind, count_behind}
 use Rattle.canonical_write.proofs.Steps.{first_written, next_written}
+use Rattle.canonical_write.specs.inner.Stream.{stream_in}
 use Rattle.cells.specs.Cell.{Cell, PlainTable}
 use Rattle.cells.specs.Row.{is_row}
-use Rattle.ipc_write.specs.Written.{schema_message, end_of_stream}
+use Rattle.ipc_write.specs.Written.{end_of_stream}
 use Rattle.run_pieces.specs.Left.{rows_left}
 use Rattle.run_pieces.specs.Rows.{runs_rows}
 use Rattle.std.specs.List.{flat_map}
@@ -24,13 +25,12 @@ loop-from-init c =
     let cs : Columns = columns_of s.columns in
     let t : PlainTable = parts_table s c.args.parts.now in
     let all : rows_left cs c.in_ok-left.left ≡ parts_rows cs c.args.parts.now = c.in_ok-left.ensures.rows cs in
-    let first : c.write_schema.new.out.items ≡ schema_message s = c.in_ok-write_schema.ensures.appended ∙ ap (λ (x : List ℕ). x ++ schema_message s) c.new-out.ensures.items in
     record {
       within = omega (arith, ap length all, c.requires.count);
       are = ap (list_all (is_row s)) all ∙ list_all-from_AllPass (is_row s) t.rows c.requires.table.rows;
       sound = c.in_ok-left.ensures.sound cs c.requires.sound;
       each = subst (λ (rows : List (List Cell)). AllByRecursion (IsPieceOf s) (pieces (within_piece s) rows)) (sym all) (c.pieces_can_be_built.ensures t c.requires.table);
-      written = ap (λ (rows : List (List Cell)). c.write_schema.new.out.items ++ (flat_map (piece_messages s) (pieces (within_piece s) rows) ++ end_of_stream)) all ∙ first_written s t c.write_schema.new.out.items first;
+      written = ap (λ (rows : List (List Cell)). stream_in c.in_ok-stream.stream ++ (flat_map (piece_messages s) (pieces (within_piece s) rows) ++ end_of_stream)) all ∙ first_written s t (stream_in c.in_ok-stream.stream) c.in_ok-stream.ensures;
     }
 
 pub next_piece-requires-clause-some : goal.next_piece-requires-clause-some
@@ -63,7 +63,7 @@ loop-from-preserved c =
       are = rows_behind s old piece new c.in_ok-piece.ensures.front is.are;
       sound = c.in_ok-piece.ensures.left;
       each = (subst (AllByRecursion (IsPieceOf s)) c.in_ok-piece.ensures.piece is.each).1;
-      written = next_written (piece_messages s) c.loop-from.out.items c.write_run_piece.new.out.items end_of_stream (canonical (parts_table s c.args.parts.now)) piece
+      written = next_written (piece_messages s) (stream_in c.loop-from.stream) (stream_in c.write_run_piece.new.stream) end_of_stream (canonical (parts_table s c.args.parts.now)) piece
           (pieces (within_piece s) old) (pieces (within_piece s) new) c.in_ok-piece.ensures.piece c.in_ok-write_run_piece.ensures is.written;
     }
 

@@ -4,6 +4,7 @@ use Rattle.arrow_schema.specs.Column.{columns_of}
 use Rattle.arrow_schema.specs.View.{schema_of}
 use Rattle.canonical_stream.specs.Canonical.{canonical, piece_messages}
 use Rattle.canonical_stream.specs.Pieces.{IsPieceOf}
+use Rattle.canonical_write.specs.inner.Stream.{stream_in}
 use Rattle.cells.specs.Row.{is_row}
 use Rattle.ipc_write.specs.Written.{end_of_stream}
 use Rattle.run_pieces.specs.Left.{runs_left, rows_left}
@@ -24,7 +25,7 @@ invariant-loop-from l =
       are : list_all (is_row s) (rows_left columns l.left) ≡ true;
       sound : are_runs_sound columns (runs_left l.left) ≡ true;
       each : AllByRecursion (IsPieceOf s) left;
-      written : l.out.items ++ (flat_map (piece_messages s) left ++ end_of_stream) ≡ canonical (parts_table s l.parts);
+      written : stream_in l.stream ++ (flat_map (piece_messages s) left ++ end_of_stream) ≡ canonical (parts_table s l.parts);
     }
 
 abbrev pub decreases-loop-from : goal.decreases-loop-from

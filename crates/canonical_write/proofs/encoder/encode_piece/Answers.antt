@@ -1,8 +1,11 @@
 use Rattle.std.proofs.Common.{◌≡◌, ◌++◌, List, ℕ, map, ap, sym, ◌∙◌, append_assoc}
+use Rattle.std.proofs.lemmas.Result.{IfOk-weaker}
 use Rattle.arrow_schema.specs.Column.{PlainSchema}
 use Rattle.arrow_schema.specs.View.{schema_of}
 use Rattle.canonical_stream.specs.Canonical.{piece_messages}
 use Rattle.canonical_write.proofs.Steps.{one_stream}
+use Rattle.canonical_write.specs.Pieces.{piece_stream}
+use Rattle.canonical_write.specs.inner.Stream.{stream_in}
 use Rattle.cells.specs.Cell.{Cell}
 use Rattle.ipc_write.specs.Written.{schema_message, end_of_stream}
 use Rattle.values.specs.Borrowed.{borrowed_cells}
@@ -12,10 +15,12 @@ pub returns-clause-stream : goal.returns-clause-stream
 returns-clause-stream c =
     let s : PlainSchema = schema_of c.args.schema.now in
     let rows : List (List Cell) = map borrowed_cells c.args.rows.now in
-    let first : c.write_schema.new.out.items ≡ schema_message s = c.in_ok-write_schema.ensures.appended ∙ ap (λ (x : List ℕ). x ++ schema_message s) c.new-stream.ensures.items in
-    let second : c.write_piece.new.out.items ≡ schema_message s ++ piece_messages s rows = c.in_ok-write_piece.ensures ∙ ap (λ (x : List ℕ). x ++ piece_messages s rows) first in
-    let last : c.write_end.new.out.items ≡ c.write_piece.new.out.items ++ end_of_stream = c.in_ok-write_end.ensures.appended in
+    let first : stream_in c.in_ok-stream.stream ≡ schema_message s = c.in_ok-stream.ensures in
+    let second : stream_in c.write_piece.new.stream ≡ schema_message s ++ piece_messages s rows = c.in_ok-write_piece.ensures ∙ ap (λ (x : List ℕ). x ++ piece_messages s rows) first in
+    let last : stream_in c.end_stream.new.stream ≡ stream_in c.write_piece.new.stream ++ end_of_stream = c.in_ok-end_stream.ensures in
+    let whole : stream_in c.end_stream.new.stream ≡ piece_stream s rows =
     last
     ∙ ap (λ (x : List ℕ). x ++ end_of_stream) second
     ∙ append_assoc (schema_message s) (piece_messages s rows) end_of_stream
-    ∙ sym (one_stream s rows c.requires.alone)
+    ∙ sym (one_stream s rows c.requires.alone) in
+    IfOk-weaker c.into_bytes.result _ _ (λ out is. is ∙ whole) c.into_bytes.ensures.stream

@@ -4,6 +4,7 @@ use Rattle.arrow_schema.specs.View.{schema_of}
 use Rattle.canonical_stream.specs.Canonical.{canonical, piece_messages}
 use Rattle.canonical_stream.specs.Pieces.{IsPieceOf}
 use Rattle.canonical_write.specs.View.{with_schema}
+use Rattle.canonical_write.specs.inner.Stream.{stream_in}
 use Rattle.table_cut.specs.Cut.{pieces}
 use Rattle.ipc_write.specs.Written.{end_of_stream}
 use Rattle.table_cut.specs.Piece.{within_piece}
@@ -18,7 +19,7 @@ invariant-loop-from l =
     record {
       within : l.from ≤ length (table_of l.table).rows;
       each : AllByRecursion (IsPieceOf s) left;
-      written : l.out.items ++ (flat_map (piece_messages s) left ++ end_of_stream) ≡ canonical (with_schema s (table_of l.table));
+      written : stream_in l.stream ++ (flat_map (piece_messages s) left ++ end_of_stream) ≡ canonical (with_schema s (table_of l.table));
     }
 
 abbrev pub decreases-loop-from : goal.decreases-loop-from

@@ -3,6 +3,7 @@ use Rattle.std.specs.Vec.Iter.{into_iter_items}
 use Rattle.std.proofs.Common.{◌≡◌, ◌+◌, ◌++◌, length, map}
 use Rattle.array_build.specs.Batch.{dictionary_in}
 use Rattle.canonical_write.specs.inner.Messages.{HasFew, built_messages}
+use Rattle.canonical_write.specs.inner.Stream.{stream_in}
 use Rattle.canonical_write.proofs.messages.write_all_entries.Given as goal
 
 abbrev pub invariant-loop-dictionary : goal.invariant-loop-dictionary
@@ -13,5 +14,5 @@ invariant-loop-dictionary l =
       ends : goal.iterator-loop-dictionary.is_finite l.dictionary-iterator;
       count : l.id + length left ≡ length l.fn.dictionaries.items;
       few : AllByRecursion HasFew (map dictionary_in left);
-      written : l.out.items ++ built_messages l.id (map dictionary_in left) ≡ l.fn.out.items ++ built_messages 0 (map dictionary_in l.fn.dictionaries.items);
+      written : stream_in l.stream ++ built_messages l.id (map dictionary_in left) ≡ stream_in l.fn.stream ++ built_messages 0 (map dictionary_in l.fn.dictionaries.items);
     }

@@ -1,12 +1,11 @@
-use Rattle.std.proofs.Common.{◌≡◌, ◌++◌, List, ℕ, map, ap, ◌∙◌}
+use Rattle.std.proofs.Common.{refl, ◌∙◌}
 use Rattle.std.proofs.lemmas.Result.{on_ok_weaker}
-use Rattle.canonical_write.proofs.Steps.{entries_are}
+use Rattle.canonical_write.proofs.Streams.{front_then_body}
 use Rattle.canonical_write.proofs.messages.write_entries.Goals as goal
 
 pub returns : goal.returns
 returns c =
-    let buffers : map (λ b. b.now) c.deref-2.result.now ≡ map (λ v. v.items) c.args.dictionary.buffers.items =
-    ap (map (λ b. b.now)) c.deref-2.ensures.value ∙ c.in_ok-buffers.ensures ∙ ap (map (λ v. v.items)) c.deref.ensures.value in
-    on_ok_weaker c.write_dictionary.result
-    (λ e. e ∙ ap (λ (x : List ℕ). c.args.out.now.items ++ x) (entries_are c.args.id c.args.dictionary.slots c.args.dictionary.nodes.items _ _ buffers))
-    c.write_dictionary.ensures.appended
+    let front = rw c.deref.ensures.value at c.in_ok-write_entries_front.ensures in
+    on_ok_weaker c.push_body.result
+    (λ e. e ∙ front_then_body c.args.stream.now (record c.args.stream.now { last = c.write_entries_front.new.out }) _ _ refl front)
+    c.push_body.ensures

@@ -1,12 +1,11 @@
-use Rattle.std.proofs.Common.{◌≡◌, ◌++◌, List, ℕ, map, ap, ◌∙◌}
+use Rattle.std.proofs.Common.{refl, ◌∙◌}
 use Rattle.std.proofs.lemmas.Result.{on_ok_weaker}
-use Rattle.canonical_write.proofs.Steps.{batch_is}
+use Rattle.canonical_write.proofs.Streams.{front_then_body}
 use Rattle.canonical_write.proofs.messages.write_rows.Goals as goal
 
 pub returns : goal.returns
 returns c =
-    let buffers : map (λ b. b.now) c.deref-2.result.now ≡ map (λ v. v.items) c.args.buffers.items =
-    ap (map (λ b. b.now)) c.deref-2.ensures.value ∙ c.in_ok-buffers.ensures ∙ ap (map (λ v. v.items)) c.deref.ensures.value in
-    on_ok_weaker c.write_batch.result
-    (λ e. e ∙ ap (λ (x : List ℕ). c.args.out.now.items ++ x) (batch_is c.args.rows c.args.nodes.items _ _ buffers))
-    c.write_batch.ensures.appended
+    let front = rw c.deref.ensures.value at c.in_ok-write_rows_front.ensures in
+    on_ok_weaker c.push_body.result
+    (λ e. e ∙ front_then_body c.args.stream.now (record c.args.stream.now { last = c.write_rows_front.new.out }) _ _ refl front)
+    c.push_body.ensures
