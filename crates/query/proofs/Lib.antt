@@ -13,3 +13,6 @@ pub mod MadeTables
 pub mod Numbers
 pub mod Lines
 pub mod SlotFlags
+pub mod Cuts
+pub mod Lanes
+pub mod BlockFlags

@@ -1,3 +1,4 @@
 pub mod BoundView
+pub mod Cuts
 pub mod Masks
 pub mod Slots

@@ -13,9 +13,11 @@
 //! gives the first ten rows of `table` whose `a` is at least 1, with all columns; a null is not.
 #![tactic(auto)]
 
+mod blocks;
 mod bound;
 mod condition;
 mod copying;
+mod cut;
 mod errors;
 mod laws;
 mod line;

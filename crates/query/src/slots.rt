@@ -9,9 +9,12 @@ ghost use Rattle.query.specs.inner.BoundView.{bound_in};
 ghost use Rattle.query.specs.inner.Masks.{IsMask};
 ghost use Rattle.query.specs.inner.Slots.{width_of, IsIntegerKind, IsIntegerColumn, IsComparison, holds_in, holds_at, batch_flags, part_flags, parts_flags, has_slots, batch_has_slots, part_has_slots};
 
+use crate::blocks::{answers_of_block, slots_in_block};
 use crate::bound::{Bound, Demand, field_at};
+use crate::cut::Cut;
 use crate::operator::{Operator, accepts};
 use arrow_schema::{BitWidth, DataType, DateUnit, Field, IntegerType};
+use bitmap::MaskBuilder;
 use byteorder::{ByteOrder, LittleEndian};
 use cells::Value;
 use columns::{ArrayView, array_or, no_array};
@@ -138,28 +141,60 @@ impl Comparison {
         accepts(self.operator, number.cmp(&self.literal))
     }
 
-    // Adds whether it holds of each of the first slots.
+    // Adds whether it holds of the slots of whole blocks, where none is null, and says of how many.
+    fn push_blocks(
+        self,
+        flags: &mut MaskBuilder,
+        validity: &[u8],
+        values: &[u8],
+        rows: usize,
+    ) -> Result<usize, AllocError>
+        requires { rows * width_of self.integer ≤ length values.now }
+        ensures within { IfOk result (λ n. n ≤ rows) }
+        ensures flags { IfOk result (λ n. flags.new ≡ flags.old ++ map (holds_in self validity.now values.now) (range_with_len 0 n)) }
+    {
+        if !validity.is_empty() {
+            return Ok(0);
+        }
+        let width = self.integer.width;
+        let cut = Cut::of(self.integer, self.operator, self.literal);
+        let slots = slots_in_block(width);
+        let blocks = rows / slots;
+        for block in 0..blocks {
+            let answers = answers_of_block(width, cut, values, slots * block);
+            flags.push_word(answers, slots)?;
+        }
+        Ok(slots * blocks)
+    }
+
+    // Adds whether it holds of each of the first slots: block by block, and of the others one by one.
     fn push_slots(
         self,
-        flags: &mut Vec<bool>,
+        flags: &mut MaskBuilder,
         view: ArrayView<'_>,
         rows: usize,
     ) -> Result<(), AllocError>
         requires { has_slots self rows (view_array view) ≡ true }
-        ensures { OnOk result (flags.new.items ≡ flags.old.items ++ map (holds_at self (view_array view.entry)) (range_with_len 0 rows)) }
+        ensures { OnOk result (flags.new ≡ flags.old ++ map (holds_at self (view_array view.entry)) (range_with_len 0 rows)) }
     {
         let validity = view.validity();
         let values = view.values();
-        for i in 0..rows {
-            flags.push(self.holds(validity, values, i))?;
+        let begun = self.push_blocks(flags, validity, values, rows)?;
+        for i in begun..rows {
+            flags.push_word(u64::from(self.holds(validity, values, i)), 1)?;
         }
         Ok(())
     }
 
     // The same of the rows of a batch.
-    fn push_batch(self, flags: &mut Vec<bool>, part: &Part, batch: &Batch) -> Result<(), AllocError>
+    fn push_batch(
+        self,
+        flags: &mut MaskBuilder,
+        part: &Part,
+        batch: &Batch,
+    ) -> Result<(), AllocError>
         requires { batch_has_slots self part.now batch.now ≡ true }
-        ensures { OnOk result (flags.new.items ≡ flags.old.items ++ batch_flags self part.now batch.now) }
+        ensures { OnOk result (flags.new ≡ flags.old ++ batch_flags self part.now batch.now) }
     {
         let none = no_array();
         let view = ArrayView {
@@ -170,9 +205,9 @@ impl Comparison {
         self.push_slots(flags, view, batch.rows)
     }
 
-    fn push_part(self, flags: &mut Vec<bool>, part: &Part) -> Result<(), AllocError>
+    fn push_part(self, flags: &mut MaskBuilder, part: &Part) -> Result<(), AllocError>
         requires { part_has_slots self part.now ≡ true }
-        ensures { OnOk result (flags.new.items ≡ flags.old.items ++ part_flags self part.now) }
+        ensures { OnOk result (flags.new ≡ flags.old ++ part_flags self part.now) }
     {
         for batch in &part.batches {
             self.push_batch(flags, part, batch)?;
@@ -190,11 +225,10 @@ impl Comparison {
         requires { list_all (part_has_slots self) parts.now ≡ true }
         ensures { IfOk result (λ mask. IsMask mask.items (parts_flags self parts.now)) }
     {
-        let mut flags = Vec::with_capacity(alloc, rows)?;
+        let mut flags = MaskBuilder::with_capacity(alloc, rows)?;
         for part in parts {
             self.push_part(&mut flags, part)?;
         }
-        let mask = bitmap::pack(alloc, &flags)?;
-        Ok(mask)
+        Ok(flags.into_mask())
     }
 }

@@ -12,9 +12,9 @@ push_part-requires c = all_here (part_has_slots c.args.self) c.args.parts.now c.
 pub loop-part-preserved : goal.loop-part-preserved
 loop-part-preserved c =
     c.in_ok-push_part.ensures
-    ∙ flags_more (part_flags c.args.self) c.args.parts.now c.loop-part.part-index c.part-item.result [] c.loop-part.flags.items c.loop-part-test.true c.part-item.is c.loop-part.invariant
+    ∙ flags_more (part_flags c.args.self) c.args.parts.now c.loop-part.part-index c.part-item.result [] c.loop-part.flags c.loop-part-test.true c.part-item.is c.loop-part.invariant
 
 pub returns : goal.returns
 returns c =
-    packed_mask _ c.deref.result.now _ (c.deref.ensures.value ∙ c.loop-part.invariant ∙ ap (flat_map (part_flags c.args.self)) (take_all c.loop-part.part-index c.args.parts.now (omega arith)))
-    c.in_ok-mask.ensures.bits c.in_ok-mask.ensures.length
+    packed_mask _ c.loop-part.flags _ (c.loop-part.invariant ∙ ap (flat_map (part_flags c.args.self)) (take_all c.loop-part.part-index c.args.parts.now (omega arith)))
+    c.into_mask.ensures.bits c.into_mask.ensures.length

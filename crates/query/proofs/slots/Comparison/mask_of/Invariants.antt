@@ -4,4 +4,4 @@ use Rattle.query.specs.inner.Slots.{part_flags}
 use Rattle.query.proofs.slots.Comparison.mask_of.Given as goal
 
 abbrev pub invariant-loop-part : goal.invariant-loop-part
-invariant-loop-part l = l.flags.items ≡ flat_map (part_flags l.self) (take l.part-index l.parts)
+invariant-loop-part l = l.flags ≡ flat_map (part_flags l.self) (take l.part-index l.parts)

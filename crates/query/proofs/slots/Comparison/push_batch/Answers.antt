@@ -20,5 +20,5 @@ returns c =
     view_is c.args.self.place c.args.part.now c.args.batch.now c.deref-2.result.now c.deref-3.result.now c.array_or.result.now c.deref.result.now c.deref-2.ensures.value c.deref-3.ensures.value
     c.deref.ensures.value c.array_or.ensures in
     let P : Array → Type 0 =
-    λ a. OnOk c.push_slots.result (c.push_slots.new.flags.items ≡ c.args.flags.now.items ++ map (holds_at c.args.self a) (range_with_len 0 c.args.batch.now.rows)) in
+    λ a. OnOk c.push_slots.result (c.push_slots.new.flags ≡ c.args.flags.now ++ map (holds_at c.args.self a) (range_with_len 0 c.args.batch.now.rows)) in
     subst P same c.push_slots.ensures

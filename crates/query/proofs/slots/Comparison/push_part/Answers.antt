@@ -14,5 +14,5 @@ loop-batch-preserved c =
     let within = rw c.deref-batch-items.ensures.value at c.loop-batch-test.true in
     let is = rw c.deref-batch-items.ensures.value at c.batch-item.is in
     c.in_ok-push_batch.ensures
-    ∙ flags_more (batch_flags c.args.self c.args.part.now) c.args.part.now.batches.items c.loop-batch.batch-index c.batch-item.result c.args.flags.now.items c.loop-batch.flags.items
+    ∙ flags_more (batch_flags c.args.self c.args.part.now) c.args.part.now.batches.items c.loop-batch.batch-index c.batch-item.result c.args.flags.now c.loop-batch.flags
     within is c.loop-batch.invariant

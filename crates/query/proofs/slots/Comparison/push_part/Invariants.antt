@@ -4,4 +4,4 @@ use Rattle.query.specs.inner.Slots.{batch_flags}
 use Rattle.query.proofs.slots.Comparison.push_part.Given as goal
 
 abbrev pub invariant-loop-batch : goal.invariant-loop-batch
-invariant-loop-batch l = l.flags.items ≡ l.initial.flags.items ++ flat_map (batch_flags l.self l.part) (take l.batch-index l.part.batches.items)
+invariant-loop-batch l = l.flags ≡ l.initial.flags ++ flat_map (batch_flags l.self l.part) (take l.batch-index l.part.batches.items)

@@ -5,4 +5,4 @@ use Rattle.query.specs.inner.Slots.{holds_at}
 use Rattle.query.proofs.slots.Comparison.push_slots.Given as goal
 
 abbrev pub invariant-loop-i : goal.invariant-loop-i
-invariant-loop-i l = l.flags.items ≡ l.initial.flags.items ++ map (holds_at l.self (view_array l.view)) (range_with_len 0 l.i)
+invariant-loop-i l = l.flags ≡ l.fn.flags ++ map (holds_at l.self (view_array l.view)) (range_with_len 0 l.i)

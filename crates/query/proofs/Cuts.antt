@@ -1,0 +1,183 @@
+-- An order to a key is that of an integer to a literal.
+use Rattle.std.proofs.Common.{◌≡◌, ◌≢◌, inl, inr, ℕ, zero, suc, ◌+◌, ◌-◌, ◌*◌, ◌/◌, ◌%◌, ◌^◌, ◌<◌, Bool, true, false, List, [], ◌∷◌, ◌==◌, length, get_or, map, drop, refl, sym, ap, ◌∙◌, arith}
+use Rattle.std.specs.Prelude.{ℤ, pos, negsuc, nat_abs, T, ◌+ℤ◌, ◌-ℤ◌, ◌<ℤ◌, ◌≤ℤ◌, nat_lt, ◌&&◌, ◌||◌, if◌then◌else◌}
+use Rattle.std.specs.List.{range_with_len}
+use Rattle.std.specs.declared.cmp.Ordering.{Ordering}
+use Rattle.std.specs.declared.cmp.Ordering.TheVariants.{Less, Equal, Greater}
+use Rattle.std.specs.Ordering.{int_cmp}
+use Rattle.std.specs.Cmp.{int_cmp_is}
+use Rattle.std.proofs.Math.Nat.{pow-suc}
+use Rattle.std.proofs.lemmas.Bool.{lt-ltb, le-ltb, eq-eqb, ne_eqb, cases_lt}
+use Rattle.std.proofs.lemmas.Int.{ints}
+use Rattle.std.proofs.lemmas.List.{get_or-drop}
+use Rattle.std.proofs.lemmas.Nat.{mod-mul-add, mod_below}
+use Rattle.byteorder.specs.Endian.{little_from, twos_complement}
+use Rattle.arrow_schema.specs.View.{bits_of}
+use Rattle.arrow_schema.specs.declared.types.BitWidth.{BitWidth}
+use Rattle.arrow_schema.specs.declared.types.BitWidth.TheVariants.{Eight, Sixteen, ThirtyTwo, SixtyFour}
+use Rattle.arrow_schema.specs.declared.types.IntegerType.{IntegerType}
+use Rattle.bitmap.specs.Bits.{bit}
+use Rattle.cells.specs.Integers.{integer_of}
+use Rattle.columns.specs.CellAt.{number_at}
+use Rattle.query.specs.declared.cut.Cut.{Cut}
+use Rattle.query.specs.declared.operator.Operator.{Operator}
+use Rattle.query.specs.declared.slots.Comparison.{Comparison}
+use Rattle.query.specs.Bound.{accepts}
+use Rattle.query.specs.inner.Slots.{width_of, holds_in}
+use lib.Signed.{non_neg}
+use Rattle.query.specs.inner.Cuts.{bias_in, moved, answer_at, IsCut}
+
+-- ---- numbers that are not negative
+
+pub not_negative : (z : ℤ) → pos 0 ≤ℤ z → T (non_neg z)
+not_negative (pos n) h = tt
+not_negative (negsuc n) h = absurd (omega (arith, ints, h))
+
+pub absolute : (z : ℤ) → pos 0 ≤ℤ z → pos (nat_abs z) ≡ z
+absolute (pos n) h = refl
+absolute (negsuc n) h = absurd (omega (arith, ints, h))
+
+pub absolute_below : (z : ℤ) (m : ℕ) → pos 0 ≤ℤ z → z <ℤ pos m → nat_abs z < m
+absolute_below (pos n) m h below = omega (arith, ints, below)
+absolute_below (negsuc n) m h below = absurd (omega (arith, ints, h))
+
+-- ---- numbers with a bias
+
+signed_is : (k h n : ℕ) → 2 ^ (8 * k - 1) ≡ h → 2 ^ (8 * k) ≡ 2 * h → n < 2 * h → twos_complement k n ≡ pos ((n + h) % (2 * h)) -ℤ pos h
+signed_is k h n half whole below =
+    elim (cases_lt n h) [
+      | inl lt ↦
+          (let sum : n + h ≡ 0 * (2 * h) + (n + h) = omega arith in
+          let m : (n + h) % (2 * h) ≡ n + h = ap (λ x. x % (2 * h)) sum ∙ mod-mul-add 0 (2 * h) (n + h) (omega (arith, lt)) in
+          let plain : twos_complement k n ≡ pos n =
+          ap (λ x. if nat_lt n x then pos n else pos n -ℤ pos (2 ^ (8 * k))) half ∙ ap (λ (b : Bool). if b then pos n else pos n -ℤ pos (2 ^ (8 * k))) (lt-ltb n h lt) in
+          let same : pos n ≡ pos (n + h) -ℤ pos h = omega (arith, ints) in
+          plain ∙ same ∙ ap (λ x. pos x -ℤ pos h) (sym m))
+      | inr le ↦
+          (let sum : n + h ≡ 1 * (2 * h) + (n - h) = omega (arith, le) in
+          let m : (n + h) % (2 * h) ≡ n - h = ap (λ x. x % (2 * h)) sum ∙ mod-mul-add 1 (2 * h) (n - h) (omega (arith, le, below)) in
+          let wrapped : twos_complement k n ≡ pos n -ℤ pos (2 * h) =
+          ap (λ x. if nat_lt n x then pos n else pos n -ℤ pos (2 ^ (8 * k))) half ∙ ap (λ (b : Bool). if b then pos n else pos n -ℤ pos (2 ^ (8 * k))) (le-ltb n h le)
+          ∙ ap (λ x. pos n -ℤ pos x) whole in
+          let same : pos n -ℤ pos (2 * h) ≡ pos (n - h) -ℤ pos h = omega (arith, ints, le) in
+          wrapped ∙ same ∙ ap (λ x. pos x -ℤ pos h) (sym m))
+    ]
+
+unsigned_is : (p n : ℕ) → n < p → pos n ≡ pos ((n + 0) % p) -ℤ pos 0
+unsigned_is p n below =
+    let sum : n + 0 ≡ 0 * p + n = omega arith in
+    let m : (n + 0) % p ≡ n = ap (λ x. x % p) sum ∙ mod-mul-add 0 p n below in
+    let same : pos n ≡ pos n -ℤ pos 0 = omega (arith, ints) in
+    same ∙ ap (λ x. pos x -ℤ pos 0) (sym m)
+
+moved_is : (t : IntegerType) (n : ℕ) → n < 256 ^ width_of t → integer_of (width_of t) t.signed n ≡ pos ((n + bias_in t) % 256 ^ width_of t) -ℤ pos (bias_in t)
+moved_is t n = by t.width t.signed
+  where
+    by : (w : BitWidth) (s : Bool) → n < 256 ^ (bits_of w / 8)
+        → integer_of (bits_of w / 8) s n ≡ pos ((n + (if s then 256 ^ (bits_of w / 8) / 2 else 0)) % 256 ^ (bits_of w / 8)) -ℤ pos (if s then 256 ^ (bits_of w / 8) / 2 else 0)
+    by Eight true h = signed_is 1 (2 ^ 7) n refl refl h
+    by Sixteen true h = signed_is 2 (2 ^ 15) n refl refl h
+    by ThirtyTwo true h = signed_is 4 (2 ^ 31) n refl refl h
+    by SixtyFour true h = signed_is 8 (2 ^ 63) n refl refl h
+    by w false h = unsigned_is (256 ^ (bits_of w / 8)) n h
+
+bias_fits : (t : IntegerType) → bias_in t < 256 ^ width_of t
+bias_fits t = by t.width t.signed
+  where
+    by : (w : BitWidth) (s : Bool) → (if s then 256 ^ (bits_of w / 8) / 2 else 0) < 256 ^ (bits_of w / 8)
+    by Eight true = omega arith
+    by Sixteen true = omega arith
+    by ThirtyTwo true = omega arith
+    by SixtyFour true = omega arith
+    by Eight false = omega arith
+    by Sixteen false = omega arith
+    by ThirtyTwo false = omega arith
+    by SixtyFour false = omega arith
+
+-- ---- orders
+
+abbrev three : (b e a : Bool) (m key : ℕ) → Bool
+three b e a m key = if nat_lt m key then b else if m == key then e else a
+
+ordered : (o : Operator) (z literal : ℤ) (m key bias : ℕ) → z ≡ pos m -ℤ pos bias → pos key ≡ literal +ℤ pos bias
+    → three (accepts o Less) (accepts o Equal) (accepts o Greater) m key ≡ accepts o (int_cmp z literal)
+ordered o z literal m key bias z_is key_is =
+    let b = accepts o Less in let e = accepts o Equal in let a = accepts o Greater in
+    elim (cases_lt m key) [
+      | inl lt ↦
+          (let less : z <ℤ literal = omega (arith, ints, lt, z_is, key_is) in
+          ap (λ (t : Bool). if t then b else if m == key then e else a) (lt-ltb m key lt) ∙ ap (accepts o) (int_cmp_is z literal Less less))
+      | inr le ↦
+          ap (λ (t : Bool). if t then b else if m == key then e else a) (le-ltb m key le)
+          ∙ elim (cases_lt key m) [
+            | inl lt ↦
+                (let more : literal <ℤ z = omega (arith, ints, lt, z_is, key_is) in
+                let other : m ≢ key = omega (arith, lt) in
+                ap (λ (t : Bool). if t then e else a) (ne_eqb m key other) ∙ ap (accepts o) (int_cmp_is z literal Greater more))
+            | inr ge ↦
+                (let same : z ≡ literal = omega (arith, ints, le, ge, z_is, key_is) in
+                let one : m ≡ key = omega (arith, le, ge) in
+                ap (λ (t : Bool). if t then e else a) (eq-eqb m key one) ∙ ap (accepts o) (int_cmp_is z literal Equal same))
+          ]
+    ]
+
+alike : (x s t : Bool) → (if s then x else if t then x else x) ≡ x
+alike x true t = refl
+alike x false true = refl
+alike x false false = refl
+
+-- with a key
+pub cut_is : (t : IntegerType) (o : Operator) (literal : ℤ) (cut : Cut) (half : ℕ) → cut.bias ≡ bias_in t → 2 * half ≡ 256 ^ width_of t → pos cut.key ≡ literal +ℤ pos cut.bias → cut.key < 2 * half
+    → cut.below ≡ accepts o Less → cut.equal ≡ accepts o Equal → cut.above ≡ accepts o Greater → IsCut t o literal cut
+cut_is t o literal cut half bias whole key fits below equal above = record {
+  bias = omega (arith, bias, bias_fits t);
+  key = omega (arith, whole, fits);
+  answers = λ n h.
+      let m = moved cut (width_of t) n in
+      let z_is : integer_of (width_of t) t.signed n ≡ pos m -ℤ pos cut.bias = moved_is t n h ∙ ap (λ b. pos ((n + b) % 256 ^ width_of t) -ℤ pos b) (sym bias) in
+      ap (λ (x : Bool). three x cut.equal cut.above m cut.key) below
+      ∙ ap (λ (x : Bool). three (accepts o Less) x cut.above m cut.key) equal
+      ∙ ap (λ (x : Bool). three (accepts o Less) (accepts o Equal) x m cut.key) above
+      ∙ ordered o (integer_of (width_of t) t.signed n) literal m cut.key cut.bias z_is key;
+}
+
+-- where all numbers stand alike to the literal
+pub same_cut_is : (t : IntegerType) (o : Operator) (literal : ℤ) (cut : Cut) (half : ℕ) (order : Ordering) → cut.bias ≡ bias_in t → 2 * half ≡ 256 ^ width_of t → cut.key ≡ 0
+    → ((n : ℕ) → n < 2 * half → int_cmp (pos n -ℤ pos cut.bias) literal ≡ order) → cut.below ≡ accepts o order → cut.equal ≡ accepts o order → cut.above ≡ accepts o order → IsCut t o literal cut
+same_cut_is t o literal cut half order bias whole key all below equal above = record {
+  bias = omega (arith, bias, bias_fits t);
+  key = omega (arith, key, bias_fits t);
+  answers = λ n h.
+      let m = moved cut (width_of t) n in
+      let fits : m < 2 * half = omega (arith, whole, mod_below (n + cut.bias) (256 ^ width_of t) (omega (arith, h))) in
+      let z_is : integer_of (width_of t) t.signed n ≡ pos m -ℤ pos cut.bias = moved_is t n h ∙ ap (λ b. pos ((n + b) % 256 ^ width_of t) -ℤ pos b) (sym bias) in
+      ap (λ (x : Bool). three x cut.equal cut.above m cut.key) below
+      ∙ ap (λ (x : Bool). three (accepts o order) x cut.above m cut.key) equal
+      ∙ ap (λ (x : Bool). three (accepts o order) (accepts o order) x m cut.key) above
+      ∙ alike (accepts o order) (nat_lt m cut.key) (m == cut.key)
+      ∙ ap (accepts o) (sym (all m fits) ∙ ap (λ (z : ℤ). int_cmp z literal) (sym z_is));
+}
+
+-- ---- slots
+
+little_below : (n i : ℕ) (bytes : List ℕ) → ((j : ℕ) → get_or bytes j 0 < 256) → little_from i n bytes < 256 ^ n
+little_below zero i bytes fit = omega arith
+little_below (suc n) i bytes fit =
+    let power : 256 ^ suc n ≡ 256 ^ n * 256 = pow-suc 256 n in
+    omega (arith, power, fit i, little_below n (suc i) bytes fit)
+
+number_below : (k i : ℕ) (values : List ℕ) → ((j : ℕ) → get_or values j 0 < 256) → number_at k values i < 256 ^ k
+number_below k i values fit = little_below k 0 (drop (i * k) values) (λ j. omega (arith, fit (i * k + j), get_or-drop (i * k) values j 0))
+
+maps_same : {X Y : Type 0} (f g : X → Y) → ((x : X) → f x ≡ g x) → (xs : List X) → map f xs ≡ map g xs
+maps_same f g h [] = refl
+maps_same {X} {Y} f g h (x ∷ xs) = ap (λ (y : Y). y ∷ map f xs) (h x) ∙ ap (λ (ys : List Y). g x ∷ ys) (maps_same f g h xs)
+
+-- what is answered of slots of which none is null
+pub answers_hold : (c : Comparison) (cut : Cut) (validity values : List ℕ) (first n : ℕ) → IsCut c.integer c.operator c.literal cut → length validity ≡ 0 → ((j : ℕ) → get_or values j 0 < 256)
+    → map (answer_at cut (width_of c.integer) values) (range_with_len first n) ≡ map (holds_in c validity values) (range_with_len first n)
+answers_hold c cut validity values first n is none fit =
+    maps_same (answer_at cut (width_of c.integer) values) (holds_in c validity values)
+    (λ i. is.answers (number_at (width_of c.integer) values i) (number_below (width_of c.integer) i values fit)
+    ∙ ap (λ (b : Bool). (b || bit validity i) && accepts c.operator (int_cmp (integer_of (width_of c.integer) c.integer.signed (number_at (width_of c.integer) values i)) c.literal)) (sym (eq-eqb (length validity) 0 none)))
+    (range_with_len first n)

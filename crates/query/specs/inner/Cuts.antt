@@ -1,0 +1,38 @@
+-- Comparisons of numbers with a key.
+use Rattle.std.specs.Prelude.{◌≡◌, ℕ, ℤ, ◌+◌, ◌/◌, ◌%◌, ◌^◌, ◌<◌, Bool, nat_lt, ◌==◌, List, if◌then◌else◌}
+use Rattle.std.specs.Ordering.{int_cmp}
+use Rattle.arrow_schema.specs.View.{bits_of}
+use Rattle.arrow_schema.specs.declared.types.BitWidth.{BitWidth}
+use Rattle.arrow_schema.specs.declared.types.IntegerType.{IntegerType}
+use Rattle.cells.specs.Integers.{integer_of}
+use Rattle.columns.specs.CellAt.{number_at}
+use Rattle.query.specs.declared.cut.Cut.{Cut}
+use Rattle.query.specs.declared.operator.Operator.{Operator}
+use Rattle.query.specs.Bound.{accepts}
+use Rattle.query.specs.inner.Slots.{width_of}
+
+-- how many integers of a width 64 bytes hold
+abbrev pub block_slots : BitWidth → ℕ
+block_slots width = 512 / bits_of width
+
+-- what makes 0 of the least integer of a type
+abbrev pub bias_in : IntegerType → ℕ
+bias_in t = if t.signed then 256 ^ width_of t / 2 else 0
+
+-- what is answered of a number to which the bias was added
+abbrev pub answer : Cut → ℕ → Bool
+answer cut n = if nat_lt n cut.key then cut.below else if n == cut.key then cut.equal else cut.above
+
+-- a number with the bias, in so many bytes
+abbrev pub moved : Cut → (width : ℕ) → ℕ → ℕ
+moved cut width n = (n + cut.bias) % 256 ^ width
+
+-- what is answered of a slot of numbers
+abbrev pub answer_at : Cut → (width : ℕ) → List ℕ → ℕ → Bool
+answer_at cut width values i = answer cut (moved cut width (number_at width values i))
+
+-- the answers are those of a comparison with a literal
+pub record IsCut (t : IntegerType) (o : Operator) (literal : ℤ) (cut : Cut) : Type 0 where
+  pub bias : cut.bias < 256 ^ width_of t
+  pub key : cut.key < 256 ^ width_of t
+  pub answers : (n : ℕ) → n < 256 ^ width_of t → answer cut (moved cut (width_of t) n) ≡ accepts o (int_cmp (integer_of (width_of t) t.signed n) literal)

@@ -1,0 +1,110 @@
+// Answers of the integers in 64 bytes at once.
+ghost use Rattle.std.specs.Prelude.{◌≡◌, ◌≤◌, ◌<◌, ◌+◌, ◌*◌, ◌/◌, ◌^◌, length, map};
+ghost use Rattle.std.specs.List.{range_with_len};
+ghost use Rattle.std.specs.Simd.Lanes.{mask_l};
+ghost use Rattle.arrow_schema.specs.View.{bits_of};
+ghost use Rattle.query.specs.inner.Cuts.{answer_at, block_slots};
+
+use crate::cut::Cut;
+use arrow_schema::BitWidth;
+use std::simd::prelude::*;
+
+/// How many integers of a width 64 bytes hold.
+pub(crate) fn slots_in_block(width: BitWidth) -> usize
+    ensures value { result ≡ block_slots width }
+    ensures size { result * (bits_of width / 8) ≡ 64 }
+    ensures some { 0 < result }
+    ensures most { result ≤ 64 }
+{
+    match width {
+        BitWidth::Eight => 64,
+        BitWidth::Sixteen => 32,
+        BitWidth::ThirtyTwo => 16,
+        BitWidth::SixtyFour => 8,
+    }
+}
+
+/// A bit for each slot of a block, from a slot on.
+pub(crate) fn answers_of_block(width: BitWidth, cut: Cut, values: &[u8], first: usize) -> u64
+    requires room { (first + block_slots width) * (bits_of width / 8) ≤ length values.now }
+    requires bias { cut.bias < 256 ^ (bits_of width / 8) }
+    requires key { cut.key < 256 ^ (bits_of width / 8) }
+    ensures { result ≡ mask_l (map (answer_at cut (bits_of width / 8) values.now) (range_with_len first (block_slots width))) }
+{
+    match width {
+        BitWidth::Eight => of_8_bits(cut, values, first),
+        BitWidth::Sixteen => of_16_bits(cut, values, first),
+        BitWidth::ThirtyTwo => of_32_bits(cut, values, first),
+        BitWidth::SixtyFour => of_64_bits(cut, values, first),
+    }
+}
+
+// A bit for each of 16 numbers of 32 bits from a slot on.
+fn of_32_bits(cut: Cut, values: &[u8], first: usize) -> u64
+    requires room { 4 * (first + 16) ≤ length values.now }
+    requires bias { cut.bias < 2 ^ 32 }
+    requires key { cut.key < 2 ^ 32 }
+    ensures { result ≡ mask_l (map (answer_at cut 4 values.now) (range_with_len first 16)) }
+{
+    let bias = u32x16::splat(cut.bias as u32);
+    let key = u32x16::splat(cut.key as u32);
+    let numbers = u32x16::from_le_bytes(u8x64::from_slice(&values[4 * first..])) + bias;
+    let below = u32x16::splat(u32::from(cut.below));
+    let equal = u32x16::splat(u32::from(cut.equal));
+    let above = u32x16::splat(u32::from(cut.above));
+    let others = numbers.simd_eq(key).select(equal, above);
+    let answers = numbers.simd_lt(key).select(below, others);
+    answers.simd_eq(u32x16::splat(1)).to_bitmask()
+}
+
+// The same of 8 numbers of 64 bits.
+fn of_64_bits(cut: Cut, values: &[u8], first: usize) -> u64
+    requires { 8 * (first + 8) ≤ length values.now }
+    ensures { result ≡ mask_l (map (answer_at cut 8 values.now) (range_with_len first 8)) }
+{
+    let bias = u64x8::splat(cut.bias);
+    let key = u64x8::splat(cut.key);
+    let numbers = u64x8::from_le_bytes(u8x64::from_slice(&values[8 * first..])) + bias;
+    let below = u64x8::splat(u64::from(cut.below));
+    let equal = u64x8::splat(u64::from(cut.equal));
+    let above = u64x8::splat(u64::from(cut.above));
+    let others = numbers.simd_eq(key).select(equal, above);
+    let answers = numbers.simd_lt(key).select(below, others);
+    answers.simd_eq(u64x8::splat(1)).to_bitmask()
+}
+
+// The same of 32 numbers of 16 bits.
+fn of_16_bits(cut: Cut, values: &[u8], first: usize) -> u64
+    requires room { 2 * (first + 32) ≤ length values.now }
+    requires bias { cut.bias < 2 ^ 16 }
+    requires key { cut.key < 2 ^ 16 }
+    ensures { result ≡ mask_l (map (answer_at cut 2 values.now) (range_with_len first 32)) }
+{
+    let bias = u16x32::splat(cut.bias as u16);
+    let key = u16x32::splat(cut.key as u16);
+    let numbers = u16x32::from_le_bytes(u8x64::from_slice(&values[2 * first..])) + bias;
+    let below = u16x32::splat(u16::from(cut.below));
+    let equal = u16x32::splat(u16::from(cut.equal));
+    let above = u16x32::splat(u16::from(cut.above));
+    let others = numbers.simd_eq(key).select(equal, above);
+    let answers = numbers.simd_lt(key).select(below, others);
+    answers.simd_eq(u16x32::splat(1)).to_bitmask()
+}
+
+// The same of 64 numbers of 8 bits.
+fn of_8_bits(cut: Cut, values: &[u8], first: usize) -> u64
+    requires room { first + 64 ≤ length values.now }
+    requires bias { cut.bias < 2 ^ 8 }
+    requires key { cut.key < 2 ^ 8 }
+    ensures { result ≡ mask_l (map (answer_at cut 1 values.now) (range_with_len first 64)) }
+{
+    let bias = u8x64::splat(cut.bias as u8);
+    let key = u8x64::splat(cut.key as u8);
+    let numbers = u8x64::from_slice(&values[first..]) + bias;
+    let below = u8x64::splat(u8::from(cut.below));
+    let equal = u8x64::splat(u8::from(cut.equal));
+    let above = u8x64::splat(u8::from(cut.above));
+    let others = numbers.simd_eq(key).select(equal, above);
+    let answers = numbers.simd_lt(key).select(below, others);
+    answers.simd_eq(u8x64::splat(1)).to_bitmask()
+}

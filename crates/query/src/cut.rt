@@ -1,0 +1,96 @@
+// Answers of a comparison by the order of numbers to a key.
+ghost use Rattle.std.specs.Prelude.{◌≡◌, ℕ, ◌<◌, ◌≤◌, ◌*◌, ◌/◌, ◌^◌, ◌+ℤ◌, ◌-ℤ◌, ◌<ℤ◌, ◌≤ℤ◌, pos, MatchResult};
+ghost use Rattle.std.specs.Ordering.{int_cmp};
+ghost use Rattle.arrow_schema.specs.View.{bits_of};
+ghost use Rattle.query.specs.inner.Slots.{width_of};
+ghost use Rattle.query.specs.inner.Cuts.{bias_in, IsCut};
+
+use crate::operator::{Operator, accepts};
+use arrow_schema::{BitWidth, IntegerType};
+use std::cmp::Ordering;
+
+/// What is answered of a number by its order to a key. The bias is added to each number first, and makes 0 of the least.
+#[derive(Clone, Copy, Debug)]
+pub(crate) struct Cut {
+    pub(crate) bias: u64,
+    pub(crate) key: u64,
+    pub(crate) below: bool,
+    pub(crate) equal: bool,
+    pub(crate) above: bool,
+}
+
+// Half of how many numbers a width has.
+fn half(width: BitWidth) -> u64
+    ensures half { result ≡ 256 ^ (bits_of width / 8) / 2 }
+    ensures whole { 2 * result ≡ 256 ^ (bits_of width / 8) }
+    ensures most { result ≤ 2 ^ 63 }
+{
+    match width {
+        BitWidth::Eight => 0x80,
+        BitWidth::Sixteen => 0x8000,
+        BitWidth::ThirtyTwo => 0x8000_0000,
+        BitWidth::SixtyFour => 0x8000_0000_0000_0000,
+    }
+}
+
+fn bias_of(integer: IntegerType) -> u64
+    ensures { result ≡ bias_in integer }
+{
+    if integer.signed {
+        half(integer.width)
+    } else {
+        0
+    }
+}
+
+fn unsigned(number: i128) -> u64
+    requires least { pos 0 ≤ℤ number }
+    requires most { number <ℤ pos (2 ^ 64) }
+    ensures { pos result ≡ number }
+{
+    number as u64
+}
+
+// The key of a literal, or how all numbers stand to it.
+fn key_of(literal: i128, bias: u64, half: u64) -> Result<u64, Ordering>
+    requires { half ≤ 2 ^ 63 }
+    ensures { MatchResult result (λ key. (pos key ≡ literal +ℤ pos bias) × (key < 2 * half)) (λ order. (n : ℕ) → n < 2 * half → int_cmp (pos n -ℤ pos bias) literal ≡ order) }
+{
+    let least = -i128::from(bias);
+    let end = least + 2 * i128::from(half);
+    if literal < least {
+        return Err(Ordering::Greater);
+    }
+    if literal >= end {
+        return Err(Ordering::Less);
+    }
+    Ok(unsigned(literal + i128::from(bias)))
+}
+
+impl Cut {
+    /// The answers of a comparison of integers with a literal.
+    pub(crate) fn of(integer: IntegerType, operator: Operator, literal: i128) -> Cut
+        ensures { IsCut integer operator literal result }
+    {
+        let bias = bias_of(integer);
+        match key_of(literal, bias, half(integer.width)) {
+            Ok(key) => Cut {
+                bias,
+                key,
+                below: accepts(operator, Ordering::Less),
+                equal: accepts(operator, Ordering::Equal),
+                above: accepts(operator, Ordering::Greater),
+            },
+            Err(order) => {
+                let answer = accepts(operator, order);
+                Cut {
+                    bias,
+                    key: 0,
+                    below: answer,
+                    equal: answer,
+                    above: answer,
+                }
+            }
+        }
+    }
+}
