@@ -1,9 +1,13 @@
 //! The program `arrowstore`: hands the process's arguments and streams to the library of that name, and exits with its status.
+//! On a terminal it tells meanwhile how much of a long input was read.
 //!
 //! Status 0 is done, 1 refused, with a line `refused CODE NAME ..` on standard error, and 2 wrong arguments.
 #![tactic(auto)]
 
+mod progress;
+
 use arrowstore::{Audience, report_unreadable_arguments, run_with_files};
+use progress::ProgressReader;
 use std::process::ExitCode;
 use std::{env, io};
 
@@ -14,7 +18,7 @@ fn main(rt: HostRuntime) -> ExitCode {
         Ok(arguments) => run_with_files(
             &rt,
             arguments.as_slice(),
-            &mut rt.reader(),
+            &mut ProgressReader::new(&rt, rt.reader(), rt.stderr(), audience),
             &mut rt.stdout(),
             &mut rt.stderr(),
             audience,
