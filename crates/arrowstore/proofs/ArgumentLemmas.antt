@@ -342,6 +342,7 @@ as_kinds : (arguments : List Text) (kinds : Kinds) → fault_of program_command 
 as_kinds arguments kinds e judged = subst (Judged arguments) (sym e) judged
 
 judged_recode : (name : Text) (rest : List Text) → LeafReads rest → Judged (name ∷ codes "recode" ∷ rest) (or_else (leaf_fault rest) [])
+unfolding AreRecode
 judged_recode name rest (nothing ended is) = subst (λ (ks : Kinds). Judged (name ∷ codes "recode" ∷ rest) (or_else ks [])) (sym is) (record {
   right = λ h. elim ended [
     | inl none ↦ (name, inl (ap (λ (ws : List Text). name ∷ codes "recode" ∷ ws) none))

@@ -11,9 +11,9 @@ use Rattle.clap.specs.declared.parser.matches.ArgMatches.TheViews.{out-ArgMatche
 use Rattle.clap.specs.declared.parser.matches.SubCommand.{SubCommand}
 use Rattle.clap.proofs.OnLiterals.{clap_on_literals}
 use Rattle.arrowstore.specs.Arguments.{program_command, AreRecode, AskForHelp}
-use Rattle.arrowstore.specs.declared.status.Status.{Status}
-use Rattle.arrowstore.specs.declared.status.Status.TheVariants.{Done}
-use Rattle.arrowstore.specs.Reported.{IsRequest, IsWrong, status_code}
+use Rattle.program_texts.specs.declared.status.Status.{Status}
+use Rattle.program_texts.specs.declared.status.Status.TheVariants.{Done}
+use Rattle.program_texts.specs.Reported.{IsRequest, IsWrong, status_code}
 use Rattle.arrowstore.proofs.ArgumentLemmas.{judged, is_help, is_version}
 
 recode_taken : (name : Text) → takes program_command (name ∷ codes "recode" ∷ []) ≡ true
@@ -25,6 +25,7 @@ unfolding clap_on_literals
 ended_taken name = refl
 
 right_taken : (arguments : List Text) → AreRecode arguments → takes program_command arguments ≡ true
+unfolding AreRecode
 right_taken arguments are = elim are.1 [ inl e ↦ ap (takes program_command) e ∙ recode_taken are.0 | inr e ↦ ap (takes program_command) e ∙ ended_taken are.0 ]
 
 abbrev command_in : List Text → Option Text
@@ -39,6 +40,7 @@ unfolding clap_on_literals
 ended_entered name = refl
 
 right_entered : (arguments : List Text) → AreRecode arguments → command_in arguments ≡ Some (codes "recode")
+unfolding AreRecode
 right_entered arguments are = elim are.1 [ inl e ↦ ap command_in e ∙ recode_entered are.0 | inr e ↦ ap command_in e ∙ ended_entered are.0 ]
 
 program_simple : is_simple program_command ≡ true

@@ -1,6 +1,3 @@
 mod ArgumentLemmas
 mod CommandLemmas
-mod GivenLemmas
-mod ChangingLemmas
-mod ReadingLemmas
-mod TextLemmas
+mod WordLemmas

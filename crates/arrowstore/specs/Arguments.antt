@@ -11,7 +11,7 @@ abbrev pub program_command : App
 program_command = with_subcommand (record { top = record (new_app (codes "arrowstore")).top { subcommand_required = true }; subs = [] }) recode_command.top
 
 -- the program's name, whatever it is, and `recode`; a `--` may end the arguments
-abbrev pub AreRecode : List Text → Type 0
+unfoldable pub AreRecode : List Text → Type 0
 AreRecode arguments =
     (name : Text) × ((arguments ≡ name ∷ codes "recode" ∷ []) ⊎ (arguments ≡ name ∷ codes "recode" ∷ codes "--" ∷ []))
 

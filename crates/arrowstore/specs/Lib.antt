@@ -1,14 +1,2 @@
-pub mod Given
-pub mod Recode
-pub mod Remedies
-pub mod Reported
-pub mod Told
 pub mod Arguments
-pub mod OwnTexts
-pub mod StoreWords
-pub mod Printed
-pub mod Changing
-pub mod TextRows
-pub mod Selecting
-pub mod Reading
-pub mod Ending
+pub mod Running

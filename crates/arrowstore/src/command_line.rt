@@ -3,7 +3,7 @@ ghost use Rattle.std.specs.Prelude.{◌≡◌, map, codes, Some, IfOk, IfErr, On
 ghost use Rattle.clap.specs.Words.{app_of, kind_of, subcommand_name_of};
 ghost use Rattle.clap.specs.declared.error.kind.ErrorKind.TheVariants.{OutOfMemory};
 ghost use Rattle.arrowstore.specs.Arguments.{program_command, AreRecode, AskForHelp};
-ghost use Rattle.arrowstore.specs.Reported.{IsRequest};
+ghost use Rattle.program_texts.specs.Reported.{IsRequest};
 
 use clap::{ArgMatches, Command, Error};
 use std::alloc::{AllocError, Global};

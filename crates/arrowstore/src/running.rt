@@ -2,19 +2,19 @@
 ghost use Rattle.std.specs.Prelude.{◌≡◌, ◌⊎◌, true, map, None};
 ghost use Rattle.std.specs.Io.KnownBytes.{Appends};
 ghost use Rattle.arrowstore.specs.Arguments.{AreRecode, AskForHelp};
-ghost use Rattle.arrowstore.specs.Ending.{Recodes, GivesText, HasReported};
-ghost use Rattle.arrowstore.specs.OwnTexts.{is_own, own_text};
-ghost use Rattle.arrowstore.specs.Reported.{IsWrong};
-ghost use Rattle.arrowstore.specs.Told.{told};
-ghost use Rattle.arrowstore.specs.declared.status.Status.TheVariants.{Done};
+ghost use Rattle.arrowstore.specs.Running.{Recodes};
+ghost use Rattle.program_texts.specs.Ending.{GivesText, HasReported};
+ghost use Rattle.program_texts.specs.OwnTexts.{is_own, own_text};
+ghost use Rattle.program_texts.specs.Reported.{IsWrong};
+ghost use Rattle.program_texts.specs.Told.{told};
+ghost use Rattle.program_texts.specs.declared.status.Status.TheVariants.{Done};
 
 use crate::command_line::{Action, action_of};
-use crate::own_texts::{is_own, write_own_text};
-use crate::reports::{end, report_arguments};
-use crate::{Audience, Ended, recode};
+use program_texts::{Audience, Ended, end, is_own, report_arguments, write_own_text};
 use std::alloc::Global;
 use std::convert::AsStr;
 use std::io::{Read, Write};
+use store_commands::recode;
 
 /// Does what the arguments ask for, of which the first is the program's name, and reports on `errors` why not.
 pub fn run<S: AsStr, R: Read, W: Write, E: Write>(

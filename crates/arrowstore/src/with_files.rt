@@ -2,25 +2,24 @@
 ghost use Rattle.std.specs.Prelude.{◌≡◌, ◌⊎◌, true, map, Option, None};
 ghost use Rattle.std.specs.Io.KnownBytes.{Appends};
 ghost use Rattle.arrowstore.specs.Arguments.{AreRecode, AskForHelp};
-ghost use Rattle.arrowstore.specs.Ending.{Recodes, GivesText, HasReported};
-ghost use Rattle.arrowstore.specs.OwnTexts.{is_own, own_text};
-ghost use Rattle.arrowstore.specs.StoreWords.{is_of_store, takes_input};
-ghost use Rattle.arrowstore.specs.Reported.{IsWrong};
-ghost use Rattle.arrowstore.specs.Told.{told};
-ghost use Rattle.arrowstore.specs.declared.status.Status.TheVariants.{Done};
-ghost use Rattle.arrowstore.specs.declared.telling.Word.{Word};
+ghost use Rattle.arrowstore.specs.Running.{Recodes};
+ghost use Rattle.program_texts.specs.Ending.{GivesText, HasReported};
+ghost use Rattle.program_texts.specs.OwnTexts.{is_own, own_text};
+ghost use Rattle.store_requests.specs.StoreWords.{is_of_store, takes_input};
+ghost use Rattle.program_texts.specs.Reported.{IsWrong};
+ghost use Rattle.program_texts.specs.Told.{told};
+ghost use Rattle.program_texts.specs.declared.status.Status.TheVariants.{Done};
+ghost use Rattle.command_refusals.specs.declared.refused_word.Word.{Word};
 
-use crate::naming::refused_word;
-use crate::reports::{end, report_arguments, report_signed_number};
-use crate::store_command_line::{Mistake, request_of};
-use crate::store_commands::serve;
-use crate::store_words::{StoreRequest, is_of_store, takes_input};
-use crate::{Audience, Ended, run};
+use crate::run;
+use crate::serving::serve;
+use program_texts::{Audience, Ended, end, report_arguments, report_signed_number};
 use sector_dev::LockFile;
 use std::convert::AsStr;
 use std::fs::OpenFile;
 use std::io::{self, Read, Seek, Write};
 use std::rt::Files;
+use store_requests::{Mistake, StoreRequest, is_of_store, refused_word, request_of, takes_input};
 
 // A command of a store, of which a word is named where it is refused.
 fn serve_and_tell<
@@ -100,7 +99,7 @@ fn run_on_store<
 
 /// Does what the arguments ask for, of which the first is the program's name, also on the files of stores, and reports
 /// on `errors` why not.
-#[tactic(auto, unfolding(crate::specs::StoreWords::is_store_word, crate::specs::StoreWords::changes_word, crate::specs::StoreWords::reads_word))]
+#[tactic(auto, using(crate::proofs::WordLemmas::recode_of_no_store, crate::proofs::WordLemmas::own_of_no_store))]
 pub fn run_with_files<
     F: Read + Write + Seek + OpenFile + LockFile + Drop,
     H: Files<File = F> + AllocGlobal,

@@ -4,4 +4,5 @@ pub mod Flat
 pub mod Rows
 pub mod Records
 pub mod Objects
+pub mod Form
 pub mod inner

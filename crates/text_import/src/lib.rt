@@ -1,6 +1,6 @@
 //! Rows of texts: CSV and JSON Lines, under a schema.
 //!
-//! [`csv_rows`] and [`jsonl_rows`] answer the rows of a text, or the first refusal with the number of its record. Which
+//! [`csv_rows`] and [`jsonl_rows`] (or [`rows_in`], of either form) answer the rows of a text, or the first refusal with the number of its record. Which
 //! records a text has is the word of the crate `csv`, and which values its lines have that of `serde_json`; what becomes
 //! of them, cell by cell, is stated in `specs/` and promised exactly, for every text.
 //!
@@ -14,6 +14,7 @@
 #![tactic(auto)]
 
 mod flat;
+mod form;
 mod jsonl;
 mod laws;
 mod objects;
@@ -22,6 +23,7 @@ mod refusal;
 mod rows;
 mod texts;
 
+pub use form::{TextForm, rows_in};
 pub use jsonl::jsonl_rows;
 pub use laws::rows_of_texts_are_rows;
 pub use records::csv_rows;

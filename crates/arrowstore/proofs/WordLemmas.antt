@@ -1,0 +1,38 @@
+-- Which command lines are for a store: none that asks for `recode`, or for a text of the program's own.
+use Rattle.std.proofs.Common.{◌≡◌, ◌∙◌, Bool, true, false, List, [], ◌∷◌, codes, refl, ap, sym, subst, inl, inr, true≢false}
+use Rattle.std.specs.Str.{bytes_eq}
+use Rattle.std.proofs.lemmas.Slice.Eq.{bytes_eq-Decides}
+use Rattle.clap.specs.Words.{Text}
+use Rattle.arrowstore.specs.Arguments.{AreRecode}
+use Rattle.program_texts.specs.OwnTexts.{is_own, asks_version, asks_refusals, is_version_word, is_refusals_topic}
+use Rattle.store_requests.specs.StoreWords.{is_of_store, is_store_word, changes_word, reads_word, takes_input_word, reads_table_word}
+
+recode_of_none : (name : Text) (rest : List Text) → is_of_store (name ∷ codes "recode" ∷ rest) ≡ false
+unfolding is_of_store is_store_word changes_word reads_word takes_input_word reads_table_word
+recode_of_none name rest = refl
+
+pub recode_of_no_store : (arguments : List Text) → AreRecode arguments → is_of_store arguments ≡ false
+unfolding AreRecode
+recode_of_no_store arguments are = elim are.1 [
+  | inl alone ↦ ap is_of_store alone ∙ recode_of_none are.0 []
+  | inr ended ↦ ap is_of_store ended ∙ recode_of_none are.0 (codes "--" ∷ [])
+]
+
+-- a word that is another one
+same_of_none : (other word : Text) (name : Text) (rest : List Text) → bytes_eq other word ≡ true → is_of_store (name ∷ other ∷ rest) ≡ false → is_of_store (name ∷ word ∷ rest) ≡ false
+same_of_none other word name rest same none = subst (λ (w : Text). is_of_store (name ∷ w ∷ rest) ≡ false) ((bytes_eq-Decides other word).0 same) none
+
+own_word_of_none : (name word : Text) (rest : List Text) (long short help : Bool) → bytes_eq (codes "--version") word ≡ long → bytes_eq (codes "-V") word ≡ short → bytes_eq (codes "help") word ≡ help
+    → is_own (name ∷ word ∷ rest) ≡ true → is_of_store (name ∷ word ∷ rest) ≡ false
+unfolding is_own asks_version asks_refusals is_version_word is_refusals_topic is_of_store is_store_word changes_word reads_word takes_input_word reads_table_word
+own_word_of_none name word rest true short help l s h own = same_of_none (codes "--version") word name rest l refl
+own_word_of_none name word rest false true help l s h own = same_of_none (codes "-V") word name rest s refl
+own_word_of_none name word rest false false true l s h own = same_of_none (codes "help") word name rest h refl
+own_word_of_none name word rest false false false l s h own = absurd (true≢false (sym own ∙ rw (l, s, h) refl))
+
+pub own_of_no_store : (arguments : List Text) → is_own arguments ≡ true → is_of_store arguments ≡ false
+unfolding is_own asks_version asks_refusals is_version_word is_refusals_topic is_of_store
+own_of_no_store [] own = refl
+own_of_no_store (name ∷ []) own = refl
+own_of_no_store (name ∷ word ∷ rest) own =
+    own_word_of_none name word rest (bytes_eq (codes "--version") word) (bytes_eq (codes "-V") word) (bytes_eq (codes "help") word) refl refl refl own

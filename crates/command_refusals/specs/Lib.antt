@@ -1,0 +1,4 @@
+pub mod Refusals
+pub mod Remedies
+pub mod Page
+pub mod RefusedWord

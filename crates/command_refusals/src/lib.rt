@@ -1,0 +1,20 @@
+//! Why a command of the program was refused, as it is told: its text, what to do about it, and the word that is meant.
+//!
+//! A [`Refusal`] holds those of the layers below, which become one by `?`. Promised are its text (`specs/Refusals.antt`) and
+//! [`Refusal::remedy`], a sentence that stands on the page of all refusals ([`refusals_page`]) too.
+//!
+//! ```
+//! assert_eq!(format!(in alloc; "{}", Refusal::Store(tables::Refusal::NoRoom(1)))?, "S8 NoRoom 1");
+//! ```
+#![tactic(auto)]
+
+mod output;
+mod page;
+mod refusal;
+mod refused_word;
+mod remedies;
+
+pub use output::write_whole;
+pub use page::{REFUSALS, refusals_page};
+pub use refusal::Refusal;
+pub use refused_word::{Role, Word};

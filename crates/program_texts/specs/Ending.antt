@@ -1,0 +1,33 @@
+-- What a run of the program leaves on its output and on standard error.
+use Rattle.std.specs.Prelude.{◌≡◌, ℕ, List, Option, IsTrue}
+use Rattle.std.specs.Io.KnownBytes.{Appends}
+use Rattle.command_refusals.specs.declared.refusal.Refusal.{Refusal}
+use Rattle.command_refusals.specs.declared.refusal.Refusal.TheVariants.{Io, OutOfMemory}
+use Rattle.program_texts.specs.declared.status.Ended.{Ended}
+use Rattle.program_texts.specs.declared.status.Status.{Status}
+use Rattle.program_texts.specs.declared.status.Status.TheVariants.{Done, Refused, WrongArguments}
+use Rattle.program_texts.specs.Reported.{IfRefused}
+
+-- why a text of the program's own is not written: the output failed, or memory was refused
+abbrev pub IsOfOutput : Refusal → Type 0
+IsOfOutput Io = Unit {0}
+IsOfOutput OutOfMemory = Unit {0}
+IsOfOutput _ = ⊥
+
+-- a run that is asked for such a text gives it, unless its output fails or memory is refused
+abbrev pub GivesText : (given : Type 0) → Status → Type 0
+GivesText given Done = given
+GivesText given (Refused refusal) = IsOfOutput refusal
+GivesText given WrongArguments = ⊥
+
+-- what is told of a refusal, where standard error takes what it is given
+abbrev pub TellsRefusal : (tells : Refusal → List ℕ) → Ended → Option (List ℕ) → Option (List ℕ) → Type 0
+TellsRefusal tells ended errors errors' = IfRefused ended.status (λ refusal. IsTrue ended.is_reported → Appends errors errors' (tells refusal))
+
+-- a run that has ended, whatever it was asked for
+pub record HasReported {W E : Type 0} (contents : E → Option (List ℕ)) (tells : Refusal → List ℕ)
+    (output output' : W) (errors errors' : E) (ended : Ended) : Type 0 where
+  -- nothing is reported of what is done
+  pub silent : ended.status ≡ Done → errors' ≡ errors
+  pub nothing_written : ended.status ≡ WrongArguments → output' ≡ output
+  pub line : TellsRefusal tells ended (contents errors) (contents errors')

@@ -1,0 +1,4 @@
+pub mod Reported
+pub mod Told
+pub mod OwnTexts
+pub mod Ending

@@ -1,0 +1,35 @@
+-- How a run is reported to have ended.
+use Rattle.std.specs.Prelude.{◌≡◌, ◌⊎◌, ℕ, List, [], ◌∷◌, ◌++◌, codes}
+use Rattle.clap.specs.declared.error.kind.ErrorKind.{ErrorKind}
+use Rattle.clap.specs.declared.error.kind.ErrorKind.TheVariants as kinds
+use Rattle.command_refusals.specs.Refusals.{refusal_text}
+use Rattle.command_refusals.specs.declared.refusal.Refusal.{Refusal}
+use Rattle.command_refusals.specs.declared.refusal.Refusal.TheVariants.{OutOfMemory}
+use Rattle.program_texts.specs.declared.status.Status.{Status}
+use Rattle.program_texts.specs.declared.status.Status.TheVariants.{Done, Refused, WrongArguments}
+
+-- the line of a refusal on standard error
+unfoldable pub refusal_line : Refusal → List ℕ
+refusal_line refusal = codes "refused " ++ refusal_text refusal ++ 10 ∷ []
+
+-- the exit status
+abbrev pub status_code : Status → ℕ
+status_code Done = 0
+status_code (Refused refusal) = 1
+status_code WrongArguments = 2
+
+abbrev pub IfRefused : Status → (Refusal → Type 0) → Type 0
+IfRefused Done P = Unit {0}
+IfRefused (Refused refusal) P = P refusal
+IfRefused WrongArguments P = Unit {0}
+
+abbrev pub IsRefused : Status → Type 0
+IsRefused status = (refusal : Refusal) × (status ≡ Refused refusal)
+
+-- the arguments are reported as wrong, unless memory is out
+abbrev pub IsWrong : Status → Type 0
+IsWrong status = (status ≡ WrongArguments) ⊎ (status ≡ Refused OutOfMemory)
+
+-- the arguments ask for a text of the program's own
+abbrev pub IsRequest : ErrorKind → Type 0
+IsRequest kind = (kind ≡ kinds.DisplayHelp) ⊎ (kind ≡ kinds.DisplayVersion)

@@ -1,0 +1,22 @@
+//! What the program says, and how it ends: its status, what it tells of a refusal and to whom, and its own texts.
+//!
+//! [`end`] and [`report_arguments`] report on any writer how a run ended, and promise which bytes are told: to a program the
+//! line of a refusal, and on a terminal behind it what to do. [`write_own_text`] writes the version, or what each refusal means.
+//!
+//! ```
+//! let ended = end(Err(Refusal::Io), None, Audience::Program, &mut errors); // `errors` has the line `refused G1 Io`
+//! assert_eq!(ended.status.code(), 1);
+//! ```
+#![tactic(auto)]
+
+mod own_texts;
+mod reports;
+mod status;
+mod telling;
+mod unreadable;
+
+pub use own_texts::{VERSION, is_own, write_own_text};
+pub use reports::{end, report_arguments, report_signed_number};
+pub use status::{Ended, Status};
+pub use telling::Audience;
+pub use unreadable::report_unreadable_arguments;

@@ -1,0 +1,69 @@
+// What is reported of a run that was refused, of wrong arguments and of a request for help.
+ghost use Rattle.std.specs.Prelude.{◌≡◌, ◌⊎◌, None, IsOk, IfErr};
+ghost use Rattle.clap.specs.Words.{kind_of};
+ghost use Rattle.program_texts.specs.Reported.{IsRequest, IsWrong};
+ghost use Rattle.program_texts.specs.Ending.{TellsRefusal, HasReported};
+ghost use Rattle.program_texts.specs.Told.{told};
+
+use crate::telling::tell;
+use crate::{Audience, Ended, Status};
+use clap::error::ErrorKind;
+use command_refusals::{Refusal, Word};
+use std::io::Write;
+
+/// Reports why the arguments ask for nothing: what is wrong with them goes to `errors`, and help to `output`.
+pub fn report_arguments<W: Write, E: Write>(
+    error: &clap::Error,
+    output: &mut W,
+    errors: &mut E,
+    audience: Audience,
+) -> Ended
+    ensures request { IsRequest (kind_of error.now) ⊎ (IsWrong result.status × (output.new ≡ output.old)) }
+    ensures memory { kind_of error.now ≡ ErrorKind.OutOfMemory → (result.status ≡ Status.Refused Refusal.OutOfMemory) × (output.new ≡ output.old) }
+    ensures reports { HasReported E.contents (told audience None) output.old output.new errors.old errors.new result }
+{
+    match error.kind() {
+        ErrorKind::OutOfMemory => end(Err(Refusal::OutOfMemory), None, audience, errors),
+        ErrorKind::DisplayHelp | ErrorKind::DisplayVersion => {
+            let written = write!(output, "{error}").map_err(|_| Refusal::Io);
+            end(written, None, audience, errors)
+        }
+        _ => Ended {
+            status: Status::WrongArguments,
+            is_reported: write!(errors, "{error}").is_ok(),
+        },
+    }
+}
+
+/// Reports that a number has a sign, which is a wrong argument.
+pub fn report_signed_number<E: Write>(errors: &mut E) -> Ended
+    ensures { result.status ≡ Status.WrongArguments }
+{
+    Ended {
+        status: Status::WrongArguments,
+        is_reported: writeln!(errors, "error: a number is decimal digits, without a sign").is_ok(),
+    }
+}
+
+/// Reports a refusal, with the word that is refused where it is known.
+pub fn end<E: Write>(
+    done: Result<(), Refusal>,
+    word: Option<Word<'_>>,
+    audience: Audience,
+    errors: &mut E,
+) -> Ended
+    ensures done { IsOk done → (result.status ≡ Status.Done) × (errors.new ≡ errors.old) }
+    ensures refused { IfErr done (λ refusal. result.status ≡ Status.Refused refusal) }
+    ensures line { TellsRefusal (told audience word.entry) result (E.contents errors.old) (E.contents errors.new) }
+{
+    match done {
+        Ok(()) => Ended {
+            status: Status::Done,
+            is_reported: true,
+        },
+        Err(refusal) => Ended {
+            status: Status::Refused(refusal),
+            is_reported: tell(refusal, word, audience, errors).is_ok(),
+        },
+    }
+}

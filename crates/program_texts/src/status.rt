@@ -1,0 +1,36 @@
+// How a run ended.
+ghost use Rattle.std.specs.Prelude.{◌≡◌};
+ghost use Rattle.program_texts.specs.Reported.{status_code};
+
+use command_refusals::Refusal;
+
+/// How a run ended.
+#[derive(Clone, Copy, Debug, PartialEq, Eq)]
+pub enum Status {
+    /// What the arguments ask for is done.
+    Done,
+    /// It was refused, for this reason.
+    Refused(Refusal),
+    /// The arguments ask for nothing that the program does.
+    WrongArguments,
+}
+
+impl Status {
+    /// What the process exits with.
+    pub fn code(self) -> u8
+        ensures { result ≡ status_code self }
+    {
+        match self {
+            Status::Done => 0,
+            Status::Refused(_) => 1,
+            Status::WrongArguments => 2,
+        }
+    }
+}
+
+/// How a run ended, and whether all that is reported of it on standard error was taken there.
+#[derive(Clone, Copy, Debug, PartialEq, Eq)]
+pub struct Ended {
+    pub status: Status,
+    pub is_reported: bool,
+}

@@ -1,0 +1,50 @@
+// What is told of a refusal, and to whom.
+ghost use Rattle.std.specs.Prelude.{◌≡◌, OnOk};
+ghost use Rattle.std.specs.Io.KnownBytes.{Appends};
+ghost use Rattle.program_texts.specs.Told.{told};
+
+use command_refusals::{Refusal, Word};
+use std::io::{self, IsTerminal, Write};
+
+/// Who reads what is told of a refusal.
+#[derive(Clone, Copy, Debug, PartialEq, Eq)]
+pub enum Audience {
+    /// A program or a file: the line of the refusal alone.
+    Program,
+    /// A person at a terminal: behind it a line with what to do.
+    Terminal,
+}
+
+impl Audience {
+    /// Who reads what is written to a standard stream.
+    pub fn of<T: IsTerminal>(stream: &T) -> Audience {
+        if stream.is_terminal() {
+            Audience::Terminal
+        } else {
+            Audience::Program
+        }
+    }
+}
+
+/// Tells of a refusal, with the word that is refused where it is known.
+#[tactic(auto, unfolding(crate::specs::Told::told, crate::specs::Told::remedy_line, crate::specs::Reported::refusal_line))]
+pub(crate) fn tell<E: Write>(
+    refusal: Refusal,
+    word: Option<Word<'_>>,
+    audience: Audience,
+    errors: &mut E,
+) -> io::Result<()>
+    ensures { OnOk result (Appends (E.contents errors.old) (E.contents errors.new) (told audience word.entry refusal)) }
+{
+    let remedy = refusal.remedy();
+    match (audience, word) {
+        (Audience::Program, _) => writeln!(errors, "refused {refusal}"),
+        (Audience::Terminal, None) => writeln!(errors, "refused {refusal}\n{remedy}"),
+        (Audience::Terminal, Some(Word { role, text })) => {
+            writeln!(
+                errors,
+                "refused {refusal}\nThe {role} `{text}` is refused. {remedy}"
+            )
+        }
+    }
+}

@@ -1,0 +1,4 @@
+mod GivenLemmas
+mod ChangingLemmas
+mod ReadingLemmas
+mod TextLemmas

@@ -1,0 +1,96 @@
+// What changes the tables of an open store.
+ghost use Rattle.std.specs.Prelude.{◌≡◌, ◌≢◌, true, codes, IfErr, OnOk};
+ghost use Rattle.std.specs.Io.KnownBytes.{Appends};
+ghost use Rattle.catalogue.specs.Edits.{entry_of};
+ghost use Rattle.tables.specs.Commands.{import_stream, append_stream};
+ghost use Rattle.tables.specs.Tables.{Tables};
+ghost use Rattle.tables.specs.View.{command_of};
+ghost use Rattle.store.specs.Applying.{GoesOn, reply_of};
+ghost use Rattle.store.specs.Calls.{apply_call};
+ghost use Rattle.store.specs.Fits.{StoreFits, is_halted, listed_in};
+ghost use Rattle.store.specs.Machine.{Machine};
+ghost use Rattle.store_commands.specs.Changing.{Answered, AnswersCommand, Hands, RefusesImport, RefusesAppend};
+
+use crate::{LARGEST_INPUT, read_at_most};
+use catalogue::is_name;
+use command_refusals::{Refusal, write_whole};
+use sector_dev::SectorDevice;
+use std::alloc::Global;
+use std::io::{Read, Write};
+use store::Store;
+use tables::Command;
+
+/// Carries out a command, and writes `ok` once it is done. Where the output fails the command is done all the same.
+pub fn apply_command<D: SectorDevice, W: Write>(
+    alloc: Global,
+    store: &mut Store<D>,
+    command: Command,
+    output: &mut W,
+) -> Result<(), Refusal>
+    // The answer is the store's: done only where it has the command done, and else its refusal.
+    ensures goes { D.tells ≡ true → (base : Tables) (m : Machine) → StoreFits D.size D.story base m store.old
+        → Answered (λ answer. GoesOn D.size D.story D.failed base m (apply_call (command_of command)) (reply_of answer) store.old store.new) result }
+    // On every store and every device: the store was given the command, and what it answered is told.
+    ensures told { Answered (λ answer. AnswersCommand D.size D.story D.tells (command_of command) answer store.old store.new) result }
+    ensures written { OnOk result (Appends (W.contents output.old) (W.contents output.new) (codes "ok\n")) }
+    ensures silent { IfErr result (λ refusal. refusal ≢ Refusal.Io → output.new ≡ output.old) }
+{
+    store.apply(alloc, command)?;
+    write_whole(output, b"ok\n")
+}
+
+/// Makes the table that all of the input means as a stream, in place of one of this name, and writes `ok`.
+///
+/// A bad name is told before anything is read.
+pub fn import_input<D: SectorDevice, R: Read, W: Write>(
+    alloc: Global,
+    store: &mut Store<D>,
+    name: &str,
+    input: &mut R,
+    output: &mut W,
+) -> Result<(), Refusal>
+    ensures goes { D.tells ≡ true → (base : Tables) (m : Machine) → StoreFits D.size D.story base m store.old
+        → Hands (R.remaining input.old)
+        (λ bytes answer. GoesOn D.size D.story D.failed base m (apply_call (import_stream name.now bytes)) (reply_of answer) store.old store.new)
+        (λ refusal. store.new ≡ store.old) result }
+    // On any store: it was given all of the input, and what it answered is told; or there was a reason before, and nothing is changed or written.
+    ensures told { Hands (R.remaining input.old)
+        (λ bytes answer. AnswersCommand D.size D.story D.tells (import_stream name.now bytes) answer store.old store.new)
+        (λ refusal. RefusesImport R.remaining name.now input.old input.new refusal × (store.new ≡ store.old) × (output.new ≡ output.old)) result }
+    ensures written { OnOk result (Appends (W.contents output.old) (W.contents output.new) (codes "ok\n")) }
+    ensures silent { IfErr result (λ refusal. refusal ≢ Refusal.Io → output.new ≡ output.old) }
+{
+    if !is_name(name) {
+        return Err(Refusal::Store(tables::Refusal::BadName));
+    }
+    let bytes = read_at_most(alloc, input, LARGEST_INPUT)?;
+    let name = String::from_str(alloc, name)?;
+    apply_command(alloc, store, Command::ImportStream { name, bytes }, output)
+}
+
+/// Appends the rows that all of the input means as a stream to a table, and writes `ok`.
+///
+/// That there is no such table is told before anything is read.
+pub fn append_input<D: SectorDevice, R: Read, W: Write>(
+    alloc: Global,
+    store: &mut Store<D>,
+    name: &str,
+    input: &mut R,
+    output: &mut W,
+) -> Result<(), Refusal>
+    ensures goes { D.tells ≡ true → (base : Tables) (m : Machine) → StoreFits D.size D.story base m store.old
+        → Hands (R.remaining input.old)
+        (λ bytes answer. GoesOn D.size D.story D.failed base m (apply_call (append_stream name.now bytes)) (reply_of answer) store.old store.new)
+        (λ refusal. store.new ≡ store.old) result }
+    ensures told { Hands (R.remaining input.old)
+        (λ bytes answer. AnswersCommand D.size D.story D.tells (append_stream name.now bytes) answer store.old store.new)
+        (λ refusal. RefusesAppend R.remaining (is_halted store.old) (entry_of (listed_in store.old) name.now) input.old input.new refusal
+        × (store.new ≡ store.old) × (output.new ≡ output.old)) result }
+    ensures written { OnOk result (Appends (W.contents output.old) (W.contents output.new) (codes "ok\n")) }
+    ensures silent { IfErr result (λ refusal. refusal ≢ Refusal.Io → output.new ≡ output.old) }
+{
+    store.schema(alloc, name)?;
+    let bytes = read_at_most(alloc, input, LARGEST_INPUT)?;
+    let name = String::from_str(alloc, name)?;
+    apply_command(alloc, store, Command::AppendStream { name, bytes }, output)
+}

@@ -1,0 +1,29 @@
+//! The commands of an open store on any device, over any reader and writer, and [`recode`].
+//!
+//! [`apply_command`], [`import_input`], [`append_input`] and [`append_text`] change its tables; [`print_tables`],
+//! [`print_schema`], [`print_selection`], [`export_table`] and [`check_tables`] read them. Their contracts say which bytes are
+//! taken and given, and what became of the store. [`recode`] reads a stream and writes its canonical form.
+//!
+//! ```
+//! let mut output = Vec::new(alloc);
+//! recode(alloc, &mut stream.as_slice(), &mut output)?; // `output` has the canonical stream of `stream`
+//! ```
+#![tactic(auto)]
+
+mod changing;
+mod creating;
+mod input;
+mod printing;
+mod reading;
+mod selecting;
+mod stream;
+mod text_rows;
+
+pub use changing::{append_input, apply_command, import_input};
+pub use creating::new_table;
+pub use input::{LARGEST_INPUT, read_at_most};
+pub use printing::{print_schema, print_tables};
+pub use reading::{check_tables, export_table};
+pub use selecting::{print_selection, query_of};
+pub use stream::recode;
+pub use text_rows::append_text;

@@ -1,0 +1,127 @@
+// Queries of the tables of an open store.
+ghost use Rattle.std.specs.Prelude.{◌≡◌, ◌≢◌, ◌++◌, codes, map, string_bytes, Some, Ok, IfOk, IfErr, OnOk};
+ghost use Rattle.std.specs.Option.{option_copied};
+ghost use Rattle.std.specs.Io.KnownBytes.{Appends};
+ghost use Rattle.sector_dev.specs.Disk.{now, shown_image};
+ghost use Rattle.catalogue.specs.Edits.{entry_of};
+ghost use Rattle.cells.specs.Cell.{PlainTable};
+ghost use Rattle.values.specs.TableView.{table_of};
+ghost use Rattle.values.specs.Borrowed.{borrowed_cells};
+ghost use Rattle.query.specs.Line.{line};
+ghost use Rattle.query.specs.View.{query_in, condition_in};
+ghost use Rattle.store.specs.Fits.{device_of, is_halted, listed_in};
+ghost use Rattle.store.specs.Reading.{OnlyReadsStore};
+ghost use Rattle.store_commands.specs.Reading.{store_ended};
+ghost use Rattle.store_commands.specs.Selecting.{named_columns, conditions_of, stated_query, RefusesWords, rows_text, QueryAnswers, RefusesQuery};
+
+use command_refusals::{Refusal, write_whole};
+use query::{Condition, Query, json_line, select};
+use sector_dev::SectorDevice;
+use std::alloc::{AllocError, Global};
+use std::io::Write;
+use store::Store;
+use values::{Table, Values};
+
+fn words_between_commas(alloc: Global, word: &str) -> Result<Vec<&str>, AllocError>
+    ensures { IfOk result (λ v. map (λ t. t.now) v.items ≡ named_columns (Some word.now)) }
+{
+    word.split(',').collect(alloc)
+}
+
+fn owned(alloc: Global, words: &[&str]) -> Result<Vec<String>, AllocError>
+    ensures { IfOk result (λ v. map string_bytes v.items ≡ map (λ t. t.now) words.now) }
+{
+    let mut texts = Vec::with_capacity(alloc, words.len())?;
+    for word in words {
+        texts.push(String::from_str(alloc, word)?)?;
+    }
+    Ok(texts)
+}
+
+fn columns_of(alloc: Global, word: Option<&str>) -> Result<Vec<String>, AllocError>
+    ensures { IfOk result (λ v. map string_bytes v.items ≡ named_columns (option_copied word.entry)) }
+{
+    match word {
+        None => Ok(Vec::new(alloc)),
+        Some(word) => owned(alloc, &words_between_commas(alloc, word)?),
+    }
+}
+
+fn conditions_of(alloc: Global, texts: &[&str]) -> Result<Vec<Condition>, Refusal>
+    ensures ok { IfOk result (λ v. conditions_of (map (λ t. t.now) texts.now) ≡ Some (map condition_in v.items)) }
+    ensures refused { IfErr result (RefusesWords (conditions_of (map (λ t. t.now) texts.now))) }
+{
+    let mut conditions = Vec::with_capacity(alloc, texts.len())?;
+    for text in texts {
+        let condition = Condition::parse(alloc, text)?;
+        conditions.push(condition).map_err(AllocError::from)?;
+    }
+    Ok(conditions)
+}
+
+/// The query that words state: texts of conditions, names of columns split by commas, and how many rows at most.
+///
+/// # Errors
+/// `Query` with `BadCondition` where a text has not the shape of a condition; `OutOfMemory`.
+pub fn query_of(
+    alloc: Global,
+    conditions: &[&str],
+    columns: Option<&str>,
+    limit: Option<u64>,
+) -> Result<Query, Refusal>
+    ensures stated { IfOk result (λ q. stated_query (map (λ t. t.now) conditions.now) (option_copied columns.entry) limit ≡ Some (query_in q)) }
+    ensures refused { IfErr result (RefusesWords (stated_query (map (λ t. t.now) conditions.now) (option_copied columns.entry) limit)) }
+{
+    let conditions = conditions_of(alloc, conditions)?;
+    let columns = columns_of(alloc, columns)?;
+    Ok(Query {
+        columns,
+        conditions,
+        limit,
+    })
+}
+
+fn push_line(alloc: Global, text: &mut Vec<u8>, row: Values<'_>) -> Result<(), AllocError>
+    ensures { OnOk result (text.new.items ≡ text.old.items ++ line (borrowed_cells row.entry) ++ codes "\n") }
+{
+    text.extend_from_slice(&json_line(alloc, row)?)?;
+    text.extend_from_slice(b"\n")
+}
+
+fn lines_of_rows(alloc: Global, table: &Table) -> Result<Vec<u8>, AllocError>
+    ensures { IfOk result (λ v. v.items ≡ rows_text (table_of table.now).rows) }
+{
+    let mut text = Vec::new(alloc);
+    for row in table.rows() {
+        push_line(alloc, &mut text, row)?;
+    }
+    Ok(text)
+}
+
+/// Prints each row that a query selects from a table, as a line of JSON. All lines are made before the first is written.
+///
+/// # Errors
+/// Those of [`Store::read`]; `Query` where the query is refused; `Io` where a write fails, and then some lines may be written.
+pub fn print_selection<D: SectorDevice, W: Write>(
+    alloc: Global,
+    store: &mut Store<D>,
+    name: &str,
+    query: &Query,
+    output: &mut W,
+) -> Result<(), Refusal>
+    // What is written are the lines of the selection of the table that reads show, and nothing else.
+    ensures written { OnOk result ((selected : PlainTable) × QueryAnswers (is_halted store.old) D.tells (shown_image (now (D.story (device_of store.old))))
+        (entry_of (listed_in store.old) name.now) (query_in query.now) (Ok selected)
+        × Appends (W.contents output.old) (W.contents output.new) (rows_text selected.rows)) }
+    ensures told { IfErr result (RefusesQuery (is_halted store.old) D.tells (shown_image (now (D.story (device_of store.old))))
+        (entry_of (listed_in store.old) name.now) (query_in query.now)) }
+    // The store is only read.
+    ensures reads { OnlyReadsStore D.size D.story D.failed D.tells (store_ended result) store.old store.new }
+    // Where it is refused nothing is written, unless a write failed.
+    ensures silent { IfErr result (λ refusal. refusal ≢ Refusal.Io → output.new ≡ output.old) }
+{
+    let table = store.read(alloc, name)?;
+    let selected = select(alloc, &table, query)?;
+    let text = lines_of_rows(alloc, &selected)?;
+    write_whole(output, &text)
+}

@@ -1,0 +1,36 @@
+-- The words of the commands of a store.
+use Rattle.std.specs.Prelude.{Bool, false, ◌||◌, List, [], ◌∷◌, codes}
+use Rattle.std.specs.Str.{bytes_eq}
+use Rattle.clap.specs.Words.{Text}
+
+-- those that read standard input
+unfoldable pub takes_input_word : Text → Bool
+takes_input_word word = bytes_eq (codes "import") word || bytes_eq (codes "append") word
+
+-- those that change the tables
+unfoldable pub changes_word : Text → Bool
+changes_word word =
+    takes_input_word word || (bytes_eq (codes "create") word || (bytes_eq (codes "rename") word || bytes_eq (codes "drop") word))
+
+-- those that read one table; a query may be saved as another one
+unfoldable pub reads_table_word : Text → Bool
+reads_table_word word = bytes_eq (codes "schema") word || (bytes_eq (codes "export") word || bytes_eq (codes "query") word)
+
+-- those that read tables
+unfoldable pub reads_word : Text → Bool
+reads_word word = reads_table_word word || (bytes_eq (codes "tables") word || bytes_eq (codes "check") word)
+
+unfoldable pub is_store_word : Text → Bool
+is_store_word word = changes_word word || (bytes_eq (codes "format") word || reads_word word)
+
+-- the program's name, and a command of a store
+unfoldable pub is_of_store : List Text → Bool
+is_of_store [] = false
+is_of_store (name ∷ []) = false
+is_of_store (name ∷ word ∷ rest) = is_store_word word
+
+-- the program's name, and one that reads standard input
+unfoldable pub takes_input : List Text → Bool
+takes_input [] = false
+takes_input (name ∷ []) = false
+takes_input (name ∷ word ∷ rest) = takes_input_word word

@@ -1,0 +1,19 @@
+//! What a command line asks of a store, and which of its words a refusal is of.
+//!
+//! [`is_of_store`] and [`takes_input`] promise which command lines are for a store, and which of these read the input, whatever
+//! the words behind say. [`request_of`] gives what `clap` makes of all words, and [`refused_word`] the word that is meant by a
+//! refusal.
+//!
+//! ```
+//! let request = request_of(alloc, &["arrowstore", "drop", "store", "t"])?; // `StoreRequest::Drop`
+//! let word = refused_word(alloc, &request, &Refusal::Store(tables::Refusal::NoTable)); // the name `t`
+//! ```
+#![tactic(auto)]
+
+mod naming;
+mod store_command_line;
+mod store_words;
+
+pub use naming::refused_word;
+pub use store_command_line::{Mistake, request_of};
+pub use store_words::{QueryWords, StoreRequest, is_of_store, takes_input};

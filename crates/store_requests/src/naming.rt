@@ -1,0 +1,127 @@
+// Which word of a command line a refusal is of.
+use crate::{QueryWords, StoreRequest};
+use arrow_schema::ParseError;
+use command_refusals::{Refusal, Role, Word};
+use query::{Condition, QueryError};
+use std::alloc::Global;
+use tables::QueryRefusal;
+
+fn file_of<'a>(request: &StoreRequest<'a>) -> &'a str {
+    match request {
+        StoreRequest::Format { path, .. }
+        | StoreRequest::Create { path, .. }
+        | StoreRequest::Import { path, .. }
+        | StoreRequest::Append { path, .. }
+        | StoreRequest::AppendText { path, .. }
+        | StoreRequest::Query { path, .. }
+        | StoreRequest::SaveAs { path, .. }
+        | StoreRequest::Rename { path, .. }
+        | StoreRequest::Drop { path, .. }
+        | StoreRequest::Tables { path }
+        | StoreRequest::Schema { path, .. }
+        | StoreRequest::Export { path, .. }
+        | StoreRequest::Check { path } => path,
+    }
+}
+
+// The name of the table that has to be there.
+fn name_of<'a>(request: &StoreRequest<'a>) -> Option<&'a str> {
+    match request {
+        StoreRequest::Append { name, .. }
+        | StoreRequest::AppendText { name, .. }
+        | StoreRequest::Query { name, .. }
+        | StoreRequest::Drop { name, .. }
+        | StoreRequest::Schema { name, .. }
+        | StoreRequest::Export { name, .. } => Some(name),
+        StoreRequest::SaveAs { from, .. } | StoreRequest::Rename { from, .. } => Some(from),
+        _ => None,
+    }
+}
+
+// The name that a table is to have.
+fn new_name_of<'a>(request: &StoreRequest<'a>) -> Option<&'a str> {
+    match request {
+        StoreRequest::Create { name, .. } | StoreRequest::Import { name, .. } => Some(name),
+        StoreRequest::SaveAs { to, .. } | StoreRequest::Rename { to, .. } => Some(to),
+        _ => None,
+    }
+}
+
+// The text of the field at a place, counted from 1.
+fn field_of<'a>(request: &StoreRequest<'a>, number: usize) -> Option<&'a str> {
+    match request {
+        StoreRequest::Create { fields, .. } => fields.get(number.checked_sub(1)?).copied(),
+        _ => None,
+    }
+}
+
+fn query_in<'r, 'a>(request: &'r StoreRequest<'a>) -> Option<&'r QueryWords<'a>> {
+    match request {
+        StoreRequest::Query { query, .. } | StoreRequest::SaveAs { query, .. } => Some(query),
+        _ => None,
+    }
+}
+
+// The first text that has not the form of a condition.
+fn formless<'a>(alloc: Global, texts: &[&'a str]) -> Option<&'a str> {
+    for text in texts {
+        if let Err(QueryError::BadCondition) = Condition::parse(alloc, text) {
+            return Some(text);
+        }
+    }
+    None
+}
+
+// A query tells no place of what it refuses, so that a word is known where it is the only one that may be meant, or where it has no form.
+fn word_of_query<'a>(
+    alloc: Global,
+    query: &QueryWords<'a>,
+    reason: QueryRefusal,
+) -> Option<Word<'a>> {
+    let (role, text) = match (query.conditions.as_slice(), query.columns, reason) {
+        ([], Some(columns), QueryRefusal::UnknownColumn) => (Role::Columns, columns),
+        ([condition], None, QueryRefusal::UnknownColumn)
+        | ([condition], _, QueryRefusal::BadCondition | QueryRefusal::NotComparable) => {
+            (Role::Condition, *condition)
+        }
+        (conditions, _, QueryRefusal::BadCondition) => {
+            (Role::Condition, formless(alloc, conditions)?)
+        }
+        _ => return None,
+    };
+    Some(Word { role, text })
+}
+
+fn named<'a>(role: Role, text: Option<&'a str>) -> Option<Word<'a>> {
+    Some(Word { role, text: text? })
+}
+
+fn word_of<'a>(alloc: Global, request: &StoreRequest<'a>, refusal: &Refusal) -> Option<Word<'a>> {
+    match refusal {
+        Refusal::Opening(_) => named(Role::File, Some(file_of(request))),
+        Refusal::Fields(ParseError::BadText(number)) => {
+            named(Role::Field, field_of(request, *number))
+        }
+        Refusal::Store(tables::Refusal::NoTable) => named(Role::Name, name_of(request)),
+        Refusal::Store(tables::Refusal::NameTaken | tables::Refusal::BadName) => {
+            named(Role::Name, new_name_of(request))
+        }
+        Refusal::Query(reason) | Refusal::Store(tables::Refusal::Query(reason)) => {
+            word_of_query(alloc, query_in(request)?, *reason)
+        }
+        _ => None,
+    }
+}
+
+/// The word of a request that a refusal is of, where that is known. A word with control characters, which could do something to a terminal, is none.
+pub fn refused_word<'a>(
+    alloc: Global,
+    request: &StoreRequest<'a>,
+    refusal: &Refusal,
+) -> Option<Word<'a>> {
+    let word = word_of(alloc, request, refusal)?;
+    if word.text.chars().any(char::is_control) {
+        return None;
+    }
+    Some(word)
+}

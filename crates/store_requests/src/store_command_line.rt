@@ -1,0 +1,335 @@
+// How `clap` reads a command line of a store.
+use crate::{QueryWords, StoreRequest};
+use clap::builder::ValueParser;
+use clap::{Arg, ArgMatches, Command, Error};
+use std::alloc::{AllocError, Global};
+use std::convert::AsStr;
+use text_import::TextForm;
+
+// The forms that `append` takes rows in.
+const FORMS: [&str; 3] = ["stream", "csv", "jsonl"];
+
+/// Why a command line asks for nothing.
+#[derive(Drop)]
+pub enum Mistake {
+    /// What `clap` says: it may also ask for help.
+    Words(Error),
+    /// A number has a sign.
+    SignedNumber,
+}
+
+impl From<Error> for Mistake {
+    fn from(error: Error) -> Mistake {
+        Mistake::Words(error)
+    }
+}
+
+impl From<AllocError> for Mistake {
+    fn from(error: AllocError) -> Mistake {
+        Mistake::Words(Error::from(error))
+    }
+}
+
+/// Reads a command line of a store.
+pub fn request_of<'a, S: AsStr>(
+    alloc: Global,
+    arguments: &'a [S],
+) -> Result<StoreRequest<'a>, Mistake> {
+    let matches = commands(alloc)?.try_get_matches_from(arguments)?;
+    match matches.subcommand() {
+        Some((name, words)) => {
+            if is_signed(words, "SECTORS") || is_signed(words, "limit") {
+                return Err(Mistake::SignedNumber);
+            }
+            Ok(requested(alloc, name, words)?)
+        }
+        None => Ok(StoreRequest::Tables { path: "" }),
+    }
+}
+
+// Numbers are decimal digits alone. `clap` takes a plus sign before them.
+fn is_signed(matches: &ArgMatches<'_>, id: &str) -> bool {
+    word(matches, id).starts_with('+')
+}
+
+// A required word is always there: `clap` refuses a command line that lacks one.
+fn word<'a>(matches: &ArgMatches<'a>, id: &str) -> &'a str {
+    matches.get_str(id).unwrap_or_default()
+}
+
+fn words_of<'a>(
+    alloc: Global,
+    matches: &ArgMatches<'a>,
+    id: &str,
+) -> Result<Vec<&'a str>, AllocError> {
+    let mut words = Vec::new(alloc);
+    if let Some(given) = matches.get_strs(id) {
+        words.extend_from_slice(given)?;
+    }
+    Ok(words)
+}
+
+// Rows are appended from a stream, or from a text.
+fn append_request<'a>(path: &'a str, name: &'a str, words: &ArgMatches<'a>) -> StoreRequest<'a> {
+    let form = match word(words, "as") {
+        "csv" => TextForm::Csv {
+            null_text: word(words, "null"),
+        },
+        "jsonl" => TextForm::JsonLines,
+        _ => return StoreRequest::Append { path, name },
+    };
+    StoreRequest::AppendText { path, name, form }
+}
+
+// What is selected is printed, or saved as a table.
+fn query_request<'a>(
+    alloc: Global,
+    path: &'a str,
+    name: &'a str,
+    words: &ArgMatches<'a>,
+) -> Result<StoreRequest<'a>, AllocError> {
+    let query = QueryWords {
+        conditions: words_of(alloc, words, "CONDITION")?,
+        columns: words.get_str("columns"),
+        limit: words.get_one("limit"),
+    };
+    Ok(match words.get_str("save") {
+        Some(to) => StoreRequest::SaveAs {
+            path,
+            from: name,
+            to,
+            query,
+        },
+        None => StoreRequest::Query { path, name, query },
+    })
+}
+
+fn requested<'a>(
+    alloc: Global,
+    command: &str,
+    words: &ArgMatches<'a>,
+) -> Result<StoreRequest<'a>, AllocError> {
+    let path = word(words, "STORE");
+    let name = word(words, "NAME");
+    Ok(match command {
+        "format" => StoreRequest::Format {
+            path,
+            sectors: words.get_one("SECTORS").unwrap_or_default(),
+        },
+        "create" => StoreRequest::Create {
+            path,
+            name,
+            fields: words_of(alloc, words, "FIELD")?,
+        },
+        "import" => StoreRequest::Import { path, name },
+        "append" => append_request(path, name, words),
+        "query" => query_request(alloc, path, name, words)?,
+        "rename" => StoreRequest::Rename {
+            path,
+            from: name,
+            to: word(words, "NEW"),
+        },
+        "drop" => StoreRequest::Drop { path, name },
+        "schema" => StoreRequest::Schema { path, name },
+        "export" => StoreRequest::Export { path, name },
+        "check" => StoreRequest::Check { path },
+        _ => StoreRequest::Tables { path },
+    })
+}
+
+fn required<'a>(alloc: Global, id: &'a str, help: &'a str) -> Arg<'a> {
+    Arg::new(alloc, id).required(true).help(help)
+}
+
+// A command of a store, which names the store's file first.
+fn command<'a>(
+    alloc: Global,
+    name: &'a str,
+    about: &'a str,
+    example: &'a str,
+) -> Result<Command<'a>, AllocError> {
+    let store = required(alloc, "STORE", "The file of the store");
+    Command::new(alloc, name)
+        .about(about)
+        .after_help(example)
+        .arg(store)
+}
+
+// A command of a table, which names it after the store's file.
+fn table_command<'a>(
+    alloc: Global,
+    name: &'a str,
+    about: &'a str,
+    example: &'a str,
+) -> Result<Command<'a>, AllocError> {
+    let table = required(alloc, "NAME", "The name of the table");
+    command(alloc, name, about, example)?.arg(table)
+}
+
+fn format<'a>(alloc: Global) -> Result<Command<'a>, AllocError> {
+    let sectors = required(
+        alloc,
+        "SECTORS",
+        "How many sectors of 512 bytes, 16 to 4194304",
+    )
+    .value_parser(ValueParser::unsigned(0, u64::MAX));
+    command(
+        alloc,
+        "format",
+        "Makes a file of so many sectors, and an empty store in it",
+        "Example: arrowstore format store 4096",
+    )?
+    .arg(sectors)
+}
+
+fn create<'a>(alloc: Global) -> Result<Command<'a>, AllocError> {
+    let fields = Arg::new(alloc, "FIELD").num_args(0..).help(
+        "The fields, each as name:type, with a ? behind it where nulls are allowed",
+    );
+    table_command(
+        alloc,
+        "create",
+        "Makes a table without rows",
+        "Example: arrowstore create store measurements id:uint64 value:int32",
+    )?
+    .arg(fields)
+}
+
+fn import<'a>(alloc: Global) -> Result<Command<'a>, AllocError> {
+    table_command(
+        alloc,
+        "import",
+        "Reads a stream from standard input, and makes its table, in place of one of this name",
+        "Example: arrowstore import store measurements < readings.arrows",
+    )
+}
+
+fn append<'a>(alloc: Global) -> Result<Command<'a>, AllocError> {
+    let form = Arg::new(alloc, "as")
+        .long("as")
+        .value_name("FORM")
+        .value_parser(ValueParser::Names(&FORMS))
+        .default_value("stream")
+        .help(
+            "What the input is: CSV begins with the names of the columns, JSON Lines has a row on each line",
+        );
+    let null = Arg::new(alloc, "null")
+        .long("null")
+        .value_name("TEXT")
+        .default_value("")
+        .hide_default_value(true)
+        .help(
+            "In CSV, the text that stands for null where nulls are allowed; without this option the empty one",
+        );
+    table_command(
+        alloc,
+        "append",
+        "Reads rows from standard input, and appends them to a table",
+        "Example: arrowstore append store measurements --as csv --null NA < readings.csv
+where readings.csv begins with the line id,value",
+    )?
+    .arg(form)?
+    .arg(null)
+}
+
+fn query<'a>(alloc: Global) -> Result<Command<'a>, AllocError> {
+    let conditions = Arg::new(alloc, "CONDITION").num_args(0..).help(
+        "What each row must meet: 'NAME OP LITERAL' with OP one of = != < <= > >=, 'NAME is null' or 'NAME is not null', split by single spaces",
+    );
+    let columns = Arg::new(alloc, "columns")
+        .long("columns")
+        .value_name("A,B")
+        .help("The columns, in this order; without this option all of them");
+    let limit = Arg::new(alloc, "limit")
+        .long("limit")
+        .value_name("N")
+        .value_parser(ValueParser::unsigned(0, u64::MAX))
+        .help("How many rows at most");
+    let save = Arg::new(alloc, "save")
+        .long("save")
+        .value_name("NEW")
+        .help("Makes a table of this name of them, in place of printing");
+    table_command(
+        alloc,
+        "query",
+        "Prints the rows of a table that meet all conditions, each as a line of JSON",
+        "Example: arrowstore query store measurements 'value >= 7' --columns id,value --limit 10",
+    )?
+    .arg(conditions)?
+    .arg(columns)?
+    .arg(limit)?
+    .arg(save)
+}
+
+fn rename<'a>(alloc: Global) -> Result<Command<'a>, AllocError> {
+    let new = required(alloc, "NEW", "Its new name");
+    table_command(
+        alloc,
+        "rename",
+        "Gives a table another name",
+        "Example: arrowstore rename store measurements readings",
+    )?
+    .arg(new)
+}
+
+fn drop<'a>(alloc: Global) -> Result<Command<'a>, AllocError> {
+    table_command(
+        alloc,
+        "drop",
+        "Removes a table with all its rows",
+        "Example: arrowstore drop store measurements",
+    )
+}
+
+fn tables<'a>(alloc: Global) -> Result<Command<'a>, AllocError> {
+    command(
+        alloc,
+        "tables",
+        "Prints a line for each table: its name, and how many rows it has",
+        "Example: arrowstore tables store",
+    )
+}
+
+fn schema<'a>(alloc: Global) -> Result<Command<'a>, AllocError> {
+    table_command(
+        alloc,
+        "schema",
+        "Prints a line for each field of a table",
+        "Example: arrowstore schema store measurements",
+    )
+}
+
+fn export<'a>(alloc: Global) -> Result<Command<'a>, AllocError> {
+    table_command(
+        alloc,
+        "export",
+        "Writes the stream of a table to standard output",
+        "Example: arrowstore export store measurements > readings.arrows",
+    )
+}
+
+fn check<'a>(alloc: Global) -> Result<Command<'a>, AllocError> {
+    command(
+        alloc,
+        "check",
+        "Reads all tables, and prints ok where each can be read",
+        "Example: arrowstore check store",
+    )
+}
+
+fn commands<'a>(alloc: Global) -> Result<Command<'a>, AllocError> {
+    Command::new(alloc, "arrowstore")
+        .about("A crash-safe store of named tables in the Apache Arrow format")
+        .subcommand_required(true)
+        .subcommand(format(alloc)?)?
+        .subcommand(create(alloc)?)?
+        .subcommand(import(alloc)?)?
+        .subcommand(append(alloc)?)?
+        .subcommand(rename(alloc)?)?
+        .subcommand(drop(alloc)?)?
+        .subcommand(tables(alloc)?)?
+        .subcommand(schema(alloc)?)?
+        .subcommand(export(alloc)?)?
+        .subcommand(query(alloc)?)?
+        .subcommand(check(alloc)?)
+}

@@ -1,0 +1,145 @@
+// What a command line asks of a store.
+ghost use Rattle.std.specs.Prelude.{◌≡◌, map};
+ghost use Rattle.store_requests.specs.StoreWords.{takes_input_word, changes_word, reads_table_word, reads_word, is_store_word, is_of_store, takes_input};
+
+use std::convert::AsStr;
+use text_import::TextForm;
+
+/// Which rows and columns of a table are asked for, as words of a command line.
+#[derive(Drop)]
+pub struct QueryWords<'a> {
+    pub conditions: Vec<&'a str>,
+    pub columns: Option<&'a str>,
+    pub limit: Option<u64>,
+}
+
+/// What is asked of the store in the file at a path.
+#[derive(Drop)]
+pub enum StoreRequest<'a> {
+    /// An empty store of so many sectors, in a new file.
+    Format {
+        path: &'a str,
+        sectors: u64,
+    },
+    /// A table without rows, of the fields that the texts state.
+    Create {
+        path: &'a str,
+        name: &'a str,
+        fields: Vec<&'a str>,
+    },
+    /// The table that a stream means, in place of one of this name.
+    Import {
+        path: &'a str,
+        name: &'a str,
+    },
+    /// The rows that a stream means, behind those of the table.
+    Append {
+        path: &'a str,
+        name: &'a str,
+    },
+    /// The same of a text.
+    AppendText {
+        path: &'a str,
+        name: &'a str,
+        form: TextForm<'a>,
+    },
+    /// The rows that a query selects, as lines.
+    Query {
+        path: &'a str,
+        name: &'a str,
+        query: QueryWords<'a>,
+    },
+    /// The same, as a new table.
+    SaveAs {
+        path: &'a str,
+        from: &'a str,
+        to: &'a str,
+        query: QueryWords<'a>,
+    },
+    /// Another name for a table.
+    Rename {
+        path: &'a str,
+        from: &'a str,
+        to: &'a str,
+    },
+    /// No table of this name.
+    Drop {
+        path: &'a str,
+        name: &'a str,
+    },
+    /// The names of its tables, and how many rows each has.
+    Tables {
+        path: &'a str,
+    },
+    /// The fields of a table.
+    Schema {
+        path: &'a str,
+        name: &'a str,
+    },
+    /// The stream of a table.
+    Export {
+        path: &'a str,
+        name: &'a str,
+    },
+    /// Whether all tables can be read.
+    Check {
+        path: &'a str,
+    },
+}
+
+#[tactic(auto, unfolding(crate::specs::StoreWords::takes_input_word))]
+fn takes_input_word(word: &str) -> bool
+    ensures { result ≡ takes_input_word word.now }
+{
+    word == "import" || word == "append"
+}
+
+#[tactic(auto, unfolding(crate::specs::StoreWords::changes_word))]
+fn changes_word(word: &str) -> bool
+    ensures { result ≡ changes_word word.now }
+{
+    takes_input_word(word) || word == "create" || word == "rename" || word == "drop"
+}
+
+#[tactic(auto, unfolding(crate::specs::StoreWords::reads_table_word))]
+fn reads_table_word(word: &str) -> bool
+    ensures { result ≡ reads_table_word word.now }
+{
+    word == "schema" || word == "export" || word == "query"
+}
+
+#[tactic(auto, unfolding(crate::specs::StoreWords::reads_word))]
+fn reads_word(word: &str) -> bool
+    ensures { result ≡ reads_word word.now }
+{
+    reads_table_word(word) || word == "tables" || word == "check"
+}
+
+#[tactic(auto, unfolding(crate::specs::StoreWords::is_store_word))]
+fn is_store_word(word: &str) -> bool
+    ensures { result ≡ is_store_word word.now }
+{
+    changes_word(word) || word == "format" || reads_word(word)
+}
+
+/// Whether the arguments, of which the program's name is the first, name a command of a store.
+#[tactic(auto, unfolding(crate::specs::StoreWords::is_of_store))]
+pub fn is_of_store<S: AsStr>(arguments: &[S]) -> bool
+    ensures { result ≡ is_of_store (map S.text arguments.now) }
+{
+    match arguments {
+        [_, word, ..] => is_store_word(word.as_str()),
+        _ => false,
+    }
+}
+
+/// Whether they name one that reads standard input.
+#[tactic(auto, unfolding(crate::specs::StoreWords::takes_input))]
+pub fn takes_input<S: AsStr>(arguments: &[S]) -> bool
+    ensures { result ≡ takes_input (map S.text arguments.now) }
+{
+    match arguments {
+        [_, word, ..] => takes_input_word(word.as_str()),
+        _ => false,
+    }
+}

@@ -1,0 +1,36 @@
+// A text of rows in either form.
+ghost use Rattle.std.specs.Prelude.{map};
+ghost use Rattle.facts.specs.Outcomes.{Gives};
+ghost use Rattle.arrow_schema.specs.View.{schema_of};
+ghost use Rattle.cells.specs.Row.{row_of};
+ghost use Rattle.text_import.specs.Form.{rows_in};
+ghost use Rattle.text_import.specs.Refusals.{refused_by};
+
+use crate::{TextError, csv_rows, jsonl_rows};
+use arrow_schema::Schema;
+use cells::Row;
+use std::alloc::Global;
+
+/// What a text of rows is.
+#[derive(Clone, Copy, Debug)]
+pub enum TextForm<'a> {
+    /// CSV, in which this text stands for a null where nulls are allowed.
+    Csv { null_text: &'a str },
+    /// JSON Lines: a line for each row.
+    JsonLines,
+}
+
+/// The rows that a text of this form has for a schema, or its first refusal, with the number of its record.
+pub fn rows_in(
+    alloc: Global,
+    form: &TextForm<'_>,
+    schema: &Schema,
+    text: &[u8],
+) -> Result<Vec<Row>, TextError>
+    ensures { Gives refused_by (λ v. map row_of v.items) result (rows_in form.now (schema_of schema.now) text.now) }
+{
+    match form {
+        TextForm::Csv { null_text } => csv_rows(alloc, schema, text, null_text),
+        TextForm::JsonLines => jsonl_rows(alloc, schema, text),
+    }
+}
