@@ -317,19 +317,27 @@ fn check<'a>(alloc: Global) -> Result<Command<'a>, AllocError> {
     )
 }
 
+// Takes the command over, so that nothing is owned where memory was refused for it.
+fn with_command<'a>(
+    program: Command<'a>,
+    command: Result<Command<'a>, AllocError>,
+) -> Result<Command<'a>, AllocError> {
+    program.subcommand(command?)
+}
+
 fn commands<'a>(alloc: Global) -> Result<Command<'a>, AllocError> {
-    Command::new(alloc, "arrowstore")
+    let program = Command::new(alloc, "arrowstore")
         .about("A crash-safe store of named tables in the Apache Arrow format")
-        .subcommand_required(true)
-        .subcommand(format(alloc)?)?
-        .subcommand(create(alloc)?)?
-        .subcommand(import(alloc)?)?
-        .subcommand(append(alloc)?)?
-        .subcommand(rename(alloc)?)?
-        .subcommand(drop(alloc)?)?
-        .subcommand(tables(alloc)?)?
-        .subcommand(schema(alloc)?)?
-        .subcommand(export(alloc)?)?
-        .subcommand(query(alloc)?)?
-        .subcommand(check(alloc)?)
+        .subcommand_required(true);
+    let program = with_command(program, format(alloc))?;
+    let program = with_command(program, create(alloc))?;
+    let program = with_command(program, import(alloc))?;
+    let program = with_command(program, append(alloc))?;
+    let program = with_command(program, rename(alloc))?;
+    let program = with_command(program, drop(alloc))?;
+    let program = with_command(program, tables(alloc))?;
+    let program = with_command(program, schema(alloc))?;
+    let program = with_command(program, export(alloc))?;
+    let program = with_command(program, query(alloc))?;
+    with_command(program, check(alloc))
 }
