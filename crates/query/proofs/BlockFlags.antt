@@ -1,11 +1,19 @@
 -- Flags of slots, block by block.
-use Rattle.std.proofs.Common.{◌≡◌, ℕ, zero, suc, ◌+◌, ◌*◌, ◌/◌, ◌^◌, ◌<◌, ◌≤◌, Bool, true, false, List, [], ◌∷◌, ◌++◌, length, map, refl, sym, ap, subst, ◌∙◌, append_assoc, arith}
+use Rattle.std.proofs.Common.{◌≡◌, ℕ, zero, suc, ◌+◌, ◌*◌, ◌/◌, ◌^◌, ◌<◌, ◌≤◌, Bool, true, false, List, [], ◌∷◌, ◌++◌, ◌==◌, length, get_or, map, refl, sym, ap, subst, ◌∙◌, append_assoc, arith}
 use Rattle.std.specs.List.{range_with_len}
 use Rattle.std.specs.Simd.Lanes.{mask_l}
 use Rattle.std.proofs.lemmas.List.{map-append}
 use Rattle.std.proofs.lemmas.Simd.{mask_l-lt}
 use Rattle.std.proofs.lemmas.Nat.{div-add-mod'}
 use Rattle.std.proofs.Math.Nat.{mul-le-mul_left, mul_comm}
+use Rattle.std.specs.Prelude.{bit_and}
+use Rattle.std.specs.Int.{bit_at}
+use Rattle.query.specs.declared.cut.Cut.{Cut}
+use Rattle.query.specs.declared.slots.Comparison.{Comparison}
+use Rattle.query.specs.inner.Slots.{width_of, is_valid_in, holds_in}
+use Rattle.query.specs.inner.Cuts.{answer_at, IsCut}
+use Rattle.query.proofs.Cuts.{answers_hold}
+use Rattle.query.proofs.Masked.{masked_word}
 use mir.Val.{bool_byte}
 
 ranges : (a m n : ℕ) → range_with_len a (m + n) ≡ range_with_len a m ++ range_with_len (a + m) n
@@ -28,9 +36,6 @@ blocks_within slots block rows h =
     let next : slots * (block + 1) ≤ slots * (rows / slots) = mul-le-mul_left slots (omega (arith, h)) in
     omega (arith, next, div-add-mod' rows slots, mul_comm slots (rows / slots))
 
-pub all_within : (slots rows : ℕ) → slots * (rows / slots) ≤ rows
-all_within slots rows = omega (arith, div-add-mod' rows slots, mul_comm slots (rows / slots))
-
 -- one flag as a word
 pub one_bit : (b : Bool) → mask_l (b ∷ []) ≡ bool_byte b
 one_bit true = refl
@@ -42,3 +47,12 @@ bit_small false = omega arith
 
 pub word_fits : (word n : ℕ) (bits : List Bool) → word ≡ mask_l bits → length bits ≡ n → word < 2 ^ n
 word_fits word n bits is size = subst (λ k. word < 2 ^ k) size (subst (λ w. w < 2 ^ length bits) (sym is) (mask_l-lt bits))
+
+-- the word of a block: what is answered of its slots, where they are valid
+pub word_of_block : (c : Comparison) (cut : Cut) (validity values : List ℕ) (first slots own answers valid : ℕ) → IsCut c.integer c.operator c.literal cut → ((j : ℕ) → get_or values j 0 < 256)
+    → slots ≡ own → answers ≡ mask_l (map (answer_at cut (width_of c.integer) values) (range_with_len first own)) → ((j : ℕ) → j < slots → (bit_at valid j == 1) ≡ is_valid_in validity (first + j))
+    → bit_and answers valid ≡ mask_l (map (holds_in c validity values) (range_with_len first slots))
+word_of_block c cut validity values first slots own answers valid is fit count are each =
+    let answer = answer_at cut (width_of c.integer) values in
+    masked_word answer (is_valid_in validity) slots first answers valid (are ∙ ap (λ n. mask_l (map answer (range_with_len first n))) (sym count)) each
+    ∙ ap mask_l (answers_hold c cut validity values first slots is fit)

@@ -1,6 +1,6 @@
 -- An order to a key is that of an integer to a literal.
-use Rattle.std.proofs.Common.{◌≡◌, ◌≢◌, inl, inr, ℕ, zero, suc, ◌+◌, ◌-◌, ◌*◌, ◌/◌, ◌%◌, ◌^◌, ◌<◌, Bool, true, false, List, [], ◌∷◌, ◌==◌, length, get_or, map, drop, refl, sym, ap, ◌∙◌, arith}
-use Rattle.std.specs.Prelude.{ℤ, pos, negsuc, nat_abs, T, ◌+ℤ◌, ◌-ℤ◌, ◌<ℤ◌, ◌≤ℤ◌, nat_lt, ◌&&◌, ◌||◌, if◌then◌else◌}
+use Rattle.std.proofs.Common.{◌≡◌, ◌≢◌, inl, inr, ℕ, zero, suc, ◌+◌, ◌-◌, ◌*◌, ◌/◌, ◌%◌, ◌^◌, ◌<◌, Bool, true, false, List, [], ◌∷◌, ◌==◌, get_or, map, drop, refl, sym, ap, ◌∙◌, arith}
+use Rattle.std.specs.Prelude.{ℤ, pos, negsuc, nat_abs, T, ◌+ℤ◌, ◌-ℤ◌, ◌<ℤ◌, ◌≤ℤ◌, nat_lt, ◌&&◌, if◌then◌else◌}
 use Rattle.std.specs.List.{range_with_len}
 use Rattle.std.specs.declared.cmp.Ordering.{Ordering}
 use Rattle.std.specs.declared.cmp.Ordering.TheVariants.{Less, Equal, Greater}
@@ -16,14 +16,13 @@ use Rattle.arrow_schema.specs.View.{bits_of}
 use Rattle.arrow_schema.specs.declared.types.BitWidth.{BitWidth}
 use Rattle.arrow_schema.specs.declared.types.BitWidth.TheVariants.{Eight, Sixteen, ThirtyTwo, SixtyFour}
 use Rattle.arrow_schema.specs.declared.types.IntegerType.{IntegerType}
-use Rattle.bitmap.specs.Bits.{bit}
 use Rattle.cells.specs.Integers.{integer_of}
 use Rattle.columns.specs.CellAt.{number_at}
 use Rattle.query.specs.declared.cut.Cut.{Cut}
 use Rattle.query.specs.declared.operator.Operator.{Operator}
 use Rattle.query.specs.declared.slots.Comparison.{Comparison}
 use Rattle.query.specs.Bound.{accepts}
-use Rattle.query.specs.inner.Slots.{width_of, holds_in}
+use Rattle.query.specs.inner.Slots.{width_of, is_valid_in, holds_in}
 use lib.Signed.{non_neg}
 use Rattle.query.specs.inner.Cuts.{bias_in, moved, answer_at, IsCut}
 
@@ -173,11 +172,10 @@ maps_same : {X Y : Type 0} (f g : X → Y) → ((x : X) → f x ≡ g x) → (xs
 maps_same f g h [] = refl
 maps_same {X} {Y} f g h (x ∷ xs) = ap (λ (y : Y). y ∷ map f xs) (h x) ∙ ap (λ (ys : List Y). g x ∷ ys) (maps_same f g h xs)
 
--- what is answered of slots of which none is null
-pub answers_hold : (c : Comparison) (cut : Cut) (validity values : List ℕ) (first n : ℕ) → IsCut c.integer c.operator c.literal cut → length validity ≡ 0 → ((j : ℕ) → get_or values j 0 < 256)
-    → map (answer_at cut (width_of c.integer) values) (range_with_len first n) ≡ map (holds_in c validity values) (range_with_len first n)
-answers_hold c cut validity values first n is none fit =
-    maps_same (answer_at cut (width_of c.integer) values) (holds_in c validity values)
-    (λ i. is.answers (number_at (width_of c.integer) values i) (number_below (width_of c.integer) i values fit)
-    ∙ ap (λ (b : Bool). (b || bit validity i) && accepts c.operator (int_cmp (integer_of (width_of c.integer) c.integer.signed (number_at (width_of c.integer) values i)) c.literal)) (sym (eq-eqb (length validity) 0 none)))
+-- what is answered of slots, where they are valid
+pub answers_hold : (c : Comparison) (cut : Cut) (validity values : List ℕ) (first n : ℕ) → IsCut c.integer c.operator c.literal cut → ((j : ℕ) → get_or values j 0 < 256)
+    → map (λ i. is_valid_in validity i && answer_at cut (width_of c.integer) values i) (range_with_len first n) ≡ map (holds_in c validity values) (range_with_len first n)
+answers_hold c cut validity values first n is fit =
+    maps_same (λ i. is_valid_in validity i && answer_at cut (width_of c.integer) values i) (holds_in c validity values)
+    (λ i. ap (λ (b : Bool). is_valid_in validity i && b) (is.answers (number_at (width_of c.integer) values i) (number_below (width_of c.integer) i values fit)))
     (range_with_len first n)

@@ -16,7 +16,7 @@ use mir.Val.{bits, hbits, bool_byte}
 -- ---- numbers of bytes
 
 -- a number of bytes, read as lanes are and as slots are
-little_is : (n i : ℕ) (xs : List ℕ) → i + n ≤ length xs → number_l 256 (take n (drop i xs)) ≡ little_from i n xs
+pub little_is : (n i : ℕ) (xs : List ℕ) → i + n ≤ length xs → number_l 256 (take n (drop i xs)) ≡ little_from i n xs
 little_is zero i xs room = refl
 little_is (suc n) i xs room =
     ap (λ (ys : List ℕ). number_l 256 (take (suc n) ys)) (drop_more xs i 0 (omega (arith, room)))

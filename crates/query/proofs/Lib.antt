@@ -15,4 +15,5 @@ pub mod Lines
 pub mod SlotFlags
 pub mod Cuts
 pub mod Lanes
+pub mod Masked
 pub mod BlockFlags

@@ -1,20 +1,24 @@
 // Answers of the integers in 64 bytes at once.
-ghost use Rattle.std.specs.Prelude.{◌≡◌, ◌≤◌, ◌<◌, ◌+◌, ◌*◌, ◌/◌, ◌^◌, length, map};
+ghost use Rattle.std.specs.Prelude.{◌≡◌, ℕ, ◌≤◌, ◌<◌, ◌+◌, ◌*◌, ◌/◌, ◌%◌, ◌^◌, ◌==◌, length, map};
+ghost use Rattle.std.specs.Int.{bit_at};
 ghost use Rattle.std.specs.List.{range_with_len};
 ghost use Rattle.std.specs.Simd.Lanes.{mask_l};
 ghost use Rattle.arrow_schema.specs.View.{bits_of};
 ghost use Rattle.query.specs.inner.Cuts.{answer_at, block_slots};
+ghost use Rattle.query.specs.inner.Slots.{is_valid_in};
 
 use crate::cut::Cut;
 use arrow_schema::BitWidth;
+use byteorder::{ByteOrder, LittleEndian};
 use std::simd::prelude::*;
 
 /// How many integers of a width 64 bytes hold.
 pub(crate) fn slots_in_block(width: BitWidth) -> usize
     ensures value { result ≡ block_slots width }
     ensures size { result * (bits_of width / 8) ≡ 64 }
-    ensures some { 0 < result }
+    ensures least { 8 ≤ result }
     ensures most { result ≤ 64 }
+    ensures bytes { result % 8 ≡ 0 }
 {
     match width {
         BitWidth::Eight => 64,
@@ -37,6 +41,21 @@ pub(crate) fn answers_of_block(width: BitWidth, cut: Cut, values: &[u8], first: 
         BitWidth::ThirtyTwo => of_32_bits(cut, values, first),
         BitWidth::SixtyFour => of_64_bits(cut, values, first),
     }
+}
+
+/// A bit for each slot of a block, from a slot on, that is not null; further bits may be set.
+pub(crate) fn valid_slots(validity: &[u8], first: usize, slots: usize) -> u64
+    requires least { 8 ≤ slots }
+    requires most { slots ≤ 64 }
+    requires bytes { slots % 8 ≡ 0 }
+    requires begins { first % 8 ≡ 0 }
+    requires room { 0 < length validity.now → first + slots ≤ 8 * length validity.now }
+    ensures { (j : ℕ) → j < slots → (bit_at result j == 1) ≡ is_valid_in validity.now (first + j) }
+{
+    if validity.is_empty() {
+        return u64::MAX;
+    }
+    LittleEndian::read_uint(&validity[first / 8..], slots / 8)
 }
 
 // A bit for each of 16 numbers of 32 bits from a slot on.

@@ -9,7 +9,7 @@ ghost use Rattle.query.specs.inner.BoundView.{bound_in};
 ghost use Rattle.query.specs.inner.Masks.{IsMask};
 ghost use Rattle.query.specs.inner.Slots.{width_of, IsIntegerKind, IsIntegerColumn, IsComparison, holds_in, holds_at, batch_flags, part_flags, parts_flags, has_slots, batch_has_slots, part_has_slots};
 
-use crate::blocks::{answers_of_block, slots_in_block};
+use crate::blocks::{answers_of_block, slots_in_block, valid_slots};
 use crate::bound::{Bound, Demand, field_at};
 use crate::cut::Cut;
 use crate::operator::{Operator, accepts};
@@ -141,7 +141,7 @@ impl Comparison {
         accepts(self.operator, number.cmp(&self.literal))
     }
 
-    // Adds whether it holds of the slots of whole blocks, where none is null, and says of how many.
+    // Adds whether it holds of the slots of whole blocks, and says of how many.
     fn push_blocks(
         self,
         flags: &mut MaskBuilder,
@@ -149,20 +149,19 @@ impl Comparison {
         values: &[u8],
         rows: usize,
     ) -> Result<usize, AllocError>
-        requires { rows * width_of self.integer ≤ length values.now }
+        requires valid { 0 < length validity.now → rows ≤ 8 * length validity.now }
+        requires long { rows * width_of self.integer ≤ length values.now }
         ensures within { IfOk result (λ n. n ≤ rows) }
         ensures flags { IfOk result (λ n. flags.new ≡ flags.old ++ map (holds_in self validity.now values.now) (range_with_len 0 n)) }
     {
-        if !validity.is_empty() {
-            return Ok(0);
-        }
         let width = self.integer.width;
         let cut = Cut::of(self.integer, self.operator, self.literal);
         let slots = slots_in_block(width);
         let blocks = rows / slots;
         for block in 0..blocks {
-            let answers = answers_of_block(width, cut, values, slots * block);
-            flags.push_word(answers, slots)?;
+            let first = slots * block;
+            let answers = answers_of_block(width, cut, values, first);
+            flags.push_word(answers & valid_slots(validity, first, slots), slots)?;
         }
         Ok(slots * blocks)
     }

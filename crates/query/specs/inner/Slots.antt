@@ -42,10 +42,14 @@ pub record IsComparison (columns : List Column) (b : Bound) (comparison : Compar
   pub place : comparison.place ≡ b.place
   pub demand : b.demand ≡ compares comparison.operator (number comparison.literal)
 
+-- whether a slot is valid by a validity bitmap
+abbrev pub is_valid_in : List ℕ → ℕ → Bool
+is_valid_in validity i = length validity == 0 || bit validity i
+
 -- whether it holds of a slot with this validity bitmap and these values: never of a null
 abbrev pub holds_in : Comparison → (validity values : List ℕ) → ℕ → Bool
 holds_in comparison validity values i =
-    (length validity == 0 || bit validity i)
+    is_valid_in validity i
     && accepts comparison.operator (int_cmp (integer_at (width_of comparison.integer) comparison.integer.signed values i) comparison.literal)
 
 abbrev pub holds_at : Comparison → Array → ℕ → Bool
