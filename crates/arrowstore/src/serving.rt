@@ -1,4 +1,6 @@
 // The commands of a store, on its file.
+ghost use Rattle.std.specs.Prelude.{◌≡◌, ◌≢◌, IfErr};
+
 use command_refusals::{Refusal, write_whole};
 use query::Query;
 use sector_dev::{FileDevice, LockFile, SectorDevice};
@@ -87,7 +89,9 @@ fn change<
     F: Read + Write + Seek + OpenFile + LockFile + Drop,
     H: Files<File = F> + AllocGlobal,
     W: Write,
->(rt: &H, path: &str, command: Command, output: &mut W) -> Result<(), Refusal> {
+>(rt: &H, path: &str, command: Command, output: &mut W) -> Result<(), Refusal>
+    ensures silent { IfErr result (λ refusal. refusal ≢ Refusal.Io → output.new ≡ output.old) }
+{
     apply_command(rt.alloc(), &mut open(rt, path)?, command, output)
 }
 
@@ -96,7 +100,9 @@ fn print_query<
     F: Read + Write + Seek + OpenFile + LockFile + Drop,
     H: Files<File = F> + AllocGlobal,
     W: Write,
->(rt: &H, path: &str, name: &str, words: &QueryWords<'_>, output: &mut W) -> Result<(), Refusal> {
+>(rt: &H, path: &str, name: &str, words: &QueryWords<'_>, output: &mut W) -> Result<(), Refusal>
+    ensures silent { IfErr result (λ refusal. refusal ≢ Refusal.Io → output.new ≡ output.old) }
+{
     let query = query(rt.alloc(), words)?;
     print_selection(
         rt.alloc(),
@@ -112,7 +118,9 @@ fn serve_request<
     H: Files<File = F> + AllocGlobal,
     R: Read,
     W: Write,
->(rt: &H, request: &StoreRequest<'_>, input: &mut R, output: &mut W) -> Result<(), Refusal> {
+>(rt: &H, request: &StoreRequest<'_>, input: &mut R, output: &mut W) -> Result<(), Refusal>
+    ensures silent { IfErr result (λ refusal. refusal ≢ Refusal.Io → output.new ≡ output.old) }
+{
     let alloc = rt.alloc();
     match request {
         StoreRequest::Format { path, sectors } => {
@@ -168,7 +176,10 @@ pub(crate) fn serve<
     H: Files<File = F> + AllocGlobal,
     R: Read,
     W: Write,
->(rt: &H, request: &StoreRequest<'_>, input: &mut R, output: &mut W) -> Result<(), Refusal> {
+>(rt: &H, request: &StoreRequest<'_>, input: &mut R, output: &mut W) -> Result<(), Refusal>
+    // Where it is refused, nothing is written, unless a read or a write failed.
+    ensures silent { IfErr result (λ refusal. refusal ≢ Refusal.Io → output.new ≡ output.old) }
+{
     let _places = take_places_of_streams(rt).map_err(|_| Refusal::Io)?;
     serve_request(rt, request, input, output)
 }

@@ -1,5 +1,5 @@
 -- What a run of the program leaves on its output and on standard error.
-use Rattle.std.specs.Prelude.{◌≡◌, ℕ, List, Option, IsTrue}
+use Rattle.std.specs.Prelude.{◌≡◌, ◌≢◌, ℕ, List, Option, IsTrue}
 use Rattle.std.specs.Io.KnownBytes.{Appends}
 use Rattle.command_refusals.specs.declared.refusal.Refusal.{Refusal}
 use Rattle.command_refusals.specs.declared.refusal.Refusal.TheVariants.{Io, OutOfMemory}
@@ -30,4 +30,6 @@ pub record HasReported {W E : Type 0} (contents : E → Option (List ℕ)) (tell
   -- nothing is reported of what is done
   pub silent : ended.status ≡ Done → errors' ≡ errors
   pub nothing_written : ended.status ≡ WrongArguments → output' ≡ output
+  -- what is refused has written nothing, unless a read or a write failed
+  pub quiet : IfRefused ended.status (λ refusal. refusal ≢ Io → output' ≡ output)
   pub line : TellsRefusal tells ended (contents errors) (contents errors')

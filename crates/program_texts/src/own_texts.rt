@@ -1,5 +1,5 @@
 // Texts of the program's own: its version, and what each refusal means.
-ghost use Rattle.std.specs.Prelude.{◌≡◌, map, IfErr, OnOk};
+ghost use Rattle.std.specs.Prelude.{◌≡◌, ◌≢◌, map, IfErr, OnOk};
 ghost use Rattle.std.specs.Io.KnownBytes.{Appends};
 ghost use Rattle.program_texts.specs.Ending.{IsOfOutput};
 ghost use Rattle.program_texts.specs.OwnTexts.{word_at, is_version_word, is_refusals_topic, asks_version, asks_refusals, is_own, own_text};
@@ -67,6 +67,7 @@ pub fn write_own_text<S: AsStr, W: Write>(
 ) -> Result<(), Refusal>
     ensures written { OnOk result (Appends (W.contents output.old) (W.contents output.new) (own_text (map S.text arguments.now))) }
     ensures refused { IfErr result IsOfOutput }
+    ensures silent { IfErr result (λ refusal. refusal ≢ Refusal.Io → output.new ≡ output.old) }
 {
     if asks_version(arguments) {
         return write_whole(output, VERSION.as_bytes());
