@@ -1,4 +1,4 @@
--- No command line asks for two things: for `recode`, for a text of the program's own, or for a command of a store.
+-- Which command lines are for a store, and which for a text of the program's own: none that asks for `recode`, and none for both.
 use Rattle.std.proofs.Common.{◌≡◌, ◌∙◌, Bool, true, false, List, [], ◌∷◌, codes, refl, ap, sym, subst, inl, inr, true≢false}
 use Rattle.std.specs.Str.{bytes_eq}
 use Rattle.std.proofs.lemmas.Slice.Eq.{bytes_eq-Decides}
@@ -18,16 +18,15 @@ recode_of_no_store arguments are = elim are.1 [
   | inr ended ↦ ap is_of_store ended ∙ recode_of_none are.0 (codes "--" ∷ [])
 ]
 
-recode_is_not_own : (name : Text) (rest : List Text) → is_own (name ∷ codes "recode" ∷ rest) ≡ false
+recode_of_no_own : (name : Text) (rest : List Text) → is_own (name ∷ codes "recode" ∷ rest) ≡ false
 unfolding is_own asks_version asks_refusals is_version_word is_refusals_topic
-recode_is_not_own name rest = refl
+recode_of_no_own name rest = refl
 
--- what asks for `recode` asks for no text of the program's own
-pub recode_not_own : (arguments : List Text) → AreRecode arguments → is_own arguments ≡ true → ⊥
+pub recode_is_not_own : (arguments : List Text) → AreRecode arguments → is_own arguments ≡ false
 unfolding AreRecode
-recode_not_own arguments are own = elim are.1 [
-  | inl alone ↦ absurd (true≢false (sym own ∙ ap is_own alone ∙ recode_is_not_own are.0 []))
-  | inr ended ↦ absurd (true≢false (sym own ∙ ap is_own ended ∙ recode_is_not_own are.0 (codes "--" ∷ [])))
+recode_is_not_own arguments are = elim are.1 [
+  | inl alone ↦ ap is_own alone ∙ recode_of_no_own are.0 []
+  | inr ended ↦ ap is_own ended ∙ recode_of_no_own are.0 (codes "--" ∷ [])
 ]
 
 -- a word that is another one

@@ -1,10 +1,6 @@
-use Rattle.std.proofs.Common.{◌∙◌, inl, inr, sym}
+use Rattle.std.proofs.Common.{inl, inr}
 use Rattle.arrowstore.proofs.CommandLemmas.{not_done}
-use Rattle.arrowstore.proofs.WordLemmas.{recode_not_own}
 use Rattle.arrowstore.proofs.running.run.Goals as goal
-
-pub returns-then-is_own-clause-recodes : goal.returns-then-is_own-clause-recodes
-returns-then-is_own-clause-recodes g c = λ are. absurd (recode_not_own _ are (sym c.is_own.ensures ∙ c.if-is_own.true))
 
 pub returns-in-Err-clause-done : goal.returns-in-Err-clause-done
 returns-in-Err-clause-done g c = λ done.
