@@ -1,4 +1,4 @@
--- Which command lines are for a store: none that asks for `recode`, or for a text of the program's own.
+-- Which command lines are for a store, and which for a text of the program's own: none that asks for `recode`, and none for both.
 use Rattle.std.proofs.Common.{◌≡◌, ◌∙◌, Bool, true, false, List, [], ◌∷◌, codes, refl, ap, sym, subst, inl, inr, true≢false}
 use Rattle.std.specs.Str.{bytes_eq}
 use Rattle.std.proofs.lemmas.Slice.Eq.{bytes_eq-Decides}
@@ -16,6 +16,17 @@ unfolding AreRecode
 recode_of_no_store arguments are = elim are.1 [
   | inl alone ↦ ap is_of_store alone ∙ recode_of_none are.0 []
   | inr ended ↦ ap is_of_store ended ∙ recode_of_none are.0 (codes "--" ∷ [])
+]
+
+recode_of_no_own : (name : Text) (rest : List Text) → is_own (name ∷ codes "recode" ∷ rest) ≡ false
+unfolding is_own asks_version asks_refusals is_version_word is_refusals_topic
+recode_of_no_own name rest = refl
+
+pub recode_is_not_own : (arguments : List Text) → AreRecode arguments → is_own arguments ≡ false
+unfolding AreRecode
+recode_is_not_own arguments are = elim are.1 [
+  | inl alone ↦ ap is_own alone ∙ recode_of_no_own are.0 []
+  | inr ended ↦ ap is_own ended ∙ recode_of_no_own are.0 (codes "--" ∷ [])
 ]
 
 -- a word that is another one

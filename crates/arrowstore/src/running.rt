@@ -17,6 +17,7 @@ use std::io::{Read, Write};
 use store_commands::recode;
 
 /// Does what the arguments ask for, of which the first is the program's name, and reports on `errors` why not.
+#[tactic(auto, using(crate::proofs::WordLemmas::recode_is_not_own))]
 pub fn run<S: AsStr, R: Read, W: Write, E: Write>(
     alloc: Global,
     arguments: &[S],
