@@ -62,15 +62,39 @@ pub(crate) fn offset_at(width: OffsetWidth, offsets: &[u8], slots: usize, i: usi
     first_number(width, rest) as usize
 }
 
+fn first_signed(width: BitWidth, bytes: &[u8]) -> i128
+    requires { bits_of width / 8 ≤ length bytes.now }
+    ensures { result ≡ integer_of (bits_of width / 8) true (little_number (bits_of width / 8) bytes.now) }
+{
+    match width {
+        BitWidth::Eight => i128::from(LittleEndian::read_int(bytes, 1)),
+        BitWidth::Sixteen => i128::from(LittleEndian::read_i16(bytes)),
+        BitWidth::ThirtyTwo => i128::from(LittleEndian::read_i32(bytes)),
+        BitWidth::SixtyFour => i128::from(LittleEndian::read_i64(bytes)),
+    }
+}
+
+fn first_unsigned(width: BitWidth, bytes: &[u8]) -> i128
+    requires { bits_of width / 8 ≤ length bytes.now }
+    ensures { result ≡ integer_of (bits_of width / 8) false (little_number (bits_of width / 8) bytes.now) }
+{
+    match width {
+        BitWidth::Eight => i128::from(LittleEndian::read_uint(bytes, 1)),
+        BitWidth::Sixteen => i128::from(LittleEndian::read_u16(bytes)),
+        BitWidth::ThirtyTwo => i128::from(LittleEndian::read_u32(bytes)),
+        BitWidth::SixtyFour => i128::from(LittleEndian::read_u64(bytes)),
+    }
+}
+
+// A read for each width: one whose length is known only as it runs is a copy.
 fn first_integer(integer: IntegerType, bytes: &[u8]) -> i128
     requires { bits_of integer.width / 8 ≤ length bytes.now }
     ensures { result ≡ integer_of (bits_of integer.width / 8) integer.signed (little_number (bits_of integer.width / 8) bytes.now) }
 {
-    let width = integer.width.bytes();
     if integer.signed {
-        i128::from(LittleEndian::read_int(bytes, width))
+        first_signed(integer.width, bytes)
     } else {
-        i128::from(LittleEndian::read_uint(bytes, width))
+        first_unsigned(integer.width, bytes)
     }
 }
 
