@@ -15,7 +15,7 @@ use Rattle.query.specs.declared.errors.QueryError.{QueryError}
 use Rattle.query.specs.declared.errors.QueryError.TheVariants as queries
 use Rattle.tables.specs.declared.refusal.QueryRefusal.TheVariants as reasons
 use Rattle.tables.specs.Refusals as tables
-use Rattle.store.specs.Opening.{opening_text}
+use Rattle.commit.specs.Told.{opening_text}
 use Rattle.command_refusals.specs.declared.refusal.Refusal.{Refusal}
 use Rattle.command_refusals.specs.declared.refusal.Refusal.TheVariants.{Fault, TooManyBytes, Io, BadSize, Fields, Text, Query, Opening, Store, OutOfMemory}
 

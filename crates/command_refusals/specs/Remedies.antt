@@ -10,8 +10,8 @@ use Rattle.tables.specs.declared.refusal.QueryRefusal.{QueryRefusal}
 use Rattle.tables.specs.declared.refusal.QueryRefusal.TheVariants as queries
 use Rattle.tables.specs.declared.refusal.Refusal as store_refusals
 use Rattle.tables.specs.declared.refusal.Refusal.TheVariants as stores
-use Rattle.store.specs.declared.opening_refusal.OpeningRefusal.{OpeningRefusal}
-use Rattle.store.specs.declared.opening_refusal.OpeningRefusal.TheVariants as openings
+use Rattle.commit.specs.declared.opening_refusal.OpeningRefusal.{OpeningRefusal}
+use Rattle.commit.specs.declared.opening_refusal.OpeningRefusal.TheVariants as openings
 use Rattle.command_refusals.specs.declared.refusal.Refusal.{Refusal}
 use Rattle.command_refusals.specs.declared.refusal.Refusal.TheVariants.{Fault, TooManyBytes, Io, BadSize, Fields, Text, Query, Opening, Store, OutOfMemory}
 use Rattle.command_refusals.specs.declared.remedies.TheConstants as remedies

@@ -10,7 +10,7 @@ use query::QueryError;
 use sector_dev::FileError;
 use std::alloc::AllocError;
 use std::fmt;
-use store::OpeningRefusal;
+use commit::OpeningRefusal;
 use tables::QueryRefusal;
 use text_import::{Refused, TextError};
 

@@ -5,7 +5,7 @@ ghost use Rattle.command_refusals.specs.Remedies.{fault_remedy, fields_remedy, t
 use crate::Refusal;
 use arrow_schema::ParseError;
 use ipc_message::Fault;
-use store::OpeningRefusal;
+use commit::OpeningRefusal;
 use tables::QueryRefusal;
 
 // ---- F: of a stream

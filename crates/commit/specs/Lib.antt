@@ -6,5 +6,6 @@ pub mod Standing
 pub mod Formatting
 pub mod Placing
 pub mod Opening
+pub mod Told
 pub mod laws
 pub mod inner

@@ -12,7 +12,7 @@ use Rattle.store.specs.declared.call.Reply.{Reply}
 use Rattle.store.specs.declared.call.Place.{Place}
 use Rattle.store.specs.declared.call.Place.TheVariants as places
 use Rattle.store.specs.declared.store.Store.{Store}
-use Rattle.store.specs.declared.opening_refusal.OpeningRefusal.{OpeningRefusal}
+use Rattle.commit.specs.declared.opening_refusal.OpeningRefusal.{OpeningRefusal}
 use Rattle.store.specs.Calls.{PlainCall, needs_store, apply_call, format_call, open_call, close_call, tables_call, schema_call, read_call, export_call, PlainReply, done, refused, shut_by}
 use Rattle.store.specs.Machine.{Setting, Machine, Phase, shut, running, halted, shut_down, Allows, AllowsEach}
 use Rattle.store.specs.Steps.{Step}

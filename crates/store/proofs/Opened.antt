@@ -24,7 +24,7 @@ use Rattle.store.specs.Machine.{Held, broken, holds, Setting, Machine, with_doub
 use Rattle.store.specs.Held.{whole_reading, tables_held, held_tables, held_of, held_by}
 use Rattle.store.specs.Fits.{setting_of}
 use Rattle.store.specs.Opening.{opening_of, TellsOpening}
-use Rattle.store.specs.declared.opening_refusal.OpeningRefusal.TheVariants as refusals
+use Rattle.commit.specs.declared.opening_refusal.OpeningRefusal.TheVariants as refusals
 
 -- the machine after an opening that found these tables: its settled commands make them
 pub record Finds (base : Tables) (m : Machine) (found : Option Tables) : Type 0 where

@@ -15,7 +15,7 @@ use Rattle.tables.specs.Tables.{Tables, no_tables}
 use Rattle.tables.specs.Commands.{PlainCommand}
 use Rattle.tables.specs.Verdict.{after}
 use Rattle.store.specs.declared.store.Store.{Store}
-use Rattle.store.specs.declared.opening_refusal.OpeningRefusal.{OpeningRefusal}
+use Rattle.commit.specs.declared.opening_refusal.OpeningRefusal.{OpeningRefusal}
 use Rattle.store.specs.Calls.{PlainCall, done, shut_by}
 use Rattle.store.specs.Machine.{no_store, holds, Setting, Machine, shut, running, halted, shut_down, Allows}
 use Rattle.store.specs.Runs.{Goes}

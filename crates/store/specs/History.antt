@@ -3,7 +3,7 @@ use Rattle.std.specs.Prelude.{◌≡◌, ◌≢◌, ◌⊎◌, ◌||◌, Bool, t
 use Rattle.sector_dev.specs.Disk.{Image}
 use Rattle.tables.specs.Commands.{PlainCommand}
 use Rattle.tables.specs.Verdict.{after}
-use Rattle.store.specs.declared.opening_refusal.OpeningRefusal.TheVariants as openings
+use Rattle.commit.specs.declared.opening_refusal.OpeningRefusal.TheVariants as openings
 use Rattle.store.specs.Calls.{PlainCall, apply_call, PlainReply, done, shut_by, may_be_done, is_change}
 use Rattle.store.specs.Machine.{no_store, holds, Setting, Machine, halted}
 

@@ -1,33 +1,15 @@
--- Why a device is not opened or formatted, as it is reported, and what it tells of the device.
-use Rattle.std.specs.Prelude.{◌≡◌, ◌≢◌, ℕ, false, List, ◌++◌, Option, None, codes}
+-- Why a device is not opened or formatted, and what it tells of the device.
+use Rattle.std.specs.Prelude.{◌≡◌, ◌≢◌, ℕ, false, Option, None}
 use Rattle.catalogue.specs.Entries.{PlainCatalogue}
 use Rattle.commit.specs.Standing.{Standing, no_store, damaged, is_size}
-use Rattle.commit.specs.declared.cause.Cause.{Cause}
-use Rattle.commit.specs.declared.cause.Cause.TheVariants as causes
 use Rattle.commit.specs.declared.cause.Cause.TheVariants.{DeviceSize}
 use Rattle.commit.specs.declared.sector.Commit.{Commit}
 use Rattle.commit.specs.declared.formatting.FormatError.{FormatError}
 use Rattle.commit.specs.declared.formatting.FormatError.TheVariants as formats
 use Rattle.commit.specs.declared.reading.OpenError.{OpenError}
 use Rattle.commit.specs.declared.reading.OpenError.TheVariants as errors
-use Rattle.store.specs.declared.opening_refusal.OpeningRefusal.{OpeningRefusal}
-use Rattle.store.specs.declared.opening_refusal.OpeningRefusal.TheVariants as refusals
-
-abbrev pub cause_text : Cause → List ℕ
-cause_text causes.DeviceSize = codes "DeviceSize"
-cause_text causes.CatalogueRange = codes "CatalogueRange"
-cause_text causes.CatalogueUnreadable = codes "CatalogueUnreadable"
-cause_text causes.CatalogueText = codes "CatalogueText"
-cause_text causes.RunRange = codes "RunRange"
-cause_text causes.RunOverlap = codes "RunOverlap"
-
--- code, name and what it carries, split by spaces
-abbrev pub opening_text : OpeningRefusal → List ℕ
-opening_text refusals.NotAStore = codes "C1 NotAStore"
-opening_text refusals.AlreadyAStore = codes "C2 AlreadyAStore"
-opening_text (refusals.Damaged cause) = codes "C3 Damaged " ++ cause_text cause
-opening_text refusals.Device = codes "C4 Device"
-opening_text refusals.OutOfMemory = codes "OutOfMemory"
+use Rattle.commit.specs.declared.opening_refusal.OpeningRefusal.{OpeningRefusal}
+use Rattle.commit.specs.declared.opening_refusal.OpeningRefusal.TheVariants as refusals
 
 -- why a store is not opened, as it is told
 abbrev pub opening_of : OpenError → OpeningRefusal

@@ -5,7 +5,7 @@ use Rattle.sector_dev.specs.Time.{Grows, LeavesOnly}
 use Rattle.tables.specs.declared.refusal.Refusal.{Refusal}
 use Rattle.tables.specs.Refusals.{Origin, by_room, origin_of}
 use Rattle.tables.specs.Commands.{PlainCommand}
-use Rattle.store.specs.declared.opening_refusal.OpeningRefusal.TheVariants as openings
+use Rattle.commit.specs.declared.opening_refusal.OpeningRefusal.TheVariants as openings
 use Rattle.store.specs.Calls.{PlainCall, apply_call, PlainReply, done, refused, shut_by, is_device_reply, is_change, counted}
 use Rattle.store.specs.Carrying.{IsCarriedOut}
 use Rattle.store.specs.Machine.{no_store, Setting, Machine, Allows, AllowsEach, has_written}

@@ -9,7 +9,7 @@ use Rattle.tables.specs.Refusals.{Origin, by_tables, by_room, by_memory, by_devi
 use Rattle.tables.specs.Tables.{table_at, row_counts}
 use Rattle.tables.specs.Commands.{PlainCommand}
 use Rattle.tables.specs.Verdict.{verdict}
-use Rattle.store.specs.declared.opening_refusal.OpeningRefusal.TheVariants as openings
+use Rattle.commit.specs.declared.opening_refusal.OpeningRefusal.TheVariants as openings
 use Rattle.store.specs.Calls.{PlainCall, apply_call, format_call, open_call, close_call, tables_call, schema_call, read_call, export_call, PlainReply, done, counts, schema_is, table_is, bytes_are, refused, shut_by}
 use Rattle.store.specs.Machine.{Setting, shut, running, Machine, with_doubt, tables_now, settle, opened, shut_down, halt}
 

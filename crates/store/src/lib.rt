@@ -33,14 +33,13 @@ mod store;
 mod stored;
 
 pub use call::{Call, Place, Reply};
-pub use commit::Cause;
+pub use commit::{Cause, OpeningRefusal};
 pub use laws::{
     a_stop_keeps_what_was_acknowledged, acknowledged_commands_are_settled, decisions_are_verdicts,
     devices_fit, each_stop_is_allowed, runs_go_on, runs_tell_no_damage,
     undisturbed_runs_settle_what_was_acknowledged, undisturbed_runs_tell_no_failure,
     undisturbed_runs_tell_no_halt, what_is_done_is_the_verdict,
 };
-pub use opening_refusal::OpeningRefusal;
 pub use running::run;
 pub use store::Store;
 pub use stored::StoredCatalogue;

@@ -1,37 +1,8 @@
-// Why a device is not opened or formatted.
+// Why a store is not opened, in the words of the store.
 ghost use Rattle.std.specs.Prelude.{◌≡◌};
-ghost use Rattle.store.specs.Opening.{cause_text, opening_of};
+ghost use Rattle.store.specs.Opening.{opening_of};
 
-use commit::{Cause, OpenError};
-use std::fmt;
-
-/// Why a device is not opened or formatted. The device is given back beside it.
-#[derive(Clone, Copy, Debug, PartialEq, Eq)]
-pub enum OpeningRefusal {
-    /// C1: no commit rules.
-    NotAStore,
-    /// C2: a commit rules already, so nothing is formatted.
-    AlreadyAStore,
-    /// C3: the store is damaged, or no store has a device of this size.
-    Damaged(Cause),
-    /// C4: the device failed.
-    Device,
-    /// A growth was refused.
-    OutOfMemory,
-}
-
-fn cause_name(cause: Cause) -> &'static str
-    ensures { result.now ≡ cause_text cause }
-{
-    match cause {
-        Cause::DeviceSize => "DeviceSize",
-        Cause::CatalogueRange => "CatalogueRange",
-        Cause::CatalogueUnreadable => "CatalogueUnreadable",
-        Cause::CatalogueText => "CatalogueText",
-        Cause::RunRange => "RunRange",
-        Cause::RunOverlap => "RunOverlap",
-    }
-}
+use commit::{OpenError, OpeningRefusal};
 
 // Why a store is not opened, as it is told.
 pub(crate) fn opening_refusal(error: OpenError) -> OpeningRefusal
@@ -44,23 +15,3 @@ pub(crate) fn opening_refusal(error: OpenError) -> OpeningRefusal
         OpenError::OutOfMemory => OpeningRefusal::OutOfMemory,
     }
 }
-
-/// As `C3 Damaged CatalogueText`.
-impl fmt::Display for OpeningRefusal {
-    ghost use Rattle.std.specs.Prelude.{Some};
-    ghost use Rattle.store.specs.Opening.{opening_text};
-
-    ghost output = { λ refusal. Some (opening_text refusal) };
-
-    fn fmt<W: fmt::Write>(&self, f: &mut fmt::Formatter<W>) -> fmt::Result {
-        match self {
-            OpeningRefusal::NotAStore => f.write_str("C1 NotAStore"),
-            OpeningRefusal::AlreadyAStore => f.write_str("C2 AlreadyAStore"),
-            OpeningRefusal::Damaged(cause) => write!(f, "C3 Damaged {}", cause_name(*cause)),
-            OpeningRefusal::Device => f.write_str("C4 Device"),
-            OpeningRefusal::OutOfMemory => f.write_str("OutOfMemory"),
-        }
-    }
-}
-
-impl std::error::Error for OpeningRefusal {}

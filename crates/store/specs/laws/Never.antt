@@ -4,7 +4,7 @@ use Rattle.std.specs.List.{list_any}
 use Rattle.std.proofs.Common.{sym, ap, ◌∙◌}
 use Rattle.sector_dev.specs.Disk.{Story}
 use Rattle.commit.specs.declared.cause.Cause.{Cause}
-use Rattle.store.specs.declared.opening_refusal.OpeningRefusal.TheVariants as openings
+use Rattle.commit.specs.declared.opening_refusal.OpeningRefusal.TheVariants as openings
 use Rattle.store.specs.Calls.{PlainCall, apply_call, format_call, open_call, close_call, tables_call, schema_call, read_call, export_call, PlainReply, shut_by, is_change}
 use Rattle.store.specs.Machine.{Setting, Machine}
 use Rattle.store.specs.Steps.{Step}

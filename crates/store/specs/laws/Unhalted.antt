@@ -8,7 +8,7 @@ use Rattle.tables.specs.declared.refusal.Refusal.{Refusal}
 use Rattle.tables.specs.declared.refusal.Refusal.TheVariants as refusals
 use Rattle.tables.specs.Refusals.{Origin, by_tables, by_room, by_memory, by_device, by_halt, elsewhere, origin_of}
 use Rattle.tables.specs.Commands.{PlainCommand}
-use Rattle.store.specs.declared.opening_refusal.OpeningRefusal.TheVariants as openings
+use Rattle.commit.specs.declared.opening_refusal.OpeningRefusal.TheVariants as openings
 use Rattle.store.specs.Calls.{PlainCall, apply_call, format_call, open_call, close_call, tables_call, schema_call, read_call, export_call, PlainReply, done, counts, schema_is, table_is, bytes_are, refused, shut_by, is_failure, is_device_reply}
 use Rattle.store.specs.Machine.{Setting, Machine, Phase, running, shut, with_doubt, opened}
 use Rattle.store.specs.Steps.{RefusesFrom, Step}

@@ -11,7 +11,7 @@ use Rattle.commit.specs.Formatting.{first_commit}
 use Rattle.commit.specs.Placing.{Uses}
 use Rattle.catalogue.specs.Entries.{PlainCatalogue, runs_of}
 use Rattle.catalogue.specs.View.{catalogue_of}
-use Rattle.store.specs.declared.opening_refusal.OpeningRefusal.{OpeningRefusal}
+use Rattle.commit.specs.declared.opening_refusal.OpeningRefusal.{OpeningRefusal}
 use Rattle.tables.specs.Tables.{no_tables}
 use Rattle.store.specs.Calls.{format_call, shut_by, counted}
 use Rattle.store.specs.Machine.{opened, shut_down, Allows}

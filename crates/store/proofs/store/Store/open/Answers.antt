@@ -4,7 +4,7 @@ use Rattle.sector_dev.specs.Time.{LeavesOnly}
 use Rattle.commit.specs.Standing.{is_size, Stands}
 use Rattle.commit.specs.Opening.{standing_shown}
 use Rattle.catalogue.specs.View.{catalogue_of}
-use Rattle.store.specs.declared.opening_refusal.OpeningRefusal.{OpeningRefusal}
+use Rattle.commit.specs.declared.opening_refusal.OpeningRefusal.{OpeningRefusal}
 use Rattle.store.specs.Calls.{open_call, shut_by, counted}
 use Rattle.store.specs.Machine.{shut_down, Allows}
 use Rattle.store.specs.Runs.{Goes}
