@@ -8,7 +8,7 @@ ghost use Rattle.program_texts.specs.Told.{told};
 use crate::telling::tell;
 use crate::{Audience, Ended, Status};
 use clap::error::ErrorKind;
-use command_refusals::{Refusal, Word};
+use command_refusals::{Hint, Refusal};
 use std::io::Write;
 
 /// Reports why the arguments ask for nothing: what is wrong with them goes to `errors`, and help to `output`.
@@ -45,16 +45,16 @@ pub fn report_signed_number<E: Write>(errors: &mut E) -> Ended
     }
 }
 
-/// Reports a refusal, with the word that is refused where it is known.
+/// Reports a refusal, with what is refused where more of it is known.
 pub fn end<E: Write>(
     done: Result<(), Refusal>,
-    word: Option<Word<'_>>,
+    hint: Option<Hint<'_>>,
     audience: Audience,
     errors: &mut E,
 ) -> Ended
     ensures done { IsOk done → (result.status ≡ Status.Done) × (errors.new ≡ errors.old) }
     ensures refused { IfErr done (λ refusal. result.status ≡ Status.Refused refusal) }
-    ensures line { TellsRefusal (told audience word.entry) result (E.contents errors.old) (E.contents errors.new) }
+    ensures line { TellsRefusal (told audience hint.entry) result (E.contents errors.old) (E.contents errors.new) }
 {
     match done {
         Ok(()) => Ended {
@@ -63,7 +63,7 @@ pub fn end<E: Write>(
         },
         Err(refusal) => Ended {
             status: Status::Refused(refusal),
-            is_reported: tell(refusal, word, audience, errors).is_ok(),
+            is_reported: tell(refusal, hint, audience, errors).is_ok(),
         },
     }
 }

@@ -3,7 +3,7 @@ ghost use Rattle.std.specs.Prelude.{◌≡◌, OnOk};
 ghost use Rattle.std.specs.Io.KnownBytes.{Appends};
 ghost use Rattle.program_texts.specs.Told.{told};
 
-use command_refusals::{Refusal, Word};
+use command_refusals::{Hint, Refusal};
 use std::io::{self, IsTerminal, Write};
 
 /// Who reads what is told of a refusal.
@@ -26,25 +26,22 @@ impl Audience {
     }
 }
 
-/// Tells of a refusal, with the word that is refused where it is known.
+/// Tells of a refusal, with what is refused where more of it is known.
 #[tactic(auto, unfolding(crate::specs::Told::told, crate::specs::Told::remedy_line, crate::specs::Reported::refusal_line))]
 pub(crate) fn tell<E: Write>(
     refusal: Refusal,
-    word: Option<Word<'_>>,
+    hint: Option<Hint<'_>>,
     audience: Audience,
     errors: &mut E,
 ) -> io::Result<()>
-    ensures { OnOk result (Appends (E.contents errors.old) (E.contents errors.new) (told audience word.entry refusal)) }
+    ensures { OnOk result (Appends (E.contents errors.old) (E.contents errors.new) (told audience hint.entry refusal)) }
 {
     let remedy = refusal.remedy();
-    match (audience, word) {
+    match (audience, hint) {
         (Audience::Program, _) => writeln!(errors, "refused {refusal}"),
         (Audience::Terminal, None) => writeln!(errors, "refused {refusal}\n{remedy}"),
-        (Audience::Terminal, Some(Word { role, text })) => {
-            writeln!(
-                errors,
-                "refused {refusal}\nThe {role} `{text}` is refused. {remedy}"
-            )
+        (Audience::Terminal, Some(hint)) => {
+            writeln!(errors, "refused {refusal}\n{hint}{remedy}")
         }
     }
 }
