@@ -15,7 +15,14 @@ use Rattle.command_refusals.specs.declared.refusal.Refusal.TheVariants.{Io}
 use Rattle.text_import.specs.declared.form.TextForm.{TextForm}
 use Rattle.store_commands.specs.Given.{IsWholeInput}
 use Rattle.text_import.specs.Form.{rows_in}
-use Rattle.store_commands.specs.TextRows.{InputGives}
+use Rattle.text_import.specs.Part.{part_of, refused_part}
+use Rattle.text_import.specs.Refusals.{refused_by}
+use Rattle.text_import.specs.declared.part.RefusedPart.{RefusedPart}
+use Rattle.text_import.specs.declared.refusal.TextError.{TextError}
+use Rattle.text_import.specs.declared.refusal.TextError.TheVariants as texts
+use Rattle.facts.specs.Outcomes.{Reports}
+use Rattle.command_refusals.specs.Refusals.{text_refusal}
+use Rattle.store_commands.specs.TextRows.{InputGives, HintsAt, IfHinted}
 use Rattle.store_commands.specs.Selecting.{rows_text, QueryAnswers, RefusesQuery}
 
 -- the schema is that of the entry that is found
@@ -29,6 +36,34 @@ input_gives form (Some e) input s bytes text given is whole same gives = record 
   whole = whole;
   gives = ap (λ t. rows_in form t bytes) (ap (λ o. unwrap_or o s) is) ∙ (ap (λ b. rows_in form s b) (sym same) ∙ gives);
 }
+
+-- a part that a call gave is the one that is refused, and where nothing is hinted there is nothing to show
+pub hints_at : (form : TextForm) (s : PlainSchema) (bytes : List ℕ) (refused : Refused) (part : Option RefusedPart) → option_map part_of part ≡ refused_part form s bytes refused.number
+    → HintsAt part form s bytes (Some refused)
+hints_at form s bytes refused None e = tt
+hints_at form s bytes refused (Some part) e = sym e
+
+pub no_hint : (hint : Option RefusedPart) (form : TextForm) (found : Option PlainEntry) (input : Option (List ℕ)) (result : Result (Unit {0}) Refusal) → hint ≡ None → IfHinted hint form found input result
+no_hint None form found input result e = tt
+no_hint (Some part) form found input result e = absurd cc
+
+-- what is hinted of a text for the schema of the entry that is found
+pub input_hints : (form : TextForm) (found : Option PlainEntry) (input : Option (List ℕ)) (s : PlainSchema) (bytes text : List ℕ) (error : TextError) (hint : Option RefusedPart)
+    → option_map (λ e. e.schema) found ≡ Some s → IsWholeInput input bytes → text ≡ bytes → Reports (refused_by error) (rows_in form s text) → HintsAt hint form s text (refused_by error)
+    → IfHinted hint form found input (Err (text_refusal error))
+input_hints form found input s bytes text error None is whole same gives hints = tt
+input_hints form None input s bytes text error (Some part) is whole same gives hints = absurd cc
+input_hints form (Some e) input s bytes text texts.OutOfMemory (Some part) is whole same gives hints = absurd hints
+input_hints form (Some e) input s bytes text (texts.Refused refused) (Some part) is whole same gives hints =
+    let schema : e.schema ≡ s = ap (λ o. unwrap_or o s) is in
+    record {
+      entry = e;
+      is_there = refl;
+      bytes = bytes;
+      whole = whole;
+      refuses = ap (λ t. rows_in form t bytes) schema ∙ (ap (λ b. rows_in form s b) (sym same) ∙ gives);
+      names = ap (λ t. refused_part form t bytes refused.number) schema ∙ (ap (λ b. refused_part form s b refused.number) (sym same) ∙ hints);
+    }
 
 -- where all is written, the lines of the selection are
 pub lines_written : (halted tells : Bool) (image : Image) (found : Option PlainEntry) (q : PlainQuery) (table selected : PlainTable) (text : List ℕ) (old new : Option (List ℕ)) (r : Result (Unit {0}) Refusal)

@@ -1,10 +1,13 @@
 -- Rows of an input that is a text, for a table of a store.
-use Rattle.std.specs.Prelude.{◌≡◌, ◌⊎◌, ℕ, Bool, false, List, Option, Some, Result, Ok, Err, IsErrAnd}
+use Rattle.std.specs.Prelude.{◌≡◌, ◌⊎◌, ℕ, Bool, false, List, Option, None, Some, Result, Ok, Err, IsErrAnd}
 use Rattle.std.specs.Io.KnownBytes.{IsAtEnd}
 use Rattle.cells.specs.Cell.{Cell}
 use Rattle.catalogue.specs.Entries.{PlainEntry}
 use Rattle.text_import.specs.declared.refusal.Refused.{Refused}
 use Rattle.text_import.specs.Form.{rows_in}
+use Rattle.text_import.specs.Part.{PlainPart, part_of, refused_part}
+use Rattle.text_import.specs.declared.part.RefusedPart.{RefusedPart}
+use Rattle.arrow_schema.specs.Column.{PlainSchema}
 use Rattle.tables.specs.declared.refusal.Refusal as tables
 use Rattle.command_refusals.specs.declared.refusal.Refusal.{Refusal}
 use Rattle.command_refusals.specs.declared.refusal.Refusal.TheVariants.{Text}
@@ -34,3 +37,24 @@ RefusesText remaining form halted found old new refusal = RefusesAppend remainin
 abbrev pub IfOfText : TextForm → Option PlainEntry → Option (List ℕ) → Refusal → Type 0
 IfOfText form found input (Text refused) = InputGives form found input (Err refused)
 IfOfText form found input _ = Unit {0}
+
+-- what is hinted of a text that is refused, if anything: the part of the refused record that is
+abbrev pub HintsAt : Option RefusedPart → TextForm → PlainSchema → List ℕ → Option Refused → Type 0
+HintsAt None form schema bytes refused = Unit {0}
+HintsAt (Some part) form schema bytes None = ⊥
+HintsAt (Some part) form schema bytes (Some refused) = refused_part form schema bytes refused.number ≡ Some (part_of part)
+
+-- all of an input is refused, as a text for the schema of the table that is found, and this is the part of the refused record that is
+pub record HintsPart (part : PlainPart) (form : TextForm) (found : Option PlainEntry) (input : Option (List ℕ)) (refused : Refused) : Type 0 where
+  pub entry : PlainEntry
+  pub is_there : found ≡ Some entry
+  pub bytes : List ℕ
+  pub whole : IsWholeInput input bytes
+  pub refuses : rows_in form entry.schema bytes ≡ Err refused
+  pub names : refused_part form entry.schema bytes refused.number ≡ Some part
+
+-- nothing is hinted but of a refused text
+abbrev pub IfHinted : Option RefusedPart → TextForm → Option PlainEntry → Option (List ℕ) → Result (Unit {0}) Refusal → Type 0
+IfHinted None form found input result = Unit {0}
+IfHinted (Some part) form found input (Err (Text refused)) = HintsPart (part_of part) form found input refused
+IfHinted (Some part) form found input _ = ⊥

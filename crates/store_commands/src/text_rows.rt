@@ -1,5 +1,5 @@
 // Rows of an input that is a text: CSV or JSON Lines.
-ghost use Rattle.std.specs.Prelude.{◌≡◌, ◌≢◌, true, codes, IfErr, OnOk};
+ghost use Rattle.std.specs.Prelude.{◌≡◌, ◌≢◌, true, codes, map, IfErr, OnOk};
 ghost use Rattle.std.specs.Io.KnownBytes.{Appends};
 ghost use Rattle.catalogue.specs.Edits.{entry_of};
 ghost use Rattle.tables.specs.Commands.{append_rows};
@@ -9,20 +9,76 @@ ghost use Rattle.store.specs.Calls.{apply_call};
 ghost use Rattle.store.specs.Fits.{StoreFits, is_halted, listed_in};
 ghost use Rattle.store.specs.Machine.{Machine};
 ghost use Rattle.store_commands.specs.Changing.{AnswersCommand};
-ghost use Rattle.store_commands.specs.TextRows.{HandsRows, RefusesText, IfOfText};
+ghost use Rattle.arrow_schema.specs.View.{schema_of};
+ghost use Rattle.cells.specs.Row.{row_of};
+ghost use Rattle.facts.specs.Outcomes.{Gives};
+ghost use Rattle.text_import.specs.Form.{rows_in};
+ghost use Rattle.text_import.specs.Refusals.{refused_by};
+ghost use Rattle.store_commands.specs.TextRows.{HandsRows, RefusesText, IfOfText, HintsAt, IfHinted};
 
 use crate::{LARGEST_INPUT, apply_command, read_at_most};
+use arrow_schema::Schema;
+use cells::Row;
 use command_refusals::Refusal;
 use sector_dev::SectorDevice;
 use std::alloc::Global;
 use std::io::{Read, Write};
 use store::Store;
 use tables::Command;
-use text_import::{TextForm, rows_in};
+use text_import::{RefusedPart, TextError, TextForm, refused_part, rows_in};
+
+// The part of the first refused record that is refused. Where memory is refused for it, no part is told.
+#[tactic(auto, using(crate::proofs::TextLemmas::hints_at))]
+fn refused_in(
+    alloc: Global,
+    form: &TextForm<'_>,
+    schema: &Schema,
+    text: &[u8],
+    error: &TextError,
+) -> Option<RefusedPart>
+    ensures { HintsAt result form.now (schema_of schema.now) text.now (refused_by error.now) }
+{
+    match error {
+        TextError::Refused(refused) => match refused_part(
+            alloc,
+            form,
+            schema,
+            text,
+            refused.number,
+        ) {
+            Ok(part) => part,
+            Err(_) => None,
+        },
+        TextError::OutOfMemory => None,
+    }
+}
+
+// The rows of a text; where it is refused, `hint` is the part that is.
+fn read_rows(
+    alloc: Global,
+    form: &TextForm<'_>,
+    schema: &Schema,
+    text: &[u8],
+    hint: &mut Option<RefusedPart>,
+) -> Result<Vec<Row>, TextError>
+    ensures rows { Gives refused_by (λ v. map row_of v.items) result (rows_in form.now (schema_of schema.now) text.now) }
+    ensures kept { OnOk result (hint.new ≡ hint.old) }
+    ensures hint { IfErr result (λ error. HintsAt hint.new form.now (schema_of schema.now) text.now (refused_by error)) }
+{
+    match rows_in(alloc, form, schema, text) {
+        Ok(rows) => Ok(rows),
+        Err(error) => {
+            *hint = refused_in(alloc, form, schema, text, &error);
+            Err(error)
+        }
+    }
+}
 
 /// Appends the rows that all of the input has, as a text for the table's schema, and writes `ok`.
 ///
-/// That there is no such table is told before anything is read.
+/// That there is no such table is told before anything is read. Where a record of the text is refused, `hint` is left with the part of it
+/// that is, if memory suffices, and else with none.
+#[tactic(auto, using(crate::proofs::TextLemmas::no_hint))]
 pub fn append_text<D: SectorDevice, R: Read, W: Write>(
     alloc: Global,
     store: &mut Store<D>,
@@ -30,6 +86,7 @@ pub fn append_text<D: SectorDevice, R: Read, W: Write>(
     form: &TextForm<'_>,
     input: &mut R,
     output: &mut W,
+    hint: &mut Option<RefusedPart>,
 ) -> Result<(), Refusal>
     // What the store is given are the rows of the input, as they are defined.
     ensures goes { D.tells ≡ true → (base : Tables) (m : Machine) → StoreFits D.size D.story base m store.old
@@ -43,12 +100,15 @@ pub fn append_text<D: SectorDevice, R: Read, W: Write>(
         × (store.new ≡ store.old) × (output.new ≡ output.old)) result }
     // A record that is refused is the first one that is none.
     ensures refused { IfErr result (IfOfText form.now (entry_of (listed_in store.old) name.now) (R.remaining input.old)) }
+    // What is hinted is the part of that record that is refused, as it is defined; of another answer there is no hint.
+    ensures hint { IfHinted hint.new form.now (entry_of (listed_in store.old) name.now) (R.remaining input.old) result }
     ensures written { OnOk result (Appends (W.contents output.old) (W.contents output.new) (codes "ok\n")) }
     ensures silent { IfErr result (λ refusal. refusal ≢ Refusal.Io → output.new ≡ output.old) }
 {
+    *hint = None;
     let schema = store.schema(alloc, name)?;
     let text = read_at_most(alloc, input, LARGEST_INPUT)?;
-    let rows = rows_in(alloc, form, &schema, &text)?;
+    let rows = read_rows(alloc, form, &schema, &text, hint)?;
     let name = String::from_str(alloc, name)?;
     apply_command(alloc, store, Command::AppendRows { name, rows }, output)
 }
