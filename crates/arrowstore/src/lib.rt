@@ -16,7 +16,7 @@ mod running;
 mod serving;
 mod with_files;
 
-pub use command_refusals::{REFUSALS, Refusal, Role, Word};
+pub use command_refusals::{Hint, REFUSALS, Refusal, Role, Word};
 pub use program_texts::{Audience, Ended, Status, VERSION, report_unreadable_arguments};
 pub use running::run;
 pub use store_commands::{
@@ -24,5 +24,5 @@ pub use store_commands::{
     import_input, new_table, print_schema, print_selection, print_tables, query_of, read_at_most,
     recode,
 };
-pub use text_import::TextForm;
+pub use text_import::{RefusedPart, TextForm};
 pub use with_files::run_with_files;

@@ -15,6 +15,7 @@ use store_commands::{
 };
 use store_requests::{QueryWords, StoreRequest};
 use tables::Command;
+use text_import::RefusedPart;
 
 fn opened<D: SectorDevice + Drop>(
     opening: Result<Store<D>, (OpeningRefusal, D)>,
@@ -118,7 +119,13 @@ fn serve_request<
     H: Files<File = F> + AllocGlobal,
     R: Read,
     W: Write,
->(rt: &H, request: &StoreRequest<'_>, input: &mut R, output: &mut W) -> Result<(), Refusal>
+>(
+    rt: &H,
+    request: &StoreRequest<'_>,
+    input: &mut R,
+    output: &mut W,
+    hint: &mut Option<RefusedPart>,
+) -> Result<(), Refusal>
     ensures silent { IfErr result (λ refusal. refusal ≢ Refusal.Io → output.new ≡ output.old) }
 {
     let alloc = rt.alloc();
@@ -137,7 +144,7 @@ fn serve_request<
             append_input(alloc, &mut open(rt, path)?, name, input, output)
         }
         StoreRequest::AppendText { path, name, form } => {
-            append_text(alloc, &mut open(rt, path)?, name, form, input, output)
+            append_text(alloc, &mut open(rt, path)?, name, form, input, output, hint)
         }
         StoreRequest::Query { path, name, query } => print_query(rt, path, name, query, output),
         StoreRequest::SaveAs {
@@ -170,16 +177,22 @@ fn take_places_of_streams<
     Ok((fs::open(rt, "/")?, fs::open(rt, "/")?, fs::open(rt, "/")?))
 }
 
-/// Does what is asked of a store.
+/// Does what is asked of a store. Where a text is refused, `hint` is left with the part of it that is.
 pub(crate) fn serve<
     F: Read + Write + Seek + OpenFile + LockFile + Drop,
     H: Files<File = F> + AllocGlobal,
     R: Read,
     W: Write,
->(rt: &H, request: &StoreRequest<'_>, input: &mut R, output: &mut W) -> Result<(), Refusal>
+>(
+    rt: &H,
+    request: &StoreRequest<'_>,
+    input: &mut R,
+    output: &mut W,
+    hint: &mut Option<RefusedPart>,
+) -> Result<(), Refusal>
     // Where it is refused, nothing is written, unless a read or a write failed.
     ensures silent { IfErr result (λ refusal. refusal ≢ Refusal.Io → output.new ≡ output.old) }
 {
     let _places = take_places_of_streams(rt).map_err(|_| Refusal::Io)?;
-    serve_request(rt, request, input, output)
+    serve_request(rt, request, input, output, hint)
 }

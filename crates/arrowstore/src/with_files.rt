@@ -9,19 +9,35 @@ ghost use Rattle.store_requests.specs.StoreWords.{is_of_store, takes_input};
 ghost use Rattle.program_texts.specs.Reported.{IsWrong};
 ghost use Rattle.program_texts.specs.Told.{told};
 ghost use Rattle.program_texts.specs.declared.status.Status.TheVariants.{Done};
-ghost use Rattle.command_refusals.specs.declared.refused_word.Word.{Word};
+ghost use Rattle.command_refusals.specs.declared.hint.Hint.{Hint};
 
 use crate::run;
 use crate::serving::serve;
+use command_refusals::{Hint, Refusal};
 use program_texts::{Audience, Ended, end, report_arguments, report_signed_number};
 use sector_dev::LockFile;
+use std::alloc::Global;
 use std::convert::AsStr;
 use std::fs::OpenFile;
 use std::io::{self, Read, Seek, Write};
 use std::rt::Files;
 use store_requests::{Mistake, StoreRequest, is_of_store, refused_word, request_of, takes_input};
+use text_import::RefusedPart;
 
-// A command of a store, of which a word is named where it is refused.
+// What is said to be refused: a part of the input, where one is known, and else a word of the command line.
+fn hint_of<'a>(
+    alloc: Global,
+    request: &StoreRequest<'a>,
+    refusal: &Refusal,
+    part: &'a Option<RefusedPart>,
+) -> Option<Hint<'a>> {
+    match part {
+        Some(part) => Some(Hint::Part(part)),
+        None => Some(Hint::Word(refused_word(alloc, request, refusal)?)),
+    }
+}
+
+// A command of a store, of which is hinted what is refused.
 fn serve_and_tell<
     F: Read + Write + Seek + OpenFile + LockFile + Drop,
     H: Files<File = F> + AllocGlobal,
@@ -36,14 +52,15 @@ fn serve_and_tell<
     errors: &mut E,
     audience: Audience,
 ) -> Ended
-    ensures reports { (word : Option Word) × HasReported E.contents (told audience word) output.old output.new errors.old errors.new result }
+    ensures reports { (hint : Option Hint) × HasReported E.contents (told audience hint) output.old output.new errors.old errors.new result }
 {
-    let done = serve(rt, request, input, output);
-    let word = match &done {
+    let mut part = None;
+    let done = serve(rt, request, input, output, &mut part);
+    let hint = match &done {
         Ok(()) => None,
-        Err(refusal) => refused_word(rt.alloc(), request, refusal),
+        Err(refusal) => hint_of(rt.alloc(), request, refusal, &part),
     };
-    end(done, word, audience, errors)
+    end(done, hint, audience, errors)
 }
 
 // A command line of a store, with the input that it may read.
@@ -62,7 +79,7 @@ fn run_request<
     errors: &mut E,
     audience: Audience,
 ) -> Ended
-    ensures reports { (word : Option Word) × HasReported E.contents (told audience word) output.old output.new errors.old errors.new result }
+    ensures reports { (hint : Option Hint) × HasReported E.contents (told audience hint) output.old output.new errors.old errors.new result }
 {
     match request_of(rt.alloc(), arguments) {
         Ok(request) => serve_and_tell(rt, &request, input, output, errors, audience),
@@ -88,7 +105,7 @@ fn run_on_store<
     audience: Audience,
 ) -> Ended
     ensures input { (takes_input (map S.text arguments.now) ≡ true) ⊎ (input.new ≡ input.old) }
-    ensures reports { (word : Option Word) × HasReported E.contents (told audience word) output.old output.new errors.old errors.new result }
+    ensures reports { (hint : Option Hint) × HasReported E.contents (told audience hint) output.old output.new errors.old errors.new result }
 {
     if takes_input(arguments) {
         run_request(rt, arguments, input, output, errors, audience)
@@ -129,9 +146,9 @@ pub fn run_with_files<
         ⊎ (IsWrong result.status × (output.new ≡ output.old)) }
     // The input is read by these commands alone.
     ensures others_leave_input { AreRecode (map S.text arguments.now) ⊎ (takes_input (map S.text arguments.now) ≡ true) ⊎ (input.new ≡ input.old) }
-    // What is on `errors`: what is told of a refusal to such an audience, and nothing where all is done. Only commands of a store name a word.
-    ensures reports { (word : Option Word) × ((is_of_store (map S.text arguments.now) ≡ true) ⊎ (word ≡ None))
-        × HasReported E.contents (told audience word) output.old output.new errors.old errors.new result }
+    // What is on `errors`: what is told of a refusal to such an audience, and nothing where all is done. Only of commands of a store more is hinted.
+    ensures reports { (hint : Option Hint) × ((is_of_store (map S.text arguments.now) ≡ true) ⊎ (hint ≡ None))
+        × HasReported E.contents (told audience hint) output.old output.new errors.old errors.new result }
 {
     if is_of_store(arguments) {
         return run_on_store(rt, arguments, input, output, errors, audience);
