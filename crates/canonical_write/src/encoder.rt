@@ -65,7 +65,7 @@ fn encode_table<'a>(alloc: Global, table: &'a Table) -> Result<Stream<'a>, Alloc
 /// (docs/formats/writing.md).
 ///
 /// Refused only where a growth was. It takes the memory of the stream, and of the buffers that had to be made, and time linear in the stream
-/// and in the cells of the table. [`encode_shared`] takes no more than it has to.
+/// and in the cells of the table. [`encode_shared`] takes that of these buffers alone.
 pub fn encode(alloc: Global, table: &Table) -> Result<Vec<u8>, AllocError>
     ensures { IfOk result (λ out. out.items ≡ canonical (table_of table.now)) }
 {
