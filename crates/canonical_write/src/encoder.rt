@@ -5,7 +5,7 @@ ghost use Rattle.arrow_schema.specs.View.{column_of, schema_of};
 ghost use Rattle.canonical_stream.specs.Canonical.{canonical};
 ghost use Rattle.canonical_stream.specs.Pieces.{IsPieceOf};
 ghost use Rattle.canonical_write.specs.Pieces.{piece_stream, piece_streams, piece_counts};
-ghost use Rattle.canonical_write.specs.View.{joined_parts, streams_in, with_schema};
+ghost use Rattle.canonical_write.specs.View.{streams_in, with_schema};
 ghost use Rattle.canonical_write.specs.inner.Stream.{stream_in};
 ghost use Rattle.table_cut.specs.Cut.{pieces};
 ghost use Rattle.table_cut.specs.Piece.{within_piece};
@@ -15,8 +15,7 @@ ghost use Rattle.values.specs.TableView.{table_of};
 
 use crate::by_runs::{encode_parts, encode_parts_pieces};
 use crate::messages::write_piece;
-use crate::stream::{Stream, begin_stream, end_stream, into_bytes, into_parts};
-use array_build::Buffer;
+use crate::stream::{Stream, begin_stream, end_stream, into_bytes};
 use arrow_schema::{Field, Schema};
 use canonical_stream::pieces_can_be_built;
 use cells::has_limits;
@@ -48,8 +47,8 @@ fn encode_rows<'a>(alloc: Global, schema: &Schema, table: &Table) -> Result<Stre
     Ok(stream)
 }
 
-// The one stream of a table.
-fn encode_table<'a>(alloc: Global, table: &'a Table) -> Result<Stream<'a>, AllocError>
+/// The one stream of a table.
+pub(crate) fn encode_table<'a>(alloc: Global, table: &'a Table) -> Result<Stream<'a>, AllocError>
     ensures { IfOk result (λ stream. stream_in stream ≡ canonical (table_of table.now)) }
 {
     let schema = table.schema();
@@ -65,21 +64,12 @@ fn encode_table<'a>(alloc: Global, table: &'a Table) -> Result<Stream<'a>, Alloc
 /// (docs/formats/writing.md).
 ///
 /// Refused only where a growth was. It takes the memory of the stream, and of the buffers that had to be made, and time linear in the stream
-/// and in the cells of the table. [`encode_shared`] takes that of these buffers alone.
+/// and in the cells of the table. [`crate::encode_to`] takes that of these buffers alone.
 pub fn encode(alloc: Global, table: &Table) -> Result<Vec<u8>, AllocError>
     ensures { IfOk result (λ out. out.items ≡ canonical (table_of table.now)) }
 {
     let stream = encode_table(alloc, table)?;
     into_bytes(alloc, stream)
-}
-
-/// The same stream as parts, one after another. A buffer of a piece that stands in the table's bytes as it is written is such a part where it stands, and no
-/// copy of it is made, but for small ones.
-pub fn encode_shared<'a>(alloc: Global, table: &'a Table) -> Result<Vec<Buffer<'a>>, AllocError>
-    ensures { IfOk result (λ parts. joined_parts parts.items ≡ canonical (table_of table.now)) }
-{
-    let stream = encode_table(alloc, table)?;
-    into_parts(stream)
 }
 
 // The stream of a piece, as a table of its own.
