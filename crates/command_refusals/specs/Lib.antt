@@ -2,3 +2,4 @@ pub mod Refusals
 pub mod Remedies
 pub mod Page
 pub mod RefusedWord
+pub mod Hint

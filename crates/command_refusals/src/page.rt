@@ -19,9 +19,9 @@ pub const REFUSALS: [&str; 77] = [
 
 A refusal is one line on standard error: `refused`, a code, a name, and what it carries, as
 `refused S8 NoRoom 13`. On a terminal a second line says what to do, with the sentence that stands here,
-and names the word of the command line that is refused, where that is known. The exit status is 1 then;
-it is 0 where all is done, and 2 where the command line is wrong. A refused command has changed no table,
-but for S9 and G1, as said there.
+and names the word of the command line that is refused, or the field of the input with its text, where
+that is known and can be shown. The exit status is 1 then; it is 0 where all is done, and 2 where the
+command line is wrong. A refused command has changed no table, but for S9 and G1, as said there.
 
 ## F: the input is no stream that is read
 

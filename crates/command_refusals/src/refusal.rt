@@ -5,12 +5,12 @@ ghost use Rattle.command_refusals.specs.declared.refusal.Refusal.TheVariants as 
 ghost use Rattle.command_refusals.specs.Refusals.{refusal_of, file_refusal, text_refusal, query_refusal};
 
 use arrow_schema::ParseError;
+use commit::OpeningRefusal;
 use ipc_message::{Fault, ImportError};
 use query::QueryError;
 use sector_dev::FileError;
 use std::alloc::AllocError;
 use std::fmt;
-use commit::OpeningRefusal;
 use tables::QueryRefusal;
 use text_import::{Refused, TextError};
 

@@ -4,8 +4,8 @@ ghost use Rattle.command_refusals.specs.Remedies.{fault_remedy, fields_remedy, t
 
 use crate::Refusal;
 use arrow_schema::ParseError;
-use ipc_message::Fault;
 use commit::OpeningRefusal;
+use ipc_message::Fault;
 use tables::QueryRefusal;
 
 // ---- F: of a stream

@@ -4,3 +4,5 @@ pub mod RowLemmas
 pub mod ObjectLemmas
 pub mod FittingCells
 pub mod AcceptedRows
+pub mod PartLemmas
+pub mod CauseLemmas

@@ -5,4 +5,6 @@ pub mod Rows
 pub mod Records
 pub mod Objects
 pub mod Form
+pub mod Part
+pub mod Cause
 pub mod inner

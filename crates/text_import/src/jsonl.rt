@@ -1,5 +1,5 @@
 // Rows of texts of JSON Lines.
-ghost use Rattle.std.specs.Prelude.{◌≡◌, ◌==◌, map, IfOk};
+ghost use Rattle.std.specs.Prelude.{◌≡◌, ◌==◌, map, option_map, slice_get, IfOk};
 ghost use Rattle.std.specs.List.{slice_split};
 ghost use Rattle.serde_json.specs.View.{view};
 ghost use Rattle.arrow_schema.specs.Column.{columns_of};
@@ -8,7 +8,7 @@ ghost use Rattle.cells.specs.Row.{row_of};
 ghost use Rattle.cells.specs.Dictionary.{is_any_limited};
 ghost use Rattle.text_import.specs.Refusals.{refusal_of, refused_by};
 ghost use Rattle.facts.specs.Outcomes.{Gives};
-ghost use Rattle.text_import.specs.Objects.{is_blank, line_value, line_row, jsonl_rows_of};
+ghost use Rattle.text_import.specs.Objects.{is_blank, line_value, line_row, lines_of, jsonl_rows_of};
 ghost use Rattle.text_import.specs.inner.Names.{text_list};
 
 use crate::objects::value_row;
@@ -38,7 +38,7 @@ fn is_blank(line: &[u8]) -> bool
     true
 }
 
-fn line_value(alloc: Global, line: &[u8]) -> Result<Value, CellError>
+pub(crate) fn line_value(alloc: Global, line: &[u8]) -> Result<Value, CellError>
     ensures { Gives refusal_of view result (line_value line.now) }
 {
     let text = match text_of(line) {
@@ -61,6 +61,24 @@ fn line_row(alloc: Global, schema: &Schema, limited: bool, line: &[u8]) -> Resul
 {
     let value = line_value(alloc, line)?;
     value_row(alloc, schema, limited, &value)
+}
+
+// The line at a place, where the first stands at 0.
+pub(crate) fn line_at(alloc: Global, text: &[u8], place: u64) -> Result<Option<&[u8]>, AllocError>
+    ensures { IfOk result (λ line. option_map (λ t. t.now) line ≡ slice_get (lines_of text.now) place) }
+{
+    let parts = parts_of(alloc, text)?;
+    let mut before = place;
+    for line in &parts {
+        if is_blank(line) {
+            continue;
+        }
+        if before == 0 {
+            return Ok(Some(*line));
+        }
+        before -= 1;
+    }
+    Ok(None)
 }
 
 /// The rows of a text of JSON Lines: each line is a row, an array by position or an object by name. Blank lines are

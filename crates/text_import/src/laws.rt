@@ -1,14 +1,25 @@
-// What the definitions say. The function does nothing: its contract is the law.
-ghost use Rattle.std.specs.Prelude.{◌≡◌, ℕ, List, Ok};
+// What the definitions say. The functions do nothing: their contracts are the laws.
+ghost use Rattle.std.specs.Prelude.{◌≡◌, ℕ, List, Some, Ok, Err};
 ghost use Rattle.std.specs.List.{AllPass};
 ghost use Rattle.arrow_schema.specs.Column.{PlainSchema};
 ghost use Rattle.cells.specs.Cell.{Cell};
 ghost use Rattle.cells.specs.Row.{is_row};
+ghost use Rattle.text_import.specs.declared.form.TextForm.{TextForm};
+ghost use Rattle.text_import.specs.declared.refusal.Refused.{Refused};
 ghost use Rattle.text_import.specs.Records.{csv_rows_of};
 ghost use Rattle.text_import.specs.Objects.{jsonl_rows_of};
+ghost use Rattle.text_import.specs.Form.{rows_in};
+ghost use Rattle.text_import.specs.Part.{PlainPart, refused_part};
+ghost use Rattle.text_import.specs.Cause.{IsCause};
 
 /// The rows of a text are rows that a table of the schema takes, each by itself: all fit, none is too heavy, none fills a dictionary.
 pub fn rows_of_texts_are_rows()
     ensures csv { (s : PlainSchema) (null_text text : List ℕ) (rows : List (List Cell)) → csv_rows_of s null_text text ≡ Ok rows → AllPass (is_row s) rows }
     ensures jsonl { (s : PlainSchema) (text : List ℕ) (rows : List (List Cell)) → jsonl_rows_of s text ≡ Ok rows → AllPass (is_row s) rows }
+{}
+
+/// The part of the first refused record is why it is refused: the text of a field is, for a column of its name, or the line.
+pub fn refused_parts_are_causes()
+    ensures { (form : TextForm) (s : PlainSchema) (text : List ℕ) (r : Refused) (part : PlainPart) → rows_in form s text ≡ Err r
+        → refused_part form s text r.number ≡ Some part → IsCause form s part r.refusal }
 {}

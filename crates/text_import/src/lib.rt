@@ -2,7 +2,8 @@
 //!
 //! [`csv_rows`] and [`jsonl_rows`] (or [`rows_in`], of either form) answer the rows of a text, or the first refusal with the number of its record. Which
 //! records a text has is the word of the crate `csv`, and which values its lines have that of `serde_json`; what becomes
-//! of them, cell by cell, is stated in `specs/` and promised exactly, for every text.
+//! of them, cell by cell, is stated in `specs/` and promised exactly, for every text. [`refused_part`] answers which field or line
+//! of a refused record it is.
 //!
 //! ```
 //! let fields = arrow_schema::parse_fields(alloc, &["a:int32?", "s:utf8"])?;
@@ -18,6 +19,7 @@ mod form;
 mod jsonl;
 mod laws;
 mod objects;
+mod part;
 mod records;
 mod refusal;
 mod rows;
@@ -25,6 +27,7 @@ mod texts;
 
 pub use form::{TextForm, rows_in};
 pub use jsonl::jsonl_rows;
-pub use laws::rows_of_texts_are_rows;
+pub use laws::{refused_parts_are_causes, rows_of_texts_are_rows};
+pub use part::{RefusedPart, refused_part};
 pub use records::csv_rows;
 pub use refusal::{Refusal, Refused, TextError};

@@ -96,7 +96,11 @@ fn has_unknown(names: &IndexSet<&str>, members: &Map<String, Json>) -> bool
 }
 
 // Why the members of an object are not those of the fields.
-fn test_names(alloc: Global, fields: &[Field], members: &Map<String, Json>) -> Result<(), CellError>
+pub(crate) fn test_names(
+    alloc: Global,
+    fields: &[Field],
+    members: &Map<String, Json>,
+) -> Result<(), CellError>
     ensures { Gives refusal_of (λ _. members_view members.now.entries) result
         (tested (names_of (columns_of (map column_of fields.now))) (members_view members.now.entries)) }
 {
@@ -131,7 +135,7 @@ fn absent(field: &Field) -> Result<Value, CellError>
 
 #[tactic(auto, unfolding(crate::specs::Objects::cell_in))]
 #[cycle(cells)]
-fn cell_in(alloc: Global, field: &Field, value: &Json) -> Result<Value, CellError>
+pub(crate) fn cell_in(alloc: Global, field: &Field, value: &Json) -> Result<Value, CellError>
     ensures { Gives refusal_of cell result (cell_in (column_of field.now) (view value.now)) }
 {
     match value {
@@ -274,7 +278,11 @@ fn cells_by_name(
 }
 
 #[cycle(cells)]
-fn member_in(alloc: Global, field: &Field, members: &Map<String, Json>) -> Result<Value, CellError>
+pub(crate) fn member_in(
+    alloc: Global,
+    field: &Field,
+    members: &Map<String, Json>,
+) -> Result<Value, CellError>
     ensures { Gives refusal_of cell result (member_of (column_of field.now) (members_view members.now.entries)) }
 {
     match member(members, name_of(field)) {

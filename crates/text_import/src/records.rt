@@ -1,5 +1,5 @@
 // Rows of CSV texts.
-ghost use Rattle.std.specs.Prelude.{◌≡◌, ℕ, ◌<◌, List, [], Some, IfOk, IfErr, map, length, slice_index_or};
+ghost use Rattle.std.specs.Prelude.{◌≡◌, ℕ, ◌<◌, List, [], Some, IfOk, map, option_map, length, slice_get, slice_index_or};
 ghost use Rattle.std.specs.List.{list_any};
 ghost use Rattle.csv.specs.Machine.{next_record};
 ghost use Rattle.csv.specs.Reading.{default_config, records_from, strip_bom};
@@ -12,7 +12,6 @@ ghost use Rattle.arrow_schema.specs.View.{column_of, schema_of};
 ghost use Rattle.cells.specs.View.{cell};
 ghost use Rattle.cells.specs.Row.{row_of};
 ghost use Rattle.cells.specs.Dictionary.{is_any_limited};
-ghost use Rattle.text_import.specs.declared.refusal.TextError.TheVariants as errors;
 ghost use Rattle.text_import.specs.Refusals.{refusal_of, refused_by};
 ghost use Rattle.facts.specs.Outcomes.{Gives};
 ghost use Rattle.text_import.specs.Rows.{rows_from};
@@ -26,7 +25,7 @@ use crate::texts::name_of;
 use arrow_schema::{DataType, Field, Schema};
 use cells::{Row, Value, has_limits};
 use csv::{ByteRecord, Reader, ReaderBuilder};
-use std::alloc::Global;
+use std::alloc::{AllocError, Global};
 
 // A refusal of no record.
 fn whole(refusal: Refusal) -> TextError
@@ -46,14 +45,13 @@ fn reader_of(alloc: Global, text: &[u8]) -> Reader<&[u8]>
 }
 
 // Reads the next record, where there is one. A read of a slice fails for want of memory alone.
-fn read_next(reader: &mut Reader<&[u8]>, row: &mut ByteRecord) -> Result<bool, TextError>
+fn read_next(reader: &mut Reader<&[u8]>, row: &mut ByteRecord) -> Result<bool, AllocError>
     ensures next { IfOk result (λ found. (s : State) (xs : List ℕ) → Stands reader.old s xs
         → Reads (next_record default_config s [] [] xs) found (fields_of row.new) reader.new) }
-    ensures err { IfErr result (λ e. e ≡ errors.OutOfMemory) }
 {
     match reader.read_byte_record(row) {
         Ok(found) => Ok(found),
-        Err(_) => Err(TextError::OutOfMemory),
+        Err(_) => Err(AllocError),
     }
 }
 
@@ -104,7 +102,7 @@ fn are_names(row: &ByteRecord, fields: &[Field]) -> bool
     true
 }
 
-fn field_text(row: &ByteRecord, i: usize) -> &[u8]
+pub(crate) fn field_text(row: &ByteRecord, i: usize) -> &[u8]
     requires { i < length (fields_of row.now) }
     ensures { result.now ≡ slice_index_or (fields_of row.now) i [] }
 {
@@ -203,6 +201,25 @@ fn rows_behind_header(
         return Err(whole(Refusal::Header));
     }
     record_rows(alloc, schema, null_text, reader, text.len())
+}
+
+// The record at a place, where the header stands at 0.
+pub(crate) fn record_at(
+    alloc: Global,
+    text: &[u8],
+    place: u64,
+) -> Result<Option<ByteRecord>, AllocError>
+    ensures { IfOk result (λ row. option_map fields_of row ≡ slice_get (records_of text.now) place) }
+{
+    let mut reader = reader_of(alloc, text);
+    let mut row = ByteRecord::new(alloc);
+    for _i in 0..place {
+        if !read_next(&mut reader, &mut row)? {
+            return Ok(None);
+        }
+    }
+    let found = read_next(&mut reader, &mut row)?;
+    if found { Ok(Some(row)) } else { Ok(None) }
 }
 
 /// The rows of a CSV text: the records behind the header, which is the names of the columns. A field that is the null

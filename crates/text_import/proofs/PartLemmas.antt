@@ -1,0 +1,152 @@
+-- Which part of a record is refused, field by field; and the record at a place of a text.
+use Rattle.std.proofs.Common.{◌≡◌, ℕ, ◌+◌, ◌-◌, ◌≤◌, ◌<◌, zero, suc, Bool, true, false, List, [], ◌∷◌, length, drop, refl, ap, ◌∙◌, arith, length-drop}
+use Rattle.std.specs.Prelude.{not, filter, get_or, map, Some, None, slice_get, if◌then◌else◌, Ok, Err}
+use Rattle.std.proofs.lemmas.Bool.{ne_eqb, eq-eqb}
+use Rattle.std.specs.Borrow.{Bor}
+use Rattle.std.proofs.lemmas.List.{drop_more}
+use Rattle.std.proofs.lemmas.Option.{slice_get_past}
+use Rattle.csv.specs.Machine.{Read, next_record}
+use Rattle.csv.specs.Reading.{default_config, records_from, strip_bom}
+use Rattle.csv.specs.declared.parser.State.{State}
+use Rattle.csv.specs.declared.parser.State.TheVariants as st
+use Rattle.serde_json.specs.Data.{Items, Members}
+use Rattle.serde_json.specs.View.{view, items_view}
+use Rattle.serde_json.specs.declared.value.Value.{Value}
+use Rattle.arrow_schema.specs.Column.{Column, Columns, no_column, and_column, columns_of}
+use Rattle.arrow_schema.specs.View.{column_of}
+use Rattle.arrow_schema.specs.declared.types.Field.{Field}
+use Rattle.arrow_schema.specs.Parts.{name_of_column}
+use Rattle.text_import.specs.Flat.{field_cell}
+use Rattle.text_import.specs.Records.{records_of}
+use Rattle.text_import.specs.Objects.{cell_in, is_blank, names_of, keys_of, repeats, has_unknown}
+use Rattle.text_import.specs.Part.{field, is_refused, refused_field, refused_by_place, refused_by_name, refused_in_items, refused_in_members}
+use Rattle.text_import.specs.inner.Names.{text_list, member_of, tested}
+use Rattle.text_import.specs.declared.refusal.Refusal.{Refusal}
+use Rattle.text_import.specs.declared.refusal.Refusal.TheVariants.{AmbiguousNames, UnknownName}
+use Rattle.text_import.proofs.ObjectLemmas.{item_count_is, column_count_is}
+use Rattle.text_import.proofs.RecordLemmas.{record_none, record_some, enough}
+
+-- a field that is refused, one that is not, and the end
+pub field_named : (null_text : List ℕ) (c : Column) (cs : List Column) (t : List ℕ) (ts : List (List ℕ)) → is_refused (field_cell null_text c t) ≡ true
+    → refused_field null_text (c ∷ cs) (t ∷ ts) ≡ Some (field (name_of_column c) t)
+unfolding refused_field
+field_named null_text c cs t ts e = rw e refl
+
+pub field_passed : (null_text : List ℕ) (c : Column) (cs : List Column) (t : List ℕ) (ts : List (List ℕ)) → is_refused (field_cell null_text c t) ≡ false
+    → refused_field null_text (c ∷ cs) (t ∷ ts) ≡ refused_field null_text cs ts
+unfolding refused_field
+field_passed null_text c cs t ts e = rw e refl
+
+pub no_field : (null_text : List ℕ) (ts : List (List ℕ)) → refused_field null_text [] ts ≡ None
+unfolding refused_field
+no_field null_text ts = refl
+
+-- the same of the items of an array
+pub item_named : (c : Column) (cs : Columns) (v : Value) (vs : List Value) → is_refused (cell_in c (view v)) ≡ true → refused_by_place (and_column c cs) (items_view (v ∷ vs)) ≡ Some (name_of_column c)
+unfolding refused_by_place
+item_named c cs v vs e = rw e refl
+
+pub item_passed : (c : Column) (cs : Columns) (v : Value) (vs : List Value) → is_refused (cell_in c (view v)) ≡ false → refused_by_place (and_column c cs) (items_view (v ∷ vs)) ≡ refused_by_place cs (items_view vs)
+unfolding refused_by_place
+item_passed c cs v vs e = rw e refl
+
+pub no_item : (ds : Items) → refused_by_place no_column ds ≡ None
+unfolding refused_by_place
+no_item ds = refl
+
+-- and of the members of an object
+pub member_named : (c : Column) (cs : Columns) (ms : Members) → is_refused (member_of c ms) ≡ true → refused_by_name (and_column c cs) ms ≡ Some (name_of_column c)
+unfolding refused_by_name
+member_named c cs ms e = rw e refl
+
+pub member_passed : (c : Column) (cs : Columns) (ms : Members) → is_refused (member_of c ms) ≡ false → refused_by_name (and_column c cs) ms ≡ refused_by_name cs ms
+unfolding refused_by_name
+member_passed c cs ms e = rw e refl
+
+pub no_member : (ms : Members) → refused_by_name no_column ms ≡ None
+unfolding refused_by_name
+no_member ms = refl
+
+-- of another number of items than columns no column is named
+pub counted_no : (fs : List Field) (vs : List Value) → (length vs ≡ length fs → ⊥) → refused_in_items (columns_of (map column_of fs)) (items_view vs) ≡ None
+counted_no fs vs h = rw (item_count_is vs, column_count_is fs, ne_eqb (length vs) (length fs) h) refl
+
+pub counted_yes : (fs : List Field) (vs : List Value) → length vs ≡ length fs → refused_in_items (columns_of (map column_of fs)) (items_view vs) ≡ refused_by_place (columns_of (map column_of fs)) (items_view vs)
+counted_yes fs vs h = rw (item_count_is vs, column_count_is fs, eq-eqb (length vs) (length fs) h) refl
+
+-- the test of names
+pub names_refused : (cs : Columns) (ms : Members) (r : Refusal) → tested (names_of cs) ms ≡ Err r → refused_in_members cs ms ≡ None
+names_refused cs ms r e = by (repeats (names_of cs)) (has_unknown (names_of cs) (keys_of ms)) e
+  where
+    by : (a b : Bool) → (if a then Err AmbiguousNames else if b then Err UnknownName else Ok ms) ≡ Err r → (if a then None else if b then None else refused_by_name cs ms) ≡ None
+    by true b e = refl
+    by false true e = refl
+    by false false e = absurd cc
+
+pub names_passed : (cs : Columns) (ms same : Members) → tested (names_of cs) ms ≡ Ok same → refused_in_members cs ms ≡ refused_by_name cs ms
+names_passed cs ms same e = by (repeats (names_of cs)) (has_unknown (names_of cs) (keys_of ms)) e
+  where
+    by : (a b : Bool) → (if a then Err AmbiguousNames else if b then Err UnknownName else Ok ms) ≡ Ok same → (if a then None else if b then None else refused_by_name cs ms) ≡ refused_by_name cs ms
+    by true b e = absurd cc
+    by false true e = absurd cc
+    by false false e = refl
+
+pub ruleset named_rules = (names_refused, names_passed)
+
+-- the item at a place, from what stands there
+pub at_here : {X : Type 0} (xs : List X) (i : ℕ) (x : X) (ys : List X) → drop i xs ≡ x ∷ ys → slice_get xs i ≡ Some x
+at_here [] zero x ys e = absurd cc
+at_here [] (suc i) x ys e = absurd cc
+at_here (z ∷ xs) zero x ys e = (let same : z ≡ x = cc in rw same refl)
+at_here (z ∷ xs) (suc i) x ys e = at_here xs i x ys e
+
+pub behind_here : {X : Type 0} (xs : List X) (i : ℕ) (x : X) (ys : List X) → drop i xs ≡ x ∷ ys → drop (suc i) xs ≡ ys
+behind_here [] zero x ys e = absurd cc
+behind_here [] (suc i) x ys e = absurd cc
+behind_here (z ∷ xs) zero x ys e = cc
+behind_here (z ∷ xs) (suc i) x ys e = behind_here xs i x ys e
+
+pub none_at : {X : Type 0} (xs : List X) (i n : ℕ) → drop i xs ≡ [] → i ≤ n → slice_get xs n ≡ None
+none_at xs i n e lt = let size = length-drop i xs in let none = ap length e in slice_get_past xs n (omega arith)
+
+-- the records that are left of a text, in this state and with these bytes left: more turns than bytes give them
+abbrev pub Left : List (List (List ℕ)) → State → List ℕ → Type 0
+Left rest s xs = (n : ℕ) → length xs < n → rest ≡ records_from default_config n s xs
+
+pub left_first : (t : List ℕ) → Left (records_of t) st.StartRecord (strip_bom t)
+left_first t n lt = enough (length (strip_bom t) + 1) n st.StartRecord (strip_bom t) (omega arith) lt
+
+pub left_none : (rest : List (List (List ℕ))) (s : State) (xs : List ℕ) → Left rest s xs → next_record default_config s [] [] xs ≡ None → rest ≡ []
+left_none rest s xs left e = left (length xs + 1) (omega arith) ∙ record_none (length xs + 1) s xs e
+
+pub left_some : (rest : List (List (List ℕ))) (s : State) (xs : List ℕ) (p : Read) → Left rest s xs → next_record default_config s [] [] xs ≡ Some p
+    → (more : List (List (List ℕ))) × (rest ≡ p.0 ∷ more) × Left more p.1 p.2
+left_some rest s xs p left e =
+    let k : ℕ = length xs + length p.2 + 1 in (
+      records_from default_config k p.1 p.2,
+      left (suc k) (omega arith) ∙ record_some k s xs p e,
+      λ n lt. enough k n p.1 p.2 (omega arith) lt,
+    )
+
+-- a line that is skipped, one that is counted, and the line that is meant
+abbrev pub filled : List (Bor (List ℕ)) → List (List ℕ)
+filled lines = filter (λ line. not (is_blank line)) (text_list lines)
+
+skipped_here : (line : Bor (List ℕ)) (lines : List (Bor (List ℕ))) → is_blank line.now ≡ true → filled (line ∷ lines) ≡ filled lines
+skipped_here line lines e = rw e refl
+
+filled_here : (line : Bor (List ℕ)) (lines : List (Bor (List ℕ))) → is_blank line.now ≡ false → filled (line ∷ lines) ≡ line.now ∷ filled lines
+filled_here line lines e = rw e refl
+
+pub blank_line : (lines : List (Bor (List ℕ))) (i : ℕ) (d : Bor (List ℕ)) → i < length lines → is_blank (get_or lines i d).now ≡ true → filled (drop i lines) ≡ filled (drop (i + 1) lines)
+blank_line lines i d lt e = ap filled (drop_more lines i d lt) ∙ skipped_here (get_or lines i d) (drop (i + 1) lines) e
+
+pub filled_line : (lines : List (Bor (List ℕ))) (i : ℕ) (d : Bor (List ℕ)) → i < length lines → is_blank (get_or lines i d).now ≡ false → filled (drop i lines) ≡ (get_or lines i d).now ∷ filled (drop (i + 1) lines)
+filled_line lines i d lt e = ap filled (drop_more lines i d lt) ∙ filled_here (get_or lines i d) (drop (i + 1) lines) e
+
+pub at_front : {X : Type 0} (xs ys : List X) (x : X) (n : ℕ) → xs ≡ x ∷ ys → n ≡ 0 → slice_get xs n ≡ Some x
+at_front xs ys x n e z = rw (e, z) refl
+
+pub past_front : {X : Type 0} (xs ys : List X) (x : X) (n : ℕ) → xs ≡ x ∷ ys → (n ≡ 0 → ⊥) → slice_get ys (n - 1) ≡ slice_get xs n
+past_front xs ys x zero e z = absurd (z refl)
+past_front xs ys x (suc n) e z = (let one : suc n - 1 ≡ n = omega arith in rw (e, one) refl)
