@@ -1,4 +1,4 @@
-// Arrays of columns that are given as runs of slots: bytes of valid slots are copied, and no cell is made but of the entries of a dictionary.
+// Arrays of columns that are given as runs of slots: bytes of slots stay where they stand or are copied, and no cell is made but of the entries of a dictionary.
 ghost use Rattle.std.specs.Prelude.{◌≡◌, ◌/◌, true, OnOk, IfOk, List, Some, None, map};
 ghost use Rattle.arrow_schema.specs.Column.{columns_of, fixed_lists, structs};
 ghost use Rattle.arrow_schema.specs.View.{kind_of, column_of, date_kind};
@@ -199,8 +199,8 @@ fn build_run_parts<'a>(
     Ok(())
 }
 
-/// The same of rows whose columns are runs of slots: the bytes of valid slots are copied run by run, and no cell is looked at by itself but the entries of
-/// a dictionary.
+/// The same of rows whose columns are runs of slots: a buffer of one run stays where it stands, if that is how it is written; else the bytes of
+/// valid slots are copied run by run. No cell is looked at by itself but the entries of a dictionary.
 pub fn build_runs<'a>(
     alloc: Global,
     fields: &[Field],

@@ -1,5 +1,6 @@
 mod Alone
 mod Meant
+mod PartLemmas
 mod RunSteps
 mod Steps
 mod Streams

@@ -1,11 +1,11 @@
 // The stream of a table, and the streams of its pieces.
-ghost use Rattle.std.specs.Prelude.{◌≡◌, ◌<◌, ◌^◌, ◌∷◌, [], IfOk, length, map};
+ghost use Rattle.std.specs.Prelude.{◌≡◌, ◌<◌, ◌^◌, ◌∷◌, [], true, IfOk, length, map};
 ghost use Rattle.std.specs.List.{AllByRecursion};
-ghost use Rattle.arrow_schema.specs.View.{schema_of};
+ghost use Rattle.arrow_schema.specs.View.{column_of, schema_of};
 ghost use Rattle.canonical_stream.specs.Canonical.{canonical};
 ghost use Rattle.canonical_stream.specs.Pieces.{IsPieceOf};
 ghost use Rattle.canonical_write.specs.Pieces.{piece_stream, piece_streams, piece_counts};
-ghost use Rattle.canonical_write.specs.View.{joined_parts, streams_in, with_schema};
+ghost use Rattle.canonical_write.specs.View.{streams_in, with_schema};
 ghost use Rattle.canonical_write.specs.inner.Stream.{stream_in};
 ghost use Rattle.table_cut.specs.Cut.{pieces};
 ghost use Rattle.table_cut.specs.Piece.{within_piece};
@@ -15,9 +15,8 @@ ghost use Rattle.values.specs.TableView.{table_of};
 
 use crate::by_runs::{encode_parts, encode_parts_pieces};
 use crate::messages::write_piece;
-use crate::stream::{Stream, begin_stream, end_stream, into_bytes, into_parts};
-use array_build::Buffer;
-use arrow_schema::Schema;
+use crate::stream::{Stream, begin_stream, end_stream, into_bytes};
+use arrow_schema::{Field, Schema};
 use canonical_stream::pieces_can_be_built;
 use cells::has_limits;
 use std::alloc::{AllocError, Global};
@@ -48,8 +47,8 @@ fn encode_rows<'a>(alloc: Global, schema: &Schema, table: &Table) -> Result<Stre
     Ok(stream)
 }
 
-// The one stream of a table.
-fn encode_table<'a>(alloc: Global, table: &'a Table) -> Result<Stream<'a>, AllocError>
+/// The one stream of a table.
+pub(crate) fn encode_table<'a>(alloc: Global, table: &'a Table) -> Result<Stream<'a>, AllocError>
     ensures { IfOk result (λ stream. stream_in stream ≡ canonical (table_of table.now)) }
 {
     let schema = table.schema();
@@ -65,21 +64,12 @@ fn encode_table<'a>(alloc: Global, table: &'a Table) -> Result<Stream<'a>, Alloc
 /// (docs/formats/writing.md).
 ///
 /// Refused only where a growth was. It takes the memory of the stream, and of the buffers that had to be made, and time linear in the stream
-/// and in the cells of the table. [`encode_shared`] takes no more than it has to.
+/// and in the cells of the table. [`crate::encode_to`] takes that of these buffers alone.
 pub fn encode(alloc: Global, table: &Table) -> Result<Vec<u8>, AllocError>
     ensures { IfOk result (λ out. out.items ≡ canonical (table_of table.now)) }
 {
     let stream = encode_table(alloc, table)?;
     into_bytes(alloc, stream)
-}
-
-/// The same stream as parts, one after another. A buffer of a piece that stands in the table's bytes as it is written is such a part where it stands, and no
-/// copy of it is made, but for small ones.
-pub fn encode_shared<'a>(alloc: Global, table: &'a Table) -> Result<Vec<Buffer<'a>>, AllocError>
-    ensures { IfOk result (λ parts. joined_parts parts.items ≡ canonical (table_of table.now)) }
-{
-    let stream = encode_table(alloc, table)?;
-    into_parts(stream)
 }
 
 // The stream of a piece, as a table of its own.
@@ -95,13 +85,23 @@ fn encode_piece(alloc: Global, schema: &Schema, rows: &[Values<'_>]) -> Result<V
     into_bytes(alloc, stream)
 }
 
-/// The pieces of the rows of a table of any types, under a schema, each as a stream of its own. Under the table's own schema they are cut where `encode`
-/// cuts them.
-///
-/// The caller sees to it that the rows are a table under this schema, as they are under the table's own. Refused only where a growth was. It takes the
-/// memory of all streams, of which each has the message of the schema, and that of the arrays of one piece; and time linear in the streams and in the
-/// cells of the table. The law [`crate::pieces_are_tables`] says what the streams mean.
-pub fn encode_pieces(
+// Whether fields are equal, one by one.
+fn are_same_fields(fields: &[Field], others: &[Field]) -> bool
+    ensures { result ≡ true → map column_of fields.now ≡ map column_of others.now }
+{
+    if fields.len() != others.len() {
+        return false;
+    }
+    for (i, field) in fields.iter().enumerate() {
+        if !field.equals(&others[i]) {
+            return false;
+        }
+    }
+    true
+}
+
+// The pieces of rows that are borrowed one by one.
+fn encode_rows_pieces(
     alloc: Global,
     schema: &Schema,
     table: &Table,
@@ -128,22 +128,36 @@ pub fn encode_pieces(
     })
 }
 
-/// The pieces of the rows of a table of any types, under its own schema, each as a stream of its own: those of [`encode_pieces`]. They are cut where
-/// [`encode`] cuts them.
+/// The pieces of the rows of a table of any types, under a schema, each as a stream of its own. Under the table's own schema they are cut where [`encode`]
+/// cuts them.
 ///
-/// Refused only where a growth was. It takes the memory of all streams, of which each has the message of the schema, and that of the arrays of one piece;
-/// and time linear in the streams, and in the cells of the table where it is not kept in record batches, or has a dictionary whose indices have 8 or
-/// 16 bits.
+/// The caller sees to it that the rows are a table under this schema, as they are under the table's own. Refused only where a growth was. It takes the
+/// memory of all streams, of which each has the message of the schema, and that of the arrays of one piece; and time linear in the streams, and in the
+/// cells of the table where it is not kept in record batches of just these columns, or has a dictionary whose indices have 8 or 16 bits. The law
+/// [`crate::pieces_are_tables`] says what the streams mean.
+pub fn encode_pieces(
+    alloc: Global,
+    schema: &Schema,
+    table: &Table,
+) -> Result<EncodedPieces, AllocError>
+    requires { IsTable (with_schema (schema_of schema.now) (table_of table.now)) }
+    ensures streams { IfOk result (λ pieces. streams_in pieces ≡ piece_streams (with_schema (schema_of schema.now) (table_of table.now))) }
+    ensures rows { IfOk result (λ pieces. pieces.rows.items ≡ piece_counts (with_schema (schema_of schema.now) (table_of table.now))) }
+    ensures short { IfOk result (λ pieces. AllByRecursion (λ stream. length stream < 2 ^ 64) (streams_in pieces)) }
+{
+    if let Some(parts) = table.parts() {
+        if are_same_fields(&schema.fields, &table.schema().fields) && !has_limits(schema) {
+            return encode_parts_pieces(alloc, schema, parts, table.len());
+        }
+    }
+    encode_rows_pieces(alloc, schema, table)
+}
+
+/// The pieces of the rows of a table of any types, under its own schema: those of [`encode_pieces`].
 pub fn encode_own_pieces(alloc: Global, table: &Table) -> Result<EncodedPieces, AllocError>
     ensures streams { IfOk result (λ pieces. streams_in pieces ≡ piece_streams (table_of table.now)) }
     ensures rows { IfOk result (λ pieces. pieces.rows.items ≡ piece_counts (table_of table.now)) }
     ensures short { IfOk result (λ pieces. AllByRecursion (λ stream. length stream < 2 ^ 64) (streams_in pieces)) }
 {
-    let schema = table.schema();
-    if let Some(parts) = table.parts() {
-        if !has_limits(schema) {
-            return encode_parts_pieces(alloc, schema, parts, table.len());
-        }
-    }
-    encode_pieces(alloc, schema, table)
+    encode_pieces(alloc, table.schema(), table)
 }

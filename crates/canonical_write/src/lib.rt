@@ -5,7 +5,7 @@
 //!
 //! ```ignore
 //! let stream = encode(alloc, &table)?;
-//! let parts = encode_shared(alloc, &table)?;
+//! encode_to(alloc, &table, &mut output)?;
 //! let pieces = encode_own_pieces(alloc, &table)?;
 //! ```
 #![tactic(auto)]
@@ -15,7 +15,8 @@ mod encoder;
 mod laws;
 mod messages;
 mod stream;
+mod writing;
 
-pub use array_build::Buffer;
-pub use encoder::{EncodedPieces, encode, encode_own_pieces, encode_pieces, encode_shared};
+pub use encoder::{EncodedPieces, encode, encode_own_pieces, encode_pieces};
 pub use laws::pieces_are_tables;
+pub use writing::{WriteError, encode_to};

@@ -1,8 +1,7 @@
 // A stream as it is written: buffers of some size are parts of it by themselves, so that none is copied, and all else is put together.
 ghost use Rattle.std.specs.Prelude.{◌≡◌, ◌++◌, ◌<◌, ◌^◌, OnOk, IfOk, length};
 ghost use Rattle.array_build.specs.Batch.{buffer_bytes, buffers_in};
-ghost use Rattle.canonical_write.specs.View.{joined_parts};
-ghost use Rattle.canonical_write.specs.inner.Stream.{stream_in};
+ghost use Rattle.canonical_write.specs.inner.Stream.{joined_parts, stream_in};
 ghost use Rattle.arrow_schema.specs.Limits.{IsWithinLimits};
 ghost use Rattle.arrow_schema.specs.View.{schema_of};
 ghost use Rattle.ipc_write.specs.Written.{body, end_of_stream, padded, schema_message};
@@ -101,16 +100,6 @@ pub(crate) fn push_body<'a>(
         push_padded(alloc, stream, buffer)?;
     }
     Ok(())
-}
-
-/// The whole stream as parts.
-#[tactic(auto, unfolding(crate::specs::inner::Stream::stream_in))]
-pub(crate) fn into_parts<'a>(stream: Stream<'a>) -> Result<Vec<Buffer<'a>>, AllocError>
-    ensures { IfOk result (λ parts. joined_parts parts.items ≡ stream_in stream.entry) }
-{
-    let Stream { mut parts, last } = stream;
-    parts.push(Buffer::Made(last))?;
-    Ok(parts)
 }
 
 // How many bytes parts have, or the largest number.

@@ -1,4 +1,4 @@
-// A table is exported: as the bytes of a stream that means it.
+// A table is exported: as the bytes of a stream that means it, or in parts to a writer.
 ghost use Rattle.std.specs.Prelude.{◌≡◌, ◌≢◌, ℕ, List, true, IfOk, IfErr, OnOk};
 ghost use Rattle.std.specs.Io.KnownBytes.{Appends};
 ghost use Rattle.sector_dev.specs.Disk.{now, shown_image};
@@ -11,17 +11,42 @@ ghost use Rattle.store.specs.Machine.{Machine};
 ghost use Rattle.store.specs.Fits.{StoreFits, device_of, listed_in, is_halted};
 ghost use Rattle.store.specs.Applying.{GoesOn};
 ghost use Rattle.store.specs.Reading.{RefusesRead, ReadsTable, OnlyReadsStore, ended};
+ghost use Rattle.values.specs.TableView.{table_of};
 
 use crate::Store;
 use canonical_round_trip::canonical_means_its_table;
-use canonical_write::encode;
+use canonical_write::{WriteError, encode, encode_to};
 use sector_dev::SectorDevice;
 use std::alloc::Global;
 use std::io::Write;
 use tables::Refusal;
-use values::{accepted_rows_are_a_table, tables_are_joined_and_cut};
+use values::{Table, accepted_rows_are_a_table, tables_are_joined_and_cut};
 
 impl<D: SectorDevice> Store<D> {
+    // The table of a name, whose canonical stream is to be given.
+    fn read_to_export(&mut self, alloc: Global, name: &str) -> Result<Table, Refusal>
+        ensures goes { IfOk result (λ table. D.tells ≡ true → (base : Tables) (m : Machine) → StoreFits D.size D.story base m self.old
+            → GoesOn D.size D.story D.failed base m (export_call name.now) (bytes_are (canonical (table_of table))) self.old self.new) }
+        // Its stream may find no memory.
+        ensures without_memory { IfOk result (λ table. D.tells ≡ true → (base : Tables) (m : Machine) → StoreFits D.size D.story base m self.old
+            → GoesOn D.size D.story D.failed base m (export_call name.now) (refused Refusal.OutOfMemory) self.old self.new) }
+        ensures refused { IfErr result (λ e. D.tells ≡ true → (base : Tables) (m : Machine) → StoreFits D.size D.story base m self.old
+            → GoesOn D.size D.story D.failed base m (export_call name.now) (refused e) self.old self.new) }
+        ensures found { IfOk result (λ table. ReadsTable (is_halted self.old) D.tells (shown_image (now (D.story (device_of self.old))))
+            (entry_of (listed_in self.old) name.now) (table_of table)) }
+        ensures told { IfErr result (RefusesRead (is_halted self.old) D.tells (shown_image (now (D.story (device_of self.old))))
+            (entry_of (listed_in self.old) name.now)) }
+        ensures reads { OnlyReadsStore D.size D.story D.failed D.tells (ended result) self.old self.new }
+    {
+        accepted_rows_are_a_table();
+        tables_are_joined_and_cut();
+        canonical_means_its_table();
+        match self.read_named(alloc, name) {
+            Ok(table) => Ok(table),
+            Err(refusal) => Err(refusal),
+        }
+    }
+
     /// The canonical stream of the table of a name: it means the table. It only reads, and all of the stream is in memory.
     ///
     /// # Errors
@@ -39,10 +64,7 @@ impl<D: SectorDevice> Store<D> {
             (entry_of (listed_in self.old) name.now)) }
         ensures reads { OnlyReadsStore D.size D.story D.failed D.tells (ended result) self.old self.new }
     {
-        accepted_rows_are_a_table();
-        tables_are_joined_and_cut();
-        canonical_means_its_table();
-        match self.read_named(alloc, name) {
+        match self.read_to_export(alloc, name) {
             Ok(table) => match encode(alloc, &table) {
                 Ok(bytes) => Ok(bytes),
                 Err(_) => Err(Refusal::OutOfMemory),
@@ -51,7 +73,8 @@ impl<D: SectorDevice> Store<D> {
         }
     }
 
-    /// Writes the canonical stream of the table of a name, and flushes. All of it is made before the first byte is written.
+    /// Writes the canonical stream of the table of a name, and flushes. Its parts are made before the first byte is written, but for those that stand in
+    /// the table's bytes.
     ///
     /// # Errors
     /// Those of [`Store::export_bytes`], and then nothing is written; `Write` where the writer fails, also a `Vec` that finds no memory, and then
@@ -82,18 +105,13 @@ impl<D: SectorDevice> Store<D> {
         ensures silent { IfErr result (λ e. e ≢ Refusal.Write → writer.new ≡ writer.old) }
         ensures reads { OnlyReadsStore D.size D.story D.failed D.tells (ended result) self.old self.new }
     {
-        match self.export_bytes(alloc, name) {
-            Ok(bytes) => write_stream(writer, &bytes),
+        match self.read_to_export(alloc, name) {
+            Ok(table) => match encode_to(alloc, &table, writer) {
+                Ok(()) => Ok(()),
+                Err(WriteError::Io) => Err(Refusal::Write),
+                Err(WriteError::OutOfMemory) => Err(Refusal::OutOfMemory),
+            },
             Err(refusal) => Err(refusal),
         }
     }
-}
-
-// Writes all of the bytes, and flushes.
-fn write_stream<W: Write>(writer: &mut W, bytes: &[u8]) -> Result<(), Refusal>
-    ensures written { OnOk result (Appends (W.contents writer.old) (W.contents writer.new) bytes.now) }
-    ensures failed { IfErr result (λ e. e ≡ Refusal.Write) }
-{
-    writer.write_all(bytes).map_err(|_| Refusal::Write)?;
-    writer.flush().map_err(|_| Refusal::Write)
 }

@@ -2,4 +2,3 @@ mod GivenLemmas
 mod ChangingLemmas
 mod ReadingLemmas
 mod TextLemmas
-mod PartLemmas

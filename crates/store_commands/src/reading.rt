@@ -16,7 +16,7 @@ use std::alloc::Global;
 use std::io::Write;
 use store::Store;
 
-/// Writes the canonical stream of the table of a name. All of it is made before the first byte is written.
+/// Writes the canonical stream of the table of a name. Its parts are made before the first byte is written.
 pub fn export_table<D: SectorDevice, W: Write>(
     alloc: Global,
     store: &mut Store<D>,
@@ -34,8 +34,11 @@ pub fn export_table<D: SectorDevice, W: Write>(
     // Where it is refused nothing is written, unless a write failed.
     ensures silent { IfErr result (λ refusal. refusal ≢ Refusal.Io → output.new ≡ output.old) }
 {
-    let bytes = store.export_bytes(alloc, name)?;
-    write_whole(output, &bytes)
+    match store.export(alloc, name, output) {
+        Ok(()) => Ok(()),
+        Err(tables::Refusal::Write) => Err(Refusal::Io),
+        Err(refusal) => Err(Refusal::Store(refusal)),
+    }
 }
 
 // Reads each of some tables, up to the first that can't be read.

@@ -1,7 +1,6 @@
 // A stream from a reader, in its canonical form to a writer.
 ghost use Rattle.std.specs.Prelude.{◌≡◌, ◌≢◌, ◌+◌, ◌≤◌, ◌<◌, length, IfSome, IfOk, IfErr, OnOk, IsErr, IsErrOf};
 ghost use Rattle.std.specs.Io.KnownBytes.{Appends, IsAtEnd};
-ghost use Rattle.canonical_write.specs.View.{joined_parts};
 ghost use Rattle.ipc_message.specs.Header.{supported_codes};
 ghost use Rattle.ipc_stream.specs.Meaning.{meaning};
 ghost use Rattle.values.specs.TableView.{table_of};
@@ -9,7 +8,7 @@ ghost use Rattle.store_commands.specs.Given.{HasGiven, HasGivenAtMost, UnlessToo
 ghost use Rattle.store_commands.specs.Recode.{IsVerdict, AppendsCanonical, IsTrueFault};
 
 use crate::{LARGEST_INPUT, read_at_most};
-use canonical_write::{Buffer, encode_shared};
+use canonical_write::{WriteError, encode_to};
 use command_refusals::Refusal;
 use ipc_stream::decode;
 use std::alloc::Global;
@@ -45,27 +44,11 @@ pub fn recode<R: Read, W: Write>(
     ensures silent { IfErr result (λ refusal. refusal ≢ Refusal.Io → writer.new ≡ writer.old) }
 {
     let table = read_table(alloc, reader)?;
-    let parts = encode_shared(alloc, &table)?;
-    write_parts(writer, &parts)
-}
-
-// Writes all of the bytes, and nothing else.
-fn write_part<W: Write>(writer: &mut W, bytes: &[u8]) -> Result<(), Refusal>
-    ensures written { OnOk result (Appends (W.contents writer.old) (W.contents writer.new) bytes.now) }
-    ensures io { IfErr result (λ e. e ≡ Refusal.Io) }
-{
-    writer.write_all(bytes).map_err(|_| Refusal::Io)
-}
-
-// Writes all parts one after another, and nothing else, and flushes. `Io` where that fails; then some may be written.
-fn write_parts<W: Write>(writer: &mut W, parts: &[Buffer<'_>]) -> Result<(), Refusal>
-    ensures written { OnOk result (Appends (W.contents writer.old) (W.contents writer.new) (joined_parts parts.now)) }
-    ensures io { IfErr result (λ e. e ≡ Refusal.Io) }
-{
-    for part in parts {
-        write_part(writer, part.bytes())?;
+    match encode_to(alloc, &table, writer) {
+        Ok(()) => Ok(()),
+        Err(WriteError::Io) => Err(Refusal::Io),
+        Err(WriteError::OutOfMemory) => Err(Refusal::OutOfMemory),
     }
-    writer.flush().map_err(|_| Refusal::Io)
 }
 
 // The table that all the reader has stands for.

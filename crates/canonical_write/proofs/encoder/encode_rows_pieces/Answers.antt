@@ -7,7 +7,7 @@ use Rattle.canonical_write.specs.View.{with_schema}
 use Rattle.cells.specs.Cell.{PlainTable}
 use Rattle.table_cut.specs.Piece.{within_piece}
 use Rattle.values.specs.TableView.{table_of}
-use Rattle.canonical_write.proofs.encoder.encode_pieces.Goals as goal
+use Rattle.canonical_write.proofs.encoder.encode_rows_pieces.Goals as goal
 
 pub loop-from-init : goal.loop-from-init
 loop-from-init c =

@@ -1,6 +1,6 @@
 use Rattle.array_build.specs.Batch.{buffer_bytes}
-use Rattle.store_commands.proofs.PartLemmas.{next_part}
-use Rattle.store_commands.proofs.stream.write_parts.Goals as goal
+use Rattle.canonical_write.proofs.PartLemmas.{next_part}
+use Rattle.canonical_write.proofs.writing.write_parts.Goals as goal
 
 pub loop-part-preserved : goal.loop-part-preserved
 loop-part-preserved g c =
