@@ -2,14 +2,14 @@ use Rattle.std.proofs.Common.{map, inr}
 use Rattle.arrow_schema.specs.View.{schema_of}
 use Rattle.cells.specs.Row.{row_of}
 use Rattle.store_commands.proofs.GivenLemmas.{whole_input}
-use Rattle.store_commands.proofs.TextLemmas.{input_gives}
+use Rattle.store_commands.proofs.TextLemmas.{input_gives, input_hints}
 use Rattle.store_commands.proofs.text_rows.append_text.Goals as goal
 
 pub returns-clause-goes : goal.returns-clause-goes
 returns-clause-goes g c = λ tells base m fits.
     inr (
       map row_of c.in_ok-rows.rows.items,
-      input_gives _ _ _ (schema_of c.in_ok-schema.schema) c.in_ok-text.text.items c.deref.result.now _ c.in_ok-schema.ensures.found.1 (whole_input _ c.in_ok-text.text c.in_ok-text.ensures.all c.in_ok-text.ensures.within) c.deref.ensures.value c.in_ok-rows.ensures,
+      input_gives _ _ _ (schema_of c.in_ok-schema.schema) c.in_ok-text.text.items c.deref.result.now _ c.in_ok-schema.ensures.found.1 (whole_input _ c.in_ok-text.text c.in_ok-text.ensures.all c.in_ok-text.ensures.within) c.deref.ensures.value c.in_ok-rows.ensures.rows,
       rw (← c.in_ok-name.ensures.ok) (c.apply_command.ensures.goes tells base m fits),
     )
 
@@ -17,6 +17,12 @@ pub returns-clause-told : goal.returns-clause-told
 returns-clause-told g c =
     inr (
       map row_of c.in_ok-rows.rows.items,
-      input_gives _ _ _ (schema_of c.in_ok-schema.schema) c.in_ok-text.text.items c.deref.result.now _ c.in_ok-schema.ensures.found.1 (whole_input _ c.in_ok-text.text c.in_ok-text.ensures.all c.in_ok-text.ensures.within) c.deref.ensures.value c.in_ok-rows.ensures,
+      input_gives _ _ _ (schema_of c.in_ok-schema.schema) c.in_ok-text.text.items c.deref.result.now _ c.in_ok-schema.ensures.found.1 (whole_input _ c.in_ok-text.text c.in_ok-text.ensures.all c.in_ok-text.ensures.within) c.deref.ensures.value c.in_ok-rows.ensures.rows,
       rw (← c.in_ok-name.ensures.ok) c.apply_command.ensures.told,
     )
+
+pub returns-in_err-rows-clause-hint : goal.returns-in_err-rows-clause-hint
+returns-in_err-rows-clause-hint g c =
+    rw c.from_residual-in_err-rows.ensures
+    (input_hints _ _ _ (schema_of c.in_ok-schema.schema) c.in_ok-text.text.items c.deref.result.now c.in_err-rows.field-0 _ c.in_ok-schema.ensures.found.1
+    (whole_input _ c.in_ok-text.text c.in_ok-text.ensures.all c.in_ok-text.ensures.within) c.deref.ensures.value c.in_err-rows.ensures.rows c.in_err-rows.ensures.hint)
