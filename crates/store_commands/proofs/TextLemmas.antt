@@ -1,7 +1,7 @@
 -- What a text and a query give of the table that is found.
 use Rattle.std.proofs.Common.{◌≡◌, ◌∙◌, ℕ, Bool, List, refl, ap, sym, subst}
-use Rattle.std.specs.Prelude.{Option, Some, None, option_map, unwrap_or, Result, Ok, Err, OnOk, IfErr}
-use Rattle.std.specs.Io.KnownBytes.{Appends}
+use Rattle.std.specs.Prelude.{Option, Some, None, IsSome, false, option_map, unwrap_or, Result, Ok, Err, OnOk, IfErr}
+use Rattle.std.specs.Io.KnownBytes.{Appends, IsAtEnd}
 use Rattle.sector_dev.specs.Disk.{Image}
 use Rattle.arrow_schema.specs.Column.{PlainSchema}
 use Rattle.cells.specs.Cell.{Cell, PlainTable}
@@ -13,7 +13,8 @@ use Rattle.store.specs.Reading.{ReadsTable}
 use Rattle.command_refusals.specs.declared.refusal.Refusal.{Refusal}
 use Rattle.command_refusals.specs.declared.refusal.Refusal.TheVariants.{Io}
 use Rattle.text_import.specs.declared.form.TextForm.{TextForm}
-use Rattle.store_commands.specs.Given.{IsWholeInput}
+use Rattle.store_commands.specs.Given.{IsWholeInput, HasGivenAtMost}
+use Rattle.store_commands.specs.declared.input.TheConstants.{LARGEST_INPUT}
 use Rattle.text_import.specs.Form.{rows_in}
 use Rattle.text_import.specs.Part.{part_of, refused_part}
 use Rattle.text_import.specs.Refusals.{refused_by}
@@ -22,7 +23,7 @@ use Rattle.text_import.specs.declared.refusal.TextError.{TextError}
 use Rattle.text_import.specs.declared.refusal.TextError.TheVariants as texts
 use Rattle.facts.specs.Outcomes.{Reports}
 use Rattle.command_refusals.specs.Refusals.{text_refusal}
-use Rattle.store_commands.specs.TextRows.{InputGives, HintsAt, IfHinted}
+use Rattle.store_commands.specs.TextRows.{InputGives, HintsAt, IfHinted, RefusesText}
 use Rattle.store_commands.specs.Selecting.{rows_text, QueryAnswers, RefusesQuery}
 
 -- the schema is that of the entry that is found
@@ -64,6 +65,18 @@ input_hints form (Some e) input s bytes text (texts.Refused refused) (Some part)
       refuses = ap (λ t. rows_in form t bytes) schema ∙ (ap (λ b. rows_in form s b) (sym same) ∙ gives);
       names = ap (λ t. refused_part form t bytes refused.number) schema ∙ (ap (λ b. refused_part form s b refused.number) (sym same) ∙ hints);
     }
+
+there_is : (found : Option PlainEntry) (s : PlainSchema) → option_map (λ e. e.schema) found ≡ Some s → IsSome found
+there_is None s is = absurd cc
+there_is (Some e) s is = refl
+
+-- why the rows of a text that is refused are not handed on
+pub refuses_text : {R : Type 0} (remaining : R → Option (List ℕ)) (form : TextForm) (halted : Bool) (found : Option PlainEntry) (old new : R) (s : PlainSchema) (bytes text : List ℕ) (error : TextError)
+    → halted ≡ false → option_map (λ e. e.schema) found ≡ Some s → IsWholeInput (remaining old) bytes → text ≡ bytes → Reports (refused_by error) (rows_in form s text)
+    → IsAtEnd (remaining new) → HasGivenAtMost (remaining old) (remaining new) LARGEST_INPUT → RefusesText remaining form halted found old new (text_refusal error)
+refuses_text remaining form halted found old new s bytes text (texts.Refused refused) on is whole same gives end few =
+    (on, input_gives form found (remaining old) s bytes text (Err refused) is whole same gives, end)
+refuses_text remaining form halted found old new s bytes text texts.OutOfMemory on is whole same gives end few = (on, there_is found s is, few)
 
 -- where all is written, the lines of the selection are
 pub lines_written : (halted tells : Bool) (image : Image) (found : Option PlainEntry) (q : PlainQuery) (table selected : PlainTable) (text : List ℕ) (old new : Option (List ℕ)) (r : Result (Unit {0}) Refusal)
