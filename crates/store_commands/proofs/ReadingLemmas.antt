@@ -81,12 +81,15 @@ module _ {D : Type 0} {g : Ghosts D} (story : D → Story) where
   read_and_written size failed tells old new (Err e) io reads = subst (λ (x : Refusal). OnlyReadsStore size story failed tells (store_ended (Err x)) old new) (sym io) reads
 
   -- a writer that fails is no failure of the store
-  pub read_unwritten : (size failed : D → ℕ) (tells : Bool) (old new : Store D g) → OnlyReadsStore size story failed tells (refused Write) old new → OnlyReadsStore size story failed tells done old new
-  read_unwritten size failed tells old new reads = record {
-    device = record { same = reads.device.same; moments = reads.device.moments; count = reads.device.count };
-    kept = reads.kept;
-    halts = reads.halts;
-  }
+  pub read_unwritten : (size failed : D → ℕ) (tells : Bool) (old new : Store D g) (r : tables.Refusal) → r ≡ Write → OnlyReadsStore size story failed tells (refused r) old new
+      → OnlyReadsStore size story failed tells done old new
+  read_unwritten size failed tells old new r is given =
+      let reads : OnlyReadsStore size story failed tells (refused Write) old new = subst (λ (x : tables.Refusal). OnlyReadsStore size story failed tells (refused x) old new) is given in
+      record {
+        device = record { same = reads.device.same; moments = reads.device.moments; count = reads.device.count };
+        kept = reads.kept;
+        halts = reads.halts;
+      }
 
   -- a later store shows the same
   pub record IsAsRead (old new : Store D g) : Type 0 where
