@@ -12,9 +12,10 @@ use Rattle.cells.specs.Cell.{PlainTable}
 use Rattle.catalogue.specs.Edits.{entry_of}
 use Rattle.catalogue.specs.View.{catalogue_of}
 use Rattle.tables.specs.declared.refusal.Refusal as tables
+use Rattle.tables.specs.declared.refusal.Refusal.TheVariants.{Write}
 use Rattle.store.specs.declared.store.Store.{Store}
 use Rattle.store.specs.Fits.{device_of, is_halted, listed_in}
-use Rattle.store.specs.Calls.{PlainReply, done, is_device_reply, counted}
+use Rattle.store.specs.Calls.{PlainReply, done, refused, is_device_reply, counted}
 use Rattle.store.specs.Reading.{ReadsTable, RefusesRead, OnlyReadsStore}
 use Rattle.command_refusals.specs.declared.refusal.Refusal.{Refusal}
 use Rattle.command_refusals.specs.declared.refusal.Refusal.TheVariants.{Io}
@@ -78,6 +79,17 @@ module _ {D : Type 0} {g : Ghosts D} (story : D → Story) where
       → OnlyReadsStore size story failed tells (store_ended r) old new
   read_and_written size failed tells old new (Ok unit) io reads = reads
   read_and_written size failed tells old new (Err e) io reads = subst (λ (x : Refusal). OnlyReadsStore size story failed tells (store_ended (Err x)) old new) (sym io) reads
+
+  -- a writer that fails is no failure of the store
+  pub read_unwritten : (size failed : D → ℕ) (tells : Bool) (old new : Store D g) (r : tables.Refusal) → r ≡ Write → OnlyReadsStore size story failed tells (refused r) old new
+      → OnlyReadsStore size story failed tells done old new
+  read_unwritten size failed tells old new r is given =
+      let reads : OnlyReadsStore size story failed tells (refused Write) old new = subst (λ (x : tables.Refusal). OnlyReadsStore size story failed tells (refused x) old new) is given in
+      record {
+        device = record { same = reads.device.same; moments = reads.device.moments; count = reads.device.count };
+        kept = reads.kept;
+        halts = reads.halts;
+      }
 
   -- a later store shows the same
   pub record IsAsRead (old new : Store D g) : Type 0 where
