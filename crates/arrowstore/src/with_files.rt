@@ -22,22 +22,20 @@ use std::fs::OpenFile;
 use std::io::{self, Read, Seek, Write};
 use std::rt::Files;
 use store_requests::{Mistake, StoreRequest, is_of_store, refused_word, request_of, takes_input};
-use text_import::RefusedPart;
 
-// What is said to be refused: a part of the input, where one is known, and else a word of the command line.
+// The word of the command line that is refused, where one is known.
 fn hint_of<'a>(
     alloc: Global,
     request: &StoreRequest<'a>,
-    refusal: &Refusal,
-    part: &'a Option<RefusedPart>,
+    done: &Result<(), Refusal>,
 ) -> Option<Hint<'a>> {
-    match part {
-        Some(part) => Some(Hint::Part(part)),
-        None => Some(Hint::Word(refused_word(alloc, request, refusal)?)),
+    match done {
+        Ok(()) => None,
+        Err(refusal) => Some(Hint::Word(refused_word(alloc, request, refusal)?)),
     }
 }
 
-// A command of a store, of which is hinted what is refused.
+// A command of a store. What is hinted to be refused is a part of the input, where one is known, and else a word of the command line.
 fn serve_and_tell<
     F: Read + Write + Seek + OpenFile + LockFile + Drop,
     H: Files<File = F> + AllocGlobal,
@@ -56,11 +54,10 @@ fn serve_and_tell<
 {
     let mut part = None;
     let done = serve(rt, request, input, output, &mut part);
-    let hint = match &done {
-        Ok(()) => None,
-        Err(refusal) => hint_of(rt.alloc(), request, refusal, &part),
-    };
-    end(done, hint, audience, errors)
+    match &part {
+        Some(part) => end(done, Some(Hint::Part(part)), audience, errors),
+        None => end(done, hint_of(rt.alloc(), request, &done), audience, errors),
+    }
 }
 
 // A command line of a store, with the input that it may read.

@@ -4,7 +4,7 @@
 //! A case is its kind and then words, each behind a tab: a letter, and bytes in hexadecimal.
 //!
 //! - `csv` and `jsonl` read the text `i` into the fields `f`; of CSV `n` is the null text. The answer is `rows` and each row,
-//!   or the refusal and, behind a tab, the part that is refused.
+//!   or the refusal.
 //! - `query` selects from the table of the text `i` of JSON Lines: the columns `c` of the rows that meet the conditions `w`,
 //!   at most `l` of them. The answer is `rows` and the line of each row, or the refusal. `query_stream` does the same with
 //!   the table that is read from the stream of this one.

@@ -1,75 +1,30 @@
-// Rows of texts, and how they are printed. A part that is refused is `f`, the name of a field and its text, or `l`, a line and the name of a
-// field, if there is one: in hexadecimal, and a space between. A row is a list of values in parentheses, each with a comma behind it. A value is `n`,
+// Rows of texts, and how they are printed: a row is a list of values in parentheses, each with a comma behind it. A value is `n`,
 // `true`, a number, `t` or `b` and the bytes of a text or a binary in hexadecimal, a list in brackets, a struct in parentheses.
 use crate::case::Case;
 use anyhow::Result;
-use arrow_schema::Schema;
 use cells::{Row, Value};
 use std::alloc::{AllocError, Global};
-use text_import::{Refused, RefusedPart, TextError, TextForm, csv_rows, jsonl_rows, refused_part};
+use text_import::{TextError, csv_rows, jsonl_rows};
 
 pub(crate) fn csv_answer(alloc: Global, case: &Case<'_>) -> Result<String> {
     let schema = case.schema(alloc)?;
     let null_text = case.bytes(alloc, 'n')?;
     let text = case.bytes(alloc, 'i')?;
     let null_text = std::str::from_utf8(null_text.as_slice())?;
-    let rows = csv_rows(alloc, &schema, text.as_slice(), null_text);
-    report(alloc, rows, &TextForm::Csv { null_text }, &schema, &text)
+    report(alloc, csv_rows(alloc, &schema, text.as_slice(), null_text))
 }
 
 pub(crate) fn jsonl_answer(alloc: Global, case: &Case<'_>) -> Result<String> {
     let schema = case.schema(alloc)?;
     let text = case.bytes(alloc, 'i')?;
-    let rows = jsonl_rows(alloc, &schema, text.as_slice());
-    report(alloc, rows, &TextForm::JsonLines, &schema, &text)
+    report(alloc, jsonl_rows(alloc, &schema, text.as_slice()))
 }
 
-fn report(
-    alloc: Global,
-    rows: Result<Vec<Row>, TextError>,
-    form: &TextForm<'_>,
-    schema: &Schema,
-    text: &[u8],
-) -> Result<String> {
+fn report(alloc: Global, rows: Result<Vec<Row>, TextError>) -> Result<String> {
     match rows {
         Ok(rows) => Ok(rows_text(alloc, rows.as_slice())?),
-        Err(TextError::Refused(refused)) => {
-            let part = refused_part(alloc, form, schema, text, refused.number)?;
-            Ok(refusal_text(alloc, &refused, &part)?)
-        }
+        Err(TextError::Refused(refused)) => Ok(format!(in alloc; "{refused}\n")?),
         Err(TextError::OutOfMemory) => Ok(format!(in alloc; "OutOfMemory\n")?),
-    }
-}
-
-fn refusal_text(
-    alloc: Global,
-    refused: &Refused,
-    part: &Option<RefusedPart>,
-) -> Result<String, AllocError> {
-    let mut text = format!(in alloc; "{refused}\t")?;
-    push_part(alloc, &mut text, part)?;
-    text.push_str("\n")?;
-    Ok(text)
-}
-
-fn push_part(
-    alloc: Global,
-    text: &mut String,
-    part: &Option<RefusedPart>,
-) -> Result<(), AllocError> {
-    match part {
-        None => Ok(()),
-        Some(RefusedPart::Field { name, text: field }) => {
-            push_hex(alloc, text, "f", name.as_bytes())?;
-            push_hex(alloc, text, " ", field.as_slice())
-        }
-        Some(RefusedPart::Line { name, text: line }) => {
-            push_hex(alloc, text, "l", line.as_slice())?;
-            match name {
-                None => Ok(()),
-                Some(name) => push_hex(alloc, text, " ", name.as_bytes()),
-            }
-        }
     }
 }
 

@@ -35,7 +35,7 @@ returns-in_err-rows-clause-told g c =
     rw (p.1, p.2)
     (inl (
       refuses_text g.R.Read.remaining _ _ _ c.args.input.now c.read_at_most.new.reader (schema_of c.in_ok-schema.schema) c.in_ok-text.text.items c.deref.result.now c.in_err-rows.field-0.0 c.in_ok-schema.ensures.found.0 c.in_ok-schema.ensures.found.1
-      (whole_input _ c.in_ok-text.text c.in_ok-text.ensures.all c.in_ok-text.ensures.within) c.deref.ensures.value c.in_err-rows.ensures.rows c.in_ok-text.ensures.end c.in_ok-text.ensures.few,
+          (whole_input _ c.in_ok-text.text c.in_ok-text.ensures.all c.in_ok-text.ensures.within) c.deref.ensures.value c.in_err-rows.ensures.rows c.in_ok-text.ensures.end c.in_ok-text.ensures.few,
       refl,
       refl,
     ))
