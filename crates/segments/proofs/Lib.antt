@@ -4,5 +4,6 @@ pub mod Changed
 pub mod Lowest
 pub mod Touched
 pub mod Contents
+pub mod Order
 pub mod Pieces
 pub mod Gathered

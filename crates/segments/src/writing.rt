@@ -1,10 +1,10 @@
 // Runs of sectors are written.
-ghost use Rattle.std.specs.Prelude.{◌≡◌, ◌+◌, ◌*◌, ◌≤◌, ◌<◌, ◌^◌, ◌∷◌, [], length, true, OnOk, IfErr, Some};
+ghost use Rattle.std.specs.Prelude.{◌≡◌, ◌+◌, ◌*◌, ◌≤◌, ◌<◌, ◌^◌, ◌∷◌, [], length, true, OnOk, OnErr, IfErr, Some};
 ghost use Rattle.sector_dev.specs.Disk.{now, shown_image, Counts};
 ghost use Rattle.segments.specs.Runs.{AreApart};
 ghost use Rattle.segments.specs.Sectors.{sector_count, filled, Holds, bytes_at};
-ghost use Rattle.segments.specs.Writing.{run_for, runs_of, OnlyWrites, LeavesOthers, AllFit, HoldsEach};
-ghost use Rattle.segments.specs.inner.Rows.{ShowsSectors, sectors_from};
+ghost use Rattle.segments.specs.Writing.{run_for, runs_of, OnlyWrites, LeavesOthers, AllFit, HoldsEach, run_writes, piece_writes, GrowsBy, FailsAmong};
+ghost use Rattle.segments.specs.inner.Rows.{ShowsSectors, sectors_from, row_writes};
 
 use crate::Piece;
 use sector_dev::{DevError, SECTOR_BYTES, SectorDevice};
@@ -32,6 +32,8 @@ fn write_sectors<D: SectorDevice>(
     ensures error { IfErr result (λ e. e ≡ DevError.Failed) }
     ensures moments { D.tells ≡ true → OnlyWrites (sectors_from start (length contents.now)) (D.story device.old) (D.story device.new) }
     ensures shows { OnOk result (D.tells ≡ true → ShowsSectors (shown_image (now (D.story device.new))) start contents.now) }
+    ensures order { OnOk result (D.tells ≡ true → GrowsBy (row_writes start contents.now) (D.story device.old) (D.story device.new)) }
+    ensures cut_short { OnErr result (D.tells ≡ true → FailsAmong (row_writes start contents.now) (D.story device.old) (D.story device.new)) }
 {
     for (i, content) in contents.iter().enumerate() {
         device.write(start + i as u64, content)?;
@@ -53,6 +55,8 @@ pub fn write_run<D: SectorDevice>(device: &mut D, start: u64, bytes: &[u8]) -> R
     ensures others { D.tells ≡ true → LeavesOthers (run_for start bytes.now ∷ []) (D.story device.old) (D.story device.new) }
     ensures holds { OnOk result (D.tells ≡ true → Holds (shown_image (now (D.story device.new))) start bytes.now) }
     ensures reads { OnOk result (D.tells ≡ true → bytes_at (shown_image (now (D.story device.new))) start (length bytes.now) ≡ Some bytes.now) }
+    ensures order { OnOk result (D.tells ≡ true → GrowsBy (run_writes start bytes.now) (D.story device.old) (D.story device.new)) }
+    ensures cut_short { OnErr result (D.tells ≡ true → FailsAmong (run_writes start bytes.now) (D.story device.old) (D.story device.new)) }
 {
     let (whole, rest) = bytes.as_chunks::<SECTOR_BYTES>();
     write_sectors(device, start, whole)?;
@@ -78,6 +82,8 @@ pub fn write_runs<D: SectorDevice>(device: &mut D, pieces: &[Piece]) -> Result<(
     ensures moments { D.tells ≡ true → OnlyWrites (runs_of pieces.now) (D.story device.old) (D.story device.new) }
     ensures others { D.tells ≡ true → LeavesOthers (runs_of pieces.now) (D.story device.old) (D.story device.new) }
     ensures holds { OnOk result (D.tells ≡ true → HoldsEach (shown_image (now (D.story device.new))) pieces.now) }
+    ensures order { OnOk result (D.tells ≡ true → GrowsBy (piece_writes pieces.now) (D.story device.old) (D.story device.new)) }
+    ensures cut_short { OnErr result (D.tells ≡ true → FailsAmong (piece_writes pieces.now) (D.story device.old) (D.story device.new)) }
 {
     for piece in pieces {
         write_run(device, piece.run.start, &piece.bytes)?;

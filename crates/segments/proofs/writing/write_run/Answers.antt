@@ -4,6 +4,7 @@ use Rattle.segments.specs.Sectors.{sector_count}
 use Rattle.segments.specs.Writing.{run_for}
 use Rattle.segments.specs.laws.ReadBack.{read_back}
 use Rattle.segments.proofs.Contents.{holds_whole, holds_last}
+use Rattle.segments.proofs.Order.{on_err, whole_failed, whole_done, last_failed, last_done}
 use Rattle.segments.proofs.Touched.{leaves_others, front_written, next_written}
 use Rattle.segments.proofs.writing.write_run.Goals as goal
 
@@ -69,3 +70,31 @@ returns-clause-holds g c = λ told.
 
 pub returns-clause-reads : goal.returns-clause-reads
 returns-clause-reads g c = λ told. read_back _ c.args.start c.args.bytes.now (returns-clause-holds g c told)
+
+pub returns-in_err-write_sectors-clause-cut_short : goal.returns-in_err-write_sectors-clause-cut_short
+returns-in_err-write_sectors-clause-cut_short g c = on_err c.from_residual.result (λ told.
+    let D = g.D.SectorDevice in
+    whole_failed c.args.start c.args.bytes.now c.as_chunks.result.0.now (D.story c.args.device.now) (D.story c.write_sectors.new.device) c.as_chunks.ensures.front c.as_chunks.ensures.front_len (c.in_err-write_sectors.ensures.cut_short told))
+
+pub returns-then-is_empty-clause-order : goal.returns-then-is_empty-clause-order
+returns-then-is_empty-clause-order g c = λ told.
+    let D = g.D.SectorDevice in
+    let none = eqb-true (length c.as_chunks.result.1.now) 0 (sym c.is_empty.ensures ∙ c.if-is_empty.true) in
+    let even : length c.args.bytes.now % 512 ≡ 0 = omega (arith, none, c.as_chunks.ensures.back_len) in
+    whole_done c.args.start c.args.bytes.now c.as_chunks.result.0.now (D.story c.args.device.now) (D.story c.write_sectors.new.device) even c.as_chunks.ensures.front c.as_chunks.ensures.front_len (c.in_ok-write_sectors.ensures.order told)
+
+pub returns-in_err-write-clause-cut_short : goal.returns-in_err-write-clause-cut_short
+returns-in_err-write-clause-cut_short g c = on_err c.from_residual-in_err-write.result (λ told.
+    let D = g.D.SectorDevice in
+    let some = eqb-false (length c.as_chunks.result.1.now) 0 (sym c.is_empty.ensures ∙ c.if-is_empty.false) in
+    let odd : length c.args.bytes.now % 512 ≢ 0 = λ even. some (omega (arith, even, c.as_chunks.ensures.back_len)) in
+    last_failed c.args.start c.args.bytes.now c.as_chunks.result.1.now _ c.as_chunks.result.0.now (D.story c.args.device.now) (D.story c.write_sectors.new.device) (D.story c.write.new.self) odd
+    c.as_chunks.ensures.front c.as_chunks.ensures.front_len c.as_chunks.ensures.back c.filled_sector-last.ensures (c.in_ok-write_sectors.ensures.order told) (c.in_err-write.ensures.err told))
+
+pub returns-clause-order : goal.returns-clause-order
+returns-clause-order g c = λ told.
+    let D = g.D.SectorDevice in
+    let some = eqb-false (length c.as_chunks.result.1.now) 0 (sym c.is_empty.ensures ∙ c.if-is_empty.false) in
+    let odd : length c.args.bytes.now % 512 ≢ 0 = λ even. some (omega (arith, even, c.as_chunks.ensures.back_len)) in
+    last_done c.args.start c.args.bytes.now c.as_chunks.result.1.now _ c.as_chunks.result.0.now (D.story c.args.device.now) (D.story c.write_sectors.new.device) (D.story c.write.new.self) odd
+    c.as_chunks.ensures.front c.as_chunks.ensures.front_len c.as_chunks.ensures.back c.filled_sector-last.ensures (c.in_ok-write_sectors.ensures.order told) (c.in_ok-write.ensures.ok told)
