@@ -20,8 +20,8 @@ returns-in_err-write-clause-moments g c = λ told.
     let D = g.D.SectorDevice in
     let so_far = c.loop-i.invariant.moments told in
     let runs = sectors_from c.args.start (length c.args.contents.now) in
-    goes_on so_far (write_failed runs _ (D.story c.loop-i.device) (D.story c.write.new.self) (c.args.start + c.loop-i.i) _
-    (inside_run c.args.start (length c.args.contents.now) (c.args.start + c.loop-i.i) (omega arith) (omega arith)) (written_now runs (D.story c.args.device.now) (D.story c.loop-i.device) so_far) (c.in_err-write.ensures.err told))
+    goes_on so_far (write_failed runs _ (D.story c.loop-i.device) (D.story c.write.new.self) _ _
+    (inside_run c.args.start (length c.args.contents.now) _ (omega arith) (omega arith)) (written_now runs (D.story c.args.device.now) (D.story c.loop-i.device) so_far) (c.in_err-write.ensures.err told))
 
 pub returns-in_err-write-clause-cut_short : goal.returns-in_err-write-clause-cut_short
 returns-in_err-write-clause-cut_short g c = on_err c.from_residual.result (λ told.
@@ -38,8 +38,8 @@ loop-i-preserved g c =
       failed = c.in_ok-write.ensures.count ∙ c.loop-i.invariant.failed;
       moments = λ told.
           let so_far = c.loop-i.invariant.moments told in
-          goes_on so_far (write_done runs _ (D.story c.loop-i.device) (D.story c.write.new.self) (c.args.start + c.loop-i.i) _ _
-          (inside_run c.args.start (length c.args.contents.now) (c.args.start + c.loop-i.i) (omega arith) (omega arith)) (written_now runs (D.story c.args.device.now) (D.story c.loop-i.device) so_far) (c.in_ok-write.ensures.ok told));
+          goes_on so_far (write_done runs _ (D.story c.loop-i.device) (D.story c.write.new.self) _ _ _
+          (inside_run c.args.start (length c.args.contents.now) _ (omega arith) (omega arith)) (written_now runs (D.story c.args.device.now) (D.story c.loop-i.device) so_far) (c.in_ok-write.ensures.ok told));
       shows = λ told. shows_more c.loop-i.i (D.story c.loop-i.device) (D.story c.write.new.self) c.args.start c.args.contents.now _ refl (c.loop-i.invariant.shows told) (c.in_ok-write.ensures.ok told);
       order = λ told.
           next_done c.args.start c.loop-i.i (λ j. get_or c.args.contents.now j []) _ (D.story c.args.device.now) (D.story c.loop-i.device) (D.story c.write.new.self) refl
