@@ -12,3 +12,5 @@ mod Shapes
 mod Columns
 mod Deciding
 mod Firsts
+mod NamedCodes
+mod LaterCodes

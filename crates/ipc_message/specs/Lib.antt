@@ -10,6 +10,7 @@ pub mod Convert
 pub mod DictionaryTypes
 pub mod Same
 pub mod Checks
+pub mod Codes
 pub mod Outcome
 pub mod laws
 pub mod inner

@@ -42,7 +42,10 @@ pub use dictionary_type::DictionaryType;
 pub use error::ImportError;
 pub use fault::{Fault, TypeName};
 pub use header_type::{DICTIONARY_BATCH, HeaderType, RECORD_BATCH, SCHEMA};
-pub use laws::{checked_schema_is_within_limits, next_message_is_framed};
+pub use laws::{
+    checked_schema_is_within_limits, named_codes_stay_supported, next_message_is_framed,
+    only_named_codes_matter,
+};
 pub use message::{Message, NextMessage, V5};
 pub use next_message::{CONTINUATION_MARKER, read_message};
 pub use raw_header::{

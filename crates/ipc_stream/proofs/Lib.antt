@@ -20,3 +20,4 @@ mod BadMessages
 mod FramedMessages
 mod FramedBack
 mod FaultPlace
+mod OlderStreams

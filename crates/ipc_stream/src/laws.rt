@@ -1,8 +1,9 @@
 // What the definitions say. The functions do nothing: their contracts are the laws.
-ghost use Rattle.std.specs.Prelude.{◌≡◌, ◌++◌, ℕ, Bool, List, Ok, Err, None, Some, length};
+ghost use Rattle.std.specs.Prelude.{◌≡◌, ◌++◌, ℕ, Bool, true, List, Ok, Err, None, Some, length};
 ghost use Rattle.facts.specs.Bytes.{AreBytes};
 ghost use Rattle.cells.specs.Cell.{PlainTable};
 ghost use Rattle.values.specs.Table.{IsTable};
+ghost use Rattle.ipc_message.specs.Codes.{SupportAlike, codes_named, earlier_codes, names_no_later_code};
 ghost use Rattle.ipc_message.specs.Header.{supported_codes};
 ghost use Rattle.ipc_stream.specs.Fed.{settled_fault};
 ghost use Rattle.ipc_stream.specs.FramedFault.{FaultStands};
@@ -14,7 +15,10 @@ use arrays::{
     read_dictionaries_are_readable, read_dictionaries_have_bytes, read_rows_are_rows,
     schemas_give_dictionary_columns,
 };
-use ipc_message::{Fault, checked_schema_is_within_limits, next_message_is_framed};
+use ipc_message::{
+    Fault, checked_schema_is_within_limits, named_codes_stay_supported, next_message_is_framed,
+    only_named_codes_matter,
+};
 
 /// A stream means the table that it encodes, and no other: framed messages, of which the first is the table's schema and each other a dictionary batch or a
 /// record batch that is read after those before it, whose rows one batch after another are the table's, and then nothing or the end of stream. A stream that
@@ -56,3 +60,15 @@ pub fn settled_faults_stay()
         → settled_fault supported_codes (bytes ++ more) ≡ Some fault }
     ensures meant { (bytes : List ℕ) (fault : Fault) → settled_fault supported_codes bytes ≡ Some fault → meaning supported_codes bytes ≡ Err fault }
 {}
+
+/// Whether a type code is supported matters only to the streams whose schema names it. So a stream that names no later code has the meaning that it had before
+/// these were supported, its table or its fault. And a table that a stream means stays its meaning, whichever codes are supported beside.
+pub fn older_streams_keep_their_meaning()
+    ensures named { (supported other : ℕ → Bool) (bytes : List ℕ) → SupportAlike supported other (codes_named bytes) → meaning supported bytes ≡ meaning other bytes }
+    ensures older { (bytes : List ℕ) → names_no_later_code bytes ≡ true → meaning supported_codes bytes ≡ meaning earlier_codes bytes }
+    ensures tables { (fewer more : ℕ → Bool) (bytes : List ℕ) (t : PlainTable) → ((code : ℕ) → fewer code ≡ true → more code ≡ true)
+        → meaning fewer bytes ≡ Ok t → meaning more bytes ≡ Ok t }
+{
+    only_named_codes_matter();
+    named_codes_stay_supported();
+}

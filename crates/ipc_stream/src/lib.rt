@@ -27,7 +27,8 @@ pub use add::add_message;
 pub use decoder::{Decoder, FinishError};
 pub use front::Front;
 pub use laws::{
-    faults_stand_at_their_place, meaning_is_a_table, meaning_is_framed, settled_faults_stay,
+    faults_stand_at_their_place, meaning_is_a_table, meaning_is_framed,
+    older_streams_keep_their_meaning, settled_faults_stay,
 };
 pub use placing::place;
 pub use reading::read_front;

@@ -72,7 +72,8 @@ pub fn decode_weighed(alloc: Global, bytes: Vec<u8>) -> Result<Weighed, ImportEr
     }
 }
 
-/// The table that a stream means, or its first fault, as [`decode_weighed`] gives it.
+/// The table that a stream means, or its first fault, as [`decode_weighed`] gives it. Streams that name none of the types that were supported last have the meaning
+/// that they had before ([`crate::older_streams_keep_their_meaning`]).
 pub fn decode(alloc: Global, bytes: Vec<u8>) -> Result<Table, ImportError>
     ensures exact { Gives table_of result (meaning supported_codes bytes.items) }
     ensures in_parts { IfOk result (λ table. is_in_parts table ≡ true) }

@@ -1,5 +1,5 @@
 -- What is known of a schema that passes its tests.
-use Rattle.std.specs.Prelude.{◌≡◌, ℕ, Bool, true, false, not, ◌||◌, ◌==◌, List, [], ◌∷◌, length, find, Option, Some, None, option_map, Ok}
+use Rattle.std.specs.Prelude.{◌≡◌, ℕ, Bool, true, false, not, ◌==◌, List, [], ◌∷◌, find, Option, Some, None, option_map, Ok}
 use Rattle.std.specs.List.{list_any, list_all}
 use Rattle.std.specs.Str.{is_utf8}
 use Rattle.std.proofs.Common.{refl}
@@ -51,7 +51,7 @@ no_field : (o : Option RawField) (f : RawField → Fault) → option_map f o ≡
 no_field None f h = refl
 no_field (Some x) f h = absurd cc
 
-finds_nothing : (supported : ℕ → Bool) (s : RawSchema) → first_some (schema_checks supported s) ≡ None → FindsNothing supported s
+pub finds_nothing : (supported : ℕ → Bool) (s : RawSchema) → first_some (schema_checks supported s) ≡ None → FindsNothing supported s
 unfolding schema_checks
 finds_nothing supported s h =
     let big_endian = first_none _ _ h in

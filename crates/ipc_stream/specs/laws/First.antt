@@ -66,7 +66,7 @@ end_same : (k : Known) (rest : List ℕ) (next : Known) → known_at_end_of_stre
 end_same k rest next e =
     in_either (is_empty rest) (Ok k) (Err AfterEnd) (Ok next) (λ h. ap (λ (x : Known). x.schema) (sym (given k next h))) (λ h. absurd (refused AfterEnd next h)) e
 
-abbrev after_next : (ℕ → Bool) → (steps : ℕ) → Option Known → List ℕ → NextMessage → Result Known Fault
+abbrev pub after_next : (ℕ → Bool) → (steps : ℕ) → Option Known → List ℕ → NextMessage → Result Known Fault
 after_next supported steps before bytes f =
     by_next_message f (known_at_end_of_stream before (drop 8 bytes)) (λ m. read_next supported before m >>= λ k. read_from supported steps (Some k) (drop (taken f) bytes))
 
