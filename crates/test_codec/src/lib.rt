@@ -11,8 +11,6 @@ mod buffers;
 #[cfg(test)]
 mod fakes;
 #[cfg(test)]
-mod integer_tables;
-#[cfg(test)]
 mod made;
 #[cfg(test)]
 mod messages;

@@ -238,7 +238,7 @@ fn has_three_rows(alloc: Global) -> Result<bool, NotMade> {
         return Ok(false);
     }
     let is_empty = made.row(2).is_some_and(|row| row.is_empty());
-    Ok(is_empty && made.has_only_integers() && has_rows(alloc, &made, &[&[], &[], &[]])?)
+    Ok(is_empty && has_rows(alloc, &made, &[&[], &[], &[]])?)
 }
 
 #[test]

@@ -7,13 +7,11 @@ use Rattle.std.proofs.lemmas.List.{drop_all, drop_more}
 use Rattle.std.proofs.lemmas.List.Elements.{All-get_or}
 use Rattle.std.proofs.lemmas.List.Sums.{sum_by-cons}
 use Rattle.std.proofs.lemmas.Option.{slice_get_past, slice_get_cases, slice_get_within, get_or_from_slice_get}
-use Rattle.values.specs.laws.IntegerRows.{length_rows_from}
 use Rattle.arrow_schema.specs.Column.{Columns, columns_of, PlainSchema}
 use Rattle.arrow_schema.specs.declared.types.Schema.{Schema}
-use Rattle.arrow_schema.specs.Integers.{is_integer_schema}
 use Rattle.arrow_schema.specs.View.{schema_of}
 use Rattle.values.specs.declared.content.Content.{Content}
-use Rattle.values.specs.declared.content.Content.TheVariants.{Cells, Integers, Batches as InBatches}
+use Rattle.values.specs.declared.content.Content.TheVariants.{Cells, Batches as InBatches}
 use Rattle.values.specs.declared.batches.Batches.{Batches}
 use Rattle.values.specs.declared.part.Part.{Part}
 use Rattle.cells.specs.declared.limits.TheConstants.{MAX_TABLE_WEIGHT}
@@ -22,20 +20,14 @@ use Rattle.cells.specs.Cell.{Cell, cells_of, PlainTable}
 use Rattle.cells.specs.Row.{is_row, row_fits}
 use Rattle.columns.specs.Texts.{have_utf8_texts}
 use Rattle.columns.specs.laws.FitTexts.{row_texts}
-use Rattle.values.specs.Columns.{row_at}
 use Rattle.values.specs.Content.{rows_of, table_with, is_filled}
-use Rattle.values.specs.IntegerTable.{integer_columns, have_rows, plain_table}
-use Rattle.values.specs.IntegerRows.{have_row}
 use Rattle.values.specs.Parts.{are_parts_sound, parts_rows, parts_table}
 use Rattle.values.specs.Table.{IsTable}
 use Rattle.values.specs.inner.Starts.{part_lengths}
 use Rattle.values.proofs.PartLemmas.{length_parts}
 use Rattle.cells.specs.View.{cell}
 use Rattle.cells.specs.Weight.{row_weight, table_weight}
-use Rattle.values.proofs.IntegerRows.{has_row}
-use Rattle.values.proofs.IntegerRows as integers
-use Rattle.values.proofs.RowLemmas.{length_rows, row_within}
-use Rattle.values.proofs.RowLemmas as cells
+use Rattle.values.proofs.RowLemmas.{length_rows, row_in, row_within}
 
 -- the columns of a schema of the code
 abbrev own_columns : Schema → Columns
@@ -43,7 +35,6 @@ own_columns s = columns_of (schema_of s).columns
 
 pub length_content : (s : Schema) (n : ℕ) (content : Content) → is_filled s n content ≡ true → length (rows_of s n content) ≡ n
 length_content s n (Cells values) filled = length_rows (length s.fields.items) n (map cell values.items)
-length_content s n (Integers columns) filled = length_rows_from (integer_columns (schema_of s)) (map (λ v. v.items) columns.items) 0 n
 length_content s n (InBatches batches) filled =
     let parts = and_parts (n == sum (part_lengths batches.parts.items)) (are_parts_sound (own_columns s) batches.parts.items) filled in
     length_parts (own_columns s) batches.parts.items ∙ sym (eqb-true _ _ parts.0)
@@ -74,28 +65,7 @@ cells_within s n content values i is filled lt =
 -- the row at a place
 pub row_of_cells : (s : Schema) (n : ℕ) (content : Content) (values : Vec Value Global) (i : ℕ) → content ≡ Cells values → i < n
     → slice_get (rows_of s n content) i ≡ Some (take (length s.fields.items) (drop (length s.fields.items * i) (map cell values.items)))
-row_of_cells s n content values i is lt = rw is (cells.row_in (length s.fields.items) n i (map cell values.items) lt)
-
-pub row_of_integers : (s : Schema) (n : ℕ) (content : Content) (columns : Vec (Vec ℕ Global) Global) (i : ℕ) → content ≡ Integers columns → i < n
-    → slice_get (rows_of s n content) i ≡ Some (row_at (integer_columns (schema_of s)) (map (λ v. v.items) columns.items) i)
-row_of_integers s n content columns i is lt =
-    let e : 0 + i ≡ i = omega arith in
-    rw is (integers.row_in (integer_columns (schema_of s)) (map (λ v. v.items) columns.items) 0 n i lt ∙ ap (λ (k : ℕ). Some (row_at (integer_columns (schema_of s)) (map (λ v. v.items) columns.items) k)) e)
-
-pub has_integers : (s : Schema) (n : ℕ) (content : Content) (columns : Vec (Vec ℕ Global) Global) (i : ℕ) → content ≡ Integers columns → is_filled s n content ≡ true → i < n
-    → have_row (integer_columns (schema_of s)) (map (λ v. v.items) columns.items) i ≡ true
-has_integers s n content columns i is filled lt =
-    has_row _ _ i n lt (and_parts (is_integer_schema (schema_of s)) (have_rows (integer_columns (schema_of s)) (map (λ v. v.items) columns.items) n) (rw is at filled)).1
-
--- the values of integer columns
-pub integers_filled : (s : Schema) (n : ℕ) (content : Content) (columns : Vec (Vec ℕ Global) Global) → content ≡ Integers columns → is_filled s n content ≡ true
-    → have_rows (integer_columns (schema_of s)) (map (λ v. v.items) columns.items) (length (rows_of s n content)) ≡ true
-integers_filled s n content columns is filled =
-    rw (length_content s n content filled) (and_parts (is_integer_schema (schema_of s)) (have_rows (integer_columns (schema_of s)) (map (λ v. v.items) columns.items) n) (rw is at filled)).1
-
-pub integers_given : (s : Schema) (n : ℕ) (content : Content) (columns : Vec (Vec ℕ Global) Global) → content ≡ Integers columns → is_filled s n content ≡ true
-    → table_with s n content ≡ plain_table (schema_of s) (map (λ v. v.items) columns.items) (length (rows_of s n content))
-integers_given s n content columns is filled = rw (length_content s n content filled, is) refl
+row_of_cells s n content values i is lt = rw is (row_in (length s.fields.items) n i (map cell values.items) lt)
 
 -- the record batches of a table
 pub parts_filled : (s : Schema) (n : ℕ) (content : Content) (batches : Batches) → content ≡ InBatches batches → is_filled s n content ≡ true

@@ -2,9 +2,6 @@ mod RowLemmas
 mod AcceptLemmas
 mod TableLemmas
 mod TableLaws
-mod IntegerRows
-mod IntegerTables
 mod ContentLemmas
-mod IntegerCells
 mod StartLemmas
 mod PartLemmas

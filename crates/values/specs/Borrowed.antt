@@ -1,25 +1,17 @@
 -- What a value that is borrowed is.
 use Rattle.std.specs.Prelude.{List, map, drop}
-use Rattle.values.specs.declared.integers.IntegerRow.{IntegerRow}
 use Rattle.values.specs.declared.borrowed.Form.{Form}
-use Rattle.values.specs.declared.borrowed.Form.TheVariants.{Cells as Stored, Integers, Arrays}
+use Rattle.values.specs.declared.borrowed.Form.TheVariants.{Cells as Stored, Arrays}
 use Rattle.values.specs.declared.borrowed.Values.{Values}
 use Rattle.values.specs.declared.borrowed.ValuesIter.{ValuesIter}
 use Rattle.values.specs.declared.borrowed.ValueRef.{ValueRef}
 use Rattle.values.specs.declared.borrowed.ValueRef.TheVariants.{Null, Bool as Boolean, Int, Text, Bytes, List as Items, Struct}
 use Rattle.cells.specs.Cell.{Cell, null, boolean, number, text, bytes, items, parts, cells_of}
-use Rattle.values.specs.Columns.{row_at}
-use Rattle.values.specs.IntegerRows.{columns_in}
 use Rattle.cells.specs.View.{cell}
 use Rattle.columns.specs.Borrowed as arrays
 
--- the cells of a row of integer columns
-abbrev pub integer_cells : IntegerRow → List Cell
-integer_cells r = row_at (columns_in r.fields.now) (map (λ v. v.items) r.columns.now) r.row
-
 abbrev pub form_cells : Form → List Cell
 form_cells (Stored cells) = map cell cells.now
-form_cells (Integers row) = integer_cells row
 form_cells (Arrays values) = arrays.borrowed_cells values
 
 -- the cells of a row, of a list or of a struct

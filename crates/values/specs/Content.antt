@@ -2,13 +2,10 @@
 use Rattle.std.specs.Prelude.{ℕ, ◌*◌, ◌==◌, ◌&&◌, Bool, List, map, length, sum}
 use Rattle.arrow_schema.specs.Column.{columns_of}
 use Rattle.arrow_schema.specs.View.{schema_of}
-use Rattle.arrow_schema.specs.Integers.{is_integer_schema}
 use Rattle.arrow_schema.specs.declared.types.Schema.{Schema}
 use Rattle.values.specs.declared.content.Content.{Content}
-use Rattle.values.specs.declared.content.Content.TheVariants.{Cells, Integers, Batches}
+use Rattle.values.specs.declared.content.Content.TheVariants.{Cells, Batches}
 use Rattle.cells.specs.Cell.{Cell, PlainTable}
-use Rattle.values.specs.Columns.{rows_from}
-use Rattle.values.specs.IntegerTable.{integer_columns, have_rows}
 use Rattle.values.specs.Parts.{parts_rows, are_parts_sound}
 use Rattle.values.specs.Rows.{rows_in}
 use Rattle.values.specs.inner.Starts.{part_lengths}
@@ -16,15 +13,13 @@ use Rattle.cells.specs.View.{cell}
 
 abbrev pub rows_of : Schema → ℕ → Content → List (List Cell)
 rows_of schema n (Cells cells) = rows_in (length schema.fields.items) n (map cell cells.items)
-rows_of schema n (Integers columns) = rows_from (integer_columns (schema_of schema)) (map (λ v. v.items) columns.items) 0 n
 rows_of schema n (Batches batches) = parts_rows (columns_of (schema_of schema).columns) batches.parts.items
 
 -- a schema and so many rows
 abbrev pub table_with : Schema → ℕ → Content → PlainTable
 table_with schema n content = record { schema = schema_of schema; rows = rows_of schema n content }
 
--- there are the cells, or the bytes, of so many rows; or the arrays, which can be looked up
+-- there are the cells of so many rows, or the arrays, which can be looked up
 abbrev pub is_filled : Schema → ℕ → Content → Bool
 is_filled schema n (Cells cells) = length cells.items == length schema.fields.items * n
-is_filled schema n (Integers columns) = is_integer_schema (schema_of schema) && have_rows (integer_columns (schema_of schema)) (map (λ v. v.items) columns.items) n
 is_filled schema n (Batches batches) = n == sum (part_lengths batches.parts.items) && are_parts_sound (columns_of (schema_of schema).columns) batches.parts.items

@@ -4,7 +4,6 @@ ghost use Rattle.cells.specs.View.{cell};
 ghost use Rattle.columns.specs.Borrowed.{borrowed_cell as cell_in_arrays};
 ghost use Rattle.values.specs.Borrowed.{borrowed_cell};
 
-use crate::integers::IntegerRow;
 use cells::Value;
 
 /// A value that is borrowed. Integers, dates and timestamps are `Int`; texts and binaries of either width are `Text` and
@@ -20,11 +19,10 @@ pub enum ValueRef<'a> {
     Struct(Values<'a>),
 }
 
-/// How the values that are borrowed are kept: as they stand, in the bytes of integer columns, or in arrays.
+/// How the values that are borrowed are kept: as they stand, or in arrays.
 #[derive(Clone, Copy, Debug)]
 pub(crate) enum Form<'a> {
     Cells(&'a [Value]),
-    Integers(IntegerRow<'a>),
     Arrays(columns::Values<'a>),
 }
 
@@ -44,7 +42,6 @@ impl<'a> Values<'a> {
     {
         match self.form {
             Form::Cells(cells) => cells.len(),
-            Form::Integers(row) => row.len(),
             Form::Arrays(values) => values.len(),
         }
     }
@@ -62,7 +59,6 @@ impl<'a> Values<'a> {
     {
         match self.form {
             Form::Cells(cells) => Some(borrow_value(cells.get(i)?)),
-            Form::Integers(row) => Some(ValueRef::Int(row.get(i)?)),
             Form::Arrays(values) => Some(value_in_arrays(values.get(i)?)),
         }
     }

@@ -18,10 +18,8 @@ mod batches;
 mod borrowed;
 mod content;
 mod errors;
-mod integers;
 mod join;
 mod laws;
-mod numbers;
 mod part;
 mod rows;
 mod starts;
@@ -33,11 +31,7 @@ pub use cells::{
     note, row_weight, weight,
 };
 pub use errors::TableError;
-pub use integers::is_integer_schema;
-pub use laws::{
-    accepted_rows_are_a_table, integer_columns_are_integer_tables, integer_columns_are_tables,
-    integer_rows_weigh_alike, tables_are_joined_and_cut,
-};
+pub use laws::{accepted_rows_are_a_table, tables_are_joined_and_cut};
 pub use part::{Batch, Part};
 pub use rows::Rows;
 pub use table::Table;

@@ -8,9 +8,7 @@ use crate::batches::{BatchPlace, Batches, part_lengths};
 use crate::borrowed::{Form, Values};
 use crate::content::Content;
 use crate::errors::TableError;
-use crate::integers::{IntegerRow, are_integers, columns_are_bytes, have_rows, is_integer_schema};
 use crate::join::join;
-use crate::numbers::are_rows_of_integers;
 use crate::part::Part;
 use crate::rows::{Rows, row_at};
 use crate::starts::total;
@@ -19,7 +17,7 @@ use cells::{MAX_TABLE_WEIGHT, Row, Value};
 use std::alloc::{AllocError, Global};
 
 /// A table: its schema, and its rows in order. Contracts see nothing else of it. Its cells stand in one vector, row
-/// after row, or as the bytes of integer columns, or in record batches, so that a row takes no memory of its own.
+/// after row, or in record batches, so that a row takes no memory of its own.
 #[derive(Debug, Drop)]
 pub struct Table {
     schema: Schema,
@@ -30,13 +28,11 @@ pub struct Table {
 }
 
 impl Table {
-    ghost use Rattle.std.specs.Prelude.{true, ◌==◌, ◌≤◌, ◌+◌, ◌*◌, ◌↔◌, length, slice_get, option_map, map, IfOk, IfErr, IfSome, Ok};
+    ghost use Rattle.std.specs.Prelude.{true, ◌==◌, ◌*◌, length, slice_get, option_map, map, IfOk, IfErr, IfSome, Ok};
     ghost use Rattle.arrow_schema.specs.Column.{columns_of};
-    ghost use Rattle.arrow_schema.specs.Integers.{is_integer_schema};
     ghost use Rattle.arrow_schema.specs.View.{schema_of};
     ghost use Rattle.arrow_schema.specs.Limits.{IsWithinLimits};
     ghost use Rattle.values.specs.Borrowed.{borrowed_cells};
-    ghost use Rattle.values.specs.IntegerTable.{integer_columns, have_rows, plain_table, IsIntegerTable};
     ghost use Rattle.values.specs.Parts.{are_parts_sound, parts_table};
     ghost use Rattle.values.specs.Rows.{table_in};
     ghost use Rattle.values.specs.Table.{table_from};
@@ -89,35 +85,6 @@ impl Table {
         })
     }
 
-    /// Whether `from_integers` takes these: columns of integers alone, the bytes of so many rows for each of them, and no
-    /// more rows than a table may have.
-    pub fn takes_integers(schema: &Schema, columns: &[Vec<u8>], rows: usize) -> bool
-        ensures { IsTrue result ↔ (IsTrue (is_integer_schema (schema_of schema.now))
-            × IsTrue (have_rows (integer_columns (schema_of schema.now)) (map (λ v. v.items) columns.now) rows)
-            × (rows * (1 + length schema.now.fields.items) ≤ MAX_TABLE_WEIGHT)) }
-    {
-        is_integer_schema(schema)
-            && have_rows(&schema.fields, columns, rows)
-            && rows as u128 * (1 + schema.fields.len() as u128) <= u128::from(MAX_TABLE_WEIGHT)
-    }
-
-    /// The table of so many rows of integer columns without a null, of which the little-endian values of each column
-    /// stand one after another. It takes a moment for each column, and no memory.
-    pub fn from_integers(schema: Schema, columns: Vec<Vec<u8>>, rows: usize) -> Table
-        requires limits { IsWithinLimits (schema_of schema) }
-        requires integers { IsTrue (is_integer_schema (schema_of schema)) }
-        requires filled { IsTrue (have_rows (integer_columns (schema_of schema)) (map (λ v. v.items) columns.items) rows) }
-        requires light { rows * (1 + length schema.fields.items) ≤ MAX_TABLE_WEIGHT }
-        ensures { table_of result ≡ plain_table (schema_of schema) (map (λ v. v.items) columns.items) rows }
-    {
-        columns_are_bytes(&columns);
-        Table {
-            schema,
-            content: Content::Integers(columns),
-            rows,
-        }
-    }
-
     /// The table of the rows of some record batches, in order. No cell is copied.
     pub fn from_parts(alloc: Global, schema: Schema, parts: Vec<Part>) -> Result<Table, AllocError>
         requires sound { are_parts_sound (columns_of (schema_of schema).columns) parts.items ≡ true }
@@ -162,7 +129,7 @@ impl Table {
     {
         match &self.content {
             Content::Batches(batches) => Some(&batches.parts),
-            _ => None,
+            Content::Cells(_) => None,
         }
     }
 
@@ -178,34 +145,7 @@ impl Table {
                 let Batches { parts, .. } = batches;
                 parts
             }
-            _ => unreachable!(),
-        }
-    }
-
-    /// The little-endian values of each column, one after another, where the table is kept so.
-    pub fn integers(&self) -> Option<&[Vec<u8>]>
-        ensures schema { IfSome result (λ _. IsTrue (is_integer_schema (table_of self.now).schema)) }
-        ensures filled { IfSome result (λ columns.
-            IsTrue (have_rows (integer_columns (table_of self.now).schema) (map (λ v. v.items) columns.now) (length (table_of self.now).rows))) }
-        ensures values { IfSome result (λ columns.
-            table_of self.now ≡ plain_table (table_of self.now).schema (map (λ v. v.items) columns.now) (length (table_of self.now).rows)) }
-    {
-        match &self.content {
-            Content::Integers(columns) => Some(columns),
-            _ => None,
-        }
-    }
-
-    /// Whether it is of integers alone: only columns of integers, and no null in a row. It looks at each cell at most once,
-    /// and at none where the table is kept as integer columns.
-    pub fn has_only_integers(&self) -> bool
-        ensures { IsTrue result ↔ IsIntegerTable (table_of self.now) }
-    {
-        match &self.content {
-            Content::Cells(cells) => is_integer_schema(&self.schema) && are_integers(cells),
-            Content::Integers(_) => true,
-            Content::Batches(_) => is_integer_schema(&self.schema)
-                && are_rows_of_integers(self.rows()),
+            Content::Cells(_) => unreachable!(),
         }
     }
 
@@ -249,11 +189,6 @@ impl Table {
         }
         let form = match &self.content {
             Content::Cells(cells) => Form::Cells(row_at(cells, self.schema.fields.len(), i)),
-            Content::Integers(columns) => Form::Integers(IntegerRow {
-                fields: &self.schema.fields,
-                columns,
-                row: i,
-            }),
             Content::Batches(batches) => {
                 let place = batches.find(i, *near);
                 *near = place;
