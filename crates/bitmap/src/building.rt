@@ -63,7 +63,8 @@ impl MaskBuilder {
 fn add_bits(bytes: &mut Vec<u8>, free: usize, word: u64, count: usize) -> Result<(), AllocError>
     requires built { IsBuilt bytes.old.items free }
     requires count { count ≤ 64 }
-    ensures ok { (bits : List Bool) → length bits ≡ count → mask_l bits ≡ word → OnOk result (bytes.new.items ≡ packed (bits_within bytes.old.items free ++ bits)) }
+    ensures ok { (bits : List Bool) → length bits ≡ count → mask_l bits ≡ word
+        → OnOk result (bytes.new.items ≡ packed (bits_within bytes.old.items free ++ bits)) }
     ensures err { OnErr result (bytes.new.items ≡ bytes.old.items) }
 {
     if free == 0 {

@@ -24,10 +24,6 @@ each_of_other_length [] (v ∷ vs) h = refl
 each_of_other_length (f ∷ fs) (v ∷ vs) h =
     ap (λ (b : Bool). fits (column_of f) (cell v) && b) (each_of_other_length fs vs (λ e. h (ap suc e))) ∙ and-false (fits (column_of f) (cell v))
 
-pub cell_list_of : (cs : List Cell) → cell_list (cells_of cs) ≡ cs
-cell_list_of [] = refl
-cell_list_of (c ∷ cs) = ap (λ (xs : List Cell). c ∷ xs) (cell_list_of cs)
-
 -- a place of a row, and a place past its end
 pub part_found : (row : List Value) (i : ℕ) (x : Value) → i < length row → get_or row i x ≡ x → option_to_list (slice_get (map cell row) i) ≡ cell x ∷ []
 part_found row i x lt e = ap option_to_list (slice_get-map cell row i ∙ ap (option_map cell) (slice_get_read row (length row) i x refl lt (sym e)))

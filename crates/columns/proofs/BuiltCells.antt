@@ -27,7 +27,7 @@ use Rattle.columns.proofs.Spans.{have_width, at_width, run_all}
 use Rattle.byteorder.specs.Endian.{little_number}
 use Rattle.byteorder.specs.Numbers.{little_number-reads_back, length-bytes_low_first}
 use Rattle.cells.specs.Integers.{integer_of}
-use Rattle.cells.specs.laws.Cells.{cells_list}
+use Rattle.cells.specs.laws.Cells.{cells_list, cells_listed}
 use Rattle.std.proofs.lemmas.List.Concat.{flat_map-cons}
 use Rattle.columns.proofs.ReadBack.{PackedReadsBack, all_at, by_validity}
 use Rattle.columns.proofs.Found.{fit_there, boolean_found, integer_found, text_found, bytes_found, fixed_found, AreFound, list_found, fixed_list_found}
@@ -257,12 +257,8 @@ pub rows_are_back : PackedReadsBack → EntriesAreFound → (columns : Columns) 
 rows_are_back back entries columns rows can =
     let p = and_parts (list_all (has_each_part columns) rows) (can_build_parts columns rows) can in
     map_is (row_at columns (built_parts columns rows)) rows 0 (length rows) []
-    (λ i lt. ap cell_list (rows_found back entries columns rows p.1 i lt (all_at (has_each_part columns) rows i [] p.0 lt)) ∙ listed_again (get_or rows i []))
+    (λ i lt. ap cell_list (rows_found back entries columns rows p.1 i lt (all_at (has_each_part columns) rows i [] p.0 lt)) ∙ cells_listed (get_or rows i []))
     (omega arith)
-  where
-    listed_again : (cells : List Cell) → cell_list (cells_of cells) ≡ cells
-    listed_again [] = refl
-    listed_again (c ∷ cells) = ap (λ (xs : List Cell). c ∷ xs) (listed_again cells)
 
 -- ---- entries
 

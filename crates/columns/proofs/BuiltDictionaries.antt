@@ -18,7 +18,7 @@ use Rattle.columns.specs.Array.{Array, Arrays, no_array, and_array, array_list, 
 use Rattle.columns.specs.Buffers.{value_column, typed_dictionaries, dictionaries_of}
 use Rattle.columns.specs.Buildable.{are_nulls_or_fit, is_null_or_entry, names_entries, can_build, can_build_below, can_build_rows, has_each_part}
 use Rattle.columns.specs.Built.{built, built_kind, built_parts, first_cell}
-use Rattle.columns.specs.Layouts.{own_dictionary, dictionary_arrays}
+use Rattle.columns.specs.Layouts.{own_dictionary_arrays, dictionary_arrays}
 use Rattle.columns.specs.Tests.{Typed, typed, arrays_at, arrays_below, every_array}
 use Rattle.columns.proofs.BuiltShape.{parts_of_rows, each_of_rows}
 use Rattle.columns.proofs.EachBuilt.{all_of_each, parts_each}
@@ -50,18 +50,18 @@ arrays_apart ts = map (λ t. t.array ∷ []) ts
 none_there : (name : List ℕ) (nullable : Bool) (kind : Kind) (a : Array) → dictionary_in a ≡ no_array → (c : Column) → typed_dictionaries (typed c a) ≡ []
 none_there name nullable kind a e c = ap (λ (xs : Arrays). map (λ (x : Array). typed (value_column c) x) (array_list xs)) e
 
-own_known : (c : Column) (cells : List Cell) → own_dictionary (typed c (built c cells)) ≡ arrays_apart (typed_dictionaries (typed c (built c cells)))
+own_known : (c : Column) (cells : List Cell) → own_dictionary_arrays (typed c (built c cells)) ≡ arrays_apart (typed_dictionaries (typed c (built c cells)))
 unfolding built
 own_known (column name nullable kind None pairs) cells =
     ap arrays_apart (sym (none_there name nullable kind (built_kind kind cells) (kind_alone kind cells) (column name nullable kind None pairs)))
 own_known (column name nullable kind (Some index) pairs) cells = refl
 
-all_known : (ts : List Typed) → AllByRecursion (λ t. own_dictionary t ≡ arrays_apart (typed_dictionaries t)) ts → flat_map own_dictionary ts ≡ arrays_apart (flat_map typed_dictionaries ts)
+all_known : (ts : List Typed) → AllByRecursion (λ t. own_dictionary_arrays t ≡ arrays_apart (typed_dictionaries t)) ts → flat_map own_dictionary_arrays ts ≡ arrays_apart (flat_map typed_dictionaries ts)
 all_known [] a = refl
 all_known (t ∷ ts) a =
     let rest = all_known ts a.1 in
-    flat_map-cons own_dictionary t ts
-    ∙ ap (λ (xs : List (List Array)). xs ++ flat_map own_dictionary ts) a.0
+    flat_map-cons own_dictionary_arrays t ts
+    ∙ ap (λ (xs : List (List Array)). xs ++ flat_map own_dictionary_arrays ts) a.0
     ∙ ap (λ (xs : List (List Array)). arrays_apart (typed_dictionaries t) ++ xs) rest
     ∙ sym (map-append (λ (u : Typed). u.array ∷ []) (typed_dictionaries t) (flat_map typed_dictionaries ts))
     ∙ ap arrays_apart (sym (flat_map-cons typed_dictionaries t ts))
@@ -70,7 +70,7 @@ pub dictionaries_known : (cs : Columns) (rows : List (List Cell)) → can_build_
     → dictionary_arrays cs (built_parts cs rows) ≡ arrays_apart (dictionaries_of cs (built_parts cs rows))
 dictionaries_known cs rows can =
     all_known (every_array cs (built_parts cs rows))
-    (each_of_rows (λ t. own_dictionary t ≡ arrays_apart (typed_dictionaries t)) (cells_weight cs rows) (λ c cells pass can small. own_known c cells) cs rows can (omega arith))
+    (each_of_rows (λ t. own_dictionary_arrays t ≡ arrays_apart (typed_dictionaries t)) (cells_weight cs rows) (λ c cells pass can small. own_known c cells) cs rows can (omega arith))
 
 -- ---- entries, one to a row
 
@@ -158,7 +158,7 @@ none_below (structs columns) a flat = cc
 
 flat_has_none : (k : Kind) (a : Array) → is_nested k ≡ false → HasNone (typed (column [] true k None []) a)
 unfolding arrays_at
-flat_has_none k a flat = ap (λ (ts : List Typed). flat_map own_dictionary ((typed (column [] true k None []) a ∷ ts) ++ [])) (none_below k a flat)
+flat_has_none k a flat = ap (λ (ts : List Typed). flat_map own_dictionary_arrays ((typed (column [] true k None []) a ∷ ts) ++ [])) (none_below k a flat)
 
 not_true : (b : Bool) → not b ≡ true → b ≡ false
 not_true true h = cc

@@ -2,7 +2,6 @@ pub mod Texts
 pub mod Entries
 pub mod Ends
 pub mod Runs
-pub mod Left
 pub mod Spans
 pub mod ReadBack
 pub mod Integers

@@ -20,7 +20,7 @@ use Rattle.cells.specs.Weight.{weight, kind_weight, parts_weight, items_in, part
 use Rattle.columns.specs.Buildable.{are_nulls_or_fit, is_null_or_entry, names_entries, small_offset, large_offset, can_build, can_build_below, can_build_parts, can_build_rows, has_each_part}
 use Rattle.columns.specs.Built.{contents_of, fixed_items, first_cell, other_cells}
 use Rattle.columns.proofs.BuiltCells.{has_parts}
-use Rattle.cells.specs.laws.Cells.{cells_list}
+use Rattle.cells.specs.laws.Cells.{cells_list, cells_listed}
 use Rattle.columns.proofs.Nulls.{HaveFew, few_same, fixed_kept, first_kept, from_next}
 use Rattle.columns.proofs.Weights.{sum_below, size_below, sum_map, some_weight, contents_weigh, count_below, items_weigh, fixed_weigh}
 
@@ -357,21 +357,17 @@ sum_less w v h (x ∷ xs) =
     let two : sum_by v (x ∷ xs) ≡ v x + sum_by v xs = sum_by-cons v x xs in
     omega (arith, rest, here, one, two)
 
-listed_row : (row : List Cell) → cell_list (cells_of row) ≡ row
-listed_row [] = refl
-listed_row (x ∷ xs) = ap (λ (ys : List Cell). x ∷ ys) (listed_row xs)
-
 row_has_parts : (s : PlainSchema) (row : List Cell) → is_row s row ≡ true → has_each_part (columns_of s.columns) row ≡ true
 unfolding is_row
 row_has_parts s row h =
     let fit = (and_parts (row_fits s row) _ h).0 in
-    subst (λ (xs : List Cell). has_each_part (columns_of s.columns) xs ≡ true) (listed_row row) (has_parts (columns_of s.columns) (cells_of row) fit)
+    subst (λ (xs : List Cell). has_each_part (columns_of s.columns) xs ≡ true) (cells_listed row) (has_parts (columns_of s.columns) (cells_of row) fit)
 
 row_parts_fit : (s : PlainSchema) (row : List Cell) → is_row s row ≡ true → parts_fit_or_null (columns_of s.columns) row ≡ true
 unfolding is_row
 row_parts_fit s row h =
     let fit = (and_parts (row_fits s row) _ h).0 in
-    subst (λ (xs : List Cell). parts_fit_or_null (columns_of s.columns) xs ≡ true) (listed_row row) (each_part_fits (columns_of s.columns) (cells_of row) fit)
+    subst (λ (xs : List Cell). parts_fit_or_null (columns_of s.columns) xs ≡ true) (cells_listed row) (each_part_fits (columns_of s.columns) (cells_of row) fit)
 
 every_row : (p q : List Cell → Bool) → ((row : List Cell) → p row ≡ true → q row ≡ true) → (rows : List (List Cell)) → list_all p rows ≡ true → list_all q rows ≡ true
 every_row p q h [] all = refl

@@ -12,7 +12,7 @@ use Rattle.columns.specs.Built.{built, built_kind, built_parts, fixed_items, fir
 use Rattle.columns.specs.Buffers.{Node, node_of, nodes_of, buffers_of, column_buffers, kind_buffers}
 use Rattle.columns.specs.FromBuffers.{array_from, kind_array_from, arrays_from, node_count, buffer_count, dictionary_count, own_index}
 use Rattle.columns.specs.Tests.{Typed, typed, arrays_at, arrays_below, every_array}
-use Rattle.columns.specs.Layouts.{HasLayout, HasKindLayout, HaveLayouts, own_dictionary, dictionary_arrays}
+use Rattle.columns.specs.Layouts.{HasLayout, HasKindLayout, HaveLayouts, own_dictionary_arrays, dictionary_arrays}
 
 abbrev pub buffers_with : Typed → List (List ℕ)
 buffers_with t = column_buffers t.column t.array
@@ -90,19 +90,19 @@ as_many_buffers (t ∷ ts) (u ∷ us) e =
     let two = ap length (flat_map-cons buffers_with u us) ∙ length-append (buffers_with u) (flat_map buffers_with us) in
     omega (arith, own, rest, one, two)
 
-own_count : (c : Column) (a : Array) → length (own_dictionary (typed c a)) ≡ length (own_index c)
+own_count : (c : Column) (a : Array) → length (own_dictionary_arrays (typed c a)) ≡ length (own_index c)
 own_count (column name nullable kind None pairs) a = refl
 own_count (column name nullable kind (Some index) pairs) a = refl
 
-as_many_dictionaries : (ts us : List Typed) → columns_in ts ≡ columns_in us → length (flat_map own_dictionary ts) ≡ length (flat_map (λ t. own_index t.column) us)
+as_many_dictionaries : (ts us : List Typed) → columns_in ts ≡ columns_in us → length (flat_map own_dictionary_arrays ts) ≡ length (flat_map (λ t. own_index t.column) us)
 as_many_dictionaries [] [] e = refl
 as_many_dictionaries [] (u ∷ us) e = cc
 as_many_dictionaries (t ∷ ts) [] e = cc
 as_many_dictionaries (t ∷ ts) (u ∷ us) e =
     let h = heads t.column u.column (columns_in ts) (columns_in us) e in
-    let own : length (own_dictionary t) ≡ length (own_index u.column) = own_count t.column t.array ∙ ap (λ (c : Column). length (own_index c)) h.0 in
+    let own : length (own_dictionary_arrays t) ≡ length (own_index u.column) = own_count t.column t.array ∙ ap (λ (c : Column). length (own_index c)) h.0 in
     let rest = as_many_dictionaries ts us h.1 in
-    let one = ap length (flat_map-cons own_dictionary t ts) ∙ length-append (own_dictionary t) (flat_map own_dictionary ts) in
+    let one = ap length (flat_map-cons own_dictionary_arrays t ts) ∙ length-append (own_dictionary_arrays t) (flat_map own_dictionary_arrays ts) in
     let two = ap length (flat_map-cons (λ (t : Typed). own_index t.column) u us) ∙ length-append (own_index u.column) (flat_map (λ t. own_index t.column) us) in
     omega (arith, own, rest, one, two)
 
@@ -123,27 +123,27 @@ mutual
   unfolding arrays_at array_from HasLayout
 
   column_again : (c : Column) (a : Array) → HasLayout c a → (ns : List Node) (bs : List (List ℕ)) (ds : List (List Array))
-      → array_from c (map node_of (arrays_at c a) ++ ns) (flat_map buffers_with (arrays_at c a) ++ bs) (flat_map own_dictionary (arrays_at c a) ++ ds) ≡ a
+      → array_from c (map node_of (arrays_at c a) ++ ns) (flat_map buffers_with (arrays_at c a) ++ bs) (flat_map own_dictionary_arrays (arrays_at c a) ++ ds) ≡ a
   column_again (column name nullable kind None pairs) a h ns bs ds =
       let t : Typed = typed (column name nullable kind None pairs) a in
       let buffers : flat_map buffers_with (t ∷ arrays_below kind a) ++ bs ≡ kind_buffers kind a ++ (flat_map buffers_with (arrays_below kind a) ++ bs) =
       ap (λ (xs : List (List ℕ)). xs ++ bs) (flat_map-cons buffers_with t (arrays_below kind a)) ∙ append_assoc (kind_buffers kind a) (flat_map buffers_with (arrays_below kind a)) bs in
-      let dictionaries : flat_map own_dictionary (t ∷ arrays_below kind a) ++ ds ≡ flat_map own_dictionary (arrays_below kind a) ++ ds =
-      ap (λ (xs : List (List Array)). xs ++ ds) (flat_map-cons own_dictionary t (arrays_below kind a)) in
-      ap (λ (xs : List (List ℕ)). kind_array_from kind (node_of t ∷ (map node_of (arrays_below kind a) ++ ns)) xs (flat_map own_dictionary (t ∷ arrays_below kind a) ++ ds)) buffers
+      let dictionaries : flat_map own_dictionary_arrays (t ∷ arrays_below kind a) ++ ds ≡ flat_map own_dictionary_arrays (arrays_below kind a) ++ ds =
+      ap (λ (xs : List (List Array)). xs ++ ds) (flat_map-cons own_dictionary_arrays t (arrays_below kind a)) in
+      ap (λ (xs : List (List ℕ)). kind_array_from kind (node_of t ∷ (map node_of (arrays_below kind a) ++ ns)) xs (flat_map own_dictionary_arrays (t ∷ arrays_below kind a) ++ ds)) buffers
       ∙ ap (kind_array_from kind (node_of t ∷ (map node_of (arrays_below kind a) ++ ns)) (kind_buffers kind a ++ (flat_map buffers_with (arrays_below kind a) ++ bs))) dictionaries
       ∙ kind_again kind a (node_of t).null_count h ns bs ds
   column_again (column name nullable kind (Some index) pairs) a h ns bs ds =
       let c : Column = column name nullable kind (Some index) pairs in
       let t : Typed = typed c a in
       let buffers : flat_map buffers_with (t ∷ []) ++ bs ≡ validity_in a ∷ indices_in a ∷ bs = ap (λ (xs : List (List ℕ)). xs ++ bs) (flat_map-cons buffers_with t []) in
-      let dictionaries : flat_map own_dictionary (t ∷ []) ++ ds ≡ array_list (dictionary_in a) ∷ ds = ap (λ (xs : List (List Array)). xs ++ ds) (flat_map-cons own_dictionary t []) in
-      ap (λ (xs : List (List ℕ)). array_from c (node_of t ∷ ns) xs (flat_map own_dictionary (t ∷ []) ++ ds)) buffers
+      let dictionaries : flat_map own_dictionary_arrays (t ∷ []) ++ ds ≡ array_list (dictionary_in a) ∷ ds = ap (λ (xs : List (List Array)). xs ++ ds) (flat_map-cons own_dictionary_arrays t []) in
+      ap (λ (xs : List (List ℕ)). array_from c (node_of t ∷ ns) xs (flat_map own_dictionary_arrays (t ∷ []) ++ ds)) buffers
       ∙ ap (array_from c (node_of t ∷ ns) (validity_in a ∷ indices_in a ∷ bs)) dictionaries
       ∙ ap (λ (xs : Arrays). array (slots_in a) (validity_in a) (dictionary_layout (indices_in a) xs)) (listed_arrays (dictionary_in a)) ∙ sym h
 
   kind_again : (k : Kind) (a : Array) (nulls_in : ℕ) → HasKindLayout k a → (ns : List Node) (bs : List (List ℕ)) (ds : List (List Array))
-      → kind_array_from k (record { slots = slots_in a; null_count = nulls_in } ∷ (map node_of (arrays_below k a) ++ ns)) (kind_buffers k a ++ (flat_map buffers_with (arrays_below k a) ++ bs)) (flat_map own_dictionary (arrays_below k a) ++ ds) ≡ a
+      → kind_array_from k (record { slots = slots_in a; null_count = nulls_in } ∷ (map node_of (arrays_below k a) ++ ns)) (kind_buffers k a ++ (flat_map buffers_with (arrays_below k a) ++ bs)) (flat_map own_dictionary_arrays (arrays_below k a) ++ ds) ≡ a
   kind_again nulls a n h ns bs ds = sym h
   kind_again booleans a n h ns bs ds = sym h
   kind_again (integers bits signed) a n h ns bs ds = sym h
@@ -160,7 +160,7 @@ mutual
   kind_again (structs columns) a n h ns bs ds = ap (λ (xs : Arrays). array (slots_in a) (validity_in a) (struct_layout xs)) (all_again columns (children_in a) h.1 ns bs ds) ∙ sym h.0
 
   all_again : (cs : Columns) (xs : Arrays) → HaveLayouts cs xs → (ns : List Node) (bs : List (List ℕ)) (ds : List (List Array))
-      → arrays_from cs (map node_of (every_array cs xs) ++ ns) (flat_map buffers_with (every_array cs xs) ++ bs) (flat_map own_dictionary (every_array cs xs) ++ ds) ≡ xs
+      → arrays_from cs (map node_of (every_array cs xs) ++ ns) (flat_map buffers_with (every_array cs xs) ++ bs) (flat_map own_dictionary_arrays (every_array cs xs) ++ ds) ≡ xs
   all_again no_column xs h ns bs ds = sym h
   all_again (and_column c cs) xs h ns bs ds =
       let first : List Typed = arrays_at c (first_array xs) in
@@ -169,20 +169,20 @@ mutual
       ap (λ (zs : List Node). zs ++ ns) (map-append node_of first rest) ∙ append_assoc (map node_of first) (map node_of rest) ns in
       let buffers : flat_map buffers_with (first ++ rest) ++ bs ≡ flat_map buffers_with first ++ (flat_map buffers_with rest ++ bs) =
       ap (λ (zs : List (List ℕ)). zs ++ bs) (flat_map-append buffers_with first rest) ∙ append_assoc (flat_map buffers_with first) (flat_map buffers_with rest) bs in
-      let dictionaries : flat_map own_dictionary (first ++ rest) ++ ds ≡ flat_map own_dictionary first ++ (flat_map own_dictionary rest ++ ds) =
-      ap (λ (zs : List (List Array)). zs ++ ds) (flat_map-append own_dictionary first rest) ∙ append_assoc (flat_map own_dictionary first) (flat_map own_dictionary rest) ds in
-      let here = column_again c (first_array xs) h.1 (map node_of rest ++ ns) (flat_map buffers_with rest ++ bs) (flat_map own_dictionary rest ++ ds) in
+      let dictionaries : flat_map own_dictionary_arrays (first ++ rest) ++ ds ≡ flat_map own_dictionary_arrays first ++ (flat_map own_dictionary_arrays rest ++ ds) =
+      ap (λ (zs : List (List Array)). zs ++ ds) (flat_map-append own_dictionary_arrays first rest) ∙ append_assoc (flat_map own_dictionary_arrays first) (flat_map own_dictionary_arrays rest) ds in
+      let here = column_again c (first_array xs) h.1 (map node_of rest ++ ns) (flat_map buffers_with rest ++ bs) (flat_map own_dictionary_arrays rest ++ ds) in
       let same = same_columns c (first_array xs) empty_array in
       let after_nodes = drop_at (map node_of first) (map node_of rest ++ ns) (node_count c) (node_count_is c (first_array xs)) in
       let after_buffers = drop_at (flat_map buffers_with first) (flat_map buffers_with rest ++ bs) (buffer_count c) (as_many_buffers first (arrays_at c empty_array) same) in
-      let after_dictionaries = drop_at (flat_map own_dictionary first) (flat_map own_dictionary rest ++ ds) (dictionary_count c) (as_many_dictionaries first (arrays_at c empty_array) same) in
+      let after_dictionaries = drop_at (flat_map own_dictionary_arrays first) (flat_map own_dictionary_arrays rest ++ ds) (dictionary_count c) (as_many_dictionaries first (arrays_at c empty_array) same) in
       let others = all_again cs (other_arrays xs) h.2 ns bs ds in
       rw (nodes, buffers, dictionaries, here, after_nodes, after_buffers, after_dictionaries, others) (sym h.0)
 
 pub arrays_again : (cs : Columns) (xs : Arrays) → HaveLayouts cs xs → arrays_from cs (nodes_of cs xs) (buffers_of cs xs) (dictionary_arrays cs xs) ≡ xs
 arrays_again cs xs h =
     let again = all_again cs xs h [] [] [] in
-    rw (append-nil (map node_of (every_array cs xs)), append-nil (flat_map buffers_with (every_array cs xs)), append-nil (flat_map own_dictionary (every_array cs xs))) at again
+    rw (append-nil (map node_of (every_array cs xs)), append-nil (flat_map buffers_with (every_array cs xs)), append-nil (flat_map own_dictionary_arrays (every_array cs xs))) at again
 
 -- ---- what is written has its layouts
 

@@ -35,12 +35,12 @@ unfoldable mutual
   HaveLayouts (and_column c cs) = λ arrays. (arrays ≡ and_array (first_array arrays) (other_arrays arrays)) × HasLayout c (first_array arrays) × HaveLayouts cs (other_arrays arrays)
 
 -- the arrays of the dictionary of each column that has one, in preorder
-abbrev pub own_dictionary : Typed → List (List Array)
-own_dictionary t = dictionary_with t.column t.array
+abbrev pub own_dictionary_arrays : Typed → List (List Array)
+own_dictionary_arrays t = dictionary_with t.column t.array
   where
     dictionary_with : Column → Array → List (List Array)
     dictionary_with (column name nullable kind None pairs) a = []
     dictionary_with (column name nullable kind (Some index) pairs) a = array_list (dictionary_in a) ∷ []
 
 abbrev pub dictionary_arrays : Columns → Arrays → List (List Array)
-dictionary_arrays columns arrays = flat_map own_dictionary (every_array columns arrays)
+dictionary_arrays columns arrays = flat_map own_dictionary_arrays (every_array columns arrays)

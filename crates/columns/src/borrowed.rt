@@ -1,7 +1,7 @@
 // Values of arrays, as they are borrowed.
 ghost use Rattle.std.specs.Prelude.{◌≡◌, true};
 ghost use Rattle.arrow_schema.specs.View.{column_of};
-ghost use Rattle.columns.specs.inner.Readable.{are_readable, are_parts_readable};
+ghost use Rattle.columns.specs.inner.Readable.{is_run_readable, are_parts_readable};
 ghost use Rattle.columns.specs.View.{view_array, placed_arrays, fields_of};
 
 use crate::array::{Dictionary, PlacedArray};
@@ -16,7 +16,7 @@ pub(crate) struct SlotRun<'a> {
     pub(crate) view: ArrayView<'a>,
     pub(crate) start: usize,
     pub(crate) count: usize,
-    ghost readable: { are_readable (column_of field.now) (view_array view) start count ≡ true },
+    ghost readable: { is_run_readable (column_of field.now) (view_array view) start count ≡ true },
 }
 
 /// A slot of each of some arrays, as values of some fields.

@@ -8,7 +8,7 @@ ghost use Rattle.columns.specs.CellAt.{integer_at as plain_integer_at, indexed_c
 ghost use Rattle.columns.specs.Tests.{are_few, are_few_offsets, are_unordered, has_short_validity};
 ghost use Rattle.columns.specs.Sound.{is_sound, is_kind_sound, are_sound};
 ghost use Rattle.columns.specs.Texts.{has_utf8_texts, have_utf8_texts};
-ghost use Rattle.columns.specs.inner.Readable.{are_readable, are_parts_readable};
+ghost use Rattle.columns.specs.inner.Readable.{is_run_readable, are_parts_readable};
 ghost use Rattle.columns.specs.Offsets.{width_of};
 ghost use Rattle.columns.specs.View.{view_array, placed_arrays, fields_of};
 ghost use Rattle.columns.specs.Borrowed.{borrowed_cell, borrowed_cells};

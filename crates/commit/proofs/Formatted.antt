@@ -17,7 +17,7 @@ use Rattle.commit.specs.Ruling.{newer, ruling}
 use Rattle.commit.specs.Formatting.{HoldsNoCommit, HasNoCommit, IsNoneOrEmpty, IsEmptyStore, IsFormatting, IsFormatted, IsMadeEmpty, first_commit, empty_text}
 use Rattle.commit.specs.laws.Sectors.{none_unreadable, none_begins}
 use Rattle.sector_dev.specs.laws.Crash.{one_more}
-use Rattle.commit.specs.inner.Prepared.{IsPrepared, HasZeros, HasFirst}
+use Rattle.commit.specs.inner.Prepared.{IsPrepared, HasZeros, HasFirst, Begins, Clears}
 
 pub on_false : {P Q : Type 0} (b : Bool) → OnFalse b P → (P → Q) → OnFalse b Q
 on_false true p f = tt
@@ -161,10 +161,10 @@ cleaned size s t none is =
     let clean : HasNoCommit (flushed (now s)) = λ image may. subst HoldsNoCommit (sym (only_flushed (now s) image may)) none in
     (two (IsFormatting size (now s)) s t _ _ is (inr (λ image may. inl (clean image may))) (inl refl), subst HasNoCommit (sym (ap now is)) clean)
 
-pub as_none : (size : ℕ) (before : Disk) (s t : Story) → Grows HasNoCommit s t → Grows (IsFormatting size before) s t
+as_none : (size : ℕ) (before : Disk) (s t : Story) → Grows HasNoCommit s t → Grows (IsFormatting size before) s t
 as_none size before s t g = weaken (λ d has. inr (λ image may. inl (has image may))) g
 
-pub as_empty : (size : ℕ) (before : Disk) (s t : Story) → Grows (LeavesOnly (IsNoneOrEmpty size)) s t → Grows (IsFormatting size before) s t
+as_empty : (size : ℕ) (before : Disk) (s t : Story) → Grows (LeavesOnly (IsNoneOrEmpty size)) s t → Grows (IsFormatting size before) s t
 as_empty size before s t g = weaken (λ d leaves. inr leaves) g
 
 -- where no commit rules, neither sector holds one
@@ -182,9 +182,27 @@ none_rules image is = by_both (commit_at 0 (image 0)) (commit_at 1 (image 1)) is
     by_both (Some a) None is = absurd (cc is)
     by_both (Some a) (Some b) is = by_test a b (nat_lt a.epoch b.epoch) is
 
--- reads, and then a formatting
-pub read_first : (size : ℕ) (s t u : Story) → OnlyReads s t → Grows (IsFormatting size (now t)) t u → Grows (IsFormatting size (now s)) s u
-read_first size s t u reads g =
+-- a sync, and then zeros
+pub cleared : (size : ℕ) (s0 s1 s2 : Story) → HoldsNoCommit (shown_image (now s0)) → Flushes s0 s1 → (HasNoCommit (now s1) → Grows HasNoCommit s1 s2) → Grows (IsFormatting size (now s0)) s0 s2
+cleared size s0 s1 s2 none synced clears =
+    let clean = cleaned size s0 s1 none synced in
+    goes_on clean.0 (as_none size (now s0) s1 s2 (clears clean.1))
+
+-- and then the first commit, for the size that the device has still
+pub cleared_and_begun : (size n : ℕ) (s0 s1 s2 s3 : Story) → n ≡ size → HoldsNoCommit (shown_image (now s0)) → Flushes s0 s1 → (HasNoCommit (now s1) → Grows HasNoCommit s1 s2)
+    → (HasNoCommit (now s1) → IsPrepared (now s2)) → Begins n s2 s3 → Grows (IsFormatting size (now s0)) s0 s3
+cleared_and_begun size n s0 s1 s2 s3 same none synced clears prepares begins =
+    let begun = begins (prepares (cleaned size s0 s1 none synced).1) in
+    goes_on (cleared size s0 s1 s2 none synced clears) (as_empty size (now s0) s2 s3 (subst (λ (m : ℕ). Grows (LeavesOnly (IsNoneOrEmpty m)) s2 s3) same begun))
+
+-- reads leave no commit where none ruled
+pub still_none : (s t : Story) → OnlyReads s t → ruling (shown_image (now s)) ≡ None → HoldsNoCommit (shown_image (now t))
+still_none s t reads none = none_rules (shown_image (now t)) (ap (λ (d : Disk). ruling (shown_image d)) (now_read s t reads) ∙ none)
+
+-- reads, and then a formatting, for the size that the device has still
+pub read_first : (size n : ℕ) (s t u : Story) → n ≡ size → OnlyReads s t → ruling (shown_image (now s)) ≡ None → Clears n t u → Grows (IsFormatting size (now s)) s u
+read_first size n s t u same reads none clears =
+    let g = subst (λ (m : ℕ). Grows (IsFormatting m (now t)) t u) same (clears (still_none s t reads none)) in
     goes_on (weaken (λ d is. inl is) reads) (subst (λ (before : Disk). Grows (IsFormatting size before) t u) (now_read s t reads) g)
 
 first_is_commit : (size : ℕ) → size ≤ 4194304 → IsCommit (first_commit size)

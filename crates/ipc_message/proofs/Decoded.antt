@@ -21,6 +21,7 @@ use Rattle.ipc_message.specs.View.{raw_field_step, raw_field_of, parameters_of, 
 use Rattle.std.proofs.lemmas.List.{length-map}
 use Rattle.std.proofs.lemmas.Bool.{and_parts, or_parts, not-false}
 use Rattle.ipc_message.proofs.Children.{sized_list}
+use Rattle.facts.specs.laws.Lists.{any_left, any_right}
 
 pub leaf_is : (kind : Option Kind) (cs : List Column) → is_some (without_children kind cs) ≡ true → without_children kind cs ≡ kind
 leaf_is kind [] h = refl
@@ -43,12 +44,6 @@ sized p (c ∷ d ∷ cs) h = absurd cc
 pub ruleset decoded_rules = (leaf_is, leaf_some, item_one, sized, length-map)
 
 -- ---- a field, and all below it
-
-any_left : {A : Type 0} (p : A → Bool) (xs ys : List A) → list_any p (xs ++ ys) ≡ false → list_any p xs ≡ false
-any_left p xs ys h = (or_parts _ _ (sym (list_any-append p xs ys) ∙ h)).0
-
-any_right : {A : Type 0} (p : A → Bool) (xs ys : List A) → list_any p (xs ++ ys) ≡ false → list_any p ys ≡ false
-any_right p xs ys h = (or_parts _ _ (sym (list_any-append p xs ys) ∙ h)).1
 
 all_left : {A : Type 0} (p : A → Bool) (xs ys : List A) → list_all p (xs ++ ys) ≡ true → list_all p xs ≡ true
 all_left p xs ys h = (and_parts _ _ (sym (list_all-append p xs ys) ∙ h)).0

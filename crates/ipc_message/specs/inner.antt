@@ -1,3 +1,4 @@
+pub mod Appended
 pub mod Firsts
 pub mod Listed
 pub mod Readable

@@ -1,5 +1,5 @@
 // The dictionaries of a schema that passed its tests, field by field.
-ghost use Rattle.std.specs.Prelude.{◌≡◌, ◌++◌, true, false, map, OnOk, IfOk};
+ghost use Rattle.std.specs.Prelude.{◌≡◌, true, false, map, OnOk, IfOk};
 ghost use Rattle.std.specs.List.{list_any, list_all};
 ghost use Rattle.std.specs.Str.{is_utf8};
 ghost use Rattle.arrow_schema.specs.Parts.{kind_of_column};
@@ -10,6 +10,7 @@ ghost use Rattle.ipc_message.specs.Convert.{column_of_field};
 ghost use Rattle.ipc_message.specs.Checks.{is_bad, texts_of};
 ghost use Rattle.ipc_message.specs.View.{raw_field_of, raw_schema_of};
 ghost use Rattle.ipc_message.specs.DictionaryTypes.{own_dictionary, dictionaries_in, dictionaries_of_schema, plain_dictionary_of};
+ghost use Rattle.ipc_message.specs.inner.Appended.{Appends};
 ghost use Rattle.ipc_message.specs.inner.Readable.{AreReadable};
 
 use crate::convert::copy_field;
@@ -33,8 +34,7 @@ fn list_own(
     field: &RawField,
 ) -> Result<(), AllocError>
     requires { AreReadable (preorder (raw_field_of field.now)) }
-    ensures { let f = raw_field_of field.now in
-        OnOk result (map plain_dictionary_of list.new.items ≡ map plain_dictionary_of list.old.items ++ own_dictionary (dictionary_of f) f) }
+    ensures { let f = raw_field_of field.now in OnOk result (Appends list.old.items list.new.items (own_dictionary (dictionary_of f) f)) }
 {
     if let Some(encoding) = &field.dictionary {
         let id = encoding.id;
@@ -52,7 +52,7 @@ fn list_field(
     field: &RawField,
 ) -> Result<(), AllocError>
     requires { AreReadable (preorder (raw_field_of field.now)) }
-    ensures { OnOk result (map plain_dictionary_of list.new.items ≡ map plain_dictionary_of list.old.items ++ dictionaries_in (preorder (raw_field_of field.now))) }
+    ensures { OnOk result (Appends list.old.items list.new.items (dictionaries_in (preorder (raw_field_of field.now)))) }
 {
     list_own(alloc, list, field)?;
     list_fields(alloc, list, &field.children)
@@ -66,8 +66,7 @@ fn list_fields(
     fields: &[RawField],
 ) -> Result<(), AllocError>
     requires { AreReadable (preorder_all (raw_fields_of (map raw_field_of fields.now))) }
-    ensures { let below = preorder_all (raw_fields_of (map raw_field_of fields.now)) in
-        OnOk result (map plain_dictionary_of list.new.items ≡ map plain_dictionary_of list.old.items ++ dictionaries_in below) }
+    ensures { OnOk result (Appends list.old.items list.new.items (dictionaries_in (preorder_all (raw_fields_of (map raw_field_of fields.now))))) }
 {
     for field in fields {
         list_field(alloc, list, field)?;

@@ -8,7 +8,7 @@ use Rattle.std.proofs.lemmas.List.{drop_more}
 use Rattle.std.proofs.lemmas.Bool.{and_parts}
 use Rattle.std.proofs.lemmas.Str.{digit_value_digit}
 use Rattle.std.proofs.Math.Bool.{and-false}
-use Rattle.std.specs.Char.{digit_value}
+use Rattle.std.specs.Char.{digit_value, is_ascii_digit}
 use Rattle.std.specs.Str.{all_ascii_digits}
 use Rattle.std.specs.Str.Parse.{digits_value_after}
 use Rattle.std.proofs.Math.Nat.{pow-le-pow_right}
@@ -19,25 +19,11 @@ use Rattle.cells.specs.Nulls.{is_there}
 use Rattle.cells.specs.Typed.{typed_number, typed_integer}
 use Rattle.cells.specs.Fit.{fits, fits_kind, in_range}
 use Rattle.text_import.specs.Flat.{number_cell}
-use Rattle.text_import.specs.inner.Capped.{is_digit, digits_behind, digits, capped, too_large, capped_integer, holds_numbers}
+use Rattle.text_import.specs.inner.Capped.{number_behind, capped, too_large, capped_integer, holds_numbers}
 
--- the number that is counted digit by digit is the one that they spell
-digit_is : (b : ℕ) → is_digit b ≡ true → b - 48 ≡ digit_value b
+-- what the code counts of a digit
+digit_is : (b : ℕ) → is_ascii_digit b ≡ true → digit_value b ≡ b - 48
 digit_is b h = let p = and_parts (nat_le 48 b) (nat_le b 57) h in omega (arith, digit_value_digit b (leb-true 48 b p.0, leb-true b 57 p.1))
-
-spelled_behind : (n : ℕ) (bs : List ℕ) → digits_behind n bs ≡ (if all_ascii_digits bs then Some (digits_value_after 10 n bs) else None)
-unfolding digits_behind
-spelled_behind n [] = refl
-spelled_behind n (b ∷ bs) = by (is_digit b) refl (spelled_behind (n * 10 + (b - 48)) bs)
-  where
-    by : (d : Bool) → is_digit b ≡ d → digits_behind (n * 10 + (b - 48)) bs ≡ (if all_ascii_digits bs then Some (digits_value_after 10 (n * 10 + (b - 48)) bs) else None)
-        → (if d then digits_behind (n * 10 + (b - 48)) bs else None) ≡ (if d && all_ascii_digits bs then Some (digits_value_after 10 (n * 10 + digit_value b) bs) else None)
-    by false h e = refl
-    by true h e = e ∙ ap (λ k. if all_ascii_digits bs then Some (digits_value_after 10 (n * 10 + k) bs) else None) (digit_is b h)
-
-digits_spelled : (t : List ℕ) → digits t ≡ typed_number t
-digits_spelled [] = refl
-digits_spelled (b ∷ bs) = let some : (length (b ∷ bs) == 0) ≡ false = ne_eqb (length (b ∷ bs)) 0 (λ e. absurd (omega (arith, e))) in rw some (spelled_behind 0 (b ∷ bs))
 
 capped_again : (n : ℕ) → capped n ≡ capped (capped n)
 capped_again n = omega arith
@@ -50,43 +36,43 @@ capped_step n d =
     ]
 
 -- capping each step caps the whole
-pub capped_digits : (n : ℕ) (bs : List ℕ) → option_map capped (digits_behind n bs) ≡ option_map capped (digits_behind (capped n) bs)
-unfolding digits_behind
-capped_digits n [] = ap Some (capped_again n)
-capped_digits n (b ∷ bs) =
-    by (is_digit b)
-    (capped_digits (n * 10 + (b - 48)) bs
-    ∙ ap (λ k. option_map capped (digits_behind k bs)) (capped_step n (b - 48))
-    ∙ sym (capped_digits (capped n * 10 + (b - 48)) bs))
+capped_number : (n : ℕ) (bs : List ℕ) → option_map capped (number_behind n bs) ≡ option_map capped (number_behind (capped n) bs)
+unfolding number_behind
+capped_number n [] = ap Some (capped_again n)
+capped_number n (b ∷ bs) =
+    by (is_ascii_digit b)
+    (capped_number (n * 10 + digit_value b) bs
+    ∙ ap (λ k. option_map capped (number_behind k bs)) (capped_step n (digit_value b))
+    ∙ sym (capped_number (capped n * 10 + digit_value b) bs))
   where
-    by : (d : Bool) → option_map capped (digits_behind (n * 10 + (b - 48)) bs) ≡ option_map capped (digits_behind (capped n * 10 + (b - 48)) bs)
-        → option_map capped (if d then digits_behind (n * 10 + (b - 48)) bs else None) ≡ option_map capped (if d then digits_behind (capped n * 10 + (b - 48)) bs else None)
+    by : (d : Bool) → option_map capped (number_behind (n * 10 + digit_value b) bs) ≡ option_map capped (number_behind (capped n * 10 + digit_value b) bs)
+        → option_map capped (if d && all_ascii_digits bs then Some (digits_value_after 10 (n * 10 + digit_value b) bs) else None)
+        ≡ option_map capped (if d && all_ascii_digits bs then Some (digits_value_after 10 (capped n * 10 + digit_value b) bs) else None)
     by false e = refl
     by true e = e
 
 -- the digits from a place on, where a number was kept for those before it
-pub digit_more : (n b : ℕ) (bs : List ℕ) → is_digit b ≡ true → option_map capped (digits_behind n (b ∷ bs)) ≡ option_map capped (digits_behind (min (n * 10 + (b - 48)) too_large) bs)
-unfolding digits_behind
-digit_more n b bs is = rw is (capped_digits (n * 10 + (b - 48)) bs)
+digit_more : (n b : ℕ) (bs : List ℕ) → is_ascii_digit b ≡ true → option_map capped (number_behind n (b ∷ bs)) ≡ option_map capped (number_behind (min (n * 10 + (b - 48)) too_large) bs)
+unfolding number_behind
+digit_more n b bs is = rw is (ap (λ k. option_map capped (number_behind (n * 10 + k) bs)) (digit_is b is) ∙ capped_number (n * 10 + (b - 48)) bs)
 
-pub digit_none : (n b : ℕ) (bs : List ℕ) → is_digit b ≡ false → option_map capped (digits_behind n (b ∷ bs)) ≡ None
-unfolding digits_behind
+digit_none : (n b : ℕ) (bs : List ℕ) → is_ascii_digit b ≡ false → option_map capped (number_behind n (b ∷ bs)) ≡ None
+unfolding number_behind
 digit_none n b bs is = rw is refl
 
-pub digits_end : (n : ℕ) → n ≤ too_large → option_map capped (digits_behind n []) ≡ Some n
-unfolding digits_behind
+pub digits_end : (n : ℕ) → n ≤ too_large → option_map capped (number_behind n []) ≡ Some n
+unfolding number_behind
 digits_end n le = ap Some (omega arith)
 
-pub digits_of_some : (bs : List ℕ) → (length bs == 0) ≡ false → digits bs ≡ digits_behind 0 bs
-digits_of_some [] e = absurd (false≢true (sym e))
-digits_of_some (b ∷ bs) e = refl
+pub digits_of_some : (bs : List ℕ) → (length bs == 0) ≡ false → typed_number bs ≡ number_behind 0 bs
+unfolding number_behind
+digits_of_some bs e = rw e refl
 
--- the digits from a place on
-pub digit_none_at : (t : List ℕ) (n i : ℕ) → i < length t → is_digit (get_or t i 0) ≡ false → option_map capped (digits_behind n (drop i t)) ≡ None
+pub digit_none_at : (t : List ℕ) (n i : ℕ) → i < length t → is_ascii_digit (get_or t i 0) ≡ false → option_map capped (number_behind n (drop i t)) ≡ None
 digit_none_at t n i lt is = rw (drop_more t i 0 lt) (digit_none n (get_or t i 0) (drop (i + 1) t) is)
 
-pub digit_more_at : (t : List ℕ) (n i : ℕ) → i < length t → is_digit (get_or t i 0) ≡ true
-    → option_map capped (digits_behind n (drop i t)) ≡ option_map capped (digits_behind (min (n * 10 + (get_or t i 0 - 48)) too_large) (drop (i + 1) t))
+pub digit_more_at : (t : List ℕ) (n i : ℕ) → i < length t → is_ascii_digit (get_or t i 0) ≡ true
+    → option_map capped (number_behind n (drop i t)) ≡ option_map capped (number_behind (min (n * 10 + (get_or t i 0 - 48)) too_large) (drop (i + 1) t))
 digit_more_at t n i lt is = rw (drop_more t i 0 lt) (digit_more n (get_or t i 0) (drop (i + 1) t) is)
 
 -- a number that is too large is in no range
@@ -156,10 +142,10 @@ number_capped k [] h = refl
 number_capped k (b ∷ bs) h = by (b == 45)
   where
     by : (m : Bool)
-        → number_cell k (if m then option_map (λ n. neg_ℤ (pos n)) (option_map capped (digits bs)) else option_map pos (option_map capped (digits (b ∷ bs))))
+        → number_cell k (if m then option_map (λ n. neg_ℤ (pos n)) (option_map capped (typed_number bs)) else option_map pos (option_map capped (typed_number (b ∷ bs))))
         ≡ number_cell k (if m then option_map (λ n. neg_ℤ (pos n)) (typed_number bs) else option_map pos (typed_number (b ∷ bs)))
-    by true = capped_digits_neg k (digits bs) h ∙ ap (λ o. number_cell k (option_map (λ n. neg_ℤ (pos n)) o)) (digits_spelled bs)
-    by false = capped_digits_pos k (digits (b ∷ bs)) h ∙ ap (λ o. number_cell k (option_map pos o)) (digits_spelled (b ∷ bs))
+    by true = capped_digits_neg k (typed_number bs) h
+    by false = capped_digits_pos k (typed_number (b ∷ bs)) h
 
 -- a value fits a field where it fits the type
 pub fits_value : (f : Column) (x : Cell) → is_there x ≡ true → fits f x ≡ fits_kind (kind_of_column f) x

@@ -122,10 +122,6 @@ pub names_end : (so : List Cell) (ms : Members) → cells_behind so (cells_by_na
 unfolding cells_by_name
 names_end so ms = cells_behind_end so
 
-pub cells_listed : (cs : List Cell) → cell_list (cells_of cs) ≡ cs
-cells_listed [] = refl
-cells_listed (c ∷ cs) = ap (λ xs. c ∷ xs) (cells_listed cs)
-
 -- the rows of the lines from a place on
 abbrev pub rows_of_lines : PlainSchema → ℕ → List (Bor (List ℕ)) → Result (List (List Cell)) Refused
 rows_of_lines s n lines = rows_from (line_row s) n (filter (λ line. not (is_blank line)) (text_list lines))

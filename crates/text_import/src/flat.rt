@@ -5,13 +5,13 @@ ghost use Rattle.arrow_schema.specs.Parts.{kind_of_column};
 ghost use Rattle.arrow_schema.specs.View.{column_of};
 ghost use Rattle.cells.specs.Cell as plain;
 ghost use Rattle.cells.specs.Nulls.{is_there};
-ghost use Rattle.cells.specs.Typed.{typed_integer, typed_boolean};
+ghost use Rattle.cells.specs.Typed.{typed_number, typed_integer, typed_boolean};
 ghost use Rattle.cells.specs.View.{cell};
 ghost use Rattle.text_import.specs.declared.refusal.Refusal.TheVariants.{NotUtf8};
 ghost use Rattle.text_import.specs.Refusals.{refusal_of};
 ghost use Rattle.facts.specs.Outcomes.{Gives};
 ghost use Rattle.text_import.specs.Flat.{fitting, number_cell, boolean_cell, hex_cell, cell_of_text, field_cell};
-ghost use Rattle.text_import.specs.inner.Capped.{is_digit, digits, capped, capped_integer, holds_numbers};
+ghost use Rattle.text_import.specs.inner.Capped.{capped, capped_integer, holds_numbers};
 
 use crate::refusal::{CellError, Refusal};
 use crate::texts::text_of;
@@ -23,22 +23,16 @@ use std::alloc::{AllocError, Global};
 // No integer type holds a number of this size.
 const TOO_LARGE: u128 = 1 << 64;
 
-fn is_digit(byte: u8) -> bool
-    ensures { result ≡ is_digit byte }
-{
-    b'0' <= byte && byte <= b'9'
-}
-
 // The number that digits spell, and `TOO_LARGE` where it is larger.
 fn digits(text: &[u8]) -> Option<u128>
-    ensures { result ≡ option_map capped (digits text.now) }
+    ensures { result ≡ option_map capped (typed_number text.now) }
 {
     if text.is_empty() {
         return None;
     }
     let mut number = 0u128;
     for byte in text {
-        if !is_digit(*byte) {
+        if !byte.is_ascii_digit() {
             return None;
         }
         number = (number * 10 + u128::from(*byte - b'0')).min(TOO_LARGE);
@@ -47,7 +41,7 @@ fn digits(text: &[u8]) -> Option<u128>
 }
 
 fn negative(text: &[u8]) -> Option<i128>
-    ensures { result ≡ option_map (λ n. neg_ℤ (pos n)) (option_map capped (digits text.now)) }
+    ensures { result ≡ option_map (λ n. neg_ℤ (pos n)) (option_map capped (typed_number text.now)) }
 {
     match digits(text) {
         None => None,
@@ -56,7 +50,7 @@ fn negative(text: &[u8]) -> Option<i128>
 }
 
 fn positive(text: &[u8]) -> Option<i128>
-    ensures { result ≡ option_map pos (option_map capped (digits text.now)) }
+    ensures { result ≡ option_map pos (option_map capped (typed_number text.now)) }
 {
     match digits(text) {
         None => None,

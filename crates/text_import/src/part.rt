@@ -15,6 +15,7 @@ ghost use Rattle.text_import.specs.Objects.{lines_of, line_value};
 ghost use Rattle.text_import.specs.Part.{part_of, is_refused, refused_field, refused_in_record, refused_by_place, refused_by_name, refused_in_items, refused_in_members, refused_in_value, refused_in_read, refused_in_line, refused_part};
 ghost use Rattle.text_import.specs.Part as plain;
 ghost use Rattle.text_import.specs.declared.refusal.Refusal.{Refusal};
+ghost use Rattle.text_import.specs.inner.Names.{IsText};
 
 use crate::TextForm;
 use crate::flat::field_cell;
@@ -114,7 +115,7 @@ fn refused_by_place<'a>(
     values: &[Json],
 ) -> Result<Option<&'a str>, AllocError>
     requires { length values.now ≡ length fields.now }
-    ensures { IfOk result (λ name. option_map (λ t. t.now) name ≡ refused_by_place (columns_of (map column_of fields.now)) (items_view values.now)) }
+    ensures { IfOk result (IsText (refused_by_place (columns_of (map column_of fields.now)) (items_view values.now))) }
 {
     for (i, field) in fields.iter().enumerate() {
         if is_refused(cell_in(alloc, field, &values[i]))? {
@@ -130,7 +131,7 @@ fn refused_by_name<'a>(
     fields: &'a [Field],
     members: &Map<String, Json>,
 ) -> Result<Option<&'a str>, AllocError>
-    ensures { IfOk result (λ name. option_map (λ t. t.now) name ≡ refused_by_name (columns_of (map column_of fields.now)) (members_view members.now.entries)) }
+    ensures { IfOk result (IsText (refused_by_name (columns_of (map column_of fields.now)) (members_view members.now.entries))) }
 {
     for field in fields {
         if is_refused(member_in(alloc, field, members))? {
@@ -146,7 +147,7 @@ fn refused_in_items<'a>(
     fields: &'a [Field],
     values: &[Json],
 ) -> Result<Option<&'a str>, AllocError>
-    ensures { IfOk result (λ name. option_map (λ t. t.now) name ≡ refused_in_items (columns_of (map column_of fields.now)) (items_view values.now)) }
+    ensures { IfOk result (IsText (refused_in_items (columns_of (map column_of fields.now)) (items_view values.now))) }
 {
     if values.len() != fields.len() {
         return Ok(None);
@@ -161,7 +162,7 @@ fn refused_in_members<'a>(
     fields: &'a [Field],
     members: &Map<String, Json>,
 ) -> Result<Option<&'a str>, AllocError>
-    ensures { IfOk result (λ name. option_map (λ t. t.now) name ≡ refused_in_members (columns_of (map column_of fields.now)) (members_view members.now.entries)) }
+    ensures { IfOk result (IsText (refused_in_members (columns_of (map column_of fields.now)) (members_view members.now.entries))) }
 {
     match test_names(alloc, fields, members) {
         Ok(()) => refused_by_name(alloc, fields, members),
@@ -175,7 +176,7 @@ fn refused_in_value<'a>(
     fields: &'a [Field],
     value: &Json,
 ) -> Result<Option<&'a str>, AllocError>
-    ensures { IfOk result (λ name. option_map (λ t. t.now) name ≡ refused_in_value (columns_of (map column_of fields.now)) (view value.now)) }
+    ensures { IfOk result (IsText (refused_in_value (columns_of (map column_of fields.now)) (view value.now))) }
 {
     match value {
         Json::Array(values) => refused_in_items(alloc, fields, values),
@@ -189,7 +190,7 @@ fn refused_in_read<'a>(
     fields: &'a [Field],
     line: &[u8],
 ) -> Result<Option<&'a str>, AllocError>
-    ensures { IfOk result (λ name. option_map (λ t. t.now) name ≡ refused_in_read (columns_of (map column_of fields.now)) (line_value line.now)) }
+    ensures { IfOk result (IsText (refused_in_read (columns_of (map column_of fields.now)) (line_value line.now))) }
 {
     match line_value(alloc, line) {
         Ok(value) => refused_in_value(alloc, fields, &value),

@@ -8,8 +8,8 @@ use Rattle.columns.specs.Sound.{is_sound, are_sound}
 use Rattle.columns.specs.Texts.{have_utf8_texts}
 
 -- so many slots, from one on
-abbrev pub are_readable : Column → Array → (start count : ℕ) → Bool
-are_readable c a start count = is_sound c a && (nat_le (start + count) (slots_in a) && have_utf8_texts (cells_of (cells_from (cell_at c a) start count)))
+abbrev pub is_run_readable : Column → Array → (start count : ℕ) → Bool
+is_run_readable c a start count = is_sound c a && (nat_le (start + count) (slots_in a) && have_utf8_texts (cells_of (cells_from (cell_at c a) start count)))
 
 -- a slot of each of some arrays, which have so many slots at least
 abbrev pub are_parts_readable : Columns → Arrays → (slots place : ℕ) → Bool

@@ -1,20 +1,13 @@
 -- Numbers of any size, as the code keeps them: past a size that no integer type holds they are one.
-use Rattle.std.specs.Prelude.{ℕ, ◌+◌, ◌-◌, ◌*◌, ◌^◌, ◌&&◌, ◌==◌, ℤ, pos, neg_ℤ, min, Bool, true, false, nat_le, List, [], ◌∷◌, Option, Some, None, option_map, if◌then◌else◌}
+use Rattle.std.specs.Prelude.{ℕ, ◌^◌, ◌==◌, ℤ, pos, neg_ℤ, min, Bool, true, false, nat_le, List, [], ◌∷◌, Option, Some, None, option_map, if◌then◌else◌}
+use Rattle.std.specs.Str.{all_ascii_digits}
+use Rattle.std.specs.Str.Parse.{digits_value_after}
 use Rattle.arrow_schema.specs.Column.{Kind, integers, dates, timestamps}
-
--- `0` to `9`
-abbrev pub is_digit : ℕ → Bool
-is_digit b = nat_le 48 b && nat_le b 57
+use Rattle.cells.specs.Typed.{typed_number}
 
 -- the number that decimal digits spell behind others that spell n: any number of them
-unfoldable pub digits_behind : ℕ → List ℕ → Option ℕ
-digits_behind n [] = Some n
-digits_behind n (b ∷ bs) = if is_digit b then digits_behind (n * 10 + (b - 48)) bs else None
-
--- the number that one digit or more spell
-abbrev pub digits : List ℕ → Option ℕ
-digits [] = None
-digits (b ∷ bs) = digits_behind 0 (b ∷ bs)
+unfoldable pub number_behind : ℕ → List ℕ → Option ℕ
+number_behind n ds = if all_ascii_digits ds then Some (digits_value_after 10 n ds) else None
 
 abbrev pub too_large : ℕ
 too_large = 2 ^ 64
@@ -24,7 +17,7 @@ capped n = min n too_large
 
 abbrev pub capped_integer : List ℕ → Option ℤ
 capped_integer [] = None
-capped_integer (b ∷ bs) = if b == 45 then option_map (λ n. neg_ℤ (pos n)) (option_map capped (digits bs)) else option_map pos (option_map capped (digits (b ∷ bs)))
+capped_integer (b ∷ bs) = if b == 45 then option_map (λ n. neg_ℤ (pos n)) (option_map capped (typed_number bs)) else option_map pos (option_map capped (typed_number (b ∷ bs)))
 
 -- types of integers of at most 64 bits
 abbrev pub holds_numbers : Kind → Bool

@@ -1,5 +1,5 @@
 -- Texts behind references, and the names of an object's members.
-use Rattle.std.specs.Prelude.{ℕ, List, map, Option, Some, None, Result, Ok, Err, if◌then◌else◌}
+use Rattle.std.specs.Prelude.{◌≡◌, ℕ, List, map, Option, Some, None, Result, Ok, Err, option_map, if◌then◌else◌}
 use Rattle.std.specs.Borrow.{Bor}
 use Rattle.std.specs.Str.{is_utf8}
 use Rattle.serde_json.specs.Data.{Members}
@@ -13,6 +13,10 @@ use Rattle.text_import.specs.Objects.{member_in, cell_in, repeats, has_unknown, 
 
 abbrev pub text_list : List (Bor (List ℕ)) → List (List ℕ)
 text_list texts = map (λ t. t.now) texts
+
+-- a text, where there is one
+abbrev pub IsText : Option (List ℕ) → Option (Bor (List ℕ)) → Type 0
+IsText text found = option_map (λ t. t.now) found ≡ text
 
 abbrev pub text_where_utf8 : List ℕ → Option (List ℕ)
 text_where_utf8 t = if is_utf8 t then Some t else None

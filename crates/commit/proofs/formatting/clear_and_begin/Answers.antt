@@ -1,10 +1,9 @@
 use Rattle.std.proofs.Common.{◌∙◌, refl, inl, subst, ℕ, arith}
 use Rattle.sector_dev.specs.Disk.{now, shown_image}
-use Rattle.sector_dev.specs.Time.{Grows, LeavesOnly}
-use Rattle.sector_dev.specs.laws.Time.{goes_on, passed}
-use Rattle.commit.specs.Formatting.{IsNoneOrEmpty, IsFormatting, IsFormatted}
+use Rattle.sector_dev.specs.laws.Time.{passed}
+use Rattle.commit.specs.Formatting.{IsFormatting, IsFormatted}
 use Rattle.commit.specs.inner.Prepared.{HasFirst}
-use Rattle.commit.proofs.Formatted.{cleaned, as_none, as_empty, flushes_same, formatted_since, made_empty}
+use Rattle.commit.proofs.Formatted.{cleaned, cleared, cleared_and_begun, flushes_same, formatted_since, made_empty}
 use Rattle.commit.proofs.formatting.clear_and_begin.Goals as goal
 
 pub returns-in_err-sync-clause-moments : goal.returns-in_err-sync-clause-moments
@@ -15,35 +14,19 @@ returns-in_err-sync-clause-moments g c = λ told none.
 pub returns-in_err-prepare-clause-moments : goal.returns-in_err-prepare-clause-moments
 returns-in_err-prepare-clause-moments g c = λ told none.
     let D = g.D.SectorDevice in
-    let size = D.size c.args.device.now in
-    let s0 = D.story c.args.device.now in
-    let s1 = D.story c.sync.new.self in
-    let clean = cleaned size s0 s1 none (c.in_ok-sync.ensures.ok told) in
-    goes_on clean.0 (as_none size (now s0) s1 _ (c.prepare.ensures.moments told clean.1))
+    cleared (D.size c.args.device.now) (D.story c.args.device.now) (D.story c.sync.new.self) (D.story c.prepare.new.device) none (c.in_ok-sync.ensures.ok told) (c.prepare.ensures.moments told)
 
 pub returns-in_err-begin-clause-moments : goal.returns-in_err-begin-clause-moments
 returns-in_err-begin-clause-moments g c = λ told none.
     let D = g.D.SectorDevice in
-    let size = D.size c.args.device.now in
-    let s0 = D.story c.args.device.now in
-    let s1 = D.story c.sync.new.self in
-    let clean = cleaned size s0 s1 none (c.in_ok-sync.ensures.ok told) in
-    let s2 = D.story c.prepare.new.device in
-    let s3 = D.story c.begin.new.device in
-    let begun = subst (λ (n : ℕ). Grows (LeavesOnly (IsNoneOrEmpty n)) s2 s3) (c.prepare.ensures.size ∙ c.sync.ensures.size) (c.begin.ensures.moments told (c.in_ok-prepare.ensures.prepared told clean.1)) in
-    goes_on clean.0 (goes_on (as_none size (now s0) s1 s2 (c.prepare.ensures.moments told clean.1)) (as_empty size (now s0) s2 s3 begun))
+    cleared_and_begun (D.size c.args.device.now) (D.size c.prepare.new.device) (D.story c.args.device.now) (D.story c.sync.new.self) (D.story c.prepare.new.device) (D.story c.begin.new.device)
+    (c.prepare.ensures.size ∙ c.sync.ensures.size) none (c.in_ok-sync.ensures.ok told) (c.prepare.ensures.moments told) (c.in_ok-prepare.ensures.prepared told) (c.begin.ensures.moments told)
 
 pub returns-clause-moments : goal.returns-clause-moments
 returns-clause-moments g c = λ told none.
     let D = g.D.SectorDevice in
-    let size = D.size c.args.device.now in
-    let s0 = D.story c.args.device.now in
-    let s1 = D.story c.sync.new.self in
-    let clean = cleaned size s0 s1 none (c.in_ok-sync.ensures.ok told) in
-    let s2 = D.story c.prepare.new.device in
-    let s3 = D.story c.begin.new.device in
-    let begun = subst (λ (n : ℕ). Grows (LeavesOnly (IsNoneOrEmpty n)) s2 s3) (c.prepare.ensures.size ∙ c.sync.ensures.size) (c.begin.ensures.moments told (c.in_ok-prepare.ensures.prepared told clean.1)) in
-    goes_on clean.0 (goes_on (as_none size (now s0) s1 s2 (c.prepare.ensures.moments told clean.1)) (as_empty size (now s0) s2 s3 begun))
+    cleared_and_begun (D.size c.args.device.now) (D.size c.prepare.new.device) (D.story c.args.device.now) (D.story c.sync.new.self) (D.story c.prepare.new.device) (D.story c.begin.new.device)
+    (c.prepare.ensures.size ∙ c.sync.ensures.size) none (c.in_ok-sync.ensures.ok told) (c.prepare.ensures.moments told) (c.in_ok-prepare.ensures.prepared told) (c.begin.ensures.moments told)
 
 pub returns-clause-formatted : goal.returns-clause-formatted
 returns-clause-formatted g c = λ told none.

@@ -1,18 +1,17 @@
-use Rattle.std.proofs.Common.{◌≡◌, ◌≢◌, ◌∙◌, ap, sym, inl, subst, ℕ, false, Option, Some, None, Result, Ok, Err, IfErr, is_some}
+use Rattle.std.proofs.Common.{◌≡◌, ◌≢◌, inl, subst, ℕ, Bool, false, Option, Some, None, Result, Ok, Err, IfErr, is_some}
 use Rattle.sector_dev.specs.Disk.{Disk, now, shown_image}
-use Rattle.sector_dev.specs.Time.{Grows}
 use Rattle.sector_dev.specs.laws.Time.{weaken, now_read}
 use Rattle.commit.specs.declared.sector.Commit.{Commit}
 use Rattle.commit.specs.declared.formatting.FormatError.{FormatError}
 use Rattle.commit.specs.declared.formatting.FormatError.TheVariants.{Device}
-use Rattle.commit.specs.Ruling.{ruling}
-use Rattle.commit.specs.Formatting.{IsFormatting, IsFormatted, IsMadeEmpty}
-use Rattle.commit.proofs.Formatted.{none_rules, read_first}
+use Rattle.commit.specs.Formatting.{IsFormatted, IsMadeEmpty}
+use Rattle.commit.proofs.Formatted.{read_first, still_none}
 use Rattle.commit.proofs.formatting.format.Goals as goal
 
-is_none : (o : Option Commit) → is_some o ≡ false → o ≡ None
-is_none None is = λ i. None
-is_none (Some k) is = absurd (cc is)
+-- what ruled before is what was found
+none_ruled : (before found : Option Commit) (some : Bool) → before ≡ found → some ≡ is_some found → some ≡ false → before ≡ None
+none_ruled before None some same is none = same
+none_ruled before (Some k) some same is none = absurd cc
 
 if_err : {T P Q : Type 0} (r : Result T FormatError) → (P → Q) → IfErr r (λ e. e ≢ Device → P → Q)
 if_err (Ok x) f = tt
@@ -22,10 +21,10 @@ pub returns-then-is_some-clause-quiet : goal.returns-then-is_some-clause-quiet
 returns-then-is_some-clause-quiet g c = λ _ told. now_read _ _ (c.read_ruling.ensures.moments told)
 
 pub returns-in_err-clear_and_begin-clause-untouched : goal.returns-in_err-clear_and_begin-clause-untouched
-returns-in_err-clear_and_begin-clause-untouched g c = λ told some. absurd (some (c.in_ok-ruling.ensures.found told ∙ is_none _ (sym c.is_some.ensures ∙ c.if-is_some.false)))
+returns-in_err-clear_and_begin-clause-untouched g c = λ told some. absurd (some (none_ruled _ _ _ (c.in_ok-ruling.ensures.found told) c.is_some.ensures c.if-is_some.false))
 
 pub returns-clause-untouched : goal.returns-clause-untouched
-returns-clause-untouched g c = λ told some. absurd (some (c.in_ok-ruling.ensures.found told ∙ is_none _ (sym c.is_some.ensures ∙ c.if-is_some.false)))
+returns-clause-untouched g c = λ told some. absurd (some (none_ruled _ _ _ (c.in_ok-ruling.ensures.found told) c.is_some.ensures c.if-is_some.false))
 
 pub returns-in_err-map-clause-moments : goal.returns-in_err-map-clause-moments
 returns-in_err-map-clause-moments g c = λ told. weaken (λ d is. inl is) (c.read_ruling.ensures.moments told)
@@ -36,34 +35,23 @@ returns-in_err-map-clause-quiet g c = if_err _ (λ told. now_read _ _ (c.read_ru
 pub returns-in_err-clear_and_begin-clause-moments : goal.returns-in_err-clear_and_begin-clause-moments
 returns-in_err-clear_and_begin-clause-moments g c = λ told.
     let D = g.D.SectorDevice in
-    let s0 = D.story c.args.device.now in
-    let s1 = D.story c.read_ruling.new.device in
-    let s2 = D.story c.clear_and_begin.new.device in
-    let reads = c.read_ruling.ensures.moments told in
-    let rule : ruling (shown_image (now s1)) ≡ None = ap (λ (d : Disk). ruling (shown_image d)) (now_read s0 s1 reads) ∙ c.in_ok-ruling.ensures.found told ∙ is_none _ (sym c.is_some.ensures ∙ c.if-is_some.false) in
-    let none = none_rules (shown_image (now s1)) rule in
-    read_first (D.size c.args.device.now) s0 s1 s2 reads (subst (λ (n : ℕ). Grows (IsFormatting n (now s1)) s1 s2) c.read_ruling.ensures.size (c.clear_and_begin.ensures.moments told none))
+    read_first (D.size c.args.device.now) (D.size c.read_ruling.new.device) (D.story c.args.device.now) (D.story c.read_ruling.new.device) (D.story c.clear_and_begin.new.device)
+    c.read_ruling.ensures.size (c.read_ruling.ensures.moments told) (none_ruled _ _ _ (c.in_ok-ruling.ensures.found told) c.is_some.ensures c.if-is_some.false) (c.clear_and_begin.ensures.moments told)
 
 pub returns-clause-moments : goal.returns-clause-moments
 returns-clause-moments g c = λ told.
     let D = g.D.SectorDevice in
-    let s0 = D.story c.args.device.now in
-    let s1 = D.story c.read_ruling.new.device in
-    let s2 = D.story c.clear_and_begin.new.device in
-    let reads = c.read_ruling.ensures.moments told in
-    let rule : ruling (shown_image (now s1)) ≡ None = ap (λ (d : Disk). ruling (shown_image d)) (now_read s0 s1 reads) ∙ c.in_ok-ruling.ensures.found told ∙ is_none _ (sym c.is_some.ensures ∙ c.if-is_some.false) in
-    let none = none_rules (shown_image (now s1)) rule in
-    read_first (D.size c.args.device.now) s0 s1 s2 reads (subst (λ (n : ℕ). Grows (IsFormatting n (now s1)) s1 s2) c.read_ruling.ensures.size (c.clear_and_begin.ensures.moments told none))
+    read_first (D.size c.args.device.now) (D.size c.read_ruling.new.device) (D.story c.args.device.now) (D.story c.read_ruling.new.device) (D.story c.clear_and_begin.new.device)
+    c.read_ruling.ensures.size (c.read_ruling.ensures.moments told) (none_ruled _ _ _ (c.in_ok-ruling.ensures.found told) c.is_some.ensures c.if-is_some.false) (c.clear_and_begin.ensures.moments told)
 
 pub returns-clause-formatted : goal.returns-clause-formatted
 returns-clause-formatted g c = λ told.
     let D = g.D.SectorDevice in
     let s0 = D.story c.args.device.now in
     let s1 = D.story c.read_ruling.new.device in
-    let reads = c.read_ruling.ensures.moments told in
-    let rule : ruling (shown_image (now s1)) ≡ None = ap (λ (d : Disk). ruling (shown_image d)) (now_read s0 s1 reads) ∙ c.in_ok-ruling.ensures.found told ∙ is_none _ (sym c.is_some.ensures ∙ c.if-is_some.false) in
-    let none = none_rules (shown_image (now s1)) rule in
     let s2 = D.story c.clear_and_begin.new.device in
+    let reads = c.read_ruling.ensures.moments told in
+    let none = still_none s0 s1 reads (none_ruled _ _ _ (c.in_ok-ruling.ensures.found told) c.is_some.ensures c.if-is_some.false) in
     subst (λ (d : Disk). IsFormatted (D.size c.args.device.now) d (now s2)) (now_read s0 s1 reads)
     (subst (λ (n : ℕ). IsFormatted n (now s1) (now s2)) c.read_ruling.ensures.size (c.in_ok-clear_and_begin.ensures.formatted told none))
 

@@ -5,15 +5,15 @@ use Rattle.text_import.specs.inner.Capped.{capped, too_large}
 use Rattle.text_import.proofs.NumberLemmas.{digits_of_some, digit_none_at, digit_more_at, digits_end}
 use Rattle.text_import.proofs.flat.digits.Goals as goal
 
-pub returns-then-not-is_digit : goal.returns-then-not-is_digit
-returns-then-not-is_digit c =
+pub returns-then-not-is_ascii_digit : goal.returns-then-not-is_ascii_digit
+returns-then-not-is_ascii_digit c =
     let first = ap (option_map capped) (digits_of_some c.args.text.now (sym c.is_empty.ensures ∙ c.if-is_empty.false)) in
-    let none = digit_none_at c.args.text.now c.loop-byte.number c.loop-byte.byte-index c.loop-byte-test.true (sym c.is_digit.ensures ∙ c.if-not-is_digit.true) in
+    let none = digit_none_at c.args.text.now c.loop-byte.number c.loop-byte.byte-index c.loop-byte-test.true (sym c.is_ascii_digit.ensures.value ∙ c.if-not-is_ascii_digit.true) in
     sym (first ∙ sym c.loop-byte.invariant.rest ∙ none)
 
 pub loop-byte-preserved : goal.loop-byte-preserved
 loop-byte-preserved c =
-    let more = digit_more_at c.args.text.now c.loop-byte.number c.loop-byte.byte-index c.loop-byte-test.true (sym c.is_digit.ensures ∙ c.if-not-is_digit.false) in
+    let more = digit_more_at c.args.text.now c.loop-byte.number c.loop-byte.byte-index c.loop-byte-test.true (sym c.is_ascii_digit.ensures.value ∙ c.if-not-is_ascii_digit.false) in
     let kept : c.min-number.result ≡ min (c.loop-byte.number * 10 + (get_or c.args.text.now c.loop-byte.byte-index 0 - 48)) too_large =
     c.min-number.ensures ∙ ap (λ d. min (c.loop-byte.number * 10 + d) too_large) c.from.ensures in
     record { rest = rw kept (sym more ∙ c.loop-byte.invariant.rest); within = rw kept (omega arith) }

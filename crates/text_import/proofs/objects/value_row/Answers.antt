@@ -1,6 +1,6 @@
 use Rattle.std.proofs.Common.{map}
 use Rattle.cells.specs.View.{cell}
-use Rattle.text_import.proofs.ObjectLemmas.{cells_listed}
+use Rattle.cells.specs.laws.Cells.{cells_listed}
 use Rattle.text_import.proofs.objects.value_row.Goals as goal
 
 pub returns : goal.returns
