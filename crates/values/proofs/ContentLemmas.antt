@@ -1,12 +1,11 @@
 -- The rows of a table, however they are kept.
 use Rattle.std.specs.Prelude.{slice_get, Vec, sum, ◌==◌}
 use Rattle.std.specs.Global.{Global}
-use Rattle.std.proofs.Common.{inl, inr, ◌≡◌, ℕ, ◌+◌, ◌*◌, ◌≤◌, ◌<◌, true, List, [], ◌∷◌, map, length, take, drop, Some, None, refl, ap, sym, ◌∙◌, arith}
+use Rattle.std.proofs.Common.{◌≡◌, ℕ, ◌+◌, ◌*◌, ◌≤◌, ◌<◌, true, List, [], ◌∷◌, map, length, take, drop, Some, None, refl, ap, sym, ◌∙◌, arith}
 use Rattle.std.proofs.lemmas.Bool.{and_parts, eqb-true}
-use Rattle.std.proofs.lemmas.List.{drop_all, drop_more}
 use Rattle.std.proofs.lemmas.List.Elements.{All-get_or}
 use Rattle.std.proofs.lemmas.List.Sums.{sum_by-cons}
-use Rattle.std.proofs.lemmas.Option.{slice_get_past, slice_get_cases, slice_get_within, get_or_from_slice_get}
+use Rattle.std.proofs.lemmas.Option.{slice_get_past, slice_get_within, get_or_from_slice_get}
 use Rattle.arrow_schema.specs.Column.{Columns, columns_of, PlainSchema}
 use Rattle.arrow_schema.specs.declared.types.Schema.{Schema}
 use Rattle.arrow_schema.specs.View.{schema_of}
@@ -42,14 +41,6 @@ length_content s n (InBatches batches) filled =
 -- no row past the last
 pub none_past : (s : Schema) (n : ℕ) (content : Content) (i : ℕ) → is_filled s n content ≡ true → n ≤ i → None ≡ slice_get (rows_of s n content) i
 none_past s n content i filled le = sym (slice_get_past (rows_of s n content) i (omega (arith, length_content s n content filled, le)))
-
--- the rows from a place on
-pub none_left : {X : Type 0} (xs : List X) (i : ℕ) → None ≡ slice_get xs i → drop i xs ≡ []
-none_left xs i h = elim (slice_get_cases xs i).1 [ inl some ↦ (let there = some.2 in cc) | inr past ↦ drop_all i xs past.0 ]
-
-pub next_left : {X : Type 0} (xs : List X) (i : ℕ) (x : X) → Some x ≡ slice_get xs i → drop i xs ≡ x ∷ drop (i + 1) xs
-next_left {X = X} xs i x h =
-    drop_more xs i x (slice_get_within xs i x (sym h)) ∙ ap (λ (y : X). y ∷ drop (i + 1) xs) (get_or_from_slice_get xs i x x (sym h))
 
 -- each row weighs at least one
 pub few_rows : (s : PlainSchema) (rows : List (List Cell)) → length rows ≤ table_weight s rows

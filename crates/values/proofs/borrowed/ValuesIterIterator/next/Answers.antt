@@ -1,6 +1,6 @@
 use Rattle.std.proofs.Common.{length, ap, arith}
 use Rattle.values.specs.Borrowed.{borrowed_cell, borrowed_cells}
-use Rattle.values.proofs.ContentLemmas.{none_left, next_left}
+use Rattle.facts.specs.laws.Lists.{none_left, next_left}
 use Rattle.values.proofs.borrowed.ValuesIterIterator.next.Goals as goal
 
 pub returns-in-None-clause-steps : goal.returns-in-None-clause-steps

@@ -2,7 +2,8 @@ use Rattle.std.proofs.Common.{length, ap, sym, arith}
 use Rattle.std.proofs.lemmas.Option.{slice_get_within}
 use Rattle.values.specs.Borrowed.{borrowed_cells}
 use Rattle.values.specs.TableView.{table_of}
-use Rattle.values.proofs.ContentLemmas.{none_left, next_left, few_rows}
+use Rattle.facts.specs.laws.Lists.{none_left, next_left}
+use Rattle.values.proofs.ContentLemmas.{few_rows}
 use Rattle.values.proofs.rows.RowsIterator.next.Goals as goal
 
 pub returns-in-None-clause-steps : goal.returns-in-None-clause-steps
