@@ -290,6 +290,33 @@ const STOPPED: &[Row] = &[
             (Choice::Lost(u64::MAX), ""),
         ],
     ),
+    // An import over it, in its commit and in the sync behind that: the table is the old one or the new one.
+    (
+        &[Fault::Stop(14)],
+        &[
+            (Format, "ok"),
+            (Create("t", INT), "ok"),
+            (Import("t", Ints(&[7, -1])), "S9 Device"),
+        ],
+        &[
+            (Choice::Old, "t:"),
+            (Choice::New, "t: 7 -1"),
+            (Choice::Lost(u64::MAX), "t:"),
+        ],
+    ),
+    (
+        &[Fault::Stop(15)],
+        &[
+            (Format, "ok"),
+            (Create("t", INT), "ok"),
+            (Import("t", Ints(&[7, -1])), "S9 Device"),
+        ],
+        &[
+            (Choice::Old, "t:"),
+            (Choice::New, "t: 7 -1"),
+            (Choice::Lost(u64::MAX), "t:"),
+        ],
+    ),
     // An opening whose sync fails does not answer what it read.
     (
         &[Fault::Fail(10), Fault::Stop(11)],
