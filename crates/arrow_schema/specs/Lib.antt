@@ -3,7 +3,6 @@ pub mod Parts
 pub mod View
 pub mod Preorder
 pub mod Limits
-pub mod Integers
 pub mod Shape
 pub mod OneShape
 pub mod Keywords

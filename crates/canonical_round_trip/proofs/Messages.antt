@@ -2,11 +2,10 @@
 use Rattle.std.specs.Prelude.{Option, Some, None}
 use Rattle.std.proofs.Common.{◌≡◌, ℕ, zero, suc, ◌<◌, ◌≤◌, Bool, false, List, [], ◌∷◌, ◌++◌, length, drop, Ok, refl, ap, ◌∙◌, arith, append_assoc, length-append}
 use Rattle.flatbuf.specs.Lookup.{number}
-use Rattle.arrow_schema.specs.Integers.{is_empty}
 use Rattle.ipc_message.specs.Framing.{Envelope, message, next_message, taken, marker_faults, metadata_size}
 use Rattle.ipc_message.specs.Framing as framing
 use Rattle.ipc_write.specs.Written.{end_of_stream}
-use Rattle.ipc_stream.specs.Meaning.{◌>>=◌, Known, known_table, read_next, read_from, meaning}
+use Rattle.ipc_stream.specs.Meaning.{◌>>=◌, Known, known_table, read_next, read_from, meaning, is_empty}
 
 -- what follows is read from what is known then, with steps enough
 pub record Goes (supported : ℕ → Bool) (before : Option Known) (after : Known) (bytes rest : List ℕ) (steps : ℕ) : Type 0 where

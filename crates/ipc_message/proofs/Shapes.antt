@@ -4,9 +4,8 @@ use Rattle.std.specs.Prelude.{Option, Some, None, option_map, nat_lt, ifâ—Œthenâ
 use Rattle.std.proofs.lemmas.Option.{cond_some, same_Some, none-some}
 use Rattle.std.specs.Str.{is_utf8}
 use Rattle.std.proofs.lemmas.Str.{is_utf8-from_IsUtf8, IsUtf8-nil}
-use Rattle.arrow_schema.specs.Column.{Kind, Column, nulls, booleans, integers, dates, timestamps, texts, large_texts, binaries, large_binaries, fixed_binaries, lists, large_lists, fixed_lists, columns_of}
+use Rattle.arrow_schema.specs.Column.{Kind, Column, nulls, booleans, integers, dates, timestamps, texts, large_texts, binaries, large_binaries, fixed_binaries, lists, large_lists, fixed_lists, columns_of, is_bit_width}
 use Rattle.arrow_schema.specs.Preorder.{preorder_below, depth_below, preorder_all, depth_all}
-use Rattle.arrow_schema.specs.Integers.{is_bit_width}
 use Rattle.arrow_schema.specs.Limits as limits
 use Rattle.ipc_message.specs.declared.fault.TypeName.{TypeName}
 use Rattle.ipc_message.specs.declared.fault.TypeName.TheVariants as types

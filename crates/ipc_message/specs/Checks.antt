@@ -8,9 +8,8 @@ use Rattle.ipc_message.specs.declared.type_codes.TheConstants.{NONE}
 use Rattle.ipc_message.specs.declared.fault.Fault.{Fault}
 use Rattle.ipc_message.specs.declared.fault.Fault.TheVariants.{BigEndian, TypeNotHeld, BadParameter, SchemaLimit, NotUtf8, DictionaryId, DictionaryOfNested}
 use Rattle.arrow_schema.specs.declared.limits.TheConstants.{MAX_FIELDS, MAX_DEPTH, MAX_PAIRS, MAX_TEXT_BYTES}
-use Rattle.arrow_schema.specs.Column.{PlainSchema}
+use Rattle.arrow_schema.specs.Column.{PlainSchema, is_bit_width}
 pub use Rattle.arrow_schema.specs.Limits.{texts_of_pairs}
-use Rattle.arrow_schema.specs.Integers.{is_bit_width}
 use Rattle.ipc_message.specs.Raw.{RawParameters, RawEncoding, RawField, raw_fields_of, timestamp_parameters, RawSchema}
 use Rattle.ipc_message.specs.Framing.{first_some, unless, when}
 use Rattle.ipc_message.specs.Fields.{every_field, depth_all, name_of, code_of, parameters_of, dictionary_of, children_of, pairs_of}

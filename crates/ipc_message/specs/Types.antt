@@ -3,8 +3,7 @@ use Rattle.std.specs.Prelude.{ℕ, ◌^◌, Bool, false, ◌==◌, nat_lt, if◌
 use Rattle.ipc_message.specs.declared.type_codes.TheConstants.{NULL, INT, FLOATING_POINT, BINARY, UTF8, BOOL, DECIMAL, DATE, TIME, TIMESTAMP, INTERVAL, LIST, STRUCT, UNION, FIXED_SIZE_BINARY, FIXED_SIZE_LIST, MAP, DURATION, LARGE_BINARY, LARGE_UTF8, LARGE_LIST, RUN_END_ENCODED, BINARY_VIEW, UTF8_VIEW, LIST_VIEW, LARGE_LIST_VIEW}
 use Rattle.ipc_message.specs.declared.fault.TypeName.{TypeName}
 use Rattle.ipc_message.specs.declared.fault.TypeName.TheVariants as types
-use Rattle.arrow_schema.specs.Column.{Kind, Column, DateKind, days, date_milliseconds, TimeKind, seconds, milliseconds, microseconds, nanoseconds, nulls, booleans, integers, dates, timestamps, texts, large_texts, binaries, large_binaries, fixed_binaries, lists, large_lists, fixed_lists, structs, columns_of}
-use Rattle.arrow_schema.specs.Integers.{is_bit_width}
+use Rattle.arrow_schema.specs.Column.{Kind, Column, DateKind, days, date_milliseconds, TimeKind, seconds, milliseconds, microseconds, nanoseconds, nulls, booleans, integers, dates, timestamps, texts, large_texts, binaries, large_binaries, fixed_binaries, lists, large_lists, fixed_lists, structs, columns_of, is_bit_width}
 use Rattle.ipc_message.specs.Raw.{RawParameters, integer_parameters, byte_width, list_size, date_unit, timestamp_parameters}
 
 -- the name of a type code

@@ -6,8 +6,7 @@ ghost use Rattle.arrow_schema.specs.View.{bits_of, index_of, date_kind, time_kin
 ghost use Rattle.ipc_message.specs.Raw.{raw_fields_of};
 ghost use Rattle.ipc_message.specs.Fields.{preorder, preorder_all};
 ghost use Rattle.ipc_message.specs.Types.{integer, date, timestamp, fixed_binary, has_list_size, fixed_list, decoded_type};
-ghost use Rattle.arrow_schema.specs.Integers.{is_bit_width};
-ghost use Rattle.arrow_schema.specs.Column.{Column, fixed_lists};
+ghost use Rattle.arrow_schema.specs.Column.{Column, fixed_lists, is_bit_width};
 ghost use Rattle.ipc_message.specs.Types as decoded;
 ghost use Rattle.ipc_message.specs.Convert.{column_of_field, columns_of_fields, plain_schema_of};
 ghost use Rattle.ipc_message.specs.Convert as convert;

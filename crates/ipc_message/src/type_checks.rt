@@ -1,7 +1,6 @@
 // Whether a field decodes to a type that there is: its width, size, unit and children.
 ghost use Rattle.std.specs.Prelude.{◌≡◌, List, is_some, length, option_map};
-ghost use Rattle.arrow_schema.specs.Column.{Column};
-ghost use Rattle.arrow_schema.specs.Integers.{is_bit_width};
+ghost use Rattle.arrow_schema.specs.Column.{Column, is_bit_width};
 ghost use Rattle.ipc_message.specs.Types.{integer, date, timestamp, fixed_binary, has_list_size, decoded_type};
 ghost use Rattle.ipc_message.specs.Checks.{has_type, is_index_type, is_bad};
 ghost use Rattle.ipc_message.specs.View.{raw_field_of, parameters_of, encoding_of};

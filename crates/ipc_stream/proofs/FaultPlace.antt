@@ -2,7 +2,6 @@
 use Rattle.std.specs.Prelude.{Option, Some, None}
 use Rattle.std.proofs.Common.{◌≡◌, ℕ, zero, suc, ◌+◌, ◌-◌, ◌≤◌, ◌<◌, Bool, false, List, [], ◌∷◌, length, drop, Ok, Err, refl, sym, ap, ◌∙◌, arith}
 use Rattle.std.proofs.lemmas.List.{length-drop}
-use Rattle.arrow_schema.specs.Integers.{is_empty}
 use Rattle.cells.specs.Cell.{PlainTable}
 use Rattle.ipc_message.specs.declared.fault.Fault.{Fault}
 use Rattle.ipc_message.specs.Framing.{Envelope, Frames, Framed, next_message, marker_faults, end_of_stream, message, taken}
@@ -12,7 +11,7 @@ use Rattle.ipc_stream.proofs.NextMessageLaw.{NextMessageLaw}
 use Rattle.ipc_stream.proofs.ReadMessages.{read_goes}
 use Rattle.ipc_stream.specs.FramedFault.{IsRefused, no_next_message, bad_message, nothing, only_end_of_stream, after_end_of_stream, FaultStands}
 use Rattle.ipc_stream.specs.FramedTable.{AreRead}
-use Rattle.ipc_stream.specs.Meaning.{Known, meaning}
+use Rattle.ipc_stream.specs.Meaning.{Known, meaning, is_empty}
 use Rattle.ipc_stream.specs.Place.{accepted, bytes_taken, place_of}
 
 -- what is refused has no message that is accepted

@@ -3,7 +3,6 @@ use Rattle.std.specs.Prelude.{◌≢◌, Option, Some, None}
 use Rattle.std.proofs.Common.{◌≡◌, ℕ, zero, suc, ◌+◌, ◌-◌, ◌<◌, Bool, false, List, [], ◌∷◌, ◌++◌, length, drop, Result, Ok, Err, inl, inr, refl, sym, ap, ◌∙◌, arith, append_assoc, length-append}
 use Rattle.std.proofs.Math.Seq.{drop-append_seam}
 use Rattle.std.proofs.lemmas.List.{length-drop}
-use Rattle.arrow_schema.specs.Integers.{is_empty}
 use Rattle.cells.specs.Cell.{PlainTable}
 use Rattle.ipc_message.specs.declared.fault.Fault.{Fault}
 use Rattle.ipc_message.specs.Framing.{Envelope, NextMessage, Frames, Framed, next_message, marker_faults, end_of_stream, message, taken, continuation_marker}
@@ -13,7 +12,7 @@ use Rattle.ipc_stream.proofs.ReadMessages.{read_goes, batches_keep}
 use Rattle.ipc_stream.proofs.Steps.{step_on}
 use Rattle.ipc_stream.specs.FramedFault.{IsRefused, no_next_message, bad_message, nothing, only_end_of_stream, after_end_of_stream, FaultStands}
 use Rattle.ipc_stream.specs.FramedTable.{IsEnd, AreRead, StreamEncodes}
-use Rattle.ipc_stream.specs.Meaning.{Known, known_first, known_table, read_from, meaning, ◌>>=◌}
+use Rattle.ipc_stream.specs.Meaning.{Known, known_first, known_table, read_from, meaning, ◌>>=◌, is_empty}
 
 not_empty : (bytes : List ℕ) → bytes ≢ [] → is_empty bytes ≡ false
 not_empty [] some = absurd (some refl)

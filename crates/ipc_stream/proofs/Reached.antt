@@ -4,7 +4,6 @@ use Rattle.std.proofs.Common.{◌≡◌, ℕ, zero, suc, ◌+◌, ◌-◌, ◌<�
 use Rattle.std.proofs.lemmas.List.{length-drop, drop-drop, drop-append-le, append-nil}
 use Rattle.std.proofs.lemmas.List.{append_assoc}
 use Rattle.std.proofs.lemmas.List.Sums.{sum_by-append}
-use Rattle.arrow_schema.specs.Integers.{is_empty}
 use Rattle.ipc_message.specs.declared.error.ImportError.{ImportError}
 use Rattle.ipc_message.specs.declared.error.ImportError.TheVariants as errors
 use Rattle.ipc_message.specs.declared.fault.Fault.{Fault}
@@ -15,7 +14,7 @@ use Rattle.ipc_message.specs.Outcome.{Fails}
 use Rattle.ipc_stream.specs.declared.front.Front.{Front}
 use Rattle.ipc_stream.specs.declared.reading.Reading.{Reading}
 use Rattle.ipc_stream.specs.Fed.{settled_fault, unless_cut_off, held_of, after_whole}
-use Rattle.ipc_stream.specs.Meaning.{Known, read_next, read_from, known_at_end, known_at_end_of_stream, meaning}
+use Rattle.ipc_stream.specs.Meaning.{Known, read_next, read_from, known_at_end, known_at_end_of_stream, meaning, is_empty}
 use Rattle.ipc_stream.specs.Place.{accepted, bytes_taken, place_of}
 use Rattle.ipc_stream.specs.Progress.{IsBefore, GivesFront}
 use Rattle.ipc_stream.specs.inner.Reached.{IsReadTo, Rests, StoppedBy, EndsReading, BeginsAt, known_from, after_all, accepted_from}

@@ -2,12 +2,11 @@
 use Rattle.std.specs.Prelude.{Option, Some, None}
 use Rattle.std.proofs.Common.{◌≡◌, ℕ, zero, suc, ◌<◌, ◌≤◌, false, List, [], ◌∷◌, ◌++◌, length, drop, Result, Ok, Err, refl, ap, sym, ◌∙◌, arith, length-append}
 use Rattle.std.proofs.lemmas.List.{length-drop, drop-append-le}
-use Rattle.arrow_schema.specs.Integers.{is_empty}
 use Rattle.ipc_message.specs.declared.fault.Fault.{Fault}
 use Rattle.ipc_message.specs.declared.fault.Fault.TheVariants.{Truncated}
 use Rattle.ipc_message.specs.Framing.{Envelope, NextMessage, end_of_stream, message, next_message, taken, fault_of}
 use Rattle.ipc_message.specs.Header.{supported_codes}
-use Rattle.ipc_stream.specs.Meaning.{Known, read_next, read_from, known_at_end_of_stream, known_table, meaning, ◌>>=◌}
+use Rattle.ipc_stream.specs.Meaning.{Known, read_next, read_from, known_at_end_of_stream, known_table, meaning, ◌>>=◌, is_empty}
 use Rattle.ipc_stream.specs.Fed.{settled_fault, unless_cut_off}
 use Rattle.ipc_stream.proofs.Steps.{taken_some, step_end, step_fault, step_end_of_stream, step_refused, step_on}
 use Rattle.ipc_stream.proofs.Longer.{next_longer, next_taken}

@@ -3,7 +3,6 @@ use Rattle.std.specs.Prelude.{Option, Some}
 use Rattle.std.proofs.Common.{◌≡◌, ℕ, suc, ◌+◌, ◌<◌, ◌≤◌, Bool, false, List, [], ◌∷◌, ◌++◌, length, drop, take, Ok, Err, refl, ap, sym, ◌∙◌, arith}
 use Rattle.std.proofs.Math.Seq.{drop-append-add, drop-append_seam, take-append_seam}
 use Rattle.std.proofs.lemmas.List.{drop-drop}
-use Rattle.arrow_schema.specs.Integers.{is_empty}
 use Rattle.ipc_message.specs.declared.fault.Fault.{Fault}
 use Rattle.ipc_message.specs.declared.message.Message as code_message
 use Rattle.ipc_message.specs.declared.message.NextMessage as code_next_message
@@ -11,7 +10,7 @@ use Rattle.ipc_message.specs.declared.message.NextMessage.TheVariants as next_me
 use Rattle.ipc_message.specs.Messages.{next_message_of}
 use Rattle.ipc_message.specs.Framing.{Envelope, NextMessage, end_of_stream, message, next_message, taken, Framed, continuation_marker}
 use Rattle.ipc_message.specs.Header.{supported_codes}
-use Rattle.ipc_stream.specs.Meaning.{Known, read_next, read_from, known_at_end, known_at_end_of_stream}
+use Rattle.ipc_stream.specs.Meaning.{Known, read_next, read_from, known_at_end, known_at_end_of_stream, is_empty}
 
 -- ---- the body of a message
 

@@ -7,7 +7,6 @@ use Rattle.std.proofs.lemmas.List.Sums.{AllPass-from_list_all}
 use Rattle.facts.specs.Bytes.{AreBytes}
 use Rattle.facts.specs.laws.Checks.{unless_passed}
 use Rattle.arrow_schema.specs.Column.{PlainSchema, columns_of}
-use Rattle.arrow_schema.specs.Integers.{is_empty}
 use Rattle.arrow_schema.specs.Limits.{IsWithinLimits}
 use Rattle.cells.specs.Cell.{PlainTable}
 use Rattle.cells.specs.Row.{is_row}
@@ -22,7 +21,7 @@ use Rattle.ipc_message.specs.Framing.{Envelope, NextMessage, end_of_stream, mess
 use Rattle.ipc_message.specs.Header.{header}
 use Rattle.ipc_message.specs.Raw.{RawSchema, RawHeader, schema_header, dictionary_header, batch_header}
 use Rattle.values.specs.Table.{IsTable}
-use Rattle.ipc_stream.specs.Meaning.{Known, known_first, known_table, with_dictionary, with_rows, order_fault, read_after, read_header, read_next, known_at_end, known_at_end_of_stream, by_next_message, read_from, meaning, ◌>>=◌}
+use Rattle.ipc_stream.specs.Meaning.{Known, known_first, known_table, with_dictionary, with_rows, order_fault, read_after, read_header, read_next, known_at_end, known_at_end_of_stream, by_next_message, read_from, meaning, ◌>>=◌, is_empty}
 use Rattle.ipc_stream.specs.Progress.{known_batch}
 use Rattle.ipc_stream.proofs.Batches.{RowLaws, IsKnown, all_small, dropped_small, table_after}
 use Rattle.ipc_stream.proofs.Firsts.{reported_ok}

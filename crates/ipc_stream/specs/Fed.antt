@@ -1,10 +1,9 @@
 -- What a decoder answers that is fed a stream in pieces: a function of all the bytes so far, wherever they were cut.
 use Rattle.std.specs.Prelude.{ℕ, zero, suc, Bool, List, length, drop, Option, Some, None, is_some, Result, Ok, Err, if◌then◌else◌}
-use Rattle.arrow_schema.specs.Integers.{is_empty}
 use Rattle.ipc_message.specs.declared.fault.Fault.{Fault}
 use Rattle.ipc_message.specs.declared.fault.Fault.TheVariants.{Truncated}
 use Rattle.ipc_message.specs.Framing.{NextMessage, next_message, taken, fault_of}
-use Rattle.ipc_stream.specs.Meaning.{meaning}
+use Rattle.ipc_stream.specs.Meaning.{meaning, is_empty}
 
 -- a message that is cut off may go on
 abbrev pub unless_cut_off : Option Fault → Option Fault

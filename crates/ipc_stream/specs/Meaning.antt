@@ -1,8 +1,7 @@
 -- What a stream of bytes means: a table, or the first fault (Arrow columnar format, "IPC Streaming Format"). `supported` says which type codes are
 -- supported.
-use Rattle.std.specs.Prelude.{ℕ, zero, suc, Bool, not, ◌==◌, List, [], ◌∷◌, ◌++◌, length, drop, Option, Some, None, Result, Ok, Err, if◌then◌else◌}
+use Rattle.std.specs.Prelude.{ℕ, zero, suc, Bool, true, false, not, ◌==◌, List, [], ◌∷◌, ◌++◌, length, drop, Option, Some, None, Result, Ok, Err, if◌then◌else◌}
 use Rattle.arrow_schema.specs.Column.{PlainSchema, columns_of}
-use Rattle.arrow_schema.specs.Integers.{is_empty}
 use Rattle.cells.specs.Cell.{Cell, PlainTable}
 use Rattle.cells.specs.Weight.{table_weight}
 use Rattle.columns.specs.CellAt.{rows_in}
@@ -22,6 +21,10 @@ infixl 10 ◌>>=◌
 abbrev pub ◌>>=◌ : {A B : Type 0} → Result A Fault → (A → Result B Fault) → Result B Fault
 (Ok x) >>= f = f x
 (Err e) >>= f = Err e
+
+abbrev pub is_empty : {A : Type 0} → List A → Bool
+is_empty [] = true
+is_empty (x ∷ xs) = false
 
 -- ---- what is known in the middle of a stream
 

@@ -4,7 +4,7 @@ use Rattle.std.proofs.Common.{◌≡◌, ℕ, ◌-◌, ◌*◌, ◌/◌, ◌^◌
 use Rattle.std.proofs.lemmas.Bool.{cases_lt, and_from, le-ltb, lt-ltb}
 use Rattle.std.proofs.lemmas.Bool.Decides.{nat_tests}
 use Rattle.std.proofs.lemmas.Int.{ints}
-use Rattle.arrow_schema.specs.Integers.{is_bit_width}
+use Rattle.arrow_schema.specs.Column.{is_bit_width}
 use Rattle.cells.specs.Fit.{in_range}
 use Rattle.cells.specs.Integers.{integer_of}
 

@@ -3,7 +3,6 @@ use Rattle.std.proofs.Common.{◌≡◌, ℕ, zero, suc, Bool, true, false, List
 use Rattle.std.specs.Prelude.{Option, Some, None, if◌then◌else◌}
 use Rattle.facts.specs.laws.Checks.{unless_passed}
 use Rattle.arrow_schema.specs.Column.{PlainSchema, columns_of}
-use Rattle.arrow_schema.specs.Integers.{is_empty}
 use Rattle.cells.specs.Cell.{PlainTable}
 use Rattle.columns.specs.CellAt.{rows_in}
 use Rattle.arrays.specs.Dictionaries.{dictionary_read}
@@ -14,7 +13,7 @@ use Rattle.ipc_message.specs.Convert.{plain_schema_of}
 use Rattle.ipc_message.specs.Framing.{Envelope, NextMessage, end_of_stream, message, next_message, taken, first_some, unless, type_of}
 use Rattle.ipc_message.specs.Header.{header}
 use Rattle.ipc_message.specs.Raw.{RawSchema, RawHeader, schema_header, dictionary_header, batch_header}
-use Rattle.ipc_stream.specs.Meaning.{Known, known_first, known_table, with_dictionary, with_rows, order_fault, read_after, read_header, read_next, known_at_end, known_at_end_of_stream, by_next_message, read_from, meaning, ◌>>=◌}
+use Rattle.ipc_stream.specs.Meaning.{Known, known_first, known_table, with_dictionary, with_rows, order_fault, read_after, read_header, read_next, known_at_end, known_at_end_of_stream, by_next_message, read_from, meaning, ◌>>=◌, is_empty}
 use Rattle.ipc_stream.specs.Progress.{known_batch}
 
 -- it is framed, its header is that of a schema, and this schema passes the checks
