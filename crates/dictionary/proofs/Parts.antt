@@ -1,5 +1,4 @@
 -- One more part.
-use Rattle.std.specs.List.{AllByRecursion}
 use Rattle.columns.specs.declared.array.PlacedArray.{PlacedArray}
 use Rattle.columns.specs.declared.array.Dictionary.{Dictionary}
 use Rattle.columns.specs.declared.array.DictionaryPart.{DictionaryPart}
@@ -8,10 +7,6 @@ use Rattle.dictionary.specs.InEffect.{DictionaryBatch, in_effect}
 use Rattle.dictionary.specs.Kept.{Kept, HasInEffect, arrays_for, known_arrays, lists_of}
 use Rattle.std.proofs.Common.{◌≡◌, ℕ, ◌+◌, ◌<◌, List, [], ◌∷◌, ◌++◌, length, get_or, map, take, ap, sym, ◌∙◌}
 use Rattle.std.proofs.lemmas.List.{map-append, take_more}
-
-pub all_more : {X : Type 0} (P : X → Type 0) (xs : List X) (x : X) → AllByRecursion P xs → P x → AllByRecursion P (xs ++ x ∷ [])
-all_more P [] x all one = (one, tt)
-all_more P (y ∷ xs) x all one = (all.0, all_more P xs x all.1 one)
 
 -- what is mapped so far, with the next of the ids
 pub map_next : {X Y : Type 0} (f : X → Y) (g : ℕ → Y) (xs : List X) (x : X) (ids : List ℕ) (i : ℕ) → map f xs ≡ map g (take i ids) → f x ≡ g (get_or ids i 0) → i < length ids

@@ -6,7 +6,8 @@ use Rattle.columns.specs.View.{arrays_in}
 use Rattle.dictionary.specs.InEffect.{in_effect}
 use Rattle.dictionary.specs.Kept.{IsPart}
 use Rattle.columns.specs.Within.{stands_within}
-use Rattle.dictionary.proofs.Parts.{all_more, map_next}
+use Rattle.dictionary.proofs.Parts.{map_next}
+use Rattle.facts.specs.laws.Lists.{all_more}
 use Rattle.dictionary.proofs.Within.{all_more_pass, part_within}
 use Rattle.dictionary.proofs.dictionaries.Dictionaries.parts.Goals as goal
 
