@@ -5,7 +5,7 @@ SOURCES := $(shell find crates.txt crates -name out -prune -o -type f -print)
 REFUSING := $(sort $(shell grep -rl _also_without_memory crates/*/src | cut -d/ -f2))
 TESTS := $(foreach crate,$(REFUSING),crates/$(crate)/out/$(crate)_tests)
 
-.PHONY: all test gate-cost memory vectors bench bench-recode bench-texts bench-store bench-device bench-bitmap
+.PHONY: all test gate-cost edit-reasons memory vectors bench bench-recode bench-texts bench-store bench-device bench-bitmap
 .DELETE_ON_ERROR:
 
 # Builds the program and runs it once, on the stream of examples/.
@@ -37,6 +37,10 @@ test:
 # The same, and what it cost crate by crate (docs/gate.md).
 gate-cost:
 	tests/gate_cost $(MAKE) --no-print-directory test
+
+# Why each must-fail edit is refused (docs/gate.md).
+edit-reasons:
+	tests/edit_reasons
 
 # Calls of single crates with each allocation refused.
 memory: $(TESTS)
