@@ -1,4 +1,4 @@
-use Rattle.std.proofs.Common.{◌≡◌, ◌+◌, [], length, get_or, ◌∙◌, refl, subst, arith}
+use Rattle.std.proofs.Common.{◌≡◌, [], length, get_or, ◌∙◌, refl, subst, arith}
 use Rattle.sector_dev.specs.laws.Time.{stays, goes_on}
 use Rattle.segments.specs.inner.Rows.{sectors_from}
 use Rattle.segments.specs.Writing.{writes_from, GrowsBy}
