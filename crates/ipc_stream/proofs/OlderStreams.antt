@@ -113,6 +113,6 @@ pub table_kept : NamedCodes → StaySupported → (fewer more : ℕ → Bool) (b
 table_kept law stay fewer more bytes t kept means =
     let begins = means_begins fewer bytes t means in
     let codes : codes_named bytes ≡ codes_of (schema_header begins.schema) =
-        ap codes_of_next begins.found ∙ sym (law.named fewer begins.first.metadata) ∙ ap codes_of (header_is fewer begins.first.metadata (schema_header begins.schema) begins.decoded) in
+    ap codes_of_next begins.found ∙ sym (law.named fewer begins.first.metadata) ∙ ap codes_of (header_is fewer begins.first.metadata (schema_header begins.schema) begins.decoded) in
     let alike = subst (SupportAlike more fewer) (sym codes) (stay.checked fewer more begins.schema t.schema kept begins.checked) in
     meaning_alike law more fewer bytes alike ∙ means
