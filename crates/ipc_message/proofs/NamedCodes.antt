@@ -174,7 +174,8 @@ header_alike supported other metadata alike =
 -- ---- only a schema names codes
 
 no_schema : (left : ℕ) (bytes : List ℕ) (t : Option Place) (schema dictionary batch : Bool) → schema ≡ false
-    → codes_of (header_by_type (λ code. false) left bytes t (unwrap_or (if schema then Some Schema else if dictionary then Some DictionaryBatch else if batch then Some RecordBatch else None) RecordBatch)) ≡ []
+    → codes_of (header_by_type (λ code. false) left bytes t
+    (unwrap_or (if schema then Some Schema else if dictionary then Some DictionaryBatch else if batch then Some RecordBatch else None) RecordBatch)) ≡ []
 no_schema left bytes t true dictionary batch other = absurd (true≢false other)
 no_schema left bytes t false true batch other = refl
 no_schema left bytes t false false true other = refl

@@ -28,8 +28,10 @@ pub fn checked_schema_is_within_limits()
 pub fn only_named_codes_matter()
     ensures named { (supported : ℕ → Bool) (metadata : List ℕ) → codes_of (header_of supported metadata) ≡ codes_in metadata }
     ensures schemas { (metadata : List ℕ) → type_of metadata ≢ SCHEMA → codes_in metadata ≡ [] }
-    ensures header { (supported other : ℕ → Bool) (metadata : List ℕ) → SupportAlike supported other (codes_in metadata) → header supported metadata ≡ header other metadata }
-    ensures checks { (supported other : ℕ → Bool) (s : RawSchema) → SupportAlike supported other (codes_of (schema_header s)) → schema_checks supported s ≡ schema_checks other s }
+    ensures header { (supported other : ℕ → Bool) (metadata : List ℕ) → SupportAlike supported other (codes_in metadata)
+        → header supported metadata ≡ header other metadata }
+    ensures checks { (supported other : ℕ → Bool) (s : RawSchema) → SupportAlike supported other (codes_of (schema_header s))
+        → schema_checks supported s ≡ schema_checks other s }
 {}
 
 /// Of the codes that a stream names the same are supported as before: where it names no later code, and where its schema was read and more codes are

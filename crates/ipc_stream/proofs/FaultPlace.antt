@@ -1,10 +1,10 @@
 -- The messages before a fault that stands are those that are accepted, so that it stands where its place says.
 use Rattle.std.specs.Prelude.{Option, Some, None}
-use Rattle.std.proofs.Common.{◌≡◌, ℕ, zero, suc, ◌+◌, ◌-◌, ◌≤◌, ◌<◌, Bool, false, List, [], ◌∷◌, length, drop, Ok, Err, refl, sym, ap, ◌∙◌, arith}
+use Rattle.std.proofs.Common.{◌≡◌, ℕ, zero, suc, ◌+◌, ◌-◌, ◌≤◌, ◌<◌, Bool, List, [], ◌∷◌, length, drop, Ok, refl, sym, ap, ◌∙◌, arith}
 use Rattle.std.proofs.lemmas.List.{length-drop}
 use Rattle.cells.specs.Cell.{PlainTable}
 use Rattle.ipc_message.specs.declared.fault.Fault.{Fault}
-use Rattle.ipc_message.specs.Framing.{Envelope, Frames, Framed, next_message, marker_faults, end_of_stream, message, taken}
+use Rattle.ipc_message.specs.Framing.{Envelope, Frames, Framed, next_message, marker_faults, message}
 use Rattle.ipc_stream.proofs.BadMessages.{bad_is_refused}
 use Rattle.ipc_stream.proofs.FramedBack.{fault_reported, follows, some_length, some_next_message}
 use Rattle.ipc_stream.proofs.NextMessageLaw.{NextMessageLaw}

@@ -1,6 +1,6 @@
 -- What a stream means depends on the supported codes that its first message names, and on no other.
 use Rattle.std.proofs.Common.{◌≡◌, ℕ, zero, suc, ◌==◌, Bool, true, false, List, [], length, drop, Result, Ok, Err, refl, sym, ap, subst, ◌∙◌}
-use Rattle.std.specs.Prelude.{◌≢◌, Option, Some, None, if◌then◌else◌}
+use Rattle.std.specs.Prelude.{◌≢◌, Some, None, if◌then◌else◌}
 use Rattle.std.proofs.lemmas.Bool.{eqb-false}
 use Rattle.flatbuf.specs.declared.FlatError.{FlatError}
 use Rattle.flatbuf.specs.Walk.{run}
@@ -113,6 +113,6 @@ pub table_kept : NamedCodes → StaySupported → (fewer more : ℕ → Bool) (b
 table_kept law stay fewer more bytes t kept means =
     let begins = means_begins fewer bytes t means in
     let codes : codes_named bytes ≡ codes_of (schema_header begins.schema) =
-        ap codes_of_next begins.found ∙ sym (law.named fewer begins.first.metadata) ∙ ap codes_of (header_is fewer begins.first.metadata (schema_header begins.schema) begins.decoded) in
+    ap codes_of_next begins.found ∙ sym (law.named fewer begins.first.metadata) ∙ ap codes_of (header_is fewer begins.first.metadata (schema_header begins.schema) begins.decoded) in
     let alike = subst (SupportAlike more fewer) (sym codes) (stay.checked fewer more begins.schema t.schema kept begins.checked) in
     meaning_alike law more fewer bytes alike ∙ means

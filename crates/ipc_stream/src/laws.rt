@@ -64,7 +64,8 @@ pub fn settled_faults_stay()
 /// Whether a type code is supported matters only to the streams whose schema names it. So a stream that names no later code has the meaning that it had before
 /// these were supported, its table or its fault. And a table that a stream means stays its meaning, whichever codes are supported beside.
 pub fn older_streams_keep_their_meaning()
-    ensures named { (supported other : ℕ → Bool) (bytes : List ℕ) → SupportAlike supported other (codes_named bytes) → meaning supported bytes ≡ meaning other bytes }
+    ensures named { (supported other : ℕ → Bool) (bytes : List ℕ) → SupportAlike supported other (codes_named bytes)
+        → meaning supported bytes ≡ meaning other bytes }
     ensures older { (bytes : List ℕ) → names_no_later_code bytes ≡ true → meaning supported_codes bytes ≡ meaning earlier_codes bytes }
     ensures tables { (fewer more : ℕ → Bool) (bytes : List ℕ) (t : PlainTable) → ((code : ℕ) → fewer code ≡ true → more code ≡ true)
         → meaning fewer bytes ≡ Ok t → meaning more bytes ≡ Ok t }
