@@ -1,5 +1,5 @@
 -- An order to a key is that of an integer to a literal.
-use Rattle.std.proofs.Common.{◌≡◌, ◌≢◌, inl, inr, ℕ, zero, suc, ◌+◌, ◌-◌, ◌*◌, ◌/◌, ◌%◌, ◌^◌, ◌<◌, Bool, true, false, List, [], ◌∷◌, ◌==◌, get_or, map, drop, refl, sym, ap, ◌∙◌, arith}
+use Rattle.std.proofs.Common.{◌≡◌, ◌≢◌, inl, inr, ℕ, zero, suc, ◌+◌, ◌-◌, ◌*◌, ◌/◌, ◌%◌, ◌^◌, ◌<◌, Bool, true, false, List, ◌==◌, get_or, map, drop, refl, sym, ap, ◌∙◌, arith}
 use Rattle.std.specs.Prelude.{ℤ, pos, negsuc, nat_abs, T, ◌+ℤ◌, ◌-ℤ◌, ◌<ℤ◌, ◌≤ℤ◌, nat_lt, ◌&&◌, if◌then◌else◌}
 use Rattle.std.specs.List.{range_with_len}
 use Rattle.std.specs.declared.cmp.Ordering.{Ordering}
@@ -25,6 +25,7 @@ use Rattle.query.specs.Bound.{accepts}
 use Rattle.query.specs.inner.Slots.{width_of, is_valid_in, holds_in}
 use lib.Signed.{non_neg}
 use Rattle.query.specs.inner.Cuts.{bias_in, moved, answer_at, IsCut}
+use Rattle.query.proofs.Maps.{maps_same}
 
 -- ---- numbers that are not negative
 
@@ -167,10 +168,6 @@ little_below (suc n) i bytes fit =
 
 number_below : (k i : ℕ) (values : List ℕ) → ((j : ℕ) → get_or values j 0 < 256) → number_at k values i < 256 ^ k
 number_below k i values fit = little_below k 0 (drop (i * k) values) (λ j. omega (arith, fit (i * k + j), get_or-drop (i * k) values j 0))
-
-maps_same : {X Y : Type 0} (f g : X → Y) → ((x : X) → f x ≡ g x) → (xs : List X) → map f xs ≡ map g xs
-maps_same f g h [] = refl
-maps_same {X} {Y} f g h (x ∷ xs) = ap (λ (y : Y). y ∷ map f xs) (h x) ∙ ap (λ (ys : List Y). g x ∷ ys) (maps_same f g h xs)
 
 -- what is answered of slots, where they are valid
 pub answers_hold : (c : Comparison) (cut : Cut) (validity values : List ℕ) (first n : ℕ) → IsCut c.integer c.operator c.literal cut → ((j : ℕ) → get_or values j 0 < 256)

@@ -15,6 +15,7 @@ use Rattle.query.specs.Selection.{holds_all}
 use Rattle.query.specs.declared.bound.Bound as code
 use Rattle.query.specs.inner.BoundView.{bound_in}
 use Rattle.query.specs.inner.Masks.{IsMask}
+use Rattle.query.proofs.Maps.{maps_same}
 
 lt-suc : (i n : ℕ) → nat_lt (suc i) (suc n) ≡ nat_lt i n
 lt-suc i n = grind (arith, nat_tests)
@@ -24,10 +25,6 @@ joined_at : {X : Type 0} (p q : X → Bool) (xs : List X) (i : ℕ)
 joined_at p q [] i = and_right (nat_lt i 0) false refl
 joined_at p q (x ∷ xs) zero = rw (lt-ltb 0 (suc (length xs)) (omega arith)) refl
 joined_at p q (x ∷ xs) (suc i) = rw (lt-suc i (length xs)) (joined_at p q xs i)
-
-maps_same : {X : Type 0} (f g : X → Bool) → ((x : X) → f x ≡ g x) → (xs : List X) → map f xs ≡ map g xs
-maps_same f g h [] = refl
-maps_same f g h (x ∷ xs) = rw (h x, maps_same f g h xs) refl
 
 pub joined_mask : {X : Type 0} (a b c : List ℕ) (p q r : X → Bool) (xs : List X) → ((x : X) → r x ≡ (p x && q x)) → IsMask a (map p xs) → IsMask b (map q xs)
     → ((i : ℕ) → bit c i ≡ both a b (length xs) i) → length c ≡ bytes_of (length xs) → IsMask c (map r xs)

@@ -10,6 +10,7 @@ use Rattle.byteorder.specs.Endian.{little_from}
 use Rattle.query.specs.declared.cut.Cut.{Cut}
 use Rattle.columns.specs.CellAt.{number_at}
 use Rattle.query.specs.inner.Cuts.{answer, moved, answer_at}
+use Rattle.query.proofs.Maps.{maps_same}
 use mir.Syntax.{Width}
 use mir.Val.{bits, hbits, bool_byte}
 
@@ -74,10 +75,6 @@ test_of false true b true a = refl
 test_of false true b false a = refl
 test_of false false b e true = refl
 test_of false false b e false = refl
-
-maps_same : {X Y : Type 0} (f g : X → Y) → ((x : X) → f x ≡ g x) → (xs : List X) → map f xs ≡ map g xs
-maps_same f g h [] = refl
-maps_same {X} {Y} f g h (x ∷ xs) = ap (λ (y : Y). y ∷ map f xs) (h x) ∙ ap (λ (ys : List Y). g x ∷ ys) (maps_same f g h xs)
 
 -- the bits of lanes, where each has the answer of its number
 answers_of : (w : Width) (cut : Cut) (numbers : List ℕ) (n b e a : ℕ) → b ≡ bool_byte cut.below → e ≡ bool_byte cut.equal → a ≡ bool_byte cut.above → length numbers ≡ n → n ≤ 64

@@ -13,6 +13,7 @@ pub mod MadeTables
 pub mod Numbers
 pub mod Lines
 pub mod SlotFlags
+pub mod Maps
 pub mod Cuts
 pub mod Lanes
 pub mod Masked

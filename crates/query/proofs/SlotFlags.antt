@@ -28,6 +28,7 @@ use Rattle.query.specs.declared.slots.Comparison.{Comparison}
 use Rattle.query.specs.Bound.{Bound, Demand, compares, accepts, meets, meets_at, holds}
 use Rattle.query.specs.inner.Masks.{IsMask}
 use Rattle.query.specs.inner.Slots.{width_of, integer_cell, IsIntegerKind, IsIntegerColumn, IsComparison, holds_at, array_of, batch_flags, part_flags, parts_flags, has_slots, batch_has_slots, part_has_slots}
+use Rattle.query.proofs.Maps.{maps_same}
 
 -- ---- columns of integers
 
@@ -99,10 +100,6 @@ array_sound f (d ∷ cs) (suc place) c [] rows e h =
 array_sound f (d ∷ cs) (suc place) c (a ∷ arrays) rows e h =
     array_sound f cs place c arrays rows e (and_parts (is_sound d (f a)) _ (and_parts (nat_le rows (slots_in (f a))) _ h).1).1
 
-same_maps : {X Y : Type 0} (f g : X → Y) → ((x : X) → f x ≡ g x) → (xs : List X) → map f xs ≡ map g xs
-same_maps f g h [] = refl
-same_maps f g h (x ∷ xs) = rw (h x, same_maps f g h xs) refl
-
 map_map : {X Y Z : Type 0} (f : Y → Z) (g : X → Y) (xs : List X) → map f (map g xs) ≡ map (λ x. f (g x)) xs
 map_map f g [] = refl
 map_map f g (x ∷ xs) = ap (λ zs. f (g x) ∷ zs) (map_map f g xs)
@@ -119,7 +116,7 @@ row_holds cs b c p batch is i =
 batch_is : (cs : List Column) (b : Bound) (c : Comparison) → IsComparison cs b c → (p : Part) (batch : Batch) → map (holds b) (batch_rows (columns_of cs) p batch) ≡ batch_flags c p batch
 batch_is cs b c is p batch =
     map_map (holds b) (row_at (columns_of cs) (arrays_with p batch)) (range_with_len 0 batch.rows)
-    ∙ same_maps (λ i. holds b (row_at (columns_of cs) (arrays_with p batch) i)) (holds_at c (array_of c.place p batch)) (row_holds cs b c p batch is) (range_with_len 0 batch.rows)
+    ∙ maps_same (λ i. holds b (row_at (columns_of cs) (arrays_with p batch) i)) (holds_at c (array_of c.place p batch)) (row_holds cs b c p batch is) (range_with_len 0 batch.rows)
 
 map_both : {X Y : Type 0} (f : X → Y) (xs ys : List X) → map f (xs ++ ys) ≡ map f xs ++ map f ys
 map_both f [] ys = refl

@@ -1,9 +1,8 @@
 // Answers of a comparison by the order of numbers to a key.
-ghost use Rattle.std.specs.Prelude.{◌≡◌, ℕ, ◌<◌, ◌≤◌, ◌*◌, ◌/◌, ◌^◌, ◌+ℤ◌, ◌-ℤ◌, ◌<ℤ◌, ◌≤ℤ◌, pos, MatchResult};
-ghost use Rattle.std.specs.Ordering.{int_cmp};
+ghost use Rattle.std.specs.Prelude.{◌≡◌, ◌<◌, ◌≤◌, ◌*◌, ◌/◌, ◌^◌, ◌<ℤ◌, ◌≤ℤ◌, pos, MatchResult};
 ghost use Rattle.arrow_schema.specs.View.{bits_of};
 ghost use Rattle.query.specs.inner.Slots.{width_of};
-ghost use Rattle.query.specs.inner.Cuts.{bias_in, IsCut};
+ghost use Rattle.query.specs.inner.Cuts.{bias_in, IsKey, AllStand, IsCut};
 
 use crate::operator::{Operator, accepts};
 use arrow_schema::{BitWidth, IntegerType};
@@ -54,7 +53,7 @@ fn unsigned(number: i128) -> u64
 // The key of a literal, or how all numbers stand to it.
 fn key_of(literal: i128, bias: u64, half: u64) -> Result<u64, Ordering>
     requires { half ≤ 2 ^ 63 }
-    ensures { MatchResult result (λ key. (pos key ≡ literal +ℤ pos bias) × (key < 2 * half)) (λ order. (n : ℕ) → n < 2 * half → int_cmp (pos n -ℤ pos bias) literal ≡ order) }
+    ensures { MatchResult result (IsKey literal bias (2 * half)) (AllStand literal bias (2 * half)) }
 {
     let least = -i128::from(bias);
     let end = least + 2 * i128::from(half);

@@ -1,10 +1,10 @@
 // How many rows of a run a piece has room for.
-ghost use Rattle.std.specs.Prelude.{◌≡◌, ◌+◌, ◌<◌, ◌≤◌, ◌⊎◌, ℕ, true, map, take, slice_get, IfSome};
+ghost use Rattle.std.specs.Prelude.{◌≡◌, ◌+◌, ◌<◌, ◌≤◌, ◌⊎◌, true};
 ghost use Rattle.arrow_schema.specs.View.{schema_of};
 ghost use Rattle.arrow_schema.specs.Column.{columns_of};
-ghost use Rattle.cells.specs.Weight.{capped_weight, row_weight, table_weight};
-ghost use Rattle.columns.specs.CellAt.{row_at};
-ghost use Rattle.run_pieces.specs.Rows.{arrays_of_run, run_rows, is_run_sound};
+ghost use Rattle.cells.specs.Weight.{capped_weight};
+ghost use Rattle.run_pieces.specs.Rows.{is_run_sound};
+ghost use Rattle.run_pieces.specs.inner.Weights.{front_weight, weight_at};
 
 use crate::row_run::RowRun;
 use arrays::row_span_weight;
@@ -22,7 +22,7 @@ pub(crate) struct Taken {
 fn front_weight(schema: &Schema, run: RowRun<'_>, rows: usize) -> u64
     requires sound { is_run_sound (columns_of (schema_of schema.now).columns) run ≡ true }
     requires within { rows ≤ run.len }
-    ensures { result ≡ capped_weight (table_weight (schema_of schema.now) (take rows (run_rows (columns_of (schema_of schema.now).columns) run.entry))) }
+    ensures { result ≡ capped_weight (front_weight (schema_of schema.now) run.entry rows) }
 {
     row_span_weight(
         &schema.fields,
@@ -38,7 +38,7 @@ fn front_weight(schema: &Schema, run: RowRun<'_>, rows: usize) -> u64
 fn weight_at(schema: &Schema, run: RowRun<'_>, i: usize) -> u64
     requires sound { is_run_sound (columns_of (schema_of schema.now).columns) run ≡ true }
     requires within { i < run.len }
-    ensures { result ≡ capped_weight (row_weight (schema_of schema.now) (row_at (columns_of (schema_of schema.now).columns) (arrays_of_run run.entry) (run.entry.from + i))) }
+    ensures { result ≡ capped_weight (weight_at (schema_of schema.now) run.entry i) }
 {
     row_span_weight(
         &schema.fields,
@@ -57,10 +57,10 @@ pub(crate) fn fitting(schema: &Schema, run: RowRun<'_>, room: usize, before: u64
     requires light { before ≤ MAX_PIECE_WEIGHT }
     ensures within { result.rows ≤ run.entry.len }
     ensures few { result.rows ≤ room }
-    ensures weight { result.weight ≡ before + table_weight (schema_of schema.now) (take result.rows (run_rows (columns_of (schema_of schema.now).columns) run.entry)) }
+    ensures weight { result.weight ≡ before + front_weight (schema_of schema.now) run.entry result.rows }
     ensures light { result.weight ≤ MAX_PIECE_WEIGHT }
-    ensures full { result.rows < run.entry.len → (result.rows ≡ room) ⊎ (MAX_PIECE_WEIGHT < result.weight
-        + row_weight (schema_of schema.now) (row_at (columns_of (schema_of schema.now).columns) (arrays_of_run run.entry) (run.entry.from + result.rows))) }
+    ensures full { let more = weight_at (schema_of schema.now) run.entry result.rows in
+        result.rows < run.entry.len → (result.rows ≡ room) ⊎ (MAX_PIECE_WEIGHT < result.weight + more) }
 {
     let most = run.len.min(room);
     let together = add_weights(before, front_weight(schema, run, most));

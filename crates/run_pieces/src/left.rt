@@ -50,7 +50,8 @@ fn push_run<'a>(runs: &mut Vec<RowRun<'a>>, run: RowRun<'a>) -> Result<(), Alloc
 
 // All rows of a batch of a part, which has so many.
 fn whole_batch<'a>(part: &'a Part, arrays: &'a [PlacedArray], rows: usize) -> RowRun<'a>
-    ensures rows { (columns : Columns) → run_rows columns result ≡ rows_in columns (placed_arrays part.now.bytes.items part.now.dictionaries.items arrays.now) rows }
+    ensures rows { (columns : Columns)
+        → run_rows columns result ≡ rows_in columns (placed_arrays part.now.bytes.items part.now.dictionaries.items arrays.now) rows }
     ensures sound { (columns : Columns) → are_sound columns rows (placed_arrays part.now.bytes.items part.now.dictionaries.items arrays.now) ≡ true
         → is_run_sound columns result ≡ true }
 {
@@ -65,8 +66,8 @@ fn whole_batch<'a>(part: &'a Part, arrays: &'a [PlacedArray], rows: usize) -> Ro
 
 fn add_part<'a>(runs: &mut Vec<RowRun<'a>>, part: &'a Part) -> Result<(), AllocError>
     ensures rows { OnOk result ((columns : Columns) → runs_rows columns runs.new.items ≡ runs_rows columns runs.old.items ++ part_rows columns part.now) }
-    ensures sound { OnOk result ((columns : Columns) → are_runs_sound columns runs.old.items ≡ true → list_all (is_batch_sound columns part.now) part.now.batches.items ≡ true
-        → are_runs_sound columns runs.new.items ≡ true) }
+    ensures sound { OnOk result ((columns : Columns) → are_runs_sound columns runs.old.items ≡ true
+        → list_all (is_batch_sound columns part.now) part.now.batches.items ≡ true → are_runs_sound columns runs.new.items ≡ true) }
 {
     for batch in &part.batches {
         push_run(runs, whole_batch(part, &batch.arrays, batch.rows))?;

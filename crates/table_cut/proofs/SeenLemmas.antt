@@ -6,13 +6,9 @@ use Rattle.std.specs.List.{list_all, flat_map}
 use Rattle.std.proofs.lemmas.List.{append-nil, map-append, drop-set-lt, length-map, drop_all}
 use Rattle.std.proofs.lemmas.List.Concat.{flat_map-append}
 use Rattle.arrow_schema.specs.Column.{Index, Kind, Column, Columns, columns_of, lists, large_lists, fixed_lists, structs, column, no_column, and_column, PlainSchema}
-use Rattle.cells.specs.Cell.{Cell, cell_list, cells_of}
+use Rattle.cells.specs.Cell.{Cell}
 use Rattle.cells.specs.Dictionary.{Holding, own_holding, has_few_entries, holdings, holdings_below, holdings_from, holdings_of, entries_of, with_entry, with_entries, item_list, part_list, cells_at, dictionaries_fit}
 use Rattle.table_cut.specs.inner.Seen.{LimitedCells, held_of, entries_held, with_all, are_within}
-
-pub listed : (cells : List Cell) → cell_list (cells_of cells) ≡ cells
-listed [] = refl
-listed (c ∷ cells) = ap (λ (cs : List Cell). c ∷ cs) (listed cells)
 
 pub append_none : {A : Type 0} (xs : List A) → xs ++ [] ≡ xs
 append_none xs = append-nil xs

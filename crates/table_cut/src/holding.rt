@@ -28,7 +28,7 @@ fn add_all<'a>(cells: &mut Vec<ValueRef<'a>>, values: Values<'a>) -> Result<(), 
     Ok(())
 }
 
-#[tactic(auto, using(crate::proofs::SeenLemmas::listed, crate::proofs::SeenLemmas::append_none))]
+#[tactic(auto, using(cells::specs::laws::Cells::cells_listed, crate::proofs::SeenLemmas::append_none))]
 fn add_items<'a>(items: &mut Vec<ValueRef<'a>>, value: ValueRef<'a>) -> Result<(), AllocError>
     ensures { OnOk result (map borrowed_cell items.new.items ≡ map borrowed_cell items.old.items ++ item_list (borrowed_cell value.entry)) }
 {
@@ -59,7 +59,7 @@ fn add_at<'a>(cells: &mut Vec<ValueRef<'a>>, values: Values<'a>, i: usize) -> Re
     Ok(())
 }
 
-#[tactic(auto, using(crate::proofs::SeenLemmas::listed, crate::proofs::SeenLemmas::append_none))]
+#[tactic(auto, using(cells::specs::laws::Cells::cells_listed, crate::proofs::SeenLemmas::append_none))]
 fn add_part<'a>(
     parts: &mut Vec<ValueRef<'a>>,
     value: ValueRef<'a>,

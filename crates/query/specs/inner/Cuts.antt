@@ -1,6 +1,7 @@
 -- Comparisons of numbers with a key.
-use Rattle.std.specs.Prelude.{◌≡◌, ℕ, ℤ, ◌+◌, ◌/◌, ◌%◌, ◌^◌, ◌<◌, Bool, nat_lt, ◌==◌, List, if◌then◌else◌}
+use Rattle.std.specs.Prelude.{◌≡◌, ℕ, ℤ, pos, ◌+◌, ◌/◌, ◌%◌, ◌^◌, ◌<◌, ◌+ℤ◌, ◌-ℤ◌, Bool, nat_lt, ◌==◌, List, if◌then◌else◌}
 use Rattle.std.specs.Ordering.{int_cmp}
+use Rattle.std.specs.declared.cmp.Ordering.{Ordering}
 use Rattle.arrow_schema.specs.View.{bits_of}
 use Rattle.arrow_schema.specs.declared.types.BitWidth.{BitWidth}
 use Rattle.arrow_schema.specs.declared.types.IntegerType.{IntegerType}
@@ -18,6 +19,14 @@ block_slots width = 512 / bits_of width
 -- what makes 0 of the least integer of a type
 abbrev pub bias_in : IntegerType → ℕ
 bias_in t = if t.signed then 256 ^ width_of t / 2 else 0
+
+-- what the bias makes of a literal, where it is one of so many numbers
+abbrev pub IsKey : ℤ → (bias numbers : ℕ) → ℕ → Type 0
+IsKey literal bias numbers key = (pos key ≡ literal +ℤ pos bias) × (key < numbers)
+
+-- how all of them stand to a literal that is none
+abbrev pub AllStand : ℤ → (bias numbers : ℕ) → Ordering → Type 0
+AllStand literal bias numbers order = (n : ℕ) → n < numbers → int_cmp (pos n -ℤ pos bias) literal ≡ order
 
 -- what is answered of a number to which the bias was added
 abbrev pub answer : Cut → ℕ → Bool
