@@ -1,4 +1,5 @@
 mod Arrays
+mod AsWritten
 mod Coded
 mod Codes
 mod CodedRuns
@@ -19,4 +20,5 @@ mod RunContents
 mod RunFixedItems
 mod RunItems
 mod RunParts
+mod RunSlots
 mod RunValues

@@ -1,18 +1,18 @@
--- The array of runs whose slots are valid, as what is added to a batch for it.
-use Rattle.std.specs.Prelude.{Some, None, replicate}
+-- The array of runs, as what is added to a batch for it.
+use Rattle.std.specs.Prelude.{Some, None}
 use Rattle.std.specs.List.{flat_map, list_all, range_with_len}
 use Rattle.std.proofs.Common.{◌≡◌, ℕ, zero, suc, ◌+◌, Bool, true, false, List, [], ◌∷◌, ◌++◌, map, length, refl, ap, ap₂, sym, ◌∙◌, length-append}
-use Rattle.std.proofs.lemmas.Bool.{and_parts}
 use Rattle.std.proofs.lemmas.List.{length-map, length-replicate, map-append}
 use Rattle.std.proofs.lemmas.List.Folds.{list_all-map}
 use Rattle.std.proofs.lemmas.List.FromFn.{length-map-range_with_len}
 use Rattle.arrow_schema.specs.Column.{Kind, nulls, booleans, integers, dates, timestamps, texts, large_texts, binaries, large_binaries, fixed_binaries, lists, large_lists, fixed_lists, structs}
 use Rattle.array_build.proofs.Arrays.{nulls_of, booleans_are, integers_are, dates_are, timestamps_are, fixed_binaries_are, texts_are, binaries_are}
+use Rattle.array_build.proofs.AsWritten.{null_slot}
 use Rattle.array_build.proofs.Repeated.{repeated_map}
 use Rattle.array_build.specs.Batch.{PlainBatch, built_at, plain_column, with_arrays}
 use Rattle.array_build.specs.inner.Nodes.{with_node, with_buffer, with_slots}
 use Rattle.array_build.specs.inner.Runs.{bitmap_of, cell_sizes, contents_width, fixed_value, fixed_width, kind_cells, run_bits, runs_bits, with_run_slots}
-use Rattle.array_runs.specs.Runs.{are_runs_valid, is_run_valid, run_cells}
+use Rattle.array_runs.specs.Runs.{run_cells}
 use Rattle.array_runs.specs.declared.run.Run.{Run}
 use Rattle.array_runs.specs.declared.run.Run.TheVariants.{Slots, Nulls}
 use Rattle.bitmap.specs.Bits.{packed}
@@ -47,23 +47,23 @@ there (large_lists item) a i has valid = rw valid refl
 there (fixed_lists size item) a i has valid = rw valid refl
 there (structs columns) a i has valid = rw valid refl
 
-slots_there : (kind : Kind) (a : Array) (from n : ℕ) → has_values kind ≡ true → list_all (is_valid a) (range_with_len from n) ≡ true
-    → map is_there (cells_from (cell_at (plain_column kind None) a) from n) ≡ replicate n true
-slots_there kind a from zero has valid = refl
-slots_there kind a from (suc n) has valid =
-    let parts = and_parts (is_valid a from) (list_all (is_valid a) (range_with_len (from + 1) n)) valid in
-    ap₂ (λ (b : Bool) (bs : List Bool). b ∷ bs) (there kind a from has parts.0) (slots_there kind a (from + 1) n has parts.1)
+there_as : (b : Bool) (kind : Kind) (a : Array) (i : ℕ) → has_values kind ≡ true → is_valid a i ≡ b → is_there (cell_at (plain_column kind None) a i) ≡ b
+there_as true kind a i has is = there kind a i has is
+there_as false kind a i has is = ap is_there (null_slot kind a i is)
 
-run_there : (kind : Kind) (run : Run) → has_values kind ≡ true → is_run_valid run ≡ true → map is_there (run_cells (plain_column kind None) run) ≡ run_bits run
-run_there kind (Slots v from n) has valid = slots_there kind (view_array v) from n has valid
-run_there kind (Nulls n) has valid = repeated_map is_there n null
+slots_there : (kind : Kind) (a : Array) (from n : ℕ) → has_values kind ≡ true → map is_there (cells_from (cell_at (plain_column kind None) a) from n) ≡ map (is_valid a) (range_with_len from n)
+slots_there kind a from zero has = refl
+slots_there kind a from (suc n) has = ap₂ (λ (b : Bool) (bs : List Bool). b ∷ bs) (there_as (is_valid a from) kind a from has refl) (slots_there kind a (from + 1) n has)
 
-runs_there : (kind : Kind) (runs : List Run) → has_values kind ≡ true → are_runs_valid runs ≡ true → map is_there (kind_cells kind runs) ≡ runs_bits runs
-runs_there kind [] has valid = refl
-runs_there kind (run ∷ runs) has valid =
-    let parts = and_parts (is_run_valid run) (are_runs_valid runs) valid in
+run_there : (kind : Kind) (run : Run) → has_values kind ≡ true → map is_there (run_cells (plain_column kind None) run) ≡ run_bits run
+run_there kind (Slots v from n) has = slots_there kind (view_array v) from n has
+run_there kind (Nulls n) has = repeated_map is_there n null
+
+runs_there : (kind : Kind) (runs : List Run) → has_values kind ≡ true → map is_there (kind_cells kind runs) ≡ runs_bits runs
+runs_there kind [] has = refl
+runs_there kind (run ∷ runs) has =
     map-append is_there (run_cells (plain_column kind None) run) (kind_cells kind runs)
-    ∙ ap₂ (λ (xs ys : List Bool). xs ++ ys) (run_there kind run has parts.0) (runs_there kind runs has parts.1)
+    ∙ ap₂ (λ (xs ys : List Bool). xs ++ ys) (run_there kind run has) (runs_there kind runs has)
 
 bitmap_is : (cells : List Cell) (bits : List Bool) → map is_there cells ≡ bits → validity_of cells ≡ bitmap_of bits
 bitmap_is cells bits is =
@@ -77,13 +77,13 @@ slots_are p cells bits is =
     let count : length bits ≡ length cells = sym (ap length is) ∙ length-map cells is_there in
     λ i. with_buffer (with_node p (record { slots = count i; null_count = unset_bits (map_is i) (count i) })) (map_is i)
 
-pub kind_slots : (p : PlainBatch) (kind : Kind) (runs : List Run) → has_values kind ≡ true → are_runs_valid runs ≡ true → with_run_slots p (runs_bits runs) ≡ with_slots p (kind_cells kind runs)
-kind_slots p kind runs has valid = slots_are p (kind_cells kind runs) (runs_bits runs) (runs_there kind runs has valid)
+pub kind_slots : (p : PlainBatch) (kind : Kind) (runs : List Run) → has_values kind ≡ true → with_run_slots p (runs_bits runs) ≡ with_slots p (kind_cells kind runs)
+kind_slots p kind runs has = slots_are p (kind_cells kind runs) (runs_bits runs) (runs_there kind runs has)
 
 -- ---- how many cells there are
 
 pub count_run : (kind : Kind) (run : Run) → length (run_bits run) ≡ length (run_cells (plain_column kind None) run)
-count_run kind (Slots v from n) = length-replicate n true ∙ sym (length-map-range_with_len (cell_at (plain_column kind None) (view_array v)) from n)
+count_run kind (Slots v from n) = length-map-range_with_len (is_valid (view_array v)) from n ∙ sym (length-map-range_with_len (cell_at (plain_column kind None) (view_array v)) from n)
 count_run kind (Nulls n) = length-replicate n false ∙ sym (length-replicate n null)
 
 count_cells : (kind : Kind) (runs : List Run) → length (runs_bits runs) ≡ length (kind_cells kind runs)
@@ -103,10 +103,10 @@ null_runs_are p kind runs slots is count =
     ∙ nulls_of p (kind_cells kind runs)
     ∙ ap (λ (k : Kind). with_arrays p (built_at (plain_column k None) (kind_cells kind runs))) (sym is)
 
-pub boolean_runs_are : (p : PlainBatch) (runs : List Run) → are_runs_valid runs ≡ true
+pub boolean_runs_are : (p : PlainBatch) (runs : List Run)
     → with_buffer (with_run_slots p (runs_bits runs)) (packed (map is_set (kind_cells booleans runs))) ≡ with_arrays p (built_at (plain_column booleans None) (kind_cells booleans runs))
-boolean_runs_are p runs valid =
-    ap (λ (q : PlainBatch). with_buffer q (packed (map is_set (kind_cells booleans runs)))) (kind_slots p booleans runs refl valid)
+boolean_runs_are p runs =
+    ap (λ (q : PlainBatch). with_buffer q (packed (map is_set (kind_cells booleans runs)))) (kind_slots p booleans runs refl)
     ∙ booleans_are p (kind_cells booleans runs)
 
 fixed_are : (p : PlainBatch) (kind : Kind) (width : ℕ) (cells : List Cell) → fixed_width kind ≡ Some width
@@ -142,10 +142,10 @@ fixed_has (large_lists item) width is = refl
 fixed_has (fixed_lists size item) width is = refl
 fixed_has (structs columns) width is = refl
 
-pub fixed_runs_are : (p : PlainBatch) (kind : Kind) (width : ℕ) (runs : List Run) → fixed_width kind ≡ Some width → are_runs_valid runs ≡ true
+pub fixed_runs_are : (p : PlainBatch) (kind : Kind) (width : ℕ) (runs : List Run) → fixed_width kind ≡ Some width
     → with_buffer (with_run_slots p (runs_bits runs)) (flat_map (fixed_value kind) (kind_cells kind runs)) ≡ with_arrays p (built_at (plain_column kind None) (kind_cells kind runs))
-fixed_runs_are p kind width runs is valid =
-    ap (λ (q : PlainBatch). with_buffer q (flat_map (fixed_value kind) (kind_cells kind runs))) (kind_slots p kind runs (fixed_has kind width is) valid)
+fixed_runs_are p kind width runs is =
+    ap (λ (q : PlainBatch). with_buffer q (flat_map (fixed_value kind) (kind_cells kind runs))) (kind_slots p kind runs (fixed_has kind width is))
     ∙ fixed_are p kind width (kind_cells kind runs) is
 
 -- a batch with the array of texts or binaries
@@ -185,8 +185,8 @@ contents_has (large_lists item) width is = refl
 contents_has (fixed_lists size item) width is = refl
 contents_has (structs columns) width is = refl
 
-pub content_runs_are : (p : PlainBatch) (kind : Kind) (width : ℕ) (runs : List Run) → contents_width kind ≡ Some width → are_runs_valid runs ≡ true
+pub content_runs_are : (p : PlainBatch) (kind : Kind) (width : ℕ) (runs : List Run) → contents_width kind ≡ Some width
     → with_contents_of width (with_run_slots p (runs_bits runs)) (kind_cells kind runs) ≡ with_arrays p (built_at (plain_column kind None) (kind_cells kind runs))
-content_runs_are p kind width runs is valid =
-    ap (λ (q : PlainBatch). with_contents_of width q (kind_cells kind runs)) (kind_slots p kind runs (contents_has kind width is) valid)
+content_runs_are p kind width runs is =
+    ap (λ (q : PlainBatch). with_contents_of width q (kind_cells kind runs)) (kind_slots p kind runs (contents_has kind width is))
     ∙ contents_are p kind width (kind_cells kind runs) is

@@ -8,11 +8,12 @@ use Rattle.std.proofs.lemmas.List.Concat.{flat_map-append}
 use Rattle.std.proofs.Math.Seq.{take-add}
 use Rattle.byteorder.specs.Endian.{little_bytes}
 use Rattle.arrow_schema.specs.Column.{Kind, nulls, booleans, integers, dates, timestamps, texts, large_texts, binaries, large_binaries, fixed_binaries, lists, large_lists, fixed_lists, structs}
+use Rattle.array_build.proofs.AsWritten.{no_byte_below, null_slot}
 use Rattle.array_build.proofs.Premises.{texts_fit, binaries_fit}
 use Rattle.array_build.proofs.Repeated.{none_each}
 use Rattle.array_build.specs.Batch.{plain_column}
-use Rattle.array_build.specs.inner.Runs.{cell_sizes, contents_width, kind_cells, slot_sizes, span_contents}
-use Rattle.array_runs.specs.Runs.{is_run_sound, is_run_valid, run_cells}
+use Rattle.array_build.specs.inner.Runs.{cell_sizes, contents_width, is_as_written, is_run_as_written, kind_cells, slot_sizes, span_contents}
+use Rattle.array_runs.specs.Runs.{is_run_sound, run_cells}
 use Rattle.array_runs.specs.declared.run.Run.{Run}
 use Rattle.array_runs.specs.declared.run.Run.TheVariants.{Slots, Nulls}
 use Rattle.cells.specs.Cell.{Cell, null}
@@ -99,17 +100,17 @@ module _ (width : ℕ) (a : Array) (up : are_unordered width (length (contents_i
       ap length (span_more i n within) ∙ length-append (contents_at width a i) (span_contents width a (i + 1) n)
       ∙ ap (λ (k : ℕ). k + length (span_contents width a (i + 1) n)) (slot_size i (omega arith))
 
-  module _ (g : ℕ → Cell) (is : (i : ℕ) → i < slots_in a → is_valid a i ≡ true → contents_of (g i) ≡ contents_at width a i) where
-    pub spans : (from n : ℕ) → from + n ≤ slots_in a → list_all (is_valid a) (range_with_len from n) ≡ true → flat_map contents_of (cells_from g from n) ≡ span_contents width a from n
-    spans from zero within valid = sym (span_none from)
-    spans from (suc n) within valid =
-        let parts = and_parts (is_valid a from) (list_all (is_valid a) (range_with_len (from + 1) n)) valid in
+  module _ (g : ℕ → Cell) (p : ℕ → Bool) (is : (i : ℕ) → i < slots_in a → p i ≡ true → contents_of (g i) ≡ contents_at width a i) where
+    pub spans : (from n : ℕ) → from + n ≤ slots_in a → list_all p (range_with_len from n) ≡ true → flat_map contents_of (cells_from g from n) ≡ span_contents width a from n
+    spans from zero within h = sym (span_none from)
+    spans from (suc n) within h =
+        let parts = and_parts (p from) (list_all p (range_with_len (from + 1) n)) h in
         ap₂ (λ (xs ys : List ℕ). xs ++ ys) (is from (omega arith) parts.0) (spans (from + 1) n (omega arith) parts.1) ∙ sym (span_more from n within)
 
-    pub sizes : (from n : ℕ) → from + n ≤ slots_in a → list_all (is_valid a) (range_with_len from n) ≡ true → cell_sizes (cells_from g from n) ≡ slot_sizes width a from n
-    sizes from zero within valid = refl
-    sizes from (suc n) within valid =
-        let parts = and_parts (is_valid a from) (list_all (is_valid a) (range_with_len (from + 1) n)) valid in
+    pub sizes : (from n : ℕ) → from + n ≤ slots_in a → list_all p (range_with_len from n) ≡ true → cell_sizes (cells_from g from n) ≡ slot_sizes width a from n
+    sizes from zero within h = refl
+    sizes from (suc n) within h =
+        let parts = and_parts (p from) (list_all p (range_with_len (from + 1) n)) h in
         ap₂ (λ (k : ℕ) (ks : List ℕ). k ∷ ks) (ap length (is from (omega arith) parts.0) ∙ slot_size from (omega arith)) (sizes (from + 1) n (omega arith) parts.1)
 
 slot_contents : (kind : Kind) (width : ℕ) (a : Array) → contents_width kind ≡ Some width → (i : ℕ) → i < slots_in a → is_valid a i ≡ true → contents_of (plain_cell kind a i) ≡ contents_at width a i
@@ -129,6 +130,13 @@ slot_contents (large_lists item) width a is i lt valid = cc
 slot_contents (fixed_lists size item) width a is i lt valid = cc
 slot_contents (structs columns) width a is i lt valid = cc
 
+-- or that stands as it is written
+written_contents : (b : Bool) (kind : Kind) (width : ℕ) (a : Array) → contents_width kind ≡ Some width → (i : ℕ) → i < slots_in a → is_as_written kind a i ≡ true → is_valid a i ≡ b
+    → contents_of (plain_cell kind a i) ≡ contents_at width a i
+written_contents true kind width a is i lt written valid = slot_contents kind width a is i lt valid
+written_contents false kind width a is i lt written unset =
+    ap contents_of (null_slot kind a i unset) ∙ sym (ap (λ (n : ℕ). take n (drop (span_start width a i) (contents_in a))) (no_byte_below kind width a i is written unset))
+
 -- ---- runs of a type
 
 -- what is known of a run of slots
@@ -140,11 +148,13 @@ pub record AreTexts (kind : Kind) (width : ℕ) (v : ArrayView) (from n : ℕ) (
   pub sizes : cell_sizes (run_cells (plain_column kind None) run) ≡ slot_sizes width (view_array v) from n
 
 pub run_texts : (kind : Kind) (width : ℕ) (v : ArrayView) (from n : ℕ) (run : Run) → run ≡ Slots v from n → contents_width kind ≡ Some width → is_run_sound (plain_column kind None) run ≡ true
-    → is_run_valid run ≡ true → AreTexts kind width v from n run
-run_texts kind width v from n run is wide sound valid =
+    → is_run_as_written kind run ≡ true → AreTexts kind width v from n run
+run_texts kind width v from n run is wide sound written =
     let a : Array = view_array v in
     let sound_slots : is_run_sound (plain_column kind None) (Slots v from n) ≡ true = rw is at sound in
-    let valid_slots : is_run_valid (Slots v from n) ≡ true = rw is at valid in
+    let slots : is_run_as_written kind (Slots v from n) ≡ true = rw is at written in
+    let each : (i : ℕ) → i < slots_in a → is_as_written kind a i ≡ true → contents_of (plain_cell kind a i) ≡ contents_at width a i
+    = λ i lt h. written_contents (is_valid a i) kind width a wide i lt h refl in
     let parts = and_parts (is_sound (plain_column kind None) a) (nat_le (from + n) (slots_in a)) sound_slots in
     let order = ordered kind width a wide parts.0 in
     let within : from + n ≤ slots_in a = leb-true (from + n) (slots_in a) parts.1 in
@@ -152,8 +162,8 @@ run_texts kind width v from n run is wide sound valid =
       few = order.0;
       up = order.1;
       within = within;
-      contents = rw is (spans width a order.1 (plain_cell kind a) (slot_contents kind width a wide) from n within valid_slots);
-      sizes = rw is (sizes width a order.1 (plain_cell kind a) (slot_contents kind width a wide) from n within valid_slots);
+      contents = rw is (spans width a order.1 (plain_cell kind a) (is_as_written kind a) each from n within slots);
+      sizes = rw is (sizes width a order.1 (plain_cell kind a) (is_as_written kind a) each from n within slots);
     }
 
 pub no_contents : (kind : Kind) (n : ℕ) (run : Run) → run ≡ Nulls n → flat_map contents_of (run_cells (plain_column kind None) run) ≡ []

@@ -89,9 +89,9 @@ fixed_of_nulls size item n count run is counts = record {
 }
 
 -- the node and the validity bitmap of lists of one size, and the arrays of their items
-pub fixed_list_runs_are : (p q : PlainBatch) (size : ℕ) (item : Column) (runs items : List Run) → are_runs_valid runs ≡ true
+pub fixed_list_runs_are : (p q : PlainBatch) (size : ℕ) (item : Column) (runs items : List Run)
     → runs_cells item items ≡ flat_map (fixed_items size) (kind_cells (fixed_lists size item) runs) → q ≡ with_run_slots p (runs_bits runs)
     → with_arrays q (built_at item (runs_cells item items)) ≡ with_arrays p (built_at (fixed_column size item) (kind_cells (fixed_lists size item) runs))
-fixed_list_runs_are p q size item runs items valid below slots =
-    ap₂ (λ (x : PlainBatch) (cs : List Cell). with_arrays x (built_at item cs)) (slots ∙ kind_slots p (fixed_lists size item) runs refl valid) below
+fixed_list_runs_are p q size item runs items below slots =
+    ap₂ (λ (x : PlainBatch) (cs : List Cell). with_arrays x (built_at item cs)) (slots ∙ kind_slots p (fixed_lists size item) runs refl) below
     ∙ fixed_lists_are size item p (kind_cells (fixed_lists size item) runs)

@@ -3,7 +3,7 @@ use Rattle.std.specs.Prelude.{nat_le, replicate}
 use Rattle.std.specs.List.{flat_map, list_all, range_with_len}
 use Rattle.std.proofs.Common.{◌≡◌, ℕ, zero, suc, ◌+◌, ◌-◌, ◌≤◌, ◌<◌, ◌++◌, Bool, true, false, List, [], ◌∷◌, length, get_or, drop, refl, ap, ap₂, sym, ◌∙◌, arith, append_assoc, append-nil, length-append}
 use Rattle.std.proofs.lemmas.Bool.{and_parts, and_from, leb-true, le-leb}
-use Rattle.std.proofs.lemmas.List.{drop_more, length-replicate}
+use Rattle.std.proofs.lemmas.List.{drop_more}
 use Rattle.std.proofs.lemmas.List.Concat.{flat_map-append}
 use Rattle.std.proofs.lemmas.List.Folds.{list_all-append}
 use Rattle.std.proofs.lemmas.List.FromFn.{length-map-range_with_len}
@@ -15,6 +15,7 @@ use Rattle.array_build.proofs.Premises.{lists_fit}
 use Rattle.array_build.proofs.Repeated.{none_each}
 use Rattle.array_build.proofs.RunArrays.{kind_slots, count_run}
 use Rattle.array_build.proofs.RunContents.{offsets_with, one_offset}
+use Rattle.array_build.proofs.RunSlots.{slots_counted}
 use Rattle.array_build.specs.Batch.{PlainBatch, built_at, with_arrays}
 use Rattle.array_build.specs.inner.Nodes.{list_kind, with_buffer, with_slots}
 use Rattle.array_build.specs.inner.RunItems.{AreItems, HasSlots, list_column, list_sizes, run_lists}
@@ -177,7 +178,7 @@ items_of_nulls width item n run is = record {
 
 pub slot_count : (v : ArrayView) (from n i : ℕ) (run : Run) → run ≡ Slots v from n → i < length (run_bits run) → i < n
 slot_count v from n i run is lt =
-    let count : length (run_bits run) ≡ n = ap (λ (r : Run). length (run_bits r)) is ∙ length-replicate n true in
+    let count = slots_counted v from n run is in
     omega (arith, count, lt)
 
 pub slot_list : (width : OffsetWidth) (item : Column) (v : ArrayView) (from n i : ℕ) (run : Run) → run ≡ Slots v from n → AreLists width item v from n → i < n
@@ -276,17 +277,17 @@ all_items below c item all left parts none was =
 
 -- ---- the arrays
 
-list_has : (width : OffsetWidth) (item : Column) (p : PlainBatch) (runs : List Run) → are_runs_valid runs ≡ true → with_run_slots p (runs_bits runs) ≡ with_slots p (kind_cells (list_kind width item) runs)
-list_has Four item p runs valid = kind_slots p (lists item) runs refl valid
-list_has Eight item p runs valid = kind_slots p (large_lists item) runs refl valid
+list_has : (width : OffsetWidth) (item : Column) (p : PlainBatch) (runs : List Run) → with_run_slots p (runs_bits runs) ≡ with_slots p (kind_cells (list_kind width item) runs)
+list_has Four item p runs = kind_slots p (lists item) runs refl
+list_has Eight item p runs = kind_slots p (large_lists item) runs refl
 
 -- the node, the validity bitmap and the offsets of lists, and the arrays of their items
-pub list_runs_are : (p q r : PlainBatch) (width : OffsetWidth) (item : Column) (runs items : List Run) (offsets : List ℕ) → are_runs_valid runs ≡ true
+pub list_runs_are : (p q r : PlainBatch) (width : OffsetWidth) (item : Column) (runs items : List Run) (offsets : List ℕ)
     → runs_cells item items ≡ flat_map item_list (kind_cells (list_kind width item) runs) → offsets ≡ list_offsets (width_of width) (kind_cells (list_kind width item) runs)
     → q ≡ with_run_slots p (runs_bits runs) → r ≡ with_buffer q offsets
     → with_arrays r (built_at item (runs_cells item items)) ≡ with_arrays p (built_at (list_column width item) (kind_cells (list_kind width item) runs))
-list_runs_are p q r width item runs items offsets valid below ends slots buffer =
+list_runs_are p q r width item runs items offsets below ends slots buffer =
     let cells : List Cell = kind_cells (list_kind width item) runs in
     let batch : r ≡ with_buffer (with_slots p cells) (list_offsets (width_of width) cells) =
-    buffer ∙ ap₂ (λ (x : PlainBatch) (b : List ℕ). with_buffer x b) (slots ∙ list_has width item p runs valid) ends in
+    buffer ∙ ap₂ (λ (x : PlainBatch) (b : List ℕ). with_buffer x b) (slots ∙ list_has width item p runs) ends in
     ap₂ (λ (x : PlainBatch) (cs : List Cell). with_arrays x (built_at item cs)) batch below ∙ lists_are width item p cells

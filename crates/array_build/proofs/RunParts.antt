@@ -247,11 +247,11 @@ parts_have cs runs rss are len ready =
     (subst (λ (rows : List (List Cell)). HaveRuns (columns_of cs) rss rows) (sym (runs_parts (columns_of cs) runs ready.valid)) all.0, all.1)
 
 -- the node and the validity bitmap of structs, and the arrays of their parts
-pub struct_runs_are : (p q : PlainBatch) (cs : Columns) (runs : List Run) (rss : List (List Run)) → are_runs_valid runs ≡ true → HaveRuns cs rss (map part_list (kind_cells (structs cs) runs))
+pub struct_runs_are : (p q : PlainBatch) (cs : Columns) (runs : List Run) (rss : List (List Run)) → HaveRuns cs rss (map part_list (kind_cells (structs cs) runs))
     → q ≡ with_run_slots p (runs_bits runs) → with_arrays q (built_columns cs rss) ≡ with_arrays p (built_at (plain_column (structs cs) None) (kind_cells (structs cs) runs))
-struct_runs_are p q cs runs rss valid have slots =
+struct_runs_are p q cs runs rss have slots =
     let cells : List Cell = kind_cells (structs cs) runs in
-    ap₂ (λ (x : PlainBatch) (ts : List Typed). with_arrays x ts) (slots ∙ kind_slots p (structs cs) runs refl valid) (rows_built cs rss (map part_list cells) have) ∙ structs_are cs p cells
+    ap₂ (λ (x : PlainBatch) (ts : List Typed). with_arrays x ts) (slots ∙ kind_slots p (structs cs) runs refl) (rows_built cs rss (map part_list cells) have) ∙ structs_are cs p cells
 
 -- what is asked of the runs of the fields of structs
 pub parts_fit : (cs : Columns) (runs : List Run) (rss : List (List Run)) → HaveRuns cs rss (map part_list (kind_cells (structs cs) runs)) → AreReady (structs cs) runs → can_build_columns cs rss ≡ true

@@ -3,21 +3,22 @@ use Rattle.std.specs.Prelude.{Some, None, not, ◌&&◌, nat_le, replicate}
 use Rattle.std.specs.List.{flat_map, list_all, range_with_len}
 use Rattle.std.proofs.Common.{◌≡◌, ℕ, zero, suc, ◌+◌, ◌*◌, ◌/◌, ◌≤◌, ◌<◌, ◌++◌, Bool, true, false, List, length, take, drop, refl, ap, ap₂, sym, ◌∙◌, arith, length-drop, mul-le-mul_right}
 use Rattle.std.proofs.lemmas.Bool.{and_parts, ltb-false, leb-true}
-use Rattle.std.proofs.lemmas.List.{drop-drop}
+use Rattle.std.proofs.lemmas.List.{drop-drop, length-take-le}
 use Rattle.std.proofs.Math.Seq.{take-add}
 use Rattle.arrow_schema.specs.Column.{Kind, nulls, booleans, integers, dates, timestamps, texts, large_texts, binaries, large_binaries, fixed_binaries, lists, large_lists, fixed_lists, structs}
+use Rattle.array_build.proofs.AsWritten.{null_slot, zeros_are, zeros_below}
 use Rattle.array_build.proofs.Numbers.{integer_again}
 use Rattle.array_build.proofs.Repeated.{repeated_each}
 use Rattle.array_build.specs.Batch.{plain_column}
-use Rattle.array_build.specs.inner.Runs.{fixed_value, fixed_width}
-use Rattle.array_runs.specs.Runs.{is_run_sound, is_run_valid, run_cells}
+use Rattle.array_build.specs.inner.Runs.{fixed_value, fixed_width, is_as_written, is_run_as_written}
+use Rattle.array_runs.specs.Runs.{is_run_sound, run_cells}
 use Rattle.array_runs.specs.declared.run.Run.{Run}
 use Rattle.array_runs.specs.declared.run.Run.TheVariants.{Slots, Nulls}
 use Rattle.cells.specs.Cell.{Cell, null, number}
 use Rattle.cells.specs.Fit.{date_bits}
 use Rattle.columns.specs.Array.{Array, slots_in, values_in}
 use Rattle.columns.specs.Built.{integer_bytes}
-use Rattle.columns.specs.CellAt.{cell_at, kind_cell, cells_from, integer_at, is_valid}
+use Rattle.columns.specs.CellAt.{cell_at, kind_cell, cells_from, integer_at, is_valid, value_at}
 use Rattle.columns.specs.Sound.{is_sound, has_sound_children}
 use Rattle.columns.specs.Tests.{are_few, has_short_buffer, has_short_validity, has_bad_offsets}
 use Rattle.columns.specs.View.{view_array}
@@ -51,6 +52,22 @@ room i slots w vs long lt =
     let most : (i + 1) * w ≤ slots * w = mul-le-mul_right w (omega arith) in
     omega (arith, left, most, long)
 
+null_value : (kind : Kind) (width : ℕ) → fixed_width kind ≡ Some width → fixed_value kind null ≡ replicate width 0
+null_value (integers bits signed) width is = let e : bits / 8 ≡ width = cc in rw e refl
+null_value (dates unit) width is = let e : date_bits unit / 8 ≡ width = cc in rw e refl
+null_value (timestamps unit timezone) width is = let e : 8 ≡ width = cc in rw (← e) refl
+null_value (fixed_binaries size) width is = let e : size ≡ width = cc in rw e refl
+null_value nulls width is = cc
+null_value booleans width is = cc
+null_value texts width is = cc
+null_value large_texts width is = cc
+null_value binaries width is = cc
+null_value large_binaries width is = cc
+null_value (lists item) width is = cc
+null_value (large_lists item) width is = cc
+null_value (fixed_lists size item) width is = cc
+null_value (structs columns) width is = cc
+
 module _ (a : Array) (small : AreBytes (values_in a)) where
   integer_slot : (w : ℕ) (signed : Bool) (i : ℕ) → slots_in a * w ≤ length (values_in a) → i < slots_in a
       → integer_bytes w (number (integer_at w signed (values_in a) i)) ≡ take w (drop (i * w) (values_in a))
@@ -74,6 +91,16 @@ module _ (a : Array) (small : AreBytes (values_in a)) where
   one (large_lists item) width is long i lt valid = cc
   one (fixed_lists size item) width is long i lt valid = cc
   one (structs columns) width is long i lt valid = cc
+
+  -- and of one that stands as it is written
+  one_as : (b : Bool) (kind : Kind) (width : ℕ) → fixed_width kind ≡ Some width → slots_in a * width ≤ length (values_in a)
+      → (i : ℕ) → i < slots_in a → is_as_written kind a i ≡ true → is_valid a i ≡ b → fixed_value kind (plain_cell kind a i) ≡ value_at width (values_in a) i
+  one_as true kind width is long i lt written valid = one kind width is long i lt valid
+  one_as false kind width is long i lt written unset =
+      let own : List ℕ = value_at width (values_in a) i in
+      let size : length own ≡ width = length-take-le width (drop (i * width) (values_in a)) (room i (slots_in a) width (values_in a) long lt) in
+      ap (fixed_value kind) (null_slot kind a i unset) ∙ null_value kind width is
+      ∙ sym (zeros_are own (zeros_below kind width a i is written unset) ∙ ap (λ (n : ℕ). replicate n 0) size)
 
 -- a sound array has values for all its slots
 not_false : (b : Bool) → not b ≡ true → b ≡ false
@@ -105,18 +132,18 @@ enough (large_lists item) width a is h = cc
 enough (fixed_lists size item) width a is h = cc
 enough (structs columns) width a is h = cc
 
--- what is known of a run of valid slots
+-- what is known of a run that stands as it is written
 pub record AreValues (kind : Kind) (width : ℕ) (v : ArrayView) (from n : ℕ) (run : Run) : Type 0 where
   pub long : (from + n) * width ≤ length (values_in (view_array v))
   pub within : from + n ≤ slots_in (view_array v)
   pub bytes : AreBytes (values_in (view_array v)) → flat_map (fixed_value kind) (run_cells (plain_column kind None) run) ≡ take (n * width) (drop (from * width) (values_in (view_array v)))
 
 pub run_values : (kind : Kind) (width : ℕ) (v : ArrayView) (from n : ℕ) (run : Run) → run ≡ Slots v from n → fixed_width kind ≡ Some width → is_run_sound (plain_column kind None) run ≡ true
-    → is_run_valid run ≡ true → AreValues kind width v from n run
-run_values kind width v from n run is wide sound valid =
+    → is_run_as_written kind run ≡ true → AreValues kind width v from n run
+run_values kind width v from n run is wide sound written =
     let a : Array = view_array v in
     let sound_slots : is_run_sound (plain_column kind None) (Slots v from n) ≡ true = rw is at sound in
-    let valid_slots : is_run_valid (Slots v from n) ≡ true = rw is at valid in
+    let slots : is_run_as_written kind (Slots v from n) ≡ true = rw is at written in
     let parts = and_parts (is_sound (plain_column kind None) a) (nat_le (from + n) (slots_in a)) sound_slots in
     let within : from + n ≤ slots_in a = leb-true (from + n) (slots_in a) parts.1 in
     let long = enough kind width a wide parts.0 in
@@ -124,24 +151,9 @@ run_values kind width v from n run is wide sound valid =
     record {
       long = omega (arith, most, long);
       within = within;
-      bytes = λ small. rw is (many (fixed_value kind) (plain_cell kind a) (is_valid a) width (slots_in a) (values_in a) (one a small kind width wide long) from n within valid_slots);
+      bytes = λ small. rw is (many (fixed_value kind) (plain_cell kind a) (is_as_written kind a) width (slots_in a) (values_in a)
+          (λ i lt h. one_as a small (is_valid a i) kind width wide long i lt h refl) from n within slots);
     }
-
-null_value : (kind : Kind) (width : ℕ) → fixed_width kind ≡ Some width → fixed_value kind null ≡ replicate width 0
-null_value (integers bits signed) width is = let e : bits / 8 ≡ width = cc in rw e refl
-null_value (dates unit) width is = let e : date_bits unit / 8 ≡ width = cc in rw e refl
-null_value (timestamps unit timezone) width is = let e : 8 ≡ width = cc in rw (← e) refl
-null_value (fixed_binaries size) width is = let e : size ≡ width = cc in rw e refl
-null_value nulls width is = cc
-null_value booleans width is = cc
-null_value texts width is = cc
-null_value large_texts width is = cc
-null_value binaries width is = cc
-null_value large_binaries width is = cc
-null_value (lists item) width is = cc
-null_value (large_lists item) width is = cc
-null_value (fixed_lists size item) width is = cc
-null_value (structs columns) width is = cc
 
 pub null_bytes : (kind : Kind) (width n : ℕ) (run : Run) → run ≡ Nulls n → fixed_width kind ≡ Some width → flat_map (fixed_value kind) (run_cells (plain_column kind None) run) ≡ replicate (n * width) 0
 null_bytes kind width n run is wide = rw is (repeated_each (fixed_value kind) width null 0 n (null_value kind width wide))

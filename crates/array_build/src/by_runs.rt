@@ -1,15 +1,15 @@
 // Arrays of columns that are given as runs of slots: bytes of slots stay where they stand or are copied, and no cell is made but of the entries of a dictionary.
-ghost use Rattle.std.specs.Prelude.{◌≡◌, ◌/◌, true, OnOk, IfOk, List, Some, None, map};
+ghost use Rattle.std.specs.Prelude.{◌≡◌, true, OnOk, IfOk, List, Some, None, map};
 ghost use Rattle.arrow_schema.specs.Column.{columns_of, fixed_lists, structs};
-ghost use Rattle.arrow_schema.specs.View.{kind_of, column_of, date_kind};
+ghost use Rattle.arrow_schema.specs.View.{kind_of, column_of};
 ghost use Rattle.array_build.specs.Batch.{batch_in, batch_of, built_at, built_below, plain_column, with_arrays};
 ghost use Rattle.array_build.specs.inner.Nodes.{list_kind};
-ghost use Rattle.array_build.specs.inner.Runs.{AreReady, built_columns, kind_cells};
+ghost use Rattle.array_build.specs.inner.Runs.{AreAsWritten, AreReady, built_columns, contents_width, fixed_width, kind_cells};
 ghost use Rattle.array_runs.specs.Runs.{HaveRuns, are_columns_sound, are_runs_sound, can_build_columns, runs_cells};
 ghost use Rattle.cells.specs.Cell.{Cell};
-ghost use Rattle.cells.specs.Fit.{date_bits};
 ghost use Rattle.columns.specs.Buildable.{can_build};
 
+use crate::as_written::are_as_written;
 use crate::batch::{BuiltBatch, empty_batch, push_buffer};
 use crate::building::build_values;
 use crate::coded_cells::{push_dictionary, push_run_indices};
@@ -18,19 +18,11 @@ use crate::run_fixed_items::fixed_item_runs;
 use crate::run_items::{item_runs, run_list_offsets};
 use crate::run_parts::part_runs;
 use crate::run_slots::push_run_slots;
+use crate::widths::{contents_width, value_width};
 use array_runs::{Run, valid_runs};
-use arrow_schema::{DataType, DateUnit, DictSpec, Field};
+use arrow_schema::{DataType, DictSpec, Field};
 use columns::OffsetWidth;
 use std::alloc::{AllocError, Global};
-
-fn date_width(unit: DateUnit) -> usize
-    ensures { result ≡ date_bits (date_kind unit) / 8 }
-{
-    match unit {
-        DateUnit::Day => 4,
-        DateUnit::Millisecond => 8,
-    }
-}
 
 // Adds the indices of a column with a dictionary, and its entries.
 fn build_coded_column(
@@ -51,7 +43,7 @@ fn build_coded_column(
     push_dictionary(batch, values)
 }
 
-// Adds the array of runs of a type that have no null among their slots, and all below it.
+// Adds the array of runs that have no null among their slots, and all below it, of a type that has no values or offsets of texts.
 #[cycle(by_runs)]
 fn build_valid_kind<'a>(
     alloc: Global,
@@ -59,6 +51,8 @@ fn build_valid_kind<'a>(
     data_type: &DataType,
     runs: &[Run<'a>],
 ) -> Result<(), AllocError>
+    requires values { fixed_width (kind_of data_type.now) ≡ None }
+    requires contents { contents_width (kind_of data_type.now) ≡ None }
     requires ready { AreReady (kind_of data_type.now) runs.now }
     ensures { OnOk result (batch_in batch.new ≡ with_arrays (batch_in batch.old)
         (built_at (plain_column (kind_of data_type.now) None) (kind_cells (kind_of data_type.now) runs.now))) }
@@ -66,26 +60,32 @@ fn build_valid_kind<'a>(
     match data_type {
         DataType::Null => build_run_nulls(batch, data_type, runs),
         DataType::Bool => build_run_bits(alloc, batch, data_type, runs),
-        DataType::Int(integer) => {
-            build_run_values(alloc, batch, data_type, integer.width.bytes(), runs)
-        }
-        DataType::Date(unit) => build_run_values(alloc, batch, data_type, date_width(*unit), runs),
-        DataType::Timestamp(_, _) => build_run_values(alloc, batch, data_type, 8, runs),
-        DataType::FixedSizeBinary(width) => {
-            build_run_values(alloc, batch, data_type, *width as usize, runs)
-        }
-        DataType::Utf8 | DataType::Binary => {
-            build_run_contents(alloc, batch, data_type, OffsetWidth::Four, runs)
-        }
-        DataType::LargeUtf8 | DataType::LargeBinary => {
-            build_run_contents(alloc, batch, data_type, OffsetWidth::Eight, runs)
-        }
         DataType::List(item) => build_run_lists(alloc, batch, OffsetWidth::Four, item, runs),
         DataType::LargeList(item) => build_run_lists(alloc, batch, OffsetWidth::Eight, item, runs),
         DataType::FixedSizeList(size, item) => {
             build_run_fixed_lists(alloc, batch, *size as usize, item, runs)
         }
         DataType::Struct(fields) => build_run_structs(alloc, batch, fields, runs),
+        _ => unreachable!(),
+    }
+}
+
+// The same of runs that stand as they are written.
+#[cycle(by_runs)]
+fn build_written_kind<'a>(
+    alloc: Global,
+    batch: &mut BuiltBatch<'a>,
+    data_type: &DataType,
+    runs: &[Run<'a>],
+) -> Result<(), AllocError>
+    requires ready { AreAsWritten (kind_of data_type.now) runs.now }
+    ensures { OnOk result (batch_in batch.new ≡ with_arrays (batch_in batch.old)
+        (built_at (plain_column (kind_of data_type.now) None) (kind_cells (kind_of data_type.now) runs.now))) }
+{
+    match (value_width(data_type), contents_width(data_type)) {
+        (Some(width), _) => build_run_values(alloc, batch, data_type, width, runs),
+        (None, Some(width)) => build_run_contents(alloc, batch, data_type, width, runs),
+        (None, None) => build_valid_kind(alloc, batch, data_type, runs),
     }
 }
 
@@ -144,7 +144,24 @@ fn build_run_structs<'a>(
     build_run_parts(alloc, batch, fields, &parts)
 }
 
-// Adds the array of a column of a type, whatever its name, and all below it.
+// The same of any runs, which are split at their nulls.
+#[cycle(by_runs)]
+fn build_split_kind<'a>(
+    alloc: Global,
+    batch: &mut BuiltBatch<'a>,
+    data_type: &DataType,
+    runs: &[Run<'a>],
+) -> Result<(), AllocError>
+    requires sound { are_runs_sound (plain_column (kind_of data_type.now) None) runs.now ≡ true }
+    requires fits { can_build (plain_column (kind_of data_type.now) None) (kind_cells (kind_of data_type.now) runs.now) ≡ true }
+    ensures { OnOk result (batch_in batch.new ≡ with_arrays (batch_in batch.old)
+        (built_at (plain_column (kind_of data_type.now) None) (kind_cells (kind_of data_type.now) runs.now))) }
+{
+    let valid = valid_runs(alloc, runs)?;
+    build_written_kind(alloc, batch, data_type, &valid)
+}
+
+// Adds the array of a column of a type, whatever its name, and all below it. Runs that stand as they are written stay whole.
 #[cycle(by_runs)]
 fn build_run_kind<'a>(
     alloc: Global,
@@ -157,8 +174,11 @@ fn build_run_kind<'a>(
     ensures { OnOk result (batch_in batch.new ≡ with_arrays (batch_in batch.old)
         (built_at (plain_column (kind_of data_type.now) None) (kind_cells (kind_of data_type.now) runs.now))) }
 {
-    let valid = valid_runs(alloc, runs)?;
-    build_valid_kind(alloc, batch, data_type, &valid)
+    if are_as_written(data_type, runs) {
+        build_written_kind(alloc, batch, data_type, runs)
+    } else {
+        build_split_kind(alloc, batch, data_type, runs)
+    }
 }
 
 // The same of a field.
@@ -199,8 +219,8 @@ fn build_run_parts<'a>(
     Ok(())
 }
 
-/// The same of rows whose columns are runs of slots: a buffer of one run stays where it stands, if that is how it is written; else the bytes of
-/// valid slots are copied run by run. No cell is looked at by itself but the entries of a dictionary.
+/// The same of rows whose columns are runs of slots: a buffer of one run stays where it stands, if that is how it is written; else bytes are
+/// copied run by run. No cell is looked at by itself but nulls, and the entries of a dictionary.
 pub fn build_runs<'a>(
     alloc: Global,
     fields: &[Field],

@@ -1,10 +1,10 @@
-// Arrays of types that have no fields below them, from runs whose slots are all valid.
+// Arrays of types that have no fields below them, from runs whose slots are all valid or stand as they are written.
 ghost use Rattle.std.specs.Prelude.{◌≡◌, true, OnOk, IfOk, Some, None, length, map};
 ghost use Rattle.std.specs.List.{flat_map};
 ghost use Rattle.arrow_schema.specs.Column.{nulls, booleans};
 ghost use Rattle.arrow_schema.specs.View.{kind_of};
 ghost use Rattle.array_build.specs.Batch.{batch_in, built_at, plain_column, with_arrays};
-ghost use Rattle.array_build.specs.inner.Runs.{AreReady, contents_width, fixed_width, kind_cells};
+ghost use Rattle.array_build.specs.inner.Runs.{AreAsWritten, AreReady, contents_width, fixed_width, kind_cells};
 ghost use Rattle.columns.specs.Offsets.{width_of};
 
 use crate::batch::{BuiltBatch, push_any_buffer, push_buffer, push_node};
@@ -59,7 +59,7 @@ pub(crate) fn build_run_values<'a>(
     runs: &[Run<'a>],
 ) -> Result<(), AllocError>
     requires width { fixed_width (kind_of data_type.now) ≡ Some width }
-    requires ready { AreReady (kind_of data_type.now) runs.now }
+    requires ready { AreAsWritten (kind_of data_type.now) runs.now }
     ensures { OnOk result (batch_in batch.new ≡ with_arrays (batch_in batch.old)
         (built_at (plain_column (kind_of data_type.now) None) (kind_cells (kind_of data_type.now) runs.now))) }
 {
@@ -78,7 +78,7 @@ pub(crate) fn build_run_contents<'a>(
     runs: &[Run<'a>],
 ) -> Result<(), AllocError>
     requires width { contents_width (kind_of data_type.now) ≡ Some (width_of width) }
-    requires ready { AreReady (kind_of data_type.now) runs.now }
+    requires ready { AreAsWritten (kind_of data_type.now) runs.now }
     ensures { OnOk result (batch_in batch.new ≡ with_arrays (batch_in batch.old)
         (built_at (plain_column (kind_of data_type.now) None) (kind_cells (kind_of data_type.now) runs.now))) }
 {

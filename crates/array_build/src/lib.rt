@@ -11,6 +11,7 @@
 //! than the indices of a dictionary can name.
 #![tactic(auto)]
 
+mod as_written;
 mod batch;
 mod boolean_bits;
 mod building;
@@ -34,6 +35,7 @@ mod run_slots;
 mod run_values;
 mod valid_bits;
 mod value_bytes;
+mod widths;
 
 pub use batch::{Buffer, BuiltBatch, BuiltDictionary};
 pub use building::build;

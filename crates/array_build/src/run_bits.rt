@@ -56,8 +56,13 @@ fn push_bytes(bits: &mut Vec<bool>, bitmap: &[u8], from: usize, to: usize) -> Re
     Ok(())
 }
 
-// Some bits of a bitmap: one by one up to the first whole byte, and behind the last.
-fn push_bits(bits: &mut Vec<bool>, bitmap: &[u8], from: usize, to: usize) -> Result<(), AllocError>
+/// Some bits of a bitmap: one by one up to the first whole byte, and behind the last.
+pub(crate) fn push_bits(
+    bits: &mut Vec<bool>,
+    bitmap: &[u8],
+    from: usize,
+    to: usize,
+) -> Result<(), AllocError>
     requires within { to ≤ 8 * length bitmap.now }
     requires order { from ≤ to }
     ensures { OnOk result (bits.new.items ≡ bits.old.items ++ map (bit bitmap.now) (range_with_len from (to - from))) }
@@ -72,11 +77,12 @@ fn push_bits(bits: &mut Vec<bool>, bitmap: &[u8], from: usize, to: usize) -> Res
     push_singly(bits, bitmap, 8 * end, to)
 }
 
-fn push_unset(bits: &mut Vec<bool>, count: usize) -> Result<(), AllocError>
-    ensures { OnOk result (bits.new.items ≡ bits.old.items ++ replicate count false) }
+/// The same bit so many times. More than a number holds have no room in memory.
+pub(crate) fn push_alike(bits: &mut Vec<bool>, count: usize, bit: bool) -> Result<(), AllocError>
+    ensures { OnOk result (bits.new.items ≡ bits.old.items ++ replicate count bit) }
 {
     match bits.len().checked_add(count) {
-        Some(end) => bits.resize(end, false),
+        Some(end) => bits.resize(end, bit),
         None => Err(AllocError),
     }
 }
@@ -94,7 +100,7 @@ fn push_run(bits: &mut Vec<bool>, run: &Run<'_>) -> Result<(), AllocError>
             push_bits(bits, array.bits(), *from, *from + *len)?;
             Ok(())
         }
-        Run::Nulls(count) => push_unset(bits, *count),
+        Run::Nulls(count) => push_alike(bits, *count, false),
     }
 }
 

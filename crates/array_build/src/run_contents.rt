@@ -1,9 +1,9 @@
-// The bytes of texts and binaries, and where they end, of runs whose slots are all valid.
+// The bytes of texts and binaries, and where they end, of runs that stand as they are written.
 ghost use Rattle.std.specs.Prelude.{◌≡◌, ◌≤◌, ◌+◌, ◌++◌, ◌*◌, false, true, OnOk, IfOk, Some, None, length, replicate};
 ghost use Rattle.std.specs.List.{flat_map};
 ghost use Rattle.array_build.specs.Batch.{buffer_bytes, plain_column};
-ghost use Rattle.array_build.specs.inner.Runs.{AreReady, AreOffsetsAdded, cell_sizes, contents_width, kind_cells, slot_sizes, span_contents};
-ghost use Rattle.array_runs.specs.Runs.{is_run_sound, is_run_valid, run_cells};
+ghost use Rattle.array_build.specs.inner.Runs.{AreAsWritten, AreOffsetsAdded, cell_sizes, contents_width, is_run_as_written, kind_cells, slot_sizes, span_contents};
+ghost use Rattle.array_runs.specs.Runs.{is_run_sound, run_cells};
 ghost use Rattle.array_runs.specs.declared.run.Run.TheVariants.{Slots};
 ghost use Rattle.arrow_schema.specs.View.{kind_of};
 ghost use Rattle.columns.specs.Array.{slots_in, contents_in};
@@ -45,7 +45,7 @@ fn run_slice<'a>(
 ) -> &'a [u8]
     requires width { contents_width (kind_of data_type.now) ≡ Some (width_of width) }
     requires sound { is_run_sound (plain_column (kind_of data_type.now) None) (Slots array from len) ≡ true }
-    requires valid { is_run_valid (Slots array from len) ≡ true }
+    requires written { is_run_as_written (kind_of data_type.now) (Slots array from len) ≡ true }
     ensures { result.now ≡ flat_map contents_of (run_cells (plain_column (kind_of data_type.now) None) (Slots array.entry from len)) }
 {
     slot_contents(array, width, from, len)
@@ -61,7 +61,7 @@ fn push_contents(
 ) -> Result<(), AllocError>
     requires width { contents_width (kind_of data_type.now) ≡ Some (width_of width) }
     requires sound { is_run_sound (plain_column (kind_of data_type.now) None) run.now ≡ true }
-    requires valid { is_run_valid run.now ≡ true }
+    requires written { is_run_as_written (kind_of data_type.now) run.now ≡ true }
     ensures { OnOk result (contents.new.items
         ≡ contents.old.items ++ flat_map contents_of (run_cells (plain_column (kind_of data_type.now) None) run.now)) }
 {
@@ -82,7 +82,7 @@ fn copied_contents(
     runs: &[Run<'_>],
 ) -> Result<Vec<u8>, AllocError>
     requires width { contents_width (kind_of data_type.now) ≡ Some (width_of width) }
-    requires ready { AreReady (kind_of data_type.now) runs.now }
+    requires ready { AreAsWritten (kind_of data_type.now) runs.now }
     ensures { IfOk result (λ bytes. bytes.items ≡ flat_map contents_of (kind_cells (kind_of data_type.now) runs.now)) }
 {
     let mut contents = Vec::new(alloc);
@@ -100,7 +100,7 @@ pub(crate) fn run_contents<'a>(
     runs: &[Run<'a>],
 ) -> Result<Buffer<'a>, AllocError>
     requires width { contents_width (kind_of data_type.now) ≡ Some (width_of width) }
-    requires ready { AreReady (kind_of data_type.now) runs.now }
+    requires ready { AreAsWritten (kind_of data_type.now) runs.now }
     ensures { IfOk result (λ buffer. buffer_bytes buffer ≡ flat_map contents_of (kind_cells (kind_of data_type.now) runs.now)) }
 {
     if let Some(Run::Slots { array, from, len }) = only_run(runs) {
@@ -109,7 +109,7 @@ pub(crate) fn run_contents<'a>(
     Ok(Buffer::Made(copied_contents(alloc, data_type, width, runs)?))
 }
 
-fn offset_at(offsets: &[u8], width: OffsetWidth, i: usize) -> u64
+pub(crate) fn offset_at(offsets: &[u8], width: OffsetWidth, i: usize) -> u64
     requires { (i + 1) * width_of width ≤ length offsets.now }
     ensures { result ≡ number_at (width_of width) offsets.now i }
 {
@@ -170,7 +170,7 @@ fn push_run_offsets(
 ) -> Result<u64, AllocError>
     requires width { contents_width (kind_of data_type.now) ≡ Some (width_of width) }
     requires sound { is_run_sound (plain_column (kind_of data_type.now) None) run.now ≡ true }
-    requires valid { is_run_valid run.now ≡ true }
+    requires written { is_run_as_written (kind_of data_type.now) run.now ≡ true }
     requires room { start + length (flat_map contents_of (run_cells (plain_column (kind_of data_type.now) None) run.now)) ≤ large_offset }
     ensures offsets { IfOk result (λ next. AreOffsetsAdded (width_of width) offsets.old.items offsets.new.items start next
         (cell_sizes (run_cells (plain_column (kind_of data_type.now) None) run.now))) }
@@ -195,7 +195,7 @@ pub(crate) fn run_offsets(
     runs: &[Run<'_>],
 ) -> Result<Vec<u8>, AllocError>
     requires width { contents_width (kind_of data_type.now) ≡ Some (width_of width) }
-    requires ready { AreReady (kind_of data_type.now) runs.now }
+    requires ready { AreAsWritten (kind_of data_type.now) runs.now }
     ensures { IfOk result (λ bytes. bytes.items ≡ offsets_of (width_of width) (cell_sizes (kind_cells (kind_of data_type.now) runs.now))) }
 {
     let size = count_slots(runs)?.saturating_add(1).saturating_mul(8);

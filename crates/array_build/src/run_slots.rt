@@ -1,15 +1,23 @@
 // Which slots of runs are valid.
-ghost use Rattle.std.specs.Prelude.{◌≡◌, ◌++◌, ◌∷◌, [], IfSome, ◌==◌, ◌||◌, ◌*◌, nat_le, true, OnOk, IfOk, is_some, length, map, replicate};
-ghost use Rattle.std.specs.List.{list_all};
+ghost use Rattle.std.specs.Prelude.{◌≡◌, ◌≤◌, ◌+◌, ◌++◌, ◌∷◌, [], IfSome, ◌==◌, ◌||◌, ◌*◌, nat_le, false, true, OnOk, IfOk, is_some, length, map};
+ghost use Rattle.std.specs.List.{list_all, range_with_len};
 ghost use Rattle.array_build.specs.Batch.{batch_in};
 ghost use Rattle.array_build.specs.inner.Runs.{bitmap_of, run_bits, runs_bits, with_run_slots, with_validity};
+ghost use Rattle.array_runs.specs.Runs.{has_validity};
+ghost use Rattle.columns.specs.Array.{slots_in};
+ghost use Rattle.columns.specs.CellAt.{is_valid};
+ghost use Rattle.columns.specs.Tests.{has_short_validity};
+ghost use Rattle.columns.specs.View.{view_array};
 
 use crate::batch::{BuiltBatch, push_buffer, push_node};
+use crate::run_bits::{push_alike, push_bits};
 use crate::valid_bits::unset_bits;
 use array_runs::Run;
-use bitmap::pack;
+use bitmap::{get, pack, run_end};
+use columns::ArrayView;
 use std::alloc::{AllocError, Global};
 
+#[tactic(auto, using(crate::proofs::RunSlots::slots_counted))]
 pub(crate) fn run_len(run: &Run<'_>) -> usize
     ensures { result ≡ length (run_bits run.now) }
 {
@@ -43,18 +51,41 @@ pub(crate) fn count_slots(runs: &[Run<'_>]) -> Result<usize, AllocError>
     Ok(count)
 }
 
-#[tactic(auto, using(crate::proofs::Repeated::all_true))]
+/// Whether each of some slots is valid.
+pub(crate) fn are_all_valid(array: ArrayView<'_>, from: usize, len: usize) -> bool
+    requires long { has_short_validity (view_array array) ≡ false }
+    requires within { from + len ≤ slots_in (view_array array) }
+    ensures { result ≡ list_all (is_valid (view_array array.entry)) (range_with_len from len) }
+{
+    if len == 0 {
+        return true;
+    }
+    let validity = array.validity();
+    if validity.is_empty() {
+        return true;
+    }
+    let _slots = array.slots();
+    let to = from + len;
+    if get(validity, from) {
+        run_end(validity, from, to) == to
+    } else {
+        false
+    }
+}
+
 fn has_no_null(run: &Run<'_>) -> bool
+    requires { has_validity run.now ≡ true }
     ensures { result ≡ list_all (λ b. b) (run_bits run.now) }
 {
     match run {
-        Run::Slots { .. } => true,
+        Run::Slots { array, from, len } => are_all_valid(*array, *from, *len),
         Run::Nulls(count) => *count == 0,
     }
 }
 
 // Whether there is no null.
 fn have_no_null(runs: &[Run<'_>]) -> bool
+    requires { list_all has_validity runs.now ≡ true }
     ensures { result ≡ list_all (λ b. b) (runs_bits runs.now) }
 {
     for run in runs {
@@ -65,27 +96,39 @@ fn have_no_null(runs: &[Run<'_>]) -> bool
     true
 }
 
-fn is_valid(run: &Run<'_>) -> bool
-    ensures { run_bits run.now ≡ replicate (length (run_bits run.now)) result }
+// A bit for each of some slots, set where it is valid.
+fn push_slot_bits(
+    bits: &mut Vec<bool>,
+    array: ArrayView<'_>,
+    from: usize,
+    len: usize,
+) -> Result<(), AllocError>
+    requires long { has_short_validity (view_array array) ≡ false }
+    requires within { from + len ≤ slots_in (view_array array) }
+    ensures { OnOk result (bits.new.items ≡ bits.old.items ++ map (is_valid (view_array array.entry)) (range_with_len from len)) }
 {
-    match run {
-        Run::Slots { .. } => true,
-        Run::Nulls(_) => false,
+    let validity = array.validity();
+    if validity.is_empty() {
+        return push_alike(bits, len, true);
     }
+    let _slots = array.slots();
+    push_bits(bits, validity, from, from + len)
 }
 
-fn push_bits(bits: &mut Vec<bool>, run: &Run<'_>) -> Result<(), AllocError>
+fn push_run_bits(bits: &mut Vec<bool>, run: &Run<'_>) -> Result<(), AllocError>
+    requires { has_validity run.now ≡ true }
     ensures { OnOk result (bits.new.items ≡ bits.old.items ++ run_bits run.now) }
 {
-    match bits.len().checked_add(run_len(run)) {
-        Some(end) => bits.resize(end, is_valid(run)),
-        None => Err(AllocError),
+    match run {
+        Run::Slots { array, from, len } => push_slot_bits(bits, *array, *from, *len),
+        Run::Nulls(count) => push_alike(bits, *count, false),
     }
 }
 
 // The validity bitmap of runs that have so many slots.
 fn run_validity(alloc: Global, slots: usize, runs: &[Run<'_>]) -> Result<Vec<u8>, AllocError>
-    requires { slots ≡ length (runs_bits runs.now) }
+    requires count { slots ≡ length (runs_bits runs.now) }
+    requires validity { list_all has_validity runs.now ≡ true }
     ensures bits { IfOk result (λ bytes. bytes.items ≡ bitmap_of (runs_bits runs.now)) }
     ensures long { IfOk result (λ bytes. (length bytes.items == 0 || nat_le slots (8 * length bytes.items)) ≡ true) }
 {
@@ -94,7 +137,7 @@ fn run_validity(alloc: Global, slots: usize, runs: &[Run<'_>]) -> Result<Vec<u8>
     }
     let mut bits = Vec::with_capacity(alloc, slots)?;
     for run in runs {
-        push_bits(&mut bits, run)?;
+        push_run_bits(&mut bits, run)?;
     }
     pack(alloc, &bits)
 }
@@ -119,6 +162,7 @@ pub(crate) fn push_run_slots(
     batch: &mut BuiltBatch<'_>,
     runs: &[Run<'_>],
 ) -> Result<(), AllocError>
+    requires { list_all has_validity runs.now ≡ true }
     ensures { OnOk result (batch_in batch.new ≡ with_run_slots (batch_in batch.old) (runs_bits runs.now)) }
 {
     let slots = count_slots(runs)?;

@@ -1,9 +1,9 @@
-// Values of one width, of runs whose slots are all valid.
+// Values of one width, of runs that stand as they are written.
 ghost use Rattle.std.specs.Prelude.{◌≡◌, ◌≤◌, ◌+◌, ◌*◌, ◌++◌, true, OnOk, IfOk, Some, None, take, drop, replicate, length};
 ghost use Rattle.std.specs.List.{flat_map};
 ghost use Rattle.array_build.specs.Batch.{buffer_bytes, plain_column};
-ghost use Rattle.array_build.specs.inner.Runs.{AreReady, fixed_value, fixed_width, kind_cells};
-ghost use Rattle.array_runs.specs.Runs.{is_run_sound, is_run_valid, run_cells};
+ghost use Rattle.array_build.specs.inner.Runs.{AreAsWritten, fixed_value, fixed_width, is_run_as_written, kind_cells};
+ghost use Rattle.array_runs.specs.Runs.{is_run_sound, run_cells};
 ghost use Rattle.array_runs.specs.declared.run.Run.TheVariants.{Slots};
 ghost use Rattle.arrow_schema.specs.View.{kind_of};
 ghost use Rattle.columns.specs.Array.{slots_in, values_in};
@@ -46,7 +46,7 @@ fn run_slice<'a>(
 ) -> &'a [u8]
     requires width { fixed_width (kind_of data_type.now) ≡ Some width }
     requires sound { is_run_sound (plain_column (kind_of data_type.now) None) (Slots array from len) ≡ true }
-    requires valid { is_run_valid (Slots array from len) ≡ true }
+    requires written { is_run_as_written (kind_of data_type.now) (Slots array from len) ≡ true }
     ensures { result.now ≡ flat_map (fixed_value (kind_of data_type.now)) (run_cells (plain_column (kind_of data_type.now) None) (Slots array.entry from len)) }
 {
     slot_values(array, width, from, len)
@@ -76,7 +76,7 @@ fn push_run(
 ) -> Result<(), AllocError>
     requires width { fixed_width (kind_of data_type.now) ≡ Some width }
     requires sound { is_run_sound (plain_column (kind_of data_type.now) None) run.now ≡ true }
-    requires valid { is_run_valid run.now ≡ true }
+    requires written { is_run_as_written (kind_of data_type.now) run.now ≡ true }
     ensures { OnOk result (values.new.items
         ≡ values.old.items ++ flat_map (fixed_value (kind_of data_type.now)) (run_cells (plain_column (kind_of data_type.now) None) run.now)) }
 {
@@ -97,7 +97,7 @@ fn copied_values(
     runs: &[Run<'_>],
 ) -> Result<Vec<u8>, AllocError>
     requires width { fixed_width (kind_of data_type.now) ≡ Some width }
-    requires ready { AreReady (kind_of data_type.now) runs.now }
+    requires ready { AreAsWritten (kind_of data_type.now) runs.now }
     ensures { IfOk result (λ bytes. bytes.items ≡ flat_map (fixed_value (kind_of data_type.now)) (kind_cells (kind_of data_type.now) runs.now)) }
 {
     let size = count_slots(runs)?.saturating_mul(width);
@@ -116,7 +116,7 @@ pub(crate) fn run_values<'a>(
     runs: &[Run<'a>],
 ) -> Result<Buffer<'a>, AllocError>
     requires width { fixed_width (kind_of data_type.now) ≡ Some width }
-    requires ready { AreReady (kind_of data_type.now) runs.now }
+    requires ready { AreAsWritten (kind_of data_type.now) runs.now }
     ensures { IfOk result (λ buffer. buffer_bytes buffer ≡ flat_map (fixed_value (kind_of data_type.now)) (kind_cells (kind_of data_type.now) runs.now)) }
 {
     if let Some(Run::Slots { array, from, len }) = only_run(runs) {

@@ -1,6 +1,7 @@
 pub mod Raws
 pub mod Placed
 pub mod SlotCounts
+pub mod TextSpans
 pub mod Layouts
 pub mod Counted
 pub mod Firsts

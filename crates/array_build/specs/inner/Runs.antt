@@ -1,5 +1,5 @@
--- The arrays of runs, and what a run has in each buffer, where its slots are valid.
-use Rattle.std.specs.Prelude.{◌≡◌, ℕ, ◌+◌, ◌-◌, ◌/◌, Bool, true, false, List, [], ◌∷◌, ◌++◌, length, map, take, drop, replicate, Option, Some, None, if◌then◌else◌}
+-- The arrays of runs, and what a run has in each buffer, where its slots are valid or stand as they are written.
+use Rattle.std.specs.Prelude.{◌≡◌, ℕ, ◌+◌, ◌-◌, ◌/◌, Bool, true, false, ◌==◌, ◌||◌, List, [], ◌∷◌, ◌++◌, length, map, take, drop, replicate, Option, Some, None, if◌then◌else◌}
 use Rattle.std.specs.List.{flat_map, list_all, range_with_len}
 use Rattle.byteorder.specs.Endian.{little_bytes}
 use Rattle.arrow_schema.specs.Column.{Kind, Columns, integers, dates, timestamps, texts, large_texts, binaries, large_binaries, fixed_binaries, no_column, and_column}
@@ -10,10 +10,11 @@ use Rattle.bitmap.specs.Bits.{packed}
 use Rattle.cells.specs.Cell.{Cell}
 use Rattle.cells.specs.Fit.{date_bits}
 use Rattle.columns.specs.Buildable.{can_build}
-use Rattle.columns.specs.Array.{Array, contents_in, offsets_in}
+use Rattle.columns.specs.Array.{Array, contents_in, offsets_in, values_in}
 use Rattle.columns.specs.Built.{contents_of, integer_bytes, fixed_bytes, sums_from}
-use Rattle.columns.specs.CellAt.{number_at}
+use Rattle.columns.specs.CellAt.{is_valid, number_at, span_size, value_at}
 use Rattle.columns.specs.Tests.{Typed, unset_bits}
+use Rattle.columns.specs.View.{view_array}
 use Rattle.array_build.specs.Batch.{PlainBatch, built_at, plain_column}
 use Rattle.array_build.specs.inner.Nodes.{with_node, with_buffer}
 
@@ -27,7 +28,7 @@ built_columns (and_column c cs) (r ∷ rs) = built_at c (runs_cells c r) ++ buil
 abbrev pub kind_cells : Kind → List Run → List Cell
 kind_cells kind runs = runs_cells (plain_column kind None) runs
 
--- the array of such runs can be built by copying what stands in them
+-- the array of such runs can be built run by run
 pub record AreReady (kind : Kind) (runs : List Run) : Type 0 where
   pub sound : are_runs_sound (plain_column kind None) runs ≡ true
   pub valid : are_runs_valid runs ≡ true
@@ -36,7 +37,7 @@ pub record AreReady (kind : Kind) (runs : List Run) : Type 0 where
 -- ---- which slots are valid
 
 abbrev pub run_bits : Run → List Bool
-run_bits (Slots view from len) = replicate len true
+run_bits (Slots view from len) = map (is_valid (view_array view)) (range_with_len from len)
 run_bits (Nulls n) = replicate n false
 
 abbrev pub runs_bits : List Run → List Bool
@@ -94,3 +95,30 @@ cell_sizes cells = map (λ c. length (contents_of c)) cells
 abbrev pub AreOffsetsAdded : (width : ℕ) → (old new : List ℕ) → (start next : ℕ) → (sizes : List ℕ) → Type 0
 AreOffsetsAdded width old new start next sizes =
     (rest : List ℕ) → new ++ flat_map (little_bytes width) (sums_from next rest) ≡ old ++ flat_map (little_bytes width) (sums_from start (sizes ++ rest))
+
+-- ---- slots that stand as they are written: those that are valid, and nulls below which there are zeros or no bytes
+
+abbrev pub are_zeros : List ℕ → Bool
+are_zeros bytes = list_all (λ b. b == 0) bytes
+
+-- what stands below a null, by how wide the values or the offsets are; below those of other types more can stand
+abbrev pub has_nothing_below : (values offsets : Option ℕ) → Array → ℕ → Bool
+has_nothing_below (Some width) offsets a i = are_zeros (value_at width (values_in a) i)
+has_nothing_below None (Some width) a i = span_size width a i == 0
+has_nothing_below None None a i = false
+
+abbrev pub is_as_written : Kind → Array → ℕ → Bool
+is_as_written kind a i = is_valid a i || has_nothing_below (fixed_width kind) (contents_width kind) a i
+
+abbrev pub is_run_as_written : Kind → Run → Bool
+is_run_as_written kind (Slots view from len) = list_all (is_as_written kind (view_array view)) (range_with_len from len)
+is_run_as_written kind (Nulls n) = true
+
+abbrev pub are_runs_as_written : Kind → List Run → Bool
+are_runs_as_written kind runs = list_all (is_run_as_written kind) runs
+
+-- the array of such runs can be built by copying what stands in them
+pub record AreAsWritten (kind : Kind) (runs : List Run) : Type 0 where
+  pub sound : are_runs_sound (plain_column kind None) runs ≡ true
+  pub written : are_runs_as_written kind runs ≡ true
+  pub fit : can_build (plain_column kind None) (kind_cells kind runs) ≡ true

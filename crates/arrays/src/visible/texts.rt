@@ -1,17 +1,18 @@
 // Texts that are not UTF-8.
-ghost use Rattle.std.specs.Prelude.{◌≡◌, ◌≤◌, ◌<◌, ◌+◌, ◌&&◌, not, true, false, option_map};
+ghost use Rattle.std.specs.Prelude.{◌≡◌, ℕ, ◌≤◌, ◌<◌, ◌+◌, ◌-◌, ◌*◌, ◌&&◌, not, true, false, length, option_map};
 ghost use Rattle.std.specs.List.{list_any, range_with_len};
-ghost use Rattle.std.specs.Str.{is_utf8};
+ghost use Rattle.std.specs.Str.{IsCharBoundary, is_utf8};
 ghost use Rattle.arrow_schema.specs.View.{column_of, kind_of};
-ghost use Rattle.columns.specs.Array.{slots_in};
-ghost use Rattle.columns.specs.CellAt.{is_valid, contents_at};
+ghost use Rattle.columns.specs.Array.{contents_in, slots_in};
+ghost use Rattle.columns.specs.CellAt.{is_valid, contents_at, number_at};
 ghost use Rattle.columns.specs.Offsets.{width_of};
 ghost use Rattle.columns.specs.Sound.{is_sound};
-ghost use Rattle.columns.specs.Tests.{are_few_offsets, has_short_validity};
+ghost use Rattle.columns.specs.Tests.{are_few_offsets, are_unordered, has_short_validity};
 ghost use Rattle.columns.specs.View.{view_array};
 ghost use Rattle.arrays.specs.inner.VisibleSpans.{any_slot, is_no_plain_text, text_width};
 
 use arrow_schema::{DataType, Field};
+use byteorder::{ByteOrder, LittleEndian};
 use columns::{ArrayView, OffsetWidth, bytes_at};
 
 fn is_utf8(text: &[u8]) -> bool
@@ -38,8 +39,70 @@ fn has_other_bytes(width: OffsetWidth, view: ArrayView<'_>, i: usize) -> bool
     view.is_valid(i) && !is_text_at(width, view, i)
 }
 
+fn offset_at(offsets: &[u8], width: OffsetWidth, i: usize) -> usize
+    requires { (i + 1) * width_of width ≤ length offsets.now }
+    ensures { result ≡ number_at (width_of width) offsets.now i }
+{
+    match width {
+        OffsetWidth::Four => LittleEndian::read_u32(&offsets[i * 4..]) as usize,
+        OffsetWidth::Eight => LittleEndian::read_u64(&offsets[i * 8..]) as usize,
+    }
+}
+
+// At each of some offsets a character of a text begins, which itself begins at `start`.
+fn are_boundaries(
+    text: &str,
+    offsets: &[u8],
+    width: OffsetWidth,
+    start: usize,
+    from: usize,
+    to: usize,
+) -> bool
+    requires { (to + 1) * width_of width ≤ length offsets.now }
+    ensures { result ≡ true → (i : ℕ) → from ≤ i → i < to → IsCharBoundary text.now (number_at (width_of width) offsets.now i - start) }
+{
+    for i in from..to {
+        if !text.is_char_boundary(offset_at(offsets, width, i).saturating_sub(start)) {
+            return false;
+        }
+    }
+    true
+}
+
+// The bytes of some slots are one text that is cut between characters, so that those of each are a text. The test reads all bytes at once.
+fn is_one_text(width: OffsetWidth, view: ArrayView<'_>, from: usize, count: usize) -> bool
+    requires long { are_few_offsets (width_of width) (view_array view) ≡ false }
+    requires ordered { are_unordered (width_of width) (length (contents_in (view_array view))) (view_array view) ≡ false }
+    requires some { 0 < count }
+    requires within { from + count ≤ slots_in (view_array view) }
+    ensures { result ≡ true → (i : ℕ) → from ≤ i → i < from + count → is_utf8 (contents_at (width_of width) (view_array view.entry) i) ≡ true }
+{
+    // a number of the code is below 2^64, so that the end is too
+    let _slots = view.slots();
+    let span = view.spanned(width, from, count);
+    match simdutf8::basic::from_utf8(bytes_at(view.contents(), span)) {
+        Ok(text) => are_boundaries(text, view.offsets(), width, span.start, from, from + count),
+        Err(_) => false,
+    }
+}
+
 // A valid slot of a span has bytes that are no text.
 fn any_not_utf8(width: OffsetWidth, view: ArrayView<'_>, from: usize, count: usize) -> bool
+    requires validity { has_short_validity (view_array view) ≡ false }
+    requires long { are_few_offsets (width_of width) (view_array view) ≡ false }
+    requires ordered { are_unordered (width_of width) (length (contents_in (view_array view))) (view_array view) ≡ false }
+    requires within { from + count ≤ slots_in (view_array view) }
+    ensures { let a = view_array view.entry in
+        result ≡ list_any (λ i. is_valid a i && not (is_utf8 (contents_at (width_of width) a i))) (range_with_len from count) }
+{
+    if count > 0 && is_one_text(width, view, from, count) {
+        return false;
+    }
+    any_other_bytes(width, view, from, count)
+}
+
+// The same slot by slot.
+fn any_other_bytes(width: OffsetWidth, view: ArrayView<'_>, from: usize, count: usize) -> bool
     requires validity { has_short_validity (view_array view) ≡ false }
     requires long { are_few_offsets (width_of width) (view_array view) ≡ false }
     requires within { from + count ≤ slots_in (view_array view) }

@@ -1,9 +1,10 @@
-use Rattle.std.specs.Prelude.{Vec, None}
+use Rattle.std.specs.Prelude.{Vec, None, option_map}
 use Rattle.std.specs.Global.{Global}
 use Rattle.std.specs.List.{flat_map}
 use Rattle.std.proofs.Common.{◌≡◌, true, ◌∙◌, List, map, drop, ap, subst, sym, rules}
 use Rattle.std.proofs.lemmas.Result.{on_ok_weaker}
 use Rattle.array_build.proofs.RunColumns.{are_ready, column_arrays, field_built, field_fits, field_sound, have_validity, last_column, lists_of, next_left, place_left, same_cells}
+use Rattle.array_build.proofs.AsWritten.{ready_of, written_of}
 use Rattle.array_build.proofs.Premises.{items_can_be_built, fixed_items_can_be_built}
 use Rattle.array_build.proofs.RunFixedItems.{fixed_list_runs_are}
 use Rattle.array_build.proofs.RunItems.{list_runs_are}
@@ -11,7 +12,7 @@ use Rattle.array_build.proofs.RunParts.{parts_fit, struct_runs_are}
 use Rattle.array_build.proofs.by_runs.+by_runs.Goals as goal
 use Rattle.array_build.specs.Batch.{batch_in, built_at, plain_column, with_arrays}
 use Rattle.array_build.specs.inner.Nodes.{list_kind}
-use Rattle.array_build.specs.inner.Runs.{AreReady, kind_cells}
+use Rattle.array_build.specs.inner.Runs.{AreAsWritten, contents_width, fixed_width, kind_cells}
 use Rattle.array_runs.specs.Runs.{HaveRuns, are_columns_sound, are_runs_sound, runs_cells}
 use Rattle.array_runs.specs.declared.run.Run.{Run}
 use Rattle.arrow_schema.specs.Column.{Column, Columns, Kind, columns_of, fixed_lists, structs}
@@ -22,9 +23,13 @@ use Rattle.cells.specs.Cell.{Cell}
 use Rattle.cells.specs.Dictionary.{item_list, part_list}
 use Rattle.columns.specs.Buildable.{can_build}
 use Rattle.columns.specs.Built.{fixed_items}
+use Rattle.columns.specs.Offsets.{width_of}
 use Rattle.facts.specs.laws.Lists.{drop-item}
 
 -- ---- structs
+
+pub build_run_structs-push_run_slots-requires : goal.build_run_structs-push_run_slots-requires
+build_run_structs-push_run_slots-requires t c = have_validity (structs (columns_of (map column_of c.args.fields.now))) c.args.runs.now c.requires.ready.sound
 
 pub build_run_structs-build_run_parts-requires : goal.build_run_structs-build_run_parts-requires
 build_run_structs-build_run_parts-requires t c =
@@ -41,10 +46,13 @@ build_run_structs-returns t c =
     let have : HaveRuns cs (lists_of c.deref.result.now) (map part_list (kind_cells (structs cs) c.args.runs.now)) =
     subst (λ (vs : List (Vec Run Global)). HaveRuns cs (lists_of vs) (map part_list (kind_cells (structs cs) c.args.runs.now))) (sym c.deref.ensures.value) c.in_ok-parts.ensures.have in
     on_ok_weaker c.build_run_parts.result
-    (λ h. h ∙ struct_runs_are (batch_in c.args.batch.now) (batch_in c.push_run_slots.new.batch) cs c.args.runs.now (lists_of c.deref.result.now) c.requires.ready.valid have c.in_ok-push_run_slots.ensures)
+    (λ h. h ∙ struct_runs_are (batch_in c.args.batch.now) (batch_in c.push_run_slots.new.batch) cs c.args.runs.now (lists_of c.deref.result.now) have c.in_ok-push_run_slots.ensures)
     c.build_run_parts.ensures
 
 -- ---- lists
+
+pub build_run_lists-push_run_slots-requires : goal.build_run_lists-push_run_slots-requires
+build_run_lists-push_run_slots-requires t c = have_validity (list_kind c.args.width (column_of c.args.item.now)) c.args.runs.now c.requires.ready.sound
 
 pub build_run_lists-build_run_column-requires : goal.build_run_lists-build_run_column-requires
 build_run_lists-build_run_column-requires t c =
@@ -61,8 +69,11 @@ build_run_lists-returns t c =
     let below : runs_cells item c.deref.result.now ≡ flat_map item_list (kind_cells (list_kind c.args.width item) c.args.runs.now) = ap (runs_cells item) c.deref.ensures.value ∙ c.in_ok-items.ensures.cells in
     on_ok_weaker c.build_run_column.result
     (λ h. h ∙ list_runs_are (batch_in c.args.batch.now) (batch_in c.push_run_slots.new.batch) (batch_in c.push_buffer.new.batch) c.args.width item c.args.runs.now c.deref.result.now _
-    c.requires.ready.valid below c.in_ok-offsets.ensures c.in_ok-push_run_slots.ensures c.in_ok-push_buffer.ensures)
+    below c.in_ok-offsets.ensures c.in_ok-push_run_slots.ensures c.in_ok-push_buffer.ensures)
     c.build_run_column.ensures
+
+pub build_run_fixed_lists-push_run_slots-requires : goal.build_run_fixed_lists-push_run_slots-requires
+build_run_fixed_lists-push_run_slots-requires t c = have_validity (fixed_lists c.args.size (column_of c.args.item.now)) c.args.runs.now c.requires.ready.sound
 
 pub build_run_fixed_lists-build_run_column-requires : goal.build_run_fixed_lists-build_run_column-requires
 build_run_fixed_lists-build_run_column-requires t c =
@@ -78,29 +89,42 @@ build_run_fixed_lists-returns t c =
     let item : Column = column_of c.args.item.now in
     let below : runs_cells item c.deref.result.now ≡ flat_map (fixed_items c.args.size) (kind_cells (fixed_lists c.args.size item) c.args.runs.now) = ap (runs_cells item) c.deref.ensures.value ∙ c.in_ok-items.ensures.cells in
     on_ok_weaker c.build_run_column.result
-    (λ h. h ∙ fixed_list_runs_are (batch_in c.args.batch.now) (batch_in c.push_run_slots.new.batch) c.args.size item c.args.runs.now c.deref.result.now c.requires.ready.valid below c.in_ok-push_run_slots.ensures)
+    (λ h. h ∙ fixed_list_runs_are (batch_in c.args.batch.now) (batch_in c.push_run_slots.new.batch) c.args.size item c.args.runs.now c.deref.result.now below c.in_ok-push_run_slots.ensures)
     c.build_run_column.ensures
 
 -- ---- a type, and a field
 
-pub build_run_kind-valid_runs-requires : goal.build_run_kind-valid_runs-requires
-build_run_kind-valid_runs-requires t c = have_validity (kind_of c.args.data_type.now) c.args.runs.now c.requires.sound
+pub build_written_kind-build_valid_kind-requires : goal.build_written_kind-build_valid_kind-requires
+build_written_kind-build_valid_kind-requires t c =
+    let kind : Kind = kind_of c.args.data_type.now in
+    let values : fixed_width kind ≡ None = sym c.value_width.ensures ∙ c.in-None-None.is-0 in
+    let contents : contents_width kind ≡ None = sym c.contents_width.ensures ∙ ap (option_map width_of) c.in-None-None.is-1 in
+    (search (rules, field_lemmas), (values, (contents, ready_of kind c.args.runs.now values contents c.requires.ready)))
 
-pub build_run_kind-build_valid_kind-requires : goal.build_run_kind-build_valid_kind-requires
-build_run_kind-build_valid_kind-requires t c =
+pub build_run_kind-build_written_kind-requires : goal.build_run_kind-build_written_kind-requires
+build_run_kind-build_written_kind-requires t c =
+    let ready : AreAsWritten (kind_of c.args.data_type.now) c.args.runs.now
+    = record { sound = c.requires.sound; written = c.are_as_written.ensures c.if-are_as_written.true; fit = c.requires.fits } in
+    (search (rules, field_lemmas), ready)
+
+pub build_split_kind-valid_runs-requires : goal.build_split_kind-valid_runs-requires
+build_split_kind-valid_runs-requires t c = have_validity (kind_of c.args.data_type.now) c.args.runs.now c.requires.sound
+
+pub build_split_kind-build_written_kind-requires : goal.build_split_kind-build_written_kind-requires
+build_split_kind-build_written_kind-requires t c =
     let kind : Kind = kind_of c.args.data_type.now in (
       search (rules, field_lemmas),
-      subst (λ (runs : List Run). AreReady kind runs) (sym c.deref.ensures.value)
-          (are_ready kind c.in_ok-valid.valid.items c.args.runs.now c.in_ok-valid.ensures.same c.in_ok-valid.ensures.valid c.requires.sound c.requires.fits),
+      subst (λ (runs : List Run). AreAsWritten kind runs) (sym c.deref.ensures.value)
+          (written_of kind c.in_ok-valid.valid.items (are_ready kind c.in_ok-valid.valid.items c.args.runs.now c.in_ok-valid.ensures.same c.in_ok-valid.ensures.valid c.requires.sound c.requires.fits)),
     )
 
-pub build_run_kind-returns : goal.build_run_kind-returns
-build_run_kind-returns t c =
+pub build_split_kind-returns : goal.build_split_kind-returns
+build_split_kind-returns t c =
     let kind : Kind = kind_of c.args.data_type.now in
     let same = ap (λ (runs : List Run). kind_cells kind runs) c.deref.ensures.value ∙ same_cells kind c.in_ok-valid.valid.items c.args.runs.now c.in_ok-valid.ensures.same c.requires.sound in
-    on_ok_weaker c.build_valid_kind.result
+    on_ok_weaker c.build_written_kind.result
     (λ h. h ∙ ap (λ (cells : List Cell). with_arrays (batch_in c.args.batch.now) (built_at (plain_column kind None) cells)) same)
-    c.build_valid_kind.ensures
+    c.build_written_kind.ensures
 
 pub build_run_column-build_run_kind-requires : goal.build_run_column-build_run_kind-requires
 build_run_column-build_run_kind-requires t c =

@@ -3,8 +3,8 @@ use Rattle.std.proofs.Common.{◌≡◌, ◌++◌, true, drop}
 use Rattle.std.specs.List.{flat_map}
 use Rattle.arrow_schema.specs.View.{kind_of}
 use Rattle.array_build.specs.Batch.{plain_column}
-use Rattle.array_build.specs.inner.Runs.{kind_cells}
-use Rattle.array_runs.specs.Runs.{are_runs_sound, are_runs_valid}
+use Rattle.array_build.specs.inner.Runs.{are_runs_as_written, kind_cells}
+use Rattle.array_runs.specs.Runs.{are_runs_sound}
 use Rattle.columns.specs.Built.{contents_of}
 use Rattle.array_build.proofs.run_contents.copied_contents.Given as goal
 
@@ -12,6 +12,6 @@ use Rattle.array_build.proofs.run_contents.copied_contents.Given as goal
 abbrev pub invariant-loop-run : goal.invariant-loop-run
 invariant-loop-run l = record {
   sound : are_runs_sound (plain_column (kind_of l.data_type) None) (drop l.run-index l.runs) ≡ true;
-  valid : are_runs_valid (drop l.run-index l.runs) ≡ true;
+  written : are_runs_as_written (kind_of l.data_type) (drop l.run-index l.runs) ≡ true;
   contents : l.contents.items ++ flat_map contents_of (kind_cells (kind_of l.data_type) (drop l.run-index l.runs)) ≡ flat_map contents_of (kind_cells (kind_of l.data_type) l.runs);
 }

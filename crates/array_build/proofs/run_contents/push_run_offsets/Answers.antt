@@ -12,26 +12,26 @@ use Rattle.columns.specs.Offsets.{width_of}
 
 pub push_slot_offsets-requires-clause-long : goal.push_slot_offsets-requires-clause-long
 push_slot_offsets-requires-clause-long c =
-    (run_texts (kind_of c.args.data_type.now) (width_of c.args.width) c.in-Slots.array c.in-Slots.from c.in-Slots.len c.args.run.now c.in-Slots.is c.requires.width c.requires.sound c.requires.valid).few
+    (run_texts (kind_of c.args.data_type.now) (width_of c.args.width) c.in-Slots.array c.in-Slots.from c.in-Slots.len c.args.run.now c.in-Slots.is c.requires.width c.requires.sound c.requires.written).few
 
 pub push_slot_offsets-requires-clause-ordered : goal.push_slot_offsets-requires-clause-ordered
 push_slot_offsets-requires-clause-ordered c =
-    (run_texts (kind_of c.args.data_type.now) (width_of c.args.width) c.in-Slots.array c.in-Slots.from c.in-Slots.len c.args.run.now c.in-Slots.is c.requires.width c.requires.sound c.requires.valid).up
+    (run_texts (kind_of c.args.data_type.now) (width_of c.args.width) c.in-Slots.array c.in-Slots.from c.in-Slots.len c.args.run.now c.in-Slots.is c.requires.width c.requires.sound c.requires.written).up
 
 pub push_slot_offsets-requires-clause-room : goal.push_slot_offsets-requires-clause-room
 push_slot_offsets-requires-clause-room c =
-    let known = run_texts (kind_of c.args.data_type.now) (width_of c.args.width) c.in-Slots.array c.in-Slots.from c.in-Slots.len c.args.run.now c.in-Slots.is c.requires.width c.requires.sound c.requires.valid in
+    let known = run_texts (kind_of c.args.data_type.now) (width_of c.args.width) c.in-Slots.array c.in-Slots.from c.in-Slots.len c.args.run.now c.in-Slots.is c.requires.width c.requires.sound c.requires.written in
     subst (λ (bytes : List ℕ). c.args.start + length bytes ≤ large_offset) known.contents c.requires.room
 
 pub returns-in-Slots-clause-offsets : goal.returns-in-Slots-clause-offsets
 returns-in-Slots-clause-offsets c =
-    let known = run_texts (kind_of c.args.data_type.now) (width_of c.args.width) c.in-Slots.array c.in-Slots.from c.in-Slots.len c.args.run.now c.in-Slots.is c.requires.width c.requires.sound c.requires.valid in
+    let known = run_texts (kind_of c.args.data_type.now) (width_of c.args.width) c.in-Slots.array c.in-Slots.from c.in-Slots.len c.args.run.now c.in-Slots.is c.requires.width c.requires.sound c.requires.written in
     subst (λ (sizes : List ℕ). IfOk c.push_slot_offsets.result (λ next. AreOffsetsAdded (width_of c.args.width) c.args.offsets.now.items c.push_slot_offsets.new.offsets.items c.args.start next sizes))
     (sym known.sizes) c.push_slot_offsets.ensures.offsets
 
 pub returns-in-Slots-clause-next : goal.returns-in-Slots-clause-next
 returns-in-Slots-clause-next c =
-    let known = run_texts (kind_of c.args.data_type.now) (width_of c.args.width) c.in-Slots.array c.in-Slots.from c.in-Slots.len c.args.run.now c.in-Slots.is c.requires.width c.requires.sound c.requires.valid in
+    let known = run_texts (kind_of c.args.data_type.now) (width_of c.args.width) c.in-Slots.array c.in-Slots.from c.in-Slots.len c.args.run.now c.in-Slots.is c.requires.width c.requires.sound c.requires.written in
     subst (λ (bytes : List ℕ). IfOk c.push_slot_offsets.result (λ next. next ≡ c.args.start + length bytes)) (sym known.contents) c.push_slot_offsets.ensures.next
 
 pub returns-in_ok-push_null_offsets-in-Nulls-clause-offsets : goal.returns-in_ok-push_null_offsets-in-Nulls-clause-offsets

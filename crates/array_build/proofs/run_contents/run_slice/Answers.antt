@@ -7,9 +7,9 @@ use Rattle.array_runs.specs.declared.run.Run.TheVariants.{Slots}
 
 pub slot_contents-requires-clause-long : goal.slot_contents-requires-clause-long
 slot_contents-requires-clause-long c =
-    (run_texts (kind_of c.args.data_type.now) (width_of c.args.width) c.args.array c.args.from c.args.len (Slots c.args.array c.args.from c.args.len) refl c.requires.width c.requires.sound c.requires.valid).few
+    (run_texts (kind_of c.args.data_type.now) (width_of c.args.width) c.args.array c.args.from c.args.len (Slots c.args.array c.args.from c.args.len) refl c.requires.width c.requires.sound c.requires.written).few
 
 pub returns : goal.returns
 returns c =
-    let known = run_texts (kind_of c.args.data_type.now) (width_of c.args.width) c.args.array c.args.from c.args.len (Slots c.args.array c.args.from c.args.len) refl c.requires.width c.requires.sound c.requires.valid in
+    let known = run_texts (kind_of c.args.data_type.now) (width_of c.args.width) c.args.array c.args.from c.args.len (Slots c.args.array c.args.from c.args.len) refl c.requires.width c.requires.sound c.requires.written in
     c.slot_contents.ensures ∙ sym known.contents

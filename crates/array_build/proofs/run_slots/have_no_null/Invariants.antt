@@ -1,7 +1,11 @@
-use Rattle.std.proofs.Common.{◌≡◌, drop}
+use Rattle.std.proofs.Common.{◌≡◌, true, drop}
 use Rattle.std.specs.List.{list_all}
 use Rattle.array_build.specs.inner.Runs.{runs_bits}
+use Rattle.array_runs.specs.Runs.{has_validity}
 use Rattle.array_build.proofs.run_slots.have_no_null.Given as goal
 
 abbrev pub invariant-loop-run : goal.invariant-loop-run
-invariant-loop-run l = list_all (λ b. b) (runs_bits (drop l.run-index l.runs)) ≡ list_all (λ b. b) (runs_bits l.runs)
+invariant-loop-run l = record {
+  left : list_all has_validity (drop l.run-index l.runs) ≡ true;
+  bits : list_all (λ b. b) (runs_bits (drop l.run-index l.runs)) ≡ list_all (λ b. b) (runs_bits l.runs);
+}

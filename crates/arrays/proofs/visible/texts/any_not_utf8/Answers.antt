@@ -1,23 +1,8 @@
-use Rattle.std.proofs.Common.{◌≡◌, ◌+◌, ◌-◌, ℕ, true, false, arith, ap, sym, ◌∙◌}
-use Rattle.std.specs.List.{list_any, range_with_len}
-use Rattle.arrays.proofs.Ranges.{any-here, any-later, any-end}
-use Rattle.arrays.proofs.VisibleSlots.{bad}
+use Rattle.std.proofs.Common.{sym}
+use Rattle.columns.specs.Offsets.{width_of}
+use Rattle.columns.specs.View.{view_array}
+use Rattle.arrays.proofs.TextSpans.{none_is_other}
 use Rattle.arrays.proofs.visible.texts.any_not_utf8.Goals as goal
 
-pub loop-i-init : goal.loop-i-init
-loop-i-init c =
-    let all : c.args.from + c.args.count - c.args.from ≡ c.args.count = omega arith in
-    ap (λ (n : ℕ). list_any (bad c.args.width c.args.view) (range_with_len c.args.from n)) all
-
-pub returns-then-has_other_bytes : goal.returns-then-has_other_bytes
-returns-then-has_other_bytes c =
-    let here : bad c.args.width c.args.view c.loop-i.i ≡ true = sym c.has_other_bytes.ensures ∙ c.if-has_other_bytes.true in
-    sym (any-here (bad c.args.width c.args.view) c.loop-i.i (c.args.from + c.args.count) (omega arith) here) ∙ c.loop-i.invariant
-
-pub loop-i-preserved : goal.loop-i-preserved
-loop-i-preserved c =
-    let here : bad c.args.width c.args.view c.loop-i.i ≡ false = sym c.has_other_bytes.ensures ∙ c.if-has_other_bytes.false in
-    any-later (bad c.args.width c.args.view) c.loop-i.i (c.args.from + c.args.count) (omega arith) here ∙ c.loop-i.invariant
-
-pub returns : goal.returns
-returns c = sym (any-end (bad c.args.width c.args.view) c.loop-i.i (c.args.from + c.args.count) (omega arith)) ∙ c.loop-i.invariant
+pub returns-then-is_one_text : goal.returns-then-is_one_text
+returns-then-is_one_text c = sym (none_is_other (width_of c.args.width) (view_array c.args.view) c.args.from c.args.count (c.is_one_text.ensures c.if-is_one_text.true))

@@ -1,0 +1,6 @@
+use Rattle.arrow_schema.specs.View.{kind_of}
+use Rattle.array_build.proofs.RunColumns.{have_validity}
+use Rattle.array_build.proofs.flat_runs.build_run_bits.Goals as goal
+
+pub push_run_slots-requires : goal.push_run_slots-requires
+push_run_slots-requires c = have_validity (kind_of c.args.data_type.now) c.args.runs.now c.requires.ready.sound

@@ -1,0 +1,145 @@
+// Runs that stand as they are written, also where there are nulls among their slots.
+ghost use Rattle.std.specs.Prelude.{◌≡◌, ℕ, ◌≤◌, ◌<◌, ◌+◌, ◌-◌, ◌*◌, ◌^◌, ◌==◌, ◌||◌, false, true, None, length};
+ghost use Rattle.array_build.specs.Batch.{plain_column};
+ghost use Rattle.array_build.specs.inner.Runs.{are_runs_as_written, are_zeros, is_run_as_written};
+ghost use Rattle.array_runs.specs.Runs.{are_runs_sound, is_run_sound};
+ghost use Rattle.array_runs.specs.declared.run.Run.TheVariants.{Slots};
+ghost use Rattle.arrow_schema.specs.View.{kind_of};
+ghost use Rattle.bitmap.specs.Bits.{bit};
+ghost use Rattle.columns.specs.Array.{slots_in, values_in};
+ghost use Rattle.columns.specs.CellAt.{is_valid, number_at, span_size, value_at};
+ghost use Rattle.columns.specs.Offsets.{width_of};
+ghost use Rattle.columns.specs.Tests.{are_few_offsets, has_short_validity};
+ghost use Rattle.columns.specs.View.{view_array};
+
+use crate::run_contents::offset_at;
+use crate::run_slots::are_all_valid;
+use crate::widths::{contents_width, value_width};
+use array_runs::Run;
+use arrow_schema::DataType;
+use bitmap::get;
+use columns::{ArrayView, OffsetWidth};
+
+fn are_zeros(bytes: &[u8]) -> bool
+    ensures { result ≡ are_zeros bytes.now }
+{
+    for byte in bytes {
+        if *byte != 0 {
+            return false;
+        }
+    }
+    true
+}
+
+fn value_at(values: &[u8], width: usize, i: usize) -> &[u8]
+    requires within { (i + 1) * width ≤ length values.now }
+    requires counted { i + 1 < 2 ^ 64 }
+    ensures { result.now ≡ value_at width values.now i }
+{
+    &values[i * width..(i + 1) * width]
+}
+
+// Each slot that is not valid has zeros for a value.
+fn have_zeros(array: ArrayView<'_>, width: usize, from: usize, len: usize) -> bool
+    requires short { has_short_validity (view_array array) ≡ false }
+    requires long { slots_in (view_array array) * width ≤ length (values_in (view_array array)) }
+    requires within { from + len ≤ slots_in (view_array array) }
+    ensures { let a = view_array array.entry in
+        result ≡ true → (i : ℕ) → from ≤ i → i < from + len → (is_valid a i || are_zeros (value_at width (values_in a) i)) ≡ true }
+{
+    let validity = array.validity();
+    if validity.is_empty() {
+        return true;
+    }
+    let _slots = array.slots();
+    have_zeros_at_unset(validity, array.values(), width, from, from + len)
+}
+
+// The same by the bits of a validity bitmap.
+fn have_zeros_at_unset(validity: &[u8], values: &[u8], width: usize, from: usize, to: usize) -> bool
+    requires bits { to ≤ 8 * length validity.now }
+    requires values { to * width ≤ length values.now }
+    ensures { result ≡ true → (i : ℕ) → from ≤ i → i < to → (bit validity.now i || are_zeros (value_at width values.now i)) ≡ true }
+{
+    for i in from..to {
+        if !get(validity, i) && !are_zeros(value_at(values, width, i)) {
+            return false;
+        }
+    }
+    true
+}
+
+// Each slot that is not valid has no byte between its offsets.
+fn have_no_bytes(array: ArrayView<'_>, width: OffsetWidth, from: usize, len: usize) -> bool
+    requires short { has_short_validity (view_array array) ≡ false }
+    requires long { are_few_offsets (width_of width) (view_array array) ≡ false }
+    requires within { from + len ≤ slots_in (view_array array) }
+    ensures { let a = view_array array.entry in
+        result ≡ true → (i : ℕ) → from ≤ i → i < from + len → (is_valid a i || span_size (width_of width) a i == 0) ≡ true }
+{
+    if len == 0 {
+        return true;
+    }
+    let validity = array.validity();
+    if validity.is_empty() {
+        return true;
+    }
+    let _slots = array.slots();
+    have_no_bytes_at_unset(validity, array.offsets(), width, from, from + len)
+}
+
+// The same by the bits of a validity bitmap.
+fn have_no_bytes_at_unset(
+    validity: &[u8],
+    offsets: &[u8],
+    width: OffsetWidth,
+    from: usize,
+    to: usize,
+) -> bool
+    requires bits { to ≤ 8 * length validity.now }
+    requires offsets { (to + 1) * width_of width ≤ length offsets.now }
+    ensures { result ≡ true → (i : ℕ) → from ≤ i → i < to
+        → (bit validity.now i || (number_at (width_of width) offsets.now (i + 1) - number_at (width_of width) offsets.now i) == 0) ≡ true }
+{
+    for i in from..to {
+        if !get(validity, i) && offset_at(offsets, width, i) < offset_at(offsets, width, i + 1) {
+            return false;
+        }
+    }
+    true
+}
+
+// The slots of a run stand as they are written. Nulls of types that have more below them than bytes do not.
+fn are_slots_as_written(data_type: &DataType, array: ArrayView<'_>, from: usize, len: usize) -> bool
+    requires { is_run_sound (plain_column (kind_of data_type.now) None) (Slots array from len) ≡ true }
+    ensures { result ≡ true → is_run_as_written (kind_of data_type.now) (Slots array.entry from len) ≡ true }
+{
+    match (value_width(data_type), contents_width(data_type)) {
+        (Some(width), _) => have_zeros(array, width, from, len),
+        (None, Some(width)) => have_no_bytes(array, width, from, len),
+        (None, None) => are_all_valid(array, from, len),
+    }
+}
+
+fn is_as_written(data_type: &DataType, run: &Run<'_>) -> bool
+    requires { is_run_sound (plain_column (kind_of data_type.now) None) run.now ≡ true }
+    ensures { result ≡ true → is_run_as_written (kind_of data_type.now) run.now ≡ true }
+{
+    match run {
+        Run::Slots { array, from, len } => are_slots_as_written(data_type, *array, *from, *len),
+        Run::Nulls(_) => true,
+    }
+}
+
+/// All slots of runs stand as they are written.
+pub(crate) fn are_as_written(data_type: &DataType, runs: &[Run<'_>]) -> bool
+    requires { are_runs_sound (plain_column (kind_of data_type.now) None) runs.now ≡ true }
+    ensures { result ≡ true → are_runs_as_written (kind_of data_type.now) runs.now ≡ true }
+{
+    for run in runs {
+        if !is_as_written(data_type, run) {
+            return false;
+        }
+    }
+    true
+}

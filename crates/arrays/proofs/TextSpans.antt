@@ -1,0 +1,71 @@
+-- Slots whose bytes are one text.
+use Rattle.std.specs.Prelude.{◌==◌, ◌&&◌, not}
+use Rattle.std.specs.List.{list_any, range_with_len}
+use Rattle.std.specs.Str.{IsCharBoundary, IsUtf8, is_utf8}
+use Rattle.std.proofs.Common.{◌≡◌, ℕ, ◌+◌, ◌-◌, ◌*◌, ◌≤◌, ◌<◌, Bool, true, false, List, length, take, drop, inl, inr, refl, ap, sym, subst, ◌∙◌, arith, length-drop, mul-le-mul_right}
+use Rattle.std.proofs.lemmas.Bool.{cases_lt, ltb-false, ne_eqb}
+use Rattle.std.proofs.lemmas.List.{drop-drop, drop-take, length-take-le, take-take}
+use Rattle.std.proofs.lemmas.Str.{IsCharBoundary-end, IsUtf8-between, is_utf8-from_IsUtf8}
+use Rattle.arrays.proofs.Ranges.{any-none}
+use Rattle.columns.specs.Array.{Array, contents_in, offsets_in, slots_in}
+use Rattle.columns.specs.CellAt.{contents_at, is_valid, number_at}
+use Rattle.columns.specs.Tests.{are_few_offsets, are_unordered}
+use Rattle.columns.specs.laws.Offsets.{offsets_ascend, spans_fit}
+
+-- a part of a part
+part_of_part : (xs : List ℕ) (s n d m : ℕ) → d + m ≤ n → take m (drop d (take n (drop s xs))) ≡ take m (drop (s + d) xs)
+part_of_part xs s n d m fits =
+    let whole : n ≡ d + (n - d) = omega (arith, fits) in
+    let same : s + d ≡ d + s = omega arith in
+    ap (λ (k : ℕ). take m (drop d (take k (drop s xs)))) whole
+    ∙ ap (take m) (drop-take d (n - d) (drop s xs))
+    ∙ take-take m (n - d) (drop d (drop s xs)) (omega (arith, fits))
+    ∙ ap (take m) (drop-drop d s xs)
+
+module _ (w : ℕ) (a : Array) (few : are_few_offsets w a ≡ false) (up : are_unordered w (length (contents_in a)) a ≡ false) where
+  -- there is an offset behind the last of some slots
+  pub offsets_long : (to : ℕ) → 0 < to → to ≤ slots_in a → (to + 1) * w ≤ length (offsets_in a)
+  offsets_long to some within =
+      let filled : (slots_in a == 0) ≡ false = ne_eqb _ _ (λ e. omega arith) in
+      let long : (slots_in a + 1) * w ≤ length (offsets_in a) = ltb-false _ _ (rw filled at few) in
+      let most : (to + 1) * w ≤ (slots_in a + 1) * w = mul-le-mul_right w (omega arith) in
+      omega (arith, long, most)
+
+  -- a text that is cut where characters begin
+  pub each_is_text : (from count : ℕ) (bs : List ℕ) → 0 < count → from + count ≤ slots_in a
+      → bs ≡ take (number_at w (offsets_in a) (from + count) - number_at w (offsets_in a) from) (drop (number_at w (offsets_in a) from) (contents_in a)) → IsUtf8 bs
+      → ((i : ℕ) → from ≤ i → i < from + count → IsCharBoundary bs (number_at w (offsets_in a) i - number_at w (offsets_in a) from))
+      → (i : ℕ) → from ≤ i → i < from + count → is_utf8 (contents_at w a i) ≡ true
+  each_is_text from count bs some within is text begins i low high =
+      let f : ℕ → ℕ = number_at w (offsets_in a) in
+      let filled : 0 < slots_in a = omega arith in
+      let before : from + (i - from) ≡ i = omega arith in
+      let behind : i + 1 + (from + count - (i + 1)) ≡ from + count = omega arith in
+      let first : f from ≤ f i = rw before at (offsets_ascend w (length (contents_in a)) a from (i - from) up filled (omega arith)) in
+      let own : f i ≤ f (i + 1) = offsets_ascend w (length (contents_in a)) a i 1 up filled (omega arith) in
+      let last : f (i + 1) ≤ f (from + count) = rw behind at (offsets_ascend w (length (contents_in a)) a (i + 1) (from + count - (i + 1)) up filled (omega arith)) in
+      let fits = spans_fit w (length (contents_in a)) a from count up filled within in
+      let left = length-drop (f from) (contents_in a) in
+      let size : length bs ≡ f (from + count) - f from = ap length is ∙ length-take-le (f (from + count) - f from) (drop (f from) (contents_in a)) (omega (arith, fits, left)) in
+      let next : IsCharBoundary bs (f (i + 1) - f from) = elim (cases_lt (i + 1) (from + count)) [
+        | inl lt ↦ begins (i + 1) (omega arith) lt
+        | inr le ↦ let e : from + count ≡ i + 1 = omega arith in
+            let end : length bs ≡ f (i + 1) - f from = size ∙ ap (λ (k : ℕ). f k - f from) e in subst (IsCharBoundary bs) end (IsCharBoundary-end bs)
+      ] in
+      let between = IsUtf8-between bs (f i - f from) (f (i + 1) - f from) text (omega (arith, own)) (begins i low high) next in
+      let count_own : (f (i + 1) - f from) - (f i - f from) ≡ f (i + 1) - f i = omega (arith, first, own) in
+      let place : f from + (f i - f from) ≡ f i = omega (arith, first) in
+      let same : take ((f (i + 1) - f from) - (f i - f from)) (drop (f i - f from) bs) ≡ contents_at w a i =
+      ap (λ (k : ℕ). take k (drop (f i - f from) bs)) count_own
+      ∙ ap (λ (xs : List ℕ). take (f (i + 1) - f i) (drop (f i - f from) xs)) is
+      ∙ part_of_part (contents_in a) (f from) (f (from + count) - f from) (f i - f from) (f (i + 1) - f i) (omega (arith, first, own, last))
+      ∙ ap (λ (k : ℕ). take (f (i + 1) - f i) (drop k (contents_in a))) place in
+      is_utf8-from_IsUtf8 (contents_at w a i) (subst IsUtf8 same between)
+
+no_other : (b c : Bool) → c ≡ true → (b && not c) ≡ false
+no_other true c h = rw h refl
+no_other false c h = refl
+
+pub none_is_other : (w : ℕ) (a : Array) (from count : ℕ) → ((i : ℕ) → from ≤ i → i < from + count → is_utf8 (contents_at w a i) ≡ true)
+    → list_any (λ i. is_valid a i && not (is_utf8 (contents_at w a i))) (range_with_len from count) ≡ false
+none_is_other w a from count texts = any-none (λ i. is_valid a i && not (is_utf8 (contents_at w a i))) from count (λ i low high. no_other (is_valid a i) (is_utf8 (contents_at w a i)) (texts i low high))
