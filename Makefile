@@ -46,7 +46,7 @@ edit-reasons:
 memory: $(TESTS)
 	tests/refused_memory_in_crates $(REFUSING)
 
-# The program as it is built, on whole streams, with failing input and output, and with each allocation refused; then texts.
+# The program as it is built, on whole streams, with failing input and output, with each read failed and each allocation refused; then texts.
 vectors: bin/arrowstore crates/test_texts/out/test_texts
 	tests/readme bin/arrowstore
 	tests/program bin/arrowstore
@@ -57,6 +57,7 @@ vectors: bin/arrowstore crates/test_texts/out/test_texts
 	tests/types bin/arrowstore
 	tests/metadata bin/arrowstore
 	tests/refused_memory bin/arrowstore
+	tests/failing_reads bin/arrowstore
 	tests/run_vectors bin/arrowstore tests/vectors/ints tests/vectors/streams tests/vectors/traps
 	tests/texts crates/test_texts/out/test_texts tests/vectors/texts.jsonl tests/vectors/texts_worked.jsonl
 

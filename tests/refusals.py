@@ -1,26 +1,60 @@
-"""Runs a program with each of its allocations refused in turn, by a library that is loaded before the C library."""
+"""Runs a program with each of its allocations refused, or each read of its input failed, in turn, by a library that is loaded before the C library."""
+import functools
 import os
+import shutil
 import subprocess
 import tempfile
 from concurrent.futures import ThreadPoolExecutor
 
 HERE = os.path.dirname(os.path.abspath(__file__))
+ROOM = tempfile.TemporaryDirectory()
+
+
+@functools.cache
+def library():
+    path = os.path.join(ROOM.name, "refuse.so")
+    subprocess.run(["gcc", "-O1", "-shared", "-fPIC", "-o", path, os.path.join(HERE, "refuse.c")], check=True)
+    return path
+
+
+def content(path):
+    with open(path, "rb") as file:
+        return file.read()
 
 
 def answer_of(command, given, **extra):
-    done = subprocess.run(command, input=given, capture_output=True, timeout=60, env={**os.environ, **extra})
+    """The input is a file, and not a pipe, so that each run reads as often."""
+    with tempfile.TemporaryFile() as file:
+        file.write(given)
+        file.seek(0)
+        done = subprocess.run(command, stdin=file, capture_output=True, timeout=60, env={**os.environ, **extra})
     return done.returncode, done.stdout, done.stderr
 
 
-def each_refused(command, given=b"", runs_at_once=None):
-    """The program's answer undisturbed, and its answers with the first, the second .. allocation refused. Commands that lock one file run one at once."""
-    with tempfile.TemporaryDirectory() as room:
-        library, counted = os.path.join(room, "refuse_allocation.so"), os.path.join(room, "count")
-        source = os.path.join(HERE, "refuse_allocation.c")
-        subprocess.run(["gcc", "-O1", "-shared", "-fPIC", "-o", library, source], check=True)
-        undisturbed = answer_of(command, given, LD_PRELOAD=library, ALLOCATIONS=counted)
-        with open(counted, encoding="ascii") as count:
-            numbers = range(1, int(count.read()) + 1)
-        with ThreadPoolExecutor(runs_at_once or os.cpu_count()) as pool:
-            answers = pool.map(lambda n: answer_of(command, given, LD_PRELOAD=library, REFUSED=str(n)), numbers)
-            return undisturbed, list(answers)
+def on_a_copy(store):
+    """Answers of commands on a fresh copy of this store each, and the bytes that the copy has then. So they may run at once."""
+    def answer(command, given, **extra):
+        with tempfile.TemporaryDirectory() as room:
+            copy = shutil.copy(store, room)
+            return *answer_of([copy if word == store else word for word in command], given, **extra), content(copy)
+    return answer
+
+
+def in_turn(counted, command, given, answer, setting, **extra):
+    """The answer undisturbed, and the answers with the first, the second .. of what is counted going wrong."""
+    counts = os.path.join(ROOM.name, "counts")
+    undisturbed = answer(command, given, LD_PRELOAD=library(), COUNTS=counts)
+    numbers = range(1, int(content(counts).split()[counted]) + 1)
+    with ThreadPoolExecutor(os.cpu_count()) as pool:
+        answers = pool.map(lambda n: answer(command, given, LD_PRELOAD=library(), **extra, **{setting: str(n)}), numbers)
+        return undisturbed, list(answers)
+
+
+def each_refused(command, given=b"", answer=answer_of):
+    """With each allocation refused."""
+    return in_turn(0, command, given, answer, "REFUSED")
+
+
+def each_read_failed(command, given, error, answer=answer_of):
+    """With each read of standard input failed, with this error of the system."""
+    return in_turn(1, command, given, answer, "FAILED_READ", READ_ERROR=str(error))

@@ -15,7 +15,10 @@ class Answers:
             self.wrong.append(f"{what}: {got!r:.120}, not {wanted!r:.120}")
 
     def run(self, words, given=b""):
-        done = subprocess.run([self.program, *words], input=given, capture_output=True, timeout=60)
+        try:
+            done = subprocess.run([self.program, *words], input=given, capture_output=True, timeout=60)
+        except subprocess.TimeoutExpired:
+            return None, b"", b"no end within a minute"
         return done.returncode, done.stdout, done.stderr
 
     def accepted(self, what, given, wanted):

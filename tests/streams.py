@@ -9,8 +9,11 @@ import struct
 CONTINUATION = b"\xff\xff\xff\xff"
 END = CONTINUATION + bytes(4)
 INTEGERS = {f"{sign}int{bits}": (bits, sign == "") for sign in ("", "u") for bits in (8, 16, 32, 64)}
-CODES = {(8, True): "b", (16, True): "h", (32, True): "i", (64, True): "q",
-         (8, False): "B", (16, False): "H", (32, False): "I", (64, False): "Q"}
+LETTERS = {(8, True): "b", (16, True): "h", (32, True): "i", (64, True): "q",
+           (8, False): "B", (16, False): "H", (32, False): "I", (64, False): "Q"}
+# Codes of the union Type in Schema.fbs.
+NULL, INT, FLOAT, BINARY, UTF8, BOOL, DATE, TIME, TIMESTAMP = 1, 2, 3, 4, 5, 6, 8, 9, 10
+LIST, STRUCT, FIXED_BINARY, FIXED_LIST, MAP, LARGE_BINARY, LARGE_UTF8, LARGE_LIST = 12, 13, 15, 16, 17, 19, 20, 21
 
 
 def fill(out, step):
@@ -147,7 +150,7 @@ def record_batch(length, bodies):
 
 
 def numbers(kind, values):
-    return struct.pack(f"<{len(values)}{CODES[INTEGERS[kind]]}", *values)
+    return struct.pack(f"<{len(values)}{LETTERS[INTEGERS[kind]]}", *values)
 
 
 def bits(flags):
