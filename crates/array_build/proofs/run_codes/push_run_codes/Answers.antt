@@ -1,6 +1,6 @@
-use Rattle.std.specs.Prelude.{Option, Some}
+use Rattle.std.specs.Prelude.{Some}
 use Rattle.std.specs.List.{list_all}
-use Rattle.std.proofs.Common.{◌≡◌, ◌≤◌, ◌+◌, ◌-◌, ◌∙◌, ℕ, List, map, true, arith, ap, refl, subst, sym}
+use Rattle.std.proofs.Common.{◌≡◌, ◌≤◌, ◌+◌, ◌-◌, ◌∙◌, ℕ, List, map, arith, ap, refl, subst, sym}
 use Rattle.std.proofs.lemmas.Bool.{and_parts, leb-true}
 use Rattle.std.proofs.lemmas.Result.{on_ok_weaker}
 use Rattle.arrow_schema.specs.Column.{Column}

@@ -1,5 +1,5 @@
 use Rattle.std.specs.Prelude.{Option}
-use Rattle.std.proofs.Common.{◌≡◌, ◌+◌, ◌-◌, ℕ, List, ap, arith, map, subst, sym}
+use Rattle.std.proofs.Common.{◌≡◌, ◌+◌, ◌-◌, ℕ, List, arith, map, subst, sym}
 use Rattle.arrow_schema.specs.View.{column_of}
 use Rattle.array_build.proofs.CodedRuns.{coded_here, first_cell}
 use Rattle.array_build.proofs.Codes.{IsUnderway, all_coded, one_coded}

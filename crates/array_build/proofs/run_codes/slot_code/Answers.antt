@@ -1,5 +1,5 @@
-use Rattle.std.specs.Prelude.{ℤ, Option, Some, None, get_or}
-use Rattle.std.proofs.Common.{◌≡◌, ℕ, List, map, ap, sym, subst, true, false, ◌∙◌}
+use Rattle.std.specs.Prelude.{ℤ, Option, None, get_or}
+use Rattle.std.proofs.Common.{◌≡◌, ℕ, List, map, ap, sym, subst, ◌∙◌}
 use Rattle.arrow_schema.specs.View.{column_of, index_of}
 use Rattle.array_build.proofs.CodedRuns.{hidden_cell, valid_cell}
 use Rattle.array_build.proofs.Codes.{is_known, noted_known, null_code}
@@ -8,7 +8,6 @@ use Rattle.array_build.specs.inner.Codes.{IsKnown, code_in, known_at, noted, own
 use Rattle.cells.specs.Cell.{Cell, null}
 use Rattle.cells.specs.Dictionary.{with_entry}
 use Rattle.cells.specs.Entry.{entry_cell}
-use Rattle.columns.specs.Array.{Array}
 use Rattle.columns.specs.CellAt.{cell_at, entry_at, index_at}
 use Rattle.columns.specs.View.{view_array}
 use Rattle.values.specs.Borrowed.{borrowed_cell}
