@@ -147,7 +147,8 @@ pub(crate) fn code_indices(
 ) -> Result<Vec<u8>, AllocError>
     ensures { IfOk result (λ bytes. bytes.items ≡ flat_map (code_bytes (record { bits = bits_of index.width; signed = index.signed })) codes.now) }
 {
-    let mut indices = Vec::new(alloc);
+    let size = codes.len().saturating_mul(index.width.bytes());
+    let mut indices = Vec::with_capacity(alloc, size)?;
     for code in codes {
         push_index(&mut indices, index.width, code.unwrap_or(0) as u64)?;
     }

@@ -20,7 +20,7 @@ use crate::run_slots::count_slots;
 use array_runs::Run;
 use arrow_schema::{DictSpec, Field};
 use cells::Entry;
-use columns::{ArrayView, entry_count, index_number};
+use columns::{ArrayView, CodedSlots, entry_count};
 use indexmap::IndexSet;
 use std::alloc::{AllocError, Global};
 
@@ -40,52 +40,53 @@ fn unknown(
     Ok(known)
 }
 
-fn known_code(known: &[Option<usize>], number: Option<u128>) -> Option<usize>
+#[inline]
+fn known_code(known: &[Option<usize>], number: Option<u64>) -> Option<usize>
     ensures { result ≡ known_at known.now number }
 {
     match number {
-        Some(number) if number < known.len() as u128 => known[number as usize],
+        Some(number) if number < known.len() as u64 => known[number as usize],
         _ => None,
     }
 }
 
-fn note_code(known: &mut Vec<Option<usize>>, number: Option<u128>, code: Option<usize>)
+fn note_code(known: &mut Vec<Option<usize>>, number: Option<u64>, code: Option<usize>)
     ensures { known.new.items ≡ noted known.old.items number code }
 {
     if let Some(number) = number {
-        if number < known.len() as u128 {
+        if number < known.len() as u64 {
             known[number as usize] = code;
         }
     }
 }
 
 // The code of a slot.
+#[inline]
 fn slot_code<'a>(
     entries: &mut IndexSet<Entry<'a>>,
     known: &mut Vec<Option<usize>>,
     field: &'a Field,
-    spec: DictSpec,
-    array: ArrayView<'a>,
+    slots: CodedSlots<'a>,
     i: usize,
 ) -> Result<Option<usize>, AllocError>
-    requires spec { field.now.dictionary ≡ Some spec }
-    requires sound { is_sound (column_of field.now) (view_array array) ≡ true }
-    requires within { i < slots_in (view_array array) }
-    requires coded { is_coded (cell_at (column_of field.now) (view_array array) i) ≡ true }
-    requires known { AreKnown (map entry_cell entries.old.keys) (own_entries field.now array) known.old.items }
+    requires spec { field.now.dictionary ≡ Some slots.spec }
+    requires sound { is_sound (column_of field.now) (view_array slots.view) ≡ true }
+    requires within { i < slots_in (view_array slots.view) }
+    requires coded { is_coded (cell_at (column_of field.now) (view_array slots.view) i) ≡ true }
+    requires known { AreKnown (map entry_cell entries.old.keys) (own_entries field.now slots.view) known.old.items }
     ensures entries { OnOk result (map entry_cell entries.new.keys
-        ≡ with_entry (map entry_cell entries.old.keys) (cell_at (column_of field.now) (view_array array.entry) i)) }
-    ensures code { IfOk result (λ code. code ≡ code_in (map entry_cell entries.new.keys) (cell_at (column_of field.now) (view_array array.entry) i)) }
-    ensures known { OnOk result (AreKnown (map entry_cell entries.new.keys) (own_entries field.now array.entry) known.new.items) }
+        ≡ with_entry (map entry_cell entries.old.keys) (cell_at (column_of field.now) (view_array slots.entry.view) i)) }
+    ensures code { IfOk result (λ code. code ≡ code_in (map entry_cell entries.new.keys) (cell_at (column_of field.now) (view_array slots.entry.view) i)) }
+    ensures known { OnOk result (AreKnown (map entry_cell entries.new.keys) (own_entries field.now slots.entry.view) known.new.items) }
 {
-    if !array.is_valid(i) {
+    if !slots.is_valid(i) {
         return Ok(None);
     }
-    let number = index_number(spec, array, i);
+    let number = slots.number(i);
     if let Some(code) = known_code(known, number) {
         return Ok(Some(code));
     }
-    let code = code_of(entries, slot_cell(field, array, i))?;
+    let code = code_of(entries, slot_cell(field, slots.view, i))?;
     note_code(known, number, code);
     Ok(code)
 }
@@ -96,21 +97,20 @@ fn push_slot_codes<'a>(
     known: &mut Vec<Option<usize>>,
     codes: &mut Vec<Option<usize>>,
     field: &'a Field,
-    spec: DictSpec,
-    array: ArrayView<'a>,
+    slots: CodedSlots<'a>,
     from: usize,
     to: usize,
 ) -> Result<(), AllocError>
-    requires spec { field.now.dictionary ≡ Some spec }
-    requires sound { is_sound (column_of field.now) (view_array array) ≡ true }
-    requires within { to ≤ slots_in (view_array array) }
-    requires coded { list_all is_coded (cells_from (cell_at (column_of field.now) (view_array array)) from (to - from)) ≡ true }
-    requires known { AreKnown (map entry_cell entries.old.keys) (own_entries field.now array) known.old.items }
+    requires spec { field.now.dictionary ≡ Some slots.spec }
+    requires sound { is_sound (column_of field.now) (view_array slots.view) ≡ true }
+    requires within { to ≤ slots_in (view_array slots.view) }
+    requires coded { list_all is_coded (cells_from (cell_at (column_of field.now) (view_array slots.view)) from (to - from)) ≡ true }
+    requires known { AreKnown (map entry_cell entries.old.keys) (own_entries field.now slots.view) known.old.items }
     ensures { OnOk result (IsCoded (map entry_cell entries.old.keys) codes.old.items (map entry_cell entries.new.keys) codes.new.items
-        (cells_from (cell_at (column_of field.now) (view_array array.entry)) from (to - from))) }
+        (cells_from (cell_at (column_of field.now) (view_array slots.entry.view)) from (to - from))) }
 {
     for i in from..to {
-        let code = slot_code(entries, known, field, spec, array, i)?;
+        let code = slot_code(entries, known, field, slots, i)?;
         codes.push(code)?;
     }
     Ok(())
@@ -145,7 +145,8 @@ fn push_run_codes<'a>(
             let _slots = array.slots();
             let mut known = unknown(alloc, *array, *len)?;
             let to = *from + *len;
-            push_slot_codes(entries, &mut known, codes, field, spec, *array, *from, to)
+            let slots = CodedSlots::new(spec, *array);
+            push_slot_codes(entries, &mut known, codes, field, slots, *from, to)
         }
         Run::Nulls(count) => push_null_codes(codes, *count),
     }

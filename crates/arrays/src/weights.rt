@@ -1,5 +1,5 @@
 // How much spans of slots weigh, without a value for a cell (docs/definitions/arrays.md).
-ghost use Rattle.std.specs.Prelude.{◌≡◌, ℕ, ◌+◌, ◌*◌, ◌/◌, ◌<◌, ◌≤◌, true, false, length, map, nat_le};
+ghost use Rattle.std.specs.Prelude.{◌≡◌, ℕ, ◌+◌, ◌*◌, ◌/◌, ◌<◌, ◌≤◌, true, false, length, map, nat_le, take};
 ghost use Rattle.std.specs.List.{list_all};
 ghost use Rattle.arrow_schema.specs.Column.{texts, large_texts, binaries, large_binaries, lists, large_lists, fixed_lists, structs, columns_of};
 ghost use Rattle.arrow_schema.specs.View.{kind_of, column_of, index_of};
@@ -18,8 +18,8 @@ use crate::runs::run_to;
 use arrow_schema::{DataType, DictSpec, Field};
 use cells::{TOO_HEAVY, Value, add_weights, multiply_weight, weight};
 use columns::{
-    ArrayView, Dictionary, EntryPlace, OffsetWidth, PlacedArray, array_or, entry_place,
-    index_number, indexed_entry,
+    ArrayView, CodedSlots, Dictionary, EntryPlace, OffsetWidth, PlacedArray, array_or, entry_count,
+    entry_place, indexed_entry,
 };
 
 // Of how many entries of a dictionary the weights are kept while its slots are gone through.
@@ -298,23 +298,36 @@ fn place_weight(field: &Field, found: Option<EntryPlace<'_>>, none: &PlacedArray
     }
 }
 
-// The first entries of a dictionary, each by itself; those that are not there as nulls.
+// How many they are: no more than there are.
+fn first_count(view: ArrayView<'_>) -> usize
+    ensures { result ≤ FIRST_ENTRIES }
+{
+    entry_count(view.dictionary()).min(FIRST_ENTRIES as u128) as usize
+}
+
+// So many first entries of a dictionary, each by itself; those that are not there as nulls.
 #[cycle(weights)]
-fn first_weights(field: &Field, view: ArrayView<'_>, none: &PlacedArray) -> [u64; FIRST_ENTRIES]
+fn first_weights(
+    field: &Field,
+    view: ArrayView<'_>,
+    few: usize,
+    none: &PlacedArray,
+) -> [u64; FIRST_ENTRIES]
+    requires few { few ≤ FIRST_ENTRIES }
     requires empty { IsNoArray none.now }
     requires varied { has_one_weight (kind_of field.now.data_type) ≡ false }
     requires sound { list_all (is_kind_sound (kind_of field.now.data_type)) (array_list (dictionary_in (view_array view))) ≡ true }
-    ensures { AreEntryWeights (kind_of field.now.data_type) (dictionary_in (view_array view.entry)) result }
+    ensures { AreEntryWeights (kind_of field.now.data_type) (dictionary_in (view_array view.entry)) (take few result) }
 {
     let known = view.dictionary();
     let mut weights = [0; FIRST_ENTRIES];
-    for n in 0..FIRST_ENTRIES {
+    for n in 0..few {
         weights[n] = place_weight(field, entry_place(known, view.bytes, n as u128), none);
     }
     weights
 }
 
-// With a dictionary: slot by slot, the entries that the indices name. Where there are many slots, the first entries are weighed once.
+// With a dictionary: slot by slot, the entries that the indices name. Where there are as many slots, the first entries are weighed once.
 #[cycle(weights)]
 fn entries_weight(
     field: &Field,
@@ -333,19 +346,20 @@ fn entries_weight(
     ensures { let kind = kind_of field.now.data_type in
         result ≡ capped_weight (sum_from (kind_weight kind) (unless_null (indexed_cell (index_of spec) kind) (view_array view.entry)) from count) }
 {
-    if count < FIRST_ENTRIES {
-        return slots_weight(field, spec, view, from, count, &[], none);
+    let slots = CodedSlots::new(spec, view);
+    let few = first_count(view);
+    if count < few {
+        return slots_weight(field, slots, from, count, &[], none);
     }
-    let first = first_weights(field, view, none);
-    slots_weight(field, spec, view, from, count, &first, none)
+    let first = first_weights(field, view, few, none);
+    slots_weight(field, slots, from, count, &first[..few], none)
 }
 
 // The same, where the weights of some first entries are known.
 #[cycle(weights)]
 fn slots_weight(
     field: &Field,
-    spec: DictSpec,
-    view: ArrayView<'_>,
+    slots: CodedSlots<'_>,
     from: usize,
     count: usize,
     known: &[u64],
@@ -353,51 +367,47 @@ fn slots_weight(
 ) -> u64
     requires empty { IsNoArray none.now }
     requires varied { has_one_weight (kind_of field.now.data_type) ≡ false }
-    requires valid { has_short_validity (view_array view) ≡ false }
-    requires long { are_few ((index_of spec).bits / 8) (view_array view) (indices_in (view_array view)) ≡ false }
-    requires sound { list_all (is_kind_sound (kind_of field.now.data_type)) (array_list (dictionary_in (view_array view))) ≡ true }
-    requires within { from + count ≤ slots_in (view_array view) }
-    requires known { AreEntryWeights (kind_of field.now.data_type) (dictionary_in (view_array view)) known.now }
+    requires sound { list_all (is_kind_sound (kind_of field.now.data_type)) (array_list (dictionary_in (view_array slots.view))) ≡ true }
+    requires within { from + count ≤ slots_in (view_array slots.view) }
+    requires known { AreEntryWeights (kind_of field.now.data_type) (dictionary_in (view_array slots.view)) known.now }
     ensures { let kind = kind_of field.now.data_type in
-        result ≡ capped_weight (sum_from (kind_weight kind) (unless_null (indexed_cell (index_of spec) kind) (view_array view.entry)) from count) }
+        result ≡ capped_weight (sum_from (kind_weight kind) (unless_null (indexed_cell (index_of slots.entry.spec) kind) (view_array slots.entry.view)) from count) }
 {
     // a number of the code is below 2^64, so that the sum is too
-    let _slots = view.slots();
+    let _slots = slots.view.slots();
     let mut total = 0;
     for i in from..from + count {
         if total == TOO_HEAVY {
             return TOO_HEAVY;
         }
-        let entry = slot_weight(field, spec, view, i, known, none);
+        let entry = slot_weight(field, slots, i, known, none);
         total = add_weights(total, entry);
     }
     total
 }
 
+#[inline]
 #[cycle(weights)]
 fn slot_weight(
     field: &Field,
-    spec: DictSpec,
-    view: ArrayView<'_>,
+    slots: CodedSlots<'_>,
     i: usize,
     known: &[u64],
     none: &PlacedArray,
 ) -> u64
     requires empty { IsNoArray none.now }
     requires varied { has_one_weight (kind_of field.now.data_type) ≡ false }
-    requires valid { has_short_validity (view_array view) ≡ false }
-    requires long { are_few ((index_of spec).bits / 8) (view_array view) (indices_in (view_array view)) ≡ false }
-    requires sound { list_all (is_kind_sound (kind_of field.now.data_type)) (array_list (dictionary_in (view_array view))) ≡ true }
-    requires within { i < slots_in (view_array view) }
-    requires known { AreEntryWeights (kind_of field.now.data_type) (dictionary_in (view_array view)) known.now }
+    requires sound { list_all (is_kind_sound (kind_of field.now.data_type)) (array_list (dictionary_in (view_array slots.view))) ≡ true }
+    requires within { i < slots_in (view_array slots.view) }
+    requires known { AreEntryWeights (kind_of field.now.data_type) (dictionary_in (view_array slots.view)) known.now }
     ensures { let kind = kind_of field.now.data_type in
-        result ≡ capped_weight (kind_weight kind (unless_null (indexed_cell (index_of spec) kind) (view_array view.entry) i)) }
+        result ≡ capped_weight (kind_weight kind (unless_null (indexed_cell (index_of slots.entry.spec) kind) (view_array slots.entry.view) i)) }
 {
-    if !view.is_valid(i) {
+    if !slots.is_valid(i) {
         return nulls_weight(field, 1);
     }
-    match index_number(spec, view, i) {
-        Some(number) if number < known.len() as u128 => known[number as usize],
-        _ => place_weight(field, indexed_entry(spec, view, i), none),
+    match slots.number(i) {
+        Some(number) if number < known.len() as u64 => known[number as usize],
+        _ => place_weight(field, indexed_entry(slots.spec, slots.view, i), none),
     }
 }

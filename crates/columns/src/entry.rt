@@ -16,7 +16,7 @@ ghost use Rattle.columns.specs.inner.ArrayPlaces.{IsArrayPlace};
 
 use crate::array::PlacedArray;
 use crate::dictionary::KnownArrays;
-use crate::numbers::integer_at;
+use crate::numbers::named_at;
 use crate::view::ArrayView;
 use arrow_schema::DictSpec;
 
@@ -86,17 +86,13 @@ pub fn entry_count(known: KnownArrays<'_>) -> u128
     end_before(known, known.arrays.len())
 }
 
-/// The number that the index of a slot is: none where it is negative. Of 128 bits, as any index is.
-pub fn index_number(spec: DictSpec, view: ArrayView<'_>, i: usize) -> Option<u128>
+// The number that the index of a slot is: none where it is negative.
+fn index_number(spec: DictSpec, view: ArrayView<'_>, i: usize) -> Option<u64>
     requires long { are_few ((index_of spec).bits / 8) (view_array view) (indices_in (view_array view)) ≡ false }
     requires within { i < slots_in (view_array view) }
     ensures { result ≡ named_number (index_at (index_of spec) (view_array view.entry) i) }
 {
-    let index = integer_at(spec.index, view.indices(), view.slots(), i);
-    if index < 0 {
-        return None;
-    }
-    Some(index as u128)
+    named_at(spec.index, view.indices(), view.slots(), i)
 }
 
 /// Where the entry stands that the index of a slot names.
@@ -110,6 +106,6 @@ pub fn indexed_entry<'a>(spec: DictSpec, view: ArrayView<'a>, i: usize) -> Optio
 {
     match index_number(spec, view, i) {
         None => None,
-        Some(number) => entry_place(view.dictionary(), view.bytes, number),
+        Some(number) => entry_place(view.dictionary(), view.bytes, number as u128),
     }
 }

@@ -14,6 +14,7 @@
 mod array;
 mod borrowed;
 mod borrowing;
+mod coded_slots;
 mod dictionary;
 mod entry;
 mod laws;
@@ -26,8 +27,9 @@ mod view;
 pub use array::{Dictionary, DictionaryPart, PlacedArray, PlacedLayout};
 pub use borrowed::{ValueRef, Values, ValuesIter};
 pub use borrowing::borrow_value;
+pub use coded_slots::CodedSlots;
 pub use dictionary::KnownArrays;
-pub use entry::{EntryPlace, entry_count, entry_place, index_number, indexed_entry};
+pub use entry::{EntryPlace, entry_count, entry_place, indexed_entry};
 pub use laws::{
     built_reads_back, dictionaries_are_written_alone, listed_reads_back, longer_bytes_keep_arrays,
     rows_can_be_built, worked_cases, written_arrays_have_their_shape, written_arrays_pass,

@@ -1,10 +1,10 @@
 // Little-endian numbers one after another.
-ghost use Rattle.std.specs.Prelude.{◌≡◌, ◌≤◌, ◌<◌, ◌+◌, ◌*◌, ◌/◌, true, false, length, drop, nat_lt};
+ghost use Rattle.std.specs.Prelude.{◌≡◌, ◌≤◌, ◌<◌, ◌+◌, ◌-◌, ◌*◌, ◌/◌, ◌^◌, true, false, length, drop, nat_lt};
 ghost use Rattle.byteorder.specs.Endian.{little_number};
 ghost use Rattle.arrow_schema.specs.View.{bits_of, date_kind};
 ghost use Rattle.cells.specs.Fit.{date_bits};
 ghost use Rattle.cells.specs.Integers.{integer_of};
-ghost use Rattle.columns.specs.CellAt.{number_at, integer_at};
+ghost use Rattle.columns.specs.CellAt.{number_at, integer_at, named_number};
 ghost use Rattle.columns.specs.Offsets.{width_of};
 
 use arrow_schema::{BitWidth, DateUnit, IntegerType};
@@ -74,15 +74,17 @@ fn first_signed(width: BitWidth, bytes: &[u8]) -> i128
     }
 }
 
-fn first_unsigned(width: BitWidth, bytes: &[u8]) -> i128
+#[inline]
+fn first_unsigned(width: BitWidth, bytes: &[u8]) -> u64
     requires { bits_of width / 8 ≤ length bytes.now }
-    ensures { result ≡ integer_of (bits_of width / 8) false (little_number (bits_of width / 8) bytes.now) }
+    ensures value { result ≡ little_number (bits_of width / 8) bytes.now }
+    ensures small { result < 2 ^ bits_of width }
 {
     match width {
-        BitWidth::Eight => i128::from(LittleEndian::read_uint(bytes, 1)),
-        BitWidth::Sixteen => i128::from(LittleEndian::read_u16(bytes)),
-        BitWidth::ThirtyTwo => i128::from(LittleEndian::read_u32(bytes)),
-        BitWidth::SixtyFour => i128::from(LittleEndian::read_u64(bytes)),
+        BitWidth::Eight => LittleEndian::read_uint(bytes, 1),
+        BitWidth::Sixteen => u64::from(LittleEndian::read_u16(bytes)),
+        BitWidth::ThirtyTwo => u64::from(LittleEndian::read_u32(bytes)),
+        BitWidth::SixtyFour => LittleEndian::read_u64(bytes),
     }
 }
 
@@ -94,7 +96,7 @@ fn first_integer(integer: IntegerType, bytes: &[u8]) -> i128
     if integer.signed {
         first_signed(integer.width, bytes)
     } else {
-        first_unsigned(integer.width, bytes)
+        i128::from(first_unsigned(integer.width, bytes))
     }
 }
 
@@ -106,6 +108,34 @@ pub(crate) fn integer_at(integer: IntegerType, values: &[u8], slots: usize, i: u
 {
     let rest = from_place(values, integer.width.bytes(), slots, i);
     first_integer(integer, rest)
+}
+
+// The least number of a width that is negative as a signed integer.
+#[inline]
+fn least_negative(width: BitWidth) -> u64
+    ensures { result ≡ 2 ^ (bits_of width - 1) }
+{
+    match width {
+        BitWidth::Eight => 0x80,
+        BitWidth::Sixteen => 0x8000,
+        BitWidth::ThirtyTwo => 0x8000_0000,
+        BitWidth::SixtyFour => 0x8000_0000_0000_0000,
+    }
+}
+
+// The number that an integer is, of which there are as many as slots: none where it is negative.
+#[inline]
+pub(crate) fn named_at(integer: IntegerType, values: &[u8], slots: usize, i: usize) -> Option<u64>
+    requires long { nat_lt (length values.now) (slots * (bits_of integer.width / 8)) ≡ false }
+    requires within { i < slots }
+    ensures { result ≡ named_number (integer_at (bits_of integer.width / 8) integer.signed values.now i) }
+{
+    let rest = from_place(values, integer.width.bytes(), slots, i);
+    let number = first_unsigned(integer.width, rest);
+    if integer.signed && number >= least_negative(integer.width) {
+        return None;
+    }
+    Some(number)
 }
 
 // The integers that dates and timestamps are.

@@ -12,44 +12,42 @@ ghost use Rattle.columns.specs.View.{view_array};
 ghost use Rattle.columns.specs.Visible.{is_past, names_no_entry};
 ghost use Rattle.arrays.specs.inner.VisibleSpans.{any_slot};
 
-use arrow_schema::{DictSpec, Field};
-use columns::{ArrayView, entry_count, index_number};
+use arrow_schema::Field;
+use columns::{ArrayView, CodedSlots, entry_count};
 
 // Whether the number of an index is that of no entry, where there are so many.
-fn is_past(number: Option<u128>, entries: u128) -> bool
+#[inline]
+fn is_past(number: Option<u64>, entries: u128) -> bool
     ensures { (index : ℤ) (cells : List Cell) → number ≡ named_number index → entries ≡ length cells → result ≡ is_past index cells }
 {
     match number {
         None => true,
-        Some(number) => entries <= number,
+        Some(number) => entries <= number as u128,
     }
 }
 
-fn has_no_entry(spec: DictSpec, view: ArrayView<'_>, entries: u128, i: usize) -> bool
-    requires validity { has_short_validity (view_array view) ≡ false }
-    requires long { are_few ((index_of spec).bits / 8) (view_array view) (indices_in (view_array view)) ≡ false }
-    requires within { i < slots_in (view_array view) }
-    requires count { (kind : Kind) → entries ≡ length (entries_of_kind kind (dictionary_in (view_array view))) }
-    ensures { let a = view_array view.entry in (kind : Kind)
-        → result ≡ (is_valid a i && is_past (index_at (index_of spec) a i) (entries_of_kind kind (dictionary_in a))) }
+#[inline]
+fn has_no_entry(slots: CodedSlots<'_>, entries: u128, i: usize) -> bool
+    requires within { i < slots_in (view_array slots.view) }
+    requires count { (kind : Kind) → entries ≡ length (entries_of_kind kind (dictionary_in (view_array slots.view))) }
+    ensures { let a = view_array slots.entry.view in (kind : Kind)
+        → result ≡ (is_valid a i && is_past (index_at (index_of slots.entry.spec) a i) (entries_of_kind kind (dictionary_in a))) }
 {
-    view.is_valid(i) && is_past(index_number(spec, view, i), entries)
+    slots.is_valid(i) && is_past(slots.number(i), entries)
 }
 
 // A valid slot of a span has such an index.
-fn any_past(spec: DictSpec, view: ArrayView<'_>, from: usize, count: usize) -> bool
-    requires validity { has_short_validity (view_array view) ≡ false }
-    requires long { are_few ((index_of spec).bits / 8) (view_array view) (indices_in (view_array view)) ≡ false }
-    requires within { from + count ≤ slots_in (view_array view) }
-    ensures { let a = view_array view.entry in (kind : Kind)
-        → let past : ℕ → Bool = λ i. is_valid a i && is_past (index_at (index_of spec) a i) (entries_of_kind kind (dictionary_in a)) in
+fn any_past(slots: CodedSlots<'_>, from: usize, count: usize) -> bool
+    requires { from + count ≤ slots_in (view_array slots.view) }
+    ensures { let a = view_array slots.entry.view in (kind : Kind)
+        → let past : ℕ → Bool = λ i. is_valid a i && is_past (index_at (index_of slots.entry.spec) a i) (entries_of_kind kind (dictionary_in a)) in
         result ≡ list_any past (range_with_len from count) }
 {
     // a number of the code is below 2^64, so that the end is too
-    let _slots = view.slots();
-    let entries = entry_count(view.dictionary());
+    let _slots = slots.view.slots();
+    let entries = entry_count(slots.view.dictionary());
     for i in from..from + count {
-        if has_no_entry(spec, view, entries, i) {
+        if has_no_entry(slots, entries, i) {
             return true;
         }
     }
@@ -65,6 +63,9 @@ pub(crate) fn any_past_entry(field: &Field, view: ArrayView<'_>, from: usize, co
 {
     match &field.dictionary {
         None => false,
-        Some(spec) => any_past(*spec, view, from, count),
+        Some(spec) => {
+            let slots = CodedSlots::new(*spec, view);
+            any_past(slots, from, count)
+        }
     }
 }

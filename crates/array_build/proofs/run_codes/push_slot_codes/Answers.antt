@@ -1,5 +1,5 @@
 use Rattle.std.specs.Prelude.{Option}
-use Rattle.std.proofs.Common.{◌≡◌, ◌+◌, ◌-◌, ℕ, List, ap, arith, map, subst, sym}
+use Rattle.std.proofs.Common.{◌≡◌, ◌+◌, ◌-◌, ℕ, List, arith, map, subst, sym}
 use Rattle.arrow_schema.specs.View.{column_of}
 use Rattle.array_build.proofs.CodedRuns.{coded_here, first_cell}
 use Rattle.array_build.proofs.Codes.{IsUnderway, all_coded, one_coded}
@@ -11,11 +11,11 @@ use Rattle.columns.specs.View.{view_array}
 
 pub slot_code-requires-clause-coded : goal.slot_code-requires-clause-coded
 slot_code-requires-clause-coded c =
-    (coded_here (cell_at (column_of c.args.field.now) (view_array c.args.array)) c.loop-i.i c.args.to c.loop-i-test.true c.loop-i.invariant.coded).0
+    (coded_here (cell_at (column_of c.args.field.now) (view_array c.args.slots.view)) c.loop-i.i c.args.to c.loop-i-test.true c.loop-i.invariant.coded).0
 
 pub loop-i-preserved : goal.loop-i-preserved
 loop-i-preserved c =
-    let f : ℕ → Cell = cell_at (column_of c.args.field.now) (view_array c.args.array) in
+    let f : ℕ → Cell = cell_at (column_of c.args.field.now) (view_array c.args.slots.view) in
     let start : List Cell = map entry_cell c.args.entries.now.keys in
     let all : List Cell = cells_from f c.args.from (c.args.to - c.args.from) in
     let left : List Cell = cells_from f (c.loop-i.i + 1) (c.args.to - (c.loop-i.i + 1)) in
@@ -31,7 +31,7 @@ loop-i-preserved c =
 
 pub returns : goal.returns
 returns c =
-    let f : ℕ → Cell = cell_at (column_of c.args.field.now) (view_array c.args.array) in
+    let f : ℕ → Cell = cell_at (column_of c.args.field.now) (view_array c.args.slots.view) in
     let start : List Cell = map entry_cell c.args.entries.now.keys in
     let all : List Cell = cells_from f c.args.from (c.args.to - c.args.from) in
     let es : List Cell = map entry_cell c.loop-i.entries.keys in

@@ -1,12 +1,12 @@
 use Rattle.std.specs.Prelude.{Option, Some}
 use Rattle.std.specs.List.{list_all}
-use Rattle.std.proofs.Common.{◌≡◌, ◌+◌, ◌*◌, ℕ, ◌<◌, List, get_or, inl, inr, length, set, subst, true, map, drop, refl, sym, ap, arith, rules, ◌∙◌}
+use Rattle.std.proofs.Common.{◌≡◌, ◌+◌, ◌*◌, ℕ, ◌<◌, List, get_or, inl, inr, length, set, subst, take, true, map, drop, refl, sym, ap, arith, rules, ◌∙◌}
 use Rattle.arrow_schema.specs.declared.types.Field.{the_lemmas as field_lemmas}
 use Rattle.arrow_schema.specs.Column.{Kind, columns_of}
 use Rattle.arrow_schema.specs.View.{kind_of, column_of, index_of}
 use Rattle.arrow_schema.specs.Parts.{kind_of_column}
 use Rattle.std.proofs.lemmas.Bool.{cases_lt}
-use Rattle.std.proofs.lemmas.List.{get_or-set_other, get_or-set_same, length-set}
+use Rattle.std.proofs.lemmas.List.{get_or-set_other, get_or-set_same, get_or-take, length-set, length-take-le}
 use Rattle.cells.specs.Cell.{Cell, null}
 use Rattle.cells.specs.Weight.{kind_weight, capped_weight}
 use Rattle.columns.specs.Array.{Array, Arrays, array_list, dictionary_in, slots_in, items_in, children_in}
@@ -124,7 +124,7 @@ parts_weight-returns t c =
 pub slots_weight-loop-i-preserved : goal.slots_weight-loop-i-preserved
 slots_weight-loop-i-preserved t c =
     let kind : Kind = kind_of c.args.field.now.data_type in
-    let more = slot_more (kind_weight kind) (unless_null (indexed_cell (index_of c.args.spec) kind) (view_array c.args.view)) c.loop-i.i (c.args.from + c.args.count) c.loop-i-test.true in
+    let more = slot_more (kind_weight kind) (unless_null (indexed_cell (index_of c.args.slots.spec) kind) (view_array c.args.slots.view)) c.loop-i.i (c.args.from + c.args.count) c.loop-i-test.true in
     let total = next_total _ _ _ _ _ _ _ c.loop-i.invariant.sums more c.slot_weight-entry.ensures c.add_weights-total.ensures in
     record { sums = total.0; capped = total.1 }
 
@@ -165,7 +165,7 @@ first_weights-loop-n-preserved t c =
     let kind : Kind = kind_of c.args.field.now.data_type in
     let entries : List Cell = entries_of_kind kind (dictionary_in (view_array c.args.view)) in
     let n : ℕ = c.loop-n.n in
-    let lt : n < 256 = c.loop-n-test.true in
+    let lt : n < 256 = omega (arith, c.loop-n-test.true, c.requires.few) in
     let own : c.place_weight.result ≡ capped_weight (kind_weight kind (get_or entries n null)) =
     c.place_weight.ensures
     ∙ ap (λ (x : Cell). capped_weight (kind_weight kind x)) (c.entry_place.ensures.cell kind ∙ ap (λ (d : Arrays). get_or (entries_of_kind kind d) n null) c.dictionary-known.ensures) in
@@ -185,13 +185,18 @@ first_weights-loop-n-preserved t c =
     }
 
 pub first_weights-returns : goal.first_weights-returns
-first_weights-returns t c = λ m lt. c.loop-n.invariant.weights m (omega (arith, lt, c.loop-n.invariant.long, c.loop-n-test.false))
+first_weights-returns t c = λ m lt.
+    let few : ℕ = c.args.few in
+    let weights : List ℕ = c.loop-n.weights in
+    let all : length (take few weights) ≡ few = length-take-le few weights (omega (arith, c.loop-n.invariant.long, c.requires.few)) in
+    let within : m < few = omega (arith, lt, all) in
+    get_or-take few weights m 0 within ∙ c.loop-n.invariant.weights m (omega (arith, within, c.loop-n-test.false))
 
 pub slot_weight-returns-in-Some : goal.slot_weight-returns-in-Some
 slot_weight-returns-in-Some t c =
     let kind : Kind = kind_of c.args.field.now.data_type in
-    let valid : is_valid (view_array c.args.view) c.args.i ≡ true = sym c.if-not-is_valid.ensures in
-    known_weight kind (index_of c.args.spec) (view_array c.args.view) c.args.i c.in-Some.number c.args.known.now valid (sym c.in-Some.is ∙ c.index_number.ensures) c.requires.known (omega arith)
+    let valid : is_valid (view_array c.args.slots.view) c.args.i ≡ true = sym c.if-not-is_valid.ensures in
+    known_weight kind (index_of c.args.slots.spec) (view_array c.args.slots.view) c.args.i c.in-Some.number c.args.known.now valid (sym c.in-Some.is ∙ c.number.ensures) c.requires.known (omega arith)
 
 pub slot_weight-place_weight-requires : goal.slot_weight-place_weight-requires
 slot_weight-place_weight-requires t c = (
@@ -202,6 +207,6 @@ slot_weight-place_weight-requires t c = (
 pub slot_weight-returns-in_default : goal.slot_weight-returns-in_default
 slot_weight-returns-in_default t c =
     let kind : Kind = kind_of c.args.field.now.data_type in
-    let valid : is_valid (view_array c.args.view) c.args.i ≡ true = sym c.if-not-is_valid.ensures in
+    let valid : is_valid (view_array c.args.slots.view) c.args.i ≡ true = sym c.if-not-is_valid.ensures in
     c.place_weight.ensures
-    ∙ valid_weighs kind (index_of c.args.spec) (view_array c.args.view) c.args.i (located_cell kind c.indexed_entry.result) valid (c.indexed_entry.ensures.cell kind)
+    ∙ valid_weighs kind (index_of c.args.slots.spec) (view_array c.args.slots.view) c.args.i (located_cell kind c.indexed_entry.result) valid (c.indexed_entry.ensures.cell kind)

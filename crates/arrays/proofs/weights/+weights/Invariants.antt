@@ -32,8 +32,8 @@ invariant-parts_weight-loop-i l = record {
 
 abbrev pub invariant-slots_weight-loop-i : goal.invariant-slots_weight-loop-i
 invariant-slots_weight-loop-i l = record {
-  sums : capped_weight (l.total + sum_from (kind_weight (kind_of l.field.data_type)) (unless_null (indexed_cell (index_of l.spec) (kind_of l.field.data_type)) (view_array l.view)) l.i (l.i-end - l.i))
-      ≡ capped_weight (sum_from (kind_weight (kind_of l.field.data_type)) (unless_null (indexed_cell (index_of l.spec) (kind_of l.field.data_type)) (view_array l.view)) l.from l.count);
+  sums : capped_weight (l.total + sum_from (kind_weight (kind_of l.field.data_type)) (unless_null (indexed_cell (index_of l.slots.spec) (kind_of l.field.data_type)) (view_array l.slots.view)) l.i (l.i-end - l.i))
+      ≡ capped_weight (sum_from (kind_weight (kind_of l.field.data_type)) (unless_null (indexed_cell (index_of l.slots.spec) (kind_of l.field.data_type)) (view_array l.slots.view)) l.from l.count);
   capped : capped_weight l.total ≡ l.total;
 }
 

@@ -6,4 +6,4 @@ use Rattle.arrays.proofs.visible.indices.any_past.Given as goal
 
 -- a slot that is left is found where one of all is
 abbrev pub invariant-loop-i : goal.invariant-loop-i
-invariant-loop-i l = (kind : Kind) → list_any (past l.spec l.view kind) (range_with_len l.i (l.from + l.count - l.i)) ≡ list_any (past l.spec l.view kind) (range_with_len l.from l.count)
+invariant-loop-i l = (kind : Kind) → list_any (past l.slots.spec l.slots.view kind) (range_with_len l.i (l.from + l.count - l.i)) ≡ list_any (past l.slots.spec l.slots.view kind) (range_with_len l.from l.count)

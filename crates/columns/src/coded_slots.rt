@@ -1,0 +1,59 @@
+// The slots of a column with a dictionary, with the buffers that each slot is read from.
+ghost use Rattle.std.specs.Prelude.{◌≡◌, ◌<◌, ◌/◌, false};
+ghost use Rattle.arrow_schema.specs.View.{index_of};
+ghost use Rattle.columns.specs.Array.{slots_in, validity_in, indices_in};
+ghost use Rattle.columns.specs.CellAt.{is_valid, index_at, named_number};
+ghost use Rattle.columns.specs.Tests.{are_few, has_short_validity};
+ghost use Rattle.columns.specs.View.{view_array};
+
+use crate::numbers::named_at;
+use crate::view::ArrayView;
+use arrow_schema::DictSpec;
+
+/// The slots of an array that has indices. Its validity bitmap and its indices are found once, and not again for each slot.
+#[derive(Clone, Copy, Debug)]
+pub struct CodedSlots<'a> {
+    pub view: ArrayView<'a>,
+    pub spec: DictSpec,
+    pub(crate) validity: &'a [u8],
+    pub(crate) indices: &'a [u8],
+    pub ghost bits: { validity.now ≡ validity_in (view_array view) },
+    pub ghost numbers: { indices.now ≡ indices_in (view_array view) },
+    pub ghost valid: { has_short_validity (view_array view) ≡ false },
+    pub ghost long: { are_few ((index_of spec).bits / 8) (view_array view) (indices_in (view_array view)) ≡ false },
+}
+
+impl<'a> CodedSlots<'a> {
+    /// Those of an array.
+    pub fn new(spec: DictSpec, view: ArrayView<'a>) -> CodedSlots<'a>
+        requires valid { has_short_validity (view_array view) ≡ false }
+        requires long { are_few ((index_of spec).bits / 8) (view_array view) (indices_in (view_array view)) ≡ false }
+        ensures view { result.view ≡ view.entry }
+        ensures spec { result.spec ≡ spec }
+    {
+        CodedSlots {
+            view,
+            spec,
+            validity: view.validity(),
+            indices: view.indices(),
+        }
+    }
+
+    /// Whether a slot is valid.
+    #[inline]
+    pub fn is_valid(self, i: usize) -> bool
+        requires { i < slots_in (view_array self.view) }
+        ensures { result ≡ is_valid (view_array self.entry.view) i }
+    {
+        self.validity.is_empty() || bitmap::get(self.validity, i)
+    }
+
+    /// The number that the index of a slot is: none where it is negative.
+    #[inline]
+    pub fn number(self, i: usize) -> Option<u64>
+        requires { i < slots_in (view_array self.view) }
+        ensures { result ≡ named_number (index_at (index_of self.entry.spec) (view_array self.entry.view) i) }
+    {
+        named_at(self.spec.index, self.indices, self.view.slots(), i)
+    }
+}
