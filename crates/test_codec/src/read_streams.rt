@@ -446,3 +446,46 @@ fn is_null_read(alloc: Global) -> Result<bool, NotMade> {
 fn a_stream_with_nulls_is_read_also_without_memory(rt: HostRuntime) {
     assert!(rt; is_one_well(is_null_read(rt.alloc()), is_null_read(rt.alloc())));
 }
+
+// Fed a piece, and again where it was refused.
+fn is_fed_again(alloc: Global, decoder: &mut Decoder, piece: &[u8]) -> bool {
+    decoder.feed(alloc, piece).is_ok() || decoder.feed(alloc, piece).is_ok()
+}
+
+fn finished_again(alloc: Global, decoder: Decoder) -> Option<Table> {
+    match decoder.finish(alloc) {
+        Ok(table) => Some(table),
+        Err(FinishError::OutOfMemory(decoder)) => decoder.finish(alloc).ok(),
+        Err(FinishError::Fault(_)) => None,
+    }
+}
+
+// In pieces that end within messages.
+fn read_again(alloc: Global, bytes: &[u8]) -> Option<Table> {
+    let mut decoder = Decoder::new(alloc);
+    for piece in bytes.chunks(100) {
+        if !is_fed_again(alloc, &mut decoder, piece) {
+            return None;
+        }
+    }
+    finished_again(alloc, decoder)
+}
+
+// tests/refused_memory_in_crates refuses one allocation at the most: a decoder goes on behind it, and only what compares the rows may end for want of memory.
+fn is_read_again(alloc: Global, bytes: &[u8], wanted: &Wanted) -> bool {
+    match read_again(alloc, bytes) {
+        Some(table) => is_meant(alloc, &table, wanted).unwrap_or(true),
+        None => false,
+    }
+}
+
+#[test]
+fn a_decoder_that_was_refused_goes_on_also_without_memory(rt: HostRuntime) {
+    assert!(rt;
+        is_read_again(
+            rt.alloc(),
+            &DICTIONARY,
+            &Ok(&[&["'b"], &["'a"], &["'b"], &["null"]])
+        )
+    );
+}
