@@ -5,7 +5,6 @@ use Rattle.std.proofs.lemmas.Bool.{eqb-false}
 use Rattle.flatbuf.specs.declared.FlatError.{FlatError}
 use Rattle.flatbuf.specs.Walk.{run}
 use Rattle.arrow_schema.specs.Column.{PlainSchema}
-use Rattle.arrow_schema.specs.Integers.{is_empty}
 use Rattle.cells.specs.Cell.{PlainTable}
 use Rattle.ipc_message.specs.declared.fault.Fault.{Fault}
 use Rattle.ipc_message.specs.declared.fault.Fault.TheVariants.{SecondSchema}
@@ -15,7 +14,7 @@ use Rattle.ipc_message.specs.Codes.{codes_of, codes_in, codes_of_next, codes_nam
 use Rattle.ipc_message.specs.Framing.{Envelope, NextMessage, end_of_stream, message, next_message, taken, first_some, unless, when, type_of}
 use Rattle.ipc_message.specs.Header.{supported_codes, header, header_of, header_things, decoded}
 use Rattle.ipc_message.specs.Raw.{RawSchema, RawHeader, schema_header, dictionary_header, batch_header}
-use Rattle.ipc_stream.specs.Meaning.{Known, known_first, known_table, known_at_end, order_fault, read_after, read_header, read_next, read_from, meaning, ◌>>=◌}
+use Rattle.ipc_stream.specs.Meaning.{is_empty, Known, known_first, known_table, known_at_end, order_fault, read_after, read_header, read_next, read_from, meaning, ◌>>=◌}
 use Rattle.ipc_stream.specs.laws.First.{after_next, means_begins}
 
 -- the laws of `ipc_message`
