@@ -1,3 +1,4 @@
 mod ArgumentLemmas
 mod CommandLemmas
+mod FileLemmas
 mod WordLemmas
