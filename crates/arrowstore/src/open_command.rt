@@ -24,33 +24,19 @@ pub enum OpenCommand<'a> {
     /// A change of its tables.
     Change(Command),
     /// The table that all of the input means as a stream, in place of one of this name.
-    Import {
-        name: &'a str,
-    },
+    Import { name: &'a str },
     /// The rows that all of the input means as a stream, behind those of the table.
-    Append {
-        name: &'a str,
-    },
+    Append { name: &'a str },
     /// The same of a text.
-    AppendText {
-        name: &'a str,
-        form: TextForm<'a>,
-    },
+    AppendText { name: &'a str, form: TextForm<'a> },
     /// The rows that a query selects, as lines.
-    Select {
-        name: &'a str,
-        query: Query,
-    },
+    Select { name: &'a str, query: Query },
     /// The names of its tables, and how many rows each has.
     Tables,
     /// The fields of a table.
-    Schema {
-        name: &'a str,
-    },
+    Schema { name: &'a str },
     /// The stream of a table.
-    Export {
-        name: &'a str,
-    },
+    Export { name: &'a str },
     /// Whether all tables can be read.
     Check,
 }
@@ -101,12 +87,7 @@ fn query(alloc: Global, words: &QueryWords<'_>) -> Result<Query, Refusal>
     query_of(alloc, &words.conditions, words.columns, words.limit)
 }
 
-fn save_as(
-    alloc: Global,
-    from: &str,
-    to: &str,
-    words: &QueryWords<'_>,
-) -> Result<Command, Refusal>
+fn save_as(alloc: Global, from: &str, to: &str, words: &QueryWords<'_>) -> Result<Command, Refusal>
     ensures stated { IfOk result (λ c. StatesSaving from.now to.now (query_stated words.now) (command_of c)) }
     ensures refused { IfErr result (RefusesWords (query_stated words.now)) }
 {
@@ -122,10 +103,7 @@ fn save_as(
 /// # Errors
 /// `Fields` and `Query` where such a text is refused; `OutOfMemory`.
 #[tactic(auto, unfolding(crate::specs::OpenCommands::States, crate::specs::OpenCommands::RefusesStating, store_requests::specs::StoreWords::takes_input_word))]
-pub fn stated<'a>(
-    alloc: Global,
-    command: &StoreCommand<'a>,
-) -> Result<OpenCommand<'a>, Refusal>
+pub fn stated<'a>(alloc: Global, command: &StoreCommand<'a>) -> Result<OpenCommand<'a>, Refusal>
     ensures stated { IfOk result (States command.now) }
     ensures refused { IfErr result (RefusesStating command.now) }
     // Which commands read the input their words say.
@@ -137,7 +115,10 @@ pub fn stated<'a>(
         }
         StoreCommand::Import { name } => Ok(OpenCommand::Import { name }),
         StoreCommand::Append { name } => Ok(OpenCommand::Append { name }),
-        StoreCommand::AppendText { name, form } => Ok(OpenCommand::AppendText { name, form: *form }),
+        StoreCommand::AppendText { name, form } => Ok(OpenCommand::AppendText {
+            name,
+            form: *form,
+        }),
         StoreCommand::Query { name, query: words } => Ok(OpenCommand::Select {
             name,
             query: query(alloc, words)?,

@@ -41,10 +41,11 @@ fn format_on<D: SectorDevice + Drop>(alloc: Global, device: D) -> Result<Store<D
 }
 
 // A file that is only read is not opened for writing.
-fn device_of<
-    F: Read + Write + Seek + OpenFile + LockFile + Drop,
-    H: Files<File = F> + AllocGlobal,
->(rt: &H, path: &str, command: &OpenCommand<'_>) -> Result<FileDevice<F>, FileError> {
+fn device_of<F: Read + Write + Seek + OpenFile + LockFile + Drop, H: Files<File = F> + AllocGlobal>(
+    rt: &H,
+    path: &str,
+    command: &OpenCommand<'_>,
+) -> Result<FileDevice<F>, FileError> {
     if command.only_reads() {
         FileDevice::open_to_read(rt, path)
     } else {
@@ -53,10 +54,11 @@ fn device_of<
 }
 
 #[tactic(auto, using(crate::proofs::FileLemmas::of_file))]
-fn open_for<
-    F: Read + Write + Seek + OpenFile + LockFile + Drop,
-    H: Files<File = F> + AllocGlobal,
->(rt: &H, path: &str, command: &OpenCommand<'_>) -> Result<Store<FileDevice<F>>, Refusal>
+fn open_for<F: Read + Write + Seek + OpenFile + LockFile + Drop, H: Files<File = F> + AllocGlobal>(
+    rt: &H,
+    path: &str,
+    command: &OpenCommand<'_>,
+) -> Result<Store<FileDevice<F>>, Refusal>
     ensures opened { IfOk result (λ store. (device : _) × IsOpened device store) }
     ensures refused { IfErr result IsOfOpening }
 {
