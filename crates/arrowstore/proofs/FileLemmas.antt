@@ -19,7 +19,7 @@ use Rattle.store_requests.specs.declared.store_words.StoreRequest.TheVariants as
 use Rattle.clap.specs.Words.{Text}
 use Rattle.command_refusals.specs.declared.hint.Hint.{Hint}
 use Rattle.store_requests.specs.StoreWords.{takes_input, takes_input_word, first_word}
-use Rattle.arrowstore.specs.OnFiles.{IsOpened, IsOfOpening, RefusesFormat, ServesRequest, ServesWord, RunsOnStore, status_of}
+use Rattle.arrowstore.specs.OnFiles.{IsOpened, IsOfOpening, RefusesFormat, Hints, ServesRequest, ServesWord, RunsOnStore, status_of}
 
 pub of_file : (e : FileError) → IsOfOpening (file_refusal e)
 of_file files.Io = tt
@@ -39,6 +39,11 @@ pub refused_before : {D : Type 0} (g : Ghosts D) {R W : Type 0} (remaining : R �
     → ServesRequest g remaining contents request input input output output hint (Err Io)
 refused_before g remaining contents (requests.Format path sectors) input output hint = inl (tt, refl)
 refused_before g remaining contents (requests.Command path command) input output hint = inl (inr tt, refl, refl)
+
+-- no part of the input is known, so any word may be hinted
+pub hints_none : (part : Option RefusedPart) (hint : Option Hint) → Hints part None → Hints part hint
+hints_none None hint none = tt
+hints_none (Some part) hint none = absurd none
 
 -- how a run ends whose request was done or refused
 pub ends_as : (done : Result (Unit {0}) Refusal) (status : Status) (kept : Type 0) → (IsOk done → (status ≡ Done) × kept) → IfErr done (λ refusal. status ≡ Refused refusal) → status ≡ status_of done
