@@ -1,2 +1,5 @@
 pub mod Arguments
+pub mod OnFiles
+pub mod OpenCommands
 pub mod Running
+pub mod Serving

@@ -12,17 +12,22 @@
 #![tactic(auto)]
 
 mod command_line;
+mod open_command;
 mod running;
 mod serving;
+mod serving_open;
 mod with_files;
 
 pub use command_refusals::{Hint, REFUSALS, Refusal, Role, Word};
+pub use open_command::{OpenCommand, stated};
 pub use program_texts::{Audience, Ended, Status, VERSION, report_unreadable_arguments};
 pub use running::run;
+pub use serving_open::serve_open;
 pub use store_commands::{
     LARGEST_INPUT, append_input, append_text, apply_command, check_tables, export_table,
     import_input, new_table, print_schema, print_selection, print_tables, query_of, read_at_most,
     recode,
 };
+pub use store_requests::{QueryWords, StoreCommand};
 pub use text_import::{RefusedPart, TextForm};
 pub use with_files::run_with_files;

@@ -1,117 +1,116 @@
 // The commands of a store, on its file.
-ghost use Rattle.std.specs.Prelude.{◌≡◌, ◌≢◌, IfErr};
+ghost use Rattle.std.specs.Prelude.{◌≡◌, ◌≢◌, ◌⊎◌, true, IfOk, IfErr};
+ghost use Rattle.store.specs.Fits.{device_of, IsNewStore};
+ghost use Rattle.store_requests.specs.Asked.{command_word, request_word};
+ghost use Rattle.store_requests.specs.StoreWords.{takes_input_word};
+ghost use Rattle.arrowstore.specs.OnFiles.{IsOpened, IsOfOpening, RefusesFormat, Formats, ServesCommand, ServesRequest};
 
+use crate::open_command::{OpenCommand, stated};
+use crate::serving_open::serve_open;
 use command_refusals::{Refusal, write_whole};
-use query::Query;
-use sector_dev::{FileDevice, LockFile, SectorDevice};
+use sector_dev::{FileDevice, FileError, LockFile, SectorDevice};
 use std::alloc::Global;
 use std::fs::{self, OpenFile};
 use std::io::{self, Read, Seek, Write};
 use std::rt::Files;
-use store::{OpeningRefusal, Store};
-use store_commands::{
-    append_input, append_text, apply_command, check_tables, export_table, import_input, new_table,
-    print_schema, print_selection, print_tables, query_of,
-};
-use store_requests::{QueryWords, StoreRequest};
-use tables::Command;
+use store::Store;
+use store_requests::{StoreCommand, StoreRequest};
 use text_import::RefusedPart;
 
-fn opened<D: SectorDevice + Drop>(
-    opening: Result<Store<D>, (OpeningRefusal, D)>,
-) -> Result<Store<D>, Refusal> {
-    match opening {
+// The store that stands on a device.
+fn open_on<D: SectorDevice + Drop>(alloc: Global, device: D) -> Result<Store<D>, Refusal>
+    ensures opened { IfOk result (IsOpened device) }
+    ensures refused { IfErr result IsOfOpening }
+{
+    match Store::open(alloc, device) {
         Ok(store) => Ok(store),
         Err((refusal, _device)) => Err(Refusal::Opening(refusal)),
     }
 }
 
-fn open<F: Read + Write + Seek + OpenFile + LockFile + Drop, H: Files<File = F> + AllocGlobal>(
-    rt: &H,
-    path: &str,
-) -> Result<Store<FileDevice<F>>, Refusal> {
-    opened(Store::open(rt.alloc(), FileDevice::open(rt, path)?))
+// An empty store on a device.
+fn format_on<D: SectorDevice + Drop>(alloc: Global, device: D) -> Result<Store<D>, Refusal>
+    ensures made { IfOk result (IsNewStore (D.size device)) }
+    ensures size { IfOk result (λ store. D.size (device_of store) ≡ D.size device) }
+    ensures refused { IfErr result (λ refusal. (r : _) × (refusal ≡ Refusal.Opening r)) }
+{
+    match Store::format(alloc, device) {
+        Ok(store) => Ok(store),
+        Err((refusal, _device)) => Err(Refusal::Opening(refusal)),
+    }
 }
 
-// The file of the store is not opened for writing.
-fn open_to_read<
+// A file that is only read is not opened for writing.
+fn device_of<F: Read + Write + Seek + OpenFile + LockFile + Drop, H: Files<File = F> + AllocGlobal>(
+    rt: &H,
+    path: &str,
+    command: &OpenCommand<'_>,
+) -> Result<FileDevice<F>, FileError> {
+    if command.only_reads() {
+        FileDevice::open_to_read(rt, path)
+    } else {
+        FileDevice::open(rt, path)
+    }
+}
+
+#[tactic(auto, using(crate::proofs::FileLemmas::of_file))]
+fn open_for<F: Read + Write + Seek + OpenFile + LockFile + Drop, H: Files<File = F> + AllocGlobal>(
+    rt: &H,
+    path: &str,
+    command: &OpenCommand<'_>,
+) -> Result<Store<FileDevice<F>>, Refusal>
+    ensures opened { IfOk result (λ store. (device : _) × IsOpened device store) }
+    ensures refused { IfErr result IsOfOpening }
+{
+    open_on(rt.alloc(), device_of(rt, path, command)?)
+}
+
+#[tactic(auto, using(crate::proofs::FileLemmas::of_making))]
+fn format_file<
     F: Read + Write + Seek + OpenFile + LockFile + Drop,
     H: Files<File = F> + AllocGlobal,
->(rt: &H, path: &str) -> Result<Store<FileDevice<F>>, Refusal> {
-    opened(Store::open(rt.alloc(), FileDevice::open_to_read(rt, path)?))
+>(rt: &H, path: &str, sectors: u64) -> Result<Store<FileDevice<F>>, Refusal>
+    ensures made { IfOk result (IsNewStore sectors) }
+    ensures size { IfOk result (λ store. ⟦<FileDevice<F> as SectorDevice>⟧.size (device_of store) ≡ sectors) }
+    ensures refused { IfErr result (RefusesFormat sectors) }
+{
+    format_on(rt.alloc(), FileDevice::create(rt, path, sectors)?)
 }
 
-fn format<F: Read + Write + Seek + OpenFile + LockFile + Drop, H: Files<File = F> + AllocGlobal>(
-    rt: &H,
-    path: &str,
-    sectors: u64,
-) -> Result<(), Refusal> {
-    let device = FileDevice::create(rt, path, sectors)?;
-    opened(Store::format(rt.alloc(), device))?;
-    Ok(())
-}
-
-fn create(alloc: Global, name: &str, fields: &[&str]) -> Result<Command, Refusal> {
-    Ok(Command::Create(new_table(alloc, name, fields)?))
-}
-
-fn rename(alloc: Global, from: &str, to: &str) -> Result<Command, Refusal> {
-    Ok(Command::Rename {
-        from: String::from_str(alloc, from)?,
-        to: String::from_str(alloc, to)?,
-    })
-}
-
-fn drop_table(alloc: Global, name: &str) -> Result<Command, Refusal> {
-    Ok(Command::Drop {
-        name: String::from_str(alloc, name)?,
-    })
-}
-
-fn query(alloc: Global, words: &QueryWords<'_>) -> Result<Query, Refusal> {
-    query_of(alloc, &words.conditions, words.columns, words.limit)
-}
-
-fn save_as(
-    alloc: Global,
-    from: &str,
-    to: &str,
-    words: &QueryWords<'_>,
-) -> Result<Command, Refusal> {
-    Ok(Command::SaveAs {
-        from: String::from_str(alloc, from)?,
-        to: String::from_str(alloc, to)?,
-        query: query(alloc, words)?,
-    })
-}
-
-// Carries out a command on the store of a file.
-fn change<
+fn serve_format<
     F: Read + Write + Seek + OpenFile + LockFile + Drop,
     H: Files<File = F> + AllocGlobal,
     W: Write,
->(rt: &H, path: &str, command: Command, output: &mut W) -> Result<(), Refusal>
+>(rt: &H, path: &str, sectors: u64, output: &mut W) -> Result<(), Refusal>
+    ensures formats { Formats ⟦<FileDevice<F> as SectorDevice>⟧ W.contents sectors output.old output.new result }
     ensures silent { IfErr result (λ refusal. refusal ≢ Refusal.Io → output.new ≡ output.old) }
 {
-    apply_command(rt.alloc(), &mut open(rt, path)?, command, output)
+    let _store = format_file(rt, path, sectors)?;
+    write_whole(output, b"ok\n")
 }
 
-// Prints what a query selects. Its conditions are read before the file is opened.
-fn print_query<
+// A command on the store of a file. Its texts are read before the file is opened.
+fn serve_command<
     F: Read + Write + Seek + OpenFile + LockFile + Drop,
     H: Files<File = F> + AllocGlobal,
+    R: Read,
     W: Write,
->(rt: &H, path: &str, name: &str, words: &QueryWords<'_>, output: &mut W) -> Result<(), Refusal>
+>(
+    rt: &H,
+    path: &str,
+    command: &StoreCommand<'_>,
+    input: &mut R,
+    output: &mut W,
+    hint: &mut Option<RefusedPart>,
+) -> Result<(), Refusal>
+    ensures serves { ServesCommand ⟦<FileDevice<F> as SectorDevice>⟧ R.remaining W.contents command.now input.old input.new output.old output.new
+        hint.new result }
+    ensures unread { (takes_input_word (command_word command.now) ≡ true) ⊎ (input.new ≡ input.old) }
     ensures silent { IfErr result (λ refusal. refusal ≢ Refusal.Io → output.new ≡ output.old) }
 {
-    let query = query(rt.alloc(), words)?;
-    print_selection(
-        rt.alloc(),
-        &mut open_to_read(rt, path)?,
-        name,
-        &query,
-        output,
-    )
+    let command = stated(rt.alloc(), command)?;
+    let mut store = open_for(rt, path, &command)?;
+    serve_open(rt.alloc(), &mut store, command, input, output, hint)
 }
 
 fn serve_request<
@@ -126,45 +125,16 @@ fn serve_request<
     output: &mut W,
     hint: &mut Option<RefusedPart>,
 ) -> Result<(), Refusal>
+    ensures serves { ServesRequest ⟦<FileDevice<F> as SectorDevice>⟧ R.remaining W.contents request.now input.old input.new output.old output.new
+        hint.new result }
+    ensures unread { (takes_input_word (request_word request.now) ≡ true) ⊎ (input.new ≡ input.old) }
     ensures silent { IfErr result (λ refusal. refusal ≢ Refusal.Io → output.new ≡ output.old) }
 {
-    let alloc = rt.alloc();
     match request {
-        StoreRequest::Format { path, sectors } => {
-            format(rt, path, *sectors)?;
-            write_whole(output, b"ok\n")
+        StoreRequest::Format { path, sectors } => serve_format(rt, path, *sectors, output),
+        StoreRequest::Command { path, command } => {
+            serve_command(rt, path, command, input, output, hint)
         }
-        StoreRequest::Create { path, name, fields } => {
-            change(rt, path, create(alloc, name, fields)?, output)
-        }
-        StoreRequest::Import { path, name } => {
-            import_input(alloc, &mut open(rt, path)?, name, input, output)
-        }
-        StoreRequest::Append { path, name } => {
-            append_input(alloc, &mut open(rt, path)?, name, input, output)
-        }
-        StoreRequest::AppendText { path, name, form } => {
-            append_text(alloc, &mut open(rt, path)?, name, form, input, output, hint)
-        }
-        StoreRequest::Query { path, name, query } => print_query(rt, path, name, query, output),
-        StoreRequest::SaveAs {
-            path,
-            from,
-            to,
-            query,
-        } => change(rt, path, save_as(alloc, from, to, query)?, output),
-        StoreRequest::Rename { path, from, to } => {
-            change(rt, path, rename(alloc, from, to)?, output)
-        }
-        StoreRequest::Drop { path, name } => change(rt, path, drop_table(alloc, name)?, output),
-        StoreRequest::Tables { path } => print_tables(alloc, &open_to_read(rt, path)?, output),
-        StoreRequest::Schema { path, name } => {
-            print_schema(alloc, &open_to_read(rt, path)?, name, output)
-        }
-        StoreRequest::Export { path, name } => {
-            export_table(alloc, &mut open_to_read(rt, path)?, name, output)
-        }
-        StoreRequest::Check { path } => check_tables(alloc, &mut open_to_read(rt, path)?, output),
     }
 }
 
@@ -190,9 +160,14 @@ pub(crate) fn serve<
     output: &mut W,
     hint: &mut Option<RefusedPart>,
 ) -> Result<(), Refusal>
+    ensures serves { ServesRequest ⟦<FileDevice<F> as SectorDevice>⟧ R.remaining W.contents request.now input.old input.new output.old output.new
+        hint.new result }
+    ensures unread { (takes_input_word (request_word request.now) ≡ true) ⊎ (input.new ≡ input.old) }
     // Where it is refused, nothing is written, unless a read or a write failed.
     ensures silent { IfErr result (λ refusal. refusal ≢ Refusal.Io → output.new ≡ output.old) }
 {
-    let _places = take_places_of_streams(rt).map_err(|_| Refusal::Io)?;
-    serve_request(rt, request, input, output, hint)
+    match take_places_of_streams(rt) {
+        Ok(_places) => serve_request(rt, request, input, output, hint),
+        Err(_) => Err(Refusal::Io),
+    }
 }

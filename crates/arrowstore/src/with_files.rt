@@ -2,10 +2,12 @@
 ghost use Rattle.std.specs.Prelude.{◌≡◌, ◌⊎◌, true, map, Option, None};
 ghost use Rattle.std.specs.Io.KnownBytes.{Appends};
 ghost use Rattle.arrowstore.specs.Arguments.{AreRecode, AskForHelp};
+ghost use Rattle.arrowstore.specs.OnFiles.{Hints, RunsOnStore, ServesWord};
 ghost use Rattle.arrowstore.specs.Running.{Recodes};
 ghost use Rattle.program_texts.specs.Ending.{GivesText, HasReported};
 ghost use Rattle.program_texts.specs.OwnTexts.{is_own, own_text};
-ghost use Rattle.store_requests.specs.StoreWords.{is_of_store, takes_input};
+ghost use Rattle.store_requests.specs.Asked.{request_word};
+ghost use Rattle.store_requests.specs.StoreWords.{is_of_store, takes_input, takes_input_word, first_word};
 ghost use Rattle.program_texts.specs.Reported.{IsWrong};
 ghost use Rattle.program_texts.specs.Told.{told};
 ghost use Rattle.program_texts.specs.declared.status.Status.TheVariants.{Done};
@@ -15,16 +17,27 @@ use crate::run;
 use crate::serving::serve;
 use command_refusals::{Hint, Refusal};
 use program_texts::{Audience, Ended, end, report_arguments, report_signed_number};
-use sector_dev::LockFile;
+use sector_dev::{FileDevice, LockFile, SectorDevice};
 use std::alloc::Global;
 use std::convert::AsStr;
 use std::fs::OpenFile;
-use std::io::{self, Read, Seek, Write};
+use std::io::{Read, Seek, Write};
 use std::rt::Files;
-use store_requests::{Mistake, StoreRequest, is_of_store, refused_word, request_of, takes_input};
+use store_requests::{Mistake, StoreRequest, is_of_store, refused_word, request_of};
+use text_import::RefusedPart;
+
+// What is said to be refused of the input, where a part of it is known.
+fn part_of(part: &Option<RefusedPart>) -> Option<Hint<'_>>
+    ensures { Hints part.now result }
+{
+    match part {
+        Some(part) => Some(Hint::Part(part)),
+        None => None,
+    }
+}
 
 // The word of the command line that is refused, where one is known.
-fn hint_of<'a>(
+fn word_of<'a>(
     alloc: Global,
     request: &StoreRequest<'a>,
     done: &Result<(), Refusal>,
@@ -50,42 +63,20 @@ fn serve_and_tell<
     errors: &mut E,
     audience: Audience,
 ) -> Ended
-    ensures reports { (hint : Option Hint) × HasReported E.contents (told audience hint) output.old output.new errors.old errors.new result }
+    ensures serves { ServesWord ⟦<FileDevice<F> as SectorDevice>⟧ R.remaining W.contents (request_word request.now) input.old input.new
+        output.old output.new
+        (λ hint. HasReported E.contents (told audience hint) output.old output.new errors.old errors.new result) result.status }
+    ensures unread { (takes_input_word (request_word request.now) ≡ true) ⊎ (input.new ≡ input.old) }
 {
     let mut part = None;
     let done = serve(rt, request, input, output, &mut part);
-    match &part {
-        Some(part) => end(done, Some(Hint::Part(part)), audience, errors),
-        None => end(done, hint_of(rt.alloc(), request, &done), audience, errors),
+    match part_of(&part) {
+        Some(hint) => end(done, Some(hint), audience, errors),
+        None => end(done, word_of(rt.alloc(), request, &done), audience, errors),
     }
 }
 
-// A command line of a store, with the input that it may read.
-fn run_request<
-    F: Read + Write + Seek + OpenFile + LockFile + Drop,
-    H: Files<File = F> + AllocGlobal,
-    S: AsStr,
-    R: Read,
-    W: Write,
-    E: Write,
->(
-    rt: &H,
-    arguments: &[S],
-    input: &mut R,
-    output: &mut W,
-    errors: &mut E,
-    audience: Audience,
-) -> Ended
-    ensures reports { (hint : Option Hint) × HasReported E.contents (told audience hint) output.old output.new errors.old errors.new result }
-{
-    match request_of(rt.alloc(), arguments) {
-        Ok(request) => serve_and_tell(rt, &request, input, output, errors, audience),
-        Err(Mistake::Words(error)) => report_arguments(&error, output, errors, audience),
-        Err(Mistake::SignedNumber) => report_signed_number(errors),
-    }
-}
-
-// A command of a store. The input is handed to those alone that read it.
+// A command line of a store.
 fn run_on_store<
     F: Read + Write + Seek + OpenFile + LockFile + Drop,
     H: Files<File = F> + AllocGlobal,
@@ -101,13 +92,16 @@ fn run_on_store<
     errors: &mut E,
     audience: Audience,
 ) -> Ended
+    requires { is_of_store (map S.text arguments.now) ≡ true }
+    ensures serves { RunsOnStore ⟦<FileDevice<F> as SectorDevice>⟧ R.remaining W.contents
+        (first_word (map S.text arguments.now)) input.old input.new output.old output.new
+        (λ hint. HasReported E.contents (told audience hint) output.old output.new errors.old errors.new result) result.status }
     ensures input { (takes_input (map S.text arguments.now) ≡ true) ⊎ (input.new ≡ input.old) }
-    ensures reports { (hint : Option Hint) × HasReported E.contents (told audience hint) output.old output.new errors.old errors.new result }
 {
-    if takes_input(arguments) {
-        run_request(rt, arguments, input, output, errors, audience)
-    } else {
-        run_request(rt, arguments, &mut io::empty(), output, errors, audience)
+    match request_of(rt.alloc(), arguments) {
+        Ok(request) => serve_and_tell(rt, &request, input, output, errors, audience),
+        Err(Mistake::Words(error)) => report_arguments(&error, output, errors, audience),
+        Err(Mistake::SignedNumber) => report_signed_number(errors),
     }
 }
 
@@ -143,6 +137,10 @@ pub fn run_with_files<
         ⊎ (IsWrong result.status × (output.new ≡ output.old)) }
     // The input is read by these commands alone.
     ensures others_leave_input { AreRecode (map S.text arguments.now) ⊎ (takes_input (map S.text arguments.now) ≡ true) ⊎ (input.new ≡ input.old) }
+    // A store's words lead to the command of the first one: it was refused before a store was open, or what the words state was carried out on one.
+    ensures serves { is_of_store (map S.text arguments.now) ≡ true → RunsOnStore ⟦<FileDevice<F> as SectorDevice>⟧ R.remaining W.contents
+        (first_word (map S.text arguments.now)) input.old input.new output.old output.new
+        (λ hint. HasReported E.contents (told audience hint) output.old output.new errors.old errors.new result) result.status }
     // What is on `errors`: what is told of a refusal to such an audience, and nothing where all is done. Only of commands of a store more is hinted.
     ensures reports { (hint : Option Hint) × ((is_of_store (map S.text arguments.now) ≡ true) ⊎ (hint ≡ None))
         × HasReported E.contents (told audience hint) output.old output.new errors.old errors.new result }

@@ -1,1 +1,2 @@
 pub mod StoreWords
+pub mod Asked

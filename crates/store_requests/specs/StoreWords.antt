@@ -34,3 +34,9 @@ unfoldable pub takes_input : List Text → Bool
 takes_input [] = false
 takes_input (name ∷ []) = false
 takes_input (name ∷ word ∷ rest) = takes_input_word word
+
+-- the first word behind the program's name; empty where there is none
+unfoldable pub first_word : List Text → Text
+first_word [] = []
+first_word (name ∷ []) = []
+first_word (name ∷ word ∷ rest) = word

@@ -16,4 +16,4 @@ mod store_words;
 
 pub use naming::refused_word;
 pub use store_command_line::{Mistake, request_of};
-pub use store_words::{QueryWords, StoreRequest, is_of_store, takes_input};
+pub use store_words::{QueryWords, StoreCommand, StoreRequest, is_of_store, takes_input};

@@ -1,63 +1,45 @@
 // Which word of a command line a refusal is of.
-use crate::{QueryWords, StoreRequest};
+use crate::{QueryWords, StoreCommand, StoreRequest};
 use arrow_schema::ParseError;
 use command_refusals::{Refusal, Role, Word};
 use query::{Condition, QueryError};
 use std::alloc::Global;
 use tables::QueryRefusal;
 
-fn file_of<'a>(request: &StoreRequest<'a>) -> &'a str {
-    match request {
-        StoreRequest::Format { path, .. }
-        | StoreRequest::Create { path, .. }
-        | StoreRequest::Import { path, .. }
-        | StoreRequest::Append { path, .. }
-        | StoreRequest::AppendText { path, .. }
-        | StoreRequest::Query { path, .. }
-        | StoreRequest::SaveAs { path, .. }
-        | StoreRequest::Rename { path, .. }
-        | StoreRequest::Drop { path, .. }
-        | StoreRequest::Tables { path }
-        | StoreRequest::Schema { path, .. }
-        | StoreRequest::Export { path, .. }
-        | StoreRequest::Check { path } => path,
-    }
-}
-
 // The name of the table that has to be there.
-fn name_of<'a>(request: &StoreRequest<'a>) -> Option<&'a str> {
-    match request {
-        StoreRequest::Append { name, .. }
-        | StoreRequest::AppendText { name, .. }
-        | StoreRequest::Query { name, .. }
-        | StoreRequest::Drop { name, .. }
-        | StoreRequest::Schema { name, .. }
-        | StoreRequest::Export { name, .. } => Some(name),
-        StoreRequest::SaveAs { from, .. } | StoreRequest::Rename { from, .. } => Some(from),
+fn name_of<'a>(command: &StoreCommand<'a>) -> Option<&'a str> {
+    match command {
+        StoreCommand::Append { name }
+        | StoreCommand::AppendText { name, .. }
+        | StoreCommand::Query { name, .. }
+        | StoreCommand::Drop { name }
+        | StoreCommand::Schema { name }
+        | StoreCommand::Export { name } => Some(name),
+        StoreCommand::SaveAs { from, .. } | StoreCommand::Rename { from, .. } => Some(from),
         _ => None,
     }
 }
 
 // The name that a table is to have.
-fn new_name_of<'a>(request: &StoreRequest<'a>) -> Option<&'a str> {
-    match request {
-        StoreRequest::Create { name, .. } | StoreRequest::Import { name, .. } => Some(name),
-        StoreRequest::SaveAs { to, .. } | StoreRequest::Rename { to, .. } => Some(to),
+fn new_name_of<'a>(command: &StoreCommand<'a>) -> Option<&'a str> {
+    match command {
+        StoreCommand::Create { name, .. } | StoreCommand::Import { name } => Some(name),
+        StoreCommand::SaveAs { to, .. } | StoreCommand::Rename { to, .. } => Some(to),
         _ => None,
     }
 }
 
 // The text of the field at a place, counted from 1.
-fn field_of<'a>(request: &StoreRequest<'a>, number: usize) -> Option<&'a str> {
-    match request {
-        StoreRequest::Create { fields, .. } => fields.get(number.checked_sub(1)?).copied(),
+fn field_of<'a>(command: &StoreCommand<'a>, number: usize) -> Option<&'a str> {
+    match command {
+        StoreCommand::Create { fields, .. } => fields.get(number.checked_sub(1)?).copied(),
         _ => None,
     }
 }
 
-fn query_in<'r, 'a>(request: &'r StoreRequest<'a>) -> Option<&'r QueryWords<'a>> {
-    match request {
-        StoreRequest::Query { query, .. } | StoreRequest::SaveAs { query, .. } => Some(query),
+fn query_in<'r, 'a>(command: &'r StoreCommand<'a>) -> Option<&'r QueryWords<'a>> {
+    match command {
+        StoreCommand::Query { query, .. } | StoreCommand::SaveAs { query, .. } => Some(query),
         _ => None,
     }
 }
@@ -96,19 +78,33 @@ fn named<'a>(role: Role, text: Option<&'a str>) -> Option<Word<'a>> {
     Some(Word { role, text: text? })
 }
 
-fn word_of<'a>(alloc: Global, request: &StoreRequest<'a>, refusal: &Refusal) -> Option<Word<'a>> {
+fn word_of_command<'a>(
+    alloc: Global,
+    command: &StoreCommand<'a>,
+    refusal: &Refusal,
+) -> Option<Word<'a>> {
     match refusal {
-        Refusal::Opening(_) => named(Role::File, Some(file_of(request))),
         Refusal::Fields(ParseError::BadText(number)) => {
-            named(Role::Field, field_of(request, *number))
+            named(Role::Field, field_of(command, *number))
         }
-        Refusal::Store(tables::Refusal::NoTable) => named(Role::Name, name_of(request)),
+        Refusal::Store(tables::Refusal::NoTable) => named(Role::Name, name_of(command)),
         Refusal::Store(tables::Refusal::NameTaken | tables::Refusal::BadName) => {
-            named(Role::Name, new_name_of(request))
+            named(Role::Name, new_name_of(command))
         }
         Refusal::Query(reason) | Refusal::Store(tables::Refusal::Query(reason)) => {
-            word_of_query(alloc, query_in(request)?, *reason)
+            word_of_query(alloc, query_in(command)?, *reason)
         }
+        _ => None,
+    }
+}
+
+fn word_of<'a>(alloc: Global, request: &StoreRequest<'a>, refusal: &Refusal) -> Option<Word<'a>> {
+    match (request, refusal) {
+        (
+            StoreRequest::Format { path, .. } | StoreRequest::Command { path, .. },
+            Refusal::Opening(_),
+        ) => named(Role::File, Some(path)),
+        (StoreRequest::Command { command, .. }, _) => word_of_command(alloc, command, refusal),
         _ => None,
     }
 }

@@ -1,5 +1,10 @@
 // How `clap` reads a command line of a store.
-use crate::{QueryWords, StoreRequest};
+ghost use Rattle.std.specs.Prelude.{◌≡◌, true, false, codes, map, IfOk};
+ghost use Rattle.std.specs.Str.{bytes_eq};
+ghost use Rattle.store_requests.specs.Asked.{command_word, request_word};
+ghost use Rattle.store_requests.specs.StoreWords.{is_store_word, is_of_store, first_word};
+
+use crate::{QueryWords, StoreCommand, StoreRequest};
 use clap::builder::ValueParser;
 use clap::{Arg, ArgMatches, Command, Error};
 use std::alloc::{AllocError, Global};
@@ -31,19 +36,45 @@ impl From<AllocError> for Mistake {
 }
 
 /// Reads a command line of a store.
+#[tactic(auto, using(crate::proofs::WordLemmas::first_of_store))]
 pub fn request_of<'a, S: AsStr>(
     alloc: Global,
     arguments: &'a [S],
-) -> Result<StoreRequest<'a>, Mistake> {
+) -> Result<StoreRequest<'a>, Mistake>
+    // It asks for the command of its first word, whatever the words behind say.
+    ensures asked { is_of_store (map S.text arguments.now) ≡ true
+        → IfOk result (λ request. request_word request ≡ first_word (map S.text arguments.now)) }
+{
     let matches = commands(alloc)?.try_get_matches_from(arguments)?;
+    // `clap` refuses a command line that has no command.
     match matches.subcommand() {
-        Some((name, words)) => {
-            if is_signed(words, "SECTORS") || is_signed(words, "limit") {
-                return Err(Mistake::SignedNumber);
-            }
-            Ok(requested(alloc, name, words)?)
-        }
-        None => Ok(StoreRequest::Tables { path: "" }),
+        Some((_, words)) => asked(alloc, first_word(arguments), words),
+        None => asked(alloc, first_word(arguments), &matches),
+    }
+}
+
+// What a word asks for, with the words behind it.
+fn asked<'a>(
+    alloc: Global,
+    command: &str,
+    words: &ArgMatches<'a>,
+) -> Result<StoreRequest<'a>, Mistake>
+    ensures { is_store_word command.now ≡ true → IfOk result (λ request. request_word request ≡ command.now) }
+{
+    if is_signed(words, "SECTORS") || is_signed(words, "limit") {
+        return Err(Mistake::SignedNumber);
+    }
+    Ok(requested(alloc, command, words)?)
+}
+
+// The word of the command.
+#[tactic(auto, unfolding(crate::specs::StoreWords::first_word))]
+fn first_word<S: AsStr>(arguments: &[S]) -> &str
+    ensures { result.now ≡ first_word (map S.text arguments.now) }
+{
+    match arguments {
+        [_, word, ..] => word.as_str(),
+        _ => "",
     }
 }
 
@@ -70,71 +101,87 @@ fn words_of<'a>(
 }
 
 // Rows are appended from a stream, or from a text.
-fn append_request<'a>(path: &'a str, name: &'a str, words: &ArgMatches<'a>) -> StoreRequest<'a> {
+fn append_command<'a>(name: &'a str, words: &ArgMatches<'a>) -> StoreCommand<'a>
+    ensures { command_word result ≡ codes "append" }
+{
     let form = match word(words, "as") {
         "csv" => TextForm::Csv {
             null_text: word(words, "null"),
         },
         "jsonl" => TextForm::JsonLines,
-        _ => return StoreRequest::Append { path, name },
+        _ => return StoreCommand::Append { name },
     };
-    StoreRequest::AppendText { path, name, form }
+    StoreCommand::AppendText { name, form }
 }
 
 // What is selected is printed, or saved as a table.
-fn query_request<'a>(
+fn query_command<'a>(
     alloc: Global,
-    path: &'a str,
     name: &'a str,
     words: &ArgMatches<'a>,
-) -> Result<StoreRequest<'a>, AllocError> {
+) -> Result<StoreCommand<'a>, AllocError>
+    ensures { IfOk result (λ command. command_word command ≡ codes "query") }
+{
     let query = QueryWords {
         conditions: words_of(alloc, words, "CONDITION")?,
         columns: words.get_str("columns"),
         limit: words.get_one("limit"),
     };
     Ok(match words.get_str("save") {
-        Some(to) => StoreRequest::SaveAs {
-            path,
+        Some(to) => StoreCommand::SaveAs {
             from: name,
             to,
             query,
         },
-        None => StoreRequest::Query { path, name, query },
+        None => StoreCommand::Query { name, query },
     })
+}
+
+fn command_of<'a>(
+    alloc: Global,
+    command: &str,
+    words: &ArgMatches<'a>,
+) -> Result<StoreCommand<'a>, AllocError>
+    ensures { is_store_word command.now ≡ true → bytes_eq (codes "format") command.now ≡ false
+        → IfOk result (λ asked. command_word asked ≡ command.now) }
+{
+    let name = word(words, "NAME");
+    match command {
+        "create" => Ok(StoreCommand::Create {
+            name,
+            fields: words_of(alloc, words, "FIELD")?,
+        }),
+        "import" => Ok(StoreCommand::Import { name }),
+        "append" => Ok(append_command(name, words)),
+        "query" => query_command(alloc, name, words),
+        "rename" => Ok(StoreCommand::Rename {
+            from: name,
+            to: word(words, "NEW"),
+        }),
+        "drop" => Ok(StoreCommand::Drop { name }),
+        "schema" => Ok(StoreCommand::Schema { name }),
+        "export" => Ok(StoreCommand::Export { name }),
+        "check" => Ok(StoreCommand::Check),
+        _ => Ok(StoreCommand::Tables),
+    }
 }
 
 fn requested<'a>(
     alloc: Global,
     command: &str,
     words: &ArgMatches<'a>,
-) -> Result<StoreRequest<'a>, AllocError> {
+) -> Result<StoreRequest<'a>, AllocError>
+    ensures { is_store_word command.now ≡ true → IfOk result (λ request. request_word request ≡ command.now) }
+{
     let path = word(words, "STORE");
-    let name = word(words, "NAME");
-    Ok(match command {
-        "format" => StoreRequest::Format {
+    if command == "format" {
+        return Ok(StoreRequest::Format {
             path,
             sectors: words.get_one("SECTORS").unwrap_or_default(),
-        },
-        "create" => StoreRequest::Create {
-            path,
-            name,
-            fields: words_of(alloc, words, "FIELD")?,
-        },
-        "import" => StoreRequest::Import { path, name },
-        "append" => append_request(path, name, words),
-        "query" => query_request(alloc, path, name, words)?,
-        "rename" => StoreRequest::Rename {
-            path,
-            from: name,
-            to: word(words, "NEW"),
-        },
-        "drop" => StoreRequest::Drop { path, name },
-        "schema" => StoreRequest::Schema { path, name },
-        "export" => StoreRequest::Export { path, name },
-        "check" => StoreRequest::Check { path },
-        _ => StoreRequest::Tables { path },
-    })
+        });
+    }
+    let command = command_of(alloc, command, words)?;
+    Ok(StoreRequest::Command { path, command })
 }
 
 fn required<'a>(alloc: Global, id: &'a str, help: &'a str) -> Arg<'a> {

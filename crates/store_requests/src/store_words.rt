@@ -21,70 +21,66 @@ pub enum StoreRequest<'a> {
         path: &'a str,
         sectors: u64,
     },
+    /// A command of the store that stands there.
+    Command {
+        path: &'a str,
+        command: StoreCommand<'a>,
+    },
+}
+
+/// What is asked of a store, as words of a command line.
+#[derive(Drop)]
+pub enum StoreCommand<'a> {
     /// A table without rows, of the fields that the texts state.
     Create {
-        path: &'a str,
         name: &'a str,
         fields: Vec<&'a str>,
     },
     /// The table that a stream means, in place of one of this name.
     Import {
-        path: &'a str,
         name: &'a str,
     },
     /// The rows that a stream means, behind those of the table.
     Append {
-        path: &'a str,
         name: &'a str,
     },
     /// The same of a text.
     AppendText {
-        path: &'a str,
         name: &'a str,
         form: TextForm<'a>,
     },
     /// The rows that a query selects, as lines.
     Query {
-        path: &'a str,
         name: &'a str,
         query: QueryWords<'a>,
     },
     /// The same, as a new table.
     SaveAs {
-        path: &'a str,
         from: &'a str,
         to: &'a str,
         query: QueryWords<'a>,
     },
     /// Another name for a table.
     Rename {
-        path: &'a str,
         from: &'a str,
         to: &'a str,
     },
     /// No table of this name.
     Drop {
-        path: &'a str,
         name: &'a str,
     },
     /// The names of its tables, and how many rows each has.
-    Tables {
-        path: &'a str,
-    },
+    Tables,
     /// The fields of a table.
     Schema {
-        path: &'a str,
         name: &'a str,
     },
     /// The stream of a table.
     Export {
-        path: &'a str,
         name: &'a str,
     },
     /// Whether all tables can be read.
-    Check {
-        path: &'a str,
-    },
+    Check,
 }
 
 #[tactic(auto, unfolding(crate::specs::StoreWords::takes_input_word))]

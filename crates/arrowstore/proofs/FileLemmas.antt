@@ -1,0 +1,89 @@
+-- What requests of a store come to.
+use Rattle.std.proofs.Common.{◌≡◌, ◌≢◌, ◌⊎◌, ◌↔◌, ◌≤◌, ℕ, Bool, true, false, List, [], ◌∷◌, inl, inr, refl, sym, subst, ap, ◌∙◌, true≢false}
+use Rattle.std.specs.Prelude.{Option, Some, None, Result, Ok, Err, IfOk, IfErr, IsOk, IsErrOf}
+use Rattle.sector_dev.specs.declared.device.SectorDevice.{Ghosts}
+use Rattle.sector_dev.specs.declared.file.FileError.{FileError}
+use Rattle.sector_dev.specs.declared.file.FileError.TheVariants as files
+use Rattle.text_import.specs.declared.part.RefusedPart.{RefusedPart}
+use Rattle.store.specs.declared.store.Store.{Store}
+use Rattle.command_refusals.specs.declared.refusal.Refusal.{Refusal}
+use Rattle.command_refusals.specs.declared.refusal.Refusal.TheVariants.{Io}
+use Rattle.command_refusals.specs.Refusals.{file_refusal}
+use Rattle.program_texts.specs.declared.status.Status.{Status}
+use Rattle.program_texts.specs.declared.status.Status.TheVariants.{Done, Refused, WrongArguments}
+use Rattle.program_texts.specs.declared.status.Ended.{Ended}
+use Rattle.program_texts.specs.Ending.{HasReported, TellsRefusal}
+use Rattle.program_texts.specs.Reported.{IfRefused}
+use Rattle.store_requests.specs.declared.store_words.StoreRequest.{StoreRequest}
+use Rattle.store_requests.specs.declared.store_words.StoreRequest.TheVariants as requests
+use Rattle.clap.specs.Words.{Text}
+use Rattle.command_refusals.specs.declared.hint.Hint.{Hint}
+use Rattle.store_requests.specs.StoreWords.{takes_input, takes_input_word, first_word}
+use Rattle.arrowstore.specs.OnFiles.{IsOpened, IsOfOpening, RefusesFormat, Hints, ServesRequest, ServesWord, RunsOnStore, status_of}
+
+pub of_file : (e : FileError) → IsOfOpening (file_refusal e)
+of_file files.Io = tt
+of_file files.BadSize = tt
+
+pub of_making : {T : Type 0} (sectors : ℕ) (e : FileError) → (IsErrOf {T = T} (Err e) files.BadSize ↔ ¬ ((16 ≤ sectors) × (sectors ≤ 4194304))) → RefusesFormat sectors (file_refusal e)
+of_making sectors files.Io bad = tt
+of_making sectors files.BadSize bad = bad.0 refl
+
+-- a store that was opened on a device is one that was opened on some device
+pub opened_on_some : {D : Type 0} {g : Ghosts D} (device : D) (r : Result (Store D g) Refusal) → IfOk r (IsOpened device) → IfOk r (λ store. (d : D) × IsOpened d store)
+opened_on_some device (Ok store) opened = (device, opened)
+opened_on_some device (Err e) opened = tt
+
+-- a request that was refused before anything was done
+pub refused_before : {D : Type 0} (g : Ghosts D) {R W : Type 0} (remaining : R → Option (List ℕ)) (contents : W → Option (List ℕ)) (request : StoreRequest) (input : R) (output : W) (hint : Option RefusedPart)
+    → ServesRequest g remaining contents request input input output output hint (Err Io)
+refused_before g remaining contents (requests.Format path sectors) input output hint = inl (tt, refl)
+refused_before g remaining contents (requests.Command path command) input output hint = inl (inr tt, refl, refl)
+
+-- no part of the input is known, so any word may be hinted
+pub hints_none : (part : Option RefusedPart) (hint : Option Hint) → Hints part None → Hints part hint
+hints_none None hint none = tt
+hints_none (Some part) hint none = absurd none
+
+-- how a run ends whose request was done or refused
+pub ends_as : (done : Result (Unit {0}) Refusal) (status : Status) (kept : Type 0) → (IsOk done → (status ≡ Done) × kept) → IfErr done (λ refusal. status ≡ Refused refusal) → status ≡ status_of done
+ends_as (Ok unit) status kept is refused = (is refl).0
+ends_as (Err e) status kept is refused = refused
+
+-- what is told of it
+pub has_reported : {W E : Type 0} (contents : E → Option (List ℕ)) (tells : Refusal → List ℕ) (output output' : W) (errors errors' : E) (done : Result (Unit {0}) Refusal) (ended : Ended)
+    → IfErr done (λ refusal. refusal ≢ Io → output' ≡ output) → (IsOk done → (ended.status ≡ Done) × (errors' ≡ errors)) → IfErr done (λ refusal. ended.status ≡ Refused refusal)
+    → TellsRefusal tells ended (contents errors) (contents errors') → HasReported contents tells output output' errors errors' ended
+has_reported contents tells output output' errors errors' (Ok unit) ended silent is refused line =
+    let done : ended.status ≡ Done = (is refl).0 in
+    record {
+      silent = λ _. (is refl).1;
+      nothing_written = λ wrong. absurd (cc (done, wrong));
+      quiet = subst (λ s. IfRefused s (λ refusal. refusal ≢ Io → output' ≡ output)) (sym done) tt;
+      line = line;
+    }
+has_reported contents tells output output' errors errors' (Err e) ended silent is refused line = record {
+  silent = λ done. absurd (cc (refused, done));
+  nothing_written = λ wrong. absurd (cc (refused, wrong));
+  quiet = subst (λ s. IfRefused s (λ refusal. refusal ≢ Io → output' ≡ output)) (sym refused) silent;
+  line = line;
+}
+
+-- what was served of a word was served of the same one
+pub served_as : {D : Type 0} (g : Ghosts D) {R W : Type 0} (remaining : R → Option (List ℕ)) (contents : W → Option (List ℕ)) (word other : List ℕ) (input input' : R) (output output' : W)
+    (tells : Option Hint → Type 0) (status : Status) → word ≡ other → ServesWord g remaining contents word input input' output output' tells status → ServesWord g remaining contents other input input' output output' tells status
+served_as g remaining contents word other input input' output output' tells status same served =
+    subst (λ (w : List ℕ). ServesWord g remaining contents w input input' output output' tells status) same served
+
+-- some hint is told, or none
+pub told_of : {D : Type 0} (g : Ghosts D) {R W : Type 0} (remaining : R → Option (List ℕ)) (contents : W → Option (List ℕ)) (word : List ℕ) (input input' : R) (output output' : W)
+    (tells : Option Hint → Type 0) (status : Status) → RunsOnStore g remaining contents word input input' output output' tells status → (hint : Option Hint) × tells hint
+told_of g remaining contents word input input' output output' tells status (inl refused) = (None, refused.1)
+told_of g remaining contents word input input' output output' tells status (inr served) = (served.hint, served.told)
+
+-- a command whose word says that it reads the input
+pub takes_input_by : (arguments : List Text) (word : Text) → word ≡ first_word arguments → takes_input_word word ≡ true → takes_input arguments ≡ true
+unfolding takes_input first_word takes_input_word
+takes_input_by [] word same takes = absurd (true≢false (sym takes ∙ ap takes_input_word same))
+takes_input_by (name ∷ []) word same takes = absurd (true≢false (sym takes ∙ ap takes_input_word same))
+takes_input_by (name ∷ other ∷ rest) word same takes = sym (ap takes_input_word same) ∙ takes

@@ -1,0 +1,5 @@
+use Rattle.arrowstore.proofs.FileLemmas.{refused_before}
+use Rattle.arrowstore.proofs.serving.serve.Goals as goal
+
+pub returns-in-Err-clause-serves : goal.returns-in-Err-clause-serves
+returns-in-Err-clause-serves g c = refused_before _ _ _ c.args.request.now c.args.input.now c.args.output.now c.args.hint.now

@@ -1,0 +1,64 @@
+-- What the words of a command of a store state.
+use Rattle.std.specs.Prelude.{◌≡◌, ℕ, Bool, true, false, List, map, Option, Some}
+use Rattle.std.specs.Option.{option_copied}
+use Rattle.arrow_schema.specs.Column.{PlainSchema}
+use Rattle.query.specs.Query.{PlainQuery}
+use Rattle.query.specs.View.{query_in}
+use Rattle.tables.specs.Commands as plain
+use Rattle.tables.specs.Commands.{PlainCommand}
+use Rattle.tables.specs.View.{command_of}
+use Rattle.command_refusals.specs.declared.refusal.Refusal.{Refusal}
+use Rattle.command_refusals.specs.declared.refusal.Refusal.TheVariants as refusals
+use Rattle.store_commands.specs.Changing.{StateSchema, RefusesFields}
+use Rattle.store_commands.specs.Selecting.{stated_query, RefusesWords}
+use Rattle.store_requests.specs.declared.store_words.QueryWords.{QueryWords}
+use Rattle.store_requests.specs.declared.store_words.StoreCommand.{StoreCommand}
+use Rattle.store_requests.specs.declared.store_words.StoreCommand.TheVariants as words
+use Rattle.arrowstore.specs.declared.open_command.OpenCommand.{OpenCommand}
+use Rattle.arrowstore.specs.declared.open_command.OpenCommand.TheVariants as opened
+
+-- the query that the words of one state, if they state any
+abbrev pub query_stated : QueryWords → Option PlainQuery
+query_stated q = stated_query (map (λ t. t.now) q.conditions.items) (option_copied q.columns) q.limit
+
+-- a table of this name and of the fields that the texts state is made
+abbrev pub StatesTable : (name : List ℕ) → (texts : List (List ℕ)) → PlainCommand → Type 0
+StatesTable name texts (plain.create n schema) = (n ≡ name) × StateSchema texts schema
+StatesTable name texts _ = ⊥
+
+-- what this query selects is saved
+abbrev pub StatesSaving : (from to : List ℕ) → Option PlainQuery → PlainCommand → Type 0
+StatesSaving from to stated (plain.save_as f t query) = (f ≡ from) × (t ≡ to) × (stated ≡ Some query)
+StatesSaving from to stated _ = ⊥
+
+-- the command of an open store that the words state
+unfoldable pub States : StoreCommand → OpenCommand → Type 0
+States (words.Create name fields) (opened.Change c) = StatesTable name.now (map (λ t. t.now) fields.items) (command_of c)
+States (words.SaveAs from to query) (opened.Change c) = StatesSaving from.now to.now (query_stated query) (command_of c)
+States (words.Rename from to) (opened.Change c) = command_of c ≡ plain.rename from.now to.now
+States (words.Drop name) (opened.Change c) = command_of c ≡ plain.drop_table name.now
+States (words.Import name) (opened.Import n) = n.now ≡ name.now
+States (words.Append name) (opened.Append n) = n.now ≡ name.now
+States (words.AppendText name form) (opened.AppendText n f) = (n.now ≡ name.now) × (f ≡ form)
+States (words.Query name query) (opened.Select n q) = (n.now ≡ name.now) × (query_stated query ≡ Some (query_in q))
+States words.Tables opened.Tables = Unit {0}
+States (words.Schema name) (opened.Schema n) = n.now ≡ name.now
+States (words.Export name) (opened.Export n) = n.now ≡ name.now
+States words.Check opened.Check = Unit {0}
+States _ _ = ⊥
+
+-- why the words state no command: the texts of fields or of conditions are refused, or memory is, where the command owns its names
+unfoldable pub RefusesStating : StoreCommand → Refusal → Type 0
+RefusesStating (words.Create name fields) refusal = RefusesFields (map (λ t. t.now) fields.items) refusal
+RefusesStating (words.SaveAs from to query) refusal = RefusesWords (query_stated query) refusal
+RefusesStating (words.Query name query) refusal = RefusesWords (query_stated query) refusal
+RefusesStating (words.Rename from to) refusal = refusal ≡ refusals.OutOfMemory
+RefusesStating (words.Drop name) refusal = refusal ≡ refusals.OutOfMemory
+RefusesStating _ refusal = ⊥
+
+-- a command that reads the input
+abbrev pub reads_input : OpenCommand → Bool
+reads_input (opened.Import name) = true
+reads_input (opened.Append name) = true
+reads_input (opened.AppendText name form) = true
+reads_input _ = false

@@ -1,0 +1,114 @@
+-- What a command of an open store takes, gives and leaves: for each command the words of its own function, in one definition.
+use Rattle.std.specs.Prelude.{◌≡◌, ℕ, Bool, true, false, List, codes, Option, Some, IsSome, Result, Ok, Err, IfErr, OnOk}
+use Rattle.std.specs.Io.KnownBytes.{Appends}
+use Rattle.std.specs.List.{AllByRecursion}
+use Rattle.sector_dev.specs.Disk.{Image, now, shown_image}
+use Rattle.sector_dev.specs.declared.device.SectorDevice.{Ghosts}
+use Rattle.cells.specs.Cell.{PlainTable}
+use Rattle.query.specs.View.{query_in}
+use Rattle.text_import.specs.declared.form.TextForm.{TextForm}
+use Rattle.text_import.specs.declared.part.RefusedPart.{RefusedPart}
+use Rattle.catalogue.specs.Entries.{PlainEntry}
+use Rattle.catalogue.specs.Edits.{entry_of, tables_of}
+use Rattle.canonical_stream.specs.Canonical.{canonical}
+use Rattle.tables.specs.Tables.{Tables}
+use Rattle.tables.specs.Commands.{PlainCommand, import_stream, append_stream, append_rows}
+use Rattle.tables.specs.View.{command_of}
+use Rattle.store.specs.declared.store.Store.{Store}
+use Rattle.store.specs.Applying.{GoesOn, reply_of}
+use Rattle.store.specs.Calls.{apply_call}
+use Rattle.store.specs.Fits.{StoreFits, device_of, is_halted, listed_in}
+use Rattle.store.specs.Listing.{RefusesTables, RefusesSchema}
+use Rattle.store.specs.Machine.{Machine}
+use Rattle.store.specs.Reading.{ReadsTable, RefusesRead, OnlyReadsStore}
+use Rattle.command_refusals.specs.declared.refusal.Refusal.{Refusal}
+use Rattle.store_commands.specs.Changing.{Answered, AnswersCommand, Hands, RefusesImport, RefusesAppend}
+use Rattle.store_commands.specs.Printed.{tables_text, schema_text, RefusesPrinting}
+use Rattle.store_commands.specs.Reading.{OfStore, store_ended, IsReadable, RefusesCheck}
+use Rattle.store_commands.specs.Selecting.{rows_text, QueryAnswers, RefusesQuery}
+use Rattle.store_commands.specs.TextRows.{HandsRows, RefusesText, IfOfText, IfHinted}
+use Rattle.arrowstore.specs.declared.open_command.OpenCommand.{OpenCommand}
+use Rattle.arrowstore.specs.declared.open_command.OpenCommand.TheVariants as opened
+
+-- a change of the tables is carried out as the store carries it out (`apply_command`)
+pub record Carries {D : Type 0} {g : Ghosts D} {W : Type 0} (contents : W → Option (List ℕ)) (command : PlainCommand)
+    (old new : Store D g) (output output' : W) (result : Result (Unit {0}) Refusal) : Type 0 where
+  pub goes : g.tells ≡ true → (base : Tables) (m : Machine) → StoreFits g.size g.story base m old
+      → Answered (λ answer. GoesOn g.size g.story g.failed base m (apply_call command) (reply_of answer) old new) result
+  pub told : Answered (λ answer. AnswersCommand g.size g.story g.tells command answer old new) result
+  pub written : OnOk result (Appends (contents output) (contents output') (codes "ok\n"))
+
+-- so is the command that all of an input is, or it is refused before, for a reason of which this holds (`import_input`, `append_input`)
+pub record CarriesInput {D : Type 0} {g : Ghosts D} {W : Type 0} (contents : W → Option (List ℕ)) (input : Option (List ℕ)) (command : List ℕ → PlainCommand) (before : Refusal → Type 0)
+    (old new : Store D g) (output output' : W) (result : Result (Unit {0}) Refusal) : Type 0 where
+  pub goes : g.tells ≡ true → (base : Tables) (m : Machine) → StoreFits g.size g.story base m old
+      → Hands input (λ bytes answer. GoesOn g.size g.story g.failed base m (apply_call (command bytes)) (reply_of answer) old new) (λ refusal. new ≡ old) result
+  pub told : Hands input (λ bytes answer. AnswersCommand g.size g.story g.tells (command bytes) answer old new)
+      (λ refusal. before refusal × (new ≡ old) × (output' ≡ output)) result
+  pub written : OnOk result (Appends (contents output) (contents output') (codes "ok\n"))
+
+-- so are the rows that all of an input has as a text (`append_text`)
+pub record CarriesText {D : Type 0} {g : Ghosts D} {W : Type 0} (contents : W → Option (List ℕ)) (input : Option (List ℕ)) (form : TextForm) (name : List ℕ) (before : Refusal → Type 0)
+    (old new : Store D g) (output output' : W) (hint : Option RefusedPart) (result : Result (Unit {0}) Refusal) : Type 0 where
+  pub goes : g.tells ≡ true → (base : Tables) (m : Machine) → StoreFits g.size g.story base m old
+      → HandsRows form (entry_of (listed_in old) name) input
+      (λ rows answer. GoesOn g.size g.story g.failed base m (apply_call (append_rows name rows)) (reply_of answer) old new) (λ refusal. new ≡ old) result
+  pub told : HandsRows form (entry_of (listed_in old) name) input (λ rows answer. AnswersCommand g.size g.story g.tells (append_rows name rows) answer old new)
+      (λ refusal. before refusal × (new ≡ old) × (output' ≡ output)) result
+  pub refused : IfErr result (IfOfText form (entry_of (listed_in old) name) input)
+  pub hinted : IfHinted hint form (entry_of (listed_in old) name) input result
+  pub written : OnOk result (Appends (contents output) (contents output') (codes "ok\n"))
+
+-- what is printed of a store, why nothing is, and what becomes of the store (`print_tables`, `print_schema`, `print_selection`, `export_table`, `check_tables`)
+pub record Prints (printed : Type 0) (refuses : Refusal → Type 0) (left : Type 0) (result : Result (Unit {0}) Refusal) : Type 0 where
+  pub written : OnOk result printed
+  pub told : IfErr result refuses
+  pub leaves : left
+
+-- what reads of a store's device show
+abbrev pub image_of : {D : Type 0} {g : Ghosts D} → Store D g → Image
+image_of {g = g} store = shown_image (now (g.story (device_of store)))
+
+-- the table of this name that reads show
+abbrev pub Shows : {D : Type 0} {g : Ghosts D} → Store D g → List ℕ → PlainTable → Type 0
+Shows {g = g} store name table = ReadsTable (is_halted store) g.tells (image_of store) (entry_of (listed_in store) name) table
+
+-- each table that the store lists can be read, where its device tells its story
+abbrev pub AreReadable : {D : Type 0} {g : Ghosts D} → Store D g → Type 0
+AreReadable {g = g} store = g.tells ≡ true → AllByRecursion (IsReadable (is_halted store) (image_of store) (listed_in store)) (tables_of (listed_in store))
+
+-- the store was only read
+abbrev pub OnlyRead : {D : Type 0} {g : Ghosts D} → Result (Unit {0}) Refusal → (old new : Store D g) → Type 0
+OnlyRead {g = g} result old new = OnlyReadsStore g.size g.story g.failed g.tells (store_ended result) old new
+
+-- what each command does, from a store, an input and an output to what they are behind it
+unfoldable pub Serves : {D : Type 0} {g : Ghosts D} {R W : Type 0} → (remaining : R → Option (List ℕ)) → (contents : W → Option (List ℕ)) → OpenCommand → (old new : Store D g)
+    → (input input' : R) → (output output' : W) → (hint : Option RefusedPart) → Result (Unit {0}) Refusal → Type 0
+Serves remaining contents (opened.Change c) old new input input' output output' hint result = Carries contents (command_of c) old new output output' result
+Serves remaining contents (opened.Import name) old new input input' output output' hint result =
+    CarriesInput contents (remaining input) (import_stream name.now) (RefusesImport remaining name.now input input') old new output output' result
+Serves remaining contents (opened.Append name) old new input input' output output' hint result =
+    CarriesInput contents (remaining input) (append_stream name.now) (RefusesAppend remaining (is_halted old) (entry_of (listed_in old) name.now) input input')
+    old new output output' result
+Serves remaining contents (opened.AppendText name form) old new input input' output output' hint result =
+    CarriesText contents (remaining input) form name.now (RefusesText remaining form (is_halted old) (entry_of (listed_in old) name.now) input input')
+    old new output output' hint result
+Serves {g = g} remaining contents (opened.Select name query) old new input input' output output' hint result =
+    Prints ((selected : PlainTable) × QueryAnswers (is_halted old) g.tells (image_of old) (entry_of (listed_in old) name.now) (query_in query) (Ok selected)
+    × Appends (contents output) (contents output') (rows_text selected.rows))
+    (RefusesQuery (is_halted old) g.tells (image_of old) (entry_of (listed_in old) name.now) (query_in query)) (OnlyRead result old new) result
+Serves remaining contents opened.Tables old new input input' output output' hint result =
+    Prints (Appends (contents output) (contents output') (tables_text (tables_of (listed_in old))))
+    (RefusesPrinting (RefusesTables (is_halted old)) (is_halted old ≡ false)) (new ≡ old) result
+Serves remaining contents (opened.Schema name) old new input input' output output' hint result =
+    Prints ((e : PlainEntry) × (entry_of (listed_in old) name.now ≡ Some e) × Appends (contents output) (contents output') (schema_text e.schema.columns))
+    (RefusesPrinting (RefusesSchema (is_halted old) (entry_of (listed_in old) name.now)) ((is_halted old ≡ false) × IsSome (entry_of (listed_in old) name.now)))
+    (new ≡ old) result
+Serves {g = g} remaining contents (opened.Export name) old new input input' output output' hint result =
+    Prints ((t : PlainTable) × Shows old name.now t × Appends (contents output) (contents output') (canonical t))
+    (OfStore (RefusesRead (is_halted old) g.tells (image_of old) (entry_of (listed_in old) name.now)) ((t : PlainTable) × Shows old name.now t))
+    (OnlyRead result old new) result
+Serves {g = g} remaining contents opened.Check old new input input' output output' hint result =
+    Prints (Appends (contents output) (contents output') (codes "ok\n") × AreReadable old)
+    (OfStore (λ refusal. g.tells ≡ true → RefusesCheck (is_halted old) (image_of old) (listed_in old) refusal) (AreReadable old))
+    (OnlyRead result old new) result

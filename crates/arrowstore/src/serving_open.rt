@@ -1,0 +1,49 @@
+// The commands of a store that is open.
+ghost use Rattle.std.specs.Prelude.{◌≡◌, ◌≢◌, ◌⊎◌, true, IfErr};
+ghost use Rattle.arrowstore.specs.OpenCommands.{reads_input};
+ghost use Rattle.arrowstore.specs.Serving.{Serves};
+
+use crate::OpenCommand;
+use command_refusals::Refusal;
+use sector_dev::SectorDevice;
+use std::alloc::Global;
+use std::io::{Read, Write};
+use store::Store;
+use store_commands::{
+    append_input, append_text, apply_command, check_tables, export_table, import_input,
+    print_schema, print_selection, print_tables,
+};
+use text_import::RefusedPart;
+
+/// Does what is asked of an open store, on any device. Where a text is refused, `hint` is left with the part of it that is.
+#[tactic(auto, unfolding(crate::specs::Serving::Serves))]
+pub fn serve_open<D: SectorDevice, R: Read, W: Write>(
+    alloc: Global,
+    store: &mut Store<D>,
+    command: OpenCommand<'_>,
+    input: &mut R,
+    output: &mut W,
+    hint: &mut Option<RefusedPart>,
+) -> Result<(), Refusal>
+    // Each command does what its function promises.
+    ensures serves { Serves R.remaining W.contents command.entry store.old store.new input.old input.new output.old output.new hint.new result }
+    ensures unread { (reads_input command.entry ≡ true) ⊎ (input.new ≡ input.old) }
+    // Where it is refused, nothing is written, unless a read or a write failed.
+    ensures silent { IfErr result (λ refusal. refusal ≢ Refusal.Io → output.new ≡ output.old) }
+{
+    match command {
+        OpenCommand::Change(command) => apply_command(alloc, store, command, output),
+        OpenCommand::Import { name } => import_input(alloc, store, name, input, output),
+        OpenCommand::Append { name } => append_input(alloc, store, name, input, output),
+        OpenCommand::AppendText { name, form } => {
+            append_text(alloc, store, name, &form, input, output, hint)
+        }
+        OpenCommand::Select { name, query } => {
+            print_selection(alloc, store, name, &query, output)
+        }
+        OpenCommand::Tables => print_tables(alloc, store, output),
+        OpenCommand::Schema { name } => print_schema(alloc, store, name, output),
+        OpenCommand::Export { name } => export_table(alloc, store, name, output),
+        OpenCommand::Check => check_tables(alloc, store, output),
+    }
+}
