@@ -1,4 +1,5 @@
 mod ArgumentLemmas
 mod CommandLemmas
 mod FileLemmas
+mod ServingLemmas
 mod WordLemmas

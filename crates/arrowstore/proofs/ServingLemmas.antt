@@ -1,0 +1,37 @@
+-- Commands of an open store that take the input.
+use Rattle.std.proofs.Common.{◌≡◌, ℕ, List, sym, subst}
+use Rattle.std.specs.Prelude.{Option, Result}
+use Rattle.std.specs.Borrow.{Bor}
+use Rattle.sector_dev.specs.declared.device.SectorDevice.{Ghosts}
+use Rattle.text_import.specs.declared.form.TextForm.{TextForm}
+use Rattle.text_import.specs.declared.part.RefusedPart.{RefusedPart}
+use Rattle.catalogue.specs.Edits.{entry_of}
+use Rattle.tables.specs.Commands.{import_stream, append_stream}
+use Rattle.store.specs.declared.store.Store.{Store}
+use Rattle.store.specs.Fits.{is_halted, listed_in}
+use Rattle.command_refusals.specs.declared.refusal.Refusal.{Refusal}
+use Rattle.store_commands.specs.Changing.{RefusesImport, RefusesAppend}
+use Rattle.store_commands.specs.TextRows.{RefusesText}
+use Rattle.arrowstore.specs.declared.open_command.OpenCommand.{OpenCommand}
+use Rattle.arrowstore.specs.declared.open_command.OpenCommand.TheVariants as opened
+use Rattle.arrowstore.specs.Serving.{CarriesInput, CarriesText, Serves}
+
+module _ {D : Type 0} {g : Ghosts D} {R W : Type 0} (remaining : R → Option (List ℕ)) (contents : W → Option (List ℕ)) (command : OpenCommand) (name : Bor (List ℕ))
+    (old new : Store D g) (input input' : R) (output output' : W) (hint : Option RefusedPart) (result : Result (Unit {0}) Refusal) where
+  pub serves_import : command ≡ opened.Import name
+      → CarriesInput contents (remaining input) (import_stream name.now) (RefusesImport remaining name.now input input') old new output output' result
+      → Serves remaining contents command old new input input' output output' hint result
+  unfolding Serves
+  serves_import is carries = subst (λ (c : OpenCommand). Serves remaining contents c old new input input' output output' hint result) (sym is) carries
+
+  pub serves_append : command ≡ opened.Append name
+      → CarriesInput contents (remaining input) (append_stream name.now) (RefusesAppend remaining (is_halted old) (entry_of (listed_in old) name.now) input input') old new output output' result
+      → Serves remaining contents command old new input input' output output' hint result
+  unfolding Serves
+  serves_append is carries = subst (λ (c : OpenCommand). Serves remaining contents c old new input input' output output' hint result) (sym is) carries
+
+  pub serves_text : (form : TextForm) → command ≡ opened.AppendText name form
+      → CarriesText contents (remaining input) form name.now (RefusesText remaining form (is_halted old) (entry_of (listed_in old) name.now) input input') old new output output' hint result
+      → Serves remaining contents command old new input input' output output' hint result
+  unfolding Serves
+  serves_text form is carries = subst (λ (c : OpenCommand). Serves remaining contents c old new input input' output output' hint result) (sym is) carries
