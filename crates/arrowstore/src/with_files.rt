@@ -30,23 +30,31 @@ use store_requests::{
 };
 use text_import::RefusedPart;
 
-// What is said to be refused: a part of the input, where one is known, and else a word of the command line.
-fn hint_of<'a>(
-    alloc: Global,
-    request: &StoreRequest<'a>,
-    done: &Result<(), Refusal>,
-    part: &'a Option<RefusedPart>,
-) -> Option<Hint<'a>>
+// What is said to be refused of the input, where a part of it is known.
+fn part_of(part: &Option<RefusedPart>) -> Option<Hint<'_>>
     ensures { hinted_part result ≡ part.now }
 {
-    match (part, done) {
-        (Some(part), _) => Some(Hint::Part(part)),
-        (None, Ok(())) => None,
-        (None, Err(refusal)) => Some(Hint::Word(refused_word(alloc, request, refusal)?)),
+    match part {
+        Some(part) => Some(Hint::Part(part)),
+        None => None,
     }
 }
 
-// A command of a store.
+// The word of the command line that is refused, where one is known.
+fn word_of<'a>(
+    alloc: Global,
+    request: &StoreRequest<'a>,
+    done: &Result<(), Refusal>,
+) -> Option<Hint<'a>>
+    ensures { hinted_part result ≡ None }
+{
+    match done {
+        Ok(()) => None,
+        Err(refusal) => Some(Hint::Word(refused_word(alloc, request, refusal)?)),
+    }
+}
+
+// A command of a store. What is hinted to be refused is a part of the input, where one is known, and else a word of the command line.
 fn serve_and_tell<
     F: Read + Write + Seek + OpenFile + LockFile + Drop,
     H: Files<File = F> + AllocGlobal,
@@ -68,8 +76,10 @@ fn serve_and_tell<
 {
     let mut part = None;
     let done = serve(rt, request, input, output, &mut part);
-    let hint = hint_of(rt.alloc(), request, &done, &part);
-    end(done, hint, audience, errors)
+    match part_of(&part) {
+        Some(hint) => end(done, Some(hint), audience, errors),
+        None => end(done, word_of(rt.alloc(), request, &done), audience, errors),
+    }
 }
 
 // What `clap` says of the words of a command line. It gives help where one of them asks for it alone.
