@@ -19,7 +19,7 @@ use Rattle.store_requests.specs.declared.store_words.StoreRequest.TheVariants as
 use Rattle.clap.specs.Words.{Text}
 use Rattle.command_refusals.specs.declared.hint.Hint.{Hint}
 use Rattle.store_requests.specs.StoreWords.{takes_input, takes_input_word, first_word}
-use Rattle.arrowstore.specs.OnFiles.{IsOpened, IsOfOpening, RefusesFormat, Hints, ServesRequest, ServesWord, RunsOnStore, status_of}
+use Rattle.arrowstore.specs.OnFiles.{IsOpened, IsOfOpening, RefusesFormat, ServesRequest, ServesWord, RunsOnStore, status_of}
 
 pub of_file : (e : FileError) → IsOfOpening (file_refusal e)
 of_file files.Io = tt
@@ -39,11 +39,6 @@ pub refused_before : {D : Type 0} (g : Ghosts D) {R W : Type 0} (remaining : R �
     → ServesRequest g remaining contents request input input output output hint (Err Io)
 refused_before g remaining contents (requests.Format path sectors) input output hint = inl (tt, refl)
 refused_before g remaining contents (requests.Command path command) input output hint = inl (inr tt, refl, refl)
-
--- no part of the input is known, so any word may be hinted
-pub hints_none : (part : Option RefusedPart) (hint : Option Hint) → Hints part None → Hints part hint
-hints_none None hint none = tt
-hints_none (Some part) hint none = absurd none
 
 -- how a run ends whose request was done or refused
 pub ends_as : (done : Result (Unit {0}) Refusal) (status : Status) (kept : Type 0) → (IsOk done → (status ≡ Done) × kept) → IfErr done (λ refusal. status ≡ Refused refusal) → status ≡ status_of done
@@ -76,10 +71,10 @@ served_as g remaining contents word other input input' output output' tells stat
     subst (λ (w : List ℕ). ServesWord g remaining contents w input input' output output' tells status) same served
 
 -- some hint is told, or none
-pub told_of : {D : Type 0} (g : Ghosts D) {R W : Type 0} (remaining : R → Option (List ℕ)) (contents : W → Option (List ℕ)) (word : List ℕ) (input input' : R) (output output' : W)
-    (tells : Option Hint → Type 0) (status : Status) → RunsOnStore g remaining contents word input input' output output' tells status → (hint : Option Hint) × tells hint
-told_of g remaining contents word input input' output output' tells status (inl refused) = (None, refused.1)
-told_of g remaining contents word input input' output output' tells status (inr served) = (served.hint, served.told)
+pub told_of : {D : Type 0} (g : Ghosts D) {R W : Type 0} (remaining : R → Option (List ℕ)) (contents : W → Option (List ℕ)) (word : List ℕ) (help : Bool) (input input' : R) (output output' : W)
+    (tells : Option Hint → Type 0) (status : Status) → RunsOnStore g remaining contents word help input input' output output' tells status → (hint : Option Hint) × tells hint
+told_of g remaining contents word help input input' output output' tells status (inl none) = (None, none.2.1)
+told_of g remaining contents word help input input' output output' tells status (inr served) = (served.hint, served.told)
 
 -- a command whose word says that it reads the input
 pub takes_input_by : (arguments : List Text) (word : Text) → word ≡ first_word arguments → takes_input_word word ≡ true → takes_input arguments ≡ true

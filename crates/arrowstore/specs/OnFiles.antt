@@ -10,6 +10,7 @@ use Rattle.command_refusals.specs.declared.refusal.Refusal.{Refusal}
 use Rattle.command_refusals.specs.declared.refusal.Refusal.TheVariants as refusals
 use Rattle.command_refusals.specs.declared.hint.Hint.{Hint}
 use Rattle.command_refusals.specs.declared.hint.Hint.TheVariants as hints
+use Rattle.program_texts.specs.Reported.{IsWrong}
 use Rattle.program_texts.specs.declared.status.Status.{Status}
 use Rattle.program_texts.specs.declared.status.Status.TheVariants.{Done, Refused}
 use Rattle.store_requests.specs.Asked.{request_word}
@@ -84,11 +85,10 @@ abbrev pub status_of : Result (Unit {0}) Refusal → Status
 status_of (Ok unit) = Done
 status_of (Err refusal) = Refused refusal
 
--- what is hinted is the part of the input that is refused, where one is known
-abbrev pub Hints : Option RefusedPart → Option Hint → Type 0
-Hints None hint = Unit {0}
-Hints (Some part) (Some (hints.Part p)) = p.now ≡ part
-Hints (Some part) _ = ⊥
+-- the part of the input that a hint tells, if it tells one
+abbrev pub hinted_part : Option Hint → Option RefusedPart
+hinted_part (Some (hints.Part p)) = Some p.now
+hinted_part _ = None
 
 -- a request of this word was served, and what is hinted is told
 pub record ServesWord {D : Type 0} (g : Ghosts D) {R W : Type 0} (remaining : R → Option (List ℕ)) (contents : W → Option (List ℕ)) (word : List ℕ)
@@ -100,12 +100,16 @@ pub record ServesWord {D : Type 0} (g : Ghosts D) {R W : Type 0} (remaining : R 
   pub serves : ServesRequest g remaining contents request input input' output output' part result
   pub ends : status ≡ status_of result
   pub hint : Option Hint
-  pub hints : Hints part hint
+  -- what is told of the input is the part that is refused, and else none is told
+  pub hints : hinted_part hint ≡ part
   pub told : tells hint
 
--- a command line of a store, of which this is the first word: `clap` makes nothing of the other words, or a request for help, and nothing is read; or its
--- command was served
+-- no command is asked for: some word asks for help, or what the words say is reported as wrong and nothing is written
+abbrev pub AsksForNone : {W : Type 0} → (asks_for_help : Bool) → (output output' : W) → Status → Type 0
+AsksForNone asks_for_help output output' status = (asks_for_help ≡ true) ⊎ (IsWrong status × (output' ≡ output))
+
+-- a command line of a store, of which this is the first word: it asks for no command, and nothing is read; or its command was served
 abbrev pub RunsOnStore : {D : Type 0} → (g : Ghosts D) → {R W : Type 0} → (remaining : R → Option (List ℕ)) → (contents : W → Option (List ℕ)) → (word : List ℕ)
-    → (input input' : R) → (output output' : W) → (tells : Option Hint → Type 0) → Status → Type 0
-RunsOnStore g remaining contents word input input' output output' tells status =
-    ((input' ≡ input) × tells None) ⊎ ServesWord g remaining contents word input input' output output' tells status
+    → (asks_for_help : Bool) → (input input' : R) → (output output' : W) → (tells : Option Hint → Type 0) → Status → Type 0
+RunsOnStore g remaining contents word asks_for_help input input' output output' tells status =
+    (AsksForNone asks_for_help output output' status × (input' ≡ input) × tells None) ⊎ ServesWord g remaining contents word input input' output output' tells status

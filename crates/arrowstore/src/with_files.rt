@@ -2,12 +2,12 @@
 ghost use Rattle.std.specs.Prelude.{◌≡◌, ◌⊎◌, true, map, Option, None};
 ghost use Rattle.std.specs.Io.KnownBytes.{Appends};
 ghost use Rattle.arrowstore.specs.Arguments.{AreRecode, AskForHelp};
-ghost use Rattle.arrowstore.specs.OnFiles.{Hints, RunsOnStore, ServesWord};
+ghost use Rattle.arrowstore.specs.OnFiles.{AsksForNone, RunsOnStore, ServesWord, hinted_part};
 ghost use Rattle.arrowstore.specs.Running.{Recodes};
 ghost use Rattle.program_texts.specs.Ending.{GivesText, HasReported};
 ghost use Rattle.program_texts.specs.OwnTexts.{is_own, own_text};
 ghost use Rattle.store_requests.specs.Asked.{request_word};
-ghost use Rattle.store_requests.specs.StoreWords.{is_of_store, takes_input, takes_input_word, first_word};
+ghost use Rattle.store_requests.specs.StoreWords.{is_of_store, takes_input, takes_input_word, first_word, ask_for_help};
 ghost use Rattle.program_texts.specs.Reported.{IsWrong};
 ghost use Rattle.program_texts.specs.Told.{told};
 ghost use Rattle.program_texts.specs.declared.status.Status.TheVariants.{Done};
@@ -16,19 +16,23 @@ ghost use Rattle.command_refusals.specs.declared.hint.Hint.{Hint};
 use crate::run;
 use crate::serving::serve;
 use command_refusals::{Hint, Refusal};
-use program_texts::{Audience, Ended, end, report_arguments, report_signed_number};
+use program_texts::{
+    Audience, Ended, end, report_arguments, report_signed_number, report_wrong_arguments,
+};
 use sector_dev::{FileDevice, LockFile, SectorDevice};
 use std::alloc::Global;
 use std::convert::AsStr;
 use std::fs::OpenFile;
 use std::io::{Read, Seek, Write};
 use std::rt::Files;
-use store_requests::{Mistake, StoreRequest, is_of_store, refused_word, request_of};
+use store_requests::{
+    Mistake, StoreRequest, ask_for_help, is_of_store, refused_word, request_of,
+};
 use text_import::RefusedPart;
 
 // What is said to be refused of the input, where a part of it is known.
 fn part_of(part: &Option<RefusedPart>) -> Option<Hint<'_>>
-    ensures { Hints part.now result }
+    ensures { hinted_part result ≡ part.now }
 {
     match part {
         Some(part) => Some(Hint::Part(part)),
@@ -41,7 +45,9 @@ fn word_of<'a>(
     alloc: Global,
     request: &StoreRequest<'a>,
     done: &Result<(), Refusal>,
-) -> Option<Hint<'a>> {
+) -> Option<Hint<'a>>
+    ensures { hinted_part result ≡ None }
+{
     match done {
         Ok(()) => None,
         Err(refusal) => Some(Hint::Word(refused_word(alloc, request, refusal)?)),
@@ -76,6 +82,24 @@ fn serve_and_tell<
     }
 }
 
+// What `clap` says of the words of a command line. It gives help where one of them asks for it alone.
+fn report_mistake<W: Write, E: Write>(
+    error: &clap::Error,
+    asks_for_help: bool,
+    output: &mut W,
+    errors: &mut E,
+    audience: Audience,
+) -> Ended
+    ensures none { AsksForNone asks_for_help output.old output.new result.status }
+    ensures reports { HasReported E.contents (told audience None) output.old output.new errors.old errors.new result }
+{
+    if asks_for_help {
+        report_arguments(error, output, errors, audience)
+    } else {
+        report_wrong_arguments(error, errors, audience)
+    }
+}
+
 // A command line of a store.
 fn run_on_store<
     F: Read + Write + Seek + OpenFile + LockFile + Drop,
@@ -94,13 +118,15 @@ fn run_on_store<
 ) -> Ended
     requires { is_of_store (map S.text arguments.now) ≡ true }
     ensures serves { RunsOnStore ⟦<FileDevice<F> as SectorDevice>⟧ R.remaining W.contents
-        (first_word (map S.text arguments.now)) input.old input.new output.old output.new
+        (first_word (map S.text arguments.now)) (ask_for_help (map S.text arguments.now)) input.old input.new output.old output.new
         (λ hint. HasReported E.contents (told audience hint) output.old output.new errors.old errors.new result) result.status }
     ensures input { (takes_input (map S.text arguments.now) ≡ true) ⊎ (input.new ≡ input.old) }
 {
     match request_of(rt.alloc(), arguments) {
         Ok(request) => serve_and_tell(rt, &request, input, output, errors, audience),
-        Err(Mistake::Words(error)) => report_arguments(&error, output, errors, audience),
+        Err(Mistake::Words(error)) => {
+            report_mistake(&error, ask_for_help(arguments), output, errors, audience)
+        }
         Err(Mistake::SignedNumber) => report_signed_number(errors),
     }
 }
@@ -138,8 +164,9 @@ pub fn run_with_files<
     // The input is read by these commands alone.
     ensures others_leave_input { AreRecode (map S.text arguments.now) ⊎ (takes_input (map S.text arguments.now) ≡ true) ⊎ (input.new ≡ input.old) }
     // A store's words lead to the command of the first one: it was refused before a store was open, or what the words state was carried out on one.
+    // But where a word asks for help that may be given, and wrong words are reported.
     ensures serves { is_of_store (map S.text arguments.now) ≡ true → RunsOnStore ⟦<FileDevice<F> as SectorDevice>⟧ R.remaining W.contents
-        (first_word (map S.text arguments.now)) input.old input.new output.old output.new
+        (first_word (map S.text arguments.now)) (ask_for_help (map S.text arguments.now)) input.old input.new output.old output.new
         (λ hint. HasReported E.contents (told audience hint) output.old output.new errors.old errors.new result) result.status }
     // What is on `errors`: what is told of a refusal to such an audience, and nothing where all is done. Only of commands of a store more is hinted.
     ensures reports { (hint : Option Hint) × ((is_of_store (map S.text arguments.now) ≡ true) ⊎ (hint ≡ None))

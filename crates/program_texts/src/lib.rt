@@ -16,7 +16,7 @@ mod telling;
 mod unreadable;
 
 pub use own_texts::{VERSION, is_own, write_own_text};
-pub use reports::{end, report_arguments, report_signed_number};
+pub use reports::{end, report_arguments, report_signed_number, report_wrong_arguments};
 pub use status::{Ended, Status};
 pub use telling::Audience;
 pub use unreadable::report_unreadable_arguments;

@@ -23,11 +23,26 @@ pub fn report_arguments<W: Write, E: Write>(
     ensures reports { HasReported E.contents (told audience None) output.old output.new errors.old errors.new result }
 {
     match error.kind() {
-        ErrorKind::OutOfMemory => end(Err(Refusal::OutOfMemory), None, audience, errors),
         ErrorKind::DisplayHelp | ErrorKind::DisplayVersion => {
             let written = write!(output, "{error}").map_err(|_| Refusal::Io);
             end(written, None, audience, errors)
         }
+        _ => report_wrong_arguments(error, errors, audience),
+    }
+}
+
+/// Reports that arguments are wrong, or that memory for what is wrong with them is refused.
+pub fn report_wrong_arguments<E: Write>(
+    error: &clap::Error,
+    errors: &mut E,
+    audience: Audience,
+) -> Ended
+    ensures wrong { IsWrong result.status }
+    ensures memory { kind_of error.now ≡ ErrorKind.OutOfMemory → result.status ≡ Status.Refused Refusal.OutOfMemory }
+    ensures line { TellsRefusal (told audience None) result (E.contents errors.old) (E.contents errors.new) }
+{
+    match error.kind() {
+        ErrorKind::OutOfMemory => end(Err(Refusal::OutOfMemory), None, audience, errors),
         _ => Ended {
             status: Status::WrongArguments,
             is_reported: write!(errors, "{error}").is_ok(),

@@ -1,5 +1,6 @@
 -- The words of the commands of a store.
-use Rattle.std.specs.Prelude.{Bool, false, ◌||◌, List, [], ◌∷◌, codes}
+use Rattle.std.specs.Prelude.{Bool, false, nat_eq, ◌||◌, List, [], ◌∷◌, codes}
+use Rattle.std.specs.List.{list_any, starts_with}
 use Rattle.std.specs.Str.{bytes_eq}
 use Rattle.clap.specs.Words.{Text}
 
@@ -34,6 +35,14 @@ unfoldable pub takes_input : List Text → Bool
 takes_input [] = false
 takes_input (name ∷ []) = false
 takes_input (name ∷ word ∷ rest) = takes_input_word word
+
+-- a word that asks for help: `--help`, or `-h` and whatever follows it in the word
+unfoldable pub is_help_word : Text → Bool
+is_help_word word = bytes_eq (codes "--help") word || starts_with nat_eq word (codes "-h")
+
+-- some word asks for help
+unfoldable pub ask_for_help : List Text → Bool
+ask_for_help arguments = list_any is_help_word arguments
 
 -- the first word behind the program's name; empty where there is none
 unfoldable pub first_word : List Text → Text

@@ -1,7 +1,7 @@
 //! What a command line asks of a store, and which of its words a refusal is of.
 //!
-//! [`is_of_store`] and [`takes_input`] promise which command lines are for a store, and which of these read the input, whatever
-//! the words behind say. [`request_of`] gives what `clap` makes of all words, and [`refused_word`] the word that is meant by a
+//! [`is_of_store`], [`takes_input`] and [`ask_for_help`] promise which command lines are for a store, which of these read the input, and
+//! which ask for help, whatever the other words say. [`request_of`] gives what `clap` makes of all words, and [`refused_word`] the word that is meant by a
 //! refusal.
 //!
 //! ```
@@ -16,4 +16,6 @@ mod store_words;
 
 pub use naming::refused_word;
 pub use store_command_line::{Mistake, request_of};
-pub use store_words::{QueryWords, StoreCommand, StoreRequest, is_of_store, takes_input};
+pub use store_words::{
+    QueryWords, StoreCommand, StoreRequest, ask_for_help, is_of_store, takes_input,
+};

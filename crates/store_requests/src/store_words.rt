@@ -1,6 +1,6 @@
 // What a command line asks of a store.
 ghost use Rattle.std.specs.Prelude.{◌≡◌, map};
-ghost use Rattle.store_requests.specs.StoreWords.{takes_input_word, changes_word, reads_table_word, reads_word, is_store_word, is_of_store, takes_input};
+ghost use Rattle.store_requests.specs.StoreWords.{takes_input_word, changes_word, reads_table_word, reads_word, is_store_word, is_of_store, takes_input, is_help_word, ask_for_help};
 
 use std::convert::AsStr;
 use text_import::TextForm;
@@ -138,4 +138,24 @@ pub fn takes_input<S: AsStr>(arguments: &[S]) -> bool
         [_, word, ..] => takes_input_word(word.as_str()),
         _ => false,
     }
+}
+
+#[tactic(auto, unfolding(crate::specs::StoreWords::is_help_word))]
+fn is_help_word(word: &str) -> bool
+    ensures { result ≡ is_help_word word.now }
+{
+    word == "--help" || word.as_bytes().starts_with(b"-h")
+}
+
+/// Whether some word asks for help.
+#[tactic(auto, unfolding(crate::specs::StoreWords::ask_for_help))]
+pub fn ask_for_help<S: AsStr>(arguments: &[S]) -> bool
+    ensures { result ≡ ask_for_help (map S.text arguments.now) }
+{
+    for argument in arguments {
+        if is_help_word(argument.as_str()) {
+            return true;
+        }
+    }
+    false
 }

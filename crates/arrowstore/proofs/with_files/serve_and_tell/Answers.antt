@@ -1,5 +1,5 @@
-use Rattle.std.proofs.Common.{refl, Some}
-use Rattle.arrowstore.proofs.FileLemmas.{ends_as, has_reported, hints_none}
+use Rattle.std.proofs.Common.{refl, Some, ◌∙◌}
+use Rattle.arrowstore.proofs.FileLemmas.{ends_as, has_reported}
 use Rattle.arrowstore.proofs.with_files.serve_and_tell.Goals as goal
 
 pub returns-in-Some-clause-serves : goal.returns-in-Some-clause-serves
@@ -24,6 +24,6 @@ returns-clause-serves g c = record {
   serves = c.serve-done.ensures.serves;
   ends = ends_as c.serve-done.result c.end-in-None.result.status _ c.end-in-None.ensures.done c.end-in-None.ensures.refused;
   hint = c.word_of.result;
-  hints = hints_none c.serve-done.new.hint c.word_of.result c.in-None.ensures;
+  hints = c.word_of.ensures ∙ c.in-None.ensures;
   told = has_reported _ _ _ _ _ _ c.serve-done.result c.end-in-None.result c.serve-done.ensures.silent c.end-in-None.ensures.done c.end-in-None.ensures.refused c.end-in-None.ensures.line;
 }
