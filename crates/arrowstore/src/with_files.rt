@@ -25,9 +25,7 @@ use std::convert::AsStr;
 use std::fs::OpenFile;
 use std::io::{Read, Seek, Write};
 use std::rt::Files;
-use store_requests::{
-    Mistake, StoreRequest, ask_for_help, is_of_store, refused_word, request_of,
-};
+use store_requests::{Mistake, StoreRequest, ask_for_help, is_of_store, refused_word, request_of};
 use text_import::RefusedPart;
 
 // What is said to be refused of the input, where a part of it is known.
