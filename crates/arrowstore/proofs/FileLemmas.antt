@@ -73,7 +73,7 @@ served_as g remaining contents word other input input' output output' tells stat
 -- some hint is told, or none
 pub told_of : {D : Type 0} (g : Ghosts D) {R W : Type 0} (remaining : R → Option (List ℕ)) (contents : W → Option (List ℕ)) (word : List ℕ) (help : Bool) (input input' : R) (output output' : W)
     (tells : Option Hint → Type 0) (status : Status) → RunsOnStore g remaining contents word help input input' output output' tells status → (hint : Option Hint) × tells hint
-told_of g remaining contents word help input input' output output' tells status (inl none) = (None, none.2.1)
+told_of g remaining contents word help input input' output output' tells status (inl none) = (None, none.2)
 told_of g remaining contents word help input input' output output' tells status (inr served) = (served.hint, served.told)
 
 -- a command whose word says that it reads the input
