@@ -5,7 +5,7 @@
 //! refusal.
 //!
 //! ```
-//! let request = request_of(alloc, &["arrowstore", "drop", "store", "t"])?; // `StoreRequest::Drop`
+//! let request = request_of(alloc, &["arrowstore", "drop", "store", "t"])?; // `StoreCommand::Drop`, of the store at `store`
 //! let word = refused_word(alloc, &request, &Refusal::Store(tables::Refusal::NoTable)); // the name `t`
 //! ```
 #![tactic(auto)]
