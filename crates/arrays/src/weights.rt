@@ -298,14 +298,14 @@ fn place_weight(field: &Field, found: Option<EntryPlace<'_>>, none: &PlacedArray
     }
 }
 
-// How many they are: no more than there are.
+// How many first entries are weighed: no more than the dictionary has.
 fn first_count(view: ArrayView<'_>) -> usize
     ensures { result ≤ FIRST_ENTRIES }
 {
     entry_count(view.dictionary()).min(FIRST_ENTRIES as u128) as usize
 }
 
-// So many first entries of a dictionary, each by itself; those that are not there as nulls.
+// So many first entries of a dictionary, each by itself.
 #[cycle(weights)]
 fn first_weights(
     field: &Field,
@@ -327,7 +327,7 @@ fn first_weights(
     weights
 }
 
-// With a dictionary: slot by slot, the entries that the indices name. Where there are as many slots, the first entries are weighed once.
+// With a dictionary: slot by slot, the entries that the indices name. Where there are at least as many slots, the first entries are weighed once.
 #[cycle(weights)]
 fn entries_weight(
     field: &Field,
