@@ -7,8 +7,8 @@ use Rattle.arrow_schema.specs.Column.{Kind, nulls, booleans, integers, dates, ti
 use Rattle.array_build.specs.Batch.{plain_column}
 use Rattle.array_build.specs.inner.Runs.{AreAsWritten, AreReady, are_runs_as_written, are_zeros, contents_width, fixed_width, has_nothing_below, is_as_written, is_run_as_written}
 use Rattle.array_runs.specs.Runs.{are_runs_valid, is_run_sound, is_run_valid}
-use Rattle.array_runs.specs.declared.run.Run.{Run}
-use Rattle.array_runs.specs.declared.run.Run.TheVariants.{Slots, Nulls}
+use Rattle.array_runs.specs.declared.run.SlotRun.{SlotRun}
+use Rattle.array_runs.specs.declared.run.SlotRun.TheVariants.{Slots, Nulls}
 use Rattle.cells.specs.Cell.{null}
 use Rattle.columns.specs.Array.{Array, values_in}
 use Rattle.columns.specs.CellAt.{cell_at, is_valid, span_size, value_at}
@@ -85,11 +85,11 @@ slots_written kind a (i ∷ is) h =
     let first : is_as_written kind a i ≡ true = or_more (is_valid a i) (has_nothing_below (fixed_width kind) (contents_width kind) a i) parts.0 in
     rw first (slots_written kind a is parts.1)
 
-pub valid_written : (kind : Kind) (run : Run) → is_run_valid run ≡ true → is_run_as_written kind run ≡ true
+pub valid_written : (kind : Kind) (run : SlotRun) → is_run_valid run ≡ true → is_run_as_written kind run ≡ true
 valid_written kind (Slots v from n) h = slots_written kind (view_array v) (range_with_len from n) h
 valid_written kind (Nulls n) h = refl
 
-pub valid_runs_written : (kind : Kind) (runs : List Run) → are_runs_valid runs ≡ true → are_runs_as_written kind runs ≡ true
+pub valid_runs_written : (kind : Kind) (runs : List SlotRun) → are_runs_valid runs ≡ true → are_runs_as_written kind runs ≡ true
 valid_runs_written kind [] h = refl
 valid_runs_written kind (run ∷ runs) h =
     let parts = and_parts (is_run_valid run) (are_runs_valid runs) h in
@@ -103,17 +103,17 @@ slots_valid kind a (i ∷ is) values contents h =
     let own : (is_valid a i || false) ≡ true = rw (values, contents) at parts.0 in
     rw (or_none (is_valid a i) own) (slots_valid kind a is values contents parts.1)
 
-run_valid : (kind : Kind) (run : Run) → fixed_width kind ≡ None → contents_width kind ≡ None → is_run_as_written kind run ≡ true → is_run_valid run ≡ true
+run_valid : (kind : Kind) (run : SlotRun) → fixed_width kind ≡ None → contents_width kind ≡ None → is_run_as_written kind run ≡ true → is_run_valid run ≡ true
 run_valid kind (Slots v from n) values contents h = slots_valid kind (view_array v) (range_with_len from n) values contents h
 run_valid kind (Nulls n) values contents h = refl
 
-runs_valid : (kind : Kind) (runs : List Run) → fixed_width kind ≡ None → contents_width kind ≡ None → are_runs_as_written kind runs ≡ true → are_runs_valid runs ≡ true
+runs_valid : (kind : Kind) (runs : List SlotRun) → fixed_width kind ≡ None → contents_width kind ≡ None → are_runs_as_written kind runs ≡ true → are_runs_valid runs ≡ true
 runs_valid kind [] values contents h = refl
 runs_valid kind (run ∷ runs) values contents h =
     let parts = and_parts (is_run_as_written kind run) (are_runs_as_written kind runs) h in
     rw (run_valid kind run values contents parts.0) (runs_valid kind runs values contents parts.1)
 
-pub ready_of : (kind : Kind) (runs : List Run) → fixed_width kind ≡ None → contents_width kind ≡ None → AreAsWritten kind runs → AreReady kind runs
+pub ready_of : (kind : Kind) (runs : List SlotRun) → fixed_width kind ≡ None → contents_width kind ≡ None → AreAsWritten kind runs → AreReady kind runs
 ready_of kind runs values contents are = record {
   sound = are.sound;
   valid = runs_valid kind runs values contents are.written;
@@ -121,7 +121,7 @@ ready_of kind runs values contents are = record {
 }
 
 -- runs of valid slots stand so
-pub written_of : (kind : Kind) (runs : List Run) → AreReady kind runs → AreAsWritten kind runs
+pub written_of : (kind : Kind) (runs : List SlotRun) → AreReady kind runs → AreAsWritten kind runs
 written_of kind runs ready = record {
   sound = ready.sound;
   written = valid_runs_written kind runs ready.valid;

@@ -13,8 +13,8 @@ use Rattle.array_build.specs.Batch.{PlainBatch, built_at, plain_column, with_arr
 use Rattle.array_build.specs.inner.Nodes.{with_node, with_buffer, with_slots}
 use Rattle.array_build.specs.inner.Runs.{bitmap_of, cell_sizes, contents_width, fixed_value, fixed_width, kind_cells, run_bits, runs_bits, with_run_slots}
 use Rattle.array_runs.specs.Runs.{run_cells}
-use Rattle.array_runs.specs.declared.run.Run.{Run}
-use Rattle.array_runs.specs.declared.run.Run.TheVariants.{Slots, Nulls}
+use Rattle.array_runs.specs.declared.run.SlotRun.{SlotRun}
+use Rattle.array_runs.specs.declared.run.SlotRun.TheVariants.{Slots, Nulls}
 use Rattle.bitmap.specs.Bits.{packed}
 use Rattle.cells.specs.Cell.{Cell, null}
 use Rattle.cells.specs.Nulls.{is_there}
@@ -55,11 +55,11 @@ slots_there : (kind : Kind) (a : Array) (from n : ℕ) → has_values kind ≡ t
 slots_there kind a from zero has = refl
 slots_there kind a from (suc n) has = ap₂ (λ (b : Bool) (bs : List Bool). b ∷ bs) (there_as (is_valid a from) kind a from has refl) (slots_there kind a (from + 1) n has)
 
-run_there : (kind : Kind) (run : Run) → has_values kind ≡ true → map is_there (run_cells (plain_column kind None) run) ≡ run_bits run
+run_there : (kind : Kind) (run : SlotRun) → has_values kind ≡ true → map is_there (run_cells (plain_column kind None) run) ≡ run_bits run
 run_there kind (Slots v from n) has = slots_there kind (view_array v) from n has
 run_there kind (Nulls n) has = repeated_map is_there n null
 
-runs_there : (kind : Kind) (runs : List Run) → has_values kind ≡ true → map is_there (kind_cells kind runs) ≡ runs_bits runs
+runs_there : (kind : Kind) (runs : List SlotRun) → has_values kind ≡ true → map is_there (kind_cells kind runs) ≡ runs_bits runs
 runs_there kind [] has = refl
 runs_there kind (run ∷ runs) has =
     map-append is_there (run_cells (plain_column kind None) run) (kind_cells kind runs)
@@ -77,16 +77,16 @@ slots_are p cells bits is =
     let count : length bits ≡ length cells = sym (ap length is) ∙ length-map cells is_there in
     λ i. with_buffer (with_node p (record { slots = count i; null_count = unset_bits (map_is i) (count i) })) (map_is i)
 
-pub kind_slots : (p : PlainBatch) (kind : Kind) (runs : List Run) → has_values kind ≡ true → with_run_slots p (runs_bits runs) ≡ with_slots p (kind_cells kind runs)
+pub kind_slots : (p : PlainBatch) (kind : Kind) (runs : List SlotRun) → has_values kind ≡ true → with_run_slots p (runs_bits runs) ≡ with_slots p (kind_cells kind runs)
 kind_slots p kind runs has = slots_are p (kind_cells kind runs) (runs_bits runs) (runs_there kind runs has)
 
 -- ---- how many cells there are
 
-pub count_run : (kind : Kind) (run : Run) → length (run_bits run) ≡ length (run_cells (plain_column kind None) run)
+pub count_run : (kind : Kind) (run : SlotRun) → length (run_bits run) ≡ length (run_cells (plain_column kind None) run)
 count_run kind (Slots v from n) = length-map-range_with_len (is_valid (view_array v)) from n ∙ sym (length-map-range_with_len (cell_at (plain_column kind None) (view_array v)) from n)
 count_run kind (Nulls n) = length-replicate n false ∙ sym (length-replicate n null)
 
-count_cells : (kind : Kind) (runs : List Run) → length (runs_bits runs) ≡ length (kind_cells kind runs)
+count_cells : (kind : Kind) (runs : List SlotRun) → length (runs_bits runs) ≡ length (kind_cells kind runs)
 count_cells kind [] = refl
 count_cells kind (run ∷ runs) =
     length-append (run_bits run) (runs_bits runs)
@@ -95,7 +95,7 @@ count_cells kind (run ∷ runs) =
 
 -- ---- the arrays
 
-pub null_runs_are : (p : PlainBatch) (kind : Kind) (runs : List Run) (slots : ℕ) → kind ≡ nulls → slots ≡ length (runs_bits runs)
+pub null_runs_are : (p : PlainBatch) (kind : Kind) (runs : List SlotRun) (slots : ℕ) → kind ≡ nulls → slots ≡ length (runs_bits runs)
     → with_node p (record { slots = slots; null_count = slots }) ≡ with_arrays p (built_at (plain_column kind None) (kind_cells kind runs))
 null_runs_are p kind runs slots is count =
     let all : slots ≡ length (kind_cells kind runs) = count ∙ count_cells kind runs in
@@ -103,7 +103,7 @@ null_runs_are p kind runs slots is count =
     ∙ nulls_of p (kind_cells kind runs)
     ∙ ap (λ (k : Kind). with_arrays p (built_at (plain_column k None) (kind_cells kind runs))) (sym is)
 
-pub boolean_runs_are : (p : PlainBatch) (runs : List Run)
+pub boolean_runs_are : (p : PlainBatch) (runs : List SlotRun)
     → with_buffer (with_run_slots p (runs_bits runs)) (packed (map is_set (kind_cells booleans runs))) ≡ with_arrays p (built_at (plain_column booleans None) (kind_cells booleans runs))
 boolean_runs_are p runs =
     ap (λ (q : PlainBatch). with_buffer q (packed (map is_set (kind_cells booleans runs)))) (kind_slots p booleans runs refl)
@@ -142,7 +142,7 @@ fixed_has (large_lists item) width is = refl
 fixed_has (fixed_lists size item) width is = refl
 fixed_has (structs columns) width is = refl
 
-pub fixed_runs_are : (p : PlainBatch) (kind : Kind) (width : ℕ) (runs : List Run) → fixed_width kind ≡ Some width
+pub fixed_runs_are : (p : PlainBatch) (kind : Kind) (width : ℕ) (runs : List SlotRun) → fixed_width kind ≡ Some width
     → with_buffer (with_run_slots p (runs_bits runs)) (flat_map (fixed_value kind) (kind_cells kind runs)) ≡ with_arrays p (built_at (plain_column kind None) (kind_cells kind runs))
 fixed_runs_are p kind width runs is =
     ap (λ (q : PlainBatch). with_buffer q (flat_map (fixed_value kind) (kind_cells kind runs))) (kind_slots p kind runs (fixed_has kind width is))
@@ -185,7 +185,7 @@ contents_has (large_lists item) width is = refl
 contents_has (fixed_lists size item) width is = refl
 contents_has (structs columns) width is = refl
 
-pub content_runs_are : (p : PlainBatch) (kind : Kind) (width : ℕ) (runs : List Run) → contents_width kind ≡ Some width
+pub content_runs_are : (p : PlainBatch) (kind : Kind) (width : ℕ) (runs : List SlotRun) → contents_width kind ≡ Some width
     → with_contents_of width (with_run_slots p (runs_bits runs)) (kind_cells kind runs) ≡ with_arrays p (built_at (plain_column kind None) (kind_cells kind runs))
 content_runs_are p kind width runs is =
     ap (λ (q : PlainBatch). with_contents_of width q (kind_cells kind runs)) (kind_slots p kind runs (contents_has kind width is))

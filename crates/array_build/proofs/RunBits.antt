@@ -7,8 +7,8 @@ use Rattle.arrow_schema.specs.Column.{booleans}
 use Rattle.array_build.proofs.Repeated.{repeated_map}
 use Rattle.array_build.specs.Batch.{plain_column}
 use Rattle.array_runs.specs.Runs.{is_run_sound, is_run_valid, run_cells}
-use Rattle.array_runs.specs.declared.run.Run.{Run}
-use Rattle.array_runs.specs.declared.run.Run.TheVariants.{Slots, Nulls}
+use Rattle.array_runs.specs.declared.run.SlotRun.{SlotRun}
+use Rattle.array_runs.specs.declared.run.SlotRun.TheVariants.{Slots, Nulls}
 use Rattle.bitmap.specs.Bits.{bit, bytes_of}
 use Rattle.cells.specs.Cell.{null}
 use Rattle.columns.specs.Array.{Array, bits_in, slots_in}
@@ -95,12 +95,12 @@ bits_long a h =
     omega (arith, long)
 
 -- what is known of a run of booleans that are valid
-pub record AreBooleans (v : ArrayView) (from n : ℕ) (run : Run) : Type 0 where
+pub record AreBooleans (v : ArrayView) (from n : ℕ) (run : SlotRun) : Type 0 where
   pub within : from + n ≤ slots_in (view_array v)
   pub long : from + n ≤ 8 * length (bits_in (view_array v))
   pub bits : map is_set (run_cells (plain_column booleans None) run) ≡ map (bit (bits_in (view_array v))) (range_with_len from (from + n - from))
 
-pub run_booleans : (v : ArrayView) (from n : ℕ) (run : Run) → run ≡ Slots v from n → is_run_sound (plain_column booleans None) run ≡ true → is_run_valid run ≡ true → AreBooleans v from n run
+pub run_booleans : (v : ArrayView) (from n : ℕ) (run : SlotRun) → run ≡ Slots v from n → is_run_sound (plain_column booleans None) run ≡ true → is_run_valid run ≡ true → AreBooleans v from n run
 run_booleans v from n run is sound valid =
     let a : Array = view_array v in
     let sound_slots : is_run_sound (plain_column booleans None) (Slots v from n) ≡ true = rw is at sound in
@@ -112,8 +112,8 @@ run_booleans v from n run is sound valid =
     record {
       within = within;
       long = omega (arith, within, all);
-      bits = ap (λ (r : Run). map is_set (run_cells (plain_column booleans None) r)) is ∙ slots_set a from n valid_slots ∙ ap (λ (k : ℕ). map (bit (bits_in a)) (range_with_len from k)) size;
+      bits = ap (λ (r : SlotRun). map is_set (run_cells (plain_column booleans None) r)) is ∙ slots_set a from n valid_slots ∙ ap (λ (k : ℕ). map (bit (bits_in a)) (range_with_len from k)) size;
     }
 
-pub no_bits : (n : ℕ) (run : Run) → run ≡ Nulls n → map is_set (run_cells (plain_column booleans None) run) ≡ replicate n false
-no_bits n run is = ap (λ (r : Run). map is_set (run_cells (plain_column booleans None) r)) is ∙ repeated_map is_set n null
+pub no_bits : (n : ℕ) (run : SlotRun) → run ≡ Nulls n → map is_set (run_cells (plain_column booleans None) run) ≡ replicate n false
+no_bits n run is = ap (λ (r : SlotRun). map is_set (run_cells (plain_column booleans None) r)) is ∙ repeated_map is_set n null

@@ -15,8 +15,8 @@ use Rattle.array_build.specs.inner.Runs.{AreReady, built_columns, kind_cells}
 use Rattle.array_build.specs.laws.Joined.{more_arrays, no_arrays}
 use Rattle.array_runs.specs.Runs.{HaveRuns, HaveSameCells, are_columns_sound, are_runs_sound, are_runs_valid, can_build_columns, has_validity, is_run_sound, run_cells, runs_cells}
 use Rattle.array_runs.specs.laws.Readable.{sound_have_validity}
-use Rattle.array_runs.specs.declared.run.Run.{Run}
-use Rattle.array_runs.specs.declared.run.Run.TheVariants.{Slots, Nulls}
+use Rattle.array_runs.specs.declared.run.SlotRun.{SlotRun}
+use Rattle.array_runs.specs.declared.run.SlotRun.TheVariants.{Slots, Nulls}
 use Rattle.cells.specs.Cell.{Cell}
 use Rattle.columns.specs.Buildable.{can_build}
 use Rattle.columns.specs.Built.{built, other_cells}
@@ -26,13 +26,13 @@ use Rattle.columns.specs.Tests.{Typed, every_array}
 
 -- ---- runs without a null among their slots
 
-pub have_validity : (kind : Kind) (runs : List Run) → are_runs_sound (plain_column kind None) runs ≡ true → list_all has_validity runs ≡ true
+pub have_validity : (kind : Kind) (runs : List SlotRun) → are_runs_sound (plain_column kind None) runs ≡ true → list_all has_validity runs ≡ true
 have_validity kind runs h = sound_have_validity (plain_column kind None) runs h
 
-pub same_cells : (kind : Kind) (valid runs : List Run) → HaveSameCells valid runs → are_runs_sound (plain_column kind None) runs ≡ true → kind_cells kind valid ≡ kind_cells kind runs
+pub same_cells : (kind : Kind) (valid runs : List SlotRun) → HaveSameCells valid runs → are_runs_sound (plain_column kind None) runs ≡ true → kind_cells kind valid ≡ kind_cells kind runs
 same_cells kind valid runs same sound = (same (plain_column kind None) sound).1
 
-pub are_ready : (kind : Kind) (valid runs : List Run) → HaveSameCells valid runs → are_runs_valid valid ≡ true → are_runs_sound (plain_column kind None) runs ≡ true
+pub are_ready : (kind : Kind) (valid runs : List SlotRun) → HaveSameCells valid runs → are_runs_valid valid ≡ true → are_runs_sound (plain_column kind None) runs ≡ true
     → can_build (plain_column kind None) (kind_cells kind runs) ≡ true → AreReady kind valid
 are_ready kind valid runs same there sound fit = record {
   sound = (same (plain_column kind None) sound).0;
@@ -42,21 +42,21 @@ are_ready kind valid runs same there sound fit = record {
 
 -- ---- a column of any name
 
-name_cells : (name : List ℕ) (nullable : Bool) (kind : Kind) (pairs : List Pair) (run : Run) → run_cells (column name nullable kind None pairs) run ≡ run_cells (plain_column kind None) run
+name_cells : (name : List ℕ) (nullable : Bool) (kind : Kind) (pairs : List Pair) (run : SlotRun) → run_cells (column name nullable kind None pairs) run ≡ run_cells (plain_column kind None) run
 unfolding cell_at
 name_cells name nullable kind pairs (Slots v from n) = refl
 name_cells name nullable kind pairs (Nulls n) = refl
 
-names_cells : (name : List ℕ) (nullable : Bool) (kind : Kind) (pairs : List Pair) (runs : List Run) → runs_cells (column name nullable kind None pairs) runs ≡ kind_cells kind runs
+names_cells : (name : List ℕ) (nullable : Bool) (kind : Kind) (pairs : List Pair) (runs : List SlotRun) → runs_cells (column name nullable kind None pairs) runs ≡ kind_cells kind runs
 names_cells name nullable kind pairs [] = refl
 names_cells name nullable kind pairs (run ∷ runs) = ap₂ (λ (xs ys : List Cell). xs ++ ys) (name_cells name nullable kind pairs run) (names_cells name nullable kind pairs runs)
 
-name_sound : (name : List ℕ) (nullable : Bool) (kind : Kind) (pairs : List Pair) (run : Run) → is_run_sound (column name nullable kind None pairs) run ≡ is_run_sound (plain_column kind None) run
+name_sound : (name : List ℕ) (nullable : Bool) (kind : Kind) (pairs : List Pair) (run : SlotRun) → is_run_sound (column name nullable kind None pairs) run ≡ is_run_sound (plain_column kind None) run
 unfolding is_sound
 name_sound name nullable kind pairs (Slots v from n) = refl
 name_sound name nullable kind pairs (Nulls n) = refl
 
-names_sound : (name : List ℕ) (nullable : Bool) (kind : Kind) (pairs : List Pair) (runs : List Run)
+names_sound : (name : List ℕ) (nullable : Bool) (kind : Kind) (pairs : List Pair) (runs : List SlotRun)
     → are_runs_sound (column name nullable kind None pairs) runs ≡ are_runs_sound (plain_column kind None) runs
 names_sound name nullable kind pairs [] = refl
 names_sound name nullable kind pairs (run ∷ runs) = ap₂ (λ (a b : Bool). a && b) (name_sound name nullable kind pairs run) (names_sound name nullable kind pairs runs)
@@ -65,20 +65,20 @@ plain_form : (f : Field) → f.dictionary ≡ None → column_of f ≡ column (s
 plain_form f none =
     field_is f ∙ ap (λ (o : Option DictSpec). column (string_bytes f.name) f.nullable (kind_of f.data_type) (option_map index_of o) (map pair_of f.pairs.items)) none
 
-pub field_cells : (f : Field) (runs : List Run) → f.dictionary ≡ None → runs_cells (column_of f) runs ≡ kind_cells (kind_of f.data_type) runs
+pub field_cells : (f : Field) (runs : List SlotRun) → f.dictionary ≡ None → runs_cells (column_of f) runs ≡ kind_cells (kind_of f.data_type) runs
 field_cells f runs none =
     ap (λ (c : Column). runs_cells c runs) (plain_form f none) ∙ names_cells (string_bytes f.name) f.nullable (kind_of f.data_type) (map pair_of f.pairs.items) runs
 
-pub field_sound : (f : Field) (runs : List Run) → f.dictionary ≡ None → are_runs_sound (column_of f) runs ≡ true → are_runs_sound (plain_column (kind_of f.data_type) None) runs ≡ true
+pub field_sound : (f : Field) (runs : List SlotRun) → f.dictionary ≡ None → are_runs_sound (column_of f) runs ≡ true → are_runs_sound (plain_column (kind_of f.data_type) None) runs ≡ true
 field_sound f runs none h =
     sym (ap (λ (c : Column). are_runs_sound c runs) (plain_form f none) ∙ names_sound (string_bytes f.name) f.nullable (kind_of f.data_type) (map pair_of f.pairs.items) runs) ∙ h
 
-pub field_fits : (f : Field) (runs : List Run) → f.dictionary ≡ None → can_build (column_of f) (runs_cells (column_of f) runs) ≡ true
+pub field_fits : (f : Field) (runs : List SlotRun) → f.dictionary ≡ None → can_build (column_of f) (runs_cells (column_of f) runs) ≡ true
     → can_build (plain_column (kind_of f.data_type) None) (kind_cells (kind_of f.data_type) runs) ≡ true
 field_fits f runs none h =
     ap (can_build (plain_column (kind_of f.data_type) None)) (sym (field_cells f runs none)) ∙ plain_can_be_built f (runs_cells (column_of f) runs) none h
 
-pub field_built : (p : PlainBatch) (f : Field) (runs : List Run) → f.dictionary ≡ None
+pub field_built : (p : PlainBatch) (f : Field) (runs : List SlotRun) → f.dictionary ≡ None
     → with_arrays p (built_at (plain_column (kind_of f.data_type) None) (kind_cells (kind_of f.data_type) runs)) ≡ with_arrays p (built_at (column_of f) (runs_cells (column_of f) runs))
 field_built p f runs none =
     ap (λ (cells : List Cell). with_arrays p (built_at (plain_column (kind_of f.data_type) None) cells)) (sym (field_cells f runs none)) ∙ plain_field p f (runs_cells (column_of f) runs) none
@@ -88,21 +88,21 @@ field_built p f runs none =
 abbrev pub columns_from : ℕ → List Field → Columns
 columns_from i fields = columns_of (map column_of (drop i fields))
 
-abbrev pub lists_of : List (Vec Run Global) → List (List Run)
+abbrev pub lists_of : List (Vec SlotRun Global) → List (List SlotRun)
 lists_of columns = map (λ v. v.items) columns
 
 -- what is left is sound, can be built, and completes the batch
-pub record AreLeft (fields : List Field) (rs : List (List Run)) : Type 0 where
+pub record AreLeft (fields : List Field) (rs : List (List SlotRun)) : Type 0 where
   pub sound : are_columns_sound (columns_of (map column_of fields)) rs ≡ true
   pub fits : can_build_columns (columns_of (map column_of fields)) rs ≡ true
 
 -- there is a list of runs for each field
-some_left : (f : Field) (fields : List Field) (rs : List (List Run)) → are_columns_sound (columns_of (map column_of (f ∷ fields))) rs ≡ true → 1 ≤ length rs
+some_left : (f : Field) (fields : List Field) (rs : List (List SlotRun)) → are_columns_sound (columns_of (map column_of (f ∷ fields))) rs ≡ true → 1 ≤ length rs
 unfolding are_columns_sound
 some_left f fields [] h = cc
 some_left f fields (r ∷ rs) h = omega arith
 
-pub place_left : (all : List Field) (i : ℕ) (f : Field) (columns : List (Vec Run Global)) → drop i all ≡ f ∷ drop (i + 1) all
+pub place_left : (all : List Field) (i : ℕ) (f : Field) (columns : List (Vec SlotRun Global)) → drop i all ≡ f ∷ drop (i + 1) all
     → AreLeft (drop i all) (lists_of (drop i columns)) → i < length columns
 place_left all i f columns item left =
     elim (cases_lt i (length columns)) [
@@ -110,18 +110,18 @@ place_left all i f columns item left =
       | inr end ↦
           let none : lists_of (drop i columns) ≡ [] = ap lists_of (drop_all i columns end) in
           let sound : are_columns_sound (columns_of (map column_of (f ∷ drop (i + 1) all))) [] ≡ true =
-          subst (λ (rs : List (List Run)). are_columns_sound (columns_of (map column_of (f ∷ drop (i + 1) all))) rs ≡ true) none
+          subst (λ (rs : List (List SlotRun)). are_columns_sound (columns_of (map column_of (f ∷ drop (i + 1) all))) rs ≡ true) none
           (subst (λ (fs : List Field). are_columns_sound (columns_of (map column_of fs)) (lists_of (drop i columns)) ≡ true) item left.sound) in
           let short = some_left f (drop (i + 1) all) [] sound in
           absurd (omega (arith, short))
     ]
 
 -- of the first column that is left, and of the others
-pub record IsFirst (f : Field) (r : List Run) : Type 0 where
+pub record IsFirst (f : Field) (r : List SlotRun) : Type 0 where
   pub sound : are_runs_sound (column_of f) r ≡ true
   pub fits : can_build (column_of f) (runs_cells (column_of f) r) ≡ true
 
-pub first_left : (f : Field) (fields : List Field) (r : List Run) (rs : List (List Run)) → AreLeft (f ∷ fields) (r ∷ rs) → IsFirst f r × AreLeft fields rs
+pub first_left : (f : Field) (fields : List Field) (r : List SlotRun) (rs : List (List SlotRun)) → AreLeft (f ∷ fields) (r ∷ rs) → IsFirst f r × AreLeft fields rs
 unfolding are_columns_sound can_build_columns
 first_left f fields r rs left =
     let c : Column = column_of f in
@@ -131,34 +131,34 @@ first_left f fields r rs left =
     (record { sound = s.0; fits = t.0 }, record { sound = s.1; fits = t.1 })
 
 -- the column at a place, and those behind it
-pub next_left : (all : List Field) (i : ℕ) (f : Field) (columns : List (Vec Run Global)) (v : Vec Run Global) → drop i all ≡ f ∷ drop (i + 1) all → drop i columns ≡ v ∷ drop (i + 1) columns
+pub next_left : (all : List Field) (i : ℕ) (f : Field) (columns : List (Vec SlotRun Global)) (v : Vec SlotRun Global) → drop i all ≡ f ∷ drop (i + 1) all → drop i columns ≡ v ∷ drop (i + 1) columns
     → AreLeft (drop i all) (lists_of (drop i columns)) → IsFirst f v.items × AreLeft (drop (i + 1) all) (lists_of (drop (i + 1) columns))
 next_left all i f columns v item here left =
     first_left f (drop (i + 1) all) v.items (lists_of (drop (i + 1) columns))
-    (subst (λ (vs : List (Vec Run Global)). AreLeft (f ∷ drop (i + 1) all) (lists_of vs)) here (subst (λ (fs : List Field). AreLeft fs (lists_of (drop i columns))) item left))
+    (subst (λ (vs : List (Vec SlotRun Global)). AreLeft (f ∷ drop (i + 1) all) (lists_of vs)) here (subst (λ (fs : List Field). AreLeft fs (lists_of (drop i columns))) item left))
 
-abbrev pub built_left : List Field → List (Vec Run Global) → List Typed
+abbrev pub built_left : List Field → List (Vec SlotRun Global) → List Typed
 built_left fields columns = built_columns (columns_of (map column_of fields)) (lists_of columns)
 
 -- the arrays of this column, and then those of the others
-pub column_arrays : (all : List Field) (i : ℕ) (f : Field) (columns : List (Vec Run Global)) (v : Vec Run Global) (p q : PlainBatch)
+pub column_arrays : (all : List Field) (i : ℕ) (f : Field) (columns : List (Vec SlotRun Global)) (v : Vec SlotRun Global) (p q : PlainBatch)
     → drop i all ≡ f ∷ drop (i + 1) all → drop i columns ≡ v ∷ drop (i + 1) columns → q ≡ with_arrays p (built_at (column_of f) (runs_cells (column_of f) v.items))
     → with_arrays q (built_left (drop (i + 1) all) (drop (i + 1) columns)) ≡ with_arrays p (built_left (drop i all) (drop i columns))
 unfolding built_columns
 column_arrays all i f columns v p q item here h =
     let own : List Typed = built_at (column_of f) (runs_cells (column_of f) v.items) in
     let others : List Typed = built_left (drop (i + 1) all) (drop (i + 1) columns) in
-    let both : built_left (drop i all) (drop i columns) ≡ own ++ others = ap₂ (λ (fs : List Field) (vs : List (Vec Run Global)). built_left fs vs) item here in
+    let both : built_left (drop i all) (drop i columns) ≡ own ++ others = ap₂ (λ (fs : List Field) (vs : List (Vec SlotRun Global)). built_left fs vs) item here in
     ap (λ (x : PlainBatch). with_arrays x others) h ∙ more_arrays p own others ∙ ap (with_arrays p) (sym both)
 
 -- behind the last field there is nothing
-pub last_column : (all : List Field) (i : ℕ) (columns : List (Vec Run Global)) (p : PlainBatch) → length all ≤ i → with_arrays p (built_left (drop i all) columns) ≡ p
+pub last_column : (all : List Field) (i : ℕ) (columns : List (Vec SlotRun Global)) (p : PlainBatch) → length all ≤ i → with_arrays p (built_left (drop i all) columns) ≡ p
 unfolding built_columns
 last_column all i columns p end = ap (λ (fs : List Field). with_arrays p (built_left fs columns)) (drop_all i all end) ∙ no_arrays p
 
 -- ---- the arrays of rows that have these runs
 
-pub rows_built : (cs : Columns) (rs : List (List Run)) (rows : List (List Cell)) → HaveRuns cs rs rows → built_columns cs rs ≡ built_below cs rows
+pub rows_built : (cs : Columns) (rs : List (List SlotRun)) (rows : List (List Cell)) → HaveRuns cs rs rows → built_columns cs rs ≡ built_below cs rows
 unfolding HaveRuns built_columns built every_array
 rows_built no_column [] rows have = refl
 rows_built no_column (r ∷ rs) rows have = absurd have

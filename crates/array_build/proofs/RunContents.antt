@@ -14,8 +14,8 @@ use Rattle.array_build.proofs.Repeated.{none_each}
 use Rattle.array_build.specs.Batch.{plain_column}
 use Rattle.array_build.specs.inner.Runs.{cell_sizes, contents_width, is_as_written, is_run_as_written, kind_cells, slot_sizes, span_contents}
 use Rattle.array_runs.specs.Runs.{is_run_sound, run_cells}
-use Rattle.array_runs.specs.declared.run.Run.{Run}
-use Rattle.array_runs.specs.declared.run.Run.TheVariants.{Slots, Nulls}
+use Rattle.array_runs.specs.declared.run.SlotRun.{SlotRun}
+use Rattle.array_runs.specs.declared.run.SlotRun.TheVariants.{Slots, Nulls}
 use Rattle.cells.specs.Cell.{Cell, null}
 use Rattle.columns.specs.Array.{Array, slots_in, offsets_in, contents_in}
 use Rattle.columns.specs.Buildable.{can_build, large_offset}
@@ -140,14 +140,14 @@ written_contents false kind width a is i lt written unset =
 -- ---- runs of a type
 
 -- what is known of a run of slots
-pub record AreTexts (kind : Kind) (width : ℕ) (v : ArrayView) (from n : ℕ) (run : Run) : Type 0 where
+pub record AreTexts (kind : Kind) (width : ℕ) (v : ArrayView) (from n : ℕ) (run : SlotRun) : Type 0 where
   pub few : are_few_offsets width (view_array v) ≡ false
   pub up : are_unordered width (length (contents_in (view_array v))) (view_array v) ≡ false
   pub within : from + n ≤ slots_in (view_array v)
   pub contents : flat_map contents_of (run_cells (plain_column kind None) run) ≡ span_contents width (view_array v) from n
   pub sizes : cell_sizes (run_cells (plain_column kind None) run) ≡ slot_sizes width (view_array v) from n
 
-pub run_texts : (kind : Kind) (width : ℕ) (v : ArrayView) (from n : ℕ) (run : Run) → run ≡ Slots v from n → contents_width kind ≡ Some width → is_run_sound (plain_column kind None) run ≡ true
+pub run_texts : (kind : Kind) (width : ℕ) (v : ArrayView) (from n : ℕ) (run : SlotRun) → run ≡ Slots v from n → contents_width kind ≡ Some width → is_run_sound (plain_column kind None) run ≡ true
     → is_run_as_written kind run ≡ true → AreTexts kind width v from n run
 run_texts kind width v from n run is wide sound written =
     let a : Array = view_array v in
@@ -166,10 +166,10 @@ run_texts kind width v from n run is wide sound written =
       sizes = rw is (sizes width a order.1 (plain_cell kind a) (is_as_written kind a) each from n within slots);
     }
 
-pub no_contents : (kind : Kind) (n : ℕ) (run : Run) → run ≡ Nulls n → flat_map contents_of (run_cells (plain_column kind None) run) ≡ []
+pub no_contents : (kind : Kind) (n : ℕ) (run : SlotRun) → run ≡ Nulls n → flat_map contents_of (run_cells (plain_column kind None) run) ≡ []
 no_contents kind n run is = rw is (none_each contents_of null n refl)
 
-pub no_sizes : (kind : Kind) (n : ℕ) (run : Run) → run ≡ Nulls n → cell_sizes (run_cells (plain_column kind None) run) ≡ replicate n 0
+pub no_sizes : (kind : Kind) (n : ℕ) (run : SlotRun) → run ≡ Nulls n → cell_sizes (run_cells (plain_column kind None) run) ≡ replicate n 0
 no_sizes kind n run is = rw is (each n)
   where
     each : (k : ℕ) → cell_sizes (replicate k null) ≡ replicate k 0
@@ -238,14 +238,14 @@ contents_room (fixed_lists size item) width cells is h = cc
 contents_room (structs columns) width cells is h = cc
 
 -- so do those of the run that a loop is at
-pub run_room : (kind : Kind) (width : ℕ) (runs : List Run) (i : ℕ) (run : Run) (next : ℕ) → contents_width kind ≡ Some width → can_build (plain_column kind None) (kind_cells kind runs) ≡ true
+pub run_room : (kind : Kind) (width : ℕ) (runs : List SlotRun) (i : ℕ) (run : SlotRun) (next : ℕ) → contents_width kind ≡ Some width → can_build (plain_column kind None) (kind_cells kind runs) ≡ true
     → drop i runs ≡ run ∷ drop (i + 1) runs → next + length (flat_map contents_of (kind_cells kind (drop i runs))) ≡ length (flat_map contents_of (kind_cells kind runs))
     → next + length (flat_map contents_of (run_cells (plain_column kind None) run)) ≤ large_offset
 run_room kind width runs i run next wide can item h =
     let own : List Cell = run_cells (plain_column kind None) run in
     let others : List Cell = kind_cells kind (drop (i + 1) runs) in
     let both : length (flat_map contents_of (kind_cells kind (drop i runs))) ≡ length (flat_map contents_of own) + length (flat_map contents_of others) =
-    ap (λ (rs : List Run). length (flat_map contents_of (kind_cells kind rs))) item ∙ ap length (flat_map-append contents_of own others)
+    ap (λ (rs : List SlotRun). length (flat_map contents_of (kind_cells kind rs))) item ∙ ap length (flat_map-append contents_of own others)
     ∙ length-append (flat_map contents_of own) (flat_map contents_of others) in
     let most = contents_room kind width (kind_cells kind runs) wide can in
     omega (arith, both, most, h)

@@ -14,8 +14,8 @@ use Rattle.array_build.specs.Batch.{PlainBatch, built_at, with_arrays}
 use Rattle.array_build.specs.inner.RunItems.{AreItems, HasSlots, fixed_column}
 use Rattle.array_build.specs.inner.Runs.{kind_cells, runs_bits, with_run_slots}
 use Rattle.array_runs.specs.Runs.{run_cells, runs_cells, is_run_sound, is_run_valid, are_runs_valid}
-use Rattle.array_runs.specs.declared.run.Run.{Run}
-use Rattle.array_runs.specs.declared.run.Run.TheVariants.{Slots, Nulls}
+use Rattle.array_runs.specs.declared.run.SlotRun.{SlotRun}
+use Rattle.array_runs.specs.declared.run.SlotRun.TheVariants.{Slots, Nulls}
 use Rattle.cells.specs.Cell.{Cell, null}
 use Rattle.columns.specs.Array.{Array, slots_in, items_in}
 use Rattle.columns.specs.Built.{fixed_items}
@@ -40,7 +40,7 @@ fixed_end size from n slots most within long =
     let own : size * (from + n) ≤ size * slots = mul-le-mul_left size within in
     omega (arith, own, long)
 
-pub are_fixed : (size : ℕ) (item : Column) (v : ArrayView) (from n : ℕ) (run : Run) → run ≡ Slots v from n → is_run_sound (fixed_column size item) run ≡ true → is_run_valid run ≡ true
+pub are_fixed : (size : ℕ) (item : Column) (v : ArrayView) (from n : ℕ) (run : SlotRun) → run ≡ Slots v from n → is_run_sound (fixed_column size item) run ≡ true → is_run_valid run ≡ true
     → AreFixed size item v from n
 are_fixed size item v from n run is sound valid =
     let sound_slots : is_run_sound (fixed_column size item) (Slots v from n) ≡ true = ap (is_run_sound (fixed_column size item)) (sym is) ∙ sound in
@@ -72,24 +72,24 @@ slots_items size item a from (suc n) valid =
     ∙ sym (cells_join g (from * size) size (n * size))
     ∙ ap (cells_from g (from * size)) whole
 
-pub fixed_found : (size : ℕ) (item : Column) (v : ArrayView) (from n : ℕ) (run part : Run) → run ≡ Slots v from n → AreFixed size item v from n
+pub fixed_found : (size : ℕ) (item : Column) (v : ArrayView) (from n : ℕ) (run part : SlotRun) → run ≡ Slots v from n → AreFixed size item v from n
     → HasSlots (items_in (view_array v)) (from * size) (n * size) part → AreItems (fixed_items size) item part (run_cells (fixed_column size item) run)
 fixed_found size item v from n run part is are has = record {
-  cells = has.cells item ∙ sym (slots_items size item (view_array v) from n are.valid) ∙ ap (λ (r : Run). flat_map (fixed_items size) (run_cells (fixed_column size item) r)) (sym is);
+  cells = has.cells item ∙ sym (slots_items size item (view_array v) from n are.valid) ∙ ap (λ (r : SlotRun). flat_map (fixed_items size) (run_cells (fixed_column size item) r)) (sym is);
   sound = has.sound item are.sound;
 }
 
-pub fixed_of_nulls : (size : ℕ) (item : Column) (n count : ℕ) (run : Run) → run ≡ Nulls n → count ≡ n * size
+pub fixed_of_nulls : (size : ℕ) (item : Column) (n count : ℕ) (run : SlotRun) → run ≡ Nulls n → count ≡ n * size
     → AreItems (fixed_items size) item (Nulls count) (run_cells (fixed_column size item) run)
 fixed_of_nulls size item n count run is counts = record {
   cells = ap (λ (k : ℕ). replicate k null) counts
       ∙ sym (repeated_each (fixed_items size) size null null n refl)
-      ∙ ap (λ (r : Run). flat_map (fixed_items size) (run_cells (fixed_column size item) r)) (sym is);
+      ∙ ap (λ (r : SlotRun). flat_map (fixed_items size) (run_cells (fixed_column size item) r)) (sym is);
   sound = refl;
 }
 
 -- the node and the validity bitmap of lists of one size, and the arrays of their items
-pub fixed_list_runs_are : (p q : PlainBatch) (size : ℕ) (item : Column) (runs items : List Run)
+pub fixed_list_runs_are : (p q : PlainBatch) (size : ℕ) (item : Column) (runs items : List SlotRun)
     → runs_cells item items ≡ flat_map (fixed_items size) (kind_cells (fixed_lists size item) runs) → q ≡ with_run_slots p (runs_bits runs)
     → with_arrays q (built_at item (runs_cells item items)) ≡ with_arrays p (built_at (fixed_column size item) (kind_cells (fixed_lists size item) runs))
 fixed_list_runs_are p q size item runs items below slots =

@@ -21,8 +21,8 @@ use Rattle.array_build.specs.inner.Nodes.{list_kind, with_buffer, with_slots}
 use Rattle.array_build.specs.inner.RunItems.{AreItems, HasSlots, list_column, list_sizes, run_lists}
 use Rattle.array_build.specs.inner.Runs.{kind_cells, run_bits, runs_bits, with_run_slots}
 use Rattle.array_runs.specs.Runs.{run_cells, runs_cells, is_run_sound, are_runs_sound, is_run_valid, are_runs_valid}
-use Rattle.array_runs.specs.declared.run.Run.{Run}
-use Rattle.array_runs.specs.declared.run.Run.TheVariants.{Slots, Nulls}
+use Rattle.array_runs.specs.declared.run.SlotRun.{SlotRun}
+use Rattle.array_runs.specs.declared.run.SlotRun.TheVariants.{Slots, Nulls}
 use Rattle.cells.specs.Cell.{Cell, null}
 use Rattle.cells.specs.Dictionary.{item_list}
 use Rattle.columns.specs.Array.{Array, empty_array, slots_in, offsets_in, items_in}
@@ -85,7 +85,7 @@ unfolding is_sound has_sound_children
 list_tests Four item a h = (sound_buffer (lists item) a h, (sound_offsets (lists item) a h, sound_children (lists item) a h))
 list_tests Eight item a h = (sound_buffer (large_lists item) a h, (sound_offsets (large_lists item) a h, sound_children (large_lists item) a h))
 
-pub are_lists : (width : OffsetWidth) (item : Column) (v : ArrayView) (from n : ℕ) (run : Run) → run ≡ Slots v from n → is_run_sound (list_column width item) run ≡ true → is_run_valid run ≡ true
+pub are_lists : (width : OffsetWidth) (item : Column) (v : ArrayView) (from n : ℕ) (run : SlotRun) → run ≡ Slots v from n → is_run_sound (list_column width item) run ≡ true → is_run_valid run ≡ true
     → AreLists width item v from n
 are_lists width item v from n run is sound valid =
     let sound_slots : is_run_sound (list_column width item) (Slots v from n) ≡ true = ap (is_run_sound (list_column width item)) (sym is) ∙ sound in
@@ -149,7 +149,7 @@ span_within width item v from n start size are some begins sizes =
     let fits = spans_fit (width_of width) (slots_in (items_in a)) a from n are.up some_slot are.within in
     omega (arith, fits, begins, sizes)
 
-pub items_found : (width : OffsetWidth) (item : Column) (v : ArrayView) (from n start size : ℕ) (run part : Run) → run ≡ Slots v from n → AreLists width item v from n
+pub items_found : (width : OffsetWidth) (item : Column) (v : ArrayView) (from n start size : ℕ) (run part : SlotRun) → run ≡ Slots v from n → AreLists width item v from n
     → start ≡ span_start (width_of width) (view_array v) from
     → size ≡ number_at (width_of width) (offsets_in (view_array v)) (from + n) - span_start (width_of width) (view_array v) from
     → HasSlots (items_in (view_array v)) start size part → AreItems item_list item part (run_lists width item run)
@@ -157,46 +157,46 @@ items_found width item v from n start size run part is are begins sizes has = re
   cells = has.cells item
       ∙ ap₂ (λ (s k : ℕ). cells_from (cell_at item (items_in (view_array v))) s k) begins sizes
       ∙ sym (slots_items width item (view_array v) from n are.up are.within are.valid)
-      ∙ ap (λ (r : Run). flat_map item_list (run_lists width item r)) (sym is);
+      ∙ ap (λ (r : SlotRun). flat_map item_list (run_lists width item r)) (sym is);
   sound = has.sound item are.sound;
 }
 
-pub items_of_none : (width : OffsetWidth) (item : Column) (v : ArrayView) (from n : ℕ) (run : Run) → run ≡ Slots v from n → n ≡ 0 → AreItems item_list item (Nulls 0) (run_lists width item run)
+pub items_of_none : (width : OffsetWidth) (item : Column) (v : ArrayView) (from n : ℕ) (run : SlotRun) → run ≡ Slots v from n → n ≡ 0 → AreItems item_list item (Nulls 0) (run_lists width item run)
 items_of_none width item v from n run is none = record {
   cells = ap (λ (k : ℕ). flat_map item_list (cells_from (cell_at (list_column width item) (view_array v)) from k)) (sym none)
-      ∙ ap (λ (r : Run). flat_map item_list (run_lists width item r)) (sym is);
+      ∙ ap (λ (r : SlotRun). flat_map item_list (run_lists width item r)) (sym is);
   sound = refl;
 }
 
-pub items_of_nulls : (width : OffsetWidth) (item : Column) (n : ℕ) (run : Run) → run ≡ Nulls n → AreItems item_list item (Nulls 0) (run_lists width item run)
+pub items_of_nulls : (width : OffsetWidth) (item : Column) (n : ℕ) (run : SlotRun) → run ≡ Nulls n → AreItems item_list item (Nulls 0) (run_lists width item run)
 items_of_nulls width item n run is = record {
-  cells = sym (none_each item_list null n refl) ∙ ap (λ (r : Run). flat_map item_list (run_lists width item r)) (sym is);
+  cells = sym (none_each item_list null n refl) ∙ ap (λ (r : SlotRun). flat_map item_list (run_lists width item r)) (sym is);
   sound = refl;
 }
 
 -- ---- how many items a list has
 
-pub slot_count : (v : ArrayView) (from n i : ℕ) (run : Run) → run ≡ Slots v from n → i < length (run_bits run) → i < n
+pub slot_count : (v : ArrayView) (from n i : ℕ) (run : SlotRun) → run ≡ Slots v from n → i < length (run_bits run) → i < n
 slot_count v from n i run is lt =
     let count = slots_counted v from n run is in
     omega (arith, count, lt)
 
-pub slot_list : (width : OffsetWidth) (item : Column) (v : ArrayView) (from n i : ℕ) (run : Run) → run ≡ Slots v from n → AreLists width item v from n → i < n
+pub slot_list : (width : OffsetWidth) (item : Column) (v : ArrayView) (from n i : ℕ) (run : SlotRun) → run ≡ Slots v from n → AreLists width item v from n → i < n
     → length (item_list (get_or (run_lists width item run) i null)) ≡ span_size (width_of width) (view_array v) (from + i)
 slot_list width item v from n i run is are lt =
     let a : Array = view_array v in
-    ap (λ (r : Run). length (item_list (get_or (run_lists width item r) i null))) is
+    ap (λ (r : SlotRun). length (item_list (get_or (run_lists width item r) i null))) is
     ∙ ap (λ (c : Cell). length (item_list c)) (cell_get (cell_at (list_column width item) a) from n i lt)
     ∙ ap length (slot_items width item a (from + i) (valid_at (is_valid a) from n i are.valid lt))
     ∙ length-map-range_with_len (cell_at item (items_in a)) (span_start (width_of width) a (from + i)) (span_size (width_of width) a (from + i))
 
-pub null_list : (width : OffsetWidth) (item : Column) (n i : ℕ) (run : Run) → run ≡ Nulls n → 0 ≡ length (item_list (get_or (run_lists width item run) i null))
+pub null_list : (width : OffsetWidth) (item : Column) (n i : ℕ) (run : SlotRun) → run ≡ Nulls n → 0 ≡ length (item_list (get_or (run_lists width item run) i null))
 null_list width item n i run is =
-    sym (ap (λ (r : Run). length (item_list (get_or (run_lists width item r) i null))) is ∙ ap (λ (c : Cell). length (item_list c)) (null_get n i))
+    sym (ap (λ (r : SlotRun). length (item_list (get_or (run_lists width item r) i null))) is ∙ ap (λ (c : Cell). length (item_list c)) (null_get n i))
 
 -- ---- offsets, one by one
 
-pub count_lists : (width : OffsetWidth) (item : Column) (run : Run) (count : ℕ) → count ≡ length (run_bits run) → count ≡ length (run_lists width item run)
+pub count_lists : (width : OffsetWidth) (item : Column) (run : SlotRun) (count : ℕ) → count ≡ length (run_bits run) → count ≡ length (run_lists width item run)
 count_lists width item run count is = is ∙ count_run (list_kind width item) run
 
 sizes_more : (cells : List Cell) (i size : ℕ) → i < length cells → size ≡ length (item_list (get_or cells i null)) → list_sizes (drop i cells) ≡ size ∷ list_sizes (drop (i + 1) cells)
@@ -216,7 +216,7 @@ list_end cells i size lt is =
     ∙ ap (λ (k : ℕ). k + length (flat_map item_list (drop (i + 1) cells))) (sym is)
 
 -- offsets up to the largest hold the items of the run that a loop is at
-pub list_room : (width : OffsetWidth) (item : Column) (runs : List Run) (i : ℕ) (run : Run) (next : ℕ) → can_build (list_column width item) (kind_cells (list_kind width item) runs) ≡ true
+pub list_room : (width : OffsetWidth) (item : Column) (runs : List SlotRun) (i : ℕ) (run : SlotRun) (next : ℕ) → can_build (list_column width item) (kind_cells (list_kind width item) runs) ≡ true
     → drop i runs ≡ run ∷ drop (i + 1) runs
     → next + length (flat_map item_list (kind_cells (list_kind width item) (drop i runs))) ≡ length (flat_map item_list (kind_cells (list_kind width item) runs))
     → next + length (flat_map item_list (run_lists width item run)) ≤ large_offset
@@ -224,7 +224,7 @@ list_room width item runs i run next can here h =
     let own : List Cell = run_lists width item run in
     let others : List Cell = kind_cells (list_kind width item) (drop (i + 1) runs) in
     let both : length (flat_map item_list (kind_cells (list_kind width item) (drop i runs))) ≡ length (flat_map item_list own) + length (flat_map item_list others) =
-    ap (λ (rs : List Run). length (flat_map item_list (kind_cells (list_kind width item) rs))) here ∙ ap length (flat_map-append item_list own others)
+    ap (λ (rs : List SlotRun). length (flat_map item_list (kind_cells (list_kind width item) rs))) here ∙ ap length (flat_map-append item_list own others)
     ∙ length-append (flat_map item_list own) (flat_map item_list others) in
     let most = leb-true _ _ (lists_fit width item (kind_cells (list_kind width item) runs) can) in
     omega (arith, both, most, h)
@@ -232,36 +232,36 @@ list_room width item runs i run next can here h =
 -- ---- the items of all runs
 
 -- those of the runs so far, and of the others
-pub record AreItemsLeft (below : Cell → List Cell) (c item : Column) (all left parts : List Run) : Type 0 where
+pub record AreItemsLeft (below : Cell → List Cell) (c item : Column) (all left parts : List SlotRun) : Type 0 where
   pub sound : are_runs_sound c left ≡ true
   pub valid : are_runs_valid left ≡ true
   pub good : are_runs_sound item parts ≡ true
   pub cells : runs_cells item parts ++ flat_map below (runs_cells c left) ≡ flat_map below (runs_cells c all)
 
-pub no_items_yet : (below : Cell → List Cell) (c item : Column) (all : List Run) → are_runs_sound c all ≡ true → are_runs_valid all ≡ true → AreItemsLeft below c item all all []
+pub no_items_yet : (below : Cell → List Cell) (c item : Column) (all : List SlotRun) → are_runs_sound c all ≡ true → are_runs_valid all ≡ true → AreItemsLeft below c item all all []
 no_items_yet below c item all sound valid = record { sound = sound; valid = valid; good = refl; cells = refl }
 
 -- the run that a loop is at can be looked up, and is valid
-pub first_is : (below : Cell → List Cell) (c item : Column) (all left rest parts : List Run) (run : Run) → left ≡ run ∷ rest → AreItemsLeft below c item all left parts
+pub first_is : (below : Cell → List Cell) (c item : Column) (all left rest parts : List SlotRun) (run : SlotRun) → left ≡ run ∷ rest → AreItemsLeft below c item all left parts
     → (is_run_sound c run ≡ true) × (is_run_valid run ≡ true)
 first_is below c item all left rest parts run here was = (
   (and_parts (is_run_sound c run) (are_runs_sound c rest) (ap (are_runs_sound c) (sym here) ∙ was.sound)).0,
   (and_parts (is_run_valid run) (are_runs_valid rest) (ap are_runs_valid (sym here) ∙ was.valid)).0,
 )
 
-pub items_more : (below : Cell → List Cell) (c item : Column) (all left rest old new : List Run) (run part : Run) → left ≡ run ∷ rest → new ≡ old ++ part ∷ []
+pub items_more : (below : Cell → List Cell) (c item : Column) (all left rest old new : List SlotRun) (run part : SlotRun) → left ≡ run ∷ rest → new ≡ old ++ part ∷ []
     → AreItems below item part (run_cells c run) → AreItemsLeft below c item all left old → AreItemsLeft below c item all rest new
 items_more below c item all left rest old new run part here pushed own was =
     let others : List Cell = flat_map below (runs_cells c rest) in
     let one : runs_cells item (old ++ part ∷ []) ≡ runs_cells item old ++ run_cells item part =
     flat_map-append (run_cells item) old (part ∷ []) ∙ ap (λ (xs : List Cell). runs_cells item old ++ xs) (append-nil (run_cells item part)) in
     let both : flat_map below (runs_cells c left) ≡ flat_map below (run_cells c run) ++ others =
-    ap (λ (rs : List Run). flat_map below (runs_cells c rs)) here ∙ flat_map-append below (run_cells c run) (runs_cells c rest) in
+    ap (λ (rs : List SlotRun). flat_map below (runs_cells c rs)) here ∙ flat_map-append below (run_cells c run) (runs_cells c rest) in
     record {
       sound = (and_parts (is_run_sound c run) (are_runs_sound c rest) (ap (are_runs_sound c) (sym here) ∙ was.sound)).1;
       valid = (and_parts (is_run_valid run) (are_runs_valid rest) (ap are_runs_valid (sym here) ∙ was.valid)).1;
       good = ap (are_runs_sound item) pushed ∙ list_all-append (is_run_sound item) old (part ∷ []) ∙ and_from _ _ was.good (and_from _ _ own.sound refl);
-      cells = ap (λ (rs : List Run). runs_cells item rs ++ others) pushed
+      cells = ap (λ (rs : List SlotRun). runs_cells item rs ++ others) pushed
           ∙ ap (λ (xs : List Cell). xs ++ others) one
           ∙ append_assoc (runs_cells item old) (run_cells item part) others
           ∙ ap (λ (xs : List Cell). runs_cells item old ++ (xs ++ others)) own.cells
@@ -269,20 +269,20 @@ items_more below c item all left rest old new run part here pushed own was =
           ∙ was.cells;
     }
 
-pub all_items : (below : Cell → List Cell) (c item : Column) (all left parts : List Run) → left ≡ [] → AreItemsLeft below c item all left parts → runs_cells item parts ≡ flat_map below (runs_cells c all)
+pub all_items : (below : Cell → List Cell) (c item : Column) (all left parts : List SlotRun) → left ≡ [] → AreItemsLeft below c item all left parts → runs_cells item parts ≡ flat_map below (runs_cells c all)
 all_items below c item all left parts none was =
     let end : runs_cells item parts ++ flat_map below (runs_cells c left) ≡ runs_cells item parts =
-    ap (λ (rs : List Run). runs_cells item parts ++ flat_map below (runs_cells c rs)) none ∙ append-nil (runs_cells item parts) in
+    ap (λ (rs : List SlotRun). runs_cells item parts ++ flat_map below (runs_cells c rs)) none ∙ append-nil (runs_cells item parts) in
     sym end ∙ was.cells
 
 -- ---- the arrays
 
-list_has : (width : OffsetWidth) (item : Column) (p : PlainBatch) (runs : List Run) → with_run_slots p (runs_bits runs) ≡ with_slots p (kind_cells (list_kind width item) runs)
+list_has : (width : OffsetWidth) (item : Column) (p : PlainBatch) (runs : List SlotRun) → with_run_slots p (runs_bits runs) ≡ with_slots p (kind_cells (list_kind width item) runs)
 list_has Four item p runs = kind_slots p (lists item) runs refl
 list_has Eight item p runs = kind_slots p (large_lists item) runs refl
 
 -- the node, the validity bitmap and the offsets of lists, and the arrays of their items
-pub list_runs_are : (p q r : PlainBatch) (width : OffsetWidth) (item : Column) (runs items : List Run) (offsets : List ℕ)
+pub list_runs_are : (p q r : PlainBatch) (width : OffsetWidth) (item : Column) (runs items : List SlotRun) (offsets : List ℕ)
     → runs_cells item items ≡ flat_map item_list (kind_cells (list_kind width item) runs) → offsets ≡ list_offsets (width_of width) (kind_cells (list_kind width item) runs)
     → q ≡ with_run_slots p (runs_bits runs) → r ≡ with_buffer q offsets
     → with_arrays r (built_at item (runs_cells item items)) ≡ with_arrays p (built_at (list_column width item) (kind_cells (list_kind width item) runs))

@@ -16,8 +16,8 @@ use Rattle.array_build.specs.Batch.{PlainBatch, built_at, plain_column, with_arr
 use Rattle.array_build.specs.inner.RunParts.{arrays_from, children_behind, child_at, parts_behind, part_cells_behind, has_sound_part, IsPartOf, IsPart, AreParts}
 use Rattle.array_build.specs.inner.Runs.{AreReady, built_columns, kind_cells, runs_bits, with_run_slots}
 use Rattle.array_runs.specs.Runs.{run_cells, runs_cells, is_run_sound, are_runs_sound, is_run_valid, are_runs_valid, HaveRuns, are_columns_sound, can_build_columns}
-use Rattle.array_runs.specs.declared.run.Run.{Run}
-use Rattle.array_runs.specs.declared.run.Run.TheVariants.{Slots, Nulls}
+use Rattle.array_runs.specs.declared.run.SlotRun.{SlotRun}
+use Rattle.array_runs.specs.declared.run.SlotRun.TheVariants.{Slots, Nulls}
 use Rattle.array_runs.specs.laws.Rows.{runs_can_be_built}
 use Rattle.arrow_schema.specs.Column.{Column, Columns, no_column, and_column, columns_of, structs}
 use Rattle.cells.specs.Cell.{Cell, null}
@@ -81,14 +81,14 @@ one_joined : {X A : Type 0} (f : X → List A) (xs : List X) (x : X) → flat_ma
 one_joined f xs x = flat_map-append f xs (x ∷ []) ∙ ap (λ ys. flat_map f xs ++ ys) (append-nil (f x))
 
 -- those of the runs so far, and what is left
-abbrev pub ArePartsLeft : ℕ → (all left parts : List Run) → Type 0
+abbrev pub ArePartsLeft : ℕ → (all left parts : List SlotRun) → Type 0
 ArePartsLeft j all left parts = (c : Column) → list_all (has_sound_part j c) all ≡ true
     → (runs_cells c parts ++ flat_map (part_cells_behind j c) left ≡ flat_map (part_cells_behind j c) all) × ((are_runs_sound c parts ≡ true) × (list_all (has_sound_part j c) left ≡ true))
 
-pub no_part_yet : (j : ℕ) (all : List Run) → ArePartsLeft j all all []
+pub no_part_yet : (j : ℕ) (all : List SlotRun) → ArePartsLeft j all all []
 no_part_yet j all = λ c h. (refl, (refl, h))
 
-pub part_more : (j : ℕ) (all left rest : List Run) (run part : Run) (old new : List Run) → left ≡ run ∷ rest → new ≡ old ++ part ∷ [] → IsPartOf j run part
+pub part_more : (j : ℕ) (all left rest : List SlotRun) (run part : SlotRun) (old new : List SlotRun) → left ≡ run ∷ rest → new ≡ old ++ part ∷ [] → IsPartOf j run part
     → ArePartsLeft j all left old → ArePartsLeft j all rest new
 part_more j all left rest run part old new item pushed is was = λ c h.
     let before = was c h in
@@ -96,21 +96,21 @@ part_more j all left rest run part old new item pushed is was = λ c h.
     let own = is c both.0 in
     let others : List Cell = flat_map (part_cells_behind j c) rest in
     let joined : runs_cells c new ++ others ≡ flat_map (part_cells_behind j c) all =
-    ap (λ (rs : List Run). runs_cells c rs ++ others) pushed
+    ap (λ (rs : List SlotRun). runs_cells c rs ++ others) pushed
     ∙ ap (λ (xs : List Cell). xs ++ others) (one_joined (run_cells c) old part)
     ∙ append_assoc (runs_cells c old) (run_cells c part) others
     ∙ ap (λ (xs : List Cell). runs_cells c old ++ (xs ++ others)) own.0
-    ∙ ap (λ (rs : List Run). runs_cells c old ++ flat_map (part_cells_behind j c) rs) (sym item)
+    ∙ ap (λ (rs : List SlotRun). runs_cells c old ++ flat_map (part_cells_behind j c) rs) (sym item)
     ∙ before.0 in
     let good : are_runs_sound c new ≡ true =
     ap (are_runs_sound c) pushed ∙ list_all-append (is_run_sound c) old (part ∷ []) ∙ and_from _ _ before.1.0 (and_from _ _ own.1 refl) in
     (joined, (good, both.1))
 
-pub is_part : (j : ℕ) (all left parts : List Run) → left ≡ [] → ArePartsLeft j all left parts → IsPart j all parts
+pub is_part : (j : ℕ) (all left parts : List SlotRun) → left ≡ [] → ArePartsLeft j all left parts → IsPart j all parts
 is_part j all left parts none was = λ c h.
     let before = was c h in
     let end : runs_cells c parts ++ flat_map (part_cells_behind j c) left ≡ runs_cells c parts =
-    ap (λ (rs : List Run). runs_cells c parts ++ flat_map (part_cells_behind j c) rs) none ∙ append-nil (runs_cells c parts) in
+    ap (λ (rs : List SlotRun). runs_cells c parts ++ flat_map (part_cells_behind j c) rs) none ∙ append-nil (runs_cells c parts) in
     (sym end ∙ before.0, before.1.0)
 
 -- ---- the rows of parts, field by field
@@ -125,40 +125,40 @@ unfolding part_cells
 others c cs arrays [] = refl
 others c cs arrays (i ∷ places) = ap (λ (rows : List (List Cell)). row_at cs (other_arrays arrays) i ∷ rows) (others c cs arrays places)
 
-first_of_run : (j : ℕ) (c : Column) (cs : Columns) (run : Run) → map first_cell (parts_behind j (and_column c cs) run) ≡ part_cells_behind j c run
+first_of_run : (j : ℕ) (c : Column) (cs : Columns) (run : SlotRun) → map first_cell (parts_behind j (and_column c cs) run) ≡ part_cells_behind j c run
 first_of_run j c cs (Slots v from n) = first_cells c cs (children_behind j v) (range_with_len from n)
 first_of_run j c cs (Nulls n) = repeated_map first_cell n []
 
-others_of_run : (j : ℕ) (c : Column) (cs : Columns) (run : Run) → map other_cells (parts_behind j (and_column c cs) run) ≡ parts_behind (j + 1) cs run
+others_of_run : (j : ℕ) (c : Column) (cs : Columns) (run : SlotRun) → map other_cells (parts_behind j (and_column c cs) run) ≡ parts_behind (j + 1) cs run
 others_of_run j c cs (Slots v from n) =
     others c cs (children_behind j v) (range_with_len from n)
     ∙ ap (λ (arrays : Arrays). map (row_at cs arrays) (range_with_len from n)) (next_arrays (children_in (view_array v)) j)
 others_of_run j c cs (Nulls n) = repeated_map other_cells n []
 
-rows_first : (j : ℕ) (c : Column) (cs : Columns) (runs : List Run) → map first_cell (flat_map (parts_behind j (and_column c cs)) runs) ≡ flat_map (part_cells_behind j c) runs
+rows_first : (j : ℕ) (c : Column) (cs : Columns) (runs : List SlotRun) → map first_cell (flat_map (parts_behind j (and_column c cs)) runs) ≡ flat_map (part_cells_behind j c) runs
 rows_first j c cs [] = refl
 rows_first j c cs (r ∷ runs) =
     map-append first_cell (parts_behind j (and_column c cs) r) (flat_map (parts_behind j (and_column c cs)) runs)
     ∙ ap₂ (λ (xs ys : List Cell). xs ++ ys) (first_of_run j c cs r) (rows_first j c cs runs)
 
-rows_others : (j : ℕ) (c : Column) (cs : Columns) (runs : List Run) → map other_cells (flat_map (parts_behind j (and_column c cs)) runs) ≡ flat_map (parts_behind (j + 1) cs) runs
+rows_others : (j : ℕ) (c : Column) (cs : Columns) (runs : List SlotRun) → map other_cells (flat_map (parts_behind j (and_column c cs)) runs) ≡ flat_map (parts_behind (j + 1) cs) runs
 rows_others j c cs [] = refl
 rows_others j c cs (r ∷ runs) =
     map-append other_cells (parts_behind j (and_column c cs) r) (flat_map (parts_behind j (and_column c cs)) runs)
     ∙ ap₂ (λ (xs ys : List (List Cell)). xs ++ ys) (others_of_run j c cs r) (rows_others j c cs runs)
 
-pub are_more : (j : ℕ) (runs : List Run) (rss : List (List Run)) (rs : List Run) → AreParts j runs rss → IsPart (j + length rss) runs rs → AreParts j runs (rss ++ rs ∷ [])
+pub are_more : (j : ℕ) (runs : List SlotRun) (rss : List (List SlotRun)) (rs : List SlotRun) → AreParts j runs rss → IsPart (j + length rss) runs rs → AreParts j runs (rss ++ rs ∷ [])
 are_more j runs [] rs are is = let e : j + 0 ≡ j = omega arith in (subst (λ (k : ℕ). IsPart k runs rs) e is, tt)
 are_more j runs (r ∷ rss) rs are is =
     let e : j + suc (length rss) ≡ j + 1 + length rss = omega arith in
     (are.0, are_more (j + 1) runs rss rs are.1 (subst (λ (k : ℕ). IsPart k runs rs) e is))
 
 -- the fields from a place on can be looked up in a run
-abbrev is_sound_behind : ℕ → Columns → Run → Bool
+abbrev is_sound_behind : ℕ → Columns → SlotRun → Bool
 is_sound_behind j cs (Slots v from n) = are_sound cs (from + n) (children_behind j v)
 is_sound_behind j cs (Nulls n) = true
 
-own_part : (j : ℕ) (c : Column) (cs : Columns) (run : Run) → is_sound_behind j (and_column c cs) run ≡ true → (has_sound_part j c run ≡ true) × (is_sound_behind (j + 1) cs run ≡ true)
+own_part : (j : ℕ) (c : Column) (cs : Columns) (run : SlotRun) → is_sound_behind j (and_column c cs) run ≡ true → (has_sound_part j c run ≡ true) × (is_sound_behind (j + 1) cs run ≡ true)
 unfolding are_sound
 own_part j c cs (Nulls n) h = (refl, refl)
 own_part j c cs (Slots v from n) h =
@@ -166,7 +166,7 @@ own_part j c cs (Slots v from n) h =
     let parts = and_parts (is_sound c (child_at j v)) _ long.1 in
     (and_from _ _ long.0 parts.0, sym (ap (are_sound cs (from + n)) (next_arrays (children_in (view_array v)) j)) ∙ parts.1)
 
-own_parts : (j : ℕ) (c : Column) (cs : Columns) (runs : List Run) → list_all (is_sound_behind j (and_column c cs)) runs ≡ true
+own_parts : (j : ℕ) (c : Column) (cs : Columns) (runs : List SlotRun) → list_all (is_sound_behind j (and_column c cs)) runs ≡ true
     → (list_all (has_sound_part j c) runs ≡ true) × (list_all (is_sound_behind (j + 1) cs) runs ≡ true)
 own_parts j c cs [] h = (refl, refl)
 own_parts j c cs (r ∷ runs) h =
@@ -175,7 +175,7 @@ own_parts j c cs (r ∷ runs) h =
     let more = own_parts j c cs runs both.1 in
     (and_from _ _ here.0 more.0, and_from _ _ here.1 more.1)
 
-all_have : (cs : List Column) (j : ℕ) (runs : List Run) (rss : List (List Run)) → AreParts j runs rss → length rss ≡ length cs → list_all (is_sound_behind j (columns_of cs)) runs ≡ true
+all_have : (cs : List Column) (j : ℕ) (runs : List SlotRun) (rss : List (List SlotRun)) → AreParts j runs rss → length rss ≡ length cs → list_all (is_sound_behind j (columns_of cs)) runs ≡ true
     → HaveRuns (columns_of cs) rss (flat_map (parts_behind j (columns_of cs)) runs) × (are_columns_sound (columns_of cs) rss ≡ true)
 unfolding HaveRuns are_columns_sound
 all_have [] j runs [] are len sound = (tt, refl)
@@ -203,11 +203,11 @@ slots_parts cs a from (suc n) valid =
     let both = and_parts (is_valid a from) (list_all (is_valid a) (range_with_len (from + 1) n)) valid in
     ap₂ (λ (row : List Cell) (rows : List (List Cell)). row ∷ rows) (slot_parts cs a from both.0) (slots_parts cs a (from + 1) n both.1)
 
-run_parts : (cs : Columns) (run : Run) → is_run_valid run ≡ true → map part_list (run_cells (plain_column (structs cs) None) run) ≡ parts_behind 0 cs run
+run_parts : (cs : Columns) (run : SlotRun) → is_run_valid run ≡ true → map part_list (run_cells (plain_column (structs cs) None) run) ≡ parts_behind 0 cs run
 run_parts cs (Slots v from n) valid = slots_parts cs (view_array v) from n valid
 run_parts cs (Nulls n) valid = repeated_map part_list n null
 
-runs_parts : (cs : Columns) (runs : List Run) → are_runs_valid runs ≡ true → map part_list (kind_cells (structs cs) runs) ≡ flat_map (parts_behind 0 cs) runs
+runs_parts : (cs : Columns) (runs : List SlotRun) → are_runs_valid runs ≡ true → map part_list (kind_cells (structs cs) runs) ≡ flat_map (parts_behind 0 cs) runs
 runs_parts cs [] valid = refl
 runs_parts cs (run ∷ runs) valid =
     let both = and_parts (is_run_valid run) (are_runs_valid runs) valid in
@@ -227,37 +227,37 @@ children_sound : (cs : Columns) (a : Array) → is_sound (plain_column (structs 
 unfolding is_sound has_sound_children
 children_sound cs a h = sound_children (structs cs) a h
 
-run_sound : (cs : Columns) (run : Run) → is_run_sound (plain_column (structs cs) None) run ≡ true → is_sound_behind 0 cs run ≡ true
+run_sound : (cs : Columns) (run : SlotRun) → is_run_sound (plain_column (structs cs) None) run ≡ true → is_sound_behind 0 cs run ≡ true
 run_sound cs (Nulls n) h = refl
 run_sound cs (Slots v from n) h =
     let both = and_parts (is_sound (plain_column (structs cs) None) (view_array v)) (nat_le (from + n) (slots_in (view_array v))) h in
     fewer_sound cs (children_in (view_array v)) (slots_in (view_array v)) (from + n) (children_sound cs (view_array v) both.0) (leb-true _ _ both.1)
 
-runs_sound : (cs : Columns) (runs : List Run) → are_runs_sound (plain_column (structs cs) None) runs ≡ true → list_all (is_sound_behind 0 cs) runs ≡ true
+runs_sound : (cs : Columns) (runs : List SlotRun) → are_runs_sound (plain_column (structs cs) None) runs ≡ true → list_all (is_sound_behind 0 cs) runs ≡ true
 runs_sound cs [] h = refl
 runs_sound cs (run ∷ runs) h =
     let both = and_parts (is_run_sound (plain_column (structs cs) None) run) (are_runs_sound (plain_column (structs cs) None) runs) h in
     and_from _ _ (run_sound cs run both.0) (runs_sound cs runs both.1)
 
 -- the parts of structs have the runs that are made for their fields
-pub parts_have : (cs : List Column) (runs : List Run) (rss : List (List Run)) → AreParts 0 runs rss → length rss ≡ length cs → AreReady (structs (columns_of cs)) runs
+pub parts_have : (cs : List Column) (runs : List SlotRun) (rss : List (List SlotRun)) → AreParts 0 runs rss → length rss ≡ length cs → AreReady (structs (columns_of cs)) runs
     → HaveRuns (columns_of cs) rss (map part_list (kind_cells (structs (columns_of cs)) runs)) × (are_columns_sound (columns_of cs) rss ≡ true)
 parts_have cs runs rss are len ready =
     let all = all_have cs 0 runs rss are len (runs_sound (columns_of cs) runs ready.sound) in
     (subst (λ (rows : List (List Cell)). HaveRuns (columns_of cs) rss rows) (sym (runs_parts (columns_of cs) runs ready.valid)) all.0, all.1)
 
 -- the node and the validity bitmap of structs, and the arrays of their parts
-pub struct_runs_are : (p q : PlainBatch) (cs : Columns) (runs : List Run) (rss : List (List Run)) → HaveRuns cs rss (map part_list (kind_cells (structs cs) runs))
+pub struct_runs_are : (p q : PlainBatch) (cs : Columns) (runs : List SlotRun) (rss : List (List SlotRun)) → HaveRuns cs rss (map part_list (kind_cells (structs cs) runs))
     → q ≡ with_run_slots p (runs_bits runs) → with_arrays q (built_columns cs rss) ≡ with_arrays p (built_at (plain_column (structs cs) None) (kind_cells (structs cs) runs))
 struct_runs_are p q cs runs rss have slots =
     let cells : List Cell = kind_cells (structs cs) runs in
     ap₂ (λ (x : PlainBatch) (ts : List Typed). with_arrays x ts) (slots ∙ kind_slots p (structs cs) runs refl) (rows_built cs rss (map part_list cells) have) ∙ structs_are cs p cells
 
 -- what is asked of the runs of the fields of structs
-pub parts_fit : (cs : Columns) (runs : List Run) (rss : List (List Run)) → HaveRuns cs rss (map part_list (kind_cells (structs cs) runs)) → AreReady (structs cs) runs → can_build_columns cs rss ≡ true
+pub parts_fit : (cs : Columns) (runs : List SlotRun) (rss : List (List SlotRun)) → HaveRuns cs rss (map part_list (kind_cells (structs cs) runs)) → AreReady (structs cs) runs → can_build_columns cs rss ≡ true
 parts_fit cs runs rss have ready =
     runs_can_be_built cs rss (map part_list (kind_cells (structs cs) runs)) have (parts_can_be_built cs (kind_cells (structs cs) runs) ready.fit)
 
 -- the lists of vectors
-abbrev pub run_lists : List (Vec Run Global) → List (List Run)
+abbrev pub run_lists : List (Vec SlotRun Global) → List (List SlotRun)
 run_lists vs = map (λ v. v.items) vs

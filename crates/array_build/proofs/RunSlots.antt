@@ -5,16 +5,16 @@ use Rattle.std.proofs.Common.{◌≡◌, ℕ, zero, suc, ◌+◌, ◌*◌, ◌�
 use Rattle.std.proofs.lemmas.Bool.{cases_lt, eq-eqb, ne_eqb}
 use Rattle.std.proofs.lemmas.List.FromFn.{length-map-range_with_len}
 use Rattle.array_build.specs.inner.Runs.{run_bits}
-use Rattle.array_runs.specs.declared.run.Run.{Run}
-use Rattle.array_runs.specs.declared.run.Run.TheVariants.{Slots}
+use Rattle.array_runs.specs.declared.run.SlotRun.{SlotRun}
+use Rattle.array_runs.specs.declared.run.SlotRun.TheVariants.{Slots}
 use Rattle.bitmap.specs.Bits.{bit}
 use Rattle.columns.specs.Array.{Array, validity_in}
 use Rattle.columns.specs.CellAt.{is_valid}
 use Rattle.columns.specs.View.{view_array}
 use Rattle.columns.specs.declared.view.ArrayView.{ArrayView}
 
-pub slots_counted : (v : ArrayView) (from n : ℕ) (run : Run) → run ≡ Slots v from n → length (run_bits run) ≡ n
-slots_counted v from n run is = ap (λ (r : Run). length (run_bits r)) is ∙ length-map-range_with_len (is_valid (view_array v)) from n
+pub slots_counted : (v : ArrayView) (from n : ℕ) (run : SlotRun) → run ≡ Slots v from n → length (run_bits run) ≡ n
+slots_counted v from n run is = ap (λ (r : SlotRun). length (run_bits r)) is ∙ length-map-range_with_len (is_valid (view_array v)) from n
 
 -- ---- tests of some numbers in a row
 

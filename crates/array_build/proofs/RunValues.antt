@@ -12,8 +12,8 @@ use Rattle.array_build.proofs.Repeated.{repeated_each}
 use Rattle.array_build.specs.Batch.{plain_column}
 use Rattle.array_build.specs.inner.Runs.{fixed_value, fixed_width, is_as_written, is_run_as_written}
 use Rattle.array_runs.specs.Runs.{is_run_sound, run_cells}
-use Rattle.array_runs.specs.declared.run.Run.{Run}
-use Rattle.array_runs.specs.declared.run.Run.TheVariants.{Slots, Nulls}
+use Rattle.array_runs.specs.declared.run.SlotRun.{SlotRun}
+use Rattle.array_runs.specs.declared.run.SlotRun.TheVariants.{Slots, Nulls}
 use Rattle.cells.specs.Cell.{Cell, null, number}
 use Rattle.cells.specs.Fit.{date_bits}
 use Rattle.columns.specs.Array.{Array, slots_in, values_in}
@@ -133,12 +133,12 @@ enough (fixed_lists size item) width a is h = cc
 enough (structs columns) width a is h = cc
 
 -- what is known of a run that stands as it is written
-pub record AreValues (kind : Kind) (width : ℕ) (v : ArrayView) (from n : ℕ) (run : Run) : Type 0 where
+pub record AreValues (kind : Kind) (width : ℕ) (v : ArrayView) (from n : ℕ) (run : SlotRun) : Type 0 where
   pub long : (from + n) * width ≤ length (values_in (view_array v))
   pub within : from + n ≤ slots_in (view_array v)
   pub bytes : AreBytes (values_in (view_array v)) → flat_map (fixed_value kind) (run_cells (plain_column kind None) run) ≡ take (n * width) (drop (from * width) (values_in (view_array v)))
 
-pub run_values : (kind : Kind) (width : ℕ) (v : ArrayView) (from n : ℕ) (run : Run) → run ≡ Slots v from n → fixed_width kind ≡ Some width → is_run_sound (plain_column kind None) run ≡ true
+pub run_values : (kind : Kind) (width : ℕ) (v : ArrayView) (from n : ℕ) (run : SlotRun) → run ≡ Slots v from n → fixed_width kind ≡ Some width → is_run_sound (plain_column kind None) run ≡ true
     → is_run_as_written kind run ≡ true → AreValues kind width v from n run
 run_values kind width v from n run is wide sound written =
     let a : Array = view_array v in
@@ -155,5 +155,5 @@ run_values kind width v from n run is wide sound written =
           (λ i lt h. one_as a small (is_valid a i) kind width wide long i lt h refl) from n within slots);
     }
 
-pub null_bytes : (kind : Kind) (width n : ℕ) (run : Run) → run ≡ Nulls n → fixed_width kind ≡ Some width → flat_map (fixed_value kind) (run_cells (plain_column kind None) run) ≡ replicate (n * width) 0
+pub null_bytes : (kind : Kind) (width n : ℕ) (run : SlotRun) → run ≡ Nulls n → fixed_width kind ≡ Some width → flat_map (fixed_value kind) (run_cells (plain_column kind None) run) ≡ replicate (n * width) 0
 null_bytes kind width n run is wide = rw is (repeated_each (fixed_value kind) width null 0 n (null_value kind width wide))

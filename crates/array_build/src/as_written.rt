@@ -3,7 +3,7 @@ ghost use Rattle.std.specs.Prelude.{◌≡◌, ℕ, ◌≤◌, ◌<◌, ◌+◌,
 ghost use Rattle.array_build.specs.Batch.{plain_column};
 ghost use Rattle.array_build.specs.inner.Runs.{are_runs_as_written, are_zeros, is_run_as_written};
 ghost use Rattle.array_runs.specs.Runs.{are_runs_sound, is_run_sound};
-ghost use Rattle.array_runs.specs.declared.run.Run.TheVariants.{Slots};
+ghost use Rattle.array_runs.specs.declared.run.SlotRun.TheVariants.{Slots};
 ghost use Rattle.arrow_schema.specs.View.{kind_of};
 ghost use Rattle.bitmap.specs.Bits.{bit};
 ghost use Rattle.columns.specs.Array.{slots_in, values_in};
@@ -15,7 +15,7 @@ ghost use Rattle.columns.specs.View.{view_array};
 use crate::run_contents::offset_at;
 use crate::run_slots::are_all_valid;
 use crate::widths::{contents_width, value_width};
-use array_runs::Run;
+use array_runs::SlotRun;
 use arrow_schema::DataType;
 use bitmap::get;
 use columns::{ArrayView, OffsetWidth};
@@ -121,18 +121,18 @@ fn are_slots_as_written(data_type: &DataType, array: ArrayView<'_>, from: usize,
     }
 }
 
-fn is_as_written(data_type: &DataType, run: &Run<'_>) -> bool
+fn is_as_written(data_type: &DataType, run: &SlotRun<'_>) -> bool
     requires { is_run_sound (plain_column (kind_of data_type.now) None) run.now ≡ true }
     ensures { result ≡ true → is_run_as_written (kind_of data_type.now) run.now ≡ true }
 {
     match run {
-        Run::Slots { array, from, len } => are_slots_as_written(data_type, *array, *from, *len),
-        Run::Nulls(_) => true,
+        SlotRun::Slots { array, from, len } => are_slots_as_written(data_type, *array, *from, *len),
+        SlotRun::Nulls(_) => true,
     }
 }
 
 /// All slots of runs stand as they are written.
-pub(crate) fn are_as_written(data_type: &DataType, runs: &[Run<'_>]) -> bool
+pub(crate) fn are_as_written(data_type: &DataType, runs: &[SlotRun<'_>]) -> bool
     requires { are_runs_sound (plain_column (kind_of data_type.now) None) runs.now ≡ true }
     ensures { result ≡ true → are_runs_as_written (kind_of data_type.now) runs.now ≡ true }
 {

@@ -19,7 +19,7 @@ use crate::run_items::{item_runs, run_list_offsets};
 use crate::run_parts::part_runs;
 use crate::run_slots::push_run_slots;
 use crate::widths::{contents_width, value_width};
-use array_runs::{Run, valid_runs};
+use array_runs::{SlotRun, valid_runs};
 use arrow_schema::{DataType, DictSpec, Field};
 use columns::OffsetWidth;
 use std::alloc::{AllocError, Global};
@@ -30,7 +30,7 @@ fn build_coded_column(
     batch: &mut BuiltBatch<'_>,
     field: &Field,
     spec: DictSpec,
-    runs: &[Run<'_>],
+    runs: &[SlotRun<'_>],
 ) -> Result<(), AllocError>
     requires spec { field.now.dictionary ≡ Some spec }
     requires sound { are_runs_sound (column_of field.now) runs.now ≡ true }
@@ -49,7 +49,7 @@ fn build_valid_kind<'a>(
     alloc: Global,
     batch: &mut BuiltBatch<'a>,
     data_type: &DataType,
-    runs: &[Run<'a>],
+    runs: &[SlotRun<'a>],
 ) -> Result<(), AllocError>
     requires values { fixed_width (kind_of data_type.now) ≡ None }
     requires contents { contents_width (kind_of data_type.now) ≡ None }
@@ -76,7 +76,7 @@ fn build_written_kind<'a>(
     alloc: Global,
     batch: &mut BuiltBatch<'a>,
     data_type: &DataType,
-    runs: &[Run<'a>],
+    runs: &[SlotRun<'a>],
 ) -> Result<(), AllocError>
     requires ready { AreAsWritten (kind_of data_type.now) runs.now }
     ensures { OnOk result (batch_in batch.new ≡ with_arrays (batch_in batch.old)
@@ -96,7 +96,7 @@ fn build_run_lists<'a>(
     batch: &mut BuiltBatch<'a>,
     width: OffsetWidth,
     item: &Field,
-    runs: &[Run<'a>],
+    runs: &[SlotRun<'a>],
 ) -> Result<(), AllocError>
     requires ready { AreReady (list_kind width (column_of item.now)) runs.now }
     ensures { OnOk result (batch_in batch.new ≡ with_arrays (batch_in batch.old)
@@ -116,7 +116,7 @@ fn build_run_fixed_lists<'a>(
     batch: &mut BuiltBatch<'a>,
     size: usize,
     item: &Field,
-    runs: &[Run<'a>],
+    runs: &[SlotRun<'a>],
 ) -> Result<(), AllocError>
     requires ready { AreReady (fixed_lists size (column_of item.now)) runs.now }
     ensures { OnOk result (batch_in batch.new ≡ with_arrays (batch_in batch.old)
@@ -133,7 +133,7 @@ fn build_run_structs<'a>(
     alloc: Global,
     batch: &mut BuiltBatch<'a>,
     fields: &[Field],
-    runs: &[Run<'a>],
+    runs: &[SlotRun<'a>],
 ) -> Result<(), AllocError>
     requires ready { AreReady (structs (columns_of (map column_of fields.now))) runs.now }
     ensures { OnOk result (batch_in batch.new ≡ with_arrays (batch_in batch.old) (built_at (plain_column (structs (columns_of (map column_of fields.now))) None)
@@ -150,7 +150,7 @@ fn build_split_kind<'a>(
     alloc: Global,
     batch: &mut BuiltBatch<'a>,
     data_type: &DataType,
-    runs: &[Run<'a>],
+    runs: &[SlotRun<'a>],
 ) -> Result<(), AllocError>
     requires sound { are_runs_sound (plain_column (kind_of data_type.now) None) runs.now ≡ true }
     requires fits { can_build (plain_column (kind_of data_type.now) None) (kind_cells (kind_of data_type.now) runs.now) ≡ true }
@@ -167,7 +167,7 @@ fn build_run_kind<'a>(
     alloc: Global,
     batch: &mut BuiltBatch<'a>,
     data_type: &DataType,
-    runs: &[Run<'a>],
+    runs: &[SlotRun<'a>],
 ) -> Result<(), AllocError>
     requires sound { are_runs_sound (plain_column (kind_of data_type.now) None) runs.now ≡ true }
     requires fits { can_build (plain_column (kind_of data_type.now) None) (kind_cells (kind_of data_type.now) runs.now) ≡ true }
@@ -187,7 +187,7 @@ fn build_run_column<'a>(
     alloc: Global,
     batch: &mut BuiltBatch<'a>,
     field: &Field,
-    runs: &[Run<'a>],
+    runs: &[SlotRun<'a>],
 ) -> Result<(), AllocError>
     requires sound { are_runs_sound (column_of field.now) runs.now ≡ true }
     requires fits { can_build (column_of field.now) (runs_cells (column_of field.now) runs.now) ≡ true }
@@ -206,7 +206,7 @@ fn build_run_parts<'a>(
     alloc: Global,
     batch: &mut BuiltBatch<'a>,
     fields: &[Field],
-    columns: &[Vec<Run<'a>>],
+    columns: &[Vec<SlotRun<'a>>],
 ) -> Result<(), AllocError>
     requires sound { are_columns_sound (columns_of (map column_of fields.now)) (map (λ v. v.items) columns.now) ≡ true }
     requires fits { can_build_columns (columns_of (map column_of fields.now)) (map (λ v. v.items) columns.now) ≡ true }
@@ -224,7 +224,7 @@ fn build_run_parts<'a>(
 pub fn build_runs<'a>(
     alloc: Global,
     fields: &[Field],
-    columns: &[Vec<Run<'a>>],
+    columns: &[Vec<SlotRun<'a>>],
 ) -> Result<BuiltBatch<'a>, AllocError>
     requires sound { are_columns_sound (columns_of (map column_of fields.now)) (map (λ v. v.items) columns.now) ≡ true }
     requires fits { can_build_columns (columns_of (map column_of fields.now)) (map (λ v. v.items) columns.now) ≡ true }

@@ -13,7 +13,7 @@ use crate::batch::{BuiltBatch, BuiltDictionary, push_buffer, push_slots};
 use crate::dictionary_cells::{code_indices, entry_cells, entry_set, indices};
 use crate::run_codes::codes_of_runs;
 use crate::run_slots::push_code_slots;
-use array_runs::Run;
+use array_runs::SlotRun;
 use arrow_schema::{DictSpec, Field, IntegerType};
 use indexmap::IndexSet;
 use std::alloc::{AllocError, Global};
@@ -42,7 +42,7 @@ pub(crate) fn push_run_indices<'a>(
     batch: &mut BuiltBatch<'_>,
     field: &'a Field,
     spec: DictSpec,
-    runs: &[Run<'a>],
+    runs: &[SlotRun<'a>],
 ) -> Result<Vec<ValueRef<'a>>, AllocError>
     requires spec { field.now.dictionary ≡ Some spec }
     requires sound { are_runs_sound (column_of field.now) runs.now ≡ true }

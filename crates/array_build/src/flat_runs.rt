@@ -12,7 +12,7 @@ use crate::run_bits::run_booleans;
 use crate::run_contents::{run_contents, run_offsets};
 use crate::run_slots::{count_slots, push_run_slots};
 use crate::run_values::run_values;
-use array_runs::Run;
+use array_runs::SlotRun;
 use arrow_schema::DataType;
 use columns::OffsetWidth;
 use std::alloc::{AllocError, Global};
@@ -22,7 +22,7 @@ use std::alloc::{AllocError, Global};
 pub(crate) fn build_run_nulls(
     batch: &mut BuiltBatch<'_>,
     data_type: &DataType,
-    runs: &[Run<'_>],
+    runs: &[SlotRun<'_>],
 ) -> Result<(), AllocError>
     requires nulls { kind_of data_type.now ≡ nulls }
     ensures { OnOk result (batch_in batch.new ≡ with_arrays (batch_in batch.old)
@@ -37,7 +37,7 @@ pub(crate) fn build_run_bits(
     alloc: Global,
     batch: &mut BuiltBatch<'_>,
     data_type: &DataType,
-    runs: &[Run<'_>],
+    runs: &[SlotRun<'_>],
 ) -> Result<(), AllocError>
     requires booleans { kind_of data_type.now ≡ booleans }
     requires ready { AreReady (kind_of data_type.now) runs.now }
@@ -56,7 +56,7 @@ pub(crate) fn build_run_values<'a>(
     batch: &mut BuiltBatch<'a>,
     data_type: &DataType,
     width: usize,
-    runs: &[Run<'a>],
+    runs: &[SlotRun<'a>],
 ) -> Result<(), AllocError>
     requires width { fixed_width (kind_of data_type.now) ≡ Some width }
     requires ready { AreAsWritten (kind_of data_type.now) runs.now }
@@ -75,7 +75,7 @@ pub(crate) fn build_run_contents<'a>(
     batch: &mut BuiltBatch<'a>,
     data_type: &DataType,
     width: OffsetWidth,
-    runs: &[Run<'a>],
+    runs: &[SlotRun<'a>],
 ) -> Result<(), AllocError>
     requires width { contents_width (kind_of data_type.now) ≡ Some (width_of width) }
     requires ready { AreAsWritten (kind_of data_type.now) runs.now }

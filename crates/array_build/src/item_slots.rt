@@ -4,7 +4,7 @@ ghost use Rattle.array_build.specs.inner.RunItems.{HasSlots};
 ghost use Rattle.columns.specs.Array.{items_in, slots_in};
 ghost use Rattle.columns.specs.View.{array_in, arrays_in, option_array, view_array};
 
-use array_runs::Run;
+use array_runs::SlotRun;
 use columns::{ArrayView, PlacedArray, PlacedLayout};
 
 fn with_array<'a>(view: ArrayView<'a>, array: &'a PlacedArray) -> ArrayView<'a>
@@ -29,16 +29,16 @@ fn items_of<'a>(view: ArrayView<'a>) -> Option<ArrayView<'a>>
 
 /// So many items of lists or fixed lists, from one on: an array that is neither has no item.
 #[tactic(auto, using(crate::proofs::RunItems::item_found, crate::proofs::RunItems::item_absent))]
-pub(crate) fn item_slots<'a>(view: ArrayView<'a>, from: usize, len: usize) -> Run<'a>
+pub(crate) fn item_slots<'a>(view: ArrayView<'a>, from: usize, len: usize) -> SlotRun<'a>
     requires { from + len ≤ slots_in (items_in (view_array view)) }
     ensures { HasSlots (items_in (view_array view.entry)) from len result }
 {
     match items_of(view) {
-        Some(items) => Run::Slots {
+        Some(items) => SlotRun::Slots {
             array: items,
             from,
             len,
         },
-        None => Run::Nulls(0),
+        None => SlotRun::Nulls(0),
     }
 }

@@ -10,7 +10,7 @@ ghost use Rattle.columns.specs.Built.{is_set};
 ghost use Rattle.std.specs.List.{range_with_len};
 
 use crate::run_slots::count_slots;
-use array_runs::Run;
+use array_runs::SlotRun;
 use arrow_schema::DataType;
 use bitmap::{get, pack};
 use std::alloc::{AllocError, Global};
@@ -89,23 +89,23 @@ pub(crate) fn push_alike(bits: &mut Vec<bool>, count: usize, bit: bool) -> Resul
 
 // The values of a run of booleans.
 #[tactic(auto, using(crate::proofs::RunBits::no_bits))]
-fn push_run(bits: &mut Vec<bool>, run: &Run<'_>) -> Result<(), AllocError>
+fn push_run(bits: &mut Vec<bool>, run: &SlotRun<'_>) -> Result<(), AllocError>
     requires sound { is_run_sound (plain_column booleans None) run.now ≡ true }
     requires valid { is_run_valid run.now ≡ true }
     ensures { OnOk result (bits.new.items ≡ bits.old.items ++ map is_set (run_cells (plain_column booleans None) run.now)) }
 {
     match run {
-        Run::Slots { array, from, len } => {
+        SlotRun::Slots { array, from, len } => {
             let _slots = array.slots();
             push_bits(bits, array.bits(), *from, *from + *len)?;
             Ok(())
         }
-        Run::Nulls(count) => push_alike(bits, *count, false),
+        SlotRun::Nulls(count) => push_alike(bits, *count, false),
     }
 }
 
 /// A bit for each slot, set where it is the boolean true.
-pub(crate) fn run_booleans(alloc: Global, runs: &[Run<'_>]) -> Result<Vec<u8>, AllocError>
+pub(crate) fn run_booleans(alloc: Global, runs: &[SlotRun<'_>]) -> Result<Vec<u8>, AllocError>
     requires { AreReady booleans runs.now }
     ensures { IfOk result (λ bytes. bytes.items ≡ packed (map is_set (kind_cells booleans runs.now))) }
 {

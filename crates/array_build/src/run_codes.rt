@@ -17,7 +17,7 @@ ghost use Rattle.cells.specs.Cell.{Cell};
 use crate::dictionary_cells::code_of;
 use crate::run_cells::slot_cell;
 use crate::run_slots::count_slots;
-use array_runs::Run;
+use array_runs::SlotRun;
 use arrow_schema::{DictSpec, Field};
 use cells::Entry;
 use columns::{ArrayView, CodedSlots, entry_count};
@@ -131,7 +131,7 @@ fn push_run_codes<'a>(
     codes: &mut Vec<Option<usize>>,
     field: &'a Field,
     spec: DictSpec,
-    run: &Run<'a>,
+    run: &SlotRun<'a>,
 ) -> Result<(), AllocError>
     requires spec { field.now.dictionary ≡ Some spec }
     requires sound { is_run_sound (column_of field.now) run.now ≡ true }
@@ -140,7 +140,7 @@ fn push_run_codes<'a>(
         (run_cells (column_of field.now) run.now)) }
 {
     match run {
-        Run::Slots { array, from, len } => {
+        SlotRun::Slots { array, from, len } => {
             // a number of the code is below 2^64, so that the sum is too
             let _slots = array.slots();
             let mut known = unknown(alloc, *array, *len)?;
@@ -148,7 +148,7 @@ fn push_run_codes<'a>(
             let slots = CodedSlots::new(spec, *array);
             push_slot_codes(entries, &mut known, codes, field, slots, *from, to)
         }
-        Run::Nulls(count) => push_null_codes(codes, *count),
+        SlotRun::Nulls(count) => push_null_codes(codes, *count),
     }
 }
 
@@ -158,7 +158,7 @@ pub(crate) fn codes_of_runs<'a>(
     entries: &mut IndexSet<Entry<'a>>,
     field: &'a Field,
     spec: DictSpec,
-    runs: &[Run<'a>],
+    runs: &[SlotRun<'a>],
 ) -> Result<Vec<Option<usize>>, AllocError>
     requires spec { field.now.dictionary ≡ Some spec }
     requires sound { are_runs_sound (column_of field.now) runs.now ≡ true }

@@ -4,7 +4,7 @@ ghost use Rattle.std.specs.List.{flat_map};
 ghost use Rattle.array_build.specs.Batch.{buffer_bytes, plain_column};
 ghost use Rattle.array_build.specs.inner.Runs.{AreAsWritten, AreOffsetsAdded, cell_sizes, contents_width, is_run_as_written, kind_cells, slot_sizes, span_contents};
 ghost use Rattle.array_runs.specs.Runs.{is_run_sound, run_cells};
-ghost use Rattle.array_runs.specs.declared.run.Run.TheVariants.{Slots};
+ghost use Rattle.array_runs.specs.declared.run.SlotRun.TheVariants.{Slots};
 ghost use Rattle.arrow_schema.specs.View.{kind_of};
 ghost use Rattle.columns.specs.Array.{slots_in, contents_in};
 ghost use Rattle.columns.specs.Buildable.{large_offset};
@@ -17,7 +17,7 @@ ghost use Rattle.columns.specs.View.{view_array};
 use crate::batch::Buffer;
 use crate::content_bytes::push_offset;
 use crate::run_slots::{count_slots, only_run};
-use array_runs::Run;
+use array_runs::SlotRun;
 use arrow_schema::DataType;
 use byteorder::{ByteOrder, LittleEndian};
 use columns::{ArrayView, OffsetWidth, bytes_at};
@@ -57,7 +57,7 @@ fn push_contents(
     contents: &mut Vec<u8>,
     data_type: &DataType,
     width: OffsetWidth,
-    run: &Run<'_>,
+    run: &SlotRun<'_>,
 ) -> Result<(), AllocError>
     requires width { contents_width (kind_of data_type.now) ≡ Some (width_of width) }
     requires sound { is_run_sound (plain_column (kind_of data_type.now) None) run.now ≡ true }
@@ -66,11 +66,11 @@ fn push_contents(
         ≡ contents.old.items ++ flat_map contents_of (run_cells (plain_column (kind_of data_type.now) None) run.now)) }
 {
     match run {
-        Run::Slots { array, from, len } => {
+        SlotRun::Slots { array, from, len } => {
             contents.extend_from_slice(run_slice(data_type, width, *array, *from, *len))?;
             Ok(())
         }
-        Run::Nulls(_) => Ok(()),
+        SlotRun::Nulls(_) => Ok(()),
     }
 }
 
@@ -79,7 +79,7 @@ fn copied_contents(
     alloc: Global,
     data_type: &DataType,
     width: OffsetWidth,
-    runs: &[Run<'_>],
+    runs: &[SlotRun<'_>],
 ) -> Result<Vec<u8>, AllocError>
     requires width { contents_width (kind_of data_type.now) ≡ Some (width_of width) }
     requires ready { AreAsWritten (kind_of data_type.now) runs.now }
@@ -97,13 +97,13 @@ pub(crate) fn run_contents<'a>(
     alloc: Global,
     data_type: &DataType,
     width: OffsetWidth,
-    runs: &[Run<'a>],
+    runs: &[SlotRun<'a>],
 ) -> Result<Buffer<'a>, AllocError>
     requires width { contents_width (kind_of data_type.now) ≡ Some (width_of width) }
     requires ready { AreAsWritten (kind_of data_type.now) runs.now }
     ensures { IfOk result (λ buffer. buffer_bytes buffer ≡ flat_map contents_of (kind_cells (kind_of data_type.now) runs.now)) }
 {
-    if let Some(Run::Slots { array, from, len }) = only_run(runs) {
+    if let Some(SlotRun::Slots { array, from, len }) = only_run(runs) {
         return Ok(Buffer::Borrowed(run_slice(data_type, width, array, from, len)));
     }
     Ok(Buffer::Made(copied_contents(alloc, data_type, width, runs)?))
@@ -165,7 +165,7 @@ fn push_run_offsets(
     offsets: &mut Vec<u8>,
     data_type: &DataType,
     width: OffsetWidth,
-    run: &Run<'_>,
+    run: &SlotRun<'_>,
     start: u64,
 ) -> Result<u64, AllocError>
     requires width { contents_width (kind_of data_type.now) ≡ Some (width_of width) }
@@ -177,10 +177,10 @@ fn push_run_offsets(
     ensures next { IfOk result (λ next. next ≡ start + length (flat_map contents_of (run_cells (plain_column (kind_of data_type.now) None) run.now))) }
 {
     match run {
-        Run::Slots { array, from, len } => {
+        SlotRun::Slots { array, from, len } => {
             push_slot_offsets(offsets, width, *array, *from, *len, start)
         }
-        Run::Nulls(count) => {
+        SlotRun::Nulls(count) => {
             push_null_offsets(offsets, width, *count, start)?;
             Ok(start)
         }
@@ -192,7 +192,7 @@ pub(crate) fn run_offsets(
     alloc: Global,
     data_type: &DataType,
     width: OffsetWidth,
-    runs: &[Run<'_>],
+    runs: &[SlotRun<'_>],
 ) -> Result<Vec<u8>, AllocError>
     requires width { contents_width (kind_of data_type.now) ≡ Some (width_of width) }
     requires ready { AreAsWritten (kind_of data_type.now) runs.now }

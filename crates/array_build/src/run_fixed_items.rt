@@ -9,27 +9,31 @@ ghost use Rattle.arrow_schema.specs.View.{column_of};
 ghost use Rattle.columns.specs.Built.{fixed_items};
 
 use crate::item_slots::item_slots;
-use array_runs::Run;
+use array_runs::SlotRun;
 use arrow_schema::Field;
 use std::alloc::{AllocError, Global};
 
 // The items of a run: as many nulls below a null. More than a number counts have no room in memory.
 #[tactic(auto, using(crate::proofs::RunFixedItems::fixed_of_nulls))]
-fn fixed_item_run<'a>(item: &Field, size: usize, run: &Run<'a>) -> Result<Run<'a>, AllocError>
+fn fixed_item_run<'a>(
+    item: &Field,
+    size: usize,
+    run: &SlotRun<'a>,
+) -> Result<SlotRun<'a>, AllocError>
     requires sound { is_run_sound (fixed_column size (column_of item.now)) run.now ≡ true }
     requires valid { is_run_valid run.now ≡ true }
     ensures { IfOk result (λ part. AreItems (fixed_items size) (column_of item.now) part (run_cells (fixed_column size (column_of item.now)) run.now)) }
 {
     match run {
-        Run::Slots { array, from, len } => {
+        SlotRun::Slots { array, from, len } => {
             // a number of the code is below 2^64, so that the products are too
             let _most = array.item_slots();
             let start = *from * size;
             let count = *len * size;
             Ok(item_slots(*array, start, count))
         }
-        Run::Nulls(slots) => match slots.checked_mul(size) {
-            Some(count) => Ok(Run::Nulls(count)),
+        SlotRun::Nulls(slots) => match slots.checked_mul(size) {
+            Some(count) => Ok(SlotRun::Nulls(count)),
             None => Err(AllocError),
         },
     }
@@ -40,8 +44,8 @@ pub(crate) fn fixed_item_runs<'a>(
     alloc: Global,
     item: &Field,
     size: usize,
-    runs: &[Run<'a>],
-) -> Result<Vec<Run<'a>>, AllocError>
+    runs: &[SlotRun<'a>],
+) -> Result<Vec<SlotRun<'a>>, AllocError>
     requires { AreReady (fixed_lists size (column_of item.now)) runs.now }
     ensures cells { IfOk result (λ items. runs_cells (column_of item.now) items.items
         ≡ flat_map (fixed_items size) (kind_cells (fixed_lists size (column_of item.now)) runs.now)) }

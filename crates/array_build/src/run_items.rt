@@ -15,26 +15,26 @@ ghost use Rattle.columns.specs.Offsets.{width_of};
 use crate::content_bytes::push_offset;
 use crate::item_slots::item_slots;
 use crate::run_slots::{count_slots, run_len};
-use array_runs::Run;
+use array_runs::SlotRun;
 use arrow_schema::Field;
 use columns::OffsetWidth;
 use std::alloc::{AllocError, Global};
 
 // How many items the list at a place of a run has.
-fn list_size(item: &Field, width: OffsetWidth, run: &Run<'_>, i: usize) -> usize
+fn list_size(item: &Field, width: OffsetWidth, run: &SlotRun<'_>, i: usize) -> usize
     requires sound { is_run_sound (list_column width (column_of item.now)) run.now ≡ true }
     requires valid { is_run_valid run.now ≡ true }
     requires within { i < length (run_bits run.now) }
     ensures { result ≡ length (item_list (get_or (run_lists width (column_of item.now) run.now) i null)) }
 {
     match run {
-        Run::Slots { array, from, .. } => {
+        SlotRun::Slots { array, from, .. } => {
             // a number of the code is below 2^64, so that the sum is too
             let _slots = array.slots();
             let slot = *from + i;
             array.spanned(width, slot, 1).len
         }
-        Run::Nulls(_) => 0,
+        SlotRun::Nulls(_) => 0,
     }
 }
 
@@ -43,7 +43,7 @@ fn push_list_offsets(
     offsets: &mut Vec<u8>,
     item: &Field,
     width: OffsetWidth,
-    run: &Run<'_>,
+    run: &SlotRun<'_>,
     start: u64,
 ) -> Result<u64, AllocError>
     requires sound { is_run_sound (list_column width (column_of item.now)) run.now ≡ true }
@@ -67,7 +67,7 @@ pub(crate) fn run_list_offsets(
     alloc: Global,
     item: &Field,
     width: OffsetWidth,
-    runs: &[Run<'_>],
+    runs: &[SlotRun<'_>],
 ) -> Result<Vec<u8>, AllocError>
     requires { AreReady (list_kind width (column_of item.now)) runs.now }
     ensures { IfOk result (λ bytes. bytes.items ≡ list_offsets (width_of width) (kind_cells (list_kind width (column_of item.now)) runs.now)) }
@@ -83,20 +83,20 @@ pub(crate) fn run_list_offsets(
 }
 
 // The items of a run, which are one span: a null has none.
-fn item_run<'a>(item: &Field, width: OffsetWidth, run: &Run<'a>) -> Run<'a>
+fn item_run<'a>(item: &Field, width: OffsetWidth, run: &SlotRun<'a>) -> SlotRun<'a>
     requires sound { is_run_sound (list_column width (column_of item.now)) run.now ≡ true }
     requires valid { is_run_valid run.now ≡ true }
     ensures { AreItems item_list (column_of item.now) result (run_lists width (column_of item.now) run.now) }
 {
     match run {
-        Run::Slots { array, from, len } => {
+        SlotRun::Slots { array, from, len } => {
             if *len == 0 {
-                return Run::Nulls(0);
+                return SlotRun::Nulls(0);
             }
             let span = array.spanned(width, *from, *len);
             item_slots(*array, span.start, span.len)
         }
-        Run::Nulls(_) => Run::Nulls(0),
+        SlotRun::Nulls(_) => SlotRun::Nulls(0),
     }
 }
 
@@ -105,8 +105,8 @@ pub(crate) fn item_runs<'a>(
     alloc: Global,
     item: &Field,
     width: OffsetWidth,
-    runs: &[Run<'a>],
-) -> Result<Vec<Run<'a>>, AllocError>
+    runs: &[SlotRun<'a>],
+) -> Result<Vec<SlotRun<'a>>, AllocError>
     requires { AreReady (list_kind width (column_of item.now)) runs.now }
     ensures cells { IfOk result (λ items. runs_cells (column_of item.now) items.items
         ≡ flat_map item_list (kind_cells (list_kind width (column_of item.now)) runs.now)) }

@@ -7,18 +7,18 @@ ghost use Rattle.arrow_schema.specs.Column.{structs};
 ghost use Rattle.cells.specs.Dictionary.{part_list};
 ghost use Rattle.columns.specs.View.{fields_of};
 
-use array_runs::Run;
+use array_runs::SlotRun;
 use arrow_schema::Field;
 use columns::ArrayView;
 use std::alloc::{AllocError, Global};
 
 // The slots that the field at a place has of some structs: below a null there is a null, and structs without an array for it have no slot.
-fn part_run<'a>(run: &Run<'a>, place: usize) -> Run<'a>
+fn part_run<'a>(run: &SlotRun<'a>, place: usize) -> SlotRun<'a>
     ensures { IsPartOf place run.now result }
 {
     match run {
-        Run::Slots { array, from, len } => match array.children().get(place) {
-            Some(child) => Run::Slots {
+        SlotRun::Slots { array, from, len } => match array.children().get(place) {
+            Some(child) => SlotRun::Slots {
                 array: ArrayView {
                     array: child,
                     bytes: array.bytes,
@@ -27,13 +27,17 @@ fn part_run<'a>(run: &Run<'a>, place: usize) -> Run<'a>
                 from: *from,
                 len: *len,
             },
-            None => Run::Nulls(0),
+            None => SlotRun::Nulls(0),
         },
-        Run::Nulls(count) => Run::Nulls(*count),
+        SlotRun::Nulls(count) => SlotRun::Nulls(*count),
     }
 }
 
-fn runs_at<'a>(alloc: Global, runs: &[Run<'a>], place: usize) -> Result<Vec<Run<'a>>, AllocError>
+fn runs_at<'a>(
+    alloc: Global,
+    runs: &[SlotRun<'a>],
+    place: usize,
+) -> Result<Vec<SlotRun<'a>>, AllocError>
     ensures { IfOk result (λ parts. IsPart place runs.now parts.items) }
 {
     let mut parts = Vec::with_capacity(alloc, runs.len())?;
@@ -47,8 +51,8 @@ fn runs_at<'a>(alloc: Global, runs: &[Run<'a>], place: usize) -> Result<Vec<Run<
 pub(crate) fn part_runs<'a>(
     alloc: Global,
     fields: &[Field],
-    runs: &[Run<'a>],
-) -> Result<Vec<Vec<Run<'a>>>, AllocError>
+    runs: &[SlotRun<'a>],
+) -> Result<Vec<Vec<SlotRun<'a>>>, AllocError>
     requires { AreReady (structs (fields_of fields.now)) runs.now }
     ensures have { IfOk result (λ parts. HaveRuns (fields_of fields.now) (map (λ v. v.items) parts.items)
         (map part_list (kind_cells (structs (fields_of fields.now)) runs.now))) }

@@ -12,23 +12,23 @@ ghost use Rattle.columns.specs.View.{view_array};
 use crate::batch::{BuiltBatch, push_buffer, push_node};
 use crate::run_bits::{push_alike, push_bits};
 use crate::valid_bits::unset_bits;
-use array_runs::Run;
+use array_runs::SlotRun;
 use bitmap::{get, pack, run_end};
 use columns::ArrayView;
 use std::alloc::{AllocError, Global};
 
 #[tactic(auto, using(crate::proofs::RunSlots::slots_counted))]
-pub(crate) fn run_len(run: &Run<'_>) -> usize
+pub(crate) fn run_len(run: &SlotRun<'_>) -> usize
     ensures { result ≡ length (run_bits run.now) }
 {
     match run {
-        Run::Slots { len, .. } => *len,
-        Run::Nulls(count) => *count,
+        SlotRun::Slots { len, .. } => *len,
+        SlotRun::Nulls(count) => *count,
     }
 }
 
 /// The run, where there is no other.
-pub(crate) fn only_run<'a>(runs: &[Run<'a>]) -> Option<Run<'a>>
+pub(crate) fn only_run<'a>(runs: &[SlotRun<'a>]) -> Option<SlotRun<'a>>
     ensures { IfSome result (λ run. runs.now ≡ run ∷ []) }
 {
     match runs {
@@ -38,7 +38,7 @@ pub(crate) fn only_run<'a>(runs: &[Run<'a>]) -> Option<Run<'a>>
 }
 
 /// How many slots runs have. More than a number holds have no room in memory.
-pub(crate) fn count_slots(runs: &[Run<'_>]) -> Result<usize, AllocError>
+pub(crate) fn count_slots(runs: &[SlotRun<'_>]) -> Result<usize, AllocError>
     ensures { IfOk result (λ count. count ≡ length (runs_bits runs.now)) }
 {
     let mut count = 0usize;
@@ -73,18 +73,18 @@ pub(crate) fn are_all_valid(array: ArrayView<'_>, from: usize, len: usize) -> bo
     }
 }
 
-fn has_no_null(run: &Run<'_>) -> bool
+fn has_no_null(run: &SlotRun<'_>) -> bool
     requires { has_validity run.now ≡ true }
     ensures { result ≡ list_all (λ b. b) (run_bits run.now) }
 {
     match run {
-        Run::Slots { array, from, len } => are_all_valid(*array, *from, *len),
-        Run::Nulls(count) => *count == 0,
+        SlotRun::Slots { array, from, len } => are_all_valid(*array, *from, *len),
+        SlotRun::Nulls(count) => *count == 0,
     }
 }
 
 // Whether there is no null.
-fn have_no_null(runs: &[Run<'_>]) -> bool
+fn have_no_null(runs: &[SlotRun<'_>]) -> bool
     requires { list_all has_validity runs.now ≡ true }
     ensures { result ≡ list_all (λ b. b) (runs_bits runs.now) }
 {
@@ -115,18 +115,18 @@ fn push_slot_bits(
     push_bits(bits, validity, from, from + len)
 }
 
-fn push_run_bits(bits: &mut Vec<bool>, run: &Run<'_>) -> Result<(), AllocError>
+fn push_run_bits(bits: &mut Vec<bool>, run: &SlotRun<'_>) -> Result<(), AllocError>
     requires { has_validity run.now ≡ true }
     ensures { OnOk result (bits.new.items ≡ bits.old.items ++ run_bits run.now) }
 {
     match run {
-        Run::Slots { array, from, len } => push_slot_bits(bits, *array, *from, *len),
-        Run::Nulls(count) => push_alike(bits, *count, false),
+        SlotRun::Slots { array, from, len } => push_slot_bits(bits, *array, *from, *len),
+        SlotRun::Nulls(count) => push_alike(bits, *count, false),
     }
 }
 
 // The validity bitmap of runs that have so many slots.
-fn run_validity(alloc: Global, slots: usize, runs: &[Run<'_>]) -> Result<Vec<u8>, AllocError>
+fn run_validity(alloc: Global, slots: usize, runs: &[SlotRun<'_>]) -> Result<Vec<u8>, AllocError>
     requires count { slots ≡ length (runs_bits runs.now) }
     requires validity { list_all has_validity runs.now ≡ true }
     ensures bits { IfOk result (λ bytes. bytes.items ≡ bitmap_of (runs_bits runs.now)) }
@@ -160,7 +160,7 @@ fn push_validity(
 pub(crate) fn push_run_slots(
     alloc: Global,
     batch: &mut BuiltBatch<'_>,
-    runs: &[Run<'_>],
+    runs: &[SlotRun<'_>],
 ) -> Result<(), AllocError>
     requires { list_all has_validity runs.now ≡ true }
     ensures { OnOk result (batch_in batch.new ≡ with_run_slots (batch_in batch.old) (runs_bits runs.now)) }

@@ -4,7 +4,7 @@ ghost use Rattle.std.specs.List.{flat_map};
 ghost use Rattle.array_build.specs.Batch.{buffer_bytes, plain_column};
 ghost use Rattle.array_build.specs.inner.Runs.{AreAsWritten, fixed_value, fixed_width, is_run_as_written, kind_cells};
 ghost use Rattle.array_runs.specs.Runs.{is_run_sound, run_cells};
-ghost use Rattle.array_runs.specs.declared.run.Run.TheVariants.{Slots};
+ghost use Rattle.array_runs.specs.declared.run.SlotRun.TheVariants.{Slots};
 ghost use Rattle.arrow_schema.specs.View.{kind_of};
 ghost use Rattle.columns.specs.Array.{slots_in, values_in};
 ghost use Rattle.columns.specs.View.{view_array};
@@ -12,7 +12,7 @@ ghost use Rattle.facts.specs.Bytes.{AreBytes};
 
 use crate::batch::Buffer;
 use crate::run_slots::{count_slots, only_run};
-use array_runs::Run;
+use array_runs::SlotRun;
 use arrow_schema::DataType;
 use columns::ArrayView;
 use std::alloc::{AllocError, Global};
@@ -72,7 +72,7 @@ fn push_run(
     values: &mut Vec<u8>,
     data_type: &DataType,
     width: usize,
-    run: &Run<'_>,
+    run: &SlotRun<'_>,
 ) -> Result<(), AllocError>
     requires width { fixed_width (kind_of data_type.now) ≡ Some width }
     requires sound { is_run_sound (plain_column (kind_of data_type.now) None) run.now ≡ true }
@@ -81,11 +81,11 @@ fn push_run(
         ≡ values.old.items ++ flat_map (fixed_value (kind_of data_type.now)) (run_cells (plain_column (kind_of data_type.now) None) run.now)) }
 {
     match run {
-        Run::Slots { array, from, len } => {
+        SlotRun::Slots { array, from, len } => {
             values.extend_from_slice(run_slice(data_type, width, *array, *from, *len))?;
             Ok(())
         }
-        Run::Nulls(count) => push_zeros(values, width, *count),
+        SlotRun::Nulls(count) => push_zeros(values, width, *count),
     }
 }
 
@@ -94,7 +94,7 @@ fn copied_values(
     alloc: Global,
     data_type: &DataType,
     width: usize,
-    runs: &[Run<'_>],
+    runs: &[SlotRun<'_>],
 ) -> Result<Vec<u8>, AllocError>
     requires width { fixed_width (kind_of data_type.now) ≡ Some width }
     requires ready { AreAsWritten (kind_of data_type.now) runs.now }
@@ -113,13 +113,13 @@ pub(crate) fn run_values<'a>(
     alloc: Global,
     data_type: &DataType,
     width: usize,
-    runs: &[Run<'a>],
+    runs: &[SlotRun<'a>],
 ) -> Result<Buffer<'a>, AllocError>
     requires width { fixed_width (kind_of data_type.now) ≡ Some width }
     requires ready { AreAsWritten (kind_of data_type.now) runs.now }
     ensures { IfOk result (λ buffer. buffer_bytes buffer ≡ flat_map (fixed_value (kind_of data_type.now)) (kind_cells (kind_of data_type.now) runs.now)) }
 {
-    if let Some(Run::Slots { array, from, len }) = only_run(runs) {
+    if let Some(SlotRun::Slots { array, from, len }) = only_run(runs) {
         return Ok(Buffer::Borrowed(run_slice(data_type, width, array, from, len)));
     }
     Ok(Buffer::Made(copied_values(alloc, data_type, width, runs)?))

@@ -10,8 +10,8 @@ use Rattle.std.proofs.lemmas.List.Folds.{list_all-append}
 use Rattle.arrow_schema.specs.Column.{Column}
 use Rattle.array_runs.specs.Runs.{run_cells, runs_cells, is_run_sound, are_runs_sound, is_run_valid, HaveSameCells}
 use Rattle.array_runs.specs.inner.Split.{AreAlike, IsAdded}
-use Rattle.array_runs.specs.declared.run.Run.{Run}
-use Rattle.array_runs.specs.declared.run.Run.TheVariants.{Slots, Nulls}
+use Rattle.array_runs.specs.declared.run.SlotRun.{SlotRun}
+use Rattle.array_runs.specs.declared.run.SlotRun.TheVariants.{Slots, Nulls}
 use Rattle.array_runs.proofs.Cells.{split_cells, invalid_cells, valid_slots}
 use Rattle.columns.specs.Array.{slots_in}
 use Rattle.columns.specs.CellAt.{cell_at, cells_from}
@@ -24,7 +24,7 @@ and_last : {X : Type 0} (p : X → Bool) (xs : List X) (x : X) → list_all p xs
 and_last p xs x h here = list_all-append p xs (x ∷ []) ∙ rw (h, here) refl
 
 -- a run that stands for another, of which each slot is valid
-added : (old : List Run) (own run : Run) → is_run_valid own ≡ true → ((c : Column) → is_run_sound c run ≡ true → is_run_sound c own ≡ true) → ((c : Column) → run_cells c own ≡ run_cells c run)
+added : (old : List SlotRun) (own run : SlotRun) → is_run_valid own ≡ true → ((c : Column) → is_run_sound c run ≡ true → is_run_sound c own ≡ true) → ((c : Column) → run_cells c own ≡ run_cells c run)
     → IsAdded old (old ++ own ∷ []) run
 added old own run valid sound same = record {
   valid = λ h. and_last is_run_valid old own h valid;
@@ -32,16 +32,16 @@ added old own run valid sound same = record {
   cells = λ c. flat_map-append (run_cells c) old (own ∷ []) ∙ ap (λ cells. runs_cells c old ++ cells) (append-nil (run_cells c own) ∙ same c);
 }
 
-pub run_added : (old : List Run) (run : Run) → is_run_valid run ≡ true → IsAdded old (old ++ run ∷ []) run
+pub run_added : (old : List SlotRun) (run : SlotRun) → is_run_valid run ≡ true → IsAdded old (old ++ run ∷ []) run
 run_added old run valid = added old run run valid (λ c h. h) (λ c. refl)
 
-pub valid_added : (old : List Run) (v : ArrayView) (from len : ℕ) → AreAlike (view_array v) from (from + len) true → IsAdded old (old ++ Slots v from len ∷ []) (Slots v from len)
+pub valid_added : (old : List SlotRun) (v : ArrayView) (from len : ℕ) → AreAlike (view_array v) from (from + len) true → IsAdded old (old ++ Slots v from len ∷ []) (Slots v from len)
 valid_added old v from len h = run_added old (Slots v from len) (valid_slots (view_array v) from len h)
 
-pub nulls_added : (old : List Run) (v : ArrayView) (from len : ℕ) → AreAlike (view_array v) from (from + len) false → IsAdded old (old ++ Nulls len ∷ []) (Slots v from len)
+pub nulls_added : (old : List SlotRun) (v : ArrayView) (from len : ℕ) → AreAlike (view_array v) from (from + len) false → IsAdded old (old ++ Nulls len ∷ []) (Slots v from len)
 nulls_added old v from len h = added old (Nulls len) (Slots v from len) refl (λ c _. refl) (λ c. sym (invalid_cells c (view_array v) from len h))
 
-pub none_added : (old : List Run) (v : ArrayView) (from : ℕ) → IsAdded old old (Slots v from 0)
+pub none_added : (old : List SlotRun) (v : ArrayView) (from : ℕ) → IsAdded old old (Slots v from 0)
 none_added old v from = record {
   valid = λ h. h;
   sound = λ c h all. all;
@@ -49,7 +49,7 @@ none_added old v from = record {
 }
 
 -- slots, and then those behind them
-pub more_added : (old mid new : List Run) (v : ArrayView) (from m n : ℕ) → IsAdded old mid (Slots v from m) → IsAdded mid new (Slots v (from + m) n) → IsAdded old new (Slots v from (m + n))
+pub more_added : (old mid new : List SlotRun) (v : ArrayView) (from m n : ℕ) → IsAdded old mid (Slots v from m) → IsAdded mid new (Slots v (from + m) n) → IsAdded old new (Slots v from (m + n))
 more_added old mid new v from m n first next = record {
   valid = λ h. next.valid (first.valid h);
   sound = λ c h all.
@@ -64,7 +64,7 @@ more_added old mid new v from m n first next = record {
 }
 
 -- a run of all is replaced
-pub replaced : (old new : List Run) (run : Run) (rest all : List Run) → HaveSameCells (old ++ run ∷ rest) all → IsAdded old new run → HaveSameCells (new ++ rest) all
+pub replaced : (old new : List SlotRun) (run : SlotRun) (rest all : List SlotRun) → HaveSameCells (old ++ run ∷ rest) all → IsAdded old new run → HaveSameCells (new ++ rest) all
 replaced old new run rest all same is = λ c sound.
     let before = same c sound in
     let parts = and_parts (are_runs_sound c old) (are_runs_sound c (run ∷ rest)) (sym (list_all-append (is_run_sound c) old (run ∷ rest)) ∙ before.0) in
@@ -77,7 +77,7 @@ replaced old new run rest all same is = λ c sound.
     )
 
 -- slots up to a place, and then those up to another
-pub next_added : (old mid new : List Run) (v : ArrayView) (from next stop : ℕ) → from ≤ next → next ≤ stop → IsAdded old mid (Slots v from (next - from)) → IsAdded mid new (Slots v next (stop - next))
+pub next_added : (old mid new : List SlotRun) (v : ArrayView) (from next stop : ℕ) → from ≤ next → next ≤ stop → IsAdded old mid (Slots v from (next - from)) → IsAdded mid new (Slots v next (stop - next))
     → IsAdded old new (Slots v from (stop - from))
 next_added old mid new v from next stop low high first more =
     let here : next ≡ from + (next - from) = omega arith in
@@ -86,9 +86,9 @@ next_added old mid new v from next stop low high first more =
     (more_added old mid new v from (next - from) (stop - next) first (subst (λ (i : ℕ). IsAdded mid new (Slots v i (stop - next))) here more))
 
 -- nothing is left
-pub all_replaced : (runs all : List Run) (i : ℕ) → length all ≤ i → HaveSameCells (runs ++ drop i all) all → HaveSameCells runs all
-all_replaced runs all i end same = subst (λ (rs : List Run). HaveSameCells rs all) (ap (λ (rs : List Run). runs ++ rs) (drop_all i all end) ∙ append-nil runs) same
+pub all_replaced : (runs all : List SlotRun) (i : ℕ) → length all ≤ i → HaveSameCells (runs ++ drop i all) all → HaveSameCells runs all
+all_replaced runs all i end same = subst (λ (rs : List SlotRun). HaveSameCells rs all) (ap (λ (rs : List SlotRun). runs ++ rs) (drop_all i all end) ∙ append-nil runs) same
 
 -- of what is left, the first is as the test says, and the others
-pub left_pass : (p : Run → Bool) (all : List Run) (i : ℕ) (run : Run) → drop i all ≡ run ∷ drop (i + 1) all → list_all p (drop i all) ≡ true → (p run ≡ true) × (list_all p (drop (i + 1) all) ≡ true)
+pub left_pass : (p : SlotRun → Bool) (all : List SlotRun) (i : ℕ) (run : SlotRun) → drop i all ≡ run ∷ drop (i + 1) all → list_all p (drop i all) ≡ true → (p run ≡ true) × (list_all p (drop (i + 1) all) ≡ true)
 left_pass p all i run item h = and_parts (p run) (list_all p (drop (i + 1) all)) (rw item at h)

@@ -2,8 +2,8 @@
 use Rattle.std.specs.Prelude.{◌≡◌, ◌+◌, Bool, true, false, not, ◌&&◌, nat_le, List, [], ◌∷◌, map, replicate}
 use Rattle.std.specs.List.{flat_map, list_all, range_with_len}
 use Rattle.arrow_schema.specs.Column.{Column, Columns, no_column, and_column}
-use Rattle.array_runs.specs.declared.run.Run.{Run}
-use Rattle.array_runs.specs.declared.run.Run.TheVariants.{Slots, Nulls}
+use Rattle.array_runs.specs.declared.run.SlotRun.{SlotRun}
+use Rattle.array_runs.specs.declared.run.SlotRun.TheVariants.{Slots, Nulls}
 use Rattle.cells.specs.Cell.{Cell, null}
 use Rattle.columns.specs.Array.{slots_in}
 use Rattle.columns.specs.Buildable.{can_build}
@@ -14,57 +14,57 @@ use Rattle.columns.specs.Tests.{has_short_validity}
 use Rattle.columns.specs.View.{view_array}
 
 -- the cells of a run, and those of runs one after another
-abbrev pub run_cells : Column → Run → List Cell
+abbrev pub run_cells : Column → SlotRun → List Cell
 run_cells c (Slots view from len) = cells_from (cell_at c (view_array view)) from len
 run_cells c (Nulls n) = replicate n null
 
-abbrev pub runs_cells : Column → List Run → List Cell
+abbrev pub runs_cells : Column → List SlotRun → List Cell
 runs_cells c runs = flat_map (run_cells c) runs
 
 -- the slots are there, and can be looked up
-abbrev pub is_run_sound : Column → Run → Bool
+abbrev pub is_run_sound : Column → SlotRun → Bool
 is_run_sound c (Slots view from len) = is_sound c (view_array view) && nat_le (from + len) (slots_in (view_array view))
 is_run_sound c (Nulls n) = true
 
-abbrev pub are_runs_sound : Column → List Run → Bool
+abbrev pub are_runs_sound : Column → List SlotRun → Bool
 are_runs_sound c runs = list_all (is_run_sound c) runs
 
 -- ---- nulls
 
 -- the slots are there, and the validity bitmap has a bit for each, or none
-abbrev pub has_validity : Run → Bool
+abbrev pub has_validity : SlotRun → Bool
 has_validity (Slots view from len) = not (has_short_validity (view_array view)) && nat_le (from + len) (slots_in (view_array view))
 has_validity (Nulls n) = true
 
 -- each of the slots is valid
-abbrev pub is_run_valid : Run → Bool
+abbrev pub is_run_valid : SlotRun → Bool
 is_run_valid (Slots view from len) = list_all (is_valid (view_array view)) (range_with_len from len)
 is_run_valid (Nulls n) = true
 
-abbrev pub are_runs_valid : List Run → Bool
+abbrev pub are_runs_valid : List SlotRun → Bool
 are_runs_valid runs = list_all is_run_valid runs
 
 -- in any column where the others can be looked up they can too, and have the same cells
-abbrev pub HaveSameCells : (runs others : List Run) → Type 0
+abbrev pub HaveSameCells : (runs others : List SlotRun) → Type 0
 HaveSameCells runs others = (c : Column) → are_runs_sound c others ≡ true → (are_runs_sound c runs ≡ true) × (runs_cells c runs ≡ runs_cells c others)
 
 -- ---- runs for each column
 
-unfoldable pub are_columns_sound : Columns → List (List Run) → Bool
+unfoldable pub are_columns_sound : Columns → List (List SlotRun) → Bool
 are_columns_sound no_column [] = true
 are_columns_sound no_column (r ∷ rs) = false
 are_columns_sound (and_column c cs) [] = false
 are_columns_sound (and_column c cs) (r ∷ rs) = are_runs_sound c r && are_columns_sound cs rs
 
 -- the cells of each column of some rows are those of its runs; cells of rows past the columns are not looked at
-unfoldable pub HaveRuns : Columns → List (List Run) → List (List Cell) → Type 0
+unfoldable pub HaveRuns : Columns → List (List SlotRun) → List (List Cell) → Type 0
 HaveRuns no_column [] rows = Unit {0}
 HaveRuns no_column (r ∷ rs) rows = ⊥
 HaveRuns (and_column c cs) [] rows = ⊥
 HaveRuns (and_column c cs) (r ∷ rs) rows = (map first_cell rows ≡ runs_cells c r) × HaveRuns cs rs (map other_cells rows)
 
 -- the array of each column can be built
-unfoldable pub can_build_columns : Columns → List (List Run) → Bool
+unfoldable pub can_build_columns : Columns → List (List SlotRun) → Bool
 can_build_columns no_column rs = true
 can_build_columns (and_column c cs) [] = true
 can_build_columns (and_column c cs) (r ∷ rs) = can_build c (runs_cells c r) && can_build_columns cs rs

@@ -3,7 +3,7 @@ use columns::ArrayView;
 
 /// Slots of an array one after another, or so many nulls.
 #[derive(Clone, Copy, Debug)]
-pub enum Run<'a> {
+pub enum SlotRun<'a> {
     Slots {
         array: ArrayView<'a>,
         from: usize,

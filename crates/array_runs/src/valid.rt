@@ -3,12 +3,12 @@ ghost use Rattle.std.specs.Prelude.{◌≡◌, ◌≤◌, ◌+◌, true, false, 
 ghost use Rattle.std.specs.List.{list_all};
 ghost use Rattle.array_runs.specs.Runs.{has_validity, are_runs_valid, HaveSameCells};
 ghost use Rattle.array_runs.specs.inner.Split.{AreAlike, IsAdded};
-ghost use Rattle.array_runs.specs.declared.run.Run.TheVariants.{Slots};
+ghost use Rattle.array_runs.specs.declared.run.SlotRun.TheVariants.{Slots};
 ghost use Rattle.columns.specs.Array.{slots_in};
 ghost use Rattle.columns.specs.Tests.{has_short_validity};
 ghost use Rattle.columns.specs.View.{view_array};
 
-use crate::run::Run;
+use crate::run::SlotRun;
 use bitmap::{get, run_end};
 use columns::ArrayView;
 use std::alloc::{AllocError, Global};
@@ -16,7 +16,7 @@ use std::alloc::{AllocError, Global};
 // Adds slots that are all valid, or all null.
 #[tactic(auto, using(crate::proofs::Split::valid_added, crate::proofs::Split::nulls_added))]
 fn push_alike<'a>(
-    valid: &mut Vec<Run<'a>>,
+    valid: &mut Vec<SlotRun<'a>>,
     array: ArrayView<'a>,
     from: usize,
     len: usize,
@@ -26,9 +26,9 @@ fn push_alike<'a>(
     ensures { OnOk result (IsAdded valid.old.items valid.new.items (Slots array.entry from len)) }
 {
     let run = if are_valid {
-        Run::Slots { array, from, len }
+        SlotRun::Slots { array, from, len }
     } else {
-        Run::Nulls(len)
+        SlotRun::Nulls(len)
     };
     valid.push(run)?;
     Ok(())
@@ -37,7 +37,7 @@ fn push_alike<'a>(
 // Adds slots, run by run of the bits of the validity bitmap.
 #[tactic(auto, using(crate::proofs::Split::none_added))]
 fn push_split<'a>(
-    valid: &mut Vec<Run<'a>>,
+    valid: &mut Vec<SlotRun<'a>>,
     array: ArrayView<'a>,
     from: usize,
     len: usize,
@@ -63,13 +63,13 @@ fn push_split<'a>(
 
 // Adds a run.
 #[tactic(auto, using(crate::proofs::Split::run_added))]
-fn push_valid<'a>(valid: &mut Vec<Run<'a>>, run: Run<'a>) -> Result<(), AllocError>
+fn push_valid<'a>(valid: &mut Vec<SlotRun<'a>>, run: SlotRun<'a>) -> Result<(), AllocError>
     requires { has_validity run ≡ true }
     ensures { OnOk result (IsAdded valid.old.items valid.new.items run.entry) }
 {
     match run {
-        Run::Slots { array, from, len } => push_split(valid, array, from, len),
-        Run::Nulls(_) => {
+        SlotRun::Slots { array, from, len } => push_split(valid, array, from, len),
+        SlotRun::Nulls(_) => {
             valid.push(run)?;
             Ok(())
         }
@@ -77,7 +77,7 @@ fn push_valid<'a>(valid: &mut Vec<Run<'a>>, run: Run<'a>) -> Result<(), AllocErr
 }
 
 /// The same cells, in runs of slots that are all valid and runs of nulls.
-pub fn valid_runs<'a>(alloc: Global, runs: &[Run<'a>]) -> Result<Vec<Run<'a>>, AllocError>
+pub fn valid_runs<'a>(alloc: Global, runs: &[SlotRun<'a>]) -> Result<Vec<SlotRun<'a>>, AllocError>
     requires { list_all has_validity runs.now ≡ true }
     ensures valid { IfOk result (λ valid. are_runs_valid valid.items ≡ true) }
     ensures same { IfOk result (λ valid. HaveSameCells valid.items runs.now) }

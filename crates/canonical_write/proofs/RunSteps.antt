@@ -4,7 +4,7 @@ use Rattle.std.proofs.Common.{◌≡◌, ◌≢◌, ◌+◌, ◌≤◌, true, Li
 use Rattle.std.proofs.lemmas.Bool.{and_parts}
 use Rattle.std.proofs.lemmas.List.Folds.{list_all-append}
 use Rattle.array_runs.specs.Runs.{HaveRuns, are_columns_sound, can_build_columns}
-use Rattle.array_runs.specs.declared.run.Run.{Run}
+use Rattle.array_runs.specs.declared.run.SlotRun.{SlotRun}
 use Rattle.array_runs.specs.laws.Rows.{runs_can_be_built}
 use Rattle.arrow_schema.specs.Column.{PlainSchema, Columns, columns_of}
 use Rattle.arrow_schema.specs.declared.types.Field.{Field}
@@ -17,18 +17,18 @@ use Rattle.run_pieces.specs.Rows.{runs_rows}
 use Rattle.run_pieces.specs.declared.row_run.RowRun.{RowRun}
 
 -- the runs of rows, by columns that are given again
-abbrev pub AreRunsOf : List Field → List (List Run) → List RowRun → Type 0
+abbrev pub AreRunsOf : List Field → List (List SlotRun) → List RowRun → Type 0
 AreRunsOf fields columns runs = HaveRuns (fields_of fields) columns (runs_rows (fields_of fields) runs)
 
-pub same_runs : (fields own : List Field) (columns given : List (List Run)) (runs : List RowRun) → fields ≡ own → given ≡ columns → AreRunsOf fields columns runs → AreRunsOf own given runs
+pub same_runs : (fields own : List Field) (columns given : List (List SlotRun)) (runs : List RowRun) → fields ≡ own → given ≡ columns → AreRunsOf fields columns runs → AreRunsOf own given runs
 same_runs fields own columns given runs same is have =
-    subst (λ (xs : List (List Run)). AreRunsOf own xs runs) (sym is) (subst (λ (fs : List Field). AreRunsOf fs columns runs) same have)
+    subst (λ (xs : List (List SlotRun)). AreRunsOf own xs runs) (sym is) (subst (λ (fs : List Field). AreRunsOf fs columns runs) same have)
 
-pub same_sound : (fields own : List Field) (columns given : List (List Run)) → fields ≡ own → given ≡ columns → are_columns_sound (fields_of fields) columns ≡ true → are_columns_sound (fields_of own) given ≡ true
+pub same_sound : (fields own : List Field) (columns given : List (List SlotRun)) → fields ≡ own → given ≡ columns → are_columns_sound (fields_of fields) columns ≡ true → are_columns_sound (fields_of own) given ≡ true
 same_sound fields own columns given same is sound =
-    subst (λ (xs : List (List Run)). are_columns_sound (fields_of own) xs ≡ true) (sym is) (subst (λ (fs : List Field). are_columns_sound (fields_of fs) columns ≡ true) same sound)
+    subst (λ (xs : List (List SlotRun)). are_columns_sound (fields_of own) xs ≡ true) (sym is) (subst (λ (fs : List Field). are_columns_sound (fields_of fs) columns ≡ true) same sound)
 
-pub piece_can : (s : PlainSchema) (rows : List (List Cell)) (columns : List (List Run)) → IsPieceOf s rows → HaveRuns (columns_of s.columns) columns rows → can_build_columns (columns_of s.columns) columns ≡ true
+pub piece_can : (s : PlainSchema) (rows : List (List Cell)) (columns : List (List SlotRun)) → IsPieceOf s rows → HaveRuns (columns_of s.columns) columns rows → can_build_columns (columns_of s.columns) columns ≡ true
 piece_can s rows columns piece have =
     let cs : Columns = columns_of s.columns in
     runs_can_be_built cs columns rows have (and_parts (list_all (has_each_part cs) rows) (can_build_parts cs rows) piece.built).1

@@ -7,7 +7,7 @@ use Rattle.std.proofs.lemmas.Grind.{flat_map-append}
 use Rattle.std.proofs.lemmas.List.Sums.{sum_by-cons, sum_by_more_le}
 use Rattle.segments.specs.Sectors.{sector_count}
 use Rattle.catalogue.specs.declared.entry.Segment.{Segment}
-use Rattle.catalogue.specs.declared.entry.Entry.{Entry}
+use Rattle.catalogue.specs.declared.entry.TableEntry.{TableEntry}
 use Rattle.catalogue.specs.declared.limits.TheConstants.{MAX_SEGMENT_ROWS}
 use Rattle.catalogue.specs.Entries.{PlainEntry, PlainCatalogue, plain_entry, is_between, is_segment, is_entry, row_count, runs_in, runs_of, segment_count, is_catalogue}
 use Rattle.catalogue.specs.laws.Kept.{entry_is, catalogue_is}
@@ -32,20 +32,20 @@ passes_at (x ∷ xs) zero d all lt = (and_parts (is_entry x) (list_all is_entry 
 passes_at (x ∷ xs) (suc k) d all lt = passes_at xs k d (and_parts (is_entry x) (list_all is_entry xs) all).1 (omega arith)
 
 -- the segments so far and those of the next entry are among all
-pub counted_within : (es : List Entry) (i : ℕ) (x : Entry) → i < length es → x ≡ get_or es i x → segment_count (map plain_entry (take i es)) + length x.segments.items ≤ segment_count (map plain_entry es)
+pub counted_within : (es : List TableEntry) (i : ℕ) (x : TableEntry) → i < length es → x ≡ get_or es i x → segment_count (map plain_entry (take i es)) + length x.segments.items ≤ segment_count (map plain_entry es)
 counted_within es i x lt is =
     let count : PlainEntry → ℕ = λ e. length e.segments in
     let whole : sum_by count (take i (map plain_entry es)) + count (get_or (map plain_entry es) i (plain_entry x)) ≤ sum_by count (map plain_entry es) =
     sum_by_more_le count (map plain_entry es) i (plain_entry x) (let len = length-map es plain_entry in omega arith) in
-    let here : count (get_or (map plain_entry es) i (plain_entry x)) ≡ length x.segments.items = ap count (map_at plain_entry es i x) ∙ ap (λ (e : Entry). length e.segments.items) (sym is) in
+    let here : count (get_or (map plain_entry es) i (plain_entry x)) ≡ length x.segments.items = ap count (map_at plain_entry es i x) ∙ ap (λ (e : TableEntry). length e.segments.items) (sym is) in
     let front : sum_by count (take i (map plain_entry es)) ≡ segment_count (map plain_entry (take i es)) = ap (sum_by count) (take-map plain_entry i es) in
     omega (arith, whole, here, front)
 
-pub few_segments : (es : List Entry) → is_catalogue (map plain_entry es) ≡ true → segment_count (map plain_entry es) ≤ 65536
+pub few_segments : (es : List TableEntry) → is_catalogue (map plain_entry es) ≡ true → segment_count (map plain_entry es) ≤ 65536
 few_segments es kept = (catalogue_is (map plain_entry es) kept).segments
 
 -- the rows of an entry of a catalogue
-pub rows_fit : (es : List Entry) (i : ℕ) (x : Entry) → is_catalogue (map plain_entry es) ≡ true → i < length es → x ≡ get_or es i x → row_count (plain_entry x) < 2 ^ 64
+pub rows_fit : (es : List TableEntry) (i : ℕ) (x : TableEntry) → is_catalogue (map plain_entry es) ≡ true → i < length es → x ≡ get_or es i x → row_count (plain_entry x) < 2 ^ 64
 rows_fit es i x kept lt is =
     let k = catalogue_is (map plain_entry es) kept in
     let within : i < length (map plain_entry es) = let len = length-map es plain_entry in omega arith in
@@ -56,22 +56,22 @@ rows_fit es i x kept lt is =
     omega (arith, rows_le x.segments.items stood.segments, front, most)
 
 -- the runs so far, and those of the next entry
-pub more_runs : (es : List Entry) (i : ℕ) (x : Entry) → i < length es → x ≡ get_or es i x
+pub more_runs : (es : List TableEntry) (i : ℕ) (x : TableEntry) → i < length es → x ≡ get_or es i x
     → runs_of (map plain_entry (take i es)) ++ map (λ (s : Segment). s.place.run) x.segments.items ≡ runs_of (map plain_entry (take (i + 1) es))
 more_runs es i x lt is =
     let one : runs_of (plain_entry x ∷ []) ≡ runs_in (plain_entry x) = append-nil (runs_in (plain_entry x)) in
-    sym (ap (λ (xs : List Entry). runs_of (map plain_entry xs)) (take_more es i x lt)
-    ∙ ap (λ (y : Entry). runs_of (map plain_entry (take i es ++ y ∷ []))) (sym is)
+    sym (ap (λ (xs : List TableEntry). runs_of (map plain_entry xs)) (take_more es i x lt)
+    ∙ ap (λ (y : TableEntry). runs_of (map plain_entry (take i es ++ y ∷ []))) (sym is)
     ∙ ap runs_of (map-append plain_entry (take i es) (x ∷ []))
     ∙ flat_map-append runs_in (map plain_entry (take i es)) (plain_entry x ∷ [])
     ∙ ap (λ rs. runs_of (map plain_entry (take i es)) ++ rs) one)
 
 -- what is known of an entry of a catalogue
-pub record StandsAt (x : Entry) : Type 0 where
+pub record StandsAt (x : TableEntry) : Type 0 where
   pub sound : is_entry (plain_entry x) ≡ true
   pub few : length x.segments.items ≤ 65536
 
-pub stands_at : (es : List Entry) (i : ℕ) (x : Entry) → is_catalogue (map plain_entry es) ≡ true → i < length es → x ≡ get_or es i x → StandsAt x
+pub stands_at : (es : List TableEntry) (i : ℕ) (x : TableEntry) → is_catalogue (map plain_entry es) ≡ true → i < length es → x ≡ get_or es i x → StandsAt x
 stands_at es i x kept lt is =
     let k = catalogue_is (map plain_entry es) kept in
     let within : i < length (map plain_entry es) = let len = length-map es plain_entry in omega arith in

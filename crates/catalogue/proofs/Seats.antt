@@ -5,7 +5,7 @@ use Rattle.std.specs.List.{list_all}
 use Rattle.std.proofs.lemmas.Bool.{lt-leb}
 use Rattle.std.proofs.lemmas.List.{length-map, map-set}
 use Rattle.std.proofs.Math.Seq.{map-set_same}
-use Rattle.catalogue.specs.declared.entry.Entry.{Entry}
+use Rattle.catalogue.specs.declared.entry.TableEntry.{TableEntry}
 use Rattle.catalogue.specs.Entries.{PlainEntry, PlainCatalogue, plain_entry, is_name, is_segment, segment_count, is_catalogue}
 use Rattle.catalogue.specs.declared.entry.Segment.{Segment}
 use Rattle.catalogue.specs.declared.limits.TheConstants.{MAX_SEGMENTS}
@@ -15,12 +15,12 @@ use Rattle.catalogue.proofs.Standing.{seated, gap, placed, set_segments, map_ins
 use Rattle.catalogue.proofs.Rows.{counted_within}
 use Rattle.catalogue.specs.laws.Changed.{renamed_stands, more_stands}
 
-pub record Seated (es : List Entry) (e : Entry) (place : ℕ) : Type 0 where
+pub record Seated (es : List TableEntry) (e : TableEntry) (place : ℕ) : Type 0 where
   pub within : place < length es
   pub put : map plain_entry (set es place e) ≡ with_entry (map plain_entry es) (plain_entry e)
-  pub stood : (d : Entry) → entry_of (map plain_entry es) (string_bytes e.name) ≡ Some (plain_entry (get_or es place d))
+  pub stood : (d : TableEntry) → entry_of (map plain_entry es) (string_bytes e.name) ≡ Some (plain_entry (get_or es place d))
 
-pub seat_in : (es : List Entry) (e : Entry) (place : ℕ) → seat_of (string_bytes e.name) 0 (map plain_entry es) ≡ Ok place → Seated es e place
+pub seat_in : (es : List TableEntry) (e : TableEntry) (place : ℕ) → seat_of (string_bytes e.name) 0 (map plain_entry es) ≡ Ok place → Seated es e place
 seat_in es e place h =
     let s = seated (map plain_entry es) (plain_entry e) 0 place h in
     let at : s.index ≡ place = let p = s.is in omega arith in
@@ -32,11 +32,11 @@ seat_in es e place h =
       stood = λ d. s.stood (plain_entry d) ∙ ap (λ k. Some (get_or (map plain_entry es) k (plain_entry d))) at ∙ ap Some (map_at plain_entry es place d);
     }
 
-pub record Gapped (es : List Entry) (e : Entry) (place : ℕ) : Type 0 where
+pub record Gapped (es : List TableEntry) (e : TableEntry) (place : ℕ) : Type 0 where
   pub within : place ≤ length es
   pub put : map plain_entry (insert es place e) ≡ with_entry (map plain_entry es) (plain_entry e)
 
-pub gap_in : (es : List Entry) (e : Entry) (place : ℕ) → seat_of (string_bytes e.name) 0 (map plain_entry es) ≡ Err place → Gapped es e place
+pub gap_in : (es : List TableEntry) (e : TableEntry) (place : ℕ) → seat_of (string_bytes e.name) 0 (map plain_entry es) ≡ Err place → Gapped es e place
 gap_in es e place h =
     let s = gap (map plain_entry es) (plain_entry e) 0 place h in
     let at : s.index ≡ place = let p = s.is in omega arith in
@@ -45,12 +45,12 @@ gap_in es e place h =
     let within : place ≤ length es = let w = s.within in omega arith in
     record { within = within; put = map_insert plain_entry es place e within ∙ here }
 
-pub record Placed (es : List Entry) (name : List ℕ) (place : ℕ) : Type 0 where
+pub record Placed (es : List TableEntry) (name : List ℕ) (place : ℕ) : Type 0 where
   pub within : place < length es
   pub removed : map plain_entry (remove es place) ≡ without (map plain_entry es) name
-  pub stood : (d : Entry) → entry_of (map plain_entry es) name ≡ Some (plain_entry (get_or es place d))
+  pub stood : (d : TableEntry) → entry_of (map plain_entry es) name ≡ Some (plain_entry (get_or es place d))
 
-pub place_in : (es : List Entry) (name : List ℕ) (place : ℕ) → place_of name 0 (map plain_entry es) ≡ Some place → Placed es name place
+pub place_in : (es : List TableEntry) (name : List ℕ) (place : ℕ) → place_of name 0 (map plain_entry es) ≡ Some place → Placed es name place
 place_in es name place h =
     let s = placed (map plain_entry es) name 0 place h in
     let at : s.index ≡ place = let p = s.is in omega arith in
@@ -64,7 +64,7 @@ place_in es name place h =
     }
 
 -- one entry more than fits
-pub too_many : (es : List Entry) (i left most : ℕ) (x : Entry) → i < length es → x ≡ get_or es i x → segment_count (map plain_entry (take i es)) + left ≡ most → left < length x.segments.items → nat_le (segment_count (map plain_entry es)) most ≡ false
+pub too_many : (es : List TableEntry) (i left most : ℕ) (x : TableEntry) → i < length es → x ≡ get_or es i x → segment_count (map plain_entry (take i es)) + left ≡ most → left < length x.segments.items → nat_le (segment_count (map plain_entry es)) most ≡ false
 too_many es i left most x lt is so_far more = lt-leb (segment_count (map plain_entry es)) most (let within = counted_within es i x lt is in omega (arith, within, so_far, more))
 
 -- ---- results of changes
@@ -90,13 +90,13 @@ more_kept (Ok x) old new name more put err kept each most = ap is_catalogue put 
 more_kept (Err x) old new name more put err kept each most = ap is_catalogue err ∙ kept
 
 -- the entry at its place has more segments
-pub more_at : (es : List Entry) (name : List ℕ) (place : ℕ) (x new : Entry) (more : List Segment) → place_of name 0 (map plain_entry es) ≡ Some place → x ≡ get_or es place x
+pub more_at : (es : List TableEntry) (name : List ℕ) (place : ℕ) (x new : TableEntry) (more : List Segment) → place_of name 0 (map plain_entry es) ≡ Some place → x ≡ get_or es place x
     → plain_entry new ≡ record { name = string_bytes x.name; schema = (plain_entry x).schema; segments = x.segments.items ++ more } → map plain_entry (set es place new) ≡ with_more (map plain_entry es) name more
 more_at es name place x new more h is new_is =
     let c = map plain_entry es in
     let p = place_in es name place h in
     let at : get_or c place (plain_entry x) ≡ plain_entry x = map_at plain_entry es place x ∙ ap plain_entry (sym is) in
-    let stood : entry_of c name ≡ Some (plain_entry x) = p.stood x ∙ ap (λ (e : Entry). Some (plain_entry e)) (sym is) in
+    let stood : entry_of c name ≡ Some (plain_entry x) = p.stood x ∙ ap (λ (e : TableEntry). Some (plain_entry e)) (sym is) in
     let segments = x.segments.items ++ more in
     map-set plain_entry es place new
     ∙ ap (set c place) new_is
@@ -105,13 +105,13 @@ more_at es name place x new more h is new_is =
     ∙ sym (ap (λ (o : Option PlainEntry). elim o [ None ↦ c | Some y ↦ with_segments c name (y.segments ++ more) ]) stood)
 
 -- after `extend_from_slice`: the entry at its place has more segments, or all are as they were
-pub appended_at : {A B : Type 0} (r : Result A B) (es : List Entry) (name : List ℕ) (place : ℕ) (x new : Entry) (more : List Segment) → place_of name 0 (map plain_entry es) ≡ Some place → x ≡ get_or es place x
+pub appended_at : {A B : Type 0} (r : Result A B) (es : List TableEntry) (name : List ℕ) (place : ℕ) (x new : TableEntry) (more : List Segment) → place_of name 0 (map plain_entry es) ≡ Some place → x ≡ get_or es place x
     → plain_entry new ≡ record { name = string_bytes x.name; schema = (plain_entry x).schema; segments = cond (is_ok r) (x.segments.items ++ more) x.segments.items }
     → OnOk r (map plain_entry (set es place new) ≡ with_more (map plain_entry es) name more)
 appended_at (Ok y) es name place x new more h is new_is = more_at es name place x new more h is new_is
 appended_at (Err y) es name place x new more h is new_is = tt
 
-pub unchanged_at : {A B : Type 0} (r : Result A B) (es : List Entry) (place : ℕ) (x new : Entry) (more : List Segment) → x ≡ get_or es place x
+pub unchanged_at : {A B : Type 0} (r : Result A B) (es : List TableEntry) (place : ℕ) (x new : TableEntry) (more : List Segment) → x ≡ get_or es place x
     → plain_entry new ≡ record { name = string_bytes x.name; schema = (plain_entry x).schema; segments = cond (is_ok r) (x.segments.items ++ more) x.segments.items }
     → OnErr r (map plain_entry (set es place new) ≡ map plain_entry es)
 unchanged_at (Ok y) es place x new more is new_is = tt

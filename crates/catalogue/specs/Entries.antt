@@ -10,7 +10,7 @@ use Rattle.segments.specs.declared.run.Run.{Run}
 use Rattle.catalogue.specs.Schemas.{is_within_limits}
 use Rattle.catalogue.specs.declared.limits.TheConstants.{MAX_NAME_BYTES, MAX_SEGMENT_ROWS, MAX_TABLES, MAX_SEGMENTS}
 use Rattle.catalogue.specs.declared.entry.Segment.{Segment}
-use Rattle.catalogue.specs.declared.entry.Entry.{Entry}
+use Rattle.catalogue.specs.declared.entry.TableEntry.{TableEntry}
 
 -- a table as the catalogue keeps it
 pub record PlainEntry : Type 0 where
@@ -23,7 +23,7 @@ abbrev pub PlainCatalogue : Type 0
 PlainCatalogue = List PlainEntry
 
 -- what an entry of the code is
-abbrev pub plain_entry : Entry → PlainEntry
+abbrev pub plain_entry : TableEntry → PlainEntry
 plain_entry e = record { name = string_bytes e.name; schema = schema_of e.schema; segments = e.segments.items }
 
 -- a number from this one to that one

@@ -6,14 +6,14 @@ use crate::edits::{append_to, copy_entries, put_entry, put_runs, rename_entry, t
 use crate::limits::MAX_TABLES;
 use crate::places::place_of;
 use crate::testing::{are_in_order, are_sound, have_few_segments};
-use crate::{Entry, Segment};
+use crate::{Segment, TableEntry};
 use segments::Run;
 use std::alloc::{AllocError, Global};
 
 /// The tables of a store, in order of their names, byte by byte.
 #[derive(Debug, Drop)]
 pub struct Catalogue {
-    entries: Vec<Entry>,
+    entries: Vec<TableEntry>,
     ghost kept: { is_catalogue (map plain_entry entries.items) ≡ true },
 }
 
@@ -35,7 +35,7 @@ impl Catalogue {
     }
 
     // These entries, if they may stand so.
-    pub(crate) fn of(entries: Vec<Entry>) -> Option<Self>
+    pub(crate) fn of(entries: Vec<TableEntry>) -> Option<Self>
         ensures { option_map catalogue_of result ≡ (if is_catalogue (map plain_entry entries.items) then Some (map plain_entry entries.items) else None) }
     {
         if are_sound(&entries)
@@ -58,7 +58,7 @@ impl Catalogue {
     }
 
     /// The tables in order.
-    pub fn entries(&self) -> &[Entry]
+    pub fn entries(&self) -> &[TableEntry]
         ensures entries { map plain_entry result.now ≡ catalogue_of self.now }
         ensures kept { IsCatalogue (catalogue_of self.now) }
     {
@@ -66,7 +66,7 @@ impl Catalogue {
     }
 
     /// The table of a name, if there is one.
-    pub fn get(&self, name: &str) -> Option<&Entry>
+    pub fn get(&self, name: &str) -> Option<&TableEntry>
         ensures entry { option_map (λ e. plain_entry e.now) result ≡ entry_of (catalogue_of self.now) name.now }
         ensures kept { IsCatalogue (catalogue_of self.now) }
     {
@@ -77,8 +77,8 @@ impl Catalogue {
     }
 
     /// Puts a table into its place, instead of the one of its name, and hands back what stood there. What it asks for:
-    /// `Entry::is_sound` and the laws of [`crate::counts_after_changes`].
-    pub fn put(&mut self, entry: Entry) -> Result<Option<Entry>, AllocError>
+    /// `TableEntry::is_sound` and the laws of [`crate::counts_after_changes`].
+    pub fn put(&mut self, entry: TableEntry) -> Result<Option<TableEntry>, AllocError>
         requires entry { is_entry (plain_entry entry) ≡ true }
         requires tables { length (with_entry (catalogue_of self.old) (plain_entry entry)) ≤ MAX_TABLES }
         requires most { segment_count (with_entry (catalogue_of self.old) (plain_entry entry)) ≤ MAX_SEGMENTS }
@@ -90,7 +90,7 @@ impl Catalogue {
     }
 
     /// Takes the table of a name out, and hands it back. It takes no memory.
-    pub fn remove(&mut self, name: &str) -> Option<Entry>
+    pub fn remove(&mut self, name: &str) -> Option<TableEntry>
         ensures removed { catalogue_of self.new ≡ without (catalogue_of self.old) name.now }
         ensures stood { option_map plain_entry result ≡ entry_of (catalogue_of self.old) name.now }
     {

@@ -8,7 +8,7 @@ ghost use Rattle.catalogue.specs.View.{catalogue_of};
 
 use crate::encoding::message_of;
 use crate::names::spell_name;
-use crate::{Catalogue, Entry, Segment};
+use crate::{Catalogue, Segment, TableEntry};
 use arrow_schema::Schema;
 use byteorder::{ByteOrder, LittleEndian};
 use ipc_message::{Header, ImportError, NextMessage, RawSchema, read_message, read_schema};
@@ -127,14 +127,14 @@ fn schema_in(alloc: Global, bytes: &[u8]) -> Result<Schema, DecodeError>
 }
 
 #[tactic(auto, unfolding(crate::specs::Reading::table_at))]
-fn table_at(alloc: Global, name: String, bytes: &[u8]) -> Result<(Entry, &[u8]), DecodeError>
+fn table_at(alloc: Global, name: String, bytes: &[u8]) -> Result<(TableEntry, &[u8]), DecodeError>
     ensures { Gives (λ x. (plain_entry x.0, x.1.now)) result (table_at (string_bytes name) bytes.now) }
 {
     let (message, rest) = sized_at(bytes)?;
     let schema = schema_in(alloc, message)?;
     let (count, rest) = u32_at(rest)?;
     let (segments, rest) = segments_at(alloc, count, rest)?;
-    let entry = Entry {
+    let entry = TableEntry {
         name,
         schema,
         segments,
@@ -143,7 +143,7 @@ fn table_at(alloc: Global, name: String, bytes: &[u8]) -> Result<(Entry, &[u8]),
 }
 
 #[tactic(auto, unfolding(crate::specs::Reading::entry_at))]
-fn entry_at(alloc: Global, bytes: &[u8]) -> Result<(Entry, &[u8]), DecodeError>
+fn entry_at(alloc: Global, bytes: &[u8]) -> Result<(TableEntry, &[u8]), DecodeError>
     ensures { Gives (λ x. (plain_entry x.0, x.1.now)) result (entry_at bytes.now) }
 {
     let (name, rest) = sized_at(bytes)?;
@@ -154,7 +154,11 @@ fn entry_at(alloc: Global, bytes: &[u8]) -> Result<(Entry, &[u8]), DecodeError>
     table_at(alloc, name, rest)
 }
 
-fn entries_at(alloc: Global, count: u32, bytes: &[u8]) -> Result<(Vec<Entry>, &[u8]), DecodeError>
+fn entries_at(
+    alloc: Global,
+    count: u32,
+    bytes: &[u8],
+) -> Result<(Vec<TableEntry>, &[u8]), DecodeError>
     ensures { Gives (λ x. (map plain_entry x.0.items, x.1.now)) result (many_at entry_at count bytes.now) }
 {
     let mut entries = Vec::new(alloc);

@@ -6,12 +6,15 @@ ghost use Rattle.catalogue.specs.Edits.{entry_of, with_entry, without, renamed, 
 ghost use Rattle.catalogue.specs.declared.entry.Segment.{Segment};
 
 use crate::places::{place_of, seat_of};
-use crate::{Entry, Segment};
+use crate::{Segment, TableEntry};
 use segments::Run;
 use std::alloc::{AllocError, Global};
 
 // Puts an entry into its place, and gives the one that stood there. It fails only where there is no room.
-pub(crate) fn put_entry(entries: &mut Vec<Entry>, entry: Entry) -> Result<Option<Entry>, AllocError>
+pub(crate) fn put_entry(
+    entries: &mut Vec<TableEntry>,
+    entry: TableEntry,
+) -> Result<Option<TableEntry>, AllocError>
     requires { ascends (names_of (map plain_entry entries.old.items)) ≡ true }
     ensures put { OnOk result (map plain_entry entries.new.items ≡ with_entry (map plain_entry entries.old.items) (plain_entry entry)) }
     ensures stood { IfOk result (λ stood. option_map plain_entry stood ≡ entry_of (map plain_entry entries.old.items) (string_bytes entry.name)) }
@@ -28,7 +31,7 @@ pub(crate) fn put_entry(entries: &mut Vec<Entry>, entry: Entry) -> Result<Option
 }
 
 // Takes the entry of a name out.
-pub(crate) fn take_entry(entries: &mut Vec<Entry>, name: &str) -> Option<Entry>
+pub(crate) fn take_entry(entries: &mut Vec<TableEntry>, name: &str) -> Option<TableEntry>
     ensures removed { map plain_entry entries.new.items ≡ without (map plain_entry entries.old.items) name.now }
     ensures stood { option_map plain_entry result ≡ entry_of (map plain_entry entries.old.items) name.now }
     ensures room { IsSome result → vec_len entries.new < vec_capacity entries.new }
@@ -40,13 +43,13 @@ pub(crate) fn take_entry(entries: &mut Vec<Entry>, name: &str) -> Option<Entry>
 }
 
 // Gives the entry of a name another one.
-pub(crate) fn rename_entry(entries: &mut Vec<Entry>, from: &str, to: String)
+pub(crate) fn rename_entry(entries: &mut Vec<TableEntry>, from: &str, to: String)
     requires { ascends (names_of (map plain_entry entries.old.items)) ≡ true }
     ensures { map plain_entry entries.new.items ≡ renamed (map plain_entry entries.old.items) from.now (string_bytes to) }
 {
     match take_entry(entries, from) {
         Some(entry) => {
-            let renamed = Entry {
+            let renamed = TableEntry {
                 name: to,
                 schema: entry.schema,
                 segments: entry.segments,
@@ -59,7 +62,7 @@ pub(crate) fn rename_entry(entries: &mut Vec<Entry>, from: &str, to: String)
 
 // Puts segments behind those of the entry of a name.
 pub(crate) fn append_to(
-    entries: &mut Vec<Entry>,
+    entries: &mut Vec<TableEntry>,
     name: &str,
     more: &[Segment],
 ) -> Result<(), AllocError>
@@ -82,7 +85,10 @@ pub(crate) fn put_runs(runs: &mut Vec<Run>, segments: &[Segment]) -> Result<(), 
     Ok(())
 }
 
-pub(crate) fn copy_entries(alloc: Global, entries: &[Entry]) -> Result<Vec<Entry>, AllocError>
+pub(crate) fn copy_entries(
+    alloc: Global,
+    entries: &[TableEntry],
+) -> Result<Vec<TableEntry>, AllocError>
     ensures { IfOk result (λ copies. map plain_entry copies.items ≡ map plain_entry entries.now) }
 {
     let mut copies = Vec::with_capacity(alloc, entries.len())?;

@@ -8,7 +8,7 @@ ghost use Rattle.catalogue.specs.Entries.{plain_entry, is_entry};
 ghost use Rattle.catalogue.specs.Text.{sized, counted, segment_text, entry_text, list_text};
 ghost use Rattle.catalogue.specs.View.{catalogue_of};
 
-use crate::{Catalogue, Entry, Segment};
+use crate::{Catalogue, Segment, TableEntry};
 use arrow_schema::Schema;
 use ipc_write::{metadata_is_within_its_limit, write_schema};
 use std::alloc::{AllocError, Global};
@@ -67,7 +67,7 @@ pub(crate) fn message_of(alloc: Global, schema: &Schema) -> Result<Vec<u8>, Allo
 }
 
 #[tactic(auto, unfolding(crate::specs::Text::table_text))]
-fn put_entry(alloc: Global, out: &mut Vec<u8>, entry: &Entry) -> Result<(), AllocError>
+fn put_entry(alloc: Global, out: &mut Vec<u8>, entry: &TableEntry) -> Result<(), AllocError>
     requires sound { is_entry (plain_entry entry.now) ≡ true }
     requires segments { length entry.now.segments.items < 2 ^ 32 }
     ensures { OnOk result (out.new.items ≡ out.old.items ++ entry_text (plain_entry entry.now)) }

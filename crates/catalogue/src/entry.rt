@@ -21,7 +21,7 @@ pub struct Segment {
 
 /// A table: its name, its schema, and its rows in segments, in order.
 #[derive(Debug, Drop)]
-pub struct Entry {
+pub struct TableEntry {
     pub name: String,
     pub schema: Schema,
     pub segments: Vec<Segment>,
@@ -61,7 +61,7 @@ fn are_sound(segments: &[Segment]) -> bool
     true
 }
 
-impl Entry {
+impl TableEntry {
     /// Its rows, those of all its segments.
     pub fn rows(&self) -> u64
         requires { row_count (plain_entry self.now) < 2 ^ 64 }
@@ -91,10 +91,10 @@ impl Entry {
     }
 
     /// The same entry in memory of its own.
-    pub fn copy(&self, alloc: Global) -> Result<Entry, AllocError>
+    pub fn copy(&self, alloc: Global) -> Result<TableEntry, AllocError>
         ensures { IfOk result (λ e. plain_entry e ≡ plain_entry self.now) }
     {
-        Ok(Entry {
+        Ok(TableEntry {
             name: self.name.clone()?,
             schema: self.schema.copy(alloc)?,
             segments: Vec::from_slice(alloc, &self.segments)?,

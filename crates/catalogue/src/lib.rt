@@ -6,7 +6,7 @@
 //! ```
 //! let mut catalogue = decode(alloc, &text)?;
 //! catalogue.remove("old");
-//! catalogue.put(Entry { name, schema, segments })?;
+//! catalogue.put(TableEntry { name, schema, segments })?;
 //! let text = encode(alloc, &catalogue)?;
 //! ```
 #![tactic(auto)]
@@ -25,7 +25,7 @@ mod testing;
 pub use catalogue::Catalogue;
 pub use decoding::{DecodeError, decode};
 pub use encoding::encode;
-pub use entry::{Entry, Segment};
+pub use entry::{Segment, TableEntry};
 pub use laws::{
     counts_after_changes, one_text_each, rows_are_few, runs_are_named, sound_parts_make_an_entry,
     texts_have_these_sizes,

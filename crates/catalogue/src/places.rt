@@ -3,11 +3,11 @@ ghost use Rattle.std.specs.Prelude.{◌≡◌, map};
 ghost use Rattle.catalogue.specs.Entries.{plain_entry};
 ghost use Rattle.catalogue.specs.inner.Places.{place_of, seat_of};
 
-use crate::Entry;
+use crate::TableEntry;
 use std::cmp::Ordering;
 
 // Where the entry of a name stands, if there is one.
-pub(crate) fn place_of(entries: &[Entry], name: &str) -> Option<usize>
+pub(crate) fn place_of(entries: &[TableEntry], name: &str) -> Option<usize>
     ensures { result ≡ place_of name.now 0 (map plain_entry entries.now) }
 {
     for (place, entry) in entries.iter().enumerate() {
@@ -19,7 +19,7 @@ pub(crate) fn place_of(entries: &[Entry], name: &str) -> Option<usize>
 }
 
 // Where an entry of this name is to stand: instead of one, or between the others.
-pub(crate) fn seat_of(entries: &[Entry], name: &str) -> Result<usize, usize>
+pub(crate) fn seat_of(entries: &[TableEntry], name: &str) -> Result<usize, usize>
     ensures { result ≡ seat_of name.now 0 (map plain_entry entries.now) }
 {
     for (place, entry) in entries.iter().enumerate() {

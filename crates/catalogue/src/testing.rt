@@ -3,11 +3,11 @@ ghost use Rattle.std.specs.Prelude.{◌≡◌, map, nat_le};
 ghost use Rattle.std.specs.List.{list_all};
 ghost use Rattle.catalogue.specs.Entries.{plain_entry, is_entry, names_of, comes_before, ascends, segment_count};
 
-use crate::Entry;
+use crate::TableEntry;
 use crate::limits::MAX_SEGMENTS;
 use std::cmp::Ordering;
 
-pub(crate) fn are_sound(entries: &[Entry]) -> bool
+pub(crate) fn are_sound(entries: &[TableEntry]) -> bool
     ensures { result ≡ list_all is_entry (map plain_entry entries.now) }
 {
     for entry in entries {
@@ -19,7 +19,7 @@ pub(crate) fn are_sound(entries: &[Entry]) -> bool
 }
 
 // Whether the name comes before that of the first entry.
-fn comes_before(name: &str, entries: &[Entry]) -> bool
+fn comes_before(name: &str, entries: &[TableEntry]) -> bool
     ensures { result ≡ comes_before name.now (names_of (map plain_entry entries.now)) }
 {
     match entries {
@@ -29,7 +29,7 @@ fn comes_before(name: &str, entries: &[Entry]) -> bool
 }
 
 // Whether the name of each comes before that of the next.
-pub(crate) fn are_in_order(entries: &[Entry]) -> bool
+pub(crate) fn are_in_order(entries: &[TableEntry]) -> bool
     ensures { result ≡ ascends (names_of (map plain_entry entries.now)) }
 {
     for (place, entry) in entries.iter().enumerate() {
@@ -40,7 +40,7 @@ pub(crate) fn are_in_order(entries: &[Entry]) -> bool
     true
 }
 
-pub(crate) fn have_few_segments(entries: &[Entry]) -> bool
+pub(crate) fn have_few_segments(entries: &[TableEntry]) -> bool
     ensures { result ≡ nat_le (segment_count (map plain_entry entries.now)) MAX_SEGMENTS }
 {
     let mut left = MAX_SEGMENTS;

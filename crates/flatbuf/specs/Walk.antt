@@ -2,7 +2,7 @@
 use Rattle.std.specs.Prelude.{ℕ, ◌+◌, ◌*◌, List, [], ◌∷◌, ◌++◌, length, Result, Ok, Err, nat_le, nat_lt, ◌==◌, ◌&&◌, ◌%◌, if◌then◌else◌, Option, Some, None}
 use Rattle.flatbuf.specs.declared.FlatError.{FlatError}
 use Rattle.flatbuf.specs.declared.FlatError.TheVariants.{Bounds, VtableSize, Budget}
-use Rattle.flatbuf.specs.declared.limits.TheConstants.{MAX_TABLES, MAX_LEVELS}
+use Rattle.flatbuf.specs.declared.limits.TheConstants.{MAX_BUFFER_TABLES, MAX_LEVELS}
 use Rattle.flatbuf.specs.Lookup.{number, Place, vtable_of, slot, target, scalar_of}
 
 -- a table that is entered, one that would be too deep, bytes that are read, a vtable before the first byte, a vtable's
@@ -18,7 +18,7 @@ pub data Thing : Type 0 where
 -- after n tables, how many tables the things make it, or the first bad thing
 unfoldable pub run : List ℕ → List Thing → ℕ → Result ℕ FlatError
 run bytes [] n = Ok n
-run bytes (table ∷ things) n = if nat_lt n MAX_TABLES then run bytes things (n + 1) else Err Budget
+run bytes (table ∷ things) n = if nat_lt n MAX_BUFFER_TABLES then run bytes things (n + 1) else Err Budget
 run bytes (too_deep ∷ things) n = Err Budget
 run bytes (span at len ∷ things) n = if nat_le (at + len) (length bytes) then run bytes things n else Err Bounds
 run bytes (before_all ∷ things) n = Err Bounds

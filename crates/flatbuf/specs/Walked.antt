@@ -3,7 +3,7 @@ use Rattle.std.specs.Prelude.{◌≡◌, ℕ, ◌+◌, List, Result, Ok, Err, na
 use Rattle.flatbuf.specs.declared.FlatError.{FlatError}
 use Rattle.flatbuf.specs.declared.FlatError.TheVariants as errors
 use Rattle.flatbuf.specs.declared.buf.Budget.{Budget}
-use Rattle.flatbuf.specs.declared.limits.TheConstants.{MAX_TABLES}
+use Rattle.flatbuf.specs.declared.limits.TheConstants.{MAX_BUFFER_TABLES}
 use Rattle.flatbuf.specs.declared.references.References.{References}
 use Rattle.flatbuf.specs.declared.table.Table.{Table}
 use Rattle.flatbuf.specs.Seen.{tables_in, bytes_of, levels_of, slot_of, bytes_behind, places_in, levels_behind}
@@ -15,7 +15,7 @@ Walks bytes things old new result = run bytes things (tables_in old) ≡ reporte
 
 -- one more table is entered
 abbrev pub one_more : ℕ → Result ℕ FlatError
-one_more n = if nat_lt n MAX_TABLES then Ok (n + 1) else Err errors.Budget
+one_more n = if nat_lt n MAX_BUFFER_TABLES then Ok (n + 1) else Err errors.Budget
 
 -- the table that the reference in slot k leads to
 abbrev pub slot_things : Table → ℕ → List Thing

@@ -1,9 +1,9 @@
 // The bytes that are read, and how many of their tables may be entered.
 
 ghost use Rattle.std.specs.Prelude.{◌≡◌, ◌≤◌, length, IfOk};
-ghost use Rattle.flatbuf.specs.declared.limits.TheConstants.{MAX_BUFFER_BYTES, MAX_TABLES};
+ghost use Rattle.flatbuf.specs.declared.limits.TheConstants.{MAX_BUFFER_BYTES, MAX_BUFFER_TABLES};
 
-use crate::limits::{MAX_BUFFER_BYTES, MAX_LEVELS, MAX_TABLES};
+use crate::limits::{MAX_BUFFER_BYTES, MAX_BUFFER_TABLES, MAX_LEVELS};
 use crate::numbers::u32_at;
 use crate::{FlatError, Table};
 
@@ -18,7 +18,7 @@ pub struct Buf<'a> {
 #[derive(Clone, Copy, Debug)]
 pub struct Budget {
     entered: u32,
-    ghost within: { entered ≤ MAX_TABLES },
+    ghost within: { entered ≤ MAX_BUFFER_TABLES },
 }
 
 impl Budget {
@@ -39,7 +39,7 @@ impl Budget {
         ensures walked { reported (tables_in self.new) result ≡ one_more (tables_in self.old) }
         ensures counted { OnOk result (tables_in self.new ≡ tables_in self.old + 1) }
     {
-        if self.entered >= MAX_TABLES {
+        if self.entered >= MAX_BUFFER_TABLES {
             return Err(FlatError::Budget);
         }
         self.entered += 1;

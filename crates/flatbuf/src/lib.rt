@@ -26,7 +26,7 @@ pub enum FlatError {
     Bounds,
     /// A vtable's size is odd or below 4.
     VtableSize,
-    /// More than `MAX_TABLES` tables, or one more than `MAX_LEVELS` deep.
+    /// More than `MAX_BUFFER_TABLES` tables, or one more than `MAX_LEVELS` deep.
     Budget,
 }
 
@@ -41,7 +41,7 @@ mod table;
 mod writer;
 
 pub use buf::{Budget, Buf};
-pub use limits::{MAX_BUFFER_BYTES, MAX_LEVELS, MAX_TABLES};
+pub use limits::{MAX_BUFFER_BYTES, MAX_BUFFER_TABLES, MAX_LEVELS};
 pub use nodes::{Node, Slot};
 pub use references::References;
 pub use table::{Table, Union};

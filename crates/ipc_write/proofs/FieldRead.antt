@@ -1,7 +1,7 @@
 -- A field that was written is the field that is read, and the walk over it finds nothing bad.
 use Rattle.std.specs.List.{flat_map}
 use Rattle.std.proofs.Common.{◌≡◌, ℕ, zero, suc, ◌+◌, ◌<◌, ◌≤◌, Bool, List, [], ◌++◌, map, length, refl, ap, ◌∙◌, arith, add-zero}
-use Rattle.flatbuf.specs.declared.limits.TheConstants.{MAX_TABLES}
+use Rattle.flatbuf.specs.declared.limits.TheConstants.{MAX_BUFFER_TABLES}
 use Rattle.flatbuf.specs.Lookup.{target, slot, table_at, table_behind, text_of, elements, targets, scalar_of, is_set, Place}
 use Rattle.flatbuf.specs.Walk.{spans, vector_at, head_things}
 use Rattle.flatbuf.specs.Held.{Has, HasAll}
@@ -65,7 +65,7 @@ mutual
 mutual
   unfolding field_things field_table_things field_tree child_nodes field_nodes depth depth_below depth_all
 
-  pub field_fine : (supported : ℕ → Bool) (left : ℕ) (bytes : List ℕ) (at id n : ℕ) (c : Column) → HoldsTimes supported → depth c + 2 ≤ left → n + tables_of c ≤ MAX_TABLES → Has bytes at (field_tree id c)
+  pub field_fine : (supported : ℕ → Bool) (left : ℕ) (bytes : List ℕ) (at id n : ℕ) (c : Column) → HoldsTimes supported → depth c + 2 ≤ left → n + tables_of c ≤ MAX_BUFFER_TABLES → Has bytes at (field_tree id c)
       → Fine bytes (field_things supported left bytes at) n (n + tables_of c)
   field_fine supported zero bytes at id n c holds deep room has = absurd (omega arith)
   field_fine supported (suc left) bytes at id n (column name nullable kind dictionary pairs) holds deep room has =
@@ -101,7 +101,7 @@ mutual
       let b2 = fine_append bytes (field_table_things supported left bytes t ++ flat_map (field_things supported left bytes) (elements bytes (slot bytes t 5))) (pairs_things left bytes (slot bytes t 6)) n1 n4 (n4 + length pairs) b1 pairs_here in
       rw all (fine_append bytes (head_things bytes at) (field_table_things supported left bytes t ++ flat_map (field_things supported left bytes) (elements bytes (slot bytes t 5)) ++ pairs_things left bytes (slot bytes t 6)) n n1 (n4 + length pairs) head b2)
 
-  children_fine : (supported : ℕ → Bool) (left : ℕ) (bytes : List ℕ) (first id n : ℕ) (kind : Kind) → HoldsTimes supported → depth_below kind + 2 ≤ left → n + tables_below kind ≤ MAX_TABLES → HasAll bytes first (child_nodes id kind)
+  children_fine : (supported : ℕ → Bool) (left : ℕ) (bytes : List ℕ) (first id n : ℕ) (kind : Kind) → HoldsTimes supported → depth_below kind + 2 ≤ left → n + tables_below kind ≤ MAX_BUFFER_TABLES → HasAll bytes first (child_nodes id kind)
       → Fine bytes (flat_map (field_things supported left bytes) (targets (count_of (child_nodes id kind)) bytes first)) n (n + tables_below kind)
   children_fine supported left bytes first id n nulls holds deep room has = rw (add-zero n) (fine_none bytes n)
   children_fine supported left bytes first id n booleans holds deep room has = rw (add-zero n) (fine_none bytes n)
@@ -118,7 +118,7 @@ mutual
   children_fine supported left bytes first id n (fixed_lists size item) holds deep room has = fine_after bytes (field_things supported left bytes (target bytes first)) [] n (n + tables_of item) (field_fine supported left bytes (target bytes first) id n item holds deep room has.0) (fine_none bytes (n + tables_of item))
   children_fine supported left bytes first id n (structs parts) holds deep room has = fields_fine supported left bytes first id n parts holds deep room has
 
-  pub fields_fine : (supported : ℕ → Bool) (left : ℕ) (bytes : List ℕ) (first id n : ℕ) (cs : Columns) → HoldsTimes supported → depth_all cs + 2 ≤ left → n + tables_of_all cs ≤ MAX_TABLES → HasAll bytes first (field_nodes id cs)
+  pub fields_fine : (supported : ℕ → Bool) (left : ℕ) (bytes : List ℕ) (first id n : ℕ) (cs : Columns) → HoldsTimes supported → depth_all cs + 2 ≤ left → n + tables_of_all cs ≤ MAX_BUFFER_TABLES → HasAll bytes first (field_nodes id cs)
       → Fine bytes (flat_map (field_things supported left bytes) (targets (count_of (field_nodes id cs)) bytes first)) n (n + tables_of_all cs)
   fields_fine supported left bytes first id n no_column holds deep room has = rw (add-zero n) (fine_none bytes n)
   fields_fine supported left bytes first id n (and_column c cs) holds deep room has =

@@ -1,7 +1,7 @@
 -- A walk over what was written finds nothing bad.
 use Rattle.std.proofs.Common.{◌≡◌, ℕ, ◌+◌, ◌*◌, ◌%◌, ◌<◌, ◌≤◌, false, List, [], ◌∷◌, ◌++◌, length, Option, Some, None, Ok, refl, ◌∙◌, arith, eqb}
 use Rattle.std.proofs.lemmas.Bool.{le-leb, lt-ltb}
-use Rattle.flatbuf.specs.declared.limits.TheConstants.{MAX_TABLES}
+use Rattle.flatbuf.specs.declared.limits.TheConstants.{MAX_BUFFER_TABLES}
 use Rattle.flatbuf.specs.Lookup.{number, target, text_of, elements, targets}
 use Rattle.flatbuf.specs.Walk.{Thing, span, run, spans, vector_at, head_things, table_things, reference_things}
 use Rattle.flatbuf.specs.Held.{Has, HasHead}
@@ -67,7 +67,7 @@ fine_structs bytes s p n ps e reference has =
 even : (k : ℕ) → (4 + 2 * k) % 2 ≡ 0
 even k = omega arith
 
-pub fine_head : (bytes : List ℕ) (at slots n : ℕ) → HasHead bytes at slots → n < MAX_TABLES → Fine bytes (head_things bytes at) n (n + 1)
+pub fine_head : (bytes : List ℕ) (at slots n : ℕ) → HasHead bytes at slots → n < MAX_BUFFER_TABLES → Fine bytes (head_things bytes at) n (n + 1)
 unfolding run head_things
 fine_head bytes at slots n has room =
     let inside : has.vtable + (4 + 2 * slots) ≤ length bytes = has.vtable_in in
@@ -84,12 +84,12 @@ fine_head bytes at slots n has room =
       le-leb (has.vtable + (4 + 2 * slots)) (length bytes) inside,
     ) refl
 
-pub fine_table : (bytes : List ℕ) (left at slots n : ℕ) → HasHead bytes at slots → 0 < left → n < MAX_TABLES → Fine bytes (table_things left bytes at) n (n + 1)
+pub fine_table : (bytes : List ℕ) (left at slots n : ℕ) → HasHead bytes at slots → 0 < left → n < MAX_BUFFER_TABLES → Fine bytes (table_things left bytes at) n (n + 1)
 unfolding table_things
 fine_table bytes left at slots n has deep room = let no : eqb left 0 ≡ false = grind arith in rw no (fine_head bytes at slots n has room)
 
 -- a reference, and the table that it leads to
-pub fine_reference : (bytes : List ℕ) (left : ℕ) (s : Option ℕ) (p slots n : ℕ) → s ≡ Some p → p + 4 ≤ length bytes → HasHead bytes (target bytes p) slots → 0 < left → n < MAX_TABLES
+pub fine_reference : (bytes : List ℕ) (left : ℕ) (s : Option ℕ) (p slots n : ℕ) → s ≡ Some p → p + 4 ≤ length bytes → HasHead bytes (target bytes p) slots → 0 < left → n < MAX_BUFFER_TABLES
     → Fine bytes (reference_things left bytes s) n (n + 1)
 fine_reference bytes left s p slots n e reference has deep room =
     rw e (fine_more bytes (span p 4 ∷ []) (table_things left bytes (target bytes p)) n (n + 1) (fine_span bytes p 4 n reference) (fine_table bytes left (target bytes p) slots n has deep room))

@@ -4,7 +4,7 @@ use Rattle.std.proofs.Common.{◌≡◌, ℕ, ◌+◌, ◌/◌, ◌^◌, ◌<◌
 use Rattle.std.proofs.lemmas.List.{length-map}
 use Rattle.byteorder.specs.Endian.{little_number, little_bytes}
 use Rattle.byteorder.specs.Numbers.{little_number-reads_back}
-use Rattle.flatbuf.specs.declared.limits.TheConstants.{MAX_TABLES}
+use Rattle.flatbuf.specs.declared.limits.TheConstants.{MAX_BUFFER_TABLES}
 use Rattle.flatbuf.specs.Lookup.{target, slot, table_at, table_behind, elements, targets, structs_of, scalar_of, is_set, Place}
 use Rattle.flatbuf.specs.Walk.{spans, vector_at}
 use Rattle.flatbuf.specs.Held.{Has, HasHead, FitsStructs}
@@ -47,7 +47,7 @@ schema_read supported left bytes at s holds deep has =
     λ i. record { endianness = endian i; fields = each i; pairs = pairs i }
 
 pub schema_fine : (supported : ℕ → Bool) (left : ℕ) (bytes : List ℕ) (at n : ℕ) (s : PlainSchema) → HoldsTimes supported → depth_all (columns_of s.columns) + 2 ≤ left
-    → n + tables_of_all (columns_of s.columns) + length s.pairs ≤ MAX_TABLES → Has bytes at (schema_tree s)
+    → n + tables_of_all (columns_of s.columns) + length s.pairs ≤ MAX_BUFFER_TABLES → Has bytes at (schema_tree s)
     → Fine bytes (schema_things supported left bytes (Some (table_at bytes at))) n (n + tables_of_all (columns_of s.columns) + length s.pairs)
 unfolding schema_things
 schema_fine supported left bytes at n s holds deep room has =
@@ -137,7 +137,7 @@ dictionary_read bytes at d plain fits_nodes fits_buffers has =
     let delta : is_set (scalar_of 1 0 bytes (slot bytes t 2)) ≡ d.is_delta = rw (h.1.1.0.1, h.1.1.0.2) (is_set-bit d.is_delta) in
     λ i. record { id = id i; batch = batch i; is_delta = delta i }
 
-pub dictionary_fine : (bytes : List ℕ) (left at n : ℕ) (d : RawDictionaryBatch) → 0 < left → n < MAX_TABLES → Has bytes at (dictionary_tree d) → Fine bytes (dictionary_things left bytes (Some (table_at bytes at))) n (n + 1)
+pub dictionary_fine : (bytes : List ℕ) (left at n : ℕ) (d : RawDictionaryBatch) → 0 < left → n < MAX_BUFFER_TABLES → Has bytes at (dictionary_tree d) → Fine bytes (dictionary_things left bytes (Some (table_at bytes at))) n (n + 1)
 unfolding dictionary_things
 dictionary_fine bytes left at n d deep room has =
     let t : Place = table_at bytes at in
@@ -156,7 +156,7 @@ dictionary_fine bytes left at n d deep room has =
 needed_fine : (metadata : List ℕ) (s : Option ℕ) (p slots : ℕ) → s ≡ Some p → p + 4 ≤ length metadata → HasHead metadata (target metadata p) slots → Fine metadata (needed_things 39 metadata s) 1 2
 needed_fine metadata s p slots e reference has = rw e (fine_reference metadata 39 (Some p) p slots 1 refl reference has (omega arith) (omega arith))
 
-pub schema_header_read : (supported : ℕ → Bool) (metadata : List ℕ) (body_len : ℕ) (s : PlainSchema) → HoldsTimes supported → depth_all (columns_of s.columns) ≤ 36 → 2 + tables_of_all (columns_of s.columns) + length s.pairs ≤ MAX_TABLES
+pub schema_header_read : (supported : ℕ → Bool) (metadata : List ℕ) (body_len : ℕ) (s : PlainSchema) → HoldsTimes supported → depth_all (columns_of s.columns) ≤ 36 → 2 + tables_of_all (columns_of s.columns) + length s.pairs ≤ MAX_BUFFER_TABLES
     → Has metadata (target metadata 0) (message_tree 1 (schema_tree s) body_len) → header supported metadata ≡ Ok (schema_header (raw_schema s))
 unfolding header header_of header_things
 schema_header_read supported metadata body_len s holds deep room has =

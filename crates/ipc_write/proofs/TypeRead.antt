@@ -2,7 +2,7 @@
 use Rattle.std.specs.List.{flat_map}
 use Rattle.std.specs.Prelude.{option_map}
 use Rattle.std.proofs.Common.{◌≡◌, ℕ, ◌+◌, ◌-◌, ◌<◌, ◌≤◌, Bool, true, false, List, [], ◌∷◌, ◌++◌, map, length, Option, Some, None, refl, ap, arith, add-zero}
-use Rattle.flatbuf.specs.declared.limits.TheConstants.{MAX_TABLES}
+use Rattle.flatbuf.specs.declared.limits.TheConstants.{MAX_BUFFER_TABLES}
 use Rattle.flatbuf.specs.Lookup.{target, slot, table_at, table_behind, elements, targets, is_set, Place}
 use Rattle.flatbuf.specs.Walk.{spans, vector_at, reference_things, table_things}
 use Rattle.flatbuf.specs.Held.{Has, HasAll, HasSlots}
@@ -24,7 +24,7 @@ is_set-bit false = refl
 pub int_read : (bytes : List ℕ) (s : Option ℕ) (p bits : ℕ) (signed : Bool) → s ≡ Some p → Has bytes (target bytes p) (int_tree bits signed) → int_of bytes (table_behind bytes s) ≡ (bits, signed)
 int_read bytes s p bits signed e has = rw (e, has.1.0.1, has.1.0.2, has.1.1.0.1, has.1.1.0.2, is_set-bit signed) refl
 
-pub int_fine : (bytes : List ℕ) (left : ℕ) (s : Option ℕ) (p n bits : ℕ) (signed : Bool) → s ≡ Some p → p + 4 ≤ length bytes → Has bytes (target bytes p) (int_tree bits signed) → 0 < left → n < MAX_TABLES
+pub int_fine : (bytes : List ℕ) (left : ℕ) (s : Option ℕ) (p n bits : ℕ) (signed : Bool) → s ≡ Some p → p + 4 ≤ length bytes → Has bytes (target bytes p) (int_tree bits signed) → 0 < left → n < MAX_BUFFER_TABLES
     → Fine bytes (int_things left bytes s) n (n + 1)
 unfolding int_things
 int_fine bytes left s p n bits signed e reference has deep room =
@@ -56,7 +56,7 @@ parameters_read supported bytes s p (fixed_lists size item) h8 h10 e has = rw (e
 parameters_read supported bytes s p (structs parts) h8 h10 e has = refl
 
 -- the one slot of a table of fixed size, or of a date
-pub size_fine : (bytes : List ℕ) (left : ℕ) (s : Option ℕ) (p n size : ℕ) → s ≡ Some p → p + 4 ≤ length bytes → Has bytes (target bytes p) (table (scalar 4 size no_slot)) → 0 < left → n < MAX_TABLES
+pub size_fine : (bytes : List ℕ) (left : ℕ) (s : Option ℕ) (p n size : ℕ) → s ≡ Some p → p + 4 ≤ length bytes → Has bytes (target bytes p) (table (scalar 4 size no_slot)) → 0 < left → n < MAX_BUFFER_TABLES
     → Fine bytes (size_things left bytes s) n (n + 1)
 unfolding size_things
 size_fine bytes left s p n size e reference has deep room =
@@ -64,7 +64,7 @@ size_fine bytes left s p n size e reference has deep room =
     (fine_reference bytes left (Some p) p 1 n refl reference has.0 deep room)
     (fine_spans bytes 4 (slot bytes (table_at bytes (target bytes p)) 0) has.1.0.0 (n + 1) has.1.0.1 has.1.0.3))
 
-pub date_fine : (bytes : List ℕ) (left : ℕ) (s : Option ℕ) (p n unit : ℕ) → s ≡ Some p → p + 4 ≤ length bytes → Has bytes (target bytes p) (table (scalar 2 unit no_slot)) → 0 < left → n < MAX_TABLES
+pub date_fine : (bytes : List ℕ) (left : ℕ) (s : Option ℕ) (p n unit : ℕ) → s ≡ Some p → p + 4 ≤ length bytes → Has bytes (target bytes p) (table (scalar 2 unit no_slot)) → 0 < left → n < MAX_BUFFER_TABLES
     → Fine bytes (date_things left bytes s) n (n + 1)
 unfolding date_things
 date_fine bytes left s p n unit e reference has deep room =
@@ -80,7 +80,7 @@ timezone_fine bytes t n (b ∷ bs) has = fine_text bytes (slot bytes t 1) has.0.
 timezone_slots : (timezone : List ℕ) → (k : ℕ) × (slots_of (timezone_slot timezone) ≡ k)
 timezone_slots timezone = (slots_of (timezone_slot timezone), refl)
 
-pub timestamp_fine : (bytes : List ℕ) (left : ℕ) (s : Option ℕ) (p n unit : ℕ) (timezone : List ℕ) → s ≡ Some p → p + 4 ≤ length bytes → Has bytes (target bytes p) (table (scalar 2 unit (timezone_slot timezone))) → 0 < left → n < MAX_TABLES
+pub timestamp_fine : (bytes : List ℕ) (left : ℕ) (s : Option ℕ) (p n unit : ℕ) (timezone : List ℕ) → s ≡ Some p → p + 4 ≤ length bytes → Has bytes (target bytes p) (table (scalar 2 unit (timezone_slot timezone))) → 0 < left → n < MAX_BUFFER_TABLES
     → Fine bytes (timestamp_things left bytes s) n (n + 1)
 unfolding timestamp_things
 timestamp_fine bytes left s p n unit timezone e reference has deep room =
@@ -93,7 +93,7 @@ timestamp_fine bytes left s p n unit timezone e reference has deep room =
 
 -- the table of a type
 pub type_fine : (supported : ℕ → Bool) (bytes : List ℕ) (left : ℕ) (s : Option ℕ) (p n : ℕ) (kind : Kind) → supported 8 ≡ true → supported 10 ≡ true → s ≡ Some p → p + 4 ≤ length bytes
-    → Has bytes (target bytes p) (type_tree kind) → 0 < left → n + type_tables kind ≤ MAX_TABLES → Fine bytes (type_things supported left bytes (code_of kind) s) n (n + type_tables kind)
+    → Has bytes (target bytes p) (type_tree kind) → 0 < left → n + type_tables kind ≤ MAX_BUFFER_TABLES → Fine bytes (type_things supported left bytes (code_of kind) s) n (n + type_tables kind)
 unfolding type_things
 type_fine supported bytes left s p n nulls h8 h10 e reference has deep room = rw (add-zero n) (fine_none bytes n)
 type_fine supported bytes left s p n booleans h8 h10 e reference has deep room = rw (add-zero n) (fine_none bytes n)
@@ -120,7 +120,7 @@ encoding_read bytes t id (Some index) rest has =
     let i = d.1.1.0 in
     rw (has.0.1, d.1.0.1, d.1.0.2, i.1, i.3.1.0.1, i.3.1.0.2, i.3.1.1.0.1, i.3.1.1.0.2, is_set-bit index.signed, d.1.1.1.1.0.1, d.1.1.1.1.0.2) refl
 
-pub encoding_fine : (bytes : List ℕ) (left : ℕ) (t : Place) (n id : ℕ) (dictionary : Option Index) (rest : Slots) → HasSlots bytes t 4 (dictionary_slot id dictionary rest) → 1 < left → n + encoding_tables dictionary ≤ MAX_TABLES
+pub encoding_fine : (bytes : List ℕ) (left : ℕ) (t : Place) (n id : ℕ) (dictionary : Option Index) (rest : Slots) → HasSlots bytes t 4 (dictionary_slot id dictionary rest) → 1 < left → n + encoding_tables dictionary ≤ MAX_BUFFER_TABLES
     → Fine bytes (encoding_things left bytes (slot bytes t 4)) n (n + encoding_tables dictionary)
 unfolding encoding_things int_things
 encoding_fine bytes left t n id None rest has deep room = rw (has.0, add-zero n) (fine_none bytes n)
@@ -156,7 +156,7 @@ pair_read bytes at p has =
     let value = text_read bytes (slot bytes t 1) has.1.1.0.0 p.1 has.1.1.0.1 has.1.1.0.3 in
     λ i. (key i, value i)
 
-pair_fine : (bytes : List ℕ) (left at n : ℕ) (p : Pair) → Has bytes at (pair_tree p) → 0 < left → n < MAX_TABLES → Fine bytes (pair_things left bytes at) n (n + 1)
+pair_fine : (bytes : List ℕ) (left at n : ℕ) (p : Pair) → Has bytes at (pair_tree p) → 0 < left → n < MAX_BUFFER_TABLES → Fine bytes (pair_things left bytes at) n (n + 1)
 unfolding pair_things
 pair_fine bytes left at n p has deep room =
     let t : Place = table_at bytes at in
@@ -170,7 +170,7 @@ pairs_at_read : (bytes : List ℕ) (at : ℕ) (ps : List Pair) → HasAll bytes 
 pairs_at_read bytes at [] has = refl
 pairs_at_read bytes at (p ∷ ps) has = rw (pair_read bytes (target bytes at) p has.0, pairs_at_read bytes (at + 4) ps has.1) refl
 
-pairs_at_fine : (bytes : List ℕ) (left at n : ℕ) (ps : List Pair) → HasAll bytes at (pair_nodes ps) → 0 < left → n + length ps ≤ MAX_TABLES
+pairs_at_fine : (bytes : List ℕ) (left at n : ℕ) (ps : List Pair) → HasAll bytes at (pair_nodes ps) → 0 < left → n + length ps ≤ MAX_BUFFER_TABLES
     → Fine bytes (flat_map (pair_things left bytes) (targets (count_of (pair_nodes ps)) bytes at)) n (n + length ps)
 pairs_at_fine bytes left at n [] has deep room = rw (add-zero n) (fine_none bytes n)
 pairs_at_fine bytes left at n (p ∷ ps) has deep room =
@@ -184,7 +184,7 @@ unfolding pairs_in elements
 pairs_read bytes t k [] has = rw (has k (omega arith)) refl
 pairs_read bytes t k (p ∷ ps) has = rw (has.0.1, has.0.3.0) (pairs_at_read bytes (target bytes has.0.0 + 4) (p ∷ ps) has.0.3.2)
 
-pub pairs_fine : (bytes : List ℕ) (left : ℕ) (t : Place) (k n : ℕ) (ps : List Pair) → HasSlots bytes t k (pairs_slot ps) → 0 < left → n + length ps ≤ MAX_TABLES
+pub pairs_fine : (bytes : List ℕ) (left : ℕ) (t : Place) (k n : ℕ) (ps : List Pair) → HasSlots bytes t k (pairs_slot ps) → 0 < left → n + length ps ≤ MAX_BUFFER_TABLES
     → Fine bytes (pairs_things left bytes (slot bytes t k)) n (n + length ps)
 unfolding pairs_things elements
 pairs_fine bytes left t k n [] has deep room = rw (has k (omega arith), add-zero n) (fine_none bytes n)

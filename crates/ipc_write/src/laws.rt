@@ -4,7 +4,7 @@ ghost use Rattle.std.specs.List.{AllByRecursion};
 ghost use Rattle.arrow_schema.specs.Column.{Column, columns_of, PlainSchema};
 ghost use Rattle.arrow_schema.specs.Limits.{IsWithinLimits};
 ghost use Rattle.arrow_schema.specs.Preorder.{depth, depth_all};
-ghost use Rattle.flatbuf.specs.declared.limits.TheConstants.{MAX_TABLES, MAX_BUFFER_BYTES};
+ghost use Rattle.flatbuf.specs.declared.limits.TheConstants.{MAX_BUFFER_TABLES, MAX_BUFFER_BYTES};
 ghost use Rattle.flatbuf.specs.Held.{Has, FitsStructs};
 ghost use Rattle.flatbuf.specs.Lookup.{target};
 ghost use Rattle.flatbuf.specs.Tree.{Tree};
@@ -27,7 +27,7 @@ pub fn field_is_read_again()
         → Has bytes at (field_tree id c)
         → field_at supported left bytes at ≡ raw_of id c }
     ensures walked { (supported : ℕ → Bool) (left : ℕ) (bytes : List ℕ) (at id n : ℕ) (c : Column) → HoldsTimes supported → depth c + 2 ≤ left
-        → n + tables_of c ≤ MAX_TABLES → Has bytes at (field_tree id c)
+        → n + tables_of c ≤ MAX_BUFFER_TABLES → Has bytes at (field_tree id c)
         → run bytes (field_things supported left bytes at) n ≡ Ok (n + tables_of c) }
 {}
 
@@ -44,7 +44,7 @@ pub fn message_is_read_again()
 /// The header of a schema message that was written is the schema that was written.
 pub fn schema_is_read_again()
     ensures { (supported : ℕ → Bool) (metadata : List ℕ) (body_len : ℕ) (s : PlainSchema) → HoldsTimes supported → depth_all (columns_of s.columns) ≤ 36
-        → 2 + tables_of_all (columns_of s.columns) + length s.pairs ≤ MAX_TABLES
+        → 2 + tables_of_all (columns_of s.columns) + length s.pairs ≤ MAX_BUFFER_TABLES
         → Has metadata (target metadata 0) (message_tree SCHEMA (schema_tree s) body_len) → header supported metadata ≡ Ok (schema_header (raw_schema s)) }
 {}
 

@@ -7,7 +7,7 @@ use Rattle.std.proofs.lemmas.Bool.{and_parts, and_from}
 use Rattle.std.proofs.lemmas.List.{map-append}
 use Rattle.std.proofs.lemmas.List.Folds.{list_all-append}
 use Rattle.array_runs.specs.Runs.{run_cells, runs_cells, is_run_sound, are_runs_sound, HaveRuns, are_columns_sound}
-use Rattle.array_runs.specs.declared.run.Run.{Run}
+use Rattle.array_runs.specs.declared.run.SlotRun.{SlotRun}
 use Rattle.arrow_schema.specs.Column.{Column, Columns, and_column, columns_of}
 use Rattle.cells.specs.Cell.{Cell}
 use Rattle.columns.specs.Array.{Arrays, slots_in, first_array, other_arrays}
@@ -61,7 +61,7 @@ rows_others j c cs (r ∷ rows) =
 pub no_column_runs : (j : ℕ) → IsColumn j [] []
 no_column_runs j = λ c sound. (refl, refl)
 
-pub column_more : (j : ℕ) (rows : List RowRun) (i : ℕ) (row : RowRun) (old new : List Run) (slot : Run) → i < length rows → row ≡ get_or rows i row → new ≡ old ++ slot ∷ []
+pub column_more : (j : ℕ) (rows : List RowRun) (i : ℕ) (row : RowRun) (old new : List SlotRun) (slot : SlotRun) → i < length rows → row ≡ get_or rows i row → new ≡ old ++ slot ∷ []
     → ((c : Column) → has_sound_array j c row ≡ true → run_cells c slot ≡ cells_behind j c row)
     → ((c : Column) → has_sound_array j c row ≡ true → is_run_sound c slot ≡ true)
     → IsColumn j (take i rows) old → IsColumn j (take (i + 1) rows) new
@@ -76,7 +76,7 @@ column_more j rows i row old new slot lt is pushed cells sound was = λ c all.
     ap (are_runs_sound c) pushed ∙ list_all-append (is_run_sound c) old (slot ∷ []) ∙ and_from _ _ before.1 (and_from _ _ (sound c both.1) refl) in
     (joined, good)
 
-pub are_more : (j : ℕ) (rows : List RowRun) (rss : List (List Run)) (rs : List Run) → AreColumns j rows rss → IsColumn (j + length rss) rows rs → AreColumns j rows (rss ++ rs ∷ [])
+pub are_more : (j : ℕ) (rows : List RowRun) (rss : List (List SlotRun)) (rs : List SlotRun) → AreColumns j rows rss → IsColumn (j + length rss) rows rs → AreColumns j rows (rss ++ rs ∷ [])
 are_more j rows [] rs are is = let e : j + 0 ≡ j = omega arith in (subst (λ (k : ℕ). IsColumn k rows rs) e is, tt)
 are_more j rows (r ∷ rss) rs are is =
     let e : j + suc (length rss) ≡ j + 1 + length rss = omega arith in
@@ -97,7 +97,7 @@ sound_own j c cs (r ∷ rows) h =
     let next : is_sound_behind (j + 1) cs r ≡ true = sym (ap (are_sound cs (r.from + r.len)) (arrays_next j r)) ∙ parts.1 in
     (and_from _ _ (and_from _ _ long.0 parts.0) more.0, and_from _ _ next more.1)
 
-pub all_have : (cs : List Column) (j : ℕ) (rows : List RowRun) (rss : List (List Run)) → AreColumns j rows rss → length rss ≡ length cs → list_all (is_sound_behind j (columns_of cs)) rows ≡ true
+pub all_have : (cs : List Column) (j : ℕ) (rows : List RowRun) (rss : List (List SlotRun)) → AreColumns j rows rss → length rss ≡ length cs → list_all (is_sound_behind j (columns_of cs)) rows ≡ true
     → HaveRuns (columns_of cs) rss (flat_map (rows_behind j (columns_of cs)) rows) × (are_columns_sound (columns_of cs) rss ≡ true)
 unfolding HaveRuns are_columns_sound
 all_have [] j rows [] are len sound = (tt, refl)
@@ -113,5 +113,5 @@ all_have (c ∷ cs) j rows (rs ∷ rss) are len sound =
     ((first, behind), and_from _ _ own.1 rest.1)
 
 -- the lists of vectors
-abbrev pub run_lists : List (Vec Run Global) → List (List Run)
+abbrev pub run_lists : List (Vec SlotRun Global) → List (List SlotRun)
 run_lists vs = map (λ v. v.items) vs

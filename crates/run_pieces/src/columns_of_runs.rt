@@ -7,18 +7,18 @@ ghost use Rattle.run_pieces.specs.Rows.{runs_rows, are_runs_sound};
 ghost use Rattle.run_pieces.specs.inner.Columns.{cells_behind, has_sound_array, IsColumn};
 
 use crate::row_run::RowRun;
-use array_runs::Run;
+use array_runs::SlotRun;
 use arrow_schema::Field;
 use columns::ArrayView;
 use std::alloc::{AllocError, Global};
 
 // The slots that the column at a place has in a run of rows: a batch without an array for it has no row.
-fn slots_at<'a>(run: RowRun<'a>, place: usize) -> Run<'a>
+fn slots_at<'a>(run: RowRun<'a>, place: usize) -> SlotRun<'a>
     ensures cells { (c : Column) → has_sound_array place c run.entry ≡ true → run_cells c result ≡ cells_behind place c run.entry }
     ensures sound { (c : Column) → has_sound_array place c run.entry ≡ true → is_run_sound c result ≡ true }
 {
     match run.arrays.get(place) {
-        Some(array) => Run::Slots {
+        Some(array) => SlotRun::Slots {
             array: ArrayView {
                 array,
                 bytes: run.bytes,
@@ -27,7 +27,7 @@ fn slots_at<'a>(run: RowRun<'a>, place: usize) -> Run<'a>
             from: run.from,
             len: run.len,
         },
-        None => Run::Nulls(0),
+        None => SlotRun::Nulls(0),
     }
 }
 
@@ -35,7 +35,7 @@ fn column_at<'a>(
     alloc: Global,
     runs: &[RowRun<'a>],
     place: usize,
-) -> Result<Vec<Run<'a>>, AllocError>
+) -> Result<Vec<SlotRun<'a>>, AllocError>
     ensures { IfOk result (λ v. IsColumn place runs.now v.items) }
 {
     let mut slots = Vec::with_capacity(alloc, runs.len())?;
@@ -50,7 +50,7 @@ pub fn column_runs<'a>(
     alloc: Global,
     fields: &[Field],
     runs: &[RowRun<'a>],
-) -> Result<Vec<Vec<Run<'a>>>, AllocError>
+) -> Result<Vec<Vec<SlotRun<'a>>>, AllocError>
     requires { are_runs_sound (fields_of fields.now) runs.now ≡ true }
     ensures have { IfOk result (λ columns. HaveRuns (fields_of fields.now) (map (λ v. v.items) columns.items) (runs_rows (fields_of fields.now) runs.now)) }
     ensures sound { IfOk result (λ columns. are_columns_sound (fields_of fields.now) (map (λ v. v.items) columns.items) ≡ true) }

@@ -22,7 +22,7 @@ use crate::change::{Change, Edit};
 use crate::new_rows::{NewRows, pass_new};
 use crate::reading::{gather_entry, is_failure};
 use canonical_write::{encode_pieces, pieces_are_tables};
-use catalogue::Entry;
+use catalogue::TableEntry;
 use cells::MAX_TABLE_WEIGHT;
 use sector_dev::SectorDevice;
 use std::alloc::Global;
@@ -43,7 +43,7 @@ fn test_weight(weight: u64) -> Result<(), Refusal>
 // New rows behind those of an entry's table, where both weigh so much together: the pieces of the new rows, under the entry's own schema.
 fn decide_behind(
     alloc: Global,
-    entry: &Entry,
+    entry: &TableEntry,
     name: String,
     new: &Table,
     weight: u64,
@@ -70,7 +70,7 @@ fn decide_behind(
 fn append_to_entry<D: SectorDevice>(
     alloc: Global,
     device: &mut D,
-    entry: &Entry,
+    entry: &TableEntry,
     name: String,
     new: NewRows,
 ) -> Result<Change, Refusal>

@@ -14,7 +14,7 @@ ghost use Rattle.store.specs.laws.Edited.{segments_at};
 
 use crate::change::Edit;
 use arrow_schema::Schema;
-use catalogue::{Catalogue, Entry, Segment};
+use catalogue::{Catalogue, Segment, TableEntry};
 use sector_dev::SECTOR_BYTES;
 use segments::{Extent, Piece, Run};
 use std::alloc::{AllocError, Global};
@@ -24,10 +24,10 @@ fn new_entry(
     name: &String,
     schema: &Schema,
     segments: &[Segment],
-) -> Result<Entry, AllocError>
+) -> Result<TableEntry, AllocError>
     ensures { IfOk result (λ e. plain_entry e ≡ new_entry (string_bytes name.now) (schema_of schema.now) segments.now) }
 {
-    Ok(Entry {
+    Ok(TableEntry {
         name: name.clone()?,
         schema: schema.copy(alloc)?,
         segments: Vec::from_slice(alloc, segments)?,

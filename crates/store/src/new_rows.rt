@@ -15,7 +15,7 @@ ghost use Rattle.store.specs.inner.Appending.{added_to, ArePassed};
 
 use crate::deciding::{test_bytes, test_shape};
 use arrow_schema::{Schema, one_shape_is_decided};
-use catalogue::Entry;
+use catalogue::TableEntry;
 use cells::{Row, add_weights, row_weight};
 use ipc_stream::{Weighed, decode_weighed};
 use std::alloc::Global;
@@ -44,7 +44,7 @@ fn test_rows(alloc: Global, own: &Schema, new: &Table) -> Result<(), Refusal>
 }
 
 // The rows that a stream means, where they can go behind those of an entry's table but for their weight, and what they weigh there.
-fn pass_stream(alloc: Global, entry: &Entry, stream: Vec<u8>) -> Result<Weighed, Refusal>
+fn pass_stream(alloc: Global, entry: &TableEntry, stream: Vec<u8>) -> Result<Weighed, Refusal>
     requires { IsWithinLimits (plain_entry entry.now).schema }
     ensures tested { IfOk result (λ new. streamed_rows stream.items (plain_entry entry.now)
         ≡ Ok (record { entry = plain_entry entry.now; rows = (table_of new.table).rows })) }
@@ -73,7 +73,7 @@ fn weigh_rows(schema: &Schema, rows: &[Row]) -> u64
 }
 
 // The same of rows that are given, where they are not too heavy for any table.
-fn pass_rows(alloc: Global, entry: &Entry, rows: Vec<Row>) -> Result<Option<Weighed>, Refusal>
+fn pass_rows(alloc: Global, entry: &TableEntry, rows: Vec<Row>) -> Result<Option<Weighed>, Refusal>
     requires { IsWithinLimits (plain_entry entry.now).schema }
     ensures passed { IfOk result (ArePassed (plain_entry entry.now) (given_rows (map row_of rows.items) (plain_entry entry.now))) }
     ensures refused { IfErr result (λ e. (e ≡ Refusal.OutOfMemory) ⊎ (given_rows (map row_of rows.items) (plain_entry entry.now) ≡ Err e)) }
@@ -94,7 +94,7 @@ fn pass_rows(alloc: Global, entry: &Entry, rows: Vec<Row>) -> Result<Option<Weig
 /// Those of the tests, in their order; `OutOfMemory`.
 pub(crate) fn pass_new(
     alloc: Global,
-    entry: &Entry,
+    entry: &TableEntry,
     new: NewRows,
 ) -> Result<Option<Weighed>, Refusal>
     requires { IsWithinLimits (plain_entry entry.now).schema }

@@ -20,7 +20,7 @@ ghost use Rattle.store.specs.inner.Reading.{UnreadsSegment, FailsReading, runs_i
 use crate::Store;
 use crate::gathered::Gathered;
 use arrow_schema::Schema;
-use catalogue::{Entry, Segment};
+use catalogue::{Segment, TableEntry};
 use cells::MAX_TABLE_WEIGHT;
 use ipc_message::ImportError;
 use ipc_stream::{Weighed, decode_weighed};
@@ -190,7 +190,7 @@ fn finish_table(alloc: Global, gathered: Gathered) -> Result<Table, Refusal>
 pub(crate) fn gather_entry<D: SectorDevice>(
     alloc: Global,
     device: &mut D,
-    entry: &Entry,
+    entry: &TableEntry,
 ) -> Result<Gathered, Refusal>
     requires size { is_size (D.size device.old) ≡ true }
     requires placed { all_on_device (D.size device.old) (runs_in (plain_entry entry.now).segments) ≡ true }
@@ -216,7 +216,7 @@ pub(crate) fn gather_entry<D: SectorDevice>(
 pub(crate) fn read_entry<D: SectorDevice>(
     alloc: Global,
     device: &mut D,
-    entry: &Entry,
+    entry: &TableEntry,
 ) -> Result<Table, Refusal>
     requires size { is_size (D.size device.old) ≡ true }
     requires placed { all_on_device (D.size device.old) (runs_in (plain_entry entry.now).segments) ≡ true }

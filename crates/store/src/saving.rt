@@ -28,7 +28,7 @@ use crate::gathered::Gathered;
 use crate::reading::{is_failure, read_entry};
 use arrow_schema::Schema;
 use canonical_write::pieces_are_tables;
-use catalogue::{Catalogue, Entry, counts_after_changes};
+use catalogue::{Catalogue, TableEntry, counts_after_changes};
 use query::{Query, select, selection_is_a_table};
 use sector_dev::SectorDevice;
 use std::alloc::{AllocError, Global};
@@ -105,7 +105,7 @@ fn save_from_entry<D: SectorDevice>(
     alloc: Global,
     device: &mut D,
     catalogue: &Catalogue,
-    entry: &Entry,
+    entry: &TableEntry,
     to: String,
     query: &Query,
 ) -> Result<Change, Refusal>

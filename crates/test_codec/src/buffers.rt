@@ -1,6 +1,6 @@
 // FlatBuffers that are read and written (flatbuf).
 use crate::made::{NotMade, assert_no_row};
-use flatbuf::{Budget, Buf, FlatError, MAX_BUFFER_BYTES, MAX_TABLES, Node, Slot, Writer};
+use flatbuf::{Budget, Buf, FlatError, MAX_BUFFER_BYTES, MAX_BUFFER_TABLES, Node, Slot, Writer};
 use std::alloc::Global;
 
 // A table with a slot of each kind: numbers of 8, 16, 32 and 64 bits, a text, two elements of two bytes, a vector of one
@@ -177,7 +177,7 @@ fn bytes_that_end_early_and_odd_vtables_are_refused(rt: HostRuntime) {
 // Whether the root is visited as often as it may be, and then refused.
 fn is_one_too_many() -> bool {
     let mut budget = Budget::new();
-    for _ in 0..MAX_TABLES {
+    for _ in 0..MAX_BUFFER_TABLES {
         if Buf::new(&EACH_KIND).root(&mut budget).is_err() {
             return false;
         }

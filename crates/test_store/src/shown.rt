@@ -2,7 +2,7 @@
 use crate::made::NotMade;
 use crate::steps::{add_part, add_values};
 use arrow_schema::same_shape;
-use catalogue::{Entry, Segment};
+use catalogue::{Segment, TableEntry};
 use commit::{Commit, OpenError, recover};
 use ipc_stream::decode;
 use sector_dev::{ModelDevice, SectorDevice};
@@ -28,14 +28,14 @@ fn table_at(alloc: Global, device: &mut ModelDevice, segment: Segment) -> Result
 }
 
 // Whether a segment's table is the part of a table that the catalogue tells.
-fn is_part(entry: &Entry, segment: Segment, table: &Table) -> bool {
+fn is_part(entry: &TableEntry, segment: Segment, table: &Table) -> bool {
     table.len() as u64 == segment.rows && same_shape(&entry.schema, table.schema())
 }
 
 // Adds the values of a segment of a table.
 fn add_segment(
     text: &mut String,
-    entry: &Entry,
+    entry: &TableEntry,
     segment: Segment,
     table: Table,
 ) -> Result<(), NotMade> {
@@ -47,7 +47,11 @@ fn add_segment(
 }
 
 // As `t: 7 -1`.
-fn values_of(alloc: Global, device: &mut ModelDevice, entry: &Entry) -> Result<String, NotMade> {
+fn values_of(
+    alloc: Global,
+    device: &mut ModelDevice,
+    entry: &TableEntry,
+) -> Result<String, NotMade> {
     let name = entry.name.as_str();
     let mut text = format!(in alloc; "{name}:")?;
     for segment in &entry.segments {
@@ -60,7 +64,7 @@ fn values_of(alloc: Global, device: &mut ModelDevice, entry: &Entry) -> Result<S
 fn all_values(
     alloc: Global,
     device: &mut ModelDevice,
-    entries: &[Entry],
+    entries: &[TableEntry],
 ) -> Result<String, NotMade> {
     let mut all = String::new(alloc);
     for entry in entries {
@@ -80,7 +84,7 @@ pub fn contents(alloc: Global, device: &mut ModelDevice) -> Result<String, NotMa
 }
 
 // As `t: 3+1 5+2`: the first sector of each segment, and how many there are.
-fn places_of(alloc: Global, entry: &Entry) -> Result<String, NotMade> {
+fn places_of(alloc: Global, entry: &TableEntry) -> Result<String, NotMade> {
     let name = entry.name.as_str();
     let mut text = format!(in alloc; "{name}:")?;
     for segment in &entry.segments {
@@ -91,7 +95,7 @@ fn places_of(alloc: Global, entry: &Entry) -> Result<String, NotMade> {
 }
 
 // As `epoch 2, 201 in 4, t: 3+1`.
-fn layout_text(alloc: Global, commit: Commit, entries: &[Entry]) -> Result<String, NotMade> {
+fn layout_text(alloc: Global, commit: Commit, entries: &[TableEntry]) -> Result<String, NotMade> {
     let (epoch, place) = (commit.epoch, commit.catalogue);
     let (bytes, start) = (place.bytes, place.run.start);
     let mut all = format!(in alloc; "epoch {epoch}, {bytes} in {start}")?;

@@ -4,7 +4,7 @@ use Rattle.std.specs.List.{flat_map}
 use Rattle.array_build.specs.Batch.{plain_column}
 use Rattle.array_build.specs.inner.Nodes.{list_kind}
 use Rattle.array_runs.specs.Runs.{run_cells, is_run_sound}
-use Rattle.array_runs.specs.declared.run.Run.{Run}
+use Rattle.array_runs.specs.declared.run.SlotRun.{SlotRun}
 use Rattle.arrow_schema.specs.Column.{Column, fixed_lists}
 use Rattle.cells.specs.Cell.{Cell}
 use Rattle.cells.specs.Dictionary.{item_list}
@@ -17,7 +17,7 @@ abbrev pub list_column : OffsetWidth → Column → Column
 list_column width item = plain_column (list_kind width item) None
 
 -- the lists of a run
-abbrev pub run_lists : OffsetWidth → Column → Run → List Cell
+abbrev pub run_lists : OffsetWidth → Column → SlotRun → List Cell
 run_lists width item run = run_cells (list_column width item) run
 
 abbrev pub list_sizes : List Cell → List ℕ
@@ -28,11 +28,11 @@ abbrev pub fixed_column : (size : ℕ) → Column → Column
 fixed_column size item = plain_column (fixed_lists size item) None
 
 -- a run that has what is below some lists
-pub record AreItems (below : Cell → List Cell) (item : Column) (run : Run) (some : List Cell) : Type 0 where
+pub record AreItems (below : Cell → List Cell) (item : Column) (run : SlotRun) (some : List Cell) : Type 0 where
   pub cells : run_cells item run ≡ flat_map below some
   pub sound : is_run_sound item run ≡ true
 
 -- a run of so many slots of an array, from one on
-pub record HasSlots (a : Array) (from n : ℕ) (run : Run) : Type 0 where
+pub record HasSlots (a : Array) (from n : ℕ) (run : SlotRun) : Type 0 where
   pub cells : (c : Column) → run_cells c run ≡ cells_from (cell_at c a) from n
   pub sound : (c : Column) → is_sound c a ≡ true → is_run_sound c run ≡ true

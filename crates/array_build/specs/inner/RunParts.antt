@@ -2,8 +2,8 @@
 use Rattle.std.specs.Prelude.{◌≡◌, ℕ, zero, suc, ◌+◌, Bool, true, ◌&&◌, nat_le, List, [], ◌∷◌, map, replicate}
 use Rattle.std.specs.List.{flat_map, list_all, range_with_len}
 use Rattle.array_runs.specs.Runs.{run_cells, runs_cells, is_run_sound, are_runs_sound}
-use Rattle.array_runs.specs.declared.run.Run.{Run}
-use Rattle.array_runs.specs.declared.run.Run.TheVariants.{Slots, Nulls}
+use Rattle.array_runs.specs.declared.run.SlotRun.{SlotRun}
+use Rattle.array_runs.specs.declared.run.SlotRun.TheVariants.{Slots, Nulls}
 use Rattle.arrow_schema.specs.Column.{Column, Columns}
 use Rattle.cells.specs.Cell.{Cell, null}
 use Rattle.columns.specs.Array.{Array, Arrays, slots_in, children_in, first_array, other_arrays}
@@ -24,29 +24,29 @@ abbrev pub child_at : ℕ → ArrayView → Array
 child_at j v = first_array (children_behind j v)
 
 -- the parts of structs that fields from a place on have: a null has none
-abbrev pub parts_behind : ℕ → Columns → Run → List (List Cell)
+abbrev pub parts_behind : ℕ → Columns → SlotRun → List (List Cell)
 parts_behind j columns (Slots v from n) = map (row_at columns (children_behind j v)) (range_with_len from n)
 parts_behind j columns (Nulls n) = replicate n []
 
 -- the cells that the field at a place has
-abbrev pub part_cells_behind : ℕ → Column → Run → List Cell
+abbrev pub part_cells_behind : ℕ → Column → SlotRun → List Cell
 part_cells_behind j c (Slots v from n) = cells_from (cell_at c (child_at j v)) from n
 part_cells_behind j c (Nulls n) = replicate n null
 
 -- its array is long enough, and can be looked up
-abbrev pub has_sound_part : ℕ → Column → Run → Bool
+abbrev pub has_sound_part : ℕ → Column → SlotRun → Bool
 has_sound_part j c (Slots v from n) = nat_le (from + n) (slots_in (child_at j v)) && is_sound c (child_at j v)
 has_sound_part j c (Nulls n) = true
 
 -- what that field has of a run of structs
-abbrev pub IsPartOf : ℕ → (run part : Run) → Type 0
+abbrev pub IsPartOf : ℕ → (run part : SlotRun) → Type 0
 IsPartOf j run part = (c : Column) → has_sound_part j c run ≡ true → (run_cells c part ≡ part_cells_behind j c run) × (is_run_sound c part ≡ true)
 
 -- the runs of the field at a place, whatever its type
-abbrev pub IsPart : ℕ → (structs parts : List Run) → Type 0
+abbrev pub IsPart : ℕ → (structs parts : List SlotRun) → Type 0
 IsPart j structs parts = (c : Column) → list_all (has_sound_part j c) structs ≡ true → (runs_cells c parts ≡ flat_map (part_cells_behind j c) structs) × (are_runs_sound c parts ≡ true)
 
 -- those of the fields from a place on
-abbrev pub AreParts : ℕ → (structs : List Run) → (parts : List (List Run)) → Type 0
+abbrev pub AreParts : ℕ → (structs : List SlotRun) → (parts : List (List SlotRun)) → Type 0
 AreParts j structs [] = Unit {0}
 AreParts j structs (rs ∷ rss) = IsPart j structs rs × AreParts (j + 1) structs rss

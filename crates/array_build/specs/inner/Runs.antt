@@ -4,8 +4,8 @@ use Rattle.std.specs.List.{flat_map, list_all, range_with_len}
 use Rattle.byteorder.specs.Endian.{little_bytes}
 use Rattle.arrow_schema.specs.Column.{Kind, Columns, integers, dates, timestamps, texts, large_texts, binaries, large_binaries, fixed_binaries, no_column, and_column}
 use Rattle.array_runs.specs.Runs.{runs_cells, are_runs_sound, are_runs_valid}
-use Rattle.array_runs.specs.declared.run.Run.{Run}
-use Rattle.array_runs.specs.declared.run.Run.TheVariants.{Slots, Nulls}
+use Rattle.array_runs.specs.declared.run.SlotRun.{SlotRun}
+use Rattle.array_runs.specs.declared.run.SlotRun.TheVariants.{Slots, Nulls}
 use Rattle.bitmap.specs.Bits.{packed}
 use Rattle.cells.specs.Cell.{Cell}
 use Rattle.cells.specs.Fit.{date_bits}
@@ -19,28 +19,28 @@ use Rattle.array_build.specs.Batch.{PlainBatch, built_at, plain_column}
 use Rattle.array_build.specs.inner.Nodes.{with_node, with_buffer}
 
 -- the arrays of each column, and all below them
-unfoldable pub built_columns : Columns → List (List Run) → List Typed
+unfoldable pub built_columns : Columns → List (List SlotRun) → List Typed
 built_columns no_column rs = []
 built_columns (and_column c cs) [] = []
 built_columns (and_column c cs) (r ∷ rs) = built_at c (runs_cells c r) ++ built_columns cs rs
 
 -- the cells of runs as those of a type
-abbrev pub kind_cells : Kind → List Run → List Cell
+abbrev pub kind_cells : Kind → List SlotRun → List Cell
 kind_cells kind runs = runs_cells (plain_column kind None) runs
 
 -- the array of such runs can be built run by run
-pub record AreReady (kind : Kind) (runs : List Run) : Type 0 where
+pub record AreReady (kind : Kind) (runs : List SlotRun) : Type 0 where
   pub sound : are_runs_sound (plain_column kind None) runs ≡ true
   pub valid : are_runs_valid runs ≡ true
   pub fit : can_build (plain_column kind None) (kind_cells kind runs) ≡ true
 
 -- ---- which slots are valid
 
-abbrev pub run_bits : Run → List Bool
+abbrev pub run_bits : SlotRun → List Bool
 run_bits (Slots view from len) = map (is_valid (view_array view)) (range_with_len from len)
 run_bits (Nulls n) = replicate n false
 
-abbrev pub runs_bits : List Run → List Bool
+abbrev pub runs_bits : List SlotRun → List Bool
 runs_bits runs = flat_map run_bits runs
 
 abbrev pub bitmap_of : List Bool → List ℕ
@@ -110,15 +110,15 @@ has_nothing_below None None a i = false
 abbrev pub is_as_written : Kind → Array → ℕ → Bool
 is_as_written kind a i = is_valid a i || has_nothing_below (fixed_width kind) (contents_width kind) a i
 
-abbrev pub is_run_as_written : Kind → Run → Bool
+abbrev pub is_run_as_written : Kind → SlotRun → Bool
 is_run_as_written kind (Slots view from len) = list_all (is_as_written kind (view_array view)) (range_with_len from len)
 is_run_as_written kind (Nulls n) = true
 
-abbrev pub are_runs_as_written : Kind → List Run → Bool
+abbrev pub are_runs_as_written : Kind → List SlotRun → Bool
 are_runs_as_written kind runs = list_all (is_run_as_written kind) runs
 
 -- the array of such runs can be built by copying what stands in them
-pub record AreAsWritten (kind : Kind) (runs : List Run) : Type 0 where
+pub record AreAsWritten (kind : Kind) (runs : List SlotRun) : Type 0 where
   pub sound : are_runs_sound (plain_column kind None) runs ≡ true
   pub written : are_runs_as_written kind runs ≡ true
   pub fit : can_build (plain_column kind None) (kind_cells kind runs) ≡ true

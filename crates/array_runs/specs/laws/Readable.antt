@@ -5,8 +5,8 @@ use Rattle.std.proofs.Common.{◌≡◌, ◌+◌, true, List, [], ◌∷◌, ref
 use Rattle.std.proofs.lemmas.Bool.{and_parts}
 use Rattle.arrow_schema.specs.Column.{Column, column}
 use Rattle.array_runs.specs.Runs.{are_runs_sound, has_validity, is_run_sound}
-use Rattle.array_runs.specs.declared.run.Run.{Run}
-use Rattle.array_runs.specs.declared.run.Run.TheVariants.{Slots, Nulls}
+use Rattle.array_runs.specs.declared.run.SlotRun.{SlotRun}
+use Rattle.array_runs.specs.declared.run.SlotRun.TheVariants.{Slots, Nulls}
 use Rattle.columns.specs.Array.{Array, slots_in}
 use Rattle.columns.specs.Sound.{is_sound}
 use Rattle.columns.specs.Tests.{has_short_validity}
@@ -17,14 +17,14 @@ unfolding is_sound
 long (column name nullable kind None pairs) a h = (and_parts (not (has_short_validity a)) _ h).0
 long (column name nullable kind (Some index) pairs) a h = (and_parts (not (has_short_validity a)) _ h).0
 
-has : (c : Column) (run : Run) → is_run_sound c run ≡ true → has_validity run ≡ true
+has : (c : Column) (run : SlotRun) → is_run_sound c run ≡ true → has_validity run ≡ true
 has c (Slots view from len) h =
     let parts = and_parts (is_sound c (view_array view)) (nat_le (from + len) (slots_in (view_array view))) h in
     rw (long c (view_array view) parts.0, parts.1) refl
 has c (Nulls n) h = refl
 
 -- they have validity bitmaps that are long enough
-pub sound_have_validity : (c : Column) (runs : List Run) → are_runs_sound c runs ≡ true → list_all has_validity runs ≡ true
+pub sound_have_validity : (c : Column) (runs : List SlotRun) → are_runs_sound c runs ≡ true → list_all has_validity runs ≡ true
 sound_have_validity c [] h = refl
 sound_have_validity c (run ∷ runs) h =
     let parts = and_parts (is_run_sound c run) (are_runs_sound c runs) h in

@@ -2,7 +2,7 @@
 use Rattle.std.proofs.Common.{◌≡◌, ℕ, ◌+◌, Bool, true, false, cond, List, [], ◌∷◌, ◌++◌, length, Result, Ok, Err, refl, ap, ◌∙◌, nat_lt, nat_le, ◌&&◌, eqb, ◌%◌}
 use Rattle.flatbuf.specs.declared.FlatError.{FlatError}
 use Rattle.flatbuf.specs.declared.FlatError.TheVariants.{Bounds, VtableSize, Budget}
-use Rattle.flatbuf.specs.declared.limits.TheConstants.{MAX_TABLES}
+use Rattle.flatbuf.specs.declared.limits.TheConstants.{MAX_BUFFER_TABLES}
 use Rattle.flatbuf.specs.Walk.{Thing, table, too_deep, span, before_all, vtable_size, missing, run}
 
 abbrev pub goes_on : Result ℕ FlatError → (ℕ → Result ℕ FlatError) → Result ℕ FlatError
@@ -16,7 +16,7 @@ on_cond false r f e = refl
 pub run_append : (bytes : List ℕ) (xs ys : List Thing) (n : ℕ) → run bytes (xs ++ ys) n ≡ goes_on (run bytes xs n) (run bytes ys)
 unfolding run
 run_append bytes [] ys n = refl
-run_append bytes (table ∷ xs) ys n = ap (λ r. cond (nat_lt n MAX_TABLES) r (Err Budget)) (run_append bytes xs ys (n + 1)) ∙ on_cond _ (run bytes xs (n + 1)) (run bytes ys) Budget
+run_append bytes (table ∷ xs) ys n = ap (λ r. cond (nat_lt n MAX_BUFFER_TABLES) r (Err Budget)) (run_append bytes xs ys (n + 1)) ∙ on_cond _ (run bytes xs (n + 1)) (run bytes ys) Budget
 run_append bytes (too_deep ∷ xs) ys n = refl
 run_append bytes (span at len ∷ xs) ys n = ap (λ r. cond (nat_le (at + len) (length bytes)) r (Err Bounds)) (run_append bytes xs ys n) ∙ on_cond _ (run bytes xs n) (run bytes ys) Bounds
 run_append bytes (before_all ∷ xs) ys n = refl

@@ -2,7 +2,7 @@
 use Rattle.std.specs.Prelude.{◌≡◌, ℕ, ◌+◌, Bool, true, ◌&&◌, nat_le, List, [], ◌∷◌, map, drop}
 use Rattle.std.specs.List.{flat_map, list_all, range_with_len}
 use Rattle.array_runs.specs.Runs.{runs_cells, are_runs_sound}
-use Rattle.array_runs.specs.declared.run.Run.{Run}
+use Rattle.array_runs.specs.declared.run.SlotRun.{SlotRun}
 use Rattle.arrow_schema.specs.Column.{Column, Columns}
 use Rattle.cells.specs.Cell.{Cell}
 use Rattle.columns.specs.Array.{Array, Arrays, slots_in, first_array}
@@ -31,10 +31,10 @@ abbrev pub has_sound_array : ℕ → Column → RowRun → Bool
 has_sound_array j c r = nat_le (r.from + r.len) (slots_in (array_at j r)) && is_sound c (array_at j r)
 
 -- the runs of the column at a place, whatever its type
-abbrev pub IsColumn : ℕ → List RowRun → List Run → Type 0
+abbrev pub IsColumn : ℕ → List RowRun → List SlotRun → Type 0
 IsColumn j rows runs = (c : Column) → list_all (has_sound_array j c) rows ≡ true → (runs_cells c runs ≡ flat_map (cells_behind j c) rows) × (are_runs_sound c runs ≡ true)
 
 -- those of the columns from a place on
-abbrev pub AreColumns : ℕ → List RowRun → List (List Run) → Type 0
+abbrev pub AreColumns : ℕ → List RowRun → List (List SlotRun) → Type 0
 AreColumns j rows [] = Unit {0}
 AreColumns j rows (rs ∷ rss) = IsColumn j rows rs × AreColumns (j + 1) rows rss

@@ -14,7 +14,7 @@ use Rattle.array_build.specs.Batch.{batch_in, built_at, plain_column, with_array
 use Rattle.array_build.specs.inner.Nodes.{list_kind}
 use Rattle.array_build.specs.inner.Runs.{AreAsWritten, contents_width, fixed_width, kind_cells}
 use Rattle.array_runs.specs.Runs.{HaveRuns, are_columns_sound, are_runs_sound, runs_cells}
-use Rattle.array_runs.specs.declared.run.Run.{Run}
+use Rattle.array_runs.specs.declared.run.SlotRun.{SlotRun}
 use Rattle.arrow_schema.specs.Column.{Column, Columns, Kind, columns_of, fixed_lists, structs}
 use Rattle.arrow_schema.specs.View.{column_of, kind_of}
 use Rattle.arrow_schema.specs.declared.types.Field.{Field}
@@ -35,16 +35,16 @@ pub build_run_structs-build_run_parts-requires : goal.build_run_structs-build_ru
 build_run_structs-build_run_parts-requires t c =
     let cs : Columns = columns_of (map column_of c.args.fields.now) in
     let have : HaveRuns cs (lists_of c.deref.result.now) (map part_list (kind_cells (structs cs) c.args.runs.now)) =
-    subst (λ (vs : List (Vec Run Global)). HaveRuns cs (lists_of vs) (map part_list (kind_cells (structs cs) c.args.runs.now))) (sym c.deref.ensures.value) c.in_ok-parts.ensures.have in
+    subst (λ (vs : List (Vec SlotRun Global)). HaveRuns cs (lists_of vs) (map part_list (kind_cells (structs cs) c.args.runs.now))) (sym c.deref.ensures.value) c.in_ok-parts.ensures.have in
     let sound : are_columns_sound cs (lists_of c.deref.result.now) ≡ true =
-    subst (λ (vs : List (Vec Run Global)). are_columns_sound cs (lists_of vs) ≡ true) (sym c.deref.ensures.value) c.in_ok-parts.ensures.sound in
+    subst (λ (vs : List (Vec SlotRun Global)). are_columns_sound cs (lists_of vs) ≡ true) (sym c.deref.ensures.value) c.in_ok-parts.ensures.sound in
     (search (rules, field_lemmas), (sound, parts_fit cs c.args.runs.now (lists_of c.deref.result.now) have c.requires.ready))
 
 pub build_run_structs-returns : goal.build_run_structs-returns
 build_run_structs-returns t c =
     let cs : Columns = columns_of (map column_of c.args.fields.now) in
     let have : HaveRuns cs (lists_of c.deref.result.now) (map part_list (kind_cells (structs cs) c.args.runs.now)) =
-    subst (λ (vs : List (Vec Run Global)). HaveRuns cs (lists_of vs) (map part_list (kind_cells (structs cs) c.args.runs.now))) (sym c.deref.ensures.value) c.in_ok-parts.ensures.have in
+    subst (λ (vs : List (Vec SlotRun Global)). HaveRuns cs (lists_of vs) (map part_list (kind_cells (structs cs) c.args.runs.now))) (sym c.deref.ensures.value) c.in_ok-parts.ensures.have in
     on_ok_weaker c.build_run_parts.result
     (λ h. h ∙ struct_runs_are (batch_in c.args.batch.now) (batch_in c.push_run_slots.new.batch) cs c.args.runs.now (lists_of c.deref.result.now) have c.in_ok-push_run_slots.ensures)
     c.build_run_parts.ensures
@@ -114,14 +114,14 @@ pub build_split_kind-build_written_kind-requires : goal.build_split_kind-build_w
 build_split_kind-build_written_kind-requires t c =
     let kind : Kind = kind_of c.args.data_type.now in (
       search (rules, field_lemmas),
-      subst (λ (runs : List Run). AreAsWritten kind runs) (sym c.deref.ensures.value)
+      subst (λ (runs : List SlotRun). AreAsWritten kind runs) (sym c.deref.ensures.value)
           (written_of kind c.in_ok-valid.valid.items (are_ready kind c.in_ok-valid.valid.items c.args.runs.now c.in_ok-valid.ensures.same c.in_ok-valid.ensures.valid c.requires.sound c.requires.fits)),
     )
 
 pub build_split_kind-returns : goal.build_split_kind-returns
 build_split_kind-returns t c =
     let kind : Kind = kind_of c.args.data_type.now in
-    let same = ap (λ (runs : List Run). kind_cells kind runs) c.deref.ensures.value ∙ same_cells kind c.in_ok-valid.valid.items c.args.runs.now c.in_ok-valid.ensures.same c.requires.sound in
+    let same = ap (λ (runs : List SlotRun). kind_cells kind runs) c.deref.ensures.value ∙ same_cells kind c.in_ok-valid.valid.items c.args.runs.now c.in_ok-valid.ensures.same c.requires.sound in
     on_ok_weaker c.build_written_kind.result
     (λ h. h ∙ ap (λ (cells : List Cell). with_arrays (batch_in c.args.batch.now) (built_at (plain_column kind None) cells)) same)
     c.build_written_kind.ensures
@@ -153,8 +153,8 @@ build_run_parts-build_run_column-requires t c =
     let own = (next_left c.args.fields.now c.loop-place.place field c.args.columns.now c.index-columns-place.result item here c.loop-place.invariant.left).0 in (
       search (rules, field_lemmas),
       (
-        subst (λ (runs : List Run). are_runs_sound (column_of field) runs ≡ true) (sym c.deref.ensures.value) own.sound,
-        subst (λ (runs : List Run). can_build (column_of field) (runs_cells (column_of field) runs) ≡ true) (sym c.deref.ensures.value) own.fits,
+        subst (λ (runs : List SlotRun). are_runs_sound (column_of field) runs ≡ true) (sym c.deref.ensures.value) own.sound,
+        subst (λ (runs : List SlotRun). can_build (column_of field) (runs_cells (column_of field) runs) ≡ true) (sym c.deref.ensures.value) own.fits,
       ),
     )
 
@@ -162,13 +162,13 @@ pub build_run_parts-loop-place-preserved : goal.build_run_parts-loop-place-prese
 build_run_parts-loop-place-preserved t c =
     let fields : List Field = c.args.fields.now in
     let field : Field = c.index-fields-place.result in
-    let columns : List (Vec Run Global) = c.args.columns.now in
-    let column : Vec Run Global = c.index-columns-place.result in
+    let columns : List (Vec SlotRun Global) = c.args.columns.now in
+    let column : Vec SlotRun Global = c.index-columns-place.result in
     let item = drop-item fields c.loop-place.place field c.loop-place-test.true c.index-fields-place.is in
     let within = place_left fields c.loop-place.place field columns item c.loop-place.invariant.left in
     let here = drop-item columns c.loop-place.place column within c.index-columns-place.is in
     let built = c.in_ok-build_run_column.ensures
-    ∙ ap (λ (runs : List Run). with_arrays (batch_in c.loop-place.batch) (built_at (column_of field) (runs_cells (column_of field) runs))) c.deref.ensures.value in
+    ∙ ap (λ (runs : List SlotRun). with_arrays (batch_in c.loop-place.batch) (built_at (column_of field) (runs_cells (column_of field) runs))) c.deref.ensures.value in
     record {
       left = (next_left fields c.loop-place.place field columns column item here c.loop-place.invariant.left).1;
       batch = column_arrays fields c.loop-place.place field columns column (batch_in c.loop-place.batch) (batch_in c.build_run_column.new.batch) item here built ∙ c.loop-place.invariant.batch;

@@ -5,13 +5,13 @@ use Rattle.array_build.proofs.RunColumns.{lists_of, rows_built}
 use Rattle.array_build.proofs.by_runs.build_runs.Goals as goal
 use Rattle.array_build.specs.Batch.{PlainBatch, batch_of, with_arrays}
 use Rattle.array_build.specs.inner.Runs.{built_columns}
-use Rattle.array_runs.specs.declared.run.Run.{Run}
+use Rattle.array_runs.specs.declared.run.SlotRun.{SlotRun}
 use Rattle.columns.specs.Tests.{Typed}
 
 pub returns : goal.returns
 returns c = λ rows have.
     let cs : Columns = columns_of (map column_of c.args.fields.now) in
-    let rs : List (List Run) = lists_of c.args.columns.now in
+    let rs : List (List SlotRun) = lists_of c.args.columns.now in
     c.in_ok-build_run_parts.ensures
     ∙ ap (λ (p : PlainBatch). with_arrays p (built_columns cs rs)) c.empty_batch-batch.ensures
     ∙ ap (λ (ts : List Typed). batch_of ts) (rows_built cs rs rows have)

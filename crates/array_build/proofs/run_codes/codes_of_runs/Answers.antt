@@ -9,16 +9,16 @@ use Rattle.array_build.proofs.Codes.{IsUnderway, all_coded, some_coded}
 use Rattle.array_build.proofs.run_codes.codes_of_runs.Goals as goal
 use Rattle.array_build.specs.inner.RunCells.{is_coded}
 use Rattle.array_runs.specs.Runs.{are_runs_sound, is_run_sound, run_cells, runs_cells}
-use Rattle.array_runs.specs.declared.run.Run.{Run}
+use Rattle.array_runs.specs.declared.run.SlotRun.{SlotRun}
 use Rattle.cells.specs.Cell.{Cell}
 use Rattle.cells.specs.Entry.{entry_cell}
 use Rattle.facts.specs.laws.Lists.{drop-item}
 
 pub loop-run-preserved : goal.loop-run-preserved
 loop-run-preserved c =
-    let runs : List Run = c.args.runs.now in
+    let runs : List SlotRun = c.args.runs.now in
     let i : ℕ = c.loop-run.run-index in
-    let run : Run = c.run-item.result in
+    let run : SlotRun = c.run-item.result in
     let col : Column = column_of c.args.field.now in
     let cells : List Cell = run_cells col run in
     let left : List Cell = runs_cells col (drop (i + 1) runs) in
@@ -37,7 +37,7 @@ loop-run-preserved c =
 
 pub returns : goal.returns
 returns c =
-    let runs : List Run = c.args.runs.now in
+    let runs : List SlotRun = c.args.runs.now in
     let col : Column = column_of c.args.field.now in
     let start : List Cell = map entry_cell c.args.entries.now.keys in
     let all : List Cell = runs_cells col runs in

@@ -12,8 +12,8 @@ use Rattle.array_build.proofs.run_codes.push_run_codes.Goals as goal
 use Rattle.array_build.specs.inner.Codes.{IsCoded}
 use Rattle.array_runs.specs.Runs.{is_run_sound, run_cells}
 use Rattle.array_build.specs.inner.RunCells.{is_coded}
-use Rattle.array_runs.specs.declared.run.Run.{Run}
-use Rattle.array_runs.specs.declared.run.Run.TheVariants.{Slots}
+use Rattle.array_runs.specs.declared.run.SlotRun.{SlotRun}
+use Rattle.array_runs.specs.declared.run.SlotRun.TheVariants.{Slots}
 use Rattle.cells.specs.Cell.{Cell}
 use Rattle.cells.specs.Entry.{entry_cell}
 use Rattle.columns.specs.Array.{slots_in}
@@ -35,7 +35,7 @@ new-slots-requires-clause-long c =
     (long_buffers c.args.field.now c.args.spec (view_array c.in-Slots.array) c.requires.spec sound.0).1
 
 -- the slots are those of the run
-same_slots : (col : Column) (v w : ArrayView) (run : Run) (from len to : ℕ) → v ≡ w → run ≡ Slots w from len → to ≡ from + len
+same_slots : (col : Column) (v w : ArrayView) (run : SlotRun) (from len to : ℕ) → v ≡ w → run ≡ Slots w from len → to ≡ from + len
     → cells_from (cell_at col (view_array v)) from (to - from) ≡ run_cells col run
 same_slots col v w run from len to e is end =
     let size : to - from ≡ len = omega (arith, end) in
@@ -80,6 +80,6 @@ pub returns-in-Nulls : goal.returns-in-Nulls
 returns-in-Nulls c =
     let es : List Cell = map entry_cell c.args.entries.now.keys in
     on_ok_weaker c.push_null_codes.result
-    (λ h. subst (λ (run : Run). IsCoded es c.args.codes.now.items es c.push_null_codes.new.codes.items (run_cells (column_of c.args.field.now) run)) (sym c.in-Nulls.is)
+    (λ h. subst (λ (run : SlotRun). IsCoded es c.args.codes.now.items es c.push_null_codes.new.codes.items (run_cells (column_of c.args.field.now) run)) (sym c.in-Nulls.is)
     (nulls_coded es c.args.codes.now.items c.in-Nulls.count c.push_null_codes.new.codes.items h))
     c.push_null_codes.ensures

@@ -7,7 +7,7 @@ use Rattle.array_build.proofs.RunContents.{no_contents}
 use Rattle.array_build.proofs.run_contents.push_contents.Goals as goal
 use Rattle.array_build.specs.Batch.{plain_column}
 use Rattle.array_runs.specs.Runs.{run_cells}
-use Rattle.array_runs.specs.declared.run.Run.{Run}
+use Rattle.array_runs.specs.declared.run.SlotRun.{SlotRun}
 use Rattle.arrow_schema.specs.Column.{Kind}
 use Rattle.columns.specs.Built.{contents_of}
 
@@ -15,7 +15,7 @@ pub returns-in_ok-extend_from_slice-in-Slots : goal.returns-in_ok-extend_from_sl
 returns-in_ok-extend_from_slice-in-Slots c =
     let kind : Kind = kind_of c.args.data_type.now in
     c.in_ok-extend_from_slice-in-Slots.ensures.items ∙ ap (λ (bytes : List ℕ). c.args.contents.now.items ++ bytes)
-    (c.run_slice.ensures ∙ ap (λ (run : Run). flat_map contents_of (run_cells (plain_column kind None) run)) (sym c.in-Slots.is))
+    (c.run_slice.ensures ∙ ap (λ (run : SlotRun). flat_map contents_of (run_cells (plain_column kind None) run)) (sym c.in-Slots.is))
 
 pub returns-in-Nulls : goal.returns-in-Nulls
 returns-in-Nulls c =

@@ -3,7 +3,7 @@ use Rattle.std.proofs.lemmas.List.{drop_all}
 use Rattle.array_build.proofs.RunItems.{AreItemsLeft, no_items_yet, first_is, items_more, all_items}
 use Rattle.array_build.proofs.run_fixed_items.fixed_item_runs.Goals as goal
 use Rattle.array_build.specs.inner.RunItems.{fixed_column}
-use Rattle.array_runs.specs.declared.run.Run.{Run}
+use Rattle.array_runs.specs.declared.run.SlotRun.{SlotRun}
 use Rattle.arrow_schema.specs.Column.{Column}
 use Rattle.arrow_schema.specs.View.{column_of}
 use Rattle.columns.specs.Built.{fixed_items}
@@ -12,7 +12,7 @@ use Rattle.facts.specs.laws.Lists.{drop-item}
 pub loop-run-init : goal.loop-run-init
 loop-run-init c =
     let item : Column = column_of c.args.item.now in
-    subst (λ (xs : List Run). AreItemsLeft (fixed_items c.args.size) (fixed_column c.args.size item) item c.args.runs.now c.args.runs.now xs) (sym c.in_ok-items.ensures.items)
+    subst (λ (xs : List SlotRun). AreItemsLeft (fixed_items c.args.size) (fixed_column c.args.size item) item c.args.runs.now c.args.runs.now xs) (sym c.in_ok-items.ensures.items)
     (no_items_yet (fixed_items c.args.size) (fixed_column c.args.size item) item c.args.runs.now c.requires.sound c.requires.valid)
 
 pub fixed_item_run-requires-clause-sound : goal.fixed_item_run-requires-clause-sound

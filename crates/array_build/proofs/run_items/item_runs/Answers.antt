@@ -3,7 +3,7 @@ use Rattle.std.proofs.lemmas.List.{drop_all}
 use Rattle.array_build.proofs.RunItems.{AreItemsLeft, no_items_yet, first_is, items_more, all_items}
 use Rattle.array_build.proofs.run_items.item_runs.Goals as goal
 use Rattle.array_build.specs.inner.RunItems.{list_column}
-use Rattle.array_runs.specs.declared.run.Run.{Run}
+use Rattle.array_runs.specs.declared.run.SlotRun.{SlotRun}
 use Rattle.arrow_schema.specs.Column.{Column}
 use Rattle.arrow_schema.specs.View.{column_of}
 use Rattle.cells.specs.Dictionary.{item_list}
@@ -12,7 +12,7 @@ use Rattle.facts.specs.laws.Lists.{drop-item}
 pub loop-run-init : goal.loop-run-init
 loop-run-init c =
     let item : Column = column_of c.args.item.now in
-    subst (λ (xs : List Run). AreItemsLeft item_list (list_column c.args.width item) item c.args.runs.now c.args.runs.now xs) (sym c.in_ok-items.ensures.items)
+    subst (λ (xs : List SlotRun). AreItemsLeft item_list (list_column c.args.width item) item c.args.runs.now c.args.runs.now xs) (sym c.in_ok-items.ensures.items)
     (no_items_yet item_list (list_column c.args.width item) item c.args.runs.now c.requires.sound c.requires.valid)
 
 pub item_run-requires-clause-sound : goal.item_run-requires-clause-sound

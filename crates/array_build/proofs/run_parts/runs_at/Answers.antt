@@ -2,11 +2,11 @@ use Rattle.std.proofs.Common.{List, drop, subst, sym}
 use Rattle.std.proofs.lemmas.List.{drop_all}
 use Rattle.array_build.proofs.RunParts.{ArePartsLeft, no_part_yet, part_more, is_part}
 use Rattle.array_build.proofs.run_parts.runs_at.Goals as goal
-use Rattle.array_runs.specs.declared.run.Run.{Run}
+use Rattle.array_runs.specs.declared.run.SlotRun.{SlotRun}
 use Rattle.facts.specs.laws.Lists.{drop-item}
 
 pub loop-run-init : goal.loop-run-init
-loop-run-init c = subst (λ (xs : List Run). ArePartsLeft c.args.place c.args.runs.now c.args.runs.now xs) (sym c.in_ok-parts.ensures.items) (no_part_yet c.args.place c.args.runs.now)
+loop-run-init c = subst (λ (xs : List SlotRun). ArePartsLeft c.args.place c.args.runs.now c.args.runs.now xs) (sym c.in_ok-parts.ensures.items) (no_part_yet c.args.place c.args.runs.now)
 
 pub loop-run-preserved : goal.loop-run-preserved
 loop-run-preserved c =

@@ -6,11 +6,11 @@ use Rattle.array_build.proofs.run_values.push_run.Goals as goal
 use Rattle.array_build.specs.Batch.{plain_column}
 use Rattle.array_build.specs.inner.Runs.{fixed_value}
 use Rattle.array_runs.specs.Runs.{run_cells}
-use Rattle.array_runs.specs.declared.run.Run.{Run}
+use Rattle.array_runs.specs.declared.run.SlotRun.{SlotRun}
 use Rattle.arrow_schema.specs.Column.{Kind}
 
 pub returns-in_ok-extend_from_slice-in-Slots : goal.returns-in_ok-extend_from_slice-in-Slots
 returns-in_ok-extend_from_slice-in-Slots c =
     let kind : Kind = kind_of c.args.data_type.now in
     c.in_ok-extend_from_slice-in-Slots.ensures.items ∙ ap (λ (bytes : List ℕ). c.args.values.now.items ++ bytes)
-    (c.run_slice.ensures ∙ ap (λ (run : Run). flat_map (fixed_value kind) (run_cells (plain_column kind None) run)) (sym c.in-Slots.is))
+    (c.run_slice.ensures ∙ ap (λ (run : SlotRun). flat_map (fixed_value kind) (run_cells (plain_column kind None) run)) (sym c.in-Slots.is))

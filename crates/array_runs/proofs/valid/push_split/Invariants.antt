@@ -1,6 +1,6 @@
 use Rattle.std.proofs.Common.{◌≤◌, ◌-◌}
 use Rattle.array_runs.specs.inner.Split.{IsAdded}
-use Rattle.array_runs.specs.declared.run.Run.TheVariants.{Slots}
+use Rattle.array_runs.specs.declared.run.SlotRun.TheVariants.{Slots}
 use Rattle.array_runs.proofs.valid.push_split.Given as goal
 
 abbrev pub decreases-loop-next : goal.decreases-loop-next

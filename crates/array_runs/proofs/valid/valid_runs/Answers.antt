@@ -1,20 +1,20 @@
 use Rattle.std.proofs.Common.{◌+◌, drop, subst, List, ◌++◌}
 use Rattle.facts.specs.laws.Lists.{drop-item}
 use Rattle.array_runs.specs.Runs.{HaveSameCells, has_validity}
-use Rattle.array_runs.specs.declared.run.Run.{Run}
+use Rattle.array_runs.specs.declared.run.SlotRun.{SlotRun}
 use Rattle.array_runs.proofs.Split.{replaced, all_replaced, left_pass}
 use Rattle.array_runs.proofs.valid.valid_runs.Goals as goal
 
 pub loop-run-preserved : goal.loop-run-preserved
 loop-run-preserved c =
-    let runs : List Run = c.args.runs.now in
-    let run : Run = c.run-item.result in
+    let runs : List SlotRun = c.args.runs.now in
+    let run : SlotRun = c.run-item.result in
     let item = drop-item runs c.loop-run.run-index run c.loop-run-test.true c.run-item.is in
     record {
       left = (left_pass has_validity runs c.loop-run.run-index run item c.loop-run.invariant.left).1;
       valid = c.in_ok-push_valid.ensures.valid c.loop-run.invariant.valid;
       same = replaced c.loop-run.valid.items c.push_valid.new.valid.items run (drop (c.loop-run.run-index + 1) runs) runs
-          (subst (λ (left : List Run). HaveSameCells (c.loop-run.valid.items ++ left) runs) item c.loop-run.invariant.same) c.in_ok-push_valid.ensures;
+          (subst (λ (left : List SlotRun). HaveSameCells (c.loop-run.valid.items ++ left) runs) item c.loop-run.invariant.same) c.in_ok-push_valid.ensures;
     }
 
 pub returns-clause-same : goal.returns-clause-same

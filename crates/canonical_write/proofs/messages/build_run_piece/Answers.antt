@@ -3,7 +3,7 @@ use Rattle.std.specs.Prelude.{IfOk}
 use Rattle.std.proofs.lemmas.Result.{IfOk-weaker}
 use Rattle.array_build.specs.Batch.{batch_of, built_below}
 use Rattle.array_runs.specs.Runs.{HaveRuns, can_build_columns}
-use Rattle.array_runs.specs.declared.run.Run.{Run}
+use Rattle.array_runs.specs.declared.run.SlotRun.{SlotRun}
 use Rattle.arrow_schema.specs.Column.{PlainSchema, columns_of}
 use Rattle.arrow_schema.specs.View.{column_of, schema_of}
 use Rattle.arrow_schema.specs.declared.types.Field.{Field}
@@ -21,8 +21,8 @@ pub build_runs-requires : goal.build_runs-requires
 build_runs-requires c =
     let s : PlainSchema = schema_of c.args.schema.now in
     let own : List Field = c.args.schema.now.fields.items in
-    let lists : List (List Run) = map (λ v. v.items) c.in_ok-columns.columns.items in
-    let given : List (List Run) = map (λ v. v.items) c.deref-3.result.now in
+    let lists : List (List SlotRun) = map (λ v. v.items) c.in_ok-columns.columns.items in
+    let given : List (List SlotRun) = map (λ v. v.items) c.deref-3.result.now in
     let is : given ≡ lists = ap (map (λ v. v.items)) c.deref-3.ensures.value in
     let to : own ≡ c.deref-2.result.now = sym c.deref-2.ensures.value in
     let have : AreRunsOf own given c.args.runs.now = same_runs c.deref.result.now own lists given c.args.runs.now c.deref.ensures.value is c.in_ok-columns.ensures.have in
@@ -43,8 +43,8 @@ returns c =
       batch = c.written_batches_pass.ensures.writable;
       entries = c.written_entries_are_read.ensures.writable;
     } in
-    let lists : List (List Run) = map (λ v. v.items) c.in_ok-columns.columns.items in
-    let given : List (List Run) = map (λ v. v.items) c.deref-3.result.now in
+    let lists : List (List SlotRun) = map (λ v. v.items) c.in_ok-columns.columns.items in
+    let given : List (List SlotRun) = map (λ v. v.items) c.deref-3.result.now in
     let is : given ≡ lists = ap (map (λ v. v.items)) c.deref-3.ensures.value in
     let have : HaveRuns (fields_of own) given rows = same_runs c.deref.result.now own lists given c.args.runs.now c.deref.ensures.value is c.in_ok-columns.ensures.have in
     let have' : HaveRuns (fields_of c.deref-2.result.now) given rows = subst (λ (fs : List Field). HaveRuns (fields_of fs) given rows) (sym c.deref-2.ensures.value) have in

@@ -1,6 +1,6 @@
 use Rattle.std.proofs.Common.{◌∙◌, map, set, Some, sym, ap, arith}
 use Rattle.std.specs.Prelude.{string_bytes}
-use Rattle.catalogue.specs.declared.entry.Entry.{Entry}
+use Rattle.catalogue.specs.declared.entry.TableEntry.{TableEntry}
 use Rattle.catalogue.specs.Entries.{plain_entry}
 use Rattle.catalogue.specs.inner.Places.{seat_of}
 use Rattle.catalogue.proofs.Standing.{none_stood}
@@ -26,14 +26,14 @@ returns-in-Ok-clause-put c =
     let es = c.args.entries.now.items in
     let found = (λ i. seat_of (sym c.deref-2.ensures i) 0 (map plain_entry (sym c.deref.ensures.value i))) ∙ sym c.seat_of.ensures ∙ c.in-Ok.is in
     let s = seat_in es c.args.entry c.in-Ok.place found in
-    ap (λ (e : Entry). map plain_entry (set es c.in-Ok.place e)) c.replace.ensures.after ∙ s.put
+    ap (λ (e : TableEntry). map plain_entry (set es c.in-Ok.place e)) c.replace.ensures.after ∙ s.put
 
 pub returns-in-Ok-clause-stood : goal.returns-in-Ok-clause-stood
 returns-in-Ok-clause-stood c =
     let es = c.args.entries.now.items in
     let found = (λ i. seat_of (sym c.deref-2.ensures i) 0 (map plain_entry (sym c.deref.ensures.value i))) ∙ sym c.seat_of.ensures ∙ c.in-Ok.is in
     let s = seat_in es c.args.entry c.in-Ok.place found in
-    ap (λ (e : Entry). Some (plain_entry e)) (c.replace.ensures.value ∙ c.index_mut.ensures.value) ∙ sym (s.stood c.index_mut.result.now)
+    ap (λ (e : TableEntry). Some (plain_entry e)) (c.replace.ensures.value ∙ c.index_mut.ensures.value) ∙ sym (s.stood c.index_mut.result.now)
 
 pub returns-in_ok-insert-in-Err-clause-put : goal.returns-in_ok-insert-in-Err-clause-put
 returns-in_ok-insert-in-Err-clause-put c =

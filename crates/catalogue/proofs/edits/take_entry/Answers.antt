@@ -1,5 +1,5 @@
 use Rattle.std.proofs.Common.{◌∙◌, map, Some, sym, ap, arith}
-use Rattle.catalogue.specs.declared.entry.Entry.{Entry}
+use Rattle.catalogue.specs.declared.entry.TableEntry.{TableEntry}
 use Rattle.catalogue.specs.Entries.{plain_entry}
 use Rattle.catalogue.specs.inner.Places.{place_of}
 use Rattle.catalogue.proofs.Standing.{absent}
@@ -23,7 +23,7 @@ pub returns-in-Some-clause-stood : goal.returns-in-Some-clause-stood
 returns-in-Some-clause-stood c =
     let found = ap (λ es. place_of c.args.name.now 0 (map plain_entry es)) (sym c.deref.ensures.value) ∙ sym c.place_of.ensures ∙ c.in-Some.is in
     let p = place_in c.args.entries.now.items c.args.name.now c.in-Some.place found in
-    ap (λ (e : Entry). Some (plain_entry e)) c.remove.ensures.value ∙ sym (p.stood c.remove.result)
+    ap (λ (e : TableEntry). Some (plain_entry e)) c.remove.ensures.value ∙ sym (p.stood c.remove.result)
 
 pub returns-in-None-clause-removed : goal.returns-in-None-clause-removed
 returns-in-None-clause-removed c =

@@ -1,13 +1,13 @@
 use Rattle.std.proofs.Common.{List, [], subst, sym}
 use Rattle.std.proofs.lemmas.List.{take_all}
-use Rattle.array_runs.specs.declared.run.Run.{Run}
+use Rattle.array_runs.specs.declared.run.SlotRun.{SlotRun}
 use Rattle.run_pieces.specs.declared.row_run.RowRun.{RowRun}
 use Rattle.run_pieces.specs.inner.Columns.{IsColumn}
 use Rattle.run_pieces.proofs.ColumnLemmas.{no_column_runs, column_more}
 use Rattle.run_pieces.proofs.columns_of_runs.column_at.Goals as goal
 
 pub loop-run-init : goal.loop-run-init
-loop-run-init c = subst (λ (xs : List Run). IsColumn c.args.place [] xs) (sym c.in_ok-slots.ensures.items) (no_column_runs c.args.place)
+loop-run-init c = subst (λ (xs : List SlotRun). IsColumn c.args.place [] xs) (sym c.in_ok-slots.ensures.items) (no_column_runs c.args.place)
 
 pub loop-run-preserved : goal.loop-run-preserved
 loop-run-preserved c =

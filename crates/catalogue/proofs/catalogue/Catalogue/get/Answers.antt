@@ -1,5 +1,5 @@
 use Rattle.std.proofs.Common.{◌∙◌, map, Some, sym, ap, arith}
-use Rattle.catalogue.specs.declared.entry.Entry.{Entry}
+use Rattle.catalogue.specs.declared.entry.TableEntry.{TableEntry}
 use Rattle.catalogue.specs.Entries.{plain_entry}
 use Rattle.catalogue.specs.inner.Places.{place_of}
 use Rattle.catalogue.proofs.Standing.{absent}
@@ -17,7 +17,7 @@ pub returns-in-Some-clause-entry : goal.returns-in-Some-clause-entry
 returns-in-Some-clause-entry c =
     let found = ap (λ es. place_of c.args.name.now 0 (map plain_entry es)) (sym c.deref.ensures.value) ∙ sym c.place_of.ensures ∙ c.in-Some.is in
     let p = place_in c.args.self.now.entries.items c.args.name.now c.in-Some.place found in
-    ap (λ (e : Entry). Some (plain_entry e)) c.index.ensures ∙ sym (p.stood c.index.result.now)
+    ap (λ (e : TableEntry). Some (plain_entry e)) c.index.ensures ∙ sym (p.stood c.index.result.now)
 
 pub returns-in-None-clause-entry : goal.returns-in-None-clause-entry
 returns-in-None-clause-entry c =

@@ -1,5 +1,5 @@
 use Rattle.std.proofs.Common.{◌≡◌, ◌<◌, ◌++◌, ◌∙◌, List, length, get_or, subst, map}
-use Rattle.catalogue.specs.declared.entry.Entry.{Entry}
+use Rattle.catalogue.specs.declared.entry.TableEntry.{TableEntry}
 use Rattle.catalogue.specs.declared.entry.Segment.{Segment}
 use Rattle.catalogue.proofs.Rows.{more_runs}
 use Rattle.catalogue.proofs.catalogue.Catalogue.runs.Goals as goal
@@ -8,8 +8,8 @@ pub loop-entry-preserved : goal.loop-entry-preserved
 loop-entry-preserved c =
     let es = c.args.self.now.entries.items in
     let same = c.deref-entry-items.ensures.value in
-    let lt = subst (λ (xs : List Entry). c.loop-entry.entry-index < length xs) same c.loop-entry-test.true in
-    let is = subst (λ (xs : List Entry). c.entry-item.result ≡ get_or xs c.loop-entry.entry-index c.entry-item.result) same c.entry-item.is in
+    let lt = subst (λ (xs : List TableEntry). c.loop-entry.entry-index < length xs) same c.loop-entry-test.true in
+    let is = subst (λ (xs : List TableEntry). c.entry-item.result ≡ get_or xs c.loop-entry.entry-index c.entry-item.result) same c.entry-item.is in
     c.in_ok-put_runs.ensures
     ∙ (λ i. c.loop-entry.invariant i ++ map (λ (s : Segment). s.place.run) (c.deref.ensures.value i))
     ∙ more_runs es c.loop-entry.entry-index c.entry-item.result lt is

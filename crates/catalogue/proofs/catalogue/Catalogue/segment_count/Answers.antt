@@ -1,5 +1,5 @@
 use Rattle.std.proofs.Common.{◌≡◌, ◌<◌, List, length, get_or, subst, arith}
-use Rattle.catalogue.specs.declared.entry.Entry.{Entry}
+use Rattle.catalogue.specs.declared.entry.TableEntry.{TableEntry}
 use Rattle.catalogue.proofs.Rows.{counted_within, few_segments}
 use Rattle.catalogue.proofs.catalogue.Catalogue.segment_count.Goals as goal
 
@@ -7,8 +7,8 @@ pub overflow_add-count : goal.overflow_add-count
 overflow_add-count c =
     let es = c.args.self.now.entries.items in
     let same = c.deref-entry-items.ensures.value in
-    let lt = subst (λ (xs : List Entry). c.loop-entry.entry-index < length xs) same c.loop-entry-test.true in
-    let is = subst (λ (xs : List Entry). c.entry-item.result ≡ get_or xs c.loop-entry.entry-index c.entry-item.result) same c.entry-item.is in
+    let lt = subst (λ (xs : List TableEntry). c.loop-entry.entry-index < length xs) same c.loop-entry-test.true in
+    let is = subst (λ (xs : List TableEntry). c.entry-item.result ≡ get_or xs c.loop-entry.entry-index c.entry-item.result) same c.entry-item.is in
     let within = counted_within es c.loop-entry.entry-index c.entry-item.result lt is in
     let most = few_segments es c.args.self.now.kept in
     let so_far = c.loop-entry.invariant in
