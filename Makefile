@@ -46,8 +46,8 @@ edit-reasons:
 memory: $(TESTS)
 	tests/refused_memory_in_crates $(REFUSING)
 
-# The program as it is built, on whole streams, with failing input and output, with each read failed and each allocation refused; then texts.
-vectors: bin/arrowstore crates/test_texts/out/test_texts
+# The program as it is built, on whole streams, with failing input and output, with each read and each write failed and each allocation refused; then texts.
+vectors: bin/arrowstore
 	tests/readme bin/arrowstore
 	tests/program bin/arrowstore
 	tests/stores bin/arrowstore
@@ -58,12 +58,9 @@ vectors: bin/arrowstore crates/test_texts/out/test_texts
 	tests/metadata bin/arrowstore
 	tests/refused_memory bin/arrowstore
 	tests/failing_reads bin/arrowstore
+	tests/failing_writes bin/arrowstore
 	tests/run_vectors bin/arrowstore tests/vectors/ints tests/vectors/streams tests/vectors/traps
-	tests/texts crates/test_texts/out/test_texts tests/vectors/texts.jsonl tests/vectors/texts_worked.jsonl
-
-crates/test_texts/out/test_texts: $(SOURCES)
-	cd crates/test_texts && rt run < /dev/null > /dev/null
-	@touch $@
+	tests/texts bin/arrowstore tests/vectors/texts.jsonl tests/vectors/texts_worked.jsonl
 
 bench: bench-recode bench-texts bench-store bench-device bench-bitmap
 

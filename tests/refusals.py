@@ -1,4 +1,5 @@
-"""Runs a program with each of its allocations refused, or each read of its input failed, in turn, by a library that is loaded before the C library."""
+"""Runs a program with each of its allocations refused, or each read of its input or write of its output failed, in turn, by a library that is loaded
+before the C library."""
 import functools
 import os
 import shutil
@@ -43,7 +44,7 @@ def on_a_copy(store):
 def in_turn(counted, command, given, answer, setting, **extra):
     """The answer undisturbed, and the answers with the first, the second .. of what is counted going wrong."""
     counts = os.path.join(ROOM.name, "counts")
-    undisturbed = answer(command, given, LD_PRELOAD=library(), COUNTS=counts)
+    undisturbed = answer(command, given, LD_PRELOAD=library(), COUNTS=counts, **extra)
     numbers = range(1, int(content(counts).split()[counted]) + 1)
     with ThreadPoolExecutor(os.cpu_count()) as pool:
         answers = pool.map(lambda n: answer(command, given, LD_PRELOAD=library(), **extra, **{setting: str(n)}), numbers)
@@ -57,4 +58,14 @@ def each_refused(command, given=b"", answer=answer_of):
 
 def each_read_failed(command, given, error, answer=answer_of):
     """With each read of standard input failed, with this error of the system."""
-    return in_turn(1, command, given, answer, "FAILED_READ", READ_ERROR=str(error))
+    return in_turn(1, command, given, answer, "FAILED_READ", CALL_ERROR=str(error))
+
+
+def each_write_failed(command, given, error, most):
+    """With each write to standard output failed, with this error of the system; each of the others takes at most so many bytes."""
+    return in_turn(2, command, given, answer_of, "FAILED_WRITE", CALL_ERROR=str(error), MOST=str(most))
+
+
+def in_pieces(command, given, most):
+    """Where each read of standard input and each write to standard output moves at most so many bytes."""
+    return answer_of(command, given, LD_PRELOAD=library(), MOST=str(most))

@@ -1,6 +1,7 @@
 /* Loaded before the C library: refuses one allocation of a program, the one whose number is in REFUSED, or fails one read of its
-   standard input, the one whose number is in FAILED_READ, with the error READ_ERROR; both are counted from 1.
-   At its end the program's numbers of allocations and of such reads are written into the file COUNTS, where that is set. */
+   standard input, the one whose number is in FAILED_READ, or one write to its standard output, that in FAILED_WRITE, with the error
+   CALL_ERROR, where 0 is a call that moves no byte; all are counted from 1. Where MOST is set, such a call moves at most so many bytes.
+   At its end the program's numbers of allocations, of such reads and of such writes are written into the file COUNTS, where that is set. */
 #define _GNU_SOURCE
 #include <errno.h>
 #include <stdio.h>
@@ -12,7 +13,7 @@
 extern void *__libc_malloc(size_t), *__libc_calloc(size_t, size_t), *__libc_realloc(void *, size_t);
 extern void *__libc_memalign(size_t, size_t);
 
-static long allocations, refused, reads, failed, error;
+static long allocations, refused, reads, failed_read, writes, failed_write, error, most;
 
 static long number(const char *name) {
     const char *given = getenv(name);
@@ -21,16 +22,18 @@ static long number(const char *name) {
 
 __attribute__((constructor)) static void begin(void) {
     refused = number("REFUSED");
-    failed = number("FAILED_READ");
-    error = number("READ_ERROR");
-    allocations = reads = 0;
+    failed_read = number("FAILED_READ");
+    failed_write = number("FAILED_WRITE");
+    error = number("CALL_ERROR");
+    most = number("MOST");
+    allocations = reads = writes = 0;
 }
 
 __attribute__((destructor)) static void end(void) {
     const char *path = getenv("COUNTS");
     FILE *out = path ? fopen(path, "w") : NULL;
     if (out) {
-        fprintf(out, "%ld %ld\n", allocations, reads);
+        fprintf(out, "%ld %ld %ld\n", allocations, reads, writes);
         fclose(out);
     }
 }
@@ -70,10 +73,23 @@ int posix_memalign(void **block, size_t alignment, size_t size) {
     return 0;
 }
 
+static ssize_t failed(void) {
+    errno = error;
+    return error ? -1 : 0;
+}
+
+static size_t taken(size_t size) {
+    return most && (size_t)most < size ? (size_t)most : size;
+}
+
 ssize_t read(int file, void *to, size_t size) {
-    if (file == STDIN_FILENO && ++reads == failed) {
-        errno = error;
-        return -1;
-    }
-    return syscall(SYS_read, file, to, size);
+    if (file != STDIN_FILENO)
+        return syscall(SYS_read, file, to, size);
+    return ++reads == failed_read ? failed() : syscall(SYS_read, file, to, taken(size));
+}
+
+ssize_t write(int file, const void *from, size_t size) {
+    if (file != STDOUT_FILENO)
+        return syscall(SYS_write, file, from, size);
+    return ++writes == failed_write ? failed() : syscall(SYS_write, file, from, taken(size));
 }

@@ -1,12 +1,13 @@
 -- The low bytes of an integer that fits are the number that stands for it.
 use Rattle.std.specs.Prelude.{pos, negsuc, ℤ, ◌≤ℤ◌, neg_ℤ, int_le, int_lt, ◌&&◌}
-use Rattle.std.specs.Int.{w128}
-use Rattle.std.proofs.Common.{◌≡◌, ℕ, refl, zero, suc, ◌+◌, ◌-◌, ◌*◌, ◌/◌, ◌%◌, ◌^◌, ◌≤◌, ◌<◌, Bool, true, false, ap, sym, ◌∙◌, arith}
+use Rattle.std.specs.Int.{w128, byte_at, bytes_low_first, cast_unsigned, to_le_bytes}
+use Rattle.std.proofs.Common.{◌≡◌, ℕ, refl, zero, suc, ◌+◌, ◌-◌, ◌*◌, ◌/◌, ◌%◌, ◌^◌, ◌≤◌, ◌<◌, Bool, true, false, List, ◌∷◌, take, ap, ap₂, sym, ◌∙◌, arith}
 use Rattle.std.proofs.lemmas.Bool.{and_parts}
 use Rattle.std.proofs.lemmas.Int.{ints}
-use Rattle.std.proofs.Math.Nat.{mod-eq_of_lt, pow-suc}
+use Rattle.std.proofs.Math.Nat.{add-mul-div_left, add-mul-mod_self_left, div-one, mod-add-div, mod-eq_of_lt, one-le-pow, pow-suc, pow-succ'}
+use Rattle.std.proofs.lemmas.Nat.{pow-add}
 use Rattle.std.proofs.Math.Pow.{not_mod}
-use Rattle.byteorder.specs.Endian.{low_bytes}
+use Rattle.byteorder.specs.Endian.{little_bytes, low_bytes}
 use Rattle.arrow_schema.specs.Column.{is_bit_width}
 use Rattle.arrow_schema.specs.Column.{integers}
 use Rattle.arrow_schema.specs.View.{bits_of}
@@ -48,11 +49,58 @@ low_is bits signed z is h =
     let w = width_cases bits is in
     low_number (bits / 8) signed z w.1 (omega (arith, w.2)) (rw w.0 h)
 
+-- modulo a number with room for a byte above p, the byte above p stays
+byte_above : (x p m : ℕ) → 0 < p → (x % (p * (256 * m))) / p % 256 ≡ x / p % 256
+byte_above x p m some =
+    let b : ℕ = p * (256 * m) in
+    let split : x % b + p * (256 * (m * (x / b))) ≡ x = omega (arith, mod-add-div x b) in
+    let above : x / p ≡ (x % b) / p + 256 * (m * (x / b)) = ap (λ (t : ℕ). t / p) (sym split) ∙ add-mul-div_left (x % b) (256 * (m * (x / b))) some in
+    sym (ap (λ (t : ℕ). t % 256) above ∙ add-mul-mod_self_left ((x % b) / p) 256 (m * (x / b)))
+
+byte_place : (i x : ℕ) → byte_at i x ≡ x / 256 ^ i % 256
+byte_place zero x = ap (λ (t : ℕ). t % 256) (sym (div-one x))
+byte_place (suc i) x = refl
+
+byte_left : (x i k : ℕ) → byte_at i (x % 256 ^ (i + suc k)) ≡ byte_at i x
+byte_left x i k =
+    let whole : 256 ^ (i + suc k) ≡ 256 ^ i * (256 * 256 ^ k) = pow-add 256 i (suc k) ∙ ap (λ (t : ℕ). 256 ^ i * t) (pow-succ' 256 k) in
+    byte_place i (x % 256 ^ (i + suc k))
+    ∙ (ap (λ (b : ℕ). (x % b) / 256 ^ i % 256) whole ∙ (byte_above x (256 ^ i) (256 ^ k) (one-le-pow i 256 (omega arith)) ∙ sym (byte_place i x)))
+
+bytes_left : (x i n k : ℕ) → bytes_low_first i n (x % 256 ^ (i + n + k)) ≡ bytes_low_first i n x
+bytes_left x i zero k = refl
+bytes_left x i (suc n) k =
+    let here : i + suc n + k ≡ i + suc (n + k) = omega arith in
+    let there : i + suc n + k ≡ suc i + n + k = omega arith in
+    ap₂ (λ (b : ℕ) (bs : List ℕ). b ∷ bs)
+    (ap (λ (m : ℕ). byte_at i (x % 256 ^ m)) here ∙ byte_left x i (n + k))
+    (ap (λ (m : ℕ). bytes_low_first (suc i) n (x % 256 ^ m)) there ∙ bytes_left x (suc i) n k)
+
+-- the low bytes of a number are those of what is below them
+low_left : (x n : ℕ) → little_bytes n (x % 2 ^ (8 * n)) ≡ little_bytes n x
+low_left x n =
+    let none : n ≡ 0 + n + 0 = omega arith in
+    ap (λ (b : ℕ). little_bytes n (x % b)) (powers n ∙ ap (λ (m : ℕ). 256 ^ m) none) ∙ bytes_left x 0 n 0
+
+taken_from : (i k n x : ℕ) → n ≤ k → take n (bytes_low_first i k x) ≡ bytes_low_first i n x
+taken_from i k zero x le = refl
+taken_from i zero (suc n) x le = absurd (omega arith)
+taken_from i (suc k) (suc n) x le = ap (λ (bs : List ℕ). byte_at i x ∷ bs) (taken_from (suc i) k n x (let less : n ≤ k = omega arith in less))
+
+pub low_taken : (n x : ℕ) → n ≤ 16 → take n (to_le_bytes w128 x) ≡ little_bytes n x
+low_taken n x le = taken_from 0 16 n x le
+
 -- of an integer that fits its type
-pub low_fits : (width : BitWidth) (signed : Bool) (z : ℤ) → null_or true (fits_kind (integers (bits_of width) signed)) (number z) ≡ true
+low_fits : (width : BitWidth) (signed : Bool) (z : ℤ) → null_or true (fits_kind (integers (bits_of width) signed)) (number z) ≡ true
     → low_bytes w128 (bits_of width / 8) z ≡ number_of (bits_of width / 8) z
 unfolding fits_kind
 low_fits Eight signed z h = low_is 8 signed z refl h
 low_fits Sixteen signed z h = low_is 16 signed z refl h
 low_fits ThirtyTwo signed z h = low_is 32 signed z refl h
 low_fits SixtyFour signed z h = low_is 64 signed z refl h
+
+-- its low bytes are those of the number that stands for it
+pub stored_fits : (width : BitWidth) (signed : Bool) (z : ℤ) → null_or true (fits_kind (integers (bits_of width) signed)) (number z) ≡ true
+    → little_bytes (bits_of width / 8) (cast_unsigned w128 z) ≡ little_bytes (bits_of width / 8) (number_of (bits_of width / 8) z)
+stored_fits width signed z h =
+    sym (low_left (cast_unsigned w128 z) (bits_of width / 8)) ∙ ap (little_bytes (bits_of width / 8)) (low_fits width signed z h)

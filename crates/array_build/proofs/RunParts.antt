@@ -1,32 +1,33 @@
--- Runs of structs, field by field: the runs of each field, and the rows that have them.
+-- Runs of structs, field by field: the runs of a field, and what they build.
 use Rattle.std.specs.Prelude.{None, nat_le}
 use Rattle.std.specs.List.{flat_map, list_all, range_with_len}
-use Rattle.std.specs.Global.{Global}
-use Rattle.std.proofs.Common.{Vec, ◌≡◌, ℕ, zero, suc, ◌+◌, ◌<◌, ◌≤◌, Bool, true, List, [], ◌∷◌, ◌++◌, map, length, get_or, refl, sym, ap, ap₂, subst, ◌∙◌, arith, append_assoc, append-nil}
+use Rattle.std.proofs.Common.{◌≡◌, ℕ, zero, suc, ◌+◌, ◌<◌, ◌≤◌, Bool, true, List, [], ◌∷◌, ◌++◌, map, length, drop, get_or, refl, sym, ap, ap₂, subst, ◌∙◌, arith, append_assoc, append-nil}
 use Rattle.std.proofs.lemmas.Bool.{and_parts, and_from, leb-true, le-leb}
-use Rattle.std.proofs.lemmas.List.{map-append}
+use Rattle.std.proofs.lemmas.List.{drop_all, map-append}
 use Rattle.std.proofs.lemmas.List.Concat.{flat_map-append}
 use Rattle.std.proofs.lemmas.List.Folds.{list_all-append}
 use Rattle.array_build.proofs.Arrays.{structs_are}
 use Rattle.array_build.proofs.Premises.{parts_can_be_built}
 use Rattle.array_build.proofs.Repeated.{repeated_map}
 use Rattle.array_build.proofs.RunArrays.{kind_slots}
-use Rattle.array_build.proofs.RunColumns.{rows_built}
-use Rattle.array_build.specs.Batch.{PlainBatch, built_at, plain_column, with_arrays}
-use Rattle.array_build.specs.inner.RunParts.{arrays_from, children_behind, child_at, parts_behind, part_cells_behind, has_sound_part, IsPartOf, IsPart, AreParts}
-use Rattle.array_build.specs.inner.Runs.{AreReady, built_columns, kind_cells, runs_bits, with_run_slots}
-use Rattle.array_runs.specs.Runs.{run_cells, runs_cells, is_run_sound, are_runs_sound, is_run_valid, are_runs_valid, HaveRuns, are_columns_sound, can_build_columns}
+use Rattle.array_build.specs.Batch.{PlainBatch, built_at, built_below, plain_column, with_arrays}
+use Rattle.array_build.specs.inner.RunParts.{arrays_from, children_behind, child_at, parts_behind, part_cells_behind, has_sound_part, IsPartOf, IsPart}
+use Rattle.array_build.specs.inner.Runs.{AreReady, kind_cells, runs_bits, with_run_slots}
+use Rattle.array_build.specs.laws.Joined.{no_arrays, more_arrays}
+use Rattle.array_runs.specs.Runs.{run_cells, runs_cells, is_run_sound, are_runs_sound, is_run_valid, are_runs_valid}
 use Rattle.array_runs.specs.declared.run.SlotRun.{SlotRun}
 use Rattle.array_runs.specs.declared.run.SlotRun.TheVariants.{Slots, Nulls}
-use Rattle.array_runs.specs.laws.Rows.{runs_can_be_built}
 use Rattle.arrow_schema.specs.Column.{Column, Columns, no_column, and_column, columns_of, structs}
+use Rattle.arrow_schema.specs.View.{column_of}
+use Rattle.arrow_schema.specs.declared.types.Field.{Field}
 use Rattle.cells.specs.Cell.{Cell, null}
 use Rattle.cells.specs.Dictionary.{part_list}
 use Rattle.columns.specs.Array.{Array, Arrays, slots_in, children_in, first_array, other_arrays}
-use Rattle.columns.specs.Built.{first_cell, other_cells}
+use Rattle.columns.specs.Buildable.{can_build, can_build_parts}
+use Rattle.columns.specs.Built.{first_cell, other_cells, built}
 use Rattle.columns.specs.CellAt.{cell_at, kind_cell, cells_from, is_valid, part_cells, row_at}
 use Rattle.columns.specs.Sound.{is_sound, are_sound, has_sound_children}
-use Rattle.columns.specs.Tests.{Typed}
+use Rattle.columns.specs.Tests.{Typed, every_array}
 use Rattle.columns.specs.View.{view_array, array_in, arrays_in, placed_arrays}
 use Rattle.columns.specs.declared.array.Dictionary.{Dictionary}
 use Rattle.columns.specs.declared.array.PlacedArray.{PlacedArray}
@@ -147,12 +148,6 @@ rows_others j c cs (r ∷ runs) =
     map-append other_cells (parts_behind j (and_column c cs) r) (flat_map (parts_behind j (and_column c cs)) runs)
     ∙ ap₂ (λ (xs ys : List (List Cell)). xs ++ ys) (others_of_run j c cs r) (rows_others j c cs runs)
 
-pub are_more : (j : ℕ) (runs : List SlotRun) (rss : List (List SlotRun)) (rs : List SlotRun) → AreParts j runs rss → IsPart (j + length rss) runs rs → AreParts j runs (rss ++ rs ∷ [])
-are_more j runs [] rs are is = let e : j + 0 ≡ j = omega arith in (subst (λ (k : ℕ). IsPart k runs rs) e is, tt)
-are_more j runs (r ∷ rss) rs are is =
-    let e : j + suc (length rss) ≡ j + 1 + length rss = omega arith in
-    (are.0, are_more (j + 1) runs rss rs are.1 (subst (λ (k : ℕ). IsPart k runs rs) e is))
-
 -- the fields from a place on can be looked up in a run
 abbrev is_sound_behind : ℕ → Columns → SlotRun → Bool
 is_sound_behind j cs (Slots v from n) = are_sound cs (from + n) (children_behind j v)
@@ -174,21 +169,6 @@ own_parts j c cs (r ∷ runs) h =
     let here = own_part j c cs r both.0 in
     let more = own_parts j c cs runs both.1 in
     (and_from _ _ here.0 more.0, and_from _ _ here.1 more.1)
-
-all_have : (cs : List Column) (j : ℕ) (runs : List SlotRun) (rss : List (List SlotRun)) → AreParts j runs rss → length rss ≡ length cs → list_all (is_sound_behind j (columns_of cs)) runs ≡ true
-    → HaveRuns (columns_of cs) rss (flat_map (parts_behind j (columns_of cs)) runs) × (are_columns_sound (columns_of cs) rss ≡ true)
-unfolding HaveRuns are_columns_sound
-all_have [] j runs [] are len sound = (tt, refl)
-all_have [] j runs (rs ∷ rss) are len sound = absurd (omega arith)
-all_have (c ∷ cs) j runs [] are len sound = absurd (omega arith)
-all_have (c ∷ cs) j runs (rs ∷ rss) are len sound =
-    let parts = own_parts j c (columns_of cs) runs sound in
-    let own = are.0 c parts.0 in
-    let rest = all_have cs (j + 1) runs rss are.1 (omega arith) parts.1 in
-    let first : map first_cell (flat_map (parts_behind j (and_column c (columns_of cs))) runs) ≡ runs_cells c rs = rows_first j c (columns_of cs) runs ∙ sym own.0 in
-    let behind : HaveRuns (columns_of cs) rss (map other_cells (flat_map (parts_behind j (and_column c (columns_of cs))) runs))
-    = subst (λ (xs : List (List Cell)). HaveRuns (columns_of cs) rss xs) (sym (rows_others j c (columns_of cs) runs)) rest.0 in
-    ((first, behind), and_from _ _ own.1 rest.1)
 
 -- ---- structs whose slots are valid
 
@@ -239,25 +219,85 @@ runs_sound cs (run ∷ runs) h =
     let both = and_parts (is_run_sound (plain_column (structs cs) None) run) (are_runs_sound (plain_column (structs cs) None) runs) h in
     and_from _ _ (run_sound cs run both.0) (runs_sound cs runs both.1)
 
--- the parts of structs have the runs that are made for their fields
-pub parts_have : (cs : List Column) (runs : List SlotRun) (rss : List (List SlotRun)) → AreParts 0 runs rss → length rss ≡ length cs → AreReady (structs (columns_of cs)) runs
-    → HaveRuns (columns_of cs) rss (map part_list (kind_cells (structs (columns_of cs)) runs)) × (are_columns_sound (columns_of cs) rss ≡ true)
-parts_have cs runs rss are len ready =
-    let all = all_have cs 0 runs rss are len (runs_sound (columns_of cs) runs ready.sound) in
-    (subst (λ (rows : List (List Cell)). HaveRuns (columns_of cs) rss rows) (sym (runs_parts (columns_of cs) runs ready.valid)) all.0, all.1)
+-- ---- field by field
+
+-- the rows of the parts that the fields from a place on have
+abbrev pub rows_behind : ℕ → Columns → List SlotRun → List (List Cell)
+rows_behind j cs runs = flat_map (parts_behind j cs) runs
+
+-- the arrays of the fields from a place on can be built
+pub record AreBehind (j : ℕ) (cs : Columns) (runs : List SlotRun) : Type 0 where
+  pub sound : list_all (is_sound_behind j cs) runs ≡ true
+  pub fit : can_build_parts cs (rows_behind j cs runs) ≡ true
+
+pub all_behind : (cs : Columns) (runs : List SlotRun) → AreReady (structs cs) runs → AreBehind 0 cs runs
+all_behind cs runs ready = record {
+  sound = runs_sound cs runs ready.sound;
+  fit = ap (can_build_parts cs) (sym (runs_parts cs runs ready.valid)) ∙ parts_can_be_built cs (kind_cells (structs cs) runs) ready.fit;
+}
+
+-- of the field at a place, and of those behind it
+pub record IsNext (j : ℕ) (c : Column) (cs : Columns) (runs part : List SlotRun) : Type 0 where
+  pub sound : are_runs_sound c part ≡ true
+  pub fits : can_build c (runs_cells c part) ≡ true
+  pub behind : AreBehind (j + 1) cs runs
+
+next_part : (j : ℕ) (c : Column) (cs : Columns) (runs part : List SlotRun) → IsPart j runs part → AreBehind j (and_column c cs) runs → IsNext j c cs runs part
+unfolding can_build
+next_part j c cs runs part is behind =
+    let parts = own_parts j c cs runs behind.sound in
+    let own = is c parts.0 in
+    let rows : List (List Cell) = rows_behind j (and_column c cs) runs in
+    let can = and_parts (can_build c (map first_cell rows)) (can_build_parts cs (map other_cells rows)) behind.fit in
+    record {
+      sound = own.1;
+      fits = ap (can_build c) (own.0 ∙ sym (rows_first j c cs runs)) ∙ can.0;
+      behind = record { sound = parts.1; fit = ap (can_build_parts cs) (sym (rows_others j c cs runs)) ∙ can.1 };
+    }
+
+next_built : (j : ℕ) (c : Column) (cs : Columns) (runs part : List SlotRun) → IsPart j runs part → AreBehind j (and_column c cs) runs
+    → built_below (and_column c cs) (rows_behind j (and_column c cs) runs) ≡ built_at c (runs_cells c part) ++ built_below cs (rows_behind (j + 1) cs runs)
+unfolding built every_array
+next_built j c cs runs part is behind =
+    let parts = own_parts j c cs runs behind.sound in
+    let own = is c parts.0 in
+    ap₂ (λ (cells : List Cell) (rows : List (List Cell)). built_at c cells ++ built_below cs rows) (rows_first j c cs runs ∙ sym own.0) (rows_others j c cs runs)
+
+abbrev pub columns_behind : ℕ → List Field → Columns
+columns_behind j fields = columns_of (map column_of (drop j fields))
+
+pub place_next : (fields : List Field) (j : ℕ) (f : Field) (runs part : List SlotRun) → drop j fields ≡ f ∷ drop (j + 1) fields → IsPart j runs part
+    → AreBehind j (columns_behind j fields) runs → IsNext j (column_of f) (columns_behind (j + 1) fields) runs part
+place_next fields j f runs part item is behind =
+    next_part j (column_of f) (columns_behind (j + 1) fields) runs part is (subst (λ (fs : List Field). AreBehind j (columns_of (map column_of fs)) runs) item behind)
+
+-- the arrays of this field, and then those of the others
+pub place_built : (fields : List Field) (j : ℕ) (f : Field) (runs part : List SlotRun) (p q : PlainBatch) → drop j fields ≡ f ∷ drop (j + 1) fields → IsPart j runs part
+    → AreBehind j (columns_behind j fields) runs → q ≡ with_arrays p (built_at (column_of f) (runs_cells (column_of f) part))
+    → with_arrays q (built_below (columns_behind (j + 1) fields) (rows_behind (j + 1) (columns_behind (j + 1) fields) runs))
+    ≡ with_arrays p (built_below (columns_behind j fields) (rows_behind j (columns_behind j fields) runs))
+place_built fields j f runs part p q item is behind h =
+    let own : List Typed = built_at (column_of f) (runs_cells (column_of f) part) in
+    let others : List Typed = built_below (columns_behind (j + 1) fields) (rows_behind (j + 1) (columns_behind (j + 1) fields) runs) in
+    let all : built_below (columns_behind j fields) (rows_behind j (columns_behind j fields) runs) ≡ own ++ others =
+    ap (λ (fs : List Field). built_below (columns_of (map column_of fs)) (rows_behind j (columns_of (map column_of fs)) runs)) item
+    ∙ next_built j (column_of f) (columns_behind (j + 1) fields) runs part is (subst (λ (fs : List Field). AreBehind j (columns_of (map column_of fs)) runs) item behind) in
+    ap (λ (x : PlainBatch). with_arrays x others) h ∙ more_arrays p own others ∙ ap (with_arrays p) (sym all)
+
+-- behind the last field there is nothing
+pub no_field : (fields : List Field) (j : ℕ) (runs : List SlotRun) (p : PlainBatch) → length fields ≤ j
+    → with_arrays p (built_below (columns_behind j fields) (rows_behind j (columns_behind j fields) runs)) ≡ p
+unfolding built every_array
+no_field fields j runs p end =
+    ap (λ (fs : List Field). with_arrays p (built_below (columns_of (map column_of fs)) (rows_behind j (columns_of (map column_of fs)) runs))) (drop_all j fields end) ∙ no_arrays p
+
+-- the rows of the parts of structs
+pub rows_of_parts : (cs : Columns) (runs : List SlotRun) → AreReady (structs cs) runs → rows_behind 0 cs runs ≡ map part_list (kind_cells (structs cs) runs)
+rows_of_parts cs runs ready = sym (runs_parts cs runs ready.valid)
 
 -- the node and the validity bitmap of structs, and the arrays of their parts
-pub struct_runs_are : (p q : PlainBatch) (cs : Columns) (runs : List SlotRun) (rss : List (List SlotRun)) → HaveRuns cs rss (map part_list (kind_cells (structs cs) runs))
-    → q ≡ with_run_slots p (runs_bits runs) → with_arrays q (built_columns cs rss) ≡ with_arrays p (built_at (plain_column (structs cs) None) (kind_cells (structs cs) runs))
-struct_runs_are p q cs runs rss have slots =
+pub struct_runs_are : (p q : PlainBatch) (cs : Columns) (runs : List SlotRun) → q ≡ with_run_slots p (runs_bits runs)
+    → with_arrays q (built_below cs (map part_list (kind_cells (structs cs) runs))) ≡ with_arrays p (built_at (plain_column (structs cs) None) (kind_cells (structs cs) runs))
+struct_runs_are p q cs runs slots =
     let cells : List Cell = kind_cells (structs cs) runs in
-    ap₂ (λ (x : PlainBatch) (ts : List Typed). with_arrays x ts) (slots ∙ kind_slots p (structs cs) runs refl) (rows_built cs rss (map part_list cells) have) ∙ structs_are cs p cells
-
--- what is asked of the runs of the fields of structs
-pub parts_fit : (cs : Columns) (runs : List SlotRun) (rss : List (List SlotRun)) → HaveRuns cs rss (map part_list (kind_cells (structs cs) runs)) → AreReady (structs cs) runs → can_build_columns cs rss ≡ true
-parts_fit cs runs rss have ready =
-    runs_can_be_built cs rss (map part_list (kind_cells (structs cs) runs)) have (parts_can_be_built cs (kind_cells (structs cs) runs) ready.fit)
-
--- the lists of vectors
-abbrev pub run_lists : List (Vec SlotRun Global) → List (List SlotRun)
-run_lists vs = map (λ v. v.items) vs
+    ap (λ (x : PlainBatch). with_arrays x (built_below cs (map part_list cells))) (slots ∙ kind_slots p (structs cs) runs refl) ∙ structs_are cs p cells

@@ -17,7 +17,7 @@ use crate::flat::{
     build_texts, build_timestamps,
 };
 use crate::item_cells::{items, items_of_size};
-use crate::part_cells::{parts, structs};
+use crate::part_cells::{cells_at, parts};
 use arrow_schema::{DataType, DictSpec, Field};
 use columns::OffsetWidth;
 use std::alloc::{AllocError, Global};
@@ -191,8 +191,10 @@ pub fn build<'a>(
     requires { can_build_rows (columns_of (map column_of fields.now)) (map borrowed_cells rows.now) ≡ true }
     ensures { IfOk result (λ batch. batch_in batch ≡ batch_of (built_below (columns_of (map column_of fields.now)) (map borrowed_cells rows.now))) }
 {
-    let structs = structs(alloc, rows)?;
     let mut batch = empty_batch(alloc);
-    build_parts(alloc, &mut batch, fields, &structs)?;
+    for (place, field) in fields.iter().enumerate() {
+        let cells = cells_at(alloc, place, rows)?;
+        build_column(alloc, &mut batch, field, &cells)?;
+    }
     Ok(batch)
 }

@@ -7,6 +7,7 @@ ghost use Rattle.array_build.specs.inner.Nodes.{list_kind};
 ghost use Rattle.array_build.specs.inner.Runs.{AreAsWritten, AreReady, built_columns, contents_width, fixed_width, kind_cells};
 ghost use Rattle.array_runs.specs.Runs.{HaveRuns, are_columns_sound, are_runs_sound, can_build_columns, runs_cells};
 ghost use Rattle.cells.specs.Cell.{Cell};
+ghost use Rattle.cells.specs.Dictionary.{part_list};
 ghost use Rattle.columns.specs.Buildable.{can_build};
 
 use crate::as_written::are_as_written;
@@ -16,7 +17,7 @@ use crate::coded_cells::{push_dictionary, push_run_indices};
 use crate::flat_runs::{build_run_bits, build_run_contents, build_run_nulls, build_run_values};
 use crate::run_fixed_items::fixed_item_runs;
 use crate::run_items::{item_runs, run_list_offsets};
-use crate::run_parts::part_runs;
+use crate::run_parts::runs_at;
 use crate::run_slots::push_run_slots;
 use crate::widths::{contents_width, value_width};
 use array_runs::{SlotRun, valid_runs};
@@ -139,9 +140,27 @@ fn build_run_structs<'a>(
     ensures { OnOk result (batch_in batch.new ≡ with_arrays (batch_in batch.old) (built_at (plain_column (structs (columns_of (map column_of fields.now))) None)
         (kind_cells (structs (columns_of (map column_of fields.now))) runs.now))) }
 {
-    let parts = part_runs(alloc, fields, runs)?;
     push_run_slots(alloc, batch, runs)?;
-    build_run_parts(alloc, batch, fields, &parts)
+    build_struct_parts(alloc, batch, fields, runs)
+}
+
+// Adds the arrays of the fields of structs. The runs of a field are let go before those of the next one are made.
+#[cycle(by_runs)]
+fn build_struct_parts<'a>(
+    alloc: Global,
+    batch: &mut BuiltBatch<'a>,
+    fields: &[Field],
+    runs: &[SlotRun<'a>],
+) -> Result<(), AllocError>
+    requires ready { AreReady (structs (columns_of (map column_of fields.now))) runs.now }
+    ensures { OnOk result (batch_in batch.new ≡ with_arrays (batch_in batch.old) (built_below (columns_of (map column_of fields.now))
+        (map part_list (kind_cells (structs (columns_of (map column_of fields.now))) runs.now)))) }
+{
+    for (place, field) in fields.iter().enumerate() {
+        let part = runs_at(alloc, runs, place)?;
+        build_run_column(alloc, batch, field, &part)?;
+    }
+    Ok(())
 }
 
 // The same of any runs, which are split at their nulls.
@@ -201,7 +220,6 @@ fn build_run_column<'a>(
 }
 
 // Adds the arrays of columns, and all below them.
-#[cycle(by_runs)]
 fn build_run_parts<'a>(
     alloc: Global,
     batch: &mut BuiltBatch<'a>,

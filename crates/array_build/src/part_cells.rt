@@ -1,21 +1,64 @@
-// The cells of one column of structs.
-ghost use Rattle.std.specs.Prelude.{◌≡◌, IfOk, map, drop};
+// The cells of one column of rows or of structs.
+ghost use Rattle.std.specs.Prelude.{◌≡◌, ◌<◌, ◌+◌, ◌++◌, ◌∷◌, [], IfOk, map, drop, vec_len, vec_capacity};
 ghost use Rattle.cells.specs.Dictionary.{part_list};
+ghost use Rattle.cells.specs.View.{cell};
 ghost use Rattle.columns.specs.Built.{first_cell};
 ghost use Rattle.values.specs.Borrowed.{borrowed_cell, borrowed_cells};
 
+use cells::Value;
 use std::alloc::{AllocError, Global};
-use values::{ValueRef, Values};
+use values::{ValueRef, Values, borrow_value};
 
 // The cell at a place of a row, and a null past its end.
 #[tactic(auto, using(crate::proofs::FirstCells::part_found, crate::proofs::FirstCells::part_absent))]
-fn cell_at<'a>(row: Values<'a>, place: usize) -> ValueRef<'a>
-    ensures { borrowed_cell result ≡ first_cell (drop place (borrowed_cells row.entry)) }
+fn cell_at<'a>(row: &Values<'a>, place: usize) -> ValueRef<'a>
+    ensures { borrowed_cell result ≡ first_cell (drop place (borrowed_cells row.now)) }
 {
     match row.get(place) {
         Some(cell) => cell,
         None => ValueRef::Null,
     }
+}
+
+// Adds the cell at a place of a row that is kept as it stands: borrowed where it goes, since a `ValueRef` is large.
+fn push_stored<'a>(out: &mut Vec<ValueRef<'a>>, cells: &'a [Value], place: usize)
+    requires room { vec_len out.old < vec_capacity out.old }
+    ensures items { map borrowed_cell out.new.items ≡ map borrowed_cell out.old.items ++ first_cell (drop place (map cell cells.now)) ∷ [] }
+    ensures len { vec_len out.new ≡ vec_len out.old + 1 }
+    ensures capacity { vec_capacity out.new ≡ vec_capacity out.old }
+{
+    match cells.get(place) {
+        Some(value) => out.push_reserved(borrow_value(value)),
+        None => out.push_reserved(ValueRef::Null),
+    }
+}
+
+// The same of a row however it is kept.
+fn push_cell<'a>(out: &mut Vec<ValueRef<'a>>, row: &Values<'a>, place: usize)
+    requires room { vec_len out.old < vec_capacity out.old }
+    ensures items { map borrowed_cell out.new.items ≡ map borrowed_cell out.old.items ++ first_cell (drop place (borrowed_cells row.now)) ∷ [] }
+    ensures len { vec_len out.new ≡ vec_len out.old + 1 }
+    ensures capacity { vec_capacity out.new ≡ vec_capacity out.old }
+{
+    match row.as_cells() {
+        Some(cells) => push_stored(out, cells, place),
+        None => out.push_reserved(cell_at(row, place)),
+    }
+}
+
+/// The cells of rows at a place.
+pub(crate) fn cells_at<'a>(
+    alloc: Global,
+    place: usize,
+    rows: &[Values<'a>],
+) -> Result<Vec<ValueRef<'a>>, AllocError>
+    ensures { IfOk result (λ cells. map borrowed_cell cells.items ≡ map (λ r. first_cell (drop place r)) (map borrowed_cells rows.now)) }
+{
+    let mut cells = Vec::with_capacity(alloc, rows.len())?;
+    for row in rows {
+        push_cell(&mut cells, row, place);
+    }
+    Ok(cells)
 }
 
 // The part of a struct at a place: a null where there is none.
@@ -24,7 +67,7 @@ fn part_at<'a>(cell: ValueRef<'a>, place: usize) -> ValueRef<'a>
     ensures { borrowed_cell result ≡ first_cell (drop place (part_list (borrowed_cell cell.entry))) }
 {
     match cell {
-        ValueRef::Struct(parts) => cell_at(parts, place),
+        ValueRef::Struct(parts) => cell_at(&parts, place),
         _ => ValueRef::Null,
     }
 }
@@ -35,33 +78,11 @@ pub(crate) fn parts<'a>(
     place: usize,
     cells: &[ValueRef<'a>],
 ) -> Result<Vec<ValueRef<'a>>, AllocError>
-    ensures { IfOk result (λ parts. map borrowed_cell parts.items ≡ map (λ c. first_cell (drop place (part_list c))) (map borrowed_cell cells.now)) }
+    ensures { IfOk result (λ parts. map borrowed_cell parts.items ≡ map (λ r. first_cell (drop place r)) (map part_list (map borrowed_cell cells.now))) }
 {
     let mut parts = Vec::with_capacity(alloc, cells.len())?;
     for cell in cells {
         parts.push(part_at(*cell, place))?;
     }
     Ok(parts)
-}
-
-// A row as a struct.
-#[tactic(auto, using(crate::proofs::Listed::listed_again))]
-fn as_struct<'a>(row: &Values<'a>) -> ValueRef<'a>
-    ensures { part_list (borrowed_cell result) ≡ borrowed_cells row.now }
-{
-    ValueRef::Struct(*row)
-}
-
-/// Rows as structs.
-pub(crate) fn structs<'a>(
-    alloc: Global,
-    rows: &[Values<'a>],
-) -> Result<Vec<ValueRef<'a>>, AllocError>
-    ensures { IfOk result (λ structs. map part_list (map borrowed_cell structs.items) ≡ map borrowed_cells rows.now) }
-{
-    let mut structs = Vec::with_capacity(alloc, rows.len())?;
-    for row in rows {
-        structs.push(as_struct(row))?;
-    }
-    Ok(structs)
 }

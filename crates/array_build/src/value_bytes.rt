@@ -1,17 +1,16 @@
 // Values of one width.
 ghost use Rattle.std.specs.Prelude.{◌≡◌, ◌++◌, ◌/◌, ◌≤◌, true, OnOk, IfOk, map, replicate};
-ghost use Rattle.std.specs.Int.{w128};
+ghost use Rattle.std.specs.Int.{w128, cast_unsigned};
 ghost use Rattle.std.specs.List.{flat_map};
 ghost use Rattle.arrow_schema.specs.Column.{integers};
 ghost use Rattle.arrow_schema.specs.View.{bits_of};
-ghost use Rattle.byteorder.specs.Endian.{low_bytes, little_bytes};
+ghost use Rattle.byteorder.specs.Endian.{little_bytes};
 ghost use Rattle.cells.specs.Fit.{fits_kind, null_or};
 ghost use Rattle.columns.specs.Buildable.{are_nulls_or_fit};
 ghost use Rattle.columns.specs.Built.{fixed_bytes, integer_bytes};
 ghost use Rattle.values.specs.Borrowed.{borrowed_cell};
 
 use arrow_schema::IntegerType;
-use byteorder::{ByteOrder, LittleEndian};
 use std::alloc::{AllocError, Global};
 use values::ValueRef;
 
@@ -52,17 +51,16 @@ pub(crate) fn fixed_values(
 
 // Adds the low bytes of an integer.
 fn push_low(values: &mut Vec<u8>, width: usize, integer: i128) -> Result<(), AllocError>
-    requires some { 1 ≤ width }
-    requires narrow { width ≤ 8 }
-    ensures { OnOk result (values.new.items ≡ values.old.items ++ little_bytes width (low_bytes w128 width integer)) }
+    requires { width ≤ 16 }
+    ensures { OnOk result (values.new.items ≡ values.old.items ++ little_bytes width (cast_unsigned w128 integer)) }
 {
-    let mut bytes = [0u8; 8];
-    LittleEndian::write_int128(&mut bytes, integer, width);
-    values.extend_from_slice(&bytes[..width])
+    let bytes = integer.to_le_bytes();
+    values.extend_from_slice(&bytes[..width])?;
+    Ok(())
 }
 
 // The bytes of an integer, and zeros for a null.
-#[tactic(auto, using(crate::proofs::Low::low_fits))]
+#[tactic(auto, using(crate::proofs::Low::stored_fits))]
 fn push_integer(
     values: &mut Vec<u8>,
     integer: IntegerType,

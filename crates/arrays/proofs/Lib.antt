@@ -14,6 +14,7 @@ pub mod SpanWeights
 pub mod KindWeights
 pub mod RowWeights
 pub mod VisibleSpans
+pub mod SpanLists
 pub mod VisibleSlots
 pub mod VisibleTexts
 pub mod VisibleUtf8

@@ -18,7 +18,8 @@ use Rattle.columns.specs.Visible.{Slot, slot, visible, visible_below, visible_pa
 use Rattle.arrays.specs.declared.visible.slot_test.SlotTest.{SlotTest}
 use Rattle.arrays.specs.declared.visible.slot_test.SlotTest.TheVariants.{NoEntry, NotUtf8, Forbidden}
 use Rattle.arrays.specs.inner.MayFind.{may_find_own, may_find, may_find_below, any_may_find}
-use Rattle.arrays.specs.inner.VisibleSpans.{finds, text_width, slots_below, any_below, has_below}
+use Rattle.arrays.specs.inner.VisibleSpans.{any_slot, finds, text_width, slots_below, any_below, has_below}
+use Rattle.arrays.proofs.Ranges.{any-none}
 use Rattle.arrays.proofs.VisibleSlots.{no_text_at}
 
 no_width : (o : Option ℕ) → is_some o ≡ false → o ≡ None
@@ -33,6 +34,10 @@ own_not_found NotUtf8 (column name nullable kind None pairs) a i h = no_text_at 
 own_not_found NotUtf8 (column name nullable kind (Some index) pairs) a i h = refl
 own_not_found Forbidden (column name true kind dictionary pairs) a i h = refl
 own_not_found Forbidden (column name false kind dictionary pairs) a i h = absurd cc
+
+-- in the slots of a span themselves
+pub own_none : (test : SlotTest) (c : Column) (a : Array) (from n : ℕ) → may_find_own test c ≡ false → any_slot (finds test) c a from n ≡ false
+own_none test c a from n h = any-none (λ i. finds test (slot c a i)) from n (λ i low high. own_not_found test c a i h)
 
 each_not_found : (f : Slot → Bool) (g : ℕ → List Slot) → ((i : ℕ) → list_any f (g i) ≡ false) → (xs : List ℕ) → list_any f (flat_map g xs) ≡ false
 each_not_found f g h [] = refl

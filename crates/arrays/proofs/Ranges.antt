@@ -6,14 +6,7 @@ use Rattle.std.proofs.lemmas.Bool.Decides.{nat_tests}
 use Rattle.std.proofs.lemmas.List.Folds.{list_any-append}
 use Rattle.std.proofs.lemmas.List.Concat.{flat_map-append}
 use Rattle.std.proofs.lemmas.List.Sums.{count_by-le-length, sum_by-cons}
-
--- so many numbers, and then so many
-pub range-joined : (a m n : ℕ) → range_with_len a (m + n) ≡ range_with_len a m ++ range_with_len (a + m) n
-range-joined a zero n = let e : 0 + n ≡ n = omega arith in let g : a + 0 ≡ a = omega arith in rw (e, g) refl
-range-joined a (suc m) n =
-    let e : suc m + n ≡ suc (m + n) = omega arith in
-    let g : a + suc m ≡ a + 1 + m = omega arith in
-    rw (e, g) (ap (λ (xs : List ℕ). a ∷ xs) (range-joined (a + 1) m n))
+use Rattle.facts.specs.laws.Lists.{range-append}
 
 -- a test of lists, one after another
 pub any-joined : {A : Type 0} (f : A → Bool) (g : ℕ → List A) (xs ys : List ℕ)
@@ -27,7 +20,7 @@ any-split f g at end to low high =
     let e : to - at ≡ (end - at) + (to - end) = omega arith in
     let h : at + (end - at) ≡ end = omega arith in
     ap (λ (n : ℕ). list_any f (flat_map g (range_with_len at n))) e
-    ∙ ap (λ (xs : List ℕ). list_any f (flat_map g xs)) (range-joined at (end - at) (to - end))
+    ∙ ap (λ (xs : List ℕ). list_any f (flat_map g xs)) (range-append at (end - at) (to - end))
     ∙ any-joined f g (range_with_len at (end - at)) (range_with_len (at + (end - at)) (to - end))
     ∙ ap (λ (k : ℕ). list_any f (flat_map g (range_with_len at (end - at))) || list_any f (flat_map g (range_with_len k (to - end)))) h
 
@@ -87,7 +80,7 @@ flat_map-spans g s from (suc n) rise =
     ap (λ (xs : List _). flat_map g (range_with_len (s from) (s (from + 1) - s from)) ++ xs) others
     ∙ ap (λ (k : ℕ). flat_map g (range_with_len (s from) (s (from + 1) - s from)) ++ flat_map g (range_with_len k (s (from + 1 + n) - s (from + 1)))) (sym next)
     ∙ sym (flat_map-append g (range_with_len (s from) (s (from + 1) - s from)) (range_with_len (s from + (s (from + 1) - s from)) (s (from + 1 + n) - s (from + 1))))
-    ∙ ap (flat_map g) (sym (range-joined (s from) (s (from + 1) - s from) (s (from + 1 + n) - s (from + 1))))
+    ∙ ap (flat_map g) (sym (range-append (s from) (s (from + 1) - s from) (s (from + 1 + n) - s (from + 1))))
     ∙ ap (λ (k : ℕ). flat_map g (range_with_len (s from) k)) (sym sum)
     ∙ ap (λ (k : ℕ). flat_map g (range_with_len (s from) (s k - s from))) (sym e)
   where

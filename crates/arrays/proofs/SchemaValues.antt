@@ -8,7 +8,7 @@ use Rattle.std.proofs.lemmas.Bool.{and_parts, or_parts, not-false, eqb-true}
 use Rattle.std.proofs.lemmas.Bool.Decides.{Decides-eqb}
 use Rattle.std.proofs.lemmas.List.{map-append}
 use Rattle.std.proofs.lemmas.List.Concat.{flat_map-append}
-use Rattle.std.proofs.lemmas.List.Folds.{list_any-append}
+use Rattle.facts.specs.laws.Lists.{any_left, any_right}
 use Rattle.arrow_schema.specs.Column.{Pair, Kind, Column, column, nulls, booleans, integers, dates, timestamps, texts, large_texts, binaries, large_binaries, fixed_binaries, lists, large_lists, fixed_lists, structs, columns_of}
 use Rattle.arrow_schema.specs.Limits as limits
 use Rattle.ipc_message.specs.declared.fault.TypeName.{TypeName}
@@ -22,7 +22,7 @@ use Rattle.ipc_message.specs.Checks.{is_bad, is_nested, are_at_odds, has_other_t
 use Rattle.columns.specs.Array.{Array, Arrays, no_array, and_array, items_in, children_in, first_array, other_arrays}
 use Rattle.columns.specs.Tests.{arrays_at, arrays_below, every_array}
 use Rattle.columns.specs.Buffers.{value_column}
-use Rattle.arrays.specs.Dictionaries.{DictionaryColumn, own_dictionary, dictionary_columns, column_of_id}
+use Rattle.arrays.specs.Dictionaries.{DictionaryColumn, own_dictionary, dictionary_columns}
 use Rattle.arrays.specs.Known.{own_values, values_in, dictionary_values, IsAsFirst, HaveOneType}
 
 -- ---- what a decoded type says of its children
@@ -150,12 +150,6 @@ none_below : (fs : RawFields) → columns_of_fields fs ≡ [] → found_in (preo
 unfolding columns_of_fields preorder_all
 none_below no_raw_field h = refl
 none_below (and_raw_field f fs) h = absurd cc
-
-any_left : {A : Type 0} (p : A → Bool) (xs ys : List A) → list_any p (xs ++ ys) ≡ false → list_any p xs ≡ false
-any_left p xs ys h = (or_parts _ _ (sym (list_any-append p xs ys) ∙ h)).0
-
-any_right : {A : Type 0} (p : A → Bool) (xs ys : List A) → list_any p (xs ++ ys) ≡ false → list_any p ys ≡ false
-any_right p xs ys h = (or_parts _ _ (sym (list_any-append p xs ys) ∙ h)).1
 
 mutual
   unfolding preorder preorder_all column_of_field columns_of_fields arrays_at every_array

@@ -5,7 +5,6 @@ use Rattle.std.proofs.Common.{◌≡◌, ℕ, suc, ◌+◌, ◌-◌, ◌*◌, �
 use Rattle.std.proofs.Math.Nat.{mul-le-mul_left}
 use Rattle.std.proofs.lemmas.Bool.{leb-true}
 use Rattle.std.proofs.lemmas.List.Folds.{list_any-append}
-use Rattle.facts.specs.laws.Lists.{drop-item}
 use Rattle.arrow_schema.specs.Parts.{kind_of_column}
 use Rattle.arrow_schema.specs.laws.Parts.{kind_of_field}
 use Rattle.arrays.proofs.Ranges.{any-split, any-both, any-first_and_others, flat_map-alike, flat_map-none, flat_map-spans}
@@ -36,12 +35,6 @@ pub own_and_below : (f : Slot → Bool) (c : Column) (a : Array) (from n : ℕ) 
 own_and_below f c a from n =
     (λ j. list_any f (flat_map (λ i. visible_is c a i j) (range_with_len from n)))
     ∙ any-first_and_others f (slot c a) (slots_below c a) (range_with_len from n)
-
-pub own_found : (f : Slot → Bool) (c : Column) (a : Array) (from n : ℕ) → any_slot f c a from n ≡ true → any_visible f c a from n ≡ true
-own_found f c a from n h = own_and_below f c a from n ∙ ap (λ (b : Bool). b || any_below f c a from n) h
-
-pub own_not_found : (f : Slot → Bool) (c : Column) (a : Array) (from n : ℕ) → any_slot f c a from n ≡ false → any_visible f c a from n ≡ any_below f c a from n
-own_not_found f c a from n h = own_and_below f c a from n ∙ ap (λ (b : Bool). b || any_below f c a from n) h
 
 if_same : (b : Bool) (xs : List Slot) → xs ≡ [] → (if b then xs else []) ≡ []
 if_same true xs e = e
@@ -115,14 +108,12 @@ pub sound_kind : (field : Field) (a : Array) → has_below (column_of field) ≡
 sound_kind field a nested h = ap (λ (k : Kind). is_kind_sound k a) (sym (kind_of_field field)) ∙ sound_below (column_of field) a nested h
 
 -- a loop over the runs of a span
-pub run_found : (f : Slot → Bool) (c : Column) (a : Array) (at end to : ℕ) → at < end → end ≤ to → any_below f c a at (end - at) ≡ true → any_below f c a at (to - at) ≡ true
-run_found f c a at end to low high h =
-    any-split f (slots_below c a) at end to (omega arith) high ∙ ap (λ (b : Bool). b || any_below f c a end (to - end)) h
+pub run_joined : (f : Slot → Bool) (c : Column) (a : Array) (at end to : ℕ) → at < end → end ≤ to
+    → any_below f c a at (to - at) ≡ (any_below f c a at (end - at) || any_below f c a end (to - end))
+run_joined f c a at end to low high = any-split f (slots_below c a) at end to (omega arith) high
 
-pub run_not_found : (f : Slot → Bool) (c : Column) (a : Array) (at end to : ℕ) → at < end → end ≤ to → any_below f c a at (end - at) ≡ false
-    → any_below f c a end (to - end) ≡ any_below f c a at (to - at)
-run_not_found f c a at end to low high h =
-    sym (any-split f (slots_below c a) at end to (omega arith) high ∙ ap (λ (b : Bool). b || any_below f c a end (to - end)) h)
+pub no_run_left : (f : Slot → Bool) (c : Column) (a : Array) (at to : ℕ) → to ≤ at → any_below f c a at (to - at) ≡ false
+no_run_left f c a at to past = let e : to - at ≡ 0 = omega arith in rw e refl
 
 -- ---- below a run of valid slots
 
@@ -197,30 +188,5 @@ all_visible f (and_column c cs) arrays rows =
     ap (λ (b : Bool). any_visible f c (first_array arrays) 0 rows || b) (all_visible f cs (other_arrays arrays) rows)
     ∙ sym (list_any-append f (flat_map (visible c (first_array arrays)) (range_with_len 0 rows)) (visible_in cs (other_arrays arrays) rows))
 
-next_columns : (fs : List Field) (i : ℕ) (f : Field) → drop i fs ≡ f ∷ drop (i + 1) fs → fields_of (drop i fs) ≡ and_column (column_of f) (fields_of (drop (i + 1) fs))
-next_columns fs i f next = ap fields_of next
-
-others : (bytes : List ℕ) (all : List Dictionary) (xs : List PlacedArray) (i : ℕ) → placed_arrays bytes all (drop (i + 1) xs) ≡ other_arrays (placed_arrays bytes all (drop i xs))
+pub others : (bytes : List ℕ) (all : List Dictionary) (xs : List PlacedArray) (i : ℕ) → placed_arrays bytes all (drop (i + 1) xs) ≡ other_arrays (placed_arrays bytes all (drop i xs))
 others bytes all xs i = let s : i + 1 ≡ suc i = omega arith in rw s (sym (others_placed bytes all xs i))
-
--- the next column of a loop
-
-pub column_found : (t : Slot → Bool) (bytes : List ℕ) (all : List Dictionary) (fs : List Field) (xs : List PlacedArray) (i from n : ℕ) (f : Field) (a : Array)
-    → i < length fs → f ≡ get_or fs i f → a ≡ first_array (placed_arrays bytes all (drop i xs)) → any_visible t (column_of f) a from n ≡ true
-    → any_part t (fields_of (drop i fs)) (placed_arrays bytes all (drop i xs)) from n ≡ true
-column_found t bytes all fs xs i from n f a lt is first h =
-    let arrays : Arrays = placed_arrays bytes all (drop i xs) in
-    let cs : Columns = fields_of (drop (i + 1) fs) in
-    let here : any_visible t (column_of f) (first_array arrays) from n ≡ true = ap (λ (b : Array). any_visible t (column_of f) b from n) (sym first) ∙ h in
-    ap (λ (ds : Columns). any_part t ds arrays from n) (next_columns fs i f (drop-item fs i f lt is))
-    ∙ ap (λ (b : Bool). b || any_part t cs (other_arrays arrays) from n) here
-
-pub column_not_found : (t : Slot → Bool) (bytes : List ℕ) (all : List Dictionary) (fs : List Field) (xs : List PlacedArray) (i from n : ℕ) (f : Field) (a : Array)
-    → i < length fs → f ≡ get_or fs i f → a ≡ first_array (placed_arrays bytes all (drop i xs)) → any_visible t (column_of f) a from n ≡ false
-    → any_part t (fields_of (drop (i + 1) fs)) (placed_arrays bytes all (drop (i + 1) xs)) from n ≡ any_part t (fields_of (drop i fs)) (placed_arrays bytes all (drop i xs)) from n
-column_not_found t bytes all fs xs i from n f a lt is first h =
-    let arrays : Arrays = placed_arrays bytes all (drop i xs) in
-    let cs : Columns = fields_of (drop (i + 1) fs) in
-    let here : any_visible t (column_of f) (first_array arrays) from n ≡ false = ap (λ (b : Array). any_visible t (column_of f) b from n) (sym first) ∙ h in
-    ap (λ (ys : Arrays). any_part t cs ys from n) (others bytes all xs i)
-    ∙ sym (ap (λ (ds : Columns). any_part t ds arrays from n) (next_columns fs i f (drop-item fs i f lt is)) ∙ ap (λ (b : Bool). b || any_part t cs (other_arrays arrays) from n) here)

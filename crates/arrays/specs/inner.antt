@@ -4,5 +4,6 @@ pub mod Read
 pub mod Counted
 pub mod Weights
 pub mod VisibleSpans
+pub mod SpanLists
 pub mod MayFind
 pub mod SchemaDictionaries

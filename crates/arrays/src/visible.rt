@@ -11,10 +11,12 @@ mod indices;
 mod may_find;
 mod nulls;
 mod slot_test;
+mod span_list;
 mod spans;
 mod texts;
 
 use crate::visible::slot_test::SlotTest;
+use crate::visible::span_list::SlotSpan;
 use crate::visible::spans::any_part;
 use arrow_schema::Field;
 use columns::{Dictionary, PlacedArray, no_array};
@@ -37,8 +39,10 @@ pub fn names_no_entry_in(
         arrays,
         bytes,
         dictionaries,
-        0,
-        rows,
+        &[SlotSpan {
+            from: 0,
+            count: rows,
+        }],
         &none,
     )
 }
@@ -62,8 +66,10 @@ pub fn has_bad_text(
         arrays,
         bytes,
         dictionaries,
-        0,
-        rows,
+        &[SlotSpan {
+            from: 0,
+            count: rows,
+        }],
         &none,
     )
 }
@@ -86,8 +92,10 @@ pub fn has_forbidden_null(
         arrays,
         bytes,
         dictionaries,
-        0,
-        rows,
+        &[SlotSpan {
+            from: 0,
+            count: rows,
+        }],
         &none,
     )
 }

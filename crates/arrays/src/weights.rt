@@ -12,7 +12,7 @@ ghost use Rattle.columns.specs.Offsets.{width_of};
 ghost use Rattle.columns.specs.Sound.{is_sound, is_kind_sound, are_sound};
 ghost use Rattle.columns.specs.Tests.{are_few, are_few_offsets, are_unordered, has_short_validity};
 ghost use Rattle.columns.specs.View.{view_array, placed_arrays, IsNoArray};
-ghost use Rattle.arrays.specs.inner.Weights.{AreEntryWeights, sum_from, span_weight, plain_weight, valid_weight, parts_span_weight, has_one_weight};
+ghost use Rattle.arrays.specs.inner.Weights.{AreEntryWeights, IsKnownTotal, IsKnownWeight, sum_from, span_weight, plain_weight, valid_weight, parts_span_weight, has_one_weight};
 
 use crate::runs::run_to;
 use arrow_schema::{DataType, DictSpec, Field};
@@ -355,6 +355,44 @@ fn entries_weight(
     slots_weight(field, slots, from, count, &first[..few], none)
 }
 
+// What a slot weighs that is null or names one of the entries whose weights are known.
+#[inline]
+fn known_weight(slots: CodedSlots<'_>, i: usize, known: &[u64], of_null: u64) -> Option<u64>
+    requires { i < slots_in (view_array slots.view) }
+    ensures { IsKnownWeight slots.entry.spec slots.entry.view known.now of_null i result }
+{
+    if !slots.is_valid(i) {
+        return Some(of_null);
+    }
+    match slots.number(i) {
+        Some(number) if number < known.len() as u64 => Some(known[number as usize]),
+        _ => None,
+    }
+}
+
+// What the slots of a span weigh, if each is null or names one of the entries whose weights are known.
+fn known_total(
+    slots: CodedSlots<'_>,
+    from: usize,
+    count: usize,
+    known: &[u64],
+    of_null: u64,
+) -> Option<u64>
+    requires { from + count ≤ slots_in (view_array slots.view) }
+    ensures { IsKnownTotal slots.entry.spec slots.entry.view known.now of_null from count result }
+{
+    // a number of the code is below 2^64, so that the sum is too
+    let _slots = slots.view.slots();
+    let mut total = 0;
+    for i in from..from + count {
+        match known_weight(slots, i, known, of_null) {
+            Some(weight) => total = add_weights(total, weight),
+            None => return None,
+        }
+    }
+    Some(total)
+}
+
 // The same, where the weights of some first entries are known.
 #[cycle(weights)]
 fn slots_weight(
@@ -373,6 +411,10 @@ fn slots_weight(
     ensures { let kind = kind_of field.now.data_type in
         result ≡ capped_weight (sum_from (kind_weight kind) (unless_null (indexed_cell (index_of slots.entry.spec) kind) (view_array slots.entry.view)) from count) }
 {
+    let of_null = nulls_weight(field, 1);
+    if let Some(total) = known_total(slots, from, count, known, of_null) {
+        return total;
+    }
     // a number of the code is below 2^64, so that the sum is too
     let _slots = slots.view.slots();
     let mut total = 0;

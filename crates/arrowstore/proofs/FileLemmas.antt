@@ -1,13 +1,14 @@
 -- What requests of a store come to.
 use Rattle.std.proofs.Common.{◌≡◌, ◌≢◌, ◌⊎◌, ◌↔◌, ◌≤◌, ℕ, Bool, true, false, List, [], ◌∷◌, inl, inr, refl, sym, subst, ap, ◌∙◌, true≢false}
 use Rattle.std.specs.Prelude.{Option, Some, None, Result, Ok, Err, IfOk, IfErr, IsOk, IsErrOf}
+use Rattle.std.proofs.lemmas.Bool.{and_from, le-leb}
 use Rattle.sector_dev.specs.declared.device.SectorDevice.{Ghosts}
 use Rattle.sector_dev.specs.declared.file.FileError.{FileError}
 use Rattle.sector_dev.specs.declared.file.FileError.TheVariants as files
-use Rattle.text_import.specs.declared.part.RefusedPart.{RefusedPart}
+use Rattle.commit.specs.Standing.{is_size}
 use Rattle.store.specs.declared.store.Store.{Store}
 use Rattle.command_refusals.specs.declared.refusal.Refusal.{Refusal}
-use Rattle.command_refusals.specs.declared.refusal.Refusal.TheVariants.{Io}
+use Rattle.command_refusals.specs.declared.refusal.Refusal.TheVariants.{Io, Opening}
 use Rattle.command_refusals.specs.Refusals.{file_refusal}
 use Rattle.program_texts.specs.declared.status.Status.{Status}
 use Rattle.program_texts.specs.declared.status.Status.TheVariants.{Done, Refused, WrongArguments}
@@ -19,15 +20,35 @@ use Rattle.store_requests.specs.declared.store_words.StoreRequest.TheVariants as
 use Rattle.clap.specs.Words.{Text}
 use Rattle.command_refusals.specs.declared.hint.Hint.{Hint}
 use Rattle.store_requests.specs.StoreWords.{takes_input, takes_input_word, first_word}
-use Rattle.arrowstore.specs.OnFiles.{IsOpened, IsOfOpening, RefusesFormat, ServesRequest, ServesWord, RunsOnStore, status_of}
+use Rattle.arrowstore.specs.OnFiles.{IsOpened, IsOfOpening, FailsToFormat, RefusesFormat, ServesRequest, ServesWord, RunsOnStore, status_of}
+use Rattle.arrowstore.specs.Serving.{Channels}
 
-pub of_file : (e : FileError) → IsOfOpening (file_refusal e)
-of_file files.Io = tt
-of_file files.BadSize = tt
+pub of_file : {D : Type 0} (g : Ghosts D) (e : FileError) → IsOfOpening g (file_refusal e)
+unfolding IsOfOpening
+of_file g files.Io = tt
+of_file g files.BadSize = tt
 
-pub of_making : {T : Type 0} (sectors : ℕ) (e : FileError) → (IsErrOf {T = T} (Err e) files.BadSize ↔ ¬ ((16 ≤ sectors) × (sectors ≤ 4194304))) → RefusesFormat sectors (file_refusal e)
-of_making sectors files.Io bad = tt
-of_making sectors files.BadSize bad = bad.0 refl
+pub of_making : {D T : Type 0} (g : Ghosts D) (sectors : ℕ) (e : FileError) → (IsErrOf {T = T} (Err e) files.BadSize ↔ ¬ ((16 ≤ sectors) × (sectors ≤ 4194304))) → RefusesFormat g sectors (file_refusal e)
+unfolding RefusesFormat
+of_making g sectors files.Io bad = tt
+of_making g sectors files.BadSize bad = bad.0 refl
+
+-- a file that was made has a size of a store
+pub of_size : {T : Type 0} (sectors : ℕ) (made : T) → (IsErrOf {T = T} (Ok made) files.BadSize ↔ ¬ ((16 ≤ sectors) × (sectors ≤ 4194304))) → is_size sectors ≡ true
+of_size sectors made bad = by_test (is_size sectors) refl
+  where
+    by_test : (b : Bool) → is_size sectors ≡ b → is_size sectors ≡ true
+    by_test true is = is
+    by_test false is =
+        let no = bad.1 (λ both. let yes : is_size sectors ≡ true = and_from _ _ (le-leb 16 sectors both.0) (le-leb sectors 4194304 both.1) in cc (is, yes)) in
+        absurd (cc no)
+
+-- a formatting that was refused on a device of this size
+pub of_formatting : {D T : Type 0} (g : Ghosts D) (size sectors : ℕ) (r : Result T Refusal) → size ≡ sectors → is_size sectors ≡ true → IfErr r (FailsToFormat g size) → IfErr r (RefusesFormat g sectors)
+unfolding FailsToFormat RefusesFormat
+of_formatting g size sectors (Ok store) same limits why = tt
+of_formatting g size sectors (Err (Opening r)) same limits why = (limits, subst (λ (n : ℕ). FailsToFormat g n (Opening r)) same why)
+of_formatting g size sectors (Err _) same limits why = absurd why
 
 -- a store that was opened on a device is one that was opened on some device
 pub opened_on_some : {D : Type 0} {g : Ghosts D} (device : D) (r : Result (Store D g) Refusal) → IfOk r (IsOpened device) → IfOk r (λ store. (d : D) × IsOpened d store)
@@ -35,10 +56,11 @@ opened_on_some device (Ok store) opened = (device, opened)
 opened_on_some device (Err e) opened = tt
 
 -- a request that was refused before anything was done
-pub refused_before : {D : Type 0} (g : Ghosts D) {R W : Type 0} (remaining : R → Option (List ℕ)) (contents : W → Option (List ℕ)) (request : StoreRequest) (input : R) (output : W) (hint : Option RefusedPart)
-    → ServesRequest g remaining contents request input input output output hint (Err Io)
-refused_before g remaining contents (requests.Format path sectors) input output hint = inl (tt, refl)
-refused_before g remaining contents (requests.Command path command) input output hint = inl (inr tt, refl, refl)
+pub refused_before : {D : Type 0} (g : Ghosts D) {R W : Type 0} (remaining : R → Option (List ℕ)) (contents : W → Option (List ℕ)) (request : StoreRequest) (all : Channels R W)
+    → ServesRequest g remaining contents request all all (Err Io)
+unfolding RefusesFormat
+refused_before g remaining contents (requests.Format path sectors) all = (inl (tt, refl), refl)
+refused_before g remaining contents (requests.Command path command) all = inl (inl refl, refl)
 
 -- how a run ends whose request was done or refused
 pub ends_as : (done : Result (Unit {0}) Refusal) (status : Status) (kept : Type 0) → (IsOk done → (status ≡ Done) × kept) → IfErr done (λ refusal. status ≡ Refused refusal) → status ≡ status_of done

@@ -4,7 +4,6 @@ use Rattle.std.specs.Prelude.{Option, Result}
 use Rattle.std.specs.Borrow.{Bor}
 use Rattle.sector_dev.specs.declared.device.SectorDevice.{Ghosts}
 use Rattle.text_import.specs.declared.form.TextForm.{TextForm}
-use Rattle.text_import.specs.declared.part.RefusedPart.{RefusedPart}
 use Rattle.catalogue.specs.Edits.{entry_of}
 use Rattle.tables.specs.Commands.{import_stream, append_stream}
 use Rattle.store.specs.declared.store.Store.{Store}
@@ -14,24 +13,24 @@ use Rattle.store_commands.specs.Changing.{RefusesImport, RefusesAppend}
 use Rattle.store_commands.specs.TextRows.{RefusesText}
 use Rattle.arrowstore.specs.declared.open_command.OpenCommand.{OpenCommand}
 use Rattle.arrowstore.specs.declared.open_command.OpenCommand.TheVariants as opened
-use Rattle.arrowstore.specs.Serving.{CarriesInput, CarriesText, Serves}
+use Rattle.arrowstore.specs.Serving.{Channels, CarriesInput, CarriesText, Serves}
 
 module _ {D : Type 0} {g : Ghosts D} {R W : Type 0} (remaining : R → Option (List ℕ)) (contents : W → Option (List ℕ)) (command : OpenCommand) (name : Bor (List ℕ))
-    (old new : Store D g) (input input' : R) (output output' : W) (hint : Option RefusedPart) (result : Result (Unit {0}) Refusal) where
+    (old new : Store D g) (before after : Channels R W) (result : Result (Unit {0}) Refusal) where
   pub serves_import : command ≡ opened.Import name
-      → CarriesInput contents (remaining input) (import_stream name.now) (RefusesImport remaining name.now input input') old new output output' result
-      → Serves remaining contents command old new input input' output output' hint result
+      → CarriesInput contents (remaining before.input) (import_stream name.now) (RefusesImport remaining name.now before.input after.input) old new before after result
+      → Serves remaining contents command old new before after result
   unfolding Serves
-  serves_import is carries = subst (λ (c : OpenCommand). Serves remaining contents c old new input input' output output' hint result) (sym is) carries
+  serves_import is carries = subst (λ (c : OpenCommand). Serves remaining contents c old new before after result) (sym is) carries
 
   pub serves_append : command ≡ opened.Append name
-      → CarriesInput contents (remaining input) (append_stream name.now) (RefusesAppend remaining (is_halted old) (entry_of (listed_in old) name.now) input input') old new output output' result
-      → Serves remaining contents command old new input input' output output' hint result
+      → CarriesInput contents (remaining before.input) (append_stream name.now) (RefusesAppend remaining (is_halted old) (entry_of (listed_in old) name.now) before.input after.input) old new before after result
+      → Serves remaining contents command old new before after result
   unfolding Serves
-  serves_append is carries = subst (λ (c : OpenCommand). Serves remaining contents c old new input input' output output' hint result) (sym is) carries
+  serves_append is carries = subst (λ (c : OpenCommand). Serves remaining contents c old new before after result) (sym is) carries
 
   pub serves_text : (form : TextForm) → command ≡ opened.AppendText name form
-      → CarriesText contents (remaining input) form name.now (RefusesText remaining form (is_halted old) (entry_of (listed_in old) name.now) input input') old new output output' hint result
-      → Serves remaining contents command old new input input' output output' hint result
+      → CarriesText contents (remaining before.input) form name.now (RefusesText remaining form (is_halted old) (entry_of (listed_in old) name.now) before.input after.input) old new before after result
+      → Serves remaining contents command old new before after result
   unfolding Serves
-  serves_text form is carries = subst (λ (c : OpenCommand). Serves remaining contents c old new input input' output output' hint result) (sym is) carries
+  serves_text form is carries = subst (λ (c : OpenCommand). Serves remaining contents c old new before after result) (sym is) carries

@@ -1,11 +1,12 @@
 -- What a request of a store comes to, on devices of one kind.
-use Rattle.std.specs.Prelude.{◌≡◌, ◌⊎◌, ◌≤◌, ℕ, Bool, true, List, codes, Option, Some, None, Result, Ok, Err, IfErr, OnOk, IsErrAnd}
+use Rattle.std.specs.Prelude.{◌≡◌, ◌⊎◌, ◌≤◌, ℕ, Bool, true, false, List, codes, Option, Some, None, Result, Ok, Err, IfErr, OnOk, IsErrAnd}
 use Rattle.std.specs.Io.KnownBytes.{Appends}
 use Rattle.sector_dev.specs.declared.device.SectorDevice.{Ghosts}
 use Rattle.commit.specs.Standing.{is_size}
 use Rattle.text_import.specs.declared.part.RefusedPart.{RefusedPart}
 use Rattle.store.specs.declared.store.Store.{Store}
-use Rattle.store.specs.Fits.{device_of, FindsStore, IsNewStore}
+use Rattle.store.specs.Fits.{device_of, is_halted, FindsStore, IsNewStore}
+use Rattle.store.specs.Answering.{LeavesUnopened, LeavesUnformatted}
 use Rattle.command_refusals.specs.declared.refusal.Refusal.{Refusal}
 use Rattle.command_refusals.specs.declared.refusal.Refusal.TheVariants as refusals
 use Rattle.command_refusals.specs.declared.hint.Hint.{Hint}
@@ -19,49 +20,61 @@ use Rattle.store_requests.specs.declared.store_words.StoreRequest.{StoreRequest}
 use Rattle.store_requests.specs.declared.store_words.StoreRequest.TheVariants as requests
 use Rattle.arrowstore.specs.declared.open_command.OpenCommand.{OpenCommand}
 use Rattle.arrowstore.specs.OpenCommands.{States, RefusesStating}
-use Rattle.arrowstore.specs.Serving.{Serves}
+use Rattle.arrowstore.specs.Serving.{Channels, channels, Serves}
 
 -- a store that was opened on this device
 pub record IsOpened {D : Type 0} {g : Ghosts D} (device : D) (store : Store D g) : Type 0 where
   pub in_limits : is_size (g.size device) ≡ true
   pub size : g.size (device_of store) ≡ g.size device
   pub count : g.failed (device_of store) ≡ g.failed device
+  pub on : is_halted store ≡ false
   pub found : g.tells ≡ true → FindsStore g.size g.story device store
 
--- why no store is opened: the system refuses its file, the file has no size of a store, or no store is found there
-abbrev pub IsOfOpening : Refusal → Type 0
-IsOfOpening refusals.Io = Unit {0}
-IsOfOpening refusals.BadSize = Unit {0}
-IsOfOpening (refusals.Opening r) = Unit {0}
-IsOfOpening _ = ⊥
+-- why no store is opened: the system refuses its file, the file has no size of a store, or some device was not opened
+unfoldable pub IsOfOpening : {D : Type 0} → (g : Ghosts D) → Refusal → Type 0
+IsOfOpening g refusals.Io = Unit {0}
+IsOfOpening g refusals.BadSize = Unit {0}
+IsOfOpening {D} g (refusals.Opening r) = (device : D) × (back : D) × LeavesUnopened g.size g.story g.tells device r back
+IsOfOpening g _ = ⊥
+
+-- why a command is not served: the system refuses, its words state none, or they state one and no store is opened for it
+abbrev pub RefusesCommand : {D : Type 0} → (g : Ghosts D) → StoreCommand → Refusal → Type 0
+RefusesCommand g command refusal =
+    (refusal ≡ refusals.Io) ⊎ RefusesStating command refusal ⊎ ((stated : OpenCommand) × States command stated × IsOfOpening g refusal)
 
 -- what the words of a command state was carried out on a store that was opened
 pub record ServesOpened {D : Type 0} (g : Ghosts D) {R W : Type 0} (remaining : R → Option (List ℕ)) (contents : W → Option (List ℕ)) (command : StoreCommand)
-    (input input' : R) (output output' : W) (hint : Option RefusedPart) (result : Result (Unit {0}) Refusal) : Type 0 where
+    (before after : Channels R W) (result : Result (Unit {0}) Refusal) : Type 0 where
   pub stated : OpenCommand
   pub states : States command stated
   pub device : D
   pub old : Store D g
   pub opened : IsOpened device old
   pub new : Store D g
-  pub serves : Serves remaining contents stated old new input input' output output' hint result
+  pub serves : Serves remaining contents stated old new before after result
 
--- or it was refused before a store was open: the words state nothing, or there was none to be opened
-abbrev pub ServesCommand : {D : Type 0} → (g : Ghosts D) → {R W : Type 0} → (remaining : R → Option (List ℕ)) → (contents : W → Option (List ℕ)) → StoreCommand
-    → (input input' : R) → (output output' : W) → (hint : Option RefusedPart) → Result (Unit {0}) Refusal → Type 0
-ServesCommand g remaining contents command input input' output output' hint result =
-    IsErrAnd result (λ refusal. (RefusesStating command refusal ⊎ IsOfOpening refusal) × (input' ≡ input) × (output' ≡ output))
-    ⊎ ServesOpened g remaining contents command input input' output output' hint result
+-- or it was refused before a store was open, and all is as it was
+abbrev pub ServesCommand : {D : Type 0} → (g : Ghosts D) → {R W : Type 0} → (remaining : R → Option (List ℕ)) → (contents : W → Option (List ℕ))
+    → StoreCommand → (before after : Channels R W) → Result (Unit {0}) Refusal → Type 0
+ServesCommand g remaining contents command before after result =
+    IsErrAnd result (λ refusal. RefusesCommand g command refusal × (after ≡ before)) ⊎ ServesOpened g remaining contents command before after result
 
--- why no store is made in a new file of so many sectors
-abbrev pub RefusesFormat : (sectors : ℕ) → Refusal → Type 0
-RefusesFormat sectors refusals.Io = Unit {0}
-RefusesFormat sectors refusals.BadSize = ¬ ((16 ≤ sectors) × (sectors ≤ 4194304))
-RefusesFormat sectors (refusals.Opening r) = Unit {0}
-RefusesFormat sectors _ = ⊥
+-- why no store is made on a device of so many sectors
+unfoldable pub FailsToFormat : {D : Type 0} → (g : Ghosts D) → (sectors : ℕ) → Refusal → Type 0
+FailsToFormat {D} g sectors (refusals.Opening r) =
+    (device : D) × (back : D) × (g.size device ≡ sectors) × LeavesUnformatted g.size g.story g.tells device r back
+FailsToFormat g sectors _ = ⊥
+
+-- why none is made in a new file of so many sectors: the system refuses the file, no store has that size, or some device was not formatted
+unfoldable pub RefusesFormat : {D : Type 0} → (g : Ghosts D) → (sectors : ℕ) → Refusal → Type 0
+RefusesFormat g sectors refusals.Io = Unit {0}
+RefusesFormat g sectors refusals.BadSize = ¬ ((16 ≤ sectors) × (sectors ≤ 4194304))
+RefusesFormat g sectors (refusals.Opening r) = (is_size sectors ≡ true) × FailsToFormat g sectors (refusals.Opening r)
+RefusesFormat g sectors _ = ⊥
 
 -- an empty store of so many sectors was made on a device, and `ok` is written
-pub record MakesStore {D : Type 0} (g : Ghosts D) {W : Type 0} (contents : W → Option (List ℕ)) (sectors : ℕ) (output output' : W) (result : Result (Unit {0}) Refusal) : Type 0 where
+pub record MakesStore {D : Type 0} (g : Ghosts D) {W : Type 0} (contents : W → Option (List ℕ)) (sectors : ℕ) (output output' : W)
+    (result : Result (Unit {0}) Refusal) : Type 0 where
   pub store : Store D g
   pub made : IsNewStore sectors store
   pub size : g.size (device_of store) ≡ sectors
@@ -69,16 +82,17 @@ pub record MakesStore {D : Type 0} (g : Ghosts D) {W : Type 0} (contents : W →
   pub failed : IfErr result (λ refusal. refusal ≡ refusals.Io)
 
 -- or why not, and then nothing is written
-abbrev pub Formats : {D : Type 0} → (g : Ghosts D) → {W : Type 0} → (contents : W → Option (List ℕ)) → (sectors : ℕ) → (output output' : W) → Result (Unit {0}) Refusal → Type 0
+abbrev pub Formats : {D : Type 0} → (g : Ghosts D) → {W : Type 0} → (contents : W → Option (List ℕ)) → (sectors : ℕ) → (output output' : W)
+    → Result (Unit {0}) Refusal → Type 0
 Formats g contents sectors output output' result =
-    IsErrAnd result (λ refusal. RefusesFormat sectors refusal × (output' ≡ output)) ⊎ MakesStore g contents sectors output output' result
+    IsErrAnd result (λ refusal. RefusesFormat g sectors refusal × (output' ≡ output)) ⊎ MakesStore g contents sectors output output' result
 
 -- what a request comes to
-abbrev pub ServesRequest : {D : Type 0} → (g : Ghosts D) → {R W : Type 0} → (remaining : R → Option (List ℕ)) → (contents : W → Option (List ℕ)) → StoreRequest
-    → (input input' : R) → (output output' : W) → (hint : Option RefusedPart) → Result (Unit {0}) Refusal → Type 0
-ServesRequest g remaining contents (requests.Format path sectors) input input' output output' hint result = Formats g contents sectors output output' result
-ServesRequest g remaining contents (requests.Command path command) input input' output output' hint result =
-    ServesCommand g remaining contents command input input' output output' hint result
+abbrev pub ServesRequest : {D : Type 0} → (g : Ghosts D) → {R W : Type 0} → (remaining : R → Option (List ℕ)) → (contents : W → Option (List ℕ))
+    → StoreRequest → (before after : Channels R W) → Result (Unit {0}) Refusal → Type 0
+ServesRequest g remaining contents (requests.Format path sectors) before after result =
+    Formats g contents sectors before.output after.output result × (after.hint ≡ before.hint)
+ServesRequest g remaining contents (requests.Command path command) before after result = ServesCommand g remaining contents command before after result
 
 -- how a run ends
 abbrev pub status_of : Result (Unit {0}) Refusal → Status
@@ -97,7 +111,7 @@ pub record ServesWord {D : Type 0} (g : Ghosts D) {R W : Type 0} (remaining : R 
   pub asks : request_word request ≡ word
   pub part : Option RefusedPart
   pub result : Result (Unit {0}) Refusal
-  pub serves : ServesRequest g remaining contents request input input' output output' part result
+  pub serves : ServesRequest g remaining contents request (channels input output None) (channels input' output' part) result
   pub ends : status ≡ status_of result
   pub hint : Option Hint
   -- what is told of the input is the part that is refused, and else none is told
@@ -112,4 +126,5 @@ AsksForNone asks_for_help output output' status = (asks_for_help ≡ true) ⊎ (
 abbrev pub RunsOnStore : {D : Type 0} → (g : Ghosts D) → {R W : Type 0} → (remaining : R → Option (List ℕ)) → (contents : W → Option (List ℕ)) → (word : List ℕ)
     → (asks_for_help : Bool) → (input input' : R) → (output output' : W) → (tells : Option Hint → Type 0) → Status → Type 0
 RunsOnStore g remaining contents word asks_for_help input input' output output' tells status =
-    (AsksForNone asks_for_help output output' status × (input' ≡ input) × tells None) ⊎ ServesWord g remaining contents word input input' output output' tells status
+    (AsksForNone asks_for_help output output' status × (input' ≡ input) × tells None)
+    ⊎ ServesWord g remaining contents word input input' output output' tells status

@@ -1,5 +1,5 @@
 -- What a command of an open store takes, gives and leaves: for each command the words of its own function, in one definition.
-use Rattle.std.specs.Prelude.{◌≡◌, ℕ, Bool, true, false, List, codes, Option, Some, IsSome, Result, Ok, Err, IfErr, OnOk}
+use Rattle.std.specs.Prelude.{◌≡◌, ℕ, true, false, List, codes, Option, Some, IsSome, Result, Ok, IfErr, OnOk}
 use Rattle.std.specs.Io.KnownBytes.{Appends}
 use Rattle.std.specs.List.{AllByRecursion}
 use Rattle.sector_dev.specs.Disk.{Image, now, shown_image}
@@ -30,40 +30,55 @@ use Rattle.store_commands.specs.TextRows.{HandsRows, RefusesText, IfOfText, IfHi
 use Rattle.arrowstore.specs.declared.open_command.OpenCommand.{OpenCommand}
 use Rattle.arrowstore.specs.declared.open_command.OpenCommand.TheVariants as opened
 
+-- what a command reads, writes and hints at: an input, an output, and the part of the input that is refused
+pub record Channels (R W : Type 0) : Type 0 where
+  pub input : R
+  pub output : W
+  pub hint : Option RefusedPart
+
+abbrev pub channels : {R W : Type 0} → R → W → Option RefusedPart → Channels R W
+channels input output hint = record { input = input; output = output; hint = hint }
+
 -- a change of the tables is carried out as the store carries it out (`apply_command`)
-pub record Carries {D : Type 0} {g : Ghosts D} {W : Type 0} (contents : W → Option (List ℕ)) (command : PlainCommand)
-    (old new : Store D g) (output output' : W) (result : Result (Unit {0}) Refusal) : Type 0 where
+pub record Carries {D : Type 0} {g : Ghosts D} {R W : Type 0} (contents : W → Option (List ℕ)) (command : PlainCommand)
+    (old new : Store D g) (before after : Channels R W) (result : Result (Unit {0}) Refusal) : Type 0 where
   pub goes : g.tells ≡ true → (base : Tables) (m : Machine) → StoreFits g.size g.story base m old
       → Answered (λ answer. GoesOn g.size g.story g.failed base m (apply_call command) (reply_of answer) old new) result
   pub told : Answered (λ answer. AnswersCommand g.size g.story g.tells command answer old new) result
-  pub written : OnOk result (Appends (contents output) (contents output') (codes "ok\n"))
+  pub written : OnOk result (Appends (contents before.output) (contents after.output) (codes "ok\n"))
+  pub unhinted : after.hint ≡ before.hint
 
 -- so is the command that all of an input is, or it is refused before, for a reason of which this holds (`import_input`, `append_input`)
-pub record CarriesInput {D : Type 0} {g : Ghosts D} {W : Type 0} (contents : W → Option (List ℕ)) (input : Option (List ℕ)) (command : List ℕ → PlainCommand) (before : Refusal → Type 0)
-    (old new : Store D g) (output output' : W) (result : Result (Unit {0}) Refusal) : Type 0 where
+pub record CarriesInput {D : Type 0} {g : Ghosts D} {R W : Type 0} (contents : W → Option (List ℕ)) (input : Option (List ℕ))
+    (command : List ℕ → PlainCommand) (refuses : Refusal → Type 0) (old new : Store D g) (before after : Channels R W)
+    (result : Result (Unit {0}) Refusal) : Type 0 where
   pub goes : g.tells ≡ true → (base : Tables) (m : Machine) → StoreFits g.size g.story base m old
       → Hands input (λ bytes answer. GoesOn g.size g.story g.failed base m (apply_call (command bytes)) (reply_of answer) old new) (λ refusal. new ≡ old) result
   pub told : Hands input (λ bytes answer. AnswersCommand g.size g.story g.tells (command bytes) answer old new)
-      (λ refusal. before refusal × (new ≡ old) × (output' ≡ output)) result
-  pub written : OnOk result (Appends (contents output) (contents output') (codes "ok\n"))
+      (λ refusal. refuses refusal × (new ≡ old) × (after.output ≡ before.output)) result
+  pub written : OnOk result (Appends (contents before.output) (contents after.output) (codes "ok\n"))
+  pub unhinted : after.hint ≡ before.hint
 
 -- so are the rows that all of an input has as a text (`append_text`)
-pub record CarriesText {D : Type 0} {g : Ghosts D} {W : Type 0} (contents : W → Option (List ℕ)) (input : Option (List ℕ)) (form : TextForm) (name : List ℕ) (before : Refusal → Type 0)
-    (old new : Store D g) (output output' : W) (hint : Option RefusedPart) (result : Result (Unit {0}) Refusal) : Type 0 where
+pub record CarriesText {D : Type 0} {g : Ghosts D} {R W : Type 0} (contents : W → Option (List ℕ)) (input : Option (List ℕ)) (form : TextForm)
+    (name : List ℕ) (refuses : Refusal → Type 0) (old new : Store D g) (before after : Channels R W)
+    (result : Result (Unit {0}) Refusal) : Type 0 where
   pub goes : g.tells ≡ true → (base : Tables) (m : Machine) → StoreFits g.size g.story base m old
       → HandsRows form (entry_of (listed_in old) name) input
       (λ rows answer. GoesOn g.size g.story g.failed base m (apply_call (append_rows name rows)) (reply_of answer) old new) (λ refusal. new ≡ old) result
   pub told : HandsRows form (entry_of (listed_in old) name) input (λ rows answer. AnswersCommand g.size g.story g.tells (append_rows name rows) answer old new)
-      (λ refusal. before refusal × (new ≡ old) × (output' ≡ output)) result
+      (λ refusal. refuses refusal × (new ≡ old) × (after.output ≡ before.output)) result
   pub refused : IfErr result (IfOfText form (entry_of (listed_in old) name) input)
-  pub hinted : IfHinted hint form (entry_of (listed_in old) name) input result
-  pub written : OnOk result (Appends (contents output) (contents output') (codes "ok\n"))
+  pub hinted : IfHinted after.hint form (entry_of (listed_in old) name) input result
+  pub written : OnOk result (Appends (contents before.output) (contents after.output) (codes "ok\n"))
 
 -- what is printed of a store, why nothing is, and what becomes of the store (`print_tables`, `print_schema`, `print_selection`, `export_table`, `check_tables`)
-pub record Prints (printed : Type 0) (refuses : Refusal → Type 0) (left : Type 0) (result : Result (Unit {0}) Refusal) : Type 0 where
+pub record Prints {R W : Type 0} (printed : Type 0) (refuses : Refusal → Type 0) (left : Type 0) (before after : Channels R W)
+    (result : Result (Unit {0}) Refusal) : Type 0 where
   pub written : OnOk result printed
   pub told : IfErr result refuses
   pub leaves : left
+  pub unhinted : after.hint ≡ before.hint
 
 -- what reads of a store's device show
 abbrev pub image_of : {D : Type 0} {g : Ghosts D} → Store D g → Image
@@ -81,34 +96,36 @@ AreReadable {g = g} store = g.tells ≡ true → AllByRecursion (IsReadable (is_
 abbrev pub OnlyRead : {D : Type 0} {g : Ghosts D} → Result (Unit {0}) Refusal → (old new : Store D g) → Type 0
 OnlyRead {g = g} result old new = OnlyReadsStore g.size g.story g.failed g.tells (store_ended result) old new
 
--- what each command does, from a store, an input and an output to what they are behind it
-unfoldable pub Serves : {D : Type 0} {g : Ghosts D} {R W : Type 0} → (remaining : R → Option (List ℕ)) → (contents : W → Option (List ℕ)) → OpenCommand → (old new : Store D g)
-    → (input input' : R) → (output output' : W) → (hint : Option RefusedPart) → Result (Unit {0}) Refusal → Type 0
-Serves remaining contents (opened.Change c) old new input input' output output' hint result = Carries contents (command_of c) old new output output' result
-Serves remaining contents (opened.Import name) old new input input' output output' hint result =
-    CarriesInput contents (remaining input) (import_stream name.now) (RefusesImport remaining name.now input input') old new output output' result
-Serves remaining contents (opened.Append name) old new input input' output output' hint result =
-    CarriesInput contents (remaining input) (append_stream name.now) (RefusesAppend remaining (is_halted old) (entry_of (listed_in old) name.now) input input')
-    old new output output' result
-Serves remaining contents (opened.AppendText name form) old new input input' output output' hint result =
-    CarriesText contents (remaining input) form name.now (RefusesText remaining form (is_halted old) (entry_of (listed_in old) name.now) input input')
-    old new output output' hint result
-Serves {g = g} remaining contents (opened.Select name query) old new input input' output output' hint result =
+-- what each command does, from a store and what it reads, writes and hints at to what they are behind it
+unfoldable pub Serves : {D : Type 0} {g : Ghosts D} {R W : Type 0} → (remaining : R → Option (List ℕ)) → (contents : W → Option (List ℕ)) → OpenCommand
+    → (old new : Store D g) → (before after : Channels R W) → Result (Unit {0}) Refusal → Type 0
+Serves remaining contents (opened.Change c) old new before after result = Carries contents (command_of c) old new before after result
+Serves remaining contents (opened.Import name) old new before after result =
+    CarriesInput contents (remaining before.input) (import_stream name.now)
+    (RefusesImport remaining name.now before.input after.input) old new before after result
+Serves remaining contents (opened.Append name) old new before after result =
+    CarriesInput contents (remaining before.input) (append_stream name.now)
+    (RefusesAppend remaining (is_halted old) (entry_of (listed_in old) name.now) before.input after.input) old new before after result
+Serves remaining contents (opened.AppendText name form) old new before after result =
+    CarriesText contents (remaining before.input) form name.now
+    (RefusesText remaining form (is_halted old) (entry_of (listed_in old) name.now) before.input after.input) old new before after result
+Serves {g = g} remaining contents (opened.Select name query) old new before after result =
     Prints ((selected : PlainTable) × QueryAnswers (is_halted old) g.tells (image_of old) (entry_of (listed_in old) name.now) (query_in query) (Ok selected)
-    × Appends (contents output) (contents output') (rows_text selected.rows))
-    (RefusesQuery (is_halted old) g.tells (image_of old) (entry_of (listed_in old) name.now) (query_in query)) (OnlyRead result old new) result
-Serves remaining contents opened.Tables old new input input' output output' hint result =
-    Prints (Appends (contents output) (contents output') (tables_text (tables_of (listed_in old))))
-    (RefusesPrinting (RefusesTables (is_halted old)) (is_halted old ≡ false)) (new ≡ old) result
-Serves remaining contents (opened.Schema name) old new input input' output output' hint result =
-    Prints ((e : PlainEntry) × (entry_of (listed_in old) name.now ≡ Some e) × Appends (contents output) (contents output') (schema_text e.schema.columns))
+    × Appends (contents before.output) (contents after.output) (rows_text selected.rows))
+    (RefusesQuery (is_halted old) g.tells (image_of old) (entry_of (listed_in old) name.now) (query_in query)) (OnlyRead result old new) before after result
+Serves remaining contents opened.Tables old new before after result =
+    Prints (Appends (contents before.output) (contents after.output) (tables_text (tables_of (listed_in old))))
+    (RefusesPrinting (RefusesTables (is_halted old)) (is_halted old ≡ false)) (new ≡ old) before after result
+Serves remaining contents (opened.Schema name) old new before after result =
+    Prints ((e : PlainEntry) × (entry_of (listed_in old) name.now ≡ Some e)
+    × Appends (contents before.output) (contents after.output) (schema_text e.schema.columns))
     (RefusesPrinting (RefusesSchema (is_halted old) (entry_of (listed_in old) name.now)) ((is_halted old ≡ false) × IsSome (entry_of (listed_in old) name.now)))
-    (new ≡ old) result
-Serves {g = g} remaining contents (opened.Export name) old new input input' output output' hint result =
-    Prints ((t : PlainTable) × Shows old name.now t × Appends (contents output) (contents output') (canonical t))
+    (new ≡ old) before after result
+Serves {g = g} remaining contents (opened.Export name) old new before after result =
+    Prints ((t : PlainTable) × Shows old name.now t × Appends (contents before.output) (contents after.output) (canonical t))
     (OfStore (RefusesRead (is_halted old) g.tells (image_of old) (entry_of (listed_in old) name.now)) ((t : PlainTable) × Shows old name.now t))
-    (OnlyRead result old new) result
-Serves {g = g} remaining contents opened.Check old new input input' output output' hint result =
-    Prints (Appends (contents output) (contents output') (codes "ok\n") × AreReadable old)
+    (OnlyRead result old new) before after result
+Serves {g = g} remaining contents opened.Check old new before after result =
+    Prints (Appends (contents before.output) (contents after.output) (codes "ok\n") × AreReadable old)
     (OfStore (λ refusal. g.tells ≡ true → RefusesCheck (is_halted old) (image_of old) (listed_in old) refusal) (AreReadable old))
-    (OnlyRead result old new) result
+    (OnlyRead result old new) before after result

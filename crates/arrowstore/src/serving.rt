@@ -3,7 +3,8 @@ ghost use Rattle.std.specs.Prelude.{◌≡◌, ◌≢◌, ◌⊎◌, true, IfOk,
 ghost use Rattle.store.specs.Fits.{device_of, IsNewStore};
 ghost use Rattle.store_requests.specs.Asked.{command_word, request_word};
 ghost use Rattle.store_requests.specs.StoreWords.{takes_input_word};
-ghost use Rattle.arrowstore.specs.OnFiles.{IsOpened, IsOfOpening, RefusesFormat, Formats, ServesCommand, ServesRequest};
+ghost use Rattle.arrowstore.specs.OnFiles.{IsOpened, IsOfOpening, FailsToFormat, RefusesFormat, Formats, ServesCommand, ServesRequest};
+ghost use Rattle.arrowstore.specs.Serving.{channels};
 
 use crate::open_command::{OpenCommand, stated};
 use crate::serving_open::serve_open;
@@ -20,11 +21,11 @@ use text_import::RefusedPart;
 // The store that stands on a device.
 fn open_on<D: SectorDevice + Drop>(alloc: Global, device: D) -> Result<Store<D>, Refusal>
     ensures opened { IfOk result (IsOpened device) }
-    ensures refused { IfErr result IsOfOpening }
+    ensures refused { IfErr result (IsOfOpening ⟦<D as SectorDevice>⟧) }
 {
     match Store::open(alloc, device) {
         Ok(store) => Ok(store),
-        Err((refusal, _device)) => Err(Refusal::Opening(refusal)),
+        Err((refusal, _back)) => Err(Refusal::Opening(refusal)),
     }
 }
 
@@ -32,11 +33,11 @@ fn open_on<D: SectorDevice + Drop>(alloc: Global, device: D) -> Result<Store<D>,
 fn format_on<D: SectorDevice + Drop>(alloc: Global, device: D) -> Result<Store<D>, Refusal>
     ensures made { IfOk result (IsNewStore (D.size device)) }
     ensures size { IfOk result (λ store. D.size (device_of store) ≡ D.size device) }
-    ensures refused { IfErr result (λ refusal. (r : _) × (refusal ≡ Refusal.Opening r)) }
+    ensures refused { IfErr result (FailsToFormat ⟦<D as SectorDevice>⟧ (D.size device)) }
 {
     match Store::format(alloc, device) {
         Ok(store) => Ok(store),
-        Err((refusal, _device)) => Err(Refusal::Opening(refusal)),
+        Err((refusal, _back)) => Err(Refusal::Opening(refusal)),
     }
 }
 
@@ -53,26 +54,24 @@ fn device_of<F: Read + Write + Seek + OpenFile + LockFile + Drop, H: Files<File 
     }
 }
 
-#[tactic(auto, using(crate::proofs::FileLemmas::of_file))]
 fn open_for<F: Read + Write + Seek + OpenFile + LockFile + Drop, H: Files<File = F> + AllocGlobal>(
     rt: &H,
     path: &str,
     command: &OpenCommand<'_>,
 ) -> Result<Store<FileDevice<F>>, Refusal>
     ensures opened { IfOk result (λ store. (device : _) × IsOpened device store) }
-    ensures refused { IfErr result IsOfOpening }
+    ensures refused { IfErr result (IsOfOpening ⟦<FileDevice<F> as SectorDevice>⟧) }
 {
     open_on(rt.alloc(), device_of(rt, path, command)?)
 }
 
-#[tactic(auto, using(crate::proofs::FileLemmas::of_making))]
 fn format_file<
     F: Read + Write + Seek + OpenFile + LockFile + Drop,
     H: Files<File = F> + AllocGlobal,
 >(rt: &H, path: &str, sectors: u64) -> Result<Store<FileDevice<F>>, Refusal>
     ensures made { IfOk result (IsNewStore sectors) }
     ensures size { IfOk result (λ store. ⟦<FileDevice<F> as SectorDevice>⟧.size (device_of store) ≡ sectors) }
-    ensures refused { IfErr result (RefusesFormat sectors) }
+    ensures refused { IfErr result (RefusesFormat ⟦<FileDevice<F> as SectorDevice>⟧ sectors) }
 {
     format_on(rt.alloc(), FileDevice::create(rt, path, sectors)?)
 }
@@ -103,8 +102,8 @@ fn serve_command<
     output: &mut W,
     hint: &mut Option<RefusedPart>,
 ) -> Result<(), Refusal>
-    ensures serves { ServesCommand ⟦<FileDevice<F> as SectorDevice>⟧ R.remaining W.contents command.now input.old input.new output.old output.new
-        hint.new result }
+    ensures serves { ServesCommand ⟦<FileDevice<F> as SectorDevice>⟧ R.remaining W.contents command.now
+        (channels input.old output.old hint.old) (channels input.new output.new hint.new) result }
     ensures unread { (takes_input_word (command_word command.now) ≡ true) ⊎ (input.new ≡ input.old) }
     ensures silent { IfErr result (λ refusal. refusal ≢ Refusal.Io → output.new ≡ output.old) }
 {
@@ -125,8 +124,8 @@ fn serve_request<
     output: &mut W,
     hint: &mut Option<RefusedPart>,
 ) -> Result<(), Refusal>
-    ensures serves { ServesRequest ⟦<FileDevice<F> as SectorDevice>⟧ R.remaining W.contents request.now input.old input.new output.old output.new
-        hint.new result }
+    ensures serves { ServesRequest ⟦<FileDevice<F> as SectorDevice>⟧ R.remaining W.contents request.now
+        (channels input.old output.old hint.old) (channels input.new output.new hint.new) result }
     ensures unread { (takes_input_word (request_word request.now) ≡ true) ⊎ (input.new ≡ input.old) }
     ensures silent { IfErr result (λ refusal. refusal ≢ Refusal.Io → output.new ≡ output.old) }
 {
@@ -160,8 +159,8 @@ pub(crate) fn serve<
     output: &mut W,
     hint: &mut Option<RefusedPart>,
 ) -> Result<(), Refusal>
-    ensures serves { ServesRequest ⟦<FileDevice<F> as SectorDevice>⟧ R.remaining W.contents request.now input.old input.new output.old output.new
-        hint.new result }
+    ensures serves { ServesRequest ⟦<FileDevice<F> as SectorDevice>⟧ R.remaining W.contents request.now
+        (channels input.old output.old hint.old) (channels input.new output.new hint.new) result }
     ensures unread { (takes_input_word (request_word request.now) ≡ true) ⊎ (input.new ≡ input.old) }
     // Where it is refused, nothing is written, unless a read or a write failed.
     ensures silent { IfErr result (λ refusal. refusal ≢ Refusal.Io → output.new ≡ output.old) }

@@ -1,7 +1,7 @@
 // The commands of a store that is open.
 ghost use Rattle.std.specs.Prelude.{◌≡◌, ◌≢◌, ◌⊎◌, true, IfErr};
 ghost use Rattle.arrowstore.specs.OpenCommands.{reads_input};
-ghost use Rattle.arrowstore.specs.Serving.{Serves};
+ghost use Rattle.arrowstore.specs.Serving.{channels, Serves};
 
 use crate::OpenCommand;
 use command_refusals::Refusal;
@@ -26,7 +26,8 @@ pub fn serve_open<D: SectorDevice, R: Read, W: Write>(
     hint: &mut Option<RefusedPart>,
 ) -> Result<(), Refusal>
     // Each command does what its function promises.
-    ensures serves { Serves R.remaining W.contents command.entry store.old store.new input.old input.new output.old output.new hint.new result }
+    ensures serves { Serves R.remaining W.contents command.entry store.old store.new
+        (channels input.old output.old hint.old) (channels input.new output.new hint.new) result }
     ensures unread { (reads_input command.entry ≡ true) ⊎ (input.new ≡ input.old) }
     // Where it is refused, nothing is written, unless a read or a write failed.
     ensures silent { IfErr result (λ refusal. refusal ≢ Refusal.Io → output.new ≡ output.old) }

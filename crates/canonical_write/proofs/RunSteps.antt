@@ -1,5 +1,5 @@
 -- What the columns of a piece's rows are, whatever the fields stand in.
-use Rattle.std.specs.List.{AllByRecursion, list_all}
+use Rattle.std.specs.List.{list_all}
 use Rattle.std.proofs.Common.{◌≡◌, ◌≢◌, ◌+◌, ◌≤◌, true, List, [], ◌∷◌, ◌++◌, length, sym, ap, subst, ◌∙◌, arith, length-append}
 use Rattle.std.proofs.lemmas.Bool.{and_parts}
 use Rattle.std.proofs.lemmas.List.Folds.{list_all-append}
@@ -44,7 +44,3 @@ rows_behind s all piece rest is are =
 
 pub count_behind : (all piece rest : List (List Cell)) → all ≡ piece ++ rest → length all ≡ length piece + length rest
 count_behind all piece rest is = ap length is ∙ length-append piece rest
-
-pub all_more : {X : Type 0} (P : X → Type 0) (xs : List X) (x : X) → AllByRecursion P xs → P x → AllByRecursion P (xs ++ x ∷ [])
-all_more P [] x each here = (here, tt)
-all_more P (y ∷ ys) x each here = (each.0, all_more P ys x each.1 here)

@@ -1,7 +1,7 @@
 //! Writing tables of any types (docs/formats/writing.md): the one stream of a table, and the stream of each of its pieces.
 //!
-//! A table is written a piece at a time: its next rows, the arrays of these rows, and then the messages of the arrays. What its bytes are is a definition
-//! (`canonical_stream`, `specs/Canonical.antt`), and a law says what each piece means.
+//! A stream is made a piece at a time: the next rows of the table, the arrays of these rows, and then the messages of the arrays. All of it is made before its
+//! first byte is written. What its bytes are is a definition (`canonical_stream`, `specs/Canonical.antt`), and a law says what each piece means.
 //!
 //! ```ignore
 //! let stream = encode(alloc, &table)?;

@@ -1,9 +1,10 @@
 // Laws of the definitions, for the crates above: each call does nothing, and its contract is the law.
-ghost use Rattle.std.specs.Prelude.{◌≡◌, ◌≤◌, ◌++◌, ℕ, true, List, length, Some};
+ghost use Rattle.std.specs.Prelude.{◌≡◌, ◌≤◌, ◌*◌, ◌++◌, ℕ, true, List, length, Some};
 ghost use Rattle.std.specs.List.{list_all, Contains};
 ghost use Rattle.arrow_schema.specs.Limits.{IsWithinLimits};
 ghost use Rattle.facts.specs.Bytes.{AreBytes};
 ghost use Rattle.catalogue.specs.declared.entry.Segment.{Segment};
+ghost use Rattle.catalogue.specs.declared.limits.TheConstants.{MAX_SEGMENTS, MAX_SEGMENT_ROWS};
 ghost use Rattle.catalogue.specs.Entries.{PlainEntry, PlainCatalogue, is_name, is_segment, is_entry, row_count, runs_of, IsCatalogue};
 ghost use Rattle.catalogue.specs.Edits.{entry_of, with_entry, without};
 ghost use Rattle.catalogue.specs.Counts.{HasMore, HasSame, HasFewer};
@@ -53,7 +54,7 @@ pub fn runs_are_named()
     ensures { (c : PlainCatalogue) (e : PlainEntry) (s : Segment) → Contains c e → Contains e.segments s → Contains (runs_of c) s.place.run }
 {}
 
-/// The rows of a table are at most 268,435,456.
+/// The rows of a table are at most 268,435,456: those of all segments that a catalogue may have.
 pub fn rows_are_few()
-    ensures { (c : PlainCatalogue) (e : PlainEntry) → IsCatalogue c → Contains c e → row_count e ≤ 268435456 }
+    ensures { (c : PlainCatalogue) (e : PlainEntry) → IsCatalogue c → Contains c e → row_count e ≤ MAX_SEGMENTS * MAX_SEGMENT_ROWS }
 {}

@@ -52,7 +52,7 @@ fn first_commit(sectors: u64) -> Commit
 
 // Writes zeros over the first commit sector, and the empty catalogue, whose text is zeros too, and syncs.
 fn prepare<D: SectorDevice>(device: &mut D) -> Result<(), DevError>
-    requires room { 16 ≤ D.size device.old }
+    requires room { LEAST_SECTORS ≤ D.size device.old }
     ensures size { D.size device.new ≡ D.size device.old }
     ensures count { Counts (D.failed device.old) (D.failed device.new) result }
     ensures error { IfErr result (λ e. e ≡ DevError.Failed) }
@@ -70,8 +70,8 @@ fn prepare<D: SectorDevice>(device: &mut D) -> Result<(), DevError>
 
 // Writes the first commit, and syncs.
 fn begin<D: SectorDevice>(device: &mut D) -> Result<(), DevError>
-    requires room { 16 ≤ D.size device.old }
-    requires most { D.size device.old ≤ 4194304 }
+    requires room { LEAST_SECTORS ≤ D.size device.old }
+    requires most { D.size device.old ≤ MOST_SECTORS }
     ensures size { D.size device.new ≡ D.size device.old }
     ensures count { Counts (D.failed device.old) (D.failed device.new) result }
     ensures error { IfErr result (λ e. e ≡ DevError.Failed) }
@@ -89,8 +89,8 @@ fn begin<D: SectorDevice>(device: &mut D) -> Result<(), DevError>
 
 // Makes what reads give safe, so that no stop brings back an older commit, and then writes the empty store.
 fn clear_and_begin<D: SectorDevice>(device: &mut D) -> Result<(), DevError>
-    requires room { 16 ≤ D.size device.old }
-    requires most { D.size device.old ≤ 4194304 }
+    requires room { LEAST_SECTORS ≤ D.size device.old }
+    requires most { D.size device.old ≤ MOST_SECTORS }
     ensures size { D.size device.new ≡ D.size device.old }
     ensures count { Counts (D.failed device.old) (D.failed device.new) result }
     ensures error { IfErr result (λ e. e ≡ DevError.Failed) }
@@ -107,7 +107,7 @@ fn clear_and_begin<D: SectorDevice>(device: &mut D) -> Result<(), DevError>
 
 // A map in which the first catalogue's run is in use.
 fn first_map(alloc: Global, sectors: u64) -> Result<FreeMap, FormatError>
-    requires { 16 ≤ sectors }
+    requires { LEAST_SECTORS ≤ sectors }
     ensures size { IfOk result (λ map. map.size ≡ sectors) }
     ensures uses { IfOk result (λ map. Uses map.entries ((first_commit sectors).catalogue.run ∷ []) []) }
     ensures err { IfErr result (λ e. e ≡ FormatError.OutOfMemory) }

@@ -1,6 +1,7 @@
 // The text of a catalogue is read.
 ghost use Rattle.std.specs.Prelude.{◌≡◌, ◌≢◌, ◌≤◌, ◌+◌, ◌*◌, ◌<◌, ◌^◌, true, false, Ok, Err, OnOk, IfOk, IfErr};
 ghost use Rattle.sector_dev.specs.Time.{OnlyReads};
+ghost use Rattle.sector_dev.specs.declared.file.TheConstants.{MOST_SECTORS};
 ghost use Rattle.commit.specs.Standing.{is_on_device, is_extent};
 ghost use Rattle.commit.specs.Opening.{CountsOpen, text_shown, TellsCause};
 
@@ -35,7 +36,7 @@ pub(crate) fn is_on_device(size: u64, run: Run) -> bool
 
 // Whether it lies on the device with at least so many bytes, and has just the sectors that they need.
 fn is_extent(size: u64, least: u64, extent: Extent) -> bool
-    requires { size ≤ 4194304 }
+    requires { size ≤ MOST_SECTORS }
     ensures { result ≡ is_extent size least extent }
 {
     extent.bytes >= least
@@ -52,7 +53,7 @@ pub fn read_text<D: SectorDevice>(
     device: &mut D,
     commit: Commit,
 ) -> Result<Vec<u8>, OpenError>
-    requires { D.size device.old ≤ 4194304 }
+    requires { D.size device.old ≤ MOST_SECTORS }
     ensures size { D.size device.new ≡ D.size device.old }
     ensures count { CountsOpen (D.failed device.old) (D.failed device.new) result }
     ensures moments { D.tells ≡ true → OnlyReads (D.story device.old) (D.story device.new) }

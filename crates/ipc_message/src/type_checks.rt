@@ -8,9 +8,7 @@ ghost use Rattle.ipc_message.specs.View.{raw_field_of, parameters_of, encoding_o
 use crate::fault::TypeName;
 use crate::raw_header::{Encoding, Parameters, RawField};
 use crate::type_codes::type_name;
-
-// Sizes stay below it: they have 32 bits and a sign.
-const SIZE_END: u32 = 1 << 31;
+use arrow_schema::NUMBER_END;
 
 fn is_bit_width(width: u32) -> bool
     ensures { result ≡ is_bit_width width }
@@ -49,7 +47,7 @@ fn is_fixed_binary(parameters: &Parameters) -> bool
     ensures { result ≡ is_some (fixed_binary (parameters_of parameters.now)) }
 {
     match parameters {
-        Parameters::ByteWidth(width) => *width < SIZE_END,
+        Parameters::ByteWidth(width) => *width < NUMBER_END,
         _ => false,
     }
 }
@@ -58,7 +56,7 @@ fn is_fixed_list(parameters: &Parameters) -> bool
     ensures { result ≡ has_list_size (parameters_of parameters.now) }
 {
     match parameters {
-        Parameters::ListSize(size) => *size < SIZE_END,
+        Parameters::ListSize(size) => *size < NUMBER_END,
         _ => false,
     }
 }

@@ -259,13 +259,11 @@ pub fn write_batch(
     put_body_or_cut(out, buffers, before)
 }
 
-/// The continuation marker, and a size of 0.
-const END_OF_STREAM: [u8; 8] = [0xff, 0xff, 0xff, 0xff, 0, 0, 0, 0];
-
-/// Appends the end of stream, or nothing where memory is refused.
+/// Appends the end of stream, the continuation marker and a size of 0, or nothing where memory is refused.
 pub fn write_end(out: &mut Vec<u8>) -> Result<(), AllocError>
     ensures appended { OnOk result (out.new.items ≡ out.old.items ++ end_of_stream) }
     ensures kept { OnErr result (out.new.items ≡ out.old.items) }
 {
-    out.extend_from_slice(&END_OF_STREAM)
+    let [a, b, c, d] = CONTINUATION_MARKER;
+    out.extend_from_slice(&[a, b, c, d, 0, 0, 0, 0])
 }

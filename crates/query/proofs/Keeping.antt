@@ -1,22 +1,21 @@
--- The rows that are kept, gathered one by one.
-use Rattle.std.proofs.Common.{◌≡◌, ℕ, inl, inr, zero, suc, ◌+◌, ◌-◌, ◌^◌, ◌≤◌, ◌<◌, Bool, true, false, List, [], ◌∷◌, ◌++◌, map, length, take, get_or, refl, sym, ap, ◌∙◌, arith, length-append}
-use Rattle.std.specs.Prelude.{Option, Some, None, filter, slice_get, unwrap_or, option_map}
+-- The rows that a mask keeps, gathered one by one.
+use Rattle.std.proofs.Common.{◌≡◌, ℕ, inl, inr, zero, suc, ◌+◌, ◌-◌, ◌*◌, ◌^◌, ◌≤◌, ◌<◌, Bool, true, false, cond, List, [], ◌∷◌, ◌++◌, map, length, take, get_or, refl, sym, ap, ◌∙◌, arith, append_assoc, length-append}
+use Rattle.std.specs.Prelude.{Option, Some, None, filter, slice_get, unwrap_or, option_map, if◌then◌else◌}
 use Rattle.std.specs.List.{flat_map}
 use Rattle.std.proofs.lemmas.Bool.{cases_lt}
-use Rattle.std.proofs.lemmas.List.{length-map, take_more, take_all, append-nil, map-append}
-use Rattle.std.proofs.lemmas.List.Elements.{filter-append}
+use Rattle.std.proofs.lemmas.List.{length-map, take_more, take_all, append-nil, length-take-le}
 use Rattle.std.proofs.lemmas.Grind.{flat_map-append}
 use Rattle.std.proofs.lemmas.List.Sums.{length-filter, count_by-le-length}
-use Rattle.std.proofs.lemmas.Option.{slice_get-map, get_or_from_slice_get, slice_get_within, slice_get-get_or}
+use Rattle.std.proofs.lemmas.Option.{slice_get-map, get_or_from_slice_get, slice_get-get_or}
 use Rattle.bitmap.specs.Bits.{bit}
 use Rattle.cells.specs.Cell.{Cell}
-use Rattle.query.specs.Selection.{pick, limited}
+use Rattle.query.specs.Selection.{limited}
+use Rattle.query.specs.inner.Keeping.{rows_set, AreKept}
 use Rattle.query.specs.inner.Masks.{IsMask}
-use Rattle.query.proofs.SelectedTables.{kept_rows}
 
--- what is kept of the first rows
-abbrev pub kept_front : ℕ → List ℕ → (List Cell → Bool) → List (List Cell) → ℕ → List (List Cell)
-kept_front most ps p rows i = take most (kept_rows ps p (take i rows))
+-- what is kept with the first of some rows, behind others
+abbrev pub kept_front : (most : ℕ) → (others : List (List Cell)) → (mask : List ℕ) → (start : ℕ) → (xs : List (List Cell)) → (i : ℕ) → List (List Cell)
+kept_front most others mask start xs i = take most (others ++ rows_set mask start (take i xs))
 
 take-none : {X : Type 0} (n : ℕ) → take {A = X} n [] ≡ []
 take-none zero = refl
@@ -33,122 +32,170 @@ take-full {X = X} zero xs ys h = refl
 take-full {X = X} (suc most) [] ys h = absurd (omega (arith, h))
 take-full {X = X} (suc most) (y ∷ xs) ys h = ap (λ (zs : List X). y ∷ zs) (take-full most xs ys (omega (arith, h)))
 
--- the rows kept of one more row
-one_more : (ps : List ℕ) (p : List Cell → Bool) (rows : List (List Cell)) (i : ℕ) → i < length rows
-    → kept_rows ps p (take (i + 1) rows) ≡ kept_rows ps p (take i rows) ++ kept_rows ps p (get_or rows i [] ∷ [])
-one_more ps p rows i h =
-    rw (take_more rows i [] h, filter-append p (take i rows) (get_or rows i [] ∷ [])) (map-append (pick ps) (filter p (take i rows)) (filter p (get_or rows i [] ∷ [])))
+-- the rows of two lists
+pub set_append : (mask : List ℕ) (from : ℕ) (xs ys : List (List Cell)) → rows_set mask from (xs ++ ys) ≡ rows_set mask from xs ++ rows_set mask (from + length xs) ys
+set_append mask from [] ys = let e : from ≡ from + 0 = omega arith in ap (λ n. rows_set mask n ys) e
+set_append mask from (x ∷ xs) ys =
+    let e : from + 1 + length xs ≡ from + suc (length xs) = omega arith in
+    by (bit mask from) (set_append mask (from + 1) xs ys ∙ ap (λ n. rows_set mask (from + 1) xs ++ rows_set mask n ys) e)
+  where
+    by : (b : Bool) → rows_set mask (from + 1) (xs ++ ys) ≡ rows_set mask (from + 1) xs ++ rows_set mask (from + suc (length xs)) ys
+        → (if b then x ∷ rows_set mask (from + 1) (xs ++ ys) else rows_set mask (from + 1) (xs ++ ys))
+        ≡ (if b then x ∷ rows_set mask (from + 1) xs else rows_set mask (from + 1) xs) ++ rows_set mask (from + suc (length xs)) ys
+    by true h = ap (λ (zs : List (List Cell)). x ∷ zs) h
+    by false h = h
 
-pub kept_one : (most : ℕ) (ps : List ℕ) (p : List Cell → Bool) (rows : List (List Cell)) (i : ℕ) (row : List Cell) → slice_get rows i ≡ Some row → p row ≡ true
-    → length (kept_front most ps p rows i) < most → kept_front most ps p rows (i + 1) ≡ kept_front most ps p rows i ++ pick ps row ∷ []
-kept_one most ps p rows i row is holds room =
-    let here : get_or rows i [] ≡ row = get_or_from_slice_get rows i row [] is in
-    rw (one_more ps p rows i (slice_get_within rows i row is), here, holds) (take-room most (kept_rows ps p (take i rows)) (pick ps row) room)
+-- those of one more row
+one_more : (mask : List ℕ) (start : ℕ) (xs : List (List Cell)) (i : ℕ) → i < length xs
+    → rows_set mask start (take (i + 1) xs) ≡ rows_set mask start (take i xs) ++ rows_set mask (start + i) (get_or xs i [] ∷ [])
+one_more mask start xs i h =
+    let long : length (take i xs) ≡ i = length-take-le i xs (omega (arith, h)) in
+    ap (rows_set mask start) (take_more xs i [] h) ∙ set_append mask start (take i xs) (get_or xs i [] ∷ [])
+    ∙ ap (λ n. rows_set mask start (take i xs) ++ rows_set mask (start + n) (get_or xs i [] ∷ [])) long
 
-pub kept_not : (most : ℕ) (ps : List ℕ) (p : List Cell → Bool) (rows : List (List Cell)) (i : ℕ) → i < length rows → p (get_or rows i []) ≡ false
-    → kept_front most ps p rows (i + 1) ≡ kept_front most ps p rows i
-kept_not most ps p rows i h fails = rw (one_more ps p rows i h, fails, append-nil (kept_rows ps p (take i rows))) refl
+-- what is kept with one more row, whose bit is this
+with_bit : (most : ℕ) (others : List (List Cell)) (mask : List ℕ) (start : ℕ) (xs : List (List Cell)) (i : ℕ) (b : Bool) → i < length xs → bit mask (start + i) ≡ b
+    → kept_front most others mask start xs (i + 1) ≡ take most ((others ++ rows_set mask start (take i xs)) ++ (if b then get_or xs i [] ∷ [] else []))
+with_bit most others mask start xs i b h is =
+    ap (λ (ys : List (List Cell)). take most (others ++ ys)) (one_more mask start xs i h)
+    ∙ ap (λ (set : Bool). take most (others ++ (rows_set mask start (take i xs) ++ (if set then get_or xs i [] ∷ [] else [])))) is
+    ∙ ap (take most) (sym (append_assoc others (rows_set mask start (take i xs)) (if b then get_or xs i [] ∷ [] else [])))
 
-pub kept_full : (most : ℕ) (ps : List ℕ) (p : List Cell → Bool) (rows : List (List Cell)) (i : ℕ) → i < length rows → most ≤ length (kept_front most ps p rows i)
-    → kept_front most ps p rows (i + 1) ≡ kept_front most ps p rows i
-kept_full most ps p rows i h full =
-    rw (one_more ps p rows i h) (take-full most (kept_rows ps p (take i rows)) (kept_rows ps p (get_or rows i [] ∷ [])) full)
+kept_one : (most : ℕ) (others : List (List Cell)) (mask : List ℕ) (start : ℕ) (xs : List (List Cell)) (i : ℕ) → i < length xs → bit mask (start + i) ≡ true
+    → length (kept_front most others mask start xs i) < most → kept_front most others mask start xs (i + 1) ≡ kept_front most others mask start xs i ++ get_or xs i [] ∷ []
+kept_one most others mask start xs i h set room = with_bit most others mask start xs i true h set ∙ take-room most (others ++ rows_set mask start (take i xs)) (get_or xs i []) room
 
--- the bit of a row
-pub bit_of_row : (mask : List ℕ) (p : List Cell → Bool) (rows : List (List Cell)) (i : ℕ) → IsMask mask (map p rows) → i < length rows → bit mask i ≡ p (get_or rows i [])
-bit_of_row mask p rows i is h =
-    let there : slice_get (map p rows) i ≡ Some (p (get_or rows i [])) = slice_get-map p rows i ∙ ap (option_map p) (slice_get-get_or rows i [] h) in
-    is.each i ∙ get_or_from_slice_get (map p rows) i (p (get_or rows i [])) false there
+kept_not : (most : ℕ) (others : List (List Cell)) (mask : List ℕ) (start : ℕ) (xs : List (List Cell)) (i : ℕ) → i < length xs → bit mask (start + i) ≡ false
+    → kept_front most others mask start xs (i + 1) ≡ kept_front most others mask start xs i
+kept_not most others mask start xs i h unset = with_bit most others mask start xs i false h unset ∙ ap (take most) (append-nil (others ++ rows_set mask start (take i xs)))
 
--- all rows, under a limit of 64 bits
-pub kept_all : (most : Option ℕ) (ps : List ℕ) (p : List Cell → Bool) (rows : List (List Cell)) → length rows < 2 ^ 64
-    → kept_front (unwrap_or most (2 ^ 64 - 1)) ps p rows (length rows) ≡ limited most (kept_rows ps p rows)
-kept_all (Some most) ps p rows h = ap (λ (xs : List (List Cell)). take most (kept_rows ps p xs)) (take_all (length rows) rows (omega arith))
-kept_all None ps p rows h =
-    ap (λ (xs : List (List Cell)). take (2 ^ 64 - 1) (kept_rows ps p xs)) (take_all (length rows) rows (omega arith))
-    ∙ take_all (2 ^ 64 - 1) (kept_rows ps p rows) (omega (arith, length-map (filter p rows) (pick ps), length-filter p rows, count_by-le-length p rows, h))
+kept_full : (most : ℕ) (others : List (List Cell)) (mask : List ℕ) (start : ℕ) (xs : List (List Cell)) (i : ℕ) → i < length xs → most ≤ length (kept_front most others mask start xs i)
+    → kept_front most others mask start xs (i + 1) ≡ kept_front most others mask start xs i
+kept_full most others mask start xs i h full =
+    with_bit most others mask start xs i (bit mask (start + i)) h refl
+    ∙ take-full most (others ++ rows_set mask start (take i xs)) (if bit mask (start + i) then get_or xs i [] ∷ [] else []) full
 
 one_flat : (rows : List (List Cell)) (row : List Cell) → flat_map (λ row. row) (rows ++ row ∷ []) ≡ flat_map (λ row. row) rows ++ row
 one_flat rows row = flat_map-append (λ row. row) rows (row ∷ []) ∙ ap (λ (xs : List Cell). flat_map (λ row. row) rows ++ xs) (append-nil row)
 
--- the cells and the number of the rows that are kept
-pub record AreKept (rows : List (List Cell)) (cells : List Cell) (count : ℕ) : Type 0 where
-  pub cells_are : cells ≡ flat_map (λ row. row) rows
-  pub count_is : count ≡ length rows
-
--- a row more
-pub kept_more : (most : ℕ) (ps : List ℕ) (p : List Cell → Bool) (rows : List (List Cell)) (mask : List ℕ) (i : ℕ) (cells more : List Cell) (count next : ℕ)
-    → IsMask mask (map p rows) → bit mask i ≡ true → i < length rows → AreKept (kept_front most ps p rows i) cells count → count < most
-    → more ≡ cells ++ pick ps (get_or rows i []) → next ≡ count + 1 → AreKept (kept_front most ps p rows (i + 1)) more next
-kept_more most ps p rows mask i cells more count next is set within h room added counted =
-    let row : List Cell = get_or rows i [] in
-    let there = slice_get-get_or rows i [] within in
-    let passes : p row ≡ true = sym (bit_of_row mask p rows i is within) ∙ set in
-    let grown = kept_one most ps p rows i row there passes (omega (arith, room, h.count_is)) in
-    record {
-      cells_are = added ∙ (ap (λ (xs : List Cell). xs ++ pick ps row) h.cells_are ∙ (sym (one_flat (kept_front most ps p rows i) (pick ps row)) ∙ ap (λ (rs : List (List Cell)). flat_map (λ row. row) rs) (sym grown)));
-      count_is = omega (arith, counted, h.count_is, ap (λ (rs : List (List Cell)). length rs) grown, length-append (kept_front most ps p rows i) (pick ps row ∷ []));
-    }
-
 -- the same rows
-pub kept_same : (before after : List (List Cell)) (cells more : List Cell) (count next : ℕ) → after ≡ before → more ≡ cells → next ≡ count → AreKept before cells count → AreKept after more next
-kept_same before after cells more count next e c n h = record {
-  cells_are = c ∙ (h.cells_are ∙ ap (λ (rs : List (List Cell)). flat_map (λ row. row) rs) (sym e));
-  count_is = n ∙ (h.count_is ∙ ap (λ (rs : List (List Cell)). length rs) (sym e));
+pub kept_same : (before after : List (List Cell)) (cells : List Cell) (count : ℕ) → before ≡ after → AreKept before cells count → AreKept after cells count
+kept_same before after cells count e h = record {
+  cells_are = h.cells_are ∙ ap (λ (rs : List (List Cell)). flat_map (λ row. row) rs) e;
+  count_is = h.count_is ∙ ap (λ (rs : List (List Cell)). length rs) e;
 }
 
+-- a row more
+pub kept_more : (most : ℕ) (others : List (List Cell)) (mask : List ℕ) (start : ℕ) (xs : List (List Cell)) (i : ℕ) (cells more : List Cell) (count next : ℕ) → i < length xs → bit mask (start + i) ≡ true
+    → AreKept (kept_front most others mask start xs i) cells count → count < most → more ≡ cells ++ get_or xs i [] → next ≡ count + 1
+    → AreKept (kept_front most others mask start xs (i + 1)) more next
+kept_more most others mask start xs i cells more count next within set h room added counted =
+    let grown = kept_one most others mask start xs i within set (omega (arith, room, h.count_is)) in
+    let row : List Cell = get_or xs i [] in
+    record {
+      cells_are = added ∙ (ap (λ (ys : List Cell). ys ++ row) h.cells_are ∙ (sym (one_flat (kept_front most others mask start xs i) row) ∙ ap (λ (rs : List (List Cell)). flat_map (λ row. row) rs) (sym grown)));
+      count_is = omega (arith, counted, h.count_is, ap (λ (rs : List (List Cell)). length rs) grown, length-append (kept_front most others mask start xs i) (row ∷ []));
+    }
+
 -- rows that are passed over
-kept_over : (most : ℕ) (ps : List ℕ) (p : List Cell → Bool) (rows : List (List Cell)) (from n : ℕ) → from + n ≤ length rows
-    → ((i : ℕ) → from ≤ i → i < from + n → p (get_or rows i []) ≡ false) → kept_front most ps p rows (from + n) ≡ kept_front most ps p rows from
-kept_over most ps p rows from zero within fails = let e : from + 0 ≡ from = omega arith in ap (kept_front most ps p rows) e
-kept_over most ps p rows from (suc n) within fails =
+kept_over : (most : ℕ) (others : List (List Cell)) (mask : List ℕ) (start : ℕ) (xs : List (List Cell)) (from n : ℕ) → from + n ≤ length xs
+    → ((i : ℕ) → from ≤ i → i < from + n → bit mask (start + i) ≡ false) → kept_front most others mask start xs (from + n) ≡ kept_front most others mask start xs from
+kept_over most others mask start xs from zero within unset = let e : from + 0 ≡ from = omega arith in ap (kept_front most others mask start xs) e
+kept_over most others mask start xs from (suc n) within unset =
     let e : from + suc n ≡ from + n + 1 = omega arith in
-    ap (kept_front most ps p rows) e
-    ∙ kept_not most ps p rows (from + n) (omega arith) (fails (from + n) (omega arith) (omega arith))
-    ∙ kept_over most ps p rows from n (omega arith) (λ i above below. fails i above (omega (arith, below)))
+    ap (kept_front most others mask start xs) e
+    ∙ kept_not most others mask start xs (from + n) (omega arith) (unset (from + n) (omega arith) (omega arith))
+    ∙ kept_over most others mask start xs from n (omega arith) (λ i above below. unset i above (omega (arith, below)))
 
 -- where there is room for no more
-full_over : (most : ℕ) (ps : List ℕ) (p : List Cell → Bool) (rows : List (List Cell)) (from n : ℕ) → from + n ≤ length rows → most ≤ length (kept_front most ps p rows from)
-    → kept_front most ps p rows (from + n) ≡ kept_front most ps p rows from
-full_over most ps p rows from zero within full = let e : from + 0 ≡ from = omega arith in ap (kept_front most ps p rows) e
-full_over most ps p rows from (suc n) within full =
+full_over : (most : ℕ) (others : List (List Cell)) (mask : List ℕ) (start : ℕ) (xs : List (List Cell)) (from n : ℕ) → from + n ≤ length xs → most ≤ length (kept_front most others mask start xs from)
+    → kept_front most others mask start xs (from + n) ≡ kept_front most others mask start xs from
+full_over most others mask start xs from zero within full = let e : from + 0 ≡ from = omega arith in ap (kept_front most others mask start xs) e
+full_over most others mask start xs from (suc n) within full =
     let e : from + suc n ≡ from + n + 1 = omega arith in
-    let before = full_over most ps p rows from n (omega arith) full in
-    ap (kept_front most ps p rows) e ∙ kept_full most ps p rows (from + n) (omega arith) (omega (arith, full, ap (λ (rs : List (List Cell)). length rs) before)) ∙ before
+    let before = full_over most others mask start xs from n (omega arith) full in
+    ap (kept_front most others mask start xs) e
+    ∙ kept_full most others mask start xs (from + n) (omega arith) (omega (arith, full, ap (λ (rs : List (List Cell)). length rs) before)) ∙ before
 
 -- no row yet
-pub kept_start : (most : ℕ) (ps : List ℕ) (p : List Cell → Bool) (rows : List (List Cell)) (cells : List Cell) → cells ≡ [] → AreKept (kept_front most ps p rows 0) cells 0
-kept_start most ps p rows cells e = record {
+pub kept_start : (most : ℕ) (others : List (List Cell)) (mask : List ℕ) (start : ℕ) (xs : List (List Cell)) (cells : List Cell) (count : ℕ) → AreKept (take most others) cells count
+    → AreKept (kept_front most others mask start xs 0) cells count
+kept_start most others mask start xs cells count h =
+    kept_same (take most others) (kept_front most others mask start xs 0) cells count (ap (take most) (sym (append-nil others))) h
+
+-- up to the next row whose bit is set
+pub kept_next : (most : ℕ) (others : List (List Cell)) (mask : List ℕ) (start : ℕ) (xs : List (List Cell)) (from to : ℕ) (cells : List Cell) (count : ℕ) → from ≤ to → to ≤ length xs
+    → ((i : ℕ) → from ≤ i → i < to → bit mask (start + i) ≡ false) → AreKept (kept_front most others mask start xs from) cells count → AreKept (kept_front most others mask start xs to) cells count
+kept_next most others mask start xs from to cells count order within unset h =
+    let e : from + (to - from) ≡ to = omega arith in
+    let over = kept_over most others mask start xs from (to - from) (omega arith) (λ i above below. unset i above (omega (arith, below, e))) in
+    kept_same (kept_front most others mask start xs from) (kept_front most others mask start xs to) cells count (sym over ∙ ap (kept_front most others mask start xs) e) h
+
+-- where no row is left, or there is room for no more
+pub kept_done : (most : ℕ) (others : List (List Cell)) (mask : List ℕ) (start : ℕ) (xs : List (List Cell)) (i : ℕ) (cells : List Cell) (count : ℕ) → i ≤ length xs → (i < length xs → most ≤ count)
+    → AreKept (kept_front most others mask start xs i) cells count → AreKept (take most (others ++ rows_set mask start xs)) cells count
+kept_done most others mask start xs i cells count within full h =
+    kept_same (kept_front most others mask start xs i) (take most (others ++ rows_set mask start xs)) cells count
+    (sym all ∙ ap (λ (ys : List (List Cell)). take most (others ++ rows_set mask start ys)) (take_all (length xs) xs (omega arith))) h
+  where
+    all : kept_front most others mask start xs (length xs) ≡ kept_front most others mask start xs i
+    all = elim (cases_lt i (length xs)) [
+      | inl lt ↦
+          (let whole : i + (length xs - i) ≡ length xs = omega arith in
+          ap (kept_front most others mask start xs) (sym whole) ∙ full_over most others mask start xs i (length xs - i) (omega arith) (omega (arith, full lt, h.count_is)))
+      | inr le ↦ (let whole : length xs ≡ i = omega arith in ap (kept_front most others mask start xs) whole)
+    ]
+
+-- ---- the rows of which a test holds
+
+-- the bit of a row
+bit_of_row : (mask : List ℕ) (p : List Cell → Bool) (rows : List (List Cell)) (i : ℕ) → IsMask mask (map p rows) → i < length rows → bit mask i ≡ p (get_or rows i [])
+bit_of_row mask p rows i is h =
+    let there : slice_get (map p rows) i ≡ Some (p (get_or rows i [])) = slice_get-map p rows i ∙ ap (option_map p) (slice_get-get_or rows i [] h) in
+    is.each i ∙ get_or_from_slice_get (map p rows) i (p (get_or rows i [])) false there
+
+set_are : (mask : List ℕ) (p : List Cell → Bool) (g : List Cell → List Cell) (from : ℕ) (rows : List (List Cell)) → ((i : ℕ) → i < length rows → bit mask (from + i) ≡ p (get_or rows i []))
+    → rows_set mask from (map g rows) ≡ map g (filter p rows)
+set_are mask p g from [] each = refl
+set_are mask p g from (row ∷ rows) each =
+    let e : from ≡ from + 0 = omega arith in
+    let here : bit mask from ≡ p row = ap (bit mask) e ∙ each 0 (omega arith) in
+    let rest : rows_set mask (from + 1) (map g rows) ≡ map g (filter p rows) =
+    set_are mask p g (from + 1) rows (λ i h. let f : from + 1 + i ≡ from + suc i = omega arith in ap (bit mask) f ∙ each (suc i) (omega (arith, h))) in
+    ap (λ (b : Bool). if b then g row ∷ rows_set mask (from + 1) (map g rows) else rows_set mask (from + 1) (map g rows)) here ∙ by (p row) rest
+  where
+    by : (b : Bool) → rows_set mask (from + 1) (map g rows) ≡ map g (filter p rows)
+        → (if b then g row ∷ rows_set mask (from + 1) (map g rows) else rows_set mask (from + 1) (map g rows)) ≡ map g (cond b (row ∷ filter p rows) (filter p rows))
+    by true h = ap (λ (rs : List (List Cell)). g row ∷ rs) h
+    by false h = h
+
+-- what the mask of a test keeps
+pub set_rows_are : (mask : List ℕ) (p : List Cell → Bool) (g : List Cell → List Cell) (rows : List (List Cell)) → IsMask mask (map p rows) → rows_set mask 0 (map g rows) ≡ map g (filter p rows)
+set_rows_are mask p g rows is = set_are mask p g 0 rows (λ i h. let e : 0 + i ≡ i = omega arith in ap (bit mask) e ∙ bit_of_row mask p rows i is h)
+
+-- a limit of 64 bits
+pub limited_is : (limit : Option ℕ) (xs : List (List Cell)) → length xs < 2 ^ 64 → take (unwrap_or limit (2 ^ 64 - 1)) xs ≡ limited limit xs
+limited_is (Some most) xs h = refl
+limited_is None xs h = take_all (2 ^ 64 - 1) xs (omega (arith, h))
+
+-- nothing is kept yet
+pub none_kept : (most : ℕ) (cells : List Cell) → cells ≡ [] → AreKept (take most []) cells 0
+none_kept most cells e = record {
   cells_are = e ∙ sym (ap (λ (rs : List (List Cell)). flat_map (λ row. row) rs) (take-none most));
   count_is = sym (ap (λ (rs : List (List Cell)). length rs) (take-none most));
 }
 
--- up to the next row that the mask has
-pub kept_next : (most : ℕ) (ps : List ℕ) (p : List Cell → Bool) (rows : List (List Cell)) (mask : List ℕ) (from to : ℕ) (cells : List Cell) (count : ℕ)
-    → IsMask mask (map p rows) → from ≤ to → to ≤ length rows → ((i : ℕ) → from ≤ i → i < to → bit mask i ≡ false)
-    → AreKept (kept_front most ps p rows from) cells count → AreKept (kept_front most ps p rows to) cells count
-kept_next most ps p rows mask from to cells count is order within unset h =
-    let e : from + (to - from) ≡ to = omega arith in
-    let over =
-    kept_over most ps p rows from (to - from) (omega arith)
-    (λ i above below. sym (bit_of_row mask p rows i is (omega (arith, below, e))) ∙ unset i above (omega (arith, below, e))) in
-    kept_same (kept_front most ps p rows from) (kept_front most ps p rows to) cells cells count count (ap (kept_front most ps p rows) (sym e) ∙ over) refl refl h
+pub mapped_at : (g : List Cell → List Cell) (rows : List (List Cell)) (i : ℕ) → i < length rows → get_or (map g rows) i [] ≡ g (get_or rows i [])
+mapped_at g rows i h = get_or_from_slice_get (map g rows) i (g (get_or rows i [])) [] (slice_get-map g rows i ∙ ap (option_map g) (slice_get-get_or rows i [] h))
 
-kept_end : (limit : Option ℕ) (most : ℕ) (ps : List ℕ) (p : List Cell → Bool) (rows : List (List Cell)) (i : ℕ) → most ≡ unwrap_or limit (2 ^ 64 - 1) → i ≡ length rows → length rows < 2 ^ 64
-    → kept_front most ps p rows i ≡ limited limit (kept_rows ps p rows)
-kept_end limit most ps p rows i e all few = (λ k. kept_front (e k) ps p rows (all k)) ∙ kept_all limit ps p rows few
+-- what is kept of the rows of which a test holds
+pub kept_rows_are : (limit : Option ℕ) (most : ℕ) (p : List Cell → Bool) (g : List Cell → List Cell) (rows : List (List Cell)) (mask : List ℕ) → IsMask mask (map p rows)
+    → most ≡ unwrap_or limit (2 ^ 64 - 1) → length rows < 2 ^ 64 → take most (rows_set mask 0 (map g rows)) ≡ limited limit (map g (filter p rows))
+kept_rows_are limit most p g rows mask is e few =
+    ap (λ n. take n (rows_set mask 0 (map g rows))) e
+    ∙ ap (take (unwrap_or limit (2 ^ 64 - 1))) (set_rows_are mask p g rows is)
+    ∙ limited_is limit (map g (filter p rows)) (omega (arith, length-map (filter p rows) g, length-filter p rows, count_by-le-length p rows, few))
 
--- where no row is left, or there is room for no more
-pub kept_done : (limit : Option ℕ) (most : ℕ) (ps : List ℕ) (p : List Cell → Bool) (rows : List (List Cell)) (i : ℕ) (cells : List Cell) (count : ℕ) → most ≡ unwrap_or limit (2 ^ 64 - 1)
-    → length rows < 2 ^ 64 → i ≤ length rows → (i < length rows → most ≤ count) → AreKept (kept_front most ps p rows i) cells count
-    → AreKept (limited limit (kept_rows ps p rows)) cells count
-kept_done limit most ps p rows i cells count e few within full h =
-    kept_same (kept_front most ps p rows i) (limited limit (kept_rows ps p rows)) cells cells count count (sym (kept_end limit most ps p rows (length rows) e refl few) ∙ all) refl refl h
-  where
-    all : kept_front most ps p rows (length rows) ≡ kept_front most ps p rows i
-    all = elim (cases_lt i (length rows)) [
-      | inl lt ↦
-          (let whole : i + (length rows - i) ≡ length rows = omega arith in
-          ap (kept_front most ps p rows) (sym whole) ∙ full_over most ps p rows i (length rows - i) (omega arith) (omega (arith, full lt, h.count_is)))
-      | inr le ↦ (let whole : length rows ≡ i = omega arith in ap (kept_front most ps p rows) whole)
-    ]
+-- the mask has a bit for each row
+pub mask_long : (mask : List ℕ) (p : List Cell → Bool) (rows : List (List Cell)) → IsMask mask (map p rows) → length rows ≤ 8 * length mask
+mask_long mask p rows is = omega (arith, is.size, length-map rows p)

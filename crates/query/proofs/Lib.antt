@@ -14,6 +14,7 @@ pub mod Numbers
 pub mod Lines
 pub mod SlotFlags
 pub mod Maps
+pub mod IntegerRows
 pub mod Cuts
 pub mod Lanes
 pub mod Masked

@@ -75,7 +75,7 @@ none_dropped zero = refl
 none_dropped (suc n) = refl
 
 -- the cell of a column in a row
-cell_in_row : (f : PlacedArray → Array) (cs : List Column) (place : ℕ) (c : Column) (arrays : List PlacedArray) (i : ℕ) → slice_get cs place ≡ Some c
+pub cell_in_row : (f : PlacedArray → Array) (cs : List Column) (place : ℕ) (c : Column) (arrays : List PlacedArray) (i : ℕ) → slice_get cs place ≡ Some c
     → slice_get (cell_list (part_cells (columns_of cs) (arrays_of (map f arrays)) i)) place ≡ Some (cell_at c (first_array (arrays_of (map f (drop place arrays)))) i)
 unfolding part_cells
 cell_in_row f [] place c arrays i e = absurd cc
@@ -85,7 +85,7 @@ cell_in_row f (d ∷ cs) (suc place) c [] i e =
 cell_in_row f (d ∷ cs) (suc place) c (a ∷ arrays) i e = cell_in_row f cs place c arrays i e
 
 -- its array can be looked up
-array_sound : (f : PlacedArray → Array) (cs : List Column) (place : ℕ) (c : Column) (arrays : List PlacedArray) (rows : ℕ) → slice_get cs place ≡ Some c
+pub array_sound : (f : PlacedArray → Array) (cs : List Column) (place : ℕ) (c : Column) (arrays : List PlacedArray) (rows : ℕ) → slice_get cs place ≡ Some c
     → are_sound (columns_of cs) rows (arrays_of (map f arrays)) ≡ true
     → (nat_le rows (slots_in (first_array (arrays_of (map f (drop place arrays))))) ≡ true) × (is_sound c (first_array (arrays_of (map f (drop place arrays)))) ≡ true)
 unfolding are_sound
@@ -100,7 +100,7 @@ array_sound f (d ∷ cs) (suc place) c [] rows e h =
 array_sound f (d ∷ cs) (suc place) c (a ∷ arrays) rows e h =
     array_sound f cs place c arrays rows e (and_parts (is_sound d (f a)) _ (and_parts (nat_le rows (slots_in (f a))) _ h).1).1
 
-map_map : {X Y Z : Type 0} (f : Y → Z) (g : X → Y) (xs : List X) → map f (map g xs) ≡ map (λ x. f (g x)) xs
+pub map_map : {X Y Z : Type 0} (f : Y → Z) (g : X → Y) (xs : List X) → map f (map g xs) ≡ map (λ x. f (g x)) xs
 map_map f g [] = refl
 map_map f g (x ∷ xs) = ap (λ zs. f (g x) ∷ zs) (map_map f g xs)
 
@@ -123,7 +123,7 @@ map_both f [] ys = refl
 map_both f (x ∷ xs) ys = ap (λ zs. f x ∷ zs) (map_both f xs ys)
 
 -- what holds of the rows of each part, part after part
-flat_is : {X Y Z : Type 0} (f : Y → Z) (g : X → List Y) (h : X → List Z) → ((x : X) → map f (g x) ≡ h x) → (xs : List X) → map f (flat_map g xs) ≡ flat_map h xs
+pub flat_is : {X Y Z : Type 0} (f : Y → Z) (g : X → List Y) (h : X → List Z) → ((x : X) → map f (g x) ≡ h x) → (xs : List X) → map f (flat_map g xs) ≡ flat_map h xs
 flat_is f g h each [] = refl
 flat_is f g h each (x ∷ xs) = map_both f (g x) (flat_map g xs) ∙ rw (each x, flat_is f g h each xs) refl
 
@@ -139,7 +139,7 @@ batch_there cs b c is p batch h =
     let values : not (are_few (width_of c.integer) (array_of b.place p batch) (values_in (array_of b.place p batch))) ≡ true = ap not (is.integers.values (array_of b.place p batch) both.1) in
     ap (λ k. has_slots c batch.rows (array_of k p batch)) is.place ∙ and_from _ _ both.0 (and_from _ _ validity values)
 
-all_too : {X : Type 0} (p q : X → Bool) → ((x : X) → p x ≡ true → q x ≡ true) → (xs : List X) → list_all p xs ≡ true → list_all q xs ≡ true
+pub all_too : {X : Type 0} (p q : X → Bool) → ((x : X) → p x ≡ true → q x ≡ true) → (xs : List X) → list_all p xs ≡ true → list_all q xs ≡ true
 all_too p q each [] h = refl
 all_too p q each (x ∷ xs) h = let both = and_parts (p x) _ h in and_from _ _ (each x both.0) (all_too p q each xs both.1)
 
@@ -160,14 +160,17 @@ view_is place p batch bytes all a arrays same_bytes same_all same_arrays is =
     ∙ ap (λ (d : List Dictionary). first_array (placed_arrays p.bytes.items d (drop place arrays))) same_all
     ∙ ap (λ (xs : List PlacedArray). first_array (placed_arrays p.bytes.items p.dictionaries.items (drop place xs))) same_arrays
 
--- the flags of one more batch, or of one more part
+-- what one more batch, or one more part, has
+pub one_taken : {X Y : Type 0} (g : X → List Y) (xs : List X) (k : ℕ) (x : X) → k < length xs → x ≡ get_or xs k x → flat_map g (take (k + 1) xs) ≡ flat_map g (take k xs) ++ g x
+one_taken {Y = Y} g xs k x within is =
+    let taken : take (k + 1) xs ≡ take k xs ++ x ∷ [] = take_more xs k x within ∙ ap (λ y. take k xs ++ y ∷ []) (sym is) in
+    ap (flat_map g) taken ∙ flat_map-append g (take k xs) (x ∷ []) ∙ ap (λ (ys : List Y). flat_map g (take k xs) ++ ys) (append-nil (g x))
+
+-- its flags
 pub flags_more : {X : Type 0} (g : X → List Bool) (xs : List X) (k : ℕ) (x : X) (start flags : List Bool) → k < length xs → x ≡ get_or xs k x → flags ≡ start ++ flat_map g (take k xs)
     → flags ++ g x ≡ start ++ flat_map g (take (k + 1) xs)
 flags_more g xs k x start flags within is h =
-    let taken : take (k + 1) xs ≡ take k xs ++ x ∷ [] = take_more xs k x within ∙ ap (λ y. take k xs ++ y ∷ []) (sym is) in
-    let all : flat_map g (take (k + 1) xs) ≡ flat_map g (take k xs) ++ g x =
-    ap (flat_map g) taken ∙ flat_map-append g (take k xs) (x ∷ []) ∙ ap (λ (ys : List Bool). flat_map g (take k xs) ++ ys) (append-nil (g x)) in
-    ap (λ (ys : List Bool). ys ++ g x) h ∙ append_assoc start (flat_map g (take k xs)) (g x) ∙ ap (λ (ys : List Bool). start ++ ys) (sym all)
+    ap (λ (ys : List Bool). ys ++ g x) h ∙ append_assoc start (flat_map g (take k xs)) (g x) ∙ ap (λ (ys : List Bool). start ++ ys) (sym (one_taken g xs k x within is))
 
 -- the mask of the flags of all parts is that of the rows
 pub parts_mask : (t : PlainTable) (cs : List Column) (b : Bound) (c : Comparison) (parts : List Part) (mask : List ℕ) → IsComparison cs b c → cs ≡ t.schema.columns

@@ -19,6 +19,8 @@ mod condition;
 mod copying;
 mod cut;
 mod errors;
+mod integer_rows;
+mod kept;
 mod laws;
 mod line;
 mod literal;

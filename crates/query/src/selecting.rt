@@ -14,12 +14,15 @@ ghost use Rattle.query.specs.Bound.{bound, holds};
 ghost use Rattle.query.specs.Selection.{pick, chosen, all_ok, limited, holds_all, is_distinct, selected, selection};
 ghost use Rattle.query.specs.View.{condition_in, query_in, Reports, Unchosen};
 ghost use Rattle.query.specs.inner.BoundView.{bound_in};
+ghost use Rattle.query.specs.inner.Keeping.{rows_set, HasKept};
 ghost use Rattle.query.specs.inner.Masks.{IsMask};
 
 use crate::bound::{Bound, bind, field_at, holds, place_of};
 use crate::condition::Condition;
 use crate::copying::copy_value;
 use crate::errors::QueryError;
+use crate::integer_rows::{integer_columns, keep_integers};
+use crate::kept::{Kept, next_set};
 use crate::query::Query;
 use crate::slots::comparison_of;
 use arrow_schema::{Field, Schema};
@@ -123,21 +126,6 @@ fn mask_of_all(alloc: Global, table: &Table, bounds: &[Bound]) -> Result<Vec<u8>
     Ok(mask)
 }
 
-// The first row from one on whose bit is set, or the end.
-fn next_set(mask: &[u8], from: usize, end: usize) -> usize
-    requires within { end ≤ 8 * length mask.now }
-    requires order { from ≤ end }
-    ensures begins { from ≤ result }
-    ensures ends { result ≤ end }
-    ensures unset { (i : ℕ) → from ≤ i → i < result → bit mask.now i ≡ false }
-    ensures set { result < end → bit mask.now result ≡ true }
-{
-    if from == end || bitmap::get(mask, from) {
-        return from;
-    }
-    bitmap::run_end(mask, from, end)
-}
-
 // Adds the values at these places of a row.
 fn push_row(
     alloc: Global,
@@ -172,11 +160,46 @@ fn push_row_at(
     }
 }
 
-// The cells of some rows, one after another.
-#[derive(Debug, Drop)]
-struct Kept {
-    cells: Vec<Value>,
-    rows: usize,
+// Of rows of which a mask tells those that are kept, the values at these places, up to so many rows.
+fn keep_each(
+    alloc: Global,
+    table: &Table,
+    places: &[usize],
+    mask: &[u8],
+    most: u64,
+) -> Result<Kept, AllocError>
+    requires { length (table_of table.now).rows ≤ 8 * length mask.now }
+    ensures { IfOk result (λ k. HasKept (take most (rows_set mask.now 0 (map (pick places.now) (table_of table.now).rows))) k) }
+{
+    let end = table.len();
+    let mut cells = Vec::new(alloc);
+    let mut rows = 0usize;
+    let mut next = next_set(mask, 0, end);
+    while next < end && (rows as u64) < most {
+        push_row_at(alloc, &mut cells, table, next, places)?;
+        rows += 1;
+        next = next_set(mask, next + 1, end);
+    }
+    Ok(Kept { cells, rows })
+}
+
+// The same, from the bytes of arrays where these have integers alone.
+fn keep_set(
+    alloc: Global,
+    table: &Table,
+    places: &[usize],
+    mask: &[u8],
+    most: u64,
+) -> Result<Kept, AllocError>
+    requires { length (table_of table.now).rows ≤ 8 * length mask.now }
+    ensures { IfOk result (λ k. HasKept (take most (rows_set mask.now 0 (map (pick places.now) (table_of table.now).rows))) k) }
+{
+    let rows = table.len();
+    let columns = integer_columns(alloc, &table.schema().fields, places)?;
+    match (table.parts(), columns) {
+        (Some(parts), Some(columns)) => keep_integers(alloc, &columns, parts, rows, mask, most),
+        _ => keep_each(alloc, table, places, mask, most),
+    }
 }
 
 // The rows of which all conditions hold, each with the values at these places, under a limit.
@@ -187,22 +210,12 @@ fn keep_rows(
     bounds: &[Bound],
     limit: Option<u64>,
 ) -> Result<Kept, AllocError>
-    ensures cells { IfOk result (λ k. map cell k.cells.items
-        ≡ flat_map (λ row. row) (selected places.now (map bound_in bounds.now) limit (table_of table.now)).rows) }
-    ensures rows { IfOk result (λ k. k.rows ≡ length (selected places.now (map bound_in bounds.now) limit (table_of table.now)).rows) }
+    ensures { IfOk result (λ k. HasKept (selected places.now (map bound_in bounds.now) limit (table_of table.now)).rows k) }
 {
+    // a number of the code is below 2^64, so that no limit of 64 bits cuts what has none
+    let _rows = table.len();
     let mask = mask_of_all(alloc, table, bounds)?;
-    let most = limit.unwrap_or(u64::MAX);
-    let end = table.len();
-    let mut cells = Vec::new(alloc);
-    let mut rows = 0usize;
-    let mut next = next_set(&mask, 0, end);
-    while next < end && (rows as u64) < most {
-        push_row_at(alloc, &mut cells, table, next, places)?;
-        rows += 1;
-        next = next_set(&mask, next + 1, end);
-    }
-    Ok(Kept { cells, rows })
+    keep_set(alloc, table, places, &mask, limit.unwrap_or(u64::MAX))
 }
 
 fn pick_fields(alloc: Global, fields: &[Field], places: &[usize]) -> Result<Vec<Field>, AllocError>

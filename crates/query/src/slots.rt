@@ -54,7 +54,8 @@ fn integer_of(data_type: &DataType) -> Option<IntegerType>
     }
 }
 
-fn field_integer(field: &Field) -> Option<IntegerType>
+/// The integers that the values of a field are, where it has no dictionary.
+pub(crate) fn field_integer(field: &Field) -> Option<IntegerType>
     ensures { IfSome result (λ t. IsIntegerColumn (column_of field.now) t) }
 {
     match field.dictionary {
@@ -114,7 +115,8 @@ fn signed_number(width: BitWidth, number: u64) -> i128
     }
 }
 
-fn number_at(integer: IntegerType, values: &[u8], i: usize) -> i128
+/// The integer of a slot.
+pub(crate) fn number_at(integer: IntegerType, values: &[u8], i: usize) -> i128
     requires { (i + 1) * width_of integer ≤ length values.now }
     ensures { result ≡ integer_at (width_of integer) integer.signed values.now i }
 {

@@ -10,6 +10,7 @@ use Rattle.std.specs.declared.io.traits.Write.{Ghosts as WriteGhosts}
 use Rattle.std.specs.declared.io.traits.Seek.{Ghosts as SeekGhosts}
 use Rattle.sector_dev.specs.declared.buffer.Buffer.{Buffer}
 use Rattle.sector_dev.specs.declared.file.FileDevice.{FileDevice}
+use Rattle.sector_dev.specs.declared.file.TheConstants.{LEAST_SECTORS, MOST_SECTORS}
 
 -- the number of its sectors
 abbrev pub size_of : ModelDevice → ℕ
@@ -49,7 +50,7 @@ failures_of d = d.failed
 
 -- a file of so many bytes is a device: a whole number of sectors, and not too few or too many
 abbrev pub IsDeviceLength : ℕ → Type 0
-IsDeviceLength bytes = (bytes % 512 ≡ 0) × (512 * 16 ≤ bytes) × (bytes ≤ 512 * 4194304)
+IsDeviceLength bytes = (bytes % 512 ≡ 0) × (512 * LEAST_SECTORS ≤ bytes) × (bytes ≤ 512 * MOST_SECTORS)
 
 -- a file whose position and bytes are known is no device, by its length
 abbrev pub HasOtherLength : {F : Type 0} → SeekGhosts F → F → Type 0

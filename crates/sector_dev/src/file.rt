@@ -1,6 +1,7 @@
 // A device that is a file.
 ghost use Rattle.std.specs.Prelude.{◌≡◌, ◌≤◌, ◌<◌};
 ghost use Rattle.sector_dev.specs.declared.file.FileError.TheVariants.{Io};
+ghost use Rattle.sector_dev.specs.declared.file.TheConstants.{MOST_SECTORS};
 
 use crate::buffer::Buffer;
 use std::fs::OpenFile;
@@ -43,8 +44,8 @@ pub struct FileDevice<F: Read + Write + Seek + OpenFile + Drop> {
     writes: Buffer,
     // read from the file before it was asked for; dropped as soon as the file is written
     ahead: Buffer,
-    ghost within: { sectors ≤ 4194304 },
-    ghost writes_within: { writes.start < 4194304 },
+    ghost within: { sectors ≤ MOST_SECTORS },
+    ghost writes_within: { writes.start < MOST_SECTORS },
 }
 
 impl From<io::Error> for FileError {

@@ -28,6 +28,7 @@ use Rattle.store.specs.laws.Kept.{stops_keep}
 use Rattle.store.specs.laws.Settled.{run_settles, run_settles_all}
 use Rattle.store.specs.laws.Counted.{undisturbed}
 use Rattle.store.specs.laws.Never.{tells_none_damaged, tells_a_store_since}
+use Rattle.store.specs.laws.Unhalted.{tells_no_halt}
 
 none_written : (n : ℕ) → nat_lt n n ≡ false
 none_written n = grind (arith, nat_tests)
@@ -160,4 +161,5 @@ lives size story failed base m calls replies old new fits runs =
       settles = run_settles s calls replies m before f runs.next after f' runs.run;
       undisturbed = λ less same. undisturbed s calls replies m before f runs.next after f' runs.run less same;
       all_settled = λ none on no_failure. run_settles_all s calls replies m before f runs.next after f' runs.run none on no_failure;
+      unhalted = λ is_open at no_failure. tells_no_halt s calls replies m before f runs.next after f' runs.run is_open at no_failure;
     }

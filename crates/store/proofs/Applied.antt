@@ -29,7 +29,7 @@ use Rattle.store.specs.Reading.{OnlyReadsStore, ended}
 use Rattle.store.specs.Runs.{Goes, TellsFound, TellsRoom}
 use Rattle.store.specs.Steps.{Step, RefusesFrom}
 use Rattle.store.specs.Fits.{setting_of, StoreFits, commit_of, listed_in, IsOnDisk}
-use Rattle.store.specs.Applying.{EndsAs, IsKept, HasDone, IsOldOrDone, Writes, HasWritten, GoesOn, reply_of}
+use Rattle.store.specs.Applying.{EndsAs, IsKept, HasDone, IsOldOrDone, IsApplying, Writes, HasWritten, GoesOn, reply_of}
 use Rattle.store.specs.Carrying.{IsCarried}
 use Rattle.store.specs.Verdicts.{IsVerdict, IsUndecided}
 use Rattle.store.proofs.Asked.{still, not_running, refused_elsewhere}
@@ -209,8 +209,8 @@ module _ {D : Type 0} {g : Ghosts D} (size : D → ℕ) (story : D → Story) (f
         (subst (λ (d : Disk). IsDecided true (shown_image d) (listed_in old) c (Ok change)) (sym later) is)
 
     -- while it was read each image has what stood
-    pub stood : IsOnDisk size story old → Grows (LeavesOnly (IsOldOrDone (size old.device) (IsUsedIn old.opened.map.entries) old.opened.commit (listed_in old) (now (story old.device)) c)) (story old.device) (story mid.device)
-    stood on = weaken each (reads.device.moments told)
+    pub stood : IsOnDisk size story old → Grows (IsApplying (size old.device) (IsUsedIn old.opened.map.entries) old.opened.commit (listed_in old) (now (story old.device)) c) (story old.device) (story mid.device)
+    stood on = weaken (λ d is. record { touches = inl is; leaves = each d is }) (reads.device.moments told)
       where
         each : (d : Disk) → d ≡ now (story old.device) → LeavesOnly (IsOldOrDone (size old.device) (IsUsedIn old.opened.map.entries) old.opened.commit (listed_in old) (now (story old.device)) c) d
         each d is image may =
@@ -223,9 +223,9 @@ module _ {D : Type 0} {g : Ghosts D} (size : D → ℕ) (story : D → Story) (f
     pub writes_after : (new : Store D g) → IsOnDisk size story old → Writes size story mid c new → Writes size story old c new
     writes_after new on writes =
         goes_on (stood on)
-        (subst (λ (o : Opened StoredCatalogue). Grows (LeavesOnly (IsOldOrDone (size old.device) (IsUsedIn o.map.entries) o.commit (catalogue_of o.catalogue.list) (now (story old.device)) c)) (story mid.device) (story new.device)) reads.kept
-        (subst (λ (n : ℕ). Grows (LeavesOnly (IsOldOrDone n (IsUsedIn mid.opened.map.entries) mid.opened.commit (listed_in mid) (now (story old.device)) c)) (story mid.device) (story new.device)) reads.device.same
-        (subst (λ (d : Disk). Grows (LeavesOnly (IsOldOrDone (size mid.device) (IsUsedIn mid.opened.map.entries) mid.opened.commit (listed_in mid) d c)) (story mid.device) (story new.device)) later writes)))
+        (subst (λ (o : Opened StoredCatalogue). Grows (IsApplying (size old.device) (IsUsedIn o.map.entries) o.commit (catalogue_of o.catalogue.list) (now (story old.device)) c) (story mid.device) (story new.device)) reads.kept
+        (subst (λ (n : ℕ). Grows (IsApplying n (IsUsedIn mid.opened.map.entries) mid.opened.commit (listed_in mid) (now (story old.device)) c) (story mid.device) (story new.device)) reads.device.same
+        (subst (λ (d : Disk). Grows (IsApplying (size mid.device) (IsUsedIn mid.opened.map.entries) mid.opened.commit (listed_in mid) d c) (story mid.device) (story new.device)) later writes)))
 
     pub written_after : (new : Store D g) → HasWritten size story mid c new → HasWritten size story old c new
     written_after new has = record {

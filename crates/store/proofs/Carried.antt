@@ -10,6 +10,7 @@ use Rattle.sector_dev.specs.laws.Time.{weaken, now_has, stays}
 use Rattle.sector_dev.specs.laws.Crash.{only_image}
 use Rattle.segments.specs.declared.run.Run.{Run}
 use Rattle.segments.specs.declared.piece.Piece.{Piece}
+use Rattle.segments.specs.Runs.{OutOf}
 use Rattle.segments.specs.Usages.{Space, IsUsedIn}
 use Rattle.segments.specs.Writing.{runs_of, HoldsEach}
 use Rattle.catalogue.specs.Entries.{PlainCatalogue, IsCatalogue, runs_of as runs_in}
@@ -41,12 +42,12 @@ use Rattle.store.specs.declared.store.Store.{Store}
 use Rattle.store.specs.Fits.{setting_of, listed_in, IsSound}
 use Rattle.store.specs.Changes.{PlainChange, IsChange, MakesOf, placed_segments}
 use Rattle.store.specs.Deciding.{IsDecided}
-use Rattle.store.specs.Applying.{HasDone, IsOldOrDone}
+use Rattle.store.specs.Applying.{HasDone, IsOldOrDone, IsApplying}
 use Rattle.store.specs.Carrying.{IsCarried, IsCarriedOut, asked_sizes}
 use Rattle.store.specs.inner.Prepared.{IsPrepared}
 use Rattle.store.specs.laws.Frame.{held_is, same_tables}
 use Rattle.store.specs.laws.Changed.{edited_held}
-use Rattle.store.proofs.Prepared.{streams_held, can_replace}
+use Rattle.store.proofs.Prepared.{runs_are, streams_held, can_replace}
 use Rattle.store.proofs.Roomed.{room_by}
 
 not_less : (n : ℕ) → nat_lt n n ≡ false
@@ -205,6 +206,24 @@ module _ (old new : Space) (k : Commit) (was : PlainCatalogue) (change : PlainCh
         kept = λ n within. either.outside n (can.free n within, λ e. let above = above_used whole_reading size (synced_image d) k was n can.stands.found within in omega (arith, above, e, low plan.commit.epoch));
       }
 
+  -- the runs of the pieces are those that were taken
+  applying : CanReplace whole_reading size d (record { old = k; was = was; new = plan.commit; will = catalogue_of plan.catalogue.list; pieces = plan.pieces.items }) → (x : Disk)
+      → IsPublishing d plan.commit plan.pieces.items (StandsAs whole_reading size k was) (StandsAs whole_reading size plan.commit (catalogue_of plan.catalogue.list)) x
+      → IsApplying size (IsUsedIn old.entries) k was d c x
+  applying can x is = record {
+    touches = inr (record {
+      change = change;
+      decides = decided;
+      runs = runs_of p.pieces ++ p.run ∷ [];
+      takes = takes;
+      outside = λ n out other. is.touches n (
+        subst (λ (rs : List Run). OutOf rs n) (sym (runs_are old new k was change plan back p)) out,
+        λ e. other (e ∙ ap (λ (z : Commit). z.epoch % 2) p.commit),
+      );
+    });
+    leaves = old_or_done can x is;
+  }
+
 -- after it
 pub synced_outside : (k' : Commit) (pieces : List Piece) (d after : Disk) → ((n : ℕ) → IsOutside k' pieces n → after.at n ≡ d.at n) → (n : ℕ) → IsOutside k' pieces n → synced_image after n ≡ (d.at n).synced
 synced_outside k' pieces d after same n out = ap (λ (s : Sector). s.synced) (same n out)
@@ -248,11 +267,11 @@ pub writes : {D : Type 0} {g : Ghosts D} (s : Store D g) (mid : Space) (change :
     → (CanReplace whole_reading (g.size s.device) (now (g.story s.device)) (record { old = s.opened.commit; was = listed_in s; new = plan.commit; will = catalogue_of plan.catalogue.list; pieces = plan.pieces.items })
     → Grows (IsPublishing (now (g.story s.device)) plan.commit plan.pieces.items (StandsAs whole_reading (g.size s.device) s.opened.commit (listed_in s)) (StandsAs whole_reading (g.size s.device) plan.commit (catalogue_of plan.catalogue.list)))
     (g.story s.device) s1)
-    → Grows (LeavesOnly (IsOldOrDone (g.size s.device) (IsUsedIn s.opened.map.entries) s.opened.commit (listed_in s) (now (g.story s.device)) c)) (g.story s.device) s1
+    → Grows (IsApplying (g.size s.device) (IsUsedIn s.opened.map.entries) s.opened.commit (listed_in s) (now (g.story s.device)) c) (g.story s.device) s1
 writes {g = g} s mid change plan back prep sound c decided s1 stands moments =
     let d = now (g.story s.device) in
     let can = can_publish {g = g} s mid change plan back prep sound d stands in
-    weaken (old_or_done s.opened.map mid s.opened.commit (listed_in s) change plan back prep (g.size s.device) s.same sound d c decided can) (moments can)
+    weaken (applying s.opened.map mid s.opened.commit (listed_in s) change plan back prep (g.size s.device) s.same sound d c decided can) (moments can)
 
 pub images : {D : Type 0} {g : Ghosts D} (base : Tables) (m : Machine) (s : Store D g) (mid : Space) (change : PlainChange) (plan : Plan StoredCatalogue) (back : List Run) (new : Tables)
     → IsPrepared s.opened.map mid s.opened.commit (listed_in s) change plan back → IsChange (listed_in s) change → IsSound g.size g.story base m s → MakesOf (after base m.settled) change new

@@ -28,7 +28,7 @@ use Rattle.store.specs.Runs.{Goes}
 use Rattle.store.specs.Machine.{no_store, holds, Machine, opened, shut_down, Allows, AllowsEach, meanwhile, has_written}
 use Rattle.store.specs.Held.{whole_reading, catalogue_or_cause, tables_held, held_tables, held_of, held_by}
 use Rattle.store.specs.Fits.{setting_of, IsFresh}
-use Rattle.store.specs.Opening.{formatting_of, TellsFormatting}
+use Rattle.store.specs.Opening.{formatting_of, TellsFormatting, IsOfFormatting}
 use Rattle.store.proofs.Opened.{not_started}
 
 -- what a formatting counts, in the words of replies
@@ -53,6 +53,14 @@ formatting_limits (Err x) e is told =
     let other : x ≡ errors.Damaged DeviceSize = cc told in
     sym one ∙ other
 
+-- which alone is told as damaged
+pub formatting_damaged : {T : Type 0} (r : Result T FormatError) (e : FormatError) (size : ℕ) → r ≡ Err e → ((cause : Cause) → e ≡ errors.Damaged cause → is_size size ≡ false)
+    → (is_size size ≡ false → r ≡ Err (errors.Damaged DeviceSize)) → (cause : Cause) → e ≡ errors.Damaged cause → (cause ≡ DeviceSize) × (is_size size ≡ false)
+formatting_damaged r e size is outside told cause damaged =
+    let only : e ≡ errors.Damaged DeviceSize = formatting_limits r e is (told (outside cause damaged)) in
+    let which : cause ≡ DeviceSize = cc (damaged, only) in
+    (which, outside cause damaged)
+
 -- and what was formatted has a size that a store has
 pub formatted_limits : {T P : Type 0} (r : Result T FormatError) (x : T) (b : Bool) → r ≡ Ok x → (b ≡ false → (r ≡ Err (errors.Damaged DeviceSize)) × P) → b ≡ true
 formatted_limits r x true is limits = refl
@@ -71,6 +79,13 @@ formatting_tells errors.AlreadyAStore size found already damaged memory = alread
 formatting_tells (errors.Damaged cause) size found already damaged memory = damaged cause refl
 formatting_tells errors.Device size found already damaged memory = tt
 formatting_tells errors.OutOfMemory size found already damaged memory = memory refl
+
+-- also of a device that doesn't tell its story
+pub formatting_reason : (e : FormatError) (size : ℕ) → ((cause : Cause) → e ≡ errors.Damaged cause → (cause ≡ DeviceSize) × (is_size size ≡ false)) → IsOfFormatting size (formatting_of e)
+formatting_reason errors.AlreadyAStore size damaged = tt
+formatting_reason (errors.Damaged cause) size damaged = damaged cause refl
+formatting_reason errors.Device size damaged = tt
+formatting_reason errors.OutOfMemory size damaged = tt
 
 -- where a commit rules there is a store, whole or damaged
 tables_some : (o : Option Tables) → held_tables o ≢ no_store

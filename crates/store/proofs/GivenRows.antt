@@ -1,7 +1,7 @@
 -- Rows that are given: what is made of them.
 use Rattle.std.specs.Prelude.{nat_le}
-use Rattle.std.proofs.Common.{◌≡◌, ◌<◌, ◌≤◌, ℕ, Bool, true, false, List, Option, Some, None, Result, Ok, Err, if◌then◌else◌, refl, ap, ◌∙◌}
-use Rattle.std.proofs.lemmas.Bool.{leb-true, leb-false}
+use Rattle.std.proofs.Common.{◌≡◌, ◌<◌, ℕ, Bool, true, false, List, Option, Some, None, Result, Ok, Err, if◌then◌else◌, refl, ap, ◌∙◌}
+use Rattle.std.proofs.lemmas.Bool.{leb-false}
 use Rattle.arrow_schema.specs.Column.{PlainSchema}
 use Rattle.cells.specs.Cell.{Cell, PlainTable}
 use Rattle.cells.specs.Weight.{table_weight}
@@ -14,10 +14,6 @@ use Rattle.tables.specs.declared.refusal.Refusal.{Refusal}
 use Rattle.tables.specs.declared.refusal.Refusal.TheVariants as refusals
 use Rattle.store.specs.Deciding.{given_rows}
 
-pub record AreMade (s : PlainSchema) (rows : List (List Cell)) : Type 0 where
-  pub fit : first_unfit s rows ≡ None
-  pub light : table_weight s rows ≤ MAX_TABLE_WEIGHT
-
 pub record AreHeavy (s : PlainSchema) (rows : List (List Cell)) : Type 0 where
   pub fit : first_unfit s rows ≡ None
   pub heavy : MAX_TABLE_WEIGHT < table_weight s rows
@@ -26,17 +22,13 @@ module _ (s : PlainSchema) (rows : List (List Cell)) where
   abbrev by_weight : Bool → Result PlainTable values.Refusal
   by_weight b = if b then Ok (record { schema = s; rows = rows }) else Err values.too_heavy
 
-  pub made_by : (t : PlainTable) → table_from s rows ≡ Ok t → AreMade s rows
+  pub made_by : (t : PlainTable) → table_from s rows ≡ Ok t → first_unfit s rows ≡ None
   unfolding table_from
   made_by t h = by_first (first_unfit s rows) refl h
     where
-      light_by : (b : Bool) → nat_le (table_weight s rows) MAX_TABLE_WEIGHT ≡ b → by_weight b ≡ Ok t → table_weight s rows ≤ MAX_TABLE_WEIGHT
-      light_by true e h = leb-true (table_weight s rows) MAX_TABLE_WEIGHT e
-      light_by false e h = absurd (cc h)
-
-      by_first : (o : Option ℕ) → first_unfit s rows ≡ o → weighed s rows o ≡ Ok t → AreMade s rows
+      by_first : (o : Option ℕ) → first_unfit s rows ≡ o → weighed s rows o ≡ Ok t → first_unfit s rows ≡ None
       by_first (Some i) e h = absurd (cc h)
-      by_first None e h = record { fit = e; light = light_by (nat_le (table_weight s rows) MAX_TABLE_WEIGHT) refl h }
+      by_first None e h = e
 
   pub heavy_by : table_from s rows ≡ Err values.too_heavy → AreHeavy s rows
   unfolding table_from

@@ -137,7 +137,8 @@ module _ (old new : Space) (k : Commit) (c : PlainCatalogue) (change : PlainChan
   abbrev taken : List Run
   taken = runs_of p.pieces ++ p.run ∷ []
 
-  runs_are : runs_of plan.pieces.items ≡ taken
+  -- the pieces lie in the runs that were taken
+  pub runs_are : runs_of plan.pieces.items ≡ taken
   runs_are = ap runs_of p.whole ∙ runs_more p.pieces (record { run = p.run; bytes = p.text })
 
   many : length (runs_of p.pieces) ≡ length change.streams

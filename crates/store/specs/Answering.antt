@@ -20,8 +20,9 @@ use Rattle.store.specs.declared.call.Place.{Place}
 use Rattle.store.specs.declared.call.Place.TheVariants as places
 use Rattle.commit.specs.declared.opening_refusal.OpeningRefusal.{OpeningRefusal}
 use Rattle.commit.specs.declared.opening_refusal.OpeningRefusal.TheVariants as openings
-use Rattle.store.specs.Calls.{PlainCall, apply_call, format_call, open_call, close_call, tables_call, schema_call, read_call, export_call, PlainReply, done, counts, schema_is, table_is, bytes_are, refused, shut_by, counted}
-use Rattle.store.specs.Opening.{TellsOpening, TellsFormatting}
+use Rattle.store.specs.Calls.{PlainCall, apply_call, format_call, open_call, close_call, tables_call, schema_call, read_call, export_call}
+use Rattle.store.specs.Calls.{PlainReply, done, counts, schema_is, table_is, bytes_are, refused, shut_by, counted}
+use Rattle.store.specs.Opening.{TellsOpening, TellsFormatting, IsOfFormatting}
 use Rattle.store.specs.Held.{whole_reading}
 use Rattle.store.specs.Fits.{device_of, listed_in, is_halted, IsOnDisk, FindsStore, FormatsStore, IsNewStore}
 use Rattle.store.specs.Deciding.{reads_device}
@@ -57,6 +58,7 @@ pub record LeavesUnopened {D : Type 0} (size : D → ℕ) (story : D → Story) 
 -- and one that was not formatted
 pub record LeavesUnformatted {D : Type 0} (size : D → ℕ) (story : D → Story) (tells : Bool) (device : D) (refusal : OpeningRefusal) (back : D) : Type 0 where
   pub told : tells ≡ true → TellsFormatting refusal (size device) (ruling (shown_image (now (story device))))
+  pub reason : IsOfFormatting (size device) refusal
   pub untouched : tells ≡ true → ruling (shown_image (now (story device))) ≢ None → OnlyReads (story device) (story back)
   pub quiet : refusal ≢ openings.Device → tells ≡ true → now (story back) ≡ now (story device)
   pub moments : tells ≡ true → Grows (IsFormatting (size device) (now (story device))) (story device) (story back)
@@ -64,7 +66,7 @@ pub record LeavesUnformatted {D : Type 0} (size : D → ℕ) (story : D → Stor
 
 abbrev pub AnswersOpening : {D : Type 0} {g : Ghosts D} → (size : D → ℕ) → (story : D → Story) → (tells : Bool) → D → PlainReply → Place D g → Type 0
 AnswersOpening size story tells device done new =
-    (is_size (size device) ≡ true) × IsOpenWith (λ store. tells ≡ true → FindsStore size story device store) new
+    (is_size (size device) ≡ true) × IsOpenWith (λ store. (is_halted store ≡ false) × (tells ≡ true → FindsStore size story device store)) new
 AnswersOpening size story tells device (shut_by refusal) new = IsShutWith (λ back. LeavesUnopened size story tells device refusal back) new
 AnswersOpening size story tells device _ new = ⊥
 

@@ -1,8 +1,9 @@
 -- How commands are decided and carried out, and what each call of an open store leaves.
-use Rattle.std.specs.Prelude.{◌≡◌, ◌⊎◌, ◌++◌, ℕ, Bool, true, List, [], ◌∷◌, Result, Ok, Err}
+use Rattle.std.specs.Prelude.{◌≡◌, ◌≢◌, ◌⊎◌, ◌+◌, ◌%◌, ◌++◌, ℕ, Bool, true, List, [], ◌∷◌, Result, Ok, Err}
 use Rattle.sector_dev.specs.Disk.{Disk, Image, Story, now, shown_image, synced_image}
 use Rattle.sector_dev.specs.Time.{Grows, LeavesOnly}
 use Rattle.sector_dev.specs.declared.device.SectorDevice.{Ghosts}
+use Rattle.segments.specs.Runs.{OutOf}
 use Rattle.segments.specs.Usages.{IsUsedIn, SameUsages}
 use Rattle.segments.specs.declared.run.Run.{Run}
 use Rattle.catalogue.specs.Entries.{PlainCatalogue}
@@ -60,10 +61,23 @@ pub record IsOldOrDone (size : ℕ) (used : Run → Type 0) (k : Commit) (c : Pl
   pub which : (standing whole_reading size image ≡ rules k c) ⊎ HasDone size used k c before command image
   pub kept : (n : ℕ) → InSome (used_runs whole_reading k c) n → image n ≡ (before.at n).synced
 
+-- a command writes: runs were taken for what was decided of it, and outside them no sector was touched but the one of the next commit
+pub record IsWriting (size : ℕ) (used : Run → Type 0) (k : Commit) (c : PlainCatalogue) (before : Disk) (command : PlainCommand) (d : Disk) : Type 0 where
+  pub change : PlainChange
+  pub decides : IsDecided true (shown_image before) c command (Ok change)
+  pub runs : List Run
+  pub takes : Takes size used (asked_sizes c change) (Ok runs)
+  pub outside : (n : ℕ) → OutOf runs n → n ≢ (k.epoch + 1) % 2 → d.at n ≡ before.at n
+
+-- at a moment of a command: the disk is as it was, or the command writes; and each image that a stop may leave is old or has the command done
+pub record IsApplying (size : ℕ) (used : Run → Type 0) (k : Commit) (c : PlainCatalogue) (before : Disk) (command : PlainCommand) (d : Disk) : Type 0 where
+  pub touches : (d ≡ before) ⊎ IsWriting size used k c before command d
+  pub leaves : LeavesOnly (IsOldOrDone size used k c before command) d
+
 -- at each moment of a command of a store that lies on its disk
 abbrev pub Writes : {D : Type 0} {g : Ghosts D} → (size : D → ℕ) → (story : D → Story) → (old : Store D g) → PlainCommand → (new : Store D g) → Type 0
 Writes size story old command new =
-    Grows (LeavesOnly (IsOldOrDone (size (device_of old)) (IsUsedIn old.opened.map.entries) (commit_of old) (listed_in old) (now (story (device_of old))) command))
+    Grows (IsApplying (size (device_of old)) (IsUsedIn old.opened.map.entries) (commit_of old) (listed_in old) (now (story (device_of old))) command)
     (story (device_of old)) (story (device_of new))
 
 -- and after one that was done

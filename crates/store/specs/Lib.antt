@@ -8,6 +8,7 @@ pub mod History
 pub mod Halting
 pub mod Held
 pub mod Fits
+pub mod Beginning
 pub mod Changes
 pub mod Deciding
 pub mod Carrying

@@ -40,3 +40,11 @@ TellsFormatting refusals.AlreadyAStore size found = found ≢ None
 TellsFormatting (refusals.Damaged cause) size found = (cause ≡ DeviceSize) × (is_size size ≡ false)
 TellsFormatting refusals.Device size found = Unit {0}
 TellsFormatting refusals.OutOfMemory size found = found ≡ None
+
+-- why a device of this size is not formatted, also where it doesn't tell its story: never for want of a store, and as damaged only for its size
+abbrev pub IsOfFormatting : ℕ → OpeningRefusal → Type 0
+IsOfFormatting size refusals.NotAStore = ⊥
+IsOfFormatting size refusals.AlreadyAStore = Unit {0}
+IsOfFormatting size (refusals.Damaged cause) = (cause ≡ DeviceSize) × (is_size size ≡ false)
+IsOfFormatting size refusals.Device = Unit {0}
+IsOfFormatting size refusals.OutOfMemory = Unit {0}

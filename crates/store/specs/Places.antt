@@ -1,5 +1,5 @@
 -- Calls of a place, which is an open store or a shut device, and what a run of them leaves.
-use Rattle.std.specs.Prelude.{◌≡◌, ◌≢◌, ◌<◌, ◌-◌, ◌^◌, ◌||◌, ℕ, true, false, List, map, take, drop, string_bytes, None}
+use Rattle.std.specs.Prelude.{◌≡◌, ◌≢◌, ◌<◌, ◌-◌, ◌^◌, ◌||◌, ℕ, Bool, true, false, List, map, take, drop, string_bytes, None}
 use Rattle.std.specs.List.{list_any}
 use Rattle.sector_dev.specs.Disk.{Story, Image, moment, LeftSince}
 use Rattle.sector_dev.specs.declared.device.SectorDevice.{Ghosts}
@@ -18,6 +18,7 @@ use Rattle.store.specs.Machine.{Machine, shut, halted}
 use Rattle.store.specs.Runs.{Goes, Run}
 use Rattle.store.specs.Since.{story_at, IsLeftFrom}
 use Rattle.store.specs.History.{any_change, begun, acknowledged, Settles, SettlesAll, Keeps, tells_damage, tells_no_store}
+use Rattle.store.specs.Halting.{phase_where, tells_halt_while_open}
 use Rattle.store.specs.Fits.{setting_of, DeviceFits, StoreFits}
 
 abbrev pub call_of : Call → PlainCall
@@ -86,3 +87,5 @@ pub record PlaceLives {D : Type 0} {g : Ghosts D} (size : D → ℕ) (story : D 
   pub settles : Settles m.settled runs.next.settled m.doubt runs.next.doubt (acknowledged calls replies) (begun calls replies)
   pub undisturbed : failed old < 2 ^ 64 - 1 → failed (device_in new) ≡ failed old → list_any is_device_reply replies ≡ false
   pub all_settled : m.doubt ≡ None → m.phase ≢ halted → list_any is_device_reply replies ≡ false → SettlesAll m runs.next (acknowledged calls replies)
+  -- where no store is halted at first, whether one is open or none is: no call is refused as halted while a store is open
+  pub unhalted : (is_open : Bool) → m.phase ≡ phase_where is_open → list_any is_device_reply replies ≡ false → tells_halt_while_open is_open calls replies ≡ false

@@ -74,7 +74,8 @@ impl<D: SectorDevice> Store<D> {
         ensures halted { (result ≡ Err Refusal.Halted) ↔ (is_halted self.old ≡ true) }
         ensures still { is_halted self.old ≡ true → self.new ≡ self.old }
         ensures halts { is_halted self.old ≡ false → (is_halted self.new ≡ true) ↔ (result ≡ Err Refusal.Device) }
-        // On a store that lies on its disk, whatever its segments hold: at each moment a stop leaves what stood, or the command done.
+        // On a store that lies on its disk, whatever its segments hold: at each moment a stop leaves what stood, or the command done, and no sector
+        // was touched outside the runs that it takes, but the one of the next commit.
         ensures writes { is_halted self.old ≡ false → D.tells ≡ true → IsOnDisk D.size D.story self.old
             → Writes D.size D.story self.old (command_of command) self.new }
         ensures written { OnOk result (D.tells ≡ true → IsOnDisk D.size D.story self.old

@@ -42,7 +42,7 @@ impl<D: SectorDevice> Store<D> {
     ghost use Rattle.store.specs.Calls.{format_call, shut_by, counted};
     ghost use Rattle.store.specs.Machine.{Machine};
     ghost use Rattle.store.specs.Fits.{DeviceFits, FormatsStore, IsNewStore, Opens, Shuts, device_of};
-    ghost use Rattle.store.specs.Opening.{TellsFormatting};
+    ghost use Rattle.store.specs.Opening.{TellsFormatting, IsOfFormatting};
 
     /// Makes an empty store of a device on which none is, and opens it. Where it is refused the device is given back.
     ///
@@ -66,6 +66,7 @@ impl<D: SectorDevice> Store<D> {
         // Also of a device that doesn't tell its story.
         ensures empty { IfOk result (λ store. IsNewStore (D.size device) store) }
         ensures in_limits { OnOk result (is_size (D.size device) ≡ true) }
+        ensures reason { IfErr result (λ e. IsOfFormatting (D.size device) e.0) }
         ensures limits { IfErr result (λ e. is_size (D.size device) ≡ false
             → (e.0 ≡ OpeningRefusal.Damaged DeviceSize) × (D.story e.1 ≡ D.story device)) }
         ensures size { IfOk result (λ store. D.size (device_of store) ≡ D.size device) }

@@ -7,9 +7,8 @@ ghost use Rattle.segments.specs.declared.entries.UsageEntry.{UsageEntry};
 ghost use Rattle.segments.specs.Usages.{IsUsedIn};
 ghost use Rattle.catalogue.specs.Entries.{PlainCatalogue, IsCatalogue};
 ghost use Rattle.commit.specs.declared.sector.Commit.{Commit};
-ghost use Rattle.commit.specs.Standing.{is_size, used_runs, rules, standing, Stands, InSome};
-ghost use Rattle.commit.specs.Formatting.{HoldsNoCommit};
-ghost use Rattle.tables.specs.Tables.{Tables, no_tables};
+ghost use Rattle.commit.specs.Standing.{used_runs, rules, standing, Stands, InSome};
+ghost use Rattle.tables.specs.Tables.{Tables};
 ghost use Rattle.tables.specs.declared.refusal.Refusal.{Refusal};
 ghost use Rattle.tables.specs.Commands.{PlainCommand, BringsTables};
 ghost use Rattle.store.specs.Calls.{PlainCall, PlainReply, is_device_reply};
@@ -19,7 +18,6 @@ ghost use Rattle.store.specs.Changes.{PlainChange};
 ghost use Rattle.store.specs.Deciding.{IsDecided, IsAnswered};
 ghost use Rattle.store.specs.Applying.{HasDone, IsOldOrDone};
 ghost use Rattle.store.specs.Verdicts.{AreListed, IsVerdict, IsUndecided, HoldsVerdict};
-ghost use Rattle.store.specs.Fits.{DeviceFits, fresh, resumed, doubting, HoldsNoneOrEmpty, HoldsWithOrWithout};
 ghost use Rattle.store.specs.Runs.{Goes, Run};
 ghost use Rattle.store.specs.Since.{story_at, IsLeftFrom};
 ghost use Rattle.store.specs.Halting.{phase_where, tells_halt_while_open};
@@ -29,7 +27,6 @@ use canonical_write::pieces_are_tables;
 use catalogue::one_text_each;
 use ipc_stream::meaning_is_a_table;
 use query::{rows_refuse_no_query, selection_is_a_table};
-use sector_dev::SectorDevice;
 use values::{accepted_rows_are_a_table, tables_are_joined_and_cut};
 
 /// An image that a stop may have left since some call of a run began was left before one of the calls from it on, at a moment
@@ -102,22 +99,6 @@ pub fn a_stop_keeps_what_was_acknowledged()
         → LeavesOnly (Allows s m) (now old) → LeftSince new (moment (story_at s calls replies m old failed m' new failed' run i)) image
         → Keeps s m (any_change (take i calls) (take i replies)) (acknowledged (take i calls) (take i replies)) (begun calls replies) image }
 {}
-
-/// A run may begin with a device on which no stop leaves a commit: there are no tables. And it may begin with one on which each stop
-/// leaves a store with the same tables, as a device has after a stop. And, where its device failed and the process ended without a stop, after
-/// a formatting, and after a command that is in doubt then.
-pub fn devices_fit<D: SectorDevice>(device: &D)
-    ensures new { is_size (D.size device.now) ≡ true → LeavesOnly HoldsNoCommit (now (D.story device.now))
-        → DeviceFits D.size D.story no_tables fresh device.now }
-    ensures formatting { is_size (D.size device.now) ≡ true → LeavesOnly (HoldsNoneOrEmpty (D.size device.now)) (now (D.story device.now))
-        → DeviceFits D.size D.story no_tables fresh device.now }
-    ensures doubting { (t : Tables) (c : PlainCommand) → is_size (D.size device.now) ≡ true
-        → LeavesOnly (HoldsWithOrWithout (D.size device.now) t c) (now (D.story device.now)) → DeviceFits D.size D.story t (doubting c) device.now }
-    ensures stopped { (t : Tables) → is_size (D.size device.now) ≡ true
-        → LeavesOnly (λ image. held_by (D.size device.now) image ≡ holds t) (now (D.story device.now)) → DeviceFits D.size D.story t resumed device.now }
-{
-    let _ = device;
-}
 
 /// What is decided of a command by a catalogue, and by what reads show, is the verdict on the tables that the catalogue lists: a change that makes
 /// of them what the command makes, or the same refusal. `decided` is also of a store of which some segment can't be read. Where each can be read

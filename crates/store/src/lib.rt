@@ -14,6 +14,7 @@
 
 mod appending;
 mod applying;
+mod beginning;
 mod call;
 mod carrying;
 mod change;
@@ -32,11 +33,12 @@ mod saving;
 mod store;
 mod stored;
 
+pub use beginning::{crashed_devices_are_left, devices_fit, left_devices_fit, new_devices_fit};
 pub use call::{Call, Place, Reply};
 pub use commit::{Cause, OpeningRefusal};
 pub use laws::{
     a_stop_keeps_what_was_acknowledged, acknowledged_commands_are_settled, decisions_are_verdicts,
-    devices_fit, each_stop_is_allowed, runs_go_on, runs_tell_no_damage,
+    each_stop_is_allowed, runs_go_on, runs_tell_no_damage,
     undisturbed_runs_settle_what_was_acknowledged, undisturbed_runs_tell_no_failure,
     undisturbed_runs_tell_no_halt, what_is_done_is_the_verdict,
 };

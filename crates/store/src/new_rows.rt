@@ -4,7 +4,7 @@ ghost use Rattle.arrow_schema.specs.Limits.{IsWithinLimits};
 ghost use Rattle.arrow_schema.specs.Shape.{HaveOneShape};
 ghost use Rattle.arrow_schema.specs.View.{schema_of};
 ghost use Rattle.cells.specs.Row.{row_of};
-ghost use Rattle.cells.specs.Weight.{table_weight, capped_weight};
+ghost use Rattle.cells.specs.Weight.{table_weight};
 ghost use Rattle.catalogue.specs.Entries.{plain_entry};
 ghost use Rattle.tables.specs.Verdict.{unfit_row};
 ghost use Rattle.values.specs.Table.{IsTable};
@@ -16,7 +16,7 @@ ghost use Rattle.store.specs.inner.Appending.{added_to, ArePassed};
 use crate::deciding::{test_bytes, test_shape};
 use arrow_schema::{Schema, one_shape_is_decided};
 use catalogue::TableEntry;
-use cells::{Row, add_weights, row_weight};
+use cells::Row;
 use ipc_stream::{Weighed, decode_weighed};
 use std::alloc::Global;
 use table_cut::first_unfit_row;
@@ -61,17 +61,6 @@ fn pass_stream(alloc: Global, entry: &TableEntry, stream: Vec<u8>) -> Result<Wei
     Ok(new)
 }
 
-// What rows weigh together, as weights are reported.
-fn weigh_rows(schema: &Schema, rows: &[Row]) -> u64
-    ensures { result ≡ capped_weight (table_weight (schema_of schema.now) (map row_of rows.now)) }
-{
-    let mut total = 0;
-    for row in rows {
-        total = add_weights(total, row_weight(schema, &row.cells));
-    }
-    total
-}
-
 // The same of rows that are given, where they are not too heavy for any table.
 fn pass_rows(alloc: Global, entry: &TableEntry, rows: Vec<Row>) -> Result<Option<Weighed>, Refusal>
     requires { IsWithinLimits (plain_entry entry.now).schema }
@@ -79,9 +68,8 @@ fn pass_rows(alloc: Global, entry: &TableEntry, rows: Vec<Row>) -> Result<Option
     ensures refused { IfErr result (λ e. (e ≡ Refusal.OutOfMemory) ⊎ (given_rows (map row_of rows.items) (plain_entry entry.now) ≡ Err e)) }
 {
     accepted_rows_are_a_table();
-    let weight = weigh_rows(&entry.schema, &rows);
-    match Table::new(alloc, entry.schema.copy(alloc)?, rows) {
-        Ok(table) => Ok(Some(Weighed { table, weight })),
+    match Table::weighed(alloc, entry.schema.copy(alloc)?, rows) {
+        Ok((table, weight)) => Ok(Some(Weighed { table, weight })),
         Err(TableError::Unfit(row)) => Err(Refusal::RowUnfit(row)),
         Err(TableError::Weight) => Ok(None),
         Err(TableError::OutOfMemory) => Err(Refusal::OutOfMemory),

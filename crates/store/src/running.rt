@@ -187,7 +187,8 @@ fn answer_all<D: SectorDevice>(
 ///
 /// What is promised of them is [`PlaceLives`] of `specs/Places.antt`, for a place that stands for a machine with some tables: how each
 /// reply follows from the tables (`specs/Steps.antt`), and that each image that a stop may leave at any moment has the tables of what was
-/// settled: all that was acknowledged before, in order, and the command in flight whole or not at all.
+/// settled: all that was acknowledged before, in order, and the command in flight whole or not at all. Only where no store is open, or its device
+/// failed, is a call refused as halted.
 pub fn run<D: SectorDevice>(
     alloc: Global,
     place: Place<D>,

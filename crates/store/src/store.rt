@@ -35,7 +35,7 @@ impl<D: SectorDevice> Store<D> {
     ghost use Rattle.tables.specs.Tables.{Tables};
     ghost use Rattle.store.specs.Calls.{open_call, shut_by, counted};
     ghost use Rattle.store.specs.Machine.{Machine};
-    ghost use Rattle.store.specs.Fits.{DeviceFits, FindsStore, Opens, Shuts, device_of};
+    ghost use Rattle.store.specs.Fits.{DeviceFits, FindsStore, Opens, Shuts, device_of, is_halted};
     ghost use Rattle.store.specs.Held.{whole_reading};
     ghost use Rattle.store.specs.Opening.{TellsOpening};
 
@@ -59,6 +59,7 @@ impl<D: SectorDevice> Store<D> {
         ensures moments { IfErr result (λ e. D.tells ≡ true → Grows (IsOpening (now (D.story device))) (D.story device) (D.story e.1)) }
         // Also of a device that doesn't tell its story.
         ensures in_limits { OnOk result (is_size (D.size device) ≡ true) }
+        ensures on { IfOk result (λ store. is_halted store ≡ false) }
         ensures limits { IfErr result (λ e. is_size (D.size device) ≡ false
             → (e.0 ≡ OpeningRefusal.Damaged DeviceSize) × (D.story e.1 ≡ D.story device)) }
         ensures size { IfOk result (λ store. D.size (device_of store) ≡ D.size device) }

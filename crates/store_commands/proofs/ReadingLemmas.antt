@@ -1,10 +1,11 @@
 -- Tables of a store that are read one after another.
 use Rattle.std.specs.Prelude.{get_or, slice_get, Result, Ok, Err, IfErr, ◌||◌}
 use Rattle.std.specs.List.{AllByRecursion}
-use Rattle.std.proofs.Common.{◌≡◌, ◌<◌, ◌+◌, ◌++◌, ◌∷◌, ◌∙◌, [], ℕ, Bool, true, List, Some, take, map, length, refl, ap, sym, subst}
+use Rattle.std.proofs.Common.{◌≡◌, ◌<◌, ◌+◌, ◌∙◌, ℕ, Bool, true, List, Some, take, map, length, refl, ap, sym, subst}
 use Rattle.std.proofs.Math.Bool.{or-false}
 use Rattle.std.proofs.lemmas.List.{take_more, get_or-map, length-map}
 use Rattle.std.proofs.lemmas.Option.{slice_get-get_or}
+use Rattle.facts.specs.laws.Lists.{all_more}
 use Rattle.sector_dev.specs.Disk.{Story, Image, now, shown_image}
 use Rattle.sector_dev.specs.laws.Time.{stays, read_on, now_read}
 use Rattle.sector_dev.specs.declared.device.SectorDevice.{Ghosts}
@@ -22,10 +23,6 @@ use Rattle.command_refusals.specs.declared.refusal.Refusal.TheVariants.{Io}
 use Rattle.store_commands.specs.Reading.{OfStore, store_ended, IsReadable}
 
 -- ---- lists
-
-all_more : {X : Type 0} (P : X → Type 0) (xs : List X) (x : X) → AllByRecursion P xs → P x → AllByRecursion P (xs ++ x ∷ [])
-all_more P [] x all p = (p, tt)
-all_more P (y ∷ ys) x all p = (all.0, all_more P ys x all.1 p)
 
 -- what an element becomes
 mapped : {X Y : Type 0} (f : X → Y) (xs : List X) (i : ℕ) (x : X) → i < length xs → x ≡ get_or xs i x → get_or (map f xs) i (f x) ≡ f x

@@ -6,9 +6,10 @@ ghost use Rattle.store_commands.specs.Given.{HasGiven, HasGivenAtMost, UnlessToo
 use command_refusals::Refusal;
 use std::alloc::{AllocError, Global};
 use std::io::{ErrorKind, Read};
+use tables::MAX_IMPORT_BYTES;
 
-/// The most bytes that an input may have.
-pub const LARGEST_INPUT: usize = 2_147_483_647;
+/// The most bytes that an input may have: as many as a stream that is imported.
+pub const LARGEST_INPUT: usize = MAX_IMPORT_BYTES;
 
 // How many bytes one read asks for: what a pipe of Linux holds.
 const CHUNK: usize = 64 * 1024;

@@ -1,5 +1,5 @@
 -- The words of the commands of a store.
-use Rattle.std.specs.Prelude.{Bool, false, nat_eq, ◌||◌, List, [], ◌∷◌, codes}
+use Rattle.std.specs.Prelude.{Bool, false, nat_eq, ◌||◌, ◌&&◌, List, [], ◌∷◌, codes}
 use Rattle.std.specs.List.{list_any, starts_with}
 use Rattle.std.specs.Str.{bytes_eq}
 use Rattle.clap.specs.Words.{Text}
@@ -49,3 +49,10 @@ unfoldable pub first_word : List Text → Text
 first_word [] = []
 first_word (name ∷ []) = []
 first_word (name ∷ word ∷ rest) = word
+
+-- the program's name, the word `help` and a command of a store
+unfoldable pub ask_help_of_command : List Text → Bool
+ask_help_of_command [] = false
+ask_help_of_command (name ∷ []) = false
+ask_help_of_command (name ∷ word ∷ []) = false
+ask_help_of_command (name ∷ word ∷ command ∷ rest) = bytes_eq (codes "help") word && is_store_word command

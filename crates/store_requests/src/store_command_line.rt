@@ -53,6 +53,14 @@ pub fn request_of<'a, S: AsStr>(
     }
 }
 
+/// The help of the command that they name behind `help`, which `clap` gives as an error.
+pub fn help_of_command<S: AsStr>(alloc: Global, arguments: &[S]) -> Result<(), Error> {
+    if let [name, _, command, ..] = arguments {
+        commands(alloc)?.try_get_matches_from(&[name.as_str(), command.as_str(), "--help"])?;
+    }
+    Ok(())
+}
+
 // What a word asks for, with the words behind it.
 fn asked<'a>(
     alloc: Global,

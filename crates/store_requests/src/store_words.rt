@@ -1,6 +1,6 @@
 // What a command line asks of a store.
 ghost use Rattle.std.specs.Prelude.{◌≡◌, map};
-ghost use Rattle.store_requests.specs.StoreWords.{takes_input_word, changes_word, reads_table_word, reads_word, is_store_word, is_of_store, takes_input, is_help_word, ask_for_help};
+ghost use Rattle.store_requests.specs.StoreWords.{takes_input_word, changes_word, reads_table_word, reads_word, is_store_word, is_of_store, takes_input, is_help_word, ask_for_help, ask_help_of_command};
 
 use std::convert::AsStr;
 use text_import::TextForm;
@@ -158,4 +158,15 @@ pub fn ask_for_help<S: AsStr>(arguments: &[S]) -> bool
         }
     }
     false
+}
+
+/// Whether they ask by `help` for the help of a command of a store.
+#[tactic(auto, unfolding(crate::specs::StoreWords::ask_help_of_command))]
+pub fn ask_help_of_command<S: AsStr>(arguments: &[S]) -> bool
+    ensures { result ≡ ask_help_of_command (map S.text arguments.now) }
+{
+    match arguments {
+        [_, word, command, ..] => word.as_str() == "help" && is_store_word(command.as_str()),
+        _ => false,
+    }
 }

@@ -38,7 +38,7 @@ pub fn next_piece<'a>(
     let limited = has_limits(schema);
     let rows = table.len();
     let first = row_at(table, from);
-    let mut piece = Vec::new(alloc);
+    let mut piece = Vec::with_capacity(alloc, MAX_PIECE_ROWS.min(rows - from))?;
     piece.push(first)?;
     let mut weight = row_weight(schema, first);
     let mut entries = first_entries(alloc, schema, first, limited)?;

@@ -137,5 +137,8 @@ fn parts_weight(fields: &[Field], parts: Values<'_>) -> u64
 pub(crate) fn row_weight(schema: &Schema, row: Values<'_>) -> u64
     ensures { result ≡ capped_weight (row_weight (schema_of schema.now) (borrowed_cells row.entry)) }
 {
-    add_weights(1, parts_weight(&schema.fields, row))
+    match row.as_cells() {
+        Some(cells) => cells::row_weight(schema, cells),
+        None => add_weights(1, parts_weight(&schema.fields, row)),
+    }
 }

@@ -7,21 +7,11 @@
 #[cfg(test)]
 mod bitmaps;
 #[cfg(test)]
-mod buffers;
-#[cfg(test)]
-mod fakes;
-#[cfg(test)]
 mod made;
 #[cfg(test)]
 mod messages;
 #[cfg(test)]
-mod program;
-#[cfg(test)]
 mod read_streams;
-#[cfg(test)]
-mod rows;
-#[cfg(test)]
-mod schemas;
 #[cfg(test)]
 mod stream_bytes;
 #[cfg(test)]

@@ -1,7 +1,6 @@
 // Streams that are read whole (decode), in pieces (Decoder), and for the place of their first fault (place): ipc_stream.
-use crate::made::{NotMade, assert_no_row, is_one_well};
+use crate::made::{NotMade, assert_no_row, has_rows, is_one_well};
 use crate::stream_bytes::{DEEP, DICTIONARY, LIST_OF_NULLS, NULL_LAST, SHORT_NULL_LAST, TEXTS};
-use crate::table_calls::has_rows;
 use Fault::{
     AfterEnd, BadParameter, BigEndian, BodyLength, BufferRange, BufferShort, Compressed,
     DeltaWithoutBase, DictionaryId, DictionaryIndex, DictionaryOfNested, FlatBounds, FlatBudget,
@@ -262,10 +261,10 @@ fn bytes_of(alloc: Global, stream: &[u8], row: &Row) -> Result<Vec<u8>, NotMade>
     Ok(bytes)
 }
 
-fn is_meant(alloc: Global, table: &Table, wanted: &Wanted) -> Result<bool, NotMade> {
+fn is_meant(table: &Table, wanted: &Wanted) -> bool {
     match wanted {
-        Ok(rows) => Ok(has_rows(alloc, table, rows)?),
-        Err(_) => Ok(false),
+        Ok(rows) => has_rows(table, rows),
+        Err(_) => false,
     }
 }
 
@@ -278,7 +277,7 @@ fn is_told(fault: Fault, wanted: &Wanted) -> bool {
 
 fn is_decoded(alloc: Global, bytes: &[u8], wanted: &Wanted) -> Result<bool, NotMade> {
     match decode(alloc, Vec::from_slice(alloc, bytes)?) {
-        Ok(table) => is_meant(alloc, &table, wanted),
+        Ok(table) => Ok(is_meant(&table, wanted)),
         Err(ImportError::Fault(fault)) => Ok(is_told(fault, wanted)),
         Err(ImportError::OutOfMemory) => Err(NotMade),
     }
@@ -308,7 +307,7 @@ fn is_fed(
 
 fn is_finished(alloc: Global, decoder: Decoder, wanted: &Wanted) -> Result<bool, NotMade> {
     match decoder.finish(alloc) {
-        Ok(table) => is_meant(alloc, &table, wanted),
+        Ok(table) => Ok(is_meant(&table, wanted)),
         Err(FinishError::Fault(fault)) => Ok(is_told(fault, wanted)),
         Err(FinishError::OutOfMemory(_)) => Err(NotMade),
     }
@@ -471,10 +470,10 @@ fn read_again(alloc: Global, bytes: &[u8]) -> Option<Table> {
     finished_again(alloc, decoder)
 }
 
-// tests/refused_memory_in_crates refuses one allocation at the most: a decoder goes on behind it, and only what compares the rows may end for want of memory.
+// tests/refused_memory_in_crates refuses one allocation at the most: a decoder goes on behind it.
 fn is_read_again(alloc: Global, bytes: &[u8], wanted: &Wanted) -> bool {
     match read_again(alloc, bytes) {
-        Some(table) => is_meant(alloc, &table, wanted).unwrap_or(true),
+        Some(table) => is_meant(&table, wanted),
         None => false,
     }
 }

@@ -1,6 +1,6 @@
 // Streams of tables that are made of rows (canonical_write, ipc_stream). What the built program shows of streams is tested by scripts, without
 // a proof (tests/program, tests/refused_memory).
-use crate::made::{NotMade, assert_no_row, is_one_well, schema_of, sound_table_of, table_of_cells};
+use crate::made::{NotMade, assert_no_row, is_one_well, schema_of, table_of_cells, table_of_rows};
 use crate::stream_bytes::{
     END, MINUS_ONE, NO_FIELDS, NUMBERS, SCHEMA, SEVEN, THREE_ROWS, TWO_COLUMNS, batch, joined,
 };
@@ -73,7 +73,7 @@ fn stream_of_many(alloc: Global) -> Result<Vec<u8>, AllocError> {
 
 fn table_of(alloc: Global, made: Made) -> Result<Table, NotMade> {
     match made {
-        Made::OfRows => sound_table_of(alloc, COLUMNS, rows_of_numbers(alloc)?),
+        Made::OfRows => table_of_rows(alloc, COLUMNS, rows_of_numbers(alloc)?),
         Made::OfCells => table_of_cells(schema_of(alloc, COLUMNS)?, cells_of_numbers(alloc)?, 3),
         Made::WithoutColumns => table_of_cells(schema_of(alloc, &[])?, Vec::new(alloc), 3),
         Made::OverAPiece => {

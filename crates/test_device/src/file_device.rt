@@ -1,4 +1,4 @@
-// A device that is a file of the system.
+// A device that is a file of the system. Its sizes are tested by the commands of a store (tests/stores).
 use crate::calls::{byte_of, read, write};
 use sector_dev::{FileDevice, FileError, SectorDevice};
 use std::env;
@@ -14,58 +14,6 @@ fn path_of(rt: &HostRuntime, name: &str) -> Option<String> {
     let path = format!(in rt.alloc(); "{dir}/sector_dev_{id}_{name}").ok()?;
     let _removed = fs::remove_file(rt, path.as_str());
     Some(path)
-}
-
-// Whether `create` refuses so many sectors, and something is at the path then or not.
-fn is_refused(rt: &HostRuntime, path: &str, sectors: u64, error: FileError, there: bool) -> bool {
-    let refused = FileDevice::create(rt, path, sectors).err() == Some(error);
-    refused && fs::exists(rt, path).ok() == Some(there)
-}
-
-// Whether `open` says this of a file of so many bytes: its sectors.
-fn opens(rt: &HostRuntime, path: &str, bytes: u64, sectors: Result<u64, FileError>) -> bool {
-    let Ok(file) = File::create(rt, path) else {
-        return false;
-    };
-    file.set_len(bytes).is_ok() && FileDevice::open(rt, path).map(|d| d.sectors()) == sectors
-}
-
-// Whether `create` makes a device of so many sectors on which no call has failed.
-fn creates(rt: &HostRuntime, path: &str, sectors: u64) -> bool {
-    match FileDevice::create(rt, path, sectors) {
-        Ok(device) => device.sectors() == sectors && device.failures() == 0,
-        Err(_) => false,
-    }
-}
-
-#[test]
-fn a_file_has_16_to_4194304_sectors(rt: HostRuntime) -> Result<(), Fail> {
-    let path = path_of(&rt, "sizes").ok_or(FileError::Io)?;
-    let path = path.as_str();
-    for sectors in [0, 15, 4_194_305, u64::MAX] {
-        let well = is_refused(&rt, path, sectors, FileError::BadSize, false);
-        assert!(&rt; well, "{sectors} sectors");
-    }
-    assert!(&rt; FileDevice::open(&rt, path).err() == Some(FileError::Io));
-    for (bytes, sectors) in [
-        (8191, Err(FileError::BadSize)),
-        (7680, Err(FileError::BadSize)),
-        (8192, Ok(16)),
-        (8193, Err(FileError::BadSize)),
-        (2_147_483_648, Ok(4_194_304)),
-        (2_147_484_160, Err(FileError::BadSize)),
-    ] {
-        let well = opens(&rt, path, bytes, sectors);
-        assert!(&rt; well, "{bytes} bytes");
-    }
-    // something is there
-    let there = is_refused(&rt, path, 16, FileError::Io, true)
-        && is_refused(&rt, path, 15, FileError::BadSize, true);
-    fs::remove_file(&rt, path)?;
-    let created = creates(&rt, path, 4_194_304);
-    assert!(&rt; there && created);
-    fs::remove_file(&rt, path)?;
-    Ok(())
 }
 
 // The content of a sector: its number and how often it was written.
@@ -121,24 +69,6 @@ fn use_device<D: SectorDevice>(rt: &impl Abort, device: &mut D) {
     assert_reads(rt, device, 112, 3);
 }
 
-#[test]
-fn what_was_written_is_read(rt: HostRuntime) -> Result<(), Fail> {
-    let path = path_of(&rt, "runs").ok_or(FileError::Io)?;
-    let mut device = FileDevice::create(&rt, path.as_str(), 6000)?;
-    use_device(&rt, &mut device);
-    drop(device);
-    let mut device = FileDevice::open(&rt, path.as_str())?;
-    for i in 0..5000 {
-        // in an order of its own
-        let n = i * 1237 % 5000;
-        assert_reads(&rt, &mut device, n, times_of(n));
-    }
-    let blank = byte_of(&rt, &mut device, 5999) == Ok(0);
-    assert!(&rt; blank);
-    fs::remove_file(&rt, path.as_str())?;
-    Ok(())
-}
-
 // Makes a device. Where memory is refused once, nothing is left, and it is made at the second try.
 fn create_twice(rt: &HostRuntime, path: &str) -> Option<FileDevice<File>> {
     match FileDevice::create(rt, path, 6000) {
@@ -171,10 +101,13 @@ fn a_file_is_made_and_used_also_without_memory(rt: HostRuntime) -> Result<(), Fa
     use_device(&rt, &mut device);
     drop(device);
     let mut device = open_twice(&rt, path).ok_or(FileError::Io)?;
-    for n in 0..5000 {
+    for i in 0..5000 {
+        // in an order of its own
+        let n = i * 1237 % 5000;
         assert_reads(&rt, &mut device, n, times_of(n));
     }
+    let blank = byte_of(&rt, &mut device, 5999) == Ok(0);
     let removed = fs::remove_file(&rt, path).or(fs::remove_file(&rt, path));
-    assert!(&rt; removed.is_ok());
+    assert!(&rt; blank && removed.is_ok());
     Ok(())
 }

@@ -1,12 +1,10 @@
-//! Tests of the public calls of `sector_dev`, `segments`, `commit` and `catalogue`: what no clause says.
+//! Tests of the public calls of `sector_dev`, `segments` and `commit`: what no clause says, and no file shows.
 //!
 //! A test is a table of rows and one function that plays them.
 #![tactic(auto)]
 
 #[cfg(test)]
 mod calls;
-#[cfg(test)]
-mod catalogues;
 #[cfg(test)]
 mod commits;
 #[cfg(test)]

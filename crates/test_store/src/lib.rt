@@ -19,6 +19,8 @@ mod openings;
 #[cfg(test)]
 mod playing;
 #[cfg(test)]
+mod selections;
+#[cfg(test)]
 mod shown;
 #[cfg(test)]
 mod steps;

@@ -80,7 +80,8 @@ fn conditions(alloc: Global, all: &[&str]) -> Result<Vec<Condition>, NotMade> {
     Ok(conditions)
 }
 
-fn query(alloc: Global, asked: Asked) -> Result<Query, NotMade> {
+/// The query that is asked for.
+pub fn query(alloc: Global, asked: Asked) -> Result<Query, NotMade> {
     Ok(Query {
         columns: texts(alloc, asked.0)?,
         conditions: conditions(alloc, asked.1)?,
@@ -177,8 +178,8 @@ pub fn add_values(text: &mut String, table: &Table) -> Result<(), NotMade> {
     Ok(())
 }
 
-// As `"a":int32?: 7 -1`.
-fn table_text(alloc: Global, table: &Table) -> Result<String, NotMade> {
+/// As `"a":int32?: 7 -1`.
+pub fn table_text(alloc: Global, table: &Table) -> Result<String, NotMade> {
     let mut text = schema_text(alloc, table.schema())?;
     text.push_str(":")?;
     add_values(&mut text, table)?;

@@ -1,5 +1,5 @@
 -- Numbers that are capped are refused as those that they stand for.
-use Rattle.std.proofs.Common.{◌≡◌, ℕ, ◌+◌, ◌-◌, ◌*◌, ◌≤◌, ◌<◌, ◌^◌, Bool, true, false, List, [], ◌∷◌, length, min, refl, sym, ap, ◌∙◌, arith, inl, inr}
+use Rattle.std.proofs.Common.{◌≡◌, ℕ, ◌+◌, ◌-◌, ◌*◌, ◌≤◌, ◌<◌, ◌^◌, Bool, true, false, List, [], ◌∷◌, length, min, add-one, refl, sym, ap, ◌∙◌, arith, inl, inr}
 use Rattle.std.specs.Prelude.{pos, neg_ℤ, Option, Some, None, option_map, if◌then◌else◌, ◌==◌, ◌&&◌, nat_le}
 use Rattle.std.specs.Prelude.{int_lt, int_le, get_or, drop}
 use Rattle.std.proofs.lemmas.Bool.{cases_lt, false≢true, leb-true, ne_eqb}
@@ -11,7 +11,7 @@ use Rattle.std.proofs.Math.Bool.{and-false}
 use Rattle.std.specs.Char.{digit_value, is_ascii_digit}
 use Rattle.std.specs.Str.{all_ascii_digits}
 use Rattle.std.specs.Str.Parse.{digits_value_after}
-use Rattle.std.proofs.Math.Nat.{pow-le-pow_right}
+use Rattle.std.proofs.Math.Nat.{pow-le-pow_right, pow-suc}
 use Rattle.arrow_schema.specs.Column.{Kind, Column, column, integers, dates, timestamps, days, date_milliseconds}
 use Rattle.arrow_schema.specs.Parts.{kind_of_column}
 use Rattle.cells.specs.Cell.{Cell, null, number}
@@ -74,6 +74,21 @@ digit_none_at t n i lt is = rw (drop_more t i 0 lt) (digit_none n (get_or t i 0)
 pub digit_more_at : (t : List ℕ) (n i : ℕ) → i < length t → is_ascii_digit (get_or t i 0) ≡ true
     → option_map capped (number_behind n (drop i t)) ≡ option_map capped (number_behind (min (n * 10 + (get_or t i 0 - 48)) too_large) (drop (i + 1) t))
 digit_more_at t n i lt is = rw (drop_more t i 0 lt) (digit_more n (get_or t i 0) (drop (i + 1) t) is)
+
+pub digit_below : (b : ℕ) → is_ascii_digit b ≡ true → b - 48 ≤ 9
+digit_below b h = let p = and_parts (nat_le 48 b) (nat_le b 57) h in omega (arith, leb-true b 57 p.1)
+
+-- a number of few digits has room for one more
+pub digit_room : (t : List ℕ) (n i : ℕ) → n < 10 ^ i → i < length t → length t ≤ 19 → n * 10 + 9 < 2 ^ 64
+digit_room t n i small lt few =
+    let place : i ≤ 18 = omega arith in
+    let most : 10 ^ i ≤ 10 ^ 18 = pow-le-pow_right (omega arith) place in
+    omega (arith, most, small)
+
+pub digit_small : (t : List ℕ) (n i : ℕ) → n < 10 ^ i → is_ascii_digit (get_or t i 0) ≡ true → n * 10 + (get_or t i 0 - 48) < 10 ^ (i + 1)
+digit_small t n i small is =
+    let more : 10 ^ (i + 1) ≡ 10 ^ i * 10 = rw add-one (pow-suc 10 i) in
+    omega (arith, more, small, digit_below (get_or t i 0) is)
 
 -- a number that is too large is in no range
 above : (bits n : ℕ) (signed : Bool) → bits ≤ 64 → too_large ≤ n → in_range bits signed (pos n) ≡ false

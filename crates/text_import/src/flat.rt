@@ -1,5 +1,5 @@
 // Numbers, and cells of the types without parts.
-ghost use Rattle.std.specs.Prelude.{◌≡◌, pos, neg_ℤ, true, false, option_map, IfOk};
+ghost use Rattle.std.specs.Prelude.{◌≡◌, ◌≤◌, pos, neg_ℤ, true, false, length, option_map, IfOk};
 ghost use Rattle.arrow_schema.specs.Column as kinds;
 ghost use Rattle.arrow_schema.specs.Parts.{kind_of_column};
 ghost use Rattle.arrow_schema.specs.View.{column_of};
@@ -11,7 +11,7 @@ ghost use Rattle.text_import.specs.declared.refusal.Refusal.TheVariants.{NotUtf8
 ghost use Rattle.text_import.specs.Refusals.{refusal_of};
 ghost use Rattle.facts.specs.Outcomes.{Gives};
 ghost use Rattle.text_import.specs.Flat.{fitting, number_cell, boolean_cell, hex_cell, cell_of_text, field_cell};
-ghost use Rattle.text_import.specs.inner.Capped.{capped, capped_integer, holds_numbers};
+ghost use Rattle.text_import.specs.inner.Capped.{capped, capped_integer, holds_numbers, number_behind};
 
 use crate::refusal::{CellError, Refusal};
 use crate::texts::text_of;
@@ -23,12 +23,33 @@ use std::alloc::{AllocError, Global};
 // No integer type holds a number of this size.
 const TOO_LARGE: u128 = 1 << 64;
 
+// 64 bits hold any number of so many digits.
+const SHORT: usize = 19;
+
+// The number that at most so many digits spell.
+fn short_digits(text: &[u8]) -> Option<u128>
+    requires { length text.now ≤ 19 }
+    ensures { result ≡ option_map capped (number_behind 0 text.now) }
+{
+    let mut number = 0u64;
+    for byte in text {
+        if !byte.is_ascii_digit() {
+            return None;
+        }
+        number = number * 10 + u64::from(*byte - b'0');
+    }
+    Some(u128::from(number))
+}
+
 // The number that digits spell, and `TOO_LARGE` where it is larger.
 fn digits(text: &[u8]) -> Option<u128>
     ensures { result ≡ option_map capped (typed_number text.now) }
 {
     if text.is_empty() {
         return None;
+    }
+    if text.len() <= SHORT {
+        return short_digits(text);
     }
     let mut number = 0u128;
     for byte in text {

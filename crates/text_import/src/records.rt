@@ -121,7 +121,7 @@ fn field_cells(
 {
     let mut cells = Vec::with_capacity(alloc, fields.len())?;
     for (i, field) in fields.iter().enumerate() {
-        cells.push(field_cell(alloc, field, null_text, field_text(row, i))?)?;
+        cells.push_reserved(field_cell(alloc, field, null_text, field_text(row, i))?);
     }
     Ok(cells)
 }

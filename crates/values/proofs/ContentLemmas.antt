@@ -1,8 +1,9 @@
 -- The rows of a table, however they are kept.
 use Rattle.std.specs.Prelude.{slice_get, Vec, sum, ◌==◌}
 use Rattle.std.specs.Global.{Global}
-use Rattle.std.proofs.Common.{◌≡◌, ℕ, ◌+◌, ◌*◌, ◌≤◌, ◌<◌, true, List, [], ◌∷◌, map, length, take, drop, Some, None, refl, ap, sym, ◌∙◌, arith}
+use Rattle.std.proofs.Common.{◌≡◌, ℕ, ◌+◌, ◌*◌, ◌≤◌, ◌<◌, true, List, [], ◌∷◌, map, length, take, drop, Some, None, refl, sym, ◌∙◌, arith}
 use Rattle.std.proofs.lemmas.Bool.{and_parts, eqb-true}
+use Rattle.std.proofs.lemmas.List.{length-map}
 use Rattle.std.proofs.lemmas.List.Elements.{All-get_or}
 use Rattle.std.proofs.lemmas.List.Sums.{sum_by-cons}
 use Rattle.std.proofs.lemmas.Option.{slice_get_past, slice_get_within, get_or_from_slice_get}
@@ -10,13 +11,14 @@ use Rattle.arrow_schema.specs.Column.{Columns, columns_of, PlainSchema}
 use Rattle.arrow_schema.specs.declared.types.Schema.{Schema}
 use Rattle.arrow_schema.specs.View.{schema_of}
 use Rattle.values.specs.declared.content.Content.{Content}
-use Rattle.values.specs.declared.content.Content.TheVariants.{Cells, Batches as InBatches}
+use Rattle.values.specs.declared.content.Content.TheVariants.{Rows as Given, Cells, Batches as InBatches}
 use Rattle.values.specs.declared.batches.Batches.{Batches}
 use Rattle.values.specs.declared.part.Part.{Part}
 use Rattle.cells.specs.declared.limits.TheConstants.{MAX_TABLE_WEIGHT}
+use Rattle.cells.specs.declared.row.Row.{Row}
 use Rattle.cells.specs.declared.value.Value.{Value}
 use Rattle.cells.specs.Cell.{Cell, cells_of, PlainTable}
-use Rattle.cells.specs.Row.{is_row, row_fits}
+use Rattle.cells.specs.Row.{is_row, row_fits, row_of}
 use Rattle.columns.specs.Texts.{have_utf8_texts}
 use Rattle.columns.specs.laws.FitTexts.{row_texts}
 use Rattle.values.specs.Content.{rows_of, table_with, is_filled}
@@ -33,6 +35,7 @@ abbrev own_columns : Schema → Columns
 own_columns s = columns_of (schema_of s).columns
 
 pub length_content : (s : Schema) (n : ℕ) (content : Content) → is_filled s n content ≡ true → length (rows_of s n content) ≡ n
+length_content s n (Given rows) filled = length-map rows.items row_of ∙ eqb-true _ _ filled
 length_content s n (Cells values) filled = length_rows (length s.fields.items) n (map cell values.items)
 length_content s n (InBatches batches) filled =
     let parts = and_parts (n == sum (part_lengths batches.parts.items)) (are_parts_sound (own_columns s) batches.parts.items) filled in
@@ -46,6 +49,13 @@ none_past s n content i filled le = sym (slice_get_past (rows_of s n content) i 
 pub few_rows : (s : PlainSchema) (rows : List (List Cell)) → length rows ≤ table_weight s rows
 few_rows s [] = omega arith
 few_rows s (row ∷ rows) = omega (arith, sum_by-cons (row_weight s) row rows, few_rows s rows)
+
+-- rows that stand by themselves
+pub given_within : (s : Schema) (n : ℕ) (content : Content) (rows : Vec Row Global) (i : ℕ) → content ≡ Given rows → is_filled s n content ≡ true → i < n → i < length rows.items
+given_within s n content rows i is filled lt = omega (arith, eqb-true _ _ (rw is at filled))
+
+pub rows_given : (s : Schema) (n : ℕ) (content : Content) (rows : Vec Row Global) → content ≡ Given rows → rows_of s n content ≡ map row_of rows.items
+rows_given s n content rows is = rw is refl
 
 -- as many cells as the rows have
 pub cells_within : (s : Schema) (n : ℕ) (content : Content) (values : Vec Value Global) (i : ℕ) → content ≡ Cells values → is_filled s n content ≡ true → i < n

@@ -1,6 +1,5 @@
 mod RowLemmas
 mod AcceptLemmas
-mod TableLemmas
 mod TableLaws
 mod ContentLemmas
 mod StartLemmas

@@ -1,7 +1,7 @@
 -- The rows of record batches, by where these start.
 use Rattle.std.specs.Prelude.{sum, slice_get, Vec}
 use Rattle.std.specs.Global.{Global}
-use Rattle.std.specs.List.{flat_map, range_with_len}
+use Rattle.std.specs.List.{flat_map}
 use Rattle.std.proofs.Common.{◌≡◌, ℕ, zero, suc, ◌+◌, ◌-◌, ◌≤◌, ◌<◌, List, [], ◌∷◌, ◌++◌, map, length, get_or, take, Some, refl, ap, sym, ◌∙◌, arith, length-append}
 use Rattle.std.proofs.lemmas.List.{length-map, get_or-map}
 use Rattle.std.proofs.lemmas.List.Concat.{flat_map-cons}
@@ -9,7 +9,6 @@ use Rattle.std.proofs.lemmas.List.FromFn.{length-map-range_with_len, get_or-map-
 use Rattle.std.proofs.lemmas.List.Sums.{sum_by-cons, sum_by_more_le, sum-map}
 use Rattle.std.proofs.lemmas.Option.{slice_get-get_or}
 use Rattle.arrow_schema.specs.Column.{Columns}
-use Rattle.cells.specs.Cell.{Cell}
 use Rattle.columns.specs.CellAt.{row_at}
 use Rattle.values.specs.declared.part.Batch.{Batch}
 use Rattle.values.specs.declared.part.Part.{Part}

@@ -1,15 +1,8 @@
 -- Rows whose cells stand one after another.
-use Rattle.std.proofs.Common.{◌≡◌, ℕ, zero, suc, ◌+◌, ◌*◌, ◌≤◌, ◌<◌, true, List, [], ◌∷◌, ◌++◌, map, length, take, drop, refl, ap, sym, ◌∙◌, arith, length-append, add-one}
+use Rattle.std.proofs.Common.{◌≡◌, ℕ, zero, suc, ◌+◌, ◌*◌, ◌≤◌, ◌<◌, List, ◌∷◌, map, length, take, drop, refl, ap, sym, ◌∙◌, arith, add-one}
 use Rattle.std.specs.Prelude.{Some, slice_get}
-use Rattle.std.specs.List.{flat_map, list_all}
 use Rattle.std.proofs.Math.Nat.{mul-le-mul_left}
-use Rattle.std.proofs.Math.Seq.{take-append_seam, drop-append_seam}
 use Rattle.std.proofs.lemmas.List.{drop-drop, take-map, drop-map}
-use Rattle.std.proofs.lemmas.Bool.{and_parts}
-use Rattle.arrow_schema.specs.Column.{Column, columns_of, PlainSchema}
-use Rattle.cells.specs.Cell.{Cell, cells_of}
-use Rattle.cells.specs.Fit.{fits, each_fits}
-use Rattle.cells.specs.Row.{is_row}
 use Rattle.values.specs.Rows.{rows_in}
 
 pub length_rows : {X : Type 0} (width n : ℕ) (cells : List X) → length (rows_in width n cells) ≡ n
@@ -49,38 +42,3 @@ row_within width n i all lt filled =
 pub part_of : {X Y : Type 0} (f : X → Y) (m k n : ℕ) (cells : List X) → m ≡ n → map f (take m (drop k cells)) ≡ take n (drop k (map f cells))
 part_of {X = X} {Y = Y} f m k n cells e =
     ap (λ (j : ℕ). map f (take j (drop k cells))) e ∙ (sym (take-map f n (drop k cells)) ∙ ap (λ (ys : List Y). take n ys) (sym (drop-map f k cells)))
-
--- a row that fits has as many cells as there are columns
-fitting_length : (cs : List Column) (row : List Cell) → each_fits (columns_of cs) (cells_of row) ≡ true → length row ≡ length cs
-unfolding each_fits
-fitting_length [] [] h = refl
-fitting_length [] (x ∷ xs) h = cc
-fitting_length (c ∷ cs) [] h = cc
-fitting_length (c ∷ cs) (x ∷ xs) h = ap suc (fitting_length cs xs (and_parts (fits c x) (each_fits (columns_of cs) (cells_of xs)) h).1)
-
-pub row_length : (s : PlainSchema) (row : List Cell) → is_row s row ≡ true → length row ≡ length s.columns
-unfolding is_row
-row_length s row h = fitting_length s.columns row (and_parts _ _ h).0
-
-front_of : {X : Type 0} (width : ℕ) (xs ys : List X) → length xs ≡ width → take width (xs ++ ys) ≡ xs
-front_of width xs ys l = rw (← l) (take-append_seam xs ys)
-
-back_of : {X : Type 0} (width : ℕ) (xs ys : List X) → length xs ≡ width → drop width (xs ++ ys) ≡ ys
-back_of width xs ys l = rw (← l) (drop-append_seam xs ys)
-
-joined_more : {X : Type 0} (width n : ℕ) (xs ys : List X) (rest : List (List X)) → length xs ≡ width → rows_in width n ys ≡ rest → rows_in width (suc n) (xs ++ ys) ≡ xs ∷ rest
-joined_more width n xs ys rest l e = rw (front_of width xs ys l, back_of width xs ys l, e) refl
-
--- rows that a table takes, joined and cut again
-pub rows_joined : {A : Type 0} (s : PlainSchema) (f : A → List Cell) (rows : List A) → list_all (is_row s) (map f rows) ≡ true → rows_in (length s.columns) (length rows) (flat_map f rows) ≡ map f rows
-rows_joined s f [] h = refl
-rows_joined s f (r ∷ rs) h =
-    let both = and_parts (is_row s (f r)) (list_all (is_row s) (map f rs)) h in
-    joined_more (length s.columns) (length rs) (f r) (flat_map f rs) (map f rs) (row_length s (f r) both.0) (rows_joined s f rs both.1)
-
--- and so many cells
-pub length_joined : {A : Type 0} (s : PlainSchema) (f : A → List Cell) (rows : List A) → list_all (is_row s) (map f rows) ≡ true → length (flat_map f rows) ≡ length s.columns * length rows
-length_joined s f [] h = omega arith
-length_joined s f (r ∷ rs) h =
-    let both = and_parts (is_row s (f r)) (list_all (is_row s) (map f rs)) h in
-    omega (arith, length-append (f r) (flat_map f rs), row_length s (f r) both.0, length_joined s f rs both.1)

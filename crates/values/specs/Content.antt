@@ -4,14 +4,16 @@ use Rattle.arrow_schema.specs.Column.{columns_of}
 use Rattle.arrow_schema.specs.View.{schema_of}
 use Rattle.arrow_schema.specs.declared.types.Schema.{Schema}
 use Rattle.values.specs.declared.content.Content.{Content}
-use Rattle.values.specs.declared.content.Content.TheVariants.{Cells, Batches}
+use Rattle.values.specs.declared.content.Content.TheVariants.{Rows, Cells, Batches}
 use Rattle.cells.specs.Cell.{Cell, PlainTable}
+use Rattle.cells.specs.Row.{row_of}
 use Rattle.values.specs.Parts.{parts_rows, are_parts_sound}
 use Rattle.values.specs.Rows.{rows_in}
 use Rattle.values.specs.inner.Starts.{part_lengths}
 use Rattle.cells.specs.View.{cell}
 
 abbrev pub rows_of : Schema → ℕ → Content → List (List Cell)
+rows_of schema n (Rows rows) = map row_of rows.items
 rows_of schema n (Cells cells) = rows_in (length schema.fields.items) n (map cell cells.items)
 rows_of schema n (Batches batches) = parts_rows (columns_of (schema_of schema).columns) batches.parts.items
 
@@ -19,7 +21,8 @@ rows_of schema n (Batches batches) = parts_rows (columns_of (schema_of schema).c
 abbrev pub table_with : Schema → ℕ → Content → PlainTable
 table_with schema n content = record { schema = schema_of schema; rows = rows_of schema n content }
 
--- there are the cells of so many rows, or the arrays, which can be looked up
+-- there are so many rows, or the cells of so many, or the arrays, which can be looked up
 abbrev pub is_filled : Schema → ℕ → Content → Bool
+is_filled schema n (Rows rows) = length rows.items == n
 is_filled schema n (Cells cells) = length cells.items == length schema.fields.items * n
 is_filled schema n (Batches batches) = n == sum (part_lengths batches.parts.items) && are_parts_sound (columns_of (schema_of schema).columns) batches.parts.items

@@ -33,7 +33,7 @@ pub struct Values<'a> {
 }
 
 impl<'a> Values<'a> {
-    ghost use Rattle.std.specs.Prelude.{◌==◌, length, slice_get, option_map};
+    ghost use Rattle.std.specs.Prelude.{◌==◌, length, slice_get, map, option_map, IfSome};
     ghost use Rattle.values.specs.Borrowed.{borrowed_cells, values_left};
 
     /// How many there are.
@@ -60,6 +60,16 @@ impl<'a> Values<'a> {
         match self.form {
             Form::Cells(cells) => Some(borrow_value(cells.get(i)?)),
             Form::Arrays(values) => Some(value_in_arrays(values.get(i)?)),
+        }
+    }
+
+    /// The values themselves, where they are kept as they stand, and not in arrays.
+    pub fn as_cells(&self) -> Option<&'a [Value]>
+        ensures { IfSome result (λ cells. map cell cells.now ≡ borrowed_cells self.now) }
+    {
+        match self.form {
+            Form::Cells(cells) => Some(cells),
+            Form::Arrays(_) => None,
         }
     }
 

@@ -1,10 +1,11 @@
 // How a table keeps its rows.
 use crate::batches::Batches;
-use cells::Value;
+use cells::{Row, Value};
 
-/// The rows of a table: cells one after another, row after row; or record batches, as they were read.
+/// The rows of a table: each by itself; cells one after another, row after row; or record batches, as they were read.
 #[derive(Debug, Drop)]
 pub(crate) enum Content {
+    Rows(Vec<Row>),
     Cells(Vec<Value>),
     Batches(Batches),
 }

@@ -18,7 +18,6 @@ mod batches;
 mod borrowed;
 mod content;
 mod errors;
-mod join;
 mod laws;
 mod part;
 mod rows;

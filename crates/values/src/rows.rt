@@ -1,11 +1,12 @@
 // The rows of a table, one after another.
-ghost use Rattle.std.specs.Prelude.{◌≡◌, ◌+◌, ◌*◌, ◌≤◌, map, take, drop, length};
+ghost use Rattle.std.specs.Prelude.{◌≡◌, ◌+◌, ◌*◌, ◌≤◌, ◌<◌, Some, map, take, drop, length, slice_get};
+ghost use Rattle.cells.specs.Row.{row_of};
 ghost use Rattle.cells.specs.View.{cell};
 
 use crate::batches::BatchPlace;
 use crate::borrowed::Values;
 use crate::table::Table;
-use cells::Value;
+use cells::{Row, Value};
 
 /// Gives the rows of a table in order.
 #[derive(Debug, Drop)]
@@ -36,6 +37,14 @@ impl<'a> Iterator for Rows<'a> {
             }
         }
     }
+}
+
+// The cells of the row at a place, of rows that stand by themselves.
+pub(crate) fn given_row(rows: &[Row], i: usize) -> &[Value]
+    requires { i < length rows.now }
+    ensures { Some (map cell result.now) ≡ slice_get (map row_of rows.now) i }
+{
+    &rows[i].cells
 }
 
 // The row at a place, of rows whose cells stand one after another.

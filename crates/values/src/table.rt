@@ -8,16 +8,15 @@ use crate::batches::{BatchPlace, Batches, part_lengths};
 use crate::borrowed::{Form, Values};
 use crate::content::Content;
 use crate::errors::TableError;
-use crate::join::join;
 use crate::part::Part;
-use crate::rows::{Rows, row_at};
+use crate::rows::{Rows, given_row, row_at};
 use crate::starts::total;
 use arrow_schema::Schema;
 use cells::{MAX_TABLE_WEIGHT, Row, Value};
 use std::alloc::{AllocError, Global};
 
-/// A table: its schema, and its rows in order. Contracts see nothing else of it. Its cells stand in one vector, row
-/// after row, or in record batches, so that a row takes no memory of its own.
+/// A table: its schema, and its rows in order. Contracts see nothing else of it. Rows that were given one by one stay as
+/// they are; else the cells stand in one vector, row after row, or in record batches, so that a row takes no memory of its own.
 #[derive(Debug, Drop)]
 pub struct Table {
     schema: Schema,
@@ -37,6 +36,7 @@ impl Table {
     ghost use Rattle.values.specs.Rows.{table_in};
     ghost use Rattle.values.specs.Table.{table_from};
     ghost use Rattle.cells.specs.Row.{row_of};
+    ghost use Rattle.cells.specs.Weight.{table_weight};
     ghost use Rattle.values.specs.TableView.{table_of, rows_left, is_in_parts, Reports};
 
     /// The table of these rows. It refuses the first row, counted from 0, that does not fit, weighs more than
@@ -48,17 +48,33 @@ impl Table {
         ensures taken { IfOk result (λ t. table_from (schema_of schema) (map row_of rows.items) ≡ Ok (table_of t)) }
         ensures refused { IfErr result (λ e. Reports e (table_from (schema_of schema) (map row_of rows.items))) }
     {
+        let (table, _) = Table::weighed(alloc, schema, rows)?;
+        Ok(table)
+    }
+
+    /// The same, and what its rows weigh.
+    pub fn weighed(
+        alloc: Global,
+        schema: Schema,
+        rows: Vec<Row>,
+    ) -> Result<(Table, u64), TableError>
+        requires { IsWithinLimits (schema_of schema) }
+        ensures made { IfOk result (λ t. table_of t.0 ≡ record { schema = schema_of schema; rows = map row_of rows.items }) }
+        ensures weight { IfOk result (λ t. t.1 ≡ table_weight (schema_of schema) (map row_of rows.items)) }
+        ensures taken { IfOk result (λ t. table_from (schema_of schema) (map row_of rows.items) ≡ Ok (table_of t.0)) }
+        ensures refused { IfErr result (λ e. Reports e (table_from (schema_of schema) (map row_of rows.items))) }
+    {
         let weight = weigh_rows(&schema, &rows, alloc)?;
         if weight > MAX_TABLE_WEIGHT {
             return Err(TableError::Weight);
         }
         let count = rows.len();
-        let cells = join(alloc, schema.fields.len(), rows)?;
-        Ok(Table {
+        let table = Table {
             schema,
-            content: Content::Cells(cells),
+            content: Content::Rows(rows),
             rows: count,
-        })
+        };
+        Ok((table, weight))
     }
 
     /// The same of so many rows whose cells stand one after another: no row takes memory of its own.
@@ -129,7 +145,7 @@ impl Table {
     {
         match &self.content {
             Content::Batches(batches) => Some(&batches.parts),
-            Content::Cells(_) => None,
+            _ => None,
         }
     }
 
@@ -145,7 +161,7 @@ impl Table {
                 let Batches { parts, .. } = batches;
                 parts
             }
-            Content::Cells(_) => unreachable!(),
+            _ => unreachable!(),
         }
     }
 
@@ -188,6 +204,7 @@ impl Table {
             return None;
         }
         let form = match &self.content {
+            Content::Rows(rows) => Form::Cells(given_row(rows, i)),
             Content::Cells(cells) => Form::Cells(row_at(cells, self.schema.fields.len(), i)),
             Content::Batches(batches) => {
                 let place = batches.find(i, *near);

@@ -1,10 +1,11 @@
 -- A written schema counts its dictionaries in preorder.
 use Rattle.std.specs.Prelude.{◌==◌, None, Some, flat_map, find}
 use Rattle.std.specs.List.{range_with_len, AllByRecursion}
-use Rattle.std.proofs.Common.{◌≡◌, ◌≤◌, ℕ, zero, suc, ◌+◌, Bool, false, List, [], ◌∷◌, ◌++◌, length, map, append-nil, refl, ap, sym, arith, ◌∙◌}
+use Rattle.std.proofs.Common.{◌≡◌, ◌≤◌, ℕ, suc, ◌+◌, Bool, false, List, [], ◌∷◌, ◌++◌, length, map, append-nil, refl, ap, sym, arith, ◌∙◌}
 use Rattle.std.proofs.lemmas.Bool.Decides.{Decides-eqb, nat_tests}
 use Rattle.std.proofs.lemmas.List.{map-append}
 use Rattle.std.proofs.lemmas.List.Concat.{flat_map-append}
+use Rattle.facts.specs.laws.Lists.{range-append}
 use Rattle.arrow_schema.specs.Column.{Kind, Column, Columns, lists, large_lists, fixed_lists, structs, column, no_column, and_column, columns_of, PlainSchema}
 use Rattle.ipc_message.specs.Raw.{RawField, RawFields, no_raw_field, and_raw_field, raw_fields_of, raw_list_of}
 use Rattle.ipc_message.specs.Fields.{preorder, preorder_all, dictionary_of}
@@ -19,13 +20,6 @@ ids-append : (fs gs : List RawField) → ids_in (fs ++ gs) ≡ ids_in fs ++ ids_
 ids-append fs gs =
     ap (map (λ (c : DictionaryColumn). c.id)) (flat_map-append (λ f. own_dictionary (dictionary_of f) f) fs gs)
     ∙ map-append (λ (c : DictionaryColumn). c.id) (flat_map (λ f. own_dictionary (dictionary_of f) f) fs) (flat_map (λ f. own_dictionary (dictionary_of f) f) gs)
-
-range-append : (a m n : ℕ) → range_with_len a (m + n) ≡ range_with_len a m ++ range_with_len (a + m) n
-range-append a zero n = let from : a ≡ a + 0 = omega arith in let count : 0 + n ≡ n = omega arith in λ j. range_with_len (from j) (count j)
-range-append a (suc m) n =
-    let count : suc m + n ≡ suc (m + n) = omega arith in
-    let from : a + 1 + m ≡ a + suc m = omega arith in
-    ap (range_with_len a) count ∙ ap (λ (ns : List ℕ). a ∷ ns) (range-append (a + 1) m n ∙ ap (λ (b : ℕ). range_with_len (a + 1) m ++ range_with_len b n) from)
 
 mutual
   unfolding preorder preorder_all raw_of raw_below raw_of_all

@@ -16,9 +16,12 @@ use Rattle.columns.specs.declared.view.ArrayView.{ArrayView}
 abbrev pub code_in : List Cell → Cell → Option ℕ
 code_in entries c = position (is_entry c) entries
 
--- the index that stands for it
+-- the index of so many bytes that stands for it
+abbrev pub sized_code : (size : ℕ) → Option ℕ → List ℕ
+sized_code size code = little_bytes size (place_or_zero code)
+
 abbrev pub code_bytes : Index → Option ℕ → List ℕ
-code_bytes index code = little_bytes (index.bits / 8) (place_or_zero code)
+code_bytes index code = sized_code (index.bits / 8) code
 
 -- codes of some cells more, which stay the same whatever entries are added
 pub record IsCoded (old_entries : List Cell) (old : List (Option ℕ)) (new_entries : List Cell) (new : List (Option ℕ)) (cells : List Cell) : Type 0 where

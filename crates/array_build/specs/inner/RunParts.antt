@@ -1,5 +1,5 @@
 -- Runs of structs, field by field.
-use Rattle.std.specs.Prelude.{◌≡◌, ℕ, zero, suc, ◌+◌, Bool, true, ◌&&◌, nat_le, List, [], ◌∷◌, map, replicate}
+use Rattle.std.specs.Prelude.{◌≡◌, ℕ, zero, suc, ◌+◌, Bool, true, ◌&&◌, nat_le, List, [], map, replicate}
 use Rattle.std.specs.List.{flat_map, list_all, range_with_len}
 use Rattle.array_runs.specs.Runs.{run_cells, runs_cells, is_run_sound, are_runs_sound}
 use Rattle.array_runs.specs.declared.run.SlotRun.{SlotRun}
@@ -45,8 +45,3 @@ IsPartOf j run part = (c : Column) → has_sound_part j c run ≡ true → (run_
 -- the runs of the field at a place, whatever its type
 abbrev pub IsPart : ℕ → (structs parts : List SlotRun) → Type 0
 IsPart j structs parts = (c : Column) → list_all (has_sound_part j c) structs ≡ true → (runs_cells c parts ≡ flat_map (part_cells_behind j c) structs) × (are_runs_sound c parts ≡ true)
-
--- those of the fields from a place on
-abbrev pub AreParts : ℕ → (structs : List SlotRun) → (parts : List (List SlotRun)) → Type 0
-AreParts j structs [] = Unit {0}
-AreParts j structs (rs ∷ rss) = IsPart j structs rs × AreParts (j + 1) structs rss

@@ -1,11 +1,15 @@
 -- What spans of slots weigh.
-use Rattle.std.specs.Prelude.{◌≡◌, ◌<◌, get_or, length, ℕ, ◌+◌, Bool, true, false, List, map, sum_by, Option, Some, None, if◌then◌else◌}
+use Rattle.std.specs.Prelude.{◌≡◌, ◌<◌, get_or, length, ℕ, ◌+◌, Bool, true, false, List, map, sum_by, Option, Some, None, IfSome, if◌then◌else◌}
 use Rattle.std.specs.List.{range_with_len}
 use Rattle.arrow_schema.specs.Column.{PlainSchema, Kind, Column, Columns, nulls, booleans, integers, dates, timestamps, texts, large_texts, binaries, large_binaries, fixed_binaries, lists, large_lists, fixed_lists, structs, no_column, and_column}
 use Rattle.cells.specs.Cell.{Cell, null}
 use Rattle.cells.specs.Weight.{capped_weight, weight, kind_weight, table_weight}
-use Rattle.columns.specs.Array.{Array, Arrays, first_array, other_arrays}
-use Rattle.columns.specs.CellAt.{cell_at, entries_of_kind, kind_cell, unless_null}
+use Rattle.arrow_schema.specs.View.{index_of}
+use Rattle.arrow_schema.specs.declared.types.DictSpec.{DictSpec}
+use Rattle.columns.specs.Array.{Array, Arrays, dictionary_in, first_array, other_arrays}
+use Rattle.columns.specs.CellAt.{cell_at, entries_of_kind, indexed_cell, kind_cell, unless_null}
+use Rattle.columns.specs.View.{view_array}
+use Rattle.columns.specs.declared.view.ArrayView.{ArrayView}
 use Rattle.arrays.specs.Checks.{are_too_heavy}
 
 -- the sum over n places, from one on
@@ -49,6 +53,19 @@ has_one_weight (structs columns) = false
 -- the weights of the first entries of a dictionary, where what is no entry is a null
 abbrev pub AreEntryWeights : Kind → (dictionary : Arrays) → (weights : List ℕ) → Type 0
 AreEntryWeights kind dictionary weights = (n : ℕ) → n < length weights → get_or weights n 0 ≡ capped_weight (kind_weight kind (get_or (entries_of_kind kind dictionary) n null))
+
+-- what slots with a dictionary weigh, from one on
+abbrev pub coded_weight : DictSpec → ArrayView → Kind → (start n : ℕ) → ℕ
+coded_weight spec view kind start n = sum_from (kind_weight kind) (unless_null (indexed_cell (index_of spec) kind) (view_array view)) start n
+
+-- what one weighs, or all of a span together, if that is told: by the weights of some first entries and of a null, of whatever type
+abbrev pub IsKnownWeight : DictSpec → ArrayView → (known : List ℕ) → (of_null i : ℕ) → Option ℕ → Type 0
+IsKnownWeight spec view known of_null i told = (kind : Kind) → AreEntryWeights kind (dictionary_in (view_array view)) known → of_null ≡ capped_weight (kind_weight kind null)
+    → IfSome told (λ w. w ≡ capped_weight (kind_weight kind (unless_null (indexed_cell (index_of spec) kind) (view_array view) i)))
+
+abbrev pub IsKnownTotal : DictSpec → ArrayView → (known : List ℕ) → (of_null start n : ℕ) → Option ℕ → Type 0
+IsKnownTotal spec view known of_null start n told = (kind : Kind) → AreEntryWeights kind (dictionary_in (view_array view)) known → of_null ≡ capped_weight (kind_weight kind null)
+    → IfSome told (λ w. w ≡ capped_weight (coded_weight spec view kind start n))
 
 -- so many rows, from one on: one each, and their cells
 abbrev pub rows_weight : Columns → Arrays → (start n : ℕ) → ℕ

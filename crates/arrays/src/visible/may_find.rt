@@ -8,8 +8,8 @@ use crate::visible::slot_test::SlotTest;
 use crate::visible::texts::text_width;
 use arrow_schema::{DataType, Field};
 
-// In the slots of a field themselves.
-fn may_find_own(test: SlotTest, field: &Field) -> bool
+/// In the slots of a field themselves.
+pub(crate) fn may_find_own(test: SlotTest, field: &Field) -> bool
     ensures { result ≡ may_find_own test (column_of field.now) }
 {
     match test {

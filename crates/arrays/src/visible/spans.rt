@@ -1,20 +1,25 @@
 // A test of all that is visible by spans of slots.
-ghost use Rattle.std.specs.Prelude.{◌≡◌, ◌≤◌, ◌<◌, ◌+◌, ◌*◌, nat_le, true, false};
+ghost use Rattle.std.specs.Prelude.{◌≡◌, ℕ, ◌≤◌, ◌<◌, ◌+◌, ◌*◌, ◌||◌, nat_le, length, true, false};
 ghost use Rattle.arrow_schema.specs.Column.{lists, large_lists, fixed_lists, structs};
 ghost use Rattle.arrow_schema.specs.Limits.{is_nested};
 ghost use Rattle.arrow_schema.specs.View.{column_of, kind_of};
 ghost use Rattle.columns.specs.Array.{slots_in, items_in, children_in};
+ghost use Rattle.columns.specs.CellAt.{is_valid};
 ghost use Rattle.columns.specs.Offsets.{width_of};
 ghost use Rattle.columns.specs.Sound.{is_sound, is_kind_sound, are_sound};
 ghost use Rattle.columns.specs.Tests.{are_few_offsets, are_unordered};
 ghost use Rattle.columns.specs.View.{view_array, placed_arrays, fields_of, IsNoArray};
-ghost use Rattle.arrays.specs.inner.VisibleSpans.{any_slot, any_visible, any_valid_below, any_part, finds, has_below};
+ghost use Rattle.arrays.specs.inner.SpanLists.{any_slot_of, any_visible_of, any_below_of, any_below_runs, any_part_of, are_within, is_run, are_runs, are_long_for};
+ghost use Rattle.arrays.specs.inner.VisibleSpans.{any_slot, any_below, finds, has_below};
 
 use crate::runs::run_to;
 use crate::visible::indices::any_past_entry;
-use crate::visible::may_find::may_find_below;
+use crate::visible::may_find::{may_find_below, may_find_own};
 use crate::visible::nulls::any_forbidden;
 use crate::visible::slot_test::SlotTest;
+use crate::visible::span_list::{
+    MOST_SPANS, SlotSpan, SpanList, fixed_item_spans, item_spans, no_spans,
+};
 use crate::visible::texts::any_bad_text;
 use arrow_schema::{DataType, Field};
 use columns::{ArrayView, Dictionary, OffsetWidth, PlacedArray, array_or};
@@ -32,45 +37,110 @@ fn any_slot(test: SlotTest, field: &Field, view: ArrayView<'_>, from: usize, cou
     }
 }
 
+// The same of several spans.
+fn any_slot_of(test: SlotTest, field: &Field, view: ArrayView<'_>, spans: &[SlotSpan]) -> bool
+    requires sound { is_sound (column_of field.now) (view_array view) ≡ true }
+    requires within { are_within (slots_in (view_array view)) spans.now ≡ true }
+    ensures { result ≡ any_slot_of (finds test) (column_of field.now) (view_array view.entry) spans.now }
+{
+    // by the type alone, so that no span is gone through in vain
+    if !may_find_own(test, field) {
+        return false;
+    }
+    for span in spans {
+        if any_slot(test, field, view, span.from, span.count) {
+            return true;
+        }
+    }
+    false
+}
+
 fn has_below(field: &Field) -> bool
     ensures { result ≡ has_below (column_of field.now) }
 {
     field.dictionary.is_none() && field.data_type.is_nested()
 }
 
-// A test of all that is visible by the slots of a span. What stands below them is looked at by runs of valid slots.
+// A test of all that is visible by the slots of some spans. What stands below them is looked at by runs of valid slots.
 #[cycle(spans)]
 fn any_visible(
     test: SlotTest,
     field: &Field,
     view: ArrayView<'_>,
-    from: usize,
-    count: usize,
+    spans: &[SlotSpan],
     none: &PlacedArray,
 ) -> bool
     requires none { IsNoArray none.now }
     requires sound { is_sound (column_of field.now) (view_array view) ≡ true }
-    requires within { from + count ≤ slots_in (view_array view) }
-    ensures { result ≡ any_visible (finds test) (column_of field.now) (view_array view.entry) from count }
+    requires within { are_within (slots_in (view_array view)) spans.now ≡ true }
+    ensures { result ≡ any_visible_of (finds test) (column_of field.now) (view_array view.entry) spans.now }
 {
-    if any_slot(test, field, view, from, count) {
+    if any_slot_of(test, field, view, spans) {
         return true;
     }
     if !has_below(field) {
         return false;
     }
-    // by the type alone, so that no run is gone through in vain
     if !may_find_below(test, &field.data_type) {
         return false;
     }
+    any_below(test, field, view, spans, none)
+}
+
+// The same of what stands below the slots: as many runs as can be are looked at together.
+#[cycle(spans)]
+fn any_below(
+    test: SlotTest,
+    field: &Field,
+    view: ArrayView<'_>,
+    spans: &[SlotSpan],
+    none: &PlacedArray,
+) -> bool
+    requires none { IsNoArray none.now }
+    requires nested { has_below (column_of field.now) ≡ true }
+    requires sound { is_sound (column_of field.now) (view_array view) ≡ true }
+    requires within { are_within (slots_in (view_array view)) spans.now ≡ true }
+    ensures { result ≡ any_below_of (finds test) (column_of field.now) (view_array view.entry) spans.now }
+{
+    let mut runs = no_spans();
+    for span in spans {
+        if any_in_span(test, field, view, *span, &mut runs, none) {
+            return true;
+        }
+    }
+    any_valid_below(test, &field.data_type, view, runs.as_slice(), none)
+}
+
+// Adds the runs of valid slots of a span to some that are still to be looked at; where there are too many, those are looked at first.
+#[cycle(spans)]
+fn any_in_span(
+    test: SlotTest,
+    field: &Field,
+    view: ArrayView<'_>,
+    span: SlotSpan,
+    runs: &mut SpanList,
+    none: &PlacedArray,
+) -> bool
+    requires none { IsNoArray none.now }
+    requires nested { has_below (column_of field.now) ≡ true }
+    requires sound { is_sound (column_of field.now) (view_array view) ≡ true }
+    requires within { span.from + span.count ≤ slots_in (view_array view) }
+    requires runs { are_runs (slots_in (view_array view)) runs.old.items ≡ true }
+    ensures found { let f = finds test in let a = view_array view.entry in let kind = kind_of field.now.data_type in
+        (result || any_below_runs f kind a runs.new.items) ≡ (any_below_runs f kind a runs.old.items || any_below f (column_of field.now) a span.from span.count) }
+    ensures runs { are_runs (slots_in (view_array view.entry)) runs.new.items ≡ true }
+{
     // a number of the code is below 2^64, so that the end is too
     let _slots = view.slots();
-    let to = from + count;
-    let mut at = from;
+    let to = span.from + span.count;
+    let mut at = span.from;
     'runs: while at < to {
         let end = run_to(view, at, to);
-        let valid = view.is_valid(at);
-        if valid && any_valid_below(test, &field.data_type, view, at, end - at, none) {
+        let run = SlotSpan {
+            from: at,
+            count: end - at,
+        };
+        if any_with_run(test, field, view, run, runs, none) {
             return true;
         }
         at = end;
@@ -78,33 +148,63 @@ fn any_visible(
     false
 }
 
-// The same of what stands below slots that are all valid.
+// Adds a run to those that are still to be looked at, if its slots are valid.
+#[cycle(spans)]
+fn any_with_run(
+    test: SlotTest,
+    field: &Field,
+    view: ArrayView<'_>,
+    run: SlotSpan,
+    runs: &mut SpanList,
+    none: &PlacedArray,
+) -> bool
+    requires none { IsNoArray none.now }
+    requires nested { has_below (column_of field.now) ≡ true }
+    requires sound { is_sound (column_of field.now) (view_array view) ≡ true }
+    requires run { is_run (slots_in (view_array view)) run ≡ true }
+    requires alike { (i : ℕ) → run.from ≤ i → i < run.from + run.count → is_valid (view_array view) i ≡ is_valid (view_array view) run.from }
+    requires runs { are_runs (slots_in (view_array view)) runs.old.items ≡ true }
+    ensures found { let f = finds test in let a = view_array view.entry in let kind = kind_of field.now.data_type in
+        (result || any_below_runs f kind a runs.new.items) ≡ (any_below_runs f kind a runs.old.items || any_below f (column_of field.now) a run.from run.count) }
+    ensures runs { are_runs (slots_in (view_array view.entry)) runs.new.items ≡ true }
+{
+    if !view.is_valid(run.from) {
+        return false;
+    }
+    if !runs.is_full() {
+        runs.push(run);
+        return false;
+    }
+    let found = any_valid_below(test, &field.data_type, view, runs.as_slice(), none);
+    runs.clear();
+    runs.push(run);
+    found
+}
+
+// A test of what stands below runs of slots that are all valid.
 #[tactic(auto, unfolding(columns::specs::Sound::has_sound_children))]
 #[cycle(spans)]
 fn any_valid_below(
     test: SlotTest,
     data_type: &DataType,
     view: ArrayView<'_>,
-    from: usize,
-    count: usize,
+    runs: &[SlotSpan],
     none: &PlacedArray,
 ) -> bool
     requires none { IsNoArray none.now }
     requires nested { is_nested (kind_of data_type.now) ≡ true }
     requires sound { is_kind_sound (kind_of data_type.now) (view_array view) ≡ true }
-    requires some { 0 < count }
-    requires within { from + count ≤ slots_in (view_array view) }
-    ensures { result ≡ any_valid_below (finds test) (kind_of data_type.now) (view_array view.entry) from count }
+    requires few { length runs.now ≤ MOST_SPANS }
+    requires runs { are_runs (slots_in (view_array view)) runs.now ≡ true }
+    ensures { result ≡ any_below_runs (finds test) (kind_of data_type.now) (view_array view.entry) runs.now }
 {
     match data_type {
-        DataType::List(item) => any_item(test, OffsetWidth::Four, item, view, from, count, none),
-        DataType::LargeList(item) => {
-            any_item(test, OffsetWidth::Eight, item, view, from, count, none)
-        }
+        DataType::List(item) => any_item(test, OffsetWidth::Four, item, view, runs, none),
+        DataType::LargeList(item) => any_item(test, OffsetWidth::Eight, item, view, runs, none),
         DataType::FixedSizeList(size, item) => {
-            any_fixed_item(test, *size as usize, item, view, from, count, none)
+            any_fixed_item(test, *size as usize, item, view, runs, none)
         }
-        DataType::Struct(fields) => any_field(test, fields, view, from, count, none),
+        DataType::Struct(fields) => any_field(test, fields, view, runs, none),
         _ => unreachable!(),
     }
 }
@@ -116,29 +216,20 @@ fn any_item(
     width: OffsetWidth,
     item: &Field,
     view: ArrayView<'_>,
-    from: usize,
-    count: usize,
+    runs: &[SlotSpan],
     none: &PlacedArray,
 ) -> bool
     requires none { IsNoArray none.now }
     requires long { are_few_offsets (width_of width) (view_array view) ≡ false }
     requires ordered { are_unordered (width_of width) (slots_in (items_in (view_array view))) (view_array view) ≡ false }
     requires sound { is_sound (column_of item.now) (items_in (view_array view)) ≡ true }
-    requires some { 0 < count }
-    requires within { from + count ≤ slots_in (view_array view) }
-    ensures lists { width_of width ≡ 4 → result ≡ any_valid_below (finds test) (lists (column_of item.now)) (view_array view.entry) from count }
-    ensures large_lists { width_of width ≡ 8
-        → result ≡ any_valid_below (finds test) (large_lists (column_of item.now)) (view_array view.entry) from count }
+    requires few { length runs.now ≤ MOST_SPANS }
+    requires runs { are_runs (slots_in (view_array view)) runs.now ≡ true }
+    ensures lists { width_of width ≡ 4 → result ≡ any_below_runs (finds test) (lists (column_of item.now)) (view_array view.entry) runs.now }
+    ensures large_lists { width_of width ≡ 8 → result ≡ any_below_runs (finds test) (large_lists (column_of item.now)) (view_array view.entry) runs.now }
 {
-    let items = view.spanned(width, from, count);
-    any_visible(
-        test,
-        item,
-        view.items_or(none),
-        items.start,
-        items.len,
-        none,
-    )
+    let items = item_spans(width, view, runs);
+    any_visible(test, item, view.items_or(none), items.as_slice(), none)
 }
 
 #[cycle(spans)]
@@ -147,21 +238,18 @@ fn any_fixed_item(
     size: usize,
     item: &Field,
     view: ArrayView<'_>,
-    from: usize,
-    count: usize,
+    runs: &[SlotSpan],
     none: &PlacedArray,
 ) -> bool
     requires none { IsNoArray none.now }
     requires long { nat_le (slots_in (view_array view) * size) (slots_in (items_in (view_array view))) ≡ true }
     requires sound { is_sound (column_of item.now) (items_in (view_array view)) ≡ true }
-    requires within { from + count ≤ slots_in (view_array view) }
-    ensures { result ≡ any_valid_below (finds test) (fixed_lists size (column_of item.now)) (view_array view.entry) from count }
+    requires few { length runs.now ≤ MOST_SPANS }
+    requires runs { are_runs (slots_in (view_array view)) runs.now ≡ true }
+    ensures { result ≡ any_below_runs (finds test) (fixed_lists size (column_of item.now)) (view_array view.entry) runs.now }
 {
-    // a number of the code is below 2^64, so that the products are too
-    let _most = view.item_slots();
-    let start = from * size;
-    let len = count * size;
-    any_visible(test, item, view.items_or(none), start, len, none)
+    let items = fixed_item_spans(size, view, runs);
+    any_visible(test, item, view.items_or(none), items.as_slice(), none)
 }
 
 #[cycle(spans)]
@@ -169,14 +257,13 @@ fn any_field(
     test: SlotTest,
     fields: &[Field],
     view: ArrayView<'_>,
-    from: usize,
-    count: usize,
+    runs: &[SlotSpan],
     none: &PlacedArray,
 ) -> bool
     requires none { IsNoArray none.now }
     requires sound { are_sound (fields_of fields.now) (slots_in (view_array view)) (children_in (view_array view)) ≡ true }
-    requires within { from + count ≤ slots_in (view_array view) }
-    ensures { result ≡ any_valid_below (finds test) (structs (fields_of fields.now)) (view_array view.entry) from count }
+    requires runs { are_runs (slots_in (view_array view)) runs.now ≡ true }
+    ensures { result ≡ any_below_runs (finds test) (structs (fields_of fields.now)) (view_array view.entry) runs.now }
 {
     any_part(
         test,
@@ -184,13 +271,12 @@ fn any_field(
         view.children(),
         view.bytes,
         view.dictionaries,
-        from,
-        count,
+        runs,
         none,
     )
 }
 
-/// The same of the slots of a span of each of some arrays, which are those of fields.
+/// A test of all that is visible by the slots of some spans of each of some arrays, which are those of fields.
 #[cycle(spans)]
 pub(crate) fn any_part(
     test: SlotTest,
@@ -198,13 +284,13 @@ pub(crate) fn any_part(
     arrays: &[PlacedArray],
     bytes: &[u8],
     dictionaries: &[Dictionary],
-    from: usize,
-    count: usize,
+    spans: &[SlotSpan],
     none: &PlacedArray,
 ) -> bool
     requires none { IsNoArray none.now }
-    requires sound { are_sound (fields_of fields.now) (from + count) (placed_arrays bytes.now dictionaries.now arrays.now) ≡ true }
-    ensures { result ≡ any_part (finds test) (fields_of fields.now) (placed_arrays bytes.now dictionaries.now arrays.now) from count }
+    requires sound { are_sound (fields_of fields.now) 0 (placed_arrays bytes.now dictionaries.now arrays.now) ≡ true }
+    requires long { are_long_for (fields_of fields.now) (placed_arrays bytes.now dictionaries.now arrays.now) spans.now ≡ true }
+    ensures { result ≡ any_part_of (finds test) (fields_of fields.now) (placed_arrays bytes.now dictionaries.now arrays.now) spans.now }
 {
     for (i, field) in fields.iter().enumerate() {
         let view = ArrayView {
@@ -212,7 +298,7 @@ pub(crate) fn any_part(
             bytes,
             dictionaries,
         };
-        if any_visible(test, field, view, from, count, none) {
+        if any_visible(test, field, view, spans, none) {
             return true;
         }
     }

@@ -69,9 +69,11 @@ abbrev pub parts_flags : Comparison → List Part → List Bool
 parts_flags comparison parts = flat_map (part_flags comparison) parts
 
 -- the array has the bytes of so many slots
+abbrev pub has_integers : IntegerType → ℕ → Array → Bool
+has_integers t rows a = nat_le rows (slots_in a) && (not (has_short_validity a) && not (are_few (width_of t) a (values_in a)))
+
 abbrev pub has_slots : Comparison → ℕ → Array → Bool
-has_slots comparison rows a =
-    nat_le rows (slots_in a) && (not (has_short_validity a) && not (are_few (width_of comparison.integer) a (values_in a)))
+has_slots comparison rows a = has_integers comparison.integer rows a
 
 abbrev pub batch_has_slots : Comparison → Part → Batch → Bool
 batch_has_slots comparison p b = has_slots comparison b.rows (array_of comparison.place p b)

@@ -13,7 +13,7 @@ use std::rt::Files;
 
 // Whether a device can have so many sectors.
 fn is_size(sectors: u64) -> bool
-    ensures { IsTrue result ↔ ((16 ≤ sectors) × (sectors ≤ 4194304)) }
+    ensures { IsTrue result ↔ ((LEAST_SECTORS ≤ sectors) × (sectors ≤ MOST_SECTORS)) }
 {
     (LEAST_SECTORS..=MOST_SECTORS).contains(&sectors)
 }
@@ -40,7 +40,7 @@ fn prepare<F: OpenFile + LockFile, R: Files<File = F>>(
     file: &F,
     sectors: u64,
 ) -> io::Result<()>
-    requires { sectors ≤ 4194304 }
+    requires { sectors ≤ MOST_SECTORS }
 {
     file.lock_to_write()?;
     file.set_len(sectors * 512)?;
@@ -58,7 +58,7 @@ impl<F: Read + Write + Seek + OpenFile + LockFile + Drop> FileDevice<F> {
         rt: &R,
         path: &str,
     ) -> Result<FileDevice<F>, FileError>
-        ensures size { IfOk result (λ d. (16 ≤ sectors_of d) × (sectors_of d ≤ 4194304)) }
+        ensures size { IfOk result (λ d. (LEAST_SECTORS ≤ sectors_of d) × (sectors_of d ≤ MOST_SECTORS)) }
         ensures length { IfOk result (λ d. (opened : F) × IsOver opened d) }
         ensures failed { IfOk result (λ d. failures_of d ≡ 0) }
         ensures empty { IfOk result (λ d. IsEmpty d) }
@@ -77,7 +77,7 @@ impl<F: Read + Write + Seek + OpenFile + LockFile + Drop> FileDevice<F> {
         rt: &R,
         path: &str,
     ) -> Result<FileDevice<F>, FileError>
-        ensures size { IfOk result (λ d. (16 ≤ sectors_of d) × (sectors_of d ≤ 4194304)) }
+        ensures size { IfOk result (λ d. (LEAST_SECTORS ≤ sectors_of d) × (sectors_of d ≤ MOST_SECTORS)) }
         ensures length { IfOk result (λ d. (opened : F) × IsOver opened d) }
         ensures failed { IfOk result (λ d. failures_of d ≡ 0) }
         ensures empty { IfOk result (λ d. IsEmpty d) }
@@ -100,7 +100,7 @@ impl<F: Read + Write + Seek + OpenFile + LockFile + Drop> FileDevice<F> {
         ensures size { IfOk result (λ d. sectors_of d ≡ sectors) }
         ensures failed { IfOk result (λ d. failures_of d ≡ 0) }
         ensures empty { IfOk result (λ d. IsEmpty d) }
-        ensures bad_size { IsErrOf result FileError.BadSize ↔ ¬ ((16 ≤ sectors) × (sectors ≤ 4194304)) }
+        ensures bad_size { IsErrOf result FileError.BadSize ↔ ¬ ((LEAST_SECTORS ≤ sectors) × (sectors ≤ MOST_SECTORS)) }
     {
         if !is_size(sectors) {
             return Err(FileError::BadSize);
@@ -122,7 +122,7 @@ impl<F: Read + Write + Seek + OpenFile + Drop> FileDevice<F> {
     /// `Io` where the system refuses; `BadSize` where its length is no multiple of 512, or is outside 16 to 4,194,304
     /// sectors.
     pub fn from_file(alloc: Global, mut file: F) -> Result<FileDevice<F>, FileError>
-        ensures size { IfOk result (λ d. (16 ≤ sectors_of d) × (sectors_of d ≤ 4194304)) }
+        ensures size { IfOk result (λ d. (LEAST_SECTORS ≤ sectors_of d) × (sectors_of d ≤ MOST_SECTORS)) }
         ensures length { IfOk result (λ d. IsOver file d) }
         ensures bad_size { IsErrOf result FileError.BadSize → HasOtherLength ⟦<F as Seek>⟧ file }
         ensures failed { IfOk result (λ d. failures_of d ≡ 0) }
@@ -138,7 +138,7 @@ impl<F: Read + Write + Seek + OpenFile + Drop> FileDevice<F> {
 
     // A device over a file of this many sectors.
     pub(crate) fn over(alloc: Global, file: F, sectors: u64) -> FileDevice<F>
-        requires { sectors ≤ 4194304 }
+        requires { sectors ≤ MOST_SECTORS }
         ensures size { result.sectors ≡ sectors }
         ensures failed { result.failed ≡ 0 }
         ensures empty { IsEmpty result }

@@ -1,6 +1,7 @@
 // What a device that is a file reads and writes.
 ghost use Rattle.std.specs.Prelude.{◌≡◌, ◌<◌, ◌⊎◌, ◌*◌, [], IfErr, OnOk, OnErr, IfSome, is_ok, true};
 ghost use Rattle.sector_dev.specs.Disk.{Counts};
+ghost use Rattle.sector_dev.specs.declared.file.TheConstants.{MOST_SECTORS};
 ghost use Rattle.sector_dev.specs.Written.{Writes, buffered, IsEmpty, Empties, Buffers, BuffersAnew, LosesNone};
 
 use super::FileDevice;
@@ -14,7 +15,7 @@ const FIRST_READ: usize = 8;
 
 // Reads sectors from the file.
 fn read_at<F: Read + Seek>(file: &mut F, start: u64, contents: &mut [[u8; 512]]) -> io::Result<()>
-    requires { start < 4194304 }
+    requires { start < MOST_SECTORS }
 {
     file.seek(SeekFrom::Start(start * 512))?;
     file.read_exact(contents.as_flattened_mut())
@@ -22,7 +23,7 @@ fn read_at<F: Read + Seek>(file: &mut F, start: u64, contents: &mut [[u8; 512]])
 
 // Writes sectors to the file.
 fn write_at<F: Write + Seek>(file: &mut F, start: u64, contents: &[[u8; 512]]) -> io::Result<()>
-    requires { start < 4194304 }
+    requires { start < MOST_SECTORS }
     ensures { OnOk result (Writes ⟦<F as Write>⟧ ⟦<F as Seek>⟧ (start * 512) contents.now file.old file.new) }
 {
     file.seek(SeekFrom::Start(start * 512))?;

@@ -8,6 +8,7 @@ use Rattle.arrow_schema.specs.declared.types.Field.{the_lemmas as field_lemmas}
 use Rattle.arrow_schema.specs.View.{column_of, kind_of, index_of, time_kind}
 use Rattle.facts.specs.laws.Lists.{drop-item}
 use Rattle.cells.specs.Cell.{Cell}
+use Rattle.cells.specs.Dictionary.{part_list}
 use Rattle.columns.specs.Buildable.{can_build}
 use Rattle.values.specs.Borrowed.{borrowed_cell}
 use Rattle.array_build.specs.Batch.{PlainBatch, batch_in, built_at, dictionary_in, plain_column, with_arrays}
@@ -44,26 +45,26 @@ build_parts-build_column-requires t c =
     let fields : List Field = c.args.fields.now in
     let field : Field = c.index-fields-place.result in
     let item = drop-item fields c.loop-place.place field c.loop-place-test.true c.index-fields-place.is in
-    let here = field_can fields c.loop-place.place field (map borrowed_cell c.args.cells.now) item c.loop-place.invariant.can in
+    let here = field_can fields c.loop-place.place field (map part_list (map borrowed_cell c.args.cells.now)) item c.loop-place.invariant.can in
     (search (rules, field_lemmas), ap (can_build (column_of field)) (ap (map borrowed_cell) c.deref.ensures.value ∙ c.in_ok-parts.ensures) ∙ here.0)
 
 pub build_parts-loop-place-preserved : goal.build_parts-loop-place-preserved
 build_parts-loop-place-preserved t c =
     let fields : List Field = c.args.fields.now in
     let field : Field = c.index-fields-place.result in
-    let cells : List Cell = map borrowed_cell c.args.cells.now in
+    let rows : List (List Cell) = map part_list (map borrowed_cell c.args.cells.now) in
     let before : PlainBatch = batch_in c.loop-place.batch in
     let item = drop-item fields c.loop-place.place field c.loop-place-test.true c.index-fields-place.is in
     let built = c.in_ok-build_column.ensures
     ∙ ap (λ (xs : List Cell). with_arrays before (built_at (column_of field) xs)) (ap (map borrowed_cell) c.deref.ensures.value ∙ c.in_ok-parts.ensures) in
     record {
-      can = (field_can fields c.loop-place.place field cells item c.loop-place.invariant.can).1;
-      batch = field_arrays fields c.loop-place.place field cells before (batch_in c.build_column.new.batch) item built ∙ c.loop-place.invariant.batch;
+      can = (field_can fields c.loop-place.place field rows item c.loop-place.invariant.can).1;
+      batch = field_arrays fields c.loop-place.place field rows before (batch_in c.build_column.new.batch) item built ∙ c.loop-place.invariant.batch;
     }
 
 pub build_parts-returns : goal.build_parts-returns
 build_parts-returns t c =
-    sym (last_field c.args.fields.now c.loop-place.place (map borrowed_cell c.args.cells.now) (batch_in c.loop-place.batch) c.loop-place-test.false) ∙ c.loop-place.invariant.batch
+    sym (last_field c.args.fields.now c.loop-place.place (map part_list (map borrowed_cell c.args.cells.now)) (batch_in c.loop-place.batch) c.loop-place-test.false) ∙ c.loop-place.invariant.batch
 
 pub build_values-returns : goal.build_values-returns
 build_values-returns t c =

@@ -12,9 +12,9 @@ use Rattle.array_build.proofs.building.+building.Given as goal
 abbrev pub invariant-build_parts-loop-place : goal.invariant-build_parts-loop-place
 invariant-build_parts-loop-place l =
     let left = columns_from l.place l.fields in
-    let cells = map borrowed_cell l.cells in
+    let rows = map part_list (map borrowed_cell l.cells) in
     record {
-      can : can_build_parts left (rows_from l.place cells) ≡ true;
-      batch : with_arrays (batch_in l.batch) (built_below left (rows_from l.place cells))
-          ≡ with_arrays (batch_in l.fn.batch) (built_below (columns_of (map column_of l.fields)) (map part_list cells));
+      can : can_build_parts left (rows_from l.place rows) ≡ true;
+      batch : with_arrays (batch_in l.batch) (built_below left (rows_from l.place rows))
+          ≡ with_arrays (batch_in l.fn.batch) (built_below (columns_of (map column_of l.fields)) rows);
     }

@@ -1,26 +1,25 @@
-use Rattle.std.specs.Prelude.{Vec, None, option_map}
-use Rattle.std.specs.Global.{Global}
+use Rattle.std.specs.Prelude.{None, option_map}
 use Rattle.std.specs.List.{flat_map}
-use Rattle.std.proofs.Common.{◌≡◌, true, ◌∙◌, List, map, drop, ap, subst, sym, rules}
+use Rattle.std.proofs.Common.{◌≡◌, true, ◌∙◌, List, map, ap, subst, sym, rules}
 use Rattle.std.proofs.lemmas.Result.{on_ok_weaker}
-use Rattle.array_build.proofs.RunColumns.{are_ready, column_arrays, field_built, field_fits, field_sound, have_validity, last_column, lists_of, next_left, place_left, same_cells}
+use Rattle.array_build.proofs.RunColumns.{are_ready, field_built, field_fits, field_sound, have_validity, same_cells}
 use Rattle.array_build.proofs.AsWritten.{ready_of, written_of}
 use Rattle.array_build.proofs.Premises.{items_can_be_built, fixed_items_can_be_built}
 use Rattle.array_build.proofs.RunFixedItems.{fixed_list_runs_are}
 use Rattle.array_build.proofs.RunItems.{list_runs_are}
-use Rattle.array_build.proofs.RunParts.{parts_fit, struct_runs_are}
+use Rattle.array_build.proofs.RunParts.{all_behind, no_field, place_built, place_next, rows_of_parts, struct_runs_are}
 use Rattle.array_build.proofs.by_runs.+by_runs.Goals as goal
-use Rattle.array_build.specs.Batch.{batch_in, built_at, plain_column, with_arrays}
+use Rattle.array_build.specs.Batch.{batch_in, built_at, built_below, plain_column, with_arrays}
 use Rattle.array_build.specs.inner.Nodes.{list_kind}
 use Rattle.array_build.specs.inner.Runs.{AreAsWritten, contents_width, fixed_width, kind_cells}
-use Rattle.array_runs.specs.Runs.{HaveRuns, are_columns_sound, are_runs_sound, runs_cells}
+use Rattle.array_runs.specs.Runs.{are_runs_sound, runs_cells}
 use Rattle.array_runs.specs.declared.run.SlotRun.{SlotRun}
 use Rattle.arrow_schema.specs.Column.{Column, Columns, Kind, columns_of, fixed_lists, structs}
 use Rattle.arrow_schema.specs.View.{column_of, kind_of}
 use Rattle.arrow_schema.specs.declared.types.Field.{Field}
 use Rattle.arrow_schema.specs.declared.types.Field.{the_lemmas as field_lemmas}
 use Rattle.cells.specs.Cell.{Cell}
-use Rattle.cells.specs.Dictionary.{item_list, part_list}
+use Rattle.cells.specs.Dictionary.{item_list}
 use Rattle.columns.specs.Buildable.{can_build}
 use Rattle.columns.specs.Built.{fixed_items}
 use Rattle.columns.specs.Offsets.{width_of}
@@ -31,23 +30,54 @@ use Rattle.facts.specs.laws.Lists.{drop-item}
 pub build_run_structs-push_run_slots-requires : goal.build_run_structs-push_run_slots-requires
 build_run_structs-push_run_slots-requires t c = have_validity (structs (columns_of (map column_of c.args.fields.now))) c.args.runs.now c.requires.ready.sound
 
-pub build_run_structs-build_run_parts-requires : goal.build_run_structs-build_run_parts-requires
-build_run_structs-build_run_parts-requires t c =
-    let cs : Columns = columns_of (map column_of c.args.fields.now) in
-    let have : HaveRuns cs (lists_of c.deref.result.now) (map part_list (kind_cells (structs cs) c.args.runs.now)) =
-    subst (λ (vs : List (Vec SlotRun Global)). HaveRuns cs (lists_of vs) (map part_list (kind_cells (structs cs) c.args.runs.now))) (sym c.deref.ensures.value) c.in_ok-parts.ensures.have in
-    let sound : are_columns_sound cs (lists_of c.deref.result.now) ≡ true =
-    subst (λ (vs : List (Vec SlotRun Global)). are_columns_sound cs (lists_of vs) ≡ true) (sym c.deref.ensures.value) c.in_ok-parts.ensures.sound in
-    (search (rules, field_lemmas), (sound, parts_fit cs c.args.runs.now (lists_of c.deref.result.now) have c.requires.ready))
+pub build_run_structs-build_struct_parts-requires : goal.build_run_structs-build_struct_parts-requires
+build_run_structs-build_struct_parts-requires t c = (search (rules, field_lemmas), c.requires.ready)
 
 pub build_run_structs-returns : goal.build_run_structs-returns
 build_run_structs-returns t c =
+    on_ok_weaker c.build_struct_parts.result
+    (λ h. h ∙ struct_runs_are (batch_in c.args.batch.now) (batch_in c.push_run_slots.new.batch) (columns_of (map column_of c.args.fields.now)) c.args.runs.now c.in_ok-push_run_slots.ensures)
+    c.build_struct_parts.ensures
+
+-- ---- the fields of structs, one after another
+
+pub build_struct_parts-loop-place-init : goal.build_struct_parts-loop-place-init
+build_struct_parts-loop-place-init t c =
     let cs : Columns = columns_of (map column_of c.args.fields.now) in
-    let have : HaveRuns cs (lists_of c.deref.result.now) (map part_list (kind_cells (structs cs) c.args.runs.now)) =
-    subst (λ (vs : List (Vec SlotRun Global)). HaveRuns cs (lists_of vs) (map part_list (kind_cells (structs cs) c.args.runs.now))) (sym c.deref.ensures.value) c.in_ok-parts.ensures.have in
-    on_ok_weaker c.build_run_parts.result
-    (λ h. h ∙ struct_runs_are (batch_in c.args.batch.now) (batch_in c.push_run_slots.new.batch) cs c.args.runs.now (lists_of c.deref.result.now) have c.in_ok-push_run_slots.ensures)
-    c.build_run_parts.ensures
+    record {
+      behind = all_behind cs c.args.runs.now c.requires.ready;
+      batch = ap (λ (rows : List (List Cell)). with_arrays (batch_in c.args.batch.now) (built_below cs rows)) (rows_of_parts cs c.args.runs.now c.requires.ready);
+    }
+
+pub build_struct_parts-build_run_column-requires : goal.build_struct_parts-build_run_column-requires
+build_struct_parts-build_run_column-requires t c =
+    let field : Field = c.index-fields-place.result in
+    let item = drop-item c.args.fields.now c.loop-place.place field c.loop-place-test.true c.index-fields-place.is in
+    let next = place_next c.args.fields.now c.loop-place.place field c.args.runs.now c.in_ok-part.part.items item c.in_ok-part.ensures c.loop-place.invariant.behind in (
+      search (rules, field_lemmas),
+      (
+        subst (λ (runs : List SlotRun). are_runs_sound (column_of field) runs ≡ true) (sym c.deref.ensures.value) next.sound,
+        subst (λ (runs : List SlotRun). can_build (column_of field) (runs_cells (column_of field) runs) ≡ true) (sym c.deref.ensures.value) next.fits,
+      ),
+    )
+
+pub build_struct_parts-loop-place-preserved : goal.build_struct_parts-loop-place-preserved
+build_struct_parts-loop-place-preserved t c =
+    let field : Field = c.index-fields-place.result in
+    let part : List SlotRun = c.in_ok-part.part.items in
+    let item = drop-item c.args.fields.now c.loop-place.place field c.loop-place-test.true c.index-fields-place.is in
+    let next = place_next c.args.fields.now c.loop-place.place field c.args.runs.now part item c.in_ok-part.ensures c.loop-place.invariant.behind in
+    let built = c.in_ok-build_run_column.ensures
+    ∙ ap (λ (runs : List SlotRun). with_arrays (batch_in c.loop-place.batch) (built_at (column_of field) (runs_cells (column_of field) runs))) c.deref.ensures.value in
+    record {
+      behind = next.behind;
+      batch = place_built c.args.fields.now c.loop-place.place field c.args.runs.now part (batch_in c.loop-place.batch) (batch_in c.build_run_column.new.batch) item c.in_ok-part.ensures
+          c.loop-place.invariant.behind built ∙ c.loop-place.invariant.batch;
+    }
+
+pub build_struct_parts-returns : goal.build_struct_parts-returns
+build_struct_parts-returns t c =
+    sym (no_field c.args.fields.now c.loop-place.place c.args.runs.now (batch_in c.loop-place.batch) c.loop-place-test.false) ∙ c.loop-place.invariant.batch
 
 -- ---- lists
 
@@ -136,44 +166,3 @@ build_run_column-returns-in-None t c =
     on_ok_weaker c.build_run_kind.result
     (λ h. h ∙ field_built (batch_in c.args.batch.now) c.args.field.now c.args.runs.now c.in-None.is)
     c.build_run_kind.ensures
-
--- ---- columns, one after another
-
-pub build_run_parts-bounds-columns-place : goal.build_run_parts-bounds-columns-place
-build_run_parts-bounds-columns-place t c =
-    let item = drop-item c.args.fields.now c.loop-place.place c.index-fields-place.result c.loop-place-test.true c.index-fields-place.is in
-    place_left c.args.fields.now c.loop-place.place c.index-fields-place.result c.args.columns.now item c.loop-place.invariant.left
-
-pub build_run_parts-build_run_column-requires : goal.build_run_parts-build_run_column-requires
-build_run_parts-build_run_column-requires t c =
-    let field : Field = c.index-fields-place.result in
-    let item = drop-item c.args.fields.now c.loop-place.place field c.loop-place-test.true c.index-fields-place.is in
-    let within = place_left c.args.fields.now c.loop-place.place field c.args.columns.now item c.loop-place.invariant.left in
-    let here = drop-item c.args.columns.now c.loop-place.place c.index-columns-place.result within c.index-columns-place.is in
-    let own = (next_left c.args.fields.now c.loop-place.place field c.args.columns.now c.index-columns-place.result item here c.loop-place.invariant.left).0 in (
-      search (rules, field_lemmas),
-      (
-        subst (λ (runs : List SlotRun). are_runs_sound (column_of field) runs ≡ true) (sym c.deref.ensures.value) own.sound,
-        subst (λ (runs : List SlotRun). can_build (column_of field) (runs_cells (column_of field) runs) ≡ true) (sym c.deref.ensures.value) own.fits,
-      ),
-    )
-
-pub build_run_parts-loop-place-preserved : goal.build_run_parts-loop-place-preserved
-build_run_parts-loop-place-preserved t c =
-    let fields : List Field = c.args.fields.now in
-    let field : Field = c.index-fields-place.result in
-    let columns : List (Vec SlotRun Global) = c.args.columns.now in
-    let column : Vec SlotRun Global = c.index-columns-place.result in
-    let item = drop-item fields c.loop-place.place field c.loop-place-test.true c.index-fields-place.is in
-    let within = place_left fields c.loop-place.place field columns item c.loop-place.invariant.left in
-    let here = drop-item columns c.loop-place.place column within c.index-columns-place.is in
-    let built = c.in_ok-build_run_column.ensures
-    ∙ ap (λ (runs : List SlotRun). with_arrays (batch_in c.loop-place.batch) (built_at (column_of field) (runs_cells (column_of field) runs))) c.deref.ensures.value in
-    record {
-      left = (next_left fields c.loop-place.place field columns column item here c.loop-place.invariant.left).1;
-      batch = column_arrays fields c.loop-place.place field columns column (batch_in c.loop-place.batch) (batch_in c.build_run_column.new.batch) item here built ∙ c.loop-place.invariant.batch;
-    }
-
-pub build_run_parts-returns : goal.build_run_parts-returns
-build_run_parts-returns t c =
-    sym (last_column c.args.fields.now c.loop-place.place (drop c.loop-place.place c.args.columns.now) (batch_in c.loop-place.batch) c.loop-place-test.false) ∙ c.loop-place.invariant.batch

@@ -1,11 +1,16 @@
-use Rattle.std.proofs.Common.{◌≡◌, drop}
-use Rattle.array_build.specs.Batch.{batch_in, with_arrays}
-use Rattle.array_build.proofs.RunColumns.{AreLeft, built_left, lists_of}
+use Rattle.std.proofs.Common.{◌≡◌, map}
+use Rattle.array_build.specs.Batch.{batch_in, built_below, with_arrays}
+use Rattle.array_build.specs.inner.Runs.{kind_cells}
+use Rattle.array_build.proofs.RunParts.{AreBehind, columns_behind, rows_behind}
 use Rattle.array_build.proofs.by_runs.+by_runs.Given as goal
+use Rattle.arrow_schema.specs.Column.{columns_of, structs}
+use Rattle.arrow_schema.specs.View.{column_of}
+use Rattle.cells.specs.Dictionary.{part_list}
 
--- what is left of the columns can be built, and completes the batch
-abbrev pub invariant-build_run_parts-loop-place : goal.invariant-build_run_parts-loop-place
-invariant-build_run_parts-loop-place l = record {
-  left : AreLeft (drop l.place l.fields) (lists_of (drop l.place l.columns));
-  batch : with_arrays (batch_in l.batch) (built_left (drop l.place l.fields) (drop l.place l.columns)) ≡ with_arrays (batch_in l.fn.batch) (built_left l.fields l.columns);
+-- what is left of the fields can be built, and completes the batch
+abbrev pub invariant-build_struct_parts-loop-place : goal.invariant-build_struct_parts-loop-place
+invariant-build_struct_parts-loop-place l = record {
+  behind : AreBehind l.place (columns_behind l.place l.fields) l.runs;
+  batch : with_arrays (batch_in l.batch) (built_below (columns_behind l.place l.fields) (rows_behind l.place (columns_behind l.place l.fields) l.runs))
+      ≡ with_arrays (batch_in l.fn.batch) (built_below (columns_of (map column_of l.fields)) (map part_list (kind_cells (structs (columns_of (map column_of l.fields))) l.runs)));
 }

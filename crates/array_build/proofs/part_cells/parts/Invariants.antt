@@ -6,5 +6,5 @@ use Rattle.array_build.proofs.part_cells.parts.Given as goal
 
 abbrev pub invariant-loop-cell : goal.invariant-loop-cell
 invariant-loop-cell l =
-    map borrowed_cell l.parts.items ++ map (λ c. first_cell (drop l.place (part_list c))) (map borrowed_cell (drop l.cell-index l.cells))
-    ≡ map (λ c. first_cell (drop l.place (part_list c))) (map borrowed_cell l.cells)
+    map borrowed_cell l.parts.items ++ map (λ r. first_cell (drop l.place r)) (map part_list (map borrowed_cell (drop l.cell-index l.cells)))
+    ≡ map (λ r. first_cell (drop l.place r)) (map part_list (map borrowed_cell l.cells))

@@ -1,6 +1,6 @@
 use Rattle.std.specs.Prelude.{Option, Some}
 use Rattle.std.specs.List.{list_all}
-use Rattle.std.proofs.Common.{◌≡◌, ◌+◌, ◌*◌, ℕ, ◌<◌, List, get_or, inl, inr, length, set, subst, take, true, map, drop, refl, sym, ap, arith, rules, ◌∙◌}
+use Rattle.std.proofs.Common.{◌≡◌, ◌+◌, ◌*◌, ℕ, ◌<◌, List, get_or, inl, inr, length, set, subst, take, true, map, drop, sym, ap, arith, rules, ◌∙◌}
 use Rattle.arrow_schema.specs.declared.types.Field.{the_lemmas as field_lemmas}
 use Rattle.arrow_schema.specs.Column.{Kind, columns_of}
 use Rattle.arrow_schema.specs.View.{kind_of, column_of, index_of}
@@ -120,6 +120,12 @@ pub parts_weight-returns : goal.parts_weight-returns
 parts_weight-returns t c =
     let none = parts_end c.args.fields.now c.loop-i.i (placed_arrays c.args.bytes.now c.args.dictionaries.now (drop c.loop-i.i c.args.arrays.now)) c.args.from c.args.count c.loop-i-test.false in
     omega (arith, none, c.loop-i.invariant.sums, c.loop-i.invariant.capped)
+
+pub slots_weight-returns-in-Some : goal.slots_weight-returns-in-Some
+slots_weight-returns-in-Some t c =
+    let kind : Kind = kind_of c.args.field.now.data_type in
+    let one : 1 * kind_weight kind null ≡ kind_weight kind null = omega arith in
+    c.in-Some.ensures kind c.requires.known (c.nulls_weight-of_null.ensures ∙ ap capped_weight one)
 
 pub slots_weight-loop-i-preserved : goal.slots_weight-loop-i-preserved
 slots_weight-loop-i-preserved t c =

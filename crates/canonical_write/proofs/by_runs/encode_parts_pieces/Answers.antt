@@ -7,11 +7,12 @@ use Rattle.arrow_schema.specs.Column.{PlainSchema, Columns, columns_of}
 use Rattle.arrow_schema.specs.View.{schema_of}
 use Rattle.canonical_stream.specs.Pieces.{IsPieceOf}
 use Rattle.canonical_write.proofs.Alone.{IsAlone, each_alone}
-use Rattle.canonical_write.proofs.RunSteps.{not_empty, rows_behind, count_behind, all_more}
+use Rattle.canonical_write.proofs.RunSteps.{not_empty, rows_behind, count_behind}
 use Rattle.canonical_write.proofs.Steps.{items_in, first_streams, first_counts, next_made}
 use Rattle.canonical_write.specs.Pieces.{piece_stream, piece_streams, piece_counts}
 use Rattle.cells.specs.Cell.{Cell, PlainTable}
 use Rattle.cells.specs.Row.{is_row}
+use Rattle.facts.specs.laws.Lists.{all_more}
 use Rattle.run_pieces.specs.Left.{rows_left}
 use Rattle.run_pieces.specs.Rows.{runs_rows}
 use Rattle.table_cut.specs.Cut.{pieces}

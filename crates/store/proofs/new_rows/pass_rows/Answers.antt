@@ -1,8 +1,8 @@
-use Rattle.std.proofs.Common.{◌≡◌, List, Ok, Err, inr, sym, ap, ◌∙◌, subst, map, arith}
+use Rattle.std.proofs.Common.{◌≡◌, List, Ok, Err, inr, sym, ap, ◌∙◌, subst, map}
 use Rattle.arrow_schema.specs.Column.{PlainSchema}
 use Rattle.cells.specs.Cell.{Cell, PlainTable}
 use Rattle.cells.specs.Row.{row_of}
-use Rattle.cells.specs.Weight.{table_weight, capped_weight}
+use Rattle.cells.specs.Weight.{table_weight}
 use Rattle.values.specs.Table.{IsTable, unfit, too_heavy, table_from}
 use Rattle.values.specs.TableView.{table_of, Reports}
 use Rattle.values.specs.declared.errors.TableError.{TableError}
@@ -18,12 +18,10 @@ returns-in-Ok-clause-passed c =
     let t : PlainTable = table_of c.in-Ok.table in
     let own : t.rows ≡ rows = ap (λ (x : PlainTable). x.rows) c.in-Ok.ensures.made in
     let taken : table_from e.schema rows ≡ Ok t = ap (λ (s : PlainSchema). table_from s rows) (sym c.in_ok-copy.ensures) ∙ c.in-Ok.ensures.taken in
-    let made = made_by e.schema rows t taken in
-    let weighed : c.weigh_rows-weight.result ≡ capped_weight (table_weight e.schema rows) = c.weigh_rows-weight.ensures ∙ ap (λ xs. capped_weight (table_weight e.schema (map row_of xs))) c.deref.ensures.value in
-    let exact : capped_weight (table_weight e.schema rows) ≡ table_weight e.schema rows = omega (arith, made.light) in
+    let weighed : c.in-Ok.weight ≡ table_weight e.schema rows = c.in-Ok.ensures.weight ∙ ap (λ (s : PlainSchema). table_weight s rows) c.in_ok-copy.ensures in
     let kept = c.accepted_rows_are_a_table.ensures.kept e.schema rows t c.requires taken in (
-      given_fit e rows made.fit ∙ ap (λ (x : List (List Cell)). Ok (record { entry = e; rows = x })) (sym own),
-      weighed ∙ exact ∙ ap (table_weight e.schema) (sym own),
+      given_fit e rows (made_by e.schema rows t taken) ∙ ap (λ (x : List (List Cell)). Ok (record { entry = e; rows = x })) (sym own),
+      weighed ∙ ap (table_weight e.schema) (sym own),
       subst IsTable (kept.0 ∙ ap (rows_under e.schema) (sym own)) kept.1,
     )
 

@@ -10,4 +10,4 @@ returns-in-Err-clause-goes g c = λ told base m fits. let D = g.D.SectorDevice i
 
 pub returns-in-Err-clause-answers : goal.returns-in-Err-clause-answers
 returns-in-Err-clause-answers g c =
-    record { told = c.in-Err.ensures.told; untouched = c.in-Err.ensures.untouched; quiet = c.in-Err.ensures.quiet; moments = c.in-Err.ensures.moments; limits = c.in-Err.ensures.limits }
+    record { told = c.in-Err.ensures.told; reason = c.in-Err.ensures.reason; untouched = c.in-Err.ensures.untouched; quiet = c.in-Err.ensures.quiet; moments = c.in-Err.ensures.moments; limits = c.in-Err.ensures.limits }

@@ -23,7 +23,7 @@ loop-place-init c =
     let rows : List (List Cell) = (table_of c.args.table.now).rows in
     let from : ℕ = c.args.from in
     let first : List Cell = borrowed_cells c.row_at-first.result in
-    let pushed : c.push.new.self.items ≡ c.row_at-first.result ∷ [] = c.in_ok-push.ensures.items ∙ ap (λ (x : List Values). x ++ c.row_at-first.result ∷ []) c.new-piece.ensures.items in
+    let pushed : c.push.new.self.items ≡ c.row_at-first.result ∷ [] = c.in_ok-push.ensures.items ∙ ap (λ (x : List Values). x ++ c.row_at-first.result ∷ []) c.in_ok-piece.ensures.items in
     let next : drop from rows ≡ first ∷ drop (from + 1) rows = row_before rows from first c.requires.left c.row_at-first.ensures in
     let weighed : c.row_weight-weight.result ≡ capped_weight (row_weight s first) = c.row_weight-weight.ensures in
     record {

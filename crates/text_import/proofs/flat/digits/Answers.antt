@@ -11,6 +11,9 @@ returns-then-not-is_ascii_digit c =
     let none = digit_none_at c.args.text.now c.loop-byte.number c.loop-byte.byte-index c.loop-byte-test.true (sym c.is_ascii_digit.ensures.value ∙ c.if-not-is_ascii_digit.true) in
     sym (first ∙ sym c.loop-byte.invariant.rest ∙ none)
 
+pub returns-then-text-le-SHORT : goal.returns-then-text-le-SHORT
+returns-then-text-le-SHORT c = c.short_digits.ensures ∙ sym (ap (option_map capped) (digits_of_some c.args.text.now (sym c.is_empty.ensures ∙ c.if-is_empty.false)))
+
 pub loop-byte-preserved : goal.loop-byte-preserved
 loop-byte-preserved c =
     let more = digit_more_at c.args.text.now c.loop-byte.number c.loop-byte.byte-index c.loop-byte-test.true (sym c.is_ascii_digit.ensures.value ∙ c.if-not-is_ascii_digit.false) in

@@ -14,7 +14,7 @@ loop-i-preserved c =
     let t = c.field_text.result.now in
     let item = drop-item c.args.fields.now i f c.loop-i-test.true c.index-fields-i.is in
     let text : drop i (fields_of c.args.row.now) ≡ t ∷ drop (i + 1) (fields_of c.args.row.now) = rw c.field_text.ensures (drop_more (fields_of c.args.row.now) i [] (omega arith)) in
-    let kept = rw (item, text) at c.loop-i.invariant in
+    let kept = rw (item, text) at c.loop-i.invariant.cells in
     let more =
     field_more
     c.args.null_text.now
@@ -25,9 +25,13 @@ loop-i-preserved c =
     (drop (i + 1) (fields_of c.args.row.now))
     (cell c.in_ok-field_cell.field-0)
     c.in_ok-field_cell.ensures in
-    rw (c.in_ok-push.ensures.items, map-append cell c.loop-i.cells.items (c.in_ok-field_cell.field-0 ∷ [])) (sym more ∙ kept)
+    record {
+      cells = rw (c.push_reserved.ensures.items, map-append cell c.loop-i.cells.items (c.in_ok-field_cell.field-0 ∷ [])) (sym more ∙ kept);
+      len = omega (arith, c.push_reserved.ensures.len, c.loop-i.invariant.len);
+      room = omega (arith, c.push_reserved.ensures.capacity, c.loop-i.invariant.room);
+    }
 
 pub returns : goal.returns
 returns c =
     let none : drop c.loop-i.i c.args.fields.now ≡ [] = drop_all c.loop-i.i c.args.fields.now (omega arith) in
-    sym (rw none at c.loop-i.invariant) ∙ fields_end c.args.null_text.now (map cell c.loop-i.cells.items) (drop c.loop-i.i (fields_of c.args.row.now))
+    sym (rw none at c.loop-i.invariant.cells) ∙ fields_end c.args.null_text.now (map cell c.loop-i.cells.items) (drop c.loop-i.i (fields_of c.args.row.now))

@@ -1,4 +1,4 @@
-use Rattle.std.proofs.Common.{◌≡◌, map, drop}
+use Rattle.std.proofs.Common.{◌≡◌, ◌≤◌, length, map, drop, vec_len, vec_capacity}
 use Rattle.csv.specs.Records.{fields_of}
 use Rattle.arrow_schema.specs.View.{column_of}
 use Rattle.cells.specs.View.{cell}
@@ -7,6 +7,9 @@ use Rattle.text_import.proofs.RowLemmas.{behind}
 use Rattle.text_import.proofs.records.field_cells.Given as goal
 
 abbrev pub invariant-loop-i : goal.invariant-loop-i
-invariant-loop-i l =
-    behind (map cell l.cells.items) (field_cells l.null_text (map column_of (drop l.i l.fields)) (drop l.i (fields_of l.row)))
-    ≡ field_cells l.null_text (map column_of l.fields) (fields_of l.row)
+invariant-loop-i l = record {
+  cells : behind (map cell l.cells.items) (field_cells l.null_text (map column_of (drop l.i l.fields)) (drop l.i (fields_of l.row)))
+      ≡ field_cells l.null_text (map column_of l.fields) (fields_of l.row);
+  len : vec_len l.cells ≡ l.i;
+  room : length l.fields ≤ vec_capacity l.cells;
+}

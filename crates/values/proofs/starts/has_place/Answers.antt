@@ -1,4 +1,4 @@
-use Rattle.std.proofs.Common.{arith, length}
+use Rattle.std.proofs.Common.{arith}
 use Rattle.std.proofs.lemmas.Bool.{eqb-true, ltb-true}
 use Rattle.values.proofs.StartLemmas.{last_start}
 use Rattle.values.proofs.starts.has_place.Goals as goal

@@ -1,4 +1,4 @@
-use Rattle.std.proofs.Common.{◌≡◌, ◌-◌, ℕ, leb, rules, sym, subst}
+use Rattle.std.proofs.Common.{ℕ, leb, rules, sym, subst}
 use Rattle.std.specs.List.Sorted.{IsPartitionedBy}
 use Rattle.std.proofs.lemmas.List.Sorted.{IsPartitionPoint-from_clause}
 use Rattle.values.proofs.StartLemmas.{starts_parted, by_halves}

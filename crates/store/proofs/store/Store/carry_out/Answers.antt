@@ -22,7 +22,7 @@ use Rattle.store.specs.Machine.{halted, running, has_written, settle, halt, Allo
 use Rattle.store.specs.Held.{whole_reading, tables_held}
 use Rattle.store.specs.Fits.{listed_in, setting_of}
 use Rattle.store.specs.Changes.{PlainChange, change_of}
-use Rattle.store.specs.Applying.{IsOldOrDone}
+use Rattle.store.specs.Applying.{IsApplying}
 use Rattle.store.specs.Carrying.{IsCarried, asked_sizes}
 use Rattle.store.proofs.ReadsStore.{shown_is_synced}
 use Rattle.store.proofs.Roomed.{carried_out, refused_out}
@@ -230,7 +230,7 @@ pub returns-in_err-prepared-clause-writes : goal.returns-in_err-prepared-clause-
 returns-in_err-prepared-clause-writes g c = λ told cmd on decided.
     let D = g.D.SectorDevice in
     let s = c.args.self.now in
-    stays (LeavesOnly (IsOldOrDone (D.size s.device) (IsUsedIn s.opened.map.entries) s.opened.commit (listed_in s) (now (D.story s.device)) cmd)) (D.story s.device)
+    stays (IsApplying (D.size s.device) (IsUsedIn s.opened.map.entries) s.opened.commit (listed_in s) (now (D.story s.device)) cmd) (D.story s.device)
 
 pub returns-in-Ok-clause-writes : goal.returns-in-Ok-clause-writes
 returns-in-Ok-clause-writes g c = λ told cmd on decided.

@@ -18,8 +18,8 @@ use Rattle.store.specs.Machine.{opened, shut_down, Allows}
 use Rattle.store.specs.Runs.{Goes}
 use Rattle.store.specs.Held.{whole_reading, tables_held}
 use Rattle.store.specs.Fits.{setting_of, fresh}
-use Rattle.store.specs.Opening.{formatting_of, TellsFormatting}
-use Rattle.store.proofs.Formatted.{formatting_counts, formatting_limits, formatted_limits, first_placed, formatting_tells, no_runs, early_moments, early_none, format_refused, refused_allows, format_done, formatted_stands, new_tables}
+use Rattle.store.specs.Opening.{formatting_of, TellsFormatting, IsOfFormatting}
+use Rattle.store.proofs.Formatted.{formatting_counts, formatting_limits, formatted_limits, formatting_damaged, first_placed, formatting_tells, formatting_reason, no_runs, early_moments, early_none, format_refused, refused_allows, format_done, formatted_stands, new_tables}
 use Rattle.store.proofs.store.Store.format.Goals as goal
 
 pub invariant_of-result : goal.invariant_of-result
@@ -138,13 +138,16 @@ returns-in-Err-clause-told g c = λ told.
     let size = D.size c.args.device in
     let found = ruling (shown_image (now (D.story c.args.device))) in
     let e = c.in-Err.error in
-    let damaged : (cause : Cause) → e ≡ errors.Damaged cause → (cause ≡ DeviceSize) × (is_size size ≡ false) = λ cause is.
-    let no = c.in-Err.ensures.damaged cause is in
-    let only = formatting_limits c.format.result e c.in-Err.is (c.format.ensures.limits no).0 in
-    let which : cause ≡ DeviceSize = cc (is, only) in
-    (which, no) in
+    let damaged = formatting_damaged c.format.result e size c.in-Err.is c.in-Err.ensures.damaged (λ no. (c.format.ensures.limits no).0) in
     subst (λ (r : OpeningRefusal). TellsFormatting r size found) (sym c.formatting_refusal.ensures)
     (formatting_tells e size found (λ is. c.format.ensures.already (c.in-Err.is ∙ ap Err is) told) damaged (λ is. c.format.ensures.memory (c.in-Err.is ∙ ap Err is) told))
+
+pub returns-in-Err-clause-reason : goal.returns-in-Err-clause-reason
+returns-in-Err-clause-reason g c =
+    let size = g.D.SectorDevice.size c.args.device in
+    let e = c.in-Err.error in
+    subst (λ (r : OpeningRefusal). IsOfFormatting size r) (sym c.formatting_refusal.ensures)
+    (formatting_reason e size (formatting_damaged c.format.result e size c.in-Err.is c.in-Err.ensures.damaged (λ no. (c.format.ensures.limits no).0)))
 
 pub returns-in-Err-clause-untouched : goal.returns-in-Err-clause-untouched
 returns-in-Err-clause-untouched g c = c.format.ensures.untouched

@@ -1,4 +1,4 @@
-use Rattle.std.proofs.Common.{length, arith}
+use Rattle.std.proofs.Common.{arith}
 use Rattle.values.specs.inner.Starts.{batch_lengths_at}
 use Rattle.values.proofs.PartLemmas.{many_starts, kept_starts}
 use Rattle.values.proofs.StartLemmas.{kept_start, as_many}

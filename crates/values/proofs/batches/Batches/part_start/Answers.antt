@@ -1,4 +1,4 @@
-use Rattle.std.proofs.Common.{length, arith}
+use Rattle.std.proofs.Common.{arith}
 use Rattle.values.specs.inner.Starts.{part_lengths}
 use Rattle.values.proofs.PartLemmas.{many_parts}
 use Rattle.values.proofs.StartLemmas.{kept_start, as_many}

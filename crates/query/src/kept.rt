@@ -1,0 +1,27 @@
+// Rows that are kept, and which is the next of them.
+ghost use Rattle.std.specs.Prelude.{◌≡◌, ◌≤◌, ◌<◌, ◌*◌, ℕ, length, true, false};
+ghost use Rattle.bitmap.specs.Bits.{bit};
+
+use cells::Value;
+
+/// The cells of some rows, one after another.
+#[derive(Debug, Drop)]
+pub(crate) struct Kept {
+    pub(crate) cells: Vec<Value>,
+    pub(crate) rows: usize,
+}
+
+/// The first row from one on whose bit is set, or the end.
+pub(crate) fn next_set(mask: &[u8], from: usize, end: usize) -> usize
+    requires within { end ≤ 8 * length mask.now }
+    requires order { from ≤ end }
+    ensures begins { from ≤ result }
+    ensures ends { result ≤ end }
+    ensures unset { (i : ℕ) → from ≤ i → i < result → bit mask.now i ≡ false }
+    ensures set { result < end → bit mask.now result ≡ true }
+{
+    if from == end || bitmap::get(mask, from) {
+        return from;
+    }
+    bitmap::run_end(mask, from, end)
+}

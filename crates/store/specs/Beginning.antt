@@ -1,0 +1,22 @@
+-- Devices behind a stop, and how a run begins with one.
+use Rattle.std.specs.Prelude.{◌≡◌, ◌⊎◌, ◌∷◌, ℕ, false, []}
+use Rattle.sector_dev.specs.Disk.{Story, now, shown_image, MayLeave}
+use Rattle.sector_dev.specs.History.{all_synced}
+use Rattle.tables.specs.Tables.{Tables, no_tables}
+use Rattle.tables.specs.Verdict.{after}
+use Rattle.store.specs.Machine.{Machine, with_doubt}
+use Rattle.store.specs.Fits.{DeviceFits, fresh, resumed}
+
+-- a device behind a stop: it holds one of the images that the stop may leave of it, all synced, and has its size
+pub record IsLeftOf {D : Type 0} (size : D → ℕ) (story : D → Story) (before device : D) : Type 0 where
+  pub same : size device ≡ size before
+  pub synced : story device ≡ all_synced (shown_image (now (story device))) ∷ []
+  pub allowed : MayLeave (now (story before)) (shown_image (now (story device)))
+
+-- a run may begin anew with what stands on a device: the tables of the settled commands, those with the one in doubt as well, or no store where
+-- there was none before
+abbrev pub BeginsAnew : {D : Type 0} → (size : D → ℕ) → (story : D → Story) → Tables → Machine → D → Type 0
+BeginsAnew size story base m device =
+    DeviceFits size story (after base m.settled) resumed device
+    ⊎ DeviceFits size story (after base (with_doubt m.settled m.doubt)) resumed device
+    ⊎ ((m.started ≡ false) × DeviceFits size story no_tables fresh device)
