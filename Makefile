@@ -5,7 +5,7 @@ SOURCES := $(shell find crates.txt crates -name out -prune -o -type f -print)
 REFUSING := $(sort $(shell grep -rl _also_without_memory crates/*/src | cut -d/ -f2))
 TESTS := $(foreach crate,$(REFUSING),crates/$(crate)/out/$(crate)_tests)
 
-.PHONY: all test gate-cost edit-reasons memory vectors bench bench-recode bench-texts bench-store bench-device bench-bitmap
+.PHONY: all test gate-cost gate edit-reasons memory vectors bench bench-recode bench-texts bench-store bench-device bench-bitmap
 .DELETE_ON_ERROR:
 
 # Builds the program and runs it once, on the stream of examples/.
@@ -28,15 +28,15 @@ $(TESTS): crates/%_tests: $(SOURCES)
 	@cd crates/$(notdir $*) && said=$$(rt test 2>&1) || { echo "$$said"; exit 1; }
 	@touch $@
 
-# The gate proves every crate from nothing and builds the program and the tests, which then run with refused memory.
-test:
+# All that must pass, and then what it cost crate by crate (docs/gate.md).
+test gate-cost:
 	@echo "The gate proves every crate from nothing, twice where it has tests or edits: that takes one to two hours."
+	tests/gate_cost $(MAKE) --no-print-directory gate
+
+# The gate proves every crate from nothing and builds the program and the tests, which then run with refused memory.
+gate:
 	rt ci
 	@$(MAKE) --no-print-directory memory vectors
-
-# The same, and what it cost crate by crate (docs/gate.md).
-gate-cost:
-	tests/gate_cost $(MAKE) --no-print-directory test
 
 # Why each must-fail edit is refused (docs/gate.md).
 edit-reasons:
