@@ -1,15 +1,15 @@
 // The places of cells among the entries of a dictionary, of runs of slots. An entry of an array's own dictionary is looked up once for each run, and
 // then known by its number.
-ghost use Rattle.std.specs.Prelude.{◌≡◌, ◌≤◌, ◌<◌, ◌-◌, ◌++◌, true, false, OnOk, IfOk, Some, None, List, [], map, replicate};
+ghost use Rattle.std.specs.Prelude.{◌≡◌, ◌≤◌, ◌<◌, ◌-◌, ◌/◌, ◌++◌, true, false, OnOk, IfOk, Some, None, List, [], map, replicate};
 ghost use Rattle.std.specs.List.{list_all};
-ghost use Rattle.arrow_schema.specs.View.{column_of};
+ghost use Rattle.arrow_schema.specs.View.{column_of, index_of};
 ghost use Rattle.array_build.specs.inner.Codes.{AreKnown, IsCoded, code_in, known_at, noted, own_entries};
 ghost use Rattle.array_build.specs.inner.RunCells.{is_coded};
 ghost use Rattle.array_runs.specs.Runs.{are_runs_sound, is_run_sound, run_cells, runs_cells};
 ghost use Rattle.cells.specs.Dictionary.{with_entry};
 ghost use Rattle.cells.specs.Entry.{entry_cell};
 ghost use Rattle.columns.specs.Array.{slots_in};
-ghost use Rattle.columns.specs.CellAt.{cell_at, cells_from};
+ghost use Rattle.columns.specs.CellAt.{cell_at, cells_from, is_valid};
 ghost use Rattle.columns.specs.Sound.{is_sound};
 ghost use Rattle.columns.specs.View.{view_array};
 ghost use Rattle.cells.specs.Cell.{Cell};
@@ -18,7 +18,7 @@ use crate::dictionary_cells::code_of;
 use crate::run_cells::slot_cell;
 use crate::run_slots::count_slots;
 use array_runs::SlotRun;
-use arrow_schema::{DictSpec, Field};
+use arrow_schema::{BitWidth, DictSpec, Field};
 use cells::Entry;
 use columns::{ArrayView, CodedSlots, entry_count};
 use indexmap::IndexSet;
@@ -50,8 +50,8 @@ fn known_code(known: &[Option<usize>], number: Option<u64>) -> Option<usize>
     }
 }
 
-fn note_code(known: &mut Vec<Option<usize>>, number: Option<u64>, code: Option<usize>)
-    ensures { known.new.items ≡ noted known.old.items number code }
+fn note_code(known: &mut [Option<usize>], number: Option<u64>, code: Option<usize>)
+    ensures { known.new ≡ noted known.old number code }
 {
     if let Some(number) = number {
         if number < known.len() as u64 {
@@ -60,11 +60,11 @@ fn note_code(known: &mut Vec<Option<usize>>, number: Option<u64>, code: Option<u
     }
 }
 
-// The code of a slot.
-#[inline]
-fn slot_code<'a>(
+// The code of a slot that is valid, and whose entry is not known. It is no part of the loop over slots, which would keep its variables in memory for it.
+#[inline(never)]
+fn new_code<'a>(
     entries: &mut IndexSet<Entry<'a>>,
-    known: &mut Vec<Option<usize>>,
+    known: &mut [Option<usize>],
     field: &'a Field,
     slots: CodedSlots<'a>,
     i: usize,
@@ -73,28 +73,79 @@ fn slot_code<'a>(
     requires sound { is_sound (column_of field.now) (view_array slots.view) ≡ true }
     requires within { i < slots_in (view_array slots.view) }
     requires coded { is_coded (cell_at (column_of field.now) (view_array slots.view) i) ≡ true }
-    requires known { AreKnown (map entry_cell entries.old.keys) (own_entries field.now slots.view) known.old.items }
+    requires valid { is_valid (view_array slots.view) i ≡ true }
+    requires known { AreKnown (map entry_cell entries.old.keys) (own_entries field.now slots.view) known.old }
     ensures entries { OnOk result (map entry_cell entries.new.keys
         ≡ with_entry (map entry_cell entries.old.keys) (cell_at (column_of field.now) (view_array slots.entry.view) i)) }
     ensures code { IfOk result (λ code. code ≡ code_in (map entry_cell entries.new.keys) (cell_at (column_of field.now) (view_array slots.entry.view) i)) }
-    ensures known { OnOk result (AreKnown (map entry_cell entries.new.keys) (own_entries field.now slots.entry.view) known.new.items) }
+    ensures known { OnOk result (AreKnown (map entry_cell entries.new.keys) (own_entries field.now slots.entry.view) known.new) }
 {
-    if !slots.is_valid(i) {
-        return Ok(None);
-    }
     let number = slots.number(i);
-    if let Some(code) = known_code(known, number) {
-        return Ok(Some(code));
-    }
     let code = code_of(entries, slot_cell(field, slots.view, i))?;
     note_code(known, number, code);
     Ok(code)
 }
 
-// Those of some slots of an array.
+// The code of a slot, whose index has so many bytes.
+#[inline]
+fn slot_code<'a, const SIZE: usize>(
+    entries: &mut IndexSet<Entry<'a>>,
+    known: &mut [Option<usize>],
+    field: &'a Field,
+    slots: CodedSlots<'a>,
+    i: usize,
+) -> Result<Option<usize>, AllocError>
+    requires size { SIZE ≡ (index_of slots.spec).bits / 8 }
+    requires spec { field.now.dictionary ≡ Some slots.spec }
+    requires sound { is_sound (column_of field.now) (view_array slots.view) ≡ true }
+    requires within { i < slots_in (view_array slots.view) }
+    requires coded { is_coded (cell_at (column_of field.now) (view_array slots.view) i) ≡ true }
+    requires known { AreKnown (map entry_cell entries.old.keys) (own_entries field.now slots.view) known.old }
+    ensures entries { OnOk result (map entry_cell entries.new.keys
+        ≡ with_entry (map entry_cell entries.old.keys) (cell_at (column_of field.now) (view_array slots.entry.view) i)) }
+    ensures code { IfOk result (λ code. code ≡ code_in (map entry_cell entries.new.keys) (cell_at (column_of field.now) (view_array slots.entry.view) i)) }
+    ensures known { OnOk result (AreKnown (map entry_cell entries.new.keys) (own_entries field.now slots.entry.view) known.new) }
+{
+    if !slots.is_valid(i) {
+        return Ok(None);
+    }
+    let number = slots.sized_number::<SIZE>(i);
+    if let Some(code) = known_code(known, number) {
+        return Ok(Some(code));
+    }
+    new_code(entries, known, field, slots, i)
+}
+
+// Those of some slots of an array, whose indices have so many bytes.
+fn push_sized_codes<'a, const SIZE: usize>(
+    entries: &mut IndexSet<Entry<'a>>,
+    known: &mut [Option<usize>],
+    codes: &mut Vec<Option<usize>>,
+    field: &'a Field,
+    slots: CodedSlots<'a>,
+    from: usize,
+    to: usize,
+) -> Result<(), AllocError>
+    requires size { SIZE ≡ (index_of slots.spec).bits / 8 }
+    requires spec { field.now.dictionary ≡ Some slots.spec }
+    requires sound { is_sound (column_of field.now) (view_array slots.view) ≡ true }
+    requires within { to ≤ slots_in (view_array slots.view) }
+    requires coded { list_all is_coded (cells_from (cell_at (column_of field.now) (view_array slots.view)) from (to - from)) ≡ true }
+    requires known { AreKnown (map entry_cell entries.old.keys) (own_entries field.now slots.view) known.old }
+    ensures { OnOk result (IsCoded (map entry_cell entries.old.keys) codes.old.items (map entry_cell entries.new.keys) codes.new.items
+        (cells_from (cell_at (column_of field.now) (view_array slots.entry.view)) from (to - from))) }
+{
+    for i in from..to {
+        let code = slot_code::<SIZE>(entries, known, field, slots, i)?;
+        codes.push(code)?;
+    }
+    Ok(())
+}
+
+// The same, by a loop for each width.
 fn push_slot_codes<'a>(
     entries: &mut IndexSet<Entry<'a>>,
-    known: &mut Vec<Option<usize>>,
+    known: &mut [Option<usize>],
     codes: &mut Vec<Option<usize>>,
     field: &'a Field,
     slots: CodedSlots<'a>,
@@ -105,15 +156,16 @@ fn push_slot_codes<'a>(
     requires sound { is_sound (column_of field.now) (view_array slots.view) ≡ true }
     requires within { to ≤ slots_in (view_array slots.view) }
     requires coded { list_all is_coded (cells_from (cell_at (column_of field.now) (view_array slots.view)) from (to - from)) ≡ true }
-    requires known { AreKnown (map entry_cell entries.old.keys) (own_entries field.now slots.view) known.old.items }
+    requires known { AreKnown (map entry_cell entries.old.keys) (own_entries field.now slots.view) known.old }
     ensures { OnOk result (IsCoded (map entry_cell entries.old.keys) codes.old.items (map entry_cell entries.new.keys) codes.new.items
         (cells_from (cell_at (column_of field.now) (view_array slots.entry.view)) from (to - from))) }
 {
-    for i in from..to {
-        let code = slot_code(entries, known, field, slots, i)?;
-        codes.push(code)?;
+    match slots.spec.index.width {
+        BitWidth::Eight => push_sized_codes::<1>(entries, known, codes, field, slots, from, to),
+        BitWidth::Sixteen => push_sized_codes::<2>(entries, known, codes, field, slots, from, to),
+        BitWidth::ThirtyTwo => push_sized_codes::<4>(entries, known, codes, field, slots, from, to),
+        BitWidth::SixtyFour => push_sized_codes::<8>(entries, known, codes, field, slots, from, to),
     }
-    Ok(())
 }
 
 fn push_null_codes(codes: &mut Vec<Option<usize>>, count: usize) -> Result<(), AllocError>
@@ -146,7 +198,15 @@ fn push_run_codes<'a>(
             let mut known = unknown(alloc, *array, *len)?;
             let to = *from + *len;
             let slots = CodedSlots::new(spec, *array);
-            push_slot_codes(entries, &mut known, codes, field, slots, *from, to)
+            push_slot_codes(
+                entries,
+                known.as_mut_slice(),
+                codes,
+                field,
+                slots,
+                *from,
+                to,
+            )
         }
         SlotRun::Nulls(count) => push_null_codes(codes, *count),
     }

@@ -15,7 +15,7 @@ ghost use Rattle.columns.specs.View.{view_array, placed_arrays, IsNoArray};
 ghost use Rattle.arrays.specs.inner.Weights.{AreEntryWeights, IsKnownTotal, IsKnownWeight, sum_from, span_weight, plain_weight, valid_weight, parts_span_weight, has_one_weight};
 
 use crate::runs::run_to;
-use arrow_schema::{DataType, DictSpec, Field};
+use arrow_schema::{BitWidth, DataType, DictSpec, Field};
 use cells::{TOO_HEAVY, Value, add_weights, multiply_weight, weight};
 use columns::{
     ArrayView, CodedSlots, Dictionary, EntryPlace, OffsetWidth, PlacedArray, array_or, entry_count,
@@ -357,20 +357,50 @@ fn entries_weight(
 
 // What a slot weighs that is null or names one of the entries whose weights are known.
 #[inline]
-fn known_weight(slots: CodedSlots<'_>, i: usize, known: &[u64], of_null: u64) -> Option<u64>
-    requires { i < slots_in (view_array slots.view) }
+fn known_weight<const SIZE: usize>(
+    slots: CodedSlots<'_>,
+    i: usize,
+    known: &[u64],
+    of_null: u64,
+) -> Option<u64>
+    requires size { SIZE ≡ (index_of slots.spec).bits / 8 }
+    requires within { i < slots_in (view_array slots.view) }
     ensures { IsKnownWeight slots.entry.spec slots.entry.view known.now of_null i result }
 {
     if !slots.is_valid(i) {
         return Some(of_null);
     }
-    match slots.number(i) {
+    match slots.sized_number::<SIZE>(i) {
         Some(number) if number < known.len() as u64 => Some(known[number as usize]),
         _ => None,
     }
 }
 
-// What the slots of a span weigh, if each is null or names one of the entries whose weights are known.
+// What the slots of a span weigh, whose indices have so many bytes, if each is null or names one of the entries whose weights are known.
+fn sized_total<const SIZE: usize>(
+    slots: CodedSlots<'_>,
+    from: usize,
+    count: usize,
+    known: &[u64],
+    of_null: u64,
+) -> Option<u64>
+    requires size { SIZE ≡ (index_of slots.spec).bits / 8 }
+    requires within { from + count ≤ slots_in (view_array slots.view) }
+    ensures { IsKnownTotal slots.entry.spec slots.entry.view known.now of_null from count result }
+{
+    // a number of the code is below 2^64, so that the sum is too
+    let _slots = slots.view.slots();
+    let mut total = 0u64;
+    for i in from..from + count {
+        match known_weight::<SIZE>(slots, i, known, of_null) {
+            Some(weight) => total = total.saturating_add(weight),
+            None => return None,
+        }
+    }
+    Some(total.min(TOO_HEAVY))
+}
+
+// The same, by a loop for each width.
 fn known_total(
     slots: CodedSlots<'_>,
     from: usize,
@@ -381,16 +411,12 @@ fn known_total(
     requires { from + count ≤ slots_in (view_array slots.view) }
     ensures { IsKnownTotal slots.entry.spec slots.entry.view known.now of_null from count result }
 {
-    // a number of the code is below 2^64, so that the sum is too
-    let _slots = slots.view.slots();
-    let mut total = 0;
-    for i in from..from + count {
-        match known_weight(slots, i, known, of_null) {
-            Some(weight) => total = add_weights(total, weight),
-            None => return None,
-        }
+    match slots.spec.index.width {
+        BitWidth::Eight => sized_total::<1>(slots, from, count, known, of_null),
+        BitWidth::Sixteen => sized_total::<2>(slots, from, count, known, of_null),
+        BitWidth::ThirtyTwo => sized_total::<4>(slots, from, count, known, of_null),
+        BitWidth::SixtyFour => sized_total::<8>(slots, from, count, known, of_null),
     }
-    Some(total)
 }
 
 // The same, where the weights of some first entries are known.

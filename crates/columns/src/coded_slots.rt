@@ -6,9 +6,9 @@ ghost use Rattle.columns.specs.CellAt.{is_valid, index_at, named_number};
 ghost use Rattle.columns.specs.Tests.{are_few, has_short_validity};
 ghost use Rattle.columns.specs.View.{view_array};
 
-use crate::numbers::named_at;
+use crate::numbers::{named_at, width_of_bytes};
 use crate::view::ArrayView;
-use arrow_schema::DictSpec;
+use arrow_schema::{DictSpec, IntegerType};
 
 /// The slots of an array that has indices. Its validity bitmap and its indices are found once, and not again for each slot.
 #[derive(Clone, Copy, Debug)]
@@ -55,5 +55,19 @@ impl<'a> CodedSlots<'a> {
         ensures { result ≡ named_number (index_at (index_of self.entry.spec) (view_array self.entry.view) i) }
     {
         named_at(self.spec.index, self.indices, self.view.slots(), i)
+    }
+
+    /// The same, of indices that have so many bytes: a loop for each width, which names it here, does not ask for it at each slot.
+    #[inline]
+    pub fn sized_number<const SIZE: usize>(self, i: usize) -> Option<u64>
+        requires size { SIZE ≡ (index_of self.spec).bits / 8 }
+        requires within { i < slots_in (view_array self.view) }
+        ensures { result ≡ named_number (index_at (index_of self.entry.spec) (view_array self.entry.view) i) }
+    {
+        let integer = IntegerType {
+            width: width_of_bytes(SIZE),
+            signed: self.spec.index.signed,
+        };
+        named_at(integer, self.indices, self.view.slots(), i)
     }
 }

@@ -2,6 +2,7 @@
 ghost use Rattle.std.specs.Prelude.{◌≡◌, ◌≤◌, ◌<◌, ◌+◌, ◌-◌, ◌*◌, ◌/◌, ◌^◌, true, false, length, drop, nat_lt};
 ghost use Rattle.byteorder.specs.Endian.{little_number};
 ghost use Rattle.arrow_schema.specs.View.{bits_of, date_kind};
+ghost use Rattle.arrow_schema.specs.declared.types.BitWidth.{BitWidth};
 ghost use Rattle.cells.specs.Fit.{date_bits};
 ghost use Rattle.cells.specs.Integers.{integer_of};
 ghost use Rattle.columns.specs.CellAt.{number_at, integer_at, named_number};
@@ -120,6 +121,19 @@ fn least_negative(width: BitWidth) -> u64
         BitWidth::Sixteen => 0x8000,
         BitWidth::ThirtyTwo => 0x8000_0000,
         BitWidth::SixtyFour => 0x8000_0000_0000_0000,
+    }
+}
+
+// The width of integers that have so many bytes.
+#[inline]
+pub(crate) fn width_of_bytes(size: usize) -> BitWidth
+    ensures { (width : BitWidth) → size ≡ bits_of width / 8 → result ≡ width }
+{
+    match size {
+        1 => BitWidth::Eight,
+        2 => BitWidth::Sixteen,
+        4 => BitWidth::ThirtyTwo,
+        _ => BitWidth::SixtyFour,
     }
 }
 

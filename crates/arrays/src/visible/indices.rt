@@ -12,7 +12,7 @@ ghost use Rattle.columns.specs.View.{view_array};
 ghost use Rattle.columns.specs.Visible.{is_past, names_no_entry};
 ghost use Rattle.arrays.specs.inner.VisibleSpans.{any_slot};
 
-use arrow_schema::Field;
+use arrow_schema::{BitWidth, Field};
 use columns::{ArrayView, CodedSlots, entry_count};
 
 // Whether the number of an index is that of no entry, where there are so many.
@@ -27,18 +27,20 @@ fn is_past(number: Option<u64>, entries: u128) -> bool
 }
 
 #[inline]
-fn has_no_entry(slots: CodedSlots<'_>, entries: u128, i: usize) -> bool
+fn has_no_entry<const SIZE: usize>(slots: CodedSlots<'_>, entries: u128, i: usize) -> bool
+    requires size { SIZE ≡ (index_of slots.spec).bits / 8 }
     requires within { i < slots_in (view_array slots.view) }
     requires count { (kind : Kind) → entries ≡ length (entries_of_kind kind (dictionary_in (view_array slots.view))) }
     ensures { let a = view_array slots.entry.view in (kind : Kind)
         → result ≡ (is_valid a i && is_past (index_at (index_of slots.entry.spec) a i) (entries_of_kind kind (dictionary_in a))) }
 {
-    slots.is_valid(i) && is_past(slots.number(i), entries)
+    slots.is_valid(i) && is_past(slots.sized_number::<SIZE>(i), entries)
 }
 
-// A valid slot of a span has such an index.
-fn any_past(slots: CodedSlots<'_>, from: usize, count: usize) -> bool
-    requires { from + count ≤ slots_in (view_array slots.view) }
+// A valid slot of a span has such an index, of so many bytes.
+fn any_sized_past<const SIZE: usize>(slots: CodedSlots<'_>, from: usize, count: usize) -> bool
+    requires size { SIZE ≡ (index_of slots.spec).bits / 8 }
+    requires within { from + count ≤ slots_in (view_array slots.view) }
     ensures { let a = view_array slots.entry.view in (kind : Kind)
         → let past : ℕ → Bool = λ i. is_valid a i && is_past (index_at (index_of slots.entry.spec) a i) (entries_of_kind kind (dictionary_in a)) in
         result ≡ list_any past (range_with_len from count) }
@@ -47,11 +49,26 @@ fn any_past(slots: CodedSlots<'_>, from: usize, count: usize) -> bool
     let _slots = slots.view.slots();
     let entries = entry_count(slots.view.dictionary());
     for i in from..from + count {
-        if has_no_entry(slots, entries, i) {
+        if has_no_entry::<SIZE>(slots, entries, i) {
             return true;
         }
     }
     false
+}
+
+// The same, by a loop for each width.
+fn any_past(slots: CodedSlots<'_>, from: usize, count: usize) -> bool
+    requires { from + count ≤ slots_in (view_array slots.view) }
+    ensures { let a = view_array slots.entry.view in (kind : Kind)
+        → let past : ℕ → Bool = λ i. is_valid a i && is_past (index_at (index_of slots.entry.spec) a i) (entries_of_kind kind (dictionary_in a)) in
+        result ≡ list_any past (range_with_len from count) }
+{
+    match slots.spec.index.width {
+        BitWidth::Eight => any_sized_past::<1>(slots, from, count),
+        BitWidth::Sixteen => any_sized_past::<2>(slots, from, count),
+        BitWidth::ThirtyTwo => any_sized_past::<4>(slots, from, count),
+        BitWidth::SixtyFour => any_sized_past::<8>(slots, from, count),
+    }
 }
 
 /// F26: the index of a slot of a span names no entry.

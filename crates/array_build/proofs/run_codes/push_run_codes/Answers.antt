@@ -1,4 +1,4 @@
-use Rattle.std.specs.Prelude.{Some}
+use Rattle.std.specs.Prelude.{None, Option, Some, get_or}
 use Rattle.std.specs.List.{list_all}
 use Rattle.std.proofs.Common.{◌≡◌, ◌≤◌, ◌+◌, ◌-◌, ◌∙◌, ℕ, List, map, arith, ap, refl, subst, sym}
 use Rattle.std.proofs.lemmas.Bool.{and_parts, leb-true}
@@ -9,7 +9,7 @@ use Rattle.arrow_schema.specs.declared.types.DictSpec.{DictSpec}
 use Rattle.array_build.proofs.CodedRuns.{long_buffers}
 use Rattle.array_build.proofs.Codes.{nulls_coded}
 use Rattle.array_build.proofs.run_codes.push_run_codes.Goals as goal
-use Rattle.array_build.specs.inner.Codes.{IsCoded}
+use Rattle.array_build.specs.inner.Codes.{IsCoded, own_entries}
 use Rattle.array_runs.specs.Runs.{is_run_sound, run_cells}
 use Rattle.array_build.specs.inner.RunCells.{is_coded}
 use Rattle.array_runs.specs.declared.run.SlotRun.{SlotRun}
@@ -65,6 +65,11 @@ push_slot_codes-requires-clause-coded c =
     let col : Column = column_of c.args.field.now in
     let same = same_slots col c.new-slots.result.view c.in-Slots.array c.args.run.now c.in-Slots.from c.in-Slots.len _ c.new-slots.ensures.view c.in-Slots.is refl in
     ap (list_all is_coded) same ∙ c.requires.coded
+
+pub push_slot_codes-requires-clause-known : goal.push_slot_codes-requires-clause-known
+push_slot_codes-requires-clause-known c = λ n place some.
+    c.in_ok-known-in-Slots.ensures (map entry_cell c.args.entries.now.keys) (own_entries c.args.field.now c.new-slots.result.view) n place
+    (some ∙ ap (λ (ks : List (Option ℕ)). get_or ks n None) c.as_mut_slice.ensures.value)
 
 pub returns-in_ok-known-in-Slots : goal.returns-in_ok-known-in-Slots
 returns-in_ok-known-in-Slots c =

@@ -13,49 +13,33 @@ use Rattle.columns.specs.View.{view_array}
 use Rattle.values.specs.Borrowed.{borrowed_cell}
 
 pub returns-then-not-is_valid-clause-entries : goal.returns-then-not-is_valid-clause-entries
-returns-then-not-is_valid-clause-entries c =
+returns-then-not-is_valid-clause-entries g c =
     let cell : Cell = cell_at (column_of c.args.field.now) (view_array c.args.slots.view) c.args.i in
     let hidden : cell ≡ null = hidden_cell c.args.field.now c.args.slots.spec (view_array c.args.slots.view) c.args.i c.requires.spec (sym c.is_valid.ensures ∙ c.if-not-is_valid.true) in
     (null_code (map entry_cell c.args.entries.now.keys) cell hidden).0
 
 pub returns-then-not-is_valid-clause-code : goal.returns-then-not-is_valid-clause-code
-returns-then-not-is_valid-clause-code c =
+returns-then-not-is_valid-clause-code g c =
     let cell : Cell = cell_at (column_of c.args.field.now) (view_array c.args.slots.view) c.args.i in
     let hidden : cell ≡ null = hidden_cell c.args.field.now c.args.slots.spec (view_array c.args.slots.view) c.args.i c.requires.spec (sym c.is_valid.ensures ∙ c.if-not-is_valid.true) in
     (null_code (map entry_cell c.args.entries.now.keys) cell hidden).1
 
 pub returns-in-Some-clause-entries : goal.returns-in-Some-clause-entries
-returns-in-Some-clause-entries c =
+returns-in-Some-clause-entries g c =
     let es : List Cell = map entry_cell c.args.entries.now.keys in
     let own : List Cell = own_entries c.args.field.now c.args.slots.view in
     let z : ℤ = index_at (index_of c.args.slots.spec) (view_array c.args.slots.view) c.args.i in
     let cell = valid_cell c.args.field.now c.args.slots.spec (view_array c.args.slots.view) c.args.i c.requires.spec (sym c.is_valid.ensures ∙ c.if-not-is_valid.false) in
-    let found = sym c.in-Some.is ∙ c.known_code.ensures ∙ (λ j. known_at (c.deref.ensures.value j) (c.number-number.ensures j)) in
-    let known : IsKnown es (entry_at own z) c.in-Some.code = is_known es own c.args.known.now.items z c.in-Some.code c.requires.known found in
+    let found = sym c.in-Some.is ∙ c.known_code.ensures ∙ ap (known_at c.args.known.now) c.sized_number-number.ensures in
+    let known : IsKnown es (entry_at own z) c.in-Some.code = is_known es own c.args.known.now z c.in-Some.code c.requires.known found in
     sym known.stays ∙ ap (with_entry es) (sym cell)
 
 pub returns-in-Some-clause-code : goal.returns-in-Some-clause-code
-returns-in-Some-clause-code c =
+returns-in-Some-clause-code g c =
     let es : List Cell = map entry_cell c.args.entries.now.keys in
     let own : List Cell = own_entries c.args.field.now c.args.slots.view in
     let z : ℤ = index_at (index_of c.args.slots.spec) (view_array c.args.slots.view) c.args.i in
     let cell = valid_cell c.args.field.now c.args.slots.spec (view_array c.args.slots.view) c.args.i c.requires.spec (sym c.is_valid.ensures ∙ c.if-not-is_valid.false) in
-    let found = sym c.in-Some.is ∙ c.known_code.ensures ∙ (λ j. known_at (c.deref.ensures.value j) (c.number-number.ensures j)) in
-    let known : IsKnown es (entry_at own z) c.in-Some.code = is_known es own c.args.known.now.items z c.in-Some.code c.requires.known found in
+    let found = sym c.in-Some.is ∙ c.known_code.ensures ∙ ap (known_at c.args.known.now) c.sized_number-number.ensures in
+    let known : IsKnown es (entry_at own z) c.in-Some.code = is_known es own c.args.known.now z c.in-Some.code c.requires.known found in
     known.code ∙ ap (code_in es) (sym cell)
-
-pub returns-clause-known : goal.returns-clause-known
-returns-clause-known c =
-    let es : List Cell = map entry_cell c.args.entries.now.keys in
-    let own : List Cell = own_entries c.args.field.now c.args.slots.view in
-    let z : ℤ = index_at (index_of c.args.slots.spec) (view_array c.args.slots.view) c.args.i in
-    let cell : borrowed_cell c.slot_cell.result ≡ entry_at own z =
-    c.slot_cell.ensures ∙ valid_cell c.args.field.now c.args.slots.spec (view_array c.args.slots.view) c.args.i c.requires.spec (sym c.is_valid.ensures ∙ c.if-not-is_valid.false) in
-    let code : c.in_ok-code.code ≡ code_in (with_entry es (entry_at own z)) (entry_at own z) =
-    c.in_ok-code.ensures.code
-    ∙ ap (λ (xs : List Cell). code_in xs (borrowed_cell c.slot_cell.result)) c.in_ok-code.ensures.entries
-    ∙ ap (λ (x : Cell). code_in (with_entry es x) x) cell in
-    let after = c.in_ok-code.ensures.entries ∙ ap (with_entry es) cell in
-    let items = c.note_code.ensures ∙ ap (λ (number : Option ℕ). noted c.args.known.now.items number c.in_ok-code.code) c.number-number.ensures in
-    let all = noted_known es own c.args.known.now.items z c.in_ok-code.code c.requires.known code in
-    λ n k some. subst (λ (xs : List Cell). IsKnown xs (get_or own n null) k) (sym after) (all n k (some ∙ ap (λ (ks : List (Option ℕ)). get_or ks n None) items))

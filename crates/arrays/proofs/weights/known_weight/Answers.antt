@@ -6,11 +6,11 @@ use Rattle.arrays.proofs.SpanWeights.{known_weight}
 use Rattle.arrays.proofs.weights.known_weight.Goals as goal
 
 pub returns-then-not-is_valid : goal.returns-then-not-is_valid
-returns-then-not-is_valid c = λ kind known is.
+returns-then-not-is_valid g c = λ kind known is.
     let hidden : is_valid (view_array c.args.slots.view) c.args.i ≡ false = sym c.is_valid.ensures ∙ c.if-not-is_valid.true in
     rw hidden is
 
 pub returns-in-Some : goal.returns-in-Some
-returns-in-Some c = λ kind known is.
+returns-in-Some g c = λ kind known is.
     let valid : is_valid (view_array c.args.slots.view) c.args.i ≡ true = sym c.is_valid.ensures ∙ c.if-not-is_valid.false in
-    known_weight kind (index_of c.args.slots.spec) (view_array c.args.slots.view) c.args.i c.in-Some.number c.args.known.now valid (sym c.in-Some.is ∙ c.number.ensures) known (omega arith)
+    known_weight kind (index_of c.args.slots.spec) (view_array c.args.slots.view) c.args.i c.in-Some.number c.args.known.now valid (sym c.in-Some.is ∙ c.sized_number.ensures) known (omega arith)

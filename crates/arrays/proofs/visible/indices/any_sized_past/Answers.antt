@@ -4,26 +4,26 @@ use Rattle.columns.specs.Array.{Arrays}
 use Rattle.columns.specs.CellAt.{entries_of_kind}
 use Rattle.arrays.proofs.Ranges.{any-here, any-later, any-end}
 use Rattle.arrays.proofs.VisibleSlots.{past}
-use Rattle.arrays.proofs.visible.indices.any_past.Goals as goal
+use Rattle.arrays.proofs.visible.indices.any_sized_past.Goals as goal
 
 pub has_no_entry-requires-clause-count : goal.has_no_entry-requires-clause-count
-has_no_entry-requires-clause-count c = λ kind.
+has_no_entry-requires-clause-count g c = λ kind.
     c.entry_count-entries.ensures c.args.slots.view.bytes.now kind ∙ ap (λ (d : Arrays). length (entries_of_kind kind d)) c.dictionary.ensures
 
 pub loop-i-init : goal.loop-i-init
-loop-i-init c = λ kind.
+loop-i-init g c = λ kind.
     let all : c.args.from + c.args.count - c.args.from ≡ c.args.count = omega arith in
     ap (λ (n : ℕ). list_any (past c.args.slots.spec c.args.slots.view kind) (range_with_len c.args.from n)) all
 
 pub returns-then-has_no_entry : goal.returns-then-has_no_entry
-returns-then-has_no_entry c = λ kind.
+returns-then-has_no_entry g c = λ kind.
     let here : past c.args.slots.spec c.args.slots.view kind c.loop-i.i ≡ true = sym (c.has_no_entry.ensures kind) ∙ c.if-has_no_entry.true in
     sym (any-here (past c.args.slots.spec c.args.slots.view kind) c.loop-i.i (c.args.from + c.args.count) (omega arith) here) ∙ c.loop-i.invariant kind
 
 pub loop-i-preserved : goal.loop-i-preserved
-loop-i-preserved c = λ kind.
+loop-i-preserved g c = λ kind.
     let here : past c.args.slots.spec c.args.slots.view kind c.loop-i.i ≡ false = sym (c.has_no_entry.ensures kind) ∙ c.if-has_no_entry.false in
     any-later (past c.args.slots.spec c.args.slots.view kind) c.loop-i.i (c.args.from + c.args.count) (omega arith) here ∙ c.loop-i.invariant kind
 
 pub returns : goal.returns
-returns c = λ kind. sym (any-end (past c.args.slots.spec c.args.slots.view kind) c.loop-i.i (c.args.from + c.args.count) (omega arith)) ∙ c.loop-i.invariant kind
+returns g c = λ kind. sym (any-end (past c.args.slots.spec c.args.slots.view kind) c.loop-i.i (c.args.from + c.args.count) (omega arith)) ∙ c.loop-i.invariant kind

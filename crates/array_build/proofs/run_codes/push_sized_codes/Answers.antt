@@ -3,18 +3,18 @@ use Rattle.std.proofs.Common.{◌≡◌, ◌+◌, ◌-◌, ℕ, List, arith, map
 use Rattle.arrow_schema.specs.View.{column_of}
 use Rattle.array_build.proofs.CodedRuns.{coded_here, first_cell}
 use Rattle.array_build.proofs.Codes.{IsUnderway, all_coded, one_coded}
-use Rattle.array_build.proofs.run_codes.push_slot_codes.Goals as goal
+use Rattle.array_build.proofs.run_codes.push_sized_codes.Goals as goal
 use Rattle.cells.specs.Cell.{Cell}
 use Rattle.cells.specs.Entry.{entry_cell}
 use Rattle.columns.specs.CellAt.{cell_at, cells_from}
 use Rattle.columns.specs.View.{view_array}
 
 pub slot_code-requires-clause-coded : goal.slot_code-requires-clause-coded
-slot_code-requires-clause-coded c =
+slot_code-requires-clause-coded g c =
     (coded_here (cell_at (column_of c.args.field.now) (view_array c.args.slots.view)) c.loop-i.i c.args.to c.loop-i-test.true c.loop-i.invariant.coded).0
 
 pub loop-i-preserved : goal.loop-i-preserved
-loop-i-preserved c =
+loop-i-preserved g c =
     let f : ℕ → Cell = cell_at (column_of c.args.field.now) (view_array c.args.slots.view) in
     let start : List Cell = map entry_cell c.args.entries.now.keys in
     let all : List Cell = cells_from f c.args.from (c.args.to - c.args.from) in
@@ -30,7 +30,7 @@ loop-i-preserved c =
     }
 
 pub returns : goal.returns
-returns c =
+returns g c =
     let f : ℕ → Cell = cell_at (column_of c.args.field.now) (view_array c.args.slots.view) in
     let start : List Cell = map entry_cell c.args.entries.now.keys in
     let all : List Cell = cells_from f c.args.from (c.args.to - c.args.from) in
