@@ -22,3 +22,4 @@ mod RunItems
 mod RunParts
 mod RunSlots
 mod RunValues
+mod Sized

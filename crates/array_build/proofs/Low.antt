@@ -1,10 +1,11 @@
 -- The low bytes of an integer that fits are the number that stands for it.
 use Rattle.std.specs.Prelude.{pos, negsuc, ℤ, ◌≤ℤ◌, neg_ℤ, int_le, int_lt, ◌&&◌}
 use Rattle.std.specs.Int.{w128, byte_at, bytes_low_first, cast_unsigned, to_le_bytes}
-use Rattle.std.proofs.Common.{◌≡◌, ℕ, refl, zero, suc, ◌+◌, ◌-◌, ◌*◌, ◌/◌, ◌%◌, ◌^◌, ◌≤◌, ◌<◌, Bool, true, false, List, ◌∷◌, take, ap, ap₂, sym, ◌∙◌, arith}
+use Rattle.std.proofs.Common.{◌≡◌, ℕ, refl, zero, suc, ◌+◌, ◌-◌, ◌*◌, ◌/◌, ◌%◌, ◌^◌, ◌≤◌, ◌<◌, Bool, true, false, List, [], ◌∷◌, ◌++◌, replicate, take, ap, ap₂, sym, ◌∙◌, arith}
+use Rattle.std.specs.List.{flat_map}
 use Rattle.std.proofs.lemmas.Bool.{and_parts}
 use Rattle.std.proofs.lemmas.Int.{ints}
-use Rattle.std.proofs.Math.Nat.{add-mul-div_left, add-mul-mod_self_left, div-one, mod-add-div, mod-eq_of_lt, one-le-pow, pow-suc, pow-succ'}
+use Rattle.std.proofs.Math.Nat.{add-mul-div_left, add-mul-mod_self_left, div-one, mod-add-div, mod-eq_of_lt, one-le-pow, pow-suc, pow-succ', zero-div}
 use Rattle.std.proofs.lemmas.Nat.{pow-add}
 use Rattle.std.proofs.Math.Pow.{not_mod}
 use Rattle.byteorder.specs.Endian.{little_bytes, low_bytes}
@@ -13,9 +14,12 @@ use Rattle.arrow_schema.specs.Column.{integers}
 use Rattle.arrow_schema.specs.View.{bits_of}
 use Rattle.arrow_schema.specs.declared.types.BitWidth.{BitWidth}
 use Rattle.arrow_schema.specs.declared.types.BitWidth.TheVariants.{Eight, Sixteen, ThirtyTwo, SixtyFour}
-use Rattle.cells.specs.Cell.{number}
+use Rattle.cells.specs.Cell.{Cell, null, boolean, number, text, bytes, items, parts}
 use Rattle.cells.specs.Fit.{in_range, null_or, fits_kind}
 use Rattle.cells.specs.Integers.{number_of}
+use Rattle.columns.specs.Buildable.{are_nulls_or_fit}
+use Rattle.columns.specs.Built.{integer_bytes}
+use Rattle.array_build.specs.inner.Stored.{low_bytes_of}
 use Rattle.columns.proofs.Integers.{powers, number_fits, number_back, width_cases}
 
 number_small : (w : ℕ) (signed : Bool) (z : ℤ) → 1 ≤ w → in_range (8 * w) signed z ≡ true → number_of w z < 2 ^ (8 * w)
@@ -100,7 +104,31 @@ low_fits ThirtyTwo signed z h = low_is 32 signed z refl h
 low_fits SixtyFour signed z h = low_is 64 signed z refl h
 
 -- its low bytes are those of the number that stands for it
-pub stored_fits : (width : BitWidth) (signed : Bool) (z : ℤ) → null_or true (fits_kind (integers (bits_of width) signed)) (number z) ≡ true
+stored_fits : (width : BitWidth) (signed : Bool) (z : ℤ) → null_or true (fits_kind (integers (bits_of width) signed)) (number z) ≡ true
     → little_bytes (bits_of width / 8) (cast_unsigned w128 z) ≡ little_bytes (bits_of width / 8) (number_of (bits_of width / 8) z)
 stored_fits width signed z h =
     sym (low_left (cast_unsigned w128 z) (bits_of width / 8)) ∙ ap (little_bytes (bits_of width / 8)) (low_fits width signed z h)
+
+-- the bytes of 0
+zero_bytes : (i n : ℕ) → bytes_low_first i n 0 ≡ replicate n 0
+zero_bytes i zero = refl
+zero_bytes i (suc n) =
+    ap₂ (λ (b : ℕ) (bs : List ℕ). b ∷ bs) (byte_place i 0 ∙ ap (λ (t : ℕ). t % 256) (zero-div (256 ^ i))) (zero_bytes (suc i) n)
+
+-- what is written for a cell is its value
+stored_value : (width : BitWidth) (signed : Bool) (c : Cell) → null_or true (fits_kind (integers (bits_of width) signed)) c ≡ true
+    → low_bytes_of (bits_of width / 8) c ≡ integer_bytes (bits_of width / 8) c
+stored_value width signed (number z) h = stored_fits width signed z h
+stored_value width signed null h = zero_bytes 0 (bits_of width / 8)
+stored_value width signed (boolean b) h = zero_bytes 0 (bits_of width / 8)
+stored_value width signed (text t) h = zero_bytes 0 (bits_of width / 8)
+stored_value width signed (bytes t) h = zero_bytes 0 (bits_of width / 8)
+stored_value width signed (items cs) h = zero_bytes 0 (bits_of width / 8)
+stored_value width signed (parts cs) h = zero_bytes 0 (bits_of width / 8)
+
+pub stored_values : (width : BitWidth) (signed : Bool) (cells : List Cell) → are_nulls_or_fit (integers (bits_of width) signed) cells ≡ true
+    → flat_map (low_bytes_of (bits_of width / 8)) cells ≡ flat_map (integer_bytes (bits_of width / 8)) cells
+stored_values width signed [] h = refl
+stored_values width signed (c ∷ cells) h =
+    let both = and_parts (null_or true (fits_kind (integers (bits_of width) signed)) c) (are_nulls_or_fit (integers (bits_of width) signed) cells) h in
+    ap₂ (λ (xs ys : List ℕ). xs ++ ys) (stored_value width signed c both.0) (stored_values width signed cells both.1)

@@ -5,3 +5,4 @@ pub mod RunCells
 pub mod RunItems
 pub mod RunParts
 pub mod Runs
+pub mod Stored

@@ -2,7 +2,7 @@
 use Rattle.std.proofs.Common.{◌≡◌, ℕ, ◌+◌, ◌-◌, ◌*◌, ◌≤◌, ◌<◌, ◌^◌, Bool, true, false, List, [], ◌∷◌, length, min, add-one, refl, sym, ap, ◌∙◌, arith, inl, inr}
 use Rattle.std.specs.Prelude.{pos, neg_ℤ, Option, Some, None, option_map, if◌then◌else◌, ◌==◌, ◌&&◌, nat_le}
 use Rattle.std.specs.Prelude.{int_lt, int_le, get_or, drop}
-use Rattle.std.proofs.lemmas.Bool.{cases_lt, false≢true, leb-true, ne_eqb}
+use Rattle.std.proofs.lemmas.Bool.{cases_lt, false≢true, leb-true}
 use Rattle.std.proofs.lemmas.Int.{ints}
 use Rattle.std.proofs.lemmas.List.{drop_more}
 use Rattle.std.proofs.lemmas.Bool.{and_parts}

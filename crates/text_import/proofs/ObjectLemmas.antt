@@ -21,7 +21,7 @@ use Rattle.text_import.specs.declared.refusal.CellError.{CellError}
 use Rattle.text_import.specs.Refusals.{refusal_of, numbered}
 use Rattle.facts.specs.Outcomes.{Gives, Reports}
 use Rattle.text_import.specs.Rows.{rows_from}
-use Rattle.cells.specs.Cell.{Cell, cells_of, cell_list}
+use Rattle.cells.specs.Cell.{Cell, cells_of}
 use Rattle.text_import.specs.declared.refusal.Refusal.{Refusal}
 use Rattle.text_import.specs.declared.refusal.Refusal.TheVariants.{Width}
 use Rattle.text_import.specs.inner.Names.{text_list, member_of}

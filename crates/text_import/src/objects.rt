@@ -95,6 +95,58 @@ fn has_unknown(names: &IndexSet<&str>, members: &Map<String, Json>) -> bool
     false
 }
 
+// So few names are compared one by one; of more a set is made.
+const FEW_NAMES: usize = 8;
+
+// Whether a field has a name.
+fn has_name(fields: &[Field], name: &str) -> bool
+    ensures { result ≡ has_name (names_of (columns_of (map column_of fields.now))) name.now }
+{
+    for field in fields {
+        if name.as_bytes() == name_of(field).as_bytes() {
+            return true;
+        }
+    }
+    false
+}
+
+// Whether two fields share a name.
+fn repeat_names(fields: &[Field]) -> bool
+    ensures { result ≡ repeats (names_of (columns_of (map column_of fields.now))) }
+{
+    for (i, field) in fields.iter().enumerate() {
+        if has_name(&fields[i + 1..], name_of(field)) {
+            return true;
+        }
+    }
+    false
+}
+
+// Whether a key is the name of no field.
+fn has_other_name(fields: &[Field], members: &Map<String, Json>) -> bool
+    ensures { result ≡ has_unknown (names_of (columns_of (map column_of fields.now))) (keys_of (members_view members.now.entries)) }
+{
+    for key in members.keys() {
+        if !has_name(fields, key.as_str()) {
+            return true;
+        }
+    }
+    false
+}
+
+fn test_few_names(fields: &[Field], members: &Map<String, Json>) -> Result<(), CellError>
+    ensures { Gives refusal_of (λ _. members_view members.now.entries) result
+        (tested (names_of (columns_of (map column_of fields.now))) (members_view members.now.entries)) }
+{
+    if repeat_names(fields) {
+        Err(CellError::Refused(Refusal::AmbiguousNames))
+    } else if has_other_name(fields, members) {
+        Err(CellError::Refused(Refusal::UnknownName))
+    } else {
+        Ok(())
+    }
+}
+
 // Why the members of an object are not those of the fields.
 pub(crate) fn test_names(
     alloc: Global,
@@ -104,6 +156,9 @@ pub(crate) fn test_names(
     ensures { Gives refusal_of (λ _. members_view members.now.entries) result
         (tested (names_of (columns_of (map column_of fields.now))) (members_view members.now.entries)) }
 {
+    if fields.len() <= FEW_NAMES {
+        return test_few_names(fields, members);
+    }
     match names_of(alloc, fields)? {
         None => Err(CellError::Refused(Refusal::AmbiguousNames)),
         Some(names) => {

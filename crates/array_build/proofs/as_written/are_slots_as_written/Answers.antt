@@ -1,5 +1,5 @@
 use Rattle.std.specs.Prelude.{Some, None, nat_le, option_map}
-use Rattle.std.proofs.Common.{◌≡◌, ◌+◌, ap, sym, true, ◌∙◌}
+use Rattle.std.proofs.Common.{◌≡◌, ◌+◌, ap, sym, ◌∙◌}
 use Rattle.std.proofs.lemmas.Bool.{and_parts}
 use Rattle.arrow_schema.specs.Column.{Kind}
 use Rattle.arrow_schema.specs.View.{kind_of}

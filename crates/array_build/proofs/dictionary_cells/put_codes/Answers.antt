@@ -1,25 +1,13 @@
-use Rattle.std.specs.Prelude.{Option, None}
+use Rattle.std.specs.Prelude.{None}
 use Rattle.std.specs.List.{flat_map}
-use Rattle.std.proofs.Common.{◌≡◌, ◌<◌, ◌≤◌, ◌+◌, ◌*◌, ◌++◌, ◌∙◌, ℕ, List, arith, ap, get_or, length, length-append, refl, sym, take}
+use Rattle.std.proofs.Common.{◌≡◌, ◌<◌, ◌≤◌, ◌+◌, ◌*◌, ◌∙◌, ℕ, arith, ap, length, sym, take}
 use Rattle.std.proofs.Math.Nat.{mul-le-mul_left}
-use Rattle.std.proofs.lemmas.Grind.{flat_map-append}
-use Rattle.std.proofs.lemmas.List.{append_assoc, append-nil, length-take-le, take_all, take_at, take_more}
+use Rattle.std.proofs.lemmas.List.{take_all}
 use Rattle.byteorder.specs.Numbers.{length-bytes_low_first}
 use Rattle.array_build.specs.inner.Codes.{sized_code}
 use Rattle.columns.specs.Built.{place_or_zero}
+use Rattle.array_build.proofs.Sized.{one_more}
 use Rattle.array_build.proofs.dictionary_cells.put_codes.Goals as goal
-
--- the bytes of one more
-one_more : (f : Option ℕ → List ℕ) (size i : ℕ) (codes : List (Option ℕ)) (xs bytes rest : List ℕ) → i < length codes → length bytes ≡ size
-    → bytes ≡ f (get_or codes i None) → size * i ≤ length xs → take (size * i) xs ≡ flat_map f (take i codes)
-    → take (size * (i + 1)) (take (size * i) xs ++ (bytes ++ rest)) ≡ flat_map f (take (i + 1) codes)
-one_more f size i codes xs bytes rest lt len is room before =
-    let front : List ℕ = take (size * i) xs in
-    let e : size * (i + 1) ≡ size * i + size = omega arith in
-    let lf : length front ≡ size * i = length-take-le (size * i) xs room in
-    let whole : front ++ (bytes ++ rest) ≡ (front ++ bytes) ++ rest = sym (append_assoc front bytes rest) in
-    let lw : length (front ++ bytes) ≡ size * i + size = length-append front bytes ∙ rw (lf, len) refl in
-    rw (e, whole, take_at (front ++ bytes) rest (size * i + size) lw, before, is, take_more codes i None lt, flat_map-append, append-nil) refl
 
 pub overflow_mul-at : goal.overflow_mul-at
 overflow_mul-at g c =
@@ -37,7 +25,7 @@ loop-i-preserved g c =
     let le : c.loop-i.i ≤ length c.args.codes.now = omega (arith, lt) in
     let room : g.row.SIZE * c.loop-i.i ≤ length c.loop-i.indices = omega (arith, mul-le-mul_left g.row.SIZE le, c.requires.room, c.loop-i.auto.indices) in
     rw c.put_code.ensures
-    (one_more (sized_code g.row.SIZE) g.row.SIZE c.loop-i.i c.args.codes.now c.loop-i.indices (sized_code g.row.SIZE c.code_at-code.result) _ lt (length-bytes_low_first 0 g.row.SIZE (place_or_zero c.code_at-code.result))
+    (one_more None (sized_code g.row.SIZE) g.row.SIZE c.loop-i.i c.args.codes.now c.loop-i.indices (sized_code g.row.SIZE c.code_at-code.result) _ lt (length-bytes_low_first 0 g.row.SIZE (place_or_zero c.code_at-code.result))
     (ap (sized_code g.row.SIZE) c.code_at-code.ensures) room c.loop-i.invariant)
 
 pub returns : goal.returns
