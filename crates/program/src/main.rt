@@ -1,5 +1,5 @@
 //! The program `arrowstore`: hands the process's arguments and streams to the library of that name, and exits with its status.
-//! On a terminal it tells meanwhile how much of a long input was read.
+//! On a terminal one line tells meanwhile what goes on, where the work takes more than a second.
 //!
 //! Status 0 is done, 1 refused, with a line `refused CODE NAME ..` on standard error, and 2 wrong arguments.
 #![tactic(auto)]
@@ -7,24 +7,29 @@
 mod progress;
 
 use arrowstore::{Audience, report_unreadable_arguments, run_with_files};
-use progress::ProgressReader;
+use progress::{ProgressFiles, ProgressLine, ProgressReader, ProgressWriter};
 use std::process::ExitCode;
 use std::{env, io};
 
 fn main(rt: HostRuntime) -> ExitCode {
     // Told before a file is opened, which may take the place of a stream that is closed.
     let audience = Audience::of(&rt.stderr());
+    let line = ProgressLine::begin(&rt, rt.stderr(), audience);
+    let mut errors = ProgressWriter::new(rt.stderr(), line.as_ref());
     let ended = match arguments_of(&rt) {
         Ok(arguments) => run_with_files(
-            &rt,
+            &ProgressFiles::new(&rt, line.as_ref()),
             arguments.as_slice(),
-            &mut ProgressReader::new(&rt, rt.reader(), rt.stderr(), audience),
-            &mut rt.stdout(),
-            &mut rt.stderr(),
+            &mut ProgressReader::new(rt.reader(), line.as_ref()),
+            &mut ProgressWriter::new(rt.stdout(), line.as_ref()),
+            &mut errors,
             audience,
         ),
-        Err(error) => report_unreadable_arguments(&error, &mut rt.stderr(), audience),
+        Err(error) => report_unreadable_arguments(&error, &mut errors, audience),
     };
+    if let Some(line) = &line {
+        line.clear();
+    }
     ExitCode::from(ended.status.code())
 }
 

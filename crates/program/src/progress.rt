@@ -1,90 +1,118 @@
-// How much of a long input was read, told on a terminal.
-ghost use Rattle.std.specs.Prelude.{◌≡◌};
-
+// What goes on while work takes more than a second, told on a terminal.
 use arrowstore::Audience;
-use std::io::{self, IsTerminal, Read, Write};
+use std::cell::Cell;
+use std::io::{self, Write};
 use std::time::{Clock, Instant};
 
-/// Reads what `input` gives. To a terminal the reader tells about once a second how much that was, in one line, which is cleared at the end.
+mod files;
+mod reader;
+mod writer;
+
+pub use files::ProgressFiles;
+pub use reader::ProgressReader;
+pub use writer::ProgressWriter;
+
+// Fewer bytes are 0 MB, and none to tell of.
+const LEAST_TOLD: u64 = 1_000_000;
+
+// So many bytes are told of, however fast they were read: what is made of them may take longer.
+const LONG_WORK: u64 = 32_000_000;
+
+/// What the line tells of.
+#[derive(Clone, Copy, Debug, PartialEq, Eq)]
+pub enum Stage {
+    /// The input is read.
+    Reading,
+    /// All of the input was read, and nothing is written yet.
+    Working,
+    /// The file of a store is read.
+    ReadingStore,
+    /// The file of a store is written.
+    WritingStore,
+    /// The output is written.
+    Writing,
+}
+
+/// One line on a terminal, written over itself about once a second, and cleared before anything else is written there.
+///
+/// That it can't be written, or the clock not be read, is no fault of the work: nothing is told then.
 #[derive(Drop)]
-pub struct ProgressReader<'a, C: Clock, R: Read, W: Write> {
-    input: R,
-    line: Option<ProgressLine<'a, C, W>>,
-}
-
-impl<'a, C: Clock, R: Read + IsTerminal, W: Write + Drop> ProgressReader<'a, C, R, W> {
-    /// Nothing is told where the clock can't be read, nor of an input that is typed, which stands on the terminal itself.
-    pub fn new(clock: &'a C, input: R, errors: W, audience: Audience) -> ProgressReader<'a, C, R, W>
-        ensures { result.input ≡ input }
-    {
-        let line = if audience == Audience::Terminal && !input.is_terminal() {
-            ProgressLine::begin(clock, errors).ok()
-        } else {
-            None
-        };
-        ProgressReader { input, line }
-    }
-}
-
-impl<C: Clock, R: Read, W: Write + Drop> Read for ProgressReader<'_, C, R, W> {
-    ghost remaining = { λ reader. R.remaining reader.input };
-
-    fn read(&mut self, buf: &mut [u8]) -> io::Result<usize> {
-        let read = self.input.read(buf);
-        if let Some(line) = &mut self.line {
-            let count = match &read {
-                Ok(count) => *count,
-                Err(_) => 0,
-            };
-            // That the line can't be written, or the clock not be read, is no fault of the input.
-            let _ = line.tell(count as u64);
-        }
-        read
-    }
-}
-
-#[derive(Drop)]
-struct ProgressLine<'a, C: Clock, W: Write> {
+pub struct ProgressLine<'a, C: Clock, T> {
     clock: &'a C,
-    errors: W,
-    bytes_read: u64,
+    terminal: T,
     // When the work began, or the line was last written.
-    last_told: Instant,
-    is_shown: bool,
+    last_told: Cell<Instant>,
+    shown: Cell<Option<Stage>>,
 }
 
-impl<'a, C: Clock, W: Write + Drop> ProgressLine<'a, C, W> {
-    fn begin(clock: &'a C, errors: W) -> io::Result<ProgressLine<'a, C, W>> {
-        Ok(ProgressLine {
+impl<'a, C: Clock, T: Write + Copy> ProgressLine<'a, C, T> {
+    /// The line of an audience at a terminal, which is `terminal`. Another audience has none.
+    pub fn begin(clock: &'a C, terminal: T, audience: Audience) -> Option<ProgressLine<'a, C, T>> {
+        if audience != Audience::Terminal {
+            return None;
+        }
+        let now = Instant::now(clock).ok()?;
+        Some(ProgressLine {
             clock,
-            errors,
-            bytes_read: 0,
-            last_told: Instant::now(clock)?,
-            is_shown: false,
+            terminal,
+            last_told: Cell::new(now),
+            shown: Cell::new(None),
         })
     }
 
-    // After a read of so many bytes, none at the end.
-    fn tell(&mut self, count: u64) -> io::Result<()> {
-        if count == 0 {
-            return self.clear();
+    /// Tells of so many bytes, where a second has passed since the line was last written.
+    pub fn tell(&self, stage: Stage, bytes: u64) {
+        if self.is_due() {
+            self.show(stage, bytes);
         }
-        self.bytes_read = self.bytes_read.saturating_add(count);
-        let now = Instant::now(self.clock)?;
-        if now.duration_since(self.last_told).as_secs() == 0 {
-            return Ok(());
-        }
-        self.last_told = now;
-        self.is_shown = true;
-        write!(self.errors, "read {} MB\r", self.bytes_read / 1_000_000)
     }
 
-    // Blanks as many as the longest line has characters, `read 2147 MB`.
-    fn clear(&mut self) -> io::Result<()> {
-        if !self.is_shown {
+    /// Tells of so many bytes.
+    pub fn show(&self, stage: Stage, bytes: u64) {
+        let _ = self.write_line(stage, bytes / 1_000_000);
+    }
+
+    /// Whether the work has taken more than a second up to now.
+    pub fn is_long(&self) -> bool {
+        self.shown.get().is_some() || self.is_due()
+    }
+
+    /// Leaves the line of the terminal empty.
+    pub fn clear(&self) {
+        let _ = self.write_blanks();
+    }
+
+    // Whether a second has passed since the line was last written.
+    fn is_due(&self) -> bool {
+        match Instant::now(self.clock) {
+            Ok(now) => now.duration_since(self.last_told.get()).as_secs() > 0,
+            Err(_) => false,
+        }
+    }
+
+    fn write_line(&self, stage: Stage, megabytes: u64) -> io::Result<()> {
+        if self.shown.get() != Some(stage) {
+            self.write_blanks()?;
+        }
+        self.last_told.set(Instant::now(self.clock)?);
+        self.shown.set(Some(stage));
+        let mut terminal = self.terminal;
+        match stage {
+            Stage::Reading => write!(terminal, "read {megabytes} MB\r"),
+            Stage::Working => write!(terminal, "working on {megabytes} MB that were read\r"),
+            Stage::ReadingStore => write!(terminal, "read {megabytes} MB of the store\r"),
+            Stage::WritingStore => write!(terminal, "written {megabytes} MB to the store\r"),
+            Stage::Writing => write!(terminal, "written {megabytes} MB\r"),
+        }
+    }
+
+    // As many blanks as the longest text has characters, `working on 2147 MB that were read`.
+    fn write_blanks(&self) -> io::Result<()> {
+        if self.shown.get().is_none() {
             return Ok(());
         }
-        self.is_shown = false;
-        write!(self.errors, "            \r")
+        self.shown.set(None);
+        let mut terminal = self.terminal;
+        terminal.write_all(b"                                 \r")
     }
 }

@@ -29,7 +29,8 @@ abbrev pub Answered : (Result (Unit {0}) tables.Refusal → Type 0) → Result (
 Answered P result = (answer : Result (Unit {0}) tables.Refusal) × P answer × Follows answer result
 
 -- a store answers a command so: what `Store::apply` promises of every store and every device
-pub record AnswersCommand {D : Type 0} {g : Ghosts D} (size : D → ℕ) (story : D → Story) (tells : Bool) (command : PlainCommand) (answer : Result (Unit {0}) tables.Refusal) (old new : stores.Store D g) : Type 0 where
+pub record AnswersCommand {D : Type 0} {g : Ghosts D} (size : D → ℕ) (story : D → Story) (tells : Bool) (command : PlainCommand)
+    (answer : Result (Unit {0}) tables.Refusal) (old new : stores.Store D g) : Type 0 where
   -- what is decided of the command is carried out or told
   pub applied : is_halted old ≡ false → IsApplied size story tells old command answer new
   -- a refusal leaves the commit, the catalogue and the runs; it has only read, unless the device failed

@@ -39,7 +39,8 @@ rows_text [] = []
 rows_text (row ∷ rows) = line row ++ codes "\n" ++ rows_text rows
 
 -- a query of the table that reads show has this answer
-pub record QueryAnswers (halted tells : Bool) (image : Image) (found : Option PlainEntry) (q : PlainQuery) (answer : Result PlainTable query.Refusal) : Type 0 where
+pub record QueryAnswers (halted tells : Bool) (image : Image) (found : Option PlainEntry) (q : PlainQuery)
+    (answer : Result PlainTable query.Refusal) : Type 0 where
   pub table : PlainTable
   pub reads : ReadsTable halted tells image found table
   pub answers : selection table q ≡ answer

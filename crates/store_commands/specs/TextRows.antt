@@ -25,12 +25,16 @@ pub record InputGives (form : TextForm) (found : Option PlainEntry) (input : Opt
 
 -- the rows of all of an input were handed to the store, which gave an answer, and the program's follows it; or it was refused before, and this holds of
 -- the refusal
-abbrev pub HandsRows : TextForm → Option PlainEntry → Option (List ℕ) → (List (List Cell) → Result (Unit {0}) tables.Refusal → Type 0) → (before : Refusal → Type 0) → Result (Unit {0}) Refusal → Type 0
-HandsRows form found input P before result = IsErrAnd result before ⊎ ((rows : List (List Cell)) × InputGives form found input (Ok rows) × Answered (P rows) result)
+abbrev pub HandsRows : TextForm → Option PlainEntry → Option (List ℕ) → (List (List Cell) → Result (Unit {0}) tables.Refusal → Type 0)
+    → (before : Refusal → Type 0) → Result (Unit {0}) Refusal → Type 0
+HandsRows form found input P before result =
+    IsErrAnd result before ⊎ ((rows : List (List Cell)) × InputGives form found input (Ok rows) × Answered (P rows) result)
 
 -- why no rows are handed to the store: all of the input was read, and as a text it is refused; or it is refused as each append is
-abbrev pub RefusesText : {R : Type 0} → (remaining : R → Option (List ℕ)) → TextForm → (halted : Bool) → (found : Option PlainEntry) → (old new : R) → Refusal → Type 0
-RefusesText remaining form halted found old new (Text refused) = (halted ≡ false) × InputGives form found (remaining old) (Err refused) × IsAtEnd (remaining new)
+abbrev pub RefusesText : {R : Type 0} → (remaining : R → Option (List ℕ)) → TextForm → (halted : Bool) → (found : Option PlainEntry) → (old new : R)
+    → Refusal → Type 0
+RefusesText remaining form halted found old new (Text refused) =
+    (halted ≡ false) × InputGives form found (remaining old) (Err refused) × IsAtEnd (remaining new)
 RefusesText remaining form halted found old new refusal = RefusesAppend remaining halted found old new refusal
 
 -- a refusal of the text is that of all of the input

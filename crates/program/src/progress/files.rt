@@ -1,0 +1,177 @@
+// How much of a store's file was read and written.
+use super::{LONG_WORK, ProgressLine, Stage};
+use sector_dev::LockFile;
+use std::alloc::{Allocator, Global};
+use std::fs::{Metadata, OpenFile, OpenOptions};
+use std::io::{self, Read, Seek, SeekFrom, Write};
+use std::rt::Files;
+use std::time::Clock;
+
+/// The files of `files`. While one is read or written, the line tells how much that was.
+#[derive(Drop)]
+pub struct ProgressFiles<'a, C: Clock, T, H> {
+    files: &'a H,
+    line: Option<&'a ProgressLine<'a, C, T>>,
+}
+
+impl<'a, C: Clock, T, H> ProgressFiles<'a, C, T, H> {
+    pub fn new(
+        files: &'a H,
+        line: Option<&'a ProgressLine<'a, C, T>>,
+    ) -> ProgressFiles<'a, C, T, H> {
+        ProgressFiles { files, line }
+    }
+}
+
+impl<C: Clock, T, H: Alloc<A = Global>> Alloc for ProgressFiles<'_, C, T, H> {
+    type A = Global;
+
+    fn alloc(&self) -> Global {
+        self.files.alloc()
+    }
+}
+
+impl<'a, C: Clock, T: Write + Copy, H: Files> Files for ProgressFiles<'a, C, T, H> {
+    type File = ProgressFile<'a, C, T, H::File>;
+
+    type Dir = H::Dir;
+
+    fn open_file(&self, how: &OpenOptions, path: &str) -> io::Result<Self::File> {
+        Ok(ProgressFile {
+            file: self.files.open_file(how, path)?,
+            line: self.line,
+            bytes_read: 0,
+            bytes_written: 0,
+        })
+    }
+
+    fn open_dir(&self, path: &str) -> io::Result<H::Dir> {
+        self.files.open_dir(path)
+    }
+
+    fn metadata(&self, path: &str) -> io::Result<Metadata> {
+        self.files.metadata(path)
+    }
+
+    fn symlink_metadata(&self, path: &str) -> io::Result<Metadata> {
+        self.files.symlink_metadata(path)
+    }
+
+    fn copy(&self, from: &str, to: &str) -> io::Result<u64> {
+        self.files.copy(from, to)
+    }
+
+    fn rename(&self, from: &str, to: &str) -> io::Result<()> {
+        self.files.rename(from, to)
+    }
+
+    fn remove_file(&self, path: &str) -> io::Result<()> {
+        self.files.remove_file(path)
+    }
+
+    fn create_dir(&self, path: &str) -> io::Result<()> {
+        self.files.create_dir(path)
+    }
+
+    fn remove_dir(&self, path: &str) -> io::Result<()> {
+        self.files.remove_dir(path)
+    }
+
+    fn remove_dir_all<B: Allocator>(&self, alloc: B, path: &str) -> io::Result<()> {
+        self.files.remove_dir_all(alloc, path)
+    }
+}
+
+/// A file of which is told how much was read and written.
+#[derive(Drop)]
+pub struct ProgressFile<'a, C: Clock, T, F> {
+    file: F,
+    line: Option<&'a ProgressLine<'a, C, T>>,
+    bytes_read: u64,
+    bytes_written: u64,
+}
+
+impl<C: Clock, T: Write + Copy, F> ProgressFile<'_, C, T, F> {
+    // So many bytes more than before, in all, were read or written.
+    fn tell(&self, stage: Stage, before: u64, bytes: u64) {
+        if let Some(line) = self.line {
+            // No end is told of what is read of a store, behind which the work may go on for long.
+            if before / LONG_WORK < bytes / LONG_WORK {
+                line.show(stage, bytes);
+            } else {
+                line.tell(stage, bytes);
+            }
+        }
+    }
+}
+
+impl<C: Clock, T: Write + Copy, F: Read> Read for ProgressFile<'_, C, T, F> {
+    ghost remaining = { λ file. F.remaining file.file };
+
+    fn read(&mut self, buf: &mut [u8]) -> io::Result<usize> {
+        let read = self.file.read(buf);
+        if let Ok(count) = &read {
+            let before = self.bytes_read;
+            self.bytes_read = before.saturating_add(*count as u64);
+            self.tell(Stage::ReadingStore, before, self.bytes_read);
+        }
+        read
+    }
+}
+
+impl<C: Clock, T: Write + Copy, F: Write> Write for ProgressFile<'_, C, T, F> {
+    ghost contents = { λ file. F.contents file.file };
+
+    fn write(&mut self, buf: &[u8]) -> io::Result<usize> {
+        let written = self.file.write(buf);
+        if let Ok(count) = &written {
+            let before = self.bytes_written;
+            self.bytes_written = before.saturating_add(*count as u64);
+            self.tell(Stage::WritingStore, before, self.bytes_written);
+        }
+        written
+    }
+
+    fn flush(&mut self) -> io::Result<()> {
+        self.file.flush()
+    }
+}
+
+impl<C: Clock, T, F: Seek> Seek for ProgressFile<'_, C, T, F> {
+    ghost stream_position = { λ file. F.stream_position file.file };
+
+    ghost stream_bytes = { λ file. F.stream_bytes file.file };
+
+    fn seek(&mut self, to: SeekFrom) -> io::Result<u64> {
+        self.file.seek(to)
+    }
+}
+
+// What a device asks of its file.
+impl<C: Clock, T, F: OpenFile> OpenFile for ProgressFile<'_, C, T, F> {
+    fn metadata(&self) -> io::Result<Metadata> {
+        self.file.metadata()
+    }
+
+    fn set_len(&self, size: u64) -> io::Result<()> {
+        self.file.set_len(size)
+    }
+
+    fn sync_all(&self) -> io::Result<()> {
+        self.file.sync_all()
+    }
+
+    fn sync_data(&self) -> io::Result<()> {
+        self.file.sync_data()
+    }
+}
+
+impl<C: Clock, T, F: LockFile> LockFile for ProgressFile<'_, C, T, F> {
+    fn lock_to_write(&self) -> io::Result<()> {
+        self.file.lock_to_write()
+    }
+
+    fn lock_to_read(&self) -> io::Result<()> {
+        self.file.lock_to_read()
+    }
+}

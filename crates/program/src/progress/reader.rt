@@ -1,0 +1,56 @@
+// How much of a long input was read.
+ghost use Rattle.std.specs.Prelude.{◌≡◌};
+
+use super::{LEAST_TOLD, LONG_WORK, ProgressLine, Stage};
+use std::io::{self, IsTerminal, Read, Write};
+use std::time::Clock;
+
+/// Reads what `input` gives, and tells meanwhile how much that was, and at the end, where it was long, that it is worked on.
+#[derive(Drop)]
+pub struct ProgressReader<'a, C: Clock, T, R: Read> {
+    input: R,
+    line: Option<&'a ProgressLine<'a, C, T>>,
+    bytes_read: u64,
+}
+
+impl<'a, C: Clock, T: Write + Copy, R: Read + IsTerminal> ProgressReader<'a, C, T, R> {
+    /// Nothing is told of an input that is typed, which stands on the terminal itself.
+    pub fn new(input: R, line: Option<&'a ProgressLine<'a, C, T>>) -> ProgressReader<'a, C, T, R>
+        ensures { result.input ≡ input }
+    {
+        let line = if input.is_terminal() { None } else { line };
+        ProgressReader {
+            input,
+            line,
+            bytes_read: 0,
+        }
+    }
+}
+
+impl<C: Clock, T: Write + Copy, R: Read> Read for ProgressReader<'_, C, T, R> {
+    ghost remaining = { λ reader. R.remaining reader.input };
+
+    fn read(&mut self, buf: &mut [u8]) -> io::Result<usize> {
+        let read = self.input.read(buf);
+        if let Some(line) = self.line {
+            match &read {
+                Ok(0) => tell_end(line, self.bytes_read),
+                Ok(count) => {
+                    self.bytes_read = self.bytes_read.saturating_add(*count as u64);
+                    line.tell(Stage::Reading, self.bytes_read);
+                }
+                Err(_) => line.clear(),
+            }
+        }
+        read
+    }
+}
+
+// At the end of an input of so many bytes.
+fn tell_end<C: Clock, T: Write + Copy>(line: &ProgressLine<'_, C, T>, bytes: u64) {
+    if bytes >= LONG_WORK || (bytes >= LEAST_TOLD && line.is_long()) {
+        line.show(Stage::Working, bytes);
+    } else {
+        line.clear();
+    }
+}

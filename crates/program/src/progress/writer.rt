@@ -1,0 +1,59 @@
+// How much of a long output was written; what is written to the terminal itself stands alone there.
+ghost use Rattle.std.specs.Prelude.{◌≡◌};
+
+use super::{LEAST_TOLD, ProgressLine, Stage};
+use std::io::{self, IsTerminal, Write};
+use std::time::Clock;
+
+// The most bytes of one write of which is told, as many as a pipe of Linux holds: the number would lag behind a longer one.
+const MOST_AT_ONCE: usize = 64 * 1024;
+
+/// Writes to `output`, and tells meanwhile how much that was. On a terminal it clears the line instead, before each write.
+#[derive(Drop)]
+pub struct ProgressWriter<'a, C: Clock, T, W: Write> {
+    output: W,
+    line: Option<&'a ProgressLine<'a, C, T>>,
+    is_on_terminal: bool,
+    bytes_written: u64,
+}
+
+impl<'a, C: Clock, T: Write + Copy, W: Write + IsTerminal> ProgressWriter<'a, C, T, W> {
+    pub fn new(output: W, line: Option<&'a ProgressLine<'a, C, T>>) -> ProgressWriter<'a, C, T, W>
+        ensures { result.output ≡ output }
+    {
+        let is_on_terminal = output.is_terminal();
+        ProgressWriter {
+            output,
+            line,
+            is_on_terminal,
+            bytes_written: 0,
+        }
+    }
+}
+
+impl<C: Clock, T: Write + Copy, W: Write> Write for ProgressWriter<'_, C, T, W> {
+    ghost contents = { λ writer. W.contents writer.output };
+
+    fn write(&mut self, buf: &[u8]) -> io::Result<usize> {
+        let Some(line) = self.line else {
+            return self.output.write(buf);
+        };
+        if self.is_on_terminal {
+            line.clear();
+            return self.output.write(buf);
+        }
+        let written = self.output.write(&buf[..buf.len().min(MOST_AT_ONCE)]);
+        if let Ok(count) = &written {
+            self.bytes_written = self.bytes_written.saturating_add(*count as u64);
+            // The answer of a command, as `ok`, is no output to tell of.
+            if self.bytes_written >= LEAST_TOLD {
+                line.tell(Stage::Writing, self.bytes_written);
+            }
+        }
+        written
+    }
+
+    fn flush(&mut self) -> io::Result<()> {
+        self.output.flush()
+    }
+}
