@@ -8,7 +8,7 @@ use Rattle.arrow_schema.specs.declared.types.Field.{Field}
 use Rattle.arrow_schema.specs.Column.{columns_of}
 use Rattle.arrow_schema.specs.View.{column_of}
 use Rattle.cells.specs.declared.value.Value.{Value}
-use Rattle.cells.specs.Cell.{cells_of, cell_list, Cell}
+use Rattle.cells.specs.Cell.{cells_of}
 use Rattle.cells.specs.View.{cell}
 use Rattle.cells.specs.Fit.{fits, count_of, each_fits}
 

@@ -1,12 +1,14 @@
 // Which rows a table takes.
-ghost use Rattle.std.specs.Prelude.{◌≡◌, [], ◌∷◌, map, IfOk};
+ghost use Rattle.std.specs.Prelude.{◌≡◌, [], ◌∷◌, map, is_some, IfOk, IfSome};
 ghost use Rattle.arrow_schema.specs.Column.{columns_of};
 ghost use Rattle.arrow_schema.specs.View.{schema_of};
 ghost use Rattle.cells.specs.View.{cell};
-ghost use Rattle.cells.specs.Row.{accepted_weight};
+ghost use Rattle.cells.specs.Row.{accepted_weight, row_fits};
+ghost use Rattle.cells.specs.Weight.{capped_weight, row_weight};
 ghost use Rattle.cells.specs.Dictionary.{is_any_limited, dictionaries_fit};
 
 use crate::fit::each_fits;
+use crate::flat::flat_row_weight;
 use crate::holding::row_entries_fit;
 use crate::limits::MAX_ROW_WEIGHT;
 use crate::value::Value;
@@ -32,6 +34,20 @@ pub fn dictionaries_fit(
     row_entries_fit(&schema.fields, row, alloc)
 }
 
+// The weight of a row, where it fits.
+fn fitting_weight(schema: &Schema, row: &[Value]) -> Option<u64>
+    ensures fits { is_some result ≡ row_fits (schema_of schema.now) (map cell row.now) }
+    ensures weight { IfSome result (λ w. w ≡ capped_weight (row_weight (schema_of schema.now) (map cell row.now))) }
+{
+    if let Some(weight) = flat_row_weight(&schema.fields, row) {
+        return Some(weight);
+    }
+    if !each_fits(&schema.fields, row) {
+        return None;
+    }
+    Some(row_weight(schema, row))
+}
+
 /// The weight of a row, where a table takes it. `limited` is what [`crate::has_limits`] tells of the schema: it is asked once for many rows.
 #[tactic(auto, using(crate::specs::laws::Unlimited::from_unlimited), unfolding(crate::specs::Row::is_row))]
 pub fn accepted_weight(
@@ -43,10 +59,9 @@ pub fn accepted_weight(
     requires { limited ≡ is_any_limited (columns_of (schema_of schema.now).columns) }
     ensures { IfOk result (λ w. w ≡ accepted_weight (schema_of schema.now) (map cell row.now)) }
 {
-    if !each_fits(&schema.fields, row) {
+    let Some(weight) = fitting_weight(schema, row) else {
         return Ok(None);
-    }
-    let weight = row_weight(schema, row);
+    };
     if weight > MAX_ROW_WEIGHT {
         return Ok(None);
     }

@@ -8,9 +8,10 @@ ghost use Rattle.cells.specs.View.{cell};
 ghost use Rattle.cells.specs.Fit.{fits, fits_kind, text_where, each_fits, all_cells, in_range, date_bits, count_of};
 
 use crate::value::Value;
-use arrow_schema::{DataType, DateUnit, Field, IntegerType};
+use arrow_schema::{BitWidth, DataType, DateUnit, Field, IntegerType};
 
-fn number_fits(bits: u32, signed: bool, n: i128) -> bool
+#[inline(always)]
+pub(crate) fn number_fits(bits: u32, signed: bool, n: i128) -> bool
     requires low { 1 ≤ bits }
     requires high { bits ≤ 64 }
     ensures { result ≡ in_range bits signed n }
@@ -23,13 +24,20 @@ fn number_fits(bits: u32, signed: bool, n: i128) -> bool
     }
 }
 
-fn integer_fits(integer: IntegerType, n: i128) -> bool
+// A test for each width: with the number of bits known, it is two comparisons.
+#[inline(always)]
+pub(crate) fn integer_fits(integer: IntegerType, n: i128) -> bool
     ensures { result ≡ in_range (bits_of integer.width) integer.signed n }
 {
-    number_fits(integer.width.bits(), integer.signed, n)
+    match integer.width {
+        BitWidth::Eight => number_fits(8, integer.signed, n),
+        BitWidth::Sixteen => number_fits(16, integer.signed, n),
+        BitWidth::ThirtyTwo => number_fits(32, integer.signed, n),
+        BitWidth::SixtyFour => number_fits(64, integer.signed, n),
+    }
 }
 
-fn date_fits(unit: DateUnit, n: i128) -> bool
+pub(crate) fn date_fits(unit: DateUnit, n: i128) -> bool
     ensures { result ≡ in_range (date_bits (date_kind unit)) true n }
 {
     match unit {
@@ -39,7 +47,7 @@ fn date_fits(unit: DateUnit, n: i128) -> bool
 }
 
 // A text is UTF-8 by its type.
-fn is_utf8(text: &str) -> bool
+pub(crate) fn is_utf8(text: &str) -> bool
     ensures { result ≡ is_utf8 text.now }
 {
     true

@@ -14,6 +14,7 @@
 mod accept;
 mod entry;
 mod fit;
+mod flat;
 mod holding;
 mod laws;
 mod limited;

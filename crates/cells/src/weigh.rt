@@ -1,5 +1,5 @@
 // How much values and rows weigh.
-ghost use Rattle.std.specs.Prelude.{◌≡◌, ◌+◌, ◌*◌, map};
+ghost use Rattle.std.specs.Prelude.{◌≡◌, ◌+◌, ◌*◌, map, IfSome};
 ghost use Rattle.arrow_schema.specs.Column.{columns_of};
 ghost use Rattle.arrow_schema.specs.View.{kind_of, column_of, schema_of};
 ghost use Rattle.cells.specs.Cell.{cells_of, null};
@@ -24,6 +24,7 @@ pub fn multiply_weight(count: u64, weight: u64) -> u64
     count.saturating_mul(weight).min(TOO_HEAVY)
 }
 
+#[inline(always)]
 fn byte_count(value: &Value) -> u64
     ensures { result ≡ byte_count (cell value.now) }
 {
@@ -31,6 +32,23 @@ fn byte_count(value: &Value) -> u64
         Value::Text(text) => text.len() as u64,
         Value::Bytes(bytes) => bytes.len() as u64,
         _ => 0,
+    }
+}
+
+// The weight of a field's value, of the types that most fields have: asked before the others, since it calls nothing.
+#[inline(always)]
+#[tactic(auto, unfolding(crate::specs::Weight::weight, crate::specs::Weight::kind_weight))]
+fn light_weight(field: &Field, value: &Value) -> Option<u64>
+    ensures { IfSome result (λ w. w ≡ capped_weight (weight (column_of field.now) (cell value.now))) }
+{
+    match &field.data_type {
+        DataType::Bool => Some(1),
+        DataType::Int(_) => Some(1),
+        DataType::Date(_) => Some(1),
+        DataType::Timestamp(_, _) => Some(1),
+        DataType::Utf8 => Some(add_weights(1, byte_count(value))),
+        DataType::LargeUtf8 => Some(add_weights(1, byte_count(value))),
+        _ => None,
     }
 }
 
@@ -123,7 +141,10 @@ pub(crate) fn parts_weight(fields: &[Field], parts: &[Value]) -> u64
     let mut total = 0;
     for (i, field) in fields.iter().enumerate() {
         let part_weight = match parts.get(i) {
-            Some(part) => weight(field, part),
+            Some(part) => match light_weight(field, part) {
+                Some(known) => known,
+                None => weight(field, part),
+            },
             None => weight(field, &Value::Null),
         };
         total = add_weights(total, part_weight);
