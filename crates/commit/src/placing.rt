@@ -6,7 +6,7 @@ ghost use Rattle.commit.specs.Placing.{Takes, AreSome, contents_of, counts_of};
 ghost use Rattle.commit.specs.laws.Taking.{TookAll, GivesAll};
 
 use sector_dev::SECTOR_BYTES;
-use segments::{FreeMap, Piece, Run, TakeError};
+use segments::{FreeMap, Piece, Run, Searched, TakeError};
 use std::alloc::{AllocError, Global};
 
 /// Where contents are to go, and the text that is to name them.
@@ -41,8 +41,9 @@ pub fn take_runs(alloc: Global, map: &mut FreeMap, counts: &[u64]) -> Result<Vec
     ensures err { OnErr result (SameUsages map.old.entries map.new.entries) }
 {
     let mut runs = Vec::with_capacity(alloc, counts.len())?;
+    let mut searched = Searched::nothing();
     for count in counts {
-        match map.take(*count) {
+        match map.take_onward(*count, &mut searched) {
             Ok(run) => runs.push(run).unwrap(),
             Err(error) => {
                 give_runs(map, &runs);

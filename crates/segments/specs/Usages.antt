@@ -1,8 +1,9 @@
 -- What the runs of a device are used for.
-use Rattle.std.specs.Prelude.{◌≡◌, ◌≢◌, ◌≤◌, ◌+◌, ◌-◌, ◌==◌, ◌&&◌, ◌||◌, ℕ, Bool, true, false, nat_lt, if◌then◌else◌, List, [], ◌∷◌}
+use Rattle.std.specs.Prelude.{◌≡◌, ◌≢◌, ◌≤◌, ◌<◌, ◌+◌, ◌-◌, ◌==◌, ◌&&◌, ◌||◌, ℕ, Bool, true, false, nat_lt, if◌then◌else◌, List, [], ◌∷◌}
 use Rattle.segments.specs.declared.run.Run.{Run}
 use Rattle.segments.specs.declared.entries.Usage.{Usage}
 use Rattle.segments.specs.declared.entries.UsageEntry.{UsageEntry}
+use Rattle.segments.specs.declared.searched.Searched.{Searched}
 use Rattle.segments.specs.Runs.{IsFree}
 
 -- the size of a device in sectors, and its runs in use in order
@@ -47,6 +48,10 @@ Overlaps space run = (usage_of space.entries run ≡ UNUSED) × (IsFree space.si
 
 abbrev pub IsUnused : Space → Run → Type 0
 IsUnused space run = (usage_of space.entries run ≡ UNUSED) × IsFree space.size (IsUsedIn space.entries) run
+
+-- how far free runs were searched: each that starts before this sector has at most so many sectors
+abbrev pub IsSearched : Space → Searched → Type 0
+IsSearched space searched = (run : Run) → searched.widest < run.count → IsFree space.size (IsUsedIn space.entries) run → searched.start ≤ run.start
 
 -- an entry before these, where the run is used
 abbrev pub entry_before : Run → Usage → List UsageEntry → List UsageEntry

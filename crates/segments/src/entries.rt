@@ -1,10 +1,10 @@
 // The runs in use, as a list in order.
 ghost use Rattle.std.specs.Prelude.{◌≡◌, ◌≤◌, ◌↔◌, IsTrue, IfNone, IfSome, length};
 ghost use Rattle.segments.specs.Runs.{IsLowest};
-ghost use Rattle.segments.specs.Usages.{is_used, usage_of, with_usage, UNUSED, Ordered, EndBy, IsUsedIn};
-ghost use Rattle.segments.specs.inner.Places.{place_of, ApartEach, HasEntryAt};
+ghost use Rattle.segments.specs.Usages.{is_used, usage_of, with_usage, UNUSED, Ordered, EndBy, IsUsedIn, IsSearched};
+ghost use Rattle.segments.specs.inner.Places.{place_of, end_before, ApartEach, HasEntryAt};
 
-use crate::Run;
+use crate::{Run, Searched};
 
 /// What a run is used for: the catalogue that rules (`taken`), and so many snapshots (`pins`).
 #[derive(Clone, Copy, Debug, PartialEq, Eq)]
@@ -68,20 +68,49 @@ pub(crate) fn is_apart(entries: &[UsageEntry], run: Run) -> bool
     true
 }
 
-// The lowest free run, going up.
-pub(crate) fn lowest(size: u64, entries: &[UsageEntry], count: u64) -> Option<Run>
+// Where the entries before this place end.
+fn end_before(size: u64, entries: &[UsageEntry], place: usize) -> u64
+    requires within { EndBy size entries.now }
+    requires place { place ≤ length entries.now }
+    ensures { result ≡ end_before 2 entries.now place }
+{
+    if place > 0 {
+        entries[place - 1].run.end()
+    } else {
+        2
+    }
+}
+
+// The lowest free run, going up from where the search has come, or from the first sector where what was passed may fit.
+pub(crate) fn lowest(
+    size: u64,
+    entries: &[UsageEntry],
+    count: u64,
+    searched: &mut Searched,
+) -> Option<Run>
     requires ordered { Ordered 2 entries.now }
     requires within { EndBy size entries.now }
     requires some { 1 ≤ count }
-    ensures { IsLowest size (IsUsedIn entries.now) count result }
+    requires searched { IsSearched (record { size = size; entries = entries.now }) searched.old }
+    ensures lowest { IsLowest size (IsUsedIn entries.now) count result }
+    ensures searched { IsSearched (record { size = size; entries = entries.now }) searched.new }
+    ensures start { IfSome result (λ run. searched.new.start ≡ run.start) }
 {
-    let mut start = 2;
-    for entry in entries {
-        if count <= entry.run.start - start {
+    if count <= searched.widest {
+        *searched = Searched::nothing();
+    }
+    let place = place_of_start(entries, searched.start);
+    searched.start = end_before(size, entries, place);
+    for index in place..entries.len() {
+        let gap = entries[index].run.start - searched.start;
+        if count <= gap {
+            let start = searched.start;
             return Some(Run { start, count });
         }
-        start = entry.run.end();
+        searched.widest = searched.widest.max(gap);
+        searched.start = entries[index].run.end();
     }
+    let start = searched.start;
     if count <= size.saturating_sub(start) {
         Some(Run { start, count })
     } else {

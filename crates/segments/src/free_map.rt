@@ -1,10 +1,10 @@
 // The runs of a device that are in use, and the lowest free one.
 ghost use Rattle.std.specs.Prelude.{◌≡◌, ◌≤◌, ◌↔◌, ◌⊎◌, [], Err, None, Some, IfOk, IfErr, OnOk, OnErr, IsErrOf, IsTrue, true};
 ghost use Rattle.segments.specs.Runs.{IsOnDevice, IsFree, IsLowest};
-ghost use Rattle.segments.specs.Usages.{UNUSED, TAKEN, given, pinned, unpinned, is_used, usage_of, with_run, IsUsedIn, Overlaps, IsUnused, Changes};
+ghost use Rattle.segments.specs.Usages.{UNUSED, TAKEN, given, pinned, unpinned, is_used, usage_of, with_run, IsUsedIn, Overlaps, IsUnused, IsSearched, Changes};
 
 use crate::entries::{change, is_apart, lowest, place_of_run, place_of_start};
-use crate::{EnterError, Run, TakeError, Usage, UsageEntry};
+use crate::{EnterError, Run, Searched, TakeError, Usage, UsageEntry};
 use std::alloc::{AllocError, Global};
 use std::marker::Model;
 
@@ -56,7 +56,7 @@ impl FreeMap {
         requires { 1 ≤ count }
         ensures { IsLowest self.now.size (IsUsedIn self.now.entries) count result }
     {
-        lowest(self.size, &self.entries, count)
+        lowest(self.size, &self.entries, count, &mut Searched::nothing())
     }
 
     /// Takes the lowest free run of so many sectors.
@@ -69,7 +69,24 @@ impl FreeMap {
         ensures err { OnErr result (self.new ≡ self.old) }
         ensures errors { IfErr result (λ e. (e ≡ TakeError.NoRoom count) ⊎ (e ≡ TakeError.OutOfMemory)) }
     {
-        let Some(run) = self.find(count) else {
+        self.take_onward(count, &mut Searched::nothing())
+    }
+
+    /// Takes the lowest free run of so many sectors, as `take` does, and looks only where no earlier search has found too
+    /// little room. Where `searched` goes from one call to the next, the runs in use are gone through once in all, as long as
+    /// no call asks for so few sectors that a gap which was passed may hold them; then the search begins anew.
+    pub fn take_onward(&mut self, count: u64, searched: &mut Searched) -> Result<Run, TakeError>
+        requires some { 1 ≤ count }
+        requires searched { IsSearched self.old searched.old }
+        ensures lowest { IfOk result (λ run. IsLowest self.old.size (IsUsedIn self.old.entries) count (Some run)) }
+        ensures taken { IfOk result (λ run. self.new ≡ with_run self.old run TAKEN) }
+        ensures changes { IfOk result (λ run. Changes self.old self.new run TAKEN) }
+        ensures no_room { (result ≡ Err (TakeError.NoRoom count)) ↔ IsLowest self.old.size (IsUsedIn self.old.entries) count None }
+        ensures err { OnErr result (self.new ≡ self.old) }
+        ensures errors { IfErr result (λ e. (e ≡ TakeError.NoRoom count) ⊎ (e ≡ TakeError.OutOfMemory)) }
+        ensures searched { IsSearched self.new searched.new }
+    {
+        let Some(run) = lowest(self.size, &self.entries, count, searched) else {
             return Err(TakeError::NoRoom(count));
         };
         let usage = Usage {
@@ -77,6 +94,7 @@ impl FreeMap {
             pins: 0,
         };
         self.insert(run, usage)?;
+        searched.start = run.end();
         Ok(run)
     }
 

@@ -18,6 +18,7 @@ mod free_map;
 mod piece;
 mod reading;
 mod run;
+mod searched;
 mod writing;
 
 pub use entries::{Usage, UsageEntry};
@@ -27,4 +28,5 @@ pub use free_map::FreeMap;
 pub use piece::Piece;
 pub use reading::{ReadError, read_run};
 pub use run::Run;
+pub use searched::Searched;
 pub use writing::{write_run, write_runs};

@@ -1,5 +1,5 @@
 -- Where the entry of a run stands among those in order.
-use Rattle.std.specs.Prelude.{◌≡◌, ◌<◌, ℕ, suc, nat_lt, if◌then◌else◌, List, [], ◌∷◌, length, get_or}
+use Rattle.std.specs.Prelude.{◌≡◌, ◌<◌, ◌+◌, ℕ, zero, suc, nat_lt, if◌then◌else◌, List, [], ◌∷◌, length, get_or}
 use Rattle.segments.specs.declared.run.Run.{Run}
 use Rattle.segments.specs.declared.entries.UsageEntry.{UsageEntry}
 use Rattle.segments.specs.Runs.{IsApart}
@@ -9,6 +9,12 @@ use Rattle.segments.specs.Usages.{UNUSED, usage_of}
 abbrev pub place_of : ℕ → List UsageEntry → ℕ
 place_of start [] = 0
 place_of start (e ∷ es) = if nat_lt e.run.start start then suc (place_of start es) else 0
+
+-- where the entries before a place end, of those that stand from this sector on
+abbrev pub end_before : ℕ → List UsageEntry → ℕ → ℕ
+end_before from es zero = from
+end_before from [] (suc place) = from
+end_before from (e ∷ es) (suc place) = end_before (e.run.start + e.run.count) es place
 
 -- a run meets none of these
 abbrev pub ApartEach : Run → List UsageEntry → Type 0

@@ -14,6 +14,7 @@ loop-count-init c = record {
   len = c.in_ok-runs.ensures.len;
   room = omega (arith, c.in_ok-runs.ensures.exact);
   taken = subst (TookAll c.args.map.now c.args.map.now []) (sym c.in_ok-runs.ensures.items) (took_none c.args.map.now);
+  searched = c.nothing-searched.ensures.searched c.args.map.now;
 }
 
 pub loop-count-preserved : goal.loop-count-preserved
@@ -27,9 +28,10 @@ loop-count-preserved c =
       len = c.push.ensures.len ∙ cond-true (is_ok c.push.result) _ _ pushed ∙ ap (λ n. n + 1) c.loop-count.invariant.len;
       room = omega (arith, c.loop-count.invariant.room, c.push.ensures.capacity);
       taken =
-          subst (λ (rs : List Run). TookAll c.args.map.now c.take.new.self (take (i + 1) counts) rs) (sym items)
-          (subst (λ (ns : List ℕ). TookAll c.args.map.now c.take.new.self ns (c.loop-count.runs.items ++ c.in-Ok.run' ∷ [])) (sym here)
-          (took_one_more c.args.map.now c.loop-count.map c.take.new.self (take i counts) c.loop-count.runs.items (get_or counts i 0) c.in-Ok.run' (c.requires.some i c.loop-count-test.true) c.loop-count.invariant.taken c.in-Ok.ensures.lowest c.in-Ok.ensures.changes));
+          subst (λ (rs : List Run). TookAll c.args.map.now c.take_onward.new.self (take (i + 1) counts) rs) (sym items)
+          (subst (λ (ns : List ℕ). TookAll c.args.map.now c.take_onward.new.self ns (c.loop-count.runs.items ++ c.in-Ok.run' ∷ [])) (sym here)
+          (took_one_more c.args.map.now c.loop-count.map c.take_onward.new.self (take i counts) c.loop-count.runs.items (get_or counts i 0) c.in-Ok.run' (c.requires.some i c.loop-count-test.true) c.loop-count.invariant.taken c.in-Ok.ensures.lowest c.in-Ok.ensures.changes));
+      searched = c.in-Ok.ensures.searched;
     }
 
 pub returns-clause-ok : goal.returns-clause-ok
@@ -43,7 +45,7 @@ returns-clause-taken c =
 
 pub returns-in-Err-clause-err : goal.returns-in-Err-clause-err
 returns-in-Err-clause-err c =
-    let given = subst (GivesAll c.take.new.self c.give_runs.new.map) c.deref.ensures.value c.give_runs.ensures in
+    let given = subst (GivesAll c.take_onward.new.self c.give_runs.new.map) c.deref.ensures.value c.give_runs.ensures in
     all_given_back c.args.map.now c.loop-count.map c.give_runs.new.map (take c.loop-count.count-index c.args.counts.now) c.loop-count.runs.items c.loop-count.invariant.taken
     (subst (λ (s : Space). GivesAll s c.give_runs.new.map c.loop-count.runs.items) c.in-Err.ensures.err given)
 
@@ -59,7 +61,7 @@ returns-in-Err-clause-no_room c = λ n told.
     let old = c.args.map.now in
     let count = get_or counts i 0 in
     let same = same_count count n c.in-Err.error c.in-Err.ensures.errors told in
-    let none = c.take.ensures.no_room.0 (c.in-Err.is ∙ ap Err same.0) in
+    let none = c.take_onward.ensures.no_room.0 (c.in-Err.is ∙ ap Err same.0) in
     let fails = took_fails old.size (IsUsedIn old.entries) (take i counts) c.loop-count.runs.items count (drop (i + 1) counts) c.loop-count.invariant.taken.took
     (lowest_of old c.loop-count.map (take i counts) c.loop-count.runs.items c.loop-count.invariant.taken count None none) in
     let whole : take i counts ++ count ∷ drop (i + 1) counts ≡ counts = ap (λ (ns : List ℕ). take i counts ++ ns) (sym (drop_more counts i 0 c.loop-count-test.true)) ∙ take-append-drop i counts in

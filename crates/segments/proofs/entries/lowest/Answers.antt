@@ -1,68 +1,77 @@
-use Rattle.std.proofs.Common.{◌+◌, Some, None, false, List, Option, drop, get_or, arith, sym, subst}
-use Rattle.std.proofs.lemmas.List.{drop_more, drop_all}
+use Rattle.std.proofs.Common.{◌≡◌, ◌<◌, ◌≤◌, ◌+◌, ◌-◌, ◌∙◌, false, ap, sym, subst, arith}
+use Rattle.std.proofs.lemmas.List.{drop_all}
 use Rattle.segments.specs.declared.entries.UsageEntry.{UsageEntry}
-use Rattle.segments.specs.declared.run.Run.{Run}
-use Rattle.segments.specs.Usages.{Ordered, EndBy}
-use Rattle.segments.proofs.Lowest.{IsLowestFrom, room_before, no_room, room_behind, none_behind, lowest_of_all}
+use Rattle.segments.specs.declared.searched.Searched.{Searched}
+use Rattle.segments.specs.Usages.{IsSearched}
+use Rattle.segments.proofs.Lowest.{Passed, passed_first, passed_more, passed_searched, next_within, lowest_before, lowest_behind, none_lowest}
 use Rattle.segments.proofs.entries.lowest.Goals as goal
+use Rattle.segments.proofs.entries.lowest.Goals.{then-count-searched, else-count-searched}
 
 abbrev none : UsageEntry
 none = record { run = record { start = 0; count = 0 }; usage = record { taken = false; pins = 0 } }
 
-pub overflow_sub-entry : goal.overflow_sub-entry
-overflow_sub-entry c =
-    let here = drop_more c.args.entries.now c.loop-entry.entry-index none c.loop-entry-test.true in
-    let o = subst (Ordered c.loop-entry.start) here c.loop-entry.invariant.ordered in
-    omega (arith, o.0)
-
-pub returns-then-count-entry : goal.returns-then-count-entry
-returns-then-count-entry c =
-    let i = c.loop-entry.entry-index in
-    let from = c.loop-entry.start in
-    let here = drop_more c.args.entries.now i none c.loop-entry-test.true in
-    let o = subst (Ordered from) here c.loop-entry.invariant.ordered in
-    let ends = subst (EndBy c.args.size) here c.loop-entry.invariant.within in
-    let found : Option Run = Some (record { start = from; count = c.args.count }) in
-    lowest_of_all c.args.size c.args.entries.now c.args.count found c.requires.ordered
-    (c.loop-entry.invariant.lowest found (subst (λ (es : List UsageEntry). IsLowestFrom from c.args.size es c.args.count found) (sym here)
-    (room_before from c.args.size (get_or c.args.entries.now i none) (drop (i + 1) c.args.entries.now) c.args.count o ends (omega (arith, o.0, c.if-count-entry.true, c.requires.some)))))
-
-pub end-start-requires : goal.end-start-requires
-end-start-requires c =
-    let here = drop_more c.args.entries.now c.loop-entry.entry-index none c.loop-entry-test.true in
-    let ends = subst (EndBy c.args.size) here c.loop-entry.invariant.within in
-    omega (arith, ends.0, c.ranges.size)
-
-pub loop-entry-preserved : goal.loop-entry-preserved
-loop-entry-preserved c =
-    let i = c.loop-entry.entry-index in
-    let from = c.loop-entry.start in
-    let here = drop_more c.args.entries.now i none c.loop-entry-test.true in
-    let o = subst (Ordered from) here c.loop-entry.invariant.ordered in
-    let ends = subst (EndBy c.args.size) here c.loop-entry.invariant.within in
-    let e = get_or c.args.entries.now i none in
-    let rest = drop (i + 1) c.args.entries.now in
+pub loop-index-init : goal.loop-index-init
+loop-index-init c =
+    let size = c.args.size in
+    let es = c.args.entries.now in
+    let searched = c.if-count-searched.searched in
+    let law : IsSearched (record { size = size; entries = es }) searched = elim c.if-count-searched.branch [
+      | then-count-searched w ↦ subst (IsSearched (record { size = size; entries = es })) (sym w.searched-is) (w.nothing.ensures.searched (record { size = size; entries = es }))
+      | else-count-searched w ↦ subst (IsSearched (record { size = size; entries = es })) (sym w.searched-is) c.requires.searched
+    ] in
+    let narrow : searched.widest < c.args.count = elim c.if-count-searched.branch [
+      | then-count-searched w ↦ subst (λ (s : Searched). s.widest < c.args.count) (sym (w.searched-is ∙ w.nothing.ensures.value)) c.requires.some
+      | else-count-searched w ↦ subst (λ (s : Searched). s.widest < c.args.count) (sym w.searched-is) w.if-count-searched.false
+    ] in
     record {
-      ordered = subst (λ n. Ordered n rest) (sym c.end-start.ensures) o.3;
-      within = ends.1;
-      lowest = λ found is.
-          c.loop-entry.invariant.lowest found (subst (λ (es : List UsageEntry). IsLowestFrom from c.args.size es c.args.count found) (sym here)
-          (no_room from c.args.size e rest c.args.count found o (omega (arith, o.0, c.if-count-entry.false))
-          (subst (λ n. IsLowestFrom n c.args.size rest c.args.count found) c.end-start.ensures is)));
+      passed = passed_first size es searched c.end_before-searched.result c.place_of_start-place.result c.requires.ordered c.requires.within law c.place_of_start-place.ensures.place c.end_before-searched.ensures;
+      narrow = narrow;
     }
 
-pub returns-then-count-saturating_sub : goal.returns-then-count-saturating_sub
-returns-then-count-saturating_sub c =
-    let over = drop_all c.loop-entry.entry-index c.args.entries.now c.loop-entry-test.false in
-    let found : Option Run = Some (record { start = c.loop-entry.start; count = c.args.count }) in
-    lowest_of_all c.args.size c.args.entries.now c.args.count found c.requires.ordered
-    (c.loop-entry.invariant.lowest found (subst (λ (es : List UsageEntry). IsLowestFrom c.loop-entry.start c.args.size es c.args.count found) (sym over)
-    (room_behind c.loop-entry.start c.args.size c.args.count (omega arith))))
+pub overflow_sub-gap : goal.overflow_sub-gap
+overflow_sub-gap c = (next_within c.args.size c.args.entries.now c.loop-index.searched.start c.loop-index.searched.widest c.loop-index.index none c.loop-index.invariant.passed c.loop-index-test.true).0
 
-pub returns-else-count-saturating_sub : goal.returns-else-count-saturating_sub
-returns-else-count-saturating_sub c =
-    let over = drop_all c.loop-entry.entry-index c.args.entries.now c.loop-entry-test.false in
-    let found : Option Run = None in
-    lowest_of_all c.args.size c.args.entries.now c.args.count found c.requires.ordered
-    (c.loop-entry.invariant.lowest found (subst (λ (es : List UsageEntry). IsLowestFrom c.loop-entry.start c.args.size es c.args.count found) (sym over)
-    (none_behind c.loop-entry.start c.args.size c.args.count (omega arith))))
+pub returns-then-count-gap-clause-lowest : goal.returns-then-count-gap-clause-lowest
+returns-then-count-gap-clause-lowest c =
+    let start = c.loop-index.searched.start in
+    let next = next_within c.args.size c.args.entries.now start c.loop-index.searched.widest c.loop-index.index none c.loop-index.invariant.passed c.loop-index-test.true in
+    lowest_before c.args.size c.args.entries.now start c.loop-index.searched.widest c.loop-index.index c.args.count none c.requires.ordered c.loop-index.invariant.passed c.loop-index.invariant.narrow c.loop-index-test.true
+    (omega (arith, next.0, c.if-count-gap.true))
+
+pub returns-then-count-gap-clause-searched : goal.returns-then-count-gap-clause-searched
+returns-then-count-gap-clause-searched c = passed_searched c.args.size c.args.entries.now c.loop-index.searched c.loop-index.index c.requires.ordered c.loop-index.invariant.passed
+
+pub end-searched-requires : goal.end-searched-requires
+end-searched-requires c =
+    let next = next_within c.args.size c.args.entries.now c.loop-index.searched.start c.loop-index.searched.widest c.loop-index.index none c.loop-index.invariant.passed c.loop-index-test.true in
+    omega (arith, next.1, c.ranges.size)
+
+pub loop-index-preserved : goal.loop-index-preserved
+loop-index-preserved c =
+    let size = c.args.size in
+    let es = c.args.entries.now in
+    let start = c.loop-index.searched.start in
+    let widest = c.loop-index.searched.widest in
+    let i = c.loop-index.index in
+    let next = next_within size es start widest i none c.loop-index.invariant.passed c.loop-index-test.true in
+    record {
+      passed =
+          subst (λ n. Passed size es n c.max-searched.result (i + 1)) (sym c.end-searched.ensures)
+          (passed_more size es start widest i none c.max-searched.result c.loop-index.invariant.passed c.loop-index-test.true (omega (arith, c.max-searched.ensures)) (omega (arith, c.max-searched.ensures, next.0)));
+      narrow = omega (arith, c.max-searched.ensures, c.if-count-gap.false, c.loop-index.invariant.narrow);
+    }
+
+pub returns-then-count-saturating_sub-clause-lowest : goal.returns-then-count-saturating_sub-clause-lowest
+returns-then-count-saturating_sub-clause-lowest c =
+    lowest_behind c.args.size c.args.entries.now c.loop-index.searched.start c.loop-index.searched.widest c.loop-index.index c.args.count c.requires.ordered c.loop-index.invariant.passed c.loop-index.invariant.narrow
+    (drop_all c.loop-index.index c.args.entries.now c.loop-index-test.false) (omega arith)
+
+pub returns-then-count-saturating_sub-clause-searched : goal.returns-then-count-saturating_sub-clause-searched
+returns-then-count-saturating_sub-clause-searched c = passed_searched c.args.size c.args.entries.now c.loop-index.searched c.loop-index.index c.requires.ordered c.loop-index.invariant.passed
+
+pub returns-else-count-saturating_sub-clause-lowest : goal.returns-else-count-saturating_sub-clause-lowest
+returns-else-count-saturating_sub-clause-lowest c =
+    none_lowest c.args.size c.args.entries.now c.loop-index.searched.start c.loop-index.searched.widest c.loop-index.index c.args.count c.requires.ordered c.loop-index.invariant.passed c.loop-index.invariant.narrow (omega arith)
+
+pub returns-else-count-saturating_sub-clause-searched : goal.returns-else-count-saturating_sub-clause-searched
+returns-else-count-saturating_sub-clause-searched c = passed_searched c.args.size c.args.entries.now c.loop-index.searched c.loop-index.index c.requires.ordered c.loop-index.invariant.passed
