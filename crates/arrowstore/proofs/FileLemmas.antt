@@ -1,6 +1,6 @@
 -- What requests of a store come to.
-use Rattle.std.proofs.Common.{◌≡◌, ◌≢◌, ◌⊎◌, ◌↔◌, ◌≤◌, ℕ, Bool, true, false, List, [], ◌∷◌, inl, inr, refl, sym, subst, ap, ◌∙◌, true≢false}
-use Rattle.std.specs.Prelude.{Option, Some, None, Result, Ok, Err, IfOk, IfErr, IsOk, IsErrOf}
+use Rattle.std.proofs.Common.{◌≡◌, ◌≢◌, ◌↔◌, ◌≤◌, ℕ, Bool, true, false, List, [], ◌∷◌, inl, inr, refl, sym, subst, ap, ◌∙◌, true≢false}
+use Rattle.std.specs.Prelude.{Option, None, Result, Ok, Err, IfOk, IfErr, IsOk, IsErrOf}
 use Rattle.std.proofs.lemmas.Bool.{and_from, le-leb}
 use Rattle.sector_dev.specs.declared.device.SectorDevice.{Ghosts}
 use Rattle.sector_dev.specs.declared.file.FileError.{FileError}
@@ -11,7 +11,7 @@ use Rattle.command_refusals.specs.declared.refusal.Refusal.{Refusal}
 use Rattle.command_refusals.specs.declared.refusal.Refusal.TheVariants.{Io, Opening}
 use Rattle.command_refusals.specs.Refusals.{file_refusal}
 use Rattle.program_texts.specs.declared.status.Status.{Status}
-use Rattle.program_texts.specs.declared.status.Status.TheVariants.{Done, Refused, WrongArguments}
+use Rattle.program_texts.specs.declared.status.Status.TheVariants.{Done, Refused}
 use Rattle.program_texts.specs.declared.status.Ended.{Ended}
 use Rattle.program_texts.specs.Ending.{HasReported, TellsRefusal}
 use Rattle.program_texts.specs.Reported.{IfRefused}
@@ -93,10 +93,10 @@ served_as g remaining contents word other input input' output output' tells stat
     subst (λ (w : List ℕ). ServesWord g remaining contents w input input' output output' tells status) same served
 
 -- some hint is told, or none
-pub told_of : {D : Type 0} (g : Ghosts D) {R W : Type 0} (remaining : R → Option (List ℕ)) (contents : W → Option (List ℕ)) (word : List ℕ) (help : Bool) (input input' : R) (output output' : W)
-    (tells : Option Hint → Type 0) (status : Status) → RunsOnStore g remaining contents word help input input' output output' tells status → (hint : Option Hint) × tells hint
-told_of g remaining contents word help input input' output output' tells status (inl none) = (None, none.2)
-told_of g remaining contents word help input input' output output' tells status (inr served) = (served.hint, served.told)
+pub told_of : {D : Type 0} (g : Ghosts D) {R W : Type 0} (remaining : R → Option (List ℕ)) (contents : W → Option (List ℕ)) (arguments : List Text) (input input' : R) (output output' : W)
+    (tells : Option Hint → Type 0) (status : Status) → RunsOnStore g remaining contents arguments input input' output output' tells status → (hint : Option Hint) × tells hint
+told_of g remaining contents arguments input input' output output' tells status (inl none) = (None, none.2)
+told_of g remaining contents arguments input input' output output' tells status (inr served) = (served.hint, served.told)
 
 -- a command whose word says that it reads the input
 pub takes_input_by : (arguments : List Text) (word : Text) → word ≡ first_word arguments → takes_input_word word ≡ true → takes_input arguments ≡ true

@@ -2,6 +2,7 @@
 use Rattle.std.specs.Prelude.{◌≡◌, ◌⊎◌, List, [], ◌∷◌, codes, true, Some, slice_get}
 use Rattle.std.specs.Str.{chars}
 use Rattle.clap.specs.Words.{App, Text, new_app, with_subcommand}
+use Rattle.program_texts.specs.OwnTexts.{is_own}
 
 abbrev pub recode_command : App
 recode_command = new_app (codes "recode")
@@ -25,3 +26,7 @@ pub data AskForHelp (arguments : List Text) : Type 0 where
   command : (name : Text) (rest : List Text) → arguments ≡ name ∷ codes "help" ∷ rest → AskForHelp arguments
   flag : (name word : Text) (rest : List Text) → arguments ≡ name ∷ word ∷ rest → IsHelpFlag word → AskForHelp arguments
   flag_of_recode : (name word : Text) (rest : List Text) → arguments ≡ name ∷ codes "recode" ∷ word ∷ rest → IsHelpFlag word → AskForHelp arguments
+
+-- arguments that are right without a store: those of `recode`, and such as ask for help or for a text of the program's own
+abbrev pub AreRight : List Text → Type 0
+AreRight arguments = AreRecode arguments ⊎ AskForHelp arguments ⊎ (is_own arguments ≡ true)

@@ -12,9 +12,14 @@ use Rattle.command_refusals.specs.declared.refusal.Refusal.TheVariants as refusa
 use Rattle.command_refusals.specs.declared.hint.Hint.{Hint}
 use Rattle.command_refusals.specs.declared.hint.Hint.TheVariants as hints
 use Rattle.program_texts.specs.Reported.{IsWrong}
+use Rattle.program_texts.specs.Ending.{HasReported}
+use Rattle.program_texts.specs.Told.{told}
+use Rattle.program_texts.specs.declared.telling.Audience.{Audience}
+use Rattle.program_texts.specs.declared.status.Ended.{Ended}
 use Rattle.program_texts.specs.declared.status.Status.{Status}
 use Rattle.program_texts.specs.declared.status.Status.TheVariants.{Done, Refused}
 use Rattle.store_requests.specs.Asked.{request_word}
+use Rattle.store_requests.specs.StoreWords.{first_word, ask_for_help}
 use Rattle.store_requests.specs.declared.store_words.StoreCommand.{StoreCommand}
 use Rattle.store_requests.specs.declared.store_words.StoreRequest.{StoreRequest}
 use Rattle.store_requests.specs.declared.store_words.StoreRequest.TheVariants as requests
@@ -122,9 +127,13 @@ pub record ServesWord {D : Type 0} (g : Ghosts D) {R W : Type 0} (remaining : R 
 abbrev pub AsksForNone : {W : Type 0} → (asks_for_help : Bool) → (output output' : W) → Status → Type 0
 AsksForNone asks_for_help output output' status = (asks_for_help ≡ true) ⊎ (IsWrong status × (output' ≡ output))
 
--- a command line of a store, of which this is the first word: it asks for no command, and nothing is read; or its command was served
-abbrev pub RunsOnStore : {D : Type 0} → (g : Ghosts D) → {R W : Type 0} → (remaining : R → Option (List ℕ)) → (contents : W → Option (List ℕ)) → (word : List ℕ)
-    → (asks_for_help : Bool) → (input input' : R) → (output output' : W) → (tells : Option Hint → Type 0) → Status → Type 0
-RunsOnStore g remaining contents word asks_for_help input input' output output' tells status =
-    (AsksForNone asks_for_help output output' status × (input' ≡ input) × tells None)
-    ⊎ ServesWord g remaining contents word input input' output output' tells status
+-- what a run is said to end with was told to an audience, with a hint
+abbrev pub HasTold : {W E : Type 0} → (contents : E → Option (List ℕ)) → Audience → (output output' : W) → (errors errors' : E) → Ended → Option Hint → Type 0
+HasTold contents audience output output' errors errors' ended = λ hint. HasReported contents (told audience hint) output output' errors errors' ended
+
+-- arguments for a store: they ask for no command, and nothing is read; or the command of their first word was served
+abbrev pub RunsOnStore : {D : Type 0} → (g : Ghosts D) → {R W : Type 0} → (remaining : R → Option (List ℕ)) → (contents : W → Option (List ℕ))
+    → (arguments : List (List ℕ)) → (input input' : R) → (output output' : W) → (tells : Option Hint → Type 0) → Status → Type 0
+RunsOnStore g remaining contents arguments input input' output output' tells status =
+    (AsksForNone (ask_for_help arguments) output output' status × (input' ≡ input) × tells None)
+    ⊎ ServesWord g remaining contents (first_word arguments) input input' output output' tells status

@@ -1,7 +1,6 @@
 -- What the words of a command of a store state.
 use Rattle.std.specs.Prelude.{◌≡◌, ℕ, Bool, true, false, List, map, Option, Some}
 use Rattle.std.specs.Option.{option_copied}
-use Rattle.arrow_schema.specs.Column.{PlainSchema}
 use Rattle.query.specs.Query.{PlainQuery}
 use Rattle.query.specs.View.{query_in}
 use Rattle.tables.specs.Commands as plain

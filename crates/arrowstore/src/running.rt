@@ -1,7 +1,7 @@
 // The program over any input and output.
 ghost use Rattle.std.specs.Prelude.{◌≡◌, ◌⊎◌, true, map, None};
 ghost use Rattle.std.specs.Io.KnownBytes.{Appends};
-ghost use Rattle.arrowstore.specs.Arguments.{AreRecode, AskForHelp};
+ghost use Rattle.arrowstore.specs.Arguments.{AreRecode, AreRight};
 ghost use Rattle.arrowstore.specs.Running.{Recodes};
 ghost use Rattle.program_texts.specs.Ending.{GivesText, HasReported};
 ghost use Rattle.program_texts.specs.OwnTexts.{is_own, own_text};
@@ -27,16 +27,14 @@ pub fn run<S: AsStr, R: Read, W: Write, E: Write>(
     audience: Audience,
 ) -> Ended
     // Done: the command was right, or help or a text of the program's own was asked for.
-    ensures done { result.status ≡ Done → AreRecode (map S.text arguments.now) ⊎ AskForHelp (map S.text arguments.now)
-        ⊎ (is_own (map S.text arguments.now) ≡ true) }
+    ensures done { result.status ≡ Done → AreRight (map S.text arguments.now) }
     // The arguments that ask for it are taken, and the output is as `Recodes` says.
     ensures recodes { AreRecode (map S.text arguments.now) → Recodes W.contents (R.remaining input.old) output.old output.new result.status }
     // The output has been given that text, and nothing else.
     ensures own { is_own (map S.text arguments.now) ≡ true
         → GivesText (Appends (W.contents output.old) (W.contents output.new) (own_text (map S.text arguments.now))) result.status }
     // Wrong arguments are reported, unless memory is out: nothing is read, and nothing is written but on `errors`.
-    ensures wrong_arguments { AreRecode (map S.text arguments.now) ⊎ AskForHelp (map S.text arguments.now)
-        ⊎ (is_own (map S.text arguments.now) ≡ true) ⊎ (IsWrong result.status × (output.new ≡ output.old)) }
+    ensures wrong_arguments { AreRight (map S.text arguments.now) ⊎ (IsWrong result.status × (output.new ≡ output.old)) }
     ensures only_recode_reads { AreRecode (map S.text arguments.now) ⊎ (input.new ≡ input.old) }
     // What is on `errors`: what is told of a refusal to such an audience, and nothing where all is done.
     ensures reports { HasReported E.contents (told audience None) output.old output.new errors.old errors.new result }

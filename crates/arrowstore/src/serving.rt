@@ -112,31 +112,6 @@ fn serve_command<
     serve_open(rt.alloc(), &mut store, command, input, output, hint)
 }
 
-fn serve_request<
-    F: Read + Write + Seek + OpenFile + LockFile + Drop,
-    H: Files<File = F> + AllocGlobal,
-    R: Read,
-    W: Write,
->(
-    rt: &H,
-    request: &StoreRequest<'_>,
-    input: &mut R,
-    output: &mut W,
-    hint: &mut Option<RefusedPart>,
-) -> Result<(), Refusal>
-    ensures serves { ServesRequest ⟦<FileDevice<F> as SectorDevice>⟧ R.remaining W.contents request.now
-        (channels input.old output.old hint.old) (channels input.new output.new hint.new) result }
-    ensures unread { (takes_input_word (request_word request.now) ≡ true) ⊎ (input.new ≡ input.old) }
-    ensures silent { IfErr result (λ refusal. refusal ≢ Refusal.Io → output.new ≡ output.old) }
-{
-    match request {
-        StoreRequest::Format { path, sectors } => serve_format(rt, path, *sectors, output),
-        StoreRequest::Command { path, command } => {
-            serve_command(rt, path, command, input, output, hint)
-        }
-    }
-}
-
 // A program may be started without its standard streams, and the next file that it opens then stands in the place of one: what is printed
 // would go into the store. Folders, which can be neither read nor written, take these places before.
 fn take_places_of_streams<
@@ -165,8 +140,13 @@ pub(crate) fn serve<
     // Where it is refused, nothing is written, unless a read or a write failed.
     ensures silent { IfErr result (λ refusal. refusal ≢ Refusal.Io → output.new ≡ output.old) }
 {
-    match take_places_of_streams(rt) {
-        Ok(_places) => serve_request(rt, request, input, output, hint),
-        Err(_) => Err(Refusal::Io),
+    let Ok(_places) = take_places_of_streams(rt) else {
+        return Err(Refusal::Io);
+    };
+    match request {
+        StoreRequest::Format { path, sectors } => serve_format(rt, path, *sectors, output),
+        StoreRequest::Command { path, command } => {
+            serve_command(rt, path, command, input, output, hint)
+        }
     }
 }

@@ -1,15 +1,14 @@
 // The program over any files, input and output.
 ghost use Rattle.std.specs.Prelude.{◌≡◌, ◌⊎◌, true, map, Option, None};
 ghost use Rattle.std.specs.Io.KnownBytes.{Appends};
-ghost use Rattle.arrowstore.specs.Arguments.{AreRecode, AskForHelp};
-ghost use Rattle.arrowstore.specs.OnFiles.{AsksForNone, RunsOnStore, ServesWord, hinted_part};
+ghost use Rattle.arrowstore.specs.Arguments.{AreRecode, AreRight};
+ghost use Rattle.arrowstore.specs.OnFiles.{AsksForNone, HasTold, RunsOnStore, ServesWord, hinted_part};
 ghost use Rattle.arrowstore.specs.Running.{Recodes};
-ghost use Rattle.program_texts.specs.Ending.{GivesText, HasReported};
+ghost use Rattle.program_texts.specs.Ending.{GivesText};
 ghost use Rattle.program_texts.specs.OwnTexts.{is_own, own_text};
 ghost use Rattle.store_requests.specs.Asked.{request_word};
-ghost use Rattle.store_requests.specs.StoreWords.{is_of_store, takes_input, takes_input_word, first_word, ask_for_help};
+ghost use Rattle.store_requests.specs.StoreWords.{is_of_store, takes_input, takes_input_word};
 ghost use Rattle.program_texts.specs.Reported.{IsWrong};
-ghost use Rattle.program_texts.specs.Told.{told};
 ghost use Rattle.program_texts.specs.declared.status.Status.TheVariants.{Done};
 ghost use Rattle.command_refusals.specs.declared.hint.Hint.{Hint};
 
@@ -68,8 +67,7 @@ fn serve_and_tell<
     audience: Audience,
 ) -> Ended
     ensures serves { ServesWord ⟦<FileDevice<F> as SectorDevice>⟧ R.remaining W.contents (request_word request.now) input.old input.new
-        output.old output.new
-        (λ hint. HasReported E.contents (told audience hint) output.old output.new errors.old errors.new result) result.status }
+        output.old output.new (HasTold E.contents audience output.old output.new errors.old errors.new result) result.status }
     ensures unread { (takes_input_word (request_word request.now) ≡ true) ⊎ (input.new ≡ input.old) }
 {
     let mut part = None;
@@ -89,7 +87,7 @@ fn report_mistake<W: Write, E: Write>(
     audience: Audience,
 ) -> Ended
     ensures none { AsksForNone asks_for_help output.old output.new result.status }
-    ensures reports { HasReported E.contents (told audience None) output.old output.new errors.old errors.new result }
+    ensures reports { HasTold E.contents audience output.old output.new errors.old errors.new result None }
 {
     if asks_for_help {
         report_arguments(error, output, errors, audience)
@@ -115,9 +113,8 @@ fn run_on_store<
     audience: Audience,
 ) -> Ended
     requires { is_of_store (map S.text arguments.now) ≡ true }
-    ensures serves { RunsOnStore ⟦<FileDevice<F> as SectorDevice>⟧ R.remaining W.contents
-        (first_word (map S.text arguments.now)) (ask_for_help (map S.text arguments.now)) input.old input.new output.old output.new
-        (λ hint. HasReported E.contents (told audience hint) output.old output.new errors.old errors.new result) result.status }
+    ensures serves { RunsOnStore ⟦<FileDevice<F> as SectorDevice>⟧ R.remaining W.contents (map S.text arguments.now) input.old input.new
+        output.old output.new (HasTold E.contents audience output.old output.new errors.old errors.new result) result.status }
     ensures input { (takes_input (map S.text arguments.now) ≡ true) ⊎ (input.new ≡ input.old) }
 {
     match request_of(rt.alloc(), arguments) {
@@ -148,27 +145,25 @@ pub fn run_with_files<
     audience: Audience,
 ) -> Ended
     // Done: the command was right, or help or a text of the program's own was asked for.
-    ensures done { result.status ≡ Done → AreRecode (map S.text arguments.now) ⊎ AskForHelp (map S.text arguments.now)
-        ⊎ (is_own (map S.text arguments.now) ≡ true) ⊎ (is_of_store (map S.text arguments.now) ≡ true) }
+    ensures done { result.status ≡ Done → AreRight (map S.text arguments.now) ⊎ (is_of_store (map S.text arguments.now) ≡ true) }
     // The arguments that ask for it are taken, and the output is as `Recodes` says.
     ensures recodes { AreRecode (map S.text arguments.now) → Recodes W.contents (R.remaining input.old) output.old output.new result.status }
     // The output has been given that text, and nothing else.
     ensures own { is_own (map S.text arguments.now) ≡ true
         → GivesText (Appends (W.contents output.old) (W.contents output.new) (own_text (map S.text arguments.now))) result.status }
     // Wrong arguments are reported, unless memory is out: nothing is read, and nothing is written but on `errors`.
-    ensures wrong_arguments { AreRecode (map S.text arguments.now) ⊎ AskForHelp (map S.text arguments.now)
-        ⊎ (is_own (map S.text arguments.now) ≡ true) ⊎ (is_of_store (map S.text arguments.now) ≡ true)
+    ensures wrong_arguments { AreRight (map S.text arguments.now) ⊎ (is_of_store (map S.text arguments.now) ≡ true)
         ⊎ (IsWrong result.status × (output.new ≡ output.old)) }
     // The input is read by these commands alone.
     ensures others_leave_input { AreRecode (map S.text arguments.now) ⊎ (takes_input (map S.text arguments.now) ≡ true) ⊎ (input.new ≡ input.old) }
     // A store's words lead to the command of the first one: it was refused before a store was open, or what the words state was carried out on one.
     // But where a word asks for help that may be given, and wrong words are reported.
     ensures serves { is_of_store (map S.text arguments.now) ≡ true → RunsOnStore ⟦<FileDevice<F> as SectorDevice>⟧ R.remaining W.contents
-        (first_word (map S.text arguments.now)) (ask_for_help (map S.text arguments.now)) input.old input.new output.old output.new
-        (λ hint. HasReported E.contents (told audience hint) output.old output.new errors.old errors.new result) result.status }
+        (map S.text arguments.now) input.old input.new output.old output.new
+        (HasTold E.contents audience output.old output.new errors.old errors.new result) result.status }
     // What is on `errors`: what is told of a refusal to such an audience, and nothing where all is done. Only of commands of a store more is hinted.
     ensures reports { (hint : Option Hint) × ((is_of_store (map S.text arguments.now) ≡ true) ⊎ (hint ≡ None))
-        × HasReported E.contents (told audience hint) output.old output.new errors.old errors.new result }
+        × HasTold E.contents audience output.old output.new errors.old errors.new result hint }
 {
     if is_of_store(arguments) {
         return run_on_store(rt, arguments, input, output, errors, audience);

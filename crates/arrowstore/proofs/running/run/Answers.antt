@@ -8,6 +8,6 @@ returns-in-Err-clause-done g c = λ done.
 
 pub returns-in-Err-clause-wrong_arguments : goal.returns-in-Err-clause-wrong_arguments
 returns-in-Err-clause-wrong_arguments g c = elim c.report_arguments.ensures.request [
-  | inl asked ↦ inr (inl (c.in-Err.ensures.request asked))
-  | inr other ↦ inr (inr (inr other))
+  | inl asked ↦ inl (inr (inl (c.in-Err.ensures.request asked)))
+  | inr other ↦ inr other
 ]
