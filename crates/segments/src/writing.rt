@@ -55,8 +55,10 @@ fn write_part<D: SectorDevice>(
     ensures size { D.size device.new ≡ D.size device.old }
     ensures count { Counts (D.failed device.old) (D.failed device.new) result }
     ensures error { IfErr result (λ e. e ≡ DevError.Failed) }
-    ensures order { OnOk result (D.tells ≡ true → GrowsBy (run_writes tail.old.start (whole_bytes (tail_bytes tail.old ++ bytes.now))) (D.story device.old) (D.story device.new)) }
-    ensures cut_short { OnErr result (D.tells ≡ true → FailsAmong (run_writes tail.old.start (whole_bytes (tail_bytes tail.old ++ bytes.now))) (D.story device.old) (D.story device.new)) }
+    ensures order { OnOk result
+        (D.tells ≡ true → GrowsBy (run_writes tail.old.start (whole_bytes (tail_bytes tail.old ++ bytes.now))) (D.story device.old) (D.story device.new)) }
+    ensures cut_short { OnErr result
+        (D.tells ≡ true → FailsAmong (run_writes tail.old.start (whole_bytes (tail_bytes tail.old ++ bytes.now))) (D.story device.old) (D.story device.new)) }
     ensures start { OnOk result (tail.new.start ≡ tail.old.start + length (tail_bytes tail.old ++ bytes.now) / 512) }
     ensures rest { OnOk result (tail_bytes tail.new ≡ rest_bytes (tail_bytes tail.old ++ bytes.now)) }
 {
