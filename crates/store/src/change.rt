@@ -1,9 +1,7 @@
 // What a command changes, before its new segments have places.
 ghost use Rattle.std.specs.Prelude.{◌≡◌, IfOk};
-ghost use Rattle.canonical_write.specs.Pieces.{piece_streams, piece_counts};
 ghost use Rattle.canonical_write.specs.View.{streams_in};
 ghost use Rattle.commit.specs.Placing.{AreShort};
-ghost use Rattle.store.specs.Changes.{change_of, rows_in};
 ghost use Rattle.store.specs.Under.{table_under};
 ghost use Rattle.values.specs.Table.{IsTable};
 
@@ -41,6 +39,9 @@ pub struct Change {
 }
 
 impl SegmentRows {
+    ghost use Rattle.canonical_write.specs.Pieces.{piece_streams, piece_counts};
+    ghost use Rattle.store.specs.Changes.{rows_in};
+
     // The pieces of the rows.
     fn pieces(&self, alloc: Global) -> Result<EncodedPieces<'_>, AllocError>
         ensures streams { IfOk result (λ pieces. streams_in pieces ≡ piece_streams (rows_in self.now)) }
@@ -55,6 +56,8 @@ impl SegmentRows {
 }
 
 impl Change {
+    ghost use Rattle.store.specs.Changes.{change_of};
+
     /// The streams of the new segments, in order, and how many rows each has.
     pub(crate) fn pieces(&self, alloc: Global) -> Result<EncodedPieces<'_>, AllocError>
         ensures streams { IfOk result (λ pieces. streams_in pieces ≡ (change_of self.now).streams) }
