@@ -81,9 +81,9 @@ fn pieces_of<'a>(
     runs: &[Run],
     pieces: Vec<Piece<'a>>,
 ) -> Vec<Piece<'a>>
-    requires runs { vec_len contents.entry ≤ length runs.now }
-    requires room { vec_len contents.entry + 1 ≤ vec_capacity pieces.entry }
-    requires empty { pieces.entry.items ≡ [] }
+    requires runs { vec_len contents ≤ length runs.now }
+    requires room { vec_len contents + 1 ≤ vec_capacity pieces }
+    requires empty { pieces.items ≡ [] }
     ensures contents { contents_of (plain_pieces result.items) ≡ plain_contents contents.entry.items }
     ensures runs { runs_of (plain_pieces result.items) ≡ take (vec_len contents.entry) runs.now }
     ensures room { vec_len result < vec_capacity result }
@@ -108,7 +108,7 @@ pub fn place<'a>(
     contents: Vec<Vec<Part<'a>>>,
     text_bytes: usize,
 ) -> Result<Places<'a>, TakeError>
-    requires some { AreSome (plain_contents contents.entry.items) }
+    requires some { AreSome (plain_contents contents.items) }
     requires text { 1 ≤ text_bytes }
     ensures ok { IfOk result
         (λ places. Takes map.old.size (IsUsedIn map.old.entries) (counts_of (plain_contents contents.entry.items) text_bytes) (Ok places.runs.items)) }

@@ -27,7 +27,7 @@ pub fn plan_next<'a, C>(
     text: Vec<u8>,
 ) -> Plan<'a, C>
     requires epoch { old.epoch + 1 < 2 ^ 64 }
-    requires room { HasRoom places.entry }
+    requires room { HasRoom places }
     ensures commit { result.commit ≡ next_commit old places.entry.text (length text.items) }
     ensures catalogue { result.catalogue ≡ catalogue }
     ensures pieces { plain_pieces result.pieces.items

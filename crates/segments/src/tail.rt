@@ -1,6 +1,5 @@
 // The bytes of a run that don't fill a sector yet.
-ghost use Rattle.std.specs.Prelude.{◌≡◌, ◌≤◌, ◌<◌, ◌+◌, ◌-◌, ◌++◌, [], length, take, min, None, IfSome};
-ghost use Rattle.segments.specs.inner.Tails.{tail_bytes};
+ghost use Rattle.std.specs.Prelude.{◌≤◌};
 
 // The bytes behind the last whole sector, and the sector that they go into.
 #[derive(Drop)]
@@ -12,6 +11,9 @@ pub(crate) struct Tail {
 }
 
 impl Tail {
+    ghost use Rattle.std.specs.Prelude.{◌≡◌, ◌<◌, ◌+◌, ◌-◌, ◌^◌, ◌++◌, [], length, take, min, None, IfSome};
+    ghost use Rattle.segments.specs.inner.Tails.{tail_bytes};
+
     // No bytes yet.
     pub(crate) fn new(start: u64) -> Tail
         ensures start { result.start ≡ start }
@@ -45,6 +47,7 @@ impl Tail {
     // The sector, if it is full.
     pub(crate) fn full(&self) -> Option<&[u8; 512]>
         ensures some { IfSome result (λ sector. sector.now ≡ tail_bytes self.now) }
+        ensures whole { IfSome result (λ sector. length sector.now ≡ 512) }
         ensures none { result ≡ None → length (tail_bytes self.now) < 512 }
     {
         if self.count == 512 { Some(&self.sector) } else { None }
