@@ -119,7 +119,7 @@ pub fn place<'a>(
     ensures room { IfOk result (λ places. HasRoom places) }
     ensures no_room { IfErr result
         (λ e. (n : ℕ) → e ≡ TakeError.NoRoom n
-            → Takes map.old.size (IsUsedIn map.old.entries) (counts_of (plain_contents contents.entry.items) text_bytes) (Err n)) }
+        → Takes map.old.size (IsUsedIn map.old.entries) (counts_of (plain_contents contents.entry.items) text_bytes) (Err n)) }
     ensures size { map.new.size ≡ map.old.size }
     ensures err { OnErr result (SameUsages map.old.entries map.new.entries) }
 {

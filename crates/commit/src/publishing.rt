@@ -20,12 +20,7 @@ pub struct Plan<'a, C> {
 }
 
 /// The plan of the next commit: what was placed, and behind it the text of its catalogue. It takes no memory.
-pub fn plan_next<'a, C>(
-    old: Commit,
-    catalogue: C,
-    places: Places<'a>,
-    text: Vec<u8>,
-) -> Plan<'a, C>
+pub fn plan_next<'a, C>(old: Commit, catalogue: C, places: Places<'a>, text: Vec<u8>) -> Plan<'a, C>
     requires epoch { old.epoch + 1 < 2 ^ 64 }
     requires room { HasRoom places }
     ensures commit { result.commit ≡ next_commit old places.entry.text (length text.items) }

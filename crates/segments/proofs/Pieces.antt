@@ -3,7 +3,6 @@ use Rattle.std.proofs.Common.{◌≡◌, ◌≤◌, ◌<◌, ◌+◌, ℕ, zero,
 use Rattle.std.proofs.lemmas.Grind.{flat_map-append}
 use Rattle.std.proofs.lemmas.List.{get_or-map, length-map, take_more, take-append-drop}
 use Rattle.sector_dev.specs.Disk.{Sector, Story, now, shown_image}
-use Rattle.segments.specs.declared.run.Run.{Run}
 use Rattle.segments.specs.declared.piece.Piece.{Piece}
 use Rattle.segments.specs.declared.piece.Part.{Part}
 use Rattle.segments.specs.Pieces.{PlainPiece, part_bytes, bytes_of_parts, plain_piece, plain_pieces}
@@ -60,10 +59,9 @@ pub pieces_hold : (size : ℕ) (ps : List PlainPiece) (a b : Story) → AllFit s
 pieces_hold size [] a b fit apart done = tt
 pieces_hold size (p ∷ ps) a b fit apart done =
     let parts = apart_done (run_writes p.run.start p.bytes) (piece_writes ps) a b done in
-    let later : WritesOnly (runs_of ps) (now parts.0) (now b) = written_now (runs_of ps) parts.0 b (moments_done (runs_of ps) (piece_writes ps) parts.0 b (pieces_in size ps fit.2) parts.2) in
-    (
+    let later : WritesOnly (runs_of ps) (now parts.0) (now b) = written_now (runs_of ps) parts.0 b (moments_done (runs_of ps) (piece_writes ps) parts.0 b (pieces_in size ps fit.2) parts.2) in (
       same_holds (shown_image (now parts.0)) (shown_image (now b)) p.run.start p.bytes
-      (λ j lt. ap (λ (s : Sector). s.shown) (later.outside (p.run.start + j) (out_of_apart p.run (runs_of ps) (p.run.start + j) apart.0 (omega arith) (omega (arith, lt, fit.1)))))
-      (run_holds p.run.start p.bytes a parts.0 parts.1),
+          (λ j lt. ap (λ (s : Sector). s.shown) (later.outside (p.run.start + j) (out_of_apart p.run (runs_of ps) (p.run.start + j) apart.0 (omega arith) (omega (arith, lt, fit.1)))))
+          (run_holds p.run.start p.bytes a parts.0 parts.1),
       pieces_hold size ps parts.0 b fit.2 apart.1 parts.2,
     )

@@ -1,5 +1,5 @@
 -- The writes of a run in stretches of whole sectors, one behind the other.
-use Rattle.std.proofs.Common.{◌≡◌, ◌≤◌, ◌<◌, ◌+◌, ◌-◌, ◌*◌, ◌/◌, ℕ, zero, suc, List, [], ◌∷◌, ◌++◌, length, map, take, drop, get_or, refl, inl, inr, ◌≢◌, Some, None, min, sym, ap, ◌∙◌, subst, arith, append_assoc, take_all, length-take, length-take-le, length-drop, length-append, take-add, take_at, drop_at, drop-drop}
+use Rattle.std.proofs.Common.{◌≡◌, ◌≤◌, ◌<◌, ◌+◌, ◌-◌, ◌*◌, ◌/◌, ℕ, zero, suc, List, [], ◌∷◌, ◌++◌, length, map, take, drop, get_or, refl, inl, inr, ◌≢◌, Some, min, sym, ap, ◌∙◌, subst, arith, append_assoc, take_all, length-take, length-take-le, length-drop, length-append, take-add, take_at, drop_at, drop-drop}
 use Rattle.std.specs.List.{range_with_len}
 use Rattle.std.specs.Simd.{first_chunks}
 use Rattle.std.proofs.lemmas.List.{take-append-drop, take-append-le, drop-append-le}

@@ -3,7 +3,7 @@ use Rattle.std.proofs.Common.{◌≡◌, ◌≢◌, ◌⊎◌, inl, inr, ⊎_eli
 use Rattle.std.specs.Result.{OnOk, OnErr}
 use Rattle.std.specs.List.{range_with_len}
 use Rattle.std.proofs.lemmas.Bool.{cases_eq}
-use Rattle.sector_dev.specs.Disk.{Disk, Sector, Story, Image, now, put, shown_image, MayHold, MayLeave, Puts, FailsToPut}
+use Rattle.sector_dev.specs.Disk.{Disk, Sector, Story, now, put, shown_image, MayHold, MayLeave, Puts, FailsToPut}
 use Rattle.sector_dev.specs.Time.{Grows}
 use Rattle.sector_dev.specs.laws.Time.{two, goes_on, weaken, now_has, left_since}
 use Rattle.sector_dev.specs.laws.Crash.{put_other, put_same}

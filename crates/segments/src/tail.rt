@@ -50,7 +50,11 @@ impl Tail {
         ensures whole { IfSome result (λ sector. length sector.now ≡ 512) }
         ensures none { result ≡ None → length (tail_bytes self.now) < 512 }
     {
-        if self.count == 512 { Some(&self.sector) } else { None }
+        if self.count == 512 {
+            Some(&self.sector)
+        } else {
+            None
+        }
     }
 
     // Begins anew so many sectors further on, with these bytes.

@@ -44,7 +44,11 @@ fn write_sectors<D: SectorDevice>(
 
 // Writes the whole sectors of a tail and the bytes behind it. What is left stays in the tail: the bytes of a part are copied only where
 // they share a sector with those of another one.
-fn write_part<D: SectorDevice>(device: &mut D, tail: &mut Tail, bytes: &[u8]) -> Result<(), DevError>
+fn write_part<D: SectorDevice>(
+    device: &mut D,
+    tail: &mut Tail,
+    bytes: &[u8],
+) -> Result<(), DevError>
     requires partial { length (tail_bytes tail.old) < 512 }
     requires within { tail.old.start + length (tail_bytes tail.old ++ bytes.now) / 512 ≤ D.size device.old }
     requires countable { 512 * D.size device.old < 2 ^ 64 }

@@ -1,4 +1,4 @@
-use Rattle.std.proofs.Common.{◌≡◌, ◌++◌, ◌+◌, ◌/◌, ◌∙◌, length, arith}
+use Rattle.std.proofs.Common.{◌≡◌, ◌++◌, ◌/◌, ◌∙◌, length, arith}
 use Rattle.segments.specs.inner.Tails.{tail_bytes}
 use Rattle.segments.proofs.Order.{on_err}
 use Rattle.segments.proofs.Stretches.{left_of, all_taken, still_rest, none_written, behind_sector, part_length, sector_failed, sectors_failed, sectors_done, left_behind}

@@ -1,4 +1,4 @@
-use Rattle.std.proofs.Common.{◌≡◌, [], ◌+◌, ◌++◌, ◌/◌, ◌∙◌, length, take, drop, refl, sym, ap, subst, arith, take_all}
+use Rattle.std.proofs.Common.{◌≡◌, [], ◌+◌, ◌++◌, ◌∙◌, length, take, drop, refl, sym, ap, subst, arith, take_all}
 use Rattle.segments.specs.Pieces.{bytes_of_parts}
 use Rattle.segments.specs.Writing.{run_writes, GrowsBy, FailsAmong}
 use Rattle.segments.specs.inner.Tails.{tail_bytes, whole_bytes, rest_bytes}

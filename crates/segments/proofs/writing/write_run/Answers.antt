@@ -1,4 +1,4 @@
-use Rattle.std.proofs.Common.{◌≡◌, ◌∷◌, [], List, ℕ, true, subst, refl, append-nil, arith}
+use Rattle.std.proofs.Common.{◌≡◌, ◌∷◌, [], List, ℕ, true, subst, append-nil, arith}
 use Rattle.std.specs.Result.{OnOk, OnErr}
 use Rattle.segments.specs.Writing.{run_for, run_writes, GrowsBy, FailsAmong}
 use Rattle.segments.specs.laws.ReadBack.{read_back}

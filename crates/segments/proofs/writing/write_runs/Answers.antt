@@ -1,7 +1,6 @@
-use Rattle.std.proofs.Common.{◌≡◌, ◌+◌, ◌++◌, ◌∙◌, length, take, sym, ap, subst, arith, take_all}
+use Rattle.std.proofs.Common.{◌≡◌, ◌∙◌, length, ap, subst, arith, take_all}
 use Rattle.segments.specs.Pieces.{plain_piece, plain_pieces, bytes_of_parts}
 use Rattle.segments.specs.Writing.{runs_of, piece_writes, GrowsBy}
-use Rattle.segments.specs.Sectors.{sector_count}
 use Rattle.std.proofs.lemmas.List.{length-map}
 use Rattle.segments.proofs.Order.{on_err, piece_done, piece_failed}
 use Rattle.segments.proofs.Pieces.{fit_of, number, plain_at, pieces_in, pieces_hold}

@@ -1,4 +1,4 @@
-use Rattle.std.proofs.Common.{◌∙◌, length, sym, ap, eqb-true}
+use Rattle.std.proofs.Common.{◌∙◌, length, sym, ap}
 use Rattle.std.proofs.lemmas.Bool.{eqb-false}
 use Rattle.segments.specs.Sectors.{filled}
 use Rattle.segments.specs.inner.Tails.{tail_bytes}
