@@ -89,7 +89,7 @@ impl<D: SectorDevice> Store<D> {
         commands_bring_tables(&command);
         decisions_are_verdicts();
         match self.decide(alloc, command) {
-            Ok(change) => self.carry_out(alloc, change),
+            Ok(change) => self.carry_out(alloc, &change),
             Err(refusal) => Err(refusal),
         }
     }

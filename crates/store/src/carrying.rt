@@ -257,29 +257,29 @@ impl<D: SectorDevice> Store<D> {
     ///
     /// # Errors
     /// `TooMany(Epochs)`, `TooMany(Segments)`, `NoRoom` and `OutOfMemory`: nothing has changed. `Device`: the store is halted.
-    pub(crate) fn carry_out(&mut self, alloc: Global, change: Change) -> Result<(), Refusal>
-        requires sound { CanChange (listed_in self.old) (change_of change) }
+    pub(crate) fn carry_out(&mut self, alloc: Global, change: &Change) -> Result<(), Refusal>
+        requires sound { CanChange (listed_in self.old) (change_of change.now) }
         requires on { self.old.halted ≡ false }
         ensures size { D.size (device_of self.new) ≡ D.size (device_of self.old) }
         ensures count { D.failed (device_of self.new) ≡ counted (reply_of result) (D.failed (device_of self.old)) }
-        ensures carried { EndsAs D.size self.old (Ok (change_of change)) result self.new }
+        ensures carried { EndsAs D.size self.old (Ok (change_of change.now)) result self.new }
         ensures halts { (self.new.halted ≡ true) ↔ (result ≡ Err Refusal.Device) }
         ensures not_halted { IfErr result (λ e. e ≢ Refusal.Halted) }
         ensures kept { IfErr result (λ e. IsKept self.old self.new) }
         ensures quiet { IfErr result (λ e. e ≢ Refusal.Device → D.story (device_of self.new) ≡ D.story (device_of self.old)) }
         // On a store that lies on its disk, where a command asks for the change.
         ensures writes { D.tells ≡ true → (c : PlainCommand) → IsOnDisk D.size D.story self.old
-            → IsDecided true (shown_image (now (D.story (device_of self.old)))) (listed_in self.old) c (Ok (change_of change))
+            → IsDecided true (shown_image (now (D.story (device_of self.old)))) (listed_in self.old) c (Ok (change_of change.now))
             → Writes D.size D.story self.old c self.new }
         ensures written { OnOk result (D.tells ≡ true → (c : PlainCommand) → IsOnDisk D.size D.story self.old
-            → IsDecided true (shown_image (now (D.story (device_of self.old)))) (listed_in self.old) c (Ok (change_of change))
+            → IsDecided true (shown_image (now (D.story (device_of self.old)))) (listed_in self.old) c (Ok (change_of change.now))
             → HasWritten D.size D.story self.old c self.new) }
         // On a store whose tables the machine knows, where the change makes what a command makes: the machine goes on by the command.
         ensures goes { D.tells ≡ true → (base : Tables) (m : Machine) (c : PlainCommand) (new : Tables)
             → StoreFits D.size D.story base m self.old → m.phase ≡ running
             → verdict (tables_now (setting_of (D.size (device_of self.old)) base) m) c ≡ Ok new
-            → MakesOf (tables_now (setting_of (D.size (device_of self.old)) base) m) (change_of change) new
-            → IsDecided true (shown_image (now (D.story (device_of self.old)))) (listed_in self.old) c (Ok (change_of change))
+            → MakesOf (tables_now (setting_of (D.size (device_of self.old)) base) m) (change_of change.now) new
+            → IsDecided true (shown_image (now (D.story (device_of self.old)))) (listed_in self.old) c (Ok (change_of change.now))
             → GoesOn D.size D.story D.failed base m (apply_call c) (reply_of result) self.old self.new }
     {
         let pieces = change.pieces(alloc)?;
@@ -288,7 +288,7 @@ impl<D: SectorDevice> Store<D> {
             &mut self.opened.map,
             self.opened.commit,
             &self.opened.catalogue,
-            &change,
+            change,
             &pieces,
         )?;
         match publish(&mut self.device, &self.opened, &prepared.plan) {

@@ -37,7 +37,7 @@ pub returns-in_err-pieces-clause-goes : goal.returns-in_err-pieces-clause-goes
 returns-in_err-pieces-clause-goes g c = λ told base m cmd new fits on makes mk decided.
     let D = g.D.SectorDevice in
     let s = c.args.self.now in
-    let change : PlainChange = change_of c.args.change in
+    let change : PlainChange = change_of c.args.change.now in
     let p = err_from_is_err_and c.from_residual.result c.from_residual.ensures.1 in
     rw (p.1, p.2) (record {
       next = m;
@@ -49,13 +49,13 @@ returns-in_err-pieces-clause-goes g c = λ told base m cmd new fits on makes mk 
 
 pub prepare-requires-clause-sound : goal.prepare-requires-clause-sound
 prepare-requires-clause-sound g c =
-    made_change (listed_in c.args.self.now) (change_of c.args.change) (streams_in c.in_ok-pieces.pieces) c.requires.sound c.in_ok-pieces.ensures.streams c.in_ok-pieces.ensures.short
+    made_change (listed_in c.args.self.now) (change_of c.args.change.now) (streams_in c.in_ok-pieces.pieces) c.requires.sound c.in_ok-pieces.ensures.streams c.in_ok-pieces.ensures.short
 
 pub returns-in_err-prepared-clause-goes : goal.returns-in_err-prepared-clause-goes
 returns-in_err-prepared-clause-goes g c = λ told base m cmd new fits on makes mk decided.
     let D = g.D.SectorDevice in
     let s = c.args.self.now in
-    let change : PlainChange = change_of c.args.change in
+    let change : PlainChange = change_of c.args.change.now in
     let p = err_from_is_err_and c.from_residual-in_err-prepared.result c.from_residual-in_err-prepared.ensures.1 in
     let r = c.in_err-prepared.field-0.0 in
     let carried = subst (λ (n : ℕ). IsCarried n (IsUsedIn s.opened.map.entries) s.opened.commit (listed_in s) change (Err r) s.opened.commit (listed_in s)) s.same c.in_err-prepared.ensures.why in
@@ -74,12 +74,12 @@ returns-in_err-prepared-clause-goes g c = λ told base m cmd new fits on makes m
 
 pub invariant_of-self-in-Ok : goal.invariant_of-self-in-Ok
 invariant_of-self-in-Ok g c =
-    let sound = made_change (listed_in c.args.self.now) (change_of c.args.change) (streams_in c.in_ok-pieces.pieces) c.requires.sound c.in_ok-pieces.ensures.streams c.in_ok-pieces.ensures.short in
+    let sound = made_change (listed_in c.args.self.now) (change_of c.args.change.now) (streams_in c.in_ok-pieces.pieces) c.requires.sound c.in_ok-pieces.ensures.streams c.in_ok-pieces.ensures.short in
     let D = g.D.SectorDevice in
     let s = c.args.self.now in
     let listed = listed_in s in
     let stands = catalogue_is listed s.opened.catalogue.list.kept in
-    let change : PlainChange = change_of c.args.change in
+    let change : PlainChange = change_of c.args.change.now in
     let plan = c.in_ok-prepared.prepared.plan in
     let back = c.in_ok-prepared.prepared.back.items in
     let old = s.opened.map in
@@ -105,7 +105,7 @@ pub invariant_of-self-in-Err : goal.invariant_of-self-in-Err
 invariant_of-self-in-Err g c =
     let s = c.args.self.now in
     let listed = listed_in s in
-    let change : PlainChange = change_of c.args.change in
+    let change : PlainChange = change_of c.args.change.now in
     let plan = c.in_ok-prepared.prepared.plan in
     let back = c.in_ok-prepared.prepared.back.items in
     let prep = c.in_ok-prepared.ensures.ok in
@@ -124,7 +124,7 @@ invariant_of-self-in-Err g c =
 pub returns-in-Ok-clause-carried : goal.returns-in-Ok-clause-carried
 returns-in-Ok-clause-carried g c =
     let s = c.args.self.now in
-    let change : PlainChange = change_of c.args.change in
+    let change : PlainChange = change_of c.args.change.now in
     let prep = c.in_ok-prepared.ensures.ok in
     let sizes = asked_sizes (listed_in s) change in
     let takes = took_takes s.opened.map.size (IsUsedIn s.opened.map.entries) sizes (runs_of prep.pieces ++ prep.run ∷ []) prep.took.took in (
@@ -139,18 +139,18 @@ returns-in-Ok-clause-carried g c =
       ),
     )
 
-pub returns-in-Err-clause-carried : goal.returns-in-Err-clause-carried
-returns-in-Err-clause-carried g c =
+pub returns-clause-carried : goal.returns-clause-carried
+returns-clause-carried g c =
     let s = c.args.self.now in
     let prep = c.in_ok-prepared.ensures.ok in
-    let sizes = asked_sizes (listed_in s) (change_of c.args.change) in
+    let sizes = asked_sizes (listed_in s) (change_of c.args.change.now) in
     let runs = runs_of prep.pieces ++ prep.run ∷ [] in
     let takes = took_takes s.opened.map.size (IsUsedIn s.opened.map.entries) sizes runs prep.took.took in
     (prep.next, prep.few, (runs, subst (λ (n : ℕ). Takes n (IsUsedIn s.opened.map.entries) sizes (Ok runs)) s.same takes))
 
 pub returns-in-Ok-clause-goes : goal.returns-in-Ok-clause-goes
 returns-in-Ok-clause-goes g c = λ told base m cmd new fits run makes mk decided.
-    let sound = made_change (listed_in c.args.self.now) (change_of c.args.change) (streams_in c.in_ok-pieces.pieces) c.requires.sound c.in_ok-pieces.ensures.streams c.in_ok-pieces.ensures.short in
+    let sound = made_change (listed_in c.args.self.now) (change_of c.args.change.now) (streams_in c.in_ok-pieces.pieces) c.requires.sound c.in_ok-pieces.ensures.streams c.in_ok-pieces.ensures.short in
     let D = g.D.SectorDevice in
     let s = c.args.self.now in
     let s0 = D.story s.device in
@@ -159,7 +159,7 @@ returns-in-Ok-clause-goes g c = λ told base m cmd new fits run makes mk decided
     let sized = c.publish.ensures.size in
     let listed = listed_in s in
     let stands = catalogue_is listed s.opened.catalogue.list.kept in
-    let change : PlainChange = change_of c.args.change in
+    let change : PlainChange = change_of c.args.change.now in
     let plan = c.in_ok-prepared.prepared.plan in
     let back = c.in_ok-prepared.prepared.back.items in
     let old = s.opened.map in
@@ -209,9 +209,9 @@ returns-in-Ok-clause-goes g c = λ told base m cmd new fits run makes mk decided
       };
     }
 
-pub returns-in-Err-clause-goes : goal.returns-in-Err-clause-goes
-returns-in-Err-clause-goes g c = λ told base m cmd new fits run makes mk decided.
-    let sound = made_change (listed_in c.args.self.now) (change_of c.args.change) (streams_in c.in_ok-pieces.pieces) c.requires.sound c.in_ok-pieces.ensures.streams c.in_ok-pieces.ensures.short in
+pub returns-clause-goes : goal.returns-clause-goes
+returns-clause-goes g c = λ told base m cmd new fits run makes mk decided.
+    let sound = made_change (listed_in c.args.self.now) (change_of c.args.change.now) (streams_in c.in_ok-pieces.pieces) c.requires.sound c.in_ok-pieces.ensures.streams c.in_ok-pieces.ensures.short in
     let D = g.D.SectorDevice in
     let s = c.args.self.now in
     let s0 = D.story s.device in
@@ -219,7 +219,7 @@ returns-in-Err-clause-goes g c = λ told base m cmd new fits run makes mk decide
     let size = D.size s.device in
     let sized = c.publish.ensures.size in
     let listed = listed_in s in
-    let change : PlainChange = change_of c.args.change in
+    let change : PlainChange = change_of c.args.change.now in
     let plan = c.in_ok-prepared.prepared.plan in
     let back = c.in_ok-prepared.prepared.back.items in
     let mid = c.prepare.new.map in
@@ -264,23 +264,23 @@ returns-in_err-prepared-clause-writes g c = λ told cmd on decided.
 
 pub returns-in-Ok-clause-writes : goal.returns-in-Ok-clause-writes
 returns-in-Ok-clause-writes g c = λ told cmd on decided.
-    let sound = made_change (listed_in c.args.self.now) (change_of c.args.change) (streams_in c.in_ok-pieces.pieces) c.requires.sound c.in_ok-pieces.ensures.streams c.in_ok-pieces.ensures.short in
-    writes c.args.self.now c.prepare.new.map (change_of c.args.change) c.in_ok-prepared.prepared.plan c.in_ok-prepared.prepared.back.items c.in_ok-prepared.ensures.ok sound cmd decided
+    let sound = made_change (listed_in c.args.self.now) (change_of c.args.change.now) (streams_in c.in_ok-pieces.pieces) c.requires.sound c.in_ok-pieces.ensures.streams c.in_ok-pieces.ensures.short in
+    writes c.args.self.now c.prepare.new.map (change_of c.args.change.now) c.in_ok-prepared.prepared.plan c.in_ok-prepared.prepared.back.items c.in_ok-prepared.ensures.ok sound cmd decided
     (g.D.SectorDevice.story c.publish.new.device) on (c.publish.ensures.moments told)
 
-pub returns-in-Err-clause-writes : goal.returns-in-Err-clause-writes
-returns-in-Err-clause-writes g c = λ told cmd on decided.
-    let sound = made_change (listed_in c.args.self.now) (change_of c.args.change) (streams_in c.in_ok-pieces.pieces) c.requires.sound c.in_ok-pieces.ensures.streams c.in_ok-pieces.ensures.short in
-    writes c.args.self.now c.prepare.new.map (change_of c.args.change) c.in_ok-prepared.prepared.plan c.in_ok-prepared.prepared.back.items c.in_ok-prepared.ensures.ok sound cmd decided
+pub returns-clause-writes : goal.returns-clause-writes
+returns-clause-writes g c = λ told cmd on decided.
+    let sound = made_change (listed_in c.args.self.now) (change_of c.args.change.now) (streams_in c.in_ok-pieces.pieces) c.requires.sound c.in_ok-pieces.ensures.streams c.in_ok-pieces.ensures.short in
+    writes c.args.self.now c.prepare.new.map (change_of c.args.change.now) c.in_ok-prepared.prepared.plan c.in_ok-prepared.prepared.back.items c.in_ok-prepared.ensures.ok sound cmd decided
     (g.D.SectorDevice.story c.publish.new.device) on (c.publish.ensures.moments told)
 
 pub returns-in-Ok-clause-written : goal.returns-in-Ok-clause-written
 returns-in-Ok-clause-written g c = λ told cmd on decided.
-    let sound = made_change (listed_in c.args.self.now) (change_of c.args.change) (streams_in c.in_ok-pieces.pieces) c.requires.sound c.in_ok-pieces.ensures.streams c.in_ok-pieces.ensures.short in
+    let sound = made_change (listed_in c.args.self.now) (change_of c.args.change.now) (streams_in c.in_ok-pieces.pieces) c.requires.sound c.in_ok-pieces.ensures.streams c.in_ok-pieces.ensures.short in
     let D = g.D.SectorDevice in
     let s = c.args.self.now in
     let s1 = D.story c.publish.new.device in
-    let change : PlainChange = change_of c.args.change in
+    let change : PlainChange = change_of c.args.change.now in
     let plan = c.in_ok-prepared.prepared.plan in
     let back = c.in_ok-prepared.prepared.back.items in
     let prep = c.in_ok-prepared.ensures.ok in
