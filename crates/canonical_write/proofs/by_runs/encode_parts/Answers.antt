@@ -30,7 +30,8 @@ loop-from-init c =
       are = ap (list_all (is_row s)) all ∙ list_all-from_AllPass (is_row s) t.rows c.requires.table.rows;
       sound = c.in_ok-left.ensures.sound cs c.requires.sound;
       each = subst (λ (rows : List (List Cell)). AllByRecursion (IsPieceOf s) (pieces (within_piece s) rows)) (sym all) (c.pieces_can_be_built.ensures t c.requires.table);
-      written = ap (λ (rows : List (List Cell)). stream_in c.in_ok-stream.stream ++ (flat_map (piece_messages s) (pieces (within_piece s) rows) ++ end_of_stream)) all ∙ first_written s t (stream_in c.in_ok-stream.stream) c.in_ok-stream.ensures;
+      written = ap (λ (rows : List (List Cell)). stream_in c.begin_stream-stream.result ++ (flat_map (piece_messages s) (pieces (within_piece s) rows) ++ end_of_stream)) all
+          ∙ first_written s t (stream_in c.begin_stream-stream.result) (c.begin_stream-stream.ensures ∙ c.in_ok-first.ensures);
     }
 
 pub next_piece-requires-clause-some : goal.next_piece-requires-clause-some
