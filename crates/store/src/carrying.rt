@@ -128,7 +128,7 @@ fn next_catalogue(
         (record { edit = edit_of edit.now; streams = contents_of (plain_pieces pieces.now); counts = rows.now }) }
     ensures catalogue { IfOk result (λ next. catalogue_of next.0.list
         ≡ edited (catalogue_of stored.now.list) (edit_of edit.now)
-            (placed_segments (runs_of (plain_pieces pieces.now)) (contents_of (plain_pieces pieces.now)) rows.now)) }
+        (placed_segments (runs_of (plain_pieces pieces.now)) (contents_of (plain_pieces pieces.now)) rows.now)) }
     ensures found { IfOk result (λ next. catalogue_at next.1.items ≡ Some (catalogue_of next.0.list)) }
     ensures size { IfOk result (λ next. length next.1.items ≡ list_size (catalogue_of next.0.list)) }
 {

@@ -1,16 +1,14 @@
 -- Laws of the new segments of a change.
 use Rattle.std.specs.Prelude.{◌≡◌, ◌⊎◌, ◌≤◌, ◌<◌, ◌^◌, ◌++◌, ◌==◌, ◌&&◌, ℕ, true, List, [], ◌∷◌, length, map, nat_le, nat_lt}
 use Rattle.std.specs.List.{list_all, AllByRecursion}
-use Rattle.std.proofs.Common.{refl, ap, subst, arith}
+use Rattle.std.proofs.Common.{refl, ap, arith}
 use Rattle.std.proofs.lemmas.Bool.{and_parts, and_from, le-leb, lt-ltb, eq-eqb}
 use Rattle.segments.specs.declared.run.Run.{Run}
-use Rattle.segments.specs.Usages.{Space, IsUsedIn}
 use Rattle.segments.specs.Sectors.{sector_count}
 use Rattle.catalogue.specs.declared.limits.TheConstants.{MAX_SEGMENT_ROWS}
 use Rattle.catalogue.specs.declared.entry.Segment.{Segment}
 use Rattle.catalogue.specs.Entries.{is_between, is_segment}
-use Rattle.commit.specs.Placing.{sectors_of, counts_of}
-use Rattle.commit.specs.laws.Taking.{Took, TookAll}
+use Rattle.commit.specs.laws.Taking.{Took}
 use Rattle.store.specs.Changes.{placed_segments}
 use Rattle.store.specs.Carrying.{unplaced}
 

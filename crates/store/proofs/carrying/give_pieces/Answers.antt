@@ -1,4 +1,4 @@
-use Rattle.std.proofs.Common.{◌∷◌, ◌++◌, [], take, sym, subst}
+use Rattle.std.proofs.Common.{take, sym, subst}
 use Rattle.segments.specs.Pieces.{plain_pieces}
 use Rattle.segments.specs.Writing.{runs_of}
 use Rattle.commit.specs.laws.Taking.{GivesAll, gives_one_more}
