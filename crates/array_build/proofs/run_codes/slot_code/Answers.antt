@@ -1,16 +1,15 @@
-use Rattle.std.specs.Prelude.{ℤ, Option, None, get_or}
-use Rattle.std.proofs.Common.{◌≡◌, ℕ, List, map, ap, sym, subst, ◌∙◌}
+use Rattle.std.specs.Prelude.{ℤ}
+use Rattle.std.proofs.Common.{◌≡◌, List, map, ap, sym, ◌∙◌}
 use Rattle.arrow_schema.specs.View.{column_of, index_of}
 use Rattle.array_build.proofs.CodedRuns.{hidden_cell, valid_cell}
-use Rattle.array_build.proofs.Codes.{is_known, noted_known, null_code}
+use Rattle.array_build.proofs.Codes.{is_known, null_code}
 use Rattle.array_build.proofs.run_codes.slot_code.Goals as goal
-use Rattle.array_build.specs.inner.Codes.{IsKnown, code_in, known_at, noted, own_entries}
+use Rattle.array_build.specs.inner.Codes.{IsKnown, code_in, known_at, own_entries}
 use Rattle.cells.specs.Cell.{Cell, null}
 use Rattle.cells.specs.Dictionary.{with_entry}
 use Rattle.cells.specs.Entry.{entry_cell}
 use Rattle.columns.specs.CellAt.{cell_at, entry_at, index_at}
 use Rattle.columns.specs.View.{view_array}
-use Rattle.values.specs.Borrowed.{borrowed_cell}
 
 pub returns-then-not-is_valid-clause-entries : goal.returns-then-not-is_valid-clause-entries
 returns-then-not-is_valid-clause-entries g c =
