@@ -8,7 +8,7 @@ use Rattle.byteorder.specs.Numbers.{length-bytes_low_first}
 use Rattle.array_build.proofs.Codes.{IsUnderway, all_coded, begun, one_coded, some_coded, nulls_coded}
 use Rattle.array_build.proofs.Low.{zero_bytes}
 use Rattle.array_build.proofs.Repeated.{repeated_each, repeated_map}
-use Rattle.array_build.specs.inner.Codes.{IsWritten, code_in, sized_code}
+use Rattle.array_build.specs.inner.Codes.{IsPut, IsWritten, code_in, sized_code}
 use Rattle.cells.specs.Cell.{Cell, null}
 use Rattle.cells.specs.Dictionary.{with_entry}
 use Rattle.columns.specs.Built.{place_or_zero}
@@ -51,6 +51,14 @@ one_written size start all es c left es' old new rest valid valid' done done' k 
   valid =
       ap (λ (n : ℕ). take n valid') next ∙ ap (take (done + 1)) bits ∙ take_more_set valid done (is_some k) within ∙ ap (λ (bs : List Bool). bs ++ is_some k ∷ []) h.valid
       ∙ sym (map-append is_some h.codes (k ∷ []));
+}
+
+-- what is put for a code is put for the cell that has it
+pub put_is : (size place : ℕ) (es : List Cell) (c : Cell) (old new : List ℕ) (valid valid' : List Bool) (k : Option ℕ) → k ≡ code_in es c
+    → new ≡ take (size * place) old ++ (sized_code size k ++ drop (size * place + size) old) → valid' ≡ set valid place (is_some k) → IsPut size place es c old new valid valid'
+put_is size place es c old new valid valid' k code bytes bits = record {
+  index = bytes ∙ ap (λ (j : Option ℕ). take (size * place) old ++ (sized_code size j ++ drop (size * place + size) old)) code;
+  valid = bits ∙ ap (λ (j : Option ℕ). set valid place (is_some j)) code;
 }
 
 pub all_written : (size : ℕ) (start all es : List Cell) (indices : List ℕ) (valid : List Bool) (done : ℕ) → IsPartWritten size start all es [] indices valid done

@@ -1,9 +1,9 @@
 // The places of cells among the entries of a dictionary, of runs of slots. An entry of an array's own dictionary is looked up once for each run, and
 // then known by its number.
-ghost use Rattle.std.specs.Prelude.{◌≡◌, ◌≤◌, ◌<◌, ◌-◌, ◌*◌, ◌/◌, true, false, OnOk, IfOk, Some, List, length, map, replicate};
+ghost use Rattle.std.specs.Prelude.{◌≡◌, ◌≤◌, ◌<◌, ◌+◌, ◌-◌, ◌*◌, ◌/◌, ◌++◌, true, false, OnOk, IfOk, Some, List, drop, is_some, length, map, replicate, set, take};
 ghost use Rattle.std.specs.List.{list_all};
 ghost use Rattle.arrow_schema.specs.View.{bits_of, column_of, index_of};
-ghost use Rattle.array_build.specs.inner.Codes.{AreKnown, IsWritten, code_in, known_at, noted, own_entries};
+ghost use Rattle.array_build.specs.inner.Codes.{AreKnown, IsPut, IsWritten, code_in, known_at, noted, own_entries, sized_code};
 ghost use Rattle.array_build.specs.inner.RunCells.{is_coded};
 ghost use Rattle.array_build.specs.inner.Runs.{run_bits, runs_bits};
 ghost use Rattle.array_runs.specs.Runs.{are_runs_sound, is_run_sound, run_cells, runs_cells};
@@ -62,8 +62,7 @@ fn note_code(known: &mut [Option<usize>], number: Option<u64>, code: Option<usiz
     }
 }
 
-// The code of a slot that is valid, and whose entry is not known. It is no part of the loop over slots, which would keep its variables in memory for it.
-#[inline(never)]
+// The code of a slot that is valid, and whose entry is not known.
 fn new_code<'a>(
     entries: &mut IndexSet<Entry<'a>>,
     known: &mut [Option<usize>],
@@ -88,34 +87,94 @@ fn new_code<'a>(
     Ok(code)
 }
 
-// The code of a slot, whose index has so many bytes.
+// Writes the index that a code is, and whether there is one, at the place of a slot.
 #[inline]
-fn slot_code<'a, const SIZE: usize>(
+fn put_at<const SIZE: usize>(
+    indices: &mut [u8],
+    valid: &mut [bool],
+    place: usize,
+    code: Option<usize>,
+)
+    requires small { SIZE ≤ 8 }
+    requires room { SIZE * place + SIZE ≤ length indices.old }
+    requires places { place < length valid.old }
+    ensures index { indices.new ≡ take (SIZE * place) indices.old ++ (sized_code SIZE code ++ drop (SIZE * place + SIZE) indices.old) }
+    ensures valid { valid.new ≡ set valid.old place (is_some code) }
+{
+    // a number of the code is below 2^64, so that the place of the index is too
+    let _room = indices.len();
+    put_code::<SIZE>(indices, SIZE * place, code);
+    valid[place] = code.is_some();
+}
+
+// Writes what a slot has that is valid, and whose entry is not known. It is no part of the loop over slots, which would keep its variables in memory for it.
+#[inline(never)]
+fn put_new_code<'a, const SIZE: usize>(
     entries: &mut IndexSet<Entry<'a>>,
     known: &mut [Option<usize>],
+    indices: &mut [u8],
+    valid: &mut [bool],
     field: &'a Field,
     slots: CodedSlots<'a>,
     i: usize,
-) -> Result<Option<usize>, AllocError>
+    place: usize,
+) -> Result<(), AllocError>
+    requires small { SIZE ≤ 8 }
+    requires spec { field.now.dictionary ≡ Some slots.spec }
+    requires sound { is_sound (column_of field.now) (view_array slots.view) ≡ true }
+    requires within { i < slots_in (view_array slots.view) }
+    requires coded { is_coded (cell_at (column_of field.now) (view_array slots.view) i) ≡ true }
+    requires valid { is_valid (view_array slots.view) i ≡ true }
+    requires known { AreKnown (map entry_cell entries.old.keys) (own_entries field.now slots.view) known.old }
+    requires room { SIZE * place + SIZE ≤ length indices.old }
+    requires places { place < length valid.old }
+    ensures entries { OnOk result (map entry_cell entries.new.keys
+        ≡ with_entry (map entry_cell entries.old.keys) (cell_at (column_of field.now) (view_array slots.entry.view) i)) }
+    ensures put { OnOk result (IsPut SIZE place (map entry_cell entries.new.keys) (cell_at (column_of field.now) (view_array slots.entry.view) i)
+        indices.old indices.new valid.old valid.new) }
+    ensures known { OnOk result (AreKnown (map entry_cell entries.new.keys) (own_entries field.now slots.entry.view) known.new) }
+{
+    let code = new_code(entries, known, field, slots, i)?;
+    put_at::<SIZE>(indices, valid, place, code);
+    Ok(())
+}
+
+// Writes what a slot has. Each way writes by itself, so that none asks again whether there is a code.
+#[inline]
+fn put_slot_code<'a, const SIZE: usize>(
+    entries: &mut IndexSet<Entry<'a>>,
+    known: &mut [Option<usize>],
+    indices: &mut [u8],
+    valid: &mut [bool],
+    field: &'a Field,
+    slots: CodedSlots<'a>,
+    i: usize,
+    place: usize,
+) -> Result<(), AllocError>
+    requires small { SIZE ≤ 8 }
     requires size { SIZE ≡ (index_of slots.spec).bits / 8 }
     requires spec { field.now.dictionary ≡ Some slots.spec }
     requires sound { is_sound (column_of field.now) (view_array slots.view) ≡ true }
     requires within { i < slots_in (view_array slots.view) }
     requires coded { is_coded (cell_at (column_of field.now) (view_array slots.view) i) ≡ true }
     requires known { AreKnown (map entry_cell entries.old.keys) (own_entries field.now slots.view) known.old }
+    requires room { SIZE * place + SIZE ≤ length indices.old }
+    requires places { place < length valid.old }
     ensures entries { OnOk result (map entry_cell entries.new.keys
         ≡ with_entry (map entry_cell entries.old.keys) (cell_at (column_of field.now) (view_array slots.entry.view) i)) }
-    ensures code { IfOk result (λ code. code ≡ code_in (map entry_cell entries.new.keys) (cell_at (column_of field.now) (view_array slots.entry.view) i)) }
+    ensures put { OnOk result (IsPut SIZE place (map entry_cell entries.new.keys) (cell_at (column_of field.now) (view_array slots.entry.view) i)
+        indices.old indices.new valid.old valid.new) }
     ensures known { OnOk result (AreKnown (map entry_cell entries.new.keys) (own_entries field.now slots.entry.view) known.new) }
 {
     if !slots.is_valid(i) {
-        return Ok(None);
+        put_at::<SIZE>(indices, valid, place, None);
+        return Ok(());
     }
-    let number = slots.sized_number::<SIZE>(i);
-    if let Some(code) = known_code(known, number) {
-        return Ok(Some(code));
+    if let Some(code) = known_code(known, slots.sized_number::<SIZE>(i)) {
+        put_at::<SIZE>(indices, valid, place, Some(code));
+        return Ok(());
     }
-    new_code(entries, known, field, slots, i)
+    put_new_code::<SIZE>(entries, known, indices, valid, field, slots, i, place)
 }
 
 // Writes the indices of so many bytes of some slots of an array, and whether each slot has one, where there is room for just these.
@@ -144,10 +203,7 @@ fn put_sized_codes<'a, const SIZE: usize>(
     // a number of the code is below 2^64, so that the places of all indices are too
     let _room = indices.len();
     for i in from..to {
-        let code = slot_code::<SIZE>(entries, known, field, slots, i)?;
-        let place = i - from;
-        put_code::<SIZE>(indices, SIZE * place, code);
-        valid[place] = code.is_some();
+        put_slot_code::<SIZE>(entries, known, indices, valid, field, slots, i, i - from)?;
     }
     Ok(())
 }
