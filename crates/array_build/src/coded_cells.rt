@@ -1,5 +1,5 @@
 // The node and the buffers of a column with a dictionary, and what its dictionary has.
-ghost use Rattle.std.specs.Prelude.{◌≡◌, ◌*◌, ◌/◌, true, OnOk, IfOk, Some, length, map};
+ghost use Rattle.std.specs.Prelude.{◌≡◌, ◌≤◌, ◌*◌, ◌/◌, true, OnOk, IfOk, Some, length, map};
 ghost use Rattle.std.specs.List.{list_all};
 ghost use Rattle.arrow_schema.specs.View.{bits_of, column_of, index_of};
 ghost use Rattle.array_build.specs.Batch.{batch_in, dictionary_in};
@@ -15,6 +15,7 @@ use crate::run_codes::put_codes;
 use crate::run_slots::{count_slots, push_bit_slots};
 use array_runs::SlotRun;
 use arrow_schema::{BitWidth, DictSpec, Field, IntegerType};
+use columns::entry_count;
 use indexmap::IndexSet;
 use std::alloc::{AllocError, Global};
 use values::ValueRef;
@@ -34,6 +35,23 @@ pub(crate) fn push_indices<'a>(
     let entries = entry_set(alloc, cells)?;
     push_buffer(batch, indices(alloc, index, &entries, cells)?)?;
     entry_cells(alloc, &entries)
+}
+
+// For how many entries there is room at once: those of the first run's dictionary, unless these are more than the slots of all runs.
+fn likely_entries(slots: usize, runs: &[SlotRun<'_>]) -> usize
+    ensures few { result ≤ slots }
+{
+    match runs.first() {
+        Some(SlotRun::Slots { array, .. }) => {
+            let entries = entry_count(array.dictionary());
+            if entries <= slots as u128 {
+                entries as usize
+            } else {
+                0
+            }
+        }
+        _ => 0,
+    }
 }
 
 // Room for so many indices. More bytes than a number holds have none in memory.
@@ -61,7 +79,7 @@ pub(crate) fn push_run_indices<'a>(
     ensures batch { OnOk result (batch_in batch.new ≡ with_indices (batch_in batch.old) (index_of spec) (runs_cells (column_of field.now) runs.now)) }
 {
     let slots = count_slots(runs)?;
-    let mut entries = IndexSet::new(alloc);
+    let mut entries = IndexSet::with_capacity(alloc, likely_entries(slots, runs))?;
     let mut indices = room_for(alloc, spec.index.width, slots)?;
     let mut valid = vec![in alloc; false; slots]?;
     put_codes(

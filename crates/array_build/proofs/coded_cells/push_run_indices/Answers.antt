@@ -20,7 +20,7 @@ returns-clause-batch c =
     let es : List Cell = map entry_cell c.put_codes.new.entries.keys in
     let indices : List ℕ = c.put_codes.new.indices in
     let valid : List Bool = c.put_codes.new.valid in
-    let none : map entry_cell c.new-entries.result.keys ≡ [] = ap (map entry_cell) c.new-entries.ensures.empty in
+    let none : map entry_cell c.in_ok-entries.entries.keys ≡ [] = ap (map entry_cell) c.in_ok-entries.ensures.empty in
     let written : IsWritten (index.bits / 8) [] es indices valid cells =
     subst (λ (old : List Cell). IsWritten (index.bits / 8) old es indices valid cells) none c.in_ok-put_codes.ensures in
     let bytes = take_at indices (drop (length indices) c.in_ok-indices.indices.items) c.in_ok-indices.indices.len (omega (arith, c.put_codes.auto.indices, c.as_mut_slice.ensures.len)) in
