@@ -1,7 +1,7 @@
 -- Runs that stand as they are written.
-use Rattle.std.specs.Prelude.{Some, None, Option, ◌==◌, ◌||◌, replicate}
+use Rattle.std.specs.Prelude.{Some, None, ◌==◌, ◌||◌, replicate}
 use Rattle.std.specs.List.{list_all, range_with_len}
-use Rattle.std.proofs.Common.{◌≡◌, ℕ, Bool, true, false, List, [], ◌∷◌, length, refl, ap, ap₂, sym, ◌∙◌}
+use Rattle.std.proofs.Common.{◌≡◌, ℕ, Bool, true, false, List, [], ◌∷◌, length, refl, ap₂}
 use Rattle.std.proofs.lemmas.Bool.{and_parts, eqb-true}
 use Rattle.arrow_schema.specs.Column.{Kind, nulls, booleans, integers, dates, timestamps, texts, large_texts, binaries, large_binaries, fixed_binaries, lists, large_lists, fixed_lists, structs}
 use Rattle.array_build.specs.Batch.{plain_column}

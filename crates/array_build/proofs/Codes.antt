@@ -1,7 +1,7 @@
 -- The places of cells among the entries of a dictionary, as entries are added one by one.
-use Rattle.std.specs.Prelude.{Option, Some, None, position, ℤ, pos, negsuc, not, set, is_some, replicate, ◌||◌, ◌&&◌, if◌then◌else◌, get_or}
+use Rattle.std.specs.Prelude.{Option, Some, None, position, ℤ, pos, negsuc, not, set, is_some, replicate, ◌/◌, ◌||◌, if◌then◌else◌, get_or}
 use Rattle.std.specs.List.{flat_map, list_all, list_any, position_from, position_or_len}
-use Rattle.std.proofs.Common.{◌≡◌, ◌≢◌, ℕ, zero, suc, ◌+◌, ◌<◌, ◌≤◌, ◌++◌, Bool, true, false, List, [], ◌∷◌, map, length, length-append, append_assoc, append-nil, inl, inr, refl, ap, ap₂, sym, ◌∙◌, subst, arith}
+use Rattle.std.proofs.Common.{◌≡◌, ℕ, zero, suc, ◌+◌, ◌++◌, Bool, true, false, List, [], ◌∷◌, map, length, length-append, append_assoc, append-nil, inl, inr, refl, ap, ap₂, sym, ◌∙◌, subst, arith}
 use Rattle.std.proofs.lemmas.Bool.{and_parts, cases_lt}
 use Rattle.std.proofs.lemmas.Bool.Decides.{Decides-int_eq}
 use Rattle.std.proofs.lemmas.Iterator.Adapters.{position_from-zero}
@@ -12,7 +12,7 @@ use Rattle.arrow_schema.specs.Column.{Index}
 use Rattle.array_build.proofs.Entries.{nowhere_from}
 use Rattle.array_build.proofs.RunArrays.{slots_are}
 use Rattle.array_build.specs.Batch.{PlainBatch}
-use Rattle.array_build.specs.inner.Codes.{AreKnown, IsCoded, IsKnown, code_bytes, code_in, known_at, noted}
+use Rattle.array_build.specs.inner.Codes.{AreKnown, IsCoded, IsKnown, IsWritten, code_in, known_at, noted, sized_code}
 use Rattle.array_build.specs.inner.Coded.{with_indices}
 use Rattle.array_build.specs.inner.Nodes.{with_buffer, with_slots}
 use Rattle.array_build.specs.inner.RunCells.{is_coded}
@@ -173,17 +173,17 @@ joined es (c ∷ xs) ys = joined (with_entry es c) xs ys
 
 -- ---- codes, cell by cell
 
-pub record IsUnderway (start : List Cell) (old : List (Option ℕ)) (all : List Cell) (es : List Cell) (ks : List (Option ℕ)) (left : List Cell) : Type 0 where
+pub record IsUnderway (start : List Cell) (all : List Cell) (es : List Cell) (ks : List (Option ℕ)) (left : List Cell) : Type 0 where
   pub entries : with_entries es left ≡ with_entries start all
-  pub codes : (more : List Cell) → ks ++ map (code_in (with_entries (with_entries start all) more)) left ≡ old ++ map (code_in (with_entries (with_entries start all) more)) all
+  pub codes : (more : List Cell) → ks ++ map (code_in (with_entries (with_entries start all) more)) left ≡ map (code_in (with_entries (with_entries start all) more)) all
 
-pub begun : (start : List Cell) (old : List (Option ℕ)) (all : List Cell) → IsUnderway start old all start old all
-begun start old all = record { entries = refl; codes = λ more. refl }
+pub begun : (start : List Cell) (all : List Cell) → IsUnderway start all start [] all
+begun start all = record { entries = refl; codes = λ more. refl }
 
-pub one_coded : (start : List Cell) (old : List (Option ℕ)) (all es : List Cell) (codes : List (Option ℕ)) (c : Cell) (left es' : List Cell) (k : Option ℕ)
-    → IsUnderway start old all es codes (c ∷ left) → es' ≡ with_entry es c → k ≡ code_in es' c → IsUnderway start old all es' (codes ++ k ∷ []) left
+pub one_coded : (start : List Cell) (all es : List Cell) (codes : List (Option ℕ)) (c : Cell) (left es' : List Cell) (k : Option ℕ)
+    → IsUnderway start all es codes (c ∷ left) → es' ≡ with_entry es c → k ≡ code_in es' c → IsUnderway start all es' (codes ++ k ∷ []) left
 unfolding with_entries
-one_coded start old all es codes c left es' k h added code = record {
+one_coded start all es codes c left es' k h added code = record {
   entries = ap (λ (xs : List Cell). with_entries xs left) added ∙ h.entries;
   codes = λ more.
       let final : List Cell = with_entries (with_entries start all) more in
@@ -193,28 +193,27 @@ one_coded start old all es codes c left es' k h added code = record {
       append_assoc codes (k ∷ []) (map (code_in final) left) ∙ ap (λ (j : Option ℕ). codes ++ j ∷ map (code_in final) left) own ∙ h.codes more;
 }
 
-pub some_coded : (start : List Cell) (old : List (Option ℕ)) (all es : List Cell) (codes : List (Option ℕ)) (cs left es' : List Cell) (codes' : List (Option ℕ))
-    → IsUnderway start old all es codes (cs ++ left) → IsCoded es codes es' codes' cs → IsUnderway start old all es' codes' left
-some_coded start old all es codes cs left es' codes' h coded =
+pub some_coded : (start : List Cell) (all es : List Cell) (codes : List (Option ℕ)) (cs left es' : List Cell) (codes' : List (Option ℕ))
+    → IsUnderway start all es codes (cs ++ left) → IsCoded es es' codes' cs → IsUnderway start all es' (codes ++ codes') left
+some_coded start all es codes cs left es' codes' h coded =
     let whole : with_entries es' left ≡ with_entries start all = ap (λ (xs : List Cell). with_entries xs left) coded.entries ∙ sym (joined es cs left) ∙ h.entries in
     record {
       entries = whole;
       codes = λ more.
           let final : List Cell = with_entries (with_entries start all) more in
           let same : with_entries es' (left ++ more) ≡ final = joined es' left more ∙ ap (λ (xs : List Cell). with_entries xs more) whole in
-          let own : codes' ≡ codes ++ map (code_in final) cs = coded.codes (left ++ more) ∙ ap (λ (xs : List Cell). codes ++ map (code_in xs) cs) same in
-          ap (λ (ks : List (Option ℕ)). ks ++ map (code_in final) left) own
-          ∙ append_assoc codes (map (code_in final) cs) (map (code_in final) left)
+          let own : codes' ≡ map (code_in final) cs = coded.places (left ++ more) ∙ ap (λ (xs : List Cell). map (code_in xs) cs) same in
+          append_assoc codes codes' (map (code_in final) left)
+          ∙ ap (λ (ks : List (Option ℕ)). codes ++ (ks ++ map (code_in final) left)) own
           ∙ ap (λ (ks : List (Option ℕ)). codes ++ ks) (sym (map-append (code_in final) cs left))
           ∙ h.codes more;
     }
 
-pub all_coded : (start : List Cell) (old : List (Option ℕ)) (all es : List Cell) (codes : List (Option ℕ)) → IsUnderway start old all es codes [] → IsCoded start old es codes all
+pub all_coded : (start : List Cell) (all es : List Cell) (codes : List (Option ℕ)) → IsUnderway start all es codes [] → IsCoded start es codes all
 unfolding with_entries
-all_coded start old all es codes h = record {
+all_coded start all es codes h = record {
   entries = h.entries;
-  codes = λ more.
-      sym (append-nil codes) ∙ h.codes more ∙ ap (λ (xs : List Cell). old ++ map (code_in (with_entries xs more)) all) (sym h.entries);
+  places = λ more. sym (append-nil codes) ∙ h.codes more ∙ ap (λ (xs : List Cell). map (code_in (with_entries xs more)) all) (sym h.entries);
 }
 
 nulls_add_nothing : (es : List Cell) (n : ℕ) → with_entries es (replicate n null) ≡ es
@@ -226,11 +225,8 @@ nulls_have_none : (es : List Cell) (n : ℕ) → replicate n None ≡ map (code_
 nulls_have_none es zero = refl
 nulls_have_none es (suc n) = ap₂ (λ (k : Option ℕ) (ks : List (Option ℕ)). k ∷ ks) (no_code (is_entry null) es (λ c. refl)) (nulls_have_none es n)
 
-pub nulls_coded : (es : List Cell) (codes : List (Option ℕ)) (n : ℕ) (codes' : List (Option ℕ)) → codes' ≡ codes ++ replicate n None → IsCoded es codes es codes' (replicate n null)
-nulls_coded es codes n codes' is = record {
-  entries = sym (nulls_add_nothing es n);
-  codes = λ more. is ∙ ap (λ (ks : List (Option ℕ)). codes ++ ks) (nulls_have_none (with_entries es more) n);
-}
+pub nulls_coded : (es : List Cell) (n : ℕ) → IsCoded es es (replicate n None) (replicate n null)
+nulls_coded es n = record { entries = sym (nulls_add_nothing es n); places = λ more. nulls_have_none (with_entries es more) n }
 
 -- a cell that is no entry has no code
 pub none_coded : (es : List Cell) (c : Cell) → None ≡ entry_in c → None ≡ code_in es c
@@ -314,16 +310,19 @@ all_there es (c ∷ cs) h =
     let own = and_parts (is_null_or_entry c) (has_utf8_texts c) both.0 in
     ap₂ (λ (b : Bool) (bs : List Bool). b ∷ bs) (sym (ap is_some (code_stays es cs c) ∙ code_there es c own.0)) (all_there (with_entry es c) cs both.1)
 
-same_bytes : (index : Index) (es cells : List Cell) → flat_map (code_bytes index) (map (code_in es) cells) ≡ flat_map (index_bytes index es) cells
+same_bytes : (index : Index) (es cells : List Cell) → flat_map (sized_code (index.bits / 8)) (map (code_in es) cells) ≡ flat_map (index_bytes index es) cells
 same_bytes index es [] = refl
 same_bytes index es (c ∷ cs) = ap (λ (xs : List ℕ). index_bytes index es c ++ xs) (same_bytes index es cs)
 
-pub codes_are : (p : PlainBatch) (index : Index) (cells es : List Cell) (codes : List (Option ℕ)) → list_all is_coded cells ≡ true → IsCoded [] [] es codes cells
-    → with_buffer (with_run_slots p (map is_some codes)) (flat_map (code_bytes index) codes) ≡ with_indices p index cells
+pub codes_are : (p : PlainBatch) (index : Index) (cells es : List Cell) (indices : List ℕ) (valid : List Bool) → list_all is_coded cells ≡ true
+    → IsWritten (index.bits / 8) [] es indices valid cells → with_buffer (with_run_slots p valid) indices ≡ with_indices p index cells
 unfolding with_entries
-codes_are p index cells es codes h coded =
-    let same : codes ≡ map (code_in (entries_of cells)) cells = coded.codes [] ∙ ap (λ (xs : List Cell). map (code_in xs) cells) coded.entries in
+codes_are p index cells es indices valid h written =
+    let coded = written.coded in
+    let codes : List (Option ℕ) = written.codes in
+    let same : codes ≡ map (code_in (entries_of cells)) cells = coded.places [] ∙ ap (λ (xs : List Cell). map (code_in xs) cells) coded.entries in
     let bits : map is_there cells ≡ map is_some codes = all_there [] cells h ∙ ap (map is_some) (sym same) in
-    ap (λ (q : PlainBatch). with_buffer q (flat_map (code_bytes index) codes)) (slots_are p cells (map is_some codes) bits)
-    ∙ ap (λ (ks : List (Option ℕ)). with_buffer (with_slots p cells) (flat_map (code_bytes index) ks)) same
+    ap₂ (λ (bs : List Bool) (xs : List ℕ). with_buffer (with_run_slots p bs) xs) written.valid written.indices
+    ∙ ap (λ (q : PlainBatch). with_buffer q (flat_map (sized_code (index.bits / 8)) codes)) (slots_are p cells (map is_some codes) bits)
+    ∙ ap (λ (ks : List (Option ℕ)). with_buffer (with_slots p cells) (flat_map (sized_code (index.bits / 8)) ks)) same
     ∙ ap (with_buffer (with_slots p cells)) (same_bytes index (entries_of cells) cells)

@@ -23,3 +23,4 @@ mod RunParts
 mod RunSlots
 mod RunValues
 mod Sized
+mod Written

@@ -110,7 +110,7 @@ stored_fits width signed z h =
     sym (low_left (cast_unsigned w128 z) (bits_of width / 8)) ∙ ap (little_bytes (bits_of width / 8)) (low_fits width signed z h)
 
 -- the bytes of 0
-zero_bytes : (i n : ℕ) → bytes_low_first i n 0 ≡ replicate n 0
+pub zero_bytes : (i n : ℕ) → bytes_low_first i n 0 ≡ replicate n 0
 zero_bytes i zero = refl
 zero_bytes i (suc n) =
     ap₂ (λ (b : ℕ) (bs : List ℕ). b ∷ bs) (byte_place i 0 ∙ ap (λ (t : ℕ). t % 256) (zero-div (256 ^ i))) (zero_bytes (suc i) n)

@@ -1,5 +1,5 @@
 -- Columns of runs: one by one, and of a field whatever its name.
-use Rattle.std.specs.Prelude.{Option, Some, None, option_map, is_none, string_bytes, ◌&&◌, Vec}
+use Rattle.std.specs.Prelude.{Option, None, option_map, string_bytes, ◌&&◌, Vec}
 use Rattle.std.specs.List.{list_all}
 use Rattle.std.specs.Global.{Global}
 use Rattle.std.proofs.Common.{◌≡◌, ℕ, ◌+◌, ◌≤◌, ◌<◌, Bool, true, List, [], ◌∷◌, ◌++◌, map, length, drop, refl, ap, ap₂, sym, subst, ◌∙◌, inl, inr, arith}

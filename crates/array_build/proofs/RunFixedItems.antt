@@ -13,7 +13,7 @@ use Rattle.array_build.proofs.RunItems.{cells_join}
 use Rattle.array_build.specs.Batch.{PlainBatch, built_at, with_arrays}
 use Rattle.array_build.specs.inner.RunItems.{AreItems, HasSlots, fixed_column}
 use Rattle.array_build.specs.inner.Runs.{kind_cells, runs_bits, with_run_slots}
-use Rattle.array_runs.specs.Runs.{run_cells, runs_cells, is_run_sound, is_run_valid, are_runs_valid}
+use Rattle.array_runs.specs.Runs.{run_cells, runs_cells, is_run_sound, is_run_valid}
 use Rattle.array_runs.specs.declared.run.SlotRun.{SlotRun}
 use Rattle.array_runs.specs.declared.run.SlotRun.TheVariants.{Slots, Nulls}
 use Rattle.cells.specs.Cell.{Cell, null}

@@ -1,5 +1,5 @@
 // The node and the buffers of a column with a dictionary, and what its dictionary has.
-ghost use Rattle.std.specs.Prelude.{◌≡◌, true, OnOk, IfOk, Some, map};
+ghost use Rattle.std.specs.Prelude.{◌≡◌, ◌≤◌, ◌*◌, ◌/◌, true, OnOk, IfOk, Some, length, map};
 ghost use Rattle.std.specs.List.{list_all};
 ghost use Rattle.arrow_schema.specs.View.{bits_of, column_of, index_of};
 ghost use Rattle.array_build.specs.Batch.{batch_in, dictionary_in};
@@ -10,11 +10,12 @@ ghost use Rattle.cells.specs.Dictionary.{entries_of};
 ghost use Rattle.values.specs.Borrowed.{borrowed_cell};
 
 use crate::batch::{BuiltBatch, BuiltDictionary, push_buffer, push_slots};
-use crate::dictionary_cells::{code_indices, entry_cells, entry_set, indices};
-use crate::run_codes::codes_of_runs;
-use crate::run_slots::push_code_slots;
+use crate::dictionary_cells::{entry_cells, entry_set, indices};
+use crate::run_codes::put_codes;
+use crate::run_slots::{count_slots, push_bit_slots};
 use array_runs::SlotRun;
-use arrow_schema::{DictSpec, Field, IntegerType};
+use arrow_schema::{BitWidth, DictSpec, Field, IntegerType};
+use columns::entry_count;
 use indexmap::IndexSet;
 use std::alloc::{AllocError, Global};
 use values::ValueRef;
@@ -36,6 +37,33 @@ pub(crate) fn push_indices<'a>(
     entry_cells(alloc, &entries)
 }
 
+// For how many entries there is room at once: those of the first run's dictionary, unless these are more than the slots of all runs.
+fn likely_entries(slots: usize, runs: &[SlotRun<'_>]) -> usize
+    ensures few { result ≤ slots }
+{
+    match runs.first() {
+        Some(SlotRun::Slots { array, .. }) => {
+            let entries = entry_count(array.dictionary());
+            if entries <= slots as u128 {
+                entries as usize
+            } else {
+                0
+            }
+        }
+        _ => 0,
+    }
+}
+
+// Room for so many indices. More bytes than a number holds have none in memory.
+fn room_for(alloc: Global, width: BitWidth, slots: usize) -> Result<Vec<u8>, AllocError>
+    ensures { IfOk result (λ bytes. length bytes.items ≡ bits_of width / 8 * slots) }
+{
+    match width.bytes().checked_mul(slots) {
+        Some(size) => vec![in alloc; 0; size],
+        None => Err(AllocError),
+    }
+}
+
 /// The same of the cells of runs.
 pub(crate) fn push_run_indices<'a>(
     alloc: Global,
@@ -50,11 +78,21 @@ pub(crate) fn push_run_indices<'a>(
     ensures entries { IfOk result (λ entries. map borrowed_cell entries.items ≡ entries_of (runs_cells (column_of field.now) runs.now)) }
     ensures batch { OnOk result (batch_in batch.new ≡ with_indices (batch_in batch.old) (index_of spec) (runs_cells (column_of field.now) runs.now)) }
 {
-    let mut entries = IndexSet::new(alloc);
-    let codes = codes_of_runs(alloc, &mut entries, field, spec, runs)?;
-    let indices = code_indices(alloc, spec.index, &codes)?;
+    let slots = count_slots(runs)?;
+    let mut entries = IndexSet::with_capacity(alloc, likely_entries(slots, runs))?;
+    let mut indices = room_for(alloc, spec.index.width, slots)?;
+    let mut valid = vec![in alloc; false; slots]?;
+    put_codes(
+        alloc,
+        &mut entries,
+        indices.as_mut_slice(),
+        valid.as_mut_slice(),
+        field,
+        spec,
+        runs,
+    )?;
     let cells = entry_cells(alloc, &entries)?;
-    push_code_slots(alloc, batch, &codes)?;
+    push_bit_slots(alloc, batch, &valid)?;
     push_buffer(batch, indices)?;
     Ok(cells)
 }

@@ -1,8 +1,8 @@
 // The entries of a dictionary, and the indices that name them.
-ghost use Rattle.std.specs.Prelude.{◌≡◌, ◌≤◌, ◌<◌, ◌+◌, ◌++◌, ◌/◌, ◌*◌, None, OnOk, IfOk, drop, get_or, length, map, take};
+ghost use Rattle.std.specs.Prelude.{◌≡◌, ◌≤◌, ◌+◌, ◌++◌, ◌/◌, OnOk, IfOk, drop, length, map, take};
 ghost use Rattle.std.specs.List.{flat_map};
 ghost use Rattle.arrow_schema.specs.View.{bits_of};
-ghost use Rattle.array_build.specs.inner.Codes.{code_bytes, code_in, sized_code};
+ghost use Rattle.array_build.specs.inner.Codes.{code_in, sized_code};
 ghost use Rattle.byteorder.specs.Endian.{little_bytes};
 ghost use Rattle.cells.specs.Dictionary.{entry_in, entries_of, with_entry};
 ghost use Rattle.cells.specs.Entry.{entry_cell, entry_cell_of};
@@ -150,67 +150,13 @@ fn place_or_zero(code: Option<usize>) -> u64
     }
 }
 
+/// Writes the index of so many bytes that a code is over the bytes from a place on: 0 where there is none.
 #[inline]
-fn code_at(codes: &[Option<usize>], i: usize) -> Option<usize>
-    requires { i < length codes.now }
-    ensures { result ≡ get_or codes.now i None }
-{
-    codes[i]
-}
-
-// Writes the index of so many bytes that a code is over the bytes from a place on.
-#[inline]
-fn put_code<const SIZE: usize>(indices: &mut [u8], at: usize, code: Option<usize>)
+pub(crate) fn put_code<const SIZE: usize>(indices: &mut [u8], at: usize, code: Option<usize>)
     requires size { SIZE ≤ 8 }
     requires room { at + SIZE ≤ length indices.old }
     ensures { indices.new ≡ take at indices.old ++ (sized_code SIZE code ++ drop (at + SIZE) indices.old) }
 {
     let index = place_or_zero(code);
     indices[at..at + SIZE].copy_from_slice(&index.to_le_bytes()[..SIZE]);
-}
-
-// Writes the indices of so many bytes that codes are, where there is room for just as many.
-fn put_codes<const SIZE: usize>(indices: &mut [u8], codes: &[Option<usize>])
-    requires size { SIZE ≤ 8 }
-    requires few { SIZE * length codes.now < 18446744073709551616 }
-    requires room { length indices.old ≡ SIZE * length codes.now }
-    ensures { indices.new ≡ flat_map (sized_code SIZE) codes.now }
-{
-    for i in 0..codes.len() {
-        let at = SIZE * i;
-        let code = code_at(codes, i);
-        put_code::<SIZE>(indices, at, code);
-    }
-}
-
-// The same, by a loop for each width.
-fn put_codes_by_width(indices: &mut [u8], width: BitWidth, codes: &[Option<usize>])
-    requires few { bits_of width / 8 * length codes.now < 18446744073709551616 }
-    requires room { length indices.old ≡ bits_of width / 8 * length codes.now }
-    ensures { indices.new ≡ flat_map (sized_code (bits_of width / 8)) codes.now }
-{
-    match width {
-        BitWidth::Eight => put_codes::<1>(indices, codes),
-        BitWidth::Sixteen => put_codes::<2>(indices, codes),
-        BitWidth::ThirtyTwo => put_codes::<4>(indices, codes),
-        BitWidth::SixtyFour => put_codes::<8>(indices, codes),
-    }
-}
-
-/// The indices that are codes; 0 stands where there is none. More bytes than a number holds have no room in memory.
-pub(crate) fn code_indices(
-    alloc: Global,
-    index: IntegerType,
-    codes: &[Option<usize>],
-) -> Result<Vec<u8>, AllocError>
-    ensures { IfOk result (λ bytes. bytes.items ≡ flat_map (code_bytes (record { bits = bits_of index.width; signed = index.signed })) codes.now) }
-{
-    match index.width.bytes().checked_mul(codes.len()) {
-        Some(size) => {
-            let mut indices = vec![in alloc; 0; size]?;
-            put_codes_by_width(indices.as_mut_slice(), index.width, codes);
-            Ok(indices)
-        }
-        None => Err(AllocError),
-    }
 }

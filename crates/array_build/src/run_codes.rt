@@ -1,11 +1,13 @@
 // The places of cells among the entries of a dictionary, of runs of slots. An entry of an array's own dictionary is looked up once for each run, and
 // then known by its number.
-ghost use Rattle.std.specs.Prelude.{◌≡◌, ◌≤◌, ◌<◌, ◌-◌, ◌/◌, ◌++◌, true, false, OnOk, IfOk, Some, None, List, [], map, replicate};
+ghost use Rattle.std.specs.Prelude.{◌≡◌, ◌≤◌, ◌<◌, ◌+◌, ◌-◌, ◌*◌, ◌/◌, ◌++◌, true, false, OnOk, IfOk, Some, List, drop, is_some, length, map, replicate, set, take};
 ghost use Rattle.std.specs.List.{list_all};
-ghost use Rattle.arrow_schema.specs.View.{column_of, index_of};
-ghost use Rattle.array_build.specs.inner.Codes.{AreKnown, IsCoded, code_in, known_at, noted, own_entries};
+ghost use Rattle.arrow_schema.specs.View.{bits_of, column_of, index_of};
+ghost use Rattle.array_build.specs.inner.Codes.{AreKnown, IsPut, IsWritten, code_in, known_at, noted, own_entries, sized_code};
 ghost use Rattle.array_build.specs.inner.RunCells.{is_coded};
+ghost use Rattle.array_build.specs.inner.Runs.{run_bits, runs_bits};
 ghost use Rattle.array_runs.specs.Runs.{are_runs_sound, is_run_sound, run_cells, runs_cells};
+ghost use Rattle.array_runs.specs.declared.run.SlotRun.TheVariants.{Slots};
 ghost use Rattle.cells.specs.Dictionary.{with_entry};
 ghost use Rattle.cells.specs.Entry.{entry_cell};
 ghost use Rattle.columns.specs.Array.{slots_in};
@@ -14,9 +16,9 @@ ghost use Rattle.columns.specs.Sound.{is_sound};
 ghost use Rattle.columns.specs.View.{view_array};
 ghost use Rattle.cells.specs.Cell.{Cell};
 
-use crate::dictionary_cells::code_of;
+use crate::dictionary_cells::{code_of, put_code};
 use crate::run_cells::slot_cell;
-use crate::run_slots::count_slots;
+use crate::run_slots::run_len;
 use array_runs::SlotRun;
 use arrow_schema::{BitWidth, DictSpec, Field};
 use cells::Entry;
@@ -60,8 +62,7 @@ fn note_code(known: &mut [Option<usize>], number: Option<u64>, code: Option<usiz
     }
 }
 
-// The code of a slot that is valid, and whose entry is not known. It is no part of the loop over slots, which would keep its variables in memory for it.
-#[inline(never)]
+// The code of a slot that is valid, and whose entry is not known.
 fn new_code<'a>(
     entries: &mut IndexSet<Entry<'a>>,
     known: &mut [Option<usize>],
@@ -86,67 +87,133 @@ fn new_code<'a>(
     Ok(code)
 }
 
-// The code of a slot, whose index has so many bytes.
+// Writes the index that a code is, and whether there is one, at the place of a slot.
 #[inline]
-fn slot_code<'a, const SIZE: usize>(
+fn put_at<const SIZE: usize>(
+    indices: &mut [u8],
+    valid: &mut [bool],
+    place: usize,
+    code: Option<usize>,
+)
+    requires small { SIZE ≤ 8 }
+    requires room { SIZE * place + SIZE ≤ length indices.old }
+    requires places { place < length valid.old }
+    ensures index { indices.new ≡ take (SIZE * place) indices.old ++ (sized_code SIZE code ++ drop (SIZE * place + SIZE) indices.old) }
+    ensures valid { valid.new ≡ set valid.old place (is_some code) }
+{
+    // a number of the code is below 2^64, so that the place of the index is too
+    let _room = indices.len();
+    put_code::<SIZE>(indices, SIZE * place, code);
+    valid[place] = code.is_some();
+}
+
+// Writes what a slot has that is valid, and whose entry is not known. It is no part of the loop over slots, which would keep its variables in memory for it.
+#[inline(never)]
+fn put_new_code<'a, const SIZE: usize>(
     entries: &mut IndexSet<Entry<'a>>,
     known: &mut [Option<usize>],
+    indices: &mut [u8],
+    valid: &mut [bool],
     field: &'a Field,
     slots: CodedSlots<'a>,
     i: usize,
-) -> Result<Option<usize>, AllocError>
+    place: usize,
+) -> Result<(), AllocError>
+    requires small { SIZE ≤ 8 }
+    requires spec { field.now.dictionary ≡ Some slots.spec }
+    requires sound { is_sound (column_of field.now) (view_array slots.view) ≡ true }
+    requires within { i < slots_in (view_array slots.view) }
+    requires coded { is_coded (cell_at (column_of field.now) (view_array slots.view) i) ≡ true }
+    requires valid { is_valid (view_array slots.view) i ≡ true }
+    requires known { AreKnown (map entry_cell entries.old.keys) (own_entries field.now slots.view) known.old }
+    requires room { SIZE * place + SIZE ≤ length indices.old }
+    requires places { place < length valid.old }
+    ensures entries { OnOk result (map entry_cell entries.new.keys
+        ≡ with_entry (map entry_cell entries.old.keys) (cell_at (column_of field.now) (view_array slots.entry.view) i)) }
+    ensures put { OnOk result (IsPut SIZE place (map entry_cell entries.new.keys) (cell_at (column_of field.now) (view_array slots.entry.view) i)
+        indices.old indices.new valid.old valid.new) }
+    ensures known { OnOk result (AreKnown (map entry_cell entries.new.keys) (own_entries field.now slots.entry.view) known.new) }
+{
+    let code = new_code(entries, known, field, slots, i)?;
+    put_at::<SIZE>(indices, valid, place, code);
+    Ok(())
+}
+
+// Writes what a slot has. Each way writes by itself, so that none asks again whether there is a code.
+#[inline]
+fn put_slot_code<'a, const SIZE: usize>(
+    entries: &mut IndexSet<Entry<'a>>,
+    known: &mut [Option<usize>],
+    indices: &mut [u8],
+    valid: &mut [bool],
+    field: &'a Field,
+    slots: CodedSlots<'a>,
+    i: usize,
+    place: usize,
+) -> Result<(), AllocError>
+    requires small { SIZE ≤ 8 }
     requires size { SIZE ≡ (index_of slots.spec).bits / 8 }
     requires spec { field.now.dictionary ≡ Some slots.spec }
     requires sound { is_sound (column_of field.now) (view_array slots.view) ≡ true }
     requires within { i < slots_in (view_array slots.view) }
     requires coded { is_coded (cell_at (column_of field.now) (view_array slots.view) i) ≡ true }
     requires known { AreKnown (map entry_cell entries.old.keys) (own_entries field.now slots.view) known.old }
+    requires room { SIZE * place + SIZE ≤ length indices.old }
+    requires places { place < length valid.old }
     ensures entries { OnOk result (map entry_cell entries.new.keys
         ≡ with_entry (map entry_cell entries.old.keys) (cell_at (column_of field.now) (view_array slots.entry.view) i)) }
-    ensures code { IfOk result (λ code. code ≡ code_in (map entry_cell entries.new.keys) (cell_at (column_of field.now) (view_array slots.entry.view) i)) }
+    ensures put { OnOk result (IsPut SIZE place (map entry_cell entries.new.keys) (cell_at (column_of field.now) (view_array slots.entry.view) i)
+        indices.old indices.new valid.old valid.new) }
     ensures known { OnOk result (AreKnown (map entry_cell entries.new.keys) (own_entries field.now slots.entry.view) known.new) }
 {
     if !slots.is_valid(i) {
-        return Ok(None);
+        put_at::<SIZE>(indices, valid, place, None);
+        return Ok(());
     }
-    let number = slots.sized_number::<SIZE>(i);
-    if let Some(code) = known_code(known, number) {
-        return Ok(Some(code));
+    if let Some(code) = known_code(known, slots.sized_number::<SIZE>(i)) {
+        put_at::<SIZE>(indices, valid, place, Some(code));
+        return Ok(());
     }
-    new_code(entries, known, field, slots, i)
+    put_new_code::<SIZE>(entries, known, indices, valid, field, slots, i, place)
 }
 
-// Those of some slots of an array, whose indices have so many bytes.
-fn push_sized_codes<'a, const SIZE: usize>(
+// Writes the indices of so many bytes of some slots of an array, and whether each slot has one, where there is room for just these.
+fn put_sized_codes<'a, const SIZE: usize>(
     entries: &mut IndexSet<Entry<'a>>,
     known: &mut [Option<usize>],
-    codes: &mut Vec<Option<usize>>,
+    indices: &mut [u8],
+    valid: &mut [bool],
     field: &'a Field,
     slots: CodedSlots<'a>,
     from: usize,
     to: usize,
 ) -> Result<(), AllocError>
+    requires small { SIZE ≤ 8 }
     requires size { SIZE ≡ (index_of slots.spec).bits / 8 }
     requires spec { field.now.dictionary ≡ Some slots.spec }
     requires sound { is_sound (column_of field.now) (view_array slots.view) ≡ true }
     requires within { to ≤ slots_in (view_array slots.view) }
     requires coded { list_all is_coded (cells_from (cell_at (column_of field.now) (view_array slots.view)) from (to - from)) ≡ true }
     requires known { AreKnown (map entry_cell entries.old.keys) (own_entries field.now slots.view) known.old }
-    ensures { OnOk result (IsCoded (map entry_cell entries.old.keys) codes.old.items (map entry_cell entries.new.keys) codes.new.items
+    requires room { length indices.old ≡ SIZE * (to - from) }
+    requires places { length valid.old ≡ to - from }
+    ensures { OnOk result (IsWritten SIZE (map entry_cell entries.old.keys) (map entry_cell entries.new.keys) indices.new valid.new
         (cells_from (cell_at (column_of field.now) (view_array slots.entry.view)) from (to - from))) }
 {
+    // a number of the code is below 2^64, so that the places of all indices are too
+    let _room = indices.len();
     for i in from..to {
-        let code = slot_code::<SIZE>(entries, known, field, slots, i)?;
-        codes.push(code)?;
+        put_slot_code::<SIZE>(entries, known, indices, valid, field, slots, i, i - from)?;
     }
     Ok(())
 }
 
 // The same, by a loop for each width.
-fn push_slot_codes<'a>(
+fn put_slot_codes<'a>(
     entries: &mut IndexSet<Entry<'a>>,
     known: &mut [Option<usize>],
-    codes: &mut Vec<Option<usize>>,
+    indices: &mut [u8],
+    valid: &mut [bool],
     field: &'a Field,
     slots: CodedSlots<'a>,
     from: usize,
@@ -157,30 +224,78 @@ fn push_slot_codes<'a>(
     requires within { to ≤ slots_in (view_array slots.view) }
     requires coded { list_all is_coded (cells_from (cell_at (column_of field.now) (view_array slots.view)) from (to - from)) ≡ true }
     requires known { AreKnown (map entry_cell entries.old.keys) (own_entries field.now slots.view) known.old }
-    ensures { OnOk result (IsCoded (map entry_cell entries.old.keys) codes.old.items (map entry_cell entries.new.keys) codes.new.items
+    requires room { length indices.old ≡ bits_of slots.spec.index.width / 8 * (to - from) }
+    requires places { length valid.old ≡ to - from }
+    ensures { OnOk result (IsWritten (bits_of slots.entry.spec.index.width / 8) (map entry_cell entries.old.keys) (map entry_cell entries.new.keys) indices.new valid.new
         (cells_from (cell_at (column_of field.now) (view_array slots.entry.view)) from (to - from))) }
 {
     match slots.spec.index.width {
-        BitWidth::Eight => push_sized_codes::<1>(entries, known, codes, field, slots, from, to),
-        BitWidth::Sixteen => push_sized_codes::<2>(entries, known, codes, field, slots, from, to),
-        BitWidth::ThirtyTwo => push_sized_codes::<4>(entries, known, codes, field, slots, from, to),
-        BitWidth::SixtyFour => push_sized_codes::<8>(entries, known, codes, field, slots, from, to),
+        BitWidth::Eight => put_sized_codes::<1>(
+            entries, known, indices, valid, field, slots, from, to,
+        ),
+        BitWidth::Sixteen => put_sized_codes::<2>(
+            entries, known, indices, valid, field, slots, from, to,
+        ),
+        BitWidth::ThirtyTwo => put_sized_codes::<4>(
+            entries, known, indices, valid, field, slots, from, to,
+        ),
+        BitWidth::SixtyFour => put_sized_codes::<8>(
+            entries, known, indices, valid, field, slots, from, to,
+        ),
     }
 }
 
-fn push_null_codes(codes: &mut Vec<Option<usize>>, count: usize) -> Result<(), AllocError>
-    ensures { OnOk result (codes.new.items ≡ codes.old.items ++ replicate count None) }
-{
-    match codes.len().checked_add(count) {
-        Some(end) => codes.resize(end, None),
-        None => Err(AllocError),
-    }
-}
-
-fn push_run_codes<'a>(
+// The same of some slots of the array of a run.
+fn put_array_codes<'a>(
     alloc: Global,
     entries: &mut IndexSet<Entry<'a>>,
-    codes: &mut Vec<Option<usize>>,
+    indices: &mut [u8],
+    valid: &mut [bool],
+    field: &'a Field,
+    spec: DictSpec,
+    array: ArrayView<'a>,
+    from: usize,
+    len: usize,
+) -> Result<(), AllocError>
+    requires spec { field.now.dictionary ≡ Some spec }
+    requires sound { is_run_sound (column_of field.now) (Slots array from len) ≡ true }
+    requires coded { list_all is_coded (run_cells (column_of field.now) (Slots array from len)) ≡ true }
+    requires room { length indices.old ≡ bits_of spec.index.width / 8 * len }
+    requires places { length valid.old ≡ len }
+    ensures { OnOk result (IsWritten (bits_of spec.index.width / 8) (map entry_cell entries.old.keys) (map entry_cell entries.new.keys) indices.new valid.new
+        (run_cells (column_of field.now) (Slots array.entry from len))) }
+{
+    // a number of the code is below 2^64, so that the sum is too
+    let _slots = array.slots();
+    let mut known = unknown(alloc, array, len)?;
+    let slots = CodedSlots::new(spec, array);
+    put_slot_codes(
+        entries,
+        known.as_mut_slice(),
+        indices,
+        valid,
+        field,
+        slots,
+        from,
+        from + len,
+    )
+}
+
+// Zeros stand for the indices of nulls.
+fn put_null_codes(indices: &mut [u8], valid: &mut [bool])
+    ensures indices { indices.new ≡ replicate (length indices.old) 0 }
+    ensures valid { valid.new ≡ replicate (length valid.old) false }
+{
+    indices.fill(0);
+    valid.fill(false);
+}
+
+// The same of a run.
+fn put_run_codes<'a>(
+    alloc: Global,
+    entries: &mut IndexSet<Entry<'a>>,
+    indices: &mut [u8],
+    valid: &mut [bool],
     field: &'a Field,
     spec: DictSpec,
     run: &SlotRun<'a>,
@@ -188,47 +303,53 @@ fn push_run_codes<'a>(
     requires spec { field.now.dictionary ≡ Some spec }
     requires sound { is_run_sound (column_of field.now) run.now ≡ true }
     requires coded { list_all is_coded (run_cells (column_of field.now) run.now) ≡ true }
-    ensures { OnOk result (IsCoded (map entry_cell entries.old.keys) codes.old.items (map entry_cell entries.new.keys) codes.new.items
+    requires room { length indices.old ≡ bits_of spec.index.width / 8 * length (run_bits run.now) }
+    requires places { length valid.old ≡ length (run_bits run.now) }
+    ensures { OnOk result (IsWritten (bits_of spec.index.width / 8) (map entry_cell entries.old.keys) (map entry_cell entries.new.keys) indices.new valid.new
         (run_cells (column_of field.now) run.now)) }
 {
     match run {
         SlotRun::Slots { array, from, len } => {
-            // a number of the code is below 2^64, so that the sum is too
-            let _slots = array.slots();
-            let mut known = unknown(alloc, *array, *len)?;
-            let to = *from + *len;
-            let slots = CodedSlots::new(spec, *array);
-            push_slot_codes(
-                entries,
-                known.as_mut_slice(),
-                codes,
-                field,
-                slots,
-                *from,
-                to,
+            put_array_codes(
+                alloc, entries, indices, valid, field, spec, *array, *from, *len,
             )
         }
-        SlotRun::Nulls(count) => push_null_codes(codes, *count),
+        SlotRun::Nulls(_) => {
+            put_null_codes(indices, valid);
+            Ok(())
+        }
     }
 }
 
-/// The places of the cells of runs, one after another, among the entries of their dictionary, to which they are added.
-pub(crate) fn codes_of_runs<'a>(
+/// Writes the indices of the cells of runs, each the place of a cell among the entries of the dictionary, to which they are added, and whether each slot has
+/// one, where there is room for just these.
+pub(crate) fn put_codes<'a>(
     alloc: Global,
     entries: &mut IndexSet<Entry<'a>>,
+    indices: &mut [u8],
+    valid: &mut [bool],
     field: &'a Field,
     spec: DictSpec,
     runs: &[SlotRun<'a>],
-) -> Result<Vec<Option<usize>>, AllocError>
+) -> Result<(), AllocError>
     requires spec { field.now.dictionary ≡ Some spec }
     requires sound { are_runs_sound (column_of field.now) runs.now ≡ true }
     requires coded { list_all is_coded (runs_cells (column_of field.now) runs.now) ≡ true }
-    ensures { IfOk result (λ codes. IsCoded (map entry_cell entries.old.keys) [] (map entry_cell entries.new.keys) codes.items
+    requires room { length indices.old ≡ bits_of spec.index.width / 8 * length (runs_bits runs.now) }
+    requires places { length valid.old ≡ length (runs_bits runs.now) }
+    ensures { OnOk result (IsWritten (bits_of spec.index.width / 8) (map entry_cell entries.old.keys) (map entry_cell entries.new.keys) indices.new valid.new
         (runs_cells (column_of field.now) runs.now)) }
 {
-    let mut codes = Vec::with_capacity(alloc, count_slots(runs)?)?;
+    // a number of the code is below 2^64, so that all places are too
+    let _room = indices.len();
+    let _places = valid.len();
+    let width = spec.index.width.bytes();
+    let mut at = 0;
     for run in runs {
-        push_run_codes(alloc, entries, &mut codes, field, spec, run)?;
+        let end = at + run_len(run);
+        let part = &mut indices[width * at..width * end];
+        put_run_codes(alloc, entries, part, &mut valid[at..end], field, spec, run)?;
+        at = end;
     }
-    Ok(codes)
+    Ok(())
 }

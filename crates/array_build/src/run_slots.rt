@@ -1,5 +1,5 @@
 // Which slots of runs are valid.
-ghost use Rattle.std.specs.Prelude.{◌≡◌, ◌≤◌, ◌+◌, ◌++◌, ◌∷◌, [], IfSome, ◌==◌, ◌||◌, ◌*◌, nat_le, false, true, OnOk, IfOk, is_some, length, map};
+ghost use Rattle.std.specs.Prelude.{◌≡◌, ◌≤◌, ◌+◌, ◌++◌, ◌∷◌, [], IfSome, ◌==◌, ◌||◌, ◌*◌, nat_le, false, true, OnOk, IfOk, length, map};
 ghost use Rattle.std.specs.List.{list_all, range_with_len};
 ghost use Rattle.array_build.specs.Batch.{batch_in};
 ghost use Rattle.array_build.specs.inner.Runs.{bitmap_of, run_bits, runs_bits, with_run_slots, with_validity};
@@ -170,40 +170,36 @@ pub(crate) fn push_run_slots(
     push_validity(batch, slots, validity)
 }
 
-fn have_codes(codes: &[Option<usize>]) -> bool
-    ensures { result ≡ list_all (λ b. b) (map is_some codes.now) }
+// Whether all bits are set: each is looked at, which compiles to a loop over many at once.
+fn are_all_set(bits: &[bool]) -> bool
+    ensures { result ≡ list_all (λ b. b) bits.now }
 {
-    for code in codes {
-        if code.is_none() {
-            return false;
-        }
+    let mut all = true;
+    for bit in bits {
+        all &= *bit;
     }
-    true
+    all
 }
 
-// The validity bitmap of slots that are null where they have no code.
-fn code_validity(alloc: Global, codes: &[Option<usize>]) -> Result<Vec<u8>, AllocError>
-    ensures bits { IfOk result (λ bytes. bytes.items ≡ bitmap_of (map is_some codes.now)) }
-    ensures long { IfOk result (λ bytes. (length bytes.items == 0 || nat_le (length codes.now) (8 * length bytes.items)) ≡ true) }
+// The validity bitmap of slots that are valid where their bit is set.
+fn bits_validity(alloc: Global, bits: &[bool]) -> Result<Vec<u8>, AllocError>
+    ensures bits { IfOk result (λ bytes. bytes.items ≡ bitmap_of bits.now) }
+    ensures long { IfOk result (λ bytes. (length bytes.items == 0 || nat_le (length bits.now) (8 * length bytes.items)) ≡ true) }
 {
-    if have_codes(codes) {
+    if are_all_set(bits) {
         return Ok(Vec::new(alloc));
     }
-    let mut bits = Vec::with_capacity(alloc, codes.len())?;
-    for code in codes {
-        bits.push(code.is_some())?;
-    }
-    pack(alloc, &bits)
+    pack(alloc, bits)
 }
 
-/// The same of slots that are null where they have no code.
-pub(crate) fn push_code_slots(
+/// The same of slots that are valid where their bit is set.
+pub(crate) fn push_bit_slots(
     alloc: Global,
     batch: &mut BuiltBatch<'_>,
-    codes: &[Option<usize>],
+    bits: &[bool],
 ) -> Result<(), AllocError>
-    ensures { OnOk result (batch_in batch.new ≡ with_run_slots (batch_in batch.old) (map is_some codes.now)) }
+    ensures { OnOk result (batch_in batch.new ≡ with_run_slots (batch_in batch.old) bits.now) }
 {
-    let validity = code_validity(alloc, codes)?;
-    push_validity(batch, codes.len(), validity)
+    let validity = bits_validity(alloc, bits)?;
+    push_validity(batch, bits.len(), validity)
 }

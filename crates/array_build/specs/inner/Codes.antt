@@ -1,7 +1,7 @@
 -- The place that each cell of a column has among the entries of its dictionary, as cells and their entries are added.
-use Rattle.std.specs.Prelude.{◌≡◌, ℕ, List, ◌++◌, map, get_or, set, position, Option, Some, None, ◌/◌}
+use Rattle.std.specs.Prelude.{◌≡◌, ℕ, ◌+◌, ◌*◌, ◌++◌, Bool, List, drop, map, take, get_or, is_some, set, position, Option, Some, None}
+use Rattle.std.specs.List.{flat_map}
 use Rattle.byteorder.specs.Endian.{little_bytes}
-use Rattle.arrow_schema.specs.Column.{Index}
 use Rattle.arrow_schema.specs.View.{kind_of}
 use Rattle.arrow_schema.specs.declared.types.Field.{Field}
 use Rattle.cells.specs.Cell.{Cell, null}
@@ -20,13 +20,22 @@ code_in entries c = position (is_entry c) entries
 abbrev pub sized_code : (size : ℕ) → Option ℕ → List ℕ
 sized_code size code = little_bytes size (place_or_zero code)
 
-abbrev pub code_bytes : Index → Option ℕ → List ℕ
-code_bytes index code = sized_code (index.bits / 8) code
-
--- codes of some cells more, which stay the same whatever entries are added
-pub record IsCoded (old_entries : List Cell) (old : List (Option ℕ)) (new_entries : List Cell) (new : List (Option ℕ)) (cells : List Cell) : Type 0 where
+-- codes of some cells, which stay the same whatever entries are added
+pub record IsCoded (old_entries new_entries : List Cell) (codes : List (Option ℕ)) (cells : List Cell) : Type 0 where
   pub entries : new_entries ≡ with_entries old_entries cells
-  pub codes : (more : List Cell) → new ≡ old ++ map (code_in (with_entries new_entries more)) cells
+  pub places : (more : List Cell) → codes ≡ map (code_in (with_entries new_entries more)) cells
+
+-- the index of so many bytes of a cell, and whether it has one, over what stood at a place
+pub record IsPut (size place : ℕ) (entries : List Cell) (c : Cell) (old_bytes new_bytes : List ℕ) (old_bits new_bits : List Bool) : Type 0 where
+  pub index : new_bytes ≡ take (size * place) old_bytes ++ (sized_code size (code_in entries c) ++ drop (size * place + size) old_bytes)
+  pub valid : new_bits ≡ set old_bits place (is_some (code_in entries c))
+
+-- the index of so many bytes of each of some cells, and whether it has one
+pub record IsWritten (size : ℕ) (old_entries new_entries : List Cell) (bytes : List ℕ) (bits : List Bool) (cells : List Cell) : Type 0 where
+  pub codes : List (Option ℕ)
+  pub coded : IsCoded old_entries new_entries codes cells
+  pub indices : bytes ≡ flat_map (sized_code size) codes
+  pub valid : bits ≡ map is_some codes
 
 -- ---- what is known of the entries of an array's own dictionary
 

@@ -1,5 +1,5 @@
 use Rattle.std.specs.List.{list_all}
-use Rattle.std.proofs.Common.{◌≡◌, ◌∙◌, List, map, ap, sym}
+use Rattle.std.proofs.Common.{◌∙◌, List, map, ap, sym}
 use Rattle.std.proofs.lemmas.Bool.{and_parts}
 use Rattle.arrow_schema.specs.Column.{Columns, columns_of}
 use Rattle.arrow_schema.specs.declared.types.Field.{Field}

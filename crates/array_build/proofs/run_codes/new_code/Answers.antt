@@ -1,14 +1,14 @@
 use Rattle.std.specs.Prelude.{ℤ, Option, None, get_or}
 use Rattle.std.proofs.Common.{◌≡◌, ℕ, List, map, ap, sym, subst, ◌∙◌}
-use Rattle.arrow_schema.specs.View.{column_of, index_of}
-use Rattle.array_build.proofs.CodedRuns.{hidden_cell, valid_cell}
-use Rattle.array_build.proofs.Codes.{is_known, noted_known, null_code}
+use Rattle.arrow_schema.specs.View.{index_of}
+use Rattle.array_build.proofs.CodedRuns.{valid_cell}
+use Rattle.array_build.proofs.Codes.{noted_known}
 use Rattle.array_build.proofs.run_codes.new_code.Goals as goal
-use Rattle.array_build.specs.inner.Codes.{IsKnown, code_in, known_at, noted, own_entries}
+use Rattle.array_build.specs.inner.Codes.{IsKnown, code_in, noted, own_entries}
 use Rattle.cells.specs.Cell.{Cell, null}
 use Rattle.cells.specs.Dictionary.{with_entry}
 use Rattle.cells.specs.Entry.{entry_cell}
-use Rattle.columns.specs.CellAt.{cell_at, entry_at, index_at}
+use Rattle.columns.specs.CellAt.{entry_at, index_at}
 use Rattle.columns.specs.View.{view_array}
 use Rattle.values.specs.Borrowed.{borrowed_cell}
 

@@ -1,21 +1,21 @@
 use Rattle.std.proofs.Common.{◌≡◌, ◌-◌, true, map}
 use Rattle.std.specs.List.{list_all}
 use Rattle.arrow_schema.specs.View.{column_of}
-use Rattle.array_build.proofs.Codes.{IsUnderway}
+use Rattle.array_build.proofs.Written.{IsPartWritten}
 use Rattle.array_build.specs.inner.Codes.{AreKnown, own_entries}
 use Rattle.array_build.specs.inner.RunCells.{is_coded}
 use Rattle.cells.specs.Entry.{entry_cell}
 use Rattle.columns.specs.CellAt.{cell_at, cells_from}
 use Rattle.columns.specs.View.{view_array}
-use Rattle.array_build.proofs.run_codes.push_sized_codes.Given as goal
+use Rattle.array_build.proofs.run_codes.put_sized_codes.Given as goal
 
--- the codes so far, and the cells that are left
+-- what is written so far, and the cells that are left
 abbrev pub invariant-loop-i : goal.invariant-loop-i
 invariant-loop-i g l =
     let left = cells_from (cell_at (column_of l.field) (view_array l.slots.view)) l.i (l.to - l.i) in
     record {
       coded : list_all is_coded left ≡ true;
       known : AreKnown (map entry_cell l.entries.keys) (own_entries l.field l.slots.view) l.known;
-      codes : IsUnderway (map entry_cell l.fn.entries.keys) l.fn.codes.items (cells_from (cell_at (column_of l.field) (view_array l.slots.view)) l.from (l.to - l.from))
-          (map entry_cell l.entries.keys) l.codes.items left;
+      written : IsPartWritten g.row.SIZE (map entry_cell l.fn.entries.keys) (cells_from (cell_at (column_of l.field) (view_array l.slots.view)) l.from (l.to - l.from))
+          (map entry_cell l.entries.keys) left l.indices l.valid (l.i - l.from);
     }

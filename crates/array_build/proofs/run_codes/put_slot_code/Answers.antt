@@ -1,16 +1,16 @@
-use Rattle.std.specs.Prelude.{ℤ, Option, None, get_or}
-use Rattle.std.proofs.Common.{◌≡◌, ℕ, List, map, ap, sym, subst, ◌∙◌}
+use Rattle.std.specs.Prelude.{ℤ, None, Some}
+use Rattle.std.proofs.Common.{◌≡◌, List, map, ap, sym, ◌∙◌}
 use Rattle.arrow_schema.specs.View.{column_of, index_of}
 use Rattle.array_build.proofs.CodedRuns.{hidden_cell, valid_cell}
-use Rattle.array_build.proofs.Codes.{is_known, noted_known, null_code}
-use Rattle.array_build.proofs.run_codes.slot_code.Goals as goal
-use Rattle.array_build.specs.inner.Codes.{IsKnown, code_in, known_at, noted, own_entries}
+use Rattle.array_build.proofs.Written.{put_is}
+use Rattle.array_build.proofs.Codes.{is_known, null_code}
+use Rattle.array_build.proofs.run_codes.put_slot_code.Goals as goal
+use Rattle.array_build.specs.inner.Codes.{IsKnown, code_in, known_at, own_entries}
 use Rattle.cells.specs.Cell.{Cell, null}
 use Rattle.cells.specs.Dictionary.{with_entry}
 use Rattle.cells.specs.Entry.{entry_cell}
 use Rattle.columns.specs.CellAt.{cell_at, entry_at, index_at}
 use Rattle.columns.specs.View.{view_array}
-use Rattle.values.specs.Borrowed.{borrowed_cell}
 
 pub returns-then-not-is_valid-clause-entries : goal.returns-then-not-is_valid-clause-entries
 returns-then-not-is_valid-clause-entries g c =
@@ -18,11 +18,12 @@ returns-then-not-is_valid-clause-entries g c =
     let hidden : cell ≡ null = hidden_cell c.args.field.now c.args.slots.spec (view_array c.args.slots.view) c.args.i c.requires.spec (sym c.is_valid.ensures ∙ c.if-not-is_valid.true) in
     (null_code (map entry_cell c.args.entries.now.keys) cell hidden).0
 
-pub returns-then-not-is_valid-clause-code : goal.returns-then-not-is_valid-clause-code
-returns-then-not-is_valid-clause-code g c =
+pub returns-then-not-is_valid-clause-put : goal.returns-then-not-is_valid-clause-put
+returns-then-not-is_valid-clause-put g c =
     let cell : Cell = cell_at (column_of c.args.field.now) (view_array c.args.slots.view) c.args.i in
     let hidden : cell ≡ null = hidden_cell c.args.field.now c.args.slots.spec (view_array c.args.slots.view) c.args.i c.requires.spec (sym c.is_valid.ensures ∙ c.if-not-is_valid.true) in
-    (null_code (map entry_cell c.args.entries.now.keys) cell hidden).1
+    put_is g.row.SIZE c.args.place (map entry_cell c.args.entries.now.keys) cell c.args.indices.now _ c.args.valid.now _ None (null_code (map entry_cell c.args.entries.now.keys) cell hidden).1
+    c.put_at.ensures.index c.put_at.ensures.valid
 
 pub returns-in-Some-clause-entries : goal.returns-in-Some-clause-entries
 returns-in-Some-clause-entries g c =
@@ -30,16 +31,16 @@ returns-in-Some-clause-entries g c =
     let own : List Cell = own_entries c.args.field.now c.args.slots.view in
     let z : ℤ = index_at (index_of c.args.slots.spec) (view_array c.args.slots.view) c.args.i in
     let cell = valid_cell c.args.field.now c.args.slots.spec (view_array c.args.slots.view) c.args.i c.requires.spec (sym c.is_valid.ensures ∙ c.if-not-is_valid.false) in
-    let found = sym c.in-Some.is ∙ c.known_code.ensures ∙ ap (known_at c.args.known.now) c.sized_number-number.ensures in
+    let found = sym c.in-Some.is ∙ c.known_code.ensures ∙ ap (known_at c.args.known.now) c.sized_number.ensures in
     let known : IsKnown es (entry_at own z) c.in-Some.code = is_known es own c.args.known.now z c.in-Some.code c.requires.known found in
     sym known.stays ∙ ap (with_entry es) (sym cell)
 
-pub returns-in-Some-clause-code : goal.returns-in-Some-clause-code
-returns-in-Some-clause-code g c =
+pub returns-in-Some-clause-put : goal.returns-in-Some-clause-put
+returns-in-Some-clause-put g c =
     let es : List Cell = map entry_cell c.args.entries.now.keys in
     let own : List Cell = own_entries c.args.field.now c.args.slots.view in
     let z : ℤ = index_at (index_of c.args.slots.spec) (view_array c.args.slots.view) c.args.i in
     let cell = valid_cell c.args.field.now c.args.slots.spec (view_array c.args.slots.view) c.args.i c.requires.spec (sym c.is_valid.ensures ∙ c.if-not-is_valid.false) in
-    let found = sym c.in-Some.is ∙ c.known_code.ensures ∙ ap (known_at c.args.known.now) c.sized_number-number.ensures in
+    let found = sym c.in-Some.is ∙ c.known_code.ensures ∙ ap (known_at c.args.known.now) c.sized_number.ensures in
     let known : IsKnown es (entry_at own z) c.in-Some.code = is_known es own c.args.known.now z c.in-Some.code c.requires.known found in
-    known.code ∙ ap (code_in es) (sym cell)
+    put_is g.row.SIZE c.args.place es _ c.args.indices.now _ c.args.valid.now _ (Some c.in-Some.code) (known.code ∙ ap (code_in es) (sym cell)) c.put_at-in-Some.ensures.index c.put_at-in-Some.ensures.valid

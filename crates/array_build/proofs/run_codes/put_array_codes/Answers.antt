@@ -1,0 +1,81 @@
+use Rattle.std.specs.Prelude.{None, Option, Some, get_or}
+use Rattle.std.specs.List.{list_all}
+use Rattle.std.proofs.Common.{◌≡◌, ◌≤◌, ◌+◌, ◌-◌, ◌/◌, ◌∙◌, ℕ, List, map, arith, ap, refl, subst, sym}
+use Rattle.std.proofs.lemmas.Bool.{and_parts, leb-true}
+use Rattle.std.proofs.lemmas.Result.{on_ok_weaker}
+use Rattle.arrow_schema.specs.Column.{Column}
+use Rattle.arrow_schema.specs.View.{bits_of, column_of}
+use Rattle.arrow_schema.specs.declared.types.DictSpec.{DictSpec}
+use Rattle.array_build.proofs.CodedRuns.{long_buffers}
+use Rattle.array_build.proofs.run_codes.put_array_codes.Goals as goal
+use Rattle.array_build.specs.inner.Codes.{IsWritten, own_entries}
+use Rattle.array_build.specs.inner.RunCells.{is_coded}
+use Rattle.array_runs.specs.Runs.{run_cells}
+use Rattle.array_runs.specs.declared.run.SlotRun.TheVariants.{Slots}
+use Rattle.cells.specs.Cell.{Cell}
+use Rattle.cells.specs.Entry.{entry_cell}
+use Rattle.columns.specs.Array.{slots_in}
+use Rattle.columns.specs.CellAt.{cell_at, cells_from}
+use Rattle.columns.specs.Sound.{is_sound}
+use Rattle.columns.specs.View.{view_array}
+use Rattle.columns.specs.declared.view.ArrayView.{ArrayView}
+
+pub new-slots-requires-clause-valid : goal.new-slots-requires-clause-valid
+new-slots-requires-clause-valid c =
+    let col : Column = column_of c.args.field.now in
+    let sound = and_parts (is_sound col (view_array c.args.array)) _ c.requires.sound in
+    (long_buffers c.args.field.now c.args.spec (view_array c.args.array) c.requires.spec sound.0).0
+
+pub new-slots-requires-clause-long : goal.new-slots-requires-clause-long
+new-slots-requires-clause-long c =
+    let col : Column = column_of c.args.field.now in
+    let sound = and_parts (is_sound col (view_array c.args.array)) _ c.requires.sound in
+    (long_buffers c.args.field.now c.args.spec (view_array c.args.array) c.requires.spec sound.0).1
+
+-- the slots are those of the run
+same_slots : (col : Column) (v w : ArrayView) (from len to : ℕ) → v ≡ w → to ≡ from + len
+    → cells_from (cell_at col (view_array v)) from (to - from) ≡ run_cells col (Slots w from len)
+same_slots col v w from len to e end =
+    let size : to - from ≡ len = omega (arith, end) in
+    ap (λ (u : ArrayView). cells_from (cell_at col (view_array u)) from (to - from)) e
+    ∙ ap (cells_from (cell_at col (view_array w)) from) size
+
+pub put_slot_codes-requires-clause-spec : goal.put_slot_codes-requires-clause-spec
+put_slot_codes-requires-clause-spec c = c.requires.spec ∙ ap (λ (d : DictSpec). Some d) (sym c.new-slots.ensures.spec)
+
+pub put_slot_codes-requires-clause-sound : goal.put_slot_codes-requires-clause-sound
+put_slot_codes-requires-clause-sound c =
+    let col : Column = column_of c.args.field.now in
+    let sound = and_parts (is_sound col (view_array c.args.array)) _ c.requires.sound in
+    ap (λ (v : ArrayView). is_sound col (view_array v)) c.new-slots.ensures.view ∙ sound.0
+
+pub put_slot_codes-requires-clause-within : goal.put_slot_codes-requires-clause-within
+put_slot_codes-requires-clause-within c =
+    let col : Column = column_of c.args.field.now in
+    let sound = and_parts (is_sound col (view_array c.args.array)) _ c.requires.sound in
+    let most : c.args.from + c.args.len ≤ slots_in (view_array c.args.array) = leb-true _ _ sound.1 in
+    let same = ap (λ (v : ArrayView). slots_in (view_array v)) c.new-slots.ensures.view in
+    omega (arith, most, same)
+
+pub put_slot_codes-requires-clause-coded : goal.put_slot_codes-requires-clause-coded
+put_slot_codes-requires-clause-coded c =
+    let col : Column = column_of c.args.field.now in
+    let same = same_slots col c.new-slots.result.view c.args.array c.args.from c.args.len _ c.new-slots.ensures.view refl in
+    ap (list_all is_coded) same ∙ c.requires.coded
+
+pub put_slot_codes-requires-clause-known : goal.put_slot_codes-requires-clause-known
+put_slot_codes-requires-clause-known c = λ n place some.
+    c.in_ok-known.ensures (map entry_cell c.args.entries.now.keys) (own_entries c.args.field.now c.new-slots.result.view) n place
+    (some ∙ ap (λ (ks : List (Option ℕ)). get_or ks n None) c.as_mut_slice.ensures.value)
+
+pub returns : goal.returns
+returns c =
+    let col : Column = column_of c.args.field.now in
+    let es : List Cell = map entry_cell c.args.entries.now.keys in
+    let after : List Cell = map entry_cell c.put_slot_codes.new.entries.keys in
+    let same = same_slots col c.new-slots.result.view c.args.array c.args.from c.args.len _ c.new-slots.ensures.view refl in
+    let size = ap (λ (d : DictSpec). bits_of d.index.width / 8) c.new-slots.ensures.spec in
+    on_ok_weaker c.put_slot_codes.result
+    (λ h. subst (λ (n : ℕ). IsWritten n es after c.put_slot_codes.new.indices c.put_slot_codes.new.valid (run_cells col (Slots c.args.array c.args.from c.args.len))) size
+    (subst (λ (cs : List Cell). IsWritten (bits_of c.new-slots.result.spec.index.width / 8) es after c.put_slot_codes.new.indices c.put_slot_codes.new.valid cs) same h))
+    c.put_slot_codes.ensures
