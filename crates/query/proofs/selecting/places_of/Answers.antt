@@ -6,7 +6,7 @@ use Rattle.arrow_schema.specs.View.{column_of}
 use Rattle.query.specs.Bound.{place_of}
 use Rattle.query.specs.Selection.{is_distinct}
 use Rattle.query.proofs.Choosing.{name_missing, name_twice, names_all, one_more_name, still_distinct}
-use Rattle.query.proofs.selecting.choose.Goals as goal
+use Rattle.query.proofs.selecting.places_of.Goals as goal
 
 pub returns-in_default-clause-refused : goal.returns-in_default-clause-refused
 returns-in_default-clause-refused c =
