@@ -33,10 +33,14 @@ def ratio(seconds, plain):
     return f"{seconds / plain:.1f}" if plain else "-"
 
 
-def column_of_integers(size, most):
-    """About so many bytes of a stream of one int32 column, of numbers below a limit."""
+def write_integers(path, size, most):
+    """Writes about so many bytes of a stream of one int32 column, of numbers below a limit. Batch by batch: what this process ever held counts as
+    memory of the programs that it starts."""
     pick = random.Random(1)
     values = b"".join(pick.randrange(most).to_bytes(4, "little") for _ in range(ROWS_IN_BATCH))
     batch = streams.record_batch(ROWS_IN_BATCH, [values])
-    head = streams.schema([streams.field("a", False, 2, streams.integer("int32"))])
-    return head + batch * (size // len(batch)) + streams.END
+    with open(path, "wb") as out:
+        out.write(streams.schema([streams.field("a", False, 2, streams.integer("int32"))]))
+        for _ in range(size // len(batch)):
+            out.write(batch)
+        out.write(streams.END)

@@ -2,7 +2,8 @@
 use Rattle.std.proofs.Common.{◌≡◌, ℕ, List, ◌++◌, append_assoc, ap, sym, ◌∙◌}
 use Rattle.array_build.specs.declared.batch.Buffer.{Buffer}
 use Rattle.canonical_write.specs.declared.stream.Stream.{Stream}
-use Rattle.canonical_write.specs.inner.Stream.{joined_parts, stream_in}
+use Rattle.canonical_write.specs.View.{joined_parts}
+use Rattle.canonical_write.specs.inner.Stream.{stream_in}
 
 pub front_then_body : (old new : Stream) (rest message : List ℕ) → new.parts.items ≡ old.parts.items → new.last.items ++ rest ≡ old.last.items ++ message → stream_in new ++ rest ≡ stream_in old ++ message
 unfolding stream_in

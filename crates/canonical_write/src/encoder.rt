@@ -1,12 +1,13 @@
 // The stream of a table, and the streams of its pieces.
-ghost use Rattle.std.specs.Prelude.{◌≡◌, ◌<◌, ◌^◌, ◌∷◌, [], true, IfOk, length, map};
+ghost use Rattle.std.specs.Prelude.{◌≡◌, ◌<◌, ◌^◌, ◌∷◌, ◌++◌, [], true, IfOk, length, map};
 ghost use Rattle.std.specs.List.{AllByRecursion};
 ghost use Rattle.arrow_schema.specs.View.{column_of, schema_of};
 ghost use Rattle.canonical_stream.specs.Canonical.{canonical};
 ghost use Rattle.canonical_stream.specs.Pieces.{IsPieceOf};
 ghost use Rattle.canonical_write.specs.Pieces.{piece_stream, piece_streams, piece_counts};
-ghost use Rattle.canonical_write.specs.View.{streams_in, with_schema};
+ghost use Rattle.canonical_write.specs.View.{joined_parts, streams_in, with_schema};
 ghost use Rattle.canonical_write.specs.inner.Stream.{stream_in};
+ghost use Rattle.ipc_write.specs.Written.{schema_message};
 ghost use Rattle.table_cut.specs.Cut.{pieces};
 ghost use Rattle.table_cut.specs.Piece.{within_piece};
 ghost use Rattle.values.specs.Borrowed.{borrowed_cells};
@@ -15,7 +16,8 @@ ghost use Rattle.values.specs.TableView.{table_of};
 
 use crate::by_runs::{encode_parts, encode_parts_pieces};
 use crate::messages::write_piece;
-use crate::stream::{Stream, begin_stream, end_stream, into_bytes};
+use crate::stream::{Stream, begin_stream, end_stream, into_bytes, into_parts, schema_bytes};
+use array_build::Buffer;
 use arrow_schema::{Field, Schema};
 use canonical_stream::pieces_can_be_built;
 use cells::has_limits;
@@ -23,10 +25,12 @@ use std::alloc::{AllocError, Global};
 use table_cut::next_piece;
 use values::{Table, Values};
 
-/// The streams of a table's pieces, in order, and how many rows each has.
+/// The streams of a table's pieces, in order, and how many rows each has. All begin with the message of the schema, which is kept once; what comes behind it
+/// is parts one after another, made for the stream or where they stand in the table.
 #[derive(Debug, Drop)]
-pub struct EncodedPieces {
-    pub streams: Vec<Vec<u8>>,
+pub struct EncodedPieces<'a> {
+    pub schema_message: Vec<u8>,
+    pub parts: Vec<Vec<Buffer<'a>>>,
     pub rows: Vec<u64>,
 }
 
@@ -36,7 +40,8 @@ fn encode_rows<'a>(alloc: Global, schema: &Schema, table: &Table) -> Result<Stre
     ensures { IfOk result (λ stream. stream_in stream ≡ canonical (with_schema (schema_of schema.now) (table_of table.now))) }
 {
     pieces_can_be_built();
-    let mut stream = begin_stream(alloc, schema)?;
+    let first = schema_bytes(alloc, schema)?;
+    let mut stream = begin_stream(alloc, first);
     let mut from = 0;
     while from < table.len() {
         let piece = next_piece(alloc, schema, table, from)?;
@@ -72,17 +77,24 @@ pub fn encode(alloc: Global, table: &Table) -> Result<Vec<u8>, AllocError>
     into_bytes(alloc, stream)
 }
 
-// The stream of a piece, as a table of its own.
-fn encode_piece(alloc: Global, schema: &Schema, rows: &[Values<'_>]) -> Result<Vec<u8>, AllocError>
+// The stream of a piece, as a table of its own, but for the message of the schema, which has so many bytes.
+fn encode_piece<'a>(
+    alloc: Global,
+    schema: &Schema,
+    before: usize,
+    rows: &[Values<'_>],
+) -> Result<Vec<Buffer<'a>>, AllocError>
     requires piece { IsPieceOf (schema_of schema.now) (map borrowed_cells rows.now) }
     requires alone { pieces (within_piece (schema_of schema.now)) (map borrowed_cells rows.now) ≡ map borrowed_cells rows.now ∷ [] }
-    ensures stream { IfOk result (λ out. out.items ≡ piece_stream (schema_of schema.now) (map borrowed_cells rows.now)) }
-    ensures short { IfOk result (λ out. length out.items < 2 ^ 64) }
+    requires before { before ≡ length (schema_message (schema_of schema.now)) }
+    ensures stream { IfOk result (λ parts. schema_message (schema_of schema.now) ++ joined_parts parts.items
+        ≡ piece_stream (schema_of schema.now) (map borrowed_cells rows.now)) }
+    ensures short { IfOk result (λ parts. length (schema_message (schema_of schema.now) ++ joined_parts parts.items) < 2 ^ 64) }
 {
-    let mut stream = begin_stream(alloc, schema)?;
+    let mut stream = begin_stream(alloc, Vec::new(alloc));
     write_piece(alloc, &mut stream, schema, rows)?;
     end_stream(&mut stream)?;
-    into_bytes(alloc, stream)
+    into_parts(before, stream)
 }
 
 // Whether fields are equal, one by one.
@@ -101,29 +113,32 @@ fn are_same_fields(fields: &[Field], others: &[Field]) -> bool
 }
 
 // The pieces of rows that are borrowed one by one.
-fn encode_rows_pieces(
+fn encode_rows_pieces<'a>(
     alloc: Global,
     schema: &Schema,
     table: &Table,
-) -> Result<EncodedPieces, AllocError>
+) -> Result<EncodedPieces<'a>, AllocError>
     requires { IsTable (with_schema (schema_of schema.now) (table_of table.now)) }
     ensures streams { IfOk result (λ pieces. streams_in pieces ≡ piece_streams (with_schema (schema_of schema.now) (table_of table.now))) }
     ensures rows { IfOk result (λ pieces. pieces.rows.items ≡ piece_counts (with_schema (schema_of schema.now) (table_of table.now))) }
     ensures short { IfOk result (λ pieces. AllByRecursion (λ stream. length stream < 2 ^ 64) (streams_in pieces)) }
 {
     pieces_can_be_built();
+    let schema_message = schema_bytes(alloc, schema)?;
+    let before = schema_message.len();
     let mut streams = Vec::new(alloc);
     let mut counts = Vec::new(alloc);
     let mut from = 0;
     while from < table.len() {
         let piece = next_piece(alloc, schema, table, from)?;
-        let stream = encode_piece(alloc, schema, &piece)?;
+        let stream = encode_piece(alloc, schema, before, &piece)?;
         streams.push(stream)?;
         counts.push(piece.len() as u64)?;
         from += piece.len();
     }
     Ok(EncodedPieces {
-        streams,
+        schema_message,
+        parts: streams,
         rows: counts,
     })
 }
@@ -131,15 +146,15 @@ fn encode_rows_pieces(
 /// The pieces of the rows of a table of any types, under a schema, each as a stream of its own. Under the table's own schema they are cut where [`encode`]
 /// cuts them.
 ///
-/// The caller sees to it that the rows are a table under this schema, as they are under the table's own. Refused only where a growth was. It takes the
-/// memory of all streams, of which each has the message of the schema, and that of the arrays of one piece; and time linear in the streams, and in the
-/// cells of the table where it is not kept in record batches of just these columns, or has a dictionary whose indices have 8 or 16 bits. The law
-/// [`crate::pieces_are_tables`] says what the streams mean.
-pub fn encode_pieces(
+/// The caller sees to it that the rows are a table under this schema, as they are under the table's own. Refused only where a growth was. No copy is made of
+/// a buffer that stands in the table's bytes as it is written, but of small ones: it takes the memory of all others, and that of the schema's message once;
+/// and time linear in these and in the cells of the table where it is not kept in record batches of just these columns, or has a dictionary whose indices
+/// have 8 or 16 bits. The law [`crate::pieces_are_tables`] says what the streams mean.
+pub fn encode_pieces<'a>(
     alloc: Global,
     schema: &Schema,
-    table: &Table,
-) -> Result<EncodedPieces, AllocError>
+    table: &'a Table,
+) -> Result<EncodedPieces<'a>, AllocError>
     requires { IsTable (with_schema (schema_of schema.now) (table_of table.now)) }
     ensures streams { IfOk result (λ pieces. streams_in pieces ≡ piece_streams (with_schema (schema_of schema.now) (table_of table.now))) }
     ensures rows { IfOk result (λ pieces. pieces.rows.items ≡ piece_counts (with_schema (schema_of schema.now) (table_of table.now))) }
@@ -154,7 +169,10 @@ pub fn encode_pieces(
 }
 
 /// The pieces of the rows of a table of any types, under its own schema: those of [`encode_pieces`].
-pub fn encode_own_pieces(alloc: Global, table: &Table) -> Result<EncodedPieces, AllocError>
+pub fn encode_own_pieces<'a>(
+    alloc: Global,
+    table: &'a Table,
+) -> Result<EncodedPieces<'a>, AllocError>
     ensures streams { IfOk result (λ pieces. streams_in pieces ≡ piece_streams (table_of table.now)) }
     ensures rows { IfOk result (λ pieces. pieces.rows.items ≡ piece_counts (table_of table.now)) }
     ensures short { IfOk result (λ pieces. AllByRecursion (λ stream. length stream < 2 ^ 64) (streams_in pieces)) }

@@ -1,7 +1,8 @@
 // A stream as it is written: buffers of some size are parts of it by themselves, so that none is copied, and all else is put together.
-ghost use Rattle.std.specs.Prelude.{◌≡◌, ◌++◌, ◌<◌, ◌^◌, OnOk, IfOk, length};
+ghost use Rattle.std.specs.Prelude.{◌≡◌, ◌+◌, ◌++◌, ◌<◌, ◌^◌, [], OnOk, IfOk, IfSome, length};
 ghost use Rattle.array_build.specs.Batch.{buffer_bytes, buffers_in};
-ghost use Rattle.canonical_write.specs.inner.Stream.{joined_parts, stream_in};
+ghost use Rattle.canonical_write.specs.View.{joined_parts};
+ghost use Rattle.canonical_write.specs.inner.Stream.{stream_in};
 ghost use Rattle.arrow_schema.specs.Limits.{IsWithinLimits};
 ghost use Rattle.arrow_schema.specs.View.{schema_of};
 ghost use Rattle.ipc_write.specs.Written.{body, end_of_stream, padded, schema_message};
@@ -22,18 +23,25 @@ pub(crate) struct Stream<'a> {
     pub(crate) last: Vec<u8>,
 }
 
-/// A stream that begins with the message of a schema.
-#[tactic(auto, unfolding(crate::specs::inner::Stream::stream_in))]
-pub(crate) fn begin_stream<'a>(alloc: Global, schema: &Schema) -> Result<Stream<'a>, AllocError>
+/// The message of a schema.
+pub(crate) fn schema_bytes(alloc: Global, schema: &Schema) -> Result<Vec<u8>, AllocError>
     requires { IsWithinLimits (schema_of schema.now) }
-    ensures { IfOk result (λ stream. stream_in stream ≡ schema_message (schema_of schema.now)) }
+    ensures { IfOk result (λ bytes. bytes.items ≡ schema_message (schema_of schema.now)) }
 {
-    let mut first = Vec::new(alloc);
-    write_schema(alloc, &mut first, schema)?;
-    Ok(Stream {
+    let mut bytes = Vec::new(alloc);
+    write_schema(alloc, &mut bytes, schema)?;
+    Ok(bytes)
+}
+
+/// A stream that begins with these bytes.
+#[tactic(auto, unfolding(crate::specs::inner::Stream::stream_in))]
+pub(crate) fn begin_stream<'a>(alloc: Global, first: Vec<u8>) -> Stream<'a>
+    ensures { stream_in result ≡ first.items }
+{
+    Stream {
         parts: Vec::new(alloc),
         last: first,
-    })
+    }
 }
 
 /// Adds the end of stream.
@@ -102,20 +110,27 @@ pub(crate) fn push_body<'a>(
     Ok(())
 }
 
-// How many bytes parts have, or the largest number.
-fn size_of_parts(parts: &[Buffer<'_>]) -> usize {
-    let mut size = 0usize;
+// How many bytes the parts have behind so many others, where a number of 64 bits says it.
+fn count_bytes(before: usize, parts: &[Buffer<'_>]) -> Option<usize>
+    ensures { IfSome result (λ count. count ≡ before + length (joined_parts parts.now)) }
+{
+    let mut count = before;
     for part in parts {
-        size = size.saturating_add(part.bytes().len());
+        let Some(more) = count.checked_add(part.bytes().len()) else {
+            return None;
+        };
+        count = more;
     }
-    size
+    Some(count)
 }
 
 // Parts one after another, and then more bytes.
 fn join(alloc: Global, parts: &[Buffer<'_>], last: &[u8]) -> Result<Vec<u8>, AllocError>
     ensures { IfOk result (λ bytes. bytes.items ≡ joined_parts parts.now ++ last.now) }
 {
-    let size = size_of_parts(parts).saturating_add(last.len());
+    let Some(size) = count_bytes(last.len(), parts) else {
+        return Err(AllocError);
+    };
     let mut bytes = Vec::with_capacity(alloc, size)?;
     for part in parts {
         bytes.extend_from_slice(part.bytes())?;
@@ -127,12 +142,29 @@ fn join(alloc: Global, parts: &[Buffer<'_>], last: &[u8]) -> Result<Vec<u8>, All
 /// The whole stream in one.
 #[tactic(auto, unfolding(crate::specs::inner::Stream::stream_in))]
 pub(crate) fn into_bytes(alloc: Global, stream: Stream<'_>) -> Result<Vec<u8>, AllocError>
-    ensures stream { IfOk result (λ bytes. bytes.items ≡ stream_in stream.entry) }
-    ensures short { IfOk result (λ bytes. length bytes.items < 2 ^ 64) }
+    ensures { IfOk result (λ bytes. bytes.items ≡ stream_in stream.entry) }
 {
     let Stream { parts, last } = stream;
     if parts.is_empty() {
         return Ok(last);
     }
     join(alloc, &parts, &last)
+}
+
+/// The parts of the whole stream, which stands behind so many other bytes. Bytes that a number of 64 bits cannot count are refused as a growth is.
+#[tactic(auto, unfolding(crate::specs::inner::Stream::stream_in))]
+pub(crate) fn into_parts<'a>(
+    before: usize,
+    stream: Stream<'a>,
+) -> Result<Vec<Buffer<'a>>, AllocError>
+    ensures parts { IfOk result (λ parts. joined_parts parts.items ≡ stream_in stream.entry) }
+    ensures short { IfOk result (λ parts. before + length (joined_parts parts.items) < 2 ^ 64) }
+{
+    let Stream { parts, last } = stream;
+    let mut parts = parts;
+    parts.push(Buffer::Made(last))?;
+    match count_bytes(before, &parts) {
+        Some(_) => Ok(parts),
+        None => Err(AllocError),
+    }
 }

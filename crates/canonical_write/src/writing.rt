@@ -3,7 +3,8 @@ ghost use Rattle.std.specs.Prelude.{◌≡◌, ◌≢◌, IfErr, OnOk};
 ghost use Rattle.std.specs.Io.KnownBytes.{Appends};
 ghost use Rattle.canonical_stream.specs.Canonical.{canonical};
 ghost use Rattle.canonical_write.specs.declared.writing.WriteError.TheVariants.{Io, OutOfMemory};
-ghost use Rattle.canonical_write.specs.inner.Stream.{joined_parts, stream_in};
+ghost use Rattle.canonical_write.specs.View.{joined_parts};
+ghost use Rattle.canonical_write.specs.inner.Stream.{stream_in};
 ghost use Rattle.values.specs.TableView.{table_of};
 
 use crate::encoder::encode_table;

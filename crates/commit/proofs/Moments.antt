@@ -8,7 +8,7 @@ use Rattle.sector_dev.specs.laws.Crash.{put_other, put_same, holds_one, holds_sy
 use Rattle.segments.specs.Runs.{OutOf, StartFrom}
 use Rattle.segments.specs.laws.ReadBack.{same_pieces}
 use Rattle.segments.specs.Writing.{WritesOnly, HoldsEach, runs_of}
-use Rattle.segments.specs.declared.piece.Piece.{Piece}
+use Rattle.segments.specs.Pieces.{PlainPiece}
 use Rattle.commit.specs.declared.sector.Commit.{Commit}
 use Rattle.commit.specs.Sector.{commit_at}
 use Rattle.commit.specs.Ruling.{ruling, Rests}
@@ -16,14 +16,14 @@ use Rattle.commit.specs.Publishing.{IsOutside, IsOldOrNew, IsPublishing, IsPubli
 use Rattle.commit.proofs.Rules.{same_rules, new_rules, old_rules}
 
 -- a commit sector lies in no run
-out_of_commits : (pieces : List Piece) (n : ℕ) → n < 2 → StartFrom 2 (runs_of pieces) → OutOf (runs_of pieces) n
+out_of_commits : (pieces : List PlainPiece) (n : ℕ) → n < 2 → StartFrom 2 (runs_of pieces) → OutOf (runs_of pieces) n
 out_of_commits [] n lt above = tt
 out_of_commits (p ∷ ps) n lt above = (inl (omega (arith, above.0)), out_of_commits ps n lt above.1)
 
 slot_low : (n : ℕ) → n % 2 < 2
 slot_low n = omega arith
 
-module _ (old new : Commit) (pieces : List Piece) (d0 : Disk) (above : StartFrom 2 (runs_of pieces)) (next : new.epoch ≡ old.epoch + 1) (rests : Rests d0 old) where
+module _ (old new : Commit) (pieces : List PlainPiece) (d0 : Disk) (above : StartFrom 2 (runs_of pieces)) (next : new.epoch ≡ old.epoch + 1) (rests : Rests d0 old) where
   abbrev pub P : Disk → Type 0
   P = IsPublishing d0 new pieces (IsRuledBy old) (IsRuledBy new)
 

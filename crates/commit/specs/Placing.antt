@@ -1,14 +1,16 @@
 -- Runs are taken for what is to be written, each the lowest that is free.
-use Rattle.std.specs.Prelude.{◌≡◌, ◌⊎◌, ◌≤◌, ◌+◌, ℕ, Bool, false, ◌||◌, if◌then◌else◌, List, [], ◌∷◌, ◌++◌, length, map, Some, None, Result, Ok, Err}
+use Rattle.std.specs.Prelude.{◌≡◌, ◌⊎◌, ◌≤◌, ◌<◌, ◌+◌, ◌^◌, ℕ, Bool, false, ◌||◌, if◌then◌else◌, List, [], ◌∷◌, ◌++◌, length, map, Some, None, Result, Ok, Err, vec_len, vec_capacity}
 use Rattle.std.specs.Global.{Vec}
 use Rattle.std.specs.List.{AllByRecursion}
 use Rattle.segments.specs.declared.run.Run.{Run}
-use Rattle.segments.specs.declared.piece.Piece.{Piece}
 use Rattle.segments.specs.declared.entries.Usage.{Usage}
 use Rattle.segments.specs.declared.entries.UsageEntry.{UsageEntry}
+use Rattle.segments.specs.declared.piece.Part.{Part}
+use Rattle.segments.specs.Pieces.{PlainPiece, bytes_of_parts}
 use Rattle.segments.specs.Runs.{IsLowest}
 use Rattle.segments.specs.Sectors.{sector_count}
 use Rattle.segments.specs.Usages.{same_run, usage_of}
+use Rattle.commit.specs.declared.placing.Places.{Places}
 
 -- the run is one of these
 abbrev pub is_among : List Run → Run → Bool
@@ -41,17 +43,31 @@ Takes size used (count ∷ counts) taken =
     ⊎ ((run : Run) × IsLowest size used count (Some run) × ((rest : Result (List Run) ℕ) × Takes size (λ other. used other ⊎ (other ≡ run)) counts rest × (taken ≡ in_front run rest)))
 
 -- the bytes of some pieces
-abbrev pub contents_of : List Piece → List (Vec ℕ)
-contents_of pieces = map (λ (p : Piece). p.bytes) pieces
+abbrev pub contents_of : List PlainPiece → List (List ℕ)
+contents_of pieces = map (λ (p : PlainPiece). p.bytes) pieces
+
+-- the bytes of contents that are given as their parts
+abbrev pub plain_contents : List (Vec Part) → List (List ℕ)
+plain_contents contents = map (λ (parts : Vec Part). bytes_of_parts parts.items) contents
 
 -- how many sectors some bytes take
-abbrev pub sectors_of : Vec ℕ → ℕ
-sectors_of bytes = sector_count (length bytes.items)
+abbrev pub sectors_of : List ℕ → ℕ
+sectors_of bytes = sector_count (length bytes)
 
 -- how many sectors these contents take, and then a text of so many bytes
-abbrev pub counts_of : List (Vec ℕ) → ℕ → List ℕ
+abbrev pub counts_of : List (List ℕ) → ℕ → List ℕ
 counts_of contents bytes = map sectors_of contents ++ sector_count bytes ∷ []
 
 -- none of them is empty
-abbrev pub AreSome : List (Vec ℕ) → Type 0
-AreSome contents = AllByRecursion (λ (bytes : Vec ℕ). 1 ≤ length bytes.items) contents
+abbrev pub AreSome : List (List ℕ) → Type 0
+AreSome contents = AllByRecursion (λ (bytes : List ℕ). 1 ≤ length bytes) contents
+
+-- the bytes of each can be counted by 64 bits
+abbrev pub AreShort : List (List ℕ) → Type 0
+AreShort contents = AllByRecursion (λ (bytes : List ℕ). length bytes < 2 ^ 64) contents
+
+-- room for one more piece, and for its one part
+pub record HasRoom (places : Places) : Type 0 where
+  pub piece : vec_len places.pieces < vec_capacity places.pieces
+  pub part : 1 ≤ vec_capacity places.room
+  pub empty : places.room.items ≡ []

@@ -5,7 +5,7 @@ use Rattle.sector_dev.specs.Time.{LeavesOnly, Grows}
 use Rattle.segments.specs.Runs.{OutOf, AreApart, StartFrom}
 use Rattle.segments.specs.Writing.{AllFit, runs_of, HoldsEach}
 use Rattle.segments.specs.declared.run.Run.{Run}
-use Rattle.segments.specs.declared.piece.Piece.{Piece}
+use Rattle.segments.specs.Pieces.{PlainPiece}
 use Rattle.commit.specs.declared.sector.Commit.{Commit}
 use Rattle.commit.specs.Sector.{IsCommit}
 use Rattle.commit.specs.Ruling.{ruling, IsQuiet, Rests}
@@ -23,7 +23,7 @@ next_commit k run bytes = record {
 
 -- what can be published on a device of this size: pieces that fit into their runs, behind the commit sectors and apart from one
 -- another, and a commit of the next epoch
-pub record IsPlan (size : ℕ) (old new : Commit) (pieces : List Piece) : Type 0 where
+pub record IsPlan (size : ℕ) (old new : Commit) (pieces : List PlainPiece) : Type 0 where
   pub limits : is_size size ≡ true
   pub fit : AllFit size pieces
   pub apart : AreApart (runs_of pieces)
@@ -32,23 +32,23 @@ pub record IsPlan (size : ℕ) (old new : Commit) (pieces : List Piece) : Type 0
   pub writable : IsCommit new
 
 -- the sector lies in no piece's run, and is not the one of the new commit
-abbrev pub IsOutside : Commit → List Piece → ℕ → Type 0
+abbrev pub IsOutside : Commit → List PlainPiece → ℕ → Type 0
 IsOutside new pieces n = OutOf (runs_of pieces) n × (n ≢ new.epoch % 2)
 
 -- by these two words: the image is old, or it is new and each piece lies in its run; elsewhere lies what lay there
-pub record IsOldOrNew (before : Disk) (new : Commit) (pieces : List Piece) (Old New : Image → Type 0) (image : Image) : Type 0 where
+pub record IsOldOrNew (before : Disk) (new : Commit) (pieces : List PlainPiece) (Old New : Image → Type 0) (image : Image) : Type 0 where
   pub outside : (n : ℕ) → IsOutside new pieces n → image n ≡ (before.at n).synced
   pub which : Old image ⊎ (New image × HoldsEach image pieces)
 
 -- at a moment of the publishing: no other sector was touched, the disk is as it was or a write has begun, and each image
 -- that a stop may leave is old or new
-pub record IsPublishing (before : Disk) (new : Commit) (pieces : List Piece) (Old New : Image → Type 0) (d : Disk) : Type 0 where
+pub record IsPublishing (before : Disk) (new : Commit) (pieces : List PlainPiece) (Old New : Image → Type 0) (d : Disk) : Type 0 where
   pub touches : (n : ℕ) → IsOutside new pieces n → d.at n ≡ before.at n
   pub begun : (d ≡ before) ⊎ (before.writes < d.writes)
   pub leaves : LeavesOnly (IsOldOrNew before new pieces Old New) d
 
 -- after the publishing: all is synced, it is new and each piece lies in its run
-pub record IsPublished (before : Disk) (new : Commit) (pieces : List Piece) (New : Image → Type 0) (d : Disk) : Type 0 where
+pub record IsPublished (before : Disk) (new : Commit) (pieces : List PlainPiece) (New : Image → Type 0) (d : Disk) : Type 0 where
   pub quiet : IsQuiet d
   pub stands : New (synced_image d)
   pub holds : HoldsEach (synced_image d) pieces
@@ -60,9 +60,9 @@ abbrev pub IsRuledBy : Commit → Image → Type 0
 IsRuledBy commit image = ruling image ≡ Some commit
 
 -- a publishing over a disk on which the old commit rests, at each moment
-abbrev pub Publishes : Commit → Commit → List Piece → Story → Story → Type 0
+abbrev pub Publishes : Commit → Commit → List PlainPiece → Story → Story → Type 0
 Publishes old new pieces before after = Rests (now before) old → Grows (IsPublishing (now before) new pieces (IsRuledBy old) (IsRuledBy new)) before after
 
 -- and its end, where it succeeded
-abbrev pub EndsPublished : Commit → Commit → List Piece → Story → Story → Type 0
+abbrev pub EndsPublished : Commit → Commit → List PlainPiece → Story → Story → Type 0
 EndsPublished old new pieces before after = Rests (now before) old → IsPublished (now before) new pieces (IsRuledBy new) (now after)

@@ -5,7 +5,7 @@ use Rattle.sector_dev.specs.Time.{Grows}
 use Rattle.segments.specs.Runs.{OutOf}
 use Rattle.segments.specs.Writing.{runs_of, HoldsEach}
 use Rattle.segments.specs.declared.run.Run.{Run}
-use Rattle.segments.specs.declared.piece.Piece.{Piece}
+use Rattle.segments.specs.Pieces.{PlainPiece, plain_pieces}
 use Rattle.commit.specs.declared.sector.Commit.{Commit}
 use Rattle.commit.specs.declared.recovery.Opened.{Opened}
 use Rattle.commit.specs.declared.publishing.Plan.{Plan}
@@ -18,16 +18,16 @@ pub record Change (C : Type 0) : Type 0 where
   pub was : C
   pub new : Commit
   pub will : C
-  pub pieces : List Piece
+  pub pieces : List PlainPiece
 
 -- what a plan changes in an open store
 abbrev pub change_of : {A C : Type 0} → (A → C) → Opened A → Plan A → Change C
-change_of plain_of store plan = record { old = store.commit; was = plain_of store.catalogue; new = plan.commit; will = plain_of plan.catalogue; pieces = plan.pieces.items }
+change_of plain_of store plan = record { old = store.commit; was = plain_of store.catalogue; new = plan.commit; will = plain_of plan.catalogue; pieces = plain_pieces plan.pieces.items }
 
 -- these bytes are one of the pieces, in this run
-abbrev pub IsPieceOf : List Piece → Run → List ℕ → Type 0
+abbrev pub IsPieceOf : List PlainPiece → Run → List ℕ → Type 0
 IsPieceOf [] run bytes = ⊥
-IsPieceOf (p ∷ ps) run bytes = ((p.run ≡ run) × (p.bytes.items ≡ bytes)) ⊎ IsPieceOf ps run bytes
+IsPieceOf (p ∷ ps) run bytes = ((p.run ≡ run) × (p.bytes ≡ bytes)) ⊎ IsPieceOf ps run bytes
 
 -- the pieces make the new catalogue: its text is one of them, it is read from each image that holds them and has elsewhere what lay
 -- there, and its runs can be in use

@@ -1,39 +1,44 @@
 // A new commit takes the place of the one that rules.
-ghost use Rattle.std.specs.Prelude.{◌≡◌, ◌<◌, ◌+◌, ◌^◌, ◌++◌, ◌∷◌, [], true, OnOk, IfErr, length, vec_len, vec_capacity};
+ghost use Rattle.std.specs.Prelude.{◌≡◌, ◌<◌, ◌+◌, ◌^◌, ◌++◌, ◌∷◌, [], true, OnOk, IfErr, length};
 ghost use Rattle.sector_dev.specs.Disk.{Counts};
+ghost use Rattle.segments.specs.Pieces.{plain_pieces};
+ghost use Rattle.commit.specs.Placing.{HasRoom};
 ghost use Rattle.commit.specs.Publishing.{IsPlan, next_commit, Publishes, EndsPublished};
 ghost use Rattle.commit.specs.Replacing.{change_of, Replaces, LeavesEither, EndsReplaced};
 
 use crate::sector::commit_sector;
 use crate::{Commit, Opened, Places, ReadCatalogue};
 use sector_dev::{DevError, SectorDevice};
-use segments::{Extent, Piece, write_runs};
+use segments::{Extent, Part, Piece, write_runs};
 
 /// What is to be published: the next commit, its catalogue, and the bytes that are written for it.
 #[derive(Drop)]
-pub struct Plan<C> {
+pub struct Plan<'a, C> {
     pub commit: Commit,
     pub catalogue: C,
-    pub pieces: Vec<Piece>,
+    pub pieces: Vec<Piece<'a>>,
 }
 
 /// The plan of the next commit: what was placed, and behind it the text of its catalogue. It takes no memory.
-pub fn plan_next<C>(old: Commit, catalogue: C, places: Places, text: Vec<u8>) -> Plan<C>
+pub fn plan_next<'a, C>(old: Commit, catalogue: C, places: Places<'a>, text: Vec<u8>) -> Plan<'a, C>
     requires epoch { old.epoch + 1 < 2 ^ 64 }
-    requires room { vec_len places.pieces < vec_capacity places.pieces }
-    ensures commit { result.commit ≡ next_commit old places.text (length text.items) }
+    requires room { HasRoom places }
+    ensures commit { result.commit ≡ next_commit old places.entry.text (length text.items) }
     ensures catalogue { result.catalogue ≡ catalogue }
-    ensures pieces { result.pieces.items ≡ places.pieces.items ++ record { run = places.text; bytes = text } ∷ [] }
+    ensures pieces { plain_pieces result.pieces.items
+        ≡ plain_pieces places.entry.pieces.items ++ record { run = places.entry.text; bytes = text.items } ∷ [] }
 {
     let extent = Extent {
         run: places.text,
         bytes: text.len() as u64,
     };
     let mut pieces = places.pieces;
+    let mut parts = places.room;
+    parts.push(Part::Made(text)).unwrap();
     pieces
         .push(Piece {
             run: extent.run,
-            bytes: text,
+            parts,
         })
         .unwrap();
     let commit = Commit {
@@ -53,14 +58,14 @@ fn write_and_commit<D: SectorDevice>(
     device: &mut D,
     old: Commit,
     new: Commit,
-    pieces: &[Piece],
+    pieces: &[Piece<'_>],
 ) -> Result<(), DevError>
-    requires { IsPlan (D.size device.old) old new pieces.now }
+    requires { IsPlan (D.size device.old) old new (plain_pieces pieces.now) }
     ensures size { D.size device.new ≡ D.size device.old }
     ensures count { Counts (D.failed device.old) (D.failed device.new) result }
     ensures error { IfErr result (λ e. e ≡ DevError.Failed) }
-    ensures moments { D.tells ≡ true → Publishes old new pieces.now (D.story device.old) (D.story device.new) }
-    ensures published { OnOk result (D.tells ≡ true → EndsPublished old new pieces.now (D.story device.old) (D.story device.new)) }
+    ensures moments { D.tells ≡ true → Publishes old new (plain_pieces pieces.now) (D.story device.old) (D.story device.new) }
+    ensures published { OnOk result (D.tells ≡ true → EndsPublished old new (plain_pieces pieces.now) (D.story device.old) (D.story device.new)) }
 {
     write_runs(device, pieces)?;
     device.sync()?;
@@ -78,9 +83,9 @@ fn write_and_commit<D: SectorDevice>(
 pub fn publish<C: ReadCatalogue, D: SectorDevice>(
     device: &mut D,
     old: &Opened<C>,
-    plan: &Plan<C>,
+    plan: &Plan<'_, C>,
 ) -> Result<(), DevError>
-    requires { IsPlan (D.size device.old) old.now.commit plan.now.commit plan.now.pieces.items }
+    requires { IsPlan (D.size device.old) old.now.commit plan.now.commit (plain_pieces plan.now.pieces.items) }
     ensures size { D.size device.new ≡ D.size device.old }
     ensures count { Counts (D.failed device.old) (D.failed device.new) result }
     ensures error { IfErr result (λ e. e ≡ DevError.Failed) }

@@ -5,5 +5,6 @@ pub mod Lowest
 pub mod Touched
 pub mod Contents
 pub mod Order
+pub mod Stretches
 pub mod Pieces
 pub mod Gathered

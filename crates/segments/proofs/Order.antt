@@ -1,21 +1,25 @@
 -- The writes of runs, in their order.
-use Rattle.std.proofs.Common.{◌≡◌, ◌≢◌, inl, inr, ◌≤◌, ◌<◌, ◌+◌, ◌*◌, ◌/◌, ◌%◌, ℕ, zero, suc, List, [], ◌∷◌, ◌++◌, length, map, take, drop, get_or, Result, Ok, Err, Some, refl, sym, ap, ◌∙◌, subst, arith, append-nil}
-use Rattle.std.specs.Result.{OnErr}
+use Rattle.std.proofs.Common.{◌≡◌, inl, inr, ◌≤◌, ◌<◌, ◌+◌, ℕ, zero, suc, List, [], ◌∷◌, ◌++◌, length, map, take, drop, get_or, Result, Ok, Err, Some, refl, sym, ap, ◌∙◌, subst, arith, append-nil}
+use Rattle.std.specs.Result.{OnOk, OnErr}
 use Rattle.std.specs.List.{range_with_len}
 use Rattle.std.proofs.lemmas.Grind.{flat_map-append}
 use Rattle.std.proofs.lemmas.List.{take_more, take-append-drop}
 use Rattle.std.proofs.lemmas.List.FromFn.{map-range_with_len_more, take-map-range_with_len}
-use Rattle.std.specs.Simd.{first_chunks}
 use Rattle.sector_dev.specs.Disk.{Story, Puts, FailsToPut}
-use Rattle.segments.specs.declared.piece.Piece.{Piece}
-use Rattle.segments.specs.Sectors.{sector_count, filled, sector_of}
+use Rattle.segments.specs.Pieces.{PlainPiece}
 use Rattle.segments.specs.Writing.{SectorWrite, writes_from, run_writes, piece_writes, GrowsBy, FailsAmong}
-use Rattle.segments.specs.inner.Rows.{row_writes}
-use Rattle.segments.proofs.Contents.{chunk_at, sector_whole, sector_last}
 
 pub on_err : {T E P : Type 0} (r : Result T E) → P → OnErr r P
 on_err (Ok x) p = tt
 on_err (Err e) p = p
+
+pub on_ok_map : {T E P Q : Type 0} (r : Result T E) → (P → Q) → OnOk r P → OnOk r Q
+on_ok_map (Ok x) f p = f p
+on_ok_map (Err e) f p = tt
+
+pub on_err_map : {T E P Q : Type 0} (r : Result T E) → (P → Q) → OnErr r P → OnErr r Q
+on_err_map (Ok x) f p = tt
+on_err_map (Err e) f p = f p
 
 -- some writes, and then others
 pub grows_on : (ws vs : List SectorWrite) (a b c : Story) → GrowsBy ws a b → GrowsBy vs b c → GrowsBy (ws ++ vs) a c
@@ -28,7 +32,7 @@ fails_later [] vs a b c first fails = subst (λ s. FailsAmong vs s c) first fail
 fails_later (w ∷ ws) vs a b c first fails = inr (first.0, first.1, fails_later ws vs first.0 b c first.2 fails)
 
 -- a write that failed is one of more writes
-fails_before : (ws vs : List SectorWrite) (a b : Story) → FailsAmong ws a b → FailsAmong (ws ++ vs) a b
+pub fails_before : (ws vs : List SectorWrite) (a b : Story) → FailsAmong ws a b → FailsAmong (ws ++ vs) a b
 fails_before [] vs a b fails = absurd fails
 fails_before (w ∷ ws) vs a b (inl here) = inl here
 fails_before (w ∷ ws) vs a b (inr later) = inr (later.0, later.1, fails_before ws vs later.0 b later.2)
@@ -38,7 +42,7 @@ same_map : (f g : ℕ → SectorWrite) (from count : ℕ) → ((j : ℕ) → j <
 same_map f g from zero same = refl
 same_map f g from (suc count) same = λ i. same from (omega arith) i ∷ same_map f g (from + 1) count (λ j lt. same j (omega arith)) i
 
-same_writes : (start count : ℕ) (f g : ℕ → List ℕ) → ((j : ℕ) → j < count → f j ≡ g j) → writes_from start count f ≡ writes_from start count g
+pub same_writes : (start count : ℕ) (f g : ℕ → List ℕ) → ((j : ℕ) → j < count → f j ≡ g j) → writes_from start count f ≡ writes_from start count g
 same_writes start count f g same = same_map _ _ 0 count (λ j lt. ap (λ (c : List ℕ). record { sector = start + j; content = c }) (same j (omega arith)))
 
 one_more : (start count : ℕ) (f : ℕ → List ℕ) → writes_from start (count + 1) f ≡ writes_from start count f ++ record { sector = start + count; content = f count } ∷ []
@@ -63,56 +67,24 @@ next_failed start at count f c a b z lt is so_far fails =
     (subst (λ ws. FailsAmong ws a z) (sym (one_more start at f))
     (fails_later (writes_from start at f) (record { sector = start + at; content = f at } ∷ []) a b z so_far (inl (subst (λ (d : List ℕ). FailsToPut b (start + at) d z) is fails))))
 
--- the whole sectors of some bytes
-whole_writes : (start : ℕ) (bytes : List ℕ) (whole : List (List ℕ)) → whole ≡ first_chunks 512 (length bytes / 512) bytes → length whole ≡ length bytes / 512 → row_writes start whole ≡ writes_from start (length whole) (sector_of bytes)
-whole_writes start bytes whole is count =
-    same_writes start (length whole) (λ j. get_or whole j []) (sector_of bytes) (λ j lt.
-    ap (λ (cs : List (List ℕ)). get_or cs j []) is ∙ chunk_at (length bytes / 512) bytes j (omega arith) ∙ sym (sector_whole bytes j (omega arith)))
-
-pub whole_failed : (start : ℕ) (bytes : List ℕ) (whole : List (List ℕ)) (a b : Story) → whole ≡ first_chunks 512 (length bytes / 512) bytes → length whole ≡ length bytes / 512 → FailsAmong (row_writes start whole) a b → FailsAmong (run_writes start bytes) a b
-whole_failed start bytes whole a b is count fails =
-    fewer_fail start (length whole) (sector_count (length bytes)) (sector_of bytes) a b (omega arith) (subst (λ ws. FailsAmong ws a b) (whole_writes start bytes whole is count) fails)
-
-pub whole_done : (start : ℕ) (bytes : List ℕ) (whole : List (List ℕ)) (a b : Story) → length bytes % 512 ≡ 0 → whole ≡ first_chunks 512 (length bytes / 512) bytes → length whole ≡ length bytes / 512 → GrowsBy (row_writes start whole) a b → GrowsBy (run_writes start bytes) a b
-whole_done start bytes whole a b even is count done =
-    let all : length whole ≡ sector_count (length bytes) = omega arith in
-    subst (λ n. GrowsBy (writes_from start n (sector_of bytes)) a b) all (subst (λ ws. GrowsBy ws a b) (whole_writes start bytes whole is count) done)
-
--- and the last one, which they don't fill
-last_is : (bytes rest last : List ℕ) (j : ℕ) → j ≡ length bytes / 512 → rest ≡ drop (length bytes / 512 * 512) bytes → last ≡ filled rest → last ≡ sector_of bytes j
-last_is bytes rest last j count back ends =
-    let from : length bytes / 512 * 512 ≡ 512 * j = omega arith in
-    ends ∙ ap filled (back ∙ ap (λ k. drop k bytes) from) ∙ sym (sector_last bytes j (omega arith))
-
-pub last_failed : (start : ℕ) (bytes rest last : List ℕ) (whole : List (List ℕ)) (a b z : Story) → length bytes % 512 ≢ 0 → whole ≡ first_chunks 512 (length bytes / 512) bytes → length whole ≡ length bytes / 512 → rest ≡ drop (length bytes / 512 * 512) bytes → last ≡ filled rest → GrowsBy (row_writes start whole) a b → FailsToPut b (start + length whole) last z → FailsAmong (run_writes start bytes) a z
-last_failed start bytes rest last whole a b z odd is count back ends done fails =
-    next_failed start (length whole) (sector_count (length bytes)) (sector_of bytes) last a b z (omega arith) (last_is bytes rest last (length whole) count back ends)
-    (subst (λ ws. GrowsBy ws a b) (whole_writes start bytes whole is count) done) fails
-
-pub last_done : (start : ℕ) (bytes rest last : List ℕ) (whole : List (List ℕ)) (a b z : Story) → length bytes % 512 ≢ 0 → whole ≡ first_chunks 512 (length bytes / 512) bytes → length whole ≡ length bytes / 512 → rest ≡ drop (length bytes / 512 * 512) bytes → last ≡ filled rest → GrowsBy (row_writes start whole) a b → Puts b (start + length whole) last (Some last) z → GrowsBy (run_writes start bytes) a z
-last_done start bytes rest last whole a b z odd is count back ends done puts =
-    let all : length whole + 1 ≡ sector_count (length bytes) = omega arith in
-    subst (λ n. GrowsBy (writes_from start n (sector_of bytes)) a z) all
-    (next_done start (length whole) (sector_of bytes) last a b z (last_is bytes rest last (length whole) count back ends) (subst (λ ws. GrowsBy ws a b) (whole_writes start bytes whole is count) done) puts)
-
 -- the piece that a loop has come to
-next_piece : (ps : List Piece) (i : ℕ) (p : Piece) (bytes : List ℕ) → i < length ps → p ≡ get_or ps i p → bytes ≡ p.bytes.items → piece_writes (take (i + 1) ps) ≡ piece_writes (take i ps) ++ run_writes p.run.start bytes
+next_piece : (ps : List PlainPiece) (i : ℕ) (p : PlainPiece) (bytes : List ℕ) → i < length ps → p ≡ get_or ps i p → bytes ≡ p.bytes → piece_writes (take (i + 1) ps) ≡ piece_writes (take i ps) ++ run_writes p.run.start bytes
 next_piece ps i p bytes lt is same =
     ap piece_writes (take_more ps i p lt)
-    ∙ flat_map-append (λ (q : Piece). run_writes q.run.start q.bytes.items) (take i ps) (get_or ps i p ∷ [])
+    ∙ flat_map-append (λ (q : PlainPiece). run_writes q.run.start q.bytes) (take i ps) (get_or ps i p ∷ [])
     ∙ ap (λ (ws : List SectorWrite). piece_writes (take i ps) ++ ws)
-    (append-nil (run_writes (get_or ps i p).run.start (get_or ps i p).bytes.items)
-    ∙ ap (λ (q : Piece). run_writes q.run.start q.bytes.items) (sym is)
+    (append-nil (run_writes (get_or ps i p).run.start (get_or ps i p).bytes)
+    ∙ ap (λ (q : PlainPiece). run_writes q.run.start q.bytes) (sym is)
     ∙ ap (run_writes p.run.start) (sym same))
 
-pub piece_done : (ps : List Piece) (i : ℕ) (p : Piece) (bytes : List ℕ) (a b z : Story) → i < length ps → p ≡ get_or ps i p → bytes ≡ p.bytes.items → GrowsBy (piece_writes (take i ps)) a b → GrowsBy (run_writes p.run.start bytes) b z → GrowsBy (piece_writes (take (i + 1) ps)) a z
+pub piece_done : (ps : List PlainPiece) (i : ℕ) (p : PlainPiece) (bytes : List ℕ) (a b z : Story) → i < length ps → p ≡ get_or ps i p → bytes ≡ p.bytes → GrowsBy (piece_writes (take i ps)) a b → GrowsBy (run_writes p.run.start bytes) b z → GrowsBy (piece_writes (take (i + 1) ps)) a z
 piece_done ps i p bytes a b z lt is same so_far here =
     subst (λ ws. GrowsBy ws a z) (sym (next_piece ps i p bytes lt is same)) (grows_on (piece_writes (take i ps)) (run_writes p.run.start bytes) a b z so_far here)
 
-pub piece_failed : (ps : List Piece) (i : ℕ) (p : Piece) (bytes : List ℕ) (a b z : Story) → i < length ps → p ≡ get_or ps i p → bytes ≡ p.bytes.items → GrowsBy (piece_writes (take i ps)) a b → FailsAmong (run_writes p.run.start bytes) b z → FailsAmong (piece_writes ps) a z
+pub piece_failed : (ps : List PlainPiece) (i : ℕ) (p : PlainPiece) (bytes : List ℕ) (a b z : Story) → i < length ps → p ≡ get_or ps i p → bytes ≡ p.bytes → GrowsBy (piece_writes (take i ps)) a b → FailsAmong (run_writes p.run.start bytes) b z → FailsAmong (piece_writes ps) a z
 piece_failed ps i p bytes a b z lt is same so_far fails =
     let front = take (i + 1) ps in
     let rest = drop (i + 1) ps in
-    subst (λ ws. FailsAmong ws a z) (sym (flat_map-append (λ (q : Piece). run_writes q.run.start q.bytes.items) front rest) ∙ ap piece_writes (take-append-drop (i + 1) ps))
+    subst (λ ws. FailsAmong ws a z) (sym (flat_map-append (λ (q : PlainPiece). run_writes q.run.start q.bytes) front rest) ∙ ap piece_writes (take-append-drop (i + 1) ps))
     (fails_before (piece_writes front) (piece_writes rest) a z
     (subst (λ ws. FailsAmong ws a z) (sym (next_piece ps i p bytes lt is same)) (fails_later (piece_writes (take i ps)) (run_writes p.run.start bytes) a b z so_far fails)))

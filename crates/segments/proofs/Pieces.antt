@@ -1,83 +1,67 @@
 -- Pieces that are written into runs that share no sector.
-use Rattle.std.proofs.Common.{◌≡◌, inl, inr, ⊎_elim, ◌≤◌, ◌<◌, ◌+◌, ℕ, zero, suc, List, [], ◌∷◌, ◌++◌, length, take, get_or, refl, sym, ap, subst, arith}
-use Rattle.std.proofs.lemmas.List.{take_more}
-use Rattle.sector_dev.specs.Disk.{Disk, Sector, Image, shown_image}
-use Rattle.segments.specs.declared.run.Run.{Run}
+use Rattle.std.proofs.Common.{◌≡◌, ◌≤◌, ◌<◌, ◌+◌, ℕ, zero, suc, List, [], ◌∷◌, ◌++◌, length, take, drop, get_or, refl, sym, ap, ◌∙◌, subst, arith, append-nil}
+use Rattle.std.proofs.lemmas.Grind.{flat_map-append}
+use Rattle.std.proofs.lemmas.List.{get_or-map, length-map, take_more, take-append-drop}
+use Rattle.sector_dev.specs.Disk.{Sector, Story, now, shown_image}
 use Rattle.segments.specs.declared.piece.Piece.{Piece}
-use Rattle.segments.specs.Runs.{OutOf, IsApart, ApartFrom, AreApart}
-use Rattle.segments.specs.Sectors.{sector_count, Holds}
+use Rattle.segments.specs.declared.piece.Part.{Part}
+use Rattle.segments.specs.Pieces.{PlainPiece, part_bytes, bytes_of_parts, plain_piece, plain_pieces}
+use Rattle.segments.specs.Runs.{AreApart}
+use Rattle.segments.specs.Sectors.{sector_count}
 use Rattle.segments.specs.laws.ReadBack.{same_holds}
-use Rattle.segments.specs.Writing.{WritesOnly, run_for, runs_of, AllFit, HoldsEach}
+use Rattle.segments.specs.laws.Runs.{out_of_apart}
+use Rattle.segments.specs.Writing.{SectorWrite, WritesOnly, runs_of, AllFit, HoldsEach, run_writes, piece_writes, GrowsBy}
+use Rattle.segments.proofs.Touched.{AreIn, moments_done, in_both, in_more, run_in, run_holds, written_now}
 
 -- a piece fits
-pub fit_at : (size : ℕ) (ps : List Piece) (i : ℕ) (d : Piece) → AllFit size ps → i < length ps → ((get_or ps i d).run.start + (get_or ps i d).run.count ≤ size) × (sector_count (length (get_or ps i d).bytes.items) ≤ (get_or ps i d).run.count)
+fit_at : (size : ℕ) (ps : List PlainPiece) (i : ℕ) (d : PlainPiece) → AllFit size ps → i < length ps → ((get_or ps i d).run.start + (get_or ps i d).run.count ≤ size) × (sector_count (length (get_or ps i d).bytes) ≤ (get_or ps i d).run.count)
 fit_at size [] i d fit lt = absurd (omega arith)
 fit_at size (p ∷ ps) zero d fit lt = (fit.0, fit.1)
 fit_at size (p ∷ ps) (suc i) d fit lt = fit_at size ps i d fit.2 (omega arith)
 
--- what is out of all runs is out of the part of one that its piece takes
-pub out_at : (ps : List Piece) (i : ℕ) (d : Piece) (n : ℕ) → i < length ps → sector_count (length (get_or ps i d).bytes.items) ≤ (get_or ps i d).run.count → OutOf (runs_of ps) n → OutOf (run_for (get_or ps i d).run.start (get_or ps i d).bytes.items ∷ []) n
-out_at [] i d n lt fits out = absurd (omega arith)
-out_at (p ∷ ps) zero d n lt fits out = (⊎_elim (λ (below : n < p.run.start). inl below) (λ (above : p.run.start + p.run.count ≤ n). inr (omega arith)) out.0, tt)
-out_at (p ∷ ps) (suc i) d n lt fits out = out_at ps i d n (omega arith) fits out.1
+-- the piece that a loop has come to
+pub number : (pieces : List Piece) (i : ℕ) → i < length pieces → i < length (plain_pieces pieces)
+number pieces i lt = let same = length-map pieces plain_piece in omega (arith, lt, same)
 
--- the runs of these pieces are apart from a run
-abbrev pub EachApart : List Piece → Run → Type 0
-EachApart [] run = Unit {0}
-EachApart (p ∷ ps) run = IsApart p.run run × EachApart ps run
+pub plain_at : (pieces : List Piece) (i : ℕ) (p : Piece) → i < length pieces → p ≡ get_or pieces i p → plain_piece p ≡ get_or (plain_pieces pieces) i (plain_piece p)
+plain_at pieces i p lt is = ap plain_piece is ∙ sym (get_or-map plain_piece pieces i p (plain_piece p) lt)
 
-apart_later : (run : Run) (ps : List Piece) (i : ℕ) (d : Piece) → ApartFrom run (runs_of ps) → i < length ps → IsApart run (get_or ps i d).run
-apart_later run [] i d apart lt = absurd (omega arith)
-apart_later run (p ∷ ps) zero d apart lt = apart.0
-apart_later run (p ∷ ps) (suc i) d apart lt = apart_later run ps i d apart.1 (omega arith)
+pub fit_of : (size : ℕ) (pieces : List Piece) (i : ℕ) (p : Piece) → AllFit size (plain_pieces pieces) → i < length pieces → p ≡ get_or pieces i p → p.run.start + sector_count (length (plain_piece p).bytes) ≤ size
+fit_of size pieces i p fit lt is =
+    let d = plain_piece p in
+    let fits = subst (λ (q : PlainPiece). (q.run.start + q.run.count ≤ size) × (sector_count (length q.bytes) ≤ q.run.count)) (sym (plain_at pieces i p lt is)) (fit_at size (plain_pieces pieces) i d fit (number pieces i lt)) in
+    omega (arith, fits.0, fits.1)
 
--- each piece's run is apart from those before it
-pub apart_earlier : (ps : List Piece) (i : ℕ) (d : Piece) → AreApart (runs_of ps) → i < length ps → EachApart (take i ps) (get_or ps i d).run
-apart_earlier [] i d apart lt = absurd (omega arith)
-apart_earlier (p ∷ ps) zero d apart lt = tt
-apart_earlier (p ∷ ps) (suc i) d apart lt = (apart_later p.run ps i d apart.0 (omega arith), apart_earlier ps i d apart.1 (omega arith))
+-- the parts of a piece, as a loop comes to them
+pub next_part : (ps : List Part) (i : ℕ) (p : Part) (bytes : List ℕ) → i < length ps → p ≡ get_or ps i p → bytes ≡ part_bytes p → bytes_of_parts (take (i + 1) ps) ≡ bytes_of_parts (take i ps) ++ bytes
+next_part ps i p bytes lt is same =
+    ap bytes_of_parts (take_more ps i p lt) ∙ flat_map-append part_bytes (take i ps) (get_or ps i p ∷ [])
+    ∙ ap (λ l. bytes_of_parts (take i ps) ++ l) (append-nil (part_bytes (get_or ps i p)) ∙ ap part_bytes (sym is) ∙ sym same)
 
--- the bytes of each fit in its run
-abbrev pub EachFits : List Piece → Type 0
-EachFits [] = Unit {0}
-EachFits (p ∷ ps) = (sector_count (length p.bytes.items) ≤ p.run.count) × EachFits ps
+pub all_parts : (ps : List Part) (i : ℕ) (front : List ℕ) → bytes_of_parts (take i ps) ≡ front → bytes_of_parts ps ≡ front ++ bytes_of_parts (drop i ps)
+all_parts ps i front is =
+    ap bytes_of_parts (sym (take-append-drop i ps)) ∙ flat_map-append part_bytes (take i ps) (drop i ps) ∙ ap (λ l. l ++ bytes_of_parts (drop i ps)) is
 
-pub fits_earlier : (size : ℕ) (ps : List Piece) (i : ℕ) → AllFit size ps → EachFits (take i ps)
-fits_earlier size ps zero fit = tt
-fits_earlier size [] (suc i) fit = tt
-fits_earlier size (p ∷ ps) (suc i) fit = (fit.1, fits_earlier size ps i fit.2)
+-- their writes lie in their runs
+pub pieces_in : (size : ℕ) (ps : List PlainPiece) → AllFit size ps → AreIn (runs_of ps) (piece_writes ps)
+pieces_in size [] fit = tt
+pieces_in size (p ∷ ps) fit =
+    in_both (runs_of (p ∷ ps)) (run_writes p.run.start p.bytes) (piece_writes ps) (run_in p.run (runs_of ps) p.bytes fit.1)
+    (in_more (runs_of ps) (runs_of (p ∷ ps)) (piece_writes ps) (λ n out. out.1) (pieces_in size ps fit.2))
 
--- a run keeps its bytes while another one is written
-keeps : (old new : Disk) (start : ℕ) (bytes : List ℕ) (p : Piece) (run : Run) → WritesOnly (run_for start bytes ∷ []) old new → start ≡ run.start → sector_count (length bytes) ≤ run.count → sector_count (length p.bytes.items) ≤ p.run.count → IsApart p.run run → Holds (shown_image old) p.run.start p.bytes.items → Holds (shown_image new) p.run.start p.bytes.items
-keeps old new start bytes p run w at room fits apart holds =
-    same_holds (shown_image old) (shown_image new) p.run.start p.bytes.items (λ j lt.
-    ap (λ (s : Sector). s.shown) (w.outside (p.run.start + j)
-    (⊎_elim (λ (before : p.run.start + p.run.count ≤ run.start). inl (omega arith)) (λ (after : run.start + run.count ≤ p.run.start). inr (omega arith)) apart, tt))) holds
+-- some writes that were done behind others
+apart_done : (ws vs : List SectorWrite) (a b : Story) → GrowsBy (ws ++ vs) a b → (mid : Story) × GrowsBy ws a mid × GrowsBy vs mid b
+apart_done [] vs a b done = (a, refl, done)
+apart_done (w ∷ ws) vs a b done = let later = apart_done ws vs done.0 b done.2 in (later.0, (done.0, done.1, later.1), later.2)
 
-pub keeps_each : (old new : Disk) (start : ℕ) (bytes : List ℕ) (run : Run) (ps : List Piece) → WritesOnly (run_for start bytes ∷ []) old new → start ≡ run.start → sector_count (length bytes) ≤ run.count → EachFits ps → EachApart ps run → HoldsEach (shown_image old) ps → HoldsEach (shown_image new) ps
-keeps_each old new start bytes run [] w at room fits apart holds = tt
-keeps_each old new start bytes run (p ∷ ps) w at room fits apart holds = (keeps old new start bytes p run w at room fits.0 apart.0 holds.0, keeps_each old new start bytes run ps w at room fits.1 apart.1 holds.1)
-
-holds_append : (image : Image) (ps : List Piece) (p : Piece) → HoldsEach image ps → Holds image p.run.start p.bytes.items → HoldsEach image (ps ++ p ∷ [])
-holds_append image [] p each last = (last, tt)
-holds_append image (q ∷ ps) p each last = (each.0, holds_append image ps p each.1 last)
-
-pub holds_more : (image : Image) (ps : List Piece) (i : ℕ) (d : Piece) → i < length ps → HoldsEach image (take i ps) → Holds image (get_or ps i d).run.start (get_or ps i d).bytes.items → HoldsEach image (take (i + 1) ps)
-holds_more image ps i d lt each last = subst (HoldsEach image) (sym (take_more ps i d lt)) (holds_append image (take i ps) (get_or ps i d) each last)
-
--- the same, of the piece that a loop has come to, and of its bytes
-pub fit_of : (size : ℕ) (ps : List Piece) (i : ℕ) (p : Piece) → AllFit size ps → i < length ps → p ≡ get_or ps i p → (p.run.start + p.run.count ≤ size) × (sector_count (length p.bytes.items) ≤ p.run.count)
-fit_of size ps i p fit lt is = subst (λ (q : Piece). (q.run.start + q.run.count ≤ size) × (sector_count (length q.bytes.items) ≤ q.run.count)) (sym is) (fit_at size ps i p fit lt)
-
-pub out_of : (size : ℕ) (ps : List Piece) (i : ℕ) (p : Piece) (bytes : List ℕ) → AllFit size ps → i < length ps → p ≡ get_or ps i p → bytes ≡ p.bytes.items → (n : ℕ) → OutOf (runs_of ps) n → OutOf (run_for p.run.start bytes ∷ []) n
-out_of size ps i p bytes fit lt is same n out =
-    subst (λ (bs : List ℕ). OutOf (run_for p.run.start bs ∷ []) n) (sym same)
-    (subst (λ (q : Piece). OutOf (run_for q.run.start q.bytes.items ∷ []) n) (sym is) (out_at ps i p n lt (fit_at size ps i p fit lt).1 out))
-
-pub written_more : (size : ℕ) (ps : List Piece) (i : ℕ) (p : Piece) (bytes : List ℕ) (old new : Disk) → AllFit size ps → AreApart (runs_of ps) → i < length ps → p ≡ get_or ps i p → bytes ≡ p.bytes.items → WritesOnly (run_for p.run.start bytes ∷ []) old new → HoldsEach (shown_image old) (take i ps) → Holds (shown_image new) p.run.start bytes → HoldsEach (shown_image new) (take (i + 1) ps)
-written_more size ps i p bytes old new fit apart lt is same w each holds =
-    let fits = fit_of size ps i p fit lt is in
-    let room : sector_count (length bytes) ≤ p.run.count = subst (λ (bs : List ℕ). sector_count (length bs) ≤ p.run.count) (sym same) fits.1 in
-    let others : EachApart (take i ps) p.run = subst (λ (q : Piece). EachApart (take i ps) q.run) (sym is) (apart_earlier ps i p apart lt) in
-    holds_more (shown_image new) ps i p lt (keeps_each old new p.run.start bytes p.run (take i ps) w refl room (fits_earlier size ps i fit) others each)
-    (subst (λ (q : Piece). Holds (shown_image new) q.run.start q.bytes.items) is (subst (λ (bs : List ℕ). Holds (shown_image new) p.run.start bs) same holds))
+-- each run holds its bytes after all were written
+pub pieces_hold : (size : ℕ) (ps : List PlainPiece) (a b : Story) → AllFit size ps → AreApart (runs_of ps) → GrowsBy (piece_writes ps) a b → HoldsEach (shown_image (now b)) ps
+pieces_hold size [] a b fit apart done = tt
+pieces_hold size (p ∷ ps) a b fit apart done =
+    let parts = apart_done (run_writes p.run.start p.bytes) (piece_writes ps) a b done in
+    let later : WritesOnly (runs_of ps) (now parts.0) (now b) = written_now (runs_of ps) parts.0 b (moments_done (runs_of ps) (piece_writes ps) parts.0 b (pieces_in size ps fit.2) parts.2) in (
+      same_holds (shown_image (now parts.0)) (shown_image (now b)) p.run.start p.bytes
+          (λ j lt. ap (λ (s : Sector). s.shown) (later.outside (p.run.start + j) (out_of_apart p.run (runs_of ps) (p.run.start + j) apart.0 (omega arith) (omega (arith, lt, fit.1)))))
+          (run_holds p.run.start p.bytes a parts.0 parts.1),
+      pieces_hold size ps parts.0 b fit.2 apart.1 parts.2,
+    )

@@ -1,16 +1,19 @@
 -- What a write touches.
-use Rattle.std.proofs.Common.{◌≡◌, ◌≢◌, inl, inr, ⊎_elim, ◌≤◌, ◌<◌, ◌+◌, ℕ, List, [], length, Option, Some, get_or, refl, sym, ap, ◌∙◌, subst, arith}
+use Rattle.std.proofs.Common.{◌≡◌, ◌≢◌, ◌⊎◌, inl, inr, ⊎_elim, ◌≤◌, ◌<◌, ◌+◌, ℕ, zero, suc, List, [], ◌∷◌, ◌++◌, length, map, Option, Some, Result, Ok, Err, refl, sym, ap, ◌∙◌, subst, arith}
+use Rattle.std.specs.Result.{OnOk, OnErr}
+use Rattle.std.specs.List.{range_with_len}
 use Rattle.std.proofs.lemmas.Bool.{cases_eq}
-use Rattle.sector_dev.specs.Disk.{Disk, Sector, Story, Image, now, put, shown_image, MayHold, MayLeave, Puts, FailsToPut}
+use Rattle.sector_dev.specs.Disk.{Disk, Sector, Story, now, put, shown_image, MayHold, MayLeave, Puts, FailsToPut}
 use Rattle.sector_dev.specs.Time.{Grows}
 use Rattle.sector_dev.specs.laws.Time.{two, goes_on, weaken, now_has, left_since}
 use Rattle.sector_dev.specs.laws.Crash.{put_other, put_same}
 use Rattle.segments.specs.declared.run.Run.{Run}
 use Rattle.segments.specs.Runs.{OutOf}
-use Rattle.segments.specs.Writing.{WritesOnly, LeavesOthers}
-use Rattle.segments.specs.inner.Rows.{ShowsSectors, sectors_from}
+use Rattle.segments.specs.Sectors.{sector_count, sector_of, Holds}
+use Rattle.segments.specs.Writing.{SectorWrite, WritesOnly, LeavesOthers, run_writes, GrowsBy, FailsAmong}
+use Rattle.segments.specs.inner.Rows.{sectors_from}
 
-pub writes_none : (runs : List Run) (d : Disk) → WritesOnly runs d d
+writes_none : (runs : List Run) (d : Disk) → WritesOnly runs d d
 writes_none runs d = record { outside = λ n out. refl; begun = inl refl }
 
 -- one write inside the runs
@@ -21,18 +24,14 @@ writes_put runs d0 d n c x inside w = record {
   begun = inr (⊎_elim (λ (same : d ≡ d0). let count : d.writes ≡ d0.writes = ap (λ (e : Disk). e.writes) same in omega arith) (λ (lt : d0.writes < d.writes). omega arith) w.begun);
 }
 
-pub write_done : (runs : List Run) (d0 : Disk) (old new : Story) (n : ℕ) (c : List ℕ) (x : Option (List ℕ)) → ((k : ℕ) → OutOf runs k → k ≢ n) → WritesOnly runs d0 (now old) → Puts old n c x new → Grows (WritesOnly runs d0) old new
+write_done : (runs : List Run) (d0 : Disk) (old new : Story) (n : ℕ) (c : List ℕ) (x : Option (List ℕ)) → ((k : ℕ) → OutOf runs k → k ≢ n) → WritesOnly runs d0 (now old) → Puts old n c x new → Grows (WritesOnly runs d0) old new
 write_done runs d0 old new n c x inside w is =
     two (WritesOnly runs d0) old new _ _ is (writes_put runs d0 (now old) n c x inside w) (writes_put runs d0 (now old) n c _ inside w)
 
-pub write_failed : (runs : List Run) (d0 : Disk) (old new : Story) (n : ℕ) (c : List ℕ) → ((k : ℕ) → OutOf runs k → k ≢ n) → WritesOnly runs d0 (now old) → FailsToPut old n c new → Grows (WritesOnly runs d0) old new
+write_failed : (runs : List Run) (d0 : Disk) (old new : Story) (n : ℕ) (c : List ℕ) → ((k : ℕ) → OutOf runs k → k ≢ n) → WritesOnly runs d0 (now old) → FailsToPut old n c new → Grows (WritesOnly runs d0) old new
 write_failed runs d0 old new n c inside w (inl same) = record { fresh = []; joined = same; each = tt }
 write_failed runs d0 old new n c inside w (inr (inl is)) = write_done runs d0 old new n c _ inside w is
 write_failed runs d0 old new n c inside w (inr (inr is)) = write_done runs d0 old new n c _ inside w is
-
--- what stays out of more runs stays out of fewer
-pub writes_wider : (small big : List Run) (d0 d : Disk) → ((n : ℕ) → OutOf big n → OutOf small n) → WritesOnly small d0 d → WritesOnly big d0 d
-writes_wider small big d0 d fewer w = record { outside = λ n out. w.outside n (fewer n out); begun = w.begun }
 
 writes_on : (runs : List Run) (d0 d1 d : Disk) → WritesOnly runs d0 d1 → WritesOnly runs d1 d → WritesOnly runs d0 d
 writes_on runs d0 d1 d first second = record {
@@ -44,13 +43,10 @@ writes_on runs d0 d1 d first second = record {
 }
 
 -- one stretch of writing after another
-pub written_on : (runs : List Run) (a b c : Story) → Grows (WritesOnly runs (now a)) a b → Grows (WritesOnly runs (now b)) b c → Grows (WritesOnly runs (now a)) a c
+written_on : (runs : List Run) (a b c : Story) → Grows (WritesOnly runs (now a)) a b → Grows (WritesOnly runs (now b)) b c → Grows (WritesOnly runs (now a)) a c
 written_on runs a b c first second =
     let here : WritesOnly runs (now a) (now b) = now_has {P = WritesOnly runs (now a)} (writes_none runs (now a)) first in
     goes_on first (weaken (λ d w. writes_on runs (now a) (now b) d here w) second)
-
-pub written_wider : (small big : List Run) (a b : Story) → ((n : ℕ) → OutOf big n → OutOf small n) → Grows (WritesOnly small (now a)) a b → Grows (WritesOnly big (now a)) a b
-written_wider small big a b fewer g = weaken (λ d w. writes_wider small big (now a) d fewer w) g
 
 -- what the disk is at last
 pub written_now : (runs : List Run) (a b : Story) → Grows (WritesOnly runs (now a)) a b → WritesOnly runs (now a) (now b)
@@ -64,42 +60,80 @@ leaves_others runs old new g image left n out =
     (λ (then : (d : Disk) × WritesOnly runs (now old) d × MayLeave d image). subst (λ (s : Sector). MayHold s (image n)) (then.1.outside n out) (then.2 n))
     (left_since {P = WritesOnly runs (now old)} image g left)
 
--- a sector of the run isn't out of it
-pub inside_run : (start count n : ℕ) → start ≤ n → n < start + count → (k : ℕ) → OutOf (sectors_from start count) k → k ≢ n
-inside_run start count n low high k out same = ⊎_elim (λ (below : k < start). omega arith) (λ (above : start + count ≤ k). omega arith) out.0
+-- ---- the writes of a list
 
--- the first so many sectors of a row have these contents
-unfoldable pub ShowsBelow : ℕ → Image → ℕ → List (List ℕ) → Type 0
-ShowsBelow i image start contents = (j : ℕ) → j < i → image (start + j) ≡ Some (get_or contents j [])
+-- each of them lies in one of these runs
+abbrev pub AreIn : List Run → List SectorWrite → Type 0
+AreIn runs [] = Unit {0}
+AreIn runs (w ∷ ws) = ((k : ℕ) → OutOf runs k → k ≢ w.sector) × AreIn runs ws
 
-pub shows_none : (image : Image) (start : ℕ) (contents : List (List ℕ)) → ShowsBelow 0 image start contents
-unfolding ShowsBelow
-shows_none image start contents j lt = absurd (omega arith)
+-- while they are done, no other sector changes
+pub moments_done : (runs : List Run) (ws : List SectorWrite) (a b : Story) → AreIn runs ws → GrowsBy ws a b → Grows (WritesOnly runs (now a)) a b
+moments_done runs [] a b inside same = record { fresh = []; joined = same; each = tt }
+moments_done runs (w ∷ ws) a b inside done =
+    written_on runs a done.0 b (write_done runs (now a) a done.0 w.sector w.content (Some w.content) inside.0 (writes_none runs (now a)) done.1) (moments_done runs ws done.0 b inside.1 done.2)
 
-pub shows_more : (i : ℕ) (old new : Story) (start : ℕ) (contents : List (List ℕ)) (c : List ℕ) → c ≡ get_or contents i [] → ShowsBelow i (shown_image (now old)) start contents → Puts old (start + i) c (Some c) new → ShowsBelow (i + 1) (shown_image (now new)) start contents
-unfolding ShowsBelow
-shows_more i old new start contents c is so_far puts j lt =
-    let here : ((now new).at (start + j)).shown ≡ ((put (now old) (start + i) c (Some c)).at (start + j)).shown = ap (λ (s : Story). ((now s).at (start + j)).shown) puts in
+pub moments_failed : (runs : List Run) (ws : List SectorWrite) (a b : Story) → AreIn runs ws → FailsAmong ws a b → Grows (WritesOnly runs (now a)) a b
+moments_failed runs [] a b inside fails = absurd fails
+moments_failed runs (w ∷ ws) a b inside (inl here) = write_failed runs (now a) a b w.sector w.content inside.0 (writes_none runs (now a)) here
+moments_failed runs (w ∷ ws) a b inside (inr later) =
+    written_on runs a later.0 b (write_done runs (now a) a later.0 w.sector w.content (Some w.content) inside.0 (writes_none runs (now a)) later.1) (moments_failed runs ws later.0 b inside.1 later.2)
+
+-- whichever way they ended
+pub moments_of : {T E : Type 0} {P : Type 0} (r : Result T E) (runs : List Run) (ws : List SectorWrite) (a b : Story) → AreIn runs ws → OnOk r (P → GrowsBy ws a b) → OnErr r (P → FailsAmong ws a b) → P → Grows (WritesOnly runs (now a)) a b
+moments_of (Ok x) runs ws a b inside done failed p = moments_done runs ws a b inside (done p)
+moments_of (Err e) runs ws a b inside done failed p = moments_failed runs ws a b inside (failed p)
+
+pub in_both : (runs : List Run) (ws vs : List SectorWrite) → AreIn runs ws → AreIn runs vs → AreIn runs (ws ++ vs)
+in_both runs [] vs first second = second
+in_both runs (w ∷ ws) vs first second = (first.0, in_both runs ws vs first.1 second)
+
+pub in_more : (small big : List Run) (ws : List SectorWrite) → ((n : ℕ) → OutOf big n → OutOf small n) → AreIn small ws → AreIn big ws
+in_more small big [] fewer inside = tt
+in_more small big (w ∷ ws) fewer inside = ((λ k out. inside.0 k (fewer k out)), in_more small big ws fewer inside.1)
+
+-- a row that starts so many sectors behind this one
+abbrev row_from : ℕ → ℕ → ℕ → (ℕ → List ℕ) → List SectorWrite
+row_from start i count content = map (λ j. record { sector = start + j; content = content j }) (range_with_len i count)
+
+in_row : (runs : List Run) (start i count : ℕ) (content : ℕ → List ℕ) → ((k : ℕ) → OutOf runs k → (k < start + i) ⊎ (start + (i + count) ≤ k)) → AreIn runs (row_from start i count content)
+in_row runs start i zero content out = tt
+in_row runs start i (suc count) content out = (
+  λ k o same. ⊎_elim {C = ⊥} (λ (below : k < start + i). omega arith) (λ (above : start + (i + suc count) ≤ k). omega arith) (out k o),
+  in_row runs start (i + 1) count content (λ k o. ⊎_elim (λ (below : k < start + i). inl (omega arith)) (λ (above : start + (i + suc count) ≤ k). inr (omega arith)) (out k o)),
+)
+
+-- the writes of some bytes lie in each run that has room for them
+pub run_in : (run : Run) (others : List Run) (bytes : List ℕ) → sector_count (length bytes) ≤ run.count → AreIn (run ∷ others) (run_writes run.start bytes)
+run_in run others bytes room =
+    in_row (run ∷ others) run.start 0 (sector_count (length bytes)) (sector_of bytes)
+    (λ k out. ⊎_elim (λ (below : k < run.start). inl (omega arith)) (λ (above : run.start + run.count ≤ k). inr (omega arith)) out.0)
+
+-- the sectors of a row have their contents after it
+shows_row : (start i count : ℕ) (content : ℕ → List ℕ) (a b : Story) → GrowsBy (row_from start i count content) a b → (j : ℕ) → i ≤ j → j < i + count → shown_image (now b) (start + j) ≡ Some (content j)
+shows_row start i zero content a b done j low lt = absurd (omega arith)
+shows_row start i (suc count) content a b done j low lt =
     ⊎_elim
-    (λ (same : j ≡ i). here ∙ ap (λ (k : ℕ). ((put (now old) (start + i) c (Some c)).at (start + k)).shown) same ∙ ap (λ (s : Sector). s.shown) (put_same (now old) (start + i) c (Some c)) ∙ ap Some is ∙ ap (λ (k : ℕ). Some (get_or contents k [])) (sym same))
-    (λ (other : j ≢ i). here ∙ ap (λ (s : Sector). s.shown) (put_other (now old) (start + i) c (Some c) (start + j) (λ e. other (omega arith))) ∙ so_far j (omega arith))
+    (λ (same : j ≡ i). ap (λ k. shown_image (now b) (start + k)) same ∙ first ∙ ap (λ k. Some (content k)) (sym same))
+    (λ (other : j ≢ i). shows_row start (i + 1) count content done.0 b done.2 j (omega arith) (omega arith))
     (cases_eq j i)
+  where
+    behind : List Run
+    behind = sectors_from (start + (i + 1)) count
 
-pub shows_all : (i : ℕ) (image : Image) (start : ℕ) (contents : List (List ℕ)) → i ≡ length contents → ShowsBelow i image start contents → ShowsSectors image start contents
-unfolding ShowsBelow ShowsSectors
-shows_all i image start contents is so_far j lt = so_far j (omega arith)
+    later : WritesOnly behind (now done.0) (now b)
+    later =
+        written_now behind done.0 b
+        (moments_done behind (row_from start (i + 1) count content) done.0 b
+        (in_row behind start (i + 1) count content (λ k out. ⊎_elim (λ (below : k < start + (i + 1)). inl below) (λ (above : start + (i + 1) + count ≤ k). inr (omega arith)) out.0)) done.2)
 
--- what stays out of a row of sectors stays out of the front of it
-pub fewer_sectors : (start few many : ℕ) → few ≤ many → (n : ℕ) → OutOf (sectors_from start many) n → OutOf (sectors_from start few) n
-fewer_sectors start few many le n out = (⊎_elim (λ (below : n < start). inl below) (λ (above : start + many ≤ n). inr (omega arith)) out.0, tt)
+    first : shown_image (now b) (start + i) ≡ Some (content i)
+    first =
+        ap (λ (s : Sector). s.shown) (later.outside (start + i) (inl (omega arith), tt))
+        ∙ ap (λ (s : Story). ((now s).at (start + i)).shown) done.1
+        ∙ ap (λ (s : Sector). s.shown) (put_same (now a) (start + i) (content i) (Some (content i)))
 
--- writing the front of a row is writing in the row
-pub front_written : (start few many : ℕ) (a b : Story) → few ≤ many → Grows (WritesOnly (sectors_from start few) (now a)) a b → Grows (WritesOnly (sectors_from start many) (now a)) a b
-front_written start few many a b le g = written_wider (sectors_from start few) (sectors_from start many) a b (fewer_sectors start few many le) g
-
--- so is writing the sector behind the front after it
-pub next_written : (start few many : ℕ) (a b z : Story) (c : List ℕ) → few < many → Grows (WritesOnly (sectors_from start few) (now a)) a b → FailsToPut b (start + few) c z → Grows (WritesOnly (sectors_from start many) (now a)) a z
-next_written start few many a b z c lt g put =
-    let runs = sectors_from start many in
-    let front = front_written start few many a b (omega arith) g in
-    goes_on front (write_failed runs (now a) b z (start + few) c (inside_run start many (start + few) (omega arith) (omega arith)) (written_now runs a b front) put)
+-- a run holds the bytes that were written into it
+pub run_holds : (start : ℕ) (bytes : List ℕ) (a b : Story) → GrowsBy (run_writes start bytes) a b → Holds (shown_image (now b)) start bytes
+unfolding Holds
+run_holds start bytes a b done j lt = shows_row start 0 (sector_count (length bytes)) (sector_of bytes) a b done j (omega arith) (omega arith)

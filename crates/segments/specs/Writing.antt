@@ -4,7 +4,7 @@ use Rattle.std.specs.List.{flat_map, range_with_len}
 use Rattle.sector_dev.specs.Disk.{Disk, Story, Image, now, moment, LeftSince, MayHold, Puts, FailsToPut}
 use Rattle.sector_dev.specs.Time.{Grows}
 use Rattle.segments.specs.declared.run.Run.{Run}
-use Rattle.segments.specs.declared.piece.Piece.{Piece}
+use Rattle.segments.specs.Pieces.{PlainPiece}
 use Rattle.segments.specs.Runs.{OutOf}
 use Rattle.segments.specs.Sectors.{sector_count, sector_of, Holds}
 
@@ -25,18 +25,18 @@ OnlyWrites runs old new = Grows (WritesOnly runs (now old)) old new
 abbrev pub LeavesOthers : List Run → Story → Story → Type 0
 LeavesOthers runs old new = (image : Image) → LeftSince new (moment old) image → (n : ℕ) → OutOf runs n → MayHold ((now old).at n) (image n)
 
-abbrev pub runs_of : List Piece → List Run
-runs_of pieces = map (λ (p : Piece). p.run) pieces
+abbrev pub runs_of : List PlainPiece → List Run
+runs_of pieces = map (λ (p : PlainPiece). p.run) pieces
 
 -- each run lies on the device, and has room for its bytes
-abbrev pub AllFit : ℕ → List Piece → Type 0
+abbrev pub AllFit : ℕ → List PlainPiece → Type 0
 AllFit size [] = Unit {0}
-AllFit size (p ∷ ps) = (p.run.start + p.run.count ≤ size) × (sector_count (length p.bytes.items) ≤ p.run.count) × AllFit size ps
+AllFit size (p ∷ ps) = (p.run.start + p.run.count ≤ size) × (sector_count (length p.bytes) ≤ p.run.count) × AllFit size ps
 
 -- each run holds its bytes
-abbrev pub HoldsEach : Image → List Piece → Type 0
+abbrev pub HoldsEach : Image → List PlainPiece → Type 0
 HoldsEach image [] = Unit {0}
-HoldsEach image (p ∷ ps) = Holds image p.run.start p.bytes.items × HoldsEach image ps
+HoldsEach image (p ∷ ps) = Holds image p.run.start p.bytes × HoldsEach image ps
 
 -- a sector that is written, and its content
 pub record SectorWrite : Type 0 where
@@ -52,8 +52,8 @@ abbrev pub run_writes : ℕ → List ℕ → List SectorWrite
 run_writes start bytes = writes_from start (sector_count (length bytes)) (sector_of bytes)
 
 -- those of each piece in turn
-abbrev pub piece_writes : List Piece → List SectorWrite
-piece_writes pieces = flat_map (λ (p : Piece). run_writes p.run.start p.bytes.items) pieces
+abbrev pub piece_writes : List PlainPiece → List SectorWrite
+piece_writes pieces = flat_map (λ (p : PlainPiece). run_writes p.run.start p.bytes) pieces
 
 -- these writes were done, one after another, and no other call began
 abbrev pub GrowsBy : List SectorWrite → Story → Story → Type 0

@@ -1,3 +1,4 @@
 -- What only the code's own steps need.
 pub mod Places
 pub mod Rows
+pub mod Tails

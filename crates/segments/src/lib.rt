@@ -19,13 +19,14 @@ mod piece;
 mod reading;
 mod run;
 mod searched;
+mod tail;
 mod writing;
 
 pub use entries::{Usage, UsageEntry};
 pub use errors::{EnterError, TakeError};
 pub use extent::Extent;
 pub use free_map::FreeMap;
-pub use piece::Piece;
+pub use piece::{Part, Piece, byte_count};
 pub use reading::{ReadError, read_run};
 pub use run::Run;
 pub use searched::Searched;

@@ -1,9 +1,42 @@
 // Bytes and the run that they go to.
+ghost use Rattle.std.specs.Prelude.{◌≡◌, ◌<◌, ◌^◌, length, true, is_some, IfSome};
+ghost use Rattle.segments.specs.Pieces.{part_bytes, bytes_of_parts};
+
 use crate::Run;
 
-/// Bytes to be written into a run.
+/// Some of a piece's bytes, made for it or lent.
 #[derive(Debug, Drop)]
-pub struct Piece {
+pub enum Part<'a> {
+    Made(Vec<u8>),
+    Lent(&'a [u8]),
+}
+
+impl Part<'_> {
+    pub fn bytes(&self) -> &[u8]
+        ensures { result.now ≡ part_bytes self.now }
+    {
+        match self {
+            Part::Made(bytes) => bytes,
+            Part::Lent(bytes) => bytes,
+        }
+    }
+}
+
+/// Bytes to be written into a run: those of its parts behind one another.
+#[derive(Debug, Drop)]
+pub struct Piece<'a> {
     pub run: Run,
-    pub bytes: Vec<u8>,
+    pub parts: Vec<Part<'a>>,
+}
+
+/// How many bytes these parts have together; none where a `u64` can't count them.
+pub fn byte_count(parts: &[Part<'_>]) -> Option<u64>
+    ensures some { IfSome result (λ count. count ≡ length (bytes_of_parts parts.now)) }
+    ensures none { length (bytes_of_parts parts.now) < 2 ^ 64 → is_some result ≡ true }
+{
+    let mut count = 0u64;
+    for part in parts {
+        count = count.checked_add(part.bytes().len() as u64)?;
+    }
+    Some(count)
 }

@@ -1,12 +1,15 @@
 // Runs of sectors are written.
-ghost use Rattle.std.specs.Prelude.{◌≡◌, ◌+◌, ◌*◌, ◌≤◌, ◌<◌, ◌^◌, ◌∷◌, [], length, true, OnOk, OnErr, IfErr, Some};
+ghost use Rattle.std.specs.Prelude.{◌≡◌, ◌+◌, ◌++◌, ◌*◌, ◌/◌, ◌≤◌, ◌<◌, ◌^◌, ◌∷◌, [], length, true, OnOk, OnErr, IfErr, Some};
 ghost use Rattle.sector_dev.specs.Disk.{now, shown_image, Counts};
+ghost use Rattle.segments.specs.Pieces.{bytes_of_parts, plain_pieces};
 ghost use Rattle.segments.specs.Runs.{AreApart};
 ghost use Rattle.segments.specs.Sectors.{sector_count, filled, Holds, bytes_at};
 ghost use Rattle.segments.specs.Writing.{run_for, runs_of, OnlyWrites, LeavesOthers, AllFit, HoldsEach, run_writes, piece_writes, GrowsBy, FailsAmong};
-ghost use Rattle.segments.specs.inner.Rows.{ShowsSectors, sectors_from, row_writes};
+ghost use Rattle.segments.specs.inner.Rows.{row_writes};
+ghost use Rattle.segments.specs.inner.Tails.{tail_bytes, whole_bytes, rest_bytes};
 
-use crate::Piece;
+use crate::tail::Tail;
+use crate::{Part, Piece};
 use sector_dev::{DevError, SECTOR_BYTES, SectorDevice};
 
 // The sector that begins with these bytes, and is zero behind them.
@@ -30,8 +33,6 @@ fn write_sectors<D: SectorDevice>(
     ensures size { D.size device.new ≡ D.size device.old }
     ensures count { Counts (D.failed device.old) (D.failed device.new) result }
     ensures error { IfErr result (λ e. e ≡ DevError.Failed) }
-    ensures moments { D.tells ≡ true → OnlyWrites (sectors_from start (length contents.now)) (D.story device.old) (D.story device.new) }
-    ensures shows { OnOk result (D.tells ≡ true → ShowsSectors (shown_image (now (D.story device.new))) start contents.now) }
     ensures order { OnOk result (D.tells ≡ true → GrowsBy (row_writes start contents.now) (D.story device.old) (D.story device.new)) }
     ensures cut_short { OnErr result (D.tells ≡ true → FailsAmong (row_writes start contents.now) (D.story device.old) (D.story device.new)) }
 {
@@ -39,6 +40,74 @@ fn write_sectors<D: SectorDevice>(
         device.write(start + i as u64, content)?;
     }
     Ok(())
+}
+
+// Writes the whole sectors of a tail and the bytes behind it. What is left stays in the tail: the bytes of a part are copied only where
+// they share a sector with those of another one.
+fn write_part<D: SectorDevice>(
+    device: &mut D,
+    tail: &mut Tail,
+    bytes: &[u8],
+) -> Result<(), DevError>
+    requires partial { length (tail_bytes tail.old) < 512 }
+    requires within { tail.old.start + length (tail_bytes tail.old ++ bytes.now) / 512 ≤ D.size device.old }
+    requires countable { 512 * D.size device.old < 2 ^ 64 }
+    ensures size { D.size device.new ≡ D.size device.old }
+    ensures count { Counts (D.failed device.old) (D.failed device.new) result }
+    ensures error { IfErr result (λ e. e ≡ DevError.Failed) }
+    ensures order { OnOk result
+        (D.tells ≡ true → GrowsBy (run_writes tail.old.start (whole_bytes (tail_bytes tail.old ++ bytes.now))) (D.story device.old) (D.story device.new)) }
+    ensures cut_short { OnErr result
+        (D.tells ≡ true → FailsAmong (run_writes tail.old.start (whole_bytes (tail_bytes tail.old ++ bytes.now))) (D.story device.old) (D.story device.new)) }
+    ensures start { OnOk result (tail.new.start ≡ tail.old.start + length (tail_bytes tail.old ++ bytes.now) / 512) }
+    ensures rest { OnOk result (tail_bytes tail.new ≡ rest_bytes (tail_bytes tail.old ++ bytes.now)) }
+{
+    let taken = tail.fill(bytes);
+    let Some(sector) = tail.full() else {
+        return Ok(());
+    };
+    device.write(tail.start, sector)?;
+    let (whole, rest) = bytes[taken..].as_chunks::<SECTOR_BYTES>();
+    write_sectors(device, tail.start + 1, whole)?;
+    tail.restart(1 + whole.len() as u64, rest);
+    Ok(())
+}
+
+// Writes what is left, zero-filled.
+fn write_tail<D: SectorDevice>(device: &mut D, tail: &Tail) -> Result<(), DevError>
+    requires partial { length (tail_bytes tail.now) < 512 }
+    requires within { tail.now.start + sector_count (length (tail_bytes tail.now)) ≤ D.size device.old }
+    ensures size { D.size device.new ≡ D.size device.old }
+    ensures count { Counts (D.failed device.old) (D.failed device.new) result }
+    ensures error { IfErr result (λ e. e ≡ DevError.Failed) }
+    ensures order { OnOk result (D.tells ≡ true → GrowsBy (run_writes tail.now.start (tail_bytes tail.now)) (D.story device.old) (D.story device.new)) }
+    ensures cut_short { OnErr result (D.tells ≡ true → FailsAmong (run_writes tail.now.start (tail_bytes tail.now)) (D.story device.old) (D.story device.new)) }
+{
+    if tail.bytes().is_empty() {
+        return Ok(());
+    }
+    device.write(tail.start, &filled_sector(tail.bytes()))
+}
+
+// Writes the bytes of parts behind one another, from this sector on.
+fn write_parts<D: SectorDevice>(
+    device: &mut D,
+    start: u64,
+    parts: &[Part<'_>],
+) -> Result<(), DevError>
+    requires within { start + sector_count (length (bytes_of_parts parts.now)) ≤ D.size device.old }
+    requires countable { 512 * D.size device.old < 2 ^ 64 }
+    ensures size { D.size device.new ≡ D.size device.old }
+    ensures count { Counts (D.failed device.old) (D.failed device.new) result }
+    ensures error { IfErr result (λ e. e ≡ DevError.Failed) }
+    ensures order { OnOk result (D.tells ≡ true → GrowsBy (run_writes start (bytes_of_parts parts.now)) (D.story device.old) (D.story device.new)) }
+    ensures cut_short { OnErr result (D.tells ≡ true → FailsAmong (run_writes start (bytes_of_parts parts.now)) (D.story device.old) (D.story device.new)) }
+{
+    let mut tail = Tail::new(start);
+    for part in parts {
+        write_part(device, &mut tail, part.bytes())?;
+    }
+    write_tail(device, &tail)
 }
 
 /// Writes the bytes from this sector on, sectors ascending, zero-filled to the last sector's end.
@@ -58,35 +127,28 @@ pub fn write_run<D: SectorDevice>(device: &mut D, start: u64, bytes: &[u8]) -> R
     ensures order { OnOk result (D.tells ≡ true → GrowsBy (run_writes start bytes.now) (D.story device.old) (D.story device.new)) }
     ensures cut_short { OnErr result (D.tells ≡ true → FailsAmong (run_writes start bytes.now) (D.story device.old) (D.story device.new)) }
 {
-    let (whole, rest) = bytes.as_chunks::<SECTOR_BYTES>();
-    write_sectors(device, start, whole)?;
-    if rest.is_empty() {
-        return Ok(());
-    }
-    let last = filled_sector(rest);
-    device.write(start + whole.len() as u64, &last)?;
-    Ok(())
+    write_parts(device, start, &[Part::Lent(bytes)])
 }
 
 /// Writes each piece into its run, one after another.
 ///
 /// # Errors
 /// `Failed` alone: the device failed.
-pub fn write_runs<D: SectorDevice>(device: &mut D, pieces: &[Piece]) -> Result<(), DevError>
-    requires fit { AllFit (D.size device.old) pieces.now }
-    requires apart { AreApart (runs_of pieces.now) }
+pub fn write_runs<D: SectorDevice>(device: &mut D, pieces: &[Piece<'_>]) -> Result<(), DevError>
+    requires fit { AllFit (D.size device.old) (plain_pieces pieces.now) }
+    requires apart { AreApart (runs_of (plain_pieces pieces.now)) }
     requires countable { 512 * D.size device.old < 2 ^ 64 }
     ensures size { D.size device.new ≡ D.size device.old }
     ensures count { Counts (D.failed device.old) (D.failed device.new) result }
     ensures error { IfErr result (λ e. e ≡ DevError.Failed) }
-    ensures moments { D.tells ≡ true → OnlyWrites (runs_of pieces.now) (D.story device.old) (D.story device.new) }
-    ensures others { D.tells ≡ true → LeavesOthers (runs_of pieces.now) (D.story device.old) (D.story device.new) }
-    ensures holds { OnOk result (D.tells ≡ true → HoldsEach (shown_image (now (D.story device.new))) pieces.now) }
-    ensures order { OnOk result (D.tells ≡ true → GrowsBy (piece_writes pieces.now) (D.story device.old) (D.story device.new)) }
-    ensures cut_short { OnErr result (D.tells ≡ true → FailsAmong (piece_writes pieces.now) (D.story device.old) (D.story device.new)) }
+    ensures moments { D.tells ≡ true → OnlyWrites (runs_of (plain_pieces pieces.now)) (D.story device.old) (D.story device.new) }
+    ensures others { D.tells ≡ true → LeavesOthers (runs_of (plain_pieces pieces.now)) (D.story device.old) (D.story device.new) }
+    ensures holds { OnOk result (D.tells ≡ true → HoldsEach (shown_image (now (D.story device.new))) (plain_pieces pieces.now)) }
+    ensures order { OnOk result (D.tells ≡ true → GrowsBy (piece_writes (plain_pieces pieces.now)) (D.story device.old) (D.story device.new)) }
+    ensures cut_short { OnErr result (D.tells ≡ true → FailsAmong (piece_writes (plain_pieces pieces.now)) (D.story device.old) (D.story device.new)) }
 {
     for piece in pieces {
-        write_run(device, piece.run.start, &piece.bytes)?;
+        write_parts(device, piece.run.start, &piece.parts)?;
     }
     Ok(())
 }

@@ -1,6 +1,6 @@
 -- Devices with which a run may begin.
 use Rattle.std.specs.Prelude.{Result, Ok, Err, IfOk}
-use Rattle.std.proofs.Common.{◌≡◌, ◌⊎◌, ℕ, Bool, true, false, Option, Some, None, refl, ap, sym, subst, ◌∙◌, ◌∷◌, [], inl, inr, ⊎_elim, if◌then◌else◌, replicate}
+use Rattle.std.proofs.Common.{◌≡◌, ℕ, Bool, true, Option, Some, None, refl, ap, sym, subst, ◌∙◌, ◌∷◌, [], inl, inr, ⊎_elim, if◌then◌else◌, replicate}
 use Rattle.sector_dev.specs.Disk.{Story, Image, now, shown_image, MayLeave}
 use Rattle.sector_dev.specs.Time.{LeavesOnly}
 use Rattle.sector_dev.specs.History.{all_synced, zeros}

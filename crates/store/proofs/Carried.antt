@@ -9,7 +9,7 @@ use Rattle.sector_dev.specs.Time.{Grows, LeavesOnly}
 use Rattle.sector_dev.specs.laws.Time.{weaken, now_has, stays}
 use Rattle.sector_dev.specs.laws.Crash.{only_image}
 use Rattle.segments.specs.declared.run.Run.{Run}
-use Rattle.segments.specs.declared.piece.Piece.{Piece}
+use Rattle.segments.specs.Pieces.{PlainPiece, plain_pieces}
 use Rattle.segments.specs.Runs.{OutOf}
 use Rattle.segments.specs.Usages.{Space, IsUsedIn}
 use Rattle.segments.specs.Writing.{runs_of, HoldsEach}
@@ -21,7 +21,7 @@ use Rattle.commit.specs.declared.publishing.Plan.{Plan}
 use Rattle.commit.specs.Publishing.{IsOutside, IsOldOrNew, IsPublishing, IsPublished}
 use Rattle.commit.specs.Replacing.{CanReplace, StandsAs}
 use Rattle.commit.specs.Standing.{is_on_device, runs_fault, rules, standing, Stands}
-use Rattle.commit.specs.Placing.{Takes}
+use Rattle.commit.specs.Placing.{Takes, AreShort}
 use Rattle.commit.specs.laws.Frame.{above_used}
 use Rattle.commit.specs.laws.Taking.{took_takes}
 use Rattle.tables.specs.declared.refusal.Refusal.{Refusal}
@@ -40,7 +40,7 @@ use Rattle.store.specs.Runs.{Goes}
 use Rattle.store.specs.Held.{whole_reading, tables_held, held_tables, held_by}
 use Rattle.store.specs.declared.store.Store.{Store}
 use Rattle.store.specs.Fits.{setting_of, listed_in, IsSound}
-use Rattle.store.specs.Changes.{PlainChange, IsChange, MakesOf, placed_segments}
+use Rattle.store.specs.Changes.{PlainChange, CanChange, IsChange, MakesOf, placed_segments}
 use Rattle.store.specs.Deciding.{IsDecided}
 use Rattle.store.specs.Applying.{HasDone, IsOldOrDone, IsApplying}
 use Rattle.store.specs.Carrying.{IsCarried, IsCarriedOut, asked_sizes}
@@ -94,7 +94,7 @@ module _ (size : ℕ) (base : Tables) (m : Machine) (c : PlainCommand) (new : Ta
 
   -- ---- published
 
-  module _ (s0 s1 : Story) (k' : Commit) (pieces : List Piece) (Old New : Image → Type 0) (allows : LeavesOnly (Allows (setting_of size base) m) (now s0))
+  module _ (s0 s1 : Story) (k' : Commit) (pieces : List PlainPiece) (Old New : Image → Type 0) (allows : LeavesOnly (Allows (setting_of size base) m) (now s0))
       (old_held : (image : Image) → IsOldOrNew (now s0) k' pieces Old New image → Old image → held_by size image ≡ holds (after base m.settled))
       (new_held : (image : Image) → IsOldOrNew (now s0) k' pieces Old New image → New image → HoldsEach image pieces → held_by size image ≡ holds new)
       (moments : Grows (IsPublishing (now s0) k' pieces Old New) s0 s1) where
@@ -153,25 +153,25 @@ module _ (size : ℕ) (base : Tables) (m : Machine) (c : PlainCommand) (new : Ta
 -- ---- what the images of a publishing hold
 
 module _ (old new : Space) (k : Commit) (was : PlainCatalogue) (change : PlainChange) (plan : Plan StoredCatalogue) (back : List Run) (p : IsPrepared old new k was change plan back)
-    (size : ℕ) (d : Disk) (can : CanReplace whole_reading size d (record { old = k; was = was; new = plan.commit; will = catalogue_of plan.catalogue.list; pieces = plan.pieces.items }))
+    (size : ℕ) (d : Disk) (can : CanReplace whole_reading size d (record { old = k; was = was; new = plan.commit; will = catalogue_of plan.catalogue.list; pieces = plain_pieces plan.pieces.items }))
     (listed : IsCatalogue was) (sound : IsChange was change) (t u : Tables) (tables : tables_held (synced_image d) was ≡ Some t) (makes : MakesOf t change u) where
   -- the tables that stood are not touched
-  was_held : (image : Image) → ((n : ℕ) → IsOutside plan.commit plan.pieces.items n → image n ≡ (d.at n).synced) → tables_held image was ≡ Some t
+  was_held : (image : Image) → ((n : ℕ) → IsOutside plan.commit (plain_pieces plan.pieces.items) n → image n ≡ (d.at n).synced) → tables_held image was ≡ Some t
   was_held image outside =
       same_tables (synced_image d) image was listed.entries
       (λ n within. outside n (can.free n (inr within), λ e. let above = above_used whole_reading size (synced_image d) k was n can.stands.found (inr within) in omega (arith, above, e, low plan.commit.epoch)))
       ∙ tables
 
-  pub old_held : (image : Image) → ((n : ℕ) → IsOutside plan.commit plan.pieces.items n → image n ≡ (d.at n).synced) → StandsAs whole_reading size k was image → held_by size image ≡ holds t
+  pub old_held : (image : Image) → ((n : ℕ) → IsOutside plan.commit (plain_pieces plan.pieces.items) n → image n ≡ (d.at n).synced) → StandsAs whole_reading size k was image → held_by size image ≡ holds t
   old_held image outside stands = held_is size image k was stands ∙ ap held_tables (was_held image outside)
 
   -- the new ones lie in the pieces and in what was not touched
-  pub new_tables : (image : Image) → ((n : ℕ) → IsOutside plan.commit plan.pieces.items n → image n ≡ (d.at n).synced) → HoldsEach image plan.pieces.items → tables_held image (catalogue_of plan.catalogue.list) ≡ Some u
+  pub new_tables : (image : Image) → ((n : ℕ) → IsOutside plan.commit (plain_pieces plan.pieces.items) n → image n ≡ (d.at n).synced) → HoldsEach image (plain_pieces plan.pieces.items) → tables_held image (catalogue_of plan.catalogue.list) ≡ Some u
   new_tables image outside holds_each =
       ap (tables_held image) p.catalogue
       ∙ edited_held image was change t u (placed_segments (runs_of p.pieces) change.streams change.counts) listed (was_held image outside) makes (streams_held old new k was change plan back p image sound holds_each)
 
-  pub new_held : (image : Image) → ((n : ℕ) → IsOutside plan.commit plan.pieces.items n → image n ≡ (d.at n).synced) → StandsAs whole_reading size plan.commit (catalogue_of plan.catalogue.list) image → HoldsEach image plan.pieces.items
+  pub new_held : (image : Image) → ((n : ℕ) → IsOutside plan.commit (plain_pieces plan.pieces.items) n → image n ≡ (d.at n).synced) → StandsAs whole_reading size plan.commit (catalogue_of plan.catalogue.list) image → HoldsEach image (plain_pieces plan.pieces.items)
       → held_by size image ≡ holds u
   new_held image outside stands holds_each = held_is size image plan.commit (catalogue_of plan.catalogue.list) stands ∙ ap held_tables (new_tables image outside holds_each)
 
@@ -183,7 +183,7 @@ module _ (old new : Space) (k : Commit) (was : PlainCatalogue) (change : PlainCh
       subst (λ (n : ℕ). Takes n (IsUsedIn old.entries) (asked_sizes was change) (Ok (runs_of p.pieces ++ p.run ∷ []))) same
       (took_takes old.size (IsUsedIn old.entries) (asked_sizes was change) (runs_of p.pieces ++ p.run ∷ []) p.took.took)
 
-  pub has_done : (image : Image) → StandsAs whole_reading size plan.commit (catalogue_of plan.catalogue.list) image → HoldsEach image plan.pieces.items
+  pub has_done : (image : Image) → StandsAs whole_reading size plan.commit (catalogue_of plan.catalogue.list) image → HoldsEach image (plain_pieces plan.pieces.items)
       → HasDone size (IsUsedIn old.entries) k was d c image
   has_done image stands holds_each = record {
     change = change;
@@ -195,20 +195,20 @@ module _ (old new : Space) (k : Commit) (was : PlainCatalogue) (change : PlainCh
     holds = streams_held old new k was change plan back p image sound holds_each;
   }
 
-  old_or_done : CanReplace whole_reading size d (record { old = k; was = was; new = plan.commit; will = catalogue_of plan.catalogue.list; pieces = plan.pieces.items }) → (x : Disk)
-      → IsPublishing d plan.commit plan.pieces.items (StandsAs whole_reading size k was) (StandsAs whole_reading size plan.commit (catalogue_of plan.catalogue.list)) x
+  old_or_done : CanReplace whole_reading size d (record { old = k; was = was; new = plan.commit; will = catalogue_of plan.catalogue.list; pieces = plain_pieces plan.pieces.items }) → (x : Disk)
+      → IsPublishing d plan.commit (plain_pieces plan.pieces.items) (StandsAs whole_reading size k was) (StandsAs whole_reading size plan.commit (catalogue_of plan.catalogue.list)) x
       → LeavesOnly (IsOldOrDone size (IsUsedIn old.entries) k was d c) x
   old_or_done can x is image may =
       let either = is.leaves image may in
       record {
         which = ⊎_elim (λ (stood : StandsAs whole_reading size k was image). inl stood)
-            (λ (both : StandsAs whole_reading size plan.commit (catalogue_of plan.catalogue.list) image × HoldsEach image plan.pieces.items). inr (has_done image both.0 both.1)) either.which;
+            (λ (both : StandsAs whole_reading size plan.commit (catalogue_of plan.catalogue.list) image × HoldsEach image (plain_pieces plan.pieces.items)). inr (has_done image both.0 both.1)) either.which;
         kept = λ n within. either.outside n (can.free n within, λ e. let above = above_used whole_reading size (synced_image d) k was n can.stands.found within in omega (arith, above, e, low plan.commit.epoch));
       }
 
   -- the runs of the pieces are those that were taken
-  applying : CanReplace whole_reading size d (record { old = k; was = was; new = plan.commit; will = catalogue_of plan.catalogue.list; pieces = plan.pieces.items }) → (x : Disk)
-      → IsPublishing d plan.commit plan.pieces.items (StandsAs whole_reading size k was) (StandsAs whole_reading size plan.commit (catalogue_of plan.catalogue.list)) x
+  applying : CanReplace whole_reading size d (record { old = k; was = was; new = plan.commit; will = catalogue_of plan.catalogue.list; pieces = plain_pieces plan.pieces.items }) → (x : Disk)
+      → IsPublishing d plan.commit (plain_pieces plan.pieces.items) (StandsAs whole_reading size k was) (StandsAs whole_reading size plan.commit (catalogue_of plan.catalogue.list)) x
       → IsApplying size (IsUsedIn old.entries) k was d c x
   applying can x is = record {
     touches = inr (record {
@@ -225,7 +225,7 @@ module _ (old new : Space) (k : Commit) (was : PlainCatalogue) (change : PlainCh
   }
 
 -- after it
-pub synced_outside : (k' : Commit) (pieces : List Piece) (d after : Disk) → ((n : ℕ) → IsOutside k' pieces n → after.at n ≡ d.at n) → (n : ℕ) → IsOutside k' pieces n → synced_image after n ≡ (d.at n).synced
+pub synced_outside : (k' : Commit) (pieces : List PlainPiece) (d after : Disk) → ((n : ℕ) → IsOutside k' pieces n → after.at n ≡ d.at n) → (n : ℕ) → IsOutside k' pieces n → synced_image after n ≡ (d.at n).synced
 synced_outside k' pieces d after same n out = ap (λ (s : Sector). s.synced) (same n out)
 
 -- what stands on the disk is what the store has then
@@ -238,34 +238,38 @@ stands_then size size' image k k' list list' sized same listed stands =
 
 -- ---- of a store
 
+-- it can be changed so, since the streams were made
+pub made_change : (c : PlainCatalogue) (change : PlainChange) (streams : List (List ℕ)) → CanChange c change → streams ≡ change.streams → AreShort streams → IsChange c change
+made_change c change streams can same short = can (subst (λ (xs : List (List ℕ)). AreShort xs) same short)
+
 -- what the images of a publishing hold: the tables that stood, or the new ones
 pub record Images (size : ℕ) (d : Disk) (k : Commit) (was : PlainCatalogue) (plan : Plan StoredCatalogue) (t u : Tables) : Type 0 where
-  pub can : CanReplace whole_reading size d (record { old = k; was = was; new = plan.commit; will = catalogue_of plan.catalogue.list; pieces = plan.pieces.items })
-  pub olds : (image : Image) → IsOldOrNew d plan.commit plan.pieces.items (StandsAs whole_reading size k was) (StandsAs whole_reading size plan.commit (catalogue_of plan.catalogue.list)) image
+  pub can : CanReplace whole_reading size d (record { old = k; was = was; new = plan.commit; will = catalogue_of plan.catalogue.list; pieces = plain_pieces plan.pieces.items })
+  pub olds : (image : Image) → IsOldOrNew d plan.commit (plain_pieces plan.pieces.items) (StandsAs whole_reading size k was) (StandsAs whole_reading size plan.commit (catalogue_of plan.catalogue.list)) image
       → StandsAs whole_reading size k was image → held_by size image ≡ holds t
-  pub tables : (image : Image) → ((n : ℕ) → IsOutside plan.commit plan.pieces.items n → image n ≡ (d.at n).synced) → HoldsEach image plan.pieces.items → tables_held image (catalogue_of plan.catalogue.list) ≡ Some u
-  pub news : (image : Image) → ((n : ℕ) → IsOutside plan.commit plan.pieces.items n → image n ≡ (d.at n).synced) → StandsAs whole_reading size plan.commit (catalogue_of plan.catalogue.list) image
-      → HoldsEach image plan.pieces.items → held_by size image ≡ holds u
+  pub tables : (image : Image) → ((n : ℕ) → IsOutside plan.commit (plain_pieces plan.pieces.items) n → image n ≡ (d.at n).synced) → HoldsEach image (plain_pieces plan.pieces.items) → tables_held image (catalogue_of plan.catalogue.list) ≡ Some u
+  pub news : (image : Image) → ((n : ℕ) → IsOutside plan.commit (plain_pieces plan.pieces.items) n → image n ≡ (d.at n).synced) → StandsAs whole_reading size plan.commit (catalogue_of plan.catalogue.list) image
+      → HoldsEach image (plain_pieces plan.pieces.items) → held_by size image ≡ holds u
 
 -- all of a store that a publishing needs to know
 pub can_publish : {D : Type 0} {g : Ghosts D} (s : Store D g) (mid : Space) (change : PlainChange) (plan : Plan StoredCatalogue) (back : List Run)
     → IsPrepared s.opened.map mid s.opened.commit (listed_in s) change plan back → IsChange (listed_in s) change → (d : Disk) → Stands whole_reading (g.size s.device) d s.opened.commit (listed_in s)
-    → CanReplace whole_reading (g.size s.device) d (record { old = s.opened.commit; was = listed_in s; new = plan.commit; will = catalogue_of plan.catalogue.list; pieces = plan.pieces.items })
+    → CanReplace whole_reading (g.size s.device) d (record { old = s.opened.commit; was = listed_in s; new = plan.commit; will = catalogue_of plan.catalogue.list; pieces = plain_pieces plan.pieces.items })
 can_publish {g = g} s mid change plan back prep sound d stands =
     let old = s.opened.map in
     let k = s.opened.commit in
     let was = listed_in s in
     let on = subst (λ (n : ℕ). is_on_device n k.catalogue.run ≡ true) (sym s.same) s.placed in
     let fit = subst (λ (n : ℕ). runs_fault n k.catalogue.run (runs_in was) ≡ None) (sym s.same) s.fit in
-    subst (λ (n : ℕ). CanReplace whole_reading n d (record { old = k; was = was; new = plan.commit; will = catalogue_of plan.catalogue.list; pieces = plan.pieces.items })) s.same
+    subst (λ (n : ℕ). CanReplace whole_reading n d (record { old = k; was = was; new = plan.commit; will = catalogue_of plan.catalogue.list; pieces = plain_pieces plan.pieces.items })) s.same
     (can_replace old mid k was change plan back prep on fit s.uses sound d (catalogue_is was s.opened.catalogue.list.kept) (s.own ∙ sym s.same) (subst (λ (n : ℕ). Stands whole_reading n d k was) (sym s.same) stands))
 
 -- each moment of a publishing, by the command that asks for the change
 pub writes : {D : Type 0} {g : Ghosts D} (s : Store D g) (mid : Space) (change : PlainChange) (plan : Plan StoredCatalogue) (back : List Run)
     → IsPrepared s.opened.map mid s.opened.commit (listed_in s) change plan back → IsChange (listed_in s) change → (c : PlainCommand) → IsDecided true (shown_image (now (g.story s.device))) (listed_in s) c (Ok change) → (s1 : Story)
     → Stands whole_reading (g.size s.device) (now (g.story s.device)) s.opened.commit (listed_in s)
-    → (CanReplace whole_reading (g.size s.device) (now (g.story s.device)) (record { old = s.opened.commit; was = listed_in s; new = plan.commit; will = catalogue_of plan.catalogue.list; pieces = plan.pieces.items })
-    → Grows (IsPublishing (now (g.story s.device)) plan.commit plan.pieces.items (StandsAs whole_reading (g.size s.device) s.opened.commit (listed_in s)) (StandsAs whole_reading (g.size s.device) plan.commit (catalogue_of plan.catalogue.list)))
+    → (CanReplace whole_reading (g.size s.device) (now (g.story s.device)) (record { old = s.opened.commit; was = listed_in s; new = plan.commit; will = catalogue_of plan.catalogue.list; pieces = plain_pieces plan.pieces.items })
+    → Grows (IsPublishing (now (g.story s.device)) plan.commit (plain_pieces plan.pieces.items) (StandsAs whole_reading (g.size s.device) s.opened.commit (listed_in s)) (StandsAs whole_reading (g.size s.device) plan.commit (catalogue_of plan.catalogue.list)))
     (g.story s.device) s1)
     → Grows (IsApplying (g.size s.device) (IsUsedIn s.opened.map.entries) s.opened.commit (listed_in s) (now (g.story s.device)) c) (g.story s.device) s1
 writes {g = g} s mid change plan back prep sound c decided s1 stands moments =

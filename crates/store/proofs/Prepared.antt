@@ -1,14 +1,14 @@
 -- What was prepared for a change can be published, and then stands.
 use Rattle.std.specs.Prelude.{◌≡◌, ◌≤◌, ◌<◌, ◌+◌, ◌^◌, ◌==◌, ◌&&◌, ◌||◌, ℕ, Bool, true, false, not, nat_le, List, [], ◌∷◌, ◌++◌, length, map, if◌then◌else◌, Some, None, Err, refl}
-use Rattle.std.specs.Global.{Vec}
 use Rattle.std.specs.List.{list_all, AllByRecursion}
-use Rattle.std.proofs.Common.{inl, inr, ⊎_elim, ◌≢◌, sym, ap, ◌∙◌, subst, arith}
+use Rattle.std.proofs.Common.{get_or, take, inl, inr, ⊎_elim, ◌≢◌, sym, ap, ◌∙◌, subst, arith}
 use Rattle.std.proofs.lemmas.Bool.{and_parts, false_from_ne_true, leb-true, cases_eq}
-use Rattle.std.proofs.lemmas.List.{length-map}
+use Rattle.std.proofs.lemmas.List.{get_or-map, length-map, take_more}
 use Rattle.sector_dev.specs.Disk.{Disk, Image}
 use Rattle.segments.specs.declared.errors.TakeError.{TakeError}
 use Rattle.segments.specs.declared.errors.TakeError.TheVariants as takings
 use Rattle.segments.specs.declared.run.Run.{Run}
+use Rattle.segments.specs.Pieces.{PlainPiece, plain_piece, plain_pieces}
 use Rattle.segments.specs.declared.piece.Piece.{Piece}
 use Rattle.segments.specs.Runs.{OutOf}
 use Rattle.segments.specs.Sectors.{sector_count}
@@ -26,7 +26,7 @@ use Rattle.catalogue.specs.Reading.{catalogue_at}
 use Rattle.catalogue.specs.View.{catalogue_of}
 use Rattle.commit.specs.declared.sector.Commit.{Commit}
 use Rattle.commit.specs.declared.publishing.Plan.{Plan}
-use Rattle.commit.specs.Placing.{is_among, times_among, Uses, counts_of, contents_of, AreSome, Takes}
+use Rattle.commit.specs.Placing.{is_among, times_among, Uses, counts_of, contents_of, Takes}
 use Rattle.commit.specs.Publishing.{next_commit}
 use Rattle.commit.specs.Replacing as replacing
 use Rattle.commit.specs.Replacing.{IsPieceOf, IsMade, CanReplace}
@@ -40,8 +40,8 @@ use Rattle.store.specs.declared.stored.StoredCatalogue.{StoredCatalogue}
 use Rattle.store.specs.Held.{whole_reading, catalogue_or_cause}
 use Rattle.store.specs.Changes.{PlainChange, PlainEdit, IsChange, edited, given_up, placed_segments, HoldsStreams}
 use Rattle.store.specs.Carrying.{HasNext, unplaced, outline, asked_sizes, IsCarried}
-use Rattle.store.specs.inner.Prepared.{bytes_of, placed, taking_refusal, IsPrepared}
-use Rattle.store.specs.laws.Segments.{stream_sectors, are_streams, placed_number, placed_runs, placed_sound, took_front, same_sectors, unplaced_number, unplaced_sound}
+use Rattle.store.specs.inner.Prepared.{placed, taking_refusal, IsPrepared}
+use Rattle.store.specs.laws.Segments.{stream_sectors, are_streams, placed_number, placed_runs, placed_sound, took_front, unplaced_number, unplaced_sound}
 use Rattle.store.specs.laws.Edited.{edited_stands, edited_size, edited_count, edited_times, given_up_times, edited_runs}
 
 -- ---- the catalogues of a change
@@ -86,19 +86,31 @@ module _ (c : PlainCatalogue) (change : PlainChange) (sound : IsChange c change)
 
 -- ---- pieces
 
-last_piece : (pieces : List Piece) (p : Piece) → IsPieceOf (pieces ++ p ∷ []) p.run p.bytes.items
+-- the run of a piece, behind those of the pieces before it
+pub run_behind : (pieces : List Piece) (i : ℕ) (piece : Piece) → i < length pieces → piece ≡ get_or pieces i piece
+    → take (i + 1) (runs_of (plain_pieces pieces)) ≡ take i (runs_of (plain_pieces pieces)) ++ piece.run ∷ []
+run_behind pieces i piece within is =
+    let plain : List PlainPiece = plain_pieces pieces in
+    let long = length-map pieces plain_piece in
+    let more : i < length plain = omega (arith, long, within) in
+    let longer = length-map plain (λ (p : PlainPiece). p.run) in
+    let at : get_or (runs_of plain) i piece.run ≡ piece.run =
+    get_or-map (λ (p : PlainPiece). p.run) plain i (plain_piece piece) piece.run more ∙ ap (λ (p : PlainPiece). p.run) (get_or-map plain_piece pieces i piece (plain_piece piece) within) ∙ ap (λ (p : Piece). p.run) (sym is) in
+    take_more (runs_of plain) i piece.run (omega (arith, longer, more)) ∙ ap (λ (r : Run). take i (runs_of plain) ++ r ∷ []) at
+
+last_piece : (pieces : List PlainPiece) (p : PlainPiece) → IsPieceOf (pieces ++ p ∷ []) p.run p.bytes
 last_piece [] p = inl (refl, refl)
 last_piece (x ∷ xs) p = inr (last_piece xs p)
 
-runs_more : (pieces : List Piece) (p : Piece) → runs_of (pieces ++ p ∷ []) ≡ runs_of pieces ++ p.run ∷ []
+runs_more : (pieces : List PlainPiece) (p : PlainPiece) → runs_of (pieces ++ p ∷ []) ≡ runs_of pieces ++ p.run ∷ []
 runs_more [] p = refl
 runs_more (x ∷ xs) p = ap (λ (rs : List Run). x.run ∷ rs) (runs_more xs p)
 
-holds_streams : (image : Image) (pieces more : List Piece) (counts : List ℕ) → length pieces ≡ length counts → HoldsEach image (pieces ++ more)
-    → HoldsStreams image (placed_segments (runs_of pieces) (bytes_of pieces) counts) (bytes_of pieces) counts
+holds_streams : (image : Image) (pieces more : List PlainPiece) (counts : List ℕ) → length pieces ≡ length counts → HoldsEach image (pieces ++ more)
+    → HoldsStreams image (placed_segments (runs_of pieces) (contents_of pieces) counts) (contents_of pieces) counts
 holds_streams image [] more counts many holds = refl
 holds_streams image (x ∷ xs) more [] many holds = absurd (omega arith)
-holds_streams image (x ∷ xs) more (count ∷ counts) many holds = (read_back image x.run.start x.bytes.items holds.0, refl, holds_streams image xs more counts (omega arith) holds.1)
+holds_streams image (x ∷ xs) more (count ∷ counts) many holds = (read_back image x.run.start x.bytes holds.0, refl, holds_streams image xs more counts (omega arith) holds.1)
 
 some_sizes : (streams : List (List ℕ)) (n : ℕ) → AllByRecursion (λ (stream : List ℕ). 1 ≤ length stream) streams → 1 ≤ n → AllByRecursion (λ (m : ℕ). 1 ≤ m) (map stream_sectors streams ++ n ∷ [])
 some_sizes [] n some one = (one, tt)
@@ -138,14 +150,14 @@ module _ (old new : Space) (k : Commit) (c : PlainCatalogue) (change : PlainChan
   taken = runs_of p.pieces ++ p.run ∷ []
 
   -- the pieces lie in the runs that were taken
-  pub runs_are : runs_of plan.pieces.items ≡ taken
+  pub runs_are : runs_of (plain_pieces plan.pieces.items) ≡ taken
   runs_are = ap runs_of p.whole ∙ runs_more p.pieces (record { run = p.run; bytes = p.text })
 
   many : length (runs_of p.pieces) ≡ length change.streams
-  many = length-map p.pieces (λ (x : Piece). x.run) ∙ sym (length-map p.pieces (λ (x : Piece). x.bytes.items)) ∙ ap (λ (xs : List (List ℕ)). length xs) p.streams
+  many = length-map p.pieces (λ (x : PlainPiece). x.run) ∙ sym (length-map p.pieces (λ (x : PlainPiece). x.bytes)) ∙ ap (λ (xs : List (List ℕ)). length xs) p.streams
 
   -- given back, each run is used for what it was
-  pub failed_usages : (last : Space) → GivesAll new last (runs_of plan.pieces.items) → SameUsages old.entries last.entries
+  pub failed_usages : (last : Space) → GivesAll new last (runs_of (plain_pieces plan.pieces.items)) → SameUsages old.entries last.entries
   failed_usages last gives = all_given_back old new last (asked_sizes c change) taken p.took (subst (λ (rs : List Run). GivesAll new last rs) runs_are gives)
 
   extent : is_extent old.size 4 (record { run = p.run; bytes = list_size (outline c change) }) ≡ true
@@ -219,7 +231,7 @@ module _ (old new : Space) (k : Commit) (c : PlainCatalogue) (change : PlainChan
             && not (among_both (given_up c change.edit) (k.catalogue.run ∷ []) run i))
 
     abbrev replacement : replacing.Change PlainCatalogue
-    replacement = record { old = k; was = c; new = plan.commit; will = catalogue_of plan.catalogue.list; pieces = plan.pieces.items }
+    replacement = record { old = k; was = c; new = plan.commit; will = catalogue_of plan.catalogue.list; pieces = plain_pieces plan.pieces.items }
 
     pub can_replace : (d : Disk) → IsCatalogue c → k.device_sectors ≡ old.size → Stands whole_reading old.size d k c → CanReplace whole_reading old.size d replacement
     can_replace d listed own stands = record {
@@ -228,36 +240,24 @@ module _ (old new : Space) (k : Commit) (c : PlainCatalogue) (change : PlainChan
       made = record {
         device = ap (λ (x : Commit). x.device_sectors) p.commit ∙ own;
         extent = subst (λ (x : Commit). is_extent old.size 4 x.catalogue ≡ true) (sym p.commit) extent;
-        text = p.text.items;
+        text = p.text;
         whole = p.size ∙ sym (ap (λ (x : Commit). x.catalogue.bytes) p.commit);
-        written = subst (λ (ps : List Piece). IsPieceOf ps plan.commit.catalogue.run p.text.items) (sym p.whole)
-            (subst (λ (x : Commit). IsPieceOf (p.pieces ++ record { run = p.run; bytes = p.text } ∷ []) x.catalogue.run p.text.items) (sym p.commit) (last_piece p.pieces (record { run = p.run; bytes = p.text })));
+        written = subst (λ (ps : List PlainPiece). IsPieceOf ps plan.commit.catalogue.run p.text) (sym p.whole)
+            (subst (λ (x : Commit). IsPieceOf (p.pieces ++ record { run = p.run; bytes = p.text } ∷ []) x.catalogue.run p.text) (sym p.commit) (last_piece p.pieces (record { run = p.run; bytes = p.text })));
         read = λ image holds same. ap catalogue_or_cause p.found;
         fit = fit_then listed;
       };
     }
 
   -- an image that holds the pieces has the streams in the new segments
-  pub streams_held : (image : Image) → IsChange c change → HoldsEach image plan.pieces.items → HoldsStreams image (placed_segments (runs_of p.pieces) change.streams change.counts) change.streams change.counts
+  pub streams_held : (image : Image) → IsChange c change → HoldsEach image (plain_pieces plan.pieces.items) → HoldsStreams image (placed_segments (runs_of p.pieces) change.streams change.counts) change.streams change.counts
   streams_held image sound holds =
       subst (λ (streams : List (List ℕ)). HoldsStreams image (placed_segments (runs_of p.pieces) streams change.counts) streams change.counts) p.streams
       (holds_streams image p.pieces (record { run = p.run; bytes = p.text } ∷ []) change.counts
-      (let l = length-map p.pieces (λ (x : Piece). x.run) in let e = sound.each in omega (arith, l, many, e))
-      (subst (λ (ps : List Piece). HoldsEach image ps) p.whole holds))
+      (let l = length-map p.pieces (λ (x : PlainPiece). x.run) in let e = sound.each in omega (arith, l, many, e))
+      (subst (λ (ps : List PlainPiece). HoldsEach image ps) p.whole holds))
 
 -- ---- how it is prepared
-
--- contents as plain bytes
-abbrev plain : List (Vec ℕ) → List (List ℕ)
-plain contents = map (λ (v : Vec ℕ). v.items) contents
-
-pub some_contents : (contents : List (Vec ℕ)) → AllByRecursion (λ (stream : List ℕ). 1 ≤ length stream) (plain contents) → AreSome contents
-some_contents [] some = tt
-some_contents (v ∷ vs) some = (some.0, some_contents vs some.1)
-
-bytes_are : (pieces : List Piece) → bytes_of pieces ≡ plain (contents_of pieces)
-bytes_are [] = refl
-bytes_are (x ∷ xs) = ap (λ (rest : List (List ℕ)). x.bytes.items ∷ rest) (bytes_are xs)
 
 -- why no run was taken
 pub taking_carried : (size : ℕ) (used : Run → Type 0) (k : Commit) (c : PlainCatalogue) (change : PlainChange) (e : TakeError) → HasNext k → segment_count (outline c change) ≤ MAX_SEGMENTS
@@ -265,47 +265,47 @@ pub taking_carried : (size : ℕ) (used : Run → Type 0) (k : Commit) (c : Plai
 taking_carried size used k c change (takings.NoRoom n) next few takes = (next, few, takes n refl)
 taking_carried size used k c change takings.OutOfMemory next few takes = tt
 
-module _ (c : PlainCatalogue) (change : PlainChange) (sound : IsChange c change) (contents : List (Vec ℕ)) (plain_is : plain contents ≡ change.streams) (bytes : ℕ) (bytes_is : bytes ≡ list_size (outline c change)) where
+module _ (c : PlainCatalogue) (change : PlainChange) (sound : IsChange c change) (contents : List (List ℕ)) (plain_is : contents ≡ change.streams) (bytes : ℕ) (bytes_is : bytes ≡ list_size (outline c change)) where
   pub asked : counts_of contents bytes ≡ asked_sizes c change
-  asked = λ i. (same_sectors contents ∙ ap (map stream_sectors) plain_is) i ++ sector_count (bytes_is i) ∷ []
+  asked = λ i. map stream_sectors (plain_is i) ++ sector_count (bytes_is i) ∷ []
 
-  module _ (old new : Space) (limits : is_size old.size ≡ true) (few : segment_count (outline c change) ≤ MAX_SEGMENTS) (pieces ps : List Piece) (run : Run) (runs : List Run) (counts : List ℕ)
+  module _ (old new : Space) (limits : is_size old.size ≡ true) (few : segment_count (outline c change) ≤ MAX_SEGMENTS) (pieces ps : List PlainPiece) (run : Run) (runs : List Run) (counts : List ℕ)
       (all : TookAll old new (counts_of contents bytes) runs) (runs_is : runs ≡ runs_of pieces ++ run ∷ []) (contents_is : contents_of pieces ≡ contents) (ps_is : ps ≡ pieces) (counts_is : counts ≡ change.counts) where
-    streams_is : bytes_of pieces ≡ change.streams
-    streams_is = bytes_are pieces ∙ ap plain contents_is ∙ plain_is
+    streams_is : contents_of pieces ≡ change.streams
+    streams_is = contents_is ∙ plain_is
 
     took : TookAll old new (asked_sizes c change) (runs_of pieces ++ run ∷ [])
     took = subst (λ (ns : List ℕ). TookAll old new ns (runs_of pieces ++ run ∷ [])) asked (subst (λ (rs : List Run). TookAll old new (counts_of contents bytes) rs) runs_is all)
 
     as_many : length (runs_of pieces) ≡ length change.streams
-    as_many = length-map pieces (λ (x : Piece). x.run) ∙ sym (length-map pieces (λ (x : Piece). x.bytes.items)) ∙ ap (λ (xs : List (List ℕ)). length xs) streams_is
+    as_many = length-map pieces (λ (x : PlainPiece). x.run) ∙ sym (length-map pieces (λ (x : PlainPiece). x.bytes)) ∙ ap (λ (xs : List (List ℕ)). length xs) streams_is
 
     -- the same catalogue, by what the call is given
-    given_is : edited c change.edit (placed_segments (runs_of ps) (bytes_of ps) counts) ≡ placed c change (runs_of pieces)
-    given_is = λ i. edited c change.edit (placed_segments (runs_of (ps_is i)) ((ap bytes_of ps_is ∙ streams_is) i) (counts_is i))
+    given_is : edited c change.edit (placed_segments (runs_of ps) (contents_of ps) counts) ≡ placed c change (runs_of pieces)
+    given_is = λ i. edited c change.edit (placed_segments (runs_of (ps_is i)) ((ap contents_of ps_is ∙ streams_is) i) (counts_is i))
 
     small : old.size < 2 ^ 64
     small = let most : old.size ≤ 4194304 = leb-true _ _ (and_parts (nat_le 16 old.size) (nat_le old.size 4194304) limits).1 in omega (arith, most)
 
-    pub given_sound : list_all is_segment (placed_segments (runs_of ps) (bytes_of ps) counts) ≡ true
+    pub given_sound : list_all is_segment (placed_segments (runs_of ps) (contents_of ps) counts) ≡ true
     given_sound =
-        (λ i. list_all is_segment (placed_segments (runs_of (ps_is i)) ((ap bytes_of ps_is ∙ streams_is) i) (counts_is i)))
+        (λ i. list_all is_segment (placed_segments (runs_of (ps_is i)) ((ap contents_of ps_is ∙ streams_is) i) (counts_is i)))
         ∙ placed_segments_sound c change sound (runs_of pieces) as_many old new run small took
 
-    pub given_stands : IsCatalogue c → IsCatalogue (edited c change.edit (placed_segments (runs_of ps) (bytes_of ps) counts))
+    pub given_stands : IsCatalogue c → IsCatalogue (edited c change.edit (placed_segments (runs_of ps) (contents_of ps) counts))
     given_stands stands = subst (λ (x : PlainCatalogue). IsCatalogue x) (sym given_is) (placed_stands c change sound (runs_of pieces) as_many old new run stands few small took)
 
-    pub given_change : IsChange c (record { edit = change.edit; streams = bytes_of ps; counts = counts })
+    pub given_change : IsChange c (record { edit = change.edit; streams = contents_of ps; counts = counts })
     given_change =
-        subst (λ (x : List ℕ). IsChange c (record { edit = change.edit; streams = bytes_of ps; counts = x })) (sym counts_is)
-        (subst (λ (x : List (List ℕ)). IsChange c (record { edit = change.edit; streams = x; counts = change.counts })) (sym (ap bytes_of ps_is ∙ streams_is)) sound)
+        subst (λ (x : List ℕ). IsChange c (record { edit = change.edit; streams = contents_of ps; counts = x })) (sym counts_is)
+        (subst (λ (x : List (List ℕ)). IsChange c (record { edit = change.edit; streams = x; counts = change.counts })) (sym (ap contents_of ps_is ∙ streams_is)) sound)
 
-    pub prepared : (k : Commit) (text : Vec ℕ) (next : StoredCatalogue) (plan : Plan StoredCatalogue) (back : List Run) → k.device_sectors ≡ old.size → HasNext k
-        → catalogue_of next.list ≡ edited c change.edit (placed_segments (runs_of ps) (bytes_of ps) counts) → catalogue_at text.items ≡ Some (catalogue_of next.list) → length text.items ≡ list_size (catalogue_of next.list)
-        → plan.commit ≡ next_commit k run (length text.items) → plan.catalogue ≡ next → plan.pieces.items ≡ pieces ++ record { run = run; bytes = text } ∷ [] → back ≡ given_up c change.edit ++ k.catalogue.run ∷ []
+    pub prepared : (k : Commit) (text : List ℕ) (next : StoredCatalogue) (plan : Plan StoredCatalogue) (back : List Run) → k.device_sectors ≡ old.size → HasNext k
+        → catalogue_of next.list ≡ edited c change.edit (placed_segments (runs_of ps) (contents_of ps) counts) → catalogue_at text ≡ Some (catalogue_of next.list) → length text ≡ list_size (catalogue_of next.list)
+        → plan.commit ≡ next_commit k run (length text) → plan.catalogue ≡ next → plain_pieces plan.pieces.items ≡ pieces ++ record { run = run; bytes = text } ∷ [] → back ≡ given_up c change.edit ++ k.catalogue.run ∷ []
         → IsPrepared old new k c change plan back
     prepared k text next plan back own epoch list_is text_is size_is commit_is catalogue_is pieces_is back_is =
-        let long : length text.items ≡ list_size (outline c change) = size_is ∙ ap list_size (list_is ∙ given_is) ∙ placed_size c change sound (runs_of pieces) as_many in
+        let long : length text ≡ list_size (outline c change) = size_is ∙ ap list_size (list_is ∙ given_is) ∙ placed_size c change sound (runs_of pieces) as_many in
         record {
           next = epoch;
           few = few;
@@ -320,5 +320,5 @@ module _ (c : PlainCatalogue) (change : PlainChange) (sound : IsChange c change)
           size = long;
           commit = commit_is ∙ ap (next_commit k run) long;
           gives = back_is;
-          publishes = plan_follows old new contents bytes pieces plan.pieces.items runs run text k plan.commit limits own (omega (arith, epoch)) all runs_is contents_is (ap sector_count (bytes_is ∙ sym long)) commit_is pieces_is;
+          publishes = plan_follows old new contents bytes pieces (plain_pieces plan.pieces.items) runs run text k plan.commit limits own (omega (arith, epoch)) all runs_is contents_is (ap sector_count (bytes_is ∙ sym long)) commit_is pieces_is;
         }

@@ -1,6 +1,5 @@
 -- What a command changes: the catalogue, by an edit, and the segments that are new in it. They have no places yet.
-use Rattle.std.specs.Prelude.{◌≡◌, ◌≤◌, ◌<◌, ◌^◌, ℕ, true, List, [], ◌∷◌, ◌++◌, length, map, Option, Some, None, Ok, string_bytes}
-use Rattle.std.specs.Global.{Vec}
+use Rattle.std.specs.Prelude.{◌≡◌, ◌≤◌, ◌<◌, ◌^◌, ℕ, true, List, [], ◌∷◌, ◌++◌, length, Option, Some, None, Ok, string_bytes}
 use Rattle.std.specs.List.{list_all, AllByRecursion}
 use Rattle.sector_dev.specs.Disk.{Image}
 use Rattle.segments.specs.Sectors.{bytes_at}
@@ -10,6 +9,8 @@ use Rattle.arrow_schema.specs.View.{schema_of}
 use Rattle.arrow_schema.specs.Limits.{IsWithinLimits}
 use Rattle.cells.specs.Cell.{Cell, PlainTable}
 use Rattle.values.specs.Table.{table_from}
+use Rattle.canonical_write.specs.Pieces.{piece_streams, piece_counts}
+use Rattle.commit.specs.Placing.{AreShort}
 use Rattle.catalogue.specs.declared.limits.TheConstants.{MAX_TABLES, MAX_SEGMENT_ROWS}
 use Rattle.catalogue.specs.declared.entry.Segment.{Segment}
 use Rattle.catalogue.specs.Entries.{PlainEntry, PlainCatalogue, is_name, is_between, runs_in}
@@ -18,7 +19,9 @@ use Rattle.tables.specs.Tables.{Tables, table_at, with_table, without_table}
 use Rattle.tables.specs.Verdict.{joined}
 use Rattle.store.specs.declared.change.Edit.{Edit}
 use Rattle.store.specs.declared.change.Edit.TheVariants as edits
+use Rattle.store.specs.declared.change.SegmentRows.{SegmentRows}
 use Rattle.store.specs.declared.change.Change.{Change}
+use Rattle.store.specs.Under.{table_under}
 use Rattle.store.specs.Held.{rows_in_bytes, joined_rows}
 
 pub data PlainEdit : Type 0 where
@@ -39,8 +42,21 @@ pub record PlainChange : Type 0 where
   pub streams : List (List ℕ)
   pub counts : List ℕ
 
+-- the rows of new segments as a table
+abbrev pub rows_in : SegmentRows → PlainTable
+rows_in new = table_under new.schema new.table
+
+-- the new segments are the streams of its pieces, with the number of rows of each
+abbrev pub new_streams : Option SegmentRows → List (List ℕ)
+new_streams None = []
+new_streams (Some new) = piece_streams (rows_in new)
+
+abbrev pub new_counts : Option SegmentRows → List ℕ
+new_counts None = []
+new_counts (Some new) = piece_counts (rows_in new)
+
 abbrev pub change_of : Change → PlainChange
-change_of change = record { edit = edit_of change.edit; streams = map (λ (v : Vec ℕ). v.items) change.streams.items; counts = change.rows.items }
+change_of change = record { edit = edit_of change.edit; streams = new_streams change.new; counts = new_counts change.new }
 
 -- ---- the catalogue
 
@@ -83,6 +99,10 @@ pub record IsChange (c : PlainCatalogue) (change : PlainChange) : Type 0 where
   pub some : AllByRecursion (λ (stream : List ℕ). 1 ≤ length stream) change.streams
   pub short : AllByRecursion (λ (stream : List ℕ). length stream < 2 ^ 64) change.streams
   pub rows : list_all (is_between 1 MAX_SEGMENT_ROWS) change.counts ≡ true
+
+-- it is one if 64 bits can count the bytes of each stream, which is known of streams that were made
+abbrev pub CanChange : PlainCatalogue → PlainChange → Type 0
+CanChange c change = AreShort change.streams → IsChange c change
 
 -- ---- the tables
 

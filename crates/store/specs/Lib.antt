@@ -10,6 +10,7 @@ pub mod Held
 pub mod Fits
 pub mod Beginning
 pub mod Changes
+pub mod Under
 pub mod Deciding
 pub mod Carrying
 pub mod Applying

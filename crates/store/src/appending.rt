@@ -10,7 +10,7 @@ ghost use Rattle.commit.specs.Standing.{is_size, all_on_device};
 ghost use Rattle.values.specs.Table.{IsTable};
 ghost use Rattle.values.specs.TableView.{table_of};
 ghost use Rattle.store.specs.Calls.{is_failure};
-ghost use Rattle.store.specs.Changes.{change_of, IsChange, rows_under};
+ghost use Rattle.store.specs.Changes.{change_of, CanChange, rows_under};
 ghost use Rattle.store.specs.Deciding.{decided_behind};
 ghost use Rattle.store.specs.Reading.{OnlyReadsDevice, ended};
 ghost use Rattle.store.specs.inner.Appending.{append_of, added_to, IsAppended};
@@ -18,12 +18,13 @@ ghost use Rattle.store.specs.inner.Reading.{runs_in};
 ghost use Rattle.store.specs.inner.Tests.{Tests, decision_of};
 
 use crate::Store;
-use crate::change::{Change, Edit};
+use crate::change::{Change, Edit, SegmentRows};
 use crate::new_rows::{NewRows, pass_new};
 use crate::reading::{gather_entry, is_failure};
-use canonical_write::{encode_pieces, pieces_are_tables};
+use canonical_write::pieces_are_tables;
 use catalogue::TableEntry;
 use cells::MAX_TABLE_WEIGHT;
+use ipc_stream::Weighed;
 use sector_dev::SectorDevice;
 use std::alloc::Global;
 use tables::{Limit, Refusal};
@@ -45,24 +46,27 @@ fn decide_behind(
     alloc: Global,
     entry: &TableEntry,
     name: String,
-    new: &Table,
+    new: Table,
     weight: u64,
 ) -> Result<Change, Refusal>
-    requires table { IsTable (rows_under (plain_entry entry.now).schema (table_of new.now).rows) }
-    ensures ok { IfOk result (λ change. (c : PlainCatalogue) → entry_of c (string_bytes name) ≡ Some (plain_entry entry.now) → IsChange c (change_of change)) }
+    requires table { IsTable (rows_under (plain_entry entry.now).schema (table_of new).rows) }
+    ensures ok { IfOk result (λ change. (c : PlainCatalogue) → entry_of c (string_bytes name) ≡ Some (plain_entry entry.now) → CanChange c (change_of change)) }
     ensures answers { (decision_of result ≡ Err Refusal.OutOfMemory) ⊎ ((standing : List (List Cell))
-        → weight ≡ table_weight (plain_entry entry.now).schema (standing ++ (table_of new.now).rows)
-        → decision_of result ≡ decided_behind (string_bytes name) (record { entry = plain_entry entry.now; rows = (table_of new.now).rows }) standing) }
+        → weight ≡ table_weight (plain_entry entry.now).schema (standing ++ (table_of new).rows)
+        → decision_of result ≡ decided_behind (string_bytes name) (record { entry = plain_entry entry.now; rows = (table_of new).rows }) standing) }
     ensures no_device { IfErr result (λ e. is_failure e ≡ false) }
     ensures not_halted { IfErr result (λ e. e ≢ Refusal.Halted) }
 {
     pieces_are_tables();
     test_weight(weight)?;
-    let pieces = encode_pieces(alloc, &entry.schema, new)?;
+    let schema = entry.schema.copy(alloc)?;
+    let rows = SegmentRows {
+        table: new,
+        schema: Some(schema),
+    };
     Ok(Change {
         edit: Edit::Extend { name },
-        streams: pieces.streams,
-        rows: pieces.rows,
+        new: Some(rows),
     })
 }
 
@@ -78,7 +82,7 @@ fn append_to_entry<D: SectorDevice>(
     requires placed { all_on_device (D.size device.old) (runs_in (plain_entry entry.now).segments) ≡ true }
     requires sound { is_entry (plain_entry entry.now) ≡ true }
     ensures reads { OnlyReadsDevice D.size D.story D.failed D.tells (ended result) device.old device.new }
-    ensures ok { IfOk result (λ change. (c : PlainCatalogue) → entry_of c (string_bytes name) ≡ Some (plain_entry entry.now) → IsChange c (change_of change)) }
+    ensures ok { IfOk result (λ change. (c : PlainCatalogue) → entry_of c (string_bytes name) ≡ Some (plain_entry entry.now) → CanChange c (change_of change)) }
     ensures answers { IsAppended D.tells (shown_image (now (D.story device.old))) (string_bytes name) (added_to new (plain_entry entry.now))
         (decision_of result) }
     ensures not_halted { IfErr result (λ e. e ≢ Refusal.Halted) }
@@ -92,9 +96,8 @@ fn append_to_entry<D: SectorDevice>(
         Err(refusal) => return Err(refusal),
     };
     match passed {
-        Some(new) => {
-            let weight = standing.weight + new.weight;
-            decide_behind(alloc, entry, name, &new.table, weight)
+        Some(Weighed { table, weight }) => {
+            decide_behind(alloc, entry, name, table, standing.weight + weight)
         }
         None => Err(Refusal::TooMany(Limit::Weight)),
     }
@@ -114,7 +117,7 @@ impl<D: SectorDevice> Store<D> {
     ) -> Result<Change, Refusal>
         requires on { self.old.halted ≡ false }
         ensures reads { OnlyReadsStore D.size D.story D.failed D.tells (ended result) self.old self.new }
-        ensures ok { IfOk result (λ change. IsChange (listed_in self.old) (change_of change)) }
+        ensures ok { IfOk result (λ change. CanChange (listed_in self.old) (change_of change)) }
         ensures answers { IsAnswered D.tells (shown_image (now (D.story (device_of self.old)))) (listed_in self.old)
             (append_of (string_bytes name) new) (decision_of result) }
         ensures not_halted { IfErr result (λ e. e ≢ Refusal.Halted) }

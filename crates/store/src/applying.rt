@@ -4,7 +4,7 @@ ghost use Rattle.sector_dev.specs.Disk.{now, shown_image};
 ghost use Rattle.sector_dev.specs.Time.{OnlyReads};
 ghost use Rattle.tables.specs.Tables.{Tables};
 ghost use Rattle.tables.specs.View.{command_of};
-ghost use Rattle.store.specs.Changes.{change_of, IsChange};
+ghost use Rattle.store.specs.Changes.{change_of, CanChange};
 ghost use Rattle.store.specs.Deciding.{IsAnswered, reads_device};
 ghost use Rattle.store.specs.Fits.{listed_in};
 ghost use Rattle.store.specs.Reading.{OnlyReadsStore, ended};
@@ -31,14 +31,14 @@ impl<D: SectorDevice> Store<D> {
         requires on { is_halted self.old ≡ false }
         ensures reads { OnlyReadsStore D.size D.story D.failed D.tells (ended result) self.old self.new }
         ensures still { reads_device (command_of command) ≡ false → self.new ≡ self.old }
-        ensures ok { IfOk result (λ change. IsChange (listed_in self.old) (change_of change)) }
+        ensures ok { IfOk result (λ change. CanChange (listed_in self.old) (change_of change)) }
         ensures not_halted { IfErr result (λ e. e ≢ Refusal.Halted) }
         ensures answers { IsAnswered D.tells (shown_image (now (D.story (device_of self.old)))) (listed_in self.old) (command_of command)
             (decision_of result) }
     {
         let catalogue = &self.opened.catalogue.list;
         match command {
-            Command::Create(new) => decide_create(alloc, catalogue, new),
+            Command::Create(new) => decide_create(catalogue, new),
             Command::ImportStream { name, bytes } => decide_import(alloc, catalogue, name, bytes),
             Command::AppendStream { name, bytes } => {
                 self.decide_append(alloc, name, NewRows::Stream(bytes))
@@ -47,8 +47,8 @@ impl<D: SectorDevice> Store<D> {
                 self.decide_append(alloc, name, NewRows::Given(rows))
             }
             Command::SaveAs { from, to, query } => self.decide_save(alloc, from, to, query),
-            Command::Rename { from, to } => decide_rename(alloc, catalogue, from, to),
-            Command::Drop { name } => decide_drop(alloc, catalogue, name),
+            Command::Rename { from, to } => decide_rename(catalogue, from, to),
+            Command::Drop { name } => decide_drop(catalogue, name),
         }
     }
 
@@ -89,7 +89,7 @@ impl<D: SectorDevice> Store<D> {
         commands_bring_tables(&command);
         decisions_are_verdicts();
         match self.decide(alloc, command) {
-            Ok(change) => self.carry_out(alloc, change),
+            Ok(change) => self.carry_out(alloc, &change),
             Err(refusal) => Err(refusal),
         }
     }

@@ -2,40 +2,44 @@
 ghost use Rattle.std.specs.Prelude.{◌≡◌, ◌≢◌, ◌≤◌, ◌++◌, ◌∷◌, [], ℕ, Ok, Err, Some, OnErr, IfOk, IfErr, length, true};
 ghost use Rattle.std.specs.List.{list_all};
 ghost use Rattle.segments.specs.Usages.{IsUsedIn, SameUsages};
+ghost use Rattle.segments.specs.Pieces.{bytes_of_parts, plain_pieces};
 ghost use Rattle.segments.specs.Writing.{runs_of};
+ghost use Rattle.canonical_write.specs.View.{joined_parts, streams_in};
 ghost use Rattle.catalogue.specs.declared.limits.TheConstants.{MAX_SEGMENTS};
 ghost use Rattle.catalogue.specs.Entries.{is_segment, IsCatalogue, segment_count};
 ghost use Rattle.catalogue.specs.Text.{list_size};
 ghost use Rattle.catalogue.specs.Reading.{catalogue_at};
 ghost use Rattle.catalogue.specs.View.{catalogue_of};
-ghost use Rattle.commit.specs.Placing.{Takes};
+ghost use Rattle.commit.specs.Placing.{Takes, contents_of, plain_contents};
 ghost use Rattle.commit.specs.Standing.{is_size};
 ghost use Rattle.commit.specs.laws.Taking.{GivesAll};
-ghost use Rattle.store.specs.Changes.{change_of, edit_of, IsChange, edited, given_up, placed_segments};
+ghost use Rattle.store.specs.Changes.{change_of, edit_of, CanChange, IsChange, edited, given_up, placed_segments};
 ghost use Rattle.store.specs.Carrying.{HasNext, asked_sizes, IsCarried, outline};
-ghost use Rattle.store.specs.inner.Prepared.{bytes_of, taking_refusal, IsPrepared};
+ghost use Rattle.store.specs.inner.Prepared.{taking_refusal, IsPrepared};
 
 use crate::Store;
 use crate::change::{Change, Edit};
 use crate::editing::{edited, given_up, segments_after, segments_of, unplaced};
 use crate::stored::StoredCatalogue;
+use array_build::Buffer;
+use canonical_write::EncodedPieces;
 use catalogue::{MAX_SEGMENTS, encode, one_text_each, texts_have_these_sizes};
 use commit::{Commit, Opened, Plan, give_runs, place, plan_next, publish};
 use sector_dev::SectorDevice;
-use segments::{FreeMap, Piece, Run, TakeError};
+use segments::{FreeMap, Part, Piece, Run, TakeError};
 use std::alloc::{AllocError, Global};
 use tables::{Limit, Refusal};
 
 // A plan that can be published, and the runs that go back once it was.
 #[derive(Drop)]
-struct Prepared {
-    plan: Plan<StoredCatalogue>,
+struct Prepared<'a> {
+    plan: Plan<'a, StoredCatalogue>,
     back: Vec<Run>,
 }
 
 // Gives the runs of these pieces back.
-fn give_pieces(map: &mut FreeMap, pieces: &[Piece])
-    ensures { GivesAll map.old map.new (runs_of pieces.now) }
+fn give_pieces(map: &mut FreeMap, pieces: &[Piece<'_>])
+    ensures { GivesAll map.old map.new (runs_of (plain_pieces pieces.now)) }
 {
     for piece in pieces {
         map.give(piece.run);
@@ -56,14 +60,52 @@ fn back_after(
     Ok(back)
 }
 
+// Bytes and more parts behind them, where they stand.
+fn lent_parts<'a>(
+    alloc: Global,
+    first: &'a [u8],
+    parts: &'a [Buffer<'_>],
+) -> Result<Vec<Part<'a>>, AllocError>
+    ensures { IfOk result (λ lent. bytes_of_parts lent.items ≡ first.now ++ joined_parts parts.now) }
+{
+    let mut lent = Vec::new(alloc);
+    lent.push(Part::Lent(first))?;
+    for part in parts {
+        lent.push(Part::Lent(part.bytes()))?;
+    }
+    Ok(lent)
+}
+
+// The streams of pieces, where their parts stand.
+fn lent_streams<'a>(
+    alloc: Global,
+    pieces: &'a EncodedPieces<'_>,
+) -> Result<Vec<Vec<Part<'a>>>, AllocError>
+    ensures { IfOk result (λ lent. plain_contents lent.items ≡ streams_in pieces.now) }
+{
+    let mut lent = Vec::with_capacity(alloc, pieces.parts.len())?;
+    for parts in &pieces.parts {
+        lent.push(lent_parts(alloc, &pieces.schema_message, parts)?)?;
+    }
+    Ok(lent)
+}
+
 // How many bytes the text of the new catalogue has. Where its new segments lie makes no difference.
-fn text_size(alloc: Global, stored: &StoredCatalogue, change: &Change) -> Result<usize, AllocError>
+fn text_size(
+    alloc: Global,
+    stored: &StoredCatalogue,
+    change: &Change,
+    streams: &[Vec<Part<'_>>],
+    rows: &[u64],
+) -> Result<usize, AllocError>
     requires sound { IsChange (catalogue_of stored.now.list) (change_of change.now) }
+    requires streams { plain_contents streams.now ≡ (change_of change.now).streams }
+    requires rows { rows.now ≡ (change_of change.now).counts }
     requires stands { IsCatalogue (outline (catalogue_of stored.now.list) (change_of change.now)) }
     ensures { IfOk result (λ size. size ≡ list_size (outline (catalogue_of stored.now.list) (change_of change.now))) }
 {
     texts_have_these_sizes();
-    let segments = unplaced(alloc, &change.streams, &change.rows)?;
+    let segments = unplaced(alloc, streams, rows)?;
     let list = edited(alloc, &stored.list, &change.edit, &segments)?;
     let text = encode(alloc, &list)?;
     Ok(text.len())
@@ -74,16 +116,19 @@ fn next_catalogue(
     alloc: Global,
     stored: &StoredCatalogue,
     edit: &Edit,
-    pieces: &[Piece],
+    pieces: &[Piece<'_>],
     rows: &[u64],
 ) -> Result<(StoredCatalogue, Vec<u8>), AllocError>
     requires rows { length pieces.now ≡ length rows.now }
-    requires sound { list_all is_segment (placed_segments (runs_of pieces.now) (bytes_of pieces.now) rows.now) ≡ true }
+    requires sound { list_all is_segment
+        (placed_segments (runs_of (plain_pieces pieces.now)) (contents_of (plain_pieces pieces.now)) rows.now) ≡ true }
     requires stands { IsCatalogue (edited (catalogue_of stored.now.list) (edit_of edit.now)
-        (placed_segments (runs_of pieces.now) (bytes_of pieces.now) rows.now)) }
-    requires change { IsChange (catalogue_of stored.now.list) (record { edit = edit_of edit.now; streams = bytes_of pieces.now; counts = rows.now }) }
+        (placed_segments (runs_of (plain_pieces pieces.now)) (contents_of (plain_pieces pieces.now)) rows.now)) }
+    requires change { IsChange (catalogue_of stored.now.list)
+        (record { edit = edit_of edit.now; streams = contents_of (plain_pieces pieces.now); counts = rows.now }) }
     ensures catalogue { IfOk result (λ next. catalogue_of next.0.list
-        ≡ edited (catalogue_of stored.now.list) (edit_of edit.now) (placed_segments (runs_of pieces.now) (bytes_of pieces.now) rows.now)) }
+        ≡ edited (catalogue_of stored.now.list) (edit_of edit.now)
+        (placed_segments (runs_of (plain_pieces pieces.now)) (contents_of (plain_pieces pieces.now)) rows.now)) }
     ensures found { IfOk result (λ next. catalogue_at next.1.items ≡ Some (catalogue_of next.0.list)) }
     ensures size { IfOk result (λ next. length next.1.items ≡ list_size (catalogue_of next.0.list)) }
 {
@@ -106,33 +151,32 @@ fn taking_refusal(error: TakeError) -> Refusal
 }
 
 // Takes runs for the streams and for the text of the new catalogue, and makes the plan. After an error each run is used for what it was.
-fn plan_change(
+fn plan_change<'a>(
     alloc: Global,
     map: &mut FreeMap,
     commit: Commit,
     stored: &StoredCatalogue,
-    change: Change,
-) -> Result<Prepared, TakeError>
+    change: &Change,
+    pieces: &'a EncodedPieces<'_>,
+) -> Result<Prepared<'a>, TakeError>
     requires limits { is_size map.old.size ≡ true }
     requires own { commit.device_sectors ≡ map.old.size }
     requires next { HasNext commit }
-    requires sound { IsChange (catalogue_of stored.now.list) (change_of change) }
-    requires few { segment_count (outline (catalogue_of stored.now.list) (change_of change)) ≤ MAX_SEGMENTS }
-    ensures ok { IfOk result (λ p. IsPrepared map.old map.new commit (catalogue_of stored.now.list) (change_of change) p.plan p.back.items) }
+    requires sound { IsChange (catalogue_of stored.now.list) (change_of change.now) }
+    requires streams { streams_in pieces.now ≡ (change_of change.now).streams }
+    requires counts { pieces.now.rows.items ≡ (change_of change.now).counts }
+    requires few { segment_count (outline (catalogue_of stored.now.list) (change_of change.now)) ≤ MAX_SEGMENTS }
+    ensures ok { IfOk result (λ p. IsPrepared map.old map.new commit (catalogue_of stored.now.list) (change_of change.now) p.plan p.back.items) }
     ensures no_room { IfErr result (λ e. (n : ℕ) → e ≡ TakeError.NoRoom n
-        → Takes map.old.size (IsUsedIn map.old.entries) (asked_sizes (catalogue_of stored.now.list) (change_of change)) (Err n)) }
+        → Takes map.old.size (IsUsedIn map.old.entries) (asked_sizes (catalogue_of stored.now.list) (change_of change.now)) (Err n)) }
     ensures size { map.new.size ≡ map.old.size }
     ensures err { OnErr result (SameUsages map.old.entries map.new.entries) }
 {
     let back = back_after(alloc, commit, stored, &change.edit)?;
-    let text_bytes = text_size(alloc, stored, &change)?;
-    let Change {
-        edit,
-        streams,
-        rows,
-    } = change;
+    let streams = lent_streams(alloc, pieces)?;
+    let text_bytes = text_size(alloc, stored, change, &streams, &pieces.rows)?;
     let places = place(alloc, map, streams, text_bytes)?;
-    match next_catalogue(alloc, stored, &edit, &places.pieces, &rows) {
+    match next_catalogue(alloc, stored, &change.edit, &places.pieces, &pieces.rows) {
         Ok((next, text)) => Ok(Prepared {
             plan: plan_next(commit, next, places, text),
             back,
@@ -145,18 +189,21 @@ fn plan_change(
 }
 
 // What can be tested before anything is placed, and then the plan.
-fn prepare(
+fn prepare<'a>(
     alloc: Global,
     map: &mut FreeMap,
     commit: Commit,
     stored: &StoredCatalogue,
-    change: Change,
-) -> Result<Prepared, Refusal>
+    change: &Change,
+    pieces: &'a EncodedPieces<'_>,
+) -> Result<Prepared<'a>, Refusal>
     requires limits { is_size map.old.size ≡ true }
     requires own { commit.device_sectors ≡ map.old.size }
-    requires sound { IsChange (catalogue_of stored.now.list) (change_of change) }
-    ensures ok { IfOk result (λ p. IsPrepared map.old map.new commit (catalogue_of stored.now.list) (change_of change) p.plan p.back.items) }
-    ensures why { IfErr result (λ r. IsCarried map.old.size (IsUsedIn map.old.entries) commit (catalogue_of stored.now.list) (change_of change)
+    requires sound { IsChange (catalogue_of stored.now.list) (change_of change.now) }
+    requires streams { streams_in pieces.now ≡ (change_of change.now).streams }
+    requires counts { pieces.now.rows.items ≡ (change_of change.now).counts }
+    ensures ok { IfOk result (λ p. IsPrepared map.old map.new commit (catalogue_of stored.now.list) (change_of change.now) p.plan p.back.items) }
+    ensures why { IfErr result (λ r. IsCarried map.old.size (IsUsedIn map.old.entries) commit (catalogue_of stored.now.list) (change_of change.now)
         (Err r) commit (catalogue_of stored.now.list)) }
     ensures device { IfErr result (λ r. r ≢ Refusal.Device) }
     ensures not_halted { IfErr result (λ r. r ≢ Refusal.Halted) }
@@ -166,21 +213,21 @@ fn prepare(
     if commit.epoch == u64::MAX {
         return Err(Refusal::TooMany(Limit::Epochs));
     }
-    let new = change.streams.len() as u64;
-    if segments_after(&stored.list, &change.edit, new) > MAX_SEGMENTS {
+    let count = pieces.parts.len() as u64;
+    if segments_after(&stored.list, &change.edit, count) > MAX_SEGMENTS {
         return Err(Refusal::TooMany(Limit::Segments));
     }
-    match plan_change(alloc, map, commit, stored, change) {
+    match plan_change(alloc, map, commit, stored, change, pieces) {
         Ok(prepared) => Ok(prepared),
         Err(error) => Err(taking_refusal(error)),
     }
 }
 
 // What was published rules, and the runs that it gave up go back. It takes no memory.
-fn settle(opened: &mut Opened<StoredCatalogue>, prepared: Prepared)
-    ensures commit { opened.new.commit ≡ prepared.plan.commit }
-    ensures catalogue { opened.new.catalogue ≡ prepared.plan.catalogue }
-    ensures map { GivesAll opened.old.map opened.new.map prepared.back.items }
+fn settle(opened: &mut Opened<StoredCatalogue>, prepared: Prepared<'_>)
+    ensures commit { opened.new.commit ≡ prepared.entry.plan.commit }
+    ensures catalogue { opened.new.catalogue ≡ prepared.entry.plan.catalogue }
+    ensures map { GivesAll opened.old.map opened.new.map prepared.entry.back.items }
 {
     let Prepared { plan, back } = prepared;
     let Plan {
@@ -206,41 +253,43 @@ impl<D: SectorDevice> Store<D> {
     ghost use Rattle.store.specs.Deciding.{IsDecided};
     ghost use Rattle.store.specs.Applying.{GoesOn, reply_of, EndsAs, IsKept, Writes, HasWritten};
 
-    /// Carries out a change of the catalogue: takes runs, writes the new segments and the new catalogue, and publishes them.
+    /// Carries out a change of the catalogue: makes the streams of the new segments, takes runs, writes these and the new catalogue, and publishes them.
     ///
     /// # Errors
     /// `TooMany(Epochs)`, `TooMany(Segments)`, `NoRoom` and `OutOfMemory`: nothing has changed. `Device`: the store is halted.
-    pub(crate) fn carry_out(&mut self, alloc: Global, change: Change) -> Result<(), Refusal>
-        requires sound { IsChange (listed_in self.old) (change_of change) }
+    pub(crate) fn carry_out(&mut self, alloc: Global, change: &Change) -> Result<(), Refusal>
+        requires sound { CanChange (listed_in self.old) (change_of change.now) }
         requires on { self.old.halted ≡ false }
         ensures size { D.size (device_of self.new) ≡ D.size (device_of self.old) }
         ensures count { D.failed (device_of self.new) ≡ counted (reply_of result) (D.failed (device_of self.old)) }
-        ensures carried { EndsAs D.size self.old (Ok (change_of change)) result self.new }
+        ensures carried { EndsAs D.size self.old (Ok (change_of change.now)) result self.new }
         ensures halts { (self.new.halted ≡ true) ↔ (result ≡ Err Refusal.Device) }
         ensures not_halted { IfErr result (λ e. e ≢ Refusal.Halted) }
         ensures kept { IfErr result (λ e. IsKept self.old self.new) }
         ensures quiet { IfErr result (λ e. e ≢ Refusal.Device → D.story (device_of self.new) ≡ D.story (device_of self.old)) }
         // On a store that lies on its disk, where a command asks for the change.
         ensures writes { D.tells ≡ true → (c : PlainCommand) → IsOnDisk D.size D.story self.old
-            → IsDecided true (shown_image (now (D.story (device_of self.old)))) (listed_in self.old) c (Ok (change_of change))
+            → IsDecided true (shown_image (now (D.story (device_of self.old)))) (listed_in self.old) c (Ok (change_of change.now))
             → Writes D.size D.story self.old c self.new }
         ensures written { OnOk result (D.tells ≡ true → (c : PlainCommand) → IsOnDisk D.size D.story self.old
-            → IsDecided true (shown_image (now (D.story (device_of self.old)))) (listed_in self.old) c (Ok (change_of change))
+            → IsDecided true (shown_image (now (D.story (device_of self.old)))) (listed_in self.old) c (Ok (change_of change.now))
             → HasWritten D.size D.story self.old c self.new) }
         // On a store whose tables the machine knows, where the change makes what a command makes: the machine goes on by the command.
         ensures goes { D.tells ≡ true → (base : Tables) (m : Machine) (c : PlainCommand) (new : Tables)
             → StoreFits D.size D.story base m self.old → m.phase ≡ running
             → verdict (tables_now (setting_of (D.size (device_of self.old)) base) m) c ≡ Ok new
-            → MakesOf (tables_now (setting_of (D.size (device_of self.old)) base) m) (change_of change) new
-            → IsDecided true (shown_image (now (D.story (device_of self.old)))) (listed_in self.old) c (Ok (change_of change))
+            → MakesOf (tables_now (setting_of (D.size (device_of self.old)) base) m) (change_of change.now) new
+            → IsDecided true (shown_image (now (D.story (device_of self.old)))) (listed_in self.old) c (Ok (change_of change.now))
             → GoesOn D.size D.story D.failed base m (apply_call c) (reply_of result) self.old self.new }
     {
+        let pieces = change.pieces(alloc)?;
         let prepared = prepare(
             alloc,
             &mut self.opened.map,
             self.opened.commit,
             &self.opened.catalogue,
             change,
+            &pieces,
         )?;
         match publish(&mut self.device, &self.opened, &prepared.plan) {
             Ok(()) => {

@@ -7,15 +7,15 @@ ghost use Rattle.catalogue.specs.View.{catalogue_of};
 ghost use Rattle.tables.specs.Commands.{create, import_stream, rename, drop_table};
 ghost use Rattle.tables.specs.Verdict.{bad_name, too_many_bytes, other_shape, import_tests};
 ghost use Rattle.store.specs.Calls.{is_failure};
-ghost use Rattle.store.specs.Changes.{change_of, edit_of, IsChange};
+ghost use Rattle.store.specs.Changes.{change_of, edit_of, CanChange};
 ghost use Rattle.store.specs.Deciding.{IsAnswered, has_entry, missing_in, taken_in, full_in, create_tests, rename_tests};
 ghost use Rattle.values.specs.TableView.{table_of};
 ghost use Rattle.store.specs.inner.Saving.{IsPut};
 ghost use Rattle.store.specs.inner.Tests.{Tests, decision_of};
 
-use crate::change::{Change, Edit};
+use crate::change::{Change, Edit, SegmentRows};
 use arrow_schema::{Schema, one_shape_is_decided, same_shape};
-use canonical_write::{encode_own_pieces, pieces_are_tables};
+use canonical_write::pieces_are_tables;
 use catalogue::{Catalogue, MAX_TABLES, counts_after_changes, is_name};
 use ipc_stream::decode;
 use std::alloc::{AllocError, Global};
@@ -122,36 +122,30 @@ fn test_rename(catalogue: &Catalogue, from: &str, to: &str) -> Result<(), Refusa
 }
 
 // A change without new segments.
-fn change_of_names(alloc: Global, edit: Edit) -> Change
+fn change_of_names(edit: Edit) -> Change
     ensures { change_of result ≡ record { edit = edit_of edit; streams = []; counts = [] } }
 {
-    Change {
-        edit,
-        streams: Vec::new(alloc),
-        rows: Vec::new(alloc),
-    }
+    Change { edit, new: None }
 }
 
 // A table at a name: its pieces are the new segments.
-pub(crate) fn put_table(alloc: Global, name: String, table: &Table) -> Result<Change, AllocError>
-    ensures { IfOk result (λ change. IsPut (string_bytes name) (table_of table.now) (change_of change)) }
+pub(crate) fn put_table(alloc: Global, name: String, table: Table) -> Result<Change, AllocError>
+    ensures { IfOk result (λ change. IsPut (string_bytes name) (table_of table) (change_of change)) }
 {
     let schema = table.schema().copy(alloc)?;
-    let pieces = encode_own_pieces(alloc, table)?;
+    let rows = SegmentRows {
+        table,
+        schema: None,
+    };
     Ok(Change {
         edit: Edit::Put { name, schema },
-        streams: pieces.streams,
-        rows: pieces.rows,
+        new: Some(rows),
     })
 }
 
 // A table without rows.
-pub(crate) fn decide_create(
-    alloc: Global,
-    catalogue: &Catalogue,
-    new: NewTable,
-) -> Result<Change, Refusal>
-    ensures ok { IfOk result (λ change. IsChange (catalogue_of catalogue.now) (change_of change)) }
+pub(crate) fn decide_create(catalogue: &Catalogue, new: NewTable) -> Result<Change, Refusal>
+    ensures ok { IfOk result (λ change. CanChange (catalogue_of catalogue.now) (change_of change)) }
     ensures no_device { IfErr result (λ e. is_failure e ≡ false) }
     ensures not_halted { IfErr result (λ e. e ≢ Refusal.Halted) }
     ensures answers { (tells : Bool) (image : Image) → IsAnswered tells image (catalogue_of catalogue.now)
@@ -160,7 +154,7 @@ pub(crate) fn decide_create(
     counts_after_changes();
     test_create(catalogue, &new.name)?;
     let NewTable { name, schema } = new;
-    Ok(change_of_names(alloc, Edit::Put { name, schema }))
+    Ok(change_of_names(Edit::Put { name, schema }))
 }
 
 // The table that a stream means, in place of one that stands there.
@@ -170,7 +164,7 @@ pub(crate) fn decide_import(
     name: String,
     bytes: Vec<u8>,
 ) -> Result<Change, Refusal>
-    ensures ok { IfOk result (λ change. IsChange (catalogue_of catalogue.now) (change_of change)) }
+    ensures ok { IfOk result (λ change. CanChange (catalogue_of catalogue.now) (change_of change)) }
     ensures no_device { IfErr result (λ e. is_failure e ≡ false) }
     ensures not_halted { IfErr result (λ e. e ≢ Refusal.Halted) }
     ensures answers { (tells : Bool) (image : Image) → IsAnswered tells image (catalogue_of catalogue.now)
@@ -181,38 +175,33 @@ pub(crate) fn decide_import(
     test_import(&name, &bytes)?;
     let table = decode(alloc, bytes)?;
     test_room(catalogue, &name)?;
-    Ok(put_table(alloc, name, &table)?)
+    Ok(put_table(alloc, name, table)?)
 }
 
 // The table under another name.
 pub(crate) fn decide_rename(
-    alloc: Global,
     catalogue: &Catalogue,
     from: String,
     to: String,
 ) -> Result<Change, Refusal>
-    ensures ok { IfOk result (λ change. IsChange (catalogue_of catalogue.now) (change_of change)) }
+    ensures ok { IfOk result (λ change. CanChange (catalogue_of catalogue.now) (change_of change)) }
     ensures no_device { IfErr result (λ e. is_failure e ≡ false) }
     ensures not_halted { IfErr result (λ e. e ≢ Refusal.Halted) }
     ensures answers { (tells : Bool) (image : Image) → IsAnswered tells image (catalogue_of catalogue.now)
         (rename (string_bytes from) (string_bytes to)) (decision_of result) }
 {
     test_rename(catalogue, &from, &to)?;
-    Ok(change_of_names(alloc, Edit::Move { from, to }))
+    Ok(change_of_names(Edit::Move { from, to }))
 }
 
 // No table of the name any more.
-pub(crate) fn decide_drop(
-    alloc: Global,
-    catalogue: &Catalogue,
-    name: String,
-) -> Result<Change, Refusal>
-    ensures ok { IfOk result (λ change. IsChange (catalogue_of catalogue.now) (change_of change)) }
+pub(crate) fn decide_drop(catalogue: &Catalogue, name: String) -> Result<Change, Refusal>
+    ensures ok { IfOk result (λ change. CanChange (catalogue_of catalogue.now) (change_of change)) }
     ensures no_device { IfErr result (λ e. is_failure e ≡ false) }
     ensures not_halted { IfErr result (λ e. e ≢ Refusal.Halted) }
     ensures answers { (tells : Bool) (image : Image) → IsAnswered tells image (catalogue_of catalogue.now)
         (drop_table (string_bytes name)) (decision_of result) }
 {
     test_there(catalogue, &name)?;
-    Ok(change_of_names(alloc, Edit::Remove { name }))
+    Ok(change_of_names(Edit::Remove { name }))
 }

@@ -1,10 +1,10 @@
 // Edits of a catalogue, and the segments that are new in it.
 ghost use Rattle.std.specs.Prelude.{◌≡◌, ◌<◌, ◌^◌, ℕ, true, List, map, length, string_bytes, IfOk};
-ghost use Rattle.std.specs.Global.{Vec};
 ghost use Rattle.std.specs.List.{list_all};
 ghost use Rattle.arrow_schema.specs.View.{schema_of};
-ghost use Rattle.segments.specs.declared.piece.Piece.{Piece};
+ghost use Rattle.segments.specs.Pieces.{plain_pieces};
 ghost use Rattle.segments.specs.Writing.{runs_of};
+ghost use Rattle.commit.specs.Placing.{contents_of, plain_contents};
 ghost use Rattle.catalogue.specs.declared.entry.Segment.{Segment};
 ghost use Rattle.catalogue.specs.Entries.{plain_entry, is_segment, segment_count, IsCatalogue};
 ghost use Rattle.catalogue.specs.View.{catalogue_of};
@@ -16,7 +16,7 @@ use crate::change::Edit;
 use arrow_schema::Schema;
 use catalogue::{Catalogue, Segment, TableEntry};
 use sector_dev::SECTOR_BYTES;
-use segments::{Extent, Piece, Run};
+use segments::{Extent, Part, Piece, Run, byte_count};
 use std::alloc::{AllocError, Global};
 
 fn new_entry(
@@ -116,20 +116,19 @@ pub(crate) fn segments_after(catalogue: &Catalogue, edit: &Edit, new: u64) -> u6
 // The segments of streams that go into these runs, with so many rows each.
 pub(crate) fn segments_of(
     alloc: Global,
-    pieces: &[Piece],
+    pieces: &[Piece<'_>],
     rows: &[u64],
 ) -> Result<Vec<Segment>, AllocError>
     requires { length pieces.now ≡ length rows.now }
-    ensures { IfOk result (λ segments. segments.items ≡ placed_segments (runs_of pieces.now) (map (λ (p : Piece). p.bytes.items) pieces.now) rows.now) }
+    ensures { IfOk result (λ segments. segments.items
+        ≡ placed_segments (runs_of (plain_pieces pieces.now)) (contents_of (plain_pieces pieces.now)) rows.now) }
 {
     let mut segments = Vec::with_capacity(alloc, pieces.len())?;
     for (place, piece) in pieces.iter().enumerate() {
-        let extent = Extent {
-            run: piece.run,
-            bytes: piece.bytes.len() as u64,
-        };
+        let bytes = byte_count(&piece.parts).ok_or(AllocError)?;
+        let run = piece.run;
         segments.push(Segment {
-            place: extent,
+            place: Extent { run, bytes },
             rows: rows[place],
         })?;
     }
@@ -139,23 +138,21 @@ pub(crate) fn segments_of(
 // The same of streams that have no places yet.
 pub(crate) fn unplaced(
     alloc: Global,
-    streams: &[Vec<u8>],
+    streams: &[Vec<Part<'_>>],
     rows: &[u64],
 ) -> Result<Vec<Segment>, AllocError>
     requires { length streams.now ≡ length rows.now }
-    ensures { IfOk result (λ segments. segments.items ≡ unplaced (map (λ (v : Vec ℕ). v.items) streams.now) rows.now) }
+    ensures { IfOk result (λ segments. segments.items ≡ unplaced (plain_contents streams.now) rows.now) }
 {
     let mut segments = Vec::with_capacity(alloc, streams.len())?;
-    for (place, stream) in streams.iter().enumerate() {
+    for (place, parts) in streams.iter().enumerate() {
+        let bytes = byte_count(parts).ok_or(AllocError)?;
         let run = Run {
             start: 0,
-            count: stream.len().div_ceil(SECTOR_BYTES) as u64,
+            count: bytes.div_ceil(SECTOR_BYTES as u64),
         };
         segments.push(Segment {
-            place: Extent {
-                run,
-                bytes: stream.len() as u64,
-            },
+            place: Extent { run, bytes },
             rows: rows[place],
         })?;
     }

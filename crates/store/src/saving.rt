@@ -14,7 +14,7 @@ ghost use Rattle.tables.specs.Verdict.{empty_table};
 ghost use Rattle.values.specs.Table.{IsTable};
 ghost use Rattle.values.specs.TableView.{table_of};
 ghost use Rattle.store.specs.Calls.{is_failure};
-ghost use Rattle.store.specs.Changes.{change_of, IsChange};
+ghost use Rattle.store.specs.Changes.{change_of, CanChange};
 ghost use Rattle.store.specs.Deciding.{create_tests, unselected, selected_entry, decided_selection};
 ghost use Rattle.store.specs.Reading.{OnlyReadsDevice, ended};
 ghost use Rattle.store.specs.inner.Reading.{runs_in};
@@ -96,7 +96,7 @@ fn put_selection(
 {
     selection_is_a_table();
     match select(alloc, standing, query) {
-        Ok(table) => Ok(put_table(alloc, to, &table)?),
+        Ok(table) => Ok(put_table(alloc, to, table)?),
         Err(error) => Err(Refusal::from(error)),
     }
 }
@@ -114,7 +114,7 @@ fn save_from_entry<D: SectorDevice>(
     requires placed { all_on_device (D.size device.old) (runs_in (plain_entry entry.now).segments) ≡ true }
     requires sound { is_entry (plain_entry entry.now) ≡ true }
     ensures reads { OnlyReadsDevice D.size D.story D.failed D.tells (ended result) device.old device.new }
-    ensures ok { IfOk result (λ change. IsChange (catalogue_of catalogue.now) (change_of change)) }
+    ensures ok { IfOk result (λ change. CanChange (catalogue_of catalogue.now) (change_of change)) }
     ensures answers { IsSelected D.tells (shown_image (now (D.story device.old))) (string_bytes to) (query_in query.now)
         (selected_entry (catalogue_of catalogue.now) (string_bytes to) (query_in query.now) (plain_entry entry.now)) (decision_of result) }
     ensures not_halted { IfErr result (λ e. e ≢ Refusal.Halted) }
@@ -145,7 +145,7 @@ impl<D: SectorDevice> Store<D> {
     ) -> Result<Change, Refusal>
         requires on { self.old.halted ≡ false }
         ensures reads { OnlyReadsStore D.size D.story D.failed D.tells (ended result) self.old self.new }
-        ensures ok { IfOk result (λ change. IsChange (listed_in self.old) (change_of change)) }
+        ensures ok { IfOk result (λ change. CanChange (listed_in self.old) (change_of change)) }
         ensures answers { IsAnswered D.tells (shown_image (now (D.story (device_of self.old)))) (listed_in self.old)
             (save_as (string_bytes from) (string_bytes to) (query_in query)) (decision_of result) }
         ensures not_halted { IfErr result (λ e. e ≢ Refusal.Halted) }

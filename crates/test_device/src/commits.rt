@@ -1,14 +1,15 @@
 // A store on a device in memory that names one segment: each call fails or stops, and what a stop leaves is opened again.
 ghost use Rattle.std.specs.Prelude.{◌≡◌, IfOk, IfSome, length};
 ghost use Rattle.sector_dev.specs.View.{size_of};
-ghost use Rattle.commit.specs.Placing.{AreSome};
+ghost use Rattle.segments.specs.Pieces.{plain_pieces};
+ghost use Rattle.commit.specs.Placing.{AreSome, plain_contents};
 ghost use Rattle.commit.specs.Publishing.{IsPlan};
 ghost use Rattle.test_device.specs.Few.{IsOn};
 
 use crate::few::Few;
 use commit::{OpenError, Opened, Plan, format, give_runs, place, plan_next, publish, recover};
 use sector_dev::{Choice, ModelDevice, SectorDevice};
-use segments::{Run, read_run};
+use segments::{Part, Run, read_run};
 use std::alloc::{AllocError, Global};
 use std::process::Abort;
 
@@ -28,12 +29,14 @@ pub(crate) fn formatted(alloc: Global, device: &mut ModelDevice) -> Option<Opene
 }
 
 // A segment that this byte fills.
-fn segment_of(alloc: Global, byte: u8) -> Result<Vec<Vec<u8>>, AllocError>
-    ensures { IfOk result (λ contents. AreSome contents.items) }
+fn segment_of<'a>(alloc: Global, byte: u8) -> Result<Vec<Vec<Part<'a>>>, AllocError>
+    ensures { IfOk result (λ contents. AreSome (plain_contents contents.items)) }
 {
     let bytes = Vec::from_slice(alloc, &[byte; 600])?;
+    let mut parts = Vec::new(alloc);
+    parts.push(Part::Made(bytes))?;
     let mut contents = Vec::new(alloc);
-    contents.push(bytes)?;
+    contents.push(parts)?;
     Ok(contents)
 }
 
@@ -47,9 +50,9 @@ fn text_of(alloc: Global, run: Run) -> Result<Vec<u8>, AllocError>
 }
 
 // The plan of a store in which a segment that this byte fills stands alone.
-fn plan_one(alloc: Global, store: &mut Opened<Few>, byte: u8) -> Option<Plan<Few>>
+fn plan_one<'a>(alloc: Global, store: &mut Opened<Few>, byte: u8) -> Option<Plan<'a, Few>>
     requires { IsOn store.old.map.size store.old }
-    ensures plan { IfSome result (λ plan. IsPlan store.old.map.size store.old.commit plan.commit plan.pieces.items) }
+    ensures plan { IfSome result (λ plan. IsPlan store.old.map.size store.old.commit plan.commit (plain_pieces plan.pieces.items)) }
     ensures sectors { IfSome result (λ plan. plan.commit.device_sectors ≡ store.old.map.size) }
     ensures commit { store.new.commit ≡ store.old.commit }
     ensures size { store.new.map.size ≡ store.old.map.size }

@@ -1,6 +1,6 @@
 // Runs of a device in memory.
 use sector_dev::{ModelDevice, SectorDevice};
-use segments::{Piece, Run, read_run, write_run, write_runs};
+use segments::{Part, Piece, Run, byte_count, read_run, write_run, write_runs};
 use std::alloc::{AllocError, Global};
 use std::process::Abort;
 
@@ -15,17 +15,27 @@ fn are_read(rt: &impl Abort, alloc: Global, device: &mut ModelDevice, start: u64
     }
 }
 
+// The bytes in parts, of which none ends where a sector does.
+fn parts_of<'a>(alloc: Global, bytes: &'a [u8]) -> Result<Vec<Part<'a>>, AllocError> {
+    let (front, back) = bytes.split_at_checked(700).unwrap_or((bytes, &[]));
+    let mut parts = Vec::new(alloc);
+    parts.push(Part::Lent(front))?;
+    parts.push(Part::Lent(&[]))?;
+    parts.push(Part::Made(Vec::from_slice(alloc, back)?))?;
+    Ok(parts)
+}
+
 // Writes the bytes, and writes them as a piece.
 fn are_written(
     rt: &impl Abort,
     alloc: Global,
     device: &mut ModelDevice,
 ) -> Result<bool, AllocError> {
-    let bytes = Vec::from_slice(alloc, &BYTES)?;
-    assert!(rt; device.sectors() == 16 && bytes.len() == 1100);
-    let written = write_run(device, 2, &bytes).is_ok();
+    let parts = parts_of(alloc, &BYTES)?;
+    assert!(rt; device.sectors() == 16 && byte_count(&parts) == Some(1100));
+    let written = write_run(device, 2, &BYTES).is_ok();
     let run = Run { start: 5, count: 3 };
-    Ok(write_runs(device, &[Piece { run, bytes }]).is_ok() && written)
+    Ok(write_runs(device, &[Piece { run, parts }]).is_ok() && written)
 }
 
 fn read_back(rt: &impl Abort, alloc: Global) -> Result<bool, AllocError> {

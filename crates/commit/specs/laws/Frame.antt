@@ -9,7 +9,7 @@ use Rattle.segments.specs.Sectors.{sector_count, bytes_at, Holds}
 use Rattle.segments.specs.laws.ReadBack.{same_bytes, read_back}
 use Rattle.segments.specs.Writing.{runs_of, HoldsEach}
 use Rattle.segments.specs.declared.run.Run.{Run}
-use Rattle.segments.specs.declared.piece.Piece.{Piece}
+use Rattle.segments.specs.Pieces.{PlainPiece}
 use Rattle.commit.specs.declared.sector.Commit.{Commit}
 use Rattle.commit.specs.declared.cause.Cause.{Cause}
 use Rattle.commit.specs.declared.cause.Cause.TheVariants.{DeviceSize, CatalogueRange, CatalogueUnreadable, RunRange, RunOverlap}
@@ -75,13 +75,13 @@ fault_none size text runs is = by_tests (all_on_device size runs) (are_apart (te
     by_tests false y a b is = absurd (cc is)
 
 -- a piece lies in its run
-pub piece_holds : (image : Image) (pieces : List Piece) (run : Run) (bytes : List ℕ) → HoldsEach image pieces → IsPieceOf pieces run bytes → Holds image run.start bytes
+pub piece_holds : (image : Image) (pieces : List PlainPiece) (run : Run) (bytes : List ℕ) → HoldsEach image pieces → IsPieceOf pieces run bytes → Holds image run.start bytes
 piece_holds image [] run bytes holds is = absurd is
 piece_holds image (p ∷ ps) run bytes holds (inl is) = subst (λ (r : Run). Holds image r.start bytes) is.0 (subst (λ (b : List ℕ). Holds image p.run.start b) is.1 holds.0)
 piece_holds image (p ∷ ps) run bytes holds (inr later) = piece_holds image ps run bytes holds.1 later
 
 -- and is read back
-pub piece_read : (image : Image) (pieces : List Piece) (run : Run) (bytes : List ℕ) → HoldsEach image pieces → IsPieceOf pieces run bytes → bytes_at image run.start (length bytes) ≡ Some bytes
+pub piece_read : (image : Image) (pieces : List PlainPiece) (run : Run) (bytes : List ℕ) → HoldsEach image pieces → IsPieceOf pieces run bytes → bytes_at image run.start (length bytes) ≡ Some bytes
 piece_read image pieces run bytes holds is = read_back image run.start bytes (piece_holds image pieces run bytes holds is)
 
 module _ {C : Type 0} (reading : Reading C) (size : ℕ) where

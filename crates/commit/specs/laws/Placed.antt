@@ -1,10 +1,9 @@
 -- Laws of runs that were taken for a plan: they are apart from one another and from those in use.
 use Rattle.std.specs.Prelude.{◌≡◌, ◌⊎◌, ◌≤◌, ◌<◌, ◌+◌, ◌^◌, ◌&&◌, ◌||◌, ℕ, Bool, nat_le, true, false, not, List, [], ◌∷◌, ◌++◌, length, map, refl}
-use Rattle.std.specs.Global.{Vec}
 use Rattle.std.proofs.Common.{inl, inr, sym, ap, ◌∙◌, subst, arith}
 use Rattle.std.proofs.lemmas.Bool.{and_parts, and_from, leb-true, le-leb, eq-eqb}
 use Rattle.segments.specs.declared.run.Run.{Run}
-use Rattle.segments.specs.declared.piece.Piece.{Piece}
+use Rattle.segments.specs.Pieces.{PlainPiece}
 use Rattle.segments.specs.declared.entries.Usage.{Usage}
 use Rattle.segments.specs.declared.entries.UsageEntry.{UsageEntry}
 use Rattle.segments.specs.Runs.{OutOf, ApartFrom, AreApart, StartFrom}
@@ -45,28 +44,28 @@ took_above size used [] (r ∷ rs) took = absurd took
 took_above size used (n ∷ ns) (r ∷ rs) took = (took.0.1.above, took_above size (λ other. used other ⊎ (other ≡ r)) ns rs took.1)
 
 -- pieces fit into runs that were taken for them
-pub took_fit : (size : ℕ) (used : Run → Type 0) (pieces : List Piece) → Took size used (map sectors_of (contents_of pieces)) (runs_of pieces) → AllFit size pieces
+pub took_fit : (size : ℕ) (used : Run → Type 0) (pieces : List PlainPiece) → Took size used (map sectors_of (contents_of pieces)) (runs_of pieces) → AllFit size pieces
 took_fit size used [] took = tt
 took_fit size used (p ∷ ps) took = (took.0.1.within, omega (arith, took.0.0), took_fit size (λ other. used other ⊎ (other ≡ p.run)) ps took.1)
 
-counts_more : (pieces : List Piece) (run : Run) (text : Vec ℕ) (bytes : ℕ) → sector_count bytes ≡ sectors_of text → map sectors_of (contents_of (pieces ++ record { run = run; bytes = text } ∷ [])) ≡ counts_of (contents_of pieces) bytes
+counts_more : (pieces : List PlainPiece) (run : Run) (text : List ℕ) (bytes : ℕ) → sector_count bytes ≡ sectors_of text → map sectors_of (contents_of (pieces ++ record { run = run; bytes = text } ∷ [])) ≡ counts_of (contents_of pieces) bytes
 counts_more [] run text bytes is = ap (λ (n : ℕ). n ∷ []) (sym is)
 counts_more (p ∷ ps) run text bytes is = ap (λ (ns : List ℕ). sectors_of p.bytes ∷ ns) (counts_more ps run text bytes is)
 
-runs_more : (pieces : List Piece) (run : Run) (text : Vec ℕ) → runs_of (pieces ++ record { run = run; bytes = text } ∷ []) ≡ runs_of pieces ++ run ∷ []
+runs_more : (pieces : List PlainPiece) (run : Run) (text : List ℕ) → runs_of (pieces ++ record { run = run; bytes = text } ∷ []) ≡ runs_of pieces ++ run ∷ []
 runs_more [] run text = refl
 runs_more (p ∷ ps) run text = ap (λ (rs : List Run). p.run ∷ rs) (runs_more ps run text)
 
-fit_last : (size : ℕ) (pieces : List Piece) (p : Piece) → AllFit size (pieces ++ p ∷ []) → (p.run.start + p.run.count ≤ size) × (sectors_of p.bytes ≤ p.run.count)
+fit_last : (size : ℕ) (pieces : List PlainPiece) (p : PlainPiece) → AllFit size (pieces ++ p ∷ []) → (p.run.start + p.run.count ≤ size) × (sectors_of p.bytes ≤ p.run.count)
 fit_last size [] p fit = (fit.0, fit.1)
 fit_last size (x ∷ xs) p fit = fit_last size xs p fit.2
 
 -- what was placed, with the text behind it, can be published as the next commit
-pub placed_plan : (old new : Space) (pieces : List Piece) (run : Run) (text : Vec ℕ) (bytes : ℕ) (k : Commit) → is_size old.size ≡ true → k.device_sectors ≡ old.size → k.epoch + 1 < 2 ^ 64
+pub placed_plan : (old new : Space) (pieces : List PlainPiece) (run : Run) (text : List ℕ) (bytes : ℕ) (k : Commit) → is_size old.size ≡ true → k.device_sectors ≡ old.size → k.epoch + 1 < 2 ^ 64
     → TookAll old new (counts_of (contents_of pieces) bytes) (runs_of pieces ++ run ∷ []) → sector_count bytes ≡ sectors_of text
-    → IsPlan old.size k (next_commit k run (length text.items)) (pieces ++ record { run = run; bytes = text } ∷ [])
+    → IsPlan old.size k (next_commit k run (length text)) (pieces ++ record { run = run; bytes = text } ∷ [])
 placed_plan old new pieces run text bytes k limits device epoch all sectors =
-    let whole : List Piece = pieces ++ record { run = run; bytes = text } ∷ [] in
+    let whole : List PlainPiece = pieces ++ record { run = run; bytes = text } ∷ [] in
     let runs : runs_of whole ≡ runs_of pieces ++ run ∷ [] = runs_more pieces run text in
     let counts : map sectors_of (contents_of whole) ≡ counts_of (contents_of pieces) bytes = counts_more pieces run text bytes sectors in
     let took : Took old.size (IsUsedIn old.entries) (map sectors_of (contents_of whole)) (runs_of whole) =
@@ -92,14 +91,14 @@ placed_plan old new pieces run text bytes k limits device epoch all sectors =
     }
 
 -- the same in the words of `place` and `plan_next`
-pub plan_follows : (old new : Space) (contents : List (Vec ℕ)) (bytes : ℕ) (pieces plan : List Piece) (runs : List Run) (run : Run) (text : Vec ℕ) (k next : Commit)
+pub plan_follows : (old new : Space) (contents : List (List ℕ)) (bytes : ℕ) (pieces plan : List PlainPiece) (runs : List Run) (run : Run) (text : List ℕ) (k next : Commit)
     → is_size old.size ≡ true → k.device_sectors ≡ old.size → k.epoch + 1 < 2 ^ 64
     → TookAll old new (counts_of contents bytes) runs → runs ≡ runs_of pieces ++ run ∷ [] → contents_of pieces ≡ contents → sector_count bytes ≡ sectors_of text
-    → next ≡ next_commit k run (length text.items) → plan ≡ pieces ++ record { run = run; bytes = text } ∷ [] → IsPlan old.size k next plan
+    → next ≡ next_commit k run (length text) → plan ≡ pieces ++ record { run = run; bytes = text } ∷ [] → IsPlan old.size k next plan
 plan_follows old new contents bytes pieces plan runs run text k next limits device epoch all runs_are contents_are sectors next_is plan_is =
     let took : TookAll old new (counts_of (contents_of pieces) bytes) (runs_of pieces ++ run ∷ []) =
-    subst (λ (vs : List (Vec ℕ)). TookAll old new (counts_of vs bytes) (runs_of pieces ++ run ∷ [])) (sym contents_are) (subst (λ (rs : List Run). TookAll old new (counts_of contents bytes) rs) runs_are all) in
-    subst (λ (ps : List Piece). IsPlan old.size k next ps) (sym plan_is)
+    subst (λ (vs : List (List ℕ)). TookAll old new (counts_of vs bytes) (runs_of pieces ++ run ∷ [])) (sym contents_are) (subst (λ (rs : List Run). TookAll old new (counts_of contents bytes) rs) runs_are all) in
+    subst (λ (ps : List PlainPiece). IsPlan old.size k next ps) (sym plan_is)
     (subst (λ (c : Commit). IsPlan old.size k c (pieces ++ record { run = run; bytes = text } ∷ [])) (sym next_is) (placed_plan old new pieces run text bytes k limits device epoch took sectors))
 
 -- the last run that was taken

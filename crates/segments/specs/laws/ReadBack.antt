@@ -5,7 +5,7 @@ use Rattle.std.proofs.lemmas.Bool.{cases_eq}
 use Rattle.sector_dev.specs.Disk.{Image}
 use Rattle.segments.specs.Runs.{StartFrom}
 use Rattle.segments.specs.Writing.{runs_of, HoldsEach}
-use Rattle.segments.specs.declared.piece.Piece.{Piece}
+use Rattle.segments.specs.Pieces.{PlainPiece}
 use Rattle.segments.specs.Sectors.{sector_count, sector_of, Holds, appended, joined, bytes_at}
 
 -- images that agree on the sectors of a run hold the same contents there
@@ -23,9 +23,9 @@ unfolding Holds
 same_holds a b start bytes same holds j lt = same j lt ∙ holds j lt
 
 -- images that agree from a sector on hold the same pieces there
-pub same_pieces : (low : ℕ) (a b : Image) (pieces : List Piece) → StartFrom low (runs_of pieces) → ((n : ℕ) → low ≤ n → b n ≡ a n) → HoldsEach a pieces → HoldsEach b pieces
+pub same_pieces : (low : ℕ) (a b : Image) (pieces : List PlainPiece) → StartFrom low (runs_of pieces) → ((n : ℕ) → low ≤ n → b n ≡ a n) → HoldsEach a pieces → HoldsEach b pieces
 same_pieces low a b [] above same holds = tt
-same_pieces low a b (p ∷ ps) above same holds = (same_holds a b p.run.start p.bytes.items (λ j lt. same (p.run.start + j) (omega (arith, above.0))) holds.0, same_pieces low a b ps above.1 same holds.1)
+same_pieces low a b (p ∷ ps) above same holds = (same_holds a b p.run.start p.bytes (λ j lt. same (p.run.start + j) (omega (arith, above.0))) holds.0, same_pieces low a b ps above.1 same holds.1)
 
 -- the first so many sectors of some bytes: those bytes, and zeros behind the last of them
 front : List ℕ → ℕ → List ℕ

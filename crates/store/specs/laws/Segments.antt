@@ -1,17 +1,14 @@
 -- Laws of the new segments of a change.
 use Rattle.std.specs.Prelude.{◌≡◌, ◌⊎◌, ◌≤◌, ◌<◌, ◌^◌, ◌++◌, ◌==◌, ◌&&◌, ℕ, true, List, [], ◌∷◌, length, map, nat_le, nat_lt}
-use Rattle.std.specs.Global.{Vec}
 use Rattle.std.specs.List.{list_all, AllByRecursion}
-use Rattle.std.proofs.Common.{refl, ap, subst, arith}
+use Rattle.std.proofs.Common.{refl, ap, arith}
 use Rattle.std.proofs.lemmas.Bool.{and_parts, and_from, le-leb, lt-ltb, eq-eqb}
 use Rattle.segments.specs.declared.run.Run.{Run}
-use Rattle.segments.specs.Usages.{Space, IsUsedIn}
 use Rattle.segments.specs.Sectors.{sector_count}
 use Rattle.catalogue.specs.declared.limits.TheConstants.{MAX_SEGMENT_ROWS}
 use Rattle.catalogue.specs.declared.entry.Segment.{Segment}
 use Rattle.catalogue.specs.Entries.{is_between, is_segment}
-use Rattle.commit.specs.Placing.{sectors_of, counts_of}
-use Rattle.commit.specs.laws.Taking.{Took, TookAll}
+use Rattle.commit.specs.laws.Taking.{Took}
 use Rattle.store.specs.Changes.{placed_segments}
 use Rattle.store.specs.Carrying.{unplaced}
 
@@ -69,20 +66,6 @@ took_front size used [] (x ∷ y ∷ ys) n r took = absurd took.1
 took_front size used (m ∷ []) [] n r took = absurd took.1
 took_front size used (m ∷ l ∷ ls) [] n r took = absurd took.1
 took_front size used (m ∷ ms) (x ∷ xs) n r took = (took.0, took_front size (λ other. used other ⊎ (other ≡ x)) ms xs n r took.1)
-
--- the sectors of contents, by their plain bytes
-pub same_sectors : (contents : List (Vec ℕ)) → map sectors_of contents ≡ map stream_sectors (map (λ (v : Vec ℕ). v.items) contents)
-same_sectors [] = refl
-same_sectors (v ∷ vs) = ap (λ (ns : List ℕ). sectors_of v ∷ ns) (same_sectors vs)
-
--- the same in the words of `place`
-pub placed_in_taken : (old new : Space) (contents : List (Vec ℕ)) (bytes : ℕ) (runs : List Run) (text : Run) (counts : List ℕ) → old.size < 2 ^ 64 → TookAll old new (counts_of contents bytes) (runs ++ text ∷ [])
-    → AllByRecursion IsStream (map (λ (v : Vec ℕ). v.items) contents) → list_all (is_between 1 MAX_SEGMENT_ROWS) counts ≡ true
-    → list_all is_segment (placed_segments runs (map (λ (v : Vec ℕ). v.items) contents) counts) ≡ true
-placed_in_taken old new contents bytes runs text counts limit all are rows =
-    placed_sound old.size (IsUsedIn old.entries) runs (map (λ (v : Vec ℕ). v.items) contents) counts limit
-    (subst (λ (ns : List ℕ). Took old.size (IsUsedIn old.entries) ns runs) (same_sectors contents) (took_front old.size (IsUsedIn old.entries) (map sectors_of contents) runs (sector_count bytes) text all.took))
-    are rows
 
 -- ---- without places
 

@@ -27,7 +27,7 @@ loop-from-init c =
       are = list_all-from_AllPass (is_row s) t.rows c.requires.table.rows;
       sound = c.requires.sound;
       each = c.pieces_can_be_built.ensures t c.requires.table;
-      written = first_written s t (stream_in c.in_ok-stream.stream) c.in_ok-stream.ensures;
+      written = first_written s t (stream_in c.begin_stream-stream.result) (c.begin_stream-stream.ensures ∙ c.in_ok-first.ensures);
     }
 
 pub next_piece-requires-clause-some : goal.next_piece-requires-clause-some

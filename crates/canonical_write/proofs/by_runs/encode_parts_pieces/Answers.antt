@@ -3,16 +3,19 @@ use Rattle.std.specs.List.{AllByRecursion, list_all}
 use Rattle.std.proofs.Common.{◌≡◌, ◌<◌, ◌^◌, ◌++◌, List, ℕ, [], ◌∷◌, length, map, ap, sym, subst, ◌∙◌, arith}
 use Rattle.std.proofs.lemmas.List.{map-append}
 use Rattle.std.proofs.lemmas.List.Sums.{list_all-from_AllPass}
+use Rattle.array_build.specs.declared.batch.Buffer.{Buffer}
 use Rattle.arrow_schema.specs.Column.{PlainSchema, Columns, columns_of}
 use Rattle.arrow_schema.specs.View.{schema_of}
 use Rattle.canonical_stream.specs.Pieces.{IsPieceOf}
 use Rattle.canonical_write.proofs.Alone.{IsAlone, each_alone}
 use Rattle.canonical_write.proofs.RunSteps.{not_empty, rows_behind, count_behind}
-use Rattle.canonical_write.proofs.Steps.{items_in, first_streams, first_counts, next_made}
+use Rattle.canonical_write.proofs.Steps.{first_streams, first_counts, next_made}
 use Rattle.canonical_write.specs.Pieces.{piece_stream, piece_streams, piece_counts}
+use Rattle.canonical_write.specs.View.{joined_parts, streams_behind}
 use Rattle.cells.specs.Cell.{Cell, PlainTable}
 use Rattle.cells.specs.Row.{is_row}
 use Rattle.facts.specs.laws.Lists.{all_more}
+use Rattle.ipc_write.specs.Written.{schema_message}
 use Rattle.run_pieces.specs.Left.{rows_left}
 use Rattle.run_pieces.specs.Rows.{runs_rows}
 use Rattle.table_cut.specs.Cut.{pieces}
@@ -26,15 +29,15 @@ loop-from-init c =
     let cs : Columns = columns_of s.columns in
     let t : PlainTable = parts_table s c.args.parts.now in
     let all : rows_left cs c.in_ok-left.left ≡ parts_rows cs c.args.parts.now = c.in_ok-left.ensures.rows cs in
-    let none : map items_in c.new-streams.result.items ≡ [] = ap (map items_in) c.new-streams.ensures.items in
+    let made : List (List ℕ) = streams_behind (schema_message s) c.new-streams.result.items in
+    let none : made ≡ [] = ap (streams_behind (schema_message s)) c.new-streams.ensures.items in
     record {
       within = omega (arith, ap length all, c.requires.count);
       are = ap (list_all (is_row s)) all ∙ list_all-from_AllPass (is_row s) t.rows c.requires.table.rows;
       sound = c.in_ok-left.ensures.sound cs c.requires.sound;
       each = subst (λ (rows : List (List Cell)). AllByRecursion (IsPieceOf s) (pieces (within_piece s) rows)) (sym all) (c.pieces_can_be_built.ensures t c.requires.table);
       alone = each_alone (within_piece s) (rows_left cs c.in_ok-left.left);
-      streams = ap (λ (rows : List (List Cell)). map items_in c.new-streams.result.items ++ map (piece_stream s) (pieces (within_piece s) rows)) all
-          ∙ first_streams s t (map items_in c.new-streams.result.items) none;
+      streams = ap (λ (rows : List (List Cell)). made ++ map (piece_stream s) (pieces (within_piece s) rows)) all ∙ first_streams s t made none;
       counts = ap (λ (rows : List (List Cell)). c.new-counts.result.items ++ map length (pieces (within_piece s) rows)) all
           ∙ first_counts s t c.new-counts.result.items c.new-counts.ensures.items;
       short = rw c.new-streams.ensures.items tt;
@@ -72,22 +75,23 @@ loop-from-preserved c =
     let piece : List (List Cell) = runs_rows cs c.in_ok-piece.piece.runs.items in
     let cut : List (List (List Cell)) = pieces (within_piece s) old in
     let rest : List (List (List Cell)) = pieces (within_piece s) new in
-    let stream : Vec ℕ = c.in_ok-stream.stream in
+    let front : List ℕ = schema_message s in
+    let made : List (List ℕ) = streams_behind front c.loop-from.streams.items in
+    let stream : List ℕ = front ++ joined_parts c.in_ok-stream.stream.items in
     let whole = count_behind old piece new c.in_ok-piece.ensures.front in
-    let pushed : map items_in c.push.new.self.items ≡ map items_in c.loop-from.streams.items ++ stream.items ∷ [] =
-    ap (map items_in) c.in_ok-push.ensures.items ∙ map-append items_in c.loop-from.streams.items (stream ∷ []) in
+    let pushed : streams_behind front c.push.new.self.items ≡ made ++ stream ∷ [] =
+    ap (streams_behind front) c.in_ok-push.ensures.items ∙ map-append (λ (parts : Vec Buffer). front ++ joined_parts parts.items) c.loop-from.streams.items (c.in_ok-stream.stream ∷ []) in
     record {
       within = omega (arith, whole, is.within, c.in_ok-piece.ensures.count);
       are = rows_behind s old piece new c.in_ok-piece.ensures.front is.are;
       sound = c.in_ok-piece.ensures.left;
       each = (subst (AllByRecursion (IsPieceOf s)) c.in_ok-piece.ensures.piece is.each).1;
       alone = (subst (AllByRecursion (IsAlone (within_piece s))) c.in_ok-piece.ensures.piece is.alone).1;
-      streams = next_made (piece_stream s) (map items_in c.loop-from.streams.items) (map items_in c.push.new.self.items) (piece_streams t) stream.items piece cut rest
+      streams = next_made (piece_stream s) made (streams_behind front c.push.new.self.items) (piece_streams t) stream piece cut rest
           c.in_ok-piece.ensures.piece pushed c.in_ok-stream.ensures.stream is.streams;
       counts = next_made length c.loop-from.counts.items c.push-in-loop-from.new.self.items (piece_counts t) c.in_ok-piece.piece.rows piece cut rest
           c.in_ok-piece.ensures.piece c.in_ok-push-2.ensures.items c.in_ok-piece.ensures.count is.counts;
-      short = subst (AllByRecursion (λ (made : List ℕ). length made < 2 ^ 64)) (sym pushed)
-          (all_more (λ (made : List ℕ). length made < 2 ^ 64) (map items_in c.loop-from.streams.items) stream.items is.short c.in_ok-stream.ensures.short);
+      short = subst (AllByRecursion (λ (x : List ℕ). length x < 2 ^ 64)) (sym pushed) (all_more (λ (x : List ℕ). length x < 2 ^ 64) made stream is.short c.in_ok-stream.ensures.short);
     }
 
 pub loop-from-smaller : goal.loop-from-smaller

@@ -5,9 +5,11 @@ use Rattle.arrow_schema.specs.View.{schema_of}
 use Rattle.canonical_stream.specs.Pieces.{IsPieceOf}
 use Rattle.canonical_write.proofs.Alone.{IsAlone}
 use Rattle.canonical_write.specs.Pieces.{piece_stream, piece_streams, piece_counts}
+use Rattle.canonical_write.specs.View.{streams_behind}
 use Rattle.cells.specs.Row.{is_row}
 use Rattle.run_pieces.specs.Left.{runs_left, rows_left}
 use Rattle.run_pieces.specs.Rows.{are_runs_sound}
+use Rattle.ipc_write.specs.Written.{schema_message}
 use Rattle.table_cut.specs.Cut.{pieces}
 use Rattle.table_cut.specs.Piece.{within_piece}
 use Rattle.values.specs.Parts.{parts_table}
@@ -25,9 +27,9 @@ invariant-loop-from l =
       sound : are_runs_sound columns (runs_left l.left) ≡ true;
       each : AllByRecursion (IsPieceOf s) left;
       alone : AllByRecursion (IsAlone (within_piece s)) left;
-      streams : map (λ v. v.items) l.streams.items ++ map (piece_stream s) left ≡ piece_streams (parts_table s l.parts);
+      streams : streams_behind (schema_message s) l.streams.items ++ map (piece_stream s) left ≡ piece_streams (parts_table s l.parts);
       counts : l.counts.items ++ map length left ≡ piece_counts (parts_table s l.parts);
-      short : AllByRecursion (λ stream. length stream < 2 ^ 64) (map (λ v. v.items) l.streams.items);
+      short : AllByRecursion (λ stream. length stream < 2 ^ 64) (streams_behind (schema_message s) l.streams.items);
     }
 
 abbrev pub decreases-loop-from : goal.decreases-loop-from

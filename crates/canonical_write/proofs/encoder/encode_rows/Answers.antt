@@ -1,4 +1,4 @@
-use Rattle.std.proofs.Common.{arith}
+use Rattle.std.proofs.Common.{◌∙◌, arith}
 use Rattle.arrow_schema.specs.Column.{PlainSchema}
 use Rattle.arrow_schema.specs.View.{schema_of}
 use Rattle.canonical_write.proofs.Steps.{first_written}
@@ -15,5 +15,5 @@ loop-from-init c =
     record {
       within = omega arith;
       each = c.pieces_can_be_built.ensures (with_schema s t) c.requires;
-      written = first_written s t (stream_in c.in_ok-stream.stream) c.in_ok-stream.ensures;
+      written = first_written s t (stream_in c.begin_stream-stream.result) (c.begin_stream-stream.ensures ∙ c.in_ok-first.ensures);
     }

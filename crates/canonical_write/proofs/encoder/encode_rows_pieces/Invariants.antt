@@ -3,7 +3,8 @@ use Rattle.std.proofs.Common.{◌≡◌, ◌-◌, ◌≤◌, ◌<◌, ◌^◌, �
 use Rattle.arrow_schema.specs.View.{schema_of}
 use Rattle.canonical_stream.specs.Pieces.{IsPieceOf}
 use Rattle.canonical_write.specs.Pieces.{piece_stream, piece_streams, piece_counts}
-use Rattle.canonical_write.specs.View.{with_schema}
+use Rattle.canonical_write.specs.View.{streams_behind, with_schema}
+use Rattle.ipc_write.specs.Written.{schema_message}
 use Rattle.table_cut.specs.Cut.{pieces}
 use Rattle.table_cut.specs.Piece.{within_piece}
 use Rattle.values.specs.TableView.{table_of}
@@ -19,9 +20,9 @@ invariant-loop-from l =
       within : l.from ≤ length (table_of l.table).rows;
       each : AllByRecursion (IsPieceOf s) left;
       alone : AllByRecursion (IsAlone (within_piece s)) left;
-      streams : map (λ v. v.items) l.streams.items ++ map (piece_stream s) left ≡ piece_streams (with_schema s (table_of l.table));
+      streams : streams_behind (schema_message s) l.streams.items ++ map (piece_stream s) left ≡ piece_streams (with_schema s (table_of l.table));
       counts : l.counts.items ++ map length left ≡ piece_counts (with_schema s (table_of l.table));
-      short : AllByRecursion (λ stream. length stream < 2 ^ 64) (map (λ v. v.items) l.streams.items);
+      short : AllByRecursion (λ stream. length stream < 2 ^ 64) (streams_behind (schema_message s) l.streams.items);
     }
 
 abbrev pub decreases-loop-from : goal.decreases-loop-from

@@ -1,5 +1,5 @@
 use Rattle.std.proofs.Common.{◌≡◌, ◌++◌, drop}
-use Rattle.canonical_write.specs.inner.Stream.{joined_parts}
+use Rattle.canonical_write.specs.View.{joined_parts}
 use Rattle.canonical_write.proofs.stream.join.Given as goal
 
 abbrev pub invariant-loop-part : goal.invariant-loop-part

@@ -1,6 +1,6 @@
 use Rattle.std.proofs.Common.{take}
 use Rattle.std.specs.Io.KnownBytes.{Appends}
-use Rattle.canonical_write.specs.inner.Stream.{joined_parts}
+use Rattle.canonical_write.specs.View.{joined_parts}
 use Rattle.canonical_write.proofs.writing.write_parts.Given as goal
 
 -- the parts so far are written

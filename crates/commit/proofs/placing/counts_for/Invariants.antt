@@ -1,6 +1,9 @@
 use Rattle.std.proofs.Common.{◌≡◌, map, take}
-use Rattle.commit.specs.Placing.{sectors_of}
+use Rattle.commit.specs.Placing.{AreShort, plain_contents, sectors_of}
 use Rattle.commit.proofs.placing.counts_for.Given as goal
 
-abbrev pub invariant-loop-bytes : goal.invariant-loop-bytes
-invariant-loop-bytes l = l.counts.items ≡ map sectors_of (take l.bytes-index l.contents)
+abbrev pub invariant-loop-parts : goal.invariant-loop-parts
+invariant-loop-parts l = record {
+  counts : l.counts.items ≡ map sectors_of (plain_contents (take l.parts-index l.contents));
+  short : AreShort (plain_contents (take l.parts-index l.contents));
+}

@@ -1,14 +1,15 @@
 use Rattle.std.proofs.Common.{◌≡◌, ◌≤◌, ◌+◌, length, take, vec_len, vec_capacity}
+use Rattle.segments.specs.Pieces.{plain_pieces}
 use Rattle.segments.specs.Writing.{runs_of}
-use Rattle.commit.specs.Placing.{contents_of}
+use Rattle.commit.specs.Placing.{contents_of, plain_contents}
 use Rattle.commit.proofs.placing.pieces_of.Given as goal
 
-abbrev pub invariant-loop-bytes : goal.invariant-loop-bytes
-invariant-loop-bytes l = record {
-  next : goal.iterator-loop-bytes.can_next l.bytes-iterator;
-  ends : goal.iterator-loop-bytes.is_finite l.bytes-iterator;
+abbrev pub invariant-loop-parts : goal.invariant-loop-parts
+invariant-loop-parts l = record {
+  next : goal.iterator-loop-parts.can_next l.parts-iterator;
+  ends : goal.iterator-loop-parts.is_finite l.parts-iterator;
   room : vec_len l.fn.contents + 1 ≤ vec_capacity l.pieces;
   count : vec_len l.pieces ≡ length l.yielded;
-  bytes : contents_of l.pieces.items ≡ l.yielded;
-  runs : runs_of l.pieces.items ≡ take (length l.yielded) l.runs;
+  contents : contents_of (plain_pieces l.pieces.items) ≡ plain_contents l.yielded;
+  runs : runs_of (plain_pieces l.pieces.items) ≡ take (length l.yielded) l.runs;
 }

@@ -1,7 +1,7 @@
-use Rattle.std.proofs.Common.{◌≡◌, refl, subst, true, List, OnOk, Result, Ok, Err}
+use Rattle.std.proofs.Common.{◌≡◌, refl, subst, ap, true, List, OnOk, Result, Ok, Err}
 use Rattle.sector_dev.specs.Disk.{now}
 use Rattle.sector_dev.specs.laws.Time.{weaken}
-use Rattle.segments.specs.declared.piece.Piece.{Piece}
+use Rattle.segments.specs.Pieces.{PlainPiece, plain_pieces}
 use Rattle.commit.specs.Publishing.{Publishes, EndsPublished}
 use Rattle.commit.specs.Replacing.{change_of, EndsReplaced}
 use Rattle.commit.specs.laws.Frame.{stands_as_either, stands_rests, replaces, replaced}
@@ -18,7 +18,7 @@ returns-clause-moments g c = λ told can.
     let R = g.C.ReadCatalogue in
     let change = change_of R.plain_of c.args.old.now c.args.plan.now in
     let rests = stands_rests R.reading (D.size c.args.device.now) _ change.old change.was can.stands in
-    let told_of = subst (λ (ps : List Piece). Publishes change.old change.new ps (D.story c.args.device.now) (D.story c.write_and_commit.new.device)) c.deref.ensures.value (c.write_and_commit.ensures.moments told) in
+    let told_of = subst (λ (ps : List PlainPiece). Publishes change.old change.new ps (D.story c.args.device.now) (D.story c.write_and_commit.new.device)) (ap plain_pieces c.deref.ensures.value) (c.write_and_commit.ensures.moments told) in
     weaken (replaces R.reading (D.size c.args.device.now) g.met.C.ReadCatalogue.local (now (D.story c.args.device.now)) change can) (told_of rests)
 
 pub returns-clause-left : goal.returns-clause-left
@@ -27,7 +27,7 @@ returns-clause-left g c = λ told can image left.
     let R = g.C.ReadCatalogue in
     let change = change_of R.plain_of c.args.old.now c.args.plan.now in
     let rests = stands_rests R.reading (D.size c.args.device.now) _ change.old change.was can.stands in
-    let told_of = subst (λ (ps : List Piece). Publishes change.old change.new ps (D.story c.args.device.now) (D.story c.write_and_commit.new.device)) c.deref.ensures.value (c.write_and_commit.ensures.moments told) in
+    let told_of = subst (λ (ps : List PlainPiece). Publishes change.old change.new ps (D.story c.args.device.now) (D.story c.write_and_commit.new.device)) (ap plain_pieces c.deref.ensures.value) (c.write_and_commit.ensures.moments told) in
     stands_as_either R.reading (D.size c.args.device.now) g.met.C.ReadCatalogue.local (now (D.story c.args.device.now)) change can image
     (left_old_or_new change.old change.new change.pieces (now (D.story c.args.device.now)) c.requires.above c.requires.next rests _ _ refl (told_of rests) image left)
 
@@ -37,11 +37,11 @@ returns-clause-published g c =
     let R = g.C.ReadCatalogue in
     let change = change_of R.plain_of c.args.old.now c.args.plan.now in
     on_ok
-    {P = D.tells ≡ true → EndsPublished change.old change.new c.deref.result.now (D.story c.args.device.now) (D.story c.write_and_commit.new.device)}
+    {P = D.tells ≡ true → EndsPublished change.old change.new (plain_pieces c.deref.result.now) (D.story c.args.device.now) (D.story c.write_and_commit.new.device)}
     {Q = D.tells ≡ true → EndsReplaced R.reading (D.size c.args.device.now) change (D.story c.args.device.now) (D.story c.write_and_commit.new.device)}
     c.write_and_commit.result
     (λ ends told can.
     let rests = stands_rests R.reading (D.size c.args.device.now) _ change.old change.was can.stands in
-    let told_of = subst (λ (ps : List Piece). EndsPublished change.old change.new ps (D.story c.args.device.now) (D.story c.write_and_commit.new.device)) c.deref.ensures.value (ends told) in
+    let told_of = subst (λ (ps : List PlainPiece). EndsPublished change.old change.new ps (D.story c.args.device.now) (D.story c.write_and_commit.new.device)) (ap plain_pieces c.deref.ensures.value) (ends told) in
     replaced R.reading (D.size c.args.device.now) (now (D.story c.args.device.now)) change can _ (told_of rests))
     c.write_and_commit.ensures.published

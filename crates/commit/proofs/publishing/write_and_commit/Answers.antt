@@ -1,6 +1,7 @@
 use Rattle.std.proofs.Common.{refl, inl}
 use Rattle.sector_dev.specs.Disk.{now}
 use Rattle.sector_dev.specs.laws.Time.{goes_on, now_has, weaken, passed}
+use Rattle.segments.specs.Pieces.{plain_pieces}
 use Rattle.segments.specs.Writing.{WritesOnly, runs_of}
 use Rattle.commit.proofs.Texts.{found_in}
 use Rattle.commit.proofs.Moments.{while_written, run_done, put_done, put_failed, sync_done}
@@ -8,35 +9,35 @@ use Rattle.commit.proofs.publishing.write_and_commit.Goals as goal
 
 pub returns-in_err-write_runs-clause-moments : goal.returns-in_err-write_runs-clause-moments
 returns-in_err-write_runs-clause-moments g c = λ told r.
-    weaken (while_written c.args.old c.args.new c.args.pieces.now (now (g.D.SectorDevice.story c.args.device.now)) c.requires.above c.requires.next r) (c.write_runs.ensures.moments told)
+    weaken (while_written c.args.old c.args.new (plain_pieces c.args.pieces.now) (now (g.D.SectorDevice.story c.args.device.now)) c.requires.above c.requires.next r) (c.write_runs.ensures.moments told)
 
 pub returns-in_err-sync-clause-moments : goal.returns-in_err-sync-clause-moments
 returns-in_err-sync-clause-moments g c = λ told r.
     let D = g.D.SectorDevice in
     let d0 = now (D.story c.args.device.now) in
-    let written = while_written c.args.old c.args.new c.args.pieces.now d0 c.requires.above c.requires.next r in
-    let w = now_has {P = WritesOnly (runs_of c.args.pieces.now) d0} (record { outside = λ n out. refl; begun = inl refl }) (c.write_runs.ensures.moments told) in
+    let written = while_written c.args.old c.args.new (plain_pieces c.args.pieces.now) d0 c.requires.above c.requires.next r in
+    let w = now_has {P = WritesOnly (runs_of (plain_pieces c.args.pieces.now)) d0} (record { outside = λ n out. refl; begun = inl refl }) (c.write_runs.ensures.moments told) in
     goes_on (weaken written (c.write_runs.ensures.moments told)) (passed _ _ _ (written _ w) (c.in_err-sync.ensures.err told))
 
 pub returns-in_err-write-clause-moments : goal.returns-in_err-write-clause-moments
 returns-in_err-write-clause-moments g c = λ told r.
     let D = g.D.SectorDevice in
     let d0 = now (D.story c.args.device.now) in
-    let written = while_written c.args.old c.args.new c.args.pieces.now d0 c.requires.above c.requires.next r in
-    let w = now_has {P = WritesOnly (runs_of c.args.pieces.now) d0} (record { outside = λ n out. refl; begun = inl refl }) (c.write_runs.ensures.moments told) in
-    let run = run_done c.args.old c.args.new c.args.pieces.now d0 c.requires.above c.requires.next r (D.story c.write_runs.new.device) (D.story c.sync.new.self) w (c.in_ok-write_runs.ensures.holds told) (c.in_ok-sync.ensures.ok told) in
+    let written = while_written c.args.old c.args.new (plain_pieces c.args.pieces.now) d0 c.requires.above c.requires.next r in
+    let w = now_has {P = WritesOnly (runs_of (plain_pieces c.args.pieces.now)) d0} (record { outside = λ n out. refl; begun = inl refl }) (c.write_runs.ensures.moments told) in
+    let run = run_done c.args.old c.args.new (plain_pieces c.args.pieces.now) d0 c.requires.above c.requires.next r (D.story c.write_runs.new.device) (D.story c.sync.new.self) w (c.in_ok-write_runs.ensures.holds told) (c.in_ok-sync.ensures.ok told) in
     let text = found_in c.args.new c.commit_sector-sector.result c.requires.writable c.commit_sector-sector.ensures in
-    goes_on (weaken written (c.write_runs.ensures.moments told)) (goes_on run.0 (put_failed c.args.old c.args.new c.args.pieces.now d0 c.requires.above c.requires.next r _ text _ _ run.1 (c.in_err-write.ensures.err told)))
+    goes_on (weaken written (c.write_runs.ensures.moments told)) (goes_on run.0 (put_failed c.args.old c.args.new (plain_pieces c.args.pieces.now) d0 c.requires.above c.requires.next r _ text _ _ run.1 (c.in_err-write.ensures.err told)))
 
 pub returns-in_err-sync-2-clause-moments : goal.returns-in_err-sync-2-clause-moments
 returns-in_err-sync-2-clause-moments g c = λ told r.
     let D = g.D.SectorDevice in
     let d0 = now (D.story c.args.device.now) in
-    let written = while_written c.args.old c.args.new c.args.pieces.now d0 c.requires.above c.requires.next r in
-    let w = now_has {P = WritesOnly (runs_of c.args.pieces.now) d0} (record { outside = λ n out. refl; begun = inl refl }) (c.write_runs.ensures.moments told) in
-    let run = run_done c.args.old c.args.new c.args.pieces.now d0 c.requires.above c.requires.next r (D.story c.write_runs.new.device) (D.story c.sync.new.self) w (c.in_ok-write_runs.ensures.holds told) (c.in_ok-sync.ensures.ok told) in
+    let written = while_written c.args.old c.args.new (plain_pieces c.args.pieces.now) d0 c.requires.above c.requires.next r in
+    let w = now_has {P = WritesOnly (runs_of (plain_pieces c.args.pieces.now)) d0} (record { outside = λ n out. refl; begun = inl refl }) (c.write_runs.ensures.moments told) in
+    let run = run_done c.args.old c.args.new (plain_pieces c.args.pieces.now) d0 c.requires.above c.requires.next r (D.story c.write_runs.new.device) (D.story c.sync.new.self) w (c.in_ok-write_runs.ensures.holds told) (c.in_ok-sync.ensures.ok told) in
     let text = found_in c.args.new c.commit_sector-sector.result c.requires.writable c.commit_sector-sector.ensures in
-    let put = put_done c.args.old c.args.new c.args.pieces.now d0 c.requires.above c.requires.next r _ text (D.story c.sync.new.self) (D.story c.write.new.self) _ run.1 (c.in_ok-write.ensures.ok told) in
+    let put = put_done c.args.old c.args.new (plain_pieces c.args.pieces.now) d0 c.requires.above c.requires.next r _ text (D.story c.sync.new.self) (D.story c.write.new.self) _ run.1 (c.in_ok-write.ensures.ok told) in
     let so_far = goes_on (weaken written (c.write_runs.ensures.moments told)) (goes_on run.0 put) in
     goes_on so_far (passed _ _ _ (now_has (written d0 (record { outside = λ n out. refl; begun = inl refl })) so_far) (c.in_err-sync-2.ensures.err told))
 
@@ -44,19 +45,19 @@ pub returns-clause-moments : goal.returns-clause-moments
 returns-clause-moments g c = λ told r.
     let D = g.D.SectorDevice in
     let d0 = now (D.story c.args.device.now) in
-    let written = while_written c.args.old c.args.new c.args.pieces.now d0 c.requires.above c.requires.next r in
-    let w = now_has {P = WritesOnly (runs_of c.args.pieces.now) d0} (record { outside = λ n out. refl; begun = inl refl }) (c.write_runs.ensures.moments told) in
-    let run = run_done c.args.old c.args.new c.args.pieces.now d0 c.requires.above c.requires.next r (D.story c.write_runs.new.device) (D.story c.sync.new.self) w (c.in_ok-write_runs.ensures.holds told) (c.in_ok-sync.ensures.ok told) in
+    let written = while_written c.args.old c.args.new (plain_pieces c.args.pieces.now) d0 c.requires.above c.requires.next r in
+    let w = now_has {P = WritesOnly (runs_of (plain_pieces c.args.pieces.now)) d0} (record { outside = λ n out. refl; begun = inl refl }) (c.write_runs.ensures.moments told) in
+    let run = run_done c.args.old c.args.new (plain_pieces c.args.pieces.now) d0 c.requires.above c.requires.next r (D.story c.write_runs.new.device) (D.story c.sync.new.self) w (c.in_ok-write_runs.ensures.holds told) (c.in_ok-sync.ensures.ok told) in
     let text = found_in c.args.new c.commit_sector-sector.result c.requires.writable c.commit_sector-sector.ensures in
-    let put = put_done c.args.old c.args.new c.args.pieces.now d0 c.requires.above c.requires.next r _ text (D.story c.sync.new.self) (D.story c.write.new.self) _ run.1 (c.in_ok-write.ensures.ok told) in
-    let last = sync_done c.args.old c.args.new c.args.pieces.now d0 c.requires.above c.requires.next r _ text (D.story c.sync.new.self) (D.story c.write.new.self) (D.story c.sync-2.new.self) run.1 (c.in_ok-write.ensures.ok told) (c.in_ok-sync-2.ensures.ok told) in
+    let put = put_done c.args.old c.args.new (plain_pieces c.args.pieces.now) d0 c.requires.above c.requires.next r _ text (D.story c.sync.new.self) (D.story c.write.new.self) _ run.1 (c.in_ok-write.ensures.ok told) in
+    let last = sync_done c.args.old c.args.new (plain_pieces c.args.pieces.now) d0 c.requires.above c.requires.next r _ text (D.story c.sync.new.self) (D.story c.write.new.self) (D.story c.sync-2.new.self) run.1 (c.in_ok-write.ensures.ok told) (c.in_ok-sync-2.ensures.ok told) in
     goes_on (weaken written (c.write_runs.ensures.moments told)) (goes_on run.0 (goes_on put last.0))
 
 pub returns-clause-published : goal.returns-clause-published
 returns-clause-published g c = λ told r.
     let D = g.D.SectorDevice in
     let d0 = now (D.story c.args.device.now) in
-    let w = now_has {P = WritesOnly (runs_of c.args.pieces.now) d0} (record { outside = λ n out. refl; begun = inl refl }) (c.write_runs.ensures.moments told) in
-    let run = run_done c.args.old c.args.new c.args.pieces.now d0 c.requires.above c.requires.next r (D.story c.write_runs.new.device) (D.story c.sync.new.self) w (c.in_ok-write_runs.ensures.holds told) (c.in_ok-sync.ensures.ok told) in
+    let w = now_has {P = WritesOnly (runs_of (plain_pieces c.args.pieces.now)) d0} (record { outside = λ n out. refl; begun = inl refl }) (c.write_runs.ensures.moments told) in
+    let run = run_done c.args.old c.args.new (plain_pieces c.args.pieces.now) d0 c.requires.above c.requires.next r (D.story c.write_runs.new.device) (D.story c.sync.new.self) w (c.in_ok-write_runs.ensures.holds told) (c.in_ok-sync.ensures.ok told) in
     let text = found_in c.args.new c.commit_sector-sector.result c.requires.writable c.commit_sector-sector.ensures in
-    (sync_done c.args.old c.args.new c.args.pieces.now d0 c.requires.above c.requires.next r _ text (D.story c.sync.new.self) (D.story c.write.new.self) (D.story c.sync-2.new.self) run.1 (c.in_ok-write.ensures.ok told) (c.in_ok-sync-2.ensures.ok told)).1
+    (sync_done c.args.old c.args.new (plain_pieces c.args.pieces.now) d0 c.requires.above c.requires.next r _ text (D.story c.sync.new.self) (D.story c.write.new.self) (D.story c.sync-2.new.self) run.1 (c.in_ok-write.ensures.ok told) (c.in_ok-sync-2.ensures.ok told)).1

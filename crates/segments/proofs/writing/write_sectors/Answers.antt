@@ -1,27 +1,14 @@
 use Rattle.std.proofs.Common.{◌≡◌, [], length, get_or, ◌∙◌, refl, subst, arith}
-use Rattle.sector_dev.specs.laws.Time.{stays, goes_on}
-use Rattle.segments.specs.inner.Rows.{sectors_from}
 use Rattle.segments.specs.Writing.{writes_from, GrowsBy}
 use Rattle.segments.proofs.Order.{on_err, next_done, next_failed}
-use Rattle.segments.proofs.Touched.{inside_run, written_now, write_done, write_failed, shows_none, shows_more, shows_all}
 use Rattle.segments.proofs.writing.write_sectors.Goals as goal
 
 pub loop-i-init : goal.loop-i-init
 loop-i-init g c = record {
   size = refl;
   failed = refl;
-  moments = λ told. stays _ _;
-  shows = λ told. shows_none _ _ _;
   order = λ told. refl;
 }
-
-pub returns-in_err-write-clause-moments : goal.returns-in_err-write-clause-moments
-returns-in_err-write-clause-moments g c = λ told.
-    let D = g.D.SectorDevice in
-    let so_far = c.loop-i.invariant.moments told in
-    let runs = sectors_from c.args.start (length c.args.contents.now) in
-    goes_on so_far (write_failed runs _ (D.story c.loop-i.device) (D.story c.write.new.self) _ _
-    (inside_run c.args.start (length c.args.contents.now) _ (omega arith) (omega arith)) (written_now runs (D.story c.args.device.now) (D.story c.loop-i.device) so_far) (c.in_err-write.ensures.err told))
 
 pub returns-in_err-write-clause-cut_short : goal.returns-in_err-write-clause-cut_short
 returns-in_err-write-clause-cut_short g c = on_err c.from_residual.result (λ told.
@@ -32,22 +19,13 @@ returns-in_err-write-clause-cut_short g c = on_err c.from_residual.result (λ to
 pub loop-i-preserved : goal.loop-i-preserved
 loop-i-preserved g c =
     let D = g.D.SectorDevice in
-    let runs = sectors_from c.args.start (length c.args.contents.now) in
     record {
       size = c.write.ensures.size ∙ c.loop-i.invariant.size;
       failed = c.in_ok-write.ensures.count ∙ c.loop-i.invariant.failed;
-      moments = λ told.
-          let so_far = c.loop-i.invariant.moments told in
-          goes_on so_far (write_done runs _ (D.story c.loop-i.device) (D.story c.write.new.self) _ _ _
-          (inside_run c.args.start (length c.args.contents.now) _ (omega arith) (omega arith)) (written_now runs (D.story c.args.device.now) (D.story c.loop-i.device) so_far) (c.in_ok-write.ensures.ok told));
-      shows = λ told. shows_more c.loop-i.i (D.story c.loop-i.device) (D.story c.write.new.self) c.args.start c.args.contents.now _ refl (c.loop-i.invariant.shows told) (c.in_ok-write.ensures.ok told);
       order = λ told.
           next_done c.args.start c.loop-i.i (λ j. get_or c.args.contents.now j []) _ (D.story c.args.device.now) (D.story c.loop-i.device) (D.story c.write.new.self) refl
           (c.loop-i.invariant.order told) (c.in_ok-write.ensures.ok told);
     }
-
-pub returns-clause-shows : goal.returns-clause-shows
-returns-clause-shows g c = λ told. shows_all c.loop-i.i _ _ _ (omega arith) (c.loop-i.invariant.shows told)
 
 pub returns-clause-order : goal.returns-clause-order
 returns-clause-order g c = λ told.

@@ -1,56 +1,68 @@
-use Rattle.std.proofs.Common.{ℕ, List, refl, subst}
+use Rattle.std.proofs.Common.{◌≡◌, ◌∙◌, ℕ, List, ap, sym, subst}
 use Rattle.std.specs.Prelude.{Err}
 use Rattle.std.proofs.lemmas.Result.{err_from_is_err_and}
+use Rattle.segments.specs.Pieces.{plain_pieces}
 use Rattle.segments.specs.Usages.{IsUsedIn}
 use Rattle.catalogue.specs.View.{catalogue_of}
 use Rattle.catalogue.specs.laws.Kept.{catalogue_is}
-use Rattle.commit.specs.Placing.{Takes}
+use Rattle.commit.specs.Placing.{Takes, AreSome, plain_contents}
 use Rattle.store.specs.Changes.{PlainChange, change_of}
-use Rattle.store.proofs.Prepared.{outline_stands, some_contents, asked, given_sound, given_stands, given_change, prepared}
+use Rattle.store.proofs.Prepared.{outline_stands, asked, given_sound, given_stands, given_change, prepared}
 use Rattle.store.proofs.carrying.plan_change.Goals as goal
 
 pub text_size-requires-clause-stands : goal.text_size-requires-clause-stands
 text_size-requires-clause-stands c =
     let listed = catalogue_of c.args.stored.now.list in
-    outline_stands listed (change_of c.args.change) c.requires.sound (catalogue_is listed c.args.stored.now.list.kept) c.requires.few
+    outline_stands listed (change_of c.args.change.now) c.requires.sound (catalogue_is listed c.args.stored.now.list.kept) c.requires.few
+
+pub text_size-requires-clause-streams : goal.text_size-requires-clause-streams
+text_size-requires-clause-streams c = ap plain_contents c.deref.ensures.value ∙ c.in_ok-streams.ensures ∙ c.requires.streams
+
+pub text_size-requires-clause-rows : goal.text_size-requires-clause-rows
+text_size-requires-clause-rows c = c.deref-2.ensures.value ∙ c.requires.counts
 
 pub place-requires-clause-some : goal.place-requires-clause-some
-place-requires-clause-some c = some_contents c.args.change.streams.items c.requires.sound.some
+place-requires-clause-some c = subst (λ (xs : List (List ℕ)). AreSome xs) (sym (c.in_ok-streams.ensures ∙ c.requires.streams)) c.requires.sound.some
 
 pub returns-in_err-places-clause-no_room : goal.returns-in_err-places-clause-no_room
 returns-in_err-places-clause-no_room c =
     let p = err_from_is_err_and c.from_residual-in_err-places.result c.from_residual-in_err-places.ensures.1 in
     let listed = catalogue_of c.args.stored.now.list in
-    let change : PlainChange = change_of c.args.change in
-    let sizes = asked listed change c.requires.sound c.args.change.streams.items refl c.in_ok-text_bytes.text_bytes c.in_ok-text_bytes.ensures in
+    let change : PlainChange = change_of c.args.change.now in
+    let made : plain_contents c.in_ok-streams.streams.items ≡ (change_of c.args.change.now).streams = c.in_ok-streams.ensures ∙ c.requires.streams in
+    let sizes = asked listed change c.requires.sound (plain_contents c.in_ok-streams.streams.items) made c.in_ok-text_bytes.text_bytes c.in_ok-text_bytes.ensures in
     rw (p.1, p.2) (λ n is. subst (λ (ns : List ℕ). Takes c.args.map.now.size (IsUsedIn c.args.map.now.entries) ns (Err n)) sizes (c.in_err-places.ensures.no_room n is))
 
 pub next_catalogue-requires-clause-stands : goal.next_catalogue-requires-clause-stands
 next_catalogue-requires-clause-stands c =
     let listed = catalogue_of c.args.stored.now.list in
-    given_stands listed (change_of c.args.change) c.requires.sound c.args.change.streams.items refl c.in_ok-text_bytes.text_bytes c.in_ok-text_bytes.ensures
-    c.args.map.now c.place.new.map c.requires.limits c.requires.few c.in_ok-places.places.pieces.items c.deref.result.now c.in_ok-places.places.text c.in_ok-places.places.runs.items c.deref-2.result.now
-    c.in_ok-places.ensures.taken c.in_ok-places.ensures.runs c.in_ok-places.ensures.contents c.deref.ensures.value c.deref-2.ensures.value (catalogue_is listed c.args.stored.now.list.kept)
+    let made : plain_contents c.in_ok-streams.streams.items ≡ (change_of c.args.change.now).streams = c.in_ok-streams.ensures ∙ c.requires.streams in
+    given_stands listed (change_of c.args.change.now) c.requires.sound (plain_contents c.in_ok-streams.streams.items) made c.in_ok-text_bytes.text_bytes c.in_ok-text_bytes.ensures
+    c.args.map.now c.place.new.map c.requires.limits c.requires.few (plain_pieces c.in_ok-places.places.pieces.items) (plain_pieces c.deref-3.result.now) c.in_ok-places.places.text c.in_ok-places.places.runs.items c.deref-4.result.now
+    c.in_ok-places.ensures.taken c.in_ok-places.ensures.runs c.in_ok-places.ensures.contents (ap plain_pieces c.deref-3.ensures.value) (c.deref-4.ensures.value ∙ c.requires.counts) (catalogue_is listed c.args.stored.now.list.kept)
 
 pub next_catalogue-requires-clause-sound : goal.next_catalogue-requires-clause-sound
 next_catalogue-requires-clause-sound c =
     let listed = catalogue_of c.args.stored.now.list in
-    given_sound listed (change_of c.args.change) c.requires.sound c.args.change.streams.items refl c.in_ok-text_bytes.text_bytes c.in_ok-text_bytes.ensures
-    c.args.map.now c.place.new.map c.requires.limits c.requires.few c.in_ok-places.places.pieces.items c.deref.result.now c.in_ok-places.places.text c.in_ok-places.places.runs.items c.deref-2.result.now
-    c.in_ok-places.ensures.taken c.in_ok-places.ensures.runs c.in_ok-places.ensures.contents c.deref.ensures.value c.deref-2.ensures.value
+    let made : plain_contents c.in_ok-streams.streams.items ≡ (change_of c.args.change.now).streams = c.in_ok-streams.ensures ∙ c.requires.streams in
+    given_sound listed (change_of c.args.change.now) c.requires.sound (plain_contents c.in_ok-streams.streams.items) made c.in_ok-text_bytes.text_bytes c.in_ok-text_bytes.ensures
+    c.args.map.now c.place.new.map c.requires.limits c.requires.few (plain_pieces c.in_ok-places.places.pieces.items) (plain_pieces c.deref-3.result.now) c.in_ok-places.places.text c.in_ok-places.places.runs.items c.deref-4.result.now
+    c.in_ok-places.ensures.taken c.in_ok-places.ensures.runs c.in_ok-places.ensures.contents (ap plain_pieces c.deref-3.ensures.value) (c.deref-4.ensures.value ∙ c.requires.counts)
 
 pub next_catalogue-requires-clause-change : goal.next_catalogue-requires-clause-change
 next_catalogue-requires-clause-change c =
     let listed = catalogue_of c.args.stored.now.list in
-    given_change listed (change_of c.args.change) c.requires.sound c.args.change.streams.items refl c.in_ok-text_bytes.text_bytes c.in_ok-text_bytes.ensures
-    c.args.map.now c.place.new.map c.requires.limits c.requires.few c.in_ok-places.places.pieces.items c.deref.result.now c.in_ok-places.places.text c.in_ok-places.places.runs.items c.deref-2.result.now
-    c.in_ok-places.ensures.taken c.in_ok-places.ensures.runs c.in_ok-places.ensures.contents c.deref.ensures.value c.deref-2.ensures.value
+    let made : plain_contents c.in_ok-streams.streams.items ≡ (change_of c.args.change.now).streams = c.in_ok-streams.ensures ∙ c.requires.streams in
+    given_change listed (change_of c.args.change.now) c.requires.sound (plain_contents c.in_ok-streams.streams.items) made c.in_ok-text_bytes.text_bytes c.in_ok-text_bytes.ensures
+    c.args.map.now c.place.new.map c.requires.limits c.requires.few (plain_pieces c.in_ok-places.places.pieces.items) (plain_pieces c.deref-3.result.now) c.in_ok-places.places.text c.in_ok-places.places.runs.items c.deref-4.result.now
+    c.in_ok-places.ensures.taken c.in_ok-places.ensures.runs c.in_ok-places.ensures.contents (ap plain_pieces c.deref-3.ensures.value) (c.deref-4.ensures.value ∙ c.requires.counts)
 
 pub returns-in-Ok-clause-ok : goal.returns-in-Ok-clause-ok
 returns-in-Ok-clause-ok c =
     let listed = catalogue_of c.args.stored.now.list in
-    prepared listed (change_of c.args.change) c.requires.sound c.args.change.streams.items refl c.in_ok-text_bytes.text_bytes c.in_ok-text_bytes.ensures
-    c.args.map.now c.place.new.map c.requires.limits c.requires.few c.in_ok-places.places.pieces.items c.deref.result.now c.in_ok-places.places.text c.in_ok-places.places.runs.items c.deref-2.result.now
-    c.in_ok-places.ensures.taken c.in_ok-places.ensures.runs c.in_ok-places.ensures.contents c.deref.ensures.value c.deref-2.ensures.value
-    c.args.commit c.in-Ok.text c.in-Ok.next c.plan_next.result c.in_ok-back.back.items c.requires.own c.requires.next c.in-Ok.ensures.catalogue c.in-Ok.ensures.found c.in-Ok.ensures.size
+    let made : plain_contents c.in_ok-streams.streams.items ≡ (change_of c.args.change.now).streams = c.in_ok-streams.ensures ∙ c.requires.streams in
+    prepared listed (change_of c.args.change.now) c.requires.sound (plain_contents c.in_ok-streams.streams.items) made c.in_ok-text_bytes.text_bytes c.in_ok-text_bytes.ensures
+    c.args.map.now c.place.new.map c.requires.limits c.requires.few (plain_pieces c.in_ok-places.places.pieces.items) (plain_pieces c.deref-3.result.now) c.in_ok-places.places.text c.in_ok-places.places.runs.items c.deref-4.result.now
+    c.in_ok-places.ensures.taken c.in_ok-places.ensures.runs c.in_ok-places.ensures.contents (ap plain_pieces c.deref-3.ensures.value) (c.deref-4.ensures.value ∙ c.requires.counts)
+    c.args.commit c.in-Ok.text.items c.in-Ok.next c.plan_next.result c.in_ok-back.back.items c.requires.own c.requires.next c.in-Ok.ensures.catalogue c.in-Ok.ensures.found c.in-Ok.ensures.size
     c.plan_next.ensures.commit c.plan_next.ensures.catalogue c.plan_next.ensures.pieces c.in_ok-back.ensures

@@ -1,7 +1,9 @@
-use Rattle.std.proofs.Common.{◌≡◌, ◌≤◌, ℕ, length, sym, subst, arith}
+use Rattle.std.proofs.Common.{◌≡◌, ◌≤◌, ◌++◌, ℕ, List, length, ap, sym, subst, arith}
 use Rattle.std.specs.Prelude.{Err}
 use Rattle.std.proofs.lemmas.List.{length-map}
 use Rattle.std.specs.Global.{Vec}
+use Rattle.array_build.specs.declared.batch.Buffer.{Buffer}
+use Rattle.canonical_write.specs.View.{joined_parts}
 use Rattle.segments.specs.Usages.{IsUsedIn}
 use Rattle.catalogue.specs.declared.limits.TheConstants.{MAX_SEGMENTS}
 use Rattle.catalogue.specs.Entries.{segment_count}
@@ -15,24 +17,28 @@ use Rattle.store.proofs.carrying.prepare.Goals as goal
 
 pub returns-then-segments_after-gt-MAX_SEGMENTS-clause-why : goal.returns-then-segments_after-gt-MAX_SEGMENTS-clause-why
 returns-then-segments_after-gt-MAX_SEGMENTS-clause-why c =
-    let change : PlainChange = change_of c.args.change in
-    let streams = length-map c.args.change.streams.items (λ (v : Vec ℕ). v.items) in
+    let change : PlainChange = change_of c.args.change.now in
+    let parts = c.args.pieces.now.parts in
+    let streams = length-map parts.items (λ (v : Vec Buffer). c.args.pieces.now.schema_message.items ++ joined_parts v.items) in
+    let same = ap (λ (xs : List (List ℕ)). length xs) c.requires.streams in
     let long = unplaced_number change.streams change.counts c.requires.sound.each in
-    let len = c.len-new.ensures in
-    let whole = c.args.change.streams.ok in
-    let many : length (unplaced change.streams change.counts) ≡ c.len-new.result = omega (arith, long, streams, len, whole) in
+    let len = c.len-count.ensures in
+    let whole = parts.ok in
+    let many : length (unplaced change.streams change.counts) ≡ c.len-count.result = omega (arith, long, streams, same, len, whole) in
     let after = c.segments_after.ensures (unplaced change.streams change.counts) many in
     let above = c.if-segments_after-gt-MAX_SEGMENTS.true in
     (omega arith, omega (arith, after, above))
 
 pub plan_change-requires-clause-few : goal.plan_change-requires-clause-few
 plan_change-requires-clause-few c =
-    let change : PlainChange = change_of c.args.change in
-    let streams = length-map c.args.change.streams.items (λ (v : Vec ℕ). v.items) in
+    let change : PlainChange = change_of c.args.change.now in
+    let parts = c.args.pieces.now.parts in
+    let streams = length-map parts.items (λ (v : Vec Buffer). c.args.pieces.now.schema_message.items ++ joined_parts v.items) in
+    let same = ap (λ (xs : List (List ℕ)). length xs) c.requires.streams in
     let long = unplaced_number change.streams change.counts c.requires.sound.each in
-    let len = c.len-new.ensures in
-    let whole = c.args.change.streams.ok in
-    let many : length (unplaced change.streams change.counts) ≡ c.len-new.result = omega (arith, long, streams, len, whole) in
+    let len = c.len-count.ensures in
+    let whole = parts.ok in
+    let many : length (unplaced change.streams change.counts) ≡ c.len-count.result = omega (arith, long, streams, same, len, whole) in
     let after = c.segments_after.ensures (unplaced change.streams change.counts) many in
     let within = c.if-segments_after-gt-MAX_SEGMENTS.false in
     omega (arith, after, within)
@@ -40,12 +46,14 @@ plan_change-requires-clause-few c =
 pub returns-in-Err-clause-why : goal.returns-in-Err-clause-why
 returns-in-Err-clause-why c =
     let listed = catalogue_of c.args.stored.now.list in
-    let change : PlainChange = change_of c.args.change in
-    let streams = length-map c.args.change.streams.items (λ (v : Vec ℕ). v.items) in
+    let change : PlainChange = change_of c.args.change.now in
+    let parts = c.args.pieces.now.parts in
+    let streams = length-map parts.items (λ (v : Vec Buffer). c.args.pieces.now.schema_message.items ++ joined_parts v.items) in
+    let same = ap (λ (xs : List (List ℕ)). length xs) c.requires.streams in
     let long = unplaced_number change.streams change.counts c.requires.sound.each in
-    let len = c.len-new.ensures in
-    let whole = c.args.change.streams.ok in
-    let many : length (unplaced change.streams change.counts) ≡ c.len-new.result = omega (arith, long, streams, len, whole) in
+    let len = c.len-count.ensures in
+    let whole = parts.ok in
+    let many : length (unplaced change.streams change.counts) ≡ c.len-count.result = omega (arith, long, streams, same, len, whole) in
     let after = c.segments_after.ensures (unplaced change.streams change.counts) many in
     let within = c.if-segments_after-gt-MAX_SEGMENTS.false in
     let next : HasNext c.args.commit = omega arith in
@@ -54,4 +62,4 @@ returns-in-Err-clause-why c =
     (taking_carried c.args.map.now.size (IsUsedIn c.args.map.now.entries) c.args.commit listed change c.in-Err.error next few c.in-Err.ensures.no_room)
 
 pub segments_after-requires-clause-edit : goal.segments_after-requires-clause-edit
-segments_after-requires-clause-edit c = let change : PlainChange = change_of c.args.change in (change.streams, c.requires.sound.edit)
+segments_after-requires-clause-edit c = let change : PlainChange = change_of c.args.change.now in (change.streams, c.requires.sound.edit)

@@ -9,7 +9,7 @@ use Rattle.store.proofs.Decided.{drop_answers}
 use Rattle.store.proofs.deciding.decide_drop.Goals as goal
 
 pub returns-clause-ok : goal.returns-clause-ok
-returns-clause-ok c =
+returns-clause-ok c = λ short.
     subst (IsChange (catalogue_of c.args.catalogue.now)) (sym c.change_of_names.ensures)
     (drop_is_change (catalogue_of c.args.catalogue.now) (string_bytes c.args.name)
     (sym (ap (missing_in (catalogue_of c.args.catalogue.now)) c.deref.ensures) ∙ c.in_ok-test_there.ensures))

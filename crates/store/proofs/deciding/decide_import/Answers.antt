@@ -1,10 +1,10 @@
-use Rattle.std.proofs.Common.{◌≡◌, ◌<◌, ◌^◌, length, ℕ, List, None, Ok, refl, ap, sym, ◌∙◌, subst, string_bytes}
-use Rattle.std.specs.List.{AllByRecursion}
+use Rattle.std.proofs.Common.{◌≡◌, None, Ok, refl, ap, sym, ◌∙◌, subst, string_bytes}
 use Rattle.cells.specs.Cell.{PlainTable}
 use Rattle.values.specs.Table.{IsTable}
 use Rattle.values.specs.TableView.{table_of}
 use Rattle.catalogue.specs.Entries.{PlainCatalogue}
 use Rattle.catalogue.specs.View.{catalogue_of}
+use Rattle.commit.specs.Placing.{AreShort}
 use Rattle.tables.specs.Commands.{import_stream}
 use Rattle.store.specs.Changes.{PlainChange, change_of, IsChange}
 use Rattle.tables.specs.Verdict.{import_tests}
@@ -16,7 +16,7 @@ use Rattle.store.proofs.Decided.{import_answers, failed_answers, table_answers}
 use Rattle.store.proofs.deciding.decide_import.Goals as goal
 
 pub returns-clause-ok : goal.returns-clause-ok
-returns-clause-ok c =
+returns-clause-ok c = λ short.
     let listed : PlainCatalogue = catalogue_of c.args.catalogue.now in
     let table : PlainTable = table_of c.in_ok-table.table in
     let sound : IsTable table = c.in_ok-table.table.kept in
@@ -24,9 +24,9 @@ returns-clause-ok c =
     let tested : import_tests (string_bytes c.args.name) c.args.bytes.items ≡ None = sym (λ i. import_tests (c.deref.ensures i) (c.deref-2.ensures.value i)) ∙ c.in_ok-test_import.ensures in
     let room : full_in listed (string_bytes c.args.name) ≡ None = sym (ap (full_in listed) c.deref-3.ensures) ∙ c.in_ok-test_room.ensures.test in
     let put : IsPut (string_bytes c.args.name) table (change_of c.in_ok-put_table.field-0) = c.in_ok-put_table.ensures in
-    subst (IsChange listed) (sym put.is)
+    subst (IsChange listed) (sym put)
     (table_is_change listed (string_bytes c.args.name) table counts c.in_ok-test_room.ensures.kept (import_named (string_bytes c.args.name) c.args.bytes.items tested) room sound.schema
-    (c.pieces_are_tables.ensures.each table sound) (subst (λ (x : PlainChange). AllByRecursion (λ (stream : List ℕ). length stream < 2 ^ 64) x.streams) put.is put.short))
+    (c.pieces_are_tables.ensures.each table sound) (subst (λ (x : PlainChange). AreShort x.streams) put short))
 
 pub returns-in_err-test_import-clause-answers : goal.returns-in_err-test_import-clause-answers
 returns-in_err-test_import-clause-answers c = λ tells image.
@@ -56,5 +56,5 @@ returns-clause-answers c = λ tells image.
     let tested : import_tests (string_bytes c.args.name) c.args.bytes.items ≡ None = sym (λ i. import_tests (c.deref.ensures i) (c.deref-2.ensures.value i)) ∙ c.in_ok-test_import.ensures in
     let room : full_in listed (string_bytes c.args.name) ≡ None = sym (ap (full_in listed) c.deref-3.ensures) ∙ c.in_ok-test_room.ensures.test in
     let put : IsPut (string_bytes c.args.name) table (change_of c.in_ok-put_table.field-0) = c.in_ok-put_table.ensures in
-    subst (λ (x : PlainChange). IsAnswered tells image listed (import_stream (string_bytes c.args.name) c.args.bytes.items) (Ok x)) (sym put.is)
+    subst (λ (x : PlainChange). IsAnswered tells image listed (import_stream (string_bytes c.args.name) c.args.bytes.items) (Ok x)) (sym put)
     (table_answers tells image listed (string_bytes c.args.name) c.args.bytes.items table _ tested c.in_ok-table.ensures.exact room)

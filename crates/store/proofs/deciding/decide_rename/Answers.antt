@@ -9,7 +9,7 @@ use Rattle.store.proofs.Decided.{rename_answers}
 use Rattle.store.proofs.deciding.decide_rename.Goals as goal
 
 pub returns-clause-ok : goal.returns-clause-ok
-returns-clause-ok c =
+returns-clause-ok c = λ short.
     let tested : rename_tests (catalogue_of c.args.catalogue.now) c.deref.result.now c.deref-2.result.now ≡ rename_tests (catalogue_of c.args.catalogue.now) (string_bytes c.args.from) (string_bytes c.args.to) =
     λ i. rename_tests (catalogue_of c.args.catalogue.now) (c.deref.ensures i) (c.deref-2.ensures i) in
     let none : rename_tests (catalogue_of c.args.catalogue.now) (string_bytes c.args.from) (string_bytes c.args.to) ≡ None = sym tested ∙ c.in_ok-test_rename.ensures in

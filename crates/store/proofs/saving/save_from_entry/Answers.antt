@@ -1,14 +1,14 @@
-use Rattle.std.proofs.Common.{◌≡◌, ◌<◌, ◌^◌, ◌∷◌, [], ℕ, List, None, length, sym, ◌∙◌, subst, string_bytes}
+use Rattle.std.proofs.Common.{◌≡◌, ◌∷◌, [], ℕ, List, None, sym, ◌∙◌, subst, string_bytes}
 use Rattle.std.proofs.lemmas.Result.{IfOk-weaker}
-use Rattle.std.specs.List.{AllByRecursion}
 use Rattle.facts.specs.Checks.{first_some}
 use Rattle.arrow_schema.specs.View.{schema_of}
 use Rattle.catalogue.specs.Entries.{PlainCatalogue, plain_entry}
 use Rattle.catalogue.specs.View.{catalogue_of}
 use Rattle.catalogue.specs.laws.Kept.{entry_is}
+use Rattle.commit.specs.Placing.{AreShort}
 use Rattle.ipc_message.specs.laws.Accepted.{first_none}
 use Rattle.query.specs.View.{query_in}
-use Rattle.store.specs.Changes.{PlainChange, change_of, IsChange}
+use Rattle.store.specs.Changes.{PlainChange, change_of, CanChange, IsChange}
 use Rattle.store.specs.Deciding.{create_tests, unselected}
 use Rattle.store.proofs.ReadTables.{reads_quiet}
 use Rattle.store.proofs.Tested.{Counts, create_names, table_is_change}
@@ -31,8 +31,8 @@ returns-in-Ok-read_entry-clause-ok g c =
     let tested : first_some (unselected schema query ∷ create_tests listed to ∷ []) ≡ None = sym (λ i. first_some (unselected schema query ∷ create_tests listed (c.deref.ensures i) ∷ [])) ∙ c.in-Ok.ensures.ok in
     let one = first_none (unselected schema query) (create_tests listed to ∷ []) tested in
     let names = create_names listed to (first_none (create_tests listed to) [] one.1).0 in
-    IfOk-weaker c.put_selection.result _ (λ change. IsChange listed (change_of change))
-    (λ change put.
-    subst (IsChange listed) (sym put.2.is)
+    IfOk-weaker c.put_selection.result _ (λ change. CanChange listed (change_of change))
+    (λ change put short.
+    subst (IsChange listed) (sym put.2)
     (table_is_change listed to put.0 counts c.in-Ok.ensures.kept names.named names.room put.1.schema (c.pieces_are_tables.ensures.each put.0 put.1)
-    (subst (λ (x : PlainChange). AllByRecursion (λ (stream : List ℕ). length stream < 2 ^ 64) x.streams) put.2.is put.2.short))) c.put_selection.ensures.put
+    (subst (λ (x : PlainChange). AreShort x.streams) put.2 short))) c.put_selection.ensures.put

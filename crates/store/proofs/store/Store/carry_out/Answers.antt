@@ -6,6 +6,7 @@ use Rattle.sector_dev.specs.Disk.{now, synced_image, Counts}
 use Rattle.sector_dev.specs.Time.{LeavesOnly}
 use Rattle.sector_dev.specs.laws.Time.{stays}
 use Rattle.segments.specs.declared.piece.Piece.{Piece}
+use Rattle.segments.specs.Pieces.{plain_pieces}
 use Rattle.segments.specs.Usages.{IsUsedIn}
 use Rattle.segments.specs.Writing.{runs_of}
 use Rattle.catalogue.specs.Entries as entries
@@ -27,15 +28,35 @@ use Rattle.store.specs.Carrying.{IsCarried, asked_sizes}
 use Rattle.store.proofs.ReadsStore.{shown_is_synced}
 use Rattle.store.proofs.Roomed.{carried_out, refused_out}
 use Rattle.store.proofs.Prepared.{failed_usages, placed_then, fit_then, uses_then}
-use Rattle.store.proofs.Carried.{refused_goes, failed_goes, done_goes, new_after, synced_outside, stands_then, can_publish, images, has_done, writes}
+use Rattle.tables.specs.declared.refusal.Refusal.TheVariants as refusals
+use Rattle.canonical_write.specs.View.{streams_in}
+use Rattle.store.proofs.Carried.{made_change, refused_goes, failed_goes, done_goes, new_after, synced_outside, stands_then, can_publish, images, has_done, writes}
 use Rattle.store.proofs.store.Store.carry_out.Goals as goal
+
+pub returns-in_err-pieces-clause-goes : goal.returns-in_err-pieces-clause-goes
+returns-in_err-pieces-clause-goes g c = λ told base m cmd new fits on makes mk decided.
+    let D = g.D.SectorDevice in
+    let s = c.args.self.now in
+    let change : PlainChange = change_of c.args.change.now in
+    let p = err_from_is_err_and c.from_residual.result c.from_residual.ensures.1 in
+    rw (p.1, p.2) (record {
+      next = m;
+      same = refl;
+      goes = refused_goes (D.size s.device) base m cmd new on makes s.opened.commit (listed_in s) (IsUsedIn s.opened.map.entries) change (D.story s.device) (D.failed s.device) refusals.OutOfMemory fits.device.allows tt
+          (λ no. cc no) (refused_out D.size D.story base m s (fits.sound on) cmd change refusals.OutOfMemory decided tt);
+      fits = fits;
+    })
+
+pub prepare-requires-clause-sound : goal.prepare-requires-clause-sound
+prepare-requires-clause-sound g c =
+    made_change (listed_in c.args.self.now) (change_of c.args.change.now) (streams_in c.in_ok-pieces.pieces) c.requires.sound c.in_ok-pieces.ensures.streams c.in_ok-pieces.ensures.short
 
 pub returns-in_err-prepared-clause-goes : goal.returns-in_err-prepared-clause-goes
 returns-in_err-prepared-clause-goes g c = λ told base m cmd new fits on makes mk decided.
     let D = g.D.SectorDevice in
     let s = c.args.self.now in
-    let change : PlainChange = change_of c.args.change in
-    let p = err_from_is_err_and c.from_residual.result c.from_residual.ensures.1 in
+    let change : PlainChange = change_of c.args.change.now in
+    let p = err_from_is_err_and c.from_residual-in_err-prepared.result c.from_residual-in_err-prepared.ensures.1 in
     let r = c.in_err-prepared.field-0.0 in
     let carried = subst (λ (n : ℕ). IsCarried n (IsUsedIn s.opened.map.entries) s.opened.commit (listed_in s) change (Err r) s.opened.commit (listed_in s)) s.same c.in_err-prepared.ensures.why in
     rw (p.1, p.2) (record {
@@ -53,11 +74,12 @@ returns-in_err-prepared-clause-goes g c = λ told base m cmd new fits on makes m
 
 pub invariant_of-self-in-Ok : goal.invariant_of-self-in-Ok
 invariant_of-self-in-Ok g c =
+    let sound = made_change (listed_in c.args.self.now) (change_of c.args.change.now) (streams_in c.in_ok-pieces.pieces) c.requires.sound c.in_ok-pieces.ensures.streams c.in_ok-pieces.ensures.short in
     let D = g.D.SectorDevice in
     let s = c.args.self.now in
     let listed = listed_in s in
     let stands = catalogue_is listed s.opened.catalogue.list.kept in
-    let change : PlainChange = change_of c.args.change in
+    let change : PlainChange = change_of c.args.change.now in
     let plan = c.in_ok-prepared.prepared.plan in
     let back = c.in_ok-prepared.prepared.back.items in
     let old = s.opened.map in
@@ -72,23 +94,23 @@ invariant_of-self-in-Ok g c =
       in_limits = subst (λ (n : ℕ). is_size n ≡ true) (sym sized) s.in_limits;
       same = c.settle.ensures.map.size ∙ c.in_ok-prepared.ensures.size ∙ s.same ∙ sym sized;
       own = ap (λ (k : Commit). k.device_sectors) (commit_is ∙ prep.commit) ∙ s.own ∙ sym sized;
-      fit = (λ i. runs_fault ((sized ∙ sym s.same) i) (commit_is i).catalogue.run (entries.runs_of (catalogue_of (catalogue_is' i).list))) ∙ fit_then old mid s.opened.commit listed change plan back prep on fit s.uses c.requires.sound stands;
+      fit = (λ i. runs_fault ((sized ∙ sym s.same) i) (commit_is i).catalogue.run (entries.runs_of (catalogue_of (catalogue_is' i).list))) ∙ fit_then old mid s.opened.commit listed change plan back prep on fit s.uses sound stands;
       placed = (λ i. is_on_device ((sized ∙ sym s.same) i) (commit_is i).catalogue.run) ∙ placed_then old mid s.opened.commit listed change plan back prep;
       uses = subst (λ (x : StoredCatalogue). Uses c.settle.new.opened.map.entries (c.settle.new.opened.commit.catalogue.run ∷ entries.runs_of (catalogue_of x.list)) []) (sym catalogue_is')
           (subst (λ (k : Commit). Uses c.settle.new.opened.map.entries (k.catalogue.run ∷ entries.runs_of (catalogue_of plan.catalogue.list)) []) (sym commit_is)
-          (uses_then old mid s.opened.commit listed change plan back prep on fit s.uses c.requires.sound c.settle.new.opened.map stands c.settle.ensures.map));
+          (uses_then old mid s.opened.commit listed change plan back prep on fit s.uses sound c.settle.new.opened.map stands c.settle.ensures.map));
     }
 
 pub invariant_of-self-in-Err : goal.invariant_of-self-in-Err
 invariant_of-self-in-Err g c =
     let s = c.args.self.now in
     let listed = listed_in s in
-    let change : PlainChange = change_of c.args.change in
+    let change : PlainChange = change_of c.args.change.now in
     let plan = c.in_ok-prepared.prepared.plan in
     let back = c.in_ok-prepared.prepared.back.items in
     let prep = c.in_ok-prepared.ensures.ok in
     let sized = c.publish.ensures.size in
-    let gives = subst (λ (ps : List Piece). GivesAll c.prepare.new.map c.give_pieces.new.map (runs_of ps)) c.deref.ensures.value c.give_pieces.ensures in
+    let gives = subst (λ (ps : List Piece). GivesAll c.prepare.new.map c.give_pieces.new.map (runs_of (plain_pieces ps))) c.deref.ensures.value c.give_pieces.ensures in
     let usages = failed_usages s.opened.map c.prepare.new.map s.opened.commit listed change plan back prep c.give_pieces.new.map gives in
     record {
       in_limits = subst (λ (n : ℕ). is_size n ≡ true) (sym sized) s.in_limits;
@@ -102,7 +124,7 @@ invariant_of-self-in-Err g c =
 pub returns-in-Ok-clause-carried : goal.returns-in-Ok-clause-carried
 returns-in-Ok-clause-carried g c =
     let s = c.args.self.now in
-    let change : PlainChange = change_of c.args.change in
+    let change : PlainChange = change_of c.args.change.now in
     let prep = c.in_ok-prepared.ensures.ok in
     let sizes = asked_sizes (listed_in s) change in
     let takes = took_takes s.opened.map.size (IsUsedIn s.opened.map.entries) sizes (runs_of prep.pieces ++ prep.run ∷ []) prep.took.took in (
@@ -117,17 +139,18 @@ returns-in-Ok-clause-carried g c =
       ),
     )
 
-pub returns-in-Err-clause-carried : goal.returns-in-Err-clause-carried
-returns-in-Err-clause-carried g c =
+pub returns-clause-carried : goal.returns-clause-carried
+returns-clause-carried g c =
     let s = c.args.self.now in
     let prep = c.in_ok-prepared.ensures.ok in
-    let sizes = asked_sizes (listed_in s) (change_of c.args.change) in
+    let sizes = asked_sizes (listed_in s) (change_of c.args.change.now) in
     let runs = runs_of prep.pieces ++ prep.run ∷ [] in
     let takes = took_takes s.opened.map.size (IsUsedIn s.opened.map.entries) sizes runs prep.took.took in
     (prep.next, prep.few, (runs, subst (λ (n : ℕ). Takes n (IsUsedIn s.opened.map.entries) sizes (Ok runs)) s.same takes))
 
 pub returns-in-Ok-clause-goes : goal.returns-in-Ok-clause-goes
 returns-in-Ok-clause-goes g c = λ told base m cmd new fits run makes mk decided.
+    let sound = made_change (listed_in c.args.self.now) (change_of c.args.change.now) (streams_in c.in_ok-pieces.pieces) c.requires.sound c.in_ok-pieces.ensures.streams c.in_ok-pieces.ensures.short in
     let D = g.D.SectorDevice in
     let s = c.args.self.now in
     let s0 = D.story s.device in
@@ -136,7 +159,7 @@ returns-in-Ok-clause-goes g c = λ told base m cmd new fits run makes mk decided
     let sized = c.publish.ensures.size in
     let listed = listed_in s in
     let stands = catalogue_is listed s.opened.catalogue.list.kept in
-    let change : PlainChange = change_of c.args.change in
+    let change : PlainChange = change_of c.args.change.now in
     let plan = c.in_ok-prepared.prepared.plan in
     let back = c.in_ok-prepared.prepared.back.items in
     let old = s.opened.map in
@@ -148,16 +171,16 @@ returns-in-Ok-clause-goes g c = λ told base m cmd new fits run makes mk decided
     let fit = subst (λ (n : ℕ). runs_fault n k.catalogue.run (entries.runs_of listed) ≡ None) (sym s.same) s.fit in
     let commit_is = c.settle.ensures.commit in
     let catalogue_is' = c.settle.ensures.catalogue in
-    let im = images base m s mid change plan back new prep c.requires.sound (fits.sound run) mk in
+    let im = images base m s mid change plan back new prep sound (fits.sound run) mk in
     let p = c.in-Ok.ensures.published told im.can in
-    let outside = synced_outside plan.commit plan.pieces.items (now s0) (now s1) p.touches in
+    let outside = synced_outside plan.commit (plain_pieces plan.pieces.items) (now s0) (now s1) p.touches in
     let sizes = asked_sizes listed change in
     let takes = took_takes old.size (IsUsedIn old.entries) sizes (runs_of prep.pieces ++ prep.run ∷ []) prep.took.took in
     let taken = subst (λ (n : ℕ). Takes n (IsUsedIn old.entries) sizes (Ok (runs_of prep.pieces ++ prep.run ∷ []))) s.same takes in
     let ended = carried_out D.size D.story base m s (fits.sound run) cmd change (Ok tt) plan.commit will (now s1) decided
     (ap (standing whole_reading size) (shown_is_synced (now s1) p.quiet.shown) ∙ p.stands)
     (prep.next, prep.few, (runs_of prep.pieces, prep.run, taken, prep.catalogue, prep.commit)) in
-    let goes = done_goes size base m cmd new run makes s0 s1 plan.commit plan.pieces.items (StandsAs whole_reading size k listed) (StandsAs whole_reading size plan.commit will) fits.device.allows
+    let goes = done_goes size base m cmd new run makes s0 s1 plan.commit (plain_pieces plan.pieces.items) (StandsAs whole_reading size k listed) (StandsAs whole_reading size plan.commit will) fits.device.allows
     im.olds (λ image is. im.news image is.outside) (c.publish.ensures.moments told im.can)
     (D.failed s.device) (D.failed c.publish.new.device) c.in-Ok.ensures.count p (im.news (synced_image (now s1)) outside p.stands p.holds) ended in
     record {
@@ -180,14 +203,15 @@ returns-in-Ok-clause-goes g c = λ told base m cmd new fits run makes mk decided
           tables = ap (λ (x : StoredCatalogue). tables_held (synced_image (now s1)) (catalogue_of x.list)) catalogue_is' ∙ im.tables (synced_image (now s1)) outside p.holds ∙ ap Some (new_after size base m cmd new run makes);
           uses = subst (λ (x : StoredCatalogue). Uses c.settle.new.opened.map.entries (c.settle.new.opened.commit.catalogue.run ∷ entries.runs_of (catalogue_of x.list)) []) (sym catalogue_is')
               (subst (λ (x : Commit). Uses c.settle.new.opened.map.entries (x.catalogue.run ∷ entries.runs_of will) []) (sym commit_is)
-              (uses_then old mid k listed change plan back prep on fit s.uses c.requires.sound c.settle.new.opened.map stands c.settle.ensures.map));
+              (uses_then old mid k listed change plan back prep on fit s.uses sound c.settle.new.opened.map stands c.settle.ensures.map));
           none = refl;
         };
       };
     }
 
-pub returns-in-Err-clause-goes : goal.returns-in-Err-clause-goes
-returns-in-Err-clause-goes g c = λ told base m cmd new fits run makes mk decided.
+pub returns-clause-goes : goal.returns-clause-goes
+returns-clause-goes g c = λ told base m cmd new fits run makes mk decided.
+    let sound = made_change (listed_in c.args.self.now) (change_of c.args.change.now) (streams_in c.in_ok-pieces.pieces) c.requires.sound c.in_ok-pieces.ensures.streams c.in_ok-pieces.ensures.short in
     let D = g.D.SectorDevice in
     let s = c.args.self.now in
     let s0 = D.story s.device in
@@ -195,16 +219,16 @@ returns-in-Err-clause-goes g c = λ told base m cmd new fits run makes mk decide
     let size = D.size s.device in
     let sized = c.publish.ensures.size in
     let listed = listed_in s in
-    let change : PlainChange = change_of c.args.change in
+    let change : PlainChange = change_of c.args.change.now in
     let plan = c.in_ok-prepared.prepared.plan in
     let back = c.in_ok-prepared.prepared.back.items in
     let mid = c.prepare.new.map in
     let k = s.opened.commit in
     let will = catalogue_of plan.catalogue.list in
     let prep = c.in_ok-prepared.ensures.ok in
-    let im = images base m s mid change plan back new prep c.requires.sound (fits.sound run) mk in
+    let im = images base m s mid change plan back new prep sound (fits.sound run) mk in
     let counts = subst (λ (e : DevError). Counts {T = Unit {0}} (D.failed s.device) (D.failed c.publish.new.device) (Err e)) c.in-Err.ensures.error c.in-Err.ensures.count in
-    let goes = failed_goes size base m cmd new run makes s0 s1 plan.commit plan.pieces.items (StandsAs whole_reading size k listed) (StandsAs whole_reading size plan.commit will) fits.device.allows
+    let goes = failed_goes size base m cmd new run makes s0 s1 plan.commit (plain_pieces plan.pieces.items) (StandsAs whole_reading size k listed) (StandsAs whole_reading size plan.commit will) fits.device.allows
     im.olds (λ image is. im.news image is.outside) (c.publish.ensures.moments told im.can)
     (D.failed s.device) (D.failed c.publish.new.device) counts in
     let next = halt (apply_call cmd) (has_written (now s0) (now s1)) m in
@@ -226,6 +250,12 @@ returns-in-Err-clause-goes g c = λ told base m cmd new fits run makes mk decide
 
 -- ---- what the disk holds
 
+pub returns-in_err-pieces-clause-writes : goal.returns-in_err-pieces-clause-writes
+returns-in_err-pieces-clause-writes g c = λ told cmd on decided.
+    let D = g.D.SectorDevice in
+    let s = c.args.self.now in
+    stays (IsApplying (D.size s.device) (IsUsedIn s.opened.map.entries) s.opened.commit (listed_in s) (now (D.story s.device)) cmd) (D.story s.device)
+
 pub returns-in_err-prepared-clause-writes : goal.returns-in_err-prepared-clause-writes
 returns-in_err-prepared-clause-writes g c = λ told cmd on decided.
     let D = g.D.SectorDevice in
@@ -234,24 +264,27 @@ returns-in_err-prepared-clause-writes g c = λ told cmd on decided.
 
 pub returns-in-Ok-clause-writes : goal.returns-in-Ok-clause-writes
 returns-in-Ok-clause-writes g c = λ told cmd on decided.
-    writes c.args.self.now c.prepare.new.map (change_of c.args.change) c.in_ok-prepared.prepared.plan c.in_ok-prepared.prepared.back.items c.in_ok-prepared.ensures.ok c.requires.sound cmd decided
+    let sound = made_change (listed_in c.args.self.now) (change_of c.args.change.now) (streams_in c.in_ok-pieces.pieces) c.requires.sound c.in_ok-pieces.ensures.streams c.in_ok-pieces.ensures.short in
+    writes c.args.self.now c.prepare.new.map (change_of c.args.change.now) c.in_ok-prepared.prepared.plan c.in_ok-prepared.prepared.back.items c.in_ok-prepared.ensures.ok sound cmd decided
     (g.D.SectorDevice.story c.publish.new.device) on (c.publish.ensures.moments told)
 
-pub returns-in-Err-clause-writes : goal.returns-in-Err-clause-writes
-returns-in-Err-clause-writes g c = λ told cmd on decided.
-    writes c.args.self.now c.prepare.new.map (change_of c.args.change) c.in_ok-prepared.prepared.plan c.in_ok-prepared.prepared.back.items c.in_ok-prepared.ensures.ok c.requires.sound cmd decided
+pub returns-clause-writes : goal.returns-clause-writes
+returns-clause-writes g c = λ told cmd on decided.
+    let sound = made_change (listed_in c.args.self.now) (change_of c.args.change.now) (streams_in c.in_ok-pieces.pieces) c.requires.sound c.in_ok-pieces.ensures.streams c.in_ok-pieces.ensures.short in
+    writes c.args.self.now c.prepare.new.map (change_of c.args.change.now) c.in_ok-prepared.prepared.plan c.in_ok-prepared.prepared.back.items c.in_ok-prepared.ensures.ok sound cmd decided
     (g.D.SectorDevice.story c.publish.new.device) on (c.publish.ensures.moments told)
 
 pub returns-in-Ok-clause-written : goal.returns-in-Ok-clause-written
 returns-in-Ok-clause-written g c = λ told cmd on decided.
+    let sound = made_change (listed_in c.args.self.now) (change_of c.args.change.now) (streams_in c.in_ok-pieces.pieces) c.requires.sound c.in_ok-pieces.ensures.streams c.in_ok-pieces.ensures.short in
     let D = g.D.SectorDevice in
     let s = c.args.self.now in
     let s1 = D.story c.publish.new.device in
-    let change : PlainChange = change_of c.args.change in
+    let change : PlainChange = change_of c.args.change.now in
     let plan = c.in_ok-prepared.prepared.plan in
     let back = c.in_ok-prepared.prepared.back.items in
     let prep = c.in_ok-prepared.ensures.ok in
-    let can = can_publish s c.prepare.new.map change plan back prep c.requires.sound (now (D.story s.device)) on in
+    let can = can_publish s c.prepare.new.map change plan back prep sound (now (D.story s.device)) on in
     let p = c.in-Ok.ensures.published told can in
     record {
       stands = record {
@@ -259,5 +292,5 @@ returns-in-Ok-clause-written g c = λ told cmd on decided.
         found = stands_then (D.size s.device) (D.size c.publish.new.device) (synced_image (now s1)) plan.commit c.settle.new.opened.commit plan.catalogue c.settle.new.opened.catalogue c.publish.ensures.size
             c.settle.ensures.commit c.settle.ensures.catalogue p.stands;
       };
-      holds = has_done s.opened.map c.prepare.new.map s.opened.commit (listed_in s) change plan back prep (D.size s.device) s.same c.requires.sound (now (D.story s.device)) cmd decided (synced_image (now s1)) p.stands p.holds;
+      holds = has_done s.opened.map c.prepare.new.map s.opened.commit (listed_in s) change plan back prep (D.size s.device) s.same sound (now (D.story s.device)) cmd decided (synced_image (now s1)) p.stands p.holds;
     }

@@ -1,8 +1,7 @@
-use Rattle.std.proofs.Common.{◌≡◌, ◌≢◌, ◌∙◌, ℕ, true, false, [], ◌∷◌, Err, refl, ap, sym, subst}
+use Rattle.std.proofs.Common.{◌≡◌, ◌≢◌, ◌∙◌, ℕ, true, [], ◌∷◌, Err, refl, ap, sym, subst}
 use Rattle.sector_dev.specs.Disk.{now, shown_image, synced_image}
 use Rattle.sector_dev.specs.Time.{LeavesOnly}
 use Rattle.commit.specs.declared.cause.Cause.{Cause}
-use Rattle.commit.specs.declared.cause.Cause.TheVariants.{DeviceSize}
 use Rattle.commit.specs.declared.formatting.FormatError.TheVariants as errors
 use Rattle.commit.specs.declared.sector.Commit.{Commit}
 use Rattle.commit.specs.Ruling.{ruling}

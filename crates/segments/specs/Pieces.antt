@@ -1,0 +1,28 @@
+-- What is written: a run and the bytes that go into it, wherever they stand.
+use Rattle.std.specs.Prelude.{ℕ, List, map}
+use Rattle.std.specs.List.{flat_map}
+use Rattle.segments.specs.declared.run.Run.{Run}
+use Rattle.segments.specs.declared.piece.Part.{Part}
+use Rattle.segments.specs.declared.piece.Part.TheVariants.{Made, Lent}
+use Rattle.segments.specs.declared.piece.Piece.{Piece}
+
+-- a run, and bytes
+pub record PlainPiece : Type 0 where
+  pub run : Run
+  pub bytes : List ℕ
+
+-- the bytes of a part, wherever they stand
+abbrev pub part_bytes : Part → List ℕ
+part_bytes (Made v) = v.items
+part_bytes (Lent b) = b.now
+
+-- those of parts, behind one another
+abbrev pub bytes_of_parts : List Part → List ℕ
+bytes_of_parts parts = flat_map part_bytes parts
+
+-- a piece as its run and its bytes
+abbrev pub plain_piece : Piece → PlainPiece
+plain_piece p = record { run = p.run; bytes = bytes_of_parts p.parts.items }
+
+abbrev pub plain_pieces : List Piece → List PlainPiece
+plain_pieces pieces = map plain_piece pieces

@@ -1,0 +1,15 @@
+-- The whole sectors of some bytes, and the bytes behind them.
+use Rattle.std.specs.Prelude.{ℕ, List, length, take, drop, ◌*◌, ◌/◌}
+use Rattle.segments.specs.declared.tail.Tail.{Tail}
+
+-- the bytes of whole sectors
+unfoldable pub whole_bytes : List ℕ → List ℕ
+whole_bytes bytes = take (512 * (length bytes / 512)) bytes
+
+-- those behind them
+unfoldable pub rest_bytes : List ℕ → List ℕ
+rest_bytes bytes = drop (512 * (length bytes / 512)) bytes
+
+-- the bytes that don't fill a sector yet
+abbrev pub tail_bytes : Tail → List ℕ
+tail_bytes t = take t.count t.sector

@@ -1,0 +1,13 @@
+-- The rows of a table under another schema.
+use Rattle.std.specs.Prelude.{Option, Some, None}
+use Rattle.arrow_schema.specs.View.{schema_of}
+use Rattle.arrow_schema.specs.declared.types.Schema.{Schema}
+use Rattle.canonical_write.specs.View.{with_schema}
+use Rattle.cells.specs.Cell.{PlainTable}
+use Rattle.values.specs.TableView.{table_of}
+use Rattle.values.specs.declared.table.Table.{Table}
+
+-- in place of its own, where there is one
+abbrev pub table_under : Option Schema → Table → PlainTable
+table_under None table = table_of table
+table_under (Some schema) table = with_schema (schema_of schema) (table_of table)
