@@ -1,4 +1,4 @@
-// The streams of a table that is kept in record batches, and of its pieces, without borrowing a row.
+// The streams of rows that are kept in record batches, and of the pieces of a table of such rows, without borrowing a row.
 ghost use Rattle.std.specs.Prelude.{◌≡◌, ◌<◌, ◌^◌, ◌∷◌, ◌++◌, [], true, false, length, IfOk};
 ghost use Rattle.std.specs.List.{AllByRecursion};
 ghost use Rattle.arrow_schema.specs.Column.{columns_of};
@@ -10,7 +10,8 @@ ghost use Rattle.canonical_write.specs.View.{joined_parts, streams_in};
 ghost use Rattle.canonical_write.specs.inner.Stream.{stream_in};
 ghost use Rattle.cells.specs.Dictionary.{is_any_limited};
 ghost use Rattle.ipc_write.specs.Written.{schema_message};
-ghost use Rattle.run_pieces.specs.Rows.{runs_rows, are_runs_sound};
+ghost use Rattle.run_pieces.specs.Left.{runs_left, rows_left};
+ghost use Rattle.run_pieces.specs.Rows.{runs_rows, runs_table, are_runs_sound};
 ghost use Rattle.table_cut.specs.Cut.{pieces};
 ghost use Rattle.table_cut.specs.Piece.{within_piece};
 ghost use Rattle.values.specs.Parts.{are_parts_sound, parts_rows, parts_table};
@@ -18,13 +19,40 @@ ghost use Rattle.values.specs.Table.{IsTable};
 
 use crate::encoder::EncodedPieces;
 use crate::messages::write_run_piece;
-use crate::stream::{Stream, begin_stream, end_stream, into_parts, schema_bytes};
+use crate::stream::{Stream, begin_stream, end_stream, into_bytes, into_parts, schema_bytes};
 use array_build::Buffer;
 use arrow_schema::Schema;
 use canonical_stream::pieces_can_be_built;
-use run_pieces::{RowsLeft, RunPiece};
+use run_pieces::{RowRun, RowsLeft, RunPiece};
 use std::alloc::{AllocError, Global};
 use values::Part;
+
+// The one stream of the rows that are left, of which there are so many.
+fn encode_left<'a>(
+    alloc: Global,
+    schema: &Schema,
+    all: RowsLeft<'a>,
+    rows: usize,
+) -> Result<Stream<'a>, AllocError>
+    requires table { IsTable (runs_table (schema_of schema.now) (runs_left all)) }
+    requires sound { are_runs_sound (columns_of (schema_of schema.now).columns) (runs_left all) ≡ true }
+    requires count { rows ≡ length (rows_left (columns_of (schema_of schema.now).columns) all) }
+    requires unlimited { is_any_limited (columns_of (schema_of schema.now).columns) ≡ false }
+    ensures { IfOk result (λ stream. stream_in stream ≡ canonical (runs_table (schema_of schema.now) (runs_left all.entry))) }
+{
+    pieces_can_be_built();
+    let mut left = all;
+    let first = schema_bytes(alloc, schema)?;
+    let mut stream = begin_stream(alloc, first);
+    let mut from = 0;
+    while from < rows {
+        let piece = left.next_piece(alloc, schema)?;
+        write_run_piece(alloc, &mut stream, schema, &piece)?;
+        from += piece.rows;
+    }
+    end_stream(&mut stream)?;
+    Ok(stream)
+}
 
 /// The one stream of the rows of record batches, of which there are so many.
 pub(crate) fn encode_parts<'a>(
@@ -39,18 +67,28 @@ pub(crate) fn encode_parts<'a>(
     requires unlimited { is_any_limited (columns_of (schema_of schema.now).columns) ≡ false }
     ensures { IfOk result (λ stream. stream_in stream ≡ canonical (parts_table (schema_of schema.now) parts.now)) }
 {
-    pieces_can_be_built();
-    let first = schema_bytes(alloc, schema)?;
-    let mut stream = begin_stream(alloc, first);
-    let mut left = RowsLeft::new(alloc, parts)?;
-    let mut from = 0;
-    while from < rows {
-        let piece = left.next_piece(alloc, schema)?;
-        write_run_piece(alloc, &mut stream, schema, &piece)?;
-        from += piece.rows;
-    }
-    end_stream(&mut stream)?;
-    Ok(stream)
+    let left = RowsLeft::new(alloc, parts)?;
+    encode_left(alloc, schema, left, rows)
+}
+
+/// The one stream of the rows of some runs, of which there are so many: that of [`crate::encode`] of a table that has these rows. No row is borrowed.
+///
+/// The caller sees to it that the rows are a table, whose dictionaries have indices of 32 or 64 bits. Refused only where a growth was. It takes the memory
+/// of the stream, and of the buffers that had to be made, and time linear in the stream and in the runs.
+pub fn encode_runs(
+    alloc: Global,
+    schema: &Schema,
+    runs: Vec<RowRun<'_>>,
+    rows: usize,
+) -> Result<Vec<u8>, AllocError>
+    requires table { IsTable (runs_table (schema_of schema.now) runs.items) }
+    requires sound { are_runs_sound (columns_of (schema_of schema.now).columns) runs.items ≡ true }
+    requires count { rows ≡ length (runs_rows (columns_of (schema_of schema.now).columns) runs.items) }
+    requires unlimited { is_any_limited (columns_of (schema_of schema.now).columns) ≡ false }
+    ensures { IfOk result (λ out. out.items ≡ canonical (runs_table (schema_of schema.now) runs.entry.items)) }
+{
+    let stream = encode_left(alloc, schema, RowsLeft::of_runs(runs), rows)?;
+    into_bytes(alloc, stream)
 }
 
 // The stream of a piece, as a table of its own, but for the message of the schema, which has so many bytes.

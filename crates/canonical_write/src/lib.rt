@@ -17,6 +17,7 @@ mod messages;
 mod stream;
 mod writing;
 
+pub use by_runs::encode_runs;
 pub use encoder::{EncodedPieces, encode, encode_own_pieces, encode_pieces};
 pub use laws::pieces_are_tables;
 pub use writing::{WriteError, encode_to};

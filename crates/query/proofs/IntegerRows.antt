@@ -23,9 +23,11 @@ use Rattle.query.specs.declared.integer_rows.IntegerColumn.{IntegerColumn}
 use Rattle.query.specs.declared.kept.Kept.{Kept}
 use Rattle.query.specs.Selection.{pick}
 use Rattle.query.specs.inner.IntegerRows.{IsIntegerAt, AreIntegers, integer_in, integer_row, batch_integers, part_integers, parts_integers, batch_has_integers, part_has_integers}
-use Rattle.query.specs.inner.Keeping.{rows_set, HasKept, Keeps}
+use Rattle.query.specs.Choice.{rows_set}
+use Rattle.query.specs.inner.Keeping.{HasKept, Keeps}
 use Rattle.query.specs.inner.Slots.{width_of, array_of, has_integers}
-use Rattle.query.proofs.Keeping.{kept_same, set_append}
+use Rattle.query.proofs.Keeping.{kept_same}
+use Rattle.query.specs.laws.RowsSet.{set_append}
 use Rattle.query.proofs.Maps.{maps_same}
 use Rattle.query.proofs.SlotFlags.{all_here, one_taken, all_too, map_map, flat_is, cell_in_row, array_sound}
 

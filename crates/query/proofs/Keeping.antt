@@ -1,79 +1,18 @@
 -- The rows that a mask keeps, gathered one by one.
-use Rattle.std.proofs.Common.{◌≡◌, ℕ, inl, inr, zero, suc, ◌+◌, ◌-◌, ◌*◌, ◌^◌, ◌≤◌, ◌<◌, Bool, true, false, cond, List, [], ◌∷◌, ◌++◌, map, length, take, get_or, refl, sym, ap, ◌∙◌, arith, append_assoc, length-append}
+use Rattle.std.proofs.Common.{◌≡◌, ℕ, suc, ◌+◌, ◌-◌, ◌*◌, ◌^◌, ◌≤◌, ◌<◌, Bool, true, false, cond, List, [], ◌∷◌, ◌++◌, map, length, take, get_or, refl, sym, ap, ◌∙◌, arith, append_assoc, length-append}
 use Rattle.std.specs.Prelude.{Option, Some, None, filter, slice_get, unwrap_or, option_map, if◌then◌else◌}
 use Rattle.std.specs.List.{flat_map}
-use Rattle.std.proofs.lemmas.Bool.{cases_lt}
-use Rattle.std.proofs.lemmas.List.{length-map, take_more, take_all, append-nil, length-take-le}
+use Rattle.std.proofs.lemmas.List.{length-map, take_all, append-nil}
 use Rattle.std.proofs.lemmas.Grind.{flat_map-append}
 use Rattle.std.proofs.lemmas.List.Sums.{length-filter, count_by-le-length}
 use Rattle.std.proofs.lemmas.Option.{slice_get-map, get_or_from_slice_get, slice_get-get_or}
 use Rattle.bitmap.specs.Bits.{bit}
 use Rattle.cells.specs.Cell.{Cell}
 use Rattle.query.specs.Selection.{limited}
-use Rattle.query.specs.inner.Keeping.{rows_set, AreKept}
+use Rattle.query.specs.Choice.{rows_set}
+use Rattle.query.specs.inner.Keeping.{AreKept}
 use Rattle.query.specs.inner.Masks.{IsMask}
-
--- what is kept with the first of some rows, behind others
-abbrev pub kept_front : (most : ℕ) → (others : List (List Cell)) → (mask : List ℕ) → (start : ℕ) → (xs : List (List Cell)) → (i : ℕ) → List (List Cell)
-kept_front most others mask start xs i = take most (others ++ rows_set mask start (take i xs))
-
-take-none : {X : Type 0} (n : ℕ) → take {A = X} n [] ≡ []
-take-none zero = refl
-take-none (suc n) = refl
-
--- one more at the end
-take-room : {X : Type 0} (most : ℕ) (xs : List X) (x : X) → length (take most xs) < most → take most (xs ++ x ∷ []) ≡ take most xs ++ x ∷ []
-take-room {X = X} zero xs x h = absurd (omega (arith, h))
-take-room {X = X} (suc most) [] x h = ap (λ (ys : List X). x ∷ ys) (take-none most)
-take-room {X = X} (suc most) (y ∷ xs) x h = ap (λ (ys : List X). y ∷ ys) (take-room most xs x (omega (arith, h)))
-
-take-full : {X : Type 0} (most : ℕ) (xs ys : List X) → most ≤ length (take most xs) → take most (xs ++ ys) ≡ take most xs
-take-full {X = X} zero xs ys h = refl
-take-full {X = X} (suc most) [] ys h = absurd (omega (arith, h))
-take-full {X = X} (suc most) (y ∷ xs) ys h = ap (λ (zs : List X). y ∷ zs) (take-full most xs ys (omega (arith, h)))
-
--- the rows of two lists
-pub set_append : (mask : List ℕ) (from : ℕ) (xs ys : List (List Cell)) → rows_set mask from (xs ++ ys) ≡ rows_set mask from xs ++ rows_set mask (from + length xs) ys
-set_append mask from [] ys = let e : from ≡ from + 0 = omega arith in ap (λ n. rows_set mask n ys) e
-set_append mask from (x ∷ xs) ys =
-    let e : from + 1 + length xs ≡ from + suc (length xs) = omega arith in
-    by (bit mask from) (set_append mask (from + 1) xs ys ∙ ap (λ n. rows_set mask (from + 1) xs ++ rows_set mask n ys) e)
-  where
-    by : (b : Bool) → rows_set mask (from + 1) (xs ++ ys) ≡ rows_set mask (from + 1) xs ++ rows_set mask (from + suc (length xs)) ys
-        → (if b then x ∷ rows_set mask (from + 1) (xs ++ ys) else rows_set mask (from + 1) (xs ++ ys))
-        ≡ (if b then x ∷ rows_set mask (from + 1) xs else rows_set mask (from + 1) xs) ++ rows_set mask (from + suc (length xs)) ys
-    by true h = ap (λ (zs : List (List Cell)). x ∷ zs) h
-    by false h = h
-
--- those of one more row
-one_more : (mask : List ℕ) (start : ℕ) (xs : List (List Cell)) (i : ℕ) → i < length xs
-    → rows_set mask start (take (i + 1) xs) ≡ rows_set mask start (take i xs) ++ rows_set mask (start + i) (get_or xs i [] ∷ [])
-one_more mask start xs i h =
-    let long : length (take i xs) ≡ i = length-take-le i xs (omega (arith, h)) in
-    ap (rows_set mask start) (take_more xs i [] h) ∙ set_append mask start (take i xs) (get_or xs i [] ∷ [])
-    ∙ ap (λ n. rows_set mask start (take i xs) ++ rows_set mask (start + n) (get_or xs i [] ∷ [])) long
-
--- what is kept with one more row, whose bit is this
-with_bit : (most : ℕ) (others : List (List Cell)) (mask : List ℕ) (start : ℕ) (xs : List (List Cell)) (i : ℕ) (b : Bool) → i < length xs → bit mask (start + i) ≡ b
-    → kept_front most others mask start xs (i + 1) ≡ take most ((others ++ rows_set mask start (take i xs)) ++ (if b then get_or xs i [] ∷ [] else []))
-with_bit most others mask start xs i b h is =
-    ap (λ (ys : List (List Cell)). take most (others ++ ys)) (one_more mask start xs i h)
-    ∙ ap (λ (set : Bool). take most (others ++ (rows_set mask start (take i xs) ++ (if set then get_or xs i [] ∷ [] else [])))) is
-    ∙ ap (take most) (sym (append_assoc others (rows_set mask start (take i xs)) (if b then get_or xs i [] ∷ [] else [])))
-
-kept_one : (most : ℕ) (others : List (List Cell)) (mask : List ℕ) (start : ℕ) (xs : List (List Cell)) (i : ℕ) → i < length xs → bit mask (start + i) ≡ true
-    → length (kept_front most others mask start xs i) < most → kept_front most others mask start xs (i + 1) ≡ kept_front most others mask start xs i ++ get_or xs i [] ∷ []
-kept_one most others mask start xs i h set room = with_bit most others mask start xs i true h set ∙ take-room most (others ++ rows_set mask start (take i xs)) (get_or xs i []) room
-
-kept_not : (most : ℕ) (others : List (List Cell)) (mask : List ℕ) (start : ℕ) (xs : List (List Cell)) (i : ℕ) → i < length xs → bit mask (start + i) ≡ false
-    → kept_front most others mask start xs (i + 1) ≡ kept_front most others mask start xs i
-kept_not most others mask start xs i h unset = with_bit most others mask start xs i false h unset ∙ ap (take most) (append-nil (others ++ rows_set mask start (take i xs)))
-
-kept_full : (most : ℕ) (others : List (List Cell)) (mask : List ℕ) (start : ℕ) (xs : List (List Cell)) (i : ℕ) → i < length xs → most ≤ length (kept_front most others mask start xs i)
-    → kept_front most others mask start xs (i + 1) ≡ kept_front most others mask start xs i
-kept_full most others mask start xs i h full =
-    with_bit most others mask start xs i (bit mask (start + i)) h refl
-    ∙ take-full most (others ++ rows_set mask start (take i xs)) (if bit mask (start + i) then get_or xs i [] ∷ [] else []) full
+use Rattle.query.specs.laws.RowsSet.{kept_front, take-none, kept_one, front_start, front_next, front_done}
 
 one_flat : (rows : List (List Cell)) (row : List Cell) → flat_map (λ row. row) (rows ++ row ∷ []) ≡ flat_map (λ row. row) rows ++ row
 one_flat rows row = flat_map-append (λ row. row) rows (row ∷ []) ∙ ap (λ (xs : List Cell). flat_map (λ row. row) rows ++ xs) (append-nil row)
@@ -97,54 +36,23 @@ kept_more most others mask start xs i cells more count next within set h room ad
       count_is = omega (arith, counted, h.count_is, ap (λ (rs : List (List Cell)). length rs) grown, length-append (kept_front most others mask start xs i) (row ∷ []));
     }
 
--- rows that are passed over
-kept_over : (most : ℕ) (others : List (List Cell)) (mask : List ℕ) (start : ℕ) (xs : List (List Cell)) (from n : ℕ) → from + n ≤ length xs
-    → ((i : ℕ) → from ≤ i → i < from + n → bit mask (start + i) ≡ false) → kept_front most others mask start xs (from + n) ≡ kept_front most others mask start xs from
-kept_over most others mask start xs from zero within unset = let e : from + 0 ≡ from = omega arith in ap (kept_front most others mask start xs) e
-kept_over most others mask start xs from (suc n) within unset =
-    let e : from + suc n ≡ from + n + 1 = omega arith in
-    ap (kept_front most others mask start xs) e
-    ∙ kept_not most others mask start xs (from + n) (omega arith) (unset (from + n) (omega arith) (omega arith))
-    ∙ kept_over most others mask start xs from n (omega arith) (λ i above below. unset i above (omega (arith, below)))
-
--- where there is room for no more
-full_over : (most : ℕ) (others : List (List Cell)) (mask : List ℕ) (start : ℕ) (xs : List (List Cell)) (from n : ℕ) → from + n ≤ length xs → most ≤ length (kept_front most others mask start xs from)
-    → kept_front most others mask start xs (from + n) ≡ kept_front most others mask start xs from
-full_over most others mask start xs from zero within full = let e : from + 0 ≡ from = omega arith in ap (kept_front most others mask start xs) e
-full_over most others mask start xs from (suc n) within full =
-    let e : from + suc n ≡ from + n + 1 = omega arith in
-    let before = full_over most others mask start xs from n (omega arith) full in
-    ap (kept_front most others mask start xs) e
-    ∙ kept_full most others mask start xs (from + n) (omega arith) (omega (arith, full, ap (λ (rs : List (List Cell)). length rs) before)) ∙ before
-
 -- no row yet
 pub kept_start : (most : ℕ) (others : List (List Cell)) (mask : List ℕ) (start : ℕ) (xs : List (List Cell)) (cells : List Cell) (count : ℕ) → AreKept (take most others) cells count
     → AreKept (kept_front most others mask start xs 0) cells count
-kept_start most others mask start xs cells count h =
-    kept_same (take most others) (kept_front most others mask start xs 0) cells count (ap (take most) (sym (append-nil others))) h
+kept_start most others mask start xs cells count h = kept_same (take most others) (kept_front most others mask start xs 0) cells count (front_start most others mask start xs) h
 
 -- up to the next row whose bit is set
 pub kept_next : (most : ℕ) (others : List (List Cell)) (mask : List ℕ) (start : ℕ) (xs : List (List Cell)) (from to : ℕ) (cells : List Cell) (count : ℕ) → from ≤ to → to ≤ length xs
     → ((i : ℕ) → from ≤ i → i < to → bit mask (start + i) ≡ false) → AreKept (kept_front most others mask start xs from) cells count → AreKept (kept_front most others mask start xs to) cells count
 kept_next most others mask start xs from to cells count order within unset h =
-    let e : from + (to - from) ≡ to = omega arith in
-    let over = kept_over most others mask start xs from (to - from) (omega arith) (λ i above below. unset i above (omega (arith, below, e))) in
-    kept_same (kept_front most others mask start xs from) (kept_front most others mask start xs to) cells count (sym over ∙ ap (kept_front most others mask start xs) e) h
+    kept_same (kept_front most others mask start xs from) (kept_front most others mask start xs to) cells count (front_next most others mask start xs from to order within unset) h
 
 -- where no row is left, or there is room for no more
 pub kept_done : (most : ℕ) (others : List (List Cell)) (mask : List ℕ) (start : ℕ) (xs : List (List Cell)) (i : ℕ) (cells : List Cell) (count : ℕ) → i ≤ length xs → (i < length xs → most ≤ count)
     → AreKept (kept_front most others mask start xs i) cells count → AreKept (take most (others ++ rows_set mask start xs)) cells count
 kept_done most others mask start xs i cells count within full h =
     kept_same (kept_front most others mask start xs i) (take most (others ++ rows_set mask start xs)) cells count
-    (sym all ∙ ap (λ (ys : List (List Cell)). take most (others ++ rows_set mask start ys)) (take_all (length xs) xs (omega arith))) h
-  where
-    all : kept_front most others mask start xs (length xs) ≡ kept_front most others mask start xs i
-    all = elim (cases_lt i (length xs)) [
-      | inl lt ↦
-          (let whole : i + (length xs - i) ≡ length xs = omega arith in
-          ap (kept_front most others mask start xs) (sym whole) ∙ full_over most others mask start xs i (length xs - i) (omega arith) (omega (arith, full lt, h.count_is)))
-      | inr le ↦ (let whole : length xs ≡ i = omega arith in ap (kept_front most others mask start xs) whole)
-    ]
+    (front_done most others mask start xs i within (λ lt. omega (arith, full lt, h.count_is))) h
 
 -- ---- the rows of which a test holds
 

@@ -1,5 +1,4 @@
 pub mod Nodes
-pub mod Picks
 pub mod PickedSchemas
 pub mod PickedRows
 pub mod SelectedTables

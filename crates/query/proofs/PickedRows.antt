@@ -13,7 +13,7 @@ use Rattle.cells.specs.Weight.{weight, parts_weight, row_weight}
 use Rattle.cells.specs.Dictionary.{holdings, holdings_from, has_few_entries, cells_at}
 use Rattle.cells.specs.Row.{is_row}
 use Rattle.query.specs.Selection.{pick, is_distinct}
-use Rattle.query.proofs.Picks.{pick-map, sum_by-pick, list_all-pick}
+use Rattle.query.specs.laws.Picks.{pick-map, sum_by-pick, list_all-pick}
 use Rattle.query.proofs.PickedSchemas.{picked_schema}
 
 -- columns beside their cells

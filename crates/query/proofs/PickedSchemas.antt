@@ -10,7 +10,7 @@ use Rattle.arrow_schema.specs.Column.{Column, columns_of, PlainSchema}
 use Rattle.arrow_schema.specs.Preorder.{preorder, preorder_all, depth, depth_all, every_column}
 use Rattle.arrow_schema.specs.Limits.{IsWithinLimits, pairs_in, bytes_in, has_number_in_range, has_flat_dictionary, has_bit_widths, has_utf8_texts}
 use Rattle.query.specs.Selection.{pick, is_distinct}
-use Rattle.query.proofs.Picks.{sum_by-pick, list_all-pick}
+use Rattle.query.specs.laws.Picks.{sum_by-pick, list_all-pick}
 
 -- sums and tests over all columns, column by column
 sum_all : (f : Column → ℕ) (cs : List Column) → sum_by f (preorder_all (columns_of cs)) ≡ sum_by (λ c. sum_by f (preorder c)) cs

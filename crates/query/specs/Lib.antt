@@ -3,6 +3,8 @@ pub mod ConditionText
 pub mod Literal
 pub mod Bound
 pub mod Selection
+pub mod Choice
 pub mod Line
 pub mod View
+pub mod laws
 pub mod inner

@@ -6,7 +6,8 @@ ghost use Rattle.cells.specs.View.{cell};
 ghost use Rattle.columns.specs.CellAt.{unless_null};
 ghost use Rattle.columns.specs.View.{view_array};
 ghost use Rattle.query.specs.inner.IntegerRows.{IsIntegerAt, AreIntegers, number_or_null, integer_in, integer_row, batch_integers, part_integers, parts_integers, batch_has_integers, part_has_integers};
-ghost use Rattle.query.specs.inner.Keeping.{rows_set, HasKept, Keeps};
+ghost use Rattle.query.specs.Choice.{rows_set};
+ghost use Rattle.query.specs.inner.Keeping.{HasKept, Keeps};
 ghost use Rattle.query.specs.inner.Slots.{array_of, has_integers, integer_cell};
 
 use crate::bound::field_at;

@@ -12,7 +12,7 @@ pub(crate) struct Kept {
 }
 
 /// The first row from one on whose bit is set, or the end.
-pub(crate) fn next_set(mask: &[u8], from: usize, end: usize) -> usize
+pub fn next_set(mask: &[u8], from: usize, end: usize) -> usize
     requires within { end ≤ 8 * length mask.now }
     requires order { from ≤ end }
     ensures begins { from ≤ result }

@@ -1,20 +1,22 @@
 //! Queries: which rows and columns of a table, and a row as a line of JSON.
 //!
 //! A [`Query`] names columns, conditions that each row must meet, and how many rows at most. Promised are, exactly: which
-//! condition a text states, which table is the selection of another, or why there is none, and the line of a row.
-//! Contracts see tables, rows and queries as the plain trees of `specs/`, however they are kept.
+//! condition a text states, which columns and rows of a table a query chooses, or why there are none, the table of these with its values copied, and the line of a
+//! row. Contracts see tables, rows and queries as the plain trees of `specs/`, however they are kept.
 //!
 //! ```
 //! let condition = Condition::parse(alloc, "a >= 1")?;
 //! let query = Query { columns: Vec::new(alloc), conditions: vec![in alloc; condition]?, limit: Some(10) };
-//! let found = select(alloc, &table, &query)?;
+//! let choice = choose(alloc, &table, &query)?;
+//! let found = chosen_cells(alloc, &table, &choice)?;
 //! ```
 //!
-//! gives the first ten rows of `table` whose `a` is at least 1, with all columns; a null is not.
+//! gives the first ten rows of `table` whose `a` is at least 1, with all columns; a null is not. `selection::select` does both, and keeps record batches as they are.
 #![tactic(auto)]
 
 mod blocks;
 mod bound;
+mod choice;
 mod condition;
 mod copying;
 mod cut;
@@ -29,10 +31,12 @@ mod query;
 mod selecting;
 mod slots;
 
+pub use choice::Choice;
 pub use condition::{Condition, Test};
 pub use errors::QueryError;
+pub use kept::next_set;
 pub use laws::{rows_refuse_no_query, selection_is_a_table};
 pub use line::json_line;
 pub use operator::Operator;
 pub use query::Query;
-pub use selecting::select;
+pub use selecting::{choose, chosen_cells, pick_schema};

@@ -1,4 +1,4 @@
-// The selection of a table.
+// Which columns and rows of a table a query selects, and the table of them.
 ghost use Rattle.std.specs.Prelude.{◌≡◌, ◌≤◌, ◌<◌, ◌+◌, ◌*◌, ◌++◌, ◌&&◌, ℕ, Ok, Some, IfOk, IfErr, OnOk};
 ghost use Rattle.std.specs.Prelude.{map, filter, take, length, nat_lt, slice_get, string_bytes, slice_index_or, replicate, true, false, []};
 ghost use Rattle.std.specs.List.{flat_map, list_all, range_with_len};
@@ -14,10 +14,12 @@ ghost use Rattle.query.specs.Bound.{bound, holds};
 ghost use Rattle.query.specs.Selection.{pick, chosen, all_ok, limited, holds_all, is_distinct, selected, selection};
 ghost use Rattle.query.specs.View.{condition_in, query_in, Reports, Unchosen};
 ghost use Rattle.query.specs.inner.BoundView.{bound_in};
-ghost use Rattle.query.specs.inner.Keeping.{rows_set, HasKept};
+ghost use Rattle.query.specs.Choice.{rows_set, chosen_table};
+ghost use Rattle.query.specs.inner.Keeping.{HasKept};
 ghost use Rattle.query.specs.inner.Masks.{IsMask};
 
 use crate::bound::{Bound, bind, field_at, holds, place_of};
+use crate::choice::Choice;
 use crate::condition::Condition;
 use crate::copying::copy_value;
 use crate::errors::QueryError;
@@ -32,7 +34,7 @@ use values::{Table, TableError, Values, accepted_rows_are_a_table};
 
 // The places of the columns asked for.
 #[tactic(auto, unfolding(crate::specs::Selection::chosen))]
-fn choose(alloc: Global, fields: &[Field], names: &[String]) -> Result<Vec<usize>, QueryError>
+fn places_of(alloc: Global, fields: &[Field], names: &[String]) -> Result<Vec<usize>, QueryError>
     ensures ok { IfOk result (λ v. chosen (map column_of fields.now) (map string_bytes names.now) ≡ Some v.items) }
     ensures refused { IfErr result (λ e. Unchosen e (chosen (map column_of fields.now) (map string_bytes names.now))) }
 {
@@ -202,22 +204,6 @@ fn keep_set(
     }
 }
 
-// The rows of which all conditions hold, each with the values at these places, under a limit.
-fn keep_rows(
-    alloc: Global,
-    table: &Table,
-    places: &[usize],
-    bounds: &[Bound],
-    limit: Option<u64>,
-) -> Result<Kept, AllocError>
-    ensures { IfOk result (λ k. HasKept (selected places.now (map bound_in bounds.now) limit (table_of table.now)).rows k) }
-{
-    // a number of the code is below 2^64, so that no limit of 64 bits cuts what has none
-    let _rows = table.len();
-    let mask = mask_of_all(alloc, table, bounds)?;
-    keep_set(alloc, table, places, &mask, limit.unwrap_or(u64::MAX))
-}
-
 fn pick_fields(alloc: Global, fields: &[Field], places: &[usize]) -> Result<Vec<Field>, AllocError>
     ensures { IfOk result (λ v. map column_of v.items ≡ pick places.now (map column_of fields.now)) }
 {
@@ -230,8 +216,8 @@ fn pick_fields(alloc: Global, fields: &[Field], places: &[usize]) -> Result<Vec<
     Ok(picked)
 }
 
-// A schema of the columns at some places.
-fn pick_schema(alloc: Global, schema: &Schema, places: &[usize]) -> Result<Schema, AllocError>
+/// A schema of the columns at some places.
+pub fn pick_schema(alloc: Global, schema: &Schema, places: &[usize]) -> Result<Schema, AllocError>
     ensures { IfOk result (λ s. schema_of s ≡ record { columns = pick places.now (schema_of schema.now).columns; pairs = (schema_of schema.now).pairs }) }
 {
     let mut picked = schema.copy(alloc)?;
@@ -255,31 +241,50 @@ fn table_of_kept(alloc: Global, schema: Schema, kept: Kept) -> Result<Table, Que
     }
 }
 
-// The rows of which all conditions hold, then the columns at these places, then the first rows.
-fn select_bound(
-    alloc: Global,
-    table: &Table,
-    places: &[usize],
-    bounds: &[Bound],
-    limit: Option<u64>,
-) -> Result<Table, QueryError>
-    requires { is_distinct places.now ≡ true }
-    ensures ok { IfOk result (λ t. table_of t ≡ selected places.now (map bound_in bounds.now) limit (table_of table.now)) }
+/// The table of the columns and rows that are chosen of another, each value copied. Refused only where a growth was. It takes time linear in the values, and
+/// for a table that is not kept in record batches, or has another type than integers, dates and timestamps, in the rows that are passed over by bytes of the mask.
+pub fn chosen_cells(alloc: Global, table: &Table, choice: &Choice) -> Result<Table, QueryError>
+    requires mask { length (table_of table.now).rows ≤ 8 * length choice.now.mask.items }
+    requires table { IsTable (chosen_table choice.now (table_of table.now)) }
+    ensures ok { IfOk result (λ t. table_of t ≡ chosen_table choice.now (table_of table.now)) }
     ensures refused { IfErr result (λ e. e ≡ OutOfMemory) }
 {
-    let kept = keep_rows(alloc, table, places, bounds, limit)?;
-    let schema = pick_schema(alloc, table.schema(), places)?;
+    let kept = keep_set(alloc, table, &choice.columns, &choice.mask, choice.most)?;
+    let schema = pick_schema(alloc, table.schema(), &choice.columns)?;
     table_of_kept(alloc, schema, kept)
 }
 
-/// The rows of a table of which all conditions hold, then the columns asked for, then the first rows; or the first reason
-/// why the query is refused: the columns asked for are looked at first, and then the conditions in order.
-pub fn select(alloc: Global, table: &Table, query: &Query) -> Result<Table, QueryError>
-    ensures ok { IfOk result (λ t. selection (table_of table.now) (query_in query.now) ≡ Ok (table_of t)) }
+// The rows of which all conditions hold, then the columns at these places, then the first rows.
+fn choose_bound(
+    alloc: Global,
+    table: &Table,
+    places: Vec<usize>,
+    bounds: &[Bound],
+    limit: Option<u64>,
+) -> Result<Choice, AllocError>
+    ensures chosen { IfOk result (λ c. chosen_table c (table_of table.now) ≡ selected places.items (map bound_in bounds.now) limit (table_of table.now)) }
+    ensures mask { IfOk result (λ c. length (table_of table.now).rows ≤ 8 * length c.mask.items) }
+{
+    // a number of the code is below 2^64, so that no limit of 64 bits cuts what has none
+    let _rows = table.len();
+    let mask = mask_of_all(alloc, table, bounds)?;
+    Ok(Choice {
+        columns: places,
+        mask,
+        most: limit.unwrap_or(u64::MAX),
+    })
+}
+
+/// Which columns and rows of a table a query selects; or the first reason why it is refused: the columns asked for are looked at first, and then the conditions
+/// in order. Beside where it is refused, growths alone are.
+pub fn choose(alloc: Global, table: &Table, query: &Query) -> Result<Choice, QueryError>
+    ensures ok { IfOk result (λ c. selection (table_of table.now) (query_in query.now) ≡ Ok (chosen_table c (table_of table.now))) }
+    ensures mask { IfOk result (λ c. length (table_of table.now).rows ≤ 8 * length c.mask.items) }
     ensures refused { IfErr result (λ e. Reports e (selection (table_of table.now) (query_in query.now))) }
 {
     let schema = table.schema();
-    let places = choose(alloc, &schema.fields, &query.columns)?;
+    let places = places_of(alloc, &schema.fields, &query.columns)?;
     let bounds = bind_all(alloc, &schema.fields, &query.conditions)?;
-    select_bound(alloc, table, &places, &bounds, query.limit)
+    let choice = choose_bound(alloc, table, places, &bounds, query.limit)?;
+    Ok(choice)
 }

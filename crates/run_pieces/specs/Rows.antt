@@ -1,8 +1,8 @@
 -- The rows of runs of rows.
 use Rattle.std.specs.Prelude.{◌+◌, Bool, List, map}
 use Rattle.std.specs.List.{flat_map, list_all, range_with_len}
-use Rattle.arrow_schema.specs.Column.{Columns}
-use Rattle.cells.specs.Cell.{Cell}
+use Rattle.arrow_schema.specs.Column.{Columns, columns_of, PlainSchema}
+use Rattle.cells.specs.Cell.{Cell, PlainTable}
 use Rattle.columns.specs.Array.{Arrays}
 use Rattle.columns.specs.CellAt.{row_at}
 use Rattle.columns.specs.Sound.{are_sound}
@@ -19,6 +19,9 @@ run_rows columns r = map (row_at columns (arrays_of_run r)) (range_with_len r.fr
 -- the rows of some runs, in order
 abbrev pub runs_rows : Columns → List RowRun → List (List Cell)
 runs_rows columns runs = flat_map (run_rows columns) runs
+
+abbrev pub runs_table : PlainSchema → List RowRun → PlainTable
+runs_table s runs = record { schema = s; rows = runs_rows (columns_of s.columns) runs }
 
 -- its slots can be looked up
 abbrev pub is_run_sound : Columns → RowRun → Bool

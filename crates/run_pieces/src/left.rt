@@ -90,6 +90,13 @@ impl<'a> RowsLeft<'a> {
         Ok(RowsLeft { runs, next: 0 })
     }
 
+    /// The rows of runs that are given.
+    pub fn of_runs(runs: Vec<RowRun<'a>>) -> RowsLeft<'a>
+        ensures { runs_left result ≡ runs.entry.items }
+    {
+        RowsLeft { runs, next: 0 }
+    }
+
     /// The rows of the next piece: the longest front of the rows that are left which is within the limits of a piece. It takes time linear in the runs of
     /// the piece, and for a piece that is too heavy with one run more, in the rows of that run. Refused only where a growth was; from then on it is not
     /// told which rows are left, and a caller that tries again begins with [`RowsLeft::new`].

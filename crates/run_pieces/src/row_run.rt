@@ -15,13 +15,14 @@ pub struct RowRun<'a> {
 }
 
 impl<'a> RowRun<'a> {
-    ghost use Rattle.std.specs.Prelude.{◌≡◌, ◌≤◌, true, take, drop};
+    ghost use Rattle.std.specs.Prelude.{◌≡◌, ◌≤◌, ◌-◌, true, take, drop};
     ghost use Rattle.arrow_schema.specs.Column.{Columns};
     ghost use Rattle.run_pieces.specs.Rows.{run_rows, is_run_sound};
 
     /// The first of these rows.
-    pub(crate) fn front(self, len: usize) -> RowRun<'a>
+    pub fn front(self, len: usize) -> RowRun<'a>
         requires { len ≤ self.len }
+        ensures len { result.len ≡ len }
         ensures rows { (columns : Columns) → run_rows columns result ≡ take len (run_rows columns self.entry) }
         ensures sound { (columns : Columns) → is_run_sound columns self.entry ≡ true → is_run_sound columns result ≡ true }
     {
@@ -35,8 +36,9 @@ impl<'a> RowRun<'a> {
     }
 
     /// The rows behind the first of these.
-    pub(crate) fn behind(self, len: usize) -> RowRun<'a>
+    pub fn behind(self, len: usize) -> RowRun<'a>
         requires { len ≤ self.len }
+        ensures len { result.len ≡ self.entry.len - len }
         ensures rows { (columns : Columns) → run_rows columns result ≡ drop len (run_rows columns self.entry) }
         ensures sound { (columns : Columns) → is_run_sound columns self.entry ≡ true → is_run_sound columns result ≡ true }
     {

@@ -15,8 +15,9 @@ ghost use Rattle.store_commands.specs.Reading.{store_ended};
 ghost use Rattle.store_commands.specs.Selecting.{named_columns, conditions_of, stated_query, RefusesWords, rows_text, QueryAnswers, RefusesQuery};
 
 use command_refusals::{Refusal, write_whole};
-use query::{Condition, Query, json_line, select};
+use query::{Condition, Query, json_line};
 use sector_dev::SectorDevice;
+use selection::select;
 use std::alloc::{AllocError, Global};
 use std::io::Write;
 use store::Store;

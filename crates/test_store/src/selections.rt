@@ -3,7 +3,7 @@ use crate::inputs::{Cell, Given, INT, new_schema, rows_of};
 use crate::made::{NotMade, assert_no_row};
 use crate::steps::{Asked, query, table_text};
 use Cell::{Null, Number, Text};
-use query::select;
+use selection::select;
 use std::alloc::Global;
 use values::Table;
 

@@ -1,15 +1,9 @@
--- The rows that a mask keeps.
-use Rattle.std.specs.Prelude.{◌≡◌, ℕ, ◌+◌, List, [], ◌∷◌, ◌++◌, map, length, take, if◌then◌else◌}
+-- Rows that are kept, as cells one after another.
+use Rattle.std.specs.Prelude.{◌≡◌, ℕ, List, ◌++◌, map, length, take}
 use Rattle.std.specs.List.{flat_map}
-use Rattle.bitmap.specs.Bits.{bit}
 use Rattle.cells.specs.Cell.{Cell}
 use Rattle.cells.specs.View.{cell}
 use Rattle.query.specs.declared.kept.Kept.{Kept}
-
--- those whose bit is set, from a bit on
-abbrev pub rows_set : (mask : List ℕ) → (from : ℕ) → List (List Cell) → List (List Cell)
-rows_set mask from [] = []
-rows_set mask from (row ∷ rows) = if bit mask from then row ∷ rows_set mask (from + 1) rows else rows_set mask (from + 1) rows
 
 -- the cells of some rows, and how many rows they are
 pub record AreKept (rows : List (List Cell)) (cells : List Cell) (count : ℕ) : Type 0 where

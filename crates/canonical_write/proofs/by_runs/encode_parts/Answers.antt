@@ -1,75 +1,33 @@
-use Rattle.std.specs.List.{AllByRecursion, list_all}
-use Rattle.std.proofs.Common.{◌≡◌, ◌++◌, List, length, ap, sym, subst, ◌∙◌, arith}
-use Rattle.std.proofs.lemmas.List.Sums.{list_all-from_AllPass}
+use Rattle.std.proofs.Common.{◌≡◌, List, length, sym, ap, subst, ◌∙◌, arith}
+use Rattle.std.proofs.lemmas.Result.{IfOk-weaker}
 use Rattle.arrow_schema.specs.Column.{PlainSchema, Columns, columns_of}
 use Rattle.arrow_schema.specs.View.{schema_of}
-use Rattle.canonical_stream.specs.Canonical.{canonical, piece_messages}
-use Rattle.canonical_stream.specs.Pieces.{IsPieceOf}
-use Rattle.canonical_write.proofs.RunSteps.{not_empty, rows_behind, count_behind}
-use Rattle.canonical_write.proofs.Steps.{first_written, next_written}
-use Rattle.canonical_write.specs.inner.Stream.{stream_in}
+use Rattle.canonical_stream.specs.Canonical.{canonical}
 use Rattle.cells.specs.Cell.{Cell, PlainTable}
-use Rattle.cells.specs.Row.{is_row}
-use Rattle.ipc_write.specs.Written.{end_of_stream}
-use Rattle.run_pieces.specs.Left.{rows_left}
-use Rattle.run_pieces.specs.Rows.{runs_rows}
-use Rattle.std.specs.List.{flat_map}
-use Rattle.table_cut.specs.Cut.{pieces}
-use Rattle.table_cut.specs.Piece.{within_piece}
+use Rattle.run_pieces.specs.Left.{runs_left, rows_left}
+use Rattle.run_pieces.specs.Rows.{runs_table}
 use Rattle.values.specs.Parts.{parts_rows, parts_table}
+use Rattle.values.specs.Table.{IsTable}
 use Rattle.canonical_write.proofs.by_runs.encode_parts.Goals as goal
 
-pub loop-from-init : goal.loop-from-init
-loop-from-init c =
+pub encode_left-requires-clause-table : goal.encode_left-requires-clause-table
+encode_left-requires-clause-table c =
     let s : PlainSchema = schema_of c.args.schema.now in
-    let cs : Columns = columns_of s.columns in
-    let t : PlainTable = parts_table s c.args.parts.now in
-    let all : rows_left cs c.in_ok-left.left ≡ parts_rows cs c.args.parts.now = c.in_ok-left.ensures.rows cs in
-    record {
-      within = omega (arith, ap length all, c.requires.count);
-      are = ap (list_all (is_row s)) all ∙ list_all-from_AllPass (is_row s) t.rows c.requires.table.rows;
-      sound = c.in_ok-left.ensures.sound cs c.requires.sound;
-      each = subst (λ (rows : List (List Cell)). AllByRecursion (IsPieceOf s) (pieces (within_piece s) rows)) (sym all) (c.pieces_can_be_built.ensures t c.requires.table);
-      written = ap (λ (rows : List (List Cell)). stream_in c.begin_stream-stream.result ++ (flat_map (piece_messages s) (pieces (within_piece s) rows) ++ end_of_stream)) all
-          ∙ first_written s t (stream_in c.begin_stream-stream.result) (c.begin_stream-stream.ensures ∙ c.in_ok-first.ensures);
-    }
+    let all = c.in_ok-left.ensures.rows (columns_of s.columns) in
+    let P : List (List Cell) → Type 0 = λ rows. IsTable (record { schema = s; rows = rows }) in
+    subst P (sym all) c.requires.table
 
-pub next_piece-requires-clause-some : goal.next_piece-requires-clause-some
-next_piece-requires-clause-some c =
-    let cs : Columns = columns_of (schema_of c.args.schema.now).columns in
-    not_empty (rows_left cs c.loop-from.left) (omega (arith, c.loop-from.invariant.within, c.loop-from-test.true))
+pub encode_left-requires-clause-sound : goal.encode_left-requires-clause-sound
+encode_left-requires-clause-sound c =
+    c.in_ok-left.ensures.sound (columns_of (schema_of c.args.schema.now).columns) c.requires.sound
 
-pub write_run_piece-requires-clause-piece : goal.write_run_piece-requires-clause-piece
-write_run_piece-requires-clause-piece c =
+pub encode_left-requires-clause-count : goal.encode_left-requires-clause-count
+encode_left-requires-clause-count c =
+    omega (arith, c.requires.count, ap length (c.in_ok-left.ensures.rows (columns_of (schema_of c.args.schema.now).columns)))
+
+pub returns : goal.returns
+returns c =
     let s : PlainSchema = schema_of c.args.schema.now in
-    (subst (AllByRecursion (IsPieceOf s)) c.in_ok-piece.ensures.piece c.loop-from.invariant.each).0
-
-pub overflow_add-from : goal.overflow_add-from
-overflow_add-from c =
-    let cs : Columns = columns_of (schema_of c.args.schema.now).columns in
-    let whole = count_behind (rows_left cs c.loop-from.left) (runs_rows cs c.in_ok-piece.piece.runs.items) (rows_left cs c.next_piece.new.self) c.in_ok-piece.ensures.front in
-    omega (arith, whole, c.loop-from.invariant.within, c.in_ok-piece.ensures.count)
-
-pub loop-from-preserved : goal.loop-from-preserved
-loop-from-preserved c =
-    let s : PlainSchema = schema_of c.args.schema.now in
-    let cs : Columns = columns_of s.columns in
-    let is = c.loop-from.invariant in
-    let old : List (List Cell) = rows_left cs c.loop-from.left in
-    let new : List (List Cell) = rows_left cs c.next_piece.new.self in
-    let piece : List (List Cell) = runs_rows cs c.in_ok-piece.piece.runs.items in
-    let whole = count_behind old piece new c.in_ok-piece.ensures.front in
-    record {
-      within = omega (arith, whole, is.within, c.in_ok-piece.ensures.count);
-      are = rows_behind s old piece new c.in_ok-piece.ensures.front is.are;
-      sound = c.in_ok-piece.ensures.left;
-      each = (subst (AllByRecursion (IsPieceOf s)) c.in_ok-piece.ensures.piece is.each).1;
-      written = next_written (piece_messages s) (stream_in c.loop-from.stream) (stream_in c.write_run_piece.new.stream) end_of_stream (canonical (parts_table s c.args.parts.now)) piece
-          (pieces (within_piece s) old) (pieces (within_piece s) new) c.in_ok-piece.ensures.piece c.in_ok-write_run_piece.ensures is.written;
-    }
-
-pub loop-from-smaller : goal.loop-from-smaller
-loop-from-smaller c =
-    let s : PlainSchema = schema_of c.args.schema.now in
-    let first = (subst (AllByRecursion (IsPieceOf s)) c.in_ok-piece.ensures.piece c.loop-from.invariant.each).0 in
-    omega (arith, first.some, c.in_ok-piece.ensures.count, c.loop-from-test.true)
+    let all = c.in_ok-left.ensures.rows (columns_of s.columns) in
+    let P : List (List Cell) → PlainTable = λ rows. record { schema = s; rows = rows } in
+    IfOk-weaker c.encode_left.result _ _ (λ stream h. h ∙ ap (λ (rows : List (List Cell)). canonical (P rows)) all) c.encode_left.ensures

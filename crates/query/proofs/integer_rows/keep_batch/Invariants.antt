@@ -4,7 +4,7 @@ use Rattle.cells.specs.Cell.{Cell}
 use Rattle.cells.specs.View.{cell}
 use Rattle.query.specs.inner.IntegerRows.{batch_integers}
 use Rattle.query.specs.inner.Keeping.{AreKept, HasKept}
-use Rattle.query.proofs.Keeping.{kept_front}
+use Rattle.query.specs.laws.RowsSet.{kept_front}
 use Rattle.query.proofs.integer_rows.keep_batch.Given as goal
 
 abbrev pub decreases-loop-next : goal.decreases-loop-next

@@ -1,7 +1,8 @@
 use Rattle.std.proofs.Common.{◌≡◌, length, take}
 use Rattle.std.specs.List.{flat_map}
 use Rattle.query.specs.inner.IntegerRows.{part_integers}
-use Rattle.query.specs.inner.Keeping.{rows_set, HasKept}
+use Rattle.query.specs.Choice.{rows_set}
+use Rattle.query.specs.inner.Keeping.{HasKept}
 use Rattle.query.proofs.integer_rows.keep_integers.Given as goal
 
 abbrev pub invariant-loop-part : goal.invariant-loop-part

@@ -1,7 +1,8 @@
 use Rattle.std.proofs.Common.{◌≡◌, ◌+◌, length, take}
 use Rattle.std.specs.List.{flat_map}
 use Rattle.query.specs.inner.IntegerRows.{batch_integers}
-use Rattle.query.specs.inner.Keeping.{rows_set, Keeps}
+use Rattle.query.specs.Choice.{rows_set}
+use Rattle.query.specs.inner.Keeping.{Keeps}
 use Rattle.query.proofs.integer_rows.keep_part.Given as goal
 
 abbrev pub invariant-loop-batch : goal.invariant-loop-batch

@@ -1,36 +1,36 @@
-use Rattle.std.proofs.Common.{◌≡◌, ℕ, [], ◌∷◌, ◌++◌, map, sym, ap, rules, ◌∙◌, arith, string_bytes}
-use Rattle.std.specs.Prelude.{Some}
-use Rattle.std.proofs.lemmas.List.{map-append}
-use Rattle.std.proofs.lemmas.Bool.{eqb-false}
-use Rattle.arrow_schema.specs.View.{column_of}
-use Rattle.query.specs.Bound.{place_of}
-use Rattle.query.specs.Selection.{is_distinct}
-use Rattle.query.proofs.Choosing.{name_missing, name_twice, names_all, one_more_name, still_distinct}
+use Rattle.std.proofs.Common.{sym, ap, map, ◌∙◌}
+use Rattle.std.specs.Prelude.{Ok}
+use Rattle.std.proofs.lemmas.Result.{err_from_is_err_and}
+use Rattle.values.specs.TableView.{table_of}
+use Rattle.query.specs.Selection.{selected}
+use Rattle.query.specs.View.{query_in}
+use Rattle.query.specs.inner.BoundView.{bound_in}
+use Rattle.query.proofs.MadeTables.{same_choice, same_bounds, columns_report, conditions_report, selection_is}
 use Rattle.query.proofs.selecting.choose.Goals as goal
 
-pub returns-in_default-clause-refused : goal.returns-in_default-clause-refused
-returns-in_default-clause-refused c =
-    let none = rw c.as_str.ensures.value at (sym c.place_of.ensures ∙ c.in_default.is) in
-    name_missing _ (λ s. string_bytes s) _ c.loop-name.name-index c.name-item.result c.loop-name.places.items c.loop-name-test.true c.name-item.is c.loop-name.invariant.found none
+pub returns-in_err-places-clause-refused : goal.returns-in_err-places-clause-refused
+returns-in_err-places-clause-refused c =
+    let t = table_of c.args.table.now in
+    let q = query_in c.args.query.now in
+    let choice = same_choice c.schema-schema.result.now t c.deref.result.now c.deref-2.result.now c.args.query.now.columns.items c.schema-schema.ensures.schema c.deref.ensures.value c.deref-2.ensures.value in
+    let p = err_from_is_err_and c.from_residual.result c.from_residual.ensures.1 in
+    rw (p.1, p.2) (columns_report _ t q (rw choice at c.in_err-places.ensures.refused))
 
-pub returns-then-contains-clause-refused : goal.returns-then-contains-clause-refused
-returns-then-contains-clause-refused c =
-    let some = rw c.as_str.ensures.value at (sym c.place_of.ensures ∙ c.in-Some.is) in
-    let again = rw c.deref.ensures.value at (sym c.contains.ensures.value ∙ c.if-contains.true) in
-    name_twice _ (λ s. string_bytes s) _ c.loop-name.name-index c.name-item.result c.loop-name.places.items c.in-Some.place c.loop-name-test.true c.name-item.is c.loop-name.invariant.found some again
-
-pub loop-name-preserved : goal.loop-name-preserved
-loop-name-preserved c =
-    let p = c.in-Some.place in
-    let places = c.loop-name.places.items in
-    let items : c.push.new.self.items ≡ places ++ p ∷ [] = search rules in
-    let some = rw c.as_str.ensures.value at (sym c.place_of.ensures ∙ c.in-Some.is) in
-    let other = rw c.deref.ensures.value at (sym c.contains.ensures.value ∙ c.if-contains.false) in
-    record {
-      found = one_more_name (place_of (map column_of c.args.fields.now)) (λ s. string_bytes s) c.args.names.now c.loop-name.name-index c.name-item.result c.loop-name-test.true c.name-item.is
-          ∙ ((λ k. c.loop-name.invariant.found k ++ some k ∷ []) ∙ (sym (map-append (λ (x : ℕ). Some x) places (p ∷ [])) ∙ ap (map (λ (x : ℕ). Some x)) (sym items)));
-      distinct = ap is_distinct items ∙ still_distinct places p c.loop-name.invariant.distinct other;
-    }
+pub returns-in_err-bounds-clause-refused : goal.returns-in_err-bounds-clause-refused
+returns-in_err-bounds-clause-refused c =
+    let t = table_of c.args.table.now in
+    let q = query_in c.args.query.now in
+    let choice = same_choice c.schema-schema.result.now t c.deref.result.now c.deref-2.result.now c.args.query.now.columns.items c.schema-schema.ensures.schema c.deref.ensures.value c.deref-2.ensures.value in
+    let bounds = same_bounds c.schema-schema.result.now t c.deref-3.result.now c.deref-4.result.now c.args.query.now.conditions.items c.schema-schema.ensures.schema c.deref-3.ensures.value c.deref-4.ensures.value in
+    let p = err_from_is_err_and c.from_residual-in_err-bounds.result c.from_residual-in_err-bounds.ensures.1 in
+    rw (p.1, p.2) (conditions_report _ t q c.in_ok-places.places.items (sym choice ∙ c.in_ok-places.ensures.ok) (rw bounds at c.in_err-bounds.ensures.refused))
 
 pub returns-clause-ok : goal.returns-clause-ok
-returns-clause-ok c = let any = eqb-false _ _ (sym c.is_empty.ensures ∙ c.if-is_empty.false) in names_all _ (λ s. string_bytes s) _ c.loop-name.name-index c.loop-name.places.items (omega (arith, any)) c.loop-name-test.false c.loop-name.invariant.found c.loop-name.invariant.distinct
+returns-clause-ok c =
+    let t = table_of c.args.table.now in
+    let q = query_in c.args.query.now in
+    let choice = same_choice c.schema-schema.result.now t c.deref.result.now c.deref-2.result.now c.args.query.now.columns.items c.schema-schema.ensures.schema c.deref.ensures.value c.deref-2.ensures.value in
+    let bounds = same_bounds c.schema-schema.result.now t c.deref-3.result.now c.deref-4.result.now c.args.query.now.conditions.items c.schema-schema.ensures.schema c.deref-3.ensures.value c.deref-4.ensures.value in
+    let places = c.in_ok-places.places.items in
+    let is = selection_is t q places (map bound_in c.in_ok-bounds.bounds.items) (sym choice ∙ c.in_ok-places.ensures.ok) (sym bounds ∙ c.in_ok-bounds.ensures.ok) in
+    is ∙ ap Ok (sym (c.in_ok-choice.ensures.chosen ∙ (λ k. selected places (map bound_in (c.deref-5.ensures.value k)) q.limit t)))

@@ -4,7 +4,7 @@ use Rattle.cells.specs.View.{cell}
 use Rattle.values.specs.TableView.{table_of}
 use Rattle.query.specs.Selection.{pick}
 use Rattle.query.specs.inner.Keeping.{AreKept}
-use Rattle.query.proofs.Keeping.{kept_front}
+use Rattle.query.specs.laws.RowsSet.{kept_front}
 use Rattle.query.proofs.selecting.keep_each.Given as goal
 
 abbrev pub decreases-loop-next : goal.decreases-loop-next

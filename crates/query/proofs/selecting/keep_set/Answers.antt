@@ -10,7 +10,7 @@ use Rattle.values.specs.TableView.{table_of}
 use Rattle.query.specs.declared.integer_rows.IntegerColumn.{IntegerColumn}
 use Rattle.query.specs.Selection.{pick}
 use Rattle.query.specs.inner.IntegerRows.{AreIntegers, part_has_integers}
-use Rattle.query.specs.inner.Keeping.{rows_set}
+use Rattle.query.specs.Choice.{rows_set}
 use Rattle.query.proofs.IntegerRows.{integers_there, integers_of_table}
 use Rattle.query.proofs.Keeping.{kept_same}
 use Rattle.query.proofs.selecting.keep_set.Goals as goal

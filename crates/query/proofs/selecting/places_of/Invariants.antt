@@ -3,7 +3,7 @@ use Rattle.std.specs.Prelude.{Some, string_bytes}
 use Rattle.arrow_schema.specs.View.{column_of}
 use Rattle.query.specs.Bound.{place_of}
 use Rattle.query.specs.Selection.{is_distinct}
-use Rattle.query.proofs.selecting.choose.Given as goal
+use Rattle.query.proofs.selecting.places_of.Given as goal
 
 -- each name so far is that of one column, and these are distinct
 abbrev pub invariant-loop-name : goal.invariant-loop-name

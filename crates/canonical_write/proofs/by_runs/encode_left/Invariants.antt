@@ -8,11 +8,10 @@ use Rattle.canonical_write.specs.inner.Stream.{stream_in}
 use Rattle.cells.specs.Row.{is_row}
 use Rattle.ipc_write.specs.Written.{end_of_stream}
 use Rattle.run_pieces.specs.Left.{runs_left, rows_left}
-use Rattle.run_pieces.specs.Rows.{are_runs_sound}
+use Rattle.run_pieces.specs.Rows.{runs_table, are_runs_sound}
 use Rattle.table_cut.specs.Cut.{pieces}
 use Rattle.table_cut.specs.Piece.{within_piece}
-use Rattle.values.specs.Parts.{parts_table}
-use Rattle.canonical_write.proofs.by_runs.encode_parts.Given as goal
+use Rattle.canonical_write.proofs.by_runs.encode_left.Given as goal
 
 -- what is written, and the pieces that are left, are the stream
 abbrev pub invariant-loop-from : goal.invariant-loop-from
@@ -25,7 +24,7 @@ invariant-loop-from l =
       are : list_all (is_row s) (rows_left columns l.left) ≡ true;
       sound : are_runs_sound columns (runs_left l.left) ≡ true;
       each : AllByRecursion (IsPieceOf s) left;
-      written : stream_in l.stream ++ (flat_map (piece_messages s) left ++ end_of_stream) ≡ canonical (parts_table s l.parts);
+      written : stream_in l.stream ++ (flat_map (piece_messages s) left ++ end_of_stream) ≡ canonical (runs_table s (runs_left l.fn.all));
     }
 
 abbrev pub decreases-loop-from : goal.decreases-loop-from

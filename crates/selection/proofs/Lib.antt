@@ -1,0 +1,5 @@
+pub mod Arrays
+pub mod Batches
+pub mod Copies
+pub mod Runs
+pub mod Selected

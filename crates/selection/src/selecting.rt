@@ -1,0 +1,128 @@
+// The selection of a table.
+ghost use Rattle.std.specs.Prelude.{◌≡◌, ◌≤◌, ◌<◌, ◌*◌, ◌^◌, Ok, true, false, length, IfOk, IfErr};
+ghost use Rattle.arrow_schema.specs.Column.{columns_of};
+ghost use Rattle.arrow_schema.specs.View.{schema_of};
+ghost use Rattle.cells.specs.Dictionary.{is_any_limited};
+ghost use Rattle.query.specs.declared.errors.QueryError.TheVariants.{OutOfMemory};
+ghost use Rattle.query.specs.Choice.{chosen_table};
+ghost use Rattle.query.specs.Selection.{selection};
+ghost use Rattle.query.specs.View.{query_in, Reports};
+ghost use Rattle.run_pieces.specs.Rows.{runs_rows, runs_table, are_runs_sound};
+ghost use Rattle.values.specs.Parts.{are_parts_sound, parts_rows, parts_table};
+ghost use Rattle.values.specs.Table.{IsTable};
+ghost use Rattle.values.specs.TableView.{table_of};
+
+use crate::kept::{KeptRuns, keep_batches};
+use crate::picked::pick_batches;
+use arrow_schema::{DataType, Field, Schema};
+use canonical_round_trip::canonical_means_its_table;
+use canonical_write::encode_runs;
+use cells::has_limits;
+use ipc_stream::decode;
+use query::{
+    Choice, Query, QueryError, choose, chosen_cells, pick_schema, selection_is_a_table,
+};
+use std::alloc::Global;
+use values::{Part, Table};
+
+// The table of rows that are runs of slots: they are written as one stream, which is read again.
+fn table_of_runs(alloc: Global, schema: &Schema, kept: KeptRuns<'_>) -> Result<Table, QueryError>
+    requires table { IsTable (runs_table (schema_of schema.now) kept.runs.items) }
+    requires sound { are_runs_sound (columns_of (schema_of schema.now).columns) kept.runs.items ≡ true }
+    requires count { kept.rows ≡ length (runs_rows (columns_of (schema_of schema.now).columns) kept.runs.items) }
+    requires unlimited { is_any_limited (columns_of (schema_of schema.now).columns) ≡ false }
+    ensures ok { IfOk result (λ t. table_of t ≡ runs_table (schema_of schema.now) kept.entry.runs.items) }
+    ensures refused { IfErr result (λ e. e ≡ OutOfMemory) }
+{
+    canonical_means_its_table();
+    let KeptRuns { runs, rows } = kept;
+    let bytes = encode_runs(alloc, schema, runs, rows)?;
+    match decode(alloc, bytes) {
+        Ok(table) => Ok(table),
+        // a stream that was written has no fault
+        Err(_) => Err(QueryError::OutOfMemory),
+    }
+}
+
+// The columns and rows that are chosen of record batches, under the schema of these columns.
+fn select_runs(
+    alloc: Global,
+    schema: &Schema,
+    picked: &Schema,
+    parts: &[Part],
+    choice: &Choice,
+) -> Result<Table, QueryError>
+    requires picked { schema_of picked.now ≡ (chosen_table choice.now (parts_table (schema_of schema.now) parts.now)).schema }
+    requires table { IsTable (chosen_table choice.now (parts_table (schema_of schema.now) parts.now)) }
+    requires sound { are_parts_sound (columns_of (schema_of schema.now).columns) parts.now ≡ true }
+    requires mask { length (parts_rows (columns_of (schema_of schema.now).columns) parts.now) ≤ 8 * length choice.now.mask.items }
+    requires few { length (parts_rows (columns_of (schema_of schema.now).columns) parts.now) < 2 ^ 64 }
+    requires unlimited { is_any_limited (columns_of (schema_of picked.now).columns) ≡ false }
+    ensures ok { IfOk result (λ t. table_of t ≡ chosen_table choice.now (parts_table (schema_of schema.now) parts.now)) }
+    ensures refused { IfErr result (λ e. e ≡ OutOfMemory) }
+{
+    let batches = pick_batches(alloc, &schema.fields, parts, &choice.columns)?;
+    let kept = keep_batches(alloc, &batches, &choice.mask, choice.most)?;
+    table_of_runs(alloc, picked, kept)
+}
+
+fn is_integer(field: &Field) -> bool {
+    match field.data_type {
+        DataType::Int(_) => field.dictionary.is_none(),
+        DataType::Date(_) => field.dictionary.is_none(),
+        DataType::Timestamp(_, _) => field.dictionary.is_none(),
+        _ => false,
+    }
+}
+
+// Whether a row of these columns costs less as cells than as a run.
+fn are_integers(fields: &[Field]) -> bool {
+    for field in fields {
+        if !is_integer(field) {
+            return false;
+        }
+    }
+    true
+}
+
+// Whether rows of a schema are kept as runs of slots.
+fn are_kept_in_runs(schema: &Schema) -> bool
+    ensures { result ≡ true → is_any_limited (columns_of (schema_of schema.now).columns) ≡ false }
+{
+    !has_limits(schema) && !are_integers(&schema.fields)
+}
+
+// The table of the columns and rows that are chosen of another.
+fn select_chosen(alloc: Global, table: &Table, choice: &Choice) -> Result<Table, QueryError>
+    requires mask { length (table_of table.now).rows ≤ 8 * length choice.now.mask.items }
+    requires table { IsTable (chosen_table choice.now (table_of table.now)) }
+    ensures ok { IfOk result (λ t. table_of t ≡ chosen_table choice.now (table_of table.now)) }
+    ensures refused { IfErr result (λ e. e ≡ OutOfMemory) }
+{
+    // a number of the code is below 2^64
+    let _rows = table.len();
+    let schema = table.schema();
+    let picked = pick_schema(alloc, schema, &choice.columns)?;
+    if let Some(parts) = table.parts() {
+        if are_kept_in_runs(&picked) {
+            return select_runs(alloc, schema, &picked, parts, choice);
+        }
+    }
+    chosen_cells(alloc, table, choice)
+}
+
+/// The rows of a table of which all conditions hold, then the columns asked for, then the first rows; or the first reason
+/// why the query is refused: the columns asked for are looked at first, and then the conditions in order.
+///
+/// Of a table that is kept in record batches the result is kept so too, in the memory of its stream, unless all columns asked for have integers, dates or
+/// timestamps or one has a dictionary whose indices have 8 or 16 bits: its rows are runs of slots, and it takes time linear in the mask, the runs and the bytes
+/// of the result. Else its cells are copied.
+pub fn select(alloc: Global, table: &Table, query: &Query) -> Result<Table, QueryError>
+    ensures ok { IfOk result (λ t. selection (table_of table.now) (query_in query.now) ≡ Ok (table_of t)) }
+    ensures refused { IfErr result (λ e. Reports e (selection (table_of table.now) (query_in query.now))) }
+{
+    selection_is_a_table();
+    let _schema = table.schema();
+    let choice = choose(alloc, table, query)?;
+    select_chosen(alloc, table, &choice)
+}
