@@ -8,14 +8,12 @@ use Rattle.std.proofs.lemmas.List.Concat.{flat_map-append, flat_map-cons}
 use Rattle.std.proofs.lemmas.List.Folds.{list_all-append}
 use Rattle.std.proofs.lemmas.List.FromFn.{length-map-range_with_len}
 use Rattle.std.proofs.lemmas.List.Sums.{sum_by-cons, sum_by-append, sum_by-take-le}
-use Rattle.arrow_schema.specs.Column.{Column, Columns, columns_of}
+use Rattle.arrow_schema.specs.Column.{Column, Columns}
 use Rattle.arrow_schema.specs.View.{column_of}
 use Rattle.arrow_schema.specs.declared.types.Field.{Field}
-use Rattle.cells.specs.Cell.{Cell}
 use Rattle.columns.specs.CellAt.{row_at}
 use Rattle.columns.specs.View.{array_in, arrays_in, placed_arrays, fields_of}
 use Rattle.columns.specs.declared.array.Dictionary.{Dictionary}
-use Rattle.columns.specs.declared.array.PlacedArray.{PlacedArray}
 use Rattle.query.specs.Selection.{pick}
 use Rattle.selection.specs.declared.picked.PickedBatch.{PickedBatch}
 use Rattle.selection.specs.inner.Picked.{first_arrays, picked_columns, picked_arrays, picked_rows, is_picked_sound}

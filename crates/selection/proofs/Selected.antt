@@ -6,7 +6,7 @@ use Rattle.std.proofs.lemmas.List.{length-map}
 use Rattle.arrow_schema.specs.Column.{Column, Columns, columns_of, PlainSchema}
 use Rattle.arrow_schema.specs.View.{column_of}
 use Rattle.arrow_schema.specs.declared.types.Field.{Field}
-use Rattle.cells.specs.Cell.{Cell, PlainTable}
+use Rattle.cells.specs.Cell.{Cell}
 use Rattle.columns.specs.View.{fields_of}
 use Rattle.query.specs.declared.choice.Choice.{Choice}
 use Rattle.query.specs.Choice.{rows_set, chosen_table}

@@ -20,11 +20,7 @@ pub(crate) struct KeptRuns<'a> {
 }
 
 // Keeps the first rows of a run, as many as there is room for, and says how many.
-fn keep_front<'a>(
-    kept: &mut KeptRuns<'a>,
-    run: RowRun<'a>,
-    most: u64,
-) -> Result<usize, AllocError>
+fn keep_front<'a>(kept: &mut KeptRuns<'a>, run: RowRun<'a>, most: u64) -> Result<usize, AllocError>
     requires room { kept.old.rows < most }
     ensures within { IfOk result (λ n. n ≤ run.entry.len) }
     ensures some { IfOk result (λ n. 0 < run.entry.len → 0 < n) }

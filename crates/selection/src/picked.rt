@@ -27,11 +27,7 @@ pub(crate) struct PickedBatch<'a> {
 }
 
 // The array at a place, or one without slots.
-fn copy_at(
-    alloc: Global,
-    arrays: &[PlacedArray],
-    place: usize,
-) -> Result<PlacedArray, AllocError>
+fn copy_at(alloc: Global, arrays: &[PlacedArray], place: usize) -> Result<PlacedArray, AllocError>
     ensures { IfOk result (λ a. (bytes : List ℕ) (all : List Dictionary)
         → array_in bytes (arrays_in bytes all) a ≡ first_array (placed_arrays bytes all (drop place arrays.now))) }
 {

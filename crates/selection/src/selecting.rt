@@ -19,9 +19,7 @@ use canonical_round_trip::canonical_means_its_table;
 use canonical_write::encode_runs;
 use cells::has_limits;
 use ipc_stream::decode;
-use query::{
-    Choice, Query, QueryError, choose, chosen_cells, pick_schema, selection_is_a_table,
-};
+use query::{Choice, Query, QueryError, choose, chosen_cells, pick_schema, selection_is_a_table};
 use std::alloc::Global;
 use values::{Part, Table};
 
@@ -122,6 +120,7 @@ pub fn select(alloc: Global, table: &Table, query: &Query) -> Result<Table, Quer
     ensures refused { IfErr result (λ e. Reports e (selection (table_of table.now) (query_in query.now))) }
 {
     selection_is_a_table();
+    // a table is within all limits, and so is its selection
     let _schema = table.schema();
     let choice = choose(alloc, table, query)?;
     select_chosen(alloc, table, &choice)
