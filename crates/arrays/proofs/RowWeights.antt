@@ -2,17 +2,18 @@
 use Rattle.std.specs.Prelude.{◌||◌, nat_lt, if◌then◌else◌}
 use Rattle.std.specs.List.{list_any, range_with_len}
 use Rattle.std.proofs.Common.{Some, None, inl, inr, ◌≡◌, ℕ, zero, suc, ◌+◌, ◌-◌, ◌≤◌, ◌<◌, Bool, true, false, List, ◌∷◌, map, refl, sym, ap, arith, ◌∙◌}
-use Rattle.std.proofs.lemmas.Bool.{cases_lt, le-ltb, lt-ltb, or_right}
-use Rattle.arrow_schema.specs.Column.{Column, Columns, columns_of, PlainSchema}
+use Rattle.std.proofs.Math.Bool.{or_assoc}
+use Rattle.std.proofs.lemmas.Bool.{le-ltb, lt-ltb, or_right}
+use Rattle.arrow_schema.specs.Column.{Column, Columns, no_column, and_column, columns_of, PlainSchema}
 use Rattle.cells.specs.declared.limits.TheConstants.{MAX_ROW_WEIGHT, MAX_TABLE_WEIGHT}
 use Rattle.cells.specs.Cell.{Cell, Cells}
 use Rattle.cells.specs.laws.Cells.{cells_list}
-use Rattle.cells.specs.Weight.{parts_weight, row_weight, table_weight, capped_weight}
-use Rattle.columns.specs.Array.{Arrays}
-use Rattle.columns.specs.CellAt.{part_cells, row_at, rows_in}
+use Rattle.cells.specs.Weight.{parts_weight, weight, row_weight, table_weight, capped_weight}
+use Rattle.columns.specs.Array.{Arrays, first_array, other_arrays}
+use Rattle.columns.specs.CellAt.{cell_at, part_cells, row_at, rows_in}
 use Rattle.arrays.specs.Checks.{are_too_heavy}
-use Rattle.arrays.specs.inner.Weights.{sum_from, rows_weight, weight_within}
-use Rattle.arrays.proofs.SpanWeights.{next}
+use Rattle.arrays.specs.inner.Weights.{sum_from, parts_span_weight, rows_weight, weight_within}
+use Rattle.arrays.proofs.SpanWeights.{next, split}
 use Rattle.arrays.proofs.KindWeights.{parts_more}
 
 -- rows weigh as much as the spans of their columns
@@ -32,20 +33,6 @@ one_row s arrays i =
     let all = rows_spanned s arrays i 1 in
     let none : sum_from (row_weight s) (row_at (columns_of s.columns) arrays) (i + 1) 0 ≡ 0 = refl in
     omega (arith, one, all, none)
-
--- each row weighs at most as much as all
-row_below : {X : Type 0} (w : X → ℕ) (f : ℕ → X) (start n i : ℕ) → start ≤ i → i < start + n → w (f i) ≤ sum_from w f start n
-row_below w f start zero i le lt = absurd (omega arith)
-row_below w f start (suc n) i le lt = elim (cases_lt start i) [
-  | inl later ↦ (let rest = row_below w f (start + 1) n i (omega arith) (omega arith) in omega (arith, rest, next w f start n))
-  | inr here ↦ (let e : i ≡ start = omega arith in rw e (omega (arith, next w f start n)))
-]
-
-none_any : {X : Type 0} (p : X → Bool) (f : ℕ → X) (start n : ℕ) → ((i : ℕ) → start ≤ i → i < start + n → p (f i) ≡ false) → list_any p (map f (range_with_len start n)) ≡ false
-none_any p f start zero h = refl
-none_any p f start (suc n) h =
-    let here : p (f start) ≡ false = h start (omega arith) (omega arith) in
-    rw here (none_any p f (start + 1) n (λ i le lt. h i (omega arith) (omega arith)))
 
 pub any_row : {X : Type 0} (p : X → Bool) (q : ℕ → Bool) (f : ℕ → X) (start n : ℕ) → ((i : ℕ) → p (f i) ≡ q i) → list_any p (map f (range_with_len start n)) ≡ list_any q (range_with_len start n)
 any_row p q f start zero h = refl
@@ -78,15 +65,6 @@ heavy_alone s before arrays rows h =
     let within : nat_lt MAX_TABLE_WEIGHT (before + table_weight s (rows_in (columns_of s.columns) arrays rows)) ≡ false = rw whole (le-ltb MAX_TABLE_WEIGHT (before + rows_weight (columns_of s.columns) arrays 0 rows) h) in
     rw within (or_false_right (list_any (heavy s) (rows_in (columns_of s.columns) arrays rows)) ∙ rows_heavy s arrays rows)
 
-pub light_alone : (s : PlainSchema) (before : ℕ) (arrays : Arrays) (rows : ℕ) → before + rows_weight (columns_of s.columns) arrays 0 rows ≤ MAX_TABLE_WEIGHT
-    → rows_weight (columns_of s.columns) arrays 0 rows ≤ MAX_ROW_WEIGHT → are_too_heavy s before (rows_in (columns_of s.columns) arrays rows) ≡ false
-light_alone s before arrays rows h le =
-    let cs : Columns = columns_of s.columns in
-    let whole : sum_from (row_weight s) (row_at cs arrays) 0 rows ≡ rows_weight cs arrays 0 rows = rows_spanned s arrays 0 rows in
-    heavy_alone s before arrays rows h ∙ sym (rows_heavy s arrays rows) ∙ none_any (heavy s) (row_at cs arrays) 0 rows (λ i l r.
-    let below = row_below (row_weight s) (row_at cs arrays) 0 rows i l r in
-    le-ltb MAX_ROW_WEIGHT (row_weight s (row_at cs arrays i)) (omega (arith, whole, below, le)))
-
 -- ---- what is answered of them
 
 pub none_within : (s : PlainSchema) (before : ℕ) (rows : List (List Cell)) → are_too_heavy s before rows ≡ true → None ≡ weight_within s before rows
@@ -104,16 +82,68 @@ pub found_some : (heavy : Bool) (w v : ℕ) → Some v ≡ (if heavy then None e
 found_some true w v h = absurd cc
 found_some false w v h = (refl, cc)
 
--- ---- in a loop over the rows
+-- ---- by halves
 
-from_here : (i end : ℕ) → i < end → range_with_len i (end - i) ≡ i ∷ range_with_len (i + 1) (end - (i + 1))
-from_here i end lt = let e : end - i ≡ suc (end - (i + 1)) = omega arith in rw e refl
+parts_halved : (cs : Columns) (arrays : Arrays) (start m n : ℕ)
+    → parts_span_weight cs arrays start (m + n) ≡ parts_span_weight cs arrays start m + parts_span_weight cs arrays (start + m) n
+unfolding parts_span_weight
+parts_halved no_column arrays start m n = refl
+parts_halved (and_column c cs) arrays start m n =
+    let here = split (weight c) (cell_at c (first_array arrays)) start m n in
+    let others = parts_halved cs (other_arrays arrays) start m n in
+    omega (arith, here, others)
 
-pub row_here : (p : ℕ → Bool) (i end : ℕ) → i < end → p i ≡ true → list_any p (range_with_len i (end - i)) ≡ true
-row_here p i end lt h = rw (from_here i end lt, h) refl
+rows_halved : (cs : Columns) (arrays : Arrays) (start m n : ℕ) → rows_weight cs arrays start (m + n) ≡ rows_weight cs arrays start m + rows_weight cs arrays (start + m) n
+rows_halved cs arrays start m n = omega (arith, parts_halved cs arrays start m n)
 
-pub row_later : (p : ℕ → Bool) (i end : ℕ) → i < end → p i ≡ false → list_any p (range_with_len (i + 1) (end - (i + 1))) ≡ list_any p (range_with_len i (end - i))
-row_later p i end lt h = rw (from_here i end lt, h) refl
+-- no row weighs more than all
+pub none_heavy : (cs : Columns) (arrays : Arrays) (start n : ℕ) → rows_weight cs arrays start n ≤ MAX_ROW_WEIGHT → list_any (is_heavy cs arrays) (range_with_len start n) ≡ false
+none_heavy cs arrays start zero le = refl
+none_heavy cs arrays start (suc n) le =
+    let e : 1 + n ≡ suc n = omega arith in
+    let parts : rows_weight cs arrays start (1 + n) ≡ rows_weight cs arrays start 1 + rows_weight cs arrays (start + 1) n = rows_halved cs arrays start 1 n in
+    let all : rows_weight cs arrays start (1 + n) ≤ MAX_ROW_WEIGHT = rw e le in
+    let here : is_heavy cs arrays start ≡ false = le-ltb MAX_ROW_WEIGHT (rows_weight cs arrays start 1) (omega (arith, parts, all)) in
+    rw here (none_heavy cs arrays (start + 1) n (omega (arith, parts, all)))
 
-pub no_row_left : (p : ℕ → Bool) (i end : ℕ) → end ≤ i → list_any p (range_with_len i (end - i)) ≡ false
-no_row_left p i end le = let e : end - i ≡ 0 = omega arith in rw e refl
+no_rows : (cs : Columns) (arrays : Arrays) (start : ℕ) → rows_weight cs arrays start 0 ≡ 0
+no_rows cs arrays start =
+    let e : start + 0 ≡ start = omega arith in
+    let both : rows_weight cs arrays start (0 + 0) ≡ rows_weight cs arrays start 0 + rows_weight cs arrays (start + 0) 0 = rows_halved cs arrays start 0 0 in
+    omega (arith, rw e at both)
+
+-- of one row it is known
+pub one_heavy : (cs : Columns) (arrays : Arrays) (start n : ℕ) → n < 2 → MAX_ROW_WEIGHT < rows_weight cs arrays start n → list_any (is_heavy cs arrays) (range_with_len start n) ≡ true
+one_heavy cs arrays start zero lt over = absurd (omega (arith, no_rows cs arrays start, over))
+one_heavy cs arrays start (suc zero) lt over = let here : is_heavy cs arrays start ≡ true = lt-ltb MAX_ROW_WEIGHT (rows_weight cs arrays start 1) over in rw here refl
+one_heavy cs arrays start (suc (suc n)) lt over = absurd (omega (arith, lt))
+
+any_halved : (p : ℕ → Bool) (start m n : ℕ) → list_any p (range_with_len start (m + n)) ≡ (list_any p (range_with_len start m) || list_any p (range_with_len (start + m) n))
+any_halved p start zero n =
+    let e : 0 + n ≡ n = omega arith in
+    let d : start + 0 ≡ start = omega arith in
+    rw (e, d) refl
+any_halved p start (suc m) n =
+    let e : suc m + n ≡ suc (m + n) = omega arith in
+    let d : start + suc m ≡ start + 1 + m = omega arith in
+    rw (e, d) (ap (λ (b : Bool). p start || b) (any_halved p (start + 1) m n)
+    ∙ sym (or_assoc (p start) (list_any p (range_with_len (start + 1) m)) (list_any p (range_with_len (start + 1 + m) n))))
+
+-- ---- the front part of some rows, and the others
+
+pub rows_cut : (cs : Columns) (arrays : Arrays) (start n m : ℕ) → m ≤ n → rows_weight cs arrays start n ≡ rows_weight cs arrays start m + rows_weight cs arrays (start + m) (n - m)
+rows_cut cs arrays start n m le = let e : m + (n - m) ≡ n = omega arith in ap (rows_weight cs arrays start) (sym e) ∙ rows_halved cs arrays start m (n - m)
+
+any_cut : (p : ℕ → Bool) (start n m : ℕ) → m ≤ n → list_any p (range_with_len start n) ≡ (list_any p (range_with_len start m) || list_any p (range_with_len (start + m) (n - m)))
+any_cut p start n m le = let e : m + (n - m) ≡ n = omega arith in ap (λ (k : ℕ). list_any p (range_with_len start k)) (sym e) ∙ any_halved p start m (n - m)
+
+pub found_in_front : (p : ℕ → Bool) (start n m : ℕ) (found : Bool) → m ≤ n → found ≡ true → true ≡ list_any p (range_with_len start m) → found ≡ list_any p (range_with_len start n)
+found_in_front p start n m found le is front =
+    let all : list_any p (range_with_len start n) ≡ true = any_cut p start n m le ∙ rw (← front) refl in
+    is ∙ sym all
+
+pub found_behind : (p : ℕ → Bool) (start n m : ℕ) (found : Bool) → m ≤ n → false ≡ list_any p (range_with_len start m) → found ≡ list_any p (range_with_len (start + m) (n - m))
+    → found ≡ list_any p (range_with_len start n)
+found_behind p start n m found le front behind =
+    let all : list_any p (range_with_len start n) ≡ list_any p (range_with_len (start + m) (n - m)) = any_cut p start n m le ∙ rw (← front) refl in
+    behind ∙ sym all

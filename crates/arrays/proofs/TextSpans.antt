@@ -2,10 +2,10 @@
 use Rattle.std.specs.Prelude.{◌==◌, ◌&&◌, not}
 use Rattle.std.specs.List.{list_any, range_with_len}
 use Rattle.std.specs.Str.{IsCharBoundary, IsUtf8, is_utf8}
-use Rattle.std.proofs.Common.{◌≡◌, ℕ, ◌+◌, ◌-◌, ◌*◌, ◌≤◌, ◌<◌, Bool, true, false, List, length, take, drop, inl, inr, refl, ap, sym, subst, ◌∙◌, arith, length-drop, mul-le-mul_right}
+use Rattle.std.proofs.Common.{◌≡◌, ℕ, ◌+◌, ◌-◌, ◌*◌, ◌≤◌, ◌<◌, Bool, true, false, List, [], length, take, drop, inl, inr, refl, ap, sym, subst, ◌∙◌, arith, length-drop, mul-le-mul_right}
 use Rattle.std.proofs.lemmas.Bool.{cases_lt, ltb-false, ne_eqb}
 use Rattle.std.proofs.lemmas.List.{drop-drop, drop-take, length-take-le, take-take}
-use Rattle.std.proofs.lemmas.Str.{IsCharBoundary-end, IsUtf8-between, is_utf8-from_IsUtf8}
+use Rattle.std.proofs.lemmas.Str.{IsCharBoundary-end, IsUtf8-between, IsUtf8-nil, is_utf8-from_IsUtf8}
 use Rattle.arrays.proofs.Ranges.{any-none}
 use Rattle.columns.specs.Array.{Array, contents_in, offsets_in, slots_in}
 use Rattle.columns.specs.CellAt.{contents_at, is_valid, number_at}
@@ -61,6 +61,20 @@ module _ (w : ℕ) (a : Array) (few : are_few_offsets w a ≡ false) (up : are_u
       ∙ part_of_part (contents_in a) (f from) (f (from + count) - f from) (f i - f from) (f (i + 1) - f i) (omega (arith, first, own, last))
       ∙ ap (λ (k : ℕ). take (f (i + 1) - f i) (drop k (contents_in a))) place in
       is_utf8-from_IsUtf8 (contents_at w a i) (subst IsUtf8 same between)
+
+  -- where all of them have no byte, each is the empty text
+  pub each_is_empty : (from count : ℕ) → from + count ≤ slots_in a → number_at w (offsets_in a) (from + count) - number_at w (offsets_in a) from ≡ 0
+      → (i : ℕ) → from ≤ i → i < from + count → is_utf8 (contents_at w a i) ≡ true
+  each_is_empty from count within none i low high =
+      let f : ℕ → ℕ = number_at w (offsets_in a) in
+      let filled : 0 < slots_in a = omega arith in
+      let before : from + (i - from) ≡ i = omega arith in
+      let behind : i + 1 + (from + count - (i + 1)) ≡ from + count = omega arith in
+      let first : f from ≤ f i = rw before at (offsets_ascend w (length (contents_in a)) a from (i - from) up filled (omega arith)) in
+      let last : f (i + 1) ≤ f (from + count) = rw behind at (offsets_ascend w (length (contents_in a)) a (i + 1) (from + count - (i + 1)) up filled (omega arith)) in
+      let size : f (i + 1) - f i ≡ 0 = omega (arith, none, first, last) in
+      let empty : contents_at w a i ≡ [] = ap (λ (n : ℕ). take n (drop (f i) (contents_in a))) size in
+      rw empty (is_utf8-from_IsUtf8 [] IsUtf8-nil)
 
 no_other : (b c : Bool) → c ≡ true → (b && not c) ≡ false
 no_other true c h = rw h refl

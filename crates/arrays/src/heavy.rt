@@ -1,5 +1,5 @@
 // What rows weigh, and whether that is too much (docs/definitions/arrays.md).
-ghost use Rattle.std.specs.Prelude.{◌≡◌, ℕ, ◌+◌, ◌<◌, true, map, nat_lt};
+ghost use Rattle.std.specs.Prelude.{◌≡◌, ℕ, ◌+◌, ◌^◌, ◌<◌, true, map, nat_lt};
 ghost use Rattle.std.specs.List.{list_any, range_with_len};
 ghost use Rattle.arrow_schema.specs.Column.{columns_of, PlainSchema};
 ghost use Rattle.arrow_schema.specs.View.{column_of};
@@ -13,7 +13,7 @@ ghost use Rattle.arrays.specs.inner.Weights.{rows_weight, weight_within};
 use crate::batch_arrays::Placed;
 use crate::weights::parts_weight;
 use arrow_schema::Field;
-use cells::{MAX_ROW_WEIGHT, MAX_TABLE_WEIGHT, add_weights};
+use cells::{MAX_ROW_WEIGHT, MAX_TABLE_WEIGHT, TOO_HEAVY, add_weights};
 use columns::{Dictionary, PlacedArray, no_array};
 
 // So many rows, from one on.
@@ -34,21 +34,34 @@ fn rows_weight(placed: Placed<'_>, from: usize, count: usize, none: &PlacedArray
     add_weights(count as u64, parts)
 }
 
-fn has_heavy_row(placed: Placed<'_>, rows: usize, none: &PlacedArray) -> bool
+// Whether one of so many rows, from one on, weighs too much, by what all of them weigh: none does where that is no more than one may, and others are looked at by halves.
+fn has_heavy_row(
+    placed: Placed<'_>,
+    from: usize,
+    count: usize,
+    total: u64,
+    none: &PlacedArray,
+) -> bool
     requires empty { IsNoArray none.now }
-    requires sound { are_sound (columns_of (map column_of placed.fields.now)) rows (placed_in placed) ≡ true }
+    requires sound { are_sound (columns_of (map column_of placed.fields.now)) (from + count) (placed_in placed) ≡ true }
+    requires counted { from + count < 2 ^ 64 }
+    requires total { total ≡ rows_weight (columns_of (map column_of placed.fields.now)) (placed_in placed) from count }
+    requires exact { total < TOO_HEAVY }
     ensures { let columns = columns_of (map column_of placed.entry.fields.now) in
-        result ≡ list_any (λ i. nat_lt MAX_ROW_WEIGHT (rows_weight columns (placed_in placed.entry) i 1)) (range_with_len 0 rows) }
+        result ≡ list_any (λ i. nat_lt MAX_ROW_WEIGHT (rows_weight columns (placed_in placed.entry) i 1)) (range_with_len from count) }
 {
-    for i in 0..rows {
-        if rows_weight(placed, i, 1, none) > MAX_ROW_WEIGHT {
-            return true;
-        }
+    if total <= MAX_ROW_WEIGHT {
+        return false;
     }
-    false
+    if count < 2 {
+        return true;
+    }
+    let half = count / 2;
+    let front = rows_weight(placed, from, half, none);
+    has_heavy_row(placed, from, half, front, none)
+        || has_heavy_row(placed, from + half, count - half, total - front, none)
 }
 
-// The rows are looked at one by one only where all together weigh more than one may.
 fn weigh(before: u64, placed: Placed<'_>, rows: usize, none: &PlacedArray) -> Option<u64>
     requires empty { IsNoArray none.now }
     requires sound { are_sound (columns_of (map column_of placed.fields.now)) rows (placed_in placed) ≡ true }
@@ -59,7 +72,7 @@ fn weigh(before: u64, placed: Placed<'_>, rows: usize, none: &PlacedArray) -> Op
     if add_weights(before, total) > MAX_TABLE_WEIGHT {
         return None;
     }
-    if total > MAX_ROW_WEIGHT && has_heavy_row(placed, rows, none) {
+    if has_heavy_row(placed, 0, rows, total, none) {
         return None;
     }
     Some(total)

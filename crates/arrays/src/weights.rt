@@ -327,7 +327,7 @@ fn first_weights(
     weights
 }
 
-// With a dictionary: slot by slot, the entries that the indices name. Where there are at least as many slots, the first entries are weighed once.
+// With a dictionary: slot by slot, the entries that the indices name. Where there are more slots than first entries, these are weighed once.
 #[cycle(weights)]
 fn entries_weight(
     field: &Field,
@@ -348,7 +348,7 @@ fn entries_weight(
 {
     let slots = CodedSlots::new(spec, view);
     let few = first_count(view);
-    if count < few {
+    if count <= few {
         return slots_weight(field, slots, from, count, &[], none);
     }
     let first = first_weights(field, view, few, none);

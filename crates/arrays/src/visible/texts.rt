@@ -69,7 +69,7 @@ fn are_boundaries(
     true
 }
 
-// The bytes of some slots are one text that is cut between characters, so that those of each are a text. The test reads all bytes at once.
+// The bytes of some slots are none, or one text that is cut between characters, so that those of each are a text. The test reads all bytes at once.
 fn is_one_text(width: OffsetWidth, view: ArrayView<'_>, from: usize, count: usize) -> bool
     requires long { are_few_offsets (width_of width) (view_array view) ≡ false }
     requires ordered { are_unordered (width_of width) (length (contents_in (view_array view))) (view_array view) ≡ false }
@@ -80,6 +80,9 @@ fn is_one_text(width: OffsetWidth, view: ArrayView<'_>, from: usize, count: usiz
     // a number of the code is below 2^64, so that the end is too
     let _slots = view.slots();
     let span = view.spanned(width, from, count);
+    if span.len == 0 {
+        return true;
+    }
     match simdutf8::basic::from_utf8(bytes_at(view.contents(), span)) {
         Ok(text) => are_boundaries(text, view.offsets(), width, span.start, from, from + count),
         Err(_) => false,

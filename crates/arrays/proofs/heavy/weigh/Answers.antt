@@ -1,14 +1,13 @@
 use Rattle.std.specs.List.{list_any, range_with_len}
 use Rattle.std.proofs.Common.{◌≡◌, ◌+◌, ◌≤◌, List, sym, ap, arith, ◌∙◌}
 use Rattle.arrow_schema.specs.Column.{Column, columns_of}
-use Rattle.cells.specs.declared.limits.TheConstants.{MAX_ROW_WEIGHT, MAX_TABLE_WEIGHT}
+use Rattle.cells.specs.declared.limits.TheConstants.{MAX_TABLE_WEIGHT}
 use Rattle.cells.specs.Weight.{capped_weight}
 use Rattle.columns.specs.Array.{Arrays}
 use Rattle.columns.specs.CellAt.{rows_in}
 use Rattle.arrays.specs.inner.Read.{placed_in}
 use Rattle.arrays.specs.inner.Weights.{rows_weight}
-use Rattle.arrays.proofs.RowWeights.{is_heavy, heavy_together, heavy_alone, light_alone, none_within, some_within}
-use Rattle.arrays.proofs.heavy.weigh.Goals.{else-total-gt-MAX_ROW_WEIGHT-via-then-total-gt-MAX_ROW_WEIGHT+else-has_heavy_row, else-total-gt-MAX_ROW_WEIGHT-via-else-total-gt-MAX_ROW_WEIGHT}
+use Rattle.arrays.proofs.RowWeights.{is_heavy, heavy_together, heavy_alone, none_within, some_within}
 use Rattle.arrays.proofs.heavy.weigh.Goals as goal
 
 pub returns-then-add_weights-gt-MAX_TABLE_WEIGHT : goal.returns-then-add_weights-gt-MAX_TABLE_WEIGHT
@@ -35,11 +34,5 @@ returns c = λ s same.
     = c.rows_weight-total.ensures ∙ ap (λ (cs : List Column). capped_weight (rows_weight (columns_of cs) arrays 0 c.args.rows)) (sym same) in
     let within : c.args.before + rows_weight (columns_of s.columns) arrays 0 c.args.rows ≤ MAX_TABLE_WEIGHT = omega (arith, w, c.add_weights.ensures, c.if-add_weights-gt-MAX_TABLE_WEIGHT.false) in
     let exact : c.rows_weight-total.result ≡ rows_weight (columns_of s.columns) arrays 0 c.args.rows = omega (arith, w, within) in
-    elim c.else-total-gt-MAX_ROW_WEIGHT.branch [
-      | else-total-gt-MAX_ROW_WEIGHT-via-then-total-gt-MAX_ROW_WEIGHT+else-has_heavy_row b ↦
-          (let found = b.if-has_heavy_row.ensures ∙ ap (λ (cs : List Column). list_any (is_heavy (columns_of cs) arrays) (range_with_len 0 c.args.rows)) (sym same) in
-          some_within s c.args.before arrays c.args.rows _ (heavy_alone s c.args.before arrays c.args.rows within ∙ sym found) exact)
-      | else-total-gt-MAX_ROW_WEIGHT-via-else-total-gt-MAX_ROW_WEIGHT b ↦
-          (let light : rows_weight (columns_of s.columns) arrays 0 c.args.rows ≤ MAX_ROW_WEIGHT = omega (arith, exact, b.if-total-gt-MAX_ROW_WEIGHT.false) in
-          some_within s c.args.before arrays c.args.rows _ (light_alone s c.args.before arrays c.args.rows within light) exact)
-    ]
+    let found = c.if-has_heavy_row.ensures ∙ ap (λ (cs : List Column). list_any (is_heavy (columns_of cs) arrays) (range_with_len 0 c.args.rows)) (sym same) in
+    some_within s c.args.before arrays c.args.rows _ (heavy_alone s c.args.before arrays c.args.rows within ∙ sym found) exact

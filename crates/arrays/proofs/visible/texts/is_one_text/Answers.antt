@@ -1,11 +1,15 @@
 use Rattle.std.specs.Str.{IsCharBoundary}
-use Rattle.std.proofs.Common.{◌≡◌, ℕ, ◌≤◌, ◌<◌, ◌+◌, ◌-◌, ◌∙◌, List, subst, take, drop}
+use Rattle.std.proofs.Common.{◌≡◌, ℕ, ◌≤◌, ◌<◌, ◌+◌, ◌-◌, ◌∙◌, List, arith, subst, take, drop}
 use Rattle.columns.specs.Array.{Array, contents_in, offsets_in}
 use Rattle.columns.specs.CellAt.{number_at}
 use Rattle.columns.specs.Offsets.{width_of}
 use Rattle.columns.specs.View.{view_array}
-use Rattle.arrays.proofs.TextSpans.{each_is_text}
+use Rattle.arrays.proofs.TextSpans.{each_is_empty, each_is_text}
 use Rattle.arrays.proofs.visible.texts.is_one_text.Goals as goal
+
+pub returns-then-span-eq0 : goal.returns-then-span-eq0
+returns-then-span-eq0 c = λ h i low high.
+    each_is_empty (width_of c.args.width) (view_array c.args.view) c.requires.long c.requires.ordered c.args.from c.args.count c.requires.within (omega (arith, c.spanned-span.ensures.size, c.if-span-eq0.true)) i low high
 
 pub returns-in-Ok : goal.returns-in-Ok
 returns-in-Ok c = λ h i low high.
