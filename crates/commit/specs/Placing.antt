@@ -1,5 +1,5 @@
 -- Runs are taken for what is to be written, each the lowest that is free.
-use Rattle.std.specs.Prelude.{◌≡◌, ◌⊎◌, ◌≤◌, ◌<◌, ◌+◌, ◌^◌, ℕ, Bool, false, ◌||◌, if◌then◌else◌, List, [], ◌∷◌, ◌++◌, length, map, Some, None, Result, Ok, Err, vec_len, vec_capacity}
+use Rattle.std.specs.Prelude.{◌≡◌, ◌⊎◌, ◌≤◌, ◌<◌, ◌+◌, ◌^◌, ℕ, if◌then◌else◌, List, [], ◌∷◌, ◌++◌, length, map, Some, None, Result, Ok, Err, vec_len, vec_capacity}
 use Rattle.std.specs.Global.{Vec}
 use Rattle.std.specs.List.{AllByRecursion}
 use Rattle.segments.specs.declared.run.Run.{Run}
@@ -10,12 +10,8 @@ use Rattle.segments.specs.Pieces.{PlainPiece, bytes_of_parts}
 use Rattle.segments.specs.Runs.{IsLowest}
 use Rattle.segments.specs.Sectors.{sector_count}
 use Rattle.segments.specs.Usages.{same_run, usage_of}
+pub use Rattle.segments.specs.Usages.{is_among}
 use Rattle.commit.specs.declared.placing.Places.{Places}
-
--- the run is one of these
-abbrev pub is_among : List Run → Run → Bool
-is_among [] run = false
-is_among (r ∷ rs) run = same_run r run || is_among rs run
 
 -- how often it is
 abbrev pub times_among : List Run → Run → ℕ

@@ -25,9 +25,7 @@ pub struct Places<'a> {
 pub fn give_runs(map: &mut FreeMap, runs: &[Run])
     ensures { GivesAll map.old map.new runs.now }
 {
-    for run in runs {
-        map.give(*run);
-    }
+    map.give_each(runs);
 }
 
 /// Takes runs of these numbers of sectors in order, each the lowest one that is free then.

@@ -7,7 +7,7 @@ use Rattle.segments.specs.declared.entries.UsageEntry.{UsageEntry}
 use Rattle.segments.specs.Runs.{IsApart, IsOnDevice, IsFree}
 use Rattle.segments.specs.Usages.{UNUSED, is_used, usage_of, with_usage, entry_before, same_run, IsUsedIn, Ordered, EndBy, IsSound, Changes, with_run}
 use Rattle.segments.specs.inner.Places.{place_of, ApartEach, HasEntryAt}
-use Rattle.segments.proofs.Placed.{same_run-false, same_run-eq, starts_differ, ordered_from, apart_before}
+use Rattle.segments.proofs.Placed.{same_run-false, same_run-eq, starts_differ, ordered_from, ascending, apart_before}
 use Rattle.segments.specs.laws.Usages.{same_run_is, same_itself}
 use Rattle.segments.proofs.Used.{unused_before, used_within, used_ends, apart_used, used_apart}
 
@@ -98,7 +98,8 @@ usage_with run u from (e ∷ es) o some fits =
     cond-false (same_run e.run run) e.usage (usage_of (with_usage run u es) run) (starts_differ e.run run (λ is. omega arith))
     ∙ usage_with run u (e.run.start + e.run.count) es o.3 some fits.1)
     (λ f. usage_before run u (cond (same_run e.run run) es (e ∷ es))
-    (unused_before (run.start + run.count) (cond (same_run e.run run) es (e ∷ es)) run (rest_behind run from e es o (ltb-false _ _ f) fits.0) (omega arith)))
+    (unused_before (run.start + run.count) (cond (same_run e.run run) es (e ∷ es)) run
+    (ascending (run.start + run.count) (cond (same_run e.run run) es (e ∷ es)) (rest_behind run from e es o (ltb-false _ _ f) fits.0)) (omega arith)))
 
 other_before : (run : Run) (u : Usage) (other : Run) (es : List UsageEntry) → (other ≡ run → ⊥) → usage_of (entry_before run u es) other ≡ usage_of es other
 other_before run u other es differs =

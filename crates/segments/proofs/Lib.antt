@@ -1,6 +1,7 @@
 pub mod Placed
 pub mod Used
 pub mod Changed
+pub mod GivenBack
 pub mod Lowest
 pub mod Touched
 pub mod Contents

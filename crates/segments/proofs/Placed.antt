@@ -6,7 +6,7 @@ use Rattle.segments.specs.declared.entries.UsageEntry.{UsageEntry}
 use Rattle.segments.specs.Runs.{IsApart}
 use Rattle.segments.specs.Usages.{Ordered, EndBy, same_run}
 use Rattle.segments.specs.laws.Usages.{same_run_is, same_itself}
-use Rattle.segments.specs.inner.Places.{ApartEach, place_of}
+use Rattle.segments.specs.inner.Places.{ApartEach, Ascending, place_of}
 
 pub same_run-eq : (a b : Run) → a ≡ b → same_run a b ≡ true
 same_run-eq a b is = subst (λ (r : Run). same_run a r ≡ true) is (same_itself a)
@@ -43,11 +43,16 @@ pub ordered_from : (from low : ℕ) (es : List UsageEntry) → low ≤ from → 
 ordered_from from low [] le o = tt
 ordered_from from low (e ∷ es) le o = (omega (arith, o.0), o.1, o.2, o.3)
 
+-- entries in order ascend
+pub ascending : (from : ℕ) (es : List UsageEntry) → Ordered from es → Ascending from es
+ascending from [] o = tt
+ascending from (e ∷ es) o = (o.0, o.1, ascending (e.run.start + e.run.count) es o.3)
+
 -- each entry starts at the least start or behind it
-pub ordered_at : (from : ℕ) (es : List UsageEntry) (k : ℕ) (d : UsageEntry) → Ordered from es → k < length es → from ≤ (get_or es k d).run.start
-ordered_at from [] k d o lt = absurd (omega arith)
-ordered_at from (e ∷ es) zero d o lt = o.0
-ordered_at from (e ∷ es) (suc k) d o lt = let later = ordered_at (e.run.start + e.run.count) es k d o.3 (omega arith) in omega (arith, o.0, later)
+pub ascending_at : (from : ℕ) (es : List UsageEntry) (k : ℕ) (d : UsageEntry) → Ascending from es → k < length es → from ≤ (get_or es k d).run.start
+ascending_at from [] k d o lt = absurd (omega arith)
+ascending_at from (e ∷ es) zero d o lt = o.0
+ascending_at from (e ∷ es) (suc k) d o lt = let later = ascending_at (e.run.start + e.run.count) es k d o.2 (omega arith) in omega (arith, o.0, later)
 
 pub some_at : (from : ℕ) (es : List UsageEntry) (k : ℕ) (d : UsageEntry) → Ordered from es → k < length es → 1 ≤ (get_or es k d).run.count
 some_at from [] k d o lt = absurd (omega arith)
@@ -96,12 +101,12 @@ gap_apart run from (e ∷ es) d o before after =
     zero_or_more zero = inl refl
     zero_or_more (suc n) = inr (omega arith)
 
-pub ordered_rises : (from : ℕ) (es : List UsageEntry) → Ordered from es → (i j : ℕ) (d : UsageEntry) → i ≤ j → j < length es → (get_or es i d).run.start ≤ (get_or es j d).run.start
-ordered_rises from [] o i j d le lt = absurd (omega arith)
-ordered_rises from (e ∷ es) o zero zero d le lt = omega arith
-ordered_rises from (e ∷ es) o zero (suc j) d le lt = let later = ordered_at (e.run.start + e.run.count) es j d o.3 (omega arith) in omega (arith, later)
-ordered_rises from (e ∷ es) o (suc i) zero d le lt = absurd (omega arith)
-ordered_rises from (e ∷ es) o (suc i) (suc j) d le lt = ordered_rises (e.run.start + e.run.count) es o.3 i j d (omega arith) (omega arith)
+pub ascending_rises : (from : ℕ) (es : List UsageEntry) → Ascending from es → (i j : ℕ) (d : UsageEntry) → i ≤ j → j < length es → (get_or es i d).run.start ≤ (get_or es j d).run.start
+ascending_rises from [] o i j d le lt = absurd (omega arith)
+ascending_rises from (e ∷ es) o zero zero d le lt = omega arith
+ascending_rises from (e ∷ es) o zero (suc j) d le lt = let later = ascending_at (e.run.start + e.run.count) es j d o.2 (omega arith) in omega (arith, later)
+ascending_rises from (e ∷ es) o (suc i) zero d le lt = absurd (omega arith)
+ascending_rises from (e ∷ es) o (suc i) (suc j) d le lt = ascending_rises (e.run.start + e.run.count) es o.2 i j d (omega arith) (omega arith)
 
 -- what the test of a sector tells
 pub ends_by : (r : Run) (sector : ℕ) (b : Bool) → (b ≡ true) ↔ ((r.start ≤ sector) × (sector < r.start + r.count)) → b ≡ false → r.start ≤ sector → r.start + r.count ≤ sector

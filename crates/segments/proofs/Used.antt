@@ -6,8 +6,8 @@ use Rattle.segments.specs.declared.entries.Usage.{Usage}
 use Rattle.segments.specs.declared.entries.UsageEntry.{UsageEntry}
 use Rattle.segments.specs.Runs.{IsApart}
 use Rattle.segments.specs.Usages.{UNUSED, is_used, usage_of, same_run, IsUsedIn, Ordered, EndBy}
-use Rattle.segments.specs.inner.Places.{place_of, ApartEach}
-use Rattle.segments.proofs.Placed.{same_run-false, same_run-eq, starts_differ, ordered_at}
+use Rattle.segments.specs.inner.Places.{place_of, ApartEach, Ascending}
+use Rattle.segments.proofs.Placed.{same_run-false, same_run-eq, starts_differ, ascending_at}
 use Rattle.segments.specs.laws.Usages.{same_run_is}
 
 -- a used run has an entry, so it stands where entries stand
@@ -45,14 +45,14 @@ apart_used run from (e ∷ es) o apart = (
 )
 
 -- a run that starts before the entries is unused
-pub unused_before : (from : ℕ) (es : List UsageEntry) (run : Run) → Ordered from es → run.start < from → usage_of es run ≡ UNUSED
+pub unused_before : (from : ℕ) (es : List UsageEntry) (run : Run) → Ascending from es → run.start < from → usage_of es run ≡ UNUSED
 unused_before from [] run o lt = refl
 unused_before from (e ∷ es) run o lt =
     cond-false (same_run e.run run) e.usage (usage_of es run) (starts_differ e.run run (λ is. omega (arith, o.0)))
-    ∙ unused_before (e.run.start + e.run.count) es run o.3 (omega (arith, o.0))
+    ∙ unused_before (e.run.start + e.run.count) es run o.2 (omega (arith, o.0))
 
 -- a run that has no entry at its place has none
-pub unused_without : (from : ℕ) (es : List UsageEntry) (run : Run) (d : UsageEntry) → Ordered from es → ((k : ℕ) → k ≡ place_of run.start es → k < length es → (get_or es k d).run ≡ run → ⊥) → usage_of es run ≡ UNUSED
+pub unused_without : (from : ℕ) (es : List UsageEntry) (run : Run) (d : UsageEntry) → Ascending from es → ((k : ℕ) → k ≡ place_of run.start es → k < length es → (get_or es k d).run ≡ run → ⊥) → usage_of es run ≡ UNUSED
 unused_without from [] run d o none = refl
 unused_without from (e ∷ es) run d o none =
     ⊎_elim
@@ -60,20 +60,20 @@ unused_without from (e ∷ es) run d o none =
     let place : place_of run.start (e ∷ es) ≡ suc (place_of run.start es) = cond-true (ltb e.run.start run.start) (suc (place_of run.start es)) 0 t in
     let lt : e.run.start < run.start = ltb-true _ _ t in
     cond-false (same_run e.run run) e.usage (usage_of es run) (starts_differ e.run run (λ is. omega arith))
-    ∙ unused_without (e.run.start + e.run.count) es run d o.3 (λ k is lt. none (suc k) (ap suc is ∙ sym place) (omega arith)))
+    ∙ unused_without (e.run.start + e.run.count) es run d o.2 (λ k is lt. none (suc k) (ap suc is ∙ sym place) (omega arith)))
     (λ (f : ltb e.run.start run.start ≡ false).
     let place : place_of run.start (e ∷ es) ≡ 0 = cond-false (ltb e.run.start run.start) (suc (place_of run.start es)) 0 f in
     let ge : run.start ≤ e.run.start = ltb-false _ _ f in
     cond-false (same_run e.run run) e.usage (usage_of es run) (same_run-false e.run run (none 0 (sym place) (omega arith)))
-    ∙ unused_before (e.run.start + e.run.count) es run o.3 (omega (arith, o.1)))
+    ∙ unused_before (e.run.start + e.run.count) es run o.2 (omega (arith, o.1)))
     (cases_Bool (ltb e.run.start run.start))
 
 -- an entry tells its run's usage
-pub usage_at : (from : ℕ) (es : List UsageEntry) (run : Run) (k : ℕ) (d : UsageEntry) → Ordered from es → k < length es → (get_or es k d).run ≡ run → (get_or es k d).usage ≡ usage_of es run
+pub usage_at : (from : ℕ) (es : List UsageEntry) (run : Run) (k : ℕ) (d : UsageEntry) → Ascending from es → k < length es → (get_or es k d).run ≡ run → (get_or es k d).usage ≡ usage_of es run
 usage_at from [] run k d o lt is = absurd (omega arith)
 usage_at from (e ∷ es) run zero d o lt is = sym (cond-true (same_run e.run run) e.usage (usage_of es run) (same_run-eq e.run run is))
 usage_at from (e ∷ es) run (suc k) d o lt is =
-    let later = ordered_at (e.run.start + e.run.count) es k d o.3 (omega arith) in
+    let later = ascending_at (e.run.start + e.run.count) es k d o.2 (omega arith) in
     let starts : (get_or es k d).run.start ≡ run.start = ap (λ (r : Run). r.start) is in
-    usage_at (e.run.start + e.run.count) es run k d o.3 (omega arith) is
+    usage_at (e.run.start + e.run.count) es run k d o.2 (omega arith) is
     ∙ sym (cond-false (same_run e.run run) e.usage (usage_of es run) (starts_differ e.run run (λ same. omega (arith, o.1))))

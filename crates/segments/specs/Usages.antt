@@ -90,3 +90,17 @@ pub record IsSound (space : Space) : Type 0 where
 -- each run is used for the same
 abbrev pub SameUsages : List UsageEntry → List UsageEntry → Type 0
 SameUsages old new = (run : Run) → usage_of new run ≡ usage_of old run
+
+-- the run is one of these
+abbrev pub is_among : List Run → Run → Bool
+is_among [] run = false
+is_among (r ∷ rs) run = same_run r run || is_among rs run
+
+-- the usage of a run after these were given back
+abbrev pub usage_after : List Run → Run → Usage → Usage
+usage_after back run usage = if is_among back run then given usage else usage
+
+-- these runs are given back; no other run changes
+pub record GivesBack (old new : Space) (runs : List Run) : Type 0 where
+  pub size : new.size ≡ old.size
+  pub usages : (run : Run) → usage_of new.entries run ≡ usage_after runs run (usage_of old.entries run)

@@ -1,8 +1,8 @@
 // The runs in use, as a list in order.
-ghost use Rattle.std.specs.Prelude.{◌≡◌, ◌≤◌, ◌↔◌, IsTrue, IfNone, IfSome, length};
+ghost use Rattle.std.specs.Prelude.{◌≡◌, ◌≤◌, ◌↔◌, ℕ, IsTrue, IfNone, IfSome, filter, length};
 ghost use Rattle.segments.specs.Runs.{IsLowest};
-ghost use Rattle.segments.specs.Usages.{is_used, usage_of, with_usage, UNUSED, Ordered, EndBy, IsUsedIn, IsSearched};
-ghost use Rattle.segments.specs.inner.Places.{place_of, end_before, ApartEach, HasEntryAt};
+ghost use Rattle.segments.specs.Usages.{is_used, usage_of, usage_after, with_usage, UNUSED, Ordered, EndBy, IsUsedIn, IsSearched};
+ghost use Rattle.segments.specs.inner.Places.{place_of, end_before, ApartEach, Ascending, GivenAmong, HasEntryAt};
 
 use crate::{Run, Searched};
 
@@ -30,7 +30,7 @@ impl Usage {
 
 // How many entries stand before one that starts here.
 pub(crate) fn place_of_start(entries: &[UsageEntry], start: u64) -> usize
-    requires { Ordered 2 entries.now }
+    requires { Ascending 2 entries.now }
     ensures place { result ≡ place_of start entries.now }
     ensures within { result ≤ length entries.now }
 {
@@ -39,7 +39,7 @@ pub(crate) fn place_of_start(entries: &[UsageEntry], start: u64) -> usize
 
 // The place of the run's entry, if it has one.
 pub(crate) fn place_of_run(entries: &[UsageEntry], run: Run) -> Option<usize>
-    requires { Ordered 2 entries.now }
+    requires { Ascending 2 entries.now }
     ensures none { IfNone result (usage_of entries.now run ≡ UNUSED) }
     ensures place { IfSome result (λ i. i ≡ place_of run.start entries.now) }
     ensures found { IfSome result (λ i. HasEntryAt entries.now run i) }
@@ -129,4 +129,40 @@ pub(crate) fn change(entries: &mut Vec<UsageEntry>, run: Run, place: usize, usag
     } else {
         entries.remove(place);
     }
+}
+
+// Each of these runs that has an entry is given back. An entry that is not used any more stays where it is.
+fn give_among(entries: &mut [UsageEntry], runs: &[Run])
+    requires { Ascending 2 entries.old }
+    ensures { GivenAmong entries.old entries.new runs.now }
+{
+    for run in runs {
+        if let Some(place) = place_of_run(entries, *run) {
+            let run = *run;
+            let taken = false;
+            let pins = entries[place].usage.pins;
+            entries[place] = UsageEntry {
+                run,
+                usage: Usage { taken, pins },
+            };
+        }
+    }
+}
+
+// Only the entries that are used stay.
+fn keep_used(entries: &mut Vec<UsageEntry>)
+    ensures { entries.new.items ≡ filter (λ e. is_used e.usage) entries.old.items }
+{
+    entries.retain(|entry| entry.usage.is_used());
+}
+
+// Gives these runs back. What stays is moved once, however many they are.
+pub(crate) fn give_each(entries: &mut Vec<UsageEntry>, runs: &[Run])
+    requires { Ordered 2 entries.old.items }
+    ensures ordered { Ordered 2 entries.new.items }
+    ensures within { (size : ℕ) → EndBy size entries.old.items → EndBy size entries.new.items }
+    ensures usages { (run : Run) → usage_of entries.new.items run ≡ usage_after runs.now run (usage_of entries.old.items run) }
+{
+    give_among(entries, runs);
+    keep_used(entries);
 }

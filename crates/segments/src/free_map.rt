@@ -1,9 +1,9 @@
 // The runs of a device that are in use, and the lowest free one.
 ghost use Rattle.std.specs.Prelude.{◌≡◌, ◌≤◌, ◌↔◌, ◌⊎◌, [], Err, None, Some, IfOk, IfErr, OnOk, OnErr, IsErrOf, IsTrue, true};
 ghost use Rattle.segments.specs.Runs.{IsOnDevice, IsFree, IsLowest};
-ghost use Rattle.segments.specs.Usages.{UNUSED, TAKEN, given, pinned, unpinned, is_used, usage_of, with_run, IsUsedIn, Overlaps, IsUnused, IsSearched, Changes};
+ghost use Rattle.segments.specs.Usages.{UNUSED, TAKEN, given, pinned, unpinned, is_used, usage_of, with_run, IsUsedIn, Overlaps, IsUnused, IsSearched, Changes, GivesBack};
 
-use crate::entries::{change, is_apart, lowest, place_of_run, place_of_start};
+use crate::entries::{change, give_each, is_apart, lowest, place_of_run, place_of_start};
 use crate::{EnterError, Run, Searched, TakeError, Usage, UsageEntry};
 use std::alloc::{AllocError, Global};
 use std::marker::Model;
@@ -124,6 +124,14 @@ impl FreeMap {
         let usage = self.usage(run);
         let pins = usage.pins;
         self.set_usage(run, Usage { taken: false, pins });
+    }
+
+    /// Gives these runs back. A run that is pinned stays in use. It takes no memory, and however many runs there are, the
+    /// entries of the map are moved once.
+    pub fn give_each(&mut self, runs: &[Run])
+        ensures { GivesBack self.old self.new runs.now }
+    {
+        give_each(&mut self.entries, runs);
     }
 
     /// Pins the run once more. It stays in use until it is unpinned as often.

@@ -1,9 +1,9 @@
 -- Where the entry of a run stands among those in order.
-use Rattle.std.specs.Prelude.{◌≡◌, ◌<◌, ◌+◌, ℕ, zero, suc, nat_lt, if◌then◌else◌, List, [], ◌∷◌, length, get_or}
+use Rattle.std.specs.Prelude.{◌≡◌, ◌≤◌, ◌<◌, ◌+◌, ℕ, zero, suc, nat_lt, if◌then◌else◌, List, [], ◌∷◌, length, get_or}
 use Rattle.segments.specs.declared.run.Run.{Run}
 use Rattle.segments.specs.declared.entries.UsageEntry.{UsageEntry}
 use Rattle.segments.specs.Runs.{IsApart}
-use Rattle.segments.specs.Usages.{UNUSED, usage_of}
+use Rattle.segments.specs.Usages.{UNUSED, usage_of, usage_after, EndBy}
 
 -- how many entries stand before one that starts here
 abbrev pub place_of : ℕ → List UsageEntry → ℕ
@@ -26,3 +26,15 @@ pub record HasEntryAt (es : List UsageEntry) (run : Run) (place : ℕ) : Type 0 
   pub within : place < length es
   pub is : (get_or es place (record { run = run; usage = UNUSED })).run ≡ run
   pub usage : (get_or es place (record { run = run; usage = UNUSED })).usage ≡ usage_of es run
+
+-- the entries stand in order from this sector on, none in another, used or not
+abbrev pub Ascending : ℕ → List UsageEntry → Type 0
+Ascending from [] = Unit {0}
+Ascending from (e ∷ es) = (from ≤ e.run.start) × (1 ≤ e.run.count) × Ascending (e.run.start + e.run.count) es
+
+-- these runs were given back where they have entries; an entry that is not used any more may still stand there
+pub record GivenAmong (old new : List UsageEntry) (runs : List Run) : Type 0 where
+  pub len : length new ≡ length old
+  pub ascending : Ascending 2 new
+  pub within : (size : ℕ) → EndBy size old → EndBy size new
+  pub usages : (run : Run) → usage_of new run ≡ usage_after runs run (usage_of old run)

@@ -3,9 +3,12 @@ use Rattle.segments.specs.declared.run.Run.{Run}
 use Rattle.segments.specs.declared.entries.UsageEntry.{UsageEntry}
 use Rattle.segments.specs.Runs.{IsApart}
 use Rattle.segments.specs.inner.Places.{place_of}
-use Rattle.segments.proofs.Placed.{apart_at, some_at, below_place, at_place, gap_apart, ends_by, meets}
+use Rattle.segments.proofs.Placed.{ascending, apart_at, some_at, below_place, at_place, gap_apart, ends_by, meets}
 use Rattle.segments.proofs.entries.is_apart.Goals as goal
 use Rattle.segments.proofs.entries.is_apart.Goals.{else-place-gt0-via-then-place-gt0+else-contains, else-place-gt0-via-else-place-gt0, else-place-entries-via-then-place-entries+else-contains-2, else-place-entries-via-else-place-entries}
+
+pub place_of_start-place-requires : goal.place_of_start-place-requires
+place_of_start-place-requires c = ascending 2 c.args.entries.now c.requires.ordered
 
 abbrev none : UsageEntry
 none = record { run = record { start = 0; count = 0 }; usage = record { taken = false; pins = 0 } }

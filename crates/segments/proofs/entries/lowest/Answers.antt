@@ -4,8 +4,12 @@ use Rattle.segments.specs.declared.entries.UsageEntry.{UsageEntry}
 use Rattle.segments.specs.declared.searched.Searched.{Searched}
 use Rattle.segments.specs.Usages.{IsSearched}
 use Rattle.segments.proofs.Lowest.{Passed, passed_first, passed_more, passed_searched, next_within, lowest_before, lowest_behind, none_lowest}
+use Rattle.segments.proofs.Placed.{ascending}
 use Rattle.segments.proofs.entries.lowest.Goals as goal
 use Rattle.segments.proofs.entries.lowest.Goals.{then-count-searched, else-count-searched}
+
+pub place_of_start-place-requires : goal.place_of_start-place-requires
+place_of_start-place-requires c = ascending 2 c.args.entries.now c.requires.ordered
 
 abbrev none : UsageEntry
 none = record { run = record { start = 0; count = 0 }; usage = record { taken = false; pins = 0 } }

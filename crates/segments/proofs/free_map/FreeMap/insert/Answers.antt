@@ -1,9 +1,13 @@
 use Rattle.std.proofs.Common.{◌∙◌, ap, sym, subst, arith}
 use Rattle.segments.specs.Runs.{IsFree}
 use Rattle.segments.specs.Usages.{Space, IsUsedIn, with_run, Changes}
-use Rattle.segments.specs.inner.Places.{place_of}
+use Rattle.segments.specs.inner.Places.{place_of, Ascending}
 use Rattle.segments.proofs.Changed.{enters}
+use Rattle.segments.proofs.Placed.{ascending}
 use Rattle.segments.proofs.free_map.FreeMap.insert.Goals as goal
+
+pub place_of_start-place-requires : goal.place_of_start-place-requires
+place_of_start-place-requires c = subst (Ascending 2) (sym c.deref.ensures.value) (ascending 2 c.self.inside.entries.items c.self.invariant.ordered)
 
 pub insert-requires : goal.insert-requires
 insert-requires c = omega (arith, c.deref.ensures.len)

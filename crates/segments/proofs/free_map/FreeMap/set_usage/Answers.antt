@@ -2,9 +2,13 @@ use Rattle.std.proofs.Common.{◌≡◌, ◌∙◌, ap, sym, refl, subst, List}
 use Rattle.segments.specs.declared.entries.Usage.{Usage}
 use Rattle.segments.specs.declared.entries.UsageEntry.{UsageEntry}
 use Rattle.segments.specs.Usages.{Space, UNUSED, usage_of, with_run, Changes}
-use Rattle.segments.specs.inner.Places.{HasEntryAt}
+use Rattle.segments.specs.inner.Places.{Ascending, HasEntryAt}
 use Rattle.segments.proofs.Changed.{fits_used, sound_with, changes_with, changes_none, on_device, used_has}
+use Rattle.segments.proofs.Placed.{ascending}
 use Rattle.segments.proofs.free_map.FreeMap.set_usage.Goals as goal
+
+pub place_of_run-requires : goal.place_of_run-requires
+place_of_run-requires c = subst (Ascending 2) (sym c.deref.ensures.value) (ascending 2 c.self.inside.entries.items c.self.invariant.ordered)
 
 pub invariant_of-self : goal.invariant_of-self
 invariant_of-self c =
