@@ -44,12 +44,7 @@ fn by_start(alloc: Global, runs: &[Run]) -> Result<Vec<Run>, AllocError>
 }
 
 // The map in which these runs are in use, entered one by one.
-fn occupy_each(
-    alloc: Global,
-    sectors: u64,
-    text: Run,
-    runs: &[Run],
-) -> Result<FreeMap, OpenError>
+fn occupy_each(alloc: Global, sectors: u64, text: Run, runs: &[Run]) -> Result<FreeMap, OpenError>
     requires text { is_on_device sectors text ≡ true }
     requires runs { all_on_device sectors runs.now ≡ true }
     ensures size { IfOk result (λ map. map.size ≡ sectors) }

@@ -1,10 +1,8 @@
-use Rattle.std.proofs.Common.{◌≡◌, ◌∙◌, ◌∷◌, [], List, true, ap, sym, subst, Option, Some, None, IfErr, OnOk, IsPermutation}
+use Rattle.std.proofs.Common.{◌≡◌, ◌∙◌, ap, sym, subst, Option, Some, None, IfErr, OnOk, IsPermutation}
 use Rattle.std.proofs.lemmas.Result.{IfOk-weaker}
-use Rattle.segments.specs.declared.run.Run.{Run}
 use Rattle.commit.specs.declared.cause.Cause.{Cause}
 use Rattle.commit.specs.declared.cause.Cause.TheVariants.{RunRange}
 use Rattle.commit.specs.declared.reading.OpenError.TheVariants.{Damaged}
-use Rattle.commit.specs.Standing.{all_on_device}
 use Rattle.commit.specs.laws.Apart.{outside}
 use Rattle.commit.proofs.Reordered.{still_on_device, same_fault, same_uses}
 use Rattle.commit.proofs.entering.occupy_runs.Goals as goal
