@@ -4,3 +4,4 @@ pub mod Moments
 pub mod Formatted
 pub mod Told
 pub mod Counted
+pub mod Reordered

@@ -1,5 +1,5 @@
 // The runs of a catalogue come into use.
-ghost use Rattle.std.specs.Prelude.{◌≡◌, ◌≢◌, ◌∷◌, [], true, None, Some, OnOk, IfOk, IfErr};
+ghost use Rattle.std.specs.Prelude.{◌≡◌, ◌≢◌, ◌∷◌, [], true, None, Some, OnOk, IfOk, IfErr, IsPermutation};
 ghost use Rattle.commit.specs.Placing.{Uses};
 ghost use Rattle.commit.specs.Standing.{is_on_device, all_on_device, runs_fault};
 ghost use Rattle.commit.specs.laws.Apart.{HasEntered};
@@ -7,7 +7,7 @@ ghost use Rattle.commit.specs.laws.Apart.{HasEntered};
 use crate::reading::is_on_device;
 use crate::{Cause, OpenError};
 use segments::{EnterError, FreeMap, Run};
-use std::alloc::Global;
+use std::alloc::{AllocError, Global};
 
 // Whether each run lies on the device.
 fn are_on_device(size: u64, runs: &[Run]) -> bool
@@ -34,7 +34,34 @@ fn map_of(alloc: Global, sectors: u64, text: Run) -> Result<FreeMap, OpenError>
     }
 }
 
-/// The map in which the run of a catalogue's text is in use, and those that the catalogue names.
+// The runs by their starts, so that each comes into use behind those before it.
+fn by_start(alloc: Global, runs: &[Run]) -> Result<Vec<Run>, AllocError>
+    ensures { IfOk result (λ sorted. IsPermutation runs.now sorted.items) }
+{
+    let mut sorted = Vec::from_slice(alloc, runs)?;
+    sorted.sort_unstable_by_key(|run| run.start);
+    Ok(sorted)
+}
+
+// The map in which these runs are in use, entered one by one.
+fn occupy_each(alloc: Global, sectors: u64, text: Run, runs: &[Run]) -> Result<FreeMap, OpenError>
+    requires text { is_on_device sectors text ≡ true }
+    requires runs { all_on_device sectors runs.now ≡ true }
+    ensures size { IfOk result (λ map. map.size ≡ sectors) }
+    ensures uses { IfOk result (λ map. Uses map.entries (text ∷ runs.now) []) }
+    ensures fit { OnOk result (runs_fault sectors text runs.now ≡ None) }
+    ensures damaged { IfErr result (λ e. (cause : Cause) → e ≡ OpenError.Damaged cause → runs_fault sectors text runs.now ≡ Some cause) }
+    ensures errors { IfErr result (λ e. (e ≢ OpenError.NotAStore) × (e ≢ OpenError.Device)) }
+{
+    let mut map = map_of(alloc, sectors, text)?;
+    for run in runs {
+        map.occupy(*run)?;
+    }
+    Ok(map)
+}
+
+/// The map in which the run of a catalogue's text is in use, and those that the catalogue names. The time that it takes
+/// doesn't depend on the order of the runs.
 ///
 /// # Errors
 /// `Damaged(RunRange)` where one lies outside the device, then `Damaged(RunOverlap)` where two share a sector.
@@ -54,11 +81,10 @@ pub fn occupy_runs(
     if !are_on_device(sectors, runs) {
         return Err(OpenError::Damaged(Cause::RunRange));
     }
-    let mut map = map_of(alloc, sectors, text)?;
-    for run in runs {
-        map.occupy(*run)?;
+    match by_start(alloc, runs) {
+        Ok(sorted) => occupy_each(alloc, sectors, text, &sorted),
+        Err(_) => Err(OpenError::OutOfMemory),
     }
-    Ok(map)
 }
 
 impl From<EnterError> for OpenError {

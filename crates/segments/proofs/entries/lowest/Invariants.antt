@@ -1,4 +1,4 @@
-use Rattle.std.proofs.Common.{◌<◌, ◌≤◌, length}
+use Rattle.std.proofs.Common.{◌<◌}
 use Rattle.segments.proofs.Lowest.{Passed}
 use Rattle.segments.proofs.entries.lowest.Given as goal
 

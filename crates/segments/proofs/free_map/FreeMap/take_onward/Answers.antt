@@ -1,7 +1,5 @@
-use Rattle.std.proofs.Common.{◌≡◌, ◌≤◌, ◌∙◌, List, Some, sym, subst, arith}
+use Rattle.std.proofs.Common.{◌≡◌, ◌≤◌, List, Some, sym, subst, arith}
 use Rattle.segments.specs.declared.entries.UsageEntry.{UsageEntry}
-use Rattle.segments.specs.declared.run.Run.{Run}
-use Rattle.segments.specs.declared.searched.Searched.{Searched}
 use Rattle.segments.specs.Runs.{IsLowest}
 use Rattle.segments.specs.Usages.{Space, IsUsedIn, IsSearched}
 use Rattle.segments.proofs.Lowest.{searched_on}
