@@ -74,9 +74,6 @@ usages_last old new next runs run before gives keeps other =
     after_last (usage_of old other) (usage_of new other) (usage_of next other) (is_among runs other) (same_run run other) (before other) (gives other) (keeps other)
     ∙ ap (λ (t : Bool). cond t (given (usage_of old other)) (usage_of old other)) (sym (among_last runs run other))
 
-pub given_none : (es : List UsageEntry) → Ascending 2 es → GivenAmong es es []
-given_none es a = record { len = refl; ascending = a; within = λ size ends. ends; usages = λ run. refl }
-
 -- one that has an entry
 pub given_at : (old new next : List UsageEntry) (runs : List Run) (run : Run) (k : ℕ) (u : Usage) → GivenAmong old new runs → HasEntryAt new run k → u ≡ given (usage_of new run) → next ≡ with_entry new k run u → GivenAmong old next (runs ++ run ∷ [])
 given_at old new next runs run k u all has gives is = subst (λ (es : List UsageEntry). GivenAmong old es (runs ++ run ∷ [])) (sym is) (record {

@@ -56,9 +56,6 @@ joined_more {A = A} h f xs i x new old own before lt is added are was =
     ∙ ap (λ (ys : List A). before ++ ys) (sym (map-append h (flat_map f (take i xs)) (f x)))
     ∙ ap (λ (ys : List A). before ++ map h ys) (sym (next_taken f xs i x lt is))
 
-pub passes_more : {X : Type 0} (p : X → Bool) (before new : List X) (x : X) → new ≡ before ++ x ∷ [] → list_all p before ≡ true → p x ≡ true → list_all p new ≡ true
-passes_more p before new x added h own = ap (list_all p) added ∙ list_all-append p before (x ∷ []) ∙ and_from _ _ h (and_from _ _ own refl)
-
 -- ---- what a batch has
 
 module _ (fields : List Field) (places : List ℕ) (p : Part) (b : Batch) (own : PickedBatch) (bytes : own.bytes.now ≡ p.bytes.items) (dictionaries : own.dictionaries.now ≡ p.dictionaries.items)
@@ -98,6 +95,3 @@ pub sum_more : (bs : List PickedBatch) (i : ℕ) (b : PickedBatch) → i < lengt
 sum_more bs i b lt is =
     let f = λ (c : PickedBatch). c.rows in
     ap (sum_by f) (first_and_next bs i b lt is) ∙ sum_by-append f (take i bs) (b ∷ []) ∙ ap (λ n. sum_by f (take i bs) + n) (omega (arith, sum_by-cons f b []))
-
-pub sum_within : (bs : List PickedBatch) (i : ℕ) → sum_by (λ c. c.rows) (take i bs) ≤ sum_by (λ c. c.rows) bs
-sum_within bs i = sum_by-take-le (λ (c : PickedBatch). c.rows) bs i

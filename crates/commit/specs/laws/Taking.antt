@@ -153,9 +153,6 @@ pub record GivesAll (old new : Space) (runs : List Run) : Type 0 where
   pub size : new.size ≡ old.size
   pub usages : (run : Run) → usage_of new.entries run ≡ by_among (given (usage_of old.entries run)) (usage_of old.entries run) (is_among runs run)
 
-pub gives_none : (s : Space) → GivesAll s s []
-gives_none s = record { size = refl; usages = λ run. refl }
-
 pub gives_one_more : (old new next : Space) (runs : List Run) (run : Run) → GivesAll old new runs → Changes new next run (given (usage_of new.entries run)) → GivesAll old next (runs ++ run ∷ [])
 gives_one_more old new next runs run all changes = record {
   size = changes.size ∙ all.size;
