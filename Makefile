@@ -14,7 +14,7 @@ all: bin/arrowstore
 
 # What the gate has built is taken, and built here only where a source is newer.
 crates/program/out/program: $(SOURCES)
-	@echo "Proving and building arrowstore. The first build proves every crate, which takes more than an hour of processor"
+	@echo "Proving and building arrowstore. The first build proves every crate, which takes two to three hours of processor"
 	@echo "time. A line comes for each crate and function; later builds prove only what changed."
 	cd crates/program && rt run -- recode < stdin > /dev/null
 	@touch $@

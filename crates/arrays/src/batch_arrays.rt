@@ -34,7 +34,7 @@ pub(crate) struct Placed<'a> {
     pub(crate) dictionaries: &'a [Dictionary],
 }
 
-// F20: a length is none, a column's is not the batch's, or a child is too short.
+// F20: a length is not allowed, a column's is not the batch's, or a child is too short.
 fn has_bad_length(placed: Placed<'_>, batch: &RawBatch, every: &[TypedView<'_>]) -> bool
     requires { all_of every.now ≡ every_array (columns_of (map column_of placed.fields.now)) (placed_in placed) }
     ensures { result ≡ has_bad_length (columns_of (map column_of placed.entry.fields.now)) (raw_batch_of batch.now) (placed_in placed.entry) }

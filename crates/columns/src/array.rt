@@ -35,7 +35,7 @@ pub struct DictionaryPart {
 }
 
 /// The arrays of a dictionary: that of the batch that began it, and those of the batches that were appended. It keeps how many entries there are up to the end of
-/// each, so that an entry is found by halves.
+/// each, so that an entry is found by binary search.
 #[derive(Debug, Drop)]
 pub struct Dictionary {
     pub arrays: Vec<PlacedArray>,

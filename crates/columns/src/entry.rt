@@ -37,7 +37,7 @@ fn flat_view<'a>(bytes: &'a [u8], array: &'a PlacedArray) -> ArrayView<'a>
     }
 }
 
-// The array that has an entry, by halves.
+// The array that has an entry, by binary search.
 fn array_place(known: KnownArrays, index: u128) -> usize
     ensures { IsArrayPlace known.entry.arrays.now index result }
 {

@@ -150,7 +150,8 @@ appended. A refusal without a remedy of its own lies with that record.
 - X2 Width N: the record has another number of fields than the table has columns, or an array another
   number of items than its struct or its list of fixed size.
 - X3 NotUtf8 N: a text, or a line of JSON, is not UTF-8.
-- X4 NotANumber N: a value is no integer: digits, with a `-` before them or not.
+- X4 NotANumber N: a value is no integer: digits, with a `-` before them or not. Dates and timestamps are
+  integers too. In JSON `-0`, `1.0` and an integer past 64 bits are no integers either.
 - X5 OutOfRange N: an integer is past the range of its type.
 - X6 NotABool N: a value is neither `true` nor `false`.
 - X7 NotHex N: bytes are not written as pairs of hexadecimal digits.
@@ -158,7 +159,8 @@ appended. A refusal without a remedy of its own lies with that record.
 - X9 Nested 0: the table has lists or structs, which CSV has not. ",
     GIVE_JSON_LINES,
     "
-- X10 Json N: the line is no JSON value, or nests more than 127 deep.
+- X10 Json N: the line is no JSON value, or nests more than 127 deep, has a number past every float, or
+  half of a surrogate pair.
 - X11 UnknownName N: an object has a name that is no column or field.
 - X12 MissingName N: an object lacks a name, and no null is allowed there.
 - X13 AmbiguousNames N: two columns or fields have one name. ",
@@ -222,7 +224,8 @@ appended. A refusal without a remedy of its own lies with that record.
 - S12 Query REASON: the query of `query --save` is refused, for this reason (Q).
 - S13 SegmentUnread N: the segment N of the table, counted from 0, can't be read: its bytes were changed.
   `check` reads all tables, in byte order of their names, and is refused so at the first that can't be
-  read. ",
+  read: an `export` of each shows which it is.
+  ",
     IMPORT_AGAIN,
     "
 

@@ -147,7 +147,7 @@ impl Dictionaries {
         Ok(parts)
     }
 
-    /// Where an entry of an id's dictionary stands, of those that are in effect. It is found by halves.
+    /// Where an entry of an id's dictionary stands, of those that are in effect. It is found by binary search.
     pub fn entry<'a>(&'a self, id: u64, bytes: &'a [u8], index: u128) -> Option<EntryPlace<'a>>
         ensures cell { (before : List DictionaryBatch) (kind : Kind) → HasInEffect bytes.now self.now before
             → located_cell kind result ≡ get_or (entries_of_kind kind (arrays_of (in_effect id before))) index null }

@@ -32,7 +32,7 @@ pub struct Message<'a> {
 #[derive(Clone, Copy, Debug)]
 pub enum NextMessage<'a> {
     Message(Message<'a>),
-    /// The end of stream: a mark, and a size of 0.
+    /// The end of stream: a continuation marker, and a size of 0.
     EndOfStream,
 }
 

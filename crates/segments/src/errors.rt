@@ -1,4 +1,4 @@
-// Why a run isn't had.
+// Why no run is taken or entered.
 use std::alloc::AllocError;
 use thiserror::Error;
 

@@ -103,7 +103,9 @@ fn word_of<'a>(alloc: Global, request: &StoreRequest<'a>, refusal: &Refusal) -> 
         (
             StoreRequest::Format { path, .. } | StoreRequest::Command { path, .. },
             Refusal::Opening(_),
-        ) => named(Role::File, Some(path)),
+        )
+        // the number of sectors is what `format` is refused for
+        | (StoreRequest::Command { path, .. }, Refusal::BadSize) => named(Role::File, Some(path)),
         (StoreRequest::Command { command, .. }, _) => word_of_command(alloc, command, refusal),
         _ => None,
     }

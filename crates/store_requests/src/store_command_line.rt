@@ -239,13 +239,20 @@ fn format<'a>(alloc: Global) -> Result<Command<'a>, AllocError> {
 
 fn create<'a>(alloc: Global) -> Result<Command<'a>, AllocError> {
     let fields = Arg::new(alloc, "FIELD").num_args(0..).help(
-        "The fields, each as name:type, with a ? behind it where nulls are allowed",
+        "The fields, each as NAME:TYPE, with a ? behind it where nulls are allowed",
     );
     table_command(
         alloc,
         "create",
         "Makes a table without rows",
-        "Example: arrowstore create store measurements id:uint64 value:int32",
+        "Example: arrowstore create store measurements id:uint64 value:int32? 'tags:list<utf8>'
+
+A TYPE is null, bool, int8 to int64, uint8 to uint64, utf8, large_utf8, binary,
+large_binary, date_day, date_ms, timestamp_s, timestamp_ms, timestamp_us or
+timestamp_ns, each of these four also with a zone, as timestamp_ms(UTC),
+fixed_binary(N), list<ITEM>, large_list<ITEM>, fixed_list(N,ITEM), struct<FIELD,..>
+or dict<INDEX,TYPE>, as dict<int8,utf8>. An ITEM is a TYPE, with a ? where nulls
+are allowed.",
     )?
     .arg(fields)
 }
@@ -308,7 +315,12 @@ fn query<'a>(alloc: Global) -> Result<Command<'a>, AllocError> {
         alloc,
         "query",
         "Prints the rows of a table that meet all conditions, each as a line of JSON",
-        "Example: arrowstore query store measurements 'value >= 7' --columns id,value --limit 10",
+        "Example: arrowstore query store measurements 'value >= 7' --columns id,value --limit 10
+
+A LITERAL stands without quotation marks, as in 'city = New York': all that is behind
+the operator and one space is the text. Bytes are pairs of hexadecimal digits, bools
+true or false, dates and timestamps the integers that are stored: how many days,
+seconds, .. they are behind 1970-01-01.",
     )?
     .arg(conditions)?
     .arg(columns)?

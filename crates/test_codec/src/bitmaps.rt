@@ -1,6 +1,6 @@
 // Bitmaps (bitmap). What they hold is proved; here they are made.
 use crate::made::{NotMade, is_one_well};
-use bitmap::{and, pack};
+use bitmap::{and, count_set, pack};
 use std::alloc::Global;
 
 // Whether a mask of 130 bytes, and one of 73 bits, are as they are to be.
@@ -18,4 +18,14 @@ fn are_made(alloc: Global) -> Result<bool, NotMade> {
 #[test]
 fn masks_are_made_also_without_memory(rt: HostRuntime) {
     assert!(rt; is_one_well(are_made(rt.alloc()), are_made(rt.alloc())));
+}
+
+// Whether bits are counted that begin within a byte: six of them, and all that are left.
+fn are_counted() -> bool {
+    count_set(&[0xff, 0x0f], 4, 6) == 6 && count_set(&[0xff, 0x0f], 4, 12) == 8
+}
+
+#[test]
+fn set_bits_are_counted(rt: HostRuntime) {
+    assert!(rt; are_counted());
 }

@@ -1,5 +1,5 @@
 // Worked rows of the free map, and one with many runs.
-use segments::{EnterError, FreeMap, Run, TakeError};
+use segments::{EnterError, FreeMap, Run, Searched, TakeError};
 use std::alloc::Global;
 
 // A call of a free map, and its answer. A run is its start and its count.
@@ -174,6 +174,35 @@ fn are_answered(alloc: Global) -> bool {
 #[test]
 fn worked_rows_are_answered_also_without_memory(rt: HostRuntime) {
     assert!(rt; are_answered(rt.alloc()) || are_answered(rt.alloc()));
+}
+
+// A free run is looked for behind the last one, unless it may fit into a gap that was passed. Free are the sectors 3 to 4, 6 to 8 and 11 to 15.
+fn takes_onward(map: &mut FreeMap) -> bool {
+    let mut searched = Searched::nothing();
+    let behind_two = map.take_onward(3, &mut searched) == Ok(Run { start: 6, count: 3 });
+    let behind_three = map.take_onward(3, &mut searched)
+        == Ok(Run {
+            start: 11,
+            count: 3,
+        });
+    let from_the_front = map.take_onward(2, &mut searched) == Ok(Run { start: 3, count: 2 });
+    let last = map.take_onward(2, &mut searched)
+        == Ok(Run {
+            start: 14,
+            count: 2,
+        });
+    let full = map.take_onward(1, &mut searched) == Err(TakeError::NoRoom(1));
+    behind_two && behind_three && from_the_front && last && full
+}
+
+#[test]
+fn runs_are_taken_onward(rt: HostRuntime) {
+    let mut map = FreeMap::new(rt.alloc(), 16);
+    let mut occupied = true;
+    for (start, count) in [(2, 1), (5, 1), (9, 2)] {
+        occupied = occupied && map.occupy(Run { start, count }).is_ok();
+    }
+    assert!(&rt; occupied && takes_onward(&mut map));
 }
 
 // Each find goes over the runs once: if it went over them for each of them, this would take hours.

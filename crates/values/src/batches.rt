@@ -110,7 +110,7 @@ impl Batches {
         self.batch_starts[part][batch]
     }
 
-    // The batch of a row: the one that is near, where it has the row, or else found by halves.
+    // The batch of a row: the one that is near, where it has the row, or else found by binary search.
     pub(crate) fn find(&self, row: usize, near: BatchPlace) -> BatchPlace
         requires { row < sum (part_lengths self.now.parts.items) }
         ensures { IsInBatch self.now.parts.items result.part result.batch row }

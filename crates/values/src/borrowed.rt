@@ -114,7 +114,7 @@ impl<'a> Iterator for ValuesIter<'a> {
     }
 }
 
-/// A value, lent.
+/// A value, borrowed.
 pub fn borrow_value(value: &Value) -> ValueRef<'_>
     ensures { borrowed_cell result ≡ cell value.now }
 {

@@ -25,7 +25,7 @@ pub(crate) fn starts_of(alloc: Global, lengths: &[usize]) -> Result<Vec<usize>, 
     Ok(starts)
 }
 
-// The run of a place, found by halves.
+// The run of a place, found by binary search.
 fn run_by_halves(starts: &[usize], place: usize) -> usize
     ensures { (lengths : List ℕ) → starts.now ≡ starts_from 0 lengths → place < sum lengths → IsInRun lengths result place }
 {
