@@ -1,5 +1,6 @@
 -- The records of a text.
 use Rattle.std.proofs.Common.{◌≡◌, ℕ, ◌+◌, ◌-◌, ◌≤◌, ◌<◌, zero, suc, Bool, true, false, List, [], ◌∷◌, ◌++◌, length, drop, refl, sym, ap, ◌∙◌, arith}
+use Rattle.std.specs.List.{list_any}
 use Rattle.std.specs.Prelude.{Option, Some, None, if◌then◌else◌, option_map, unwrap_or, get_or, bytes_eq, Ok, Err}
 use Rattle.std.specs.Borrow.{Bor}
 use Rattle.arrow_schema.specs.Column.{Column, PlainSchema}
@@ -7,8 +8,7 @@ use Rattle.arrow_schema.specs.Parts.{name_of_column}
 use Rattle.cells.specs.Cell.{Cell}
 use Rattle.text_import.specs.declared.refusal.Refusal.{Refusal}
 use Rattle.text_import.specs.Flat.{field_cell}
-use Rattle.text_import.specs.inner.Stands.{is_text, Reads, Stands}
-use Rattle.text_import.proofs.RowLemmas.{behind, behind_more, behind_end}
+use Rattle.text_import.specs.Stands.{is_text, Stands, Reads, Left, HasLeft, TakesNext}
 use Rattle.csv.specs.Machine.{Read, next_record, step, is_end, fields_after, field_after, ends_at_end}
 use Rattle.csv.specs.Reading.{default_config, records_from, strip_bom, is_bom}
 use Rattle.csv.specs.Records.{field_at}
@@ -17,9 +17,9 @@ use Rattle.csv.specs.declared.reader.Reader.{Reader}
 use Rattle.std.proofs.lemmas.Bool.{false≢true}
 use Rattle.csv.specs.declared.parser.State.{State}
 use Rattle.csv.specs.declared.parser.State.TheVariants as st
-use Rattle.text_import.specs.Records.{records_of, are_names, field_cells, whole, record_row, rows_behind_header}
+use Rattle.text_import.specs.Records.{records_of, are_names, whole, record_row, rows_behind_header, is_nested_column, csv_rows_of}
 use Rattle.text_import.specs.Rows.{rows_from}
-use Rattle.text_import.specs.declared.refusal.Refusal.TheVariants.{Header}
+use Rattle.text_import.specs.declared.refusal.Refusal.TheVariants.{Header, Nested}
 
 -- a record leaves less of a text, where there was some
 shorter : (cfg : Config) (s : State) (fields : List (List ℕ)) (field xs : List ℕ) (p : Read) → next_record cfg s fields field xs ≡ Some p → length p.2 ≤ length xs - 1
@@ -46,6 +46,10 @@ none_left : (n : ℕ) → records_from default_config n st.StartRecord [] ≡ []
 unfolding records_from next_record
 none_left zero = refl
 none_left (suc n) = refl
+
+few_none : (s : State) (xs : List ℕ) → length (records_from default_config 0 s xs) ≤ 0
+unfolding records_from
+few_none s xs = omega arith
 
 pub record_none : (n : ℕ) (s : State) (xs : List ℕ) → next_record default_config s [] [] xs ≡ None → records_from default_config n s xs ≡ []
 unfolding records_from
@@ -101,6 +105,24 @@ stripped (a ∷ b ∷ c ∷ rest) = by (is_bom a b c)
 -- as many turns as bytes, and one, give all records
 pub records_by_size : (t : List ℕ) → records_of t ≡ records_from default_config (suc (length t)) st.StartRecord (strip_bom t)
 records_by_size t = let less = stripped t in enough (length (strip_bom t) + 1) (suc (length t)) st.StartRecord (strip_bom t) (omega arith) (omega arith)
+
+-- there are no more of them than turns
+pub few_records : (n : ℕ) (s : State) (xs : List ℕ) → length (records_from default_config n s xs) ≤ n
+few_records zero s xs = few_none s xs
+few_records (suc n) s xs = by (next_record default_config s [] [] xs) refl (few_records n)
+  where
+    by : (o : Option Read) → next_record default_config s [] [] xs ≡ o → ((s2 : State) (ys : List ℕ) → length (records_from default_config n s2 ys) ≤ n)
+        → length (records_from default_config (suc n) s xs) ≤ suc n
+    by None e more = rw (record_none (suc n) s xs e) (omega arith)
+    by (Some p) e more = (let others = more p.1 p.2 in rw (record_some n s xs p e) (omega arith))
+
+-- a text has no more records behind the first than bytes
+pub few_behind : (t : List ℕ) (h : List (List ℕ)) (rest : List (List (List ℕ))) → records_of t ≡ h ∷ rest → length rest ≤ length t
+few_behind t h rest e =
+    let all = few_records (suc (length t)) st.StartRecord (strip_bom t) in
+    let same : records_from default_config (suc (length t)) st.StartRecord (strip_bom t) ≡ h ∷ rest = sym (records_by_size t) ∙ e in
+    let size = ap length same in
+    omega arith
 
 -- the field at a place
 pub field_here : (ts : List (List ℕ)) (i : ℕ) (t : List ℕ) → field_at ts i ≡ Some t → drop i ts ≡ t ∷ drop (suc i) ts
@@ -160,30 +182,34 @@ pub all_names : are_names [] [] ≡ true
 unfolding are_names
 all_names = refl
 
--- one more cell of a record, a cell that is refused, and the end
-pub field_more : (null_text : List ℕ) (so : List Cell) (c : Column) (cs : List Column) (t : List ℕ) (ts : List (List ℕ)) (x : Cell) → field_cell null_text c t ≡ Ok x
-    → behind so (field_cells null_text (c ∷ cs) (t ∷ ts)) ≡ behind (so ++ x ∷ []) (field_cells null_text cs ts)
-unfolding field_cells
-field_more null_text so c cs t ts x e = rw e (behind_more so x (field_cells null_text cs ts))
+-- the records that are left of a text
+pub left_first : (t : List ℕ) → Left (records_of t) st.StartRecord (strip_bom t)
+left_first t n lt = enough (length (strip_bom t) + 1) n st.StartRecord (strip_bom t) (omega arith) lt
 
-pub field_refused : (null_text : List ℕ) (so : List Cell) (c : Column) (cs : List Column) (t : List ℕ) (ts : List (List ℕ)) (r : Refusal) → field_cell null_text c t ≡ Err r
-    → behind so (field_cells null_text (c ∷ cs) (t ∷ ts)) ≡ Err r
-unfolding field_cells
-field_refused null_text so c cs t ts r e = rw e refl
+pub left_none : (rest : List (List (List ℕ))) (s : State) (xs : List ℕ) → Left rest s xs → next_record default_config s [] [] xs ≡ None → rest ≡ []
+left_none rest s xs left e = left (length xs + 1) (omega arith) ∙ record_none (length xs + 1) s xs e
 
-pub fields_end : (null_text : List ℕ) (so : List Cell) (ts : List (List ℕ)) → behind so (field_cells null_text [] ts) ≡ Ok so
-unfolding field_cells
-fields_end null_text so ts = behind_end so
+pub left_some : (rest : List (List (List ℕ))) (s : State) (xs : List ℕ) (p : Read) → Left rest s xs → next_record default_config s [] [] xs ≡ Some p
+    → (more : List (List (List ℕ))) × (rest ≡ p.0 ∷ more) × Left more p.1 p.2
+left_some rest s xs p left e =
+    let k : ℕ = length xs + length p.2 + 1 in (
+      records_from default_config k p.1 p.2,
+      left (suc k) (omega arith) ∙ record_some k s xs p e,
+      λ n lt. enough k n p.1 p.2 (omega arith) lt,
+    )
 
--- what a read of the next record showed
-pub reads_some : (o : Option Read) (found : Bool) (fields : List (List ℕ)) (r : Reader (Bor (List ℕ))) → Reads o found fields r → found ≡ true
-    → (p : Read) × (o ≡ Some p) × (fields ≡ p.0) × Stands r p.1 p.2
-reads_some None found fields r h e = absurd (false≢true (sym h ∙ e))
-reads_some (Some p) found fields r h e = (p, refl, h.1, h.2)
+-- what a read of the next record leaves of those that were left
+next_taken : (records : List (List (List ℕ))) (s : State) (xs : List ℕ) (o : Option Read) (found : Bool) (fields : List (List ℕ)) (r : Reader (Bor (List ℕ))) → Left records s xs
+    → next_record default_config s [] [] xs ≡ o → Reads o found fields r → TakesNext records found fields r
+next_taken records s xs None found fields r left is reads = rw (left_none records s xs left is) reads
+next_taken records s xs (Some p) found fields r left is reads =
+    let (more, whole, others) = left_some records s xs p left is in
+    rw whole (reads.0, reads.1, record { state = p.1; bytes = p.2; stands = reads.2; left = others })
 
-pub reads_none : (o : Option Read) (found : Bool) (fields : List (List ℕ)) (r : Reader (Bor (List ℕ))) → Reads o found fields r → found ≡ false → o ≡ None
-reads_none None found fields r h e = refl
-reads_none (Some p) found fields r h e = absurd (false≢true (sym e ∙ h.0))
+pub taken : (records : List (List (List ℕ))) (old r : Reader (Bor (List ℕ))) (found : Bool) (fields : List (List ℕ)) → HasLeft old records
+    → ((s : State) (xs : List ℕ) → Stands old s xs → Reads (next_record default_config s [] [] xs) found fields r) → TakesNext records found fields r
+taken records old r found fields has reads =
+    next_taken records has.state has.bytes (next_record default_config has.state [] [] has.bytes) found fields r has.left refl (reads has.state has.bytes has.stands)
 
 -- the rows behind a header that is not there, is another, or is the names
 pub no_header : (s : PlainSchema) (null_text : List ℕ) (rs : List (List (List ℕ))) → rs ≡ [] → rows_behind_header s null_text rs ≡ Err (whole Header)
@@ -199,3 +225,10 @@ pub right_header : (s : PlainSchema) (null_text : List ℕ) (rs rest : List (Lis
     → rows_behind_header s null_text rs ≡ rows_from (record_row s null_text) 1 rest
 unfolding rows_behind_header
 right_header s null_text rs rest h e n = rw (e, n) refl
+
+-- the rows of a text, by its records
+pub nested_refused : (s : PlainSchema) (null_text t : List ℕ) → list_any is_nested_column s.columns ≡ true → csv_rows_of s null_text t ≡ Err (whole Nested)
+nested_refused s null_text t e = rw e refl
+
+pub unnested : (s : PlainSchema) (null_text t : List ℕ) → list_any is_nested_column s.columns ≡ false → csv_rows_of s null_text t ≡ rows_behind_header s null_text (records_of t)
+unnested s null_text t e = rw e refl
