@@ -1,0 +1,5 @@
+pub mod IntegerBytes
+pub mod Taken
+pub mod Rows
+pub mod PlacedBuffers
+pub mod Tables
