@@ -18,10 +18,10 @@ use Rattle.text_import.specs.Flat.{field_cell}
 use Rattle.text_import.specs.Records.{field_cells, record_row}
 use Rattle.text_import.specs.Refusals.{numbered, refused_by}
 use Rattle.text_import.specs.Rows.{rows_from}
-use Rattle.text_import.specs.Stands.{HasLeft, TakesNext}
+use Rattle.text_import.specs.Stands.{HasLeft}
 use Rattle.text_import.specs.declared.refusal.Refused.{Refused}
 use Rattle.text_import.specs.declared.refusal.TextError.{TextError}
-use Rattle.text_import.specs.laws.Behind.{behind, behind_none, field_more, fields_end, row_more, row_refused, rows_end, taken_none, taken_some, told}
+use Rattle.text_import.specs.laws.Behind.{behind, behind_none, field_more, fields_end, row_more, row_refused, rows_end, told}
 use Rattle.text_columns.specs.declared.builder.ColumnBuilder.{ColumnBuilder}
 use Rattle.text_columns.specs.declared.column_values.Values.{Values}
 use Rattle.text_columns.specs.declared.column_values.Values.TheVariants.{Booleans, Integers, Texts}
@@ -246,29 +246,19 @@ unlimited cs rows bs k = unlimited_by cs bs k.count (λ j c b dc db. kept_unlimi
 
 -- ---- the records of a text
 
--- some records have come as rows, and the others are left
-pub record Read (s : PlainSchema) (null_text : List ℕ) (records : List (List (List ℕ))) (reader : Reader (Bor (List ℕ))) (i most heavy : ℕ) (bs : List ColumnBuilder) : Type 0 where
+-- some records have come as rows, and the others are left, which are read by a reader or stand in the text
+pub record Read (IsLeft : List (List (List ℕ)) → Type 0) (s : PlainSchema) (null_text : List ℕ) (records : List (List (List ℕ))) (i heavy : ℕ) (bs : List ColumnBuilder) : Type 0 where
   pub rows : List (List Cell)
   pub left : List (List (List ℕ))
-  pub stands : HasLeft reader left
-  pub room : length left ≤ most - i
+  pub stands : IsLeft left
   pub read : behind rows (rows_from (record_row s null_text) (i + 1) left) ≡ rows_from (record_row s null_text) 1 records
   pub count : length rows ≡ i
   pub weighs : table_weight s rows ≡ heavy
   pub keeps : KeepAll s.columns rows bs
 
-pub read_none : (s : PlainSchema) (null_text : List ℕ) (records : List (List (List ℕ))) (reader : Reader (Bor (List ℕ))) (most : ℕ) (bs : List ColumnBuilder) → HasLeft reader records
-    → length records ≤ most → KeepAll s.columns [] bs → Read s null_text records reader 0 most 0 bs
-read_none s null_text records reader most bs has few k = record {
-  rows = [];
-  left = records;
-  stands = has;
-  room = omega (arith, few);
-  read = behind_none _;
-  count = refl;
-  weighs = refl;
-  keeps = k;
-}
+pub read_none : (IsLeft : List (List (List ℕ)) → Type 0) (s : PlainSchema) (null_text : List ℕ) (records : List (List (List ℕ))) (bs : List ColumnBuilder) → IsLeft records → KeepAll s.columns [] bs
+    → Read IsLeft s null_text records 0 0 bs
+read_none IsLeft s null_text records bs has k = record { rows = []; left = records; stands = has; read = behind_none _; count = refl; weighs = refl; keeps = k }
 
 -- a row that is not too heavy is accepted
 accepted_row : (s : PlainSchema) (null_text : List ℕ) (ts : List (List ℕ)) (rows : List (List Cell)) (heavy : ℕ) (old new : List ColumnBuilder) (h : HasRow s.columns null_text ts heavy rows new)
@@ -279,14 +269,12 @@ accepted_row s null_text ts rows heavy old new h count few free =
     let full : dictionaries_fit s (h.row ∷ []) ≡ true = unlimited_fit s (h.row ∷ []) free in
     rw (width, h.read, light, full) refl
 
-pub read_more : (s : PlainSchema) (null_text : List ℕ) (records : List (List (List ℕ))) (reader later : Reader (Bor (List ℕ))) (i most heavy more : ℕ) (old new : List ColumnBuilder) (found : Bool) (fields : List (List ℕ))
-    → (h : Read s null_text records reader i most heavy old) → TakesNext h.left found fields later → found ≡ true → more ≤ 16777216 → KeepsRecord null_text fields more old new → i < most
-    → Read s null_text records later (i + 1) most (heavy + more) new
-read_more s null_text records reader later i most heavy more old new found fields h taken is few keeps lt =
-    let (others, whole, has) = taken_some h.left found fields later taken is in
+pub read_more : (IsLeft WillBeLeft : List (List (List ℕ)) → Type 0) (s : PlainSchema) (null_text : List ℕ) (records others : List (List (List ℕ))) (i heavy more : ℕ) (old new : List ColumnBuilder)
+    (fields : List (List ℕ)) → (h : Read IsLeft s null_text records i heavy old) → h.left ≡ fields ∷ others → WillBeLeft others → more ≤ 16777216 → KeepsRecord null_text fields more old new
+    → Read WillBeLeft s null_text records (i + 1) (heavy + more) new
+read_more IsLeft WillBeLeft s null_text records others i heavy more old new fields h whole has few keeps =
     let row = keeps.1 s.columns h.rows h.keeps in
     let free = unlimited s.columns h.rows old h.keeps in
-    let len = ap length whole in
     let accepted = accepted_row s null_text fields h.rows more old new row (keeps.0 ∙ h.keeps.count) few free in
     let joined = sum_by-append (row_weight s) h.rows (row.row ∷ []) in
     let given : numbered (i + 1) (record_row s null_text fields) ≡ Ok row.row = rw accepted refl in
@@ -294,20 +282,15 @@ read_more s null_text records reader later i most heavy more old new found field
       rows = h.rows ++ row.row ∷ [];
       left = others;
       stands = has;
-      room = omega (arith, len, h.room);
       read = sym (row_more (record_row s null_text) (i + 1) h.rows fields others row.row given) ∙ rw whole at h.read;
       count = length-append h.rows (row.row ∷ []) ∙ ap (λ (n : ℕ). n + 1) h.count;
       weighs = omega (arith, joined, h.weighs, row.weighs);
       keeps = row.keeps;
     }
 
-none_left : (xs : List (List (List ℕ))) → length xs ≤ 0 → xs ≡ []
-none_left [] h = refl
-none_left (x ∷ xs) h = absurd (omega arith)
-
-read_rows : (s : PlainSchema) (null_text : List ℕ) (records : List (List (List ℕ))) (reader : Reader (Bor (List ℕ))) (i most heavy : ℕ) (bs : List ColumnBuilder) (read : RowsRead)
-    → (h : Read s null_text records reader i most heavy bs) → h.left ≡ [] → heavy ≤ 268435456 → read.rows ≡ i → read.weight ≡ heavy → HasRows s (rows_from (record_row s null_text) 1 records) read bs
-read_rows s null_text records reader i most heavy bs read h none few rows weight = record {
+pub read_rows : (IsLeft : List (List (List ℕ)) → Type 0) (s : PlainSchema) (null_text : List ℕ) (records : List (List (List ℕ))) (i heavy : ℕ) (bs : List ColumnBuilder) (read : RowsRead)
+    → (h : Read IsLeft s null_text records i heavy bs) → h.left ≡ [] → heavy ≤ 268435456 → read.rows ≡ i → read.weight ≡ heavy → HasRows s (rows_from (record_row s null_text) 1 records) read bs
+read_rows IsLeft s null_text records i heavy bs read h none few rows weight = record {
   rows = h.rows;
   are_read = sym (rw none at h.read) ∙ rows_end (record_row s null_text) (i + 1) h.rows;
   count = h.count ∙ sym rows;
@@ -316,21 +299,21 @@ read_rows s null_text records reader i most heavy bs read h none few rows weight
   keeps = h.keeps;
 }
 
-pub read_ended : (s : PlainSchema) (null_text : List ℕ) (records : List (List (List ℕ))) (reader later : Reader (Bor (List ℕ))) (i most heavy : ℕ) (bs : List ColumnBuilder) (read : RowsRead) (found : Bool) (fields : List (List ℕ))
-    → (h : Read s null_text records reader i most heavy bs) → TakesNext h.left found fields later → found ≡ false → heavy ≤ 268435456 → read.rows ≡ i → read.weight ≡ heavy → HasRows s (rows_from (record_row s null_text) 1 records) read bs
-read_ended s null_text records reader later i most heavy bs read found fields h taken is few rows weight =
-    read_rows s null_text records reader i most heavy bs read h (taken_none h.left found fields later taken is) few rows weight
+-- a reader that has no more records left than turns
+abbrev pub ByReader : Reader (Bor (List ℕ)) → (i most : ℕ) → List (List (List ℕ)) → Type 0
+ByReader reader i most left = HasLeft reader left × (length left ≤ most - i)
 
-pub read_all : (s : PlainSchema) (null_text : List ℕ) (records : List (List (List ℕ))) (reader : Reader (Bor (List ℕ))) (i most heavy : ℕ) (bs : List ColumnBuilder) (read : RowsRead)
-    → (h : Read s null_text records reader i most heavy bs) → most ≤ i → heavy ≤ 268435456 → read.rows ≡ i → read.weight ≡ heavy → HasRows s (rows_from (record_row s null_text) 1 records) read bs
-read_all s null_text records reader i most heavy bs read h end few rows weight =
-    read_rows s null_text records reader i most heavy bs read h (none_left h.left (omega (arith, h.room, end))) few rows weight
+pub none_left : (xs : List (List (List ℕ))) → length xs ≤ 0 → xs ≡ []
+none_left [] h = refl
+none_left (x ∷ xs) h = absurd (omega arith)
 
-pub read_refused : (s : PlainSchema) (null_text : List ℕ) (records : List (List (List ℕ))) (reader later : Reader (Bor (List ℕ))) (i most heavy : ℕ) (bs : List ColumnBuilder) (found : Bool) (fields : List (List ℕ)) (o : Option Refused)
-    → (h : Read s null_text records reader i most heavy bs) → TakesNext h.left found fields later → found ≡ true → Reports o (numbered (i + 1) (record_row s null_text fields))
+pub left_behind : (left others : List (List (List ℕ))) (fields : List (List ℕ)) (i most : ℕ) → left ≡ fields ∷ others → length left ≤ most - i → length others ≤ most - (i + 1)
+left_behind left others fields i most whole few = let len = ap length whole in omega (arith, len, few)
+
+pub read_refused : (IsLeft : List (List (List ℕ)) → Type 0) (s : PlainSchema) (null_text : List ℕ) (records others : List (List (List ℕ))) (i heavy : ℕ) (bs : List ColumnBuilder) (fields : List (List ℕ))
+    (o : Option Refused) → (h : Read IsLeft s null_text records i heavy bs) → h.left ≡ fields ∷ others → Reports o (numbered (i + 1) (record_row s null_text fields))
     → Reports o (rows_from (record_row s null_text) 1 records)
-read_refused s null_text records reader later i most heavy bs found fields o h taken is refused =
-    let (others, whole, has) = taken_some h.left found fields later taken is in
+read_refused IsLeft s null_text records others i heavy bs fields o h whole refused =
     told o (numbered (i + 1) (record_row s null_text fields)) (rows_from (record_row s null_text) 1 records) refused
     (λ f e. sym (rw whole at h.read) ∙ row_refused (record_row s null_text) (i + 1) h.rows fields others f e)
 

@@ -17,6 +17,8 @@ mod builder;
 mod column_values;
 mod integers;
 mod placing;
+mod plain;
+mod reading;
 mod records;
 mod starting;
 mod table;

@@ -14,8 +14,7 @@ ghost use Rattle.text_columns.specs.inner.Tables.{HasTable, IsPartOf, MakesRows}
 
 use crate::builder::ColumnBuilder;
 use crate::placing::place_all;
-use crate::records::push_rows;
-use crate::starting::no_rows;
+use crate::reading::read_columns;
 use arrow_schema::Schema;
 use columns::{
     built_reads_back, listed_reads_back, rows_can_be_built, written_arrays_have_their_shape,
@@ -89,14 +88,11 @@ pub fn csv_table(
     ensures refused { IfErr result (λ e. Reports (refused_by e) (csv_rows_of (schema_of schema.now) null_text.now text.now)) }
 {
     rows_of_texts_are_rows();
-    let Some(mut columns) = no_rows(alloc, &schema.fields)? else {
+    let Some(columns) = read_columns(alloc, schema, text, null_text.as_bytes())? else {
         return Ok(None);
     };
-    let null_text = null_text.as_bytes();
-    let Some(read) = push_rows(alloc, schema, text, null_text, columns.as_mut_slice())? else {
-        return Ok(None);
-    };
-    let table = build_table(alloc, schema, columns.as_slice(), read.rows)?;
+    let read = columns.read;
+    let table = build_table(alloc, schema, columns.builders.as_slice(), read.rows)?;
     Ok(Some(Weighed {
         table,
         weight: read.weight,

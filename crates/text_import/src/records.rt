@@ -1,5 +1,5 @@
 // Rows of CSV texts.
-ghost use Rattle.std.specs.Prelude.{◌≡◌, ℕ, ◌<◌, ◌≤◌, List, [], Some, IfOk, IfErr, map, option_map, length, slice_get, slice_index_or};
+ghost use Rattle.std.specs.Prelude.{◌≡◌, ℕ, ◌<◌, ◌≤◌, List, [], ◌∷◌, Some, IfOk, IfErr, map, option_map, length, slice_get, slice_index_or};
 ghost use Rattle.std.specs.List.{list_any};
 ghost use Rattle.csv.specs.Machine.{next_record};
 ghost use Rattle.csv.specs.Reading.{default_config};
@@ -34,7 +34,7 @@ fn whole(refusal: Refusal) -> TextError
 }
 
 // A reader of records of any width, at the start of a text.
-#[tactic(auto, using(crate::proofs::RecordLemmas::left_first))]
+#[tactic(auto, using(crate::specs::laws::Left::left_first))]
 fn reader_of(alloc: Global, text: &[u8]) -> Reader<&[u8]>
     ensures { HasLeft result (records_of text.now) }
 {
@@ -218,6 +218,7 @@ pub fn csv_records<'a>(
     text: &'a [u8],
 ) -> Result<Reader<&'a [u8]>, TextError>
     ensures behind { IfOk result (λ reader. (records : List (List (List ℕ))) × HasLeft reader records × (length records ≤ length text.now)
+        × ((header : List (List ℕ)) × (records_of text.now ≡ header ∷ records))
         × ((null_text : List ℕ) → csv_rows_of (schema_of schema.now) null_text text.now ≡ rows_from (record_row (schema_of schema.now) null_text) 1 records)) }
     ensures refused { IfErr result (λ e. (null_text : List ℕ) → Reports (refused_by e) (csv_rows_of (schema_of schema.now) null_text text.now)) }
 {

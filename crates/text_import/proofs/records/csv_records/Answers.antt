@@ -19,6 +19,7 @@ returns c =
         others,
         has,
         few_behind t (fields_of c.read_next.new.row) others whole,
+        (fields_of c.read_next.new.row, whole),
         λ null_text. unnested s null_text t flat ∙ right_header s null_text (records_of t) others (fields_of c.read_next.new.row) whole names,
       );
       refused = tt;
