@@ -1,7 +1,7 @@
 -- The bytes of integers that were converted.
-use Rattle.std.specs.Prelude.{Option, Some, pos, negsuc, ℤ, int_le, int_lt, neg_ℤ, unsigned_abs, ◌&&◌}
+use Rattle.std.specs.Prelude.{Option, Some, pos, negsuc, ℤ, int_le, int_lt, unsigned_abs}
 use Rattle.std.specs.Int.{FitsUnsignedBits, cast_unsigned, Width, w8, w16, w32, w64}
-use Rattle.std.proofs.Common.{◌≡◌, ℕ, ◌+◌, ◌-◌, ◌*◌, ◌/◌, ◌^◌, ◌≤◌, ◌<◌, Bool, true, false, List, [], ◌∷◌, ◌++◌, refl, arith, ap, sym, ◌∙◌}
+use Rattle.std.proofs.Common.{◌≡◌, ℕ, ◌^◌, ◌≤◌, Bool, true, false, List, ◌++◌, refl, arith, ap, sym, ◌∙◌}
 use Rattle.std.proofs.lemmas.Bool.{and_from}
 use Rattle.std.proofs.lemmas.Int.{ints}
 use Rattle.byteorder.specs.Endian.{little_bytes}

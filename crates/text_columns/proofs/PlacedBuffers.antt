@@ -1,25 +1,22 @@
 -- Buffers that come behind other bytes, and the arrays that they are.
-use Rattle.std.specs.Prelude.{◌&&◌, nat_le, if◌then◌else◌, get_or, Some, None, slice_get}
+use Rattle.std.specs.Prelude.{◌&&◌, if◌then◌else◌, get_or, Some, None, slice_get}
 use Rattle.std.specs.Global.{Vec}
-use Rattle.std.specs.List.{flat_map, list_all, list_any}
-use Rattle.std.proofs.Common.{◌≡◌, ℕ, zero, suc, ◌+◌, ◌/◌, ◌≤◌, Bool, true, false, List, [], ◌∷◌, ◌++◌, length, map, take, drop, refl, arith, ap, sym, subst, ◌∙◌, append_assoc, append-nil, length-append}
+use Rattle.std.specs.List.{flat_map, list_all}
+use Rattle.std.proofs.Common.{◌≡◌, ℕ, suc, ◌+◌, ◌/◌, ◌≤◌, Bool, true, List, [], ◌∷◌, ◌++◌, length, map, take, drop, refl, arith, ap, sym, subst, ◌∙◌, append_assoc, append-nil, length-append}
 use Rattle.std.proofs.lemmas.Bool.{and_from, and_parts, le-leb}
 use Rattle.std.proofs.lemmas.List.{take_at, drop_at, length-map, map-append}
 use Rattle.bitmap.specs.Bits.{packed}
-use Rattle.arrow_schema.specs.Column.{Kind, Column, nulls, booleans, integers, dates, timestamps, texts, large_texts, binaries, large_binaries, fixed_binaries, lists, large_lists, fixed_lists, structs, column, columns_of}
-use Rattle.arrow_schema.specs.View.{bits_of}
+use Rattle.arrow_schema.specs.Column.{Kind, Column, booleans, integers, dates, timestamps, texts, large_texts, column, columns_of}
 use Rattle.cells.specs.Cell.{Cell, null}
-use Rattle.cells.specs.Fit.{date_bits}
 use Rattle.cells.specs.Nulls.{is_there}
-use Rattle.columns.specs.Array.{Array, Arrays, Layout, array, arrays_of, and_array, no_array, bit_layout, fixed_layout, binary_layout}
-use Rattle.columns.specs.Built.{built, built_kind, built_parts, first_cell, other_cells, validity_of, with_validity, is_set, integer_bytes, offsets_of, contents_of}
+use Rattle.columns.specs.Array.{Array, Layout, array, arrays_of, and_array, bit_layout, fixed_layout, binary_layout}
+use Rattle.columns.specs.Built.{built, built_kind, built_parts, first_cell, other_cells, validity_of, with_validity, integer_bytes, offsets_of, contents_of}
 use Rattle.columns.specs.Offsets.{width_of}
 use Rattle.columns.specs.Places.{within}
 use Rattle.columns.specs.View.{array_in, array_step, layout_step, no_dictionary}
 use Rattle.columns.specs.Within.{array_within, ends_within, is_within_by, layout_within}
 use Rattle.columns.specs.declared.array.PlacedArray.{PlacedArray}
-use Rattle.columns.specs.declared.array.PlacedLayout.{PlacedLayout}
-use Rattle.columns.specs.declared.array.PlacedLayout.TheFolds.{fold-PlacedLayout, fold_out-PlacedArray, fold-roll-PlacedLayout}
+use Rattle.columns.specs.declared.array.PlacedLayout.TheFolds.{fold_out-PlacedArray, fold-roll-PlacedLayout}
 use Rattle.columns.specs.declared.array.PlacedLayout.TheOpen as placed
 use Rattle.columns.specs.declared.array.PlacedLayout.TheVariants as layouts
 use Rattle.columns.specs.declared.span.Span.{Span}
@@ -28,7 +25,7 @@ use Rattle.columns.specs.laws.Longer.{within_more}
 use Rattle.text_columns.specs.declared.column_values.Values.{Values}
 use Rattle.text_columns.specs.declared.column_values.Values.TheVariants.{Booleans, Integers, Texts}
 use Rattle.text_columns.specs.declared.builder.ColumnBuilder.{ColumnBuilder}
-use Rattle.text_columns.specs.inner.Kept.{Holds, IsOf, KeepAll, Keeps, Takes, column_at}
+use Rattle.text_columns.specs.inner.Kept.{Holds, IsOf, Keeps, column_at}
 use Rattle.text_columns.specs.inner.Placed.{ArePlaced, IsAppended, IsLaid, IsPlaced, array_of, is_layout_within, layout_of, layout_placed, validity_of_bits}
 
 -- ---- buffers

@@ -1,9 +1,9 @@
 -- How records without quotes are read.
-use Rattle.std.specs.Prelude.{not, ◌||◌, ◌&&◌, ◌==◌, Some, None, if◌then◌else◌}
+use Rattle.std.specs.Prelude.{not, ◌||◌, ◌==◌, Some, if◌then◌else◌}
 use Rattle.std.specs.List.{list_all}
-use Rattle.std.proofs.Common.{◌≡◌, ℕ, zero, suc, ◌+◌, ◌<◌, Bool, true, false, List, [], ◌∷◌, ◌++◌, length, refl, arith, ap, sym, subst, ◌∙◌, append_assoc, append-nil, inl, inr}
+use Rattle.std.proofs.Common.{◌≡◌, ℕ, zero, suc, Bool, true, false, List, [], ◌∷◌, ◌++◌, refl, arith, ap, sym, subst, ◌∙◌, append_assoc, append-nil}
 use Rattle.std.proofs.lemmas.Bool.{and_parts, eqb-true, false≢true, or_parts}
-use Rattle.csv.specs.Machine.{Read, after_end, next_record}
+use Rattle.csv.specs.Machine.{after_end, next_record}
 use Rattle.csv.specs.Reading.{default_config, records_from}
 use Rattle.csv.specs.declared.parser.State.{State}
 use Rattle.csv.specs.declared.parser.State.TheVariants as st

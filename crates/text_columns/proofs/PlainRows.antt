@@ -1,26 +1,24 @@
 -- Records without quotes that go into the columns where they stand.
-use Rattle.std.specs.Prelude.{not, ◌||◌, ◌==◌, Some, None, get_or, slice_get, slice_index}
-use Rattle.std.specs.List.{list_all}
-use Rattle.std.proofs.Common.{◌≡◌, ℕ, zero, suc, ◌+◌, ◌-◌, ◌≤◌, ◌<◌, Bool, true, false, List, [], ◌∷◌, ◌++◌, length, take, drop, set, refl, arith, ap, sym, subst, ◌∙◌, append_assoc, append-nil, length-append, length-set}
-use Rattle.std.proofs.lemmas.Bool.{eqb-true, false≢true, or_parts}
+use Rattle.std.specs.Prelude.{◌==◌, Some, slice_get, slice_index}
+use Rattle.std.proofs.Common.{◌≡◌, ℕ, zero, suc, ◌+◌, ◌-◌, ◌≤◌, ◌<◌, true, false, List, [], ◌∷◌, ◌++◌, length, take, drop, set, refl, arith, ap, sym, subst, ◌∙◌, append_assoc, append-nil, length-append, length-set}
+use Rattle.std.proofs.lemmas.Bool.{eqb-true}
 use Rattle.std.proofs.lemmas.Option.{slice_get_within}
-use Rattle.csv.specs.Machine.{Read, after_end, next_record}
+use Rattle.csv.specs.Machine.{after_end, next_record}
 use Rattle.csv.specs.Reading.{default_config, strip_bom}
-use Rattle.csv.specs.declared.parser.State.{State}
 use Rattle.csv.specs.declared.parser.State.TheVariants as st
 use Rattle.csv.specs.declared.parser.Terminator.TheVariants as term
-use Rattle.arrow_schema.specs.Column.{Column, PlainSchema}
+use Rattle.arrow_schema.specs.Column.{Column}
 use Rattle.cells.specs.Cell.{Cell}
-use Rattle.text_import.specs.Records.{record_row, records_of}
+use Rattle.text_import.specs.Records.{records_of}
 use Rattle.text_import.specs.Stands.{Left}
 use Rattle.text_import.specs.laws.Left.{left_first, left_none, left_some}
 use Rattle.text_columns.specs.declared.builder.ColumnBuilder.{ColumnBuilder}
 use Rattle.text_columns.specs.declared.plain.PlainRow.{PlainRow}
-use Rattle.text_columns.specs.inner.Kept.{HasRow, KeepAll, KeepsField, KeepsFields}
-use Rattle.text_columns.specs.inner.Plain.{IsFieldAt, IsFresh, PushesPlain, SkipsEnds, SkipsRecord, begins_quoted, begins_with, ends_field, ends_line}
+use Rattle.text_columns.specs.inner.Kept.{KeepAll, KeepsField, KeepsFields}
+use Rattle.text_columns.specs.inner.Plain.{IsFieldAt, PushesPlain, SkipsEnds, SkipsRecord, begins_quoted, begins_with, ends_field, ends_line}
 use Rattle.text_columns.proofs.PlainRecords.{after_line, before_comma, before_end, before_line, begins_line, left_fresh, left_passed, left_skipped, starts_record}
 use Rattle.text_columns.proofs.PlainText.{byte_at, nothing_left, parted}
-use Rattle.text_columns.proofs.Rows.{Half, Read as ReadSoFar, half_all, half_more, half_none, read_more}
+use Rattle.text_columns.proofs.Rows.{Half, half_all, half_more, half_none}
 
 at_place : {X : Type 0} (xs ys : List X) (x : X) (i : ℕ) → length xs ≡ i → slice_get (xs ++ x ∷ ys) i ≡ Some x
 at_place [] ys x zero e = refl

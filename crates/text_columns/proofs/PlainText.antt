@@ -1,7 +1,7 @@
 -- Bytes of a text between two places.
-use Rattle.std.specs.Prelude.{not, ◌||◌, ◌==◌, get_or, slice_index}
+use Rattle.std.specs.Prelude.{get_or, slice_index}
 use Rattle.std.specs.List.{list_all}
-use Rattle.std.proofs.Common.{◌≡◌, ℕ, zero, suc, ◌+◌, ◌-◌, ◌≤◌, ◌<◌, Bool, true, false, List, [], ◌∷◌, ◌++◌, length, take, drop, refl, arith, ap, sym, subst, ◌∙◌, length-drop}
+use Rattle.std.proofs.Common.{◌≡◌, ℕ, zero, suc, ◌+◌, ◌-◌, ◌≤◌, ◌<◌, Bool, true, false, List, [], ◌∷◌, ◌++◌, length, take, drop, refl, arith, ap, sym, ◌∙◌, length-drop}
 use Rattle.std.proofs.lemmas.Bool.{and_from}
 use Rattle.std.proofs.lemmas.List.{drop-drop, drop_more, get_or-drop, take-append-drop, take_more}
 use Rattle.csv.specs.Reading.{is_bom, strip_bom}

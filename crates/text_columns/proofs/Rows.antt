@@ -1,12 +1,12 @@
 -- Rows that come behind others, by the buffers of their columns.
 use Rattle.std.specs.Borrow.{Bor}
 use Rattle.std.specs.Prelude.{Option, Some, None, Ok, Err, Result, slice_get, get_or, ◌==◌, nat_lt, ◌⊎◌, MatchResult}
-use Rattle.std.proofs.Common.{◌≡◌, ℕ, zero, suc, ◌+◌, ◌-◌, ◌≤◌, ◌<◌, Bool, true, false, List, [], ◌∷◌, ◌++◌, length, map, take, drop, set, refl, arith, ap, sym, subst, ◌∙◌, inl, inr, append-nil, length-append}
+use Rattle.std.proofs.Common.{◌≡◌, ℕ, zero, suc, ◌+◌, ◌-◌, ◌≤◌, ◌<◌, true, false, List, [], ◌∷◌, ◌++◌, length, take, drop, set, refl, arith, ap, sym, subst, ◌∙◌, inl, inr, length-append}
 use Rattle.std.proofs.lemmas.Bool.{cases_lt, eq-eqb, le-ltb, or_from}
 use Rattle.std.proofs.lemmas.List.{map-append}
 use Rattle.std.proofs.lemmas.List.Sums.{sum_by-append}
 use Rattle.std.proofs.lemmas.Option.{slice_get_within}
-use Rattle.arrow_schema.specs.Column.{Kind, Column, nulls, booleans, integers, dates, timestamps, texts, large_texts, binaries, large_binaries, fixed_binaries, lists, large_lists, fixed_lists, structs, column, columns_of, PlainSchema}
+use Rattle.arrow_schema.specs.Column.{Kind, Column, nulls, booleans, integers, dates, timestamps, texts, large_texts, binaries, large_binaries, fixed_binaries, column, columns_of, PlainSchema}
 use Rattle.cells.specs.Cell.{Cell, null, cells_of}
 use Rattle.cells.specs.Dictionary.{is_limited, is_kind_limited, is_any_limited}
 use Rattle.cells.specs.Dictionary.{dictionaries_fit}
@@ -14,7 +14,6 @@ use Rattle.cells.specs.Weight.{parts_weight, row_weight, table_weight, weight}
 use Rattle.cells.specs.laws.Unlimited.{unlimited_fit}
 use Rattle.csv.specs.declared.reader.Reader.{Reader}
 use Rattle.facts.specs.Outcomes.{Reports}
-use Rattle.text_import.specs.Flat.{field_cell}
 use Rattle.text_import.specs.Records.{field_cells, record_row}
 use Rattle.text_import.specs.Refusals.{numbered, refused_by}
 use Rattle.text_import.specs.Rows.{rows_from}

@@ -1,25 +1,24 @@
 -- The one record batch that the buffers of columns are.
-use Rattle.std.specs.Prelude.{◌&&◌, ◌||◌, ◌==◌, not, nat_lt, nat_le, Some, None, Result, Ok, slice_get}
-use Rattle.std.specs.Global.{Vec}
+use Rattle.std.specs.Prelude.{◌==◌, not, nat_lt, Some, None, Result, Ok, slice_get}
 use Rattle.std.specs.List.{AllPass, flat_map, list_all, list_any}
-use Rattle.std.proofs.Common.{◌≡◌, ℕ, zero, suc, ◌+◌, ◌≤◌, Bool, true, false, List, [], ◌∷◌, ◌++◌, length, map, refl, arith, ap, sym, subst, ◌∙◌, append-nil}
+use Rattle.std.proofs.Common.{◌≡◌, ℕ, zero, suc, true, false, List, [], ◌∷◌, ◌++◌, length, map, refl, arith, ap, sym, subst, ◌∙◌, append-nil}
 use Rattle.std.proofs.lemmas.Bool.{and_from, eqb-true, le-ltb, not-false, or_from, or_parts}
-use Rattle.arrow_schema.specs.Column.{Column, Columns, Kind, nulls, booleans, integers, dates, timestamps, texts, large_texts, binaries, large_binaries, fixed_binaries, lists, large_lists, fixed_lists, structs, column, columns_of, PlainSchema}
+use Rattle.arrow_schema.specs.Column.{Column, Columns, Kind, booleans, integers, dates, timestamps, texts, large_texts, column, columns_of, PlainSchema}
 use Rattle.arrow_schema.specs.Limits.{IsWithinLimits}
 use Rattle.cells.specs.Cell.{Cell, PlainTable}
 use Rattle.cells.specs.Row.{is_row}
 use Rattle.cells.specs.Weight.{table_weight}
 use Rattle.text_import.specs.declared.refusal.Refused.{Refused}
-use Rattle.columns.specs.Array.{Array, Arrays, Layout, array, arrays_of, array_list, slots_in, dictionary_in, layout_in}
-use Rattle.columns.specs.Buffers.{Node, buffers_of, dictionaries_of, nodes_of, typed_dictionaries, value_column}
+use Rattle.columns.specs.Array.{Array, Arrays, arrays_of, array_list, slots_in}
+use Rattle.columns.specs.Buffers.{buffers_of, nodes_of, typed_dictionaries}
 use Rattle.columns.specs.Built.{built, built_kind, built_parts, first_cell, other_cells}
 use Rattle.columns.specs.CellAt.{rows_in}
 use Rattle.columns.specs.FromBuffers.{arrays_from}
-use Rattle.columns.specs.Layouts.{HaveLayouts, dictionary_arrays}
+use Rattle.columns.specs.Layouts.{dictionary_arrays}
 use Rattle.columns.specs.Sound.{are_sound}
-use Rattle.columns.specs.Tests.{Typed, arrays_at, arrays_below, every_array, has_short_child, is_short, is_unordered, typed}
-use Rattle.columns.specs.View.{array_in, no_dictionary, placed_arrays}
-use Rattle.columns.specs.laws.Sounds.{AreClean, all_sound, is_typed_sound}
+use Rattle.columns.specs.Tests.{arrays_at, arrays_below, every_array, has_short_child, is_short, is_unordered, typed}
+use Rattle.columns.specs.View.{placed_arrays}
+use Rattle.columns.specs.laws.Sounds.{AreClean, all_sound}
 use Rattle.values.specs.Parts.{are_parts_sound, parts_table}
 use Rattle.values.specs.Table.{IsTable}
 use Rattle.values.specs.declared.part.Batch.{Batch}
@@ -30,7 +29,7 @@ use Rattle.text_columns.specs.declared.column_values.Values.TheVariants.{Boolean
 use Rattle.text_columns.specs.declared.records.RowsRead.{RowsRead}
 use Rattle.text_columns.specs.inner.Kept.{HasRows, IsOf, KeepAll, Keeps, column_at}
 use Rattle.text_columns.specs.inner.Tables.{HasTable, MakesRows}
-use Rattle.text_columns.specs.inner.Placed.{ArePlaced, array_of}
+use Rattle.text_columns.specs.inner.Placed.{ArePlaced}
 use Rattle.text_columns.proofs.PlacedBuffers.{all_built}
 
 -- ---- no column has a dictionary

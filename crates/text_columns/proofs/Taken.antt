@@ -1,29 +1,28 @@
 -- Cells that come behind others, by the buffers of their column.
-use Rattle.std.specs.Prelude.{ℤ, Option, Some, None, Ok, Err, Result, IfOk, IfSome, if◌then◌else◌, bytes_eq, ◌&&◌}
+use Rattle.std.specs.Prelude.{ℤ, Option, Some, None, Ok, Err, Result, IfOk, IfSome, bytes_eq, ◌&&◌}
 use Rattle.std.specs.List.{flat_map}
 use Rattle.std.specs.Str.{is_utf8}
 use Rattle.std.specs.Global.{Vec}
-use Rattle.std.proofs.Common.{◌≡◌, ℕ, ◌+◌, ◌/◌, Bool, true, false, List, [], ◌∷◌, ◌++◌, length, map, replicate, refl, arith, ap, sym, ◌∙◌, append-nil, append_assoc, length-append}
+use Rattle.std.proofs.Common.{◌≡◌, ℕ, ◌+◌, ◌/◌, Bool, true, false, List, [], ◌∷◌, ◌++◌, length, map, replicate, refl, arith, ap, sym, ◌∙◌, append-nil, length-append}
 use Rattle.std.proofs.lemmas.List.{map-append}
 use Rattle.std.proofs.lemmas.List.Concat.{flat_map-append}
 use Rattle.byteorder.specs.Endian.{little_bytes}
-use Rattle.arrow_schema.specs.Column.{Kind, Column, nulls, booleans, integers, dates, timestamps, texts, large_texts, binaries, large_binaries, fixed_binaries, lists, large_lists, fixed_lists, structs, column}
+use Rattle.arrow_schema.specs.Column.{Kind, booleans, integers, dates, timestamps, texts, large_texts, column}
 use Rattle.arrow_schema.specs.View.{bits_of}
 use Rattle.arrow_schema.specs.declared.types.IntegerType.{IntegerType}
 use Rattle.cells.specs.Cell.{Cell, null, boolean, number, text}
 use Rattle.cells.specs.Fit.{date_bits, fits_kind}
 use Rattle.cells.specs.Nulls.{is_there}
-use Rattle.cells.specs.Typed.{typed_boolean, typed_integer}
+use Rattle.cells.specs.Typed.{typed_integer}
 use Rattle.cells.specs.Weight.{kind_weight, weight}
 use Rattle.columns.specs.Built.{contents_of, integer_bytes, is_set, offsets_of, sums_from}
 use Rattle.columns.specs.Offsets.{width_of}
 use Rattle.columns.specs.declared.numbers.OffsetWidth.{OffsetWidth}
-use Rattle.columns.specs.declared.numbers.OffsetWidth.TheVariants.{Four, Eight}
 use Rattle.text_import.specs.Flat.{cell_of_text, field_cell, number_cell}
 use Rattle.text_columns.specs.declared.column_values.Values.{Values}
 use Rattle.text_columns.specs.declared.column_values.Values.TheVariants.{Booleans, Integers, Texts}
 use Rattle.text_columns.specs.declared.builder.ColumnBuilder.{ColumnBuilder}
-use Rattle.text_columns.specs.inner.Kept.{AppendsBoolean, AppendsSpelled, HasKept, HasTaken, Holds, IsOf, Keeps, KeepsField, Takes, TakesNull, TakesText}
+use Rattle.text_columns.specs.inner.Kept.{AppendsBoolean, AppendsSpelled, Holds, IsOf, KeepsField, TakesNull, TakesText}
 
 -- one more cell of a list that is mapped
 one_mapped : {A : Type 0} (f : Cell → A) (cells : List Cell) (c : Cell) (old new : List A) → old ≡ map f cells → new ≡ old ++ f c ∷ [] → new ≡ map f (cells ++ c ∷ [])

@@ -2,7 +2,7 @@
 use Rattle.std.specs.Prelude.{◌≡◌, ◌≤◌, ◌+◌, ◌/◌, ◌++◌, ℕ, ℤ, true, Bool, List, [], ◌∷◌, length, map, get_or, Option, Some, None, IfSome, Result, Ok, Err, slice_get}
 use Rattle.std.specs.Global.{Vec}
 use Rattle.std.specs.List.{flat_map}
-use Rattle.arrow_schema.specs.Column.{Kind, Column, nulls, booleans, integers, dates, timestamps, texts, large_texts, binaries, large_binaries, fixed_binaries, lists, large_lists, fixed_lists, structs, column, columns_of, PlainSchema}
+use Rattle.arrow_schema.specs.Column.{Kind, Column, booleans, integers, dates, timestamps, texts, large_texts, column, columns_of, PlainSchema}
 use Rattle.arrow_schema.specs.View.{bits_of}
 use Rattle.cells.specs.declared.limits.TheConstants.{MAX_TABLE_WEIGHT}
 use Rattle.cells.specs.Cell.{Cell, null, number, cells_of}

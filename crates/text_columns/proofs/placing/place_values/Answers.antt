@@ -1,5 +1,3 @@
-use Rattle.std.proofs.Common.{sym, subst}
-use Rattle.text_columns.specs.inner.Placed.{IsLaid}
 use Rattle.text_columns.proofs.PlacedBuffers.{bits_laid, texts_laid, values_laid}
 use Rattle.text_columns.proofs.placing.place_values.Goals as goal
 

@@ -1,4 +1,4 @@
-use Rattle.std.proofs.Common.{◌≡◌, ◌<◌, length, arith, refl}
+use Rattle.std.proofs.Common.{◌<◌, length, arith, refl}
 use Rattle.text_columns.proofs.PlainRows.{InText, ends_passed, next_stands, text_ended}
 use Rattle.text_columns.proofs.Rows.{read_more, read_none, read_rows}
 use Rattle.text_columns.proofs.plain.push_plain_rows.Goals as goal

@@ -1,5 +1,5 @@
 use Rattle.std.specs.Prelude.{not, ◌||◌, ◌==◌}
-use Rattle.std.proofs.Common.{◌≡◌, ◌∙◌, arith, false, refl, sym}
+use Rattle.std.proofs.Common.{◌∙◌, arith, refl, sym}
 use Rattle.std.proofs.lemmas.Bool.{ne_eqb}
 use Rattle.text_columns.specs.inner.Plain.{ends_line}
 use Rattle.text_columns.proofs.PlainText.{one_between}

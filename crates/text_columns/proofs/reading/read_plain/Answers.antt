@@ -1,4 +1,4 @@
-use Rattle.std.proofs.Common.{◌≡◌, ◌∙◌, ℕ, List, [], ap, arith, length, subst, sym}
+use Rattle.std.proofs.Common.{◌≡◌, List, [], ap, arith, length, subst, sym}
 use Rattle.std.specs.Prelude.{Result}
 use Rattle.std.proofs.lemmas.List.{take_at}
 use Rattle.arrow_schema.specs.View.{schema_of}

@@ -1,5 +1,5 @@
 use Rattle.std.proofs.Common.{◌≡◌, ◌<◌, length, sym, ap, ◌∙◌, arith}
-use Rattle.std.specs.Prelude.{Some, get_or, slice_get}
+use Rattle.std.specs.Prelude.{Some, slice_get}
 use Rattle.std.proofs.lemmas.Option.{slice_get-get_or}
 use Rattle.csv.specs.Records.{fields_of}
 use Rattle.text_columns.proofs.Rows.{half_all, half_more, half_none}

@@ -1,4 +1,4 @@
-use Rattle.std.proofs.Common.{◌≡◌, ◌∙◌, ◌+◌, ◌++◌, List, [], ◌∷◌, ap, map, sym, take}
+use Rattle.std.proofs.Common.{◌≡◌, ◌∙◌, ◌+◌, ◌++◌, [], ◌∷◌, ap, map, sym, take}
 use Rattle.std.proofs.lemmas.List.{map-append, take_more}
 use Rattle.arrow_schema.specs.View.{column_of}
 use Rattle.arrow_schema.specs.declared.types.Field.{Field}
