@@ -1,21 +1,16 @@
 -- The records of a text.
-use Rattle.std.proofs.Common.{◌≡◌, ℕ, ◌+◌, ◌-◌, ◌≤◌, ◌<◌, zero, suc, Bool, true, false, List, [], ◌∷◌, ◌++◌, length, drop, refl, sym, ap, ◌∙◌, arith}
+use Rattle.std.proofs.Common.{◌≡◌, ℕ, ◌+◌, ◌≤◌, ◌<◌, zero, suc, Bool, true, false, List, [], ◌∷◌, length, drop, refl, sym, ap, ◌∙◌, arith}
 use Rattle.std.specs.List.{list_any}
-use Rattle.std.specs.Prelude.{Option, Some, None, if◌then◌else◌, option_map, unwrap_or, get_or, bytes_eq, Ok, Err}
+use Rattle.std.specs.Prelude.{Option, Some, None, if◌then◌else◌, option_map, unwrap_or, get_or, bytes_eq, Err}
 use Rattle.std.specs.Borrow.{Bor}
 use Rattle.arrow_schema.specs.Column.{Column, PlainSchema}
 use Rattle.arrow_schema.specs.Parts.{name_of_column}
-use Rattle.cells.specs.Cell.{Cell}
-use Rattle.text_import.specs.declared.refusal.Refusal.{Refusal}
-use Rattle.text_import.specs.Flat.{field_cell}
 use Rattle.text_import.specs.Stands.{is_text, Stands, Reads, Left, HasLeft, TakesNext}
 use Rattle.text_import.specs.laws.Left.{enough, few_none, left_none, left_some, record_none, record_some}
-use Rattle.csv.specs.Machine.{Read, next_record, step, is_end, fields_after, field_after, ends_at_end}
+use Rattle.csv.specs.Machine.{Read, next_record}
 use Rattle.csv.specs.Reading.{default_config, records_from, strip_bom, is_bom}
 use Rattle.csv.specs.Records.{field_at}
-use Rattle.csv.specs.declared.parser.Config.{Config}
 use Rattle.csv.specs.declared.reader.Reader.{Reader}
-use Rattle.std.proofs.lemmas.Bool.{false≢true}
 use Rattle.csv.specs.declared.parser.State.{State}
 use Rattle.csv.specs.declared.parser.State.TheVariants as st
 use Rattle.text_import.specs.Records.{records_of, are_names, whole, record_row, rows_behind_header, is_nested_column, csv_rows_of}

@@ -1,7 +1,7 @@
-use Rattle.std.proofs.Common.{◌≡◌, ◌∙◌, sym, rules}
+use Rattle.std.proofs.Common.{◌∙◌, sym}
 use Rattle.csv.specs.Records.{fields_of}
 use Rattle.arrow_schema.specs.View.{schema_of}
-use Rattle.text_import.specs.Records.{are_names, records_of}
+use Rattle.text_import.specs.Records.{records_of}
 use Rattle.text_import.specs.laws.Behind.{taken_none, taken_some}
 use Rattle.text_import.proofs.RecordLemmas.{few_behind, nested_refused, no_header, other_header, right_header, unnested}
 use Rattle.text_import.proofs.records.csv_records.Goals as goal

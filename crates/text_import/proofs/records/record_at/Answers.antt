@@ -1,8 +1,6 @@
-use Rattle.std.proofs.Common.{◌≡◌, ◌+◌, sym, ap, drop, suc, arith}
-use Rattle.std.specs.Prelude.{Some}
+use Rattle.std.proofs.Common.{◌≡◌, ◌+◌, sym, drop, suc, arith}
 use Rattle.csv.specs.Records.{fields_of}
 use Rattle.text_import.specs.Records.{records_of}
-use Rattle.text_import.specs.Stands.{HasLeft}
 use Rattle.text_import.specs.laws.Behind.{taken_none, taken_some}
 use Rattle.text_import.proofs.PartLemmas.{at_here, behind_here, none_at}
 use Rattle.text_import.proofs.records.record_at.Goals as goal
