@@ -1,8 +1,8 @@
 -- Numbers that are capped are refused as those that they stand for.
 use Rattle.std.proofs.Common.{◌≡◌, ℕ, ◌+◌, ◌-◌, ◌*◌, ◌≤◌, ◌<◌, ◌^◌, Bool, true, false, List, [], ◌∷◌, length, min, add-one, refl, sym, ap, ◌∙◌, arith, inl, inr}
-use Rattle.std.specs.Prelude.{pos, neg_ℤ, Option, Some, None, option_map, if◌then◌else◌, ◌==◌, ◌&&◌, nat_le}
+use Rattle.std.specs.Prelude.{ℤ, pos, neg_ℤ, Option, Some, None, option_map, if◌then◌else◌, ◌==◌, ◌&&◌, nat_le}
 use Rattle.std.specs.Prelude.{int_lt, int_le, get_or, drop}
-use Rattle.std.proofs.lemmas.Bool.{cases_lt, false≢true, leb-true}
+use Rattle.std.proofs.lemmas.Bool.{cases_lt, false≢true, le-leb, leb-true}
 use Rattle.std.proofs.lemmas.Int.{ints}
 use Rattle.std.proofs.lemmas.List.{drop_more}
 use Rattle.std.proofs.lemmas.Bool.{and_parts}
@@ -167,3 +167,6 @@ pub fits_value : (f : Column) (x : Cell) → is_there x ≡ true → fits f x �
 unfolding fits
 fits_value (column name nullable kind dictionary pairs) null e = absurd (false≢true e)
 fits_value (column name nullable kind dictionary pairs) x e = refl
+
+pub integers_capped : (o : Option ℤ) (t : List ℕ) → o ≡ capped_integer t → (bits : ℕ) (signed : Bool) → bits ≤ 64 → number_cell (integers bits signed) o ≡ number_cell (integers bits signed) (typed_integer t)
+integers_capped o t is bits signed small = rw is (number_capped (integers bits signed) t (le-leb bits 64 small))

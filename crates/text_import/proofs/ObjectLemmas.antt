@@ -25,7 +25,8 @@ use Rattle.cells.specs.Cell.{Cell, cells_of}
 use Rattle.text_import.specs.declared.refusal.Refusal.{Refusal}
 use Rattle.text_import.specs.declared.refusal.Refusal.TheVariants.{Width}
 use Rattle.text_import.specs.inner.Names.{text_list, member_of}
-use Rattle.text_import.proofs.RowLemmas.{cells_behind, cells_behind_more, cells_behind_end, behind, told, row_more, row_refused, rows_end}
+use Rattle.text_import.proofs.RowLemmas.{cells_behind, cells_behind_more, cells_behind_end}
+use Rattle.text_import.specs.laws.Behind.{behind, told, row_more, row_refused, rows_end}
 use Rattle.std.specs.List.{list_any}
 use Rattle.std.proofs.lemmas.Bool.{false≢true}
 use Rattle.std.proofs.lemmas.Bool.Decides.{same_from_decides, Decides-like}

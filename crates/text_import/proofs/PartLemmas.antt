@@ -5,10 +5,6 @@ use Rattle.std.proofs.lemmas.Bool.{ne_eqb, eq-eqb}
 use Rattle.std.specs.Borrow.{Bor}
 use Rattle.std.proofs.lemmas.List.{drop_more}
 use Rattle.std.proofs.lemmas.Option.{slice_get_past}
-use Rattle.csv.specs.Machine.{Read, next_record}
-use Rattle.csv.specs.Reading.{default_config, records_from, strip_bom}
-use Rattle.csv.specs.declared.parser.State.{State}
-use Rattle.csv.specs.declared.parser.State.TheVariants as st
 use Rattle.serde_json.specs.Data.{Items, Members}
 use Rattle.serde_json.specs.View.{view, items_view}
 use Rattle.serde_json.specs.declared.value.Value.{Value}
@@ -17,14 +13,12 @@ use Rattle.arrow_schema.specs.View.{column_of}
 use Rattle.arrow_schema.specs.declared.types.Field.{Field}
 use Rattle.arrow_schema.specs.Parts.{name_of_column}
 use Rattle.text_import.specs.Flat.{field_cell}
-use Rattle.text_import.specs.Records.{records_of}
 use Rattle.text_import.specs.Objects.{cell_in, is_blank, names_of, keys_of, repeats, has_unknown}
 use Rattle.text_import.specs.Part.{field, is_refused, refused_field, refused_by_place, refused_by_name, refused_in_items, refused_in_members}
 use Rattle.text_import.specs.inner.Names.{text_list, member_of, tested}
 use Rattle.text_import.specs.declared.refusal.Refusal.{Refusal}
 use Rattle.text_import.specs.declared.refusal.Refusal.TheVariants.{AmbiguousNames, UnknownName}
 use Rattle.text_import.proofs.ObjectLemmas.{item_count_is, column_count_is}
-use Rattle.text_import.proofs.RecordLemmas.{record_none, record_some, enough}
 
 -- a field that is refused, one that is not, and the end
 pub field_named : (null_text : List ℕ) (c : Column) (cs : List Column) (t : List ℕ) (ts : List (List ℕ)) → is_refused (field_cell null_text c t) ≡ true
@@ -108,25 +102,6 @@ behind_here (z ∷ xs) (suc i) x ys e = behind_here xs i x ys e
 
 pub none_at : {X : Type 0} (xs : List X) (i n : ℕ) → drop i xs ≡ [] → i ≤ n → slice_get xs n ≡ None
 none_at xs i n e lt = let size = length-drop i xs in let none = ap length e in slice_get_past xs n (omega arith)
-
--- the records that are left of a text, in this state and with these bytes left: more turns than bytes give them
-abbrev pub Left : List (List (List ℕ)) → State → List ℕ → Type 0
-Left rest s xs = (n : ℕ) → length xs < n → rest ≡ records_from default_config n s xs
-
-pub left_first : (t : List ℕ) → Left (records_of t) st.StartRecord (strip_bom t)
-left_first t n lt = enough (length (strip_bom t) + 1) n st.StartRecord (strip_bom t) (omega arith) lt
-
-pub left_none : (rest : List (List (List ℕ))) (s : State) (xs : List ℕ) → Left rest s xs → next_record default_config s [] [] xs ≡ None → rest ≡ []
-left_none rest s xs left e = left (length xs + 1) (omega arith) ∙ record_none (length xs + 1) s xs e
-
-pub left_some : (rest : List (List (List ℕ))) (s : State) (xs : List ℕ) (p : Read) → Left rest s xs → next_record default_config s [] [] xs ≡ Some p
-    → (more : List (List (List ℕ))) × (rest ≡ p.0 ∷ more) × Left more p.1 p.2
-left_some rest s xs p left e =
-    let k : ℕ = length xs + length p.2 + 1 in (
-      records_from default_config k p.1 p.2,
-      left (suc k) (omega arith) ∙ record_some k s xs p e,
-      λ n lt. enough k n p.1 p.2 (omega arith) lt,
-    )
 
 -- a line that is skipped, one that is counted, and the line that is meant
 abbrev pub filled : List (Bor (List ℕ)) → List (List ℕ)

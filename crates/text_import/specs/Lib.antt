@@ -2,9 +2,11 @@ pub mod Refusals
 pub mod RefusalText
 pub mod Flat
 pub mod Rows
+pub mod Stands
 pub mod Records
 pub mod Objects
 pub mod Form
 pub mod Part
 pub mod Cause
 pub mod inner
+pub mod laws

@@ -1,3 +1,2 @@
 pub mod Capped
 pub mod Names
-pub mod Stands

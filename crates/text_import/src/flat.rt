@@ -1,6 +1,7 @@
 // Numbers, and cells of the types without parts.
-ghost use Rattle.std.specs.Prelude.{◌≡◌, ◌≤◌, pos, neg_ℤ, true, false, length, option_map, IfOk};
+ghost use Rattle.std.specs.Prelude.{◌≡◌, ◌≤◌, ℕ, Bool, pos, neg_ℤ, true, false, length, option_map, IfOk};
 ghost use Rattle.arrow_schema.specs.Column as kinds;
+ghost use Rattle.arrow_schema.specs.Column.{integers};
 ghost use Rattle.arrow_schema.specs.Parts.{kind_of_column};
 ghost use Rattle.arrow_schema.specs.View.{column_of};
 ghost use Rattle.cells.specs.Cell as plain;
@@ -90,6 +91,14 @@ fn integer(text: &[u8]) -> Option<i128>
     }
 }
 
+/// The integer that a text spells, where one does. One that no type holds is told as some integer that no type holds.
+#[tactic(auto, using(crate::proofs::NumberLemmas::integers_capped))]
+pub fn spelled_integer(text: &[u8]) -> Option<i128>
+    ensures { (bits : ℕ) (signed : Bool) → bits ≤ 64 → number_cell (integers bits signed) result ≡ number_cell (integers bits signed) (typed_integer text.now) }
+{
+    integer(text)
+}
+
 // A value, where it is one of the field's.
 fn fitting(field: &Field, value: Value, refusal: Refusal) -> Result<Value, CellError>
     requires { is_there (cell value) ≡ true }
@@ -118,15 +127,25 @@ fn integer_cell(field: &Field, text: &[u8]) -> Result<Value, CellError>
     number_cell(field, integer(text))
 }
 
+/// The boolean that a text spells, where one does.
+pub fn spelled_boolean(text: &[u8]) -> Option<bool>
+    ensures { result ≡ typed_boolean text.now }
+{
+    if text == b"true".as_slice() {
+        Some(true)
+    } else if text == b"false".as_slice() {
+        Some(false)
+    } else {
+        None
+    }
+}
+
 fn boolean_cell(text: &[u8]) -> Result<Value, CellError>
     ensures { Gives refusal_of cell result (boolean_cell (typed_boolean text.now)) }
 {
-    if text == b"true".as_slice() {
-        Ok(Value::Bool(true))
-    } else if text == b"false".as_slice() {
-        Ok(Value::Bool(false))
-    } else {
-        Err(CellError::Refused(Refusal::NotABool))
+    match spelled_boolean(text) {
+        Some(value) => Ok(Value::Bool(value)),
+        None => Err(CellError::Refused(Refusal::NotABool)),
     }
 }
 

@@ -25,9 +25,11 @@ mod refusal;
 mod rows;
 mod texts;
 
+pub use flat::{spelled_boolean, spelled_integer};
 pub use form::{TextForm, rows_in};
 pub use jsonl::jsonl_rows;
 pub use laws::{refused_parts_are_causes, rows_of_texts_are_rows};
 pub use part::{RefusedPart, refused_part};
-pub use records::csv_rows;
+pub use records::{csv_records, csv_rows, field_text, numbered_row, read_next};
 pub use refusal::{Refusal, Refused, TextError};
+pub use texts::text_of;

@@ -1,22 +1,21 @@
 // Rows of CSV texts.
-ghost use Rattle.std.specs.Prelude.{◌≡◌, ℕ, ◌<◌, List, [], Some, IfOk, map, option_map, length, slice_get, slice_index_or};
+ghost use Rattle.std.specs.Prelude.{◌≡◌, ℕ, ◌<◌, ◌≤◌, List, [], ◌∷◌, Some, IfOk, IfErr, map, option_map, length, slice_get, slice_index_or};
 ghost use Rattle.std.specs.List.{list_any};
 ghost use Rattle.csv.specs.Machine.{next_record};
-ghost use Rattle.csv.specs.Reading.{default_config, records_from, strip_bom};
+ghost use Rattle.csv.specs.Reading.{default_config};
 ghost use Rattle.csv.specs.Records.{fields_of, field_at};
 ghost use Rattle.csv.specs.declared.parser.State.{State};
-ghost use Rattle.csv.specs.declared.parser.State.TheVariants as st;
 ghost use Rattle.arrow_schema.specs.Column.{columns_of};
 ghost use Rattle.arrow_schema.specs.Parts.{name_of_column};
 ghost use Rattle.arrow_schema.specs.View.{column_of, schema_of};
 ghost use Rattle.cells.specs.View.{cell};
 ghost use Rattle.cells.specs.Row.{row_of};
 ghost use Rattle.cells.specs.Dictionary.{is_any_limited};
-ghost use Rattle.text_import.specs.Refusals.{refusal_of, refused_by};
-ghost use Rattle.facts.specs.Outcomes.{Gives};
+ghost use Rattle.text_import.specs.Refusals.{numbered, refusal_of, refused_by};
+ghost use Rattle.facts.specs.Outcomes.{Gives, Reports};
 ghost use Rattle.text_import.specs.Rows.{rows_from};
-ghost use Rattle.text_import.specs.Records.{whole, are_names, is_nested_column, field_cells, record_cells, record_row, rows_behind_header, records_of, csv_rows_of};
-ghost use Rattle.text_import.specs.inner.Stands.{Stands, Reads, is_text};
+ghost use Rattle.text_import.specs.Records.{whole, are_names, is_nested_column, field_cells, record_cells, record_row, records_of, csv_rows_of};
+ghost use Rattle.text_import.specs.Stands.{HasLeft, Stands, Reads, TakesNext, is_text};
 
 use crate::flat::field_cell;
 use crate::refusal::{CellError, Refusal, Refused, TextError};
@@ -35,8 +34,9 @@ fn whole(refusal: Refusal) -> TextError
 }
 
 // A reader of records of any width, at the start of a text.
+#[tactic(auto, using(crate::specs::laws::Left::left_first))]
 fn reader_of(alloc: Global, text: &[u8]) -> Reader<&[u8]>
-    ensures { Stands result st.StartRecord (strip_bom text.now) }
+    ensures { HasLeft result (records_of text.now) }
 {
     ReaderBuilder::new()
         .has_headers(false)
@@ -45,7 +45,7 @@ fn reader_of(alloc: Global, text: &[u8]) -> Reader<&[u8]>
 }
 
 // Reads the next record, where there is one. A read of a slice fails for want of memory alone.
-fn read_next(reader: &mut Reader<&[u8]>, row: &mut ByteRecord) -> Result<bool, AllocError>
+fn read_record(reader: &mut Reader<&[u8]>, row: &mut ByteRecord) -> Result<bool, AllocError>
     ensures next { IfOk result (λ found. (s : State) (xs : List ℕ) → Stands reader.old s xs
         → Reads (next_record default_config s [] [] xs) found (fields_of row.new) reader.new) }
 {
@@ -53,6 +53,15 @@ fn read_next(reader: &mut Reader<&[u8]>, row: &mut ByteRecord) -> Result<bool, A
         Ok(found) => Ok(found),
         Err(_) => Err(AllocError),
     }
+}
+
+/// Reads the next record, where there is one.
+#[tactic(auto, using(crate::proofs::RecordLemmas::taken))]
+pub fn read_next(reader: &mut Reader<&[u8]>, row: &mut ByteRecord) -> Result<bool, AllocError>
+    ensures { IfOk result (λ found. (records : List (List (List ℕ))) → HasLeft reader.old records → TakesNext records found (fields_of row.new) reader.new) }
+{
+    let found = read_record(reader, row)?;
+    Ok(found)
 }
 
 fn is_nested(field: &Field) -> bool
@@ -102,7 +111,8 @@ fn are_names(row: &ByteRecord, fields: &[Field]) -> bool
     true
 }
 
-pub(crate) fn field_text(row: &ByteRecord, i: usize) -> &[u8]
+/// The text of a field.
+pub fn field_text(row: &ByteRecord, i: usize) -> &[u8]
     requires { i < length (fields_of row.now) }
     ensures { result.now ≡ slice_index_or (fields_of row.now) i [] }
 {
@@ -154,6 +164,21 @@ fn record_row(
     accepted(alloc, schema, limited, cells)
 }
 
+/// Why a record is refused, or the row that it is. `limited` is what `cells::has_limits` tells of the schema, and `number` the record's.
+pub fn numbered_row(
+    alloc: Global,
+    schema: &Schema,
+    limited: bool,
+    null_text: &[u8],
+    row: &ByteRecord,
+    number: u64,
+) -> Result<Row, TextError>
+    requires { limited ≡ is_any_limited (columns_of (schema_of schema.now).columns) }
+    ensures { Gives refused_by row_of result (numbered number (record_row (schema_of schema.now) null_text.now (fields_of row.now))) }
+{
+    numbered(number, record_row(alloc, schema, limited, null_text, row))
+}
+
 // The rows of the records that a reader has left, of which there are at most so many.
 fn record_rows(
     alloc: Global,
@@ -162,9 +187,8 @@ fn record_rows(
     mut reader: Reader<&[u8]>,
     most: usize,
 ) -> Result<Vec<Row>, TextError>
-    ensures { (s : State) (xs : List ℕ) → Stands reader.entry s xs
-        → Gives refused_by (λ v. map row_of v.items) result
-        (rows_from (record_row (schema_of schema.now) null_text.now) 1 (records_from default_config most s xs)) }
+    ensures { (records : List (List (List ℕ))) → HasLeft reader.entry records → length records ≤ most
+        → Gives refused_by (λ v. map row_of v.items) result (rows_from (record_row (schema_of schema.now) null_text.now) 1 records) }
 {
     let limited = has_limits(schema);
     let mut row = ByteRecord::new(alloc);
@@ -173,8 +197,8 @@ fn record_rows(
         if !read_next(&mut reader, &mut row)? {
             return Ok(rows);
         }
-        let read = record_row(alloc, schema, limited, null_text, &row);
-        let read = match numbered(index as u64 + 1, read) {
+        let number = index as u64 + 1;
+        let read = match numbered_row(alloc, schema, limited, null_text, &row, number) {
             Ok(read) => read,
             Err(error) => return Err(error),
         };
@@ -183,15 +207,24 @@ fn record_rows(
     Ok(rows)
 }
 
-// The rows of a text for a schema without nested columns. Behind its header a text has at most as many records as bytes.
-fn rows_behind_header(
+/// A reader of the records of a text that stands behind the header, the names of the columns. Behind it a text has no more records than bytes.
+///
+/// # Errors
+///
+/// The refusal of a schema with lists or structs, or of the header: whatever the null text, the rows of the text are refused so.
+pub fn csv_records<'a>(
     alloc: Global,
     schema: &Schema,
-    text: &[u8],
-    null_text: &[u8],
-) -> Result<Vec<Row>, TextError>
-    ensures { Gives refused_by (λ v. map row_of v.items) result (rows_behind_header (schema_of schema.now) null_text.now (records_of text.now)) }
+    text: &'a [u8],
+) -> Result<Reader<&'a [u8]>, TextError>
+    ensures behind { IfOk result (λ reader. (records : List (List (List ℕ))) × HasLeft reader records × (length records ≤ length text.now)
+        × ((header : List (List ℕ)) × (records_of text.now ≡ header ∷ records))
+        × ((null_text : List ℕ) → csv_rows_of (schema_of schema.now) null_text text.now ≡ rows_from (record_row (schema_of schema.now) null_text) 1 records)) }
+    ensures refused { IfErr result (λ e. (null_text : List ℕ) → Reports (refused_by e) (csv_rows_of (schema_of schema.now) null_text text.now)) }
 {
+    if has_nested(&schema.fields) {
+        return Err(whole(Refusal::Nested));
+    }
     let mut reader = reader_of(alloc, text);
     let mut row = ByteRecord::new(alloc);
     if !read_next(&mut reader, &mut row)? {
@@ -200,7 +233,7 @@ fn rows_behind_header(
     if !are_names(&row, &schema.fields) {
         return Err(whole(Refusal::Header));
     }
-    record_rows(alloc, schema, null_text, reader, text.len())
+    Ok(reader)
 }
 
 // The record at a place, where the header stands at 0.
@@ -236,8 +269,8 @@ pub fn csv_rows(
 ) -> Result<Vec<Row>, TextError>
     ensures exact { Gives refused_by (λ v. map row_of v.items) result (csv_rows_of (schema_of schema.now) null_text.now text.now) }
 {
-    if has_nested(&schema.fields) {
-        return Err(whole(Refusal::Nested));
+    match csv_records(alloc, schema, text) {
+        Ok(reader) => record_rows(alloc, schema, null_text.as_bytes(), reader, text.len()),
+        Err(error) => Err(error),
     }
-    rows_behind_header(alloc, schema, text, null_text.as_bytes())
 }

@@ -14,7 +14,7 @@ fn are_ascii(bytes: &[u8]) -> bool
 }
 
 /// The text that bytes are, where they are UTF-8.
-pub(crate) fn text_of(bytes: &[u8]) -> Option<&str>
+pub fn text_of(bytes: &[u8]) -> Option<&str>
     ensures { option_map (λ t. t.now) result ≡ text_where_utf8 bytes.now }
 {
     if are_ascii(bytes) {

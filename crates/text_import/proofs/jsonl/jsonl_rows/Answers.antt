@@ -5,7 +5,7 @@ use Rattle.arrow_schema.specs.View.{schema_of}
 use Rattle.cells.specs.Row.{row_of}
 use Rattle.text_import.specs.Refusals.{refused_by}
 use Rattle.text_import.proofs.ObjectLemmas.{line_skipped, line_more, line_refused, lines_end}
-use Rattle.text_import.proofs.RowLemmas.{behind}
+use Rattle.text_import.specs.laws.Behind.{behind}
 use Rattle.text_import.proofs.jsonl.jsonl_rows.Goals as goal
 
 pub loop-line-preserved-then-is_blank : goal.loop-line-preserved-then-is_blank

@@ -7,7 +7,7 @@ use Rattle.cells.specs.Row.{row_of}
 use Rattle.text_import.specs.Rows.{rows_from}
 use Rattle.text_import.specs.Objects.{is_blank, line_row, jsonl_rows_of}
 use Rattle.text_import.specs.inner.Names.{text_list}
-use Rattle.text_import.proofs.RowLemmas.{behind}
+use Rattle.text_import.specs.laws.Behind.{behind}
 use Rattle.text_import.proofs.jsonl.jsonl_rows.Given as goal
 
 abbrev pub invariant-loop-line : goal.invariant-loop-line

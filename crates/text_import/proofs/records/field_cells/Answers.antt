@@ -4,7 +4,7 @@ use Rattle.facts.specs.laws.Lists.{drop-item}
 use Rattle.csv.specs.Records.{fields_of}
 use Rattle.arrow_schema.specs.View.{column_of}
 use Rattle.cells.specs.View.{cell}
-use Rattle.text_import.proofs.RecordLemmas.{field_more, fields_end}
+use Rattle.text_import.specs.laws.Behind.{field_more, fields_end}
 use Rattle.text_import.proofs.records.field_cells.Goals as goal
 
 pub loop-i-preserved : goal.loop-i-preserved

@@ -3,7 +3,7 @@ use Rattle.csv.specs.Records.{fields_of}
 use Rattle.arrow_schema.specs.View.{column_of}
 use Rattle.cells.specs.View.{cell}
 use Rattle.text_import.specs.Records.{field_cells}
-use Rattle.text_import.proofs.RowLemmas.{behind}
+use Rattle.text_import.specs.laws.Behind.{behind}
 use Rattle.text_import.proofs.records.field_cells.Given as goal
 
 abbrev pub invariant-loop-i : goal.invariant-loop-i

@@ -1,9 +1,7 @@
-use Rattle.std.proofs.Common.{ℕ, List, drop}
-use Rattle.csv.specs.declared.parser.State.{State}
+use Rattle.std.proofs.Common.{drop}
 use Rattle.text_import.specs.Records.{records_of}
-use Rattle.text_import.specs.inner.Stands.{Stands}
-use Rattle.text_import.proofs.PartLemmas.{Left}
+use Rattle.text_import.specs.Stands.{HasLeft}
 use Rattle.text_import.proofs.records.record_at.Given as goal
 
 abbrev pub invariant-loop-i : goal.invariant-loop-i
-invariant-loop-i l = (s : State) × (xs : List ℕ) × Stands l.reader s xs × Left (drop l._i (records_of l.text)) s xs
+invariant-loop-i l = HasLeft l.reader (drop l._i (records_of l.text))

@@ -1,20 +1,19 @@
-use Rattle.std.proofs.Common.{◌≡◌, ◌+◌, ◌-◌, ℕ, List, map}
-use Rattle.csv.specs.Reading.{default_config, records_from}
-use Rattle.csv.specs.declared.parser.State.{State}
+use Rattle.std.proofs.Common.{◌≡◌, ◌+◌, ◌-◌, ◌≤◌, ℕ, List, map, length}
 use Rattle.arrow_schema.specs.View.{schema_of}
 use Rattle.cells.specs.Row.{row_of}
 use Rattle.text_import.specs.Rows.{rows_from}
 use Rattle.text_import.specs.Records.{record_row}
-use Rattle.text_import.specs.inner.Stands.{Stands}
-use Rattle.text_import.proofs.RowLemmas.{behind}
+use Rattle.text_import.specs.Stands.{HasLeft}
+use Rattle.text_import.specs.laws.Behind.{behind}
 use Rattle.text_import.proofs.records.record_rows.Given as goal
 
+-- the rows so far, and the records that are left
 abbrev pub invariant-loop-index : goal.invariant-loop-index
 invariant-loop-index l =
-    (s : State) (xs : List ℕ)
-    → Stands l.fn.reader s xs
-    → (s2 : State)
-    × (ys : List ℕ)
-    × Stands l.reader s2 ys
-    × (behind (map row_of l.rows.items) (rows_from (record_row (schema_of l.schema) l.null_text) (l.index + 1) (records_from default_config (l.most - l.index) s2 ys))
-    ≡ rows_from (record_row (schema_of l.schema) l.null_text) 1 (records_from default_config l.most s xs))
+    (records : List (List (List ℕ)))
+    → HasLeft l.fn.reader records
+    → length records ≤ l.most
+    → (left : List (List (List ℕ)))
+    × HasLeft l.reader left
+    × (length left ≤ l.most - l.index)
+    × (behind (map row_of l.rows.items) (rows_from (record_row (schema_of l.schema) l.null_text) (l.index + 1) left) ≡ rows_from (record_row (schema_of l.schema) l.null_text) 1 records)

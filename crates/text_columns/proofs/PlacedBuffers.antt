@@ -1,0 +1,200 @@
+-- Buffers that come behind other bytes, and the arrays that they are.
+use Rattle.std.specs.Prelude.{◌&&◌, if◌then◌else◌, get_or, Some, None, slice_get}
+use Rattle.std.specs.Global.{Vec}
+use Rattle.std.specs.List.{flat_map, list_all}
+use Rattle.std.proofs.Common.{◌≡◌, ℕ, suc, ◌+◌, ◌/◌, ◌≤◌, Bool, true, List, [], ◌∷◌, ◌++◌, length, map, take, drop, refl, arith, ap, sym, subst, ◌∙◌, append_assoc, append-nil, length-append}
+use Rattle.std.proofs.lemmas.Bool.{and_from, and_parts, le-leb}
+use Rattle.std.proofs.lemmas.List.{take_at, drop_at, length-map, map-append}
+use Rattle.bitmap.specs.Bits.{packed}
+use Rattle.arrow_schema.specs.Column.{Kind, Column, booleans, integers, dates, timestamps, texts, large_texts, column, columns_of}
+use Rattle.cells.specs.Cell.{Cell, null}
+use Rattle.cells.specs.Nulls.{is_there}
+use Rattle.columns.specs.Array.{Array, Layout, array, arrays_of, and_array, bit_layout, fixed_layout, binary_layout}
+use Rattle.columns.specs.Built.{built, built_kind, built_parts, first_cell, other_cells, validity_of, with_validity, integer_bytes, offsets_of, contents_of}
+use Rattle.columns.specs.Offsets.{width_of}
+use Rattle.columns.specs.Places.{within}
+use Rattle.columns.specs.View.{array_in, array_step, layout_step, no_dictionary}
+use Rattle.columns.specs.Within.{array_within, ends_within, is_within_by, layout_within}
+use Rattle.columns.specs.declared.array.PlacedArray.{PlacedArray}
+use Rattle.columns.specs.declared.array.PlacedLayout.TheFolds.{fold_out-PlacedArray, fold-roll-PlacedLayout}
+use Rattle.columns.specs.declared.array.PlacedLayout.TheOpen as placed
+use Rattle.columns.specs.declared.array.PlacedLayout.TheVariants as layouts
+use Rattle.columns.specs.declared.span.Span.{Span}
+use Rattle.columns.specs.laws.Grown.{longer_bytes}
+use Rattle.columns.specs.laws.Longer.{within_more}
+use Rattle.text_columns.specs.declared.column_values.Values.{Values}
+use Rattle.text_columns.specs.declared.column_values.Values.TheVariants.{Booleans, Integers, Texts}
+use Rattle.text_columns.specs.declared.builder.ColumnBuilder.{ColumnBuilder}
+use Rattle.text_columns.specs.inner.Kept.{Holds, IsOf, Keeps, column_at}
+use Rattle.text_columns.specs.inner.Placed.{ArePlaced, IsAppended, IsLaid, IsPlaced, array_of, is_layout_within, layout_of, layout_placed, validity_of_bits}
+
+-- ---- buffers
+
+pub appended : (old buffer new : List ℕ) (span : Span) → new ≡ old ++ buffer → span.start ≡ length old → span.len ≡ length buffer → IsAppended old buffer new span
+appended old buffer new span whole start len = record {
+  whole = whole;
+  stands = λ more.
+      let parts : new ++ more ≡ old ++ (buffer ++ more) = ap (λ (xs : List ℕ). xs ++ more) whole ∙ append_assoc old buffer more in
+      ap (λ (xs : List ℕ). take span.len (drop span.start xs)) parts
+      ∙ ap (take span.len) (drop_at old (buffer ++ more) span.start (sym start))
+      ∙ take_at buffer more span.len (sym len);
+  ends = λ more.
+      let size : length (new ++ more) ≡ length old + length buffer + length more = length-append new more ∙ ap (λ (n : ℕ). n + length more) (ap length whole ∙ length-append old buffer) in
+      le-leb (span.start + span.len) (length (new ++ more)) (omega (arith, size, start, len));
+}
+
+-- where nothing comes behind it
+stands_last : (old buffer new : List ℕ) (span : Span) → IsAppended old buffer new span → within new span ≡ buffer
+stands_last old buffer new span a = ap (λ (xs : List ℕ). within xs span) (sym (append-nil new)) ∙ a.stands []
+
+ends_last : (old buffer new : List ℕ) (span : Span) → IsAppended old buffer new span → ends_within (length new) span ≡ true
+ends_last old buffer new span a = ap (λ (xs : List ℕ). ends_within (length xs) span) (sym (append-nil new)) ∙ a.ends []
+
+-- layouts without arrays below them, as places in bytes
+bits_are : (bytes : List ℕ) (span : Span) → layout_placed bytes (layouts.Bits span) ≡ bit_layout (within bytes span)
+bits_are bytes span = ap (layout_placed bytes) (sym (layouts.rolls-Bits span)) ∙ fold-roll-PlacedLayout Layout Array (layout_step bytes no_dictionary) (array_step bytes) (placed.Bits span)
+
+bits_within : (size : ℕ) (span : Span) → is_layout_within size (layouts.Bits span) ≡ ends_within size span
+bits_within size span = ap (is_layout_within size) (sym (layouts.rolls-Bits span)) ∙ fold-roll-PlacedLayout Bool Bool (layout_within size (λ part. true)) (array_within size) (placed.Bits span)
+
+values_are : (bytes : List ℕ) (span : Span) → layout_placed bytes (layouts.Fixed span) ≡ fixed_layout (within bytes span)
+values_are bytes span = ap (layout_placed bytes) (sym (layouts.rolls-Fixed span)) ∙ fold-roll-PlacedLayout Layout Array (layout_step bytes no_dictionary) (array_step bytes) (placed.Fixed span)
+
+values_within : (size : ℕ) (span : Span) → is_layout_within size (layouts.Fixed span) ≡ ends_within size span
+values_within size span = ap (is_layout_within size) (sym (layouts.rolls-Fixed span)) ∙ fold-roll-PlacedLayout Bool Bool (layout_within size (λ part. true)) (array_within size) (placed.Fixed span)
+
+texts_are : (bytes : List ℕ) (first second : Span) → layout_placed bytes (layouts.Binary first second) ≡ binary_layout (within bytes first) (within bytes second)
+texts_are bytes first second =
+    ap (layout_placed bytes) (sym (layouts.rolls-Binary first second)) ∙ fold-roll-PlacedLayout Layout Array (layout_step bytes no_dictionary) (array_step bytes) (placed.Binary first second)
+
+texts_within : (size : ℕ) (first second : Span) → is_layout_within size (layouts.Binary first second) ≡ (ends_within size first && ends_within size second)
+texts_within size first second =
+    ap (is_layout_within size) (sym (layouts.rolls-Binary first second)) ∙ fold-roll-PlacedLayout Bool Bool (layout_within size (λ part. true)) (array_within size) (placed.Binary first second)
+
+pub bits_laid : (bits : Vec Bool) (old new : List ℕ) (span : Span) → IsAppended old (packed bits.items) new span → IsLaid (Booleans bits) old new (layouts.Bits span)
+bits_laid bits old new span a = record { more = packed bits.items; whole = a.whole; laid = bits_are new span ∙ ap bit_layout (stands_last old _ new span a); ends = bits_within (length new) span ∙ ends_last old _ new span a }
+
+pub values_laid : (i : _) (values : Vec ℕ) (old new : List ℕ) (span : Span) → IsAppended old values.items new span → IsLaid (Integers i values) old new (layouts.Fixed span)
+values_laid i values old new span a = record { more = values.items; whole = a.whole; laid = values_are new span ∙ ap fixed_layout (stands_last old _ new span a); ends = values_within (length new) span ∙ ends_last old _ new span a }
+
+pub texts_laid : (width : _) (offsets contents : Vec ℕ) (old mid new : List ℕ) (first second : Span) → IsAppended old offsets.items mid first → IsAppended mid contents.items new second
+    → IsLaid (Texts width offsets contents) old new (layouts.Binary first second)
+texts_laid width offsets contents old mid new first second a b =
+    let front : within new first ≡ offsets.items = ap (λ (xs : List ℕ). within xs first) b.whole ∙ a.stands contents.items in
+    let inner : ends_within (length new) first ≡ true = ap (λ (xs : List ℕ). ends_within (length xs) first) b.whole ∙ a.ends contents.items in
+    record {
+      more = offsets.items ++ contents.items;
+      whole = b.whole ∙ ap (λ (xs : List ℕ). xs ++ contents.items) a.whole ∙ append_assoc old offsets.items contents.items;
+      laid = texts_are new first second ∙ (λ j. binary_layout (front j) (stands_last mid _ new second b j));
+      ends = texts_within (length new) first second ∙ and_from _ _ inner (ends_last mid _ new second b);
+    }
+
+array_is : (bytes : List ℕ) (a : PlacedArray) → array_in bytes no_dictionary a ≡ array a.slots (within bytes a.validity) (layout_placed bytes a.layout)
+array_is bytes a = fold_out-PlacedArray Layout Array (layout_step bytes no_dictionary) (array_step bytes) a
+
+within_is : (size : ℕ) (a : PlacedArray) → is_within_by size (λ part. true) a ≡ (ends_within size a.validity && is_layout_within size a.layout)
+within_is size a = fold_out-PlacedArray Bool Bool (layout_within size (λ part. true)) (array_within size) a
+
+pub column_placed : (b : ColumnBuilder) (old mid new : List ℕ) (a : PlacedArray) → IsAppended old (validity_of_bits b.valid.items) mid a.validity → IsLaid b.values mid new a.layout → a.slots ≡ length b.valid.items
+    → IsPlaced b old new a
+column_placed b old mid new a validity laid slots =
+    let bitmap : within new a.validity ≡ validity_of_bits b.valid.items = ap (λ (xs : List ℕ). within xs a.validity) laid.whole ∙ validity.stands laid.more in
+    let inner : ends_within (length new) a.validity ≡ true = ap (λ (xs : List ℕ). ends_within (length xs) a.validity) laid.whole ∙ validity.ends laid.more in
+    record {
+      more = validity_of_bits b.valid.items ++ laid.more;
+      whole = laid.whole ∙ ap (λ (xs : List ℕ). xs ++ laid.more) validity.whole ∙ append_assoc old (validity_of_bits b.valid.items) laid.more;
+      placed = array_is new a ∙ (λ j. array (slots j) (bitmap j) (laid.laid j));
+      ends = within_is (length new) a ∙ and_from _ _ inner laid.ends;
+    }
+
+-- ---- arrays, one behind another
+
+pub record SoFar (bs : List ColumnBuilder) (bytes : List ℕ) (arrays : List PlacedArray) : Type 0 where
+  pub placed : ArePlaced bs bytes arrays
+  pub ends : list_all (is_within_by (length bytes) (λ part. true)) arrays ≡ true
+
+grown : (bytes more : List ℕ) (arrays : List PlacedArray) → list_all (is_within_by (length bytes) (λ part. true)) arrays ≡ true
+    → map (array_in (bytes ++ more) no_dictionary) arrays ≡ map (array_in bytes no_dictionary) arrays
+grown bytes more [] h = refl
+grown bytes more (a ∷ arrays) h =
+    let parts = and_parts (is_within_by (length bytes) (λ part. true) a) (list_all (is_within_by (length bytes) (λ part. true)) arrays) h in
+    λ j. longer_bytes bytes more (λ part. true) no_dictionary no_dictionary (λ part e. refl) a parts.0 j ∷ grown bytes more arrays parts.1 j
+
+stay_within : (size more : ℕ) (arrays : List PlacedArray) → size ≤ more → list_all (is_within_by size (λ part. true)) arrays ≡ true → list_all (is_within_by more (λ part. true)) arrays ≡ true
+stay_within size more [] le h = refl
+stay_within size more (a ∷ arrays) le h =
+    let parts = and_parts (is_within_by size (λ part. true) a) (list_all (is_within_by size (λ part. true)) arrays) h in
+    and_from _ _ (within_more size more le (λ part. true) (λ part. true) (λ part e. e) a parts.0) (stay_within size more arrays le parts.1)
+
+one_within : (size : ℕ) (arrays : List PlacedArray) (a : PlacedArray) → list_all (is_within_by size (λ part. true)) arrays ≡ true → is_within_by size (λ part. true) a ≡ true
+    → list_all (is_within_by size (λ part. true)) (arrays ++ a ∷ []) ≡ true
+one_within size [] a h k = and_from _ _ k refl
+one_within size (b ∷ arrays) a h k =
+    let parts = and_parts (is_within_by size (λ part. true) b) (list_all (is_within_by size (λ part. true)) arrays) h in
+    and_from _ _ parts.0 (one_within size arrays a parts.1 k)
+
+pub placed_more : (bs : List ColumnBuilder) (b : ColumnBuilder) (old new : List ℕ) (arrays : List PlacedArray) (a : PlacedArray) → SoFar bs old arrays → IsPlaced b old new a
+    → SoFar (bs ++ b ∷ []) new (arrays ++ a ∷ [])
+placed_more bs b old new arrays a so p =
+    let longer : length new ≡ length old + length p.more = ap length p.whole ∙ length-append old p.more in
+    let before : map (array_in new no_dictionary) arrays ≡ map array_of bs = ap (λ (xs : List ℕ). map (array_in xs no_dictionary) arrays) p.whole ∙ grown old p.more arrays so.ends ∙ so.placed in
+    record {
+      placed = map-append (array_in new no_dictionary) arrays (a ∷ []) ∙ (λ j. before j ++ p.placed j ∷ []) ∙ sym (map-append array_of bs (b ∷ []));
+      ends = one_within (length new) arrays a (stay_within (length old) (length new) arrays (omega (arith, longer)) so.ends) p.ends;
+    }
+
+-- ---- the arrays that cells are written as
+
+there_all : (cells : List Cell) → list_all (λ b. b) (map is_there cells) ≡ list_all is_there cells
+there_all [] = refl
+there_all (c ∷ cells) = ap (λ (b : Bool). is_there c && b) (there_all cells)
+
+validity_is : (cells : List Cell) → validity_of_bits (map is_there cells) ≡ validity_of cells
+validity_is cells = ap (λ (b : Bool). if b then [] else packed (map is_there cells)) (there_all cells)
+
+with_is : (cells : List Cell) (valid : List Bool) (layout own : Layout) → valid ≡ map is_there cells → layout ≡ own → array (length valid) (validity_of_bits valid) layout ≡ with_validity cells own
+with_is cells valid layout own is same =
+    (λ j. array (length (is j)) (validity_of_bits (is j)) (same j)) ∙ (λ j. array (length-map cells is_there j) (validity_is cells j) own)
+
+pub built_is : (c : Column) (cells : List Cell) (b : ColumnBuilder) → Keeps c cells b → array_of b ≡ built c cells
+unfolding built built_kind
+built_is (column name nullable kind (Some index) pairs) cells b k = absurd k
+built_is (column name nullable kind None pairs) cells b k = by kind b.values k.2.kind_is k.2.holds
+  where
+    by : (kind : Kind) (values : Values) → IsOf kind values → Holds values cells → array (length b.valid.items) (validity_of_bits b.valid.items) (layout_of values) ≡ built_kind kind cells
+    by booleans (Booleans bits) h holds = with_is cells b.valid.items (bit_layout (packed bits.items)) _ k.1 (ap (λ (xs : List Bool). bit_layout (packed xs)) holds)
+    by (integers bits signed) (Integers i bytes) h holds =
+        with_is cells b.valid.items (fixed_layout bytes.items) _ k.1 (ap fixed_layout (holds ∙ ap (λ (n : ℕ). flat_map (integer_bytes (n / 8)) cells) h.0))
+    by (dates unit) (Integers i bytes) h holds =
+        with_is cells b.valid.items (fixed_layout bytes.items) _ k.1 (ap fixed_layout (holds ∙ ap (λ (n : ℕ). flat_map (integer_bytes (n / 8)) cells) h.0))
+    by (timestamps unit timezone) (Integers i bytes) h holds =
+        with_is cells b.valid.items (fixed_layout bytes.items) _ k.1 (ap fixed_layout (holds ∙ ap (λ (n : ℕ). flat_map (integer_bytes (n / 8)) cells) h.0))
+    by texts (Texts width offsets contents) h holds =
+        with_is cells b.valid.items (binary_layout offsets.items contents.items) _ k.1
+        (λ j. binary_layout ((holds.0 ∙ ap (λ w. offsets_of (width_of w) (map (λ c. length (contents_of c)) cells)) h) j) (holds.1 j))
+    by large_texts (Texts width offsets contents) h holds =
+        with_is cells b.valid.items (binary_layout offsets.items contents.items) _ k.1
+        (λ j. binary_layout ((holds.0 ∙ ap (λ w. offsets_of (width_of w) (map (λ c. length (contents_of c)) cells)) h) j) (holds.1 j))
+    by _ values h holds = absurd h
+
+first_column : (rows : List (List Cell)) → column_at 0 rows ≡ map first_cell rows
+first_column [] = refl
+first_column ([] ∷ rows) = ap (λ (xs : List Cell). null ∷ xs) (first_column rows)
+first_column ((c ∷ row) ∷ rows) = ap (λ (xs : List Cell). c ∷ xs) (first_column rows)
+
+other_column : (j : ℕ) (rows : List (List Cell)) → column_at (suc j) rows ≡ column_at j (map other_cells rows)
+other_column j [] = refl
+other_column j ([] ∷ rows) = ap (λ (xs : List Cell). null ∷ xs) (other_column j rows)
+other_column j ((c ∷ row) ∷ rows) = ap (λ (xs : List Cell). get_or row j null ∷ xs) (other_column j rows)
+
+pub all_built : (cs : List Column) (rows : List (List Cell)) (bs : List ColumnBuilder) → length bs ≡ length cs
+    → ((j : ℕ) (c : Column) (b : ColumnBuilder) → slice_get cs j ≡ Some c → slice_get bs j ≡ Some b → Keeps c (column_at j rows) b)
+    → arrays_of (map array_of bs) ≡ built_parts (columns_of cs) rows
+unfolding built_parts
+all_built [] rows [] count each = refl
+all_built [] rows (b ∷ bs) count each = absurd (omega arith)
+all_built (c ∷ cs) rows [] count each = absurd (omega arith)
+all_built (c ∷ cs) rows (b ∷ bs) count each =
+    let here = built_is c (column_at 0 rows) b (each 0 c b refl refl) ∙ ap (built c) (first_column rows) in
+    let others = all_built cs (map other_cells rows) bs (omega arith) (λ j d e dc db. subst (λ (xs : List Cell). Keeps d xs e) (other_column j rows) (each (suc j) d e dc db)) in
+    λ j. and_array (here j) (others j)

@@ -1,0 +1,324 @@
+-- Rows that come behind others, by the buffers of their columns.
+use Rattle.std.specs.Borrow.{Bor}
+use Rattle.std.specs.Prelude.{Option, Some, None, Ok, Err, Result, slice_get, get_or, ◌==◌, nat_lt, ◌⊎◌, MatchResult}
+use Rattle.std.proofs.Common.{◌≡◌, ℕ, zero, suc, ◌+◌, ◌-◌, ◌≤◌, ◌<◌, true, false, List, [], ◌∷◌, ◌++◌, length, take, drop, set, refl, arith, ap, sym, subst, ◌∙◌, inl, inr, length-append}
+use Rattle.std.proofs.lemmas.Bool.{cases_lt, eq-eqb, le-ltb, or_from}
+use Rattle.std.proofs.lemmas.List.{map-append}
+use Rattle.std.proofs.lemmas.List.Sums.{sum_by-append}
+use Rattle.std.proofs.lemmas.Option.{slice_get_within}
+use Rattle.arrow_schema.specs.Column.{Kind, Column, nulls, booleans, integers, dates, timestamps, texts, large_texts, binaries, large_binaries, fixed_binaries, column, columns_of, PlainSchema}
+use Rattle.cells.specs.Cell.{Cell, null, cells_of}
+use Rattle.cells.specs.Dictionary.{is_limited, is_kind_limited, is_any_limited}
+use Rattle.cells.specs.Dictionary.{dictionaries_fit}
+use Rattle.cells.specs.Weight.{parts_weight, row_weight, table_weight, weight}
+use Rattle.cells.specs.laws.Unlimited.{unlimited_fit}
+use Rattle.csv.specs.declared.reader.Reader.{Reader}
+use Rattle.facts.specs.Outcomes.{Reports}
+use Rattle.text_import.specs.Records.{field_cells, record_row}
+use Rattle.text_import.specs.Refusals.{numbered, refused_by}
+use Rattle.text_import.specs.Rows.{rows_from}
+use Rattle.text_import.specs.Stands.{HasLeft}
+use Rattle.text_import.specs.declared.refusal.Refused.{Refused}
+use Rattle.text_import.specs.declared.refusal.TextError.{TextError}
+use Rattle.text_import.specs.laws.Behind.{behind, behind_none, field_more, fields_end, row_more, row_refused, rows_end, told}
+use Rattle.text_columns.specs.declared.builder.ColumnBuilder.{ColumnBuilder}
+use Rattle.text_columns.specs.declared.column_values.Values.{Values}
+use Rattle.text_columns.specs.declared.column_values.Values.TheVariants.{Booleans, Integers, Texts}
+use Rattle.text_columns.specs.declared.records.RowsRead.{RowsRead}
+use Rattle.text_columns.specs.inner.Kept.{HasRow, HasRows, IsOf, KeepAll, Keeps, KeepsField, KeepsRecord, ReadsRows, column_at}
+
+-- ---- the item at a place
+
+module _ {X : Type 0} where
+  at_set : (xs : List X) (i : ℕ) (x : X) → i < length xs → slice_get (set xs i x) i ≡ Some x
+  at_set [] i x lt = absurd (omega arith)
+  at_set (y ∷ xs) zero x lt = refl
+  at_set (y ∷ xs) (suc i) x lt = at_set xs i x (omega arith)
+
+  at_other : (xs : List X) (i j : ℕ) (x : X) → (i ≡ j → ⊥) → slice_get (set xs i x) j ≡ slice_get xs j
+  at_other [] i j x ne = refl
+  at_other (y ∷ xs) zero zero x ne = absurd (ne refl)
+  at_other (y ∷ xs) zero (suc j) x ne = refl
+  at_other (y ∷ xs) (suc i) zero x ne = refl
+  at_other (y ∷ xs) (suc i) (suc j) x ne = at_other xs i j x (λ e. ne (ap suc e))
+
+  dropped_here : (xs : List X) (i : ℕ) (x : X) → slice_get xs i ≡ Some x → drop i xs ≡ x ∷ drop (suc i) xs
+  dropped_here [] i x e = absurd cc
+  dropped_here (y ∷ xs) zero x e = (let same : y ≡ x = cc in rw same refl)
+  dropped_here (y ∷ xs) (suc i) x e = dropped_here xs i x e
+
+  taken_here : (xs : List X) (i : ℕ) (x : X) → slice_get xs i ≡ Some x → take (suc i) xs ≡ take i xs ++ x ∷ []
+  taken_here [] i x e = absurd cc
+  taken_here (y ∷ xs) zero x e = (let same : y ≡ x = cc in rw same refl)
+  taken_here (y ∷ xs) (suc i) x e = ap (λ (ys : List X). y ∷ ys) (taken_here xs i x e)
+
+  there_within : (xs : List X) (i : ℕ) → i < length xs → (x : X) × (slice_get xs i ≡ Some x)
+  there_within [] i lt = absurd (omega arith)
+  there_within (y ∷ xs) zero lt = (y, refl)
+  there_within (y ∷ xs) (suc i) lt = there_within xs i (omega arith)
+
+  at_end : (xs : List X) (x d : X) (i : ℕ) → i ≡ length xs → get_or (xs ++ x ∷ []) i d ≡ x
+  at_end [] x d i e = rw e refl
+  at_end (y ∷ xs) x d zero e = absurd (omega arith)
+  at_end (y ∷ xs) x d (suc i) e = at_end xs x d i (omega arith)
+
+  at_front : (xs : List X) (x d : X) (i : ℕ) → i < length xs → get_or (xs ++ x ∷ []) i d ≡ get_or xs i d
+  at_front [] x d i lt = absurd (omega arith)
+  at_front (y ∷ xs) x d zero lt = refl
+  at_front (y ∷ xs) x d (suc i) lt = at_front xs x d i (omega arith)
+
+  dropped_all : (xs : List X) (i : ℕ) → length xs ≤ i → drop i xs ≡ []
+  dropped_all [] zero le = refl
+  dropped_all [] (suc i) le = refl
+  dropped_all (y ∷ xs) zero le = absurd (omega arith)
+  dropped_all (y ∷ xs) (suc i) le = dropped_all xs i (omega arith)
+
+  taken_all : (xs : List X) (i : ℕ) → length xs ≤ i → take i xs ≡ xs
+  taken_all [] zero le = refl
+  taken_all [] (suc i) le = refl
+  taken_all (y ∷ xs) zero le = absurd (omega arith)
+  taken_all (y ∷ xs) (suc i) le = ap (λ (ys : List X). y ∷ ys) (taken_all xs i (omega arith))
+
+  length_taken : (xs : List X) (i : ℕ) → i ≤ length xs → length (take i xs) ≡ i
+  length_taken xs zero le = refl
+  length_taken [] (suc i) le = absurd (omega arith)
+  length_taken (y ∷ xs) (suc i) le = ap suc (length_taken xs i (omega arith))
+
+  length_put : (xs : List X) (i : ℕ) (x : X) → length (set xs i x) ≡ length xs
+  length_put [] i x = refl
+  length_put (y ∷ xs) zero x = refl
+  length_put (y ∷ xs) (suc i) x = ap suc (length_put xs i x)
+
+-- ---- one more row
+
+parts_weigh : (cs : List Column) (xs : List Cell) (c : Column) (x : Cell) → length xs ≡ length cs
+    → parts_weight (columns_of (cs ++ c ∷ [])) (cells_of (xs ++ x ∷ [])) ≡ parts_weight (columns_of cs) (cells_of xs) + weight c x
+unfolding parts_weight
+parts_weigh [] [] c x e = omega arith
+parts_weigh [] (y ∷ xs) c x e = absurd (omega arith)
+parts_weigh (d ∷ cs) [] c x e = absurd (omega arith)
+parts_weigh (d ∷ cs) (y ∷ xs) c x e = let others = parts_weigh cs xs c x (omega arith) in omega (arith, others)
+
+none_weigh : (cells : List Cell) → 1 + parts_weight (columns_of []) (cells_of cells) ≡ 1
+unfolding parts_weight
+none_weigh cells = refl
+
+column_more : (j : ℕ) (rows : List (List Cell)) (row : List Cell) → column_at j (rows ++ row ∷ []) ≡ column_at j rows ++ get_or row j null ∷ []
+column_more j rows row = map-append (λ (r : List Cell). get_or r j null) rows (row ∷ [])
+
+-- the first fields of a record have come behind the rows, and weigh so much with their row
+pub record Half (cs : List Column) (null_text : List ℕ) (ts : List (List ℕ)) (rows : List (List Cell)) (i heavy : ℕ) (bs : List ColumnBuilder) : Type 0 where
+  pub row : List Cell
+  pub len : length row ≡ i
+  pub read : behind row (field_cells null_text (drop i cs) (drop i ts)) ≡ field_cells null_text cs ts
+  pub weighs : 1 + parts_weight (columns_of (take i cs)) (cells_of row) ≡ heavy
+  pub count : length bs ≡ length cs
+  pub done : (j : ℕ) (c : Column) (b : ColumnBuilder) → j < i → slice_get cs j ≡ Some c → slice_get bs j ≡ Some b → Keeps c (column_at j rows ++ get_or row j null ∷ []) b
+  pub rest : (j : ℕ) (c : Column) (b : ColumnBuilder) → i ≤ j → slice_get cs j ≡ Some c → slice_get bs j ≡ Some b → Keeps c (column_at j rows) b
+
+pub half_none : (cs : List Column) (null_text : List ℕ) (ts : List (List ℕ)) (rows : List (List Cell)) (bs : List ColumnBuilder) → KeepAll cs rows bs → Half cs null_text ts rows 0 1 bs
+half_none cs null_text ts rows bs k = record {
+  row = [];
+  len = refl;
+  read = behind_none (field_cells null_text cs ts);
+  weighs = none_weigh [];
+  count = k.count;
+  done = λ j c b lt. absurd (omega arith);
+  rest = λ j c b le. k.each j c b;
+}
+
+pub half_more : (cs : List Column) (null_text : List ℕ) (ts : List (List ℕ)) (rows : List (List Cell)) (i heavy more : ℕ) (bs : List ColumnBuilder) (old new : ColumnBuilder) (t : List ℕ)
+    → slice_get bs i ≡ Some old → slice_get ts i ≡ Some t → KeepsField null_text t more old new → Half cs null_text ts rows i heavy bs → Half cs null_text ts rows (i + 1) (heavy + more) (set bs i new)
+half_more cs null_text ts rows i heavy more bs old new t here text keeps h =
+    let within : i < length bs = slice_get_within bs i old here in
+    let (c, col) = there_within cs i (omega (arith, within, h.count)) in
+    let k = keeps c (column_at i rows) (h.rest i c old (omega arith) col here) in
+    let one : i + 1 ≡ suc i = omega arith in
+    let fields : drop i cs ≡ c ∷ drop (suc i) cs = dropped_here cs i c col in
+    let others : drop i ts ≡ t ∷ drop (suc i) ts = dropped_here ts i t text in
+    let short : length h.row ≡ length (take i cs) = h.len ∙ sym (length_taken cs i (omega (arith, within, h.count))) in
+    let heavier = parts_weigh (take i cs) h.row c k.kept short in
+    record {
+      row = h.row ++ k.kept ∷ [];
+      len = length-append h.row (k.kept ∷ []) ∙ ap (λ (n : ℕ). n + 1) h.len;
+      read = rw one (sym (field_more null_text h.row c (drop (suc i) cs) t (drop (suc i) ts) k.kept k.read) ∙ rw (fields, others) at h.read);
+      weighs = rw (one, taken_here cs i c col) (omega (arith, heavier, h.weighs, k.weighs));
+      count = length_put bs i new ∙ h.count;
+      done = λ j d b lt dc db. elim (cases_lt j i) [
+        | inl before ↦
+            let same = at_other bs i j new (λ e. omega arith) in
+            let front = at_front h.row k.kept null j (omega (arith, h.len, before)) in
+            subst (λ (x : Cell). Keeps d (column_at j rows ++ x ∷ []) b) (sym front) (h.done j d b before dc (sym same ∙ db))
+        | inr after ↦
+            let at : j ≡ i = omega arith in
+            let put = at_set bs i new within in
+            let mine : Some new ≡ Some b = sym put ∙ subst (λ (n : ℕ). slice_get (set bs i new) n ≡ Some b) at db in
+            let own : Some c ≡ Some d = sym col ∙ subst (λ (n : ℕ). slice_get cs n ≡ Some d) at dc in
+            let is_new : new ≡ b = cc in
+            let is_own : c ≡ d = cc in
+            let end : get_or (h.row ++ k.kept ∷ []) j null ≡ k.kept = at_end h.row k.kept null j (at ∙ sym h.len) in
+            rw (end, at, ← is_new, ← is_own) k.keeps
+      ];
+      rest = λ j d b le dc db.
+          let same = at_other bs i j new (λ e. omega arith) in
+          h.rest j d b (omega (arith, le)) dc (sym same ∙ db);
+    }
+
+pub half_all : (cs : List Column) (null_text : List ℕ) (ts : List (List ℕ)) (rows : List (List Cell)) (i heavy : ℕ) (bs : List ColumnBuilder) → length bs ≤ i
+    → Half cs null_text ts rows i heavy bs → HasRow cs null_text ts heavy rows bs
+half_all cs null_text ts rows i heavy bs le h =
+    let none : drop i cs ≡ [] = dropped_all cs i (omega (arith, le, h.count)) in
+    let all : take i cs ≡ cs = taken_all cs i (omega (arith, le, h.count)) in
+    record {
+      row = h.row;
+      read = sym (rw none at h.read) ∙ fields_end null_text h.row (drop i ts);
+      weighs = rw all at h.weighs;
+      keeps = record {
+        count = h.count;
+        each = λ j c b dc db.
+            let lt : j < length bs = slice_get_within bs j b db in
+            subst (λ (xs : List Cell). Keeps c xs b) (sym (column_more j rows h.row)) (h.done j c b (omega (arith, lt, le)) dc db);
+      };
+    }
+
+-- ---- one more column
+
+last_or_before : {X : Type 0} (xs : List X) (x y : X) (j : ℕ) → slice_get (xs ++ x ∷ []) j ≡ Some y → (slice_get xs j ≡ Some y) ⊎ ((j ≡ length xs) × (x ≡ y))
+last_or_before [] x y zero h = inr (refl, cc)
+last_or_before [] x y (suc j) h = absurd cc
+last_or_before (z ∷ xs) x y zero h = inl h
+last_or_before (z ∷ xs) x y (suc j) h = elim (last_or_before xs x y j h) [
+  | inl before ↦ inl before
+  | inr last ↦ inr (ap suc last.0, last.1)
+]
+
+pub keep_more : (cs : List Column) (bs : List ColumnBuilder) (c : Column) (b : ColumnBuilder) → KeepAll cs [] bs → Keeps c [] b → KeepAll (cs ++ c ∷ []) [] (bs ++ b ∷ [])
+keep_more cs bs c b k kept = record {
+  count = length-append bs (b ∷ []) ∙ ap (λ (n : ℕ). n + 1) k.count ∙ sym (length-append cs (c ∷ []));
+  each = λ j d e dc db. elim (last_or_before cs c d j dc) [
+    | inl own ↦ elim (last_or_before bs b e j db) [
+      | inl builder ↦ k.each j d e own builder
+      | inr last ↦ (let lt = slice_get_within cs j d own in absurd (omega (arith, lt, last.0, k.count)))
+    ]
+    | inr own ↦ elim (last_or_before bs b e j db) [
+      | inl builder ↦ (let lt = slice_get_within bs j e builder in absurd (omega (arith, lt, own.0, k.count)))
+      | inr last ↦ rw (← own.1, ← last.1) kept
+    ]
+  ];
+}
+
+-- ---- no dictionary
+
+kept_unlimited : (c : Column) (cells : List Cell) (b : ColumnBuilder) → Keeps c cells b → is_limited c ≡ false
+unfolding is_limited is_kind_limited
+kept_unlimited (column name nullable kind (Some index) pairs) cells b k = absurd k
+kept_unlimited (column name nullable kind None pairs) cells b k = by kind b.values k.2.kind_is
+  where
+    by : (kind : Kind) (values : Values) → IsOf kind values → is_kind_limited kind ≡ false
+    by nulls values h = refl
+    by booleans values h = refl
+    by (integers bits signed) values h = refl
+    by (dates unit) values h = refl
+    by (timestamps unit timezone) values h = refl
+    by texts values h = refl
+    by large_texts values h = refl
+    by binaries values h = refl
+    by large_binaries values h = refl
+    by (fixed_binaries width) values h = refl
+    by _ (Booleans bits) h = absurd h
+    by _ (Integers i bytes) h = absurd h
+    by _ (Texts width offsets contents) h = absurd h
+
+others_keep : (c : Column) (cs : List Column) (rows : List (List Cell)) (b : ColumnBuilder) (bs : List ColumnBuilder) → KeepAll (c ∷ cs) rows (b ∷ bs)
+    → (Keeps c (column_at 0 rows) b) × ((j : ℕ) (d : Column) (e : ColumnBuilder) → slice_get cs j ≡ Some d → slice_get bs j ≡ Some e → Keeps d (column_at (suc j) rows) e)
+others_keep c cs rows b bs k = (k.each 0 c b refl refl, λ j d e dc db. k.each (suc j) d e dc db)
+
+unlimited_by : (cs : List Column) (bs : List ColumnBuilder) → length bs ≡ length cs → ((j : ℕ) (c : Column) (b : ColumnBuilder) → slice_get cs j ≡ Some c → slice_get bs j ≡ Some b → is_limited c ≡ false)
+    → is_any_limited (columns_of cs) ≡ false
+unfolding is_any_limited
+unlimited_by [] bs count each = refl
+unlimited_by (c ∷ cs) [] count each = absurd (omega arith)
+unlimited_by (c ∷ cs) (b ∷ bs) count each = or_from _ _ (each 0 c b refl refl) (unlimited_by cs bs (omega arith) (λ j d e dc db. each (suc j) d e dc db))
+
+pub unlimited : (cs : List Column) (rows : List (List Cell)) (bs : List ColumnBuilder) → KeepAll cs rows bs → is_any_limited (columns_of cs) ≡ false
+unlimited cs rows bs k = unlimited_by cs bs k.count (λ j c b dc db. kept_unlimited c (column_at j rows) b (k.each j c b dc db))
+
+-- ---- the records of a text
+
+-- some records have come as rows, and the others are left, which are read by a reader or stand in the text
+pub record Read (IsLeft : List (List (List ℕ)) → Type 0) (s : PlainSchema) (null_text : List ℕ) (records : List (List (List ℕ))) (i heavy : ℕ) (bs : List ColumnBuilder) : Type 0 where
+  pub rows : List (List Cell)
+  pub left : List (List (List ℕ))
+  pub stands : IsLeft left
+  pub read : behind rows (rows_from (record_row s null_text) (i + 1) left) ≡ rows_from (record_row s null_text) 1 records
+  pub count : length rows ≡ i
+  pub weighs : table_weight s rows ≡ heavy
+  pub keeps : KeepAll s.columns rows bs
+
+pub read_none : (IsLeft : List (List (List ℕ)) → Type 0) (s : PlainSchema) (null_text : List ℕ) (records : List (List (List ℕ))) (bs : List ColumnBuilder) → IsLeft records → KeepAll s.columns [] bs
+    → Read IsLeft s null_text records 0 0 bs
+read_none IsLeft s null_text records bs has k = record { rows = []; left = records; stands = has; read = behind_none _; count = refl; weighs = refl; keeps = k }
+
+-- a row that is not too heavy is accepted
+accepted_row : (s : PlainSchema) (null_text : List ℕ) (ts : List (List ℕ)) (rows : List (List Cell)) (heavy : ℕ) (old new : List ColumnBuilder) (h : HasRow s.columns null_text ts heavy rows new)
+    → length ts ≡ length s.columns → heavy ≤ 16777216 → is_any_limited (columns_of s.columns) ≡ false → record_row s null_text ts ≡ Ok h.row
+accepted_row s null_text ts rows heavy old new h count few free =
+    let width : (length ts == length s.columns) ≡ true = eq-eqb _ _ count in
+    let light : nat_lt 16777216 (row_weight s h.row) ≡ false = le-ltb _ _ (omega (arith, h.weighs, few)) in
+    let full : dictionaries_fit s (h.row ∷ []) ≡ true = unlimited_fit s (h.row ∷ []) free in
+    rw (width, h.read, light, full) refl
+
+pub read_more : (IsLeft WillBeLeft : List (List (List ℕ)) → Type 0) (s : PlainSchema) (null_text : List ℕ) (records others : List (List (List ℕ))) (i heavy more : ℕ) (old new : List ColumnBuilder)
+    (fields : List (List ℕ)) → (h : Read IsLeft s null_text records i heavy old) → h.left ≡ fields ∷ others → WillBeLeft others → more ≤ 16777216 → KeepsRecord null_text fields more old new
+    → Read WillBeLeft s null_text records (i + 1) (heavy + more) new
+read_more IsLeft WillBeLeft s null_text records others i heavy more old new fields h whole has few keeps =
+    let row = keeps.1 s.columns h.rows h.keeps in
+    let free = unlimited s.columns h.rows old h.keeps in
+    let accepted = accepted_row s null_text fields h.rows more old new row (keeps.0 ∙ h.keeps.count) few free in
+    let joined = sum_by-append (row_weight s) h.rows (row.row ∷ []) in
+    let given : numbered (i + 1) (record_row s null_text fields) ≡ Ok row.row = rw accepted refl in
+    record {
+      rows = h.rows ++ row.row ∷ [];
+      left = others;
+      stands = has;
+      read = sym (row_more (record_row s null_text) (i + 1) h.rows fields others row.row given) ∙ rw whole at h.read;
+      count = length-append h.rows (row.row ∷ []) ∙ ap (λ (n : ℕ). n + 1) h.count;
+      weighs = omega (arith, joined, h.weighs, row.weighs);
+      keeps = row.keeps;
+    }
+
+pub read_rows : (IsLeft : List (List (List ℕ)) → Type 0) (s : PlainSchema) (null_text : List ℕ) (records : List (List (List ℕ))) (i heavy : ℕ) (bs : List ColumnBuilder) (read : RowsRead)
+    → (h : Read IsLeft s null_text records i heavy bs) → h.left ≡ [] → heavy ≤ 268435456 → read.rows ≡ i → read.weight ≡ heavy → HasRows s (rows_from (record_row s null_text) 1 records) read bs
+read_rows IsLeft s null_text records i heavy bs read h none few rows weight = record {
+  rows = h.rows;
+  are_read = sym (rw none at h.read) ∙ rows_end (record_row s null_text) (i + 1) h.rows;
+  count = h.count ∙ sym rows;
+  weighs = h.weighs ∙ sym weight;
+  few = rw weight few;
+  keeps = h.keeps;
+}
+
+-- a reader that has no more records left than turns
+abbrev pub ByReader : Reader (Bor (List ℕ)) → (i most : ℕ) → List (List (List ℕ)) → Type 0
+ByReader reader i most left = HasLeft reader left × (length left ≤ most - i)
+
+pub none_left : (xs : List (List (List ℕ))) → length xs ≤ 0 → xs ≡ []
+none_left [] h = refl
+none_left (x ∷ xs) h = absurd (omega arith)
+
+pub left_behind : (left others : List (List (List ℕ))) (fields : List (List ℕ)) (i most : ℕ) → left ≡ fields ∷ others → length left ≤ most - i → length others ≤ most - (i + 1)
+left_behind left others fields i most whole few = let len = ap length whole in omega (arith, len, few)
+
+pub read_refused : (IsLeft : List (List (List ℕ)) → Type 0) (s : PlainSchema) (null_text : List ℕ) (records others : List (List (List ℕ))) (i heavy : ℕ) (bs : List ColumnBuilder) (fields : List (List ℕ))
+    (o : Option Refused) → (h : Read IsLeft s null_text records i heavy bs) → h.left ≡ fields ∷ others → Reports o (numbered (i + 1) (record_row s null_text fields))
+    → Reports o (rows_from (record_row s null_text) 1 records)
+read_refused IsLeft s null_text records others i heavy bs fields o h whole refused =
+    told o (numbered (i + 1) (record_row s null_text fields)) (rows_from (record_row s null_text) 1 records) refused
+    (λ f e. sym (rw whole at h.read) ∙ row_refused (record_row s null_text) (i + 1) h.rows fields others f e)
+
+-- a record that is refused by itself, or by none, and what that says of all
+pub refused_step : {A : Type 0} (s : PlainSchema) (own : Result A Refused) (stated : Result (List (List Cell)) Refused) (r : Result (Option RowsRead) TextError) (new : List ColumnBuilder)
+    → MatchResult r (λ read. read ≡ None) (λ e. Reports (refused_by e) own) → ((o : Option Refused) → Reports o own → Reports o stated) → ReadsRows s stated r new
+refused_step s own stated (Err e) new h more = more (refused_by e) h
+refused_step s own stated (Ok None) new h more = tt
+refused_step s own stated (Ok (Some read)) new h more = absurd cc

@@ -1,0 +1,23 @@
+use Rattle.std.specs.Prelude.{IfOk, IfSome}
+use Rattle.std.proofs.Common.{sym, subst}
+use Rattle.text_columns.specs.declared.column_values.Values.{Values}
+use Rattle.text_columns.specs.declared.column_values.Values.TheVariants.{Booleans, Integers, Texts}
+use Rattle.text_columns.specs.inner.Kept.{TakesText}
+use Rattle.text_columns.proofs.Taken.{boolean_step, integer_step, text_step}
+use Rattle.text_columns.proofs.column_values.Values.push_text.Goals as goal
+
+pub returns-in-Booleans : goal.returns-in-Booleans
+returns-in-Booleans c =
+    subst (λ (v : Values). IfOk c.push_boolean.result (λ taken. IfSome taken (λ heavy. TakesText c.args.text.now heavy v (Booleans c.push_boolean.new.bits)))) (sym c.in-Booleans.is)
+    (boolean_step c.args.text.now c.in-Booleans.bits c.push_boolean.new.bits c.push_boolean.result c.push_boolean.ensures)
+
+pub returns-in-Integers : goal.returns-in-Integers
+returns-in-Integers c =
+    subst (λ (v : Values). IfOk c.push_integer.result (λ taken. IfSome taken (λ heavy. TakesText c.args.text.now heavy v (Integers c.in-Integers.integer c.push_integer.new.values)))) (sym c.in-Integers.is)
+    (integer_step c.in-Integers.integer c.args.text.now c.in-Integers.values c.push_integer.new.values c.push_integer.result c.push_integer.ensures)
+
+pub returns-in-Texts : goal.returns-in-Texts
+returns-in-Texts c =
+    subst (λ (v : Values). IfOk c.push_contents.result (λ taken. IfSome taken (λ heavy. TakesText c.args.text.now heavy v (Texts c.in-Texts.width c.push_contents.new.offsets c.push_contents.new.contents))))
+    (sym c.in-Texts.is)
+    (text_step c.in-Texts.width c.args.text.now c.in-Texts.offsets c.in-Texts.contents c.push_contents.new.offsets c.push_contents.new.contents c.push_contents.result c.push_contents.ensures)

@@ -1,0 +1,5 @@
+pub mod Kept
+pub mod Placed
+pub mod Tables
+pub mod Plain
+pub mod Columns

@@ -1,0 +1,137 @@
+-- What the buffers of columns hold once some rows were read.
+use Rattle.std.specs.Prelude.{◌≡◌, ◌≤◌, ◌+◌, ◌/◌, ◌++◌, ℕ, ℤ, true, Bool, List, [], ◌∷◌, length, map, get_or, Option, Some, None, IfSome, Result, Ok, Err, slice_get}
+use Rattle.std.specs.Global.{Vec}
+use Rattle.std.specs.List.{flat_map}
+use Rattle.arrow_schema.specs.Column.{Kind, Column, booleans, integers, dates, timestamps, texts, large_texts, column, columns_of, PlainSchema}
+use Rattle.arrow_schema.specs.View.{bits_of}
+use Rattle.cells.specs.declared.limits.TheConstants.{MAX_TABLE_WEIGHT}
+use Rattle.cells.specs.Cell.{Cell, null, number, cells_of}
+use Rattle.cells.specs.Fit.{date_bits, in_range}
+use Rattle.cells.specs.Nulls.{is_there}
+use Rattle.cells.specs.Typed.{typed_boolean, typed_integer}
+use Rattle.cells.specs.Weight.{kind_weight, parts_weight, table_weight, weight}
+use Rattle.columns.specs.Built.{contents_of, integer_bytes, is_set, offsets_of}
+use Rattle.columns.specs.Offsets.{width_of}
+use Rattle.columns.specs.declared.numbers.OffsetWidth.{OffsetWidth}
+use Rattle.columns.specs.declared.numbers.OffsetWidth.TheVariants.{Four, Eight}
+use Rattle.facts.specs.Outcomes.{Reports}
+use Rattle.text_import.specs.Flat.{cell_of_text, field_cell, number_cell}
+use Rattle.text_import.specs.Records.{field_cells}
+use Rattle.text_import.specs.Refusals.{refused_by}
+use Rattle.text_import.specs.declared.refusal.Refused.{Refused}
+use Rattle.text_import.specs.declared.refusal.TextError.{TextError}
+use Rattle.text_columns.specs.declared.column_values.Values.{Values}
+use Rattle.text_columns.specs.declared.column_values.Values.TheVariants.{Booleans, Integers, Texts}
+use Rattle.text_columns.specs.declared.builder.ColumnBuilder.{ColumnBuilder}
+use Rattle.text_columns.specs.declared.records.RowsRead.{RowsRead}
+
+-- the bytes of an integer that a type of so many bits holds come behind others
+abbrev pub AppendsInteger : (bits : ℕ) → (signed : Bool) → ℤ → List ℕ → List ℕ → Type 0
+AppendsInteger bits signed n old new = (in_range bits signed n ≡ true) × (new ≡ old ++ integer_bytes (bits / 8) (number n))
+
+-- the integer that a text spells, of a type
+pub record AppendsSpelled (bits : ℕ) (signed : Bool) (text old new : List ℕ) : Type 0 where
+  pub spelled : ℤ
+  pub read : number_cell (integers bits signed) (typed_integer text) ≡ Ok (number spelled)
+  pub bytes : new ≡ old ++ integer_bytes (bits / 8) (number spelled)
+
+-- the boolean that a text spells
+pub record AppendsBoolean (text : List ℕ) (old new : List Bool) : Type 0 where
+  pub spelled : Bool
+  pub read : typed_boolean text ≡ Some spelled
+  pub bits : new ≡ old ++ spelled ∷ []
+
+-- values of this type
+abbrev pub IsOf : Kind → Values → Type 0
+IsOf booleans (Booleans bits) = Unit {0}
+IsOf (integers bits signed) (Integers integer bytes) = (bits_of integer.width ≡ bits) × (integer.signed ≡ signed)
+IsOf (dates unit) (Integers integer bytes) = (bits_of integer.width ≡ date_bits unit) × (integer.signed ≡ true)
+IsOf (timestamps unit timezone) (Integers integer bytes) = (bits_of integer.width ≡ 64) × (integer.signed ≡ true)
+IsOf texts (Texts width offsets contents) = width ≡ Four
+IsOf large_texts (Texts width offsets contents) = width ≡ Eight
+IsOf _ _ = ⊥
+
+-- what these cells are written as
+abbrev pub Holds : Values → List Cell → Type 0
+Holds (Booleans bits) cells = bits.items ≡ map is_set cells
+Holds (Integers integer bytes) cells = bytes.items ≡ flat_map (integer_bytes (bits_of integer.width / 8)) cells
+Holds (Texts width offsets contents) cells =
+    (offsets.items ≡ offsets_of (width_of width) (map (λ c. length (contents_of c)) cells)) × (contents.items ≡ flat_map contents_of cells)
+
+-- values of this type that hold these cells
+pub record Takes (kind : Kind) (cells : List Cell) (values : Values) : Type 0 where
+  pub kind_is : IsOf kind values
+  pub holds : Holds values cells
+
+-- a null comes behind the cells
+abbrev pub TakesNull : Values → Values → Type 0
+TakesNull old new = (kind : Kind) (cells : List Cell) → Takes kind cells old → Takes kind (cells ++ null ∷ []) new
+
+-- a cell of a text that weighs so much comes behind the cells of a type
+pub record HasTaken (kind : Kind) (text : List ℕ) (heavy : ℕ) (cells : List Cell) (new : Values) : Type 0 where
+  pub taken : Cell
+  pub read : cell_of_text kind text ≡ Ok taken
+  pub there : is_there taken ≡ true
+  pub weighs : kind_weight kind taken ≡ heavy
+  pub takes : Takes kind (cells ++ taken ∷ []) new
+
+abbrev pub TakesText : List ℕ → ℕ → Values → Values → Type 0
+TakesText text heavy old new = (kind : Kind) (cells : List Cell) → Takes kind cells old → HasTaken kind text heavy cells new
+
+-- the buffers of a column that hold these cells
+abbrev pub Keeps : Column → List Cell → ColumnBuilder → Type 0
+Keeps (column name nullable kind None pairs) cells b = (b.nullable ≡ nullable) × (b.valid.items ≡ map is_there cells) × Takes kind cells b.values
+Keeps (column name nullable kind (Some index) pairs) cells b = ⊥
+
+-- no text yet, of offsets of this width
+abbrev pub StartsTexts : OffsetWidth → Values → Type 0
+StartsTexts width values = (offsets : Vec ℕ) × (contents : Vec ℕ) × (values ≡ Texts width offsets contents) × Holds (Texts width offsets contents) []
+
+-- the cell of a field that weighs so much comes behind the cells of a column
+pub record HasKept (c : Column) (null_text text : List ℕ) (heavy : ℕ) (cells : List Cell) (new : ColumnBuilder) : Type 0 where
+  pub kept : Cell
+  pub read : field_cell null_text c text ≡ Ok kept
+  pub weighs : weight c kept ≡ heavy
+  pub keeps : Keeps c (cells ++ kept ∷ []) new
+
+abbrev pub KeepsField : (null_text text : List ℕ) → ℕ → ColumnBuilder → ColumnBuilder → Type 0
+KeepsField null_text text heavy old new = (c : Column) (cells : List Cell) → Keeps c cells old → HasKept c null_text text heavy cells new
+
+-- ---- rows
+
+-- the cells at a place of rows
+abbrev pub column_at : ℕ → List (List Cell) → List Cell
+column_at j rows = map (λ row. get_or row j null) rows
+
+-- the buffers of columns that hold these rows
+pub record KeepAll (cs : List Column) (rows : List (List Cell)) (bs : List ColumnBuilder) : Type 0 where
+  pub count : length bs ≡ length cs
+  pub each : (j : ℕ) (c : Column) (b : ColumnBuilder) → slice_get cs j ≡ Some c → slice_get bs j ≡ Some b → Keeps c (column_at j rows) b
+
+-- the cells of fields come behind the rows: the row weighs so much
+pub record HasRow (cs : List Column) (null_text : List ℕ) (ts : List (List ℕ)) (heavy : ℕ) (rows : List (List Cell)) (new : List ColumnBuilder) : Type 0 where
+  pub row : List Cell
+  pub read : field_cells null_text cs ts ≡ Ok row
+  pub weighs : 1 + parts_weight (columns_of cs) (cells_of row) ≡ heavy
+  pub keeps : KeepAll cs (rows ++ row ∷ []) new
+
+abbrev pub KeepsFields : (null_text : List ℕ) → List (List ℕ) → ℕ → List ColumnBuilder → List ColumnBuilder → Type 0
+KeepsFields null_text ts heavy old new = (cs : List Column) (rows : List (List Cell)) → KeepAll cs rows old → HasRow cs null_text ts heavy rows new
+
+-- there are as many fields as columns
+abbrev pub KeepsRecord : (null_text : List ℕ) → List (List ℕ) → ℕ → List ColumnBuilder → List ColumnBuilder → Type 0
+KeepsRecord null_text ts heavy old new = (length ts ≡ length old) × KeepsFields null_text ts heavy old new
+
+-- all rows that are stated, no heavier than a table may be
+pub record HasRows (s : PlainSchema) (stated : Result (List (List Cell)) Refused) (read : RowsRead) (new : List ColumnBuilder) : Type 0 where
+  pub rows : List (List Cell)
+  pub are_read : stated ≡ Ok rows
+  pub count : length rows ≡ read.rows
+  pub weighs : table_weight s rows ≡ read.weight
+  pub few : read.weight ≤ MAX_TABLE_WEIGHT
+  pub keeps : KeepAll s.columns rows new
+
+-- what a call reads of stated rows: all of them, or their refusal
+abbrev pub ReadsRows : PlainSchema → Result (List (List Cell)) Refused → Result (Option RowsRead) TextError → List ColumnBuilder → Type 0
+ReadsRows s stated (Ok read) new = IfSome read (λ r. HasRows s stated r new)
+ReadsRows s stated (Err e) new = Reports (refused_by e) stated

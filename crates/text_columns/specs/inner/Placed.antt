@@ -1,0 +1,58 @@
+-- The arrays that the buffers of columns are, and where they are placed.
+use Rattle.std.specs.Prelude.{◌≡◌, ◌++◌, ℕ, Bool, true, List, [], length, map, if◌then◌else◌}
+use Rattle.std.specs.List.{list_all}
+use Rattle.bitmap.specs.Bits.{packed}
+use Rattle.columns.specs.Array.{Array, Layout, array, bit_layout, fixed_layout, binary_layout}
+use Rattle.columns.specs.Places.{within}
+use Rattle.columns.specs.View.{array_in, array_step, layout_step, no_dictionary}
+use Rattle.columns.specs.Within.{array_within, ends_within, is_within_by, layout_within}
+use Rattle.columns.specs.declared.array.PlacedArray.{PlacedArray}
+use Rattle.columns.specs.declared.array.PlacedLayout.{PlacedLayout}
+use Rattle.columns.specs.declared.array.PlacedLayout.TheFolds.{fold-PlacedLayout}
+use Rattle.columns.specs.declared.span.Span.{Span}
+use Rattle.text_columns.specs.declared.column_values.Values.{Values}
+use Rattle.text_columns.specs.declared.column_values.Values.TheVariants.{Booleans, Integers, Texts}
+use Rattle.text_columns.specs.declared.builder.ColumnBuilder.{ColumnBuilder}
+
+-- the validity bitmap of slots, which is empty where each is valid
+abbrev pub validity_of_bits : List Bool → List ℕ
+validity_of_bits valid = if list_all (λ b. b) valid then [] else packed valid
+
+abbrev pub layout_of : Values → Layout
+layout_of (Booleans bits) = bit_layout (packed bits.items)
+layout_of (Integers integer bytes) = fixed_layout bytes.items
+layout_of (Texts width offsets contents) = binary_layout offsets.items contents.items
+
+abbrev pub array_of : ColumnBuilder → Array
+array_of b = array (length b.valid.items) (validity_of_bits b.valid.items) (layout_of b.values)
+
+-- a buffer comes behind other bytes, and stands there whatever comes behind it
+pub record IsAppended (old buffer new : List ℕ) (span : Span) : Type 0 where
+  pub whole : new ≡ old ++ buffer
+  pub stands : (more : List ℕ) → within (new ++ more) span ≡ buffer
+  pub ends : (more : List ℕ) → ends_within (length (new ++ more)) span ≡ true
+
+-- the layout that is placed in bytes
+abbrev pub layout_placed : List ℕ → PlacedLayout → Layout
+layout_placed bytes = fold-PlacedLayout Layout Array (layout_step bytes no_dictionary) (array_step bytes)
+
+abbrev pub is_layout_within : (size : ℕ) → PlacedLayout → Bool
+is_layout_within size = fold-PlacedLayout Bool Bool (layout_within size (λ part. true)) (array_within size)
+
+-- the buffers of values come behind other bytes
+pub record IsLaid (values : Values) (old new : List ℕ) (layout : PlacedLayout) : Type 0 where
+  pub more : List ℕ
+  pub whole : new ≡ old ++ more
+  pub laid : layout_placed new layout ≡ layout_of values
+  pub ends : is_layout_within (length new) layout ≡ true
+
+-- those of a column
+pub record IsPlaced (b : ColumnBuilder) (old new : List ℕ) (a : PlacedArray) : Type 0 where
+  pub more : List ℕ
+  pub whole : new ≡ old ++ more
+  pub placed : array_in new no_dictionary a ≡ array_of b
+  pub ends : is_within_by (length new) (λ part. true) a ≡ true
+
+-- and those of all
+abbrev pub ArePlaced : List ColumnBuilder → List ℕ → List PlacedArray → Type 0
+ArePlaced bs bytes arrays = map (array_in bytes no_dictionary) arrays ≡ map array_of bs

@@ -1,0 +1,64 @@
+-- Records without quotes, by where they stand in a text.
+use Rattle.std.specs.Prelude.{◌≡◌, ◌≤◌, ◌<◌, ◌+◌, ◌-◌, ◌==◌, ◌||◌, ℕ, Bool, false, true, not, List, [], ◌∷◌, length, drop, take, slice_index, Some}
+use Rattle.std.specs.List.{list_all}
+use Rattle.csv.specs.Machine.{next_record}
+use Rattle.csv.specs.Reading.{default_config}
+use Rattle.csv.specs.declared.parser.State.{State}
+use Rattle.csv.specs.declared.parser.State.TheVariants as st
+use Rattle.text_columns.specs.declared.builder.ColumnBuilder.{ColumnBuilder}
+use Rattle.text_columns.specs.declared.plain.PlainRow.{PlainRow}
+use Rattle.text_columns.specs.inner.Kept.{KeepsRecord}
+
+abbrev pub ends_line : ℕ → Bool
+ends_line b = (b == 13) || (b == 10)
+
+abbrev pub ends_field : ℕ → Bool
+ends_field b = (b == 44) || ends_line b
+
+-- whether this byte stands first
+abbrev pub begins_with : ℕ → List ℕ → Bool
+begins_with b [] = false
+begins_with b (c ∷ xs) = c == b
+
+abbrev pub begins_quoted : List ℕ → Bool
+begins_quoted xs = begins_with 34 xs
+
+-- each byte from a place up to another passes
+abbrev pub AllBetween : (ℕ → Bool) → List ℕ → (from end : ℕ) → Type 0
+AllBetween p text from end = list_all p (take (end - from) (drop from text)) ≡ true
+
+-- a field from a place up to another, where it does not begin with a quote
+pub record IsFieldAt (text : List ℕ) (from end : ℕ) : Type 0 where
+  pub low : from ≤ end
+  pub high : end ≤ length text
+  pub plain : AllBetween (λ b. not (ends_field b)) text from end
+  pub stops : end < length text → ends_field (slice_index text end) ≡ true
+
+-- line ends from a place up to another
+pub record SkipsEnds (text : List ℕ) (from next : ℕ) : Type 0 where
+  pub low : from ≤ next
+  pub high : next ≤ length text
+  pub ends : AllBetween ends_line text from next
+  pub stops : next < length text → ends_line (slice_index text next) ≡ false
+
+-- a record without quotes from a place on, with its line end
+pub record SkipsRecord (text : List ℕ) (from next : ℕ) : Type 0 where
+  pub last : ℕ
+  pub low : from ≤ last
+  pub high : last < length text
+  pub behind : next ≡ last + 1
+  pub plain : AllBetween (λ b. not (ends_line b || (b == 34))) text from last
+  pub stops : ends_line (slice_index text last) ≡ true
+
+-- the state behind a record, which reads on as the start of a text does
+abbrev pub IsFresh : State → Type 0
+IsFresh s = (xs : List ℕ) → next_record default_config s [] [] xs ≡ next_record default_config st.StartRecord [] [] xs
+
+-- a record that was read from a place of a text, and whose cells came behind the rows
+pub record PushesPlain (text null_text : List ℕ) (from : ℕ) (row : PlainRow) (old new : List ColumnBuilder) : Type 0 where
+  pub fields : List (List ℕ)
+  pub state : State
+  pub read : next_record default_config st.StartField [] [] (drop from text) ≡ Some (fields, state, drop row.next text)
+  pub fresh : IsFresh state
+  pub within : row.next ≤ length text
+  pub keeps : KeepsRecord null_text fields row.weight old new

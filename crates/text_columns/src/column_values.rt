@@ -1,0 +1,74 @@
+// The values of one column.
+ghost use Rattle.std.specs.Prelude.{◌≡◌, ◌++◌, ◌/◌, ◌∷◌, [], IfOk, IfSome, OnOk, Some, replicate};
+ghost use Rattle.arrow_schema.specs.View.{bits_of};
+ghost use Rattle.cells.specs.Typed.{typed_boolean};
+ghost use Rattle.text_columns.specs.inner.Kept.{AppendsBoolean, TakesNull, TakesText};
+
+use crate::integers::push_integer;
+use crate::texts::{push_contents, push_offset};
+use arrow_schema::{BitWidth, IntegerType};
+use columns::OffsetWidth;
+use std::alloc::AllocError;
+use text_import::spelled_boolean;
+
+/// What the cells of a column are written as, but for where nulls stand: bits, the bytes of integers, or where texts end and their bytes.
+#[derive(Drop)]
+pub(crate) enum Values {
+    Booleans(Vec<bool>),
+    Integers(IntegerType, Vec<u8>),
+    Texts(OffsetWidth, Vec<u8>, Vec<u8>),
+}
+
+// Appends zeros, as many as an integer of this width has bytes.
+fn push_zeros(values: &mut Vec<u8>, width: BitWidth) -> Result<(), AllocError>
+    ensures { OnOk result (values.new.items ≡ values.old.items ++ replicate (bits_of width / 8) 0) }
+{
+    match width {
+        BitWidth::Eight => values.extend_from_slice(&[0; 1]),
+        BitWidth::Sixteen => values.extend_from_slice(&[0; 2]),
+        BitWidth::ThirtyTwo => values.extend_from_slice(&[0; 4]),
+        BitWidth::SixtyFour => values.extend_from_slice(&[0; 8]),
+    }
+}
+
+// Appends the boolean that a text spells, and answers what it weighs.
+fn push_boolean(bits: &mut Vec<bool>, text: &[u8]) -> Result<Option<u64>, AllocError>
+    ensures { IfOk result (λ taken. IfSome taken (λ heavy. (heavy ≡ 1) × AppendsBoolean text.now bits.old.items bits.new.items)) }
+{
+    match spelled_boolean(text) {
+        None => Ok(None),
+        Some(value) => {
+            bits.push(value)?;
+            Ok(Some(1))
+        }
+    }
+}
+
+impl Values {
+    /// Appends a null: zeros, or no bytes.
+    pub(crate) fn push_null(&mut self) -> Result<(), AllocError>
+        ensures { OnOk result (TakesNull self.old self.new) }
+    {
+        match self {
+            Values::Booleans(bits) => bits.push(false)?,
+            Values::Integers(integer, values) => push_zeros(values, integer.width)?,
+            Values::Texts(width, offsets, contents) => {
+                push_offset(offsets, *width, contents.len())?;
+            }
+        }
+        Ok(())
+    }
+
+    /// Appends the cell that a text is, where it is one of the type, and answers what it weighs.
+    pub(crate) fn push_text(&mut self, text: &[u8]) -> Result<Option<u64>, AllocError>
+        ensures { IfOk result (λ taken. IfSome taken (λ heavy. TakesText text.now heavy self.old self.new)) }
+    {
+        match self {
+            Values::Booleans(bits) => push_boolean(bits, text),
+            Values::Integers(integer, values) => push_integer(values, *integer, text),
+            Values::Texts(width, offsets, contents) => {
+                push_contents(offsets, contents, *width, text)
+            }
+        }
+    }
+}

@@ -1,0 +1,90 @@
+// Integers as bytes.
+ghost use Rattle.std.specs.Prelude.{◌≡◌, ◌/◌, ◌++◌, true, false, IfOk, IfSome};
+ghost use Rattle.arrow_schema.specs.View.{bits_of};
+ghost use Rattle.text_columns.specs.inner.Kept.{AppendsInteger, AppendsSpelled};
+
+use arrow_schema::{BitWidth, IntegerType};
+use std::alloc::AllocError;
+use text_import::spelled_integer;
+
+// Appends the bytes of a number, where an integer of this width without a sign holds it.
+#[tactic(auto, using(crate::proofs::IntegerBytes::unsigned_appended))]
+fn push_unsigned(values: &mut Vec<u8>, width: BitWidth, number: i128) -> Result<bool, AllocError>
+    ensures { IfOk result (λ pushed. pushed ≡ true → AppendsInteger (bits_of width) false number values.old.items values.new.items) }
+{
+    match width {
+        BitWidth::Eight => match u8::try_from(number) {
+            Ok(value) => values.extend_from_slice(&value.to_le_bytes())?,
+            Err(_) => return Ok(false),
+        },
+        BitWidth::Sixteen => match u16::try_from(number) {
+            Ok(value) => values.extend_from_slice(&value.to_le_bytes())?,
+            Err(_) => return Ok(false),
+        },
+        BitWidth::ThirtyTwo => match u32::try_from(number) {
+            Ok(value) => values.extend_from_slice(&value.to_le_bytes())?,
+            Err(_) => return Ok(false),
+        },
+        BitWidth::SixtyFour => match u64::try_from(number) {
+            Ok(value) => values.extend_from_slice(&value.to_le_bytes())?,
+            Err(_) => return Ok(false),
+        },
+    }
+    Ok(true)
+}
+
+// The same with a sign.
+#[tactic(auto, using(crate::proofs::IntegerBytes::signed_appended))]
+fn push_signed(values: &mut Vec<u8>, width: BitWidth, number: i128) -> Result<bool, AllocError>
+    ensures { IfOk result (λ pushed. pushed ≡ true → AppendsInteger (bits_of width) true number values.old.items values.new.items) }
+{
+    match width {
+        BitWidth::Eight => match i8::try_from(number) {
+            Ok(value) => values.extend_from_slice(&value.to_le_bytes())?,
+            Err(_) => return Ok(false),
+        },
+        BitWidth::Sixteen => match i16::try_from(number) {
+            Ok(value) => values.extend_from_slice(&value.to_le_bytes())?,
+            Err(_) => return Ok(false),
+        },
+        BitWidth::ThirtyTwo => match i32::try_from(number) {
+            Ok(value) => values.extend_from_slice(&value.to_le_bytes())?,
+            Err(_) => return Ok(false),
+        },
+        BitWidth::SixtyFour => match i64::try_from(number) {
+            Ok(value) => values.extend_from_slice(&value.to_le_bytes())?,
+            Err(_) => return Ok(false),
+        },
+    }
+    Ok(true)
+}
+
+// Appends the bytes of a number, where the type holds it.
+fn push_number(values: &mut Vec<u8>, integer: IntegerType, number: i128) -> Result<bool, AllocError>
+    ensures { IfOk result (λ pushed. pushed ≡ true → AppendsInteger (bits_of integer.width) integer.signed number values.old.items values.new.items) }
+{
+    if integer.signed {
+        push_signed(values, integer.width, number)
+    } else {
+        push_unsigned(values, integer.width, number)
+    }
+}
+
+/// Appends the bytes of the integer that a text spells, where the type holds it, and answers what that weighs.
+pub(crate) fn push_integer(
+    values: &mut Vec<u8>,
+    integer: IntegerType,
+    text: &[u8],
+) -> Result<Option<u64>, AllocError>
+    ensures { IfOk result (λ taken. IfSome taken (λ heavy. (heavy ≡ 1)
+        × AppendsSpelled (bits_of integer.width) integer.signed text.now values.old.items values.new.items)) }
+{
+    let Some(number) = spelled_integer(text) else {
+        return Ok(None);
+    };
+    if push_number(values, integer, number)? {
+        Ok(Some(1))
+    } else {
+        Ok(None)
+    }
+}

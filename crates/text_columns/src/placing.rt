@@ -1,0 +1,99 @@
+// The arrays of columns, one behind another in the same bytes.
+ghost use Rattle.std.specs.Prelude.{◌≡◌, ◌≤◌, ◌++◌, true, [], ◌∷◌, List, length, IfOk};
+ghost use Rattle.std.specs.List.{list_all};
+ghost use Rattle.text_columns.specs.inner.Placed.{ArePlaced, IsAppended, IsLaid, IsPlaced, validity_of_bits};
+
+use crate::builder::ColumnBuilder;
+use crate::column_values::Values;
+use columns::{PlacedArray, PlacedLayout, Span};
+use std::alloc::{AllocError, Global};
+
+// Appends a buffer, and says where it stands.
+fn append(bytes: &mut Vec<u8>, buffer: &[u8]) -> Result<Span, AllocError>
+    ensures { IfOk result (λ span. IsAppended bytes.old.items buffer.now bytes.new.items span) }
+{
+    let start = bytes.len();
+    bytes.extend_from_slice(buffer)?;
+    Ok(Span {
+        start,
+        len: buffer.len(),
+    })
+}
+
+// Whether all bits are set.
+fn are_set(bits: &[bool]) -> bool
+    ensures { result ≡ list_all (λ bit. bit) bits.now }
+{
+    for bit in bits {
+        if !*bit {
+            return false;
+        }
+    }
+    true
+}
+
+// The validity bitmap of slots: no byte where each is valid.
+fn validity(alloc: Global, valid: &[bool]) -> Result<Vec<u8>, AllocError>
+    ensures { IfOk result (λ bytes. bytes.items ≡ validity_of_bits valid.now) }
+{
+    if are_set(valid) {
+        return Ok(Vec::new(alloc));
+    }
+    bitmap::pack(alloc, valid)
+}
+
+// Appends the buffers of values, and says where they stand.
+fn place_values(
+    alloc: Global,
+    bytes: &mut Vec<u8>,
+    values: &Values,
+) -> Result<PlacedLayout, AllocError>
+    ensures { IfOk result (λ layout. IsLaid values.now bytes.old.items bytes.new.items layout) }
+{
+    match values {
+        Values::Booleans(bits) => {
+            let packed = bitmap::pack(alloc, bits)?;
+            Ok(PlacedLayout::Bits(append(bytes, &packed)?))
+        }
+        Values::Integers(_, values) => Ok(PlacedLayout::Fixed(append(bytes, values)?)),
+        Values::Texts(_, offsets, contents) => {
+            let offsets = append(bytes, offsets)?;
+            let contents = append(bytes, contents)?;
+            Ok(PlacedLayout::Binary(offsets, contents))
+        }
+    }
+}
+
+// Appends the buffers of a column, and says where they stand.
+fn place(
+    alloc: Global,
+    bytes: &mut Vec<u8>,
+    column: &ColumnBuilder,
+) -> Result<PlacedArray, AllocError>
+    ensures { IfOk result (λ array. IsPlaced column.now bytes.old.items bytes.new.items array) }
+{
+    let bitmap = validity(alloc, &column.valid)?;
+    let validity = append(bytes, &bitmap)?;
+    let layout = place_values(alloc, bytes, &column.values)?;
+    Ok(PlacedArray {
+        slots: column.valid.len(),
+        validity,
+        layout,
+    })
+}
+
+/// The arrays of columns, and the bytes that they stand in.
+pub(crate) fn place_all(
+    alloc: Global,
+    columns: &[ColumnBuilder],
+) -> Result<(Vec<u8>, Vec<PlacedArray>), AllocError>
+    ensures { IfOk result (λ placed. ArePlaced columns.now placed.0.items placed.1.items) }
+{
+    let mut bytes = Vec::new(alloc);
+    let mut arrays = Vec::with_capacity(alloc, columns.len())?;
+    for column in columns {
+        let array = place(alloc, &mut bytes, column)?;
+        arrays.push(array)?;
+    }
+    Ok((bytes, arrays))
+}

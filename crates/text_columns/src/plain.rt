@@ -1,0 +1,206 @@
+// Records without quotes, read where they stand in the text: no byte of a field is copied before it goes into its column (RFC 4180, section 2).
+ghost use Rattle.std.specs.Prelude.{◌≡◌, ◌<◌, ◌≤◌, [], ◌∷◌, ℕ, List, length, drop, IfOk, IfSome};
+ghost use Rattle.csv.specs.Reading.{is_bom, strip_bom};
+ghost use Rattle.csv.specs.declared.parser.State.TheVariants as st;
+ghost use Rattle.arrow_schema.specs.Column.{PlainSchema};
+ghost use Rattle.text_import.specs.Records.{record_row, records_of};
+ghost use Rattle.text_import.specs.Rows.{rows_from};
+ghost use Rattle.text_import.specs.Stands.{Left};
+ghost use Rattle.text_columns.specs.inner.Kept.{HasRows, KeepAll};
+ghost use Rattle.text_columns.specs.inner.Plain.{IsFieldAt, PushesPlain, SkipsEnds, SkipsRecord, begins_quoted, begins_with, ends_field, ends_line};
+
+use crate::builder::ColumnBuilder;
+use crate::records::RowsRead;
+use cells::{MAX_ROW_WEIGHT, MAX_TABLE_WEIGHT};
+use std::alloc::AllocError;
+
+/// Where a record ends, with its line end, and what its row weighs.
+#[derive(Clone, Copy)]
+pub(crate) struct PlainRow {
+    pub(crate) next: usize,
+    pub(crate) weight: u64,
+}
+
+fn ends_line(byte: u8) -> bool
+    ensures { result ≡ ends_line byte }
+{
+    byte == b'\r' || byte == b'\n'
+}
+
+fn ends_field(byte: u8) -> bool
+    ensures { result ≡ ends_field byte }
+{
+    byte == b',' || ends_line(byte)
+}
+
+fn is_mark(a: u8, b: u8, c: u8) -> bool
+    ensures { result ≡ is_bom a b c }
+{
+    a == 0xef && b == 0xbb && c == 0xbf
+}
+
+// Where the byte order mark ends, where the text begins with one.
+fn behind_mark(text: &[u8]) -> usize
+    ensures within { result ≤ length text.now }
+    ensures rest { drop result text.now ≡ strip_bom text.now }
+{
+    if text.len() < 3 {
+        return 0;
+    }
+    if is_mark(text[0], text[1], text[2]) {
+        return 3;
+    }
+    0
+}
+
+// The first place from one on where no line ends.
+fn skip_ends(text: &[u8], from: usize) -> usize
+    requires { from ≤ length text.now }
+    ensures { SkipsEnds text.now from result }
+{
+    for i in from..text.len() {
+        if !ends_line(text[i]) {
+            return i;
+        }
+    }
+    text.len()
+}
+
+// Where the next record begins, where this one has no quote and a line end.
+fn skip_record(text: &[u8], from: usize) -> Option<usize>
+    requires { from ≤ length text.now }
+    ensures { IfSome result (λ next. SkipsRecord text.now from next) }
+{
+    for i in from..text.len() {
+        if ends_line(text[i]) {
+            return Some(i + 1);
+        }
+        if text[i] == b'"' {
+            return None;
+        }
+    }
+    None
+}
+
+// Where the field that begins at a place ends.
+fn field_end(text: &[u8], from: usize) -> usize
+    requires { from ≤ length text.now }
+    ensures { IsFieldAt text.now from result }
+{
+    for i in from..text.len() {
+        if ends_field(text[i]) {
+            return i;
+        }
+    }
+    text.len()
+}
+
+// Whether a quote stands at a place.
+fn is_quoted(text: &[u8], at: usize) -> bool
+    requires { at ≤ length text.now }
+    ensures { result ≡ begins_quoted (drop at text.now) }
+{
+    at < text.len() && text[at] == b'"'
+}
+
+// Whether another field stands behind one that ends there.
+fn goes_on(text: &[u8], end: usize) -> bool
+    requires { end ≤ length text.now }
+    ensures { result ≡ begins_with 44 (drop end text.now) }
+{
+    end < text.len() && text[end] == b','
+}
+
+// Where the next record begins behind the last field of one.
+fn behind_line(text: &[u8], end: usize) -> usize
+    requires { end ≤ length text.now }
+    ensures within { result ≤ length text.now }
+    ensures rest { drop result text.now ≡ drop 1 (drop end text.now) }
+{
+    if end < text.len() { end + 1 } else { end }
+}
+
+// Appends the cells of a record, as many as columns, and answers where it ends and what its row weighs; none where it has a quote at the start of a field, or goes not in.
+fn push_plain(
+    builders: &mut [ColumnBuilder],
+    null_text: &[u8],
+    text: &[u8],
+    from: usize,
+) -> Result<Option<PlainRow>, AllocError>
+    requires { from ≤ length text.now }
+    ensures few { IfOk result (λ taken. IfSome taken (λ row. row.weight ≤ MAX_ROW_WEIGHT)) }
+    ensures pushed { IfOk result (λ taken. IfSome taken (λ row. PushesPlain text.now null_text.now from row builders.old builders.new)) }
+{
+    let mut at = from;
+    let mut weight = 1;
+    for i in 0..builders.len() {
+        if is_quoted(text, at) {
+            return Ok(None);
+        }
+        let end = field_end(text, at);
+        let builder = &mut builders[i];
+        let Some(heavy) = builder.push_field(null_text, &text[at..end])? else {
+            return Ok(None);
+        };
+        if heavy > MAX_ROW_WEIGHT - weight {
+            return Ok(None);
+        }
+        weight += heavy;
+        if !goes_on(text, end) {
+            if i + 1 < builders.len() {
+                return Ok(None);
+            }
+            let next = behind_line(text, end);
+            return Ok(Some(PlainRow { next, weight }));
+        }
+        at = end + 1;
+    }
+    Ok(None)
+}
+
+// Appends the rows of the records from a place on; none where one of them goes not in, or they are too heavy for a table.
+fn push_plain_rows(
+    builders: &mut [ColumnBuilder],
+    null_text: &[u8],
+    text: &[u8],
+    from: usize,
+) -> Result<Option<RowsRead>, AllocError>
+    requires { from ≤ length text.now }
+    ensures { IfOk result (λ read. IfSome read (λ r. (s : PlainSchema) (records : List (List (List ℕ))) → Left records st.StartRecord (drop from text.now) → KeepAll s.columns [] builders.old
+        → HasRows s (rows_from (record_row s null_text.now) 1 records) r builders.new)) }
+{
+    let mut at = from;
+    let mut weight = 0;
+    for rows in 0..usize::MAX {
+        let start = skip_ends(text, at);
+        if start == text.len() {
+            return Ok(Some(RowsRead { rows, weight }));
+        }
+        let Some(row) = push_plain(builders, null_text, text, start)? else {
+            return Ok(None);
+        };
+        if row.weight > MAX_TABLE_WEIGHT - weight {
+            return Ok(None);
+        }
+        weight += row.weight;
+        at = row.next;
+    }
+    Ok(None)
+}
+
+/// Appends the rows of a text whose header was tested; none where a record has a quote at the start of a field, or goes not in, or where the rows are too heavy for a table.
+pub(crate) fn push_plain_text(
+    builders: &mut [ColumnBuilder],
+    null_text: &[u8],
+    text: &[u8],
+) -> Result<Option<RowsRead>, AllocError>
+    ensures { IfOk result (λ read. IfSome read (λ r. (s : PlainSchema) (header : List (List ℕ)) (records : List (List (List ℕ))) → records_of text.now ≡ header ∷ records → KeepAll s.columns [] builders.old
+        → HasRows s (rows_from (record_row s null_text.now) 1 records) r builders.new)) }
+{
+    let header = skip_ends(text, behind_mark(text));
+    let Some(from) = skip_record(text, header) else {
+        return Ok(None);
+    };
+    let read = push_plain_rows(builders, null_text, text, from)?;
+    Ok(read)
+}

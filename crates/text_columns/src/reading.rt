@@ -1,0 +1,75 @@
+// A CSV text into columns: where its records stand, or else by the reader of the kit.
+ghost use Rattle.arrow_schema.specs.View.{schema_of};
+ghost use Rattle.text_import.specs.Records.{csv_rows_of};
+ghost use Rattle.text_columns.specs.inner.Columns.{ReadsColumns};
+
+use crate::builder::ColumnBuilder;
+use crate::plain::push_plain_text;
+use crate::records::{RowsRead, push_rows};
+use crate::starting::no_rows;
+use arrow_schema::Schema;
+use std::alloc::Global;
+use text_import::{TextError, csv_records};
+
+/// The columns of a text, and how many rows were read into them.
+#[derive(Drop)]
+pub(crate) struct Columns {
+    pub(crate) builders: Vec<ColumnBuilder>,
+    pub(crate) read: RowsRead,
+}
+
+// The columns of a text all of whose records go in where they stand, once its header was tested.
+fn read_plain(
+    alloc: Global,
+    schema: &Schema,
+    text: &[u8],
+    null_text: &[u8],
+) -> Result<Option<Columns>, TextError>
+    ensures { ReadsColumns (schema_of schema.now) (csv_rows_of (schema_of schema.now) null_text.now text.now) result }
+{
+    let Some(mut builders) = no_rows(alloc, &schema.fields)? else {
+        return Ok(None);
+    };
+    let _reader = csv_records(alloc, schema, text)?;
+    match push_plain_text(builders.as_mut_slice(), null_text, text)? {
+        Some(read) => Ok(Some(Columns { builders, read })),
+        None => Ok(None),
+    }
+}
+
+// The columns of any text, or why it is refused.
+fn read_records(
+    alloc: Global,
+    schema: &Schema,
+    text: &[u8],
+    null_text: &[u8],
+) -> Result<Option<Columns>, TextError>
+    ensures { ReadsColumns (schema_of schema.now) (csv_rows_of (schema_of schema.now) null_text.now text.now) result }
+{
+    let Some(mut builders) = no_rows(alloc, &schema.fields)? else {
+        return Ok(None);
+    };
+    match push_rows(alloc, schema, text, null_text, builders.as_mut_slice())? {
+        Some(read) => Ok(Some(Columns { builders, read })),
+        None => Ok(None),
+    }
+}
+
+/// The columns of a text; none where a column has a type that is not read into arrays, or a dictionary, or where the rows are too heavy for a table.
+///
+/// # Errors
+///
+/// The refusal of the schema, of the header, or of the first record that is refused.
+pub(crate) fn read_columns(
+    alloc: Global,
+    schema: &Schema,
+    text: &[u8],
+    null_text: &[u8],
+) -> Result<Option<Columns>, TextError>
+    ensures { ReadsColumns (schema_of schema.now) (csv_rows_of (schema_of schema.now) null_text.now text.now) result }
+{
+    match read_plain(alloc, schema, text, null_text)? {
+        Some(columns) => Ok(Some(columns)),
+        None => read_records(alloc, schema, text, null_text),
+    }
+}

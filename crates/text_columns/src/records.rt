@@ -1,0 +1,131 @@
+// Records, field by field into the buffers of their columns.
+ghost use Rattle.std.specs.Prelude.{◌≡◌, ◌≤◌, [], ℕ, List, None, map, length, IfOk, IfSome, MatchResult};
+ghost use Rattle.csv.specs.Records.{fields_of};
+ghost use Rattle.arrow_schema.specs.View.{column_of, schema_of};
+ghost use Rattle.facts.specs.Outcomes.{Reports};
+ghost use Rattle.text_import.specs.Records.{csv_rows_of, record_row};
+ghost use Rattle.text_import.specs.Refusals.{numbered, refused_by};
+ghost use Rattle.text_import.specs.Rows.{rows_from};
+ghost use Rattle.text_import.specs.Stands.{HasLeft};
+ghost use Rattle.text_columns.specs.inner.Kept.{KeepAll, KeepsFields, KeepsRecord, ReadsRows};
+
+use crate::builder::ColumnBuilder;
+use arrow_schema::Schema;
+use cells::{MAX_ROW_WEIGHT, MAX_TABLE_WEIGHT, has_limits};
+use csv::{ByteRecord, Reader};
+use std::alloc::{AllocError, Global};
+use text_import::{TextError, csv_records, field_text, numbered_row, read_next};
+
+/// How many rows were read, and what they weigh.
+#[derive(Clone, Copy)]
+pub(crate) struct RowsRead {
+    pub(crate) rows: usize,
+    pub(crate) weight: u64,
+}
+
+// Appends the cells of as many fields as columns, and answers what their row weighs; none where a field is none of its column's cells or the row is too heavy.
+fn push_fields(
+    builders: &mut [ColumnBuilder],
+    null_text: &[u8],
+    row: &ByteRecord,
+) -> Result<Option<u64>, AllocError>
+    requires { length (fields_of row.now) ≡ length builders.old }
+    ensures few { IfOk result (λ taken. IfSome taken (λ heavy. heavy ≤ MAX_ROW_WEIGHT)) }
+    ensures kept { IfOk result (λ taken. IfSome taken (λ heavy. KeepsFields null_text.now (fields_of row.now) heavy builders.old builders.new)) }
+{
+    let mut weight = 1;
+    for i in 0..builders.len() {
+        let builder = &mut builders[i];
+        let Some(heavy) = builder.push_field(null_text, field_text(row, i))? else {
+            return Ok(None);
+        };
+        if heavy > MAX_ROW_WEIGHT - weight {
+            return Ok(None);
+        }
+        weight += heavy;
+    }
+    Ok(Some(weight))
+}
+
+// The same of a record with any number of fields: none where it is another than of columns.
+fn push_record(
+    builders: &mut [ColumnBuilder],
+    null_text: &[u8],
+    row: &ByteRecord,
+) -> Result<Option<u64>, AllocError>
+    ensures few { IfOk result (λ taken. IfSome taken (λ heavy. heavy ≤ MAX_ROW_WEIGHT)) }
+    ensures kept { IfOk result (λ taken. IfSome taken (λ heavy. KeepsRecord null_text.now (fields_of row.now) heavy builders.old builders.new)) }
+{
+    if row.len() != builders.len() {
+        return Ok(None);
+    }
+    push_fields(builders, null_text, row)
+}
+
+// Why a record is refused; none where it is not.
+fn refuse(
+    alloc: Global,
+    schema: &Schema,
+    null_text: &[u8],
+    row: &ByteRecord,
+    number: u64,
+) -> Result<Option<RowsRead>, TextError>
+    ensures { MatchResult result (λ read. read ≡ None)
+        (λ e. Reports (refused_by e) (numbered number (record_row (schema_of schema.now) null_text.now (fields_of row.now)))) }
+{
+    let _row = numbered_row(alloc, schema, has_limits(schema), null_text, row, number)?;
+    Ok(None)
+}
+
+// Appends the rows of the records that a reader has left, of which there are at most so many; none where they are too heavy for a table.
+fn push_records(
+    alloc: Global,
+    schema: &Schema,
+    null_text: &[u8],
+    mut reader: Reader<&[u8]>,
+    builders: &mut [ColumnBuilder],
+    most: usize,
+) -> Result<Option<RowsRead>, TextError>
+    ensures { (records : List (List (List ℕ))) → HasLeft reader.entry records → length records ≤ most → KeepAll (schema_of schema.now).columns [] builders.old
+        → ReadsRows (schema_of schema.now) (rows_from (record_row (schema_of schema.now) null_text.now) 1 records) result builders.new }
+{
+    let mut row = ByteRecord::new(alloc);
+    let mut weight = 0;
+    for index in 0..most {
+        if !read_next(&mut reader, &mut row)? {
+            return Ok(Some(RowsRead {
+                rows: index,
+                weight,
+            }));
+        }
+        let Some(heavy) = push_record(builders, null_text, &row)? else {
+            return refuse(alloc, schema, null_text, &row, index as u64 + 1);
+        };
+        if heavy > MAX_TABLE_WEIGHT - weight {
+            return Ok(None);
+        }
+        weight += heavy;
+    }
+    Ok(Some(RowsRead { rows: most, weight }))
+}
+
+/// Appends the rows of a text; none where they are too heavy for a table.
+///
+/// # Errors
+///
+/// The refusal of the schema, of the header, or of the first record that is refused.
+pub(crate) fn push_rows(
+    alloc: Global,
+    schema: &Schema,
+    text: &[u8],
+    null_text: &[u8],
+    builders: &mut [ColumnBuilder],
+) -> Result<Option<RowsRead>, TextError>
+    ensures { KeepAll (schema_of schema.now).columns [] builders.old
+        → ReadsRows (schema_of schema.now) (csv_rows_of (schema_of schema.now) null_text.now text.now) result builders.new }
+{
+    match csv_records(alloc, schema, text) {
+        Ok(reader) => push_records(alloc, schema, null_text, reader, builders, text.len()),
+        Err(error) => Err(error),
+    }
+}

@@ -1,0 +1,96 @@
+// The buffers of the columns of a schema, before there is a row.
+ghost use Rattle.std.specs.Prelude.{◌≡◌, ◌++◌, true, [], ◌∷◌, map, IfOk, IfSome};
+ghost use Rattle.byteorder.specs.Endian.{little_bytes};
+ghost use Rattle.arrow_schema.specs.View.{bits_of, column_of, date_kind, kind_of};
+ghost use Rattle.cells.specs.Fit.{date_bits};
+ghost use Rattle.text_columns.specs.inner.Kept.{KeepAll, Keeps, StartsTexts, Takes};
+
+use crate::builder::ColumnBuilder;
+use crate::column_values::Values;
+use crate::texts::push_offset;
+use arrow_schema::{BitWidth, DataType, DateUnit, Field, IntegerType};
+use columns::OffsetWidth;
+use std::alloc::{AllocError, Global};
+
+// The integers that dates are.
+fn date_integer(unit: DateUnit) -> IntegerType
+    ensures bits { bits_of result.width ≡ date_bits (date_kind unit) }
+    ensures signed { result.signed ≡ true }
+{
+    let width = match unit {
+        DateUnit::Day => BitWidth::ThirtyTwo,
+        DateUnit::Millisecond => BitWidth::SixtyFour,
+    };
+    IntegerType {
+        width,
+        signed: true,
+    }
+}
+
+fn timestamp_integer() -> IntegerType
+    ensures bits { bits_of result.width ≡ 64 }
+    ensures signed { result.signed ≡ true }
+{
+    IntegerType {
+        width: BitWidth::SixtyFour,
+        signed: true,
+    }
+}
+
+// Before the first text stands the offset 0.
+fn no_texts(alloc: Global, width: OffsetWidth) -> Result<Values, AllocError>
+    ensures { IfOk result (λ values. StartsTexts width values) }
+{
+    let mut offsets = Vec::new(alloc);
+    push_offset(&mut offsets, width, 0)?;
+    Ok(Values::Texts(width, offsets, Vec::new(alloc)))
+}
+
+// The values of a type of which no cell is written, where it is read into arrays.
+fn no_values(alloc: Global, data_type: &DataType) -> Result<Option<Values>, AllocError>
+    ensures { IfOk result (λ started. IfSome started (Takes (kind_of data_type.now) [])) }
+{
+    let values = match data_type {
+        DataType::Bool => Values::Booleans(Vec::new(alloc)),
+        DataType::Int(integer) => Values::Integers(*integer, Vec::new(alloc)),
+        DataType::Date(unit) => Values::Integers(date_integer(*unit), Vec::new(alloc)),
+        DataType::Timestamp(_, _) => Values::Integers(timestamp_integer(), Vec::new(alloc)),
+        DataType::Utf8 => no_texts(alloc, OffsetWidth::Four)?,
+        DataType::LargeUtf8 => no_texts(alloc, OffsetWidth::Eight)?,
+        _ => return Ok(None),
+    };
+    Ok(Some(values))
+}
+
+fn no_cells(alloc: Global, field: &Field) -> Result<Option<ColumnBuilder>, AllocError>
+    ensures { IfOk result (λ started. IfSome started (Keeps (column_of field.now) [])) }
+{
+    if field.dictionary.is_some() {
+        return Ok(None);
+    }
+    let Some(values) = no_values(alloc, &field.data_type)? else {
+        return Ok(None);
+    };
+    Ok(Some(ColumnBuilder {
+        nullable: field.nullable,
+        valid: Vec::new(alloc),
+        values,
+    }))
+}
+
+/// The buffers of columns that have no cell yet, where each column has a type that is read into arrays, and no dictionary.
+pub(crate) fn no_rows(
+    alloc: Global,
+    fields: &[Field],
+) -> Result<Option<Vec<ColumnBuilder>>, AllocError>
+    ensures { IfOk result (λ started. IfSome started (λ builders. KeepAll (map column_of fields.now) [] builders.items)) }
+{
+    let mut builders = Vec::with_capacity(alloc, fields.len())?;
+    for field in fields {
+        let Some(builder) = no_cells(alloc, field)? else {
+            return Ok(None);
+        };
+        builders.push(builder)?;
+    }
+    Ok(Some(builders))
+}
