@@ -17,7 +17,7 @@ use crate::run_slots::are_all_valid;
 use crate::widths::{contents_width, value_width};
 use array_runs::SlotRun;
 use arrow_schema::DataType;
-use bitmap::get;
+use bitmap::alike_end;
 use columns::{ArrayView, OffsetWidth};
 
 fn are_zeros(bytes: &[u8]) -> bool
@@ -55,16 +55,19 @@ fn have_zeros(array: ArrayView<'_>, width: usize, from: usize, len: usize) -> bo
     have_zeros_at_unset(validity, array.values(), width, from, from + len)
 }
 
-// The same by the bits of a validity bitmap.
+// The same by the bits of a validity bitmap, from one that is not set to the next.
 fn have_zeros_at_unset(validity: &[u8], values: &[u8], width: usize, from: usize, to: usize) -> bool
+    requires order { from ≤ to }
     requires bits { to ≤ 8 * length validity.now }
     requires values { to * width ≤ length values.now }
     ensures { result ≡ true → (i : ℕ) → from ≤ i → i < to → (bit validity.now i || are_zeros (value_at width values.now i)) ≡ true }
 {
-    for i in from..to {
-        if !get(validity, i) && !are_zeros(value_at(values, width, i)) {
+    let mut i = alike_end(validity, true, from, to);
+    while i < to {
+        if !are_zeros(value_at(values, width, i)) {
             return false;
         }
+        i = alike_end(validity, true, i + 1, to);
     }
     true
 }
@@ -96,15 +99,18 @@ fn have_no_bytes_at_unset(
     from: usize,
     to: usize,
 ) -> bool
+    requires order { from ≤ to }
     requires bits { to ≤ 8 * length validity.now }
     requires offsets { (to + 1) * width_of width ≤ length offsets.now }
     ensures { result ≡ true → (i : ℕ) → from ≤ i → i < to
         → (bit validity.now i || (number_at (width_of width) offsets.now (i + 1) - number_at (width_of width) offsets.now i) == 0) ≡ true }
 {
-    for i in from..to {
-        if !get(validity, i) && offset_at(offsets, width, i) < offset_at(offsets, width, i + 1) {
+    let mut i = alike_end(validity, true, from, to);
+    while i < to {
+        if offset_at(offsets, width, i) < offset_at(offsets, width, i + 1) {
             return false;
         }
+        i = alike_end(validity, true, i + 1, to);
     }
     true
 }
