@@ -18,6 +18,7 @@ use crate::widths::{contents_width, value_width};
 use array_runs::SlotRun;
 use arrow_schema::DataType;
 use bitmap::alike_end;
+use byteorder::{ByteOrder, LittleEndian};
 use columns::{ArrayView, OffsetWidth};
 
 fn are_zeros(bytes: &[u8]) -> bool
@@ -37,6 +38,20 @@ fn value_at(values: &[u8], width: usize, i: usize) -> &[u8]
     ensures { result.now ≡ value_at width values.now i }
 {
     &values[i * width..(i + 1) * width]
+}
+
+// Whether the value of a slot is zeros. One that is as wide as a number is read as one.
+fn is_zero_at(values: &[u8], width: usize, i: usize) -> bool
+    requires within { (i + 1) * width ≤ length values.now }
+    requires counted { i + 1 < 2 ^ 64 }
+    ensures { result ≡ true → are_zeros (value_at width values.now i) ≡ true }
+{
+    let value = value_at(values, width, i);
+    match width {
+        4 => LittleEndian::read_u32(value) == 0,
+        8 => LittleEndian::read_u64(value) == 0,
+        _ => are_zeros(value),
+    }
 }
 
 // Each slot that is not valid has zeros for a value.
@@ -64,7 +79,7 @@ fn have_zeros_at_unset(validity: &[u8], values: &[u8], width: usize, from: usize
 {
     let mut i = alike_end(validity, true, from, to);
     while i < to {
-        if !are_zeros(value_at(values, width, i)) {
+        if !is_zero_at(values, width, i) {
             return false;
         }
         i = alike_end(validity, true, i + 1, to);
