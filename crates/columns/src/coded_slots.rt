@@ -57,16 +57,17 @@ impl<'a> CodedSlots<'a> {
         named_at(self.spec.index, self.indices, self.view.slots(), i)
     }
 
-    /// The same, of indices that have so many bytes: a loop for each width, which names it here, does not ask for it at each slot.
+    /// The same, of indices that have so many bytes, with a sign or without: a loop for each kind, which names it here, does not ask for it at each slot.
     #[inline]
-    pub fn sized_number<const SIZE: usize>(self, i: usize) -> Option<u64>
+    pub fn sized_number<const SIZE: usize, const SIGNED: bool>(self, i: usize) -> Option<u64>
         requires size { SIZE ≡ (index_of self.spec).bits / 8 }
+        requires signed { SIGNED ≡ (index_of self.spec).signed }
         requires within { i < slots_in (view_array self.view) }
         ensures { result ≡ named_number (index_at (index_of self.entry.spec) (view_array self.entry.view) i) }
     {
         let integer = IntegerType {
             width: width_of_bytes(SIZE),
-            signed: self.spec.index.signed,
+            signed: SIGNED,
         };
         named_at(integer, self.indices, self.view.slots(), i)
     }
