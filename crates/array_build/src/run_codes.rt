@@ -171,7 +171,8 @@ fn put_slot_code<'a, const SIZE: usize, const SIGNED: bool>(
         put_at::<SIZE>(indices, valid, place, None);
         return Ok(());
     }
-    if let Some(code) = known_code(known, slots.sized_number::<SIZE, SIGNED>(i)) {
+    let number = slots.number_below::<SIZE, SIGNED>(i, known.len() as u64);
+    if let Some(code) = known_code(known, number) {
         put_at::<SIZE>(indices, valid, place, Some(code));
         return Ok(());
     }

@@ -371,9 +371,9 @@ fn known_weight<const SIZE: usize, const SIGNED: bool>(
     if !slots.is_valid(i) {
         return Some(of_null);
     }
-    match slots.sized_number::<SIZE, SIGNED>(i) {
-        Some(number) if number < known.len() as u64 => Some(known[number as usize]),
-        _ => None,
+    match slots.number_below::<SIZE, SIGNED>(i, known.len() as u64) {
+        Some(number) => Some(known[number as usize]),
+        None => None,
     }
 }
 
