@@ -1,5 +1,5 @@
 -- The places of cells among the entries of a dictionary, as entries are added one by one.
-use Rattle.std.specs.Prelude.{Option, Some, None, position, ℤ, pos, negsuc, not, set, is_some, replicate, ◌/◌, ◌||◌, if◌then◌else◌, get_or}
+use Rattle.std.specs.Prelude.{Option, Some, None, IfSome, position, ℤ, pos, negsuc, not, set, is_some, replicate, ◌/◌, ◌||◌, if◌then◌else◌, get_or}
 use Rattle.std.specs.List.{flat_map, list_all, list_any, position_from, position_or_len}
 use Rattle.std.proofs.Common.{◌≡◌, ℕ, zero, suc, ◌+◌, ◌++◌, Bool, true, false, List, [], ◌∷◌, map, length, length-append, append_assoc, append-nil, inl, inr, refl, ap, ap₂, sym, ◌∙◌, subst, arith}
 use Rattle.std.proofs.lemmas.Bool.{and_parts, cases_lt}
@@ -265,6 +265,11 @@ known_more es c d k h =
 pub is_known : (es own : List Cell) (known : List (Option ℕ)) (z : ℤ) (k : ℕ) → AreKnown es own known → Some k ≡ known_at known (named_number z) → IsKnown es (entry_at own z) k
 is_known es own known (pos n) k h is = h n k is
 is_known es own known (negsuc n) k h is = cc
+
+-- a number that was told only if it is small is the one that an index names
+pub known_named : (known : List (Option ℕ)) (named number : Option ℕ) (k : ℕ) → IfSome number (λ n. named ≡ Some n) → Some k ≡ known_at known number → Some k ≡ known_at known named
+known_named known named None k h is = cc
+known_named known named (Some n) k h is = rw h is
 
 set_known : (es own : List Cell) (known : List (Option ℕ)) (n : ℕ) (code : Option ℕ) → AreKnown es own known
     → code ≡ code_in (with_entry es (get_or own n null)) (get_or own n null) → AreKnown (with_entry es (get_or own n null)) own (set known n code)

@@ -19,58 +19,6 @@ use Rattle.columns.specs.Tests.{has_bad_offsets, has_short_buffer, has_short_val
 use Rattle.columns.specs.View.{view_array}
 use Rattle.columns.specs.declared.view.ArrayView.{ArrayView}
 
-two_ranges : (f : ℕ → Bool) (from m n : ℕ) → map f (range_with_len from (m + n)) ≡ map f (range_with_len from m) ++ map f (range_with_len (from + m) n)
-two_ranges f from zero n = let e : from + 0 ≡ from = omega arith in let z : 0 + n ≡ n = omega arith in rw (e, z) refl
-two_ranges f from (suc m) n =
-    let e : suc m + n ≡ suc (m + n) = omega arith in
-    let g : from + suc m ≡ from + 1 + m = omega arith in
-    rw (e, g) (ap (λ (more : List Bool). f from ∷ more) (two_ranges f (from + 1) m n))
-
--- bits that are there already, the first of those that are left, more of them and the last
-pub three_ranges : (f : ℕ → Bool) (bits : List Bool) (from first end to : ℕ) → from ≤ first → first ≤ end → end ≤ to
-    → ((bits ++ map f (range_with_len from (first - from))) ++ map f (range_with_len first (end - first))) ++ map f (range_with_len end (to - end)) ≡ bits ++ map f (range_with_len from (to - from))
-three_ranges f bits from first end to a b c =
-    let own : to - from ≡ (first - from) + ((end - first) + (to - end)) = omega arith in
-    let next : from + (first - from) ≡ first = omega arith in
-    let last : first + (end - first) ≡ end = omega arith in
-    append_assoc (bits ++ map f (range_with_len from (first - from))) (map f (range_with_len first (end - first))) (map f (range_with_len end (to - end)))
-    ∙ append_assoc bits (map f (range_with_len from (first - from))) (map f (range_with_len first (end - first)) ++ map f (range_with_len end (to - end)))
-    ∙ ap (λ (more : List Bool). bits ++ (map f (range_with_len from (first - from)) ++ more))
-    (ap (λ (i : ℕ). map f (range_with_len first (end - first)) ++ map f (range_with_len i (to - end))) (sym last) ∙ sym (two_ranges f first (end - first) (to - end)))
-    ∙ ap (λ (more : List Bool). bits ++ more)
-    (ap (λ (i : ℕ). map f (range_with_len from (first - from)) ++ map f (range_with_len i ((end - first) + (to - end)))) (sym next)
-    ∙ sym (two_ranges f from (first - from) ((end - first) + (to - end))))
-    ∙ ap (λ (n : ℕ). bits ++ map f (range_with_len from n)) (sym own)
-
--- one more bit of those that are left
-pub next_bit : (f : ℕ → Bool) (bits : List Bool) (i to : ℕ) → i < to → (bits ++ f i ∷ []) ++ map f (range_with_len (i + 1) (to - (i + 1))) ≡ bits ++ map f (range_with_len i (to - i))
-next_bit f bits i to lt =
-    let left : to - i ≡ suc (to - (i + 1)) = omega arith in
-    append_assoc bits (f i ∷ []) (map f (range_with_len (i + 1) (to - (i + 1)))) ∙ ap (λ (n : ℕ). bits ++ map f (range_with_len i n)) (sym left)
-
--- eight bits that were read one by one
-pub eight_bits : (f : ℕ → Bool) (i : ℕ) (a b c d e g h k : Bool) → a ≡ f i → b ≡ f (i + 1) → c ≡ f (i + 2) → d ≡ f (i + 3) → e ≡ f (i + 4) → g ≡ f (i + 5) → h ≡ f (i + 6) → k ≡ f (i + 7)
-    → a ∷ b ∷ c ∷ d ∷ e ∷ g ∷ h ∷ k ∷ [] ≡ map f (range_with_len i 8)
-eight_bits f i a b c d e g h k ha hb hc hd he hg hh hk =
-    let two : i + 1 + 1 ≡ i + 2 = omega arith in
-    let three : i + 1 + 1 + 1 ≡ i + 3 = omega arith in
-    let four : i + 1 + 1 + 1 + 1 ≡ i + 4 = omega arith in
-    let five : i + 1 + 1 + 1 + 1 + 1 ≡ i + 5 = omega arith in
-    let six : i + 1 + 1 + 1 + 1 + 1 + 1 ≡ i + 6 = omega arith in
-    let seven : i + 1 + 1 + 1 + 1 + 1 + 1 + 1 ≡ i + 7 = omega arith in
-    λ j. ha j ∷ hb j ∷ (hc ∙ ap f (sym two)) j ∷ (hd ∙ ap f (sym three)) j ∷ (he ∙ ap f (sym four)) j ∷ (hg ∙ ap f (sym five)) j ∷ (hh ∙ ap f (sym six)) j ∷ (hk ∙ ap f (sym seven)) j ∷ []
-
--- and of eight more
-pub next_bits : (f : ℕ → Bool) (bits : List Bool) (k to : ℕ) → k < to
-    → (bits ++ map f (range_with_len (8 * k) 8)) ++ map f (range_with_len (8 * (k + 1)) (8 * (to - (k + 1)))) ≡ bits ++ map f (range_with_len (8 * k) (8 * (to - k)))
-next_bits f bits k to lt =
-    let left : 8 * (to - k) ≡ 8 + 8 * (to - (k + 1)) = omega arith in
-    let next : 8 * (k + 1) ≡ 8 * k + 8 = omega arith in
-    append_assoc bits (map f (range_with_len (8 * k) 8)) (map f (range_with_len (8 * (k + 1)) (8 * (to - (k + 1)))))
-    ∙ ap (λ (i : ℕ). bits ++ (map f (range_with_len (8 * k) 8) ++ map f (range_with_len i (8 * (to - (k + 1)))))) next
-    ∙ ap (λ (more : List Bool). bits ++ more) (sym (two_ranges f (8 * k) 8 (8 * (to - (k + 1)))))
-    ∙ ap (λ (n : ℕ). bits ++ map f (range_with_len (8 * k) n)) (sym left)
-
 slot_set : (a : Array) (i : ℕ) → is_valid a i ≡ true → is_set (cell_at (plain_column booleans None) a i) ≡ bit (bits_in a) i
 unfolding cell_at kind_cell
 slot_set a i valid = rw valid refl

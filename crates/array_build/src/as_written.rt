@@ -17,7 +17,8 @@ use crate::run_slots::are_all_valid;
 use crate::widths::{contents_width, value_width};
 use array_runs::SlotRun;
 use arrow_schema::DataType;
-use bitmap::get;
+use bitmap::alike_end;
+use byteorder::{ByteOrder, LittleEndian};
 use columns::{ArrayView, OffsetWidth};
 
 fn are_zeros(bytes: &[u8]) -> bool
@@ -39,6 +40,20 @@ fn value_at(values: &[u8], width: usize, i: usize) -> &[u8]
     &values[i * width..(i + 1) * width]
 }
 
+// Whether the value of a slot is zeros. One that is as wide as a number is read as one.
+fn is_zero_at(values: &[u8], width: usize, i: usize) -> bool
+    requires within { (i + 1) * width ≤ length values.now }
+    requires counted { i + 1 < 2 ^ 64 }
+    ensures { result ≡ true → are_zeros (value_at width values.now i) ≡ true }
+{
+    let value = value_at(values, width, i);
+    match width {
+        4 => LittleEndian::read_u32(value) == 0,
+        8 => LittleEndian::read_u64(value) == 0,
+        _ => are_zeros(value),
+    }
+}
+
 // Each slot that is not valid has zeros for a value.
 fn have_zeros(array: ArrayView<'_>, width: usize, from: usize, len: usize) -> bool
     requires short { has_short_validity (view_array array) ≡ false }
@@ -55,16 +70,19 @@ fn have_zeros(array: ArrayView<'_>, width: usize, from: usize, len: usize) -> bo
     have_zeros_at_unset(validity, array.values(), width, from, from + len)
 }
 
-// The same by the bits of a validity bitmap.
+// The same by the bits of a validity bitmap, from one that is not set to the next.
 fn have_zeros_at_unset(validity: &[u8], values: &[u8], width: usize, from: usize, to: usize) -> bool
+    requires order { from ≤ to }
     requires bits { to ≤ 8 * length validity.now }
     requires values { to * width ≤ length values.now }
     ensures { result ≡ true → (i : ℕ) → from ≤ i → i < to → (bit validity.now i || are_zeros (value_at width values.now i)) ≡ true }
 {
-    for i in from..to {
-        if !get(validity, i) && !are_zeros(value_at(values, width, i)) {
+    let mut i = alike_end(validity, true, from, to);
+    while i < to {
+        if !is_zero_at(values, width, i) {
             return false;
         }
+        i = alike_end(validity, true, i + 1, to);
     }
     true
 }
@@ -96,15 +114,18 @@ fn have_no_bytes_at_unset(
     from: usize,
     to: usize,
 ) -> bool
+    requires order { from ≤ to }
     requires bits { to ≤ 8 * length validity.now }
     requires offsets { (to + 1) * width_of width ≤ length offsets.now }
     ensures { result ≡ true → (i : ℕ) → from ≤ i → i < to
         → (bit validity.now i || (number_at (width_of width) offsets.now (i + 1) - number_at (width_of width) offsets.now i) == 0) ≡ true }
 {
-    for i in from..to {
-        if !get(validity, i) && offset_at(offsets, width, i) < offset_at(offsets, width, i + 1) {
+    let mut i = alike_end(validity, true, from, to);
+    while i < to {
+        if offset_at(offsets, width, i) < offset_at(offsets, width, i + 1) {
             return false;
         }
+        i = alike_end(validity, true, i + 1, to);
     }
     true
 }

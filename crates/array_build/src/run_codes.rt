@@ -141,7 +141,7 @@ fn put_new_code<'a, const SIZE: usize>(
 
 // Writes what a slot has. Each way writes by itself, so that none asks again whether there is a code.
 #[inline]
-fn put_slot_code<'a, const SIZE: usize>(
+fn put_slot_code<'a, const SIZE: usize, const SIGNED: bool>(
     entries: &mut IndexSet<Entry<'a>>,
     known: &mut [Option<usize>],
     indices: &mut [u8],
@@ -153,6 +153,7 @@ fn put_slot_code<'a, const SIZE: usize>(
 ) -> Result<(), AllocError>
     requires small { SIZE ≤ 8 }
     requires size { SIZE ≡ (index_of slots.spec).bits / 8 }
+    requires signed { SIGNED ≡ (index_of slots.spec).signed }
     requires spec { field.now.dictionary ≡ Some slots.spec }
     requires sound { is_sound (column_of field.now) (view_array slots.view) ≡ true }
     requires within { i < slots_in (view_array slots.view) }
@@ -170,15 +171,16 @@ fn put_slot_code<'a, const SIZE: usize>(
         put_at::<SIZE>(indices, valid, place, None);
         return Ok(());
     }
-    if let Some(code) = known_code(known, slots.sized_number::<SIZE>(i)) {
+    let number = slots.number_below::<SIZE, SIGNED>(i, known.len() as u64);
+    if let Some(code) = known_code(known, number) {
         put_at::<SIZE>(indices, valid, place, Some(code));
         return Ok(());
     }
     put_new_code::<SIZE>(entries, known, indices, valid, field, slots, i, place)
 }
 
-// Writes the indices of so many bytes of some slots of an array, and whether each slot has one, where there is room for just these.
-fn put_sized_codes<'a, const SIZE: usize>(
+// Writes the indices of so many bytes, with a sign or without, of some slots of an array, and whether each slot has one, where there is room for just these.
+fn put_sized_codes<'a, const SIZE: usize, const SIGNED: bool>(
     entries: &mut IndexSet<Entry<'a>>,
     known: &mut [Option<usize>],
     indices: &mut [u8],
@@ -190,6 +192,7 @@ fn put_sized_codes<'a, const SIZE: usize>(
 ) -> Result<(), AllocError>
     requires small { SIZE ≤ 8 }
     requires size { SIZE ≡ (index_of slots.spec).bits / 8 }
+    requires signed { SIGNED ≡ (index_of slots.spec).signed }
     requires spec { field.now.dictionary ≡ Some slots.spec }
     requires sound { is_sound (column_of field.now) (view_array slots.view) ≡ true }
     requires within { to ≤ slots_in (view_array slots.view) }
@@ -203,12 +206,12 @@ fn put_sized_codes<'a, const SIZE: usize>(
     // a number of the code is below 2^64, so that the places of all indices are too
     let _room = indices.len();
     for i in from..to {
-        put_slot_code::<SIZE>(entries, known, indices, valid, field, slots, i, i - from)?;
+        put_slot_code::<SIZE, SIGNED>(entries, known, indices, valid, field, slots, i, i - from)?;
     }
     Ok(())
 }
 
-// The same, by a loop for each width.
+// The same, by a loop for each kind of index.
 fn put_slot_codes<'a>(
     entries: &mut IndexSet<Entry<'a>>,
     known: &mut [Option<usize>],
@@ -229,17 +232,29 @@ fn put_slot_codes<'a>(
     ensures { OnOk result (IsWritten (bits_of slots.entry.spec.index.width / 8) (map entry_cell entries.old.keys) (map entry_cell entries.new.keys) indices.new valid.new
         (cells_from (cell_at (column_of field.now) (view_array slots.entry.view)) from (to - from))) }
 {
-    match slots.spec.index.width {
-        BitWidth::Eight => put_sized_codes::<1>(
+    match (slots.spec.index.width, slots.spec.index.signed) {
+        (BitWidth::Eight, true) => put_sized_codes::<1, true>(
             entries, known, indices, valid, field, slots, from, to,
         ),
-        BitWidth::Sixteen => put_sized_codes::<2>(
+        (BitWidth::Eight, false) => put_sized_codes::<1, false>(
             entries, known, indices, valid, field, slots, from, to,
         ),
-        BitWidth::ThirtyTwo => put_sized_codes::<4>(
+        (BitWidth::Sixteen, true) => put_sized_codes::<2, true>(
             entries, known, indices, valid, field, slots, from, to,
         ),
-        BitWidth::SixtyFour => put_sized_codes::<8>(
+        (BitWidth::Sixteen, false) => put_sized_codes::<2, false>(
+            entries, known, indices, valid, field, slots, from, to,
+        ),
+        (BitWidth::ThirtyTwo, true) => put_sized_codes::<4, true>(
+            entries, known, indices, valid, field, slots, from, to,
+        ),
+        (BitWidth::ThirtyTwo, false) => put_sized_codes::<4, false>(
+            entries, known, indices, valid, field, slots, from, to,
+        ),
+        (BitWidth::SixtyFour, true) => put_sized_codes::<8, true>(
+            entries, known, indices, valid, field, slots, from, to,
+        ),
+        (BitWidth::SixtyFour, false) => put_sized_codes::<8, false>(
             entries, known, indices, valid, field, slots, from, to,
         ),
     }

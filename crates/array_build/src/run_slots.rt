@@ -10,10 +10,9 @@ ghost use Rattle.columns.specs.Tests.{has_short_validity};
 ghost use Rattle.columns.specs.View.{view_array};
 
 use crate::batch::{BuiltBatch, push_buffer, push_node};
-use crate::run_bits::{push_alike, push_bits};
 use crate::valid_bits::unset_bits;
 use array_runs::SlotRun;
-use bitmap::{get, pack, run_end};
+use bitmap::{MaskBuilder, get, pack, run_end};
 use columns::ArrayView;
 use std::alloc::{AllocError, Global};
 
@@ -98,30 +97,30 @@ fn have_no_null(runs: &[SlotRun<'_>]) -> bool
 
 // A bit for each of some slots, set where it is valid.
 fn push_slot_bits(
-    bits: &mut Vec<bool>,
+    bits: &mut MaskBuilder,
     array: ArrayView<'_>,
     from: usize,
     len: usize,
 ) -> Result<(), AllocError>
     requires long { has_short_validity (view_array array) ≡ false }
     requires within { from + len ≤ slots_in (view_array array) }
-    ensures { OnOk result (bits.new.items ≡ bits.old.items ++ map (is_valid (view_array array.entry)) (range_with_len from len)) }
+    ensures { OnOk result (bits.new ≡ bits.old ++ map (is_valid (view_array array.entry)) (range_with_len from len)) }
 {
     let validity = array.validity();
     if validity.is_empty() {
-        return push_alike(bits, len, true);
+        return bits.push_alike(len, true);
     }
     let _slots = array.slots();
-    push_bits(bits, validity, from, from + len)
+    bits.push_bits(validity, from, from + len)
 }
 
-fn push_run_bits(bits: &mut Vec<bool>, run: &SlotRun<'_>) -> Result<(), AllocError>
+fn push_run_bits(bits: &mut MaskBuilder, run: &SlotRun<'_>) -> Result<(), AllocError>
     requires { has_validity run.now ≡ true }
-    ensures { OnOk result (bits.new.items ≡ bits.old.items ++ run_bits run.now) }
+    ensures { OnOk result (bits.new ≡ bits.old ++ run_bits run.now) }
 {
     match run {
         SlotRun::Slots { array, from, len } => push_slot_bits(bits, *array, *from, *len),
-        SlotRun::Nulls(count) => push_alike(bits, *count, false),
+        SlotRun::Nulls(count) => bits.push_alike(*count, false),
     }
 }
 
@@ -135,11 +134,11 @@ fn run_validity(alloc: Global, slots: usize, runs: &[SlotRun<'_>]) -> Result<Vec
     if have_no_null(runs) {
         return Ok(Vec::new(alloc));
     }
-    let mut bits = Vec::with_capacity(alloc, slots)?;
+    let mut bits = MaskBuilder::with_capacity(alloc, slots)?;
     for run in runs {
         push_run_bits(&mut bits, run)?;
     }
-    pack(alloc, &bits)
+    Ok(bits.into_mask())
 }
 
 // Adds the node and the validity bitmap of so many slots.

@@ -357,27 +357,28 @@ fn entries_weight(
 
 // What a slot weighs that is null or names one of the entries whose weights are known.
 #[inline]
-fn known_weight<const SIZE: usize>(
+fn known_weight<const SIZE: usize, const SIGNED: bool>(
     slots: CodedSlots<'_>,
     i: usize,
     known: &[u64],
     of_null: u64,
 ) -> Option<u64>
     requires size { SIZE ≡ (index_of slots.spec).bits / 8 }
+    requires signed { SIGNED ≡ (index_of slots.spec).signed }
     requires within { i < slots_in (view_array slots.view) }
     ensures { IsKnownWeight slots.entry.spec slots.entry.view known.now of_null i result }
 {
     if !slots.is_valid(i) {
         return Some(of_null);
     }
-    match slots.sized_number::<SIZE>(i) {
-        Some(number) if number < known.len() as u64 => Some(known[number as usize]),
-        _ => None,
+    match slots.number_below::<SIZE, SIGNED>(i, known.len() as u64) {
+        Some(number) => Some(known[number as usize]),
+        None => None,
     }
 }
 
-// What the slots of a span weigh, whose indices have so many bytes, if each is null or names one of the entries whose weights are known.
-fn sized_total<const SIZE: usize>(
+// What the slots of a span weigh, whose indices have so many bytes, with a sign or without, if each is null or names one of the entries whose weights are known.
+fn sized_total<const SIZE: usize, const SIGNED: bool>(
     slots: CodedSlots<'_>,
     from: usize,
     count: usize,
@@ -385,6 +386,7 @@ fn sized_total<const SIZE: usize>(
     of_null: u64,
 ) -> Option<u64>
     requires size { SIZE ≡ (index_of slots.spec).bits / 8 }
+    requires signed { SIGNED ≡ (index_of slots.spec).signed }
     requires within { from + count ≤ slots_in (view_array slots.view) }
     ensures { IsKnownTotal slots.entry.spec slots.entry.view known.now of_null from count result }
 {
@@ -392,7 +394,7 @@ fn sized_total<const SIZE: usize>(
     let _slots = slots.view.slots();
     let mut total = 0u64;
     for i in from..from + count {
-        match known_weight::<SIZE>(slots, i, known, of_null) {
+        match known_weight::<SIZE, SIGNED>(slots, i, known, of_null) {
             Some(weight) => total = total.saturating_add(weight),
             None => return None,
         }
@@ -400,7 +402,7 @@ fn sized_total<const SIZE: usize>(
     Some(total.min(TOO_HEAVY))
 }
 
-// The same, by a loop for each width.
+// The same, by a loop for each kind of index.
 fn known_total(
     slots: CodedSlots<'_>,
     from: usize,
@@ -411,11 +413,15 @@ fn known_total(
     requires { from + count ≤ slots_in (view_array slots.view) }
     ensures { IsKnownTotal slots.entry.spec slots.entry.view known.now of_null from count result }
 {
-    match slots.spec.index.width {
-        BitWidth::Eight => sized_total::<1>(slots, from, count, known, of_null),
-        BitWidth::Sixteen => sized_total::<2>(slots, from, count, known, of_null),
-        BitWidth::ThirtyTwo => sized_total::<4>(slots, from, count, known, of_null),
-        BitWidth::SixtyFour => sized_total::<8>(slots, from, count, known, of_null),
+    match (slots.spec.index.width, slots.spec.index.signed) {
+        (BitWidth::Eight, true) => sized_total::<1, true>(slots, from, count, known, of_null),
+        (BitWidth::Eight, false) => sized_total::<1, false>(slots, from, count, known, of_null),
+        (BitWidth::Sixteen, true) => sized_total::<2, true>(slots, from, count, known, of_null),
+        (BitWidth::Sixteen, false) => sized_total::<2, false>(slots, from, count, known, of_null),
+        (BitWidth::ThirtyTwo, true) => sized_total::<4, true>(slots, from, count, known, of_null),
+        (BitWidth::ThirtyTwo, false) => sized_total::<4, false>(slots, from, count, known, of_null),
+        (BitWidth::SixtyFour, true) => sized_total::<8, true>(slots, from, count, known, of_null),
+        (BitWidth::SixtyFour, false) => sized_total::<8, false>(slots, from, count, known, of_null),
     }
 }
 

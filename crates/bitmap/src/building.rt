@@ -1,5 +1,6 @@
-// Making a mask of words that come one after another.
-ghost use Rattle.std.specs.Prelude.{◌≡◌, ℕ, ◌≤◌, ◌<◌, ◌*◌, ◌^◌, ◌%◌, ◌-◌, Bool, List, [], ◌++◌, length, IfOk, OnOk, OnErr, slice_index, slice_index_or, set, bit_or, false};
+// Making a mask of words and of bits of other masks, which come one after another.
+ghost use Rattle.std.specs.Prelude.{◌≡◌, ℕ, ◌≤◌, ◌<◌, ◌+◌, ◌*◌, ◌^◌, ◌%◌, ◌-◌, Bool, List, [], ◌++◌, length, map, replicate, IfOk, OnOk, OnErr, slice_index, slice_index_or, set, bit_or, false};
+ghost use Rattle.std.specs.List.{range_with_len};
 ghost use Rattle.std.specs.Simd.Lanes.{mask_l};
 ghost use Rattle.bitmap.specs.Bits.{bit, bytes_of, packed};
 ghost use Rattle.bitmap.specs.inner.Building.{bits_within, IsBuilt};
@@ -45,6 +46,63 @@ impl MaskBuilder {
     {
         add_bits(&mut self.bytes, self.free, word, count)?;
         self.free = (self.free + 64 - count) % 8;
+        Ok(())
+    }
+
+    /// Adds the same bit so many times.
+    pub fn push_alike(&mut self, count: usize, set: bool) -> Result<(), AllocError>
+        ensures { OnOk result (self.new ≡ self.old ++ replicate count set) }
+    {
+        let word = if set { u64::MAX } else { 0 };
+        for _ in 0..count / 64 {
+            self.push_word(word, 64)?;
+        }
+        let left = count % 64;
+        self.push_word(word % (1 << left), left)
+    }
+
+    /// Adds bits of a mask, from one on up to another: of whole bytes a byte at a time, or all at once.
+    pub fn push_bits(&mut self, mask: &[u8], from: usize, to: usize) -> Result<(), AllocError>
+        requires within { to ≤ 8 * length mask.now }
+        requires order { from ≤ to }
+        ensures { OnOk result (self.new ≡ self.old ++ map (bit mask.now) (range_with_len from (to - from))) }
+    {
+        let first = from.div_ceil(8);
+        let end = to / 8;
+        if end < first {
+            return self.push_in_byte(mask, from, to - from);
+        }
+        self.push_in_byte(mask, from, 8 * first - from)?;
+        self.push_bytes(mask, first, end)?;
+        self.push_in_byte(mask, 8 * end, to % 8)
+    }
+
+    // Some bits of one byte of a mask.
+    fn push_in_byte(&mut self, mask: &[u8], from: usize, count: usize) -> Result<(), AllocError>
+        requires within { from + count ≤ 8 * length mask.now }
+        requires of_one_byte { from % 8 + count ≤ 8 }
+        ensures { OnOk result (self.new ≡ self.old ++ map (bit mask.now) (range_with_len from count)) }
+    {
+        if count == 0 {
+            return Ok(());
+        }
+        let word = u64::from(mask[from / 8] >> (from % 8)) % (1 << count);
+        self.push_word(word, count)
+    }
+
+    // All bits of some bytes of a mask. Where no bit of the last byte is free they are copied.
+    fn push_bytes(&mut self, mask: &[u8], from: usize, to: usize) -> Result<(), AllocError>
+        requires within { to ≤ length mask.now }
+        requires order { from ≤ to }
+        ensures { OnOk result (self.new ≡ self.old ++ map (bit mask.now) (range_with_len (8 * from) (8 * (to - from)))) }
+    {
+        if self.free == 0 {
+            self.bytes.extend_from_slice(&mask[from..to])?;
+            return Ok(());
+        }
+        for byte in from..to {
+            self.push_word(u64::from(mask[byte]), 8)?;
+        }
         Ok(())
     }
 

@@ -1,5 +1,6 @@
 // Runs of equal bits.
-ghost use Rattle.std.specs.Prelude.{◌≡◌, ℕ, ◌*◌, ◌<◌, ◌≤◌, not, length, slice_index, if◌then◌else◌};
+ghost use Rattle.std.specs.Prelude.{◌≡◌, ◌≢◌, ℕ, ◌*◌, ◌+◌, ◌-◌, ◌<◌, ◌≤◌, ◌==◌, not, length, slice_index, if◌then◌else◌};
+ghost use Rattle.std.specs.Int.{bit_at};
 ghost use Rattle.bitmap.specs.Bits.{bit};
 
 use crate::get;
@@ -13,22 +14,11 @@ pub fn run_end(bytes: &[u8], from: usize, to: usize) -> usize
     ensures alike { (i : ℕ) → from ≤ i → i < result → bit bytes.now i ≡ bit bytes.now from }
     ensures longest { result < to → bit bytes.now result ≡ not (bit bytes.now from) }
 {
-    let set = get(bytes, from);
-    let left = 8 - from % 8;
-    if to - from <= left {
-        return alike_singly(bytes, set, from + 1, to);
-    }
-    let next_byte = from + left;
-    let end = alike_singly(bytes, set, from + 1, next_byte);
-    if end < next_byte {
-        return end;
-    }
-    let last_byte = alike_bytes(bytes, set, next_byte / 8, to / 8);
-    alike_singly(bytes, set, 8 * last_byte, to)
+    alike_end(bytes, get(bytes, from), from, to)
 }
 
-// The first bit that is not like this, one by one.
-fn alike_singly(bytes: &[u8], set: bool, from: usize, to: usize) -> usize
+/// Where the bits end that are like this, of those from bit `from` on, or `to` where all of them are.
+pub fn alike_end(bytes: &[u8], set: bool, from: usize, to: usize) -> usize
     requires within { to ≤ 8 * length bytes.now }
     requires order { from ≤ to }
     ensures begins { from ≤ result }
@@ -36,12 +26,38 @@ fn alike_singly(bytes: &[u8], set: bool, from: usize, to: usize) -> usize
     ensures alike { (i : ℕ) → from ≤ i → i < result → bit bytes.now i ≡ set }
     ensures longest { result < to → bit bytes.now result ≡ not set }
 {
-    for i in from..to {
-        if get(bytes, i) != set {
-            return i;
-        }
+    if from == to {
+        return to;
     }
-    to
+    let left = 8 - from % 8;
+    let first = alike_in_byte(bytes[from / 8], set, from % 8);
+    if first < left || to - from <= left {
+        return from + first.min(to - from);
+    }
+    let byte = alike_bytes(bytes, set, (from + left) / 8, to / 8);
+    if 8 * byte == to {
+        return to;
+    }
+    let last = alike_in_byte(bytes[byte], set, 0);
+    8 * byte + last.min(to - 8 * byte)
+}
+
+// A bit for each bit of a byte, set where it is not like this.
+fn differing(byte: u8, set: bool) -> u8
+    ensures { (j : ℕ) → j < 8 → bit_at result j ≡ (if set then 1 - bit_at byte j else bit_at byte j) }
+{
+    if set { !byte } else { byte }
+}
+
+// How many bits of a byte, from one on, are like this.
+fn alike_in_byte(byte: u8, set: bool, from: usize) -> usize
+    requires { from < 8 }
+    ensures ends { from + result ≤ 8 }
+    ensures alike { (j : ℕ) → j < result → bit_at byte (from + j) == 1 ≡ set }
+    ensures longest { from + result < 8 → bit_at byte (from + result) == 1 ≡ not set }
+{
+    let rest = differing(byte, set) >> from;
+    (rest.trailing_zeros() as usize).min(8 - from)
 }
 
 // The first byte whose bits are not all like this.
@@ -51,6 +67,7 @@ fn alike_bytes(bytes: &[u8], set: bool, from: usize, to: usize) -> usize
     ensures begins { from ≤ result }
     ensures ends { result ≤ to }
     ensures alike { (k : ℕ) → from ≤ k → k < result → slice_index bytes.now k ≡ (if set then 255 else 0) }
+    ensures longest { result < to → slice_index bytes.now result ≢ (if set then 255 else 0) }
 {
     let whole = if set { 255 } else { 0 };
     for k in from..to {

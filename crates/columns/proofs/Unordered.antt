@@ -1,8 +1,8 @@
 -- Offsets that fall, and offsets that do not.
-use Rattle.std.specs.Prelude.{not, ◌&&◌, ◌||◌, ◌==◌, nat_lt, nat_le, ◌^◌, ◌*◌}
+use Rattle.std.specs.Prelude.{◌||◌, ◌==◌, nat_lt, nat_le, ◌^◌, ◌*◌}
 use Rattle.std.specs.List.{list_any, range_with_len}
-use Rattle.std.proofs.Common.{inl, inr, ◌⊎◌, ◌≡◌, ◌≢◌, ℕ, zero, suc, ◌+◌, ◌-◌, ◌≤◌, ◌<◌, Bool, true, false, List, arith, refl, sym, ap, ◌∙◌}
-use Rattle.std.proofs.Math.Bool.{or-true}
+use Rattle.std.proofs.Common.{◌≡◌, ◌≢◌, ℕ, zero, suc, ◌+◌, ◌-◌, ◌≤◌, ◌<◌, Bool, true, false, List, arith, refl, sym, ◌∙◌}
+use Rattle.std.proofs.Math.Bool.{or-false, or-true, or_assoc}
 use Rattle.std.proofs.lemmas.Bool.{ltb-false, ne_eqb}
 use Rattle.std.proofs.lemmas.Bool.Decides.{nat_tests}
 use Rattle.columns.specs.Array.{Array, slots_in, offsets_in}
@@ -26,32 +26,15 @@ all_none p start (suc n) h =
     let later : (i : ℕ) → i < n → p (start + 1 + i) ≡ false = λ i lt. let f : start + 1 + i ≡ start + suc i = omega arith in rw f (h (suc i) (omega arith)) in
     rw here (all_none p (start + 1) n later)
 
-last_or_before : (k i : ℕ) → k < i + 1 → (k < i) ⊎ (k ≡ i)
-last_or_before zero zero lt = inr refl
-last_or_before zero (suc i) lt = inl (omega arith)
-last_or_before (suc k) zero lt = absurd (omega arith)
-last_or_before (suc k) (suc i) lt = elim (last_or_before k i (omega arith)) [ inl below ↦ inl (omega (arith, below)) | inr same ↦ inr (ap suc same) ]
+any_later : (p : ℕ → Bool) (start n : ℕ) → list_any p (range_with_len start (suc n)) ≡ (list_any p (range_with_len start n) || p (start + n))
+any_later p start zero = let e : start + 0 ≡ start = omega arith in rw e (or-false (p start))
+any_later p start (suc n) =
+    let e : start + suc n ≡ start + 1 + n = omega arith in
+    rw (e, any_later p (start + 1) n) (sym (or_assoc (p start) (list_any p (range_with_len (start + 1) n)) (p (start + 1 + n))))
 
-pub one_more : (p : ℕ → Bool) (i : ℕ) → list_any p (range_with_len 0 i) ≡ false → p i ≡ false → list_any p (range_with_len 0 (i + 1)) ≡ false
-one_more p i before here = all_none p 0 (i + 1) (λ k lt. elim (last_or_before k i lt) [ inl below ↦ none p 0 i k before below | inr same ↦ (let e : 0 + k ≡ i = omega (arith, same) in rw e here) ])
-
-lt_true : (a b m n : ℕ) → a ≡ m → b ≡ n → a < b → nat_lt m n ≡ true
-lt_true a b m n e f lt = grind (arith, nat_tests)
-
-pub not_falling : (a b m n : ℕ) → a ≡ m → b ≡ n → b ≤ a → nat_lt m n ≡ false
-not_falling a b m n e f le = grind (arith, nat_tests)
-
-pub fall_here : (width most : ℕ) (a : Array) (os : List ℕ) (slots i next last : ℕ) → os ≡ offsets_in a → slots ≡ slots_in a → i < slots
-    → next ≡ number_at width os (i + 1) → last ≡ number_at width os i → next < last → are_unordered width most a ≡ true
-fall_here width most a os slots i next last is many within next_is last_is below =
-    let f : ℕ → ℕ = number_at width (offsets_in a) in
-    let here : nat_lt (f (i + 1)) (f i) ≡ true = lt_true next last (f (i + 1)) (f i) (next_is ∙ ap (λ (xs : List ℕ). number_at width xs (i + 1)) is) (last_is ∙ ap (λ (xs : List ℕ). number_at width xs i) is) below in
-    let inside : i < slots_in a = rw many at within in
-    let some : (slots_in a == 0) ≡ false = ne_eqb _ _ (λ e. omega arith) in
-    let z : 0 + i ≡ i = omega arith in
-    let at_i : nat_lt (f (0 + i + 1)) (f (0 + i)) ≡ true = rw z here in
-    let any = some_any (λ k. nat_lt (f (k + 1)) (f k)) 0 (slots_in a) i inside at_i in
-    rw (some, any) (or-true (list_any (λ k. is_negative width (f k)) (range_with_len 0 (slots_in a + 1))))
+-- one more of a range
+pub any_more : (p : ℕ → Bool) (i : ℕ) → list_any p (range_with_len 0 (i + 1)) ≡ (list_any p (range_with_len 0 i) || p i)
+any_more p i = let e : i + 1 ≡ suc i = omega arith in let z : 0 + i ≡ i = omega arith in rw e (rw z at (any_later p 0 i))
 
 le_false : (p a b : ℕ) → a ≤ b → nat_le p b ≡ false → nat_le p a ≡ false
 le_false p a b le h = grind (arith, nat_tests)

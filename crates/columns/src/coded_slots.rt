@@ -1,12 +1,12 @@
 // The slots of a column with a dictionary, with the buffers that each slot is read from.
-ghost use Rattle.std.specs.Prelude.{◌≡◌, ◌<◌, ◌/◌, false};
+ghost use Rattle.std.specs.Prelude.{◌≡◌, ◌<◌, ◌≤◌, ◌/◌, ℕ, IfSome, Some, None, false};
 ghost use Rattle.arrow_schema.specs.View.{index_of};
 ghost use Rattle.columns.specs.Array.{slots_in, validity_in, indices_in};
 ghost use Rattle.columns.specs.CellAt.{is_valid, index_at, named_number};
 ghost use Rattle.columns.specs.Tests.{are_few, has_short_validity};
 ghost use Rattle.columns.specs.View.{view_array};
 
-use crate::numbers::{named_at, width_of_bytes};
+use crate::numbers::{named_at, named_below, width_of_bytes};
 use crate::view::ArrayView;
 use arrow_schema::{DictSpec, IntegerType};
 
@@ -57,17 +57,39 @@ impl<'a> CodedSlots<'a> {
         named_at(self.spec.index, self.indices, self.view.slots(), i)
     }
 
-    /// The same, of indices that have so many bytes: a loop for each width, which names it here, does not ask for it at each slot.
+    /// The same, of indices that have so many bytes, with a sign or without: a loop for each kind, which names it here, does not ask for it at each slot.
     #[inline]
-    pub fn sized_number<const SIZE: usize>(self, i: usize) -> Option<u64>
+    pub fn sized_number<const SIZE: usize, const SIGNED: bool>(self, i: usize) -> Option<u64>
         requires size { SIZE ≡ (index_of self.spec).bits / 8 }
+        requires signed { SIGNED ≡ (index_of self.spec).signed }
         requires within { i < slots_in (view_array self.view) }
         ensures { result ≡ named_number (index_at (index_of self.entry.spec) (view_array self.entry.view) i) }
     {
         let integer = IntegerType {
             width: width_of_bytes(SIZE),
-            signed: self.spec.index.signed,
+            signed: SIGNED,
         };
         named_at(integer, self.indices, self.view.slots(), i)
+    }
+
+    /// The same, if it is below a limit: a loop that asks for no more has one test for both.
+    #[inline]
+    pub fn number_below<const SIZE: usize, const SIGNED: bool>(
+        self,
+        i: usize,
+        limit: u64,
+    ) -> Option<u64>
+        requires size { SIZE ≡ (index_of self.spec).bits / 8 }
+        requires signed { SIGNED ≡ (index_of self.spec).signed }
+        requires within { i < slots_in (view_array self.view) }
+        ensures below { IfSome result (λ number. number < limit) }
+        ensures named { IfSome result (λ number. named_number (index_at (index_of self.entry.spec) (view_array self.entry.view) i) ≡ Some number) }
+        ensures none { result ≡ None → (number : ℕ) → named_number (index_at (index_of self.entry.spec) (view_array self.entry.view) i) ≡ Some number → limit ≤ number }
+    {
+        let integer = IntegerType {
+            width: width_of_bytes(SIZE),
+            signed: SIGNED,
+        };
+        named_below(integer, self.indices, self.view.slots(), i, limit)
     }
 }

@@ -1,5 +1,5 @@
 // Little-endian numbers one after another.
-ghost use Rattle.std.specs.Prelude.{◌≡◌, ◌≤◌, ◌<◌, ◌+◌, ◌-◌, ◌*◌, ◌/◌, ◌^◌, true, false, length, drop, nat_lt};
+ghost use Rattle.std.specs.Prelude.{◌≡◌, ◌≤◌, ◌<◌, ◌+◌, ◌-◌, ◌*◌, ◌/◌, ◌^◌, ℕ, IfSome, Some, None, min, true, false, length, drop, nat_lt};
 ghost use Rattle.byteorder.specs.Endian.{little_number};
 ghost use Rattle.arrow_schema.specs.View.{bits_of, date_kind};
 ghost use Rattle.arrow_schema.specs.declared.types.BitWidth.{BitWidth};
@@ -150,6 +150,42 @@ pub(crate) fn named_at(integer: IntegerType, values: &[u8], slots: usize, i: usi
         return None;
     }
     Some(number)
+}
+
+// The same, if it is below a limit. No negative one is below the limit that this makes of it, which a loop finds once.
+#[inline]
+pub(crate) fn named_below(
+    integer: IntegerType,
+    values: &[u8],
+    slots: usize,
+    i: usize,
+    limit: u64,
+) -> Option<u64>
+    requires long { nat_lt (length values.now) (slots * (bits_of integer.width / 8)) ≡ false }
+    requires within { i < slots }
+    ensures below { IfSome result (λ number. number < limit) }
+    ensures named { IfSome result (λ number. named_number (integer_at (bits_of integer.width / 8) integer.signed values.now i) ≡ Some number) }
+    ensures none { result ≡ None → (number : ℕ) → named_number (integer_at (bits_of integer.width / 8) integer.signed values.now i) ≡ Some number → limit ≤ number }
+{
+    let rest = from_place(values, integer.width.bytes(), slots, i);
+    let number = first_unsigned(integer.width, rest);
+    if number < limit_of(integer, limit) {
+        Some(number)
+    } else {
+        None
+    }
+}
+
+// A limit that no negative integer is below, read as one without a sign.
+#[inline]
+fn limit_of(integer: IntegerType, limit: u64) -> u64
+    ensures unsigned { integer.signed ≡ false → result ≡ limit }
+    ensures signed { integer.signed ≡ true → result ≡ min limit (2 ^ (bits_of integer.width - 1)) }
+{
+    if !integer.signed {
+        return limit;
+    }
+    limit.min(least_negative(integer.width))
 }
 
 // The integers that dates and timestamps are.

@@ -1,9 +1,10 @@
 // What is asked of an array by itself (docs/definitions/columns.md).
-ghost use Rattle.std.specs.Prelude.{◌≡◌, ◌+◌, ◌*◌, false, length, nat_lt};
-ghost use Rattle.std.specs.List.{list_any};
+ghost use Rattle.std.specs.Prelude.{◌≡◌, ◌+◌, ◌*◌, ◌≤◌, false, length, nat_lt};
+ghost use Rattle.std.specs.List.{list_any, range_with_len};
 ghost use Rattle.bitmap.specs.Bits.{bytes_of};
 ghost use Rattle.arrow_schema.specs.View.{kind_of, column_of};
 ghost use Rattle.columns.specs.Array.{slots_in, validity_in, values_in, bits_in, children_in, array_list};
+ghost use Rattle.columns.specs.CellAt.{number_at};
 ghost use Rattle.columns.specs.Tests.{is_short, is_unordered, counts_wrong, has_short_child, has_short_part, has_short_validity, has_short_buffer, has_bad_offsets, are_few, are_few_offsets, are_unordered, unset_bits, is_negative};
 ghost use Rattle.columns.specs.Offsets.{width_of};
 ghost use Rattle.columns.specs.View.{view_array};
@@ -12,6 +13,7 @@ use crate::array::PlacedArray;
 use crate::numbers::{OffsetWidth, date_integer, offset_at};
 use crate::view::ArrayView;
 use arrow_schema::{DataType, Field};
+use byteorder::{ByteOrder, LittleEndian};
 
 fn has_short_validity(view: ArrayView<'_>) -> bool
     ensures { result ≡ has_short_validity (view_array view.entry) }
@@ -110,6 +112,33 @@ fn is_negative(width: OffsetWidth, number: usize) -> bool
     }
 }
 
+// An offset is less than the one before it. The loop goes to its end, so that of a width that the compiler knows it takes several at once.
+fn any_sized_falls<const SIZE: usize>(offsets: &[u8], slots: usize) -> bool
+    requires least { 1 ≤ SIZE }
+    requires most { SIZE ≤ 8 }
+    requires long { (slots + 1) * SIZE ≤ length offsets.now }
+    ensures { let offset = number_at SIZE offsets.now in result ≡ list_any (λ i. nat_lt (offset (i + 1)) (offset i)) (range_with_len 0 slots) }
+{
+    let mut falls = false;
+    for i in 0..slots {
+        let last = LittleEndian::read_uint(&offsets[i * SIZE..], SIZE);
+        let next = LittleEndian::read_uint(&offsets[(i + 1) * SIZE..], SIZE);
+        falls |= next < last;
+    }
+    falls
+}
+
+// A loop for each width.
+fn any_falls(width: OffsetWidth, offsets: &[u8], slots: usize) -> bool
+    requires { (slots + 1) * width_of width ≤ length offsets.now }
+    ensures { let offset = number_at (width_of width) offsets.now in result ≡ list_any (λ i. nat_lt (offset (i + 1)) (offset i)) (range_with_len 0 slots) }
+{
+    match width {
+        OffsetWidth::Four => any_sized_falls::<4>(offsets, slots),
+        OffsetWidth::Eight => any_sized_falls::<8>(offsets, slots),
+    }
+}
+
 // Where no offset is less than the one before it, the last is the largest.
 fn are_unordered(width: OffsetWidth, most: usize, view: ArrayView<'_>) -> bool
     requires { are_few_offsets (width_of width) (view_array view) ≡ false }
@@ -120,14 +149,10 @@ fn are_unordered(width: OffsetWidth, most: usize, view: ArrayView<'_>) -> bool
         return false;
     }
     let offsets = view.offsets();
-    let mut last = offset_at(width, offsets, slots, 0);
-    for i in 0..slots {
-        let next = offset_at(width, offsets, slots, i + 1);
-        if next < last {
-            return true;
-        }
-        last = next;
+    if any_falls(width, offsets, slots) {
+        return true;
     }
+    let last = offset_at(width, offsets, slots, slots);
     is_negative(width, last) || most < last
 }
 

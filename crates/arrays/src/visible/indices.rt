@@ -27,19 +27,29 @@ fn is_past(number: Option<u64>, entries: u128) -> bool
 }
 
 #[inline]
-fn has_no_entry<const SIZE: usize>(slots: CodedSlots<'_>, entries: u128, i: usize) -> bool
+fn has_no_entry<const SIZE: usize, const SIGNED: bool>(
+    slots: CodedSlots<'_>,
+    entries: u128,
+    i: usize,
+) -> bool
     requires size { SIZE ≡ (index_of slots.spec).bits / 8 }
+    requires signed { SIGNED ≡ (index_of slots.spec).signed }
     requires within { i < slots_in (view_array slots.view) }
     requires count { (kind : Kind) → entries ≡ length (entries_of_kind kind (dictionary_in (view_array slots.view))) }
     ensures { let a = view_array slots.entry.view in (kind : Kind)
         → result ≡ (is_valid a i && is_past (index_at (index_of slots.entry.spec) a i) (entries_of_kind kind (dictionary_in a))) }
 {
-    slots.is_valid(i) && is_past(slots.sized_number::<SIZE>(i), entries)
+    slots.is_valid(i) && is_past(slots.sized_number::<SIZE, SIGNED>(i), entries)
 }
 
-// A valid slot of a span has such an index, of so many bytes.
-fn any_sized_past<const SIZE: usize>(slots: CodedSlots<'_>, from: usize, count: usize) -> bool
+// A valid slot of a span has such an index, of so many bytes, with a sign or without.
+fn any_sized_past<const SIZE: usize, const SIGNED: bool>(
+    slots: CodedSlots<'_>,
+    from: usize,
+    count: usize,
+) -> bool
     requires size { SIZE ≡ (index_of slots.spec).bits / 8 }
+    requires signed { SIGNED ≡ (index_of slots.spec).signed }
     requires within { from + count ≤ slots_in (view_array slots.view) }
     ensures { let a = view_array slots.entry.view in (kind : Kind)
         → let past : ℕ → Bool = λ i. is_valid a i && is_past (index_at (index_of slots.entry.spec) a i) (entries_of_kind kind (dictionary_in a)) in
@@ -49,25 +59,29 @@ fn any_sized_past<const SIZE: usize>(slots: CodedSlots<'_>, from: usize, count: 
     let _slots = slots.view.slots();
     let entries = entry_count(slots.view.dictionary());
     for i in from..from + count {
-        if has_no_entry::<SIZE>(slots, entries, i) {
+        if has_no_entry::<SIZE, SIGNED>(slots, entries, i) {
             return true;
         }
     }
     false
 }
 
-// The same, by a loop for each width.
+// The same, by a loop for each kind of index.
 fn any_past(slots: CodedSlots<'_>, from: usize, count: usize) -> bool
     requires { from + count ≤ slots_in (view_array slots.view) }
     ensures { let a = view_array slots.entry.view in (kind : Kind)
         → let past : ℕ → Bool = λ i. is_valid a i && is_past (index_at (index_of slots.entry.spec) a i) (entries_of_kind kind (dictionary_in a)) in
         result ≡ list_any past (range_with_len from count) }
 {
-    match slots.spec.index.width {
-        BitWidth::Eight => any_sized_past::<1>(slots, from, count),
-        BitWidth::Sixteen => any_sized_past::<2>(slots, from, count),
-        BitWidth::ThirtyTwo => any_sized_past::<4>(slots, from, count),
-        BitWidth::SixtyFour => any_sized_past::<8>(slots, from, count),
+    match (slots.spec.index.width, slots.spec.index.signed) {
+        (BitWidth::Eight, true) => any_sized_past::<1, true>(slots, from, count),
+        (BitWidth::Eight, false) => any_sized_past::<1, false>(slots, from, count),
+        (BitWidth::Sixteen, true) => any_sized_past::<2, true>(slots, from, count),
+        (BitWidth::Sixteen, false) => any_sized_past::<2, false>(slots, from, count),
+        (BitWidth::ThirtyTwo, true) => any_sized_past::<4, true>(slots, from, count),
+        (BitWidth::ThirtyTwo, false) => any_sized_past::<4, false>(slots, from, count),
+        (BitWidth::SixtyFour, true) => any_sized_past::<8, true>(slots, from, count),
+        (BitWidth::SixtyFour, false) => any_sized_past::<8, false>(slots, from, count),
     }
 }
 

@@ -12,5 +12,5 @@ abbrev pub invariant-loop-run : goal.invariant-loop-run
 invariant-loop-run l = record {
   sound : are_runs_sound (plain_column booleans None) (drop l.run-index l.runs) ≡ true;
   valid : are_runs_valid (drop l.run-index l.runs) ≡ true;
-  bits : l.bits.items ++ map is_set (kind_cells booleans (drop l.run-index l.runs)) ≡ map is_set (kind_cells booleans l.runs);
+  bits : l.bits ++ map is_set (kind_cells booleans (drop l.run-index l.runs)) ≡ map is_set (kind_cells booleans l.runs);
 }

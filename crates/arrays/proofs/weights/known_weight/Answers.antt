@@ -13,4 +13,4 @@ returns-then-not-is_valid g c = λ kind known is.
 pub returns-in-Some : goal.returns-in-Some
 returns-in-Some g c = λ kind known is.
     let valid : is_valid (view_array c.args.slots.view) c.args.i ≡ true = sym c.is_valid.ensures ∙ c.if-not-is_valid.false in
-    known_weight kind (index_of c.args.slots.spec) (view_array c.args.slots.view) c.args.i c.in-Some.number c.args.known.now valid (sym c.in-Some.is ∙ c.sized_number.ensures) known (omega arith)
+    known_weight kind (index_of c.args.slots.spec) (view_array c.args.slots.view) c.args.i c.in-Some.number c.args.known.now valid (sym c.in-Some.ensures.named) known c.in-Some.ensures.below
