@@ -27,6 +27,7 @@ pub mod DictionaryRead
 pub mod DictionaryFound
 pub mod RowsFit
 pub mod RowsNamed
+pub mod PlacedBytes
 pub mod BytesRead
 pub mod RowsRead
 pub mod SchemaDictionaries

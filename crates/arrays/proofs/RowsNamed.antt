@@ -1,5 +1,5 @@
 -- The cells of a dictionary column of arrays are no more distinct values than its indices name.
-use Rattle.std.specs.Prelude.{ℤ, pos, negsuc, neg_ℤ, int_lt, int_le, not, ◌&&◌, ◌||◌, nat_le, nat_eq, slice_get, if◌then◌else◌}
+use Rattle.std.specs.Prelude.{ℤ, pos, negsuc, neg_ℤ, int_lt, int_le, not, ◌&&◌, ◌||◌, nat_le, nat_eq, slice_get, is_some, if◌then◌else◌}
 use Rattle.std.specs.List.{list_any, list_all, flat_map, range_with_len}
 use Rattle.std.specs.List.{IsDistinct}
 use Rattle.std.specs.Cmp.{nat_eq_equiv}
@@ -22,6 +22,7 @@ use Rattle.cells.specs.laws.Ranges.{integer_fits}
 use Rattle.columns.specs.Array.{Array, Arrays, items_in, children_in, dictionary_in, indices_in, first_array, other_arrays}
 use Rattle.columns.specs.CellAt.{is_valid, number_at, span_start, span_size, cells_from, entries_of_kind, entry_at, index_at, cell_at, kind_cell, part_cells, rows_in, row_at}
 use Rattle.arrays.specs.Bytes.{are_bytes, has_bytes, have_bytes}
+use Rattle.arrays.specs.Shared.{SharesEntries, SharesBelow, ShareEntries, AreRowsSharing}
 use Rattle.arrays.proofs.RowsFit.{AreSound, sound_columns, front_sound, rest_sound, not_set, small_number, items_bytes, children_bytes, dictionary_bytes, first_bytes}
 
 -- ---- distinct entries are named by distinct numbers
@@ -169,11 +170,12 @@ within_limit (Some most) n h = le-leb n most (h most refl)
 
 -- ---- every column
 
+-- a null, or a cell of an array of bytes that has the entries of this one
 abbrev IsCellOf : Column → Array → Cell → Type 0
-IsCellOf c a x = (x ≡ null) ⊎ ((j : ℕ) × (x ≡ cell_at c a j))
+IsCellOf c a x = (x ≡ null) ⊎ ((b : Array) × (j : ℕ) × (has_bytes b ≡ true) × SharesEntries c a b × (x ≡ cell_at c b j))
 
 abbrev IsRowOf : ℕ → Columns → Arrays → List Cell → Type 0
-IsRowOf i cs arrays row = (drop i row ≡ []) ⊎ ((j : ℕ) × (drop i row ≡ cell_list (part_cells cs arrays j)))
+IsRowOf i cs arrays row = (drop i row ≡ []) ⊎ ((others : Arrays) × (j : ℕ) × (have_bytes others ≡ true) × ShareEntries cs arrays others × (drop i row ≡ cell_list (part_cells cs others j)))
 
 abbrev HaveFew : List Holding → Type 0
 HaveFew hs = list_all has_few_entries hs ≡ true
@@ -203,17 +205,19 @@ listed : (xs : List Cell) → cell_list (cells_of xs) ≡ xs
 listed [] = refl
 listed (x ∷ xs) = ap (λ (ys : List Cell). x ∷ ys) (listed xs)
 
-each_cell : (c : Column) (a : Array) (start n : ℕ) → Each (IsCellOf c a) (cells_from (cell_at c a) start n)
-each_cell c a start zero = tt
-each_cell c a start (suc n) = (inr (start, refl), each_cell c a (start + 1) n)
+each_cell : (c : Column) (a b : Array) (start n : ℕ) → has_bytes b ≡ true → SharesEntries c a b → Each (IsCellOf c a) (cells_from (cell_at c b) start n)
+each_cell c a b start zero small shares = tt
+each_cell c a b start (suc n) small shares = (inr (b, start, small, shares, refl), each_cell c a b (start + 1) n small shares)
 
-items_here : (c : Column) (a : Array) (v : Bool) (start n : ℕ) → Each (IsCellOf c a) (item_list (if v then items (cells_of (cells_from (cell_at c a) start n)) else null))
-items_here c a true start n = subst (Each (IsCellOf c a)) (sym (listed (cells_from (cell_at c a) start n))) (each_cell c a start n)
-items_here c a false start n = tt
+items_here : (c : Column) (a b : Array) (v : Bool) (start n : ℕ) → has_bytes b ≡ true → SharesEntries c a b
+    → Each (IsCellOf c a) (item_list (if v then items (cells_of (cells_from (cell_at c b) start n)) else null))
+items_here c a b true start n small shares = subst (Each (IsCellOf c a)) (sym (listed (cells_from (cell_at c b) start n))) (each_cell c a b start n small shares)
+items_here c a b false start n small shares = tt
 
-parts_here : (cs : Columns) (arrays : Arrays) (v : Bool) (j : ℕ) → IsRowOf 0 cs arrays (part_list (if v then parts (part_cells cs arrays j) else null))
-parts_here cs arrays true j = inr (j, refl)
-parts_here cs arrays false j = inl refl
+parts_here : (cs : Columns) (arrays others : Arrays) (v : Bool) (j : ℕ) → have_bytes others ≡ true → ShareEntries cs arrays others
+    → IsRowOf 0 cs arrays (part_list (if v then parts (part_cells cs others j) else null))
+parts_here cs arrays others true j small shares = inr (others, j, small, shares, refl)
+parts_here cs arrays others false j small shares = inl refl
 
 cell_there : (i : ℕ) (row : List Cell) (x : Cell) (xs : List Cell) → drop i row ≡ x ∷ xs → (slice_get row i ≡ Some x) × (drop (i + 1) row ≡ xs)
 cell_there zero [] x xs h = absurd cc
@@ -237,90 +241,133 @@ each_weaker : {X : Type 0} (P Q : X → Type 0) → ((x : X) → P x → Q x) �
 each_weaker P Q h [] e = tt
 each_weaker P Q h (x ∷ xs) e = (h x e.0, each_weaker P Q h xs e.1)
 
-by_cell : (c : Column) (a : Array) (Q : Cell → Type 0) → Q null → ((j : ℕ) → Q (cell_at c a j)) → (x : Cell) → IsCellOf c a x → Q x
+by_cell : (c : Column) (a : Array) (Q : Cell → Type 0) → Q null → ((b : Array) (j : ℕ) → has_bytes b ≡ true → SharesEntries c a b → Q (cell_at c b j)) → (x : Cell) → IsCellOf c a x → Q x
 by_cell c a Q none each x (inl e) = subst Q (sym e) none
-by_cell c a Q none each x (inr j) = subst Q (sym j.1) (each j.0)
+by_cell c a Q none each x (inr w) = subst Q (sym w.4) (each w.0 w.1 w.2 w.3)
 
 named_if : (v : Bool) (entries : List Cell) (most : ℕ) (x : Cell) → IsNamed entries most x → IsNamed entries most (if v then x else null)
 named_if true entries most x h = h
 named_if false entries most x h = inl refl
 
-named_cell : (name : List ℕ) (nullable : Bool) (kind : Kind) (index : Index) (pairs : List Pair) (a : Array) (entries : List Cell) (most : ℕ) (x : Cell) → entries ≡ entries_of_kind kind (dictionary_in a)
-    → is_bit_width index.bits ≡ true → are_bytes (indices_in a) ≡ true → entry_limit index ≡ Some most → IsCellOf (column name nullable kind (Some index) pairs) a x → IsNamed entries most x
-unfolding cell_at
-named_cell name nullable kind index pairs a entries most x are wide small limit is =
+named_cell : (name : List ℕ) (nullable : Bool) (kind : Kind) (index : Index) (pairs : List Pair) (a : Array) (entries : List Cell) (most : ℕ) (x : Cell) → entries_of_kind kind (dictionary_in a) ≡ entries
+    → is_bit_width index.bits ≡ true → entry_limit index ≡ Some most → IsCellOf (column name nullable kind (Some index) pairs) a x → IsNamed entries most x
+unfolding cell_at SharesEntries
+named_cell name nullable kind index pairs a entries most x are wide limit is =
     by_cell (column name nullable kind (Some index) pairs) a (IsNamed entries most) (inl refl)
-    (λ j. subst (λ (es : List Cell). IsNamed entries most (if is_valid a j then entry_at es (index_at index a j) else null)) are
-    (named_if (is_valid a j) entries most (entry_at entries (index_at index a j)) (index_named index entries a j most wide small limit))) x is
+    (λ b j small shares.
+    let own : entries_of_kind kind (dictionary_in b) ≡ entries = shares (ap is_some limit) ∙ are in
+    subst (λ (es : List Cell). IsNamed entries most (if is_valid b j then entry_at es (index_at index b j) else null)) (sym own)
+    (named_if (is_valid b j) entries most (entry_at entries (index_at index b j)) (index_named index entries b j most wide (dictionary_bytes b small).0 limit))) x is
 
 firsts_here : (i : ℕ) (c : Column) (cs : Columns) (arrays : Arrays) (rows : List (List Cell)) → Each (IsRowOf i (and_column c cs) arrays) rows → Each (IsCellOf c (first_array arrays)) (cells_at i rows)
-unfolding part_cells
+unfolding part_cells ShareEntries
 firsts_here i c cs arrays [] each = tt
 firsts_here i c cs arrays (row ∷ rows) (inl none, others) =
     rw (no_cell_there i row none).0 (firsts_here i c cs arrays rows others)
-firsts_here i c cs arrays (row ∷ rows) (inr j, others) =
-    rw (cell_there i row (cell_at c (first_array arrays) j.0) (cell_list (part_cells cs (other_arrays arrays) j.0)) j.1).0 (inr (j.0, refl), firsts_here i c cs arrays rows others)
+firsts_here i c cs arrays (row ∷ rows) (inr w, others) =
+    rw (cell_there i row (cell_at c (first_array w.0) w.1) (cell_list (part_cells cs (other_arrays w.0) w.1)) w.4).0
+    (inr (first_array w.0, w.1, (first_bytes w.0 w.2).0, w.3.0, refl), firsts_here i c cs arrays rows others)
 
 others_here : (i : ℕ) (c : Column) (cs : Columns) (arrays : Arrays) (rows : List (List Cell)) → Each (IsRowOf i (and_column c cs) arrays) rows → Each (IsRowOf (i + 1) cs (other_arrays arrays)) rows
-unfolding part_cells
+unfolding part_cells ShareEntries
 others_here i c cs arrays [] each = tt
 others_here i c cs arrays (row ∷ rows) (inl none, others) = (inl (no_cell_there i row none).1, others_here i c cs arrays rows others)
-others_here i c cs arrays (row ∷ rows) (inr j, others) =
-    (inr (j.0, (cell_there i row (cell_at c (first_array arrays) j.0) (cell_list (part_cells cs (other_arrays arrays) j.0)) j.1).1), others_here i c cs arrays rows others)
+others_here i c cs arrays (row ∷ rows) (inr w, others) =
+    (inr (other_arrays w.0, w.1, (first_bytes w.0 w.2).1, w.3.1, (cell_there i row (cell_at c (first_array w.0) w.1) (cell_list (part_cells cs (other_arrays w.0) w.1)) w.4).1), others_here i c cs arrays rows others)
 
 mutual
-  unfolding cell_at kind_cell part_cells holdings holdings_below holdings_from has_bytes preorder preorder_below preorder_all
+  unfolding cell_at kind_cell part_cells holdings holdings_below holdings_from preorder preorder_below preorder_all SharesEntries SharesBelow ShareEntries
 
-  column_few : (c : Column) (a : Array) (cells : List Cell) → AreSound (preorder c) → has_bytes a ≡ true → Each (IsCellOf c a) cells → HaveFew (holdings c cells)
-  column_few (column name nullable kind (Some index) pairs) a cells limits small each =
+  column_few : (c : Column) (a : Array) (cells : List Cell) → AreSound (preorder c) → Each (IsCellOf c a) cells → HaveFew (holdings c cells)
+  column_few (column name nullable kind (Some index) pairs) a cells limits each =
       let flat = not_set _ (and_parts (not (is_nested kind)) (list_all has_flat_dictionary (preorder_below kind)) limits.0).0 in
       let wide = (and_parts (is_kind_of_width kind) (is_bit_width index.bits) (and_parts (is_kind_of_width kind && is_bit_width index.bits) (list_all has_bit_widths (preorder_below kind)) limits.1).0).1 in
       let entries : List Cell = entries_of_kind kind (dictionary_in a) in
-      let indices = (dictionary_bytes a small).0 in
       let own : is_within (entry_limit index) (length (entries_of cells)) ≡ true =
       within_limit (entry_limit index) (length (entries_of cells))
       (λ most limit. few_named entries most cells
-      (each_weaker (IsCellOf (column name nullable kind (Some index) pairs) a) (IsNamed entries most) (λ x is. named_cell name nullable kind index pairs a entries most x refl wide indices limit is) cells each)) in
+      (each_weaker (IsCellOf (column name nullable kind (Some index) pairs) a) (IsNamed entries most) (λ x is. named_cell name nullable kind index pairs a entries most x refl wide limit is) cells each)) in
       and_from _ _ own (subst HaveFew (sym (flat_has_none kind cells flat)) refl)
-  column_few (column name nullable kind None pairs) a cells limits small each =
-      below_few name nullable kind pairs a cells ((and_parts (not (false && is_nested kind)) (list_all has_flat_dictionary (preorder_below kind)) limits.0).1, (and_parts (is_kind_of_width kind && true) (list_all has_bit_widths (preorder_below kind)) limits.1).1) small each
+  column_few (column name nullable kind None pairs) a cells limits each =
+      below_few name nullable kind pairs a cells ((and_parts (not (false && is_nested kind)) (list_all has_flat_dictionary (preorder_below kind)) limits.0).1, (and_parts (is_kind_of_width kind && true) (list_all has_bit_widths (preorder_below kind)) limits.1).1) each
 
-  below_few : (name : List ℕ) (nullable : Bool) (k : Kind) (pairs : List Pair) (a : Array) (cells : List Cell) → AreSound (preorder_below k) → has_bytes a ≡ true
+  below_few : (name : List ℕ) (nullable : Bool) (k : Kind) (pairs : List Pair) (a : Array) (cells : List Cell) → AreSound (preorder_below k)
       → Each (IsCellOf (column name nullable k None pairs) a) cells → HaveFew (holdings_below k cells)
-  below_few name nullable (lists item) pairs a cells limits small each =
-      column_few item (items_in a) (flat_map item_list cells) limits (items_bytes a small)
+  below_few name nullable (lists item) pairs a cells limits each =
+      column_few item (items_in a) (flat_map item_list cells) limits
       (each_below (IsCellOf (column name nullable (lists item) None pairs) a) (IsCellOf item (items_in a)) item_list
-      (λ x is. by_cell (column name nullable (lists item) None pairs) a (λ y. Each (IsCellOf item (items_in a)) (item_list y)) tt (λ j. items_here item (items_in a) (is_valid a j) (span_start 4 a j) (span_size 4 a j)) x is) cells each)
-  below_few name nullable (large_lists item) pairs a cells limits small each =
-      column_few item (items_in a) (flat_map item_list cells) limits (items_bytes a small)
+      (λ x is. by_cell (column name nullable (lists item) None pairs) a (λ y. Each (IsCellOf item (items_in a)) (item_list y)) tt
+      (λ b j small shares. items_here item (items_in a) (items_in b) (is_valid b j) (span_start 4 b j) (span_size 4 b j) (items_bytes b small) shares) x is) cells each)
+  below_few name nullable (large_lists item) pairs a cells limits each =
+      column_few item (items_in a) (flat_map item_list cells) limits
       (each_below (IsCellOf (column name nullable (large_lists item) None pairs) a) (IsCellOf item (items_in a)) item_list
-      (λ x is. by_cell (column name nullable (large_lists item) None pairs) a (λ y. Each (IsCellOf item (items_in a)) (item_list y)) tt (λ j. items_here item (items_in a) (is_valid a j) (span_start 8 a j) (span_size 8 a j)) x is) cells each)
-  below_few name nullable (fixed_lists size item) pairs a cells limits small each =
-      column_few item (items_in a) (flat_map item_list cells) limits (items_bytes a small)
+      (λ x is. by_cell (column name nullable (large_lists item) None pairs) a (λ y. Each (IsCellOf item (items_in a)) (item_list y)) tt
+      (λ b j small shares. items_here item (items_in a) (items_in b) (is_valid b j) (span_start 8 b j) (span_size 8 b j) (items_bytes b small) shares) x is) cells each)
+  below_few name nullable (fixed_lists size item) pairs a cells limits each =
+      column_few item (items_in a) (flat_map item_list cells) limits
       (each_below (IsCellOf (column name nullable (fixed_lists size item) None pairs) a) (IsCellOf item (items_in a)) item_list
-      (λ x is. by_cell (column name nullable (fixed_lists size item) None pairs) a (λ y. Each (IsCellOf item (items_in a)) (item_list y)) tt (λ j. items_here item (items_in a) (is_valid a j) (j * size) size) x is) cells each)
-  below_few name nullable (structs columns) pairs a cells limits small each =
-      parts_few 0 columns (children_in a) (map part_list cells) limits (children_bytes a small)
+      (λ x is. by_cell (column name nullable (fixed_lists size item) None pairs) a (λ y. Each (IsCellOf item (items_in a)) (item_list y)) tt
+      (λ b j small shares. items_here item (items_in a) (items_in b) (is_valid b j) (j * size) size (items_bytes b small) shares) x is) cells each)
+  below_few name nullable (structs columns) pairs a cells limits each =
+      parts_few 0 columns (children_in a) (map part_list cells) limits
       (each_mapped (IsCellOf (column name nullable (structs columns) None pairs) a) (IsRowOf 0 columns (children_in a)) part_list
-      (λ x is. by_cell (column name nullable (structs columns) None pairs) a (λ y. IsRowOf 0 columns (children_in a) (part_list y)) (inl refl) (λ j. parts_here columns (children_in a) (is_valid a j) j) x is) cells each)
-  below_few name nullable nulls pairs a cells limits small each = refl
-  below_few name nullable booleans pairs a cells limits small each = refl
-  below_few name nullable (integers bits signed) pairs a cells limits small each = refl
-  below_few name nullable (dates unit) pairs a cells limits small each = refl
-  below_few name nullable (timestamps unit timezone) pairs a cells limits small each = refl
-  below_few name nullable texts pairs a cells limits small each = refl
-  below_few name nullable large_texts pairs a cells limits small each = refl
-  below_few name nullable binaries pairs a cells limits small each = refl
-  below_few name nullable large_binaries pairs a cells limits small each = refl
-  below_few name nullable (fixed_binaries width) pairs a cells limits small each = refl
+      (λ x is. by_cell (column name nullable (structs columns) None pairs) a (λ y. IsRowOf 0 columns (children_in a) (part_list y)) (inl refl)
+      (λ b j small shares. parts_here columns (children_in a) (children_in b) (is_valid b j) j (children_bytes b small) shares) x is) cells each)
+  below_few name nullable nulls pairs a cells limits each = refl
+  below_few name nullable booleans pairs a cells limits each = refl
+  below_few name nullable (integers bits signed) pairs a cells limits each = refl
+  below_few name nullable (dates unit) pairs a cells limits each = refl
+  below_few name nullable (timestamps unit timezone) pairs a cells limits each = refl
+  below_few name nullable texts pairs a cells limits each = refl
+  below_few name nullable large_texts pairs a cells limits each = refl
+  below_few name nullable binaries pairs a cells limits each = refl
+  below_few name nullable large_binaries pairs a cells limits each = refl
+  below_few name nullable (fixed_binaries width) pairs a cells limits each = refl
 
-  pub parts_few : (i : ℕ) (cs : Columns) (arrays : Arrays) (rows : List (List Cell)) → AreSound (preorder_all cs) → have_bytes arrays ≡ true → Each (IsRowOf i cs arrays) rows → HaveFew (holdings_from i cs rows)
-  parts_few i no_column arrays rows limits small each = refl
-  parts_few i (and_column c cs) arrays rows limits small each =
-      let smalls = first_bytes arrays small in
+  parts_few : (i : ℕ) (cs : Columns) (arrays : Arrays) (rows : List (List Cell)) → AreSound (preorder_all cs) → Each (IsRowOf i cs arrays) rows → HaveFew (holdings_from i cs rows)
+  parts_few i no_column arrays rows limits each = refl
+  parts_few i (and_column c cs) arrays rows limits each =
       have_both (holdings c (cells_at i rows)) (holdings_from (i + 1) cs rows)
-      (column_few c (first_array arrays) (cells_at i rows) (front_sound (preorder c) (preorder_all cs) limits) smalls.0 (firsts_here i c cs arrays rows each))
-      (parts_few (i + 1) cs (other_arrays arrays) rows (rest_sound (preorder c) (preorder_all cs) limits) smalls.1 (others_here i c cs arrays rows each))
+      (column_few c (first_array arrays) (cells_at i rows) (front_sound (preorder c) (preorder_all cs) limits) (firsts_here i c cs arrays rows each))
+      (parts_few (i + 1) cs (other_arrays arrays) rows (rest_sound (preorder c) (preorder_all cs) limits) (others_here i c cs arrays rows each))
+
+-- ---- arrays share their own entries
+
+mutual
+  unfolding SharesEntries SharesBelow ShareEntries
+
+  shares_own : (c : Column) (a : Array) → SharesEntries c a a
+  shares_own (column name nullable kind (Some index) pairs) a = λ limited. refl
+  shares_own (column name nullable kind None pairs) a = shares_below kind a
+
+  shares_below : (k : Kind) (a : Array) → SharesBelow k a a
+  shares_below (lists item) a = shares_own item (items_in a)
+  shares_below (large_lists item) a = shares_own item (items_in a)
+  shares_below (fixed_lists size item) a = shares_own item (items_in a)
+  shares_below (structs columns) a = share_own columns (children_in a)
+  shares_below nulls a = tt
+  shares_below booleans a = tt
+  shares_below (integers bits signed) a = tt
+  shares_below (dates unit) a = tt
+  shares_below (timestamps unit timezone) a = tt
+  shares_below texts a = tt
+  shares_below large_texts a = tt
+  shares_below binaries a = tt
+  shares_below large_binaries a = tt
+  shares_below (fixed_binaries width) a = tt
+
+  pub share_own : (cs : Columns) (arrays : Arrays) → ShareEntries cs arrays arrays
+  share_own no_column arrays = tt
+  share_own (and_column c cs) arrays = (shares_own c (first_array arrays), share_own cs (other_arrays arrays))
+
+-- ---- rows
+
+rows_sharing : (cs : Columns) (own : Arrays) (rows : List (List Cell)) → AreRowsSharing cs own rows → Each (IsRowOf 0 cs own) rows
+rows_sharing cs own [] are = tt
+rows_sharing cs own (row ∷ rows) are = (inr (are.0.0, are.0.1, are.0.2, are.0.3, are.0.4), rows_sharing cs own rows are.1)
+
+pub shared_fit : (s : PlainSchema) (own : Arrays) (rows : List (List Cell)) → IsWithinLimits s → AreRowsSharing (columns_of s.columns) own rows → dictionaries_fit s rows ≡ true
+shared_fit s own rows limits are = parts_few 0 (columns_of s.columns) own rows (sound_columns s limits) (rows_sharing (columns_of s.columns) own rows are)
 
 rows_from : (q : List Cell → Bool) (g : ℕ → List Cell) (start n : ℕ) → ((j : ℕ) → q (g j) ≡ true) → list_all q (map g (range_with_len start n)) ≡ true
 rows_from q g start zero h = refl
@@ -329,4 +376,4 @@ rows_from q g start (suc n) h = and_from _ _ (h start) (rows_from q g (start + 1
 pub rows_named : (s : PlainSchema) (arrays : Arrays) (rows : ℕ) → IsWithinLimits s → have_bytes arrays ≡ true → list_all (λ row. dictionaries_fit s (row ∷ [])) (rows_in (columns_of s.columns) arrays rows) ≡ true
 rows_named s arrays rows limits small =
     rows_from (λ row. dictionaries_fit s (row ∷ [])) (row_at (columns_of s.columns) arrays) 0 rows
-    (λ j. parts_few 0 (columns_of s.columns) arrays (row_at (columns_of s.columns) arrays j ∷ []) (sound_columns s limits) small (inr (j, refl), tt))
+    (λ j. shared_fit s arrays (row_at (columns_of s.columns) arrays j ∷ []) limits ((arrays, j, small, share_own (columns_of s.columns) arrays, refl), tt))

@@ -5,4 +5,5 @@ pub mod Entries
 pub mod Known
 pub mod Placed
 pub mod Bytes
+pub mod Shared
 pub mod inner

@@ -1,22 +1,28 @@
 // What the definitions say. The functions do nothing: their contracts are the laws.
 ghost use Rattle.std.specs.Prelude.{◌≡◌, ◌≤◌, ◌<◌, ◌+◌, ℕ, true, false, List, map, Ok};
 ghost use Rattle.std.specs.List.{list_all, list_any, AllPass};
-ghost use Rattle.arrow_schema.specs.Column.{PlainSchema, columns_of};
+ghost use Rattle.arrow_schema.specs.Column.{Columns, PlainSchema, columns_of};
 ghost use Rattle.arrow_schema.specs.Limits.{has_flat_dictionary, IsWithinLimits};
 ghost use Rattle.arrow_schema.specs.Preorder.{every_column};
+ghost use Rattle.cells.specs.Cell.{Cell};
+ghost use Rattle.cells.specs.Dictionary.{dictionaries_fit};
 ghost use Rattle.cells.specs.Row.{is_row};
 ghost use Rattle.columns.specs.Array.{Array, Arrays};
 ghost use Rattle.columns.specs.CellAt.{part_cells, rows_in};
 ghost use Rattle.columns.specs.Texts.{have_utf8_texts};
+ghost use Rattle.columns.specs.View.{placed_arrays};
+ghost use Rattle.columns.specs.declared.array.Dictionary.{Dictionary};
+ghost use Rattle.columns.specs.declared.array.PlacedArray.{PlacedArray};
 ghost use Rattle.ipc_message.specs.Checks.{has_two_types, is_bad, is_dictionary_of_nested};
 ghost use Rattle.ipc_message.specs.Convert.{plain_schema_of};
 ghost use Rattle.ipc_message.specs.Fields.{every_field};
 ghost use Rattle.ipc_message.specs.Raw.{RawBatch, RawDictionaryBatch, RawSchema};
 ghost use Rattle.dictionary.specs.InEffect.{DictionaryBatch};
-ghost use Rattle.arrays.specs.Bytes.{are_bytes, has_bytes};
+ghost use Rattle.arrays.specs.Bytes.{are_bytes, has_bytes, have_bytes};
 ghost use Rattle.arrays.specs.Checks.{batch_read, batch_weight};
 ghost use Rattle.arrays.specs.Dictionaries.{DictionaryColumn, dictionary_columns, dictionary_read, dictionaries_after};
 ghost use Rattle.arrays.specs.Known.{are_readable, dictionary_values, is_readable_batch, HaveOneType};
+ghost use Rattle.arrays.specs.Shared.{AreRowsSharing, ShareEntries};
 
 use cells::MAX_TABLE_WEIGHT;
 
@@ -50,6 +56,16 @@ pub fn read_rows_are_rows()
         → are_bytes body ≡ true → list_all (list_all has_bytes) known ≡ true → are_readable (dictionary_values (columns_of s.columns)) known ≡ true
         → batch_read s before b body known ≡ Ok arrays
         → AllPass (is_row s) (rows_in (columns_of s.columns) arrays b.length) × (before + batch_weight s b.length arrays ≤ MAX_TABLE_WEIGHT) }
+{}
+
+/// Where rows are of arrays that stand in bytes, and all have the same entries in each dictionary whose indices name only so many, no dictionary column has
+/// more values in them than its indices can name.
+pub fn shared_entries_fit()
+    ensures fit { (s : PlainSchema) (own : Arrays) (rows : List (List Cell)) → IsWithinLimits s → AreRowsSharing (columns_of s.columns) own rows
+        → dictionaries_fit s rows ≡ true }
+    ensures own { (columns : Columns) (arrays : Arrays) → ShareEntries columns arrays arrays }
+    ensures bytes { (bytes : List ℕ) (dictionaries : List Dictionary) (arrays : List PlacedArray)
+        → are_bytes bytes ≡ true → have_bytes (placed_arrays bytes dictionaries arrays) ≡ true }
 {}
 
 /// The dictionaries of a schema that passes its checks are those of its columns, in preorder; and all of one id have values of one type.

@@ -38,7 +38,7 @@ pub use dictionary_columns::DictionaryColumns;
 pub use heavy::row_span_weight;
 pub use laws::{
     read_dictionaries_are_readable, read_dictionaries_have_bytes, read_rows_are_rows,
-    read_texts_are_utf8, schemas_give_dictionary_columns,
+    read_texts_are_utf8, schemas_give_dictionary_columns, shared_entries_fit,
 };
 pub use limits::MAX_SLOTS;
 pub use schema_dictionaries::read_dictionary_columns;

@@ -1,5 +1,5 @@
-// The streams of rows that are kept in record batches, and of the pieces of a table of such rows, without borrowing a row.
-ghost use Rattle.std.specs.Prelude.{◌≡◌, ◌<◌, ◌^◌, ◌∷◌, ◌++◌, [], true, false, length, IfOk};
+// The streams of rows that are kept in record batches, and of the pieces of a table of such rows, by runs of slots.
+ghost use Rattle.std.specs.Prelude.{◌≡◌, ◌<◌, ◌^◌, ◌∷◌, ◌++◌, [], true, length, IfOk};
 ghost use Rattle.std.specs.List.{AllByRecursion};
 ghost use Rattle.arrow_schema.specs.Column.{columns_of};
 ghost use Rattle.arrow_schema.specs.View.{schema_of};
@@ -8,7 +8,6 @@ ghost use Rattle.canonical_stream.specs.Pieces.{IsPieceOf};
 ghost use Rattle.canonical_write.specs.Pieces.{piece_stream, piece_streams, piece_counts};
 ghost use Rattle.canonical_write.specs.View.{joined_parts, streams_in};
 ghost use Rattle.canonical_write.specs.inner.Stream.{stream_in};
-ghost use Rattle.cells.specs.Dictionary.{is_any_limited};
 ghost use Rattle.ipc_write.specs.Written.{schema_message};
 ghost use Rattle.run_pieces.specs.Left.{runs_left, rows_left};
 ghost use Rattle.run_pieces.specs.Rows.{runs_rows, runs_table, are_runs_sound};
@@ -37,7 +36,6 @@ fn encode_left<'a>(
     requires table { IsTable (runs_table (schema_of schema.now) (runs_left all)) }
     requires sound { are_runs_sound (columns_of (schema_of schema.now).columns) (runs_left all) ≡ true }
     requires count { rows ≡ length (rows_left (columns_of (schema_of schema.now).columns) all) }
-    requires unlimited { is_any_limited (columns_of (schema_of schema.now).columns) ≡ false }
     ensures { IfOk result (λ stream. stream_in stream ≡ canonical (runs_table (schema_of schema.now) (runs_left all.entry))) }
 {
     pieces_can_be_built();
@@ -64,17 +62,17 @@ pub(crate) fn encode_parts<'a>(
     requires table { IsTable (parts_table (schema_of schema.now) parts.now) }
     requires sound { are_parts_sound (columns_of (schema_of schema.now).columns) parts.now ≡ true }
     requires count { rows ≡ length (parts_rows (columns_of (schema_of schema.now).columns) parts.now) }
-    requires unlimited { is_any_limited (columns_of (schema_of schema.now).columns) ≡ false }
     ensures { IfOk result (λ stream. stream_in stream ≡ canonical (parts_table (schema_of schema.now) parts.now)) }
 {
     let left = RowsLeft::new(alloc, parts)?;
     encode_left(alloc, schema, left, rows)
 }
 
-/// The one stream of the rows of some runs, of which there are so many: that of [`crate::encode`] of a table that has these rows. No row is borrowed.
+/// The one stream of the rows of some runs, of which there are so many: that of [`crate::encode`] of a table that has these rows.
 ///
-/// The caller sees to it that the rows are a table, whose dictionaries have indices of 32 or 64 bits. Refused only where a growth was. It takes the memory
-/// of the stream, and of the buffers that had to be made, and time linear in the stream and in the runs.
+/// The caller sees to it that the rows are a table. Refused only where a growth was. It takes the memory of the stream, and of the buffers that had to be
+/// made, and time linear in the stream and in the runs; and in the cells of the pieces that have rows under several dictionaries of 8 or 16 bit indices,
+/// whose rows are borrowed.
 pub fn encode_runs(
     alloc: Global,
     schema: &Schema,
@@ -84,7 +82,6 @@ pub fn encode_runs(
     requires table { IsTable (runs_table (schema_of schema.now) runs.items) }
     requires sound { are_runs_sound (columns_of (schema_of schema.now).columns) runs.items ≡ true }
     requires count { rows ≡ length (runs_rows (columns_of (schema_of schema.now).columns) runs.items) }
-    requires unlimited { is_any_limited (columns_of (schema_of schema.now).columns) ≡ false }
     ensures { IfOk result (λ out. out.items ≡ canonical (runs_table (schema_of schema.now) runs.entry.items)) }
 {
     let stream = encode_left(alloc, schema, RowsLeft::of_runs(runs), rows)?;
@@ -124,7 +121,6 @@ pub(crate) fn encode_parts_pieces<'a>(
     requires table { IsTable (parts_table (schema_of schema.now) parts.now) }
     requires sound { are_parts_sound (columns_of (schema_of schema.now).columns) parts.now ≡ true }
     requires count { rows ≡ length (parts_rows (columns_of (schema_of schema.now).columns) parts.now) }
-    requires unlimited { is_any_limited (columns_of (schema_of schema.now).columns) ≡ false }
     ensures streams { IfOk result (λ pieces. streams_in pieces ≡ piece_streams (parts_table (schema_of schema.now) parts.now)) }
     ensures rows { IfOk result (λ pieces. pieces.rows.items ≡ piece_counts (parts_table (schema_of schema.now) parts.now)) }
     ensures short { IfOk result (λ pieces. AllByRecursion (λ stream. length stream < 2 ^ 64) (streams_in pieces)) }

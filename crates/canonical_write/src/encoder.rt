@@ -20,7 +20,6 @@ use crate::stream::{Stream, begin_stream, end_stream, into_bytes, into_parts, sc
 use array_build::Buffer;
 use arrow_schema::{Field, Schema};
 use canonical_stream::pieces_can_be_built;
-use cells::has_limits;
 use std::alloc::{AllocError, Global};
 use table_cut::next_piece;
 use values::{Table, Values};
@@ -58,9 +57,7 @@ pub(crate) fn encode_table<'a>(alloc: Global, table: &'a Table) -> Result<Stream
 {
     let schema = table.schema();
     if let Some(parts) = table.parts() {
-        if !has_limits(schema) {
-            return encode_parts(alloc, schema, parts, table.len());
-        }
+        return encode_parts(alloc, schema, parts, table.len());
     }
     encode_rows(alloc, schema, table)
 }
@@ -148,8 +145,8 @@ fn encode_rows_pieces<'a>(
 ///
 /// The caller sees to it that the rows are a table under this schema, as they are under the table's own. Refused only where a growth was. No copy is made of
 /// a buffer that stands in the table's bytes as it is written, but of small ones: it takes the memory of all others, and that of the schema's message once;
-/// and time linear in these and in the cells of the table where it is not kept in record batches of just these columns, or has a dictionary whose indices
-/// have 8 or 16 bits. The law [`crate::pieces_are_tables`] says what the streams mean.
+/// and time linear in these and in the cells of the table where it is not kept in record batches of just these columns, or of pieces that have rows under
+/// several dictionaries of 8 or 16 bit indices. The law [`crate::pieces_are_tables`] says what the streams mean.
 pub fn encode_pieces<'a>(
     alloc: Global,
     schema: &Schema,
@@ -161,7 +158,7 @@ pub fn encode_pieces<'a>(
     ensures short { IfOk result (λ pieces. AllByRecursion (λ stream. length stream < 2 ^ 64) (streams_in pieces)) }
 {
     if let Some(parts) = table.parts() {
-        if are_same_fields(&schema.fields, &table.schema().fields) && !has_limits(schema) {
+        if are_same_fields(&schema.fields, &table.schema().fields) {
             return encode_parts_pieces(alloc, schema, parts, table.len());
         }
     }

@@ -39,7 +39,7 @@ others_placed bytes all [] (suc j) = let e : suc j + 1 ≡ suc (j + 1) = omega a
 others_placed bytes all (x ∷ xs) zero = refl
 others_placed bytes all (x ∷ xs) (suc j) = let e : suc j + 1 ≡ suc (j + 1) = omega arith in rw e (others_placed bytes all xs j)
 
-arrays_next : (j : ℕ) (r : RowRun) → other_arrays (arrays_behind j r) ≡ arrays_behind (j + 1) r
+pub arrays_next : (j : ℕ) (r : RowRun) → other_arrays (arrays_behind j r) ≡ arrays_behind (j + 1) r
 arrays_next j r = others_placed r.bytes.now r.dictionaries.now r.arrays.now j
 
 rows_first : (j : ℕ) (c : Column) (cs : Columns) (rows : List RowRun) → map first_cell (flat_map (rows_behind j (and_column c cs)) rows) ≡ flat_map (cells_behind j c) rows

@@ -4,3 +4,5 @@ pub mod PieceLemmas
 pub mod ColumnLemmas
 pub mod PartLemmas
 pub mod RunSteps
+pub mod RoomLemmas
+pub mod SharedLemmas

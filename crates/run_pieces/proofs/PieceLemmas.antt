@@ -1,12 +1,12 @@
 -- Where a piece ends.
 use Rattle.std.specs.Prelude.{nat_le, sum_by, ◌&&◌}
 use Rattle.std.specs.List.{range_with_len, list_all}
-use Rattle.std.proofs.Common.{◌≡◌, ◌≢◌, ◌⊎◌, inl, inr, ℕ, zero, suc, ◌+◌, ◌-◌, ◌<◌, ◌≤◌, Bool, true, false, List, [], ◌∷◌, ◌++◌, map, length, take, drop, set, refl, sym, ap, ◌∙◌, arith, length-append}
+use Rattle.std.proofs.Common.{◌≡◌, ◌≢◌, ◌⊎◌, inl, inr, ℕ, zero, suc, ◌+◌, ◌-◌, ◌<◌, ◌≤◌, Bool, true, false, List, [], ◌∷◌, ◌++◌, map, length, drop, set, refl, sym, ap, ◌∙◌, arith, length-append}
 use Rattle.std.proofs.lemmas.Bool.{and_parts, and_from, leb-true, le-leb}
 use Rattle.std.proofs.lemmas.List.Sums.{sum_by-append, sum_by-cons}
 use Rattle.arrow_schema.specs.Column.{PlainSchema, columns_of}
 use Rattle.cells.specs.Cell.{Cell}
-use Rattle.cells.specs.Dictionary.{is_any_limited}
+use Rattle.cells.specs.Dictionary.{dictionaries_fit}
 use Rattle.cells.specs.Row.{is_row}
 use Rattle.cells.specs.Weight.{row_weight, table_weight}
 use Rattle.columns.specs.Array.{Arrays}
@@ -21,13 +21,10 @@ abbrev pub NextLaw : Type 0
 NextLaw = (s : PlainSchema) (piece rest : List (List Cell)) → piece ≢ [] → within_piece s piece ≡ true → HasNoRoom (within_piece s) piece rest
     → pieces (within_piece s) (piece ++ rest) ≡ piece ∷ pieces (within_piece s) rest
 
-abbrev pub UnlimitedLaw : Type 0
-UnlimitedLaw = (s : PlainSchema) (rows : List (List Cell)) → is_any_limited (columns_of s.columns) ≡ false → within_piece s rows ≡ within_limits (row_weight s) 4096 16777216 rows
-
 -- there are no more rows, or no room for the next one
 abbrev pub IsFull : PlainSchema → List (List Cell) → List (List Cell) → Type 0
 IsFull s piece [] = Unit {0}
-IsFull s piece (row ∷ rows) = (4096 ≤ length piece) ⊎ (16777216 < table_weight s piece + row_weight s row)
+IsFull s piece (row ∷ rows) = ((4096 ≤ length piece) ⊎ (16777216 < table_weight s piece + row_weight s row)) ⊎ (dictionaries_fit s (piece ++ row ∷ []) ≡ false)
 
 le_false : (a b : ℕ) → b < a → nat_le a b ≡ false
 le_false a b h = grind arith
@@ -42,69 +39,70 @@ too_long s rows h = rw (le_false (length rows) 4096 h) refl
 too_heavy : (s : PlainSchema) (rows : List (List Cell)) → 16777216 < table_weight s rows → within_limits (row_weight s) 4096 16777216 rows ≡ false
 too_heavy s rows h = rw (le_false (sum_by (row_weight s) rows) 16777216 h) (and_last (nat_le (length rows) 4096))
 
-no_room : UnlimitedLaw → (s : PlainSchema) → is_any_limited (columns_of s.columns) ≡ false → (piece rest : List (List Cell)) → IsFull s piece rest → HasNoRoom (within_piece s) piece rest
-no_room law s free piece [] full = tt
-no_room law s free piece (row ∷ rows) full =
+too_many_entries : (s : PlainSchema) (rows : List (List Cell)) → dictionaries_fit s rows ≡ false → within_piece s rows ≡ false
+too_many_entries s rows h = rw h (and_last (within_limits (row_weight s) 4096 16777216 rows))
+
+past_limits : (s : PlainSchema) (rows : List (List Cell)) → within_limits (row_weight s) 4096 16777216 rows ≡ false → within_piece s rows ≡ false
+past_limits s rows h = rw h refl
+
+no_room : (s : PlainSchema) (piece rest : List (List Cell)) → IsFull s piece rest → HasNoRoom (within_piece s) piece rest
+no_room s piece [] full = tt
+no_room s piece (row ∷ rows) full =
     let more : length (piece ++ row ∷ []) ≡ length piece + 1 = length-append piece (row ∷ []) in
     let both = sum_by-append (row_weight s) piece (row ∷ []) in
     let one = sum_by-cons (row_weight s) row [] in
-    law s (piece ++ row ∷ []) free ∙ elim full [
-      | inl many ↦ too_long s (piece ++ row ∷ []) (omega (arith, more, many))
-      | inr heavy ↦ too_heavy s (piece ++ row ∷ []) (omega (arith, both, one, heavy))
+    elim full [
+      | inl past ↦ past_limits s (piece ++ row ∷ []) (elim past [
+        | inl many ↦ too_long s (piece ++ row ∷ []) (omega (arith, more, many))
+        | inr heavy ↦ too_heavy s (piece ++ row ∷ []) (omega (arith, both, one, heavy))
+      ])
+      | inr filled ↦ too_many_entries s (piece ++ row ∷ []) filled
     ]
 
-pub cut_here : NextLaw → UnlimitedLaw → (s : PlainSchema) → is_any_limited (columns_of s.columns) ≡ false → (rows piece rest : List (List Cell)) → rows ≡ piece ++ rest → 1 ≤ length piece
-    → length piece ≤ 4096 → table_weight s piece ≤ 16777216 → IsFull s piece rest → pieces (within_piece s) rows ≡ piece ∷ pieces (within_piece s) rest
-cut_here law unlimited s free rows [] rest is some few light full = absurd (omega arith)
-cut_here law unlimited s free rows (row ∷ piece) rest is some few light full =
+pub cut_here : NextLaw → (s : PlainSchema) (rows piece rest : List (List Cell)) → rows ≡ piece ++ rest → 1 ≤ length piece
+    → length piece ≤ 4096 → table_weight s piece ≤ 16777216 → dictionaries_fit s piece ≡ true → IsFull s piece rest → pieces (within_piece s) rows ≡ piece ∷ pieces (within_piece s) rest
+cut_here law s rows [] rest is some few light fit full = absurd (omega arith)
+cut_here law s rows (row ∷ piece) rest is some few light fit full =
     let there : row ∷ piece ≢ [] = λ h. cc in
-    let fits : within_piece s (row ∷ piece) ≡ true = unlimited s (row ∷ piece) free ∙ and_from _ _ (le-leb (length (row ∷ piece)) 4096 few) (le-leb (sum_by (row_weight s) (row ∷ piece)) 16777216 light) in
-    ap (pieces (within_piece s)) is ∙ law s (row ∷ piece) rest there fits (no_room unlimited s free (row ∷ piece) rest full)
+    let fits : within_piece s (row ∷ piece) ≡ true
+    = and_from _ _ (and_from _ _ (le-leb (length (row ∷ piece)) 4096 few) (le-leb (sum_by (row_weight s) (row ∷ piece)) 16777216 light)) fit in
+    ap (pieces (within_piece s)) is ∙ law s (row ∷ piece) rest there fits (no_room s (row ∷ piece) rest full)
 
--- a row that a table takes is not too heavy
-row_light : (s : PlainSchema) (row : List Cell) → is_row s row ≡ true → UnlimitedLaw → is_any_limited (columns_of s.columns) ≡ false → row_weight s row ≤ 16777216
-row_light s row is law free =
-    let fits : within_limits (row_weight s) 4096 16777216 (row ∷ []) ≡ true = sym (law s (row ∷ []) free) ∙ one_within s row is in
-    let light = leb-true (sum_by (row_weight s) (row ∷ [])) 16777216 (and_parts (nat_le 1 4096) (nat_le (sum_by (row_weight s) (row ∷ [])) 16777216) fits).1 in
+-- a row that a table takes is not too heavy, and fills no dictionary
+row_light : (s : PlainSchema) (row : List Cell) → is_row s row ≡ true → (row_weight s row ≤ 16777216) × (dictionaries_fit s (row ∷ []) ≡ true)
+row_light s row is =
+    let fits = and_parts (within_limits (row_weight s) 4096 16777216 (row ∷ [])) (dictionaries_fit s (row ∷ [])) (one_within s row is) in
+    let light = leb-true (sum_by (row_weight s) (row ∷ [])) 16777216 (and_parts (nat_le 1 4096) (nat_le (sum_by (row_weight s) (row ∷ [])) 16777216) fits.0).1 in
     let one = sum_by-cons (row_weight s) row [] in
-    omega (arith, light, one)
+    (omega (arith, light, one), fits.1)
 
 -- so a piece that is full has a row
-pub some_taken : UnlimitedLaw → (s : PlainSchema) → is_any_limited (columns_of s.columns) ≡ false → (rows piece rest : List (List Cell)) → rows ≡ piece ++ rest → list_all (is_row s) rows ≡ true
-    → rows ≢ [] → IsFull s piece rest → 1 ≤ length piece
-some_taken law s free rows (row ∷ piece) rest is are there full = omega arith
-some_taken law s free rows [] [] is are there full = absurd (there is)
-some_taken law s free rows [] (row ∷ rest) is are there full =
+pub some_taken : (s : PlainSchema) (rows piece rest : List (List Cell)) → rows ≡ piece ++ rest → list_all (is_row s) rows ≡ true → rows ≢ [] → IsFull s piece rest → 1 ≤ length piece
+some_taken s rows (row ∷ piece) rest is are there full = omega arith
+some_taken s rows [] [] is are there full = absurd (there is)
+some_taken s rows [] (row ∷ rest) is are there full =
     let all : list_all (is_row s) (row ∷ rest) ≡ true = sym (ap (list_all (is_row s)) is) ∙ are in
-    let light = row_light s row (and_parts (is_row s row) (list_all (is_row s) rest) all).0 law free in
+    let alone = row_light s row (and_parts (is_row s row) (list_all (is_row s) rest) all).0 in
+    let light = alone.0 in
     let none : table_weight s [] ≡ 0 = refl in
-    elim full [ inl many ↦ absurd (omega (arith, many)) | inr heavy ↦ absurd (omega (arith, heavy, light, none)) ]
+    elim full [
+      | inl past ↦ elim past [ inl many ↦ absurd (omega (arith, many)) | inr heavy ↦ absurd (omega (arith, heavy, light, none)) ]
+      | inr filled ↦ absurd (let fits = alone.1 in cc)
+    ]
 
 -- where so many rows of a run are taken, the next one is the next row
+abbrev pub IsPastLimits : PlainSchema → List (List Cell) → List Cell → Type 0
+IsPastLimits s piece row = ((4096 ≤ length piece) ⊎ (16777216 < table_weight s piece + row_weight s row)) ⊎ (dictionaries_fit s (piece ++ row ∷ []) ≡ false)
+
 behind_full : (s : PlainSchema) (piece : List (List Cell)) (arrays : Arrays) (from n : ℕ) (more : List (List Cell)) → 0 < n
-    → (4096 ≤ length piece) ⊎ (16777216 < table_weight s piece + row_weight s (row_at (columns_of s.columns) arrays from))
-    → IsFull s piece (map (row_at (columns_of s.columns) arrays) (range_with_len from n) ++ more)
+    → IsPastLimits s piece (row_at (columns_of s.columns) arrays from) → IsFull s piece (map (row_at (columns_of s.columns) arrays) (range_with_len from n) ++ more)
 behind_full s piece arrays from zero more some full = absurd (omega arith)
 behind_full s piece arrays from (suc n) more some full = full
 
-pub run_full : (s : PlainSchema) (before : List (List Cell)) (arrays : Arrays) (from n k : ℕ) (more : List (List Cell)) → k < n
-    → (4096 ≤ length before + k) ⊎ (16777216 < table_weight s before + table_weight s (take k (map (row_at (columns_of s.columns) arrays) (range_with_len from n)))
-    + row_weight s (row_at (columns_of s.columns) arrays (from + k)))
-    → length (take k (map (row_at (columns_of s.columns) arrays) (range_with_len from n))) ≡ k
-    → IsFull s (before ++ take k (map (row_at (columns_of s.columns) arrays) (range_with_len from n))) (map (row_at (columns_of s.columns) arrays) (range_with_len (from + k) (n - k)) ++ more)
-run_full s before arrays from n k more lt full size =
-    let taken : List (List Cell) = take k (map (row_at (columns_of s.columns) arrays) (range_with_len from n)) in
-    let both = sum_by-append (row_weight s) before taken in
-    let long = length-append before taken in
-    behind_full s (before ++ taken) arrays (from + k) (n - k) more (omega arith) (elim full as (λ _. (4096 ≤ length (before ++ taken)) ⊎ (16777216 < table_weight s (before ++ taken) + row_weight s (row_at (columns_of s.columns) arrays (from + k)))) [
-      | inl many ↦ inl (omega (arith, many, long, size))
-      | inr heavy ↦ inr (omega (arith, heavy, both))
-    ])
-
--- rows of which there is room for no more are a full piece
-pub many_full : (s : PlainSchema) (piece rest : List (List Cell)) → 4096 ≤ length piece → IsFull s piece rest
-many_full s piece [] many = tt
-many_full s piece (row ∷ rest) many = inl many
+pub run_full : (s : PlainSchema) (piece : List (List Cell)) (arrays : Arrays) (from n k : ℕ) (more : List (List Cell)) → k < n
+    → IsPastLimits s piece (row_at (columns_of s.columns) arrays (from + k))
+    → IsFull s piece (map (row_at (columns_of s.columns) arrays) (range_with_len (from + k) (n - k)) ++ more)
+run_full s piece arrays from n k more lt full = behind_full s piece arrays (from + k) (n - k) more (omega arith) full
 
 pub drop_set : {X : Type 0} (xs : List X) (i : ℕ) (x : X) → i < length xs → drop i (set xs i x) ≡ x ∷ drop (i + 1) xs
 drop_set [] i x lt = absurd (omega arith)

@@ -1,6 +1,6 @@
 -- The run that a piece is at, taken whole or in part.
 use Rattle.std.specs.List.{range_with_len}
-use Rattle.std.proofs.Common.{◌≡◌, ◌⊎◌, ℕ, ◌+◌, ◌-◌, ◌<◌, ◌≤◌, true, List, ◌++◌, map, length, take, drop, get_or, set, sym, ap, subst, ◌∙◌, arith, append_assoc}
+use Rattle.std.proofs.Common.{◌≡◌, ℕ, ◌+◌, ◌-◌, ◌<◌, ◌≤◌, true, List, ◌++◌, map, length, take, drop, get_or, set, sym, ap, subst, ◌∙◌, arith, append_assoc}
 use Rattle.std.proofs.lemmas.Bool.{and_parts}
 use Rattle.std.proofs.lemmas.List.{take-append-drop, length-take-le, take_all}
 use Rattle.std.proofs.lemmas.List.Concat.{flat_map-cons}
@@ -8,7 +8,6 @@ use Rattle.std.proofs.lemmas.List.FromFn.{length-map-range_with_len}
 use Rattle.facts.specs.laws.Lists.{drop-item}
 use Rattle.arrow_schema.specs.Column.{PlainSchema, Columns, columns_of}
 use Rattle.cells.specs.Cell.{Cell}
-use Rattle.cells.specs.Weight.{row_weight, table_weight}
 use Rattle.columns.specs.CellAt.{row_at}
 use Rattle.columns.specs.Sound.{are_sound}
 use Rattle.columns.specs.View.{placed_arrays}
@@ -16,7 +15,7 @@ use Rattle.columns.specs.declared.array.Dictionary.{Dictionary}
 use Rattle.columns.specs.declared.array.PlacedArray.{PlacedArray}
 use Rattle.run_pieces.specs.declared.row_run.RowRun.{RowRun}
 use Rattle.run_pieces.specs.Rows.{arrays_of_run, run_rows, runs_rows, is_run_sound, are_runs_sound}
-use Rattle.run_pieces.proofs.PieceLemmas.{IsFull, run_full, drop_set}
+use Rattle.run_pieces.proofs.PieceLemmas.{IsFull, IsPastLimits, run_full, drop_set}
 use Rattle.run_pieces.proofs.RowLemmas.{rows_behind}
 
 pub run_size : (cs : Columns) (run : RowRun) → length (run_rows cs run) ≡ run.len
@@ -65,19 +64,18 @@ cut_front cs items next run behind all before new k lt is whole taken rest =
     taken_front cs items next run all before new k lt is whole taken
     ∙ ap (λ (xs : List (List Cell)). new ++ xs) (sym (left_behind cs items next run behind k lt rest))
 
-pub cut_full : (s : PlainSchema) (items : List RowRun) (next : ℕ) (run behind : RowRun) (before new : List (List Cell)) (k : ℕ) → next < length items
-    → new ≡ before ++ take k (run_rows (columns_of s.columns) run) → run_rows (columns_of s.columns) behind ≡ drop k (run_rows (columns_of s.columns) run) → k < run.len
-    → (4096 ≤ length before + k) ⊎ (16777216 < table_weight s before + table_weight s (take k (run_rows (columns_of s.columns) run)) + row_weight s (row_at (columns_of s.columns) (arrays_of_run run) (run.from + k)))
+pub cut_full : (s : PlainSchema) (items : List RowRun) (next : ℕ) (run behind : RowRun) (new : List (List Cell)) (k : ℕ) → next < length items
+    → run_rows (columns_of s.columns) behind ≡ drop k (run_rows (columns_of s.columns) run) → k < run.len
+    → IsPastLimits s new (row_at (columns_of s.columns) (arrays_of_run run) (run.from + k))
     → IsFull s new (runs_rows (columns_of s.columns) (drop next (set items next behind)))
-cut_full s items next run behind before new k lt taken rest more full =
+cut_full s items next run behind new k lt rest more full =
     let cs : Columns = columns_of s.columns in
-    let rows : List (List Cell) = run_rows cs run in
     let others : List (List Cell) = runs_rows cs (drop (next + 1) items) in
     let span : List (List Cell) = map (row_at cs (arrays_of_run run)) (range_with_len (run.from + k) (run.len - k)) in
-    let here : IsFull s (before ++ take k rows) (span ++ others) = run_full s before (arrays_of_run run) run.from run.len k others more full (front_size cs run k (omega arith)) in
+    let here : IsFull s new (span ++ others) = run_full s new (arrays_of_run run) run.from run.len k others more full in
     let left : span ++ others ≡ runs_rows cs (drop next (set items next behind))
     = ap (λ (xs : List (List Cell)). xs ++ others) (rows_behind cs (arrays_of_run run) run.from run.len k (omega arith)) ∙ sym (left_behind cs items next run behind k lt rest) in
-    subst (λ (xs : List (List Cell)). IsFull s new xs) left (subst (λ (xs : List (List Cell)). IsFull s xs (span ++ others)) (sym taken) here)
+    subst (λ (xs : List (List Cell)). IsFull s new xs) left here
 
 -- ---- the batches of a part
 

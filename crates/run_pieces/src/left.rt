@@ -2,8 +2,8 @@
 ghost use Rattle.std.specs.Prelude.{◌≡◌, ◌≢◌, ◌++◌, [], ◌∷◌, true, false, length, IfOk, OnOk};
 ghost use Rattle.std.specs.List.{list_all};
 ghost use Rattle.arrow_schema.specs.Column.{Columns, columns_of};
+ghost use Rattle.arrow_schema.specs.Limits.{IsWithinLimits};
 ghost use Rattle.arrow_schema.specs.View.{schema_of};
-ghost use Rattle.cells.specs.Dictionary.{is_any_limited};
 ghost use Rattle.cells.specs.Row.{is_row};
 ghost use Rattle.columns.specs.CellAt.{rows_in};
 ghost use Rattle.columns.specs.Sound.{are_sound};
@@ -14,9 +14,11 @@ ghost use Rattle.table_cut.specs.Piece.{within_piece};
 ghost use Rattle.values.specs.Parts.{part_rows, parts_rows, is_batch_sound, are_parts_sound};
 
 use crate::fitting::fitting;
+use crate::room::{Seen, room_within};
 use crate::row_run::RowRun;
+use arrays::shared_entries_fit;
 use arrow_schema::Schema;
-use cells::MAX_PIECE_ROWS;
+use cells::{MAX_PIECE_ROWS, has_limits};
 use columns::PlacedArray;
 use std::alloc::{AllocError, Global};
 use table_cut::longest_fronts_are_pieces;
@@ -98,10 +100,11 @@ impl<'a> RowsLeft<'a> {
     }
 
     /// The rows of the next piece: the longest front of the rows that are left which is within the limits of a piece. It takes time linear in the runs of
-    /// the piece, and for a piece that is too heavy with one run more, in the rows of that run. Refused only where a growth was; from then on it is not
-    /// told which rows are left, and a caller that tries again begins with [`RowsLeft::new`].
+    /// the piece, and for a piece that is too heavy with one run more, in the rows of that run; where its rows stand under several dictionaries of 8 or 16
+    /// bit indices, also in the cells of all its rows. Refused only where a growth was; from then on it is not told which rows are left, and a caller that
+    /// tries again begins with [`RowsLeft::new`].
     pub fn next_piece(&mut self, alloc: Global, schema: &Schema) -> Result<RunPiece<'a>, AllocError>
-        requires unlimited { is_any_limited (columns_of (schema_of schema.now).columns) ≡ false }
+        requires schema { IsWithinLimits (schema_of schema.now) }
         requires sound { are_runs_sound (columns_of (schema_of schema.now).columns) (runs_left self.old) ≡ true }
         requires rows { list_all (is_row (schema_of schema.now)) (rows_left (columns_of (schema_of schema.now).columns) self.old) ≡ true }
         requires some { rows_left (columns_of (schema_of schema.now).columns) self.old ≢ [] }
@@ -115,17 +118,23 @@ impl<'a> RowsLeft<'a> {
         ensures left { IfOk result (λ _. are_runs_sound (columns_of (schema_of schema.now).columns) (runs_left self.new) ≡ true) }
     {
         longest_fronts_are_pieces();
+        shared_entries_fit();
+        let limited = has_limits(schema);
         let mut runs = Vec::new(alloc);
         let mut rows = 0;
         let mut weight = 0;
+        let mut seen = Seen::Nothing;
         while self.next < self.runs.len() && rows < MAX_PIECE_ROWS {
             let run = self.runs[self.next];
             let taken = fitting(schema, run, MAX_PIECE_ROWS - rows, weight);
-            push_run(&mut runs, run.front(taken.rows))?;
-            rows += taken.rows;
+            let most = run.front(taken.rows);
+            let room = room_within(alloc, schema, limited, seen, &runs, most)?;
+            push_run(&mut runs, run.front(room.rows))?;
+            rows += room.rows;
             weight = taken.weight;
-            if taken.rows < run.len {
-                self.runs[self.next] = run.behind(taken.rows);
+            seen = room.seen;
+            if room.rows < run.len {
+                self.runs[self.next] = run.behind(room.rows);
                 return Ok(RunPiece { runs, rows });
             }
             self.next += 1;

@@ -17,11 +17,13 @@ pub struct RowRun<'a> {
 impl<'a> RowRun<'a> {
     ghost use Rattle.std.specs.Prelude.{◌≡◌, ◌≤◌, ◌-◌, true, take, drop};
     ghost use Rattle.arrow_schema.specs.Column.{Columns};
-    ghost use Rattle.run_pieces.specs.Rows.{run_rows, is_run_sound};
+    ghost use Rattle.run_pieces.specs.Rows.{arrays_of_run, run_rows, is_run_sound};
 
     /// The first of these rows.
     pub fn front(self, len: usize) -> RowRun<'a>
         requires { len ≤ self.len }
+        ensures arrays { arrays_of_run result ≡ arrays_of_run self.entry }
+        ensures from { result.from ≡ self.entry.from }
         ensures len { result.len ≡ len }
         ensures rows { (columns : Columns) → run_rows columns result ≡ take len (run_rows columns self.entry) }
         ensures sound { (columns : Columns) → is_run_sound columns self.entry ≡ true → is_run_sound columns result ≡ true }

@@ -1,8 +1,7 @@
 // The selection of a table.
-ghost use Rattle.std.specs.Prelude.{◌≡◌, ◌≤◌, ◌<◌, ◌*◌, ◌^◌, Ok, true, false, length, IfOk, IfErr};
+ghost use Rattle.std.specs.Prelude.{◌≡◌, ◌≤◌, ◌<◌, ◌*◌, ◌^◌, Ok, true, length, IfOk, IfErr};
 ghost use Rattle.arrow_schema.specs.Column.{columns_of};
 ghost use Rattle.arrow_schema.specs.View.{schema_of};
-ghost use Rattle.cells.specs.Dictionary.{is_any_limited};
 ghost use Rattle.query.specs.declared.errors.QueryError.TheVariants.{OutOfMemory};
 ghost use Rattle.query.specs.Choice.{chosen_table};
 ghost use Rattle.query.specs.Selection.{selection};
@@ -17,7 +16,6 @@ use crate::picked::pick_batches;
 use arrow_schema::{DataType, Field, Schema};
 use canonical_round_trip::canonical_means_its_table;
 use canonical_write::encode_runs;
-use cells::has_limits;
 use ipc_stream::decode;
 use query::{Choice, Query, QueryError, choose, chosen_cells, pick_schema, selection_is_a_table};
 use std::alloc::Global;
@@ -28,7 +26,6 @@ fn table_of_runs(alloc: Global, schema: &Schema, kept: KeptRuns<'_>) -> Result<T
     requires table { IsTable (runs_table (schema_of schema.now) kept.runs.items) }
     requires sound { are_runs_sound (columns_of (schema_of schema.now).columns) kept.runs.items ≡ true }
     requires count { kept.rows ≡ length (runs_rows (columns_of (schema_of schema.now).columns) kept.runs.items) }
-    requires unlimited { is_any_limited (columns_of (schema_of schema.now).columns) ≡ false }
     ensures ok { IfOk result (λ t. table_of t ≡ runs_table (schema_of schema.now) kept.entry.runs.items) }
     ensures refused { IfErr result (λ e. e ≡ OutOfMemory) }
 {
@@ -55,7 +52,6 @@ fn select_runs(
     requires sound { are_parts_sound (columns_of (schema_of schema.now).columns) parts.now ≡ true }
     requires mask { length (parts_rows (columns_of (schema_of schema.now).columns) parts.now) ≤ 8 * length choice.now.mask.items }
     requires few { length (parts_rows (columns_of (schema_of schema.now).columns) parts.now) < 2 ^ 64 }
-    requires unlimited { is_any_limited (columns_of (schema_of picked.now).columns) ≡ false }
     ensures ok { IfOk result (λ t. table_of t ≡ chosen_table choice.now (parts_table (schema_of schema.now) parts.now)) }
     ensures refused { IfErr result (λ e. e ≡ OutOfMemory) }
 {
@@ -83,13 +79,6 @@ fn are_integers(fields: &[Field]) -> bool {
     true
 }
 
-// Whether rows of a schema are kept as runs of slots.
-fn are_kept_in_runs(schema: &Schema) -> bool
-    ensures { result ≡ true → is_any_limited (columns_of (schema_of schema.now).columns) ≡ false }
-{
-    !has_limits(schema) && !are_integers(&schema.fields)
-}
-
 // The table of the columns and rows that are chosen of another.
 fn select_chosen(alloc: Global, table: &Table, choice: &Choice) -> Result<Table, QueryError>
     requires mask { length (table_of table.now).rows ≤ 8 * length choice.now.mask.items }
@@ -102,7 +91,7 @@ fn select_chosen(alloc: Global, table: &Table, choice: &Choice) -> Result<Table,
     let schema = table.schema();
     let picked = pick_schema(alloc, schema, &choice.columns)?;
     if let Some(parts) = table.parts() {
-        if are_kept_in_runs(&picked) {
+        if !are_integers(&picked.fields) {
             return select_runs(alloc, schema, &picked, parts, choice);
         }
     }
@@ -113,8 +102,8 @@ fn select_chosen(alloc: Global, table: &Table, choice: &Choice) -> Result<Table,
 /// why the query is refused: the columns asked for are looked at first, and then the conditions in order.
 ///
 /// Of a table that is kept in record batches the result is kept so too, in the memory of its stream, unless all columns asked for have integers, dates or
-/// timestamps or one has a dictionary whose indices have 8 or 16 bits: its rows are runs of slots, and it takes time linear in the mask, the runs and the bytes
-/// of the result. Else its cells are copied.
+/// timestamps: its rows are runs of slots, and it takes time linear in the mask, the runs and the bytes of the result; and in the cells of pieces of 4,096
+/// rows that have rows under several dictionaries of 8 or 16 bit indices. Else its cells are copied.
 pub fn select(alloc: Global, table: &Table, query: &Query) -> Result<Table, QueryError>
     ensures ok { IfOk result (λ t. selection (table_of table.now) (query_in query.now) ≡ Ok (table_of t)) }
     ensures refused { IfErr result (λ e. Reports e (selection (table_of table.now) (query_in query.now))) }

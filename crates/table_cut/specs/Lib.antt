@@ -1,5 +1,6 @@
 pub mod Cut
 pub mod CutRows
 pub mod Piece
+pub mod SeenRows
 pub mod inner
 pub mod laws

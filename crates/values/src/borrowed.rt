@@ -1,7 +1,7 @@
 // Values of a table, as they are borrowed.
 ghost use Rattle.std.specs.Prelude.{◌≡◌};
 ghost use Rattle.cells.specs.View.{cell};
-ghost use Rattle.columns.specs.Borrowed.{borrowed_cell as cell_in_arrays};
+ghost use Rattle.columns.specs.Borrowed.{borrowed_cell as cell_in_arrays, borrowed_cells as cells_in_arrays};
 ghost use Rattle.values.specs.Borrowed.{borrowed_cell};
 
 use cells::Value;
@@ -35,6 +35,15 @@ pub struct Values<'a> {
 impl<'a> Values<'a> {
     ghost use Rattle.std.specs.Prelude.{◌==◌, length, slice_get, map, option_map, IfSome};
     ghost use Rattle.values.specs.Borrowed.{borrowed_cells, values_left};
+
+    /// Those of arrays.
+    pub fn of_arrays(values: columns::Values<'a>) -> Values<'a>
+        ensures { borrowed_cells result ≡ cells_in_arrays values.entry }
+    {
+        Values {
+            form: Form::Arrays(values),
+        }
+    }
 
     /// How many there are.
     pub fn len(&self) -> usize

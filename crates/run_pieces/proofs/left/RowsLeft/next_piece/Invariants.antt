@@ -1,9 +1,11 @@
 use Rattle.std.proofs.Common.{◌≡◌, ◌≤◌, ◌-◌, ◌++◌, true, length}
 use Rattle.arrow_schema.specs.Column.{columns_of}
 use Rattle.arrow_schema.specs.View.{schema_of}
+use Rattle.cells.specs.Dictionary.{dictionaries_fit}
 use Rattle.cells.specs.Weight.{table_weight}
 use Rattle.run_pieces.specs.Left.{runs_left, rows_left}
 use Rattle.run_pieces.specs.Rows.{runs_rows, are_runs_sound}
+use Rattle.run_pieces.specs.inner.Room.{IsSeenWithin}
 use Rattle.run_pieces.proofs.left.RowsLeft.next_piece.Given as goal
 
 -- the rows so far fit into a piece, and the others are left
@@ -20,6 +22,8 @@ invariant-loop-self l =
       light : l.weight ≤ 16777216;
       sound : are_runs_sound columns l.runs.items ≡ true;
       left : are_runs_sound columns (runs_left l.self) ≡ true;
+      fits : dictionaries_fit s taken ≡ true;
+      seen : IsSeenWithin s taken l.seen;
     }
 
 abbrev pub decreases-loop-self : goal.decreases-loop-self
