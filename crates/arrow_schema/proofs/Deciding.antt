@@ -1,5 +1,5 @@
 -- The tests of two columns decide whether they are seen alike.
-use Rattle.std.proofs.Common.{◌≡◌, ℕ, Bool, true, false, List, refl, ap, sym, ◌∙◌, ◌↔◌}
+use Rattle.std.proofs.Common.{◌≡◌, ◌&&◌, ℕ, Bool, true, List, [], ◌∷◌, refl, ap, sym, ◌∙◌, ◌↔◌}
 use Rattle.std.specs.Prelude.{Option, Some, None, ◌==◌}
 use Rattle.std.specs.Bool.{Decides}
 use Rattle.std.proofs.lemmas.Bool.{false≢true}
@@ -8,7 +8,7 @@ use Rattle.std.proofs.lemmas.Slice.Eq.{bytes_eq-Decides, slice_eq-Decides}
 use Rattle.std.specs.Cmp.{booleans_Decides}
 use Rattle.arrow_schema.specs.declared.compare.Detail.{Detail}
 use Rattle.arrow_schema.specs.declared.compare.Detail.TheVariants.{Shape, Whole}
-use Rattle.arrow_schema.specs.Column.{Index, Pair, DateKind, days, date_milliseconds, TimeKind, seconds, milliseconds, microseconds, nanoseconds, Kind, Column, Columns, nulls, booleans, integers, dates, timestamps, texts, large_texts, binaries, large_binaries, fixed_binaries, lists, large_lists, fixed_lists, structs, column, no_column, and_column, columns_of, PlainSchema}
+use Rattle.arrow_schema.specs.Column.{Index, Pair, DateKind, days, date_milliseconds, TimeKind, seconds, milliseconds, microseconds, nanoseconds, Kind, Column, Columns, nulls, booleans, integers, dates, timestamps, texts, large_texts, binaries, large_binaries, fixed_binaries, lists, large_lists, fixed_lists, structs, column, no_column, and_column, columns_of, list_of, PlainSchema}
 use Rattle.arrow_schema.specs.Shape.{seen, seen_kind, seen_all, seen_dictionary, seen_pairs, shape_of, HaveOneShape}
 use Rattle.arrow_schema.specs.inner.Alike.{index_eq, dictionary_eq, pair_eq, pairs_eq, date_eq, time_number, alike, alike_kind, alike_all}
 
@@ -129,3 +129,21 @@ equal_decided r a b e =
 pub equal_kind_decided : (r : Bool) (a b : Kind) → r ≡ alike_kind Whole a b → (r ≡ true) ↔ (a ≡ b)
 equal_kind_decided r a b e =
     Decides-like r (λ h. sym (seen_whole_kind a) ∙ h ∙ seen_whole_kind b) (λ h. seen_whole_kind a ∙ h ∙ sym (seen_whole_kind b)) (Decides-at r _ e (alike_kind_decides Whole a b))
+
+list_of_columns : (cs : List Column) → list_of (columns_of cs) ≡ cs
+list_of_columns [] = refl
+list_of_columns (c ∷ cs) = ap (λ (xs : List Column). c ∷ xs) (list_of_columns cs)
+
+columns_decide : (a b : List Column) → Decides (alike_all Whole (columns_of a) (columns_of b)) (a ≡ b)
+columns_decide a b =
+    Decides-like _ (λ h. sym (list_of_columns a) ∙ ap list_of (sym (seen_whole_all (columns_of a)) ∙ h ∙ seen_whole_all (columns_of b)) ∙ list_of_columns b)
+    (λ h. ap (λ (cs : List Column). seen_all Whole (columns_of cs)) h) (alike_all_decides Whole (columns_of a) (columns_of b))
+
+schema_from_parts : (a b : PlainSchema) → a.columns ≡ b.columns → a.pairs ≡ b.pairs → a ≡ b
+schema_from_parts a b p q =
+    ap (λ (cs : List Column). let s : PlainSchema = record { columns = cs; pairs = a.pairs } in s) p ∙ ap (λ (ps : List Pair). let s : PlainSchema = record { columns = b.columns; pairs = ps } in s) q
+
+pub schema_decides : (a b : PlainSchema) (columns pairs : Bool) → columns ≡ alike_all Whole (columns_of a.columns) (columns_of b.columns) → pairs ≡ pairs_eq a.pairs b.pairs → Decides (columns && pairs) (a ≡ b)
+schema_decides a b columns pairs e f =
+    Decides-like _ (λ h. schema_from_parts a b h.0 h.1) (λ h. (ap (λ (s : PlainSchema). s.columns) h, ap (λ (s : PlainSchema). s.pairs) h))
+    (Decides-and _ _ (Decides-at columns _ e (columns_decide a.columns b.columns)) (Decides-at pairs _ f (pairs_decides a.pairs b.pairs)))

@@ -145,3 +145,13 @@ impl Field {
         same_field(Detail::Whole, self, other)
     }
 }
+
+impl Schema {
+    /// Whether two schemas are equal, dictionaries and pairs included.
+    pub fn equals(&self, other: &Schema) -> bool
+        ensures { IsTrue result ↔ (schema_of self.now ≡ schema_of other.now) }
+    {
+        same_fields(Detail::Whole, &self.fields, &other.fields)
+            && same_pairs(&self.pairs, &other.pairs)
+    }
+}

@@ -32,4 +32,4 @@ pub use laws::{
 };
 pub use placing::place;
 pub use reading::read_front;
-pub use whole::{Weighed, decode, decode_weighed};
+pub use whole::{decode, decode_weighed};

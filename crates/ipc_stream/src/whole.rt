@@ -12,7 +12,7 @@ use crate::front::Front;
 use crate::reading::read_front;
 use ipc_message::ImportError;
 use std::alloc::Global;
-use values::{Part, Table};
+use values::{Part, Table, Weighed};
 
 // The bytes of the only one of some parts.
 fn only_bytes(parts: Vec<Part>) -> Vec<u8>
@@ -49,13 +49,6 @@ pub(crate) fn table_of_front(alloc: Global, front: Front, bytes: Vec<u8>) -> Res
         Ok(table) => Ok(table),
         Err(parts) => Err(only_bytes(parts)),
     }
-}
-
-/// A table that was read, and what its rows weigh.
-#[derive(Debug, Drop)]
-pub struct Weighed {
-    pub table: Table,
-    pub weight: u64,
 }
 
 /// The table that a stream means with the weight of its rows, or the first fault. It keeps the bytes as one part, so that no cell is copied.

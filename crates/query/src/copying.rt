@@ -1,9 +1,10 @@
 // Copies of values that are borrowed.
 ghost use Rattle.std.specs.Prelude.{◌≡◌, IfOk, map};
+ghost use Rattle.cells.specs.Row.{row_of};
 ghost use Rattle.cells.specs.View.{cell};
 ghost use Rattle.values.specs.Borrowed.{borrowed_cell, borrowed_cells};
 
-use cells::Value;
+use cells::{Row, Value};
 use std::alloc::{AllocError, Global};
 use values::{ValueRef, Values};
 
@@ -32,4 +33,12 @@ fn copy_values(alloc: Global, values: Values<'_>) -> Result<Vec<Value>, AllocErr
         copies.push(copy_value(alloc, value)?)?;
     }
     Ok(copies)
+}
+
+/// A row of a table, as one in memory of its own.
+pub fn copy_row(alloc: Global, row: Values<'_>) -> Result<Row, AllocError>
+    ensures { IfOk result (λ copy. row_of copy ≡ borrowed_cells row.entry) }
+{
+    let cells = copy_values(alloc, row)?;
+    Ok(Row { cells })
 }

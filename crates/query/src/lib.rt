@@ -33,6 +33,7 @@ mod slots;
 
 pub use choice::Choice;
 pub use condition::{Condition, Test};
+pub use copying::copy_row;
 pub use errors::QueryError;
 pub use kept::next_set;
 pub use laws::{rows_refuse_no_query, selection_is_a_table};

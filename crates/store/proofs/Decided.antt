@@ -6,6 +6,7 @@ use Rattle.sector_dev.specs.Disk.{Image}
 use Rattle.arrow_schema.specs.Column.{PlainSchema}
 use Rattle.cells.specs.Cell.{PlainTable}
 use Rattle.cells.specs.Row.{row_of}
+use Rattle.values.specs.TableView.{table_of}
 use Rattle.ipc_message.specs.declared.fault.Fault.{Fault}
 use Rattle.ipc_message.specs.declared.error.ImportError.{ImportError}
 use Rattle.ipc_message.specs.declared.error.ImportError.TheVariants as imports
@@ -23,7 +24,7 @@ use Rattle.tables.specs.Verdict.{of_meaning, import_tests}
 use Rattle.store.specs.Changes.{put, move, remove, PlainChange}
 use Rattle.store.specs.Deciding.{missing_in, full_in, create_tests, rename_tests, names_changed, pieces_put, decided_table, of_entry, Addition, given_rows, streamed_rows, selected_entry, entry_added, entry_selected, IsAdded, IsSaved, IsNotRead, IsDecided, IsAnswered}
 use Rattle.store.specs.declared.new_rows.NewRows.{NewRows}
-use Rattle.store.specs.declared.new_rows.NewRows.TheVariants.{Stream, Given}
+use Rattle.store.specs.declared.new_rows.NewRows.TheVariants.{Stream, Given, OfTable}
 use Rattle.store.specs.inner.Appending.{append_of, added_to, IsAppended}
 use Rattle.store.specs.inner.Saving.{IsSelected}
 
@@ -62,6 +63,7 @@ module _ (tells : Bool) (image : Image) (c : PlainCatalogue) (name bytes : List 
 pub none_answers : (tells : Bool) (image : Image) (c : PlainCatalogue) (name : List ℕ) (new : NewRows) → entry_of c name ≡ None → IsAnswered tells image c (append_of name new) (Err NoTable)
 none_answers tells image c name (Stream bytes) none = inr (inr (subst (λ (o : Option PlainEntry). IsAdded tells image name (of_entry o (streamed_rows bytes.items)) (Err NoTable)) (sym none) refl))
 none_answers tells image c name (Given rows) none = inr (inr (subst (λ (o : Option PlainEntry). IsAdded tells image name (of_entry o (given_rows (map row_of rows.items))) (Err NoTable)) (sym none) refl))
+none_answers tells image c name (OfTable new) none = inr (inr (subst (λ (o : Option PlainEntry). IsAdded tells image name (of_entry o (given_rows (table_of new.table).rows)) (Err NoTable)) (sym none) refl))
 
 -- what is answered of new rows for the table of a name
 abbrev pub IsAddedAt : (tells : Bool) → Image → List ℕ → (PlainEntry → Result Addition Refusal) → Option PlainEntry → Result PlainChange Refusal → Type 0
@@ -72,6 +74,7 @@ pub appended_answers : (tells : Bool) (image : Image) (c : PlainCatalogue) (name
     → IsAnswered tells image c (append_of name new) d
 appended_answers tells image c name (Stream bytes) e d there answers = subst (λ (o : Option PlainEntry). IsAddedAt tells image name (streamed_rows bytes.items) o d) (sym there) answers
 appended_answers tells image c name (Given rows) e d there answers = subst (λ (o : Option PlainEntry). IsAddedAt tells image name (given_rows (map row_of rows.items)) o d) (sym there) answers
+appended_answers tells image c name (OfTable new) e d there answers = subst (λ (o : Option PlainEntry). IsAddedAt tells image name (given_rows (table_of new.table).rows) o d) (sym there) answers
 
 -- ---- a query that is saved
 

@@ -24,11 +24,10 @@ use crate::reading::{gather_entry, is_failure};
 use canonical_write::pieces_are_tables;
 use catalogue::TableEntry;
 use cells::MAX_TABLE_WEIGHT;
-use ipc_stream::Weighed;
 use sector_dev::SectorDevice;
 use std::alloc::Global;
 use tables::{Limit, Refusal};
-use values::Table;
+use values::{Table, Weighed};
 
 // S7 Weight: the table and its new rows would be too heavy.
 fn test_weight(weight: u64) -> Result<(), Refusal>

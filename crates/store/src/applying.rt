@@ -46,6 +46,9 @@ impl<D: SectorDevice> Store<D> {
             Command::AppendRows { name, rows } => {
                 self.decide_append(alloc, name, NewRows::Given(rows))
             }
+            Command::AppendTable { name, new } => {
+                self.decide_append(alloc, name, NewRows::OfTable(new))
+            }
             Command::SaveAs { from, to, query } => self.decide_save(alloc, from, to, query),
             Command::Rename { from, to } => decide_rename(catalogue, from, to),
             Command::Drop { name } => decide_drop(catalogue, name),

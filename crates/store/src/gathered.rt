@@ -8,9 +8,8 @@ ghost use Rattle.values.specs.Table.{IsTable};
 
 use arrow_schema::Schema;
 use cells::MAX_TABLE_WEIGHT;
-use ipc_stream::Weighed;
 use std::alloc::{AllocError, Global};
-use values::{Part, Table, TableError, tables_are_joined_and_cut};
+use values::{Part, Table, TableError, Weighed, tables_are_joined_and_cut};
 
 /// A table while its segments are read: their record batches, which keep the bytes that were read.
 #[derive(Drop)]

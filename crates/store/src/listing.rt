@@ -8,6 +8,7 @@ use tables::Refusal;
 
 impl<D: SectorDevice> Store<D> {
     ghost use Rattle.std.specs.Prelude.{◌≡◌, true, false, map, option_map, string_bytes, Some, IfOk, IfErr, MatchResult};
+    ghost use Rattle.arrow_schema.specs.Limits.{IsWithinLimits};
     ghost use Rattle.arrow_schema.specs.View.{schema_of};
     ghost use Rattle.catalogue.specs.Edits.{entry_of, tables_of};
     ghost use Rattle.tables.specs.Tables.{Tables};
@@ -61,6 +62,7 @@ impl<D: SectorDevice> Store<D> {
             (λ found. (is_halted self.now ≡ false)
             × (option_map (λ e. e.schema) (entry_of (listed_in self.now) name.now) ≡ Some (schema_of found)))
             (λ e. RefusesSchema (is_halted self.now) (entry_of (listed_in self.now) name.now) e) }
+        ensures within { IfOk result (λ found. IsWithinLimits (schema_of found)) }
     {
         let list = self.listed()?;
         match list.get(name) {

@@ -17,17 +17,19 @@ use crate::deciding::{test_bytes, test_shape};
 use arrow_schema::{Schema, one_shape_is_decided};
 use catalogue::TableEntry;
 use cells::Row;
-use ipc_stream::{Weighed, decode_weighed};
-use std::alloc::Global;
+use ipc_stream::decode_weighed;
+use query::copy_row;
+use std::alloc::{AllocError, Global};
 use table_cut::first_unfit_row;
 use tables::Refusal;
-use values::{Table, TableError, accepted_rows_are_a_table};
+use values::{Table, TableError, Weighed, accepted_rows_are_a_table};
 
-/// The rows that a stream means, or rows that are given.
+/// The rows that a stream means, rows that are given, or those of a table.
 #[derive(Drop)]
 pub(crate) enum NewRows {
     Stream(Vec<u8>),
     Given(Vec<Row>),
+    OfTable(Weighed),
 }
 
 // S6: a new row that the table does not take.
@@ -76,6 +78,31 @@ fn pass_rows(alloc: Global, entry: &TableEntry, rows: Vec<Row>) -> Result<Option
     }
 }
 
+// The rows of a table, each in memory of its own.
+fn own_rows(alloc: Global, table: &Table) -> Result<Vec<Row>, AllocError>
+    ensures { IfOk result (λ rows. map row_of rows.items ≡ (table_of table.now).rows) }
+{
+    let mut rows = Vec::with_capacity(alloc, table.len())?;
+    for row in table.rows() {
+        rows.push(copy_row(alloc, row)?)?;
+    }
+    Ok(rows)
+}
+
+// The same of the rows of a table: where its schema is the entry's own they are a table there as they stand, and else they are given rows.
+fn pass_table(alloc: Global, entry: &TableEntry, new: Weighed) -> Result<Option<Weighed>, Refusal>
+    requires { IsWithinLimits (plain_entry entry.now).schema }
+    ensures passed { IfOk result (ArePassed (plain_entry entry.now) (given_rows (table_of new.table).rows (plain_entry entry.now))) }
+    ensures refused { IfErr result (λ e. (e ≡ Refusal.OutOfMemory) ⊎ (given_rows (table_of new.table).rows (plain_entry entry.now) ≡ Err e)) }
+{
+    accepted_rows_are_a_table();
+    if new.table.schema().equals(&entry.schema) {
+        return Ok(Some(new));
+    }
+    let rows = own_rows(alloc, &new.table)?;
+    pass_rows(alloc, entry, rows)
+}
+
 /// New rows that an entry's table takes but for their weight, as a table and what they weigh there; none where they are too heavy for any table.
 ///
 /// # Errors
@@ -95,5 +122,6 @@ pub(crate) fn pass_new(
             Err(refusal) => Err(refusal),
         },
         NewRows::Given(rows) => pass_rows(alloc, entry, rows),
+        NewRows::OfTable(table) => pass_table(alloc, entry, table),
     }
 }

@@ -23,13 +23,13 @@ use arrow_schema::Schema;
 use catalogue::{Segment, TableEntry};
 use cells::MAX_TABLE_WEIGHT;
 use ipc_message::ImportError;
-use ipc_stream::{Weighed, decode_weighed};
+use ipc_stream::decode_weighed;
 use ipc_write::{schema_message_is_read_again, write_schema};
 use sector_dev::SectorDevice;
 use segments::{ReadError, read_run};
 use std::alloc::{AllocError, Global};
 use tables::Refusal;
-use values::{Table, TableError, accepted_rows_are_a_table, tables_are_joined_and_cut};
+use values::{Table, TableError, Weighed, accepted_rows_are_a_table, tables_are_joined_and_cut};
 
 // The table of so many rows that some bytes hold, if they begin with the message of its schema.
 fn table_in_bytes(

@@ -24,4 +24,4 @@ mod starting;
 mod table;
 mod texts;
 
-pub use table::{Weighed, csv_table};
+pub use table::csv_table;

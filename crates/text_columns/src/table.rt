@@ -22,14 +22,7 @@ use columns::{
 };
 use std::alloc::{AllocError, Global};
 use text_import::{TextError, rows_of_texts_are_rows};
-use values::{Batch, Part, Table};
-
-/// A table that was read, and what its rows weigh.
-#[derive(Debug, Drop)]
-pub struct Weighed {
-    pub table: Table,
-    pub weight: u64,
-}
+use values::{Batch, Part, Table, Weighed};
 
 // The one record batch that the buffers of columns are, with so many rows.
 fn build_part(alloc: Global, columns: &[ColumnBuilder], rows: usize) -> Result<Part, AllocError>

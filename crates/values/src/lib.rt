@@ -23,6 +23,7 @@ mod part;
 mod rows;
 mod starts;
 mod table;
+mod weighed;
 
 pub use borrowed::{ValueRef, Values, ValuesIter, borrow_value};
 pub use cells::{
@@ -34,3 +35,4 @@ pub use laws::{accepted_rows_are_a_table, tables_are_joined_and_cut};
 pub use part::{Batch, Part};
 pub use rows::Rows;
 pub use table::Table;
+pub use weighed::Weighed;

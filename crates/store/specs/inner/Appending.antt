@@ -7,13 +7,13 @@ use Rattle.cells.specs.Weight.{table_weight}
 use Rattle.cells.specs.declared.limits.TheConstants.{MAX_TABLE_WEIGHT}
 use Rattle.values.specs.Table.{IsTable}
 use Rattle.values.specs.TableView.{table_of}
-use Rattle.ipc_stream.specs.declared.whole.Weighed.{Weighed}
+use Rattle.values.specs.declared.weighed.Weighed.{Weighed}
 use Rattle.catalogue.specs.Entries.{PlainEntry}
 use Rattle.tables.specs.declared.refusal.Refusal.{Refusal}
 use Rattle.tables.specs.declared.refusal.Refusal.TheVariants.{OutOfMemory}
 use Rattle.tables.specs.Commands.{PlainCommand, append_stream, append_rows}
 use Rattle.store.specs.declared.new_rows.NewRows.{NewRows}
-use Rattle.store.specs.declared.new_rows.NewRows.TheVariants.{Stream, Given}
+use Rattle.store.specs.declared.new_rows.NewRows.TheVariants.{Stream, Given, OfTable}
 use Rattle.store.specs.Changes.{PlainChange, rows_under}
 use Rattle.store.specs.Deciding.{Addition, streamed_rows, given_rows, entry_added, IsAdded, IsNotRead}
 
@@ -21,11 +21,13 @@ use Rattle.store.specs.Deciding.{Addition, streamed_rows, given_rows, entry_adde
 abbrev pub append_of : List ℕ → NewRows → PlainCommand
 append_of name (Stream bytes) = append_stream name bytes.items
 append_of name (Given rows) = append_rows name (map row_of rows.items)
+append_of name (OfTable new) = append_rows name (table_of new.table).rows
 
 -- the tests of new rows that need an entry alone
 abbrev pub added_to : NewRows → PlainEntry → Result Addition Refusal
 added_to (Stream bytes) = streamed_rows bytes.items
 added_to (Given rows) = given_rows (map row_of rows.items)
+added_to (OfTable new) = given_rows (table_of new.table).rows
 
 -- rows that passed them: as a table of a schema of one shape and what they weigh, or rows that are too heavy for any table
 abbrev pub ArePassed : PlainEntry → Result Addition Refusal → Option Weighed → Type 0

@@ -69,6 +69,16 @@ returns-in-AppendRows-clause-answers g c =
     let image = shown_image (now (D.story c.args.self.now.device)) in
     subst (λ (k : Command). IsAnswered D.tells image (listed_in c.args.self.now) (command_of k) (decision_of c.decide_append-in-AppendRows.result)) (sym c.in-AppendRows.is) c.decide_append-in-AppendRows.ensures.answers
 
+pub returns-in-AppendTable-clause-still : goal.returns-in-AppendTable-clause-still
+returns-in-AppendTable-clause-still g c = λ plain.
+    let both : true ≡ false = ap (λ (k : Command). reads_device (command_of k)) (sym c.in-AppendTable.is) ∙ plain in absurd (cc both)
+
+pub returns-in-AppendTable-clause-answers : goal.returns-in-AppendTable-clause-answers
+returns-in-AppendTable-clause-answers g c =
+    let D = g.D.SectorDevice in
+    let image = shown_image (now (D.story c.args.self.now.device)) in
+    subst (λ (k : Command). IsAnswered D.tells image (listed_in c.args.self.now) (command_of k) (decision_of c.decide_append-in-AppendTable.result)) (sym c.in-AppendTable.is) c.decide_append-in-AppendTable.ensures.answers
+
 pub returns-in-SaveAs-clause-still : goal.returns-in-SaveAs-clause-still
 returns-in-SaveAs-clause-still g c = λ plain.
     let both : true ≡ false = ap (λ (k : Command). reads_device (command_of k)) (sym c.in-SaveAs.is) ∙ plain in absurd (cc both)

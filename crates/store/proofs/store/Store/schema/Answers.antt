@@ -1,8 +1,11 @@
-use Rattle.std.proofs.Common.{◌≡◌, ◌∙◌, Some, None, Err, refl, ap, sym}
+use Rattle.std.proofs.Common.{◌≡◌, ◌∙◌, Some, None, Err, refl, ap, sym, subst}
 use Rattle.std.proofs.lemmas.Result.{err_from_is_err_and}
 use Rattle.sector_dev.specs.Disk.{now, synced_image}
 use Rattle.cells.specs.Cell.{PlainTable}
-use Rattle.catalogue.specs.Entries.{plain_entry}
+use Rattle.arrow_schema.specs.Limits.{IsWithinLimits}
+use Rattle.catalogue.specs.Entries.{PlainEntry, is_entry, plain_entry}
+use Rattle.catalogue.specs.laws.Changed.{found_passes}
+use Rattle.catalogue.specs.laws.Kept.{entry_is}
 use Rattle.catalogue.specs.Edits.{entry_of}
 use Rattle.catalogue.specs.View.{catalogue_of}
 use Rattle.catalogue.specs.declared.catalogue.Catalogue.{Catalogue}
@@ -37,6 +40,12 @@ returns-in_ok-copy-in-Some-clause-goes g c = λ told base m fits.
     let has = held_has image e own.0 own.1 in
     still D.size D.story D.failed base m (schema_call c.args.name.now) (schema_is _) store
     (on, (own.0, own.2, c.in_ok-copy-in-Some.ensures ∙ sym (ap (λ (t : PlainTable). t.schema) has.2)), (refl, refl)) refl fits tt tt
+
+pub returns-in_ok-copy-in-Some-clause-within : goal.returns-in_ok-copy-in-Some-clause-within
+returns-in_ok-copy-in-Some-clause-within g c =
+    let e : PlainEntry = plain_entry c.in-Some.entry.now in
+    let own = found_passes is_entry _ c.args.name.now e c.in-Some.ensures.kept.entries (sym c.in-Some.ensures.entry) in
+    subst IsWithinLimits (sym c.in_ok-copy-in-Some.ensures) (entry_is e own).schema
 
 pub returns-in_err-copy-in-Some-clause-refused : goal.returns-in_err-copy-in-Some-clause-refused
 unfolding Step
