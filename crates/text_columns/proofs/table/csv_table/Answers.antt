@@ -1,5 +1,7 @@
-use Rattle.std.proofs.Common.{sym, subst, List}
+use Rattle.std.proofs.Common.{◌∙◌, ap, sym, subst, List}
+use Rattle.arrow_schema.specs.Column.{PlainSchema}
 use Rattle.arrow_schema.specs.View.{schema_of}
+use Rattle.cells.specs.Weight.{table_weight}
 use Rattle.text_import.specs.Records.{csv_rows_of}
 use Rattle.values.specs.TableView.{table_of}
 use Rattle.text_columns.specs.declared.builder.ColumnBuilder.{ColumnBuilder}
@@ -25,3 +27,14 @@ returns c =
     table_told s stated c.in-Some.columns.read c.as_slice.result.now (table_of c.in_ok-table.table) c.requires (c.rows_of_texts_are_rows.ensures.csv s c.args.null_text.now c.args.text.now) rows
     c.in_ok-table.ensures.rows in
     record { read = told.read; schema = told.schema; weight = told.weight; in_parts = c.in_ok-table.ensures.in_parts; refused = tt }
+
+pub invariant_of-result : goal.invariant_of-result
+invariant_of-result c =
+    let s = schema_of c.args.schema.now in
+    let stated = csv_rows_of s c.args.null_text.now c.args.text.now in
+    let read = rw (c.in-Some.is, c.as_bytes.ensures.value) at c.in_ok-columns.ensures in
+    let rows = subst (λ (bs : List ColumnBuilder). HasRows s stated c.in-Some.columns.read bs) (sym c.as_slice.ensures.value) read in
+    let told =
+    table_told s stated c.in-Some.columns.read c.as_slice.result.now (table_of c.in_ok-table.table) c.requires (c.rows_of_texts_are_rows.ensures.csv s c.args.null_text.now c.args.text.now) rows
+    c.in_ok-table.ensures.rows in
+    record { weighs = told.weight ∙ sym (ap (λ (t : PlainSchema). table_weight t (table_of c.in_ok-table.table).rows) told.schema) }
