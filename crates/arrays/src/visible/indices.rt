@@ -26,20 +26,26 @@ fn is_past(number: Option<u64>, entries: u128) -> bool
     }
 }
 
+// The first test tells of most: a number below a limit that is no more than the entries is that of one.
 #[inline]
 fn has_no_entry<const SIZE: usize, const SIGNED: bool>(
     slots: CodedSlots<'_>,
+    limit: u64,
     entries: u128,
     i: usize,
 ) -> bool
     requires size { SIZE ≡ (index_of slots.spec).bits / 8 }
     requires signed { SIGNED ≡ (index_of slots.spec).signed }
     requires within { i < slots_in (view_array slots.view) }
+    requires limit { limit ≤ entries }
     requires count { (kind : Kind) → entries ≡ length (entries_of_kind kind (dictionary_in (view_array slots.view))) }
     ensures { let a = view_array slots.entry.view in (kind : Kind)
         → result ≡ (is_valid a i && is_past (index_at (index_of slots.entry.spec) a i) (entries_of_kind kind (dictionary_in a))) }
 {
-    slots.is_valid(i) && is_past(slots.sized_number::<SIZE, SIGNED>(i), entries)
+    match slots.number_below::<SIZE, SIGNED>(i, limit) {
+        Some(_) => false,
+        None => slots.is_valid(i) && is_past(slots.sized_number::<SIZE, SIGNED>(i), entries),
+    }
 }
 
 // A valid slot of a span has such an index, of so many bytes, with a sign or without.
@@ -58,8 +64,9 @@ fn any_sized_past<const SIZE: usize, const SIGNED: bool>(
     // a number of the code is below 2^64, so that the end is too
     let _slots = slots.view.slots();
     let entries = entry_count(slots.view.dictionary());
+    let limit = entries.min(u128::from(u64::MAX)) as u64;
     for i in from..from + count {
-        if has_no_entry::<SIZE, SIGNED>(slots, entries, i) {
+        if has_no_entry::<SIZE, SIGNED>(slots, limit, entries, i) {
             return true;
         }
     }
