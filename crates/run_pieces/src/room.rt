@@ -162,6 +162,7 @@ fn room_sharing<'a>(schema: &Schema, first: RowRun<'a>, run: RowRun<'a>) -> Room
     }
 }
 
+// A run alone has the entries of its own dictionaries.
 fn room_alone<'a>(schema: &Schema, run: RowRun<'a>) -> Room<'a>
     requires schema { IsWithinLimits (schema_of schema.now) }
     ensures { IsRoom (schema_of schema.now) [] run.entry result }
@@ -220,7 +221,8 @@ fn room_for<'a>(
     }
 }
 
-/// How many rows of a run the dictionaries of a piece have room for, behind the rows that it has: where no dictionary has a limit there is room for all.
+/// How many rows of a run the dictionaries of a piece have room for, behind the rows that it has: where no dictionary has a limit, or the run has no row,
+/// nothing is asked.
 pub(crate) fn room_within<'a>(
     alloc: Global,
     schema: &'a Schema,
@@ -242,6 +244,9 @@ pub(crate) fn room_within<'a>(
     ensures seen { IfOk result (λ room. let columns = columns_of (schema_of schema.now).columns in room.rows ≡ run.entry.len
         → IsSeenWithin (schema_of schema.now) (runs_rows columns piece.now ++ run_rows columns run.entry) room.seen) }
 {
+    if run.len == 0 {
+        return Ok(Room { rows: 0, seen });
+    }
     if limited {
         return room_for(alloc, schema, seen, piece, run);
     }
