@@ -5,7 +5,6 @@ ghost use Rattle.arrow_schema.specs.Column.{nulls, booleans, integers, dates, ti
 ghost use Rattle.arrow_schema.specs.View.{bits_of, date_kind, time_kind};
 ghost use Rattle.array_build.specs.Batch.{batch_in, built_at, plain_column, with_arrays};
 ghost use Rattle.array_build.specs.inner.Nodes.{binary_kind, text_kind, with_buffer, with_slots};
-ghost use Rattle.cells.specs.Fit.{date_bits};
 ghost use Rattle.columns.specs.Buildable.{are_nulls_or_fit, can_build, contents_fit, large_offset};
 ghost use Rattle.columns.specs.Built.{contents_of, integer_bytes, offsets_of};
 ghost use Rattle.columns.specs.Offsets.{width_of};
@@ -16,7 +15,7 @@ use crate::boolean_bits::bits;
 use crate::content_bytes::{content_offsets, contents};
 use crate::value_bytes::{fixed_values, integer_values};
 use arrow_schema::{BitWidth, DateUnit, IntegerType};
-use columns::OffsetWidth;
+use columns::{OffsetWidth, date_integer};
 use std::alloc::{AllocError, Global};
 use values::ValueRef;
 
@@ -72,21 +71,6 @@ pub(crate) fn build_integers(
         (built_at (plain_column (integers (bits_of integer.width) integer.signed) None) (map borrowed_cell cells.now))) }
 {
     push_integers(alloc, batch, integer, cells)
-}
-
-// The integers that dates are.
-fn date_integer(unit: DateUnit) -> IntegerType
-    ensures bits { bits_of result.width ≡ date_bits (date_kind unit) }
-    ensures signed { result.signed ≡ true }
-{
-    let width = match unit {
-        DateUnit::Day => BitWidth::ThirtyTwo,
-        DateUnit::Millisecond => BitWidth::SixtyFour,
-    };
-    IntegerType {
-        width,
-        signed: true,
-    }
 }
 
 #[tactic(auto, using(crate::proofs::Arrays::dates_are, crate::proofs::Premises::dates_fit))]

@@ -188,8 +188,8 @@ fn limit_of(integer: IntegerType, limit: u64) -> u64
     limit.min(least_negative(integer.width))
 }
 
-// The integers that dates and timestamps are.
-pub(crate) fn date_integer(unit: DateUnit) -> IntegerType
+/// The integers that dates are.
+pub fn date_integer(unit: DateUnit) -> IntegerType
     ensures bits { bits_of result.width ≡ date_bits (date_kind unit) }
     ensures signed { result.signed ≡ true }
 {
@@ -203,7 +203,9 @@ pub(crate) fn date_integer(unit: DateUnit) -> IntegerType
     }
 }
 
-pub(crate) fn timestamp_integer() -> IntegerType
+/// The integers that timestamps are.
+pub fn timestamp_integer() -> IntegerType
+    ensures bits { bits_of result.width ≡ 64 }
     ensures bytes { bits_of result.width / 8 ≡ 8 }
     ensures signed { result.signed ≡ true }
 {

@@ -1,41 +1,15 @@
 // The buffers of the columns of a schema, before there is a row.
 ghost use Rattle.std.specs.Prelude.{◌≡◌, ◌++◌, true, [], ◌∷◌, map, IfOk, IfSome};
 ghost use Rattle.byteorder.specs.Endian.{little_bytes};
-ghost use Rattle.arrow_schema.specs.View.{bits_of, column_of, date_kind, kind_of};
-ghost use Rattle.cells.specs.Fit.{date_bits};
+ghost use Rattle.arrow_schema.specs.View.{column_of, kind_of};
 ghost use Rattle.text_columns.specs.inner.Kept.{KeepAll, Keeps, StartsTexts, Takes};
 
 use crate::builder::ColumnBuilder;
 use crate::column_values::Values;
 use crate::texts::push_offset;
-use arrow_schema::{BitWidth, DataType, DateUnit, Field, IntegerType};
-use columns::OffsetWidth;
+use arrow_schema::{DataType, Field};
+use columns::{OffsetWidth, date_integer, timestamp_integer};
 use std::alloc::{AllocError, Global};
-
-// The integers that dates are.
-fn date_integer(unit: DateUnit) -> IntegerType
-    ensures bits { bits_of result.width ≡ date_bits (date_kind unit) }
-    ensures signed { result.signed ≡ true }
-{
-    let width = match unit {
-        DateUnit::Day => BitWidth::ThirtyTwo,
-        DateUnit::Millisecond => BitWidth::SixtyFour,
-    };
-    IntegerType {
-        width,
-        signed: true,
-    }
-}
-
-fn timestamp_integer() -> IntegerType
-    ensures bits { bits_of result.width ≡ 64 }
-    ensures signed { result.signed ≡ true }
-{
-    IntegerType {
-        width: BitWidth::SixtyFour,
-        signed: true,
-    }
-}
 
 // Before the first text stands the offset 0.
 fn no_texts(alloc: Global, width: OffsetWidth) -> Result<Values, AllocError>
