@@ -133,7 +133,7 @@ one_within size (b ∷ arrays) a h k =
     let parts = and_parts (is_within_by size (λ part. true) b) (list_all (is_within_by size (λ part. true)) arrays) h in
     and_from _ _ parts.0 (one_within size arrays a parts.1 k)
 
-pub placed_more : (bs : List ColumnBuilder) (b : ColumnBuilder) (old new : List ℕ) (arrays : List PlacedArray) (a : PlacedArray) → SoFar bs old arrays → IsPlaced b old new a
+placed_more : (bs : List ColumnBuilder) (b : ColumnBuilder) (old new : List ℕ) (arrays : List PlacedArray) (a : PlacedArray) → SoFar bs old arrays → IsPlaced b old new a
     → SoFar (bs ++ b ∷ []) new (arrays ++ a ∷ [])
 placed_more bs b old new arrays a so p =
     let longer : length new ≡ length old + length p.more = ap length p.whole ∙ length-append old p.more in
@@ -142,6 +142,10 @@ placed_more bs b old new arrays a so p =
       placed = map-append (array_in new no_dictionary) arrays (a ∷ []) ∙ (λ j. before j ++ p.placed j ∷ []) ∙ sym (map-append array_of bs (b ∷ []));
       ends = one_within (length new) arrays a (stay_within (length old) (length new) arrays (omega (arith, longer)) so.ends) p.ends;
     }
+
+pub placed_pushed : (bs : List ColumnBuilder) (b : ColumnBuilder) (old new : List ℕ) (arrays longer : List PlacedArray) (a : PlacedArray) → SoFar bs old arrays → IsPlaced b old new a
+    → longer ≡ arrays ++ a ∷ [] → SoFar (bs ++ b ∷ []) new longer
+placed_pushed bs b old new arrays longer a so p pushed = subst (λ (xs : List PlacedArray). SoFar (bs ++ b ∷ []) new xs) (sym pushed) (placed_more bs b old new arrays a so p)
 
 -- ---- the arrays that cells are written as
 

@@ -1,8 +1,8 @@
 //! A CSV text as the arrays of one record batch, under a schema of columns of integers, dates, timestamps, booleans and texts.
 //!
-//! [`csv_table`] answers the table of just the rows that `text_import::csv_rows` gives of the same text, and what they weigh, or the same refusal. No value is made of
-//! a cell and no row is: each field goes into the buffers of its column where it is read. For other schemas, and for rows that are too heavy for a table, it answers none, and
-//! the rows are those of `csv_rows`.
+//! [`csv_table`] answers the table of just the rows that `text_import::csv_rows` gives of the same text, and what they weigh, or the same
+//! refusal. No value is made of a cell and no row is: each field goes into the buffers of its column where it is read. For other schemas,
+//! and for rows that are too heavy for a table, it answers none, and the rows are those of `csv_rows`.
 //!
 //! ```
 //! let fields = arrow_schema::parse_fields(alloc, &["a:int32?", "s:utf8"])?;

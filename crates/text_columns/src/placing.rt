@@ -82,17 +82,17 @@ fn place(
     })
 }
 
-/// The arrays of columns, and the bytes that they stand in.
+/// The arrays of columns, and the bytes that they stand in. The buffers of a column are freed once they are copied.
 pub(crate) fn place_all(
     alloc: Global,
-    columns: &[ColumnBuilder],
+    columns: Vec<ColumnBuilder>,
 ) -> Result<(Vec<u8>, Vec<PlacedArray>), AllocError>
-    ensures { IfOk result (λ placed. ArePlaced columns.now placed.0.items placed.1.items) }
+    ensures { IfOk result (λ placed. ArePlaced columns.items placed.0.items placed.1.items) }
 {
     let mut bytes = Vec::new(alloc);
     let mut arrays = Vec::with_capacity(alloc, columns.len())?;
     for column in columns {
-        let array = place(alloc, &mut bytes, column)?;
+        let array = place(alloc, &mut bytes, &column)?;
         arrays.push(array)?;
     }
     Ok((bytes, arrays))

@@ -120,7 +120,8 @@ fn behind_line(text: &[u8], end: usize) -> usize
     if end < text.len() { end + 1 } else { end }
 }
 
-// Appends the cells of a record, as many as columns, and answers where it ends and what its row weighs; none where it has a quote at the start of a field, or goes not in.
+// Appends the cells of a record, as many as columns, and answers where it ends and what its row weighs; none where it does not go in,
+// or a quote begins a field.
 fn push_plain(
     builders: &mut [ColumnBuilder],
     null_text: &[u8],
@@ -158,7 +159,7 @@ fn push_plain(
     Ok(None)
 }
 
-// Appends the rows of the records from a place on; none where one of them goes not in, or they are too heavy for a table.
+// Appends the rows of the records from a place on; none where one of them does not go in, or they are too heavy for a table.
 fn push_plain_rows(
     builders: &mut [ColumnBuilder],
     null_text: &[u8],
@@ -166,7 +167,8 @@ fn push_plain_rows(
     from: usize,
 ) -> Result<Option<RowsRead>, AllocError>
     requires { from ≤ length text.now }
-    ensures { IfOk result (λ read. IfSome read (λ r. (s : PlainSchema) (records : List (List (List ℕ))) → Left records st.StartRecord (drop from text.now) → KeepAll s.columns [] builders.old
+    ensures { IfOk result (λ read. IfSome read (λ r. (s : PlainSchema) (records : List (List (List ℕ)))
+        → Left records st.StartRecord (drop from text.now) → KeepAll s.columns [] builders.old
         → HasRows s (rows_from (record_row s null_text.now) 1 records) r builders.new)) }
 {
     let mut at = from;
@@ -188,13 +190,15 @@ fn push_plain_rows(
     Ok(None)
 }
 
-/// Appends the rows of a text whose header was tested; none where a record has a quote at the start of a field, or goes not in, or where the rows are too heavy for a table.
+/// Appends the rows of a text whose header was tested; none where a record does not go in, or a quote begins a field, or where the rows
+/// are too heavy for a table.
 pub(crate) fn push_plain_text(
     builders: &mut [ColumnBuilder],
     null_text: &[u8],
     text: &[u8],
 ) -> Result<Option<RowsRead>, AllocError>
-    ensures { IfOk result (λ read. IfSome read (λ r. (s : PlainSchema) (header : List (List ℕ)) (records : List (List (List ℕ))) → records_of text.now ≡ header ∷ records → KeepAll s.columns [] builders.old
+    ensures { IfOk result (λ read. IfSome read (λ r. (s : PlainSchema) (header : List (List ℕ)) (records : List (List (List ℕ)))
+        → records_of text.now ≡ header ∷ records → KeepAll s.columns [] builders.old
         → HasRows s (rows_from (record_row s null_text.now) 1 records) r builders.new)) }
 {
     let header = skip_ends(text, behind_mark(text));

@@ -23,7 +23,8 @@ pub(crate) struct RowsRead {
     pub(crate) weight: u64,
 }
 
-// Appends the cells of as many fields as columns, and answers what their row weighs; none where a field is none of its column's cells or the row is too heavy.
+// Appends the cells of as many fields as columns, and answers what their row weighs; none where a field is no cell of its column, or the
+// row is too heavy.
 fn push_fields(
     builders: &mut [ColumnBuilder],
     null_text: &[u8],

@@ -14,7 +14,7 @@ ghost use Rattle.text_columns.specs.inner.Tables.{HasTable, IsPartOf, MakesRows}
 
 use crate::builder::ColumnBuilder;
 use crate::placing::place_all;
-use crate::reading::read_columns;
+use crate::reading::{Columns, read_columns};
 use arrow_schema::Schema;
 use columns::{
     built_reads_back, listed_reads_back, rows_can_be_built, written_arrays_have_their_shape,
@@ -25,8 +25,8 @@ use text_import::{TextError, rows_of_texts_are_rows};
 use values::{Batch, Part, Table, Weighed};
 
 // The one record batch that the buffers of columns are, with so many rows.
-fn build_part(alloc: Global, columns: &[ColumnBuilder], rows: usize) -> Result<Part, AllocError>
-    ensures { IfOk result (λ part. IsPartOf columns.now rows part) }
+fn build_part(alloc: Global, columns: Vec<ColumnBuilder>, rows: usize) -> Result<Part, AllocError>
+    ensures { IfOk result (λ part. IsPartOf columns.items rows part) }
 {
     built_reads_back();
     listed_reads_back();
@@ -47,11 +47,11 @@ fn build_part(alloc: Global, columns: &[ColumnBuilder], rows: usize) -> Result<P
 fn build_table(
     alloc: Global,
     schema: &Schema,
-    columns: &[ColumnBuilder],
+    columns: Vec<ColumnBuilder>,
     rows: usize,
 ) -> Result<Table, AllocError>
-    requires { MakesRows (schema_of schema.now) columns.now rows }
-    ensures rows { IfOk result (λ table. HasTable (schema_of schema.now) columns.now rows (table_of table)) }
+    requires { MakesRows (schema_of schema.now) columns.items rows }
+    ensures rows { IfOk result (λ table. HasTable (schema_of schema.now) columns.items rows (table_of table)) }
     ensures in_parts { IfOk result (λ table. is_in_parts table ≡ true) }
 {
     let part = build_part(alloc, columns, rows)?;
@@ -61,8 +61,8 @@ fn build_table(
     Ok(table)
 }
 
-/// The table of the rows of a CSV text, kept in one record batch, and what its rows weigh; none where a column has a type that is not read into arrays, or a dictionary,
-/// or where the rows are too heavy for a table: the rows are then those of `text_import::csv_rows`.
+/// The table of the rows of a CSV text, kept in one record batch, and what its rows weigh; none where a column has a type that is not read
+/// into arrays, or a dictionary, or where the rows are too heavy for a table: the rows are then those of `text_import::csv_rows`.
 ///
 /// # Errors
 ///
@@ -84,8 +84,8 @@ pub fn csv_table(
     let Some(columns) = read_columns(alloc, schema, text, null_text.as_bytes())? else {
         return Ok(None);
     };
-    let read = columns.read;
-    let table = build_table(alloc, schema, columns.builders.as_slice(), read.rows)?;
+    let Columns { builders, read } = columns;
+    let table = build_table(alloc, schema, builders, read.rows)?;
     Ok(Some(Weighed {
         table,
         weight: read.weight,

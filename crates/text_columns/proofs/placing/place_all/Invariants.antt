@@ -1,6 +1,9 @@
-use Rattle.std.proofs.Common.{take}
 use Rattle.text_columns.proofs.PlacedBuffers.{SoFar}
 use Rattle.text_columns.proofs.placing.place_all.Given as goal
 
 abbrev pub invariant-loop-column : goal.invariant-loop-column
-invariant-loop-column l = SoFar (take l.column-index l.columns) l.bytes.items l.arrays.items
+invariant-loop-column l = record {
+  next : goal.iterator-loop-column.can_next l.column-iterator;
+  ends : goal.iterator-loop-column.is_finite l.column-iterator;
+  so_far : SoFar l.yielded l.bytes.items l.arrays.items;
+}
