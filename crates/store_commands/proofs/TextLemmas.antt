@@ -17,26 +17,32 @@ use Rattle.store_commands.specs.Given.{IsWholeInput, HasGivenAtMost}
 use Rattle.store_commands.specs.declared.input.TheConstants.{LARGEST_INPUT}
 use Rattle.text_import.specs.Form.{rows_in}
 use Rattle.text_import.specs.Part.{part_of, refused_part}
-use Rattle.text_import.specs.Refusals.{refused_by}
+use Rattle.text_import.specs.Refusals.{given, refused_by}
 use Rattle.text_import.specs.declared.part.RefusedPart.{RefusedPart}
 use Rattle.text_import.specs.declared.refusal.TextError.{TextError}
 use Rattle.text_import.specs.declared.refusal.TextError.TheVariants as texts
 use Rattle.facts.specs.Outcomes.{Reports}
 use Rattle.command_refusals.specs.Refusals.{text_refusal}
-use Rattle.store_commands.specs.TextRows.{InputGives, HintsAt, IfHinted, RefusesText}
+use Rattle.store_commands.specs.TextRows.{InputGives, IfOfText, HintsAt, IfHinted, RefusesText}
 use Rattle.store_commands.specs.Selecting.{rows_text, QueryAnswers, RefusesQuery}
 
 -- the schema is that of the entry that is found
-pub input_gives : (form : TextForm) (found : Option PlainEntry) (input : Option (List ℕ)) (s : PlainSchema) (bytes text : List ℕ) (given : Result (List (List Cell)) Refused)
-    → option_map (λ e. e.schema) found ≡ Some s → IsWholeInput input bytes → text ≡ bytes → rows_in form s text ≡ given → InputGives form found input given
-input_gives form None input s bytes text given is whole same gives = cc
-input_gives form (Some e) input s bytes text given is whole same gives = record {
+pub input_gives : (form : TextForm) (found : Option PlainEntry) (input : Option (List ℕ)) (s : PlainSchema) (bytes : List ℕ) (given : Result (List (List Cell)) Refused)
+    → option_map (λ e. e.schema) found ≡ Some s → IsWholeInput input bytes → rows_in form s bytes ≡ given → InputGives form found input given
+input_gives form None input s bytes given is whole gives = cc
+input_gives form (Some e) input s bytes given is whole gives = record {
   entry = e;
   is_there = refl;
   bytes = bytes;
   whole = whole;
-  gives = ap (λ t. rows_in form t bytes) (ap (λ o. unwrap_or o s) is) ∙ (ap (λ b. rows_in form s b) (sym same) ∙ gives);
+  gives = ap (λ t. rows_in form t bytes) (ap (λ o. unwrap_or o s) is) ∙ gives;
 }
+
+-- a refusal of a text for the schema of the entry that is found
+pub input_refused : (form : TextForm) (found : Option PlainEntry) (input : Option (List ℕ)) (s : PlainSchema) (bytes : List ℕ) (error : TextError) → option_map (λ e. e.schema) found ≡ Some s
+    → IsWholeInput input bytes → Reports (refused_by error) (rows_in form s bytes) → IfOfText form found input (text_refusal error)
+input_refused form found input s bytes (texts.Refused refused) is whole gives = input_gives form found input s bytes (Err refused) is whole gives
+input_refused form found input s bytes texts.OutOfMemory is whole gives = tt
 
 -- a part that a call gave is the one that is refused, and where nothing is hinted there is nothing to show
 pub hints_at : (form : TextForm) (s : PlainSchema) (bytes : List ℕ) (refused : Refused) (part : Option RefusedPart) → option_map part_of part ≡ refused_part form s bytes refused.number
@@ -49,34 +55,44 @@ no_hint None form found input result e = tt
 no_hint (Some part) form found input result e = absurd cc
 
 -- what is hinted of a text for the schema of the entry that is found
-pub input_hints : (form : TextForm) (found : Option PlainEntry) (input : Option (List ℕ)) (s : PlainSchema) (bytes text : List ℕ) (error : TextError) (hint : Option RefusedPart)
-    → option_map (λ e. e.schema) found ≡ Some s → IsWholeInput input bytes → text ≡ bytes → Reports (refused_by error) (rows_in form s text) → HintsAt hint form s text (refused_by error)
+pub input_hints : (form : TextForm) (found : Option PlainEntry) (input : Option (List ℕ)) (s : PlainSchema) (bytes : List ℕ) (error : TextError) (hint : Option RefusedPart)
+    → option_map (λ e. e.schema) found ≡ Some s → IsWholeInput input bytes → Reports (refused_by error) (rows_in form s bytes) → HintsAt hint form s bytes (refused_by error)
     → IfHinted hint form found input (Err (text_refusal error))
-input_hints form found input s bytes text error None is whole same gives hints = tt
-input_hints form None input s bytes text error (Some part) is whole same gives hints = absurd cc
-input_hints form (Some e) input s bytes text texts.OutOfMemory (Some part) is whole same gives hints = absurd hints
-input_hints form (Some e) input s bytes text (texts.Refused refused) (Some part) is whole same gives hints =
+input_hints form found input s bytes error None is whole gives hints = tt
+input_hints form None input s bytes error (Some part) is whole gives hints = absurd cc
+input_hints form (Some e) input s bytes texts.OutOfMemory (Some part) is whole gives hints = absurd hints
+input_hints form (Some e) input s bytes (texts.Refused refused) (Some part) is whole gives hints =
     let schema : e.schema ≡ s = ap (λ o. unwrap_or o s) is in
     record {
       entry = e;
       is_there = refl;
       bytes = bytes;
       whole = whole;
-      refuses = ap (λ t. rows_in form t bytes) schema ∙ (ap (λ b. rows_in form s b) (sym same) ∙ gives);
-      names = ap (λ t. refused_part form t bytes refused.number) schema ∙ (ap (λ b. refused_part form s b refused.number) (sym same) ∙ hints);
+      refuses = ap (λ t. rows_in form t bytes) schema ∙ gives;
+      names = ap (λ t. refused_part form t bytes refused.number) schema ∙ hints;
     }
+
+-- what is made of what is given was given
+pub made_of : {A B E : Type 0} (f : A → B) (r : Result A E) (b : B) → given f r ≡ Ok b → (a : A) × (r ≡ Ok a) × (b ≡ f a)
+made_of f (Ok a) b e = (a, refl, cc)
+made_of f (Err x) b e = absurd (cc)
+
+pub reported_of : {A B E : Type 0} (f : A → B) (r : Result A E) (o : Option E) → Reports o (given f r) → Reports o r
+reported_of f r None e = tt
+reported_of f (Ok a) (Some x) e = absurd (cc)
+reported_of f (Err y) (Some x) e = cc
 
 there_is : (found : Option PlainEntry) (s : PlainSchema) → option_map (λ e. e.schema) found ≡ Some s → IsSome found
 there_is None s is = absurd cc
 there_is (Some e) s is = refl
 
 -- why the rows of a text that is refused are not handed on
-pub refuses_text : {R : Type 0} (remaining : R → Option (List ℕ)) (form : TextForm) (halted : Bool) (found : Option PlainEntry) (old new : R) (s : PlainSchema) (bytes text : List ℕ) (error : TextError)
-    → halted ≡ false → option_map (λ e. e.schema) found ≡ Some s → IsWholeInput (remaining old) bytes → text ≡ bytes → Reports (refused_by error) (rows_in form s text)
+pub refuses_text : {R : Type 0} (remaining : R → Option (List ℕ)) (form : TextForm) (halted : Bool) (found : Option PlainEntry) (old new : R) (s : PlainSchema) (bytes : List ℕ) (error : TextError)
+    → halted ≡ false → option_map (λ e. e.schema) found ≡ Some s → IsWholeInput (remaining old) bytes → Reports (refused_by error) (rows_in form s bytes)
     → IsAtEnd (remaining new) → HasGivenAtMost (remaining old) (remaining new) LARGEST_INPUT → RefusesText remaining form halted found old new (text_refusal error)
-refuses_text remaining form halted found old new s bytes text (texts.Refused refused) on is whole same gives end few =
-    (on, input_gives form found (remaining old) s bytes text (Err refused) is whole same gives, end)
-refuses_text remaining form halted found old new s bytes text texts.OutOfMemory on is whole same gives end few = (on, there_is found s is, few)
+refuses_text remaining form halted found old new s bytes (texts.Refused refused) on is whole gives end few =
+    (on, input_gives form found (remaining old) s bytes (Err refused) is whole gives, end)
+refuses_text remaining form halted found old new s bytes texts.OutOfMemory on is whole gives end few = (on, there_is found s is, few)
 
 -- where all is written, the lines of the selection are
 pub lines_written : (halted tells : Bool) (image : Image) (found : Option PlainEntry) (q : PlainQuery) (table selected : PlainTable) (text : List ℕ) (old new : Option (List ℕ)) (r : Result (Unit {0}) Refusal)

@@ -1,30 +1,31 @@
 // Rows of an input that is a text: CSV or JSON Lines.
-ghost use Rattle.std.specs.Prelude.{◌≡◌, ◌≢◌, true, codes, map, IfErr, OnOk};
+ghost use Rattle.std.specs.Prelude.{◌≡◌, ◌≢◌, true, codes, string_bytes, IfErr, OnOk};
 ghost use Rattle.std.specs.Io.KnownBytes.{Appends};
 ghost use Rattle.catalogue.specs.Edits.{entry_of};
 ghost use Rattle.tables.specs.Commands.{append_rows};
 ghost use Rattle.tables.specs.Tables.{Tables};
+ghost use Rattle.tables.specs.View.{command_of};
 ghost use Rattle.store.specs.Applying.{GoesOn, reply_of};
 ghost use Rattle.store.specs.Calls.{apply_call};
 ghost use Rattle.store.specs.Fits.{StoreFits, is_halted, listed_in};
 ghost use Rattle.store.specs.Machine.{Machine};
 ghost use Rattle.store_commands.specs.Changing.{AnswersCommand};
+ghost use Rattle.arrow_schema.specs.Limits.{IsWithinLimits};
 ghost use Rattle.arrow_schema.specs.View.{schema_of};
-ghost use Rattle.cells.specs.Row.{row_of};
 ghost use Rattle.facts.specs.Outcomes.{Gives};
 ghost use Rattle.text_import.specs.Form.{rows_in};
-ghost use Rattle.text_import.specs.Refusals.{refused_by};
+ghost use Rattle.text_import.specs.Refusals.{given, refused_by};
 ghost use Rattle.store_commands.specs.TextRows.{HandsRows, RefusesText, IfOfText, HintsAt, IfHinted};
 
 use crate::{LARGEST_INPUT, apply_command, read_at_most};
 use arrow_schema::Schema;
-use cells::Row;
 use command_refusals::Refusal;
 use sector_dev::SectorDevice;
 use std::alloc::Global;
 use std::io::{Read, Write};
 use store::Store;
 use tables::Command;
+use text_columns::csv_table;
 use text_import::{RefusedPart, TextError, TextForm, refused_part, rows_in};
 
 // The part of the first refused record that is refused. Where memory is refused for it, no part is told.
@@ -53,22 +54,44 @@ fn refused_in(
     }
 }
 
-// The rows of a text; where it is refused, `hint` is the part that is.
-fn read_rows(
+// The command that appends the rows of a text to the table of a name. Of a CSV text they are read into arrays where that is possible.
+fn read_command(
     alloc: Global,
     form: &TextForm<'_>,
     schema: &Schema,
     text: &[u8],
-    hint: &mut Option<RefusedPart>,
-) -> Result<Vec<Row>, TextError>
-    ensures rows { Gives refused_by (λ v. map row_of v.items) result (rows_in form.now (schema_of schema.now) text.now) }
-    ensures kept { OnOk result (hint.new ≡ hint.old) }
-    ensures hint { IfErr result (λ error. HintsAt hint.new form.now (schema_of schema.now) text.now (refused_by error)) }
+    name: String,
+) -> Result<Command, TextError>
+    requires { IsWithinLimits (schema_of schema.now) }
+    ensures { Gives refused_by command_of result (given (append_rows (string_bytes name)) (rows_in form.now (schema_of schema.now) text.now)) }
 {
-    match rows_in(alloc, form, schema, text) {
-        Ok(rows) => Ok(rows),
+    if let TextForm::Csv { null_text } = form {
+        if let Some(new) = csv_table(alloc, schema, text, null_text)? {
+            return Ok(Command::AppendTable { name, new });
+        }
+    }
+    let rows = rows_in(alloc, form, schema, text)?;
+    Ok(Command::AppendRows { name, rows })
+}
+
+// The same; where the text is refused, `hint` is the part that is. The text's bytes are let go.
+fn take_command(
+    alloc: Global,
+    form: &TextForm<'_>,
+    schema: &Schema,
+    text: Vec<u8>,
+    name: String,
+    hint: &mut Option<RefusedPart>,
+) -> Result<Command, TextError>
+    requires { IsWithinLimits (schema_of schema.now) }
+    ensures command { Gives refused_by command_of result (given (append_rows (string_bytes name)) (rows_in form.now (schema_of schema.now) text.items)) }
+    ensures kept { OnOk result (hint.new ≡ hint.old) }
+    ensures hint { IfErr result (λ error. HintsAt hint.new form.now (schema_of schema.now) text.items (refused_by error)) }
+{
+    match read_command(alloc, form, schema, &text, name) {
+        Ok(command) => Ok(command),
         Err(error) => {
-            *hint = refused_in(alloc, form, schema, text, &error);
+            *hint = refused_in(alloc, form, schema, &text, &error);
             Err(error)
         }
     }
@@ -108,7 +131,7 @@ pub fn append_text<D: SectorDevice, R: Read, W: Write>(
     *hint = None;
     let schema = store.schema(alloc, name)?;
     let text = read_at_most(alloc, input, LARGEST_INPUT)?;
-    let rows = read_rows(alloc, form, &schema, &text, hint)?;
     let name = String::from_str(alloc, name)?;
-    apply_command(alloc, store, Command::AppendRows { name, rows }, output)
+    let command = take_command(alloc, form, &schema, text, name, hint)?;
+    apply_command(alloc, store, command, output)
 }

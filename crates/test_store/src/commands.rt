@@ -7,8 +7,8 @@ use crate::steps::{Step, Steps};
 use Cell::{Null, Number, Text};
 use Input::{Changed, Column, First, Front, Ints, Texts};
 use Step::{
-    Append, Close, Create, Export, Format, Give, Import, Open, Read, Remove, Rename, Save, Schema,
-    Tables,
+    Append, Close, Create, Export, Format, Give, GiveTable, Import, Open, Read, Remove, Rename,
+    Save, Schema, Tables,
 };
 use sector_dev::ModelDevice;
 use std::alloc::Global;
@@ -443,6 +443,20 @@ const READ: &[Row] = &[
             (Tables, "t 4"),
         ],
         "epoch 4, 233 in 4, t: 3+1 2+1",
+    ),
+    // So do the rows of a table: of the same schema, of one with another dictionary and of one of another type, where the table takes them.
+    (
+        16,
+        &[
+            (Format, "ok"),
+            (Create("t", &["a:dict<int8,int32>?"]), "ok"),
+            (GiveTable("t", Column("a:dict<int8,int32>?", &[7, 7])), "ok"),
+            (GiveTable("t", Column("a:dict<int16,int32>?", &[-1])), "ok"),
+            (GiveTable("t", Column("b:int64", &[5])), "ok"),
+            (GiveTable("t", Texts(&[1])), "S6 RowUnfit 0"),
+            (Read("t"), "\"a\":dict<int8,int32>?: 7 7 -1 5"),
+        ],
+        "epoch 5, 321 in 2, t: 4+2 6+2 8+2",
     ),
     // A query that is saved is a table of its own: what becomes of the other one does not change it.
     (

@@ -3,7 +3,7 @@ use crate::inputs::{Given, Input, bytes_of, new_schema, rows_of};
 use crate::made::NotMade;
 use arrow_schema::{Schema, field_text};
 use canonical_write::encode;
-use ipc_stream::decode;
+use ipc_stream::{decode, decode_weighed};
 use query::{Condition, Query};
 use std::alloc::Global;
 use store::{Call, Reply};
@@ -20,6 +20,7 @@ pub enum Step {
     Import(&'static str, Input),
     Append(&'static str, Input),
     Give(&'static str, Given),
+    GiveTable(&'static str, Input),
     Save(&'static str, &'static str, Asked),
     Rename(&'static str, &'static str),
     Remove(&'static str),
@@ -62,6 +63,15 @@ fn gift(alloc: Global, name: &str, given: Given) -> Result<Command, NotMade> {
     let rows = rows_of(alloc, given)?;
     let name = String::from_str(alloc, name)?;
     Ok(Command::AppendRows { name, rows })
+}
+
+// The rows of the table that a stream means.
+fn table_gift(alloc: Global, name: &str, input: Input) -> Result<Command, NotMade> {
+    let Ok(new) = decode_weighed(alloc, bytes_of(alloc, input)?) else {
+        return Err(NotMade);
+    };
+    let name = String::from_str(alloc, name)?;
+    Ok(Command::AppendTable { name, new })
 }
 
 fn texts(alloc: Global, all: &[&str]) -> Result<Vec<String>, NotMade> {
@@ -112,6 +122,7 @@ pub fn call_of(alloc: Global, step: Step) -> Result<Call, NotMade> {
         Step::Import(name, input) => Call::Apply(import(alloc, name, input)?),
         Step::Append(name, input) => Call::Apply(append(alloc, name, input)?),
         Step::Give(name, given) => Call::Apply(gift(alloc, name, given)?),
+        Step::GiveTable(name, input) => Call::Apply(table_gift(alloc, name, input)?),
         Step::Save(from, to, asked) => Call::Apply(saving(alloc, from, to, asked)?),
         Step::Rename(from, to) => Call::Apply(renaming(alloc, from, to)?),
         Step::Remove(name) => Call::Apply(Command::Drop {
