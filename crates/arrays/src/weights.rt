@@ -377,7 +377,8 @@ fn known_weight<const SIZE: usize, const SIGNED: bool>(
     }
 }
 
-// What the slots of a span weigh, whose indices have so many bytes, with a sign or without, if each is null or names one of the entries whose weights are known.
+// What the slots of a span weigh, whose indices have so many bytes, with a sign or without, if each is null or names one of the entries whose
+// weights are known.
 fn sized_total<const SIZE: usize, const SIGNED: bool>(
     slots: CodedSlots<'_>,
     from: usize,

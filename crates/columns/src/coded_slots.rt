@@ -84,7 +84,8 @@ impl<'a> CodedSlots<'a> {
         requires within { i < slots_in (view_array self.view) }
         ensures below { IfSome result (λ number. number < limit) }
         ensures named { IfSome result (λ number. named_number (index_at (index_of self.entry.spec) (view_array self.entry.view) i) ≡ Some number) }
-        ensures none { result ≡ None → (number : ℕ) → named_number (index_at (index_of self.entry.spec) (view_array self.entry.view) i) ≡ Some number → limit ≤ number }
+        ensures none { result ≡ None → (number : ℕ)
+            → named_number (index_at (index_of self.entry.spec) (view_array self.entry.view) i) ≡ Some number → limit ≤ number }
     {
         let integer = IntegerType {
             width: width_of_bytes(SIZE),

@@ -165,7 +165,8 @@ pub(crate) fn named_below(
     requires within { i < slots }
     ensures below { IfSome result (λ number. number < limit) }
     ensures named { IfSome result (λ number. named_number (integer_at (bits_of integer.width / 8) integer.signed values.now i) ≡ Some number) }
-    ensures none { result ≡ None → (number : ℕ) → named_number (integer_at (bits_of integer.width / 8) integer.signed values.now i) ≡ Some number → limit ≤ number }
+    ensures none { result ≡ None → (number : ℕ)
+        → named_number (integer_at (bits_of integer.width / 8) integer.signed values.now i) ≡ Some number → limit ≤ number }
 {
     let rest = from_place(values, integer.width.bytes(), slots, i);
     let number = first_unsigned(integer.width, rest);

@@ -5,7 +5,7 @@ use Rattle.array_build.proofs.CodedRuns.{hidden_cell, valid_cell}
 use Rattle.array_build.proofs.Written.{put_is}
 use Rattle.array_build.proofs.Codes.{is_known, known_named, null_code}
 use Rattle.array_build.proofs.run_codes.put_slot_code.Goals as goal
-use Rattle.array_build.specs.inner.Codes.{IsKnown, code_in, known_at, own_entries}
+use Rattle.array_build.specs.inner.Codes.{IsKnown, code_in, own_entries}
 use Rattle.cells.specs.Cell.{Cell, null}
 use Rattle.cells.specs.Dictionary.{with_entry}
 use Rattle.cells.specs.Entry.{entry_cell}
