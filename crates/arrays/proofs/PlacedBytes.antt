@@ -1,7 +1,6 @@
 -- Arrays that stand in bytes are of bytes.
-use Rattle.std.specs.Prelude.{◌&&◌, nat_lt}
-use Rattle.std.specs.List.{list_all}
-use Rattle.std.proofs.Common.{◌≡◌, ℕ, zero, suc, Bool, true, List, [], ◌∷◌, map, take, drop, refl, ap, subst, ◌∙◌}
+use Rattle.std.specs.Prelude.{nat_lt}
+use Rattle.std.proofs.Common.{◌≡◌, ℕ, zero, suc, true, List, [], ◌∷◌, map, take, drop, refl, ap, subst, ◌∙◌}
 use Rattle.std.proofs.lemmas.Bool.{and_parts, and_from}
 use Rattle.columns.specs.declared.array.PlacedArray.{PlacedArray}
 use Rattle.columns.specs.declared.array.PlacedLayout.{PlacedLayout}

@@ -17,7 +17,7 @@ use columns::{
     ArrayView, KnownArrays, PlacedArray, PlacedLayout, Span, array_or, bytes_at, no_array,
 };
 
-// Buffers with more bytes than this, and so many for each row, are not compared: their rows are gone through.
+// Buffers with more bytes than these together, of which the second are for each row, are not compared: the rows are gone through.
 const LEAST_COMPARED: usize = 16_384;
 
 const COMPARED_PER_ROW: usize = 64;
@@ -46,8 +46,8 @@ fn is_same_layout(bytes: Compared<'_>, a: &PlacedLayout, b: &PlacedLayout) -> bo
         (PlacedLayout::Null, PlacedLayout::Null) => true,
         (PlacedLayout::Bits(a), PlacedLayout::Bits(b)) => is_same_span(bytes, *a, *b),
         (PlacedLayout::Fixed(a), PlacedLayout::Fixed(b)) => is_same_span(bytes, *a, *b),
-        (PlacedLayout::Binary(a, own), PlacedLayout::Binary(b, others)) => {
-            is_same_span(bytes, *a, *b) && is_same_span(bytes, *own, *others)
+        (PlacedLayout::Binary(a, contents), PlacedLayout::Binary(b, others)) => {
+            is_same_span(bytes, *a, *b) && is_same_span(bytes, *contents, *others)
         }
         _ => false,
     }

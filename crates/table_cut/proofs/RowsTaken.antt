@@ -1,10 +1,9 @@
 -- Rows of a table under another schema of its shape.
-use Rattle.std.specs.Prelude.{Option, Some, None, slice_get, not, nat_le, if◌then◌else◌}
+use Rattle.std.specs.Prelude.{Option, Some, None, not, nat_le}
 use Rattle.std.specs.List.{list_all, position_from}
-use Rattle.std.proofs.Common.{◌≡◌, ◌+◌, ◌≤◌, ◌<◌, ◌&&◌, ◌∷◌, [], ℕ, zero, suc, Bool, true, false, List, length, drop, subst, sym, ap, ◌∙◌, refl, arith}
+use Rattle.std.proofs.Common.{◌≡◌, ◌+◌, ◌&&◌, ◌∷◌, [], ℕ, zero, suc, Bool, true, false, List, drop, sym, ap, ◌∙◌, refl}
 use Rattle.std.proofs.lemmas.Bool.{and_parts}
 use Rattle.std.proofs.lemmas.Iterator.Adapters.{position_from-zero}
-use Rattle.std.proofs.lemmas.List.{drop_all}
 use Rattle.std.proofs.lemmas.List.Sums.{list_all-from_AllPass}
 use Rattle.arrow_schema.specs.Column.{PlainSchema, columns_of}
 use Rattle.arrow_schema.specs.Shape.{HaveOneShape}
@@ -15,7 +14,6 @@ use Rattle.cells.specs.Row.{is_row, row_fits}
 use Rattle.cells.specs.Weight.{row_weight}
 use Rattle.cells.specs.laws.Shapes.{one_shape_fits, one_shape_weighs}
 use Rattle.values.specs.Table.{IsTable, first_unfit}
-use Rattle.table_cut.proofs.CutSteps.{row_before}
 use Rattle.cells.specs.laws.Unlimited.{unlimited_fit}
 
 -- which of the rows from this place on is the first that is not taken
