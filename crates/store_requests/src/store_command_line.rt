@@ -245,7 +245,7 @@ fn create<'a>(alloc: Global) -> Result<Command<'a>, AllocError> {
         alloc,
         "create",
         "Makes a table without rows",
-        "Example: arrowstore create store measurements id:uint64 value:int32? 'tags:list<utf8>'
+        "Example: arrowstore create store measurements id:uint64 'value:int32?' 'tags:list<utf8>'
 
 A TYPE is null, bool, int8 to int64, uint8 to uint64, utf8, large_utf8, binary,
 large_binary, date_day, date_ms, timestamp_s, timestamp_ms, timestamp_us or
