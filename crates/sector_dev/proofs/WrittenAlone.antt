@@ -1,10 +1,12 @@
--- A sector for which there was no memory is written alone, after the buffered writes.
-use Rattle.std.proofs.Common.{◌≡◌, ◌⊎◌, ◌*◌, ◌-◌, ◌==◌, ◌∙◌, ℕ, Bool, true, false, if◌then◌else◌, List, [], ◌∷◌, Some, None, refl, ap, sym, subst, inl, inr, arith, length}
+-- Sectors that are not buffered are written alone, after the buffered writes.
+use Rattle.std.proofs.Common.{◌≡◌, ◌⊎◌, ◌*◌, ◌-◌, ◌∙◌, ℕ, Bool, true, false, if◌then◌else◌, List, [], None, refl, ap, sym, subst, inl, inr, arith, length}
 use Rattle.std.specs.Prelude.{Result, Ok, Err, OnOk, nat_lt, slice_get}
+use Rattle.std.specs.Option.{option_or}
 use Rattle.std.proofs.lemmas.Option.{slice_get_past}
 use Rattle.std.specs.declared.io.traits.Write.{Ghosts as WriteGhosts}
 use Rattle.std.specs.declared.io.traits.Seek.{Ghosts as SeekGhosts}
 use Rattle.sector_dev.specs.Buffer.{content_in}
+use Rattle.sector_dev.specs.Rows.{content_from}
 use Rattle.sector_dev.specs.Written.{Writes, WritesBuffer, IsEmptyBuffer}
 use Rattle.sector_dev.specs.declared.buffer.Buffer.{Buffer}
 
@@ -22,13 +24,13 @@ same_buffer w s old mid before between same (inr none) (inr (some, written)) = a
 same_buffer w s old mid before between same (inl place) (inr (some, written)) =
     inr ((λ none. some (same ∙ none)), subst (λ (start : ℕ). Writes w s (start * 512) old.contents.items before between) place (subst (λ (xs : List (List ℕ)). Writes w s (mid.start * 512) xs before between) same written))
 
--- this write is buffered in place of what was, and the file is as it was; or the buffer was written, and then this write
-abbrev pub Taken : {F : Type 0} → WriteGhosts F → SeekGhosts F → Buffer → ℕ → List ℕ → Buffer → F → F → Type 0
-Taken {F} w s old n c new before after =
-    ((after ≡ before) × ((k : ℕ) → content_in new k ≡ (if k == n then Some c else content_in old k)))
-    ⊎ ((between : F) × WritesBuffer w s old before between × (((after ≡ between) × ((k : ℕ) → content_in new k ≡ (if k == n then Some c else None))) ⊎ (IsEmptyBuffer new × Writes w s (n * 512) (c ∷ []) between after)))
+-- these writes are buffered in place of what was, and the file is as it was; or the buffer was written, and then these
+abbrev pub Taken : {F : Type 0} → WriteGhosts F → SeekGhosts F → Buffer → ℕ → List (List ℕ) → Buffer → F → F → Type 0
+Taken {F} w s old start contents new before after =
+    ((after ≡ before) × ((n : ℕ) → content_in new n ≡ option_or (content_from start contents n) (content_in old n)))
+    ⊎ ((between : F) × WritesBuffer w s old before between × (((after ≡ between) × ((n : ℕ) → content_in new n ≡ content_from start contents n)) ⊎ (IsEmptyBuffer new × Writes w s (start * 512) contents between after)))
 
-pub written_alone : {F E : Type 0} (w : WriteGhosts F) (s : SeekGhosts F) (old mid new : Buffer) (n : ℕ) (c : List ℕ) (r : Result (Unit {0}) E) (before between after : F) → mid.contents.items ≡ old.contents.items → (mid.start ≡ old.start) ⊎ (old.contents.items ≡ []) → WritesBuffer w s mid before between → new.contents.items ≡ [] → OnOk r (Writes w s (n * 512) (c ∷ []) between after) → OnOk r (Taken w s old n c new before after)
-written_alone w s old mid new n c (Ok x) before between after same place flushed none written =
+pub written_alone : {F E : Type 0} (w : WriteGhosts F) (s : SeekGhosts F) (old mid new : Buffer) (start : ℕ) (contents : List (List ℕ)) (r : Result (Unit {0}) E) (before between after : F) → mid.contents.items ≡ old.contents.items → (mid.start ≡ old.start) ⊎ (old.contents.items ≡ []) → WritesBuffer w s mid before between → new.contents.items ≡ [] → OnOk r (Writes w s (start * 512) contents between after) → OnOk r (Taken w s old start contents new before after)
+written_alone w s old mid new start contents (Ok x) before between after same place flushed none written =
     inr (between, same_buffer w s old mid before between same place flushed, inr (empty_buffer new none, written))
-written_alone w s old mid new n c (Err e) before between after same place flushed none written = tt
+written_alone w s old mid new start contents (Err e) before between after same place flushed none written = tt

@@ -3,6 +3,7 @@ pub mod Time
 pub mod Chosen
 pub mod Faults
 pub mod History
+pub mod Rows
 pub mod Buffer
 pub mod Written
 pub mod View

@@ -1,11 +1,13 @@
 -- What the file of a device is given, and which writes stay buffered.
-use Rattle.std.specs.Prelude.{◌≡◌, ◌⊎◌, ◌*◌, ◌==◌, ℕ, if◌then◌else◌, List, [], ◌∷◌, Option, Some, None, IfSome}
+use Rattle.std.specs.Prelude.{◌≡◌, ◌⊎◌, ◌*◌, ℕ, List, [], Option, Some, None, IfSome}
 use Rattle.std.specs.Io.KnownBytes.{Appends, Keeps}
 use Rattle.std.specs.List.{flat_map}
+use Rattle.std.specs.Option.{option_or}
 use Rattle.std.specs.declared.io.traits.Read.{Ghosts as ReadGhosts}
 use Rattle.std.specs.declared.io.traits.Write.{Ghosts as WriteGhosts}
 use Rattle.std.specs.declared.io.traits.Seek.{Ghosts as SeekGhosts}
 use Rattle.sector_dev.specs.Buffer.{content_in}
+use Rattle.sector_dev.specs.Rows.{content_from}
 use Rattle.sector_dev.specs.declared.buffer.Buffer.{Buffer}
 use Rattle.sector_dev.specs.declared.file.FileDevice.{FileDevice}
 
@@ -36,15 +38,15 @@ IsEmpty d = IsEmptyBuffer d.writes
 abbrev pub Empties : {F : Type 0} {r : ReadGhosts F} {w : WriteGhosts F} {s : SeekGhosts F} → FileDevice F r w s → F → Type 0
 Empties {w = w} {s = s} d file = WritesBuffer w s d.writes d.file file
 
--- this write is buffered, the others as they were, and the file is as it was
-abbrev pub Buffers : {F : Type 0} {r : ReadGhosts F} {w : WriteGhosts F} {s : SeekGhosts F} → FileDevice F r w s → ℕ → List ℕ → FileDevice F r w s → Type 0
-Buffers old n c new = (new.file ≡ old.file) × ((k : ℕ) → buffered new k ≡ (if k == n then Some c else buffered old k))
+-- the writes of these contents from a sector on are buffered, the others as they were, and the file is as it was
+abbrev pub Buffers : {F : Type 0} {r : ReadGhosts F} {w : WriteGhosts F} {s : SeekGhosts F} → FileDevice F r w s → ℕ → List (List ℕ) → FileDevice F r w s → Type 0
+Buffers old start contents new = (new.file ≡ old.file) × ((n : ℕ) → buffered new n ≡ option_or (content_from start contents n) (buffered old n))
 
--- the buffered writes were written, and then this one is buffered alone or was written after them
-abbrev pub BuffersAnew : {F : Type 0} {r : ReadGhosts F} {w : WriteGhosts F} {s : SeekGhosts F} → FileDevice F r w s → ℕ → List ℕ → FileDevice F r w s → Type 0
-BuffersAnew {F} {w = w} {s = s} old n c new =
+-- the buffered writes were written, and then these are buffered alone or were written after them
+abbrev pub BuffersAnew : {F : Type 0} {r : ReadGhosts F} {w : WriteGhosts F} {s : SeekGhosts F} → FileDevice F r w s → ℕ → List (List ℕ) → FileDevice F r w s → Type 0
+BuffersAnew {F} {w = w} {s = s} old start contents new =
     (between : F) × Empties old between
-    × (((new.file ≡ between) × ((k : ℕ) → buffered new k ≡ (if k == n then Some c else None))) ⊎ (IsEmpty new × Writes w s (n * 512) (c ∷ []) between new.file))
+    × (((new.file ≡ between) × ((n : ℕ) → buffered new n ≡ content_from start contents n)) ⊎ (IsEmpty new × Writes w s (start * 512) contents between new.file))
 
 -- the buffered writes are as they were, or were written and are buffered no more
 abbrev pub LosesNone : {F : Type 0} {r : ReadGhosts F} {w : WriteGhosts F} {s : SeekGhosts F} → FileDevice F r w s → FileDevice F r w s → Type 0

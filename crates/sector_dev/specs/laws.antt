@@ -2,3 +2,4 @@
 pub mod Crash
 pub mod Time
 pub mod Stories
+pub mod Rows

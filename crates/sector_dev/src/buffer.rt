@@ -1,8 +1,9 @@
 // Neighbouring sectors in memory.
-ghost use Rattle.std.specs.Prelude.{◌≡◌, ◌⊎◌, ◌↔◌, ◌+◌, ◌==◌, ℕ, if◌then◌else◌, Some, None, IsTrue, length, []};
-ghost use Rattle.std.specs.Option.{option_copied};
+ghost use Rattle.std.specs.Prelude.{◌≡◌, ◌⊎◌, ◌↔◌, ◌+◌, ℕ, None, IsTrue, length, []};
+ghost use Rattle.std.specs.Option.{option_copied, option_or};
 ghost use Rattle.std.specs.Bool.{OnTrue, OnFalse};
 ghost use Rattle.sector_dev.specs.Buffer.{content_in};
+ghost use Rattle.sector_dev.specs.Rows.{content_from};
 
 use std::alloc::Global;
 
@@ -15,6 +16,9 @@ pub(crate) struct Buffer {
 
 // 256 KiB: a longer run was not faster to write or to read
 pub(crate) const MOST: usize = 512;
+
+// to copy more than so many takes longer than a call of the system that writes them from where they stand
+const LONGEST_ADDED: usize = 128;
 
 impl Buffer {
     // No sector.
@@ -54,35 +58,19 @@ impl Buffer {
         self.contents.clear();
     }
 
-    // Gives a sector that is among them another content. `false`: it is not among them.
-    pub(crate) fn replace(&mut self, n: u64, content: &[u8; 512]) -> bool
-        ensures replaced { OnTrue result ((k : ℕ) → content_in self.new k ≡ (if k == n then Some content.now else content_in self.old k)) }
-        ensures absent { OnFalse result (self.new ≡ self.old) }
-        ensures start { self.new.start ≡ self.old.start }
-    {
-        if n < self.start {
-            return false;
-        }
-        let i = (n - self.start) as usize;
-        if i >= self.contents.len() {
-            return false;
-        }
-        self.contents[i] = *content;
-        true
-    }
-
-    // Adds a sector after them, or begins with it. `false`: it is another one, they are many enough, or there was no memory.
-    pub(crate) fn append(&mut self, n: u64, content: &[u8; 512]) -> bool
-        ensures appended { OnTrue result ((k : ℕ) → content_in self.new k ≡ (if k == n then Some content.now else content_in self.old k)) }
+    // Adds sectors after them, or begins with these. `false`: they stand elsewhere, would be too many, or there was no memory.
+    pub(crate) fn append(&mut self, n: u64, contents: &[[u8; 512]]) -> bool
+        ensures appended { OnTrue result ((k : ℕ) → content_in self.new k ≡ option_or (content_from n contents.now k) (content_in self.old k)) }
         ensures same { OnFalse result (self.new.contents.items ≡ self.old.contents.items) }
         ensures place { OnFalse result ((self.new.start ≡ self.old.start) ⊎ (self.old.contents.items ≡ [])) }
         ensures start { (self.new.start ≡ self.old.start) ⊎ (self.new.start ≡ n) }
     {
         self.begin_at(n);
-        if !self.ends_before(n) || self.contents.len() >= MOST {
+        let room = MOST.saturating_sub(self.contents.len());
+        if !self.ends_before(n) || contents.len() > room.min(LONGEST_ADDED) {
             return false;
         }
-        self.contents.push(*content).is_ok()
+        self.contents.extend_from_slice(contents).is_ok()
     }
 
     // An empty run begins here.

@@ -1,6 +1,7 @@
 // A device of sectors of 512 bytes.
-ghost use Rattle.std.specs.Prelude.{◌≡◌, ◌≢◌, ◌<◌, ◌+◌, ℕ, Bool, true, [], Some, None, OnOk, OnErr, IfErr, IsErrOf};
+ghost use Rattle.std.specs.Prelude.{◌≡◌, ◌≢◌, ◌<◌, ◌≤◌, ◌+◌, ◌^◌, ℕ, Bool, true, [], length, Some, None, OnOk, OnErr, IfErr, IsErrOf};
 ghost use Rattle.sector_dev.specs.Disk.{Story, now, moment, ShowsImage, Watches, Passes, Puts, FailsToPut, Flushes, Counts, Each, IsWhole};
+ghost use Rattle.sector_dev.specs.Rows.{row_writes, GrowsBy, FailsAmong};
 
 /// The number of bytes of a sector.
 pub const SECTOR_BYTES: usize = 512;
@@ -64,6 +65,25 @@ pub trait SectorDevice {
         ensures error { IfErr result (λ e. e ≡ DevError.Failed) }
         ensures ok { OnOk result (tells ≡ true → Puts (story self.old) n from.now (Some from.now) (story self.new)) }
         ensures err { OnErr result (tells ≡ true → FailsToPut (story self.old) n from.now (story self.new)) };
+
+    /// Writes neighbouring sectors from one on, ascending, as so many calls of `write`.
+    ///
+    /// # Errors
+    /// `Failed` alone: the sectors before one of them were written, that one failed as a write does, and nothing was done to those behind it.
+    fn write_sectors(&mut self, start: u64, contents: &[[u8; 512]]) -> Result<(), DevError>
+        requires within { start + length contents.now ≤ size self.old }
+        requires countable { start + length contents.now < 2 ^ 64 }
+        ensures size { size self.new ≡ size self.old }
+        ensures count { Counts (failed self.old) (failed self.new) result }
+        ensures error { IfErr result (λ e. e ≡ DevError.Failed) }
+        ensures order { OnOk result (tells ≡ true → GrowsBy (row_writes start contents.now) (story self.old) (story self.new)) }
+        ensures cut_short { OnErr result (tells ≡ true → FailsAmong (row_writes start contents.now) (story self.old) (story self.new)) }
+    {
+        for (i, content) in contents.iter().enumerate() {
+            self.write(start + i as u64, content)?;
+        }
+        Ok(())
+    }
 
     /// Makes what reads give safe from a crash.
     ///

@@ -1,5 +1,5 @@
 // A device that is a file.
-ghost use Rattle.std.specs.Prelude.{◌≡◌, ◌≤◌, ◌<◌};
+ghost use Rattle.std.specs.Prelude.{◌≡◌, ◌≤◌};
 ghost use Rattle.sector_dev.specs.declared.file.FileError.TheVariants.{Io};
 ghost use Rattle.sector_dev.specs.declared.file.TheConstants.{MOST_SECTORS};
 
@@ -45,7 +45,7 @@ pub struct FileDevice<F: Read + Write + Seek + OpenFile + Drop> {
     // read from the file before it was asked for; dropped as soon as the file is written
     ahead: Buffer,
     ghost within: { sectors ≤ MOST_SECTORS },
-    ghost writes_within: { writes.start < MOST_SECTORS },
+    ghost writes_within: { writes.start ≤ MOST_SECTORS },
 }
 
 impl From<io::Error> for FileError {

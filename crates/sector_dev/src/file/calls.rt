@@ -1,5 +1,5 @@
 // The calls of a device that is a file.
-ghost use Rattle.std.specs.Prelude.{◌≡◌, ◌<◌, ◌⊎◌, [], false, IfErr, OnOk, OnErr, IfSome, is_ok, true};
+ghost use Rattle.std.specs.Prelude.{◌≡◌, ◌<◌, ◌≤◌, ◌+◌, ◌⊎◌, [], ◌∷◌, false, length, IfErr, OnOk, OnErr, IfSome, is_ok, true};
 ghost use Rattle.std.proofs.Common.{sym};
 ghost use Rattle.std.proofs.lemmas.Bool.{true≢false};
 ghost use Rattle.sector_dev.specs.laws.Crash.{blank_shows};
@@ -11,6 +11,7 @@ use super::FileDevice;
 use crate::{DevError, SectorDevice};
 use std::fs::OpenFile;
 use std::io::{Read, Seek, Write};
+use std::slice;
 
 impl<F: Read + Write + Seek + OpenFile + Drop> SectorDevice for FileDevice<F> {
     ghost size = { λ f. f.sectors };
@@ -53,10 +54,22 @@ impl<F: Read + Write + Seek + OpenFile + Drop> SectorDevice for FileDevice<F> {
         ensures size { self.new.sectors ≡ self.old.sectors }
         ensures count { Counts self.old.failed self.new.failed result }
         ensures error { IfErr result (λ e. e ≡ DevError.Failed) }
-        ensures ok { OnOk result (Buffers self.old n from.now self.new ⊎ BuffersAnew self.old n from.now self.new) }
+        ensures ok { OnOk result (Buffers self.old n (from.now ∷ []) self.new ⊎ BuffersAnew self.old n (from.now ∷ []) self.new) }
         ensures err { OnErr result (LosesNone self.old self.new) }
     {
-        let done = self.put(n, from);
+        let done = self.put(n, slice::from_ref(from));
+        self.counted(done)
+    }
+
+    fn write_sectors(&mut self, start: u64, contents: &[[u8; 512]]) -> Result<(), DevError>
+        requires { start + length contents.now ≤ self.old.sectors }
+        ensures size { self.new.sectors ≡ self.old.sectors }
+        ensures count { Counts self.old.failed self.new.failed result }
+        ensures error { IfErr result (λ e. e ≡ DevError.Failed) }
+        ensures ok { OnOk result (Buffers self.old start contents.now self.new ⊎ BuffersAnew self.old start contents.now self.new) }
+        ensures err { OnErr result (LosesNone self.old self.new) }
+    {
+        let done = self.put(start, contents);
         self.counted(done)
     }
 

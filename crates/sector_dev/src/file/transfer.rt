@@ -1,5 +1,5 @@
 // What a device that is a file reads and writes.
-ghost use Rattle.std.specs.Prelude.{◌≡◌, ◌<◌, ◌⊎◌, ◌*◌, [], IfErr, OnOk, OnErr, IfSome, is_ok, true};
+ghost use Rattle.std.specs.Prelude.{◌≡◌, ◌<◌, ◌≤◌, ◌+◌, ◌⊎◌, ◌*◌, [], length, IfErr, OnOk, OnErr, IfSome, is_ok, true};
 ghost use Rattle.sector_dev.specs.Disk.{Counts};
 ghost use Rattle.sector_dev.specs.declared.file.TheConstants.{MOST_SECTORS};
 ghost use Rattle.sector_dev.specs.Written.{Writes, buffered, IsEmpty, Empties, Buffers, BuffersAnew, LosesNone};
@@ -23,7 +23,7 @@ fn read_at<F: Read + Seek>(file: &mut F, start: u64, contents: &mut [[u8; 512]])
 
 // Writes sectors to the file.
 fn write_at<F: Write + Seek>(file: &mut F, start: u64, contents: &[[u8; 512]]) -> io::Result<()>
-    requires { start < MOST_SECTORS }
+    requires { start ≤ MOST_SECTORS }
     ensures { OnOk result (Writes ⟦<F as Write>⟧ ⟦<F as Seek>⟧ (start * 512) contents.now file.old file.new) }
 {
     file.seek(SeekFrom::Start(start * 512))?;
@@ -49,23 +49,24 @@ impl<F: Read + Write + Seek + OpenFile + Drop> FileDevice<F> {
         Ok(())
     }
 
-    pub(super) fn put(&mut self, n: u64, from: &[u8; 512]) -> io::Result<()>
-        requires { n < self.old.sectors }
+    // Buffers these sectors, or writes them behind what is buffered.
+    pub(super) fn put(&mut self, start: u64, contents: &[[u8; 512]]) -> io::Result<()>
+        requires { start + length contents.now ≤ self.old.sectors }
         ensures sectors { self.new.sectors ≡ self.old.sectors }
         ensures failed { self.new.failed ≡ self.old.failed }
-        ensures ok { OnOk result (Buffers self.old n from.now self.new ⊎ BuffersAnew self.old n from.now self.new) }
+        ensures ok { OnOk result (Buffers self.old start contents.now self.new ⊎ BuffersAnew self.old start contents.now self.new) }
         ensures err { OnErr result (LosesNone self.old self.new) }
     {
-        if self.writes.replace(n, from) || self.writes.append(n, from) {
+        if self.writes.append(start, contents) {
             return Ok(());
         }
         self.flush()?;
-        if self.writes.append(n, from) {
+        if self.writes.append(start, contents) {
             return Ok(());
         }
-        // there is no memory for it
+        // they are many, or there is no memory for them
         self.ahead.clear();
-        write_at(&mut self.file, n, &[*from])
+        write_at(&mut self.file, start, contents)
     }
 
     pub(super) fn get(&mut self, n: u64, to: &mut [u8; 512]) -> io::Result<()>
