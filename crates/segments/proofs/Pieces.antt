@@ -3,6 +3,7 @@ use Rattle.std.proofs.Common.{◌≡◌, ◌≤◌, ◌<◌, ◌+◌, ℕ, zero,
 use Rattle.std.proofs.lemmas.Grind.{flat_map-append}
 use Rattle.std.proofs.lemmas.List.{get_or-map, length-map, take_more, take-append-drop}
 use Rattle.sector_dev.specs.Disk.{Sector, Story, now, shown_image}
+use Rattle.sector_dev.specs.Rows.{SectorWrite, GrowsBy}
 use Rattle.segments.specs.declared.piece.Piece.{Piece}
 use Rattle.segments.specs.declared.piece.Part.{Part}
 use Rattle.segments.specs.Pieces.{PlainPiece, part_bytes, bytes_of_parts, plain_piece, plain_pieces}
@@ -10,7 +11,7 @@ use Rattle.segments.specs.Runs.{AreApart}
 use Rattle.segments.specs.Sectors.{sector_count}
 use Rattle.segments.specs.laws.ReadBack.{same_holds}
 use Rattle.segments.specs.laws.Runs.{out_of_apart}
-use Rattle.segments.specs.Writing.{SectorWrite, WritesOnly, runs_of, AllFit, HoldsEach, run_writes, piece_writes, GrowsBy}
+use Rattle.segments.specs.Writing.{WritesOnly, runs_of, AllFit, HoldsEach, run_writes, piece_writes}
 use Rattle.segments.proofs.Touched.{AreIn, moments_done, in_both, in_more, run_in, run_holds, written_now}
 
 -- a piece fits

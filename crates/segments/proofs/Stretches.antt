@@ -4,12 +4,12 @@ use Rattle.std.specs.List.{range_with_len}
 use Rattle.std.specs.Simd.{first_chunks}
 use Rattle.std.proofs.lemmas.List.{take-append-drop, take-append-le, drop-append-le}
 use Rattle.sector_dev.specs.Disk.{Story, Puts, FailsToPut}
+use Rattle.sector_dev.specs.Rows.{SectorWrite, writes_from, GrowsBy, FailsAmong, row_writes}
 use Rattle.segments.specs.Sectors.{sector_count, filled, sector_of}
-use Rattle.segments.specs.Writing.{SectorWrite, writes_from, run_writes, GrowsBy, FailsAmong}
-use Rattle.segments.specs.inner.Rows.{row_writes}
+use Rattle.segments.specs.Writing.{run_writes}
 use Rattle.segments.specs.inner.Tails.{whole_bytes, rest_bytes}
 use Rattle.segments.proofs.Contents.{chunk_at, sector_whole, sector_last}
-use Rattle.segments.proofs.Order.{same_writes, grows_on, fails_later, fails_before}
+use Rattle.sector_dev.specs.laws.Rows.{same_writes, grows_on, fails_later, fails_before}
 
 -- ---- rows
 

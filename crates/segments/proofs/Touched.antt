@@ -7,11 +7,11 @@ use Rattle.sector_dev.specs.Disk.{Disk, Sector, Story, now, put, shown_image, Ma
 use Rattle.sector_dev.specs.Time.{Grows}
 use Rattle.sector_dev.specs.laws.Time.{two, goes_on, weaken, now_has, left_since}
 use Rattle.sector_dev.specs.laws.Crash.{put_other, put_same}
+use Rattle.sector_dev.specs.Rows.{SectorWrite, GrowsBy, FailsAmong}
 use Rattle.segments.specs.declared.run.Run.{Run}
 use Rattle.segments.specs.Runs.{OutOf}
 use Rattle.segments.specs.Sectors.{sector_count, sector_of, Holds}
-use Rattle.segments.specs.Writing.{SectorWrite, WritesOnly, LeavesOthers, run_writes, GrowsBy, FailsAmong}
-use Rattle.segments.specs.inner.Rows.{sectors_from}
+use Rattle.segments.specs.Writing.{WritesOnly, LeavesOthers, run_writes}
 
 writes_none : (runs : List Run) (d : Disk) → WritesOnly runs d d
 writes_none runs d = record { outside = λ n out. refl; begun = inl refl }
@@ -119,7 +119,7 @@ shows_row start i (suc count) content a b done j low lt =
     (cases_eq j i)
   where
     behind : List Run
-    behind = sectors_from (start + (i + 1)) count
+    behind = record { start = start + (i + 1); count = count } ∷ []
 
     later : WritesOnly behind (now done.0) (now b)
     later =

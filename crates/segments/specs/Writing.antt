@@ -1,7 +1,8 @@
 -- What the writing of runs may touch, and the writes that it makes.
-use Rattle.std.specs.Prelude.{◌≡◌, ◌⊎◌, ◌≤◌, ◌<◌, ◌+◌, ℕ, List, [], ◌∷◌, length, map, Some}
-use Rattle.std.specs.List.{flat_map, range_with_len}
-use Rattle.sector_dev.specs.Disk.{Disk, Story, Image, now, moment, LeftSince, MayHold, Puts, FailsToPut}
+use Rattle.std.specs.Prelude.{◌≡◌, ◌⊎◌, ◌≤◌, ◌<◌, ◌+◌, ℕ, List, [], ◌∷◌, length, map}
+use Rattle.std.specs.List.{flat_map}
+use Rattle.sector_dev.specs.Disk.{Disk, Story, Image, now, moment, LeftSince, MayHold}
+use Rattle.sector_dev.specs.Rows.{SectorWrite, writes_from}
 use Rattle.sector_dev.specs.Time.{Grows}
 use Rattle.segments.specs.declared.run.Run.{Run}
 use Rattle.segments.specs.Pieces.{PlainPiece}
@@ -38,29 +39,10 @@ abbrev pub HoldsEach : Image → List PlainPiece → Type 0
 HoldsEach image [] = Unit {0}
 HoldsEach image (p ∷ ps) = Holds image p.run.start p.bytes × HoldsEach image ps
 
--- a sector that is written, and its content
-pub record SectorWrite : Type 0 where
-  pub sector : ℕ
-  pub content : List ℕ
-
--- the writes of so many sectors from one on, ascending: each sector once, with this content
-abbrev pub writes_from : ℕ → ℕ → (ℕ → List ℕ) → List SectorWrite
-writes_from start count content = map (λ j. record { sector = start + j; content = content j }) (range_with_len 0 count)
-
--- those of a run that is to hold these bytes
+-- the writes of a run that is to hold these bytes
 abbrev pub run_writes : ℕ → List ℕ → List SectorWrite
 run_writes start bytes = writes_from start (sector_count (length bytes)) (sector_of bytes)
 
 -- those of each piece in turn
 abbrev pub piece_writes : List PlainPiece → List SectorWrite
 piece_writes pieces = flat_map (λ (p : PlainPiece). run_writes p.run.start p.bytes) pieces
-
--- these writes were done, one after another, and no other call began
-abbrev pub GrowsBy : List SectorWrite → Story → Story → Type 0
-GrowsBy [] old new = new ≡ old
-GrowsBy (w ∷ ws) old new = (next : Story) × Puts old w.sector w.content (Some w.content) next × GrowsBy ws next new
-
--- one of these writes failed: those before it were done, and none behind it began
-abbrev pub FailsAmong : List SectorWrite → Story → Story → Type 0
-FailsAmong [] old new = ⊥
-FailsAmong (w ∷ ws) old new = FailsToPut old w.sector w.content new ⊎ ((next : Story) × Puts old w.sector w.content (Some w.content) next × FailsAmong ws next new)

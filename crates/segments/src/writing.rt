@@ -1,11 +1,11 @@
 // Runs of sectors are written.
 ghost use Rattle.std.specs.Prelude.{◌≡◌, ◌+◌, ◌++◌, ◌*◌, ◌/◌, ◌≤◌, ◌<◌, ◌^◌, ◌∷◌, [], length, true, OnOk, OnErr, IfErr, Some};
 ghost use Rattle.sector_dev.specs.Disk.{now, shown_image, Counts};
+ghost use Rattle.sector_dev.specs.Rows.{GrowsBy, FailsAmong};
 ghost use Rattle.segments.specs.Pieces.{bytes_of_parts, plain_pieces};
 ghost use Rattle.segments.specs.Runs.{AreApart};
 ghost use Rattle.segments.specs.Sectors.{sector_count, filled, Holds, bytes_at};
-ghost use Rattle.segments.specs.Writing.{run_for, runs_of, OnlyWrites, LeavesOthers, AllFit, HoldsEach, run_writes, piece_writes, GrowsBy, FailsAmong};
-ghost use Rattle.segments.specs.inner.Rows.{row_writes};
+ghost use Rattle.segments.specs.Writing.{run_for, runs_of, OnlyWrites, LeavesOthers, AllFit, HoldsEach, run_writes, piece_writes};
 ghost use Rattle.segments.specs.inner.Tails.{tail_bytes, whole_bytes, rest_bytes};
 
 use crate::tail::Tail;
@@ -20,26 +20,6 @@ fn filled_sector(bytes: &[u8]) -> [u8; 512]
     let mut sector = [0u8; 512];
     sector[..bytes.len()].copy_from_slice(bytes);
     sector
-}
-
-// Writes whole sectors, ascending.
-fn write_sectors<D: SectorDevice>(
-    device: &mut D,
-    start: u64,
-    contents: &[[u8; 512]],
-) -> Result<(), DevError>
-    requires within { start + length contents.now ≤ D.size device.old }
-    requires countable { 512 * D.size device.old < 2 ^ 64 }
-    ensures size { D.size device.new ≡ D.size device.old }
-    ensures count { Counts (D.failed device.old) (D.failed device.new) result }
-    ensures error { IfErr result (λ e. e ≡ DevError.Failed) }
-    ensures order { OnOk result (D.tells ≡ true → GrowsBy (row_writes start contents.now) (D.story device.old) (D.story device.new)) }
-    ensures cut_short { OnErr result (D.tells ≡ true → FailsAmong (row_writes start contents.now) (D.story device.old) (D.story device.new)) }
-{
-    for (i, content) in contents.iter().enumerate() {
-        device.write(start + i as u64, content)?;
-    }
-    Ok(())
 }
 
 // Writes the whole sectors of a tail and the bytes behind it. What is left stays in the tail: the bytes of a part are copied only where
@@ -68,7 +48,7 @@ fn write_part<D: SectorDevice>(
     };
     device.write(tail.start, sector)?;
     let (whole, rest) = bytes[taken..].as_chunks::<SECTOR_BYTES>();
-    write_sectors(device, tail.start + 1, whole)?;
+    device.write_sectors(tail.start + 1, whole)?;
     tail.restart(1 + whole.len() as u64, rest);
     Ok(())
 }

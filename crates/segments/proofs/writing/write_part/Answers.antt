@@ -1,6 +1,6 @@
 use Rattle.std.proofs.Common.{◌≡◌, ◌++◌, ◌/◌, ◌∙◌, length, arith}
 use Rattle.segments.specs.inner.Tails.{tail_bytes}
-use Rattle.segments.proofs.Order.{on_err}
+use Rattle.sector_dev.specs.laws.Rows.{on_err}
 use Rattle.segments.proofs.Stretches.{left_of, all_taken, still_rest, none_written, behind_sector, part_length, sector_failed, sectors_failed, sectors_done, left_behind}
 use Rattle.segments.proofs.writing.write_part.Goals as goal
 
@@ -48,7 +48,7 @@ returns-in_err-write_sectors-clause-cut_short g c = on_err c.from_residual-in_er
     let t = tail_bytes c.args.tail.now in
     let b = c.args.bytes.now in
     let split = behind_sector t b c.in-Some.sector.now c.fill-taken.result (c.in-Some.ensures.some ∙ c.fill-taken.ensures.bytes) in
-    sectors_failed c.args.tail.now.start c.fill-taken.new.self.start (t ++ b) c.in-Some.sector.now (left_of b c.fill-taken.result) c.as_chunks.result.0.now (D.story c.args.device.now) (D.story c.write.new.self) (D.story c.write_sectors.new.device)
+    sectors_failed c.args.tail.now.start c.fill-taken.new.self.start (t ++ b) c.in-Some.sector.now (left_of b c.fill-taken.result) c.as_chunks.result.0.now (D.story c.args.device.now) (D.story c.write.new.self) (D.story c.write_sectors.new.self)
     c.fill-taken.ensures.start split c.in-Some.ensures.whole c.as_chunks.ensures.front c.as_chunks.ensures.front_len (c.in_ok-write.ensures.ok told) (c.in_err-write_sectors.ensures.cut_short told))
 
 pub returns-clause-order : goal.returns-clause-order
@@ -57,7 +57,7 @@ returns-clause-order g c = λ told.
     let t = tail_bytes c.args.tail.now in
     let b = c.args.bytes.now in
     let split = behind_sector t b c.in-Some.sector.now c.fill-taken.result (c.in-Some.ensures.some ∙ c.fill-taken.ensures.bytes) in
-    sectors_done c.args.tail.now.start c.fill-taken.new.self.start (t ++ b) c.in-Some.sector.now (left_of b c.fill-taken.result) c.as_chunks.result.0.now (D.story c.args.device.now) (D.story c.write.new.self) (D.story c.write_sectors.new.device)
+    sectors_done c.args.tail.now.start c.fill-taken.new.self.start (t ++ b) c.in-Some.sector.now (left_of b c.fill-taken.result) c.as_chunks.result.0.now (D.story c.args.device.now) (D.story c.write.new.self) (D.story c.write_sectors.new.self)
     c.fill-taken.ensures.start split c.in-Some.ensures.whole c.as_chunks.ensures.front c.as_chunks.ensures.front_len (c.in_ok-write.ensures.ok told) (c.in_ok-write_sectors.ensures.order told)
 
 pub returns-clause-start : goal.returns-clause-start

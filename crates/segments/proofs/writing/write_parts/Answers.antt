@@ -1,8 +1,10 @@
 use Rattle.std.proofs.Common.{◌≡◌, [], ◌+◌, ◌++◌, ◌∙◌, length, take, drop, refl, sym, ap, subst, arith, take_all}
+use Rattle.sector_dev.specs.Rows.{GrowsBy, FailsAmong}
 use Rattle.segments.specs.Pieces.{bytes_of_parts}
-use Rattle.segments.specs.Writing.{run_writes, GrowsBy, FailsAmong}
+use Rattle.segments.specs.Writing.{run_writes}
 use Rattle.segments.specs.inner.Tails.{tail_bytes, whole_bytes, rest_bytes}
-use Rattle.segments.proofs.Order.{on_err, on_ok_map, on_err_map}
+use Rattle.sector_dev.specs.laws.Rows.{on_err}
+use Rattle.segments.proofs.Order.{on_ok_map, on_err_map}
 use Rattle.segments.proofs.Pieces.{next_part, all_parts}
 use Rattle.segments.proofs.Stretches.{few_left, part_room, tail_room, next_start, next_rest, none_written, still_rest, part_done, part_failed, tail_done, tail_failed}
 use Rattle.segments.proofs.writing.write_parts.Goals as goal

@@ -1,6 +1,7 @@
 use Rattle.std.proofs.Common.{◌≡◌, ◌+◌, ◌/◌, length, take, true}
+use Rattle.sector_dev.specs.Rows.{GrowsBy}
 use Rattle.segments.specs.Pieces.{bytes_of_parts}
-use Rattle.segments.specs.Writing.{run_writes, GrowsBy}
+use Rattle.segments.specs.Writing.{run_writes}
 use Rattle.segments.specs.inner.Tails.{tail_bytes, whole_bytes, rest_bytes}
 use Rattle.segments.proofs.writing.write_parts.Given as goal
 

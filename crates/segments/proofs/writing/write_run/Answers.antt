@@ -1,6 +1,7 @@
 use Rattle.std.proofs.Common.{◌≡◌, ◌∷◌, [], List, ℕ, true, subst, append-nil, arith}
 use Rattle.std.specs.Result.{OnOk, OnErr}
-use Rattle.segments.specs.Writing.{run_for, run_writes, GrowsBy, FailsAmong}
+use Rattle.sector_dev.specs.Rows.{GrowsBy, FailsAmong}
+use Rattle.segments.specs.Writing.{run_for, run_writes}
 use Rattle.segments.specs.laws.ReadBack.{read_back}
 use Rattle.segments.proofs.Order.{on_ok_map}
 use Rattle.segments.proofs.Touched.{moments_of, run_in, run_holds, leaves_others}

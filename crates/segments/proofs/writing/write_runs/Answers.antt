@@ -1,8 +1,10 @@
 use Rattle.std.proofs.Common.{◌≡◌, ◌∙◌, length, ap, subst, arith, take_all}
+use Rattle.sector_dev.specs.Rows.{GrowsBy}
 use Rattle.segments.specs.Pieces.{plain_piece, plain_pieces, bytes_of_parts}
-use Rattle.segments.specs.Writing.{runs_of, piece_writes, GrowsBy}
+use Rattle.segments.specs.Writing.{runs_of, piece_writes}
 use Rattle.std.proofs.lemmas.List.{length-map}
-use Rattle.segments.proofs.Order.{on_err, piece_done, piece_failed}
+use Rattle.sector_dev.specs.laws.Rows.{on_err}
+use Rattle.segments.proofs.Order.{piece_done, piece_failed}
 use Rattle.segments.proofs.Pieces.{fit_of, number, plain_at, pieces_in, pieces_hold}
 use Rattle.segments.proofs.Touched.{moments_done, moments_failed, leaves_others}
 use Rattle.segments.proofs.writing.write_runs.Goals as goal

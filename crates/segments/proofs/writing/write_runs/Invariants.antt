@@ -1,6 +1,7 @@
 use Rattle.std.proofs.Common.{◌≡◌, take, true}
+use Rattle.sector_dev.specs.Rows.{GrowsBy}
 use Rattle.segments.specs.Pieces.{plain_pieces}
-use Rattle.segments.specs.Writing.{piece_writes, GrowsBy}
+use Rattle.segments.specs.Writing.{piece_writes}
 use Rattle.segments.proofs.writing.write_runs.Given as goal
 
 abbrev pub invariant-loop-piece : goal.invariant-loop-piece
