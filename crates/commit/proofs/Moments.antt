@@ -1,6 +1,7 @@
 -- The moments of a publishing.
 use Rattle.std.proofs.Common.{◌≡◌, ◌≢◌, ◌⊎◌, inl, inr, ⊎_elim, ◌<◌, ◌+◌, ◌%◌, ℕ, List, [], ◌∷◌, Option, Some, None, refl, sym, ap, ◌∙◌, subst, arith}
 use Rattle.std.proofs.lemmas.Bool.{cases_eq}
+use Rattle.std.proofs.lemmas.Nat.{mod_below}
 use Rattle.sector_dev.specs.Disk.{Disk, Sector, Story, Image, now, put, flushed, synced_image, shown_image, MayLeave, MayHold, Puts, FailsToPut, Flushes, LeftSince, moment}
 use Rattle.sector_dev.specs.Time.{Grows}
 use Rattle.sector_dev.specs.laws.Time.{two, left_since}
@@ -20,9 +21,6 @@ out_of_commits : (pieces : List PlainPiece) (n : ℕ) → n < 2 → StartFrom 2 
 out_of_commits [] n lt above = tt
 out_of_commits (p ∷ ps) n lt above = (inl (omega (arith, above.0)), out_of_commits ps n lt above.1)
 
-slot_low : (n : ℕ) → n % 2 < 2
-slot_low n = omega arith
-
 module _ (old new : Commit) (pieces : List PlainPiece) (d0 : Disk) (above : StartFrom 2 (runs_of pieces)) (next : new.epoch ≡ old.epoch + 1) (rests : Rests d0 old) where
   abbrev pub P : Disk → Type 0
   P = IsPublishing d0 new pieces (IsRuledBy old) (IsRuledBy new)
@@ -31,7 +29,7 @@ module _ (old new : Commit) (pieces : List PlainPiece) (d0 : Disk) (above : Star
   slot = new.epoch % 2
 
   at_slot_out : OutOf (runs_of pieces) slot
-  at_slot_out = out_of_commits pieces slot (slot_low new.epoch) above
+  at_slot_out = out_of_commits pieces slot (mod_below new.epoch 2 (omega arith)) above
 
   -- while the pieces are written each image has the old commit sectors
   pub while_written : (d : Disk) → WritesOnly (runs_of pieces) d0 d → P d
@@ -91,7 +89,7 @@ module _ (old new : Commit) (pieces : List PlainPiece) (d0 : Disk) (above : Star
     pub committed : (d : Disk) → Staged d → (image : Image) → ((n : ℕ) → n ≢ slot → image n ≡ (d.at n).synced) → image slot ≡ Some c → (ruling image ≡ Some new) × HoldsEach image pieces
     committed d s image others is = (
       new_rules (synced_image d) image new.epoch old new (rules_staged d s) (omega (arith, next)) others (ap (commit_at slot) is ∙ spells),
-      same_pieces 2 (synced_image d) image pieces above (λ n low. others n (λ e. omega (arith, slot_low new.epoch))) s.holds,
+      same_pieces 2 (synced_image d) image pieces above (λ n low. others n (λ e. omega (arith, mod_below new.epoch 2 (omega arith)))) s.holds,
     )
 
     -- the disk with the commit sector written

@@ -1,7 +1,7 @@
 -- Runs in another order: the same ones are in use, and they have the same fault.
 use Rattle.std.proofs.Common.{◌≡◌, ◌+◌, ◌||◌, ℕ, Bool, true, false, not, nat_le, if◌then◌else◌, List, [], ◌∷◌, IsPermutation, Some, None, refl, sym, ap, ◌∙◌}
 use Rattle.std.specs.List.{AllByRecursion, IsDistinct}
-use Rattle.std.proofs.lemmas.Bool.{and_from, and_parts, or_parts, true≢false}
+use Rattle.std.proofs.lemmas.Bool.{and_from, and_parts, not-false, or_parts, true≢false}
 use Rattle.std.proofs.lemmas.List.Elements.{All-from_recursion, recursion_from_All}
 use Rattle.std.proofs.lemmas.List.Sorted.{All-permutation, IsPermutation-sym, IsPermutation-cons}
 use Rattle.std.proofs.lemmas.Map.Keys.{IsDistinct-IsPermutation}
@@ -49,10 +49,6 @@ meet_both a b = swapped (nat_le (a.start + a.count) b.start) (nat_le (b.start + 
     swapped false true = refl
     swapped false false = refl
 
-not_not : (t : Bool) → not t ≡ false → t ≡ true
-not_not true is = refl
-not_not false is = absurd (true≢false is)
-
 each_apart : (r : Run) (ss : List Run) → is_apart r ss ≡ true → AllByRecursion (λ (s : Run). meet r s ≡ false) ss
 each_apart r [] is = tt
 each_apart r (s ∷ ss) is =
@@ -61,7 +57,7 @@ each_apart r (s ∷ ss) is =
 apart_each : (r : Run) (ss : List Run) → AllByRecursion (λ (s : Run). meet r s ≡ false) ss → is_apart r ss ≡ true
 apart_each r [] each = refl
 apart_each r (s ∷ ss) each =
-    let here = nat_le (r.start + r.count) s.start || nat_le (s.start + s.count) r.start in and_from here (is_apart r ss) (not_not here each.0) (apart_each r ss each.1)
+    let here = nat_le (r.start + r.count) s.start || nat_le (s.start + s.count) r.start in and_from here (is_apart r ss) (not-false here each.0) (apart_each r ss each.1)
 
 distinct : (rs : List Run) → are_apart rs ≡ true → IsDistinct meet rs
 unfolding IsDistinct

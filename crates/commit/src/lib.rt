@@ -9,7 +9,7 @@
 //! let (tables, text) = with_segment(&store.catalogue, &places)?;
 //! let plan = plan_next(store.commit, tables, places, text);
 //! publish(&mut device, &store, &plan)?;
-//! give_runs(&mut store.map, &given_up);
+//! store.map.give_each(&given_up);
 //! ```
 #![tactic(auto)]
 
@@ -31,7 +31,7 @@ pub use entering::occupy_runs;
 pub use formatting::{FormatError, format};
 pub use opening::read_ruling;
 pub use opening_refusal::OpeningRefusal;
-pub use placing::{Places, give_runs, place, take_runs};
+pub use placing::{Places, place, take_runs};
 pub use publishing::{Plan, plan_next, publish};
 pub use reading::{OpenError, read_text};
 pub use recovery::{Opened, recover};

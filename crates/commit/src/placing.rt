@@ -4,7 +4,7 @@ ghost use Rattle.segments.specs.Pieces.{plain_pieces};
 ghost use Rattle.segments.specs.Usages.{IsUsedIn, SameUsages};
 ghost use Rattle.segments.specs.Writing.{runs_of};
 ghost use Rattle.commit.specs.Placing.{Takes, AreSome, AreShort, HasRoom, contents_of, counts_of, plain_contents};
-ghost use Rattle.commit.specs.laws.Taking.{TookAll, GivesAll};
+ghost use Rattle.commit.specs.laws.Taking.{TookAll};
 
 use sector_dev::SECTOR_BYTES;
 use segments::{FreeMap, Part, Piece, Run, Searched, TakeError, byte_count};
@@ -19,13 +19,6 @@ pub struct Places<'a> {
     pub runs: Vec<Run>,
     /// Room for the text's one part.
     pub room: Vec<Part<'a>>,
-}
-
-/// Gives these runs back, each as often as it is listed. It takes no memory.
-pub fn give_runs(map: &mut FreeMap, runs: &[Run])
-    ensures { GivesAll map.old map.new runs.now }
-{
-    map.give_each(runs);
 }
 
 /// Takes runs of these numbers of sectors in order, each the lowest one that is free then.
@@ -47,7 +40,7 @@ pub fn take_runs(alloc: Global, map: &mut FreeMap, counts: &[u64]) -> Result<Vec
         match map.take_onward(*count, &mut searched) {
             Ok(run) => runs.push(run).unwrap(),
             Err(error) => {
-                give_runs(map, &runs);
+                map.give_each(&runs);
                 return Err(error);
             }
         }

@@ -9,7 +9,7 @@ ghost use Rattle.commit.specs.Replacing.{change_of, Replaces, LeavesEither, Ends
 use crate::sector::commit_sector;
 use crate::{Commit, Opened, Places, ReadCatalogue};
 use sector_dev::{DevError, SectorDevice};
-use segments::{Extent, Part, Piece, write_runs};
+use segments::{Extent, Part, Piece, Run, write_runs};
 
 /// What is to be published: the next commit, its catalogue, and the bytes that are written for it.
 #[derive(Drop)]
@@ -17,6 +17,8 @@ pub struct Plan<'a, C> {
     pub commit: Commit,
     pub catalogue: C,
     pub pieces: Vec<Piece<'a>>,
+    /// The runs of the pieces, in order. Where the plan is not published, they go back.
+    pub runs: Vec<Run>,
 }
 
 /// The plan of the next commit: what was placed, and behind it the text of its catalogue. It takes no memory.
@@ -27,6 +29,7 @@ pub fn plan_next<'a, C>(old: Commit, catalogue: C, places: Places<'a>, text: Vec
     ensures catalogue { result.catalogue ≡ catalogue }
     ensures pieces { plain_pieces result.pieces.items
         ≡ plain_pieces places.entry.pieces.items ++ record { run = places.entry.text; bytes = text.items } ∷ [] }
+    ensures runs { result.runs ≡ places.entry.runs }
 {
     let extent = Extent {
         run: places.text,
@@ -50,6 +53,7 @@ pub fn plan_next<'a, C>(old: Commit, catalogue: C, places: Places<'a>, text: Vec
         commit,
         catalogue,
         pieces,
+        runs: places.runs,
     }
 }
 

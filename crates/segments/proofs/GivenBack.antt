@@ -5,7 +5,7 @@ use Rattle.segments.specs.declared.run.Run.{Run}
 use Rattle.segments.specs.declared.entries.Usage.{Usage}
 use Rattle.segments.specs.declared.entries.UsageEntry.{UsageEntry}
 use Rattle.segments.specs.Usages.{UNUSED, is_used, given, usage_of, usage_after, is_among, same_run, Ordered, EndBy}
-use Rattle.segments.specs.laws.Usages.{same_run_is, unused}
+use Rattle.segments.specs.laws.Usages.{same_run_is, among_more, unused}
 use Rattle.segments.specs.inner.Places.{Ascending, GivenAmong, HasEntryAt}
 use Rattle.segments.proofs.Placed.{starts_differ, ordered_from, ascending_at}
 use Rattle.segments.proofs.Used.{unused_before}
@@ -51,18 +51,6 @@ usage_set from (e ∷ es) (suc k) run u d other a lt is =
     (cases_Bool (same_run e.run other))
 
 -- one more run is given back
-among_last : (runs : List Run) (run other : Run) → is_among (runs ++ run ∷ []) other ≡ (is_among runs other || same_run run other)
-among_last [] run other = or_nothing (same_run run other)
-  where
-    or_nothing : (t : Bool) → (t || false) ≡ t
-    or_nothing true = refl
-    or_nothing false = refl
-among_last (r ∷ rs) run other = ap (λ (t : Bool). same_run r other || t) (among_last rs run other) ∙ by_first (same_run r other)
-  where
-    by_first : (t : Bool) → (t || (is_among rs other || same_run run other)) ≡ ((t || is_among rs other) || same_run run other)
-    by_first true = refl
-    by_first false = refl
-
 after_last : (was mid next : Usage) (among same : Bool) → mid ≡ cond among (given was) was → (same ≡ true → next ≡ given mid) → (same ≡ false → next ≡ mid) → next ≡ cond (among || same) (given was) was
 after_last was mid next true true before gives keeps = gives refl ∙ ap given before
 after_last was mid next true false before gives keeps = keeps refl ∙ before
@@ -72,7 +60,7 @@ after_last was mid next false false before gives keeps = keeps refl ∙ before
 usages_last : (old new next : List UsageEntry) (runs : List Run) (run : Run) → ((other : Run) → usage_of new other ≡ usage_after runs other (usage_of old other)) → ((other : Run) → same_run run other ≡ true → usage_of next other ≡ given (usage_of new other)) → ((other : Run) → same_run run other ≡ false → usage_of next other ≡ usage_of new other) → (other : Run) → usage_of next other ≡ usage_after (runs ++ run ∷ []) other (usage_of old other)
 usages_last old new next runs run before gives keeps other =
     after_last (usage_of old other) (usage_of new other) (usage_of next other) (is_among runs other) (same_run run other) (before other) (gives other) (keeps other)
-    ∙ ap (λ (t : Bool). cond t (given (usage_of old other)) (usage_of old other)) (sym (among_last runs run other))
+    ∙ ap (λ (t : Bool). cond t (given (usage_of old other)) (usage_of old other)) (sym (among_more runs run other))
 
 -- one that has an entry
 pub given_at : (old new next : List UsageEntry) (runs : List Run) (run : Run) (k : ℕ) (u : Usage) → GivenAmong old new runs → HasEntryAt new run k → u ≡ given (usage_of new run) → next ≡ with_entry new k run u → GivenAmong old next (runs ++ run ∷ [])

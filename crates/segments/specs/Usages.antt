@@ -101,6 +101,6 @@ abbrev pub usage_after : List Run → Run → Usage → Usage
 usage_after back run usage = if is_among back run then given usage else usage
 
 -- these runs are given back; no other run changes
-pub record GivesBack (old new : Space) (runs : List Run) : Type 0 where
+pub record GivesAll (old new : Space) (runs : List Run) : Type 0 where
   pub size : new.size ≡ old.size
   pub usages : (run : Run) → usage_of new.entries run ≡ usage_after runs run (usage_of old.entries run)

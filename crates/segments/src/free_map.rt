@@ -1,7 +1,8 @@
 // The runs of a device that are in use, and the lowest free one.
 ghost use Rattle.std.specs.Prelude.{◌≡◌, ◌≤◌, ◌↔◌, ◌⊎◌, [], Err, None, Some, IfOk, IfErr, OnOk, OnErr, IsErrOf, IsTrue, true};
 ghost use Rattle.segments.specs.Runs.{IsOnDevice, IsFree, IsLowest};
-ghost use Rattle.segments.specs.Usages.{UNUSED, TAKEN, given, pinned, unpinned, is_used, usage_of, with_run, IsUsedIn, Overlaps, IsUnused, IsSearched, Changes, GivesBack};
+ghost use Rattle.segments.specs.Usages.{UNUSED, TAKEN, given, pinned, unpinned, is_used, usage_of, with_run, IsUsedIn, IsSearched};
+ghost use Rattle.segments.specs.Usages.{Overlaps, IsUnused, Changes, GivesAll};
 
 use crate::entries::{change, give_each, is_apart, lowest, place_of_run, place_of_start};
 use crate::{EnterError, Run, Searched, TakeError, Usage, UsageEntry};
@@ -129,7 +130,7 @@ impl FreeMap {
     /// Gives these runs back. A run that is pinned stays in use. It takes no memory, and however many runs there are, the
     /// entries of the map are moved once.
     pub fn give_each(&mut self, runs: &[Run])
-        ensures { GivesBack self.old self.new runs.now }
+        ensures { GivesAll self.old self.new runs.now }
     {
         give_each(&mut self.entries, runs);
     }

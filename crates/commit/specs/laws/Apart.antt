@@ -1,15 +1,15 @@
 -- Runs that are entered into a free map one after another share no sector.
 use Rattle.std.specs.Prelude.{◌≡◌, ◌<◌, ◌+◌, ◌&&◌, ◌||◌, ℕ, Bool, true, false, nat_le, if◌then◌else◌, List, [], ◌∷◌, ◌++◌, zero, suc, length, get_or, Some, None, refl}
 use Rattle.std.proofs.Common.{inl, inr, sym, ap, ◌∙◌, subst, arith}
-use Rattle.std.proofs.lemmas.Bool.{and_from, false_from_ne_true, leb-true, le-leb}
+use Rattle.std.proofs.lemmas.Bool.{and_from, and_parts, or_right, false_from_ne_true, leb-true, le-leb}
 use Rattle.segments.specs.declared.run.Run.{Run}
 use Rattle.segments.specs.Runs.{IsApart, IsOnDevice, IsFree}
 use Rattle.segments.specs.Usages.{is_used, TAKEN, same_run, usage_of, IsUsedIn, Changes, Space}
 use Rattle.commit.specs.declared.cause.Cause.TheVariants.{RunRange, RunOverlap}
 use Rattle.commit.specs.Placing.{is_among, Uses, usage_by}
 use Rattle.commit.specs.Standing.{is_on_device, all_on_device, is_apart, are_apart, runs_fault}
-use Rattle.segments.specs.laws.Usages.{same_run_is, same_itself}
-use Rattle.commit.specs.laws.Taking.{same_run_not, among_more}
+use Rattle.segments.specs.laws.Usages.{same_run_is, same_itself, or_false, among_more}
+use Rattle.commit.specs.laws.Taking.{same_run_not}
 
 -- one pair of runs
 pub pair_apart : (a b : Run) → (nat_le (a.start + a.count) b.start || nat_le (b.start + b.count) a.start) ≡ true → IsApart b a
@@ -22,27 +22,18 @@ pair_apart a b is = by_first (nat_le (a.start + a.count) b.start) (nat_le (b.sta
 
 pub apart_pair : (a b : Run) → IsApart b a → (nat_le (a.start + a.count) b.start || nat_le (b.start + b.count) a.start) ≡ true
 apart_pair a b (inr before) = ap (λ (t : Bool). t || nat_le (b.start + b.count) a.start) (le-leb _ _ before)
-apart_pair a b (inl after) = ap (λ (t : Bool). nat_le (a.start + a.count) b.start || t) (le-leb _ _ after) ∙ last (nat_le (a.start + a.count) b.start)
-  where
-    last : (t : Bool) → (t || true) ≡ true
-    last true = refl
-    last false = refl
-
-both : (x y : Bool) → (x && y) ≡ true → (x ≡ true) × (y ≡ true)
-both true true is = (refl, refl)
-both true false is = absurd (cc is)
-both false y is = absurd (cc is)
+apart_pair a b (inl after) = ap (λ (t : Bool). nat_le (a.start + a.count) b.start || t) (le-leb _ _ after) ∙ or_right (nat_le (a.start + a.count) b.start) true refl
 
 -- a run is apart from the one behind some others
 apart_from_later : (a r : Run) (ys zs : List Run) → is_apart a (ys ++ r ∷ zs) ≡ true → IsApart r a
-apart_from_later a r [] zs is = pair_apart a r (both (nat_le (a.start + a.count) r.start || nat_le (r.start + r.count) a.start) (is_apart a zs) is).0
-apart_from_later a r (y ∷ ys) zs is = apart_from_later a r ys zs (both (nat_le (a.start + a.count) y.start || nat_le (y.start + y.count) a.start) (is_apart a (ys ++ r ∷ zs)) is).1
+apart_from_later a r [] zs is = pair_apart a r (and_parts (nat_le (a.start + a.count) r.start || nat_le (r.start + r.count) a.start) (is_apart a zs) is).0
+apart_from_later a r (y ∷ ys) zs is = apart_from_later a r ys zs (and_parts (nat_le (a.start + a.count) y.start || nat_le (y.start + y.count) a.start) (is_apart a (ys ++ r ∷ zs)) is).1
 
 -- of runs that share no sector each is apart from those before it
 pub apart_from_earlier : (ys : List Run) (r : Run) (zs : List Run) → are_apart (ys ++ r ∷ zs) ≡ true → (other : Run) → is_among ys other ≡ true → IsApart r other
 apart_from_earlier [] r zs is other among = absurd (cc among)
 apart_from_earlier (y ∷ ys) r zs is other among =
-    let parts = both (is_apart y (ys ++ r ∷ zs)) (are_apart (ys ++ r ∷ zs)) is in
+    let parts = and_parts (is_apart y (ys ++ r ∷ zs)) (are_apart (ys ++ r ∷ zs)) is in
     by_first (same_run y other) refl among (λ same. subst (λ (x : Run). IsApart r x) (same_run_is y other same) (apart_from_later y r ys zs parts.0)) (λ later. apart_from_earlier ys r zs parts.1 other later)
   where
     by_first : {P : Type 0} (t : Bool) → same_run y other ≡ t → (t || is_among ys other) ≡ true → (same_run y other ≡ true → P) → (is_among ys other ≡ true → P) → P
@@ -52,15 +43,11 @@ apart_from_earlier (y ∷ ys) r zs is other among =
 is_apart_more : (a r : Run) (ys : List Run) → is_apart a ys ≡ true → IsApart r a → is_apart a (ys ++ r ∷ []) ≡ true
 is_apart_more a r [] is apart = ap (λ (t : Bool). t && true) (apart_pair a r apart)
 is_apart_more a r (y ∷ ys) is apart =
-    let parts = both (nat_le (a.start + a.count) y.start || nat_le (y.start + y.count) a.start) (is_apart a ys) is in
+    let parts = and_parts (nat_le (a.start + a.count) y.start || nat_le (y.start + y.count) a.start) (is_apart a ys) is in
     and_from _ _ parts.0 (is_apart_more a r ys parts.1 apart)
 
 pub among_first : (y : Run) (ys : List Run) (other : Run) → is_among ys other ≡ true → is_among (y ∷ ys) other ≡ true
-among_first y ys other is = by_first (same_run y other)
-  where
-    by_first : (t : Bool) → (t || is_among ys other) ≡ true
-    by_first true = refl
-    by_first false = is
+among_first y ys other is = or_right (same_run y other) (is_among ys other) is
 
 pub same_first : (y : Run) (ys : List Run) → is_among (y ∷ ys) y ≡ true
 same_first y ys = ap (λ (t : Bool). t || is_among ys y) (same_itself y)
@@ -69,7 +56,7 @@ same_first y ys = ap (λ (t : Bool). t || is_among ys y) (same_itself y)
 pub are_apart_more : (ys : List Run) (r : Run) → are_apart ys ≡ true → ((other : Run) → is_among ys other ≡ true → IsApart r other) → are_apart (ys ++ r ∷ []) ≡ true
 are_apart_more [] r is apart = refl
 are_apart_more (y ∷ ys) r is apart =
-    let parts = both (is_apart y ys) (are_apart ys) is in
+    let parts = and_parts (is_apart y ys) (are_apart ys) is in
     and_from _ _ (is_apart_more y r ys parts.0 (apart y (same_first y ys))) (are_apart_more ys r parts.1 (λ other among. apart other (among_first y ys other among)))
 
 -- the runs in use are just these, and share no sector
@@ -96,21 +83,13 @@ entered_more size map next runs run has free changes = record {
   apart = are_apart_more runs run has.apart (λ other among. free.apart other (among_used size map runs other has among));
 }
   where
-    last : (t : Bool) → (t || true) ≡ true
-    last true = refl
-    last false = refl
-
-    first : (t : Bool) → (t || false) ≡ t
-    first true = refl
-    first false = refl
-
     usage : (other : Run) (t : Bool) → same_run run other ≡ t → usage_of next.entries other ≡ usage_by (runs ++ run ∷ []) [] other
     usage other true same =
         subst (λ (r : Run). usage_of next.entries r ≡ TAKEN) (same_run_is run other same) changes.this
-        ∙ ap (λ (t : Bool). record { taken = t; pins = 0 }) (sym (among_more runs run other ∙ ap (λ (t : Bool). is_among runs other || t) same ∙ last (is_among runs other)))
+        ∙ ap (λ (t : Bool). record { taken = t; pins = 0 }) (sym (among_more runs run other ∙ ap (λ (t : Bool). is_among runs other || t) same ∙ or_right (is_among runs other) true refl))
     usage other false same =
         changes.others other (λ is. same_run_not run other same (sym is)) ∙ has.uses other
-        ∙ ap (λ (t : Bool). record { taken = t; pins = 0 }) (sym (among_more runs run other ∙ ap (λ (t : Bool). is_among runs other || t) same ∙ first (is_among runs other)))
+        ∙ ap (λ (t : Bool). record { taken = t; pins = 0 }) (sym (among_more runs run other ∙ ap (λ (t : Bool). is_among runs other || t) same ∙ or_false (is_among runs other)))
 
 -- where one meets those before it, the runs share a sector
 pub overlap_told : (size : ℕ) (map : Space) (runs : List Run) (run : Run) (rest : List Run) → HasEntered size map runs → IsOnDevice map.size run → (IsFree map.size (IsUsedIn map.entries) run → ⊥) → are_apart (runs ++ run ∷ rest) ≡ false
@@ -122,14 +101,14 @@ overlap_told size map runs run rest has on not =
 
 pub on_device_is : (size : ℕ) (r : Run) → is_on_device size r ≡ true → IsOnDevice size r
 on_device_is size r is =
-    let low = both (nat_le 2 r.start) (nat_le 1 r.count && nat_le (r.start + r.count) size) is in
-    let rest = both (nat_le 1 r.count) (nat_le (r.start + r.count) size) low.1 in
+    let low = and_parts (nat_le 2 r.start) (nat_le 1 r.count && nat_le (r.start + r.count) size) is in
+    let rest = and_parts (nat_le 1 r.count) (nat_le (r.start + r.count) size) low.1 in
     record { above = leb-true _ _ low.0; some = leb-true _ _ rest.0; within = leb-true _ _ rest.1 }
 
 pub all_at : (size : ℕ) (rs : List Run) (i : ℕ) (d : Run) → all_on_device size rs ≡ true → i < length rs → is_on_device size (get_or rs i d) ≡ true
 all_at size [] i d is lt = absurd (omega arith)
-all_at size (r ∷ rs) zero d is lt = (both (is_on_device size r) (all_on_device size rs) is).0
-all_at size (r ∷ rs) (suc i) d is lt = all_at size rs i d (both (is_on_device size r) (all_on_device size rs) is).1 (omega arith)
+all_at size (r ∷ rs) zero d is lt = (and_parts (is_on_device size r) (all_on_device size rs) is).0
+all_at size (r ∷ rs) (suc i) d is lt = all_at size rs i d (and_parts (is_on_device size r) (all_on_device size rs) is).1 (omega arith)
 
 pub entered_none : (size : ℕ) (map : Space) → map ≡ record { size = size; entries = [] } → HasEntered size map []
 entered_none size map is = record { size_is = ap (λ (s : Space). s.size) is; uses = λ run. ap (λ (s : Space). usage_of s.entries run) is; apart = refl }

@@ -7,13 +7,13 @@ use Rattle.segments.specs.declared.run.Run.{Run}
 use Rattle.segments.specs.Runs.{IsApart, ApartFrom, AreApart}
 use Rattle.segments.specs.Usages.{Space, same_run, IsUsedIn}
 use Rattle.segments.specs.laws.Runs.{swapped}
-use Rattle.segments.specs.laws.Usages.{same_run_is, same_itself, same_or_not}
+use Rattle.segments.specs.laws.Usages.{same_run_is, same_itself, same_or_not, among_both}
 use Rattle.commit.specs.Placing.{is_among, times_among, Uses}
 use Rattle.commit.specs.Standing.{is_on_device, all_on_device, is_apart, are_apart, runs_fault}
 use Rattle.commit.specs.laws.Apart.{pair_apart, apart_pair, among_first, same_first, fits}
 use Rattle.commit.specs.laws.Frame.{fault_none}
 use Rattle.commit.specs.laws.Taking.{Took, TookAll}
-use Rattle.commit.specs.laws.Placed.{used_apart, took_apart, uses_used, among_both}
+use Rattle.commit.specs.laws.Placed.{used_apart, took_apart, uses_used}
 
 -- a run is the first of a list, or among the others
 pub among_cases : (x : Run) (xs : List Run) (run : Run) → is_among (x ∷ xs) run ≡ true → (x ≡ run) ⊎ (is_among xs run ≡ true)

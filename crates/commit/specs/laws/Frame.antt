@@ -1,7 +1,7 @@
 -- What one who opens finds depends on the commit sectors and on the runs in use alone.
 use Rattle.std.specs.Prelude.{◌≡◌, ◌≤◌, ◌<◌, ◌+◌, ◌%◌, ◌==◌, ◌&&◌, ℕ, Bool, true, false, nat_le, if◌then◌else◌, List, [], ◌∷◌, length, Option, Some, None, Result, Ok, Err, refl}
 use Rattle.std.proofs.Common.{inl, inr, ⊎_elim, sym, ap, ◌∙◌, subst, arith}
-use Rattle.std.proofs.lemmas.Bool.{eq-eqb}
+use Rattle.std.proofs.lemmas.Bool.{and_parts, eq-eqb}
 use Rattle.std.proofs.lemmas.Bool.Decides.{nat_tests}
 use Rattle.sector_dev.specs.Disk.{Disk, Sector, Image, synced_image}
 use Rattle.segments.specs.Runs.{OutOf}
@@ -18,11 +18,6 @@ use Rattle.commit.specs.Formatting.{HoldsNoCommit, IsEmptyStore, first_commit, e
 use Rattle.commit.specs.Publishing.{IsOldOrNew, IsPublishing, IsPublished, IsRuledBy}
 use Rattle.commit.specs.Replacing.{Change, IsPieceOf, IsMade, CanReplace, StandsAs, StandsAsEither}
 use Rattle.commit.specs.Standing.{Reading, no_store, damaged, rules, is_size, is_on_device, is_extent, all_on_device, are_apart, used_runs, readable, text_at, runs_fault, by_runs, by_catalogue, spelled_by, named_by, by_commit, standing, Stands, InSome, IsLocal}
-
-both : (x y : Bool) → (x && y) ≡ true → (x ≡ true) × (y ≡ true)
-both true true is = (refl, refl)
-both true false is = absurd (cc is)
-both false y is = absurd (cc is)
 
 -- a text that is found: the tests before it passed
 pub record HasText (size : ℕ) (image : Image) (k : Commit) (text : List ℕ) : Type 0 where
@@ -157,8 +152,8 @@ module _ {C : Type 0} (reading : Reading C) (size : ℕ) where
   -- the sectors of the catalogue's text lie in its run
   text_sector : (k : Commit) (j : ℕ) → is_extent size 4 k.catalogue ≡ true → j < sector_count k.catalogue.bytes → (k.catalogue.run.start ≤ k.catalogue.run.start + j) × (k.catalogue.run.start + j < k.catalogue.run.start + k.catalogue.run.count)
   text_sector k j extent lt =
-      let parts = both (nat_le 4 k.catalogue.bytes) ((k.catalogue.run.count == sector_count k.catalogue.bytes) && is_on_device size k.catalogue.run) extent in
-      let count = (both (k.catalogue.run.count == sector_count k.catalogue.bytes) (is_on_device size k.catalogue.run) parts.1).0 in
+      let parts = and_parts (nat_le 4 k.catalogue.bytes) ((k.catalogue.run.count == sector_count k.catalogue.bytes) && is_on_device size k.catalogue.run) extent in
+      let count = (and_parts (k.catalogue.run.count == sector_count k.catalogue.bytes) (is_on_device size k.catalogue.run) parts.1).0 in
       let same : k.catalogue.run.count ≡ sector_count k.catalogue.bytes = grind (arith, nat_tests) in
       (omega arith, omega arith)
 
@@ -184,20 +179,20 @@ module _ {C : Type 0} (reading : Reading C) (size : ℕ) where
   -- each sector of a run in use lies behind the commit sectors
   above_run : (r : Run) (n : ℕ) → is_on_device size r ≡ true → (r.start ≤ n) × (n < r.start + r.count) → 2 ≤ n
   above_run r n is within =
-      let low = (both (nat_le 2 r.start) (nat_le 1 r.count && nat_le (r.start + r.count) size) is).0 in
+      let low = (and_parts (nat_le 2 r.start) (nat_le 1 r.count && nat_le (r.start + r.count) size) is).0 in
       let le : 2 ≤ r.start = grind (arith, nat_tests) in omega (arith, within.0)
 
   above_each : (rs : List Run) (n : ℕ) → all_on_device size rs ≡ true → InSome rs n → 2 ≤ n
   above_each [] n is within = absurd within
-  above_each (r ∷ rs) n is (inl here) = above_run r n (both (is_on_device size r) (all_on_device size rs) is).0 here
-  above_each (r ∷ rs) n is (inr later) = above_each rs n (both (is_on_device size r) (all_on_device size rs) is).1 later
+  above_each (r ∷ rs) n is (inl here) = above_run r n (and_parts (is_on_device size r) (all_on_device size rs) is).0 here
+  above_each (r ∷ rs) n is (inr later) = above_each rs n (and_parts (is_on_device size r) (all_on_device size rs) is).1 later
 
   pub above_used : (image : Image) (k : Commit) (c : C) (n : ℕ) → standing reading size image ≡ rules k c → InSome (used_runs reading k c) n → 2 ≤ n
   above_used image k c n is (inl here) =
       let f = rules_found image k c is in
       let extent = (text_is size image k f.text f.found).extent in
-      let parts = both (nat_le 4 k.catalogue.bytes) ((k.catalogue.run.count == sector_count k.catalogue.bytes) && is_on_device size k.catalogue.run) extent in
-      above_run k.catalogue.run n (both (k.catalogue.run.count == sector_count k.catalogue.bytes) (is_on_device size k.catalogue.run) parts.1).1 here
+      let parts = and_parts (nat_le 4 k.catalogue.bytes) ((k.catalogue.run.count == sector_count k.catalogue.bytes) && is_on_device size k.catalogue.run) extent in
+      above_run k.catalogue.run n (and_parts (k.catalogue.run.count == sector_count k.catalogue.bytes) (is_on_device size k.catalogue.run) parts.1).1 here
   above_used image k c n is (inr later) = let f = rules_found image k c is in above_each (reading.runs c) n (fault_none size k.catalogue.run (reading.runs c) f.fit).0 later
 
   -- where the new commit rules an image that holds the pieces, the new catalogue is found

@@ -1,22 +1,22 @@
 -- Laws of runs that were taken for a plan: they are apart from one another and from those in use.
 use Rattle.std.specs.Prelude.{◌≡◌, ◌⊎◌, ◌≤◌, ◌<◌, ◌+◌, ◌^◌, ◌&&◌, ◌||◌, ℕ, Bool, nat_le, true, false, not, List, [], ◌∷◌, ◌++◌, length, map, refl}
 use Rattle.std.proofs.Common.{inl, inr, sym, ap, ◌∙◌, subst, arith}
-use Rattle.std.proofs.lemmas.Bool.{and_parts, and_from, leb-true, le-leb, eq-eqb}
+use Rattle.std.proofs.lemmas.Bool.{and_parts, and_from, and_right, or_right, leb-true, le-leb, eq-eqb}
 use Rattle.segments.specs.declared.run.Run.{Run}
 use Rattle.segments.specs.Pieces.{PlainPiece}
 use Rattle.segments.specs.declared.entries.Usage.{Usage}
 use Rattle.segments.specs.declared.entries.UsageEntry.{UsageEntry}
 use Rattle.segments.specs.Runs.{OutOf, ApartFrom, AreApart, StartFrom}
 use Rattle.segments.specs.Sectors.{sector_count}
-use Rattle.segments.specs.Usages.{Space, TAKEN, is_used, given, usage_of, same_run, IsUsedIn}
+use Rattle.segments.specs.Usages.{Space, TAKEN, is_used, given, usage_of, same_run, IsUsedIn, GivesAll}
 use Rattle.segments.specs.Writing.{AllFit, runs_of}
 use Rattle.segments.specs.laws.Runs.{swapped, out_of_apart}
-use Rattle.segments.specs.laws.Usages.{same_itself}
+use Rattle.segments.specs.laws.Usages.{same_itself, or_false, among_both}
 use Rattle.commit.specs.declared.sector.Commit.{Commit}
 use Rattle.commit.specs.Placing.{is_among, times_among, Uses, sectors_of, counts_of, contents_of}
 use Rattle.commit.specs.Standing.{is_size, is_extent, InSome}
 use Rattle.commit.specs.Publishing.{IsPlan, next_commit}
-use Rattle.commit.specs.laws.Taking.{Took, TookAll, GivesAll, by_among}
+use Rattle.commit.specs.laws.Taking.{Took, TookAll, by_among}
 
 -- one run is taken for each number
 pub took_length : (size : ℕ) (used : Run → Type 0) (ns : List ℕ) (rs : List Run) → Took size used ns rs → length rs ≡ length ns
@@ -122,53 +122,29 @@ pub taken_free : (old new : Space) (counts : List ℕ) (taken runs : List Run) �
 taken_free old new counts taken [] all used n within = absurd within
 taken_free old new counts taken (r ∷ rs) all used n (inl here) =
     out_of_apart r taken n (used_apart old.size (IsUsedIn old.entries) counts taken all.took r (used r (ap (λ (t : Bool). t || is_among rs r) (same_itself r)))) here.0 here.1
-taken_free old new counts taken (r ∷ rs) all used n (inr later) = taken_free old new counts taken rs all (λ run is. used run (ap (λ (t : Bool). same_run r run || t) is ∙ last (same_run r run))) n later
-  where
-    last : (t : Bool) → (t || true) ≡ true
-    last true = refl
-    last false = refl
+taken_free old new counts taken (r ∷ rs) all used n (inr later) = taken_free old new counts taken rs all (λ run is. used run (or_right (same_run r run) (is_among rs run) is)) n later
 
 -- the runs of a catalogue are in use
 pub uses_used : (entries : List UsageEntry) (runs pinned : List Run) → Uses entries runs pinned → (run : Run) → is_among runs run ≡ true → IsUsedIn entries run
 uses_used entries runs pinned uses run is = ap is_used (uses run) ∙ ap (λ (t : Bool). is_used (record { taken = t; pins = times_among pinned run })) is
 
-pub among_both : (xs ys : List Run) (run : Run) → is_among (xs ++ ys) run ≡ (is_among xs run || is_among ys run)
-among_both [] ys run = refl
-among_both (x ∷ xs) ys run = ap (λ (t : Bool). same_run x run || t) (among_both xs ys run) ∙ by_first (same_run x run)
-  where
-    by_first : (t : Bool) → (t || (is_among xs run || is_among ys run)) ≡ ((t || is_among xs run) || is_among ys run)
-    by_first true = refl
-    by_first false = refl
-
 -- after runs were taken, they are in use beside those that were
 pub taken_uses : (old new : Space) (counts : List ℕ) (taken runs pinned : List Run) → TookAll old new counts taken → Uses old.entries runs pinned → Uses new.entries (runs ++ taken) pinned
 taken_uses old new counts taken runs pinned all uses run = all.usages run ∙ by_run (is_among taken run) refl ∙ (λ i. record { taken = sym (among_both runs taken run) i; pins = times_among pinned run })
   where
-    last : (t : Bool) → true ≡ (t || true)
-    last true = refl
-    last false = refl
-
-    first : (t : Bool) → t ≡ (t || false)
-    first true = refl
-    first false = refl
-
     by_run : (t : Bool) → is_among taken run ≡ t → by_among TAKEN (usage_of old.entries run) (is_among taken run) ≡ record { taken = is_among runs run || is_among taken run; pins = times_among pinned run }
     by_run true among =
         let none : 0 ≡ times_among pinned run = ap (λ (u : Usage). u.pins) (sym (all.fresh run among) ∙ uses run) in
         ap (by_among TAKEN (usage_of old.entries run)) among
-        ∙ (λ i. record { taken = (last (is_among runs run) ∙ ap (λ (t : Bool). is_among runs run || t) (sym among)) i; pins = none i })
+        ∙ (λ i. record { taken = (sym (or_right (is_among runs run) true refl) ∙ ap (λ (t : Bool). is_among runs run || t) (sym among)) i; pins = none i })
     by_run false among =
         ap (by_among TAKEN (usage_of old.entries run)) among ∙ uses run
-        ∙ (λ i. record { taken = (first (is_among runs run) ∙ ap (λ (t : Bool). is_among runs run || t) (sym among)) i; pins = times_among pinned run })
+        ∙ (λ i. record { taken = (sym (or_false (is_among runs run)) ∙ ap (λ (t : Bool). is_among runs run || t) (sym among)) i; pins = times_among pinned run })
 
 -- after runs were given back, those in use are the others
 pub given_uses : (old new : Space) (back runs left pinned : List Run) → GivesAll old new back → Uses old.entries runs pinned → ((run : Run) → is_among left run ≡ (is_among runs run && not (is_among back run))) → Uses new.entries left pinned
 given_uses old new back runs left pinned gives uses others run = gives.usages run ∙ by_run (is_among back run) refl ∙ (λ i. record { taken = sym (others run) i; pins = times_among pinned run })
   where
-    last : (t : Bool) → false ≡ (t && false)
-    last true = refl
-    last false = refl
-
     first : (t : Bool) → t ≡ (t && true)
     first true = refl
     first false = refl
@@ -176,7 +152,7 @@ given_uses old new back runs left pinned gives uses others run = gives.usages ru
     by_run : (t : Bool) → is_among back run ≡ t → by_among (given (usage_of old.entries run)) (usage_of old.entries run) (is_among back run) ≡ record { taken = is_among runs run && not (is_among back run); pins = times_among pinned run }
     by_run true among =
         ap (by_among (given (usage_of old.entries run)) (usage_of old.entries run)) among ∙ ap given (uses run)
-        ∙ (λ i. record { taken = (last (is_among runs run) ∙ ap (λ (t : Bool). is_among runs run && not t) (sym among)) i; pins = times_among pinned run })
+        ∙ (λ i. record { taken = (sym (and_right (is_among runs run) false refl) ∙ ap (λ (t : Bool). is_among runs run && not t) (sym among)) i; pins = times_among pinned run })
     by_run false among =
         ap (by_among (given (usage_of old.entries run)) (usage_of old.entries run)) among ∙ uses run
         ∙ (λ i. record { taken = (first (is_among runs run) ∙ ap (λ (t : Bool). is_among runs run && not t) (sym among)) i; pins = times_among pinned run })

@@ -1,11 +1,12 @@
 -- Runs that are taken one after another, and given back.
 use Rattle.std.specs.Prelude.{◌≡◌, ◌≢◌, ◌⊎◌, ◌≤◌, ◌||◌, ℕ, Bool, true, false, if◌then◌else◌, List, [], ◌∷◌, ◌++◌, Option, Some, None, Ok, Err, refl}
 use Rattle.std.proofs.Common.{inl, inr, ⊎_elim, sym, ap, ◌∙◌, subst, arith}
+use Rattle.std.proofs.lemmas.Bool.{or_right}
 use Rattle.segments.specs.declared.run.Run.{Run}
 use Rattle.segments.specs.declared.entries.Usage.{Usage}
 use Rattle.segments.specs.Runs.{IsLowest}
-use Rattle.segments.specs.Usages.{is_used, UNUSED, TAKEN, given, same_run, usage_of, IsUsedIn, Changes, Space, SameUsages}
-use Rattle.segments.specs.laws.Usages.{same_run_is, same_itself, free_unused, same_lowest}
+use Rattle.segments.specs.Usages.{is_used, UNUSED, TAKEN, given, same_run, usage_of, IsUsedIn, Changes, Space, SameUsages, GivesAll}
+use Rattle.segments.specs.laws.Usages.{same_run_is, same_itself, or_false, among_more, free_unused, same_lowest}
 use Rattle.commit.specs.Placing.{is_among, Takes}
 
 pub same_run_not : (a b : Run) → same_run a b ≡ false → a ≢ b
@@ -14,18 +15,6 @@ same_run_not a b other is = let same : same_run a b ≡ true = subst (λ (r : Ru
 -- a usage by whether the run is one of these
 abbrev pub by_among : Usage → Usage → Bool → Usage
 by_among this other among = if among then this else other
-
-pub among_more : (runs : List Run) (r run : Run) → is_among (runs ++ r ∷ []) run ≡ (is_among runs run || same_run r run)
-among_more [] r run = by_same (same_run r run)
-  where
-    by_same : (t : Bool) → (t || false) ≡ t
-    by_same true = refl
-    by_same false = refl
-among_more (x ∷ xs) r run = ap (λ (t : Bool). same_run x run || t) (among_more xs r run) ∙ by_first (same_run x run)
-  where
-    by_first : (t : Bool) → (t || (is_among xs run || same_run r run)) ≡ ((t || is_among xs run) || same_run r run)
-    by_first true = refl
-    by_first false = refl
 
 -- ---- runs that were taken one after another
 
@@ -64,12 +53,8 @@ after_is used [] run is = inl is
 after_is used (r ∷ rs) run is =
     ⊎_elim
     (λ (before : used run ⊎ (run ≡ r)). ⊎_elim (λ (was : used run). inl was) (λ (same : run ≡ r). inr (ap (λ (t : Bool). t || is_among rs run) (subst (λ (x : Run). same_run r x ≡ true) (sym same) (same_itself r)))) before)
-    (λ (later : is_among rs run ≡ true). inr (by_first (same_run r run) later))
+    (λ (later : is_among rs run ≡ true). inr (or_right (same_run r run) (is_among rs run) later))
     (after_is (λ other. used other ⊎ (other ≡ r)) rs run is)
-  where
-    by_first : (t : Bool) → is_among rs run ≡ true → (t || is_among rs run) ≡ true
-    by_first true later = refl
-    by_first false later = later
 
 pub is_after : (used : Run → Type 0) (rs : List Run) (run : Run) → used run ⊎ (is_among rs run ≡ true) → After used rs run
 is_after used [] run (inl was) = was
@@ -128,17 +113,9 @@ took_one_more old new next counts runs count run some all lowest changes = recor
     usage : (other : Run) (t : Bool) → same_run run other ≡ t → usage_of next.entries other ≡ by_among TAKEN (usage_of old.entries other) (is_among (runs ++ run ∷ []) other)
     usage other true same =
         let is = same_run_is run other same in
-        subst (λ (r : Run). usage_of next.entries r ≡ TAKEN) is changes.this ∙ ap (by_among TAKEN (usage_of old.entries other)) (sym (among_more runs run other ∙ ap (λ (t : Bool). is_among runs other || t) same ∙ last (is_among runs other)))
-      where
-        last : (t : Bool) → (t || true) ≡ true
-        last true = refl
-        last false = refl
+        subst (λ (r : Run). usage_of next.entries r ≡ TAKEN) is changes.this ∙ ap (by_among TAKEN (usage_of old.entries other)) (sym (among_more runs run other ∙ ap (λ (t : Bool). is_among runs other || t) same ∙ or_right (is_among runs other) true refl))
     usage other false same =
-        changes.others other (λ is. same_run_not run other same (sym is)) ∙ all.usages other ∙ ap (by_among TAKEN (usage_of old.entries other)) (sym (among_more runs run other ∙ ap (λ (t : Bool). is_among runs other || t) same ∙ last (is_among runs other)))
-      where
-        last : (t : Bool) → (t || false) ≡ t
-        last true = refl
-        last false = refl
+        changes.others other (λ is. same_run_not run other same (sym is)) ∙ all.usages other ∙ ap (by_among TAKEN (usage_of old.entries other)) (sym (among_more runs run other ∙ ap (λ (t : Bool). is_among runs other || t) same ∙ or_false (is_among runs other)))
 
     was : (other : Run) (a t : Bool) → is_among runs other ≡ a → same_run run other ≡ t → (is_among runs other || same_run run other) ≡ true → usage_of old.entries other ≡ UNUSED
     was other true t among same is = all.fresh other among
@@ -147,38 +124,6 @@ took_one_more old new next counts runs count run some all lowest changes = recor
         sym (subst (λ (r : Run). usage_of new.entries r ≡ by_among TAKEN (usage_of old.entries r) false) one (all.usages run ∙ ap (by_among TAKEN (usage_of old.entries run)) (subst (λ (r : Run). is_among runs r ≡ false) (sym one) among)))
         ∙ subst (λ (r : Run). usage_of new.entries r ≡ UNUSED) one here
     was other false false among same is = absurd (cc (among, same, is))
-
--- these runs are given back
-pub record GivesAll (old new : Space) (runs : List Run) : Type 0 where
-  pub size : new.size ≡ old.size
-  pub usages : (run : Run) → usage_of new.entries run ≡ by_among (given (usage_of old.entries run)) (usage_of old.entries run) (is_among runs run)
-
-pub gives_one_more : (old new next : Space) (runs : List Run) (run : Run) → GivesAll old new runs → Changes new next run (given (usage_of new.entries run)) → GivesAll old next (runs ++ run ∷ [])
-gives_one_more old new next runs run all changes = record {
-  size = changes.size ∙ all.size;
-  usages = λ other. usage other (same_run run other) refl ∙ ap (by_among (given (usage_of old.entries other)) (usage_of old.entries other)) (sym (among_more runs run other));
-}
-  where
-    twice : (u : Usage) (t : Bool) → given (by_among (given u) u t) ≡ given u
-    twice u true = refl
-    twice u false = refl
-
-    last : (t : Bool) → (t || true) ≡ true
-    last true = refl
-    last false = refl
-
-    first : (t : Bool) → (t || false) ≡ t
-    first true = refl
-    first false = refl
-
-    usage : (other : Run) (t : Bool) → same_run run other ≡ t → usage_of next.entries other ≡ by_among (given (usage_of old.entries other)) (usage_of old.entries other) (is_among runs other || same_run run other)
-    usage other true same =
-        let is = same_run_is run other same in
-        subst (λ (r : Run). usage_of next.entries r ≡ given (usage_of new.entries r)) is changes.this ∙ ap given (all.usages other) ∙ twice (usage_of old.entries other) (is_among runs other)
-        ∙ ap (by_among (given (usage_of old.entries other)) (usage_of old.entries other)) (sym (ap (λ (t : Bool). is_among runs other || t) same ∙ last (is_among runs other)))
-    usage other false same =
-        changes.others other (λ is. same_run_not run other same (sym is)) ∙ all.usages other
-        ∙ ap (by_among (given (usage_of old.entries other)) (usage_of old.entries other)) (sym (ap (λ (t : Bool). is_among runs other || t) same ∙ first (is_among runs other)))
 
 -- taken, and given back: all is as it was
 pub all_given_back : (old new next : Space) (counts : List ℕ) (runs : List Run) → TookAll old new counts runs → GivesAll new next runs → SameUsages old.entries next.entries

@@ -1,9 +1,9 @@
 -- Laws of runs that are taken and given back, and of the lowest free run.
-use Rattle.std.proofs.Common.{◌≡◌, ◌≢◌, ◌⊎◌, ◌↔◌, inl, inr, ⊎_elim, ◌≤◌, ◌+◌, ◌==◌, ℕ, zero, suc, Bool, true, false, List, Option, Some, None, refl, sym, ap, ◌∙◌, arith}
+use Rattle.std.proofs.Common.{◌≡◌, ◌≢◌, ◌⊎◌, ◌↔◌, inl, inr, ⊎_elim, ◌≤◌, ◌+◌, ◌++◌, ◌==◌, ◌||◌, ℕ, zero, suc, Bool, true, false, List, [], ◌∷◌, Option, Some, None, refl, sym, ap, ◌∙◌, arith}
 use Rattle.std.proofs.lemmas.Bool.{cases_eq, and_parts, and_from, eqb-true, eq-eqb}
 use Rattle.std.proofs.lemmas.Bool.Decides.{nat_tests}
 use Rattle.segments.specs.Runs.{IsFree, IsLowest}
-use Rattle.segments.specs.Usages.{Space, UNUSED, TAKEN, is_used, given, usage_of, same_run, SameUsages, IsUsedIn, Changes}
+use Rattle.segments.specs.Usages.{Space, UNUSED, TAKEN, is_used, given, usage_of, same_run, is_among, SameUsages, IsUsedIn, Changes}
 use Rattle.segments.specs.declared.run.Run.{Run}
 use Rattle.segments.specs.declared.entries.Usage.{Usage}
 use Rattle.segments.specs.declared.entries.UsageEntry.{UsageEntry}
@@ -25,6 +25,23 @@ same_or_not a b =
     ⊎_elim (λ (count : a.count ≡ b.count). inl (λ i. record { start = start i; count = count i }))
     (λ (other : a.count ≢ b.count). inr (λ (e : a ≡ b). other (ap (λ (r : Run). r.count) e))) (cases_eq a.count b.count))
     (λ (other : a.start ≢ b.start). inr (λ (e : a ≡ b). other (ap (λ (r : Run). r.start) e))) (cases_eq a.start b.start)
+
+pub or_false : (t : Bool) → (t || false) ≡ t
+or_false true = refl
+or_false false = refl
+
+-- a run is one of some runs or of others
+pub among_both : (xs ys : List Run) (run : Run) → is_among (xs ++ ys) run ≡ (is_among xs run || is_among ys run)
+among_both [] ys run = refl
+among_both (x ∷ xs) ys run = ap (λ (t : Bool). same_run x run || t) (among_both xs ys run) ∙ by_first (same_run x run)
+  where
+    by_first : (t : Bool) → (t || (is_among xs run || is_among ys run)) ≡ ((t || is_among xs run) || is_among ys run)
+    by_first true = refl
+    by_first false = refl
+
+-- one of some runs, or one more
+pub among_more : (runs : List Run) (r run : Run) → is_among (runs ++ r ∷ []) run ≡ (is_among runs run || same_run r run)
+among_more runs r run = among_both runs (r ∷ []) run ∙ ap (λ (t : Bool). is_among runs run || t) (or_false (same_run r run))
 
 -- what is not used is unused
 pub unused : (usage : Usage) → (is_used usage ≡ true → ⊥) → usage ≡ UNUSED

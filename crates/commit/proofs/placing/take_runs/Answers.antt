@@ -4,9 +4,9 @@ use Rattle.std.proofs.lemmas.Bool.{cond-true}
 use Rattle.segments.specs.declared.run.Run.{Run}
 use Rattle.segments.specs.declared.errors.TakeError.{TakeError}
 use Rattle.segments.specs.declared.errors.TakeError.TheVariants.{NoRoom, OutOfMemory}
-use Rattle.segments.specs.Usages.{IsUsedIn, Space}
+use Rattle.segments.specs.Usages.{IsUsedIn, Space, GivesAll}
 use Rattle.commit.specs.Placing.{Takes}
-use Rattle.commit.specs.laws.Taking.{TookAll, GivesAll, took_none, took_one_more, took_takes, took_fails, all_given_back, lowest_of}
+use Rattle.commit.specs.laws.Taking.{TookAll, took_none, took_one_more, took_takes, took_fails, all_given_back, lowest_of}
 use Rattle.commit.proofs.placing.take_runs.Goals as goal
 
 pub loop-count-init : goal.loop-count-init
@@ -45,9 +45,9 @@ returns-clause-taken c =
 
 pub returns-in-Err-clause-err : goal.returns-in-Err-clause-err
 returns-in-Err-clause-err c =
-    let given = subst (GivesAll c.take_onward.new.self c.give_runs.new.map) c.deref.ensures.value c.give_runs.ensures in
-    all_given_back c.args.map.now c.loop-count.map c.give_runs.new.map (take c.loop-count.count-index c.args.counts.now) c.loop-count.runs.items c.loop-count.invariant.taken
-    (subst (λ (s : Space). GivesAll s c.give_runs.new.map c.loop-count.runs.items) c.in-Err.ensures.err given)
+    let given = subst (GivesAll c.take_onward.new.self c.give_each.new.self) c.deref.ensures.value c.give_each.ensures in
+    all_given_back c.args.map.now c.loop-count.map c.give_each.new.self (take c.loop-count.count-index c.args.counts.now) c.loop-count.runs.items c.loop-count.invariant.taken
+    (subst (λ (s : Space). GivesAll s c.give_each.new.self c.loop-count.runs.items) c.in-Err.ensures.err given)
 
 -- the number that has no room is the one that was asked for
 same_count : (count n : ℕ) (e : TakeError) → (e ≡ NoRoom count) ⊎ (e ≡ OutOfMemory) → e ≡ NoRoom n → (e ≡ NoRoom count) × (count ≡ n)
@@ -68,7 +68,7 @@ returns-in-Err-clause-no_room c = λ n told.
     subst (λ (m : ℕ). Takes old.size (IsUsedIn old.entries) counts (Err m)) same.1 (subst (λ (ns : List ℕ). Takes old.size (IsUsedIn old.entries) ns (Err count)) whole fails)
 
 pub returns-in-Err-clause-size : goal.returns-in-Err-clause-size
-returns-in-Err-clause-size c = c.give_runs.ensures.size ∙ ap (λ (s : Space). s.size) c.in-Err.ensures.err ∙ c.loop-count.invariant.taken.size
+returns-in-Err-clause-size c = c.give_each.ensures.size ∙ ap (λ (s : Space). s.size) c.in-Err.ensures.err ∙ c.loop-count.invariant.taken.size
 
 pub returns-clause-size : goal.returns-clause-size
 returns-clause-size c = c.loop-count.invariant.taken.size

@@ -1,4 +1,5 @@
-use Rattle.std.proofs.Common.{◌≡◌, refl, subst, ap, true, List, OnOk, Result, Ok, Err}
+use Rattle.std.proofs.Common.{◌≡◌, refl, subst, ap, true, List}
+use Rattle.std.proofs.lemmas.Result.{on_ok_weaker}
 use Rattle.sector_dev.specs.Disk.{now}
 use Rattle.sector_dev.specs.laws.Time.{weaken}
 use Rattle.segments.specs.Pieces.{PlainPiece, plain_pieces}
@@ -7,10 +8,6 @@ use Rattle.commit.specs.Replacing.{change_of, EndsReplaced}
 use Rattle.commit.specs.laws.Frame.{stands_as_either, stands_rests, replaces, replaced}
 use Rattle.commit.proofs.Moments.{left_old_or_new}
 use Rattle.commit.proofs.publishing.publish.Goals as goal
-
-on_ok : {T E P Q : Type 0} (r : Result T E) → (P → Q) → OnOk r P → OnOk r Q
-on_ok (Ok x) f p = f p
-on_ok (Err e) f p = tt
 
 pub returns-clause-moments : goal.returns-clause-moments
 returns-clause-moments g c = λ told can.
@@ -36,7 +33,7 @@ returns-clause-published g c =
     let D = g.D.SectorDevice in
     let R = g.C.ReadCatalogue in
     let change = change_of R.plain_of c.args.old.now c.args.plan.now in
-    on_ok
+    on_ok_weaker
     {P = D.tells ≡ true → EndsPublished change.old change.new (plain_pieces c.deref.result.now) (D.story c.args.device.now) (D.story c.write_and_commit.new.device)}
     {Q = D.tells ≡ true → EndsReplaced R.reading (D.size c.args.device.now) change (D.story c.args.device.now) (D.story c.write_and_commit.new.device)}
     c.write_and_commit.result

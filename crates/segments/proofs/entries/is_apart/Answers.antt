@@ -1,7 +1,7 @@
 use Rattle.std.proofs.Common.{◌≡◌, inl, inr, ◌≤◌, ◌<◌, ◌+◌, ◌-◌, ℕ, suc, length, get_or, false, refl, sym, subst, arith}
 use Rattle.segments.specs.declared.run.Run.{Run}
 use Rattle.segments.specs.declared.entries.UsageEntry.{UsageEntry}
-use Rattle.segments.specs.Runs.{IsApart}
+use Rattle.segments.specs.laws.Runs.{swapped}
 use Rattle.segments.specs.inner.Places.{place_of}
 use Rattle.segments.proofs.Placed.{ascending, apart_at, some_at, below_place, at_place, gap_apart, ends_by, meets}
 use Rattle.segments.proofs.entries.is_apart.Goals as goal
@@ -12,10 +12,6 @@ place_of_start-place-requires c = ascending 2 c.args.entries.now c.requires.orde
 
 abbrev none : UsageEntry
 none = record { run = record { start = 0; count = 0 }; usage = record { taken = false; pins = 0 } }
-
-swapped : (a b : Run) → IsApart a b → IsApart b a
-swapped a b (inl before) = inr before
-swapped a b (inr after) = inl after
 
 pub returns-then-contains : goal.returns-then-contains
 returns-then-contains c =

@@ -1,5 +1,5 @@
 use Rattle.std.proofs.Common.{refl, subst}
-use Rattle.segments.specs.Usages.{Space, GivesBack}
+use Rattle.segments.specs.Usages.{Space, GivesAll}
 use Rattle.segments.proofs.free_map.FreeMap.give_each.Goals as goal
 
 pub invariant_of-self : goal.invariant_of-self
@@ -8,4 +8,4 @@ invariant_of-self c = record { ordered = c.give_each.ensures.ordered; within = c
 pub returns : goal.returns
 returns c =
     let after : Space = record { size = c.self.inside.size; entries = c.give_each.new.entries.items } in
-    subst (λ (s : Space). GivesBack s after c.args.runs.now) c.self.view_is (record { size = refl; usages = c.give_each.ensures.usages })
+    subst (λ (s : Space). GivesAll s after c.args.runs.now) c.self.view_is (record { size = refl; usages = c.give_each.ensures.usages })
