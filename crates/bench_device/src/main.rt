@@ -1,5 +1,5 @@
-//! Measures a device that is a file: `bench_device PATH MEBIBYTES` writes so much to a new file at the path, syncs it,
-//! reads it again, prints on standard error how long each took, and removes the file.
+//! Measures a device that is a file: `bench_device PATH MEBIBYTES` writes so much to a new file at the path, sector by sector, syncs it,
+//! reads it again, writes as much to another new file by 32 sectors at a time, syncs that, prints on standard error how long each took, and removes the file.
 #![tactic(auto)]
 
 use sector_dev::{DevError, FileDevice, FileError, SectorDevice};
@@ -9,6 +9,9 @@ use std::time::Instant;
 use std::{fmt, fs, io};
 
 const SECTORS_IN_A_MEBIBYTE: u64 = 2048;
+
+// those of 4,096 values of 4 bytes
+const ROW: usize = 32;
 
 #[derive(Debug, Drop)]
 enum BenchError {
@@ -73,6 +76,18 @@ fn write_all<D: SectorDevice>(device: &mut D) -> Result<(), DevError> {
     device.sync()
 }
 
+fn write_rows<D: SectorDevice>(device: &mut D) -> Result<(), DevError> {
+    let mut row = [[0; 512]; ROW];
+    for i in 0..device.sectors() / ROW as u64 {
+        let start = i * ROW as u64;
+        for (k, sector) in row.iter_mut().enumerate() {
+            *sector = content(start + k as u64);
+        }
+        device.write_sectors(start, &row)?;
+    }
+    device.sync()
+}
+
 fn read_all<D: SectorDevice>(device: &mut D) -> Result<(), BenchError> {
     let mut sector = [0; 512];
     for n in 0..device.sectors() {
@@ -82,6 +97,15 @@ fn read_all<D: SectorDevice>(device: &mut D) -> Result<(), BenchError> {
             return Err(BenchError::OtherBytes);
         }
     }
+    Ok(())
+}
+
+fn measure_rows(rt: &HostRuntime, path: &str, mebibytes: u64) -> Result<(), BenchError> {
+    let sectors = mebibytes.saturating_mul(SECTORS_IN_A_MEBIBYTE);
+    let start = Instant::now(rt)?;
+    let mut device = FileDevice::create(rt, path, sectors)?;
+    write_rows(&mut device)?;
+    eprintln!(rt; "device rows {}", start.elapsed(rt)?.as_micros())?;
     Ok(())
 }
 
@@ -113,6 +137,9 @@ fn main(rt: HostRuntime) -> Result<(), BenchError> {
     };
     let mebibytes = mebibytes.as_str().parse::<u64>()?;
     let measured = measure(&rt, path.as_str(), mebibytes);
+    let _removed = fs::remove_file(&rt, path.as_str());
+    measured?;
+    let measured = measure_rows(&rt, path.as_str(), mebibytes);
     let _removed = fs::remove_file(&rt, path.as_str());
     measured
 }

@@ -24,6 +24,18 @@ pub(crate) fn write<D: SectorDevice>(
     device.write(n, from)
 }
 
+// Writes neighbouring sectors that the device has.
+pub(crate) fn write_row<D: SectorDevice>(
+    rt: &impl Abort,
+    device: &mut D,
+    start: u64,
+    contents: &[[u8; 512]],
+) -> Result<(), DevError> {
+    let sectors = device.sectors();
+    assert!(rt; start < sectors && contents.len() as u64 <= sectors - start);
+    device.write_sectors(start, contents)
+}
+
 // Reads a sector: the byte that fills it.
 pub(crate) fn byte_of<D: SectorDevice>(
     rt: &impl Abort,

@@ -1,5 +1,5 @@
 // A device that is a file of the system. Its sizes are tested by the commands of a store (tests/stores).
-use crate::calls::{byte_of, read, write};
+use crate::calls::{byte_of, read, write, write_row};
 use sector_dev::{FileDevice, FileError, SectorDevice};
 use std::env;
 use std::fs::{self, File};
@@ -16,7 +16,7 @@ fn path_of(rt: &HostRuntime, name: &str) -> Option<String> {
     Some(path)
 }
 
-// The content of a sector: its number and how often it was written.
+// The content of a sector: its number and that of its write.
 fn content(n: u64, times: u8) -> [u8; 512] {
     let mut content = [times; 512];
     content[0] = (n % 251) as u8;
@@ -35,11 +35,34 @@ fn assert_reads<D: SectorDevice>(rt: &impl Abort, device: &mut D, n: u64, times:
     assert!(rt; well, "sector {n}");
 }
 
-// How often `use_device` writes a sector.
+// Writes 20 sectors from one on.
+fn assert_writes_row<D: SectorDevice>(rt: &impl Abort, device: &mut D, start: u64, times: u8) {
+    let mut row = [[0; 512]; 20];
+    for (i, sector) in row.iter_mut().enumerate() {
+        *sector = content(start.wrapping_add(i as u64), times);
+    }
+    let written = write_row(rt, device, start, &row).is_ok();
+    assert!(rt; written, "sectors from {start}");
+}
+
+// Writes the 200 sectors from 2000 on, which are more than are buffered.
+fn assert_writes_long_row<D: SectorDevice>(rt: &impl Abort, device: &mut D) {
+    let mut row = [[0; 512]; 200];
+    for (i, sector) in row.iter_mut().enumerate() {
+        *sector = content(2000 + i as u64, 5);
+    }
+    let written = write_row(rt, device, 2000, &row).is_ok();
+    assert!(rt; written);
+}
+
+// The number of the last write of a sector by `use_device`.
 fn times_of(n: u64) -> u8 {
     match n {
         1000 | 1001 | 4990 | 4999 => 2,
         112 | 200 => 3,
+        2100..=2119 => 6,
+        2000..=2199 => 5,
+        2200..=2219 => 4,
         _ => 1,
     }
 }
@@ -61,6 +84,12 @@ fn use_device<D: SectorDevice>(rt: &impl Abort, device: &mut D) {
     for n in [112, 200] {
         assert_writes(rt, device, n, 3);
     }
+    // a row that is not yet in the file, a long one over some of it, and one over some of that
+    assert_writes_row(rt, device, 2180, 4);
+    assert_writes_row(rt, device, 2200, 4);
+    assert_writes_long_row(rt, device);
+    assert_reads(rt, device, 2190, 5);
+    assert_writes_row(rt, device, 2100, 6);
     for n in 0..5000 {
         assert_reads(rt, device, n, times_of(n));
     }

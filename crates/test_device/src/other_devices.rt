@@ -6,7 +6,7 @@ ghost use Rattle.sector_dev.specs.Disk.{blank};
 ghost use Rattle.sector_dev.specs.laws.Crash.{blank_shows, blank_whole};
 ghost use Rattle.test_device.specs.Life.{story_of, story_shows, story_begun, story_whole, SpeaksOfContents, speaks_prop};
 
-use crate::calls::{byte_of, fill, read};
+use crate::calls::{byte_of, fill, read, write_row};
 use crate::life::Life;
 use sector_dev::{DevError, ModelDevice, SectorDevice};
 use std::process::Abort;
@@ -252,5 +252,8 @@ fn each_kind_of_device_is_called(rt: HostRuntime) -> Result<(), Fail> {
     let mut counting = Counting { device, calls: 0 };
     let counted = use_once(&rt, &mut counting) == [Ok(()); 3] && counting.calls == 3;
     assert!(&rt; counted);
+    let rows = write_row(&rt, &mut counting, 4, &[[2; 512], [3; 512]]).is_ok()
+        && counting.calls == 5;
+    assert!(&rt; rows && byte_of(&rt, &mut counting, 5) == Ok(3));
     Ok(())
 }
