@@ -442,7 +442,8 @@ fn slots_weight(
     requires within { from + count ≤ slots_in (view_array slots.view) }
     requires known { AreEntryWeights (kind_of field.now.data_type) (dictionary_in (view_array slots.view)) known.now }
     ensures { let kind = kind_of field.now.data_type in
-        result ≡ capped_weight (sum_from (kind_weight kind) (unless_null (indexed_cell (index_of slots.entry.spec) kind) (view_array slots.entry.view)) from count) }
+        result ≡ capped_weight
+        (sum_from (kind_weight kind) (unless_null (indexed_cell (index_of slots.entry.spec) kind) (view_array slots.entry.view)) from count) }
 {
     let of_null = nulls_weight(field, 1);
     if let Some(total) = known_total(slots, from, count, known, of_null) {

@@ -6,6 +6,7 @@ use Rattle.std.specs.List.{flat_map}
 use Rattle.std.specs.Str.{bytes_eq}
 use Rattle.std.proofs.lemmas.Bool.{and_parts, leb-true, eqb-true}
 use Rattle.std.proofs.lemmas.List.{take-append-drop, length-take, append-nil, nil_from_length}
+use Rattle.std.proofs.lemmas.Option.{cond_some}
 use Rattle.std.proofs.lemmas.Slice.Eq.{bytes_eq-Decides}
 use Rattle.byteorder.specs.Endian.{little_bytes, little_number}
 use Rattle.byteorder.specs.Numbers.{little_from-cons, little_from-take}
@@ -65,14 +66,9 @@ pub bound : {A B : Type 0} (o : Option A) (f : A → Option B) (y : B) → (o >>
 bound (Some x) f y e = (x, refl, e)
 bound None f y e = absurd cc
 
--- a test that was passed
-pub tested : {A : Type 0} (b : Bool) (x y : A) → cond b (Some x) None ≡ Some y → (b ≡ true) × (x ≡ y)
-tested true x y e = (refl, cc)
-tested false x y e = absurd cc
-
 number_takes : (size : ℕ) (bytes : List ℕ) (r : ℕ × List ℕ) → AreBytes bytes → front_number size bytes ≡ Some r → Takes bytes (little_bytes size r.0) r.1
 number_takes size bytes r small e =
-    let t = tested (leb size (length bytes)) (little_number size bytes, drop size bytes) r e in
+    let t = cond_some (leb size (length bytes)) (little_number size bytes, drop size bytes) r e in
     let long : size ≤ length bytes = leb-true _ _ t.0 in
     let front = take size bytes in
     let len : length front ≡ size = omega (arith, length-take size bytes) in
@@ -87,7 +83,7 @@ sized_takes bytes r small e =
     let a = bound (front_number 4 bytes) (λ size. cond (leb size.0 (length size.1)) (Some (take size.0 size.1, drop size.0 size.1)) None) r e in
     let n = a.0 in
     let p = number_takes 4 bytes n small a.1 in
-    let t = tested (leb n.0 (length n.1)) (take n.0 n.1, drop n.0 n.1) r a.2 in
+    let t = cond_some (leb n.0 (length n.1)) (take n.0 n.1, drop n.0 n.1) r a.2 in
     let long : n.0 ≤ length n.1 = leb-true _ _ t.0 in
     let len : length (take n.0 n.1) ≡ n.0 = omega (arith, length-take n.0 n.1) in
     let second : Takes n.1 (take n.0 n.1) (drop n.0 n.1) = record { parts = sym (take-append-drop n.0 n.1); small = drop-bytes n.0 n.1 p.small } in
@@ -158,7 +154,7 @@ unfolding schema_in
 schema_takes bytes s e =
     let a = bound (raw_schema_in bytes) (λ raw. unfaulted (checked_schema supported_codes raw) >>= λ schema. cond (bytes_eq (schema_message schema) bytes) (Some schema) None) s e in
     let b = bound (unfaulted (checked_schema supported_codes a.0)) (λ schema. cond (bytes_eq (schema_message schema) bytes) (Some schema) None) s a.2 in
-    let t = tested (bytes_eq (schema_message b.0) bytes) b.0 s b.2 in
+    let t = cond_some (bytes_eq (schema_message b.0) bytes) b.0 s b.2 in
     sym ((bytes_eq-Decides (schema_message b.0) bytes).0 t.0) ∙ ap schema_message t.1
 
 table_takes : (name bytes : List ℕ) (r : PlainEntry × List ℕ) → AreBytes bytes → table_at name bytes ≡ Some r → Takes bytes (table_text r.0) r.1 × (r.0.name ≡ name)
@@ -199,7 +195,7 @@ pub catalogue_spelled : (bytes : List ℕ) (c : PlainCatalogue) → catalogue_at
 unfolding catalogue_at
 catalogue_spelled bytes c e =
     let a = bound (counted_at entry_at bytes) (λ entries. cond (eqb (length entries.1) 0 && is_catalogue entries.0) (Some entries.0) None) c e in
-    let t = tested (eqb (length a.0.1) 0 && is_catalogue a.0.0) a.0.0 c a.2 in
+    let t = cond_some (eqb (length a.0.1) 0 && is_catalogue a.0.0) a.0.0 c a.2 in
     let parts = and_parts (eqb (length a.0.1) 0) (is_catalogue a.0.0) t.0 in
     record {
       kept = subst IsCatalogue t.1 (catalogue_is a.0.0 parts.1);

@@ -1,13 +1,13 @@
 // A text is read.
-ghost use Rattle.std.specs.Prelude.{◌≡◌, true, map, string_bytes, IfOk};
-ghost use Rattle.catalogue.specs.Entries.{plain_entry, is_name};
+ghost use Rattle.std.specs.Prelude.{◌≡◌, map, string_bytes};
+ghost use Rattle.catalogue.specs.Entries.{plain_entry};
 ghost use Rattle.catalogue.specs.Reading.{Gives, front_number, sized_at, many_at, segment_at, raw_schema_in, schema_in, table_at, entry_at, catalogue_at};
 ghost use Rattle.arrow_schema.specs.View.{schema_of};
 ghost use Rattle.ipc_message.specs.View.{raw_schema_of};
 ghost use Rattle.catalogue.specs.View.{catalogue_of};
 
 use crate::encoding::message_of;
-use crate::names::spell_name;
+use crate::names::is_name;
 use crate::{Catalogue, Segment, TableEntry};
 use arrow_schema::Schema;
 use byteorder::{ByteOrder, LittleEndian};
@@ -87,18 +87,6 @@ fn segments_at(
     Ok((segments, rest))
 }
 
-// A text that may be a name.
-#[tactic(auto, using(crate::proofs::Again::name_is_utf8))]
-fn text_of(alloc: Global, bytes: &[u8]) -> Result<String, AllocError>
-    requires { is_name bytes.now ≡ true }
-    ensures { IfOk result (λ text. string_bytes text ≡ bytes.now) }
-{
-    match std::str::from_utf8(bytes) {
-        Ok(text) => String::from_str(alloc, text),
-        Err(_) => unreachable!(),
-    }
-}
-
 #[tactic(auto, unfolding(crate::specs::Reading::raw_schema_in))]
 fn raw_schema_in(alloc: Global, bytes: &[u8]) -> Result<RawSchema<'_>, DecodeError>
     ensures { Gives raw_schema_of result (raw_schema_in bytes.now) }
@@ -142,15 +130,18 @@ fn table_at(alloc: Global, name: String, bytes: &[u8]) -> Result<(TableEntry, &[
     Ok((entry, rest))
 }
 
-#[tactic(auto, unfolding(crate::specs::Reading::entry_at))]
+#[tactic(auto, using(crate::proofs::Again::name_is_utf8), unfolding(crate::specs::Reading::entry_at))]
 fn entry_at(alloc: Global, bytes: &[u8]) -> Result<(TableEntry, &[u8]), DecodeError>
     ensures { Gives (λ x. (plain_entry x.0, x.1.now)) result (entry_at bytes.now) }
 {
     let (name, rest) = sized_at(bytes)?;
-    if !spell_name(name) {
+    let Ok(name) = std::str::from_utf8(name) else {
+        return Err(DecodeError::NoText);
+    };
+    if !is_name(name) {
         return Err(DecodeError::NoText);
     }
-    let name = text_of(alloc, name)?;
+    let name = String::from_str(alloc, name)?;
     table_at(alloc, name, rest)
 }
 

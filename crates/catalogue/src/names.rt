@@ -22,16 +22,9 @@ fn are_name_bytes(bytes: &[u8]) -> bool
     true
 }
 
-// Whether these bytes may be a table's name.
-pub(crate) fn spell_name(bytes: &[u8]) -> bool
-    ensures { result ≡ is_name bytes.now }
-{
-    !bytes.is_empty() && bytes.len() <= MAX_NAME_BYTES && are_name_bytes(bytes)
-}
-
 /// Whether a table may have this name: 1 to 64 bytes, each an ASCII letter or digit, `_`, `-` or `.`.
 pub fn is_name(name: &str) -> bool
     ensures { result ≡ is_name name.now }
 {
-    spell_name(name.as_bytes())
+    !name.is_empty() && name.len() <= MAX_NAME_BYTES && are_name_bytes(name.as_bytes())
 }

@@ -4,14 +4,10 @@ use Rattle.std.specs.Prelude.{not, nat_le, Some, None, IsUtf8, if◌then◌else�
 use Rattle.std.specs.Char.{is_control}
 use Rattle.std.specs.List.{list_any}
 use Rattle.std.specs.Str.{is_utf8, chars}
-use Rattle.std.proofs.lemmas.Bool.{lt-leb, le-leb}
+use Rattle.std.proofs.lemmas.Bool.{lt-leb, le-leb, false_from_ne_true}
 use Rattle.std.proofs.lemmas.Str.{IsUtf8-from_is_utf8, is_utf8-from_IsUtf8}
 use Rattle.command_refusals.specs.Hint.{shown}
 use Rattle.command_refusals.specs.declared.hint.TheConstants.{MOST_SHOWN}
-
-not_utf8 : (t : List ℕ) (b : Bool) → is_utf8 t ≡ b → (IsUtf8 t → ⊥) → b ≡ false
-not_utf8 t true e h = absurd (h (IsUtf8-from_is_utf8 t e))
-not_utf8 t false e h = refl
 
 -- where one of the three tests fails, and where all pass
 by_tests : (t : List ℕ) (short utf8 control : Bool) → nat_le (length t) MOST_SHOWN ≡ short → is_utf8 t ≡ utf8 → list_any is_control (chars t) ≡ control
@@ -22,7 +18,7 @@ pub too_long : (t : List ℕ) → MOST_SHOWN < length t → None ≡ shown t
 too_long t h = rw (by_tests t false (is_utf8 t) (list_any is_control (chars t)) (lt-leb (length t) MOST_SHOWN h) refl refl) refl
 
 pub no_text : (t : List ℕ) → (IsUtf8 t → ⊥) → None ≡ shown t
-no_text t h = rw (by_tests t (nat_le (length t) MOST_SHOWN) false (list_any is_control (chars t)) refl (not_utf8 t (is_utf8 t) refl h) refl) (by (nat_le (length t) MOST_SHOWN))
+no_text t h = rw (by_tests t (nat_le (length t) MOST_SHOWN) false (list_any is_control (chars t)) refl (false_from_ne_true (is_utf8 t) (λ e. h (IsUtf8-from_is_utf8 t e))) refl) (by (nat_le (length t) MOST_SHOWN))
   where
     by : (b : Bool) → None ≡ (if b && false && not (list_any is_control (chars t)) then Some t else None)
     by true = refl

@@ -159,8 +159,8 @@ appended. A refusal without a remedy of its own lies with that record.
 - X9 Nested 0: the table has lists or structs, which CSV has not. ",
     GIVE_JSON_LINES,
     "
-- X10 Json N: the line is no JSON value, or nests more than 127 deep, has a number past every float, or
-  half of a surrogate pair.
+- X10 Json N: the line is no JSON value, or it is nested more than 127 deep, or it has a number too large
+  for any float, or one half of a surrogate pair without the other.
 - X11 UnknownName N: an object has a name that is no column or field.
 - X12 MissingName N: an object lacks a name, and no null is allowed there.
 - X13 AmbiguousNames N: two columns or fields have one name. ",

@@ -7,7 +7,7 @@ ghost use Rattle.commit.specs.Publishing.{IsPlan};
 ghost use Rattle.test_device.specs.Few.{IsOn};
 
 use crate::few::Few;
-use commit::{OpenError, Opened, Plan, format, give_runs, place, plan_next, publish, recover};
+use commit::{OpenError, Opened, Plan, format, place, plan_next, publish, recover};
 use sector_dev::{Choice, ModelDevice, SectorDevice};
 use segments::{Part, Run, read_run};
 use std::alloc::{AllocError, Global};
@@ -68,7 +68,7 @@ fn plan_one<'a>(alloc: Global, store: &mut Opened<Few>, byte: u8) -> Option<Plan
     };
     let run = places.runs.first().copied().unwrap_or(places.text);
     let Ok(text) = text_of(alloc, run) else {
-        give_runs(&mut store.map, &places.runs);
+        store.map.give_each(&places.runs);
         return None;
     };
     Some(plan_next(store.commit, Few::One(run), places, text))

@@ -127,7 +127,8 @@ fn any_in_span(
     requires within { span.from + span.count ≤ slots_in (view_array view) }
     requires runs { are_runs (slots_in (view_array view)) runs.old.items ≡ true }
     ensures found { let f = finds test in let a = view_array view.entry in let kind = kind_of field.now.data_type in
-        (result || any_below_runs f kind a runs.new.items) ≡ (any_below_runs f kind a runs.old.items || any_below f (column_of field.now) a span.from span.count) }
+        (result || any_below_runs f kind a runs.new.items)
+        ≡ (any_below_runs f kind a runs.old.items || any_below f (column_of field.now) a span.from span.count) }
     ensures runs { are_runs (slots_in (view_array view.entry)) runs.new.items ≡ true }
 {
     // a number of the code is below 2^64, so that the end is too
@@ -165,7 +166,8 @@ fn any_with_run(
     requires alike { (i : ℕ) → run.from ≤ i → i < run.from + run.count → is_valid (view_array view) i ≡ is_valid (view_array view) run.from }
     requires runs { are_runs (slots_in (view_array view)) runs.old.items ≡ true }
     ensures found { let f = finds test in let a = view_array view.entry in let kind = kind_of field.now.data_type in
-        (result || any_below_runs f kind a runs.new.items) ≡ (any_below_runs f kind a runs.old.items || any_below f (column_of field.now) a run.from run.count) }
+        (result || any_below_runs f kind a runs.new.items)
+        ≡ (any_below_runs f kind a runs.old.items || any_below f (column_of field.now) a run.from run.count) }
     ensures runs { are_runs (slots_in (view_array view.entry)) runs.new.items ≡ true }
 {
     if !view.is_valid(run.from) {

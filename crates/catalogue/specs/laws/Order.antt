@@ -21,7 +21,7 @@ by_order Less l e g = l refl
 by_order Equal l e g = e refl
 by_order Greater l e g = g refl
 
-less_is : (o : Ordering) → is_lt o ≡ true → o ≡ Less
+pub less_is : (o : Ordering) → is_lt o ≡ true → o ≡ Less
 less_is Less h = refl
 less_is Equal h = absurd cc
 less_is Greater h = absurd cc

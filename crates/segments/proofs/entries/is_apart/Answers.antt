@@ -1,5 +1,4 @@
-use Rattle.std.proofs.Common.{◌≡◌, inl, inr, ◌≤◌, ◌<◌, ◌+◌, ◌-◌, ℕ, suc, length, get_or, false, refl, sym, subst, arith}
-use Rattle.segments.specs.declared.run.Run.{Run}
+use Rattle.std.proofs.Common.{◌≡◌, ◌≤◌, ◌<◌, ◌+◌, ◌-◌, ℕ, suc, length, get_or, false, refl, sym, subst, arith}
 use Rattle.segments.specs.declared.entries.UsageEntry.{UsageEntry}
 use Rattle.segments.specs.laws.Runs.{swapped}
 use Rattle.segments.specs.inner.Places.{place_of}
