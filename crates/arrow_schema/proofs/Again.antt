@@ -1,5 +1,5 @@
 -- What is written is built again, where it is of no more levels.
-use Rattle.std.proofs.Common.{◌≡◌, ◌<◌, ◌≤◌, ◌+◌, ◌^◌, ℕ, zero, suc, Bool, true, false, ◌&&◌, List, [], ◌∷◌, ◌++◌, length, length-append, refl, sym, ap, ◌∙◌, arith, cond}
+use Rattle.std.proofs.Common.{◌≡◌, ◌<◌, ◌≤◌, ◌+◌, ℕ, zero, suc, Bool, true, false, ◌&&◌, List, [], ◌∷◌, ◌++◌, length, length-append, refl, sym, ap, ◌∙◌, arith, cond}
 use Rattle.std.specs.Prelude.{Option, None, Some, option_map, codes, nat_le}
 use Rattle.std.specs.Option.{option_and_then}
 use Rattle.std.proofs.lemmas.List.{append_assoc, append-nil}
@@ -21,6 +21,7 @@ use Rattle.arrow_schema.proofs.Openings.{name_again}
 use Rattle.arrow_schema.proofs.Flats.{three, within_kind, list_opening, large_list_opening, fixed_list_opening, struct_opening}
 use Rattle.arrow_schema.proofs.Steps.{four, Stops, with_suffix, without_suffix, flat_read, more_stops, stops_at_end, stops_at, stops_at_parenthesis, name_of, field_name, field_is}
 use Rattle.arrow_schema.proofs.Moves.{not_closed}
+use Rattle.arrow_schema.specs.laws.Columns.{columns_list}
 
 no_level : (d : ℕ) → nat_le (1 + d) 0 ≡ false
 no_level d = grind (arith, nat_tests)
@@ -118,10 +119,6 @@ pair_by : (a b : Bool) (c : Column) (cs : List Column) (mid rest : List ℕ) (mo
 pair_by true true c cs mid rest more e = rw e refl
 pair_by true false c cs mid rest more e = rw e refl
 pair_by false b c cs mid rest more e = refl
-
-columns_list : (cs : Columns) → columns_of (list_of cs) ≡ cs
-columns_list no_column = refl
-columns_list (and_column c cs) = ap (and_column c) (columns_list cs)
 
 struct_by : (name : List ℕ) (m fits : Bool) (parts : Columns) (rest : List ℕ) (o : Option (List Column × List ℕ)) → Stops rest → o ≡ cond fits (Some (list_of parts, nullable_suffix m ++ rest)) None
     → option_map (finished name) (option_map grouped o) ≡ cond fits (Some (column name m (structs parts) None [], rest)) None

@@ -1,5 +1,5 @@
 -- The tests of two columns decide whether they are seen alike.
-use Rattle.std.proofs.Common.{◌≡◌, ◌&&◌, ℕ, Bool, true, List, [], ◌∷◌, refl, ap, sym, ◌∙◌, ◌↔◌}
+use Rattle.std.proofs.Common.{◌≡◌, ◌&&◌, ℕ, Bool, true, List, refl, ap, sym, ◌∙◌, ◌↔◌}
 use Rattle.std.specs.Prelude.{Option, Some, None, ◌==◌}
 use Rattle.std.specs.Bool.{Decides}
 use Rattle.std.proofs.lemmas.Bool.{false≢true}
@@ -11,6 +11,7 @@ use Rattle.arrow_schema.specs.declared.compare.Detail.TheVariants.{Shape, Whole}
 use Rattle.arrow_schema.specs.Column.{Index, Pair, DateKind, days, date_milliseconds, TimeKind, seconds, milliseconds, microseconds, nanoseconds, Kind, Column, Columns, nulls, booleans, integers, dates, timestamps, texts, large_texts, binaries, large_binaries, fixed_binaries, lists, large_lists, fixed_lists, structs, column, no_column, and_column, columns_of, list_of, PlainSchema}
 use Rattle.arrow_schema.specs.Shape.{seen, seen_kind, seen_all, seen_dictionary, seen_pairs, shape_of, HaveOneShape}
 use Rattle.arrow_schema.specs.inner.Alike.{index_eq, dictionary_eq, pair_eq, pairs_eq, date_eq, time_number, alike, alike_kind, alike_all}
+use Rattle.arrow_schema.specs.laws.Columns.{columns_listed, pair_from_parts}
 
 index_from_parts : (a b : Index) → a.bits ≡ b.bits → a.signed ≡ b.signed → a ≡ b
 index_from_parts a b p q =
@@ -25,10 +26,6 @@ dictionary_decides None None = (λ h. refl, λ e. refl)
 dictionary_decides None (Some b) = (λ h. absurd (false≢true h), λ e. absurd (cc))
 dictionary_decides (Some a) None = (λ h. absurd (false≢true h), λ e. absurd (cc))
 dictionary_decides (Some a) (Some b) = Decides-like (index_eq a b) (λ e. ap (λ (i : Index). Some i) e) (λ e. cc) (index_decides a b)
-
-pair_from_parts : (a b : Pair) → a.0 ≡ b.0 → a.1 ≡ b.1 → a ≡ b
-pair_from_parts a b p q =
-    ap (λ (k : List ℕ). let r : Pair = (k, a.1) in r) p ∙ ap (λ (v : List ℕ). let r : Pair = (b.0, v) in r) q
 
 pair_decides : (a b : Pair) → Decides (pair_eq a b) (a ≡ b)
 pair_decides a b =
@@ -130,13 +127,9 @@ pub equal_kind_decided : (r : Bool) (a b : Kind) → r ≡ alike_kind Whole a b 
 equal_kind_decided r a b e =
     Decides-like r (λ h. sym (seen_whole_kind a) ∙ h ∙ seen_whole_kind b) (λ h. seen_whole_kind a ∙ h ∙ sym (seen_whole_kind b)) (Decides-at r _ e (alike_kind_decides Whole a b))
 
-list_of_columns : (cs : List Column) → list_of (columns_of cs) ≡ cs
-list_of_columns [] = refl
-list_of_columns (c ∷ cs) = ap (λ (xs : List Column). c ∷ xs) (list_of_columns cs)
-
 columns_decide : (a b : List Column) → Decides (alike_all Whole (columns_of a) (columns_of b)) (a ≡ b)
 columns_decide a b =
-    Decides-like _ (λ h. sym (list_of_columns a) ∙ ap list_of (sym (seen_whole_all (columns_of a)) ∙ h ∙ seen_whole_all (columns_of b)) ∙ list_of_columns b)
+    Decides-like _ (λ h. sym (columns_listed a) ∙ ap list_of (sym (seen_whole_all (columns_of a)) ∙ h ∙ seen_whole_all (columns_of b)) ∙ columns_listed b)
     (λ h. ap (λ (cs : List Column). seen_all Whole (columns_of cs)) h) (alike_all_decides Whole (columns_of a) (columns_of b))
 
 schema_from_parts : (a b : PlainSchema) → a.columns ≡ b.columns → a.pairs ≡ b.pairs → a ≡ b

@@ -4,6 +4,7 @@ use Rattle.std.specs.Prelude.{Option, None, Some, MatchOption, IfSome, option_ma
 use Rattle.std.specs.Option.{option_and_then, option_or}
 use Rattle.std.proofs.lemmas.List.{append_assoc}
 use Rattle.std.proofs.lemmas.Bool.{ne_eqb, and_parts}
+use Rattle.std.proofs.lemmas.Option.{same_Some, none-some}
 use Rattle.arrow_schema.specs.declared.texts.grammar.Enclosure.{Enclosure}
 use Rattle.arrow_schema.specs.declared.texts.grammar.Enclosure.TheVariants as enclosures
 use Rattle.arrow_schema.specs.declared.texts.grammar.Place.{Place}
@@ -13,7 +14,6 @@ use Rattle.arrow_schema.specs.FieldText.{plain, nullable_suffix, item_text, fiel
 use Rattle.arrow_schema.specs.Typed.{is_name_byte, is_name, IsTypedItem, IsTypedField, AreTyped}
 use Rattle.arrow_schema.specs.inner.Scan.{stripped, name_at, Opening, flat, list, large_list, fixed_list, struct, opening_at, has_nullable_suffix, after_nullable_suffix}
 use Rattle.arrow_schema.specs.inner.Standing.{close_of, IsInside, Closing, Closes, Goes, Stands, begun, after_opening, step}
-use Rattle.arrow_schema.proofs.Options.{some_eq, none_some}
 use Rattle.arrow_schema.proofs.KeywordLemmas.{stripped_read}
 use Rattle.arrow_schema.proofs.Openings.{lacks, name_again, name_read}
 use Rattle.arrow_schema.proofs.Flats.{three, IsOpening, opening_read}
@@ -28,7 +28,7 @@ match_iff None A B Q e h = λ a. h (e.0 a)
 match_iff (Some x) A B Q e h = (λ a. h.0 (e.0 a), λ q. e.1 (h.1 q))
 
 pub snd_eq : (p : List ℕ × List ℕ) (a b : List ℕ) → Some p ≡ Some (a, b) → p.1 ≡ b
-snd_eq p a b e = ap (λ (q : List ℕ × List ℕ). q.1) (some_eq p (a, b) e)
+snd_eq p a b e = ap (λ (q : List ℕ × List ℕ). q.1) (same_Some p (a, b) e)
 
 -- a field, more of them, the bracket of the struct, and the rest
 pub record FieldThen (limited : Bool) (around : List Enclosure) (text : List ℕ) : Type 0 where
@@ -82,7 +82,7 @@ out_of_field limited around text p name e g =
 
 field_by : (limited : Bool) (around : List Enclosure) (text : List ℕ) (o : Option (List ℕ × List ℕ)) → name_at text ≡ o → IfSome o (λ p. (is_name p.0 ≡ true) × (text ≡ p.0 ++ 58 ∷ p.1))
     → MatchOption o (FieldThen limited around text → ⊥) (λ p. FieldThen limited around text ↔ Goes limited (enclosures.Struct ∷ around) p.1)
-field_by limited around text None e known = λ f. none_some (sym e ∙ named limited f.first text (more_text plain f.others ++ 62 ∷ (nullable_suffix f.nullable ++ f.rest)) f.typed f.text_is)
+field_by limited around text None e known = λ f. none-some _ (sym e ∙ named limited f.first text (more_text plain f.others ++ 62 ∷ (nullable_suffix f.nullable ++ f.rest)) f.typed f.text_is)
 field_by limited around text (Some p) e known = (into_field limited around text p e, out_of_field limited around text p known.0 known.1)
 
 pub field_moves : (limited : Bool) (around : List Enclosure) (text : List ℕ) → MatchOption (name_at text) (FieldThen limited around text → ⊥) (λ p. FieldThen limited around text ↔ Goes limited (enclosures.Struct ∷ around) p.1)
@@ -113,7 +113,7 @@ closed_struct : (limited : Bool) (around : List Enclosure) (after t rest : List 
     → after ≡ fields_text plain parts ++ 62 ∷ (nullable_suffix m ++ rest) → Closes limited around rest → Closes limited around (after_nullable_suffix t)
 unfolding fields_text AreTyped stripped
 closed_struct limited around after t rest m no_column typed e is cl =
-    let here : t ≡ nullable_suffix m ++ rest = some_eq t (nullable_suffix m ++ rest) (sym e ∙ ap (stripped (codes ">")) is) in
+    let here : t ≡ nullable_suffix m ++ rest = same_Some t (nullable_suffix m ++ rest) (sym e ∙ ap (stripped (codes ">")) is) in
     subst (Closes limited around) (sym (suffix_again m rest t (closes_stop limited around rest cl) here)) cl
 closed_struct limited around after t rest m (and_column c cs) typed e is cl =
     let other : stripped (codes ">") after ≡ None = ap (stripped (codes ">")) (is ∙ append_assoc (field_text plain c) (more_text plain cs) (62 ∷ (nullable_suffix m ++ rest)) ∙ field_is c (more_text plain cs ++ 62 ∷ (nullable_suffix m ++ rest))) ∙ not_closed (name_of c) _ (field_name limited c typed.0) in
@@ -209,7 +209,7 @@ begun_moves limited around struct after = struct_by limited around after (stripp
 item_within : (limited : Bool) (around : List Enclosure) (text : List ℕ) (p : Opening × List ℕ) → opening_at limited text ≡ Some p → Goes limited around text → Within limited around p.0 p.1
 item_within limited around text p e g =
     let s : Starts limited (item_text plain g.item ++ g.rest) g.rest = item_starts limited g.item g.rest g.typed (closes_stop limited around g.rest g.closes) in
-    let one : (s.opening, s.after) ≡ p = some_eq (s.opening, s.after) p (sym s.read ∙ ap (opening_at limited) (sym g.text_is) ∙ e) in
+    let one : (s.opening, s.after) ≡ p = same_Some (s.opening, s.after) p (sym s.read ∙ ap (opening_at limited) (sym g.text_is) ∙ e) in
     record { rest = g.rest; inside = subst (λ (q : Opening × List ℕ). Inside limited q.0 q.1 g.rest) one s.inside; closes = g.closes }
 
 item_back : (limited : Bool) (around : List Enclosure) (text : List ℕ) (p : Opening × List ℕ) → IsOpening limited text p → Within limited around p.0 p.1 → Goes limited around text
@@ -221,7 +221,7 @@ before_by : (limited : Bool) (around : List Enclosure) (text : List ℕ) (o : Op
     → MatchOption (option_map (after_opening around) (option_and_then (λ p. begun p.0 p.1) o)) (Goes limited around text → ⊥) (λ p. Goes limited around text ↔ StandsAt limited p)
 before_by limited around text None e known = λ g.
     let s : Starts limited (item_text plain g.item ++ g.rest) g.rest = item_starts limited g.item g.rest g.typed (closes_stop limited around g.rest g.closes) in
-    none_some (sym e ∙ ap (opening_at limited) g.text_is ∙ s.read)
+    none-some _ (sym e ∙ ap (opening_at limited) g.text_is ∙ s.read)
 before_by limited around text (Some p) e known =
     match_map (after_opening around) (begun p.0 p.1) (Goes limited around text → ⊥) (λ q. Goes limited around text ↔ StandsAt limited q)
     (match_iff (begun p.0 p.1) (Goes limited around text) (Within limited around p.0 p.1) (λ q. StandsAt limited (after_opening around q))

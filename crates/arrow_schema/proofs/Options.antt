@@ -2,6 +2,7 @@
 use Rattle.std.proofs.Common.{◌≡◌, Bool, true, false, refl, cond, subst}
 use Rattle.std.specs.Prelude.{Option, None, Some, option_map, IfSome}
 use Rattle.std.specs.Option.{option_and_then, option_or}
+use Rattle.std.proofs.lemmas.Option.{same_Some}
 
 pub some_map : {X Y : Type 0} (f : X → Y) (o : Option X) (P : X → Type 0) (Q : Y → Type 0) → IfSome o P → ((x : X) → P x → Q (f x)) → IfSome (option_map f o) Q
 some_map f None P Q h step = tt
@@ -19,12 +20,6 @@ pub some_if : {X : Type 0} (b : Bool) (x : X) (Q : X → Type 0) → (b ≡ true
 some_if true x Q h = h refl
 some_if false x Q h = tt
 
-pub some_eq : {X : Type 0} (y x : X) → Some y ≡ Some x → y ≡ x
-some_eq y x e = cc
-
 pub some_at : {X : Type 0} (o : Option X) (x : X) (Q : X → Type 0) → IfSome o Q → o ≡ Some x → Q x
 some_at None x Q h e = cc
-some_at (Some y) x Q h e = subst Q (some_eq y x e) h
-
-pub none_some : {X : Type 0} {x : X} → None ≡ Some x → ⊥
-none_some e = cc
+some_at (Some y) x Q h e = subst Q (same_Some y x e) h

@@ -1,8 +1,8 @@
 -- The limits count a schema's own columns among all of them.
 use Rattle.std.specs.Prelude.{sum_by}
 use Rattle.std.specs.List.{AllPass, list_all}
-use Rattle.std.proofs.Common.{◌≡◌, ◌≤◌, Bool, true, ◌&&◌, List, [], ◌∷◌, ◌++◌, length, refl, sym, ◌∙◌, arith, length-append}
-use Rattle.std.proofs.lemmas.Bool.{and_parts}
+use Rattle.std.proofs.Common.{◌≡◌, ◌≤◌, true, List, [], ◌∷◌, ◌++◌, length, refl, sym, ◌∙◌, arith}
+use Rattle.std.proofs.lemmas.Bool.{and_parts, and_from}
 use Rattle.std.proofs.lemmas.List.Folds.{list_all-append}
 use Rattle.std.proofs.lemmas.List.Sums.{sum_by-cons, sum_by-append, AllPass-from_list_all, list_all-from_AllPass}
 use Rattle.arrow_schema.specs.laws.Columns.{columns_few}
@@ -28,16 +28,13 @@ own_columns s limits = omega (arith, columns_few s.columns, limits.fields)
 pub own_names : (s : PlainSchema) → IsWithinLimits s → sum_by name_len s.columns ≤ MAX_TEXT_BYTES
 own_names s limits = omega (arith, names_few s.columns, limits.bytes)
 
-both : {a b : Bool} → a ≡ true → b ≡ true → (a && b) ≡ true
-both x y = rw x y
-
 texts_fit : (cs : List Column) → list_all has_utf8_texts (preorder_all (columns_of cs)) ≡ true → list_all has_utf8_texts cs ≡ true
 unfolding preorder preorder_all
 texts_fit [] h = refl
 texts_fit (column name nullable kind dictionary pairs ∷ cs) h =
     let here = and_parts (has_utf8_texts (column name nullable kind dictionary pairs)) _ h in
     let rest = and_parts (list_all has_utf8_texts (preorder_below kind)) _ (sym (list_all-append has_utf8_texts (preorder_below kind) (preorder_all (columns_of cs))) ∙ here.1) in
-    both here.0 (texts_fit cs rest.1)
+    and_from _ _ here.0 (texts_fit cs rest.1)
 
 pub own_texts : (s : PlainSchema) → IsWithinLimits s → AllPass has_utf8_texts s.columns
 own_texts s limits = AllPass-from_list_all _ _ (texts_fit s.columns (list_all-from_AllPass _ _ limits.texts))

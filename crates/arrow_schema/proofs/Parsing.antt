@@ -6,6 +6,7 @@ use Rattle.std.specs.Global.{Global}
 use Rattle.std.specs.Option.{option_and_then}
 use Rattle.std.proofs.lemmas.Bool.{le-leb}
 use Rattle.std.proofs.lemmas.List.{append-nil, append_assoc, drop_all, get_or-map}
+use Rattle.std.proofs.lemmas.Option.{same_Some, none-some}
 use Rattle.facts.specs.laws.Levels.{nat_le_max}
 use Rattle.arrow_schema.specs.declared.limits.TheConstants.{MAX_DEPTH}
 use Rattle.arrow_schema.specs.declared.texts.build.BuildError.{BuildError}
@@ -20,7 +21,6 @@ use Rattle.arrow_schema.specs.Typed.{IsTextOf, IsFieldText}
 use Rattle.arrow_schema.specs.inner.Build.{field_from, column_at, Builds, columns_at, before_columns}
 use Rattle.arrow_schema.specs.Reported.{AreTextsOf, schema_with, IsReported}
 use Rattle.arrow_schema.specs.inner.Tested.{TestsOne, Tests}
-use Rattle.arrow_schema.proofs.Options.{some_eq, none_some}
 use Rattle.arrow_schema.proofs.Again.{always, field_again}
 
 both_by : (a b : Bool) (c : Column) (cs : List Column) (o : Option (List Column)) → o ≡ cond b (Some cs) None
@@ -73,7 +73,7 @@ reported_deep texts good e =
       texts_of = all.texts_of;
       past = λ within.
           let shallow : nat_le (depth_all (columns_of all.columns)) MAX_DEPTH ≡ true = le-leb _ _ within.levels in
-          none_some (sym e ∙ columns_again texts all.columns MAX_DEPTH all.texts_of ∙ ap (λ (b : Bool). cond b (Some all.columns) None) shallow);
+          none-some _ (sym e ∙ columns_again texts all.columns MAX_DEPTH all.texts_of ∙ ap (λ (b : Bool). cond b (Some all.columns) None) shallow);
     })
 
 pub reported_err : (texts : List (List ℕ)) (e : ParseError) → Tests texts (Err e) → IsReported texts (Err e)
@@ -118,7 +118,7 @@ one_column text c d h k =
     let l : ℕ = depth c + depth d in
     let first : field_from (column_at l) text ≡ Some (c, []) = field_again c l text h.0 h.1 ∙ ap (λ (b : Bool). cond b (Some (c, [])) None) (le-leb (depth c) l (omega arith)) in
     let second : field_from (column_at l) text ≡ Some (d, []) = field_again d l text k.0 k.1 ∙ ap (λ (b : Bool). cond b (Some (d, [])) None) (le-leb (depth d) l (omega arith)) in
-    ap (λ (p : Column × List ℕ). p.0) (some_eq {X = Column × List ℕ} (c, []) (d, []) (sym first ∙ second))
+    ap (λ (p : Column × List ℕ). p.0) (same_Some {A = Column × List ℕ} (c, []) (d, []) (sym first ∙ second))
 
 -- over the texts as the code keeps them
 pub next_text : (xs : List (Bor (List ℕ))) (i : ℕ) (d : Bor (List ℕ)) (earlier : List Column) (c : Column) (rest : List ℕ) → i < length xs → field_from (column_at MAX_DEPTH) (get_or xs i d).now ≡ Some (c, rest)

@@ -3,6 +3,7 @@ use Rattle.std.proofs.Common.{◌≡◌, ◌⊎◌, ◌↔◌, ℕ, Bool, true, 
 use Rattle.std.specs.Prelude.{Option, None, Some, MatchOption, IfSome, option_map, codes}
 use Rattle.std.specs.Option.{option_and_then, option_or}
 use Rattle.std.proofs.lemmas.List.{append-nil}
+use Rattle.std.proofs.lemmas.Option.{same_Some, none-some}
 use Rattle.arrow_schema.specs.declared.texts.grammar.Enclosure.{Enclosure}
 use Rattle.arrow_schema.specs.declared.texts.grammar.Enclosure.TheVariants as enclosures
 use Rattle.arrow_schema.specs.declared.texts.grammar.Place.TheVariants.{AfterType}
@@ -11,7 +12,6 @@ use Rattle.arrow_schema.specs.FieldText.{plain, nullable_suffix, item_text, fiel
 use Rattle.arrow_schema.specs.Typed.{is_name, AreTyped, IsFieldText}
 use Rattle.arrow_schema.specs.inner.Scan.{stripped, name_at, has_nullable_suffix, after_nullable_suffix}
 use Rattle.arrow_schema.specs.inner.Standing.{close_of, IsInside, Closing, Closes, Goes, next_in, continued, after_part, step}
-use Rattle.arrow_schema.proofs.Options.{some_eq, none_some}
 use Rattle.arrow_schema.proofs.KeywordLemmas.{bracket, parenthesis, stripped_read}
 use Rattle.arrow_schema.proofs.Openings.{name_read}
 use Rattle.arrow_schema.proofs.Steps.{four, suffix_split, closes_stop, renamed, item_from_field, field_from_item, name_of, renamed_is}
@@ -30,7 +30,7 @@ closed_list : (limited : Bool) (one : Enclosure) (others : List Enclosure) (text
     → (cl : Closing limited one (Closes limited others) text) → cl.inside ≡ [] → stripped (b ∷ []) (b ∷ (nullable_suffix cl.nullable ++ cl.rest)) ≡ Some (nullable_suffix cl.nullable ++ cl.rest) → Closes limited others (after_nullable_suffix t)
 closed_list limited one others text t b close e cl none back =
     let is : text ≡ b ∷ (nullable_suffix cl.nullable ++ cl.rest) = cl.text_is ∙ (λ k. none k ++ close k ++ nullable_suffix cl.nullable ++ cl.rest) in
-    let here : t ≡ nullable_suffix cl.nullable ++ cl.rest = some_eq t (nullable_suffix cl.nullable ++ cl.rest) (sym e ∙ ap (stripped (b ∷ [])) is ∙ back) in
+    let here : t ≡ nullable_suffix cl.nullable ++ cl.rest = same_Some t (nullable_suffix cl.nullable ++ cl.rest) (sym e ∙ ap (stripped (b ∷ [])) is ∙ back) in
     subst (Closes limited others) (sym (suffix_again cl.nullable cl.rest t (closes_stop limited others cl.rest cl.after) here)) cl.after
 
 closed_back : (limited : Bool) (one : Enclosure) (others : List Enclosure) (text t : List ℕ) (b : ℕ) → IsInside limited one [] → close_of one ≡ b ∷ [] → text ≡ b ∷ t → Closes limited others (after_nullable_suffix t) → Closing limited one (Closes limited others) text
@@ -47,7 +47,7 @@ open_list : (limited : Bool) (one : Enclosure) (others : List Enclosure) (text :
     → (cl : Closing limited one (Closes limited others) text) → cl.inside ≡ [] → stripped (b ∷ []) (b ∷ (nullable_suffix cl.nullable ++ cl.rest)) ≡ Some (nullable_suffix cl.nullable ++ cl.rest) → ⊥
 open_list limited one others text b close e cl none back =
     let is : text ≡ b ∷ (nullable_suffix cl.nullable ++ cl.rest) = cl.text_is ∙ (λ k. none k ++ close k ++ nullable_suffix cl.nullable ++ cl.rest) in
-    none_some (sym e ∙ ap (stripped (b ∷ [])) is ∙ back)
+    none-some _ (sym e ∙ ap (stripped (b ∷ [])) is ∙ back)
 
 comma : (rest : List ℕ) → (stripped (44 ∷ []) (44 ∷ rest) ≡ Some rest) × (stripped (62 ∷ []) (44 ∷ rest) ≡ None) × (stripped (44 ∷ []) (62 ∷ rest) ≡ None)
 unfolding stripped
@@ -71,7 +71,7 @@ struct_closed : (limited : Bool) (others : List Enclosure) (text t : List ℕ) �
 struct_closed limited others text t e cl =
     ⊎_elim {C = Closes limited others (after_nullable_suffix t)}
     (λ none. closed_list limited enclosures.Struct others text t 62 refl e cl none (bracket (nullable_suffix cl.nullable ++ cl.rest)))
-    (λ f. absurd (none_some (sym (sym e ∙ ap (stripped (codes ">")) f.1 ∙ (comma f.0).1))))
+    (λ f. absurd (none-some _ (sym (sym e ∙ ap (stripped (codes ">")) f.1 ∙ (comma f.0).1))))
     (inside_of limited others text cl.inside cl.rest cl.nullable cl.is_inside.0 cl.is_inside.1 cl.is_inside.2 cl.text_is cl.after)
 
 struct_goes : (limited : Bool) (others : List Enclosure) (text : List ℕ) → stripped (codes ">") text ≡ None → StructRest limited others text → (next : List ℕ) × (text ≡ 44 ∷ next) × FieldThen limited others next
@@ -94,11 +94,11 @@ struct_again limited others text next e f = record {
 
 next_of : (limited : Bool) (others : List Enclosure) (text next : List ℕ) → stripped (codes ",") text ≡ Some next → (f : (next : List ℕ) × (text ≡ 44 ∷ next) × FieldThen limited others next) → FieldThen limited others next
 next_of limited others text next e f =
-    let same : f.0 ≡ next = some_eq f.0 next (sym ((comma f.0).0) ∙ ap (stripped (codes ",")) (sym f.1) ∙ e) in subst (FieldThen limited others) same f.2
+    let same : f.0 ≡ next = same_Some f.0 next (sym ((comma f.0).0) ∙ ap (stripped (codes ",")) (sym f.1) ∙ e) in subst (FieldThen limited others) same f.2
 
 comma_by : (limited : Bool) (others : List Enclosure) (text : List ℕ) → stripped (codes ">") text ≡ None → (o : Option (List ℕ)) → stripped (codes ",") text ≡ o → IfSome o (λ next. text ≡ 44 ∷ next)
     → MatchOption (option_and_then (λ next. option_map (λ p. (false, p.1)) (name_at next)) o) (StructRest limited others text → ⊥) (λ p. StructRest limited others text ↔ StandsAt limited (after_part enclosures.Struct others p))
-comma_by limited others text e None f known = λ cl. let g = struct_goes limited others text e cl in none_some (sym f ∙ ap (stripped (codes ",")) g.1 ∙ (comma g.0).0)
+comma_by limited others text e None f known = λ cl. let g = struct_goes limited others text e cl in none-some _ (sym f ∙ ap (stripped (codes ",")) g.1 ∙ (comma g.0).0)
 comma_by limited others text e (Some next) f known =
     match_map (λ p. (false, p.1)) (name_at next) (StructRest limited others text → ⊥) (λ p. StructRest limited others text ↔ StandsAt limited (after_part enclosures.Struct others p))
     (match_iff (name_at next) (StructRest limited others text) (FieldThen limited others next) (λ p. Goes limited (enclosures.Struct ∷ others) p.1)
@@ -130,7 +130,7 @@ after_moves limited one others text =
 text_starts : (limited : Bool) (text : List ℕ) (o : Option (List ℕ × List ℕ)) → name_at text ≡ o → IfSome o (λ p. (is_name p.0 ≡ true) × (text ≡ p.0 ++ 58 ∷ p.1))
     → MatchOption o (IsFieldText limited text → ⊥) (λ p. IsFieldText limited text ↔ Goes limited [] p.1)
 unfolding Closes
-text_starts limited text None e known = λ f. none_some (sym e ∙ named limited f.0 text [] f.1.0 (f.1.1 ∙ sym (append-nil (field_text plain f.0))))
+text_starts limited text None e known = λ f. none-some _ (sym e ∙ named limited f.0 text [] f.1.0 (f.1.1 ∙ sym (append-nil (field_text plain f.0))))
 text_starts limited text (Some p) e known = (
   λ f. record {
     item = renamed (codes "item") f.0;

@@ -1,18 +1,19 @@
 -- The schemas of the code have no other widths than the format's, and no other texts than UTF-8.
-use Rattle.std.proofs.Common.{◌≡◌, ℕ, Bool, true, ◌&&◌, List, [], ◌∷◌, ◌++◌, map, refl, ap, sym, ◌∙◌, subst}
-use Rattle.std.specs.Prelude.{String, string_bytes, Option, Some, None, option_map, flat_map}
+use Rattle.std.proofs.Common.{◌≡◌, true, List, [], ◌∷◌, map, refl, sym, ◌∙◌, subst}
+use Rattle.std.specs.Prelude.{String, string_bytes, Option, Some, None, option_map}
 use Rattle.std.specs.List.{list_all}
 use Rattle.std.specs.Str.{is_utf8}
 use Rattle.std.specs.Global.{Global}
 use Rattle.std.proofs.lemmas.Str.{is_utf8-from_IsUtf8, IsUtf8-string_bytes, IsUtf8-nil}
 use Rattle.std.proofs.lemmas.List.Folds.{list_all-append}
+use Rattle.std.proofs.lemmas.Bool.{and_from}
 use Rattle.arrow_schema.specs.declared.types.DictSpec.{DictSpec}
 use Rattle.arrow_schema.specs.declared.types.DataType.{DataType}
 use Rattle.arrow_schema.specs.declared.types.Field.{Field}
 use Rattle.arrow_schema.specs.declared.types.Schema.{Schema}
 use Rattle.arrow_schema.specs.declared.types.DataType.TheOpen.{DataType-F, Field-F}
 use Rattle.arrow_schema.specs.declared.types.DataType.TheOpen as types
-use Rattle.arrow_schema.specs.declared.types.DataType.TheFolds.{ind-DataType, ind-Field, map-DataType, map-Field, fold-roll-DataType, fold-roll-Field}
+use Rattle.arrow_schema.specs.declared.types.DataType.TheFolds.{ind-Field, map-DataType, map-Field, fold-roll-DataType, fold-roll-Field}
 use Rattle.arrow_schema.specs.Column.{Kind, Column, columns_of, PlainSchema}
 use Rattle.arrow_schema.specs.View.{index_of, pair_of, kind_step, column_step, kind_of, column_of, schema_of}
 use Rattle.arrow_schema.specs.Preorder.{preorder, preorder_below, preorder_all, every_column}
@@ -23,9 +24,6 @@ pub record IsSound (s : PlainSchema) : Type 0 where
   pub widths : list_all has_bit_widths (every_column s) ≡ true
   pub texts : list_all has_utf8_texts (every_column s) ≡ true
   pub own_texts : list_all is_utf8 (texts_of_pairs s.pairs) ≡ true
-
-both : {a b : Bool} → a ≡ true → b ≡ true → (a && b) ≡ true
-both x y = rw x y
 
 index_is : (d : Option DictSpec) → is_index_of_width (option_map index_of d) ≡ true
 index_is None = refl
@@ -39,7 +37,7 @@ no_timezone = is_utf8-from_IsUtf8 [] IsUtf8-nil
 
 pairs_are : (ps : List (String Global × String Global)) → list_all is_utf8 (texts_of_pairs (map pair_of ps)) ≡ true
 pairs_are [] = refl
-pairs_are (p ∷ ps) = both (text_is p.0) (both (text_is p.1) (pairs_are ps))
+pairs_are (p ∷ ps) = and_from _ _ (text_is p.0) (and_from _ _ (text_is p.1) (pairs_are ps))
 
 -- what is so of a type, and of a field with all below it
 record KindIsSound (k : Kind) : Type 0 where
@@ -64,8 +62,8 @@ all_sound [] = record { widths = refl; texts = refl }
 all_sound (e ∷ fs) =
     let rest = all_sound fs in
     record {
-      widths = list_all-append has_bit_widths (preorder (column_of e.0)) _ ∙ both e.1.widths rest.widths;
-      texts = list_all-append has_utf8_texts (preorder (column_of e.0)) _ ∙ both e.1.texts rest.texts;
+      widths = list_all-append has_bit_widths (preorder (column_of e.0)) _ ∙ and_from _ _ e.1.widths rest.widths;
+      texts = list_all-append has_utf8_texts (preorder (column_of e.0)) _ ∙ and_from _ _ e.1.texts rest.texts;
     }
 
 kind_sound : (y : DataType-F SoundType SoundField) → KindIsSound (kind_step (map-DataType _ _ _ _ kind_of column_of (map-DataType _ _ _ _ (λ e. e.0) (λ e. e.0) y)))
@@ -92,8 +90,8 @@ unfolding preorder
 field_sound y =
     let k = y.data_type.1 in
     record {
-      widths = both (both k.width (index_is y.dictionary)) k.widths;
-      texts = both (both (text_is y.name) (both k.timezone (pairs_are y.pairs.items))) k.texts;
+      widths = and_from _ _ (and_from _ _ k.width (index_is y.dictionary)) k.widths;
+      texts = and_from _ _ (and_from _ _ (text_is y.name) (and_from _ _ k.timezone (pairs_are y.pairs.items))) k.texts;
     }
 
 sound_field : (f : Field) → AreSound (preorder (column_of f))
@@ -108,8 +106,8 @@ fields_sound (f ∷ fs) =
     let here = sound_field f in
     let rest = fields_sound fs in
     record {
-      widths = list_all-append has_bit_widths (preorder (column_of f)) _ ∙ both here.widths rest.widths;
-      texts = list_all-append has_utf8_texts (preorder (column_of f)) _ ∙ both here.texts rest.texts;
+      widths = list_all-append has_bit_widths (preorder (column_of f)) _ ∙ and_from _ _ here.widths rest.widths;
+      texts = list_all-append has_utf8_texts (preorder (column_of f)) _ ∙ and_from _ _ here.texts rest.texts;
     }
 
 pub sound_schema : (s : Schema) → IsSound (schema_of s)

@@ -1,6 +1,6 @@
--- The parts of a column.
-use Rattle.std.specs.Prelude.{ℕ, Bool, List, Option}
-use Rattle.arrow_schema.specs.Column.{Index, Kind, Column, column}
+-- The parts of a column, and a type that has no values.
+use Rattle.std.specs.Prelude.{ℕ, Bool, true, false, List, Option}
+use Rattle.arrow_schema.specs.Column.{Index, Kind, nulls, Column, column}
 
 abbrev pub name_of_column : Column → List ℕ
 name_of_column (column name nullable kind dictionary pairs) = name
@@ -14,3 +14,8 @@ kind_of_column (column name nullable kind dictionary pairs) = kind
 -- the index type of its dictionary, where it has one
 abbrev pub index_of_column : Column → Option Index
 index_of_column (column name nullable kind dictionary pairs) = dictionary
+
+-- each slot of such a type is null
+abbrev pub is_nulls : Kind → Bool
+is_nulls nulls = true
+is_nulls _ = false

@@ -14,7 +14,8 @@ use Rattle.std.proofs.Math.Seq.{take-append_seam, drop-append_seam, take-append-
 use Rattle.std.proofs.lemmas.Nat.{shr_high, mod_low, mod-pow-add}
 use Rattle.bitmap.specs.Bits.{bit, bytes_of, packed_in, packed}
 use Rattle.bitmap.specs.inner.Building.{bits_within, IsBuilt}
-use Rattle.bitmap.proofs.Packs.{packed_append, length-packed_in, bit_of_packed, mask_split, mask_low, bytes_low, front_only}
+use Rattle.bitmap.proofs.Packs.{packed_append, bit_of_packed, mask_split, mask_low, bytes_low, front_only}
+use Rattle.bitmap.specs.laws.Packed.{length-packed_in}
 
 -- ---- what bytes hold
 

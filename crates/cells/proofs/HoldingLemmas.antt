@@ -1,35 +1,16 @@
--- Entries are gathered one by one, and never more than the cells.
-use Rattle.std.proofs.Common.{◌≡◌, ℕ, suc, ◌+◌, ◌≤◌, ◌<◌, Bool, true, false, List, [], ◌∷◌, ◌++◌, length, map, refl, ap, sym, ◌∙◌, arith, length-append, get_or, drop, add-one, drop-cons}
+-- Entries that a loop gathers, and columns that fill no dictionary.
+use Rattle.std.proofs.Common.{◌≡◌, ℕ, suc, ◌+◌, ◌<◌, true, List, [], ◌∷◌, length, map, refl, ap, sym, ◌∙◌, arith, get_or, drop, add-one, drop-cons}
 use Rattle.std.specs.Borrow.{Bor}
 use Rattle.cells.specs.declared.value.Value.{Value}
 use Rattle.cells.specs.View.{cell, cell_behind}
-use Rattle.std.specs.Prelude.{if◌then◌else◌, Option, Some, None}
-use Rattle.std.specs.List.{list_any, list_all}
+use Rattle.std.specs.Prelude.{Option, Some, None}
+use Rattle.std.specs.List.{list_all}
 use Rattle.std.proofs.lemmas.Bool.{le-leb, and_from}
 use Rattle.std.proofs.lemmas.List.Folds.{list_all-append}
 use Rattle.arrow_schema.specs.Column.{Index, Kind, Column, Columns, lists, large_lists, fixed_lists, structs, column, no_column, and_column}
 use Rattle.cells.specs.Cell.{Cell}
-use Rattle.cells.specs.Dictionary.{is_entry, entry_in, with_option, with_entry, with_entries, own_holding, entry_limit, is_within, has_few_entries, holdings, holdings_below, holdings_from}
-
-length-cond : (b : Bool) (es : List Cell) (c : Cell) → (length es ≤ length (if b then es else es ++ c ∷ [])) × (length (if b then es else es ++ c ∷ []) ≤ length es + 1)
-length-cond true es c = (omega arith, omega arith)
-length-cond false es c = (omega (arith, length-append es (c ∷ [])), omega (arith, length-append es (c ∷ [])))
-
-length-with_option : (es : List Cell) (o : Option Cell) → (length es ≤ length (with_option es o)) × (length (with_option es o) ≤ length es + 1)
-length-with_option es None = (omega arith, omega arith)
-length-with_option es (Some c) = length-cond (list_any (is_entry c) es) es c
-
--- the entries only grow
-pub entries_grow : (es cs : List Cell) → length es ≤ length (with_entries es cs)
-unfolding with_entries
-entries_grow es [] = omega arith
-entries_grow es (c ∷ cs) = omega (arith, (length-with_option es (entry_in c)).0, entries_grow (with_entry es c) cs)
-
--- by one with each cell
-pub entries_few : (es cs : List Cell) → length (with_entries es cs) ≤ length es + length cs
-unfolding with_entries
-entries_few es [] = omega arith
-entries_few es (c ∷ cs) = omega (arith, (length-with_option es (entry_in c)).1, entries_few (with_entry es c) cs)
+use Rattle.cells.specs.Dictionary.{with_entry, with_entries, own_holding, entry_limit, is_within, has_few_entries, holdings, holdings_below, holdings_from}
+use Rattle.cells.specs.laws.Entries.{entries_grow, entries_few}
 
 -- the step of a loop over cells
 pub next_value : (es : List Cell) (cells : List (Bor Value)) (i : ℕ) (x : Bor Value) → i < length cells → x ≡ get_or cells i x

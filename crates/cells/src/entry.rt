@@ -2,7 +2,7 @@
 ghost use Rattle.std.specs.Prelude.{◌≡◌, map, OnOk, OnErr};
 ghost use Rattle.cells.specs.View.{cell};
 ghost use Rattle.cells.specs.Entry.{entry_cell, entry_cell_of};
-ghost use Rattle.cells.specs.Dictionary.{with_entry, entry_in};
+ghost use Rattle.cells.specs.Dictionary.{with_option, entry_in};
 
 use crate::value::Value;
 use indexmap::IndexSet;
@@ -32,12 +32,15 @@ pub fn entry_of(value: &Value) -> Option<Entry<'_>>
     }
 }
 
-/// Adds a value to the entries, where it can be one and is not among them. Where memory is refused they stay as they were.
-pub fn note<'a>(entries: &mut IndexSet<Entry<'a>>, value: &'a Value) -> Result<(), AllocError>
-    ensures noted { OnOk result (map entry_cell entries.new.keys ≡ with_entry (map entry_cell entries.old.keys) (cell value.now)) }
+/// Adds an entry to those of a dictionary, where there is one and it is not among them. Where memory is refused they stay as they were.
+pub fn note<'a>(
+    entries: &mut IndexSet<Entry<'a>>,
+    entry: Option<Entry<'a>>,
+) -> Result<(), AllocError>
+    ensures noted { OnOk result (map entry_cell entries.new.keys ≡ with_option (map entry_cell entries.old.keys) (entry_cell_of entry.entry)) }
     ensures unchanged { OnErr result (entries.new.keys ≡ entries.old.keys) }
 {
-    if let Some(entry) = entry_of(value) {
+    if let Some(entry) = entry {
         entries.insert(entry)?;
     }
     Ok(())

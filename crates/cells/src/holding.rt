@@ -6,7 +6,7 @@ ghost use Rattle.arrow_schema.specs.View.{kind_of, column_of, bits_of, index_of}
 ghost use Rattle.cells.specs.View.{cell, cell_behind, row_behind};
 ghost use Rattle.cells.specs.Dictionary.{entry_limit, has_few_entries, entries_of, item_list, part_list, cells_at, own_holding, holdings, holdings_below, holdings_from};
 
-use crate::entry::note;
+use crate::entry::{entry_of, note};
 use crate::value::Value;
 use crate::weigh::{items_in, parts_in};
 use arrow_schema::{BitWidth, DataType, DictSpec, Field, IntegerType};
@@ -32,7 +32,7 @@ fn are_few(most: usize, cells: &[&Value], alloc: Global) -> Result<bool, AllocEr
 {
     let mut entries = IndexSet::new(alloc);
     for value in cells {
-        note(&mut entries, value)?;
+        note(&mut entries, entry_of(value))?;
         if entries.len() > most {
             return Ok(false);
         }

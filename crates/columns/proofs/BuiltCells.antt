@@ -22,7 +22,7 @@ use Rattle.columns.specs.Buildable.{are_nulls_or_fit, names_entries, contents_fi
 use Rattle.cells.specs.Nulls.{is_there}
 use Rattle.columns.specs.Built.{built, built_kind, built_parts, first_cell, other_cells, fixed_items, contents_of, place_or_zero, is_set, integer_bytes, fixed_bytes, binary_of, list_offsets, entry_index, index_bytes}
 use Rattle.columns.specs.CellAt.{cell_at, kind_cell, part_cells, unless_null, cells_from, entry_at, entries_by, index_at, integer_at, cells_in, row_at, rows_in}
-use Rattle.columns.proofs.Integers.{width_cases, index_fits}
+use Rattle.columns.specs.laws.Integers.{width_cases, index_fits}
 use Rattle.columns.proofs.Spans.{have_width, at_width, run_all}
 use Rattle.byteorder.specs.Endian.{little_number}
 use Rattle.byteorder.specs.Numbers.{little_number-reads_back, length-bytes_low_first}
@@ -31,6 +31,7 @@ use Rattle.cells.specs.laws.Cells.{cells_list, cells_listed}
 use Rattle.std.proofs.lemmas.List.Concat.{flat_map-cons}
 use Rattle.columns.proofs.ReadBack.{PackedReadsBack, all_at, by_validity}
 use Rattle.columns.proofs.Found.{fit_there, boolean_found, integer_found, text_found, bytes_found, fixed_found, AreFound, list_found, fixed_list_found}
+use Rattle.columns.specs.laws.Rows.{slots_built}
 
 -- ---- parts
 
@@ -103,23 +104,6 @@ date_width days = (refl, omega arith)
 date_width date_milliseconds = (refl, omega arith)
 
 -- ---- dictionaries
-
-pub slots_built : (kind : Kind) (cells : List Cell) → slots_in (built_kind kind cells) ≡ length cells
-unfolding built
-slots_built nulls cells = refl
-slots_built booleans cells = refl
-slots_built (integers bits signed) cells = refl
-slots_built (dates unit) cells = refl
-slots_built (timestamps unit timezone) cells = refl
-slots_built texts cells = refl
-slots_built large_texts cells = refl
-slots_built binaries cells = refl
-slots_built large_binaries cells = refl
-slots_built (fixed_binaries width) cells = refl
-slots_built (lists item) cells = refl
-slots_built (large_lists item) cells = refl
-slots_built (fixed_lists size item) cells = refl
-slots_built (structs columns) cells = refl
 
 -- the entries read back as themselves
 pub entries_back : (kind : Kind) (entries : List Cell) → KindIsFound kind entries → entries_by (unless_null (kind_cell kind)) (and_array (built_kind kind entries) no_array) ≡ entries

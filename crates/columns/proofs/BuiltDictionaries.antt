@@ -1,8 +1,8 @@
 -- The dictionaries of written arrays: each is written as a batch of its entries, one to a row.
-use Rattle.std.specs.Prelude.{◌&&◌, not}
+use Rattle.std.specs.Prelude.{◌&&◌}
 use Rattle.std.specs.List.{AllByRecursion, AllPass, flat_map, list_all}
 use Rattle.std.proofs.Common.{◌≡◌, ℕ, ◌+◌, ◌≤◌, Bool, true, false, List, [], ◌∷◌, ◌++◌, map, length, sum_by, Some, None, refl, arith, ap, sym, ◌∙◌, subst}
-use Rattle.std.proofs.lemmas.Bool.{and_parts, and_from}
+use Rattle.std.proofs.lemmas.Bool.{and_parts, and_from, not-true}
 use Rattle.std.proofs.lemmas.List.{map-append}
 use Rattle.std.proofs.lemmas.List.Concat.{flat_map-cons}
 use Rattle.std.proofs.lemmas.List.Sums.{sum_by-cons, list_all-from_AllPass}
@@ -160,15 +160,11 @@ flat_has_none : (k : Kind) (a : Array) → is_nested k ≡ false → HasNone (ty
 unfolding arrays_at
 flat_has_none k a flat = ap (λ (ts : List Typed). flat_map own_dictionary_arrays ((typed (column [] true k None []) a ∷ ts) ++ [])) (none_below k a flat)
 
-not_true : (b : Bool) → not b ≡ true → b ≡ false
-not_true true h = cc
-not_true false h = refl
-
 own_none : (c : Column) (cells : List Cell) → has_flat_dictionary c ≡ true → AllByRecursion HasNone (typed_dictionaries (typed c (built c cells)))
 unfolding built
 own_none (column name nullable kind None pairs) cells flat =
     subst (λ (ts : List Typed). AllByRecursion HasNone ts) (sym (none_there name nullable kind (built_kind kind cells) (kind_alone kind cells) (column name nullable kind None pairs))) tt
-own_none (column name nullable kind (Some index) pairs) cells flat = (flat_has_none kind (built_kind kind (entries_of cells)) (not_true (is_nested kind) flat), tt)
+own_none (column name nullable kind (Some index) pairs) cells flat = (flat_has_none kind (built_kind kind (entries_of cells)) (not-true (is_nested kind) flat), tt)
 
 pub dictionaries_flat : (cs : Columns) (rows : List (List Cell)) → AllPass has_flat_dictionary (preorder_all cs) → can_build_rows cs rows ≡ true
     → AllByRecursion HasNone (dictionaries_of cs (built_parts cs rows))

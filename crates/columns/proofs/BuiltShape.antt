@@ -2,13 +2,14 @@
 use Rattle.std.specs.Prelude.{◌==◌, not, nat_lt, ◌&&◌}
 use Rattle.std.specs.List.{AllByRecursion, flat_map, list_all, list_any}
 use Rattle.std.proofs.Common.{◌≡◌, ℕ, ◌+◌, ◌*◌, ◌/◌, ◌≤◌, Bool, true, false, List, [], ◌∷◌, map, length, sum_by, Some, None, refl, arith, ap, sym, ◌∙◌, length-append}
-use Rattle.std.proofs.lemmas.Bool.{and_parts, or_from, eq-eqb}
+use Rattle.std.proofs.lemmas.Bool.{and_parts, or_from, eq-eqb, le-ltb}
 use Rattle.std.proofs.lemmas.List.{length-map}
 use Rattle.std.proofs.lemmas.List.Concat.{flat_map-cons}
 use Rattle.std.proofs.lemmas.List.Sums.{sum_by-cons, sum_by-append}
 use Rattle.byteorder.specs.Endian.{little_bytes}
 use Rattle.byteorder.specs.Numbers.{length-bytes_low_first}
 use Rattle.bitmap.specs.Bits.{packed}
+use Rattle.bitmap.specs.laws.Packed.{length-packed_in}
 use Rattle.arrow_schema.specs.Column.{DateKind, days, date_milliseconds, Kind, Column, Columns, nulls, booleans, integers, dates, timestamps, texts, large_texts, binaries, large_binaries, fixed_binaries, lists, large_lists, fixed_lists, structs, column, no_column, and_column, columns_of, PlainSchema, is_bit_width}
 use Rattle.arrow_schema.specs.Preorder.{preorder, preorder_below, preorder_all}
 use Rattle.cells.specs.Cell.{Cell, cells_of}
@@ -22,13 +23,12 @@ use Rattle.columns.specs.Buffers.{node_of, nodes_of, buffers_of, kind_buffers, c
 use Rattle.columns.specs.Buildable.{are_nulls_or_fit, is_null_or_entry, names_entries, can_build, can_build_below, can_build_parts, can_build_rows, has_each_part}
 use Rattle.columns.specs.Built.{is_set, validity_of, integer_bytes, fixed_bytes, contents_of, fixed_items, offsets_of, sums_from, entry_index, index_bytes, built, built_kind, built_parts, first_cell, other_cells}
 use Rattle.columns.specs.Tests.{Typed, arrays_at, arrays_below, every_array, has_short_part, has_short_child}
-use Rattle.columns.proofs.BuiltSound.{not_few, slots_of_built}
+use Rattle.columns.proofs.BuiltSound.{slots_of_built}
 use Rattle.columns.proofs.EachBuilt.{HoldsOfBuilt, all_true, none_of_all, parts_each}
 use Rattle.columns.proofs.Found.{every_size, every_width, length-integer}
-use Rattle.columns.proofs.Integers.{width_cases}
+use Rattle.columns.specs.laws.Integers.{width_cases}
 use Rattle.columns.proofs.Pieces.{count_weigh, sum_less}
 use Rattle.columns.proofs.ReadArrays.{as_many_buffers, buffers_with, same_all}
-use Rattle.columns.proofs.ReadBack.{bytes_in}
 use Rattle.columns.proofs.Spans.{HaveWidth, all_width, count_sums}
 use Rattle.columns.proofs.Weights.{size_below, some_weight, contents_weigh}
 
@@ -46,7 +46,7 @@ unfolding built
 none_shorter no_column rows n e = refl
 none_shorter (and_column c cs) rows n e =
     let here : slots_in (built c (map first_cell rows)) ≡ n = slots_of_built c (map first_cell rows) ∙ length-map rows first_cell ∙ e in
-    or_from _ _ (not_few _ _ (omega (arith, here))) (none_shorter cs (map other_cells rows) n (length-map rows other_cells ∙ e))
+    or_from _ _ (le-ltb _ _ (omega (arith, here))) (none_shorter cs (map other_cells rows) n (length-map rows other_cells ∙ e))
 
 kind_children : (k : Kind) (cells : List Cell) → are_nulls_or_fit k cells ≡ true → has_short_part k (built_kind k cells) ≡ false
 unfolding built fits
@@ -65,7 +65,7 @@ kind_children (large_lists item) cells fit = refl
 kind_children (fixed_lists size item) cells fit =
     let slots = slots_of_built item (flat_map (fixed_items size) cells) in
     let count = all_width (fixed_items size) size cells (every_size size (fits item) cells fit) in
-    not_few (slots_in (built item (flat_map (fixed_items size) cells))) (length cells * size) (omega (arith, slots, count))
+    le-ltb (slots_in (built item (flat_map (fixed_items size) cells))) (length cells * size) (omega (arith, slots, count))
 kind_children (structs columns) cells fit = none_shorter columns (map part_list cells) (length cells) (length-map cells part_list)
 
 own_children : (c : Column) (cells : List Cell) → can_build c cells ≡ true → has_short_child c (built c cells) ≡ false
@@ -190,10 +190,10 @@ validity_small cells = by_all (list_all is_there cells) refl
   where
     by_all : (b : Bool) → list_all is_there cells ≡ b → length (validity_of cells) ≤ length cells
     by_all true h = rw h (omega arith)
-    by_all false h = rw h (let count = bytes_in ((length (map is_there cells) + 7) / 8) (map is_there cells) in omega (arith, count, length-map cells is_there))
+    by_all false h = rw h (let count = length-packed_in ((length (map is_there cells) + 7) / 8) (map is_there cells) in omega (arith, count, length-map cells is_there))
 
 bits_small : (cells : List Cell) → length (packed (map is_set cells)) ≤ length cells
-bits_small cells = let count = bytes_in ((length (map is_set cells) + 7) / 8) (map is_set cells) in omega (arith, count, length-map cells is_set)
+bits_small cells = let count = length-packed_in ((length (map is_set cells) + 7) / 8) (map is_set cells) in omega (arith, count, length-map cells is_set)
 
 offsets_small : (w : ℕ) → w ≤ 8 → (f : Cell → ℕ) (cells : List Cell) → length (offsets_of w (map f cells)) ≤ 8 * length cells + 8
 offsets_small w le f cells =

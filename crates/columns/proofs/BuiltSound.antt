@@ -1,13 +1,16 @@
 -- The arrays that cells are written as have no short buffer and no bad offset.
 use Rattle.std.specs.Prelude.{◌&&◌, ◌||◌, ◌==◌, not, nat_lt}
 use Rattle.std.specs.List.{flat_map, list_all, list_any, range_with_len}
-use Rattle.std.proofs.Common.{◌≡◌, ℕ, zero, suc, ◌+◌, ◌-◌, ◌*◌, ◌/◌, ◌^◌, ◌<◌, ◌≤◌, Bool, true, false, List, [], ◌∷◌, map, length, Some, None, refl, arith, ap, ◌∙◌}
+use Rattle.std.proofs.Common.{◌≡◌, ℕ, ◌+◌, ◌-◌, ◌*◌, ◌/◌, ◌^◌, ◌<◌, ◌≤◌, Bool, true, false, List, [], ◌∷◌, map, length, Some, None, refl, arith, ap, ◌∙◌}
 use Rattle.std.proofs.lemmas.Bool.{and_parts, or_from, or_parts, le-ltb, lt-leb, leb-true, eq-eqb}
 use Rattle.std.proofs.lemmas.List.{length-map}
 use Rattle.std.proofs.lemmas.List.Folds.{list_any-append}
+use Rattle.std.proofs.Math.Bool.{and-false}
+use Rattle.facts.specs.laws.Lists.{none_in_range}
 use Rattle.byteorder.specs.Endian.{little_bytes}
 use Rattle.byteorder.specs.Numbers.{length-bytes_low_first}
 use Rattle.bitmap.specs.Bits.{packed, bytes_of}
+use Rattle.bitmap.specs.laws.Packed.{length-packed_in}
 use Rattle.arrow_schema.specs.Column.{Kind, Column, Columns, nulls, booleans, integers, dates, timestamps, texts, large_texts, binaries, large_binaries, fixed_binaries, lists, large_lists, fixed_lists, structs, column, no_column, and_column}
 use Rattle.cells.specs.Cell.{Cell, null}
 use Rattle.cells.specs.Dictionary.{entries_of, item_list, part_list}
@@ -19,19 +22,11 @@ use Rattle.columns.specs.Built.{is_set, with_validity, integer_bytes, fixed_byte
 use Rattle.columns.specs.Buffers.{null_count}
 use Rattle.columns.specs.CellAt.{number_at}
 use Rattle.columns.specs.Tests.{Typed, arrays_at, arrays_below, every_array, has_short_validity, are_few_offsets, has_short_buffer, is_short, is_negative, are_unordered, has_bad_offsets, is_unordered, counts_wrong}
-use Rattle.columns.proofs.BuiltCells.{slots_built}
 use Rattle.columns.proofs.Found.{length-integer, every_width}
-use Rattle.columns.proofs.ReadBack.{bytes_in}
 use Rattle.columns.proofs.Spans.{HaveWidth, have_width, all_width, before, next_before, before_all, offset_at, count_sums}
+use Rattle.columns.specs.laws.Rows.{slots_built}
 
 -- ---- buffers that are long enough
-
-pub not_few : (a b : ℕ) → b ≤ a → nat_lt a b ≡ false
-not_few a b h = le-ltb a b h
-
-and_false : (b : Bool) → (b && false) ≡ false
-and_false true = refl
-and_false false = refl
 
 validity_long : (cells : List Cell) (layout : Layout) → has_short_validity (with_validity cells layout) ≡ false
 validity_long cells layout = by_all (list_all is_there cells) refl
@@ -39,32 +34,28 @@ validity_long cells layout = by_all (list_all is_there cells) refl
     by_all : (b : Bool) → list_all is_there cells ≡ b → has_short_validity (with_validity cells layout) ≡ false
     by_all true h = rw h refl
     by_all false h =
-        let count : length (packed (map is_there cells)) ≡ bytes_of (length (map is_there cells)) = bytes_in _ (map is_there cells) in
+        let count : length (packed (map is_there cells)) ≡ bytes_of (length (map is_there cells)) = length-packed_in _ (map is_there cells) in
         let same : bytes_of (length (map is_there cells)) ≡ bytes_of (length cells) = ap bytes_of (length-map cells is_there) in
-        let short : nat_lt (length (packed (map is_there cells))) (bytes_of (length cells)) ≡ false = not_few _ _ (omega (arith, count, same)) in
-        rw (h, short) (and_false (not (length (packed (map is_there cells)) == 0)))
+        let short : nat_lt (length (packed (map is_there cells))) (bytes_of (length cells)) ≡ false = le-ltb _ _ (omega (arith, count, same)) in
+        rw (h, short) (and-false (not (length (packed (map is_there cells)) == 0)))
 
 values_long : (f : Cell → List ℕ) (w : ℕ) (cells : List Cell) → HaveWidth f w cells → nat_lt (length (flat_map f cells)) (length cells * w) ≡ false
-values_long f w cells h = not_few _ _ (omega (arith, all_width f w cells h))
+values_long f w cells h = le-ltb _ _ (omega (arith, all_width f w cells h))
 
 bits_long : (p : Cell → Bool) (cells : List Cell) → nat_lt (length (packed (map p cells))) (bytes_of (length cells)) ≡ false
 bits_long p cells =
-    let count : length (packed (map p cells)) ≡ bytes_of (length (map p cells)) = bytes_in _ (map p cells) in
+    let count : length (packed (map p cells)) ≡ bytes_of (length (map p cells)) = length-packed_in _ (map p cells) in
     let same : bytes_of (length (map p cells)) ≡ bytes_of (length cells) = ap bytes_of (length-map cells p) in
-    not_few _ _ (omega (arith, count, same))
+    le-ltb _ _ (omega (arith, count, same))
 
 offsets_long : (w : ℕ) (cells : List Cell) (sizes : List ℕ) → length sizes ≡ length cells → (not (length cells == 0) && nat_lt (length (offsets_of w sizes)) ((length cells + 1) * w)) ≡ false
 offsets_long w cells sizes e =
     let count = all_width (little_bytes w) w (sums_from 0 sizes) (have_width (little_bytes w) w (length-bytes_low_first 0 w) (sums_from 0 sizes)) in
     let sums = count_sums 0 sizes in
     let more : length (sums_from 0 sizes) * w ≡ (length cells + 1) * w = ap (λ (n : ℕ). n * w) (sums ∙ ap (λ (n : ℕ). n + 1) e) in
-    rw (not_few (length (offsets_of w sizes)) ((length cells + 1) * w) (omega (arith, count, more))) (and_false (not (length cells == 0)))
+    rw (le-ltb (length (offsets_of w sizes)) ((length cells + 1) * w) (omega (arith, count, more))) (and-false (not (length cells == 0)))
 
 -- ---- offsets
-
-none_of : (p : ℕ → Bool) (start n : ℕ) → ((i : ℕ) → start ≤ i → i < start + n → p i ≡ false) → list_any p (range_with_len start n) ≡ false
-none_of p start zero h = refl
-none_of p start (suc n) h = or_from (p start) (list_any p (range_with_len (start + 1) n)) (h start (omega arith) (omega arith)) (none_of p (start + 1) n (λ i low high. h i (omega arith) (omega arith)))
 
 ordered : {A : Type 0} (f : Cell → List A) (w limit most : ℕ) (cells : List Cell) (a : Array) → slots_in a ≡ length cells
     → ((k : ℕ) → k ≤ length cells → number_at w (offsets_in a) k ≡ before f cells k) → length (flat_map f cells) ≤ limit → limit < 2 ^ (8 * w - 1) → most ≡ length (flat_map f cells)
@@ -73,21 +64,21 @@ ordered f w limit most cells a slots at small below whole =
     let offset : ℕ → ℕ = number_at w (offsets_in a) in
     let n : ℕ = slots_in a in
     let negative : list_any (λ i. is_negative w (offset i)) (range_with_len 0 (n + 1)) ≡ false =
-    none_of (λ i. is_negative w (offset i)) 0 (n + 1)
+    none_in_range (λ i. is_negative w (offset i)) 0 (n + 1)
     (λ i low high. let o = at i (omega (arith, high, slots)) in let b = before_all f cells i (omega (arith, high, slots)) in lt-leb (2 ^ (8 * w - 1)) (offset i) (omega (arith, o, b, small, below))) in
     let falls : list_any (λ i. nat_lt (offset (i + 1)) (offset i)) (range_with_len 0 n) ≡ false =
-    none_of (λ i. nat_lt (offset (i + 1)) (offset i)) 0 n
+    none_in_range (λ i. nat_lt (offset (i + 1)) (offset i)) 0 n
     (λ i low high.
     let o = at i (omega (arith, high, slots)) in
     let p = at (i + 1) (omega (arith, high, slots)) in
     let b = next_before f cells i null (omega (arith, high, slots)) in
-    not_few (offset (i + 1)) (offset i) (omega (arith, o, p, b))) in
+    le-ltb (offset (i + 1)) (offset i) (omega (arith, o, p, b))) in
     let last = at n (omega (arith, slots)) in
     let end = before_all f cells n (omega (arith, slots)) in
-    let past : nat_lt most (offset n) ≡ false = not_few most (offset n) (omega (arith, last, end, whole)) in
+    let past : nat_lt most (offset n) ≡ false = le-ltb most (offset n) (omega (arith, last, end, whole)) in
     let others : (list_any (λ i. nat_lt (offset (i + 1)) (offset i)) (range_with_len 0 n) || nat_lt most (offset n)) ≡ false = or_from _ _ falls past in
     let all : (list_any (λ i. is_negative w (offset i)) (range_with_len 0 (n + 1)) || (list_any (λ i. nat_lt (offset (i + 1)) (offset i)) (range_with_len 0 n) || nat_lt most (offset n))) ≡ false = or_from _ _ negative others in
-    ap (λ (b : Bool). not (n == 0) && b) all ∙ and_false (not (n == 0))
+    ap (λ (b : Bool). not (n == 0) && b) all ∙ and-false (not (n == 0))
 
 -- ---- every type
 

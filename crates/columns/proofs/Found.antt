@@ -17,7 +17,7 @@ use Rattle.columns.specs.Array.{Array, array, binary_layout, list_layout}
 use Rattle.cells.specs.Nulls.{is_there}
 use Rattle.columns.specs.Built.{is_set, integer_bytes, fixed_bytes, contents_of, fixed_items, binary_of, list_offsets, with_validity, offsets_of}
 use Rattle.columns.specs.CellAt.{integer_at, value_at, contents_at, span_start, span_size, cells_from, span_cells}
-use Rattle.columns.proofs.Integers.{number_fits, number_back}
+use Rattle.columns.specs.laws.Integers.{number_fits, number_back}
 use Rattle.columns.proofs.ReadBack.{PackedReadsBack, bit_of}
 use Rattle.columns.proofs.Spans.{HaveWidth, have_width, all_width, at_width, taken, before, next_before, before_all, offset_at, slice_there, run_is}
 

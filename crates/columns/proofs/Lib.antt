@@ -4,7 +4,6 @@ pub mod Ends
 pub mod Runs
 pub mod Spans
 pub mod ReadBack
-pub mod Integers
 pub mod Found
 pub mod BuiltCells
 pub mod ReadArrays

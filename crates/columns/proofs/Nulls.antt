@@ -9,6 +9,7 @@ use Rattle.arrow_schema.specs.Column.{Kind, Column, Columns, nulls, booleans, in
 use Rattle.cells.specs.Cell.{Cell, null, boolean, number, text, bytes, items, parts}
 use Rattle.cells.specs.Dictionary.{Holding, item_list, part_list, cells_at, holdings, holdings_below, holdings_from, entries_of, with_entries, with_entry, has_few_entries, is_within, entry_limit}
 use Rattle.columns.specs.Built.{fixed_items, first_cell, other_cells}
+use Rattle.columns.specs.laws.Held.{HaveFew}
 
 -- the cells that are no nulls
 abbrev pub kept : Cell → List Cell
@@ -84,9 +85,6 @@ below_same (large_lists item) xs ys e = ap (holdings item) (same_below item_list
 below_same (fixed_lists size item) xs ys e = ap (holdings item) (same_below item_list refl xs ys e)
 below_same (structs columns) xs ys e =
     from_same 0 columns (map part_list xs) (map part_list ys) (λ j. at_parts j xs ∙ same_below (part_of j) refl xs ys e ∙ sym (at_parts j ys))
-
-abbrev pub HaveFew : List Holding → Type 0
-HaveFew hs = list_all has_few_entries hs ≡ true
 
 pub few_same : (c : Column) (xs ys : List Cell) → without_nulls xs ≡ without_nulls ys → HaveFew (holdings c xs) → HaveFew (holdings c ys)
 unfolding holdings

@@ -1,8 +1,8 @@
 -- Rows that a table takes, and whose dictionaries have room, can be built.
-use Rattle.std.specs.Prelude.{◌&&◌, ◌-◌, not, nat_le, if◌then◌else◌}
+use Rattle.std.specs.Prelude.{◌&&◌, ◌-◌, nat_le, if◌then◌else◌}
 use Rattle.std.specs.List.{flat_map, list_all, list_any}
-use Rattle.std.proofs.Common.{◌≡◌, ℕ, zero, suc, ◌+◌, ◌^◌, ◌≤◌, Bool, true, false, List, [], ◌∷◌, ◌++◌, map, length, replicate, sum_by, Some, None, refl, arith, ap, sym, subst, ◌⊎◌, inl, inr, length-append}
-use Rattle.std.proofs.lemmas.Bool.{and_parts, and_from, le-leb, leb-true}
+use Rattle.std.proofs.Common.{◌≡◌, ℕ, zero, suc, ◌+◌, ◌^◌, ◌≤◌, Bool, true, false, List, [], ◌∷◌, ◌++◌, map, length, replicate, sum_by, Some, None, refl, arith, ap, sym, subst, ◌⊎◌, inl, inr}
+use Rattle.std.proofs.lemmas.Bool.{and_parts, and_from, le-leb, leb-true, not-true}
 use Rattle.std.proofs.lemmas.List.Sums.{sum_by-cons, sum_by-append}
 use Rattle.std.proofs.Math.Pow.{pow_mono}
 use Rattle.std.proofs.lemmas.List.Sums.{list_all-from_AllPass}
@@ -21,12 +21,10 @@ use Rattle.columns.specs.Buildable.{are_nulls_or_fit, is_null_or_entry, names_en
 use Rattle.columns.specs.Built.{contents_of, fixed_items, first_cell, other_cells}
 use Rattle.columns.proofs.BuiltCells.{has_parts}
 use Rattle.cells.specs.laws.Cells.{cells_list, cells_listed}
-use Rattle.columns.proofs.Nulls.{HaveFew, few_same, fixed_kept, first_kept, from_next}
+use Rattle.cells.specs.laws.Entries.{none_below, entries_few}
+use Rattle.columns.proofs.Nulls.{few_same, fixed_kept, first_kept, from_next}
 use Rattle.columns.proofs.Weights.{sum_below, size_below, sum_map, some_weight, contents_weigh, count_below, items_weigh, fixed_weigh}
-
--- what the limits of a schema say of a column and all below it
-abbrev pub AreSoundColumns : List Column → Type 0
-AreSoundColumns cs = (list_all has_flat_dictionary cs ≡ true) × (list_all has_bit_widths cs ≡ true)
+use Rattle.columns.specs.laws.Held.{AreSoundColumns, HaveFew}
 
 -- more than any table weighs
 abbrev pub most : ℕ
@@ -202,17 +200,6 @@ entries_weigh w entries (c ∷ cells) =
       | inr e ↦ let same = ap (sum_by w) e in omega (arith, rest, sums, same, more, one)
     ]
 
-entries_count : (entries cells : List Cell) → length (with_entries entries cells) ≤ length entries + length cells
-unfolding with_entries
-entries_count entries [] = omega arith
-entries_count entries (c ∷ cells) =
-    let rest = entries_count (with_entry entries c) cells in
-    let more = length-append entries (c ∷ []) in
-    elim (entry_step entries c) [
-      | inl e ↦ let same = ap length e in omega (arith, rest, same)
-      | inr e ↦ let same = ap length e in omega (arith, rest, same, more)
-    ]
-
 entries_pass : (p : Cell → Bool) (entries cells : List Cell) → list_all p entries ≡ true → list_all p cells ≡ true → list_all p (with_entries entries cells) ≡ true
 unfolding with_entries
 entries_pass p entries [] a b = a
@@ -223,23 +210,6 @@ entries_pass p entries (c ∷ cells) a b =
       | inl e ↦ rw e a
       | inr e ↦ rw e (all_both p entries (c ∷ []) a (and_from _ _ d.0 refl))
     ]) d.1
-
-none_below : (k : Kind) (cells : List Cell) → is_nested k ≡ false → holdings_below k cells ≡ []
-unfolding holdings
-none_below nulls cells flat = refl
-none_below booleans cells flat = refl
-none_below (integers bits signed) cells flat = refl
-none_below (dates unit) cells flat = refl
-none_below (timestamps unit timezone) cells flat = refl
-none_below texts cells flat = refl
-none_below large_texts cells flat = refl
-none_below binaries cells flat = refl
-none_below large_binaries cells flat = refl
-none_below (fixed_binaries width) cells flat = refl
-none_below (lists item) cells flat = cc
-none_below (large_lists item) cells flat = cc
-none_below (fixed_lists size item) cells flat = cc
-none_below (structs columns) cells flat = cc
 
 few_names : (index : Index) (n : ℕ) → is_bit_width index.bits ≡ true → is_within (entry_limit index) n ≡ true → n ≤ most → names_entries index n ≡ true
 few_names index n wide few small = and_from _ _ wide (by_size (nat_le 32 index.bits) index.signed refl refl)
@@ -257,10 +227,6 @@ count_weigh w h (x ∷ xs) = let rest = count_weigh w h xs in let one = h x in l
 pub split : {X : Type 0} (q : X → Bool) (ys zs : List X) → list_all q (ys ++ zs) ≡ true → (list_all q ys ≡ true) × (list_all q zs ≡ true)
 split q [] zs h = (refl, h)
 split q (y ∷ ys) zs h = let a = and_parts (q y) (list_all q (ys ++ zs)) h in let b = split q ys zs a.1 in (and_from _ _ a.0 b.0, b.1)
-
-not_true : (b : Bool) → not b ≡ true → b ≡ false
-not_true true h = cc
-not_true false h = refl
 
 -- a row as a list and as parts
 pub first_is : (row : List Cell) → first_part (cells_of row) ≡ first_cell row
@@ -289,9 +255,9 @@ mutual
       let dictionary = and_parts (has_flat_dictionary c) (list_all has_flat_dictionary (preorder_below kind)) sound.0 in
       let widths = and_parts (has_bit_widths c) (list_all has_bit_widths (preorder_below kind)) sound.1 in
       let own = and_parts (is_kind_of_width kind) (is_bit_width index.bits) widths.0 in
-      let flat : is_nested kind ≡ false = not_true (is_nested kind) dictionary.0 in
+      let flat : is_nested kind ≡ false = not-true (is_nested kind) dictionary.0 in
       let holds = and_parts (is_within (entry_limit index) (length es)) (list_all has_few_entries (holdings_below kind cells)) few in
-      let count = entries_count [] cells in
+      let count = entries_few [] cells in
       let weighs = entries_weigh (kind_weight kind) [] cells in
       let each = count_weigh (kind_weight kind) (some_weight c) cells in
       let none : HaveFew (holdings_below kind es) = subst (λ (hs : List Holding). HaveFew hs) (sym (none_below kind es flat)) refl in

@@ -5,7 +5,7 @@ use Rattle.std.proofs.lemmas.Grind.{flat_map-append}
 use Rattle.std.proofs.lemmas.List.{map-append, length-map, drop_at}
 use Rattle.std.proofs.lemmas.List.Concat.{flat_map-cons}
 use Rattle.arrow_schema.specs.Column.{Kind, Column, Columns, nulls, booleans, integers, dates, timestamps, texts, large_texts, binaries, large_binaries, fixed_binaries, lists, large_lists, fixed_lists, structs, column, no_column, and_column}
-use Rattle.columns.specs.Array.{Array, Arrays, array, slots_in, validity_in, offsets_in, indices_in, items_in, children_in, dictionary_in, array_list, arrays_of, empty_array, no_array, and_array, first_array, other_arrays, list_layout, fixed_list_layout, struct_layout, dictionary_layout}
+use Rattle.columns.specs.Array.{Array, Arrays, array, slots_in, validity_in, offsets_in, indices_in, items_in, children_in, dictionary_in, array_list, empty_array, first_array, other_arrays, list_layout, fixed_list_layout, struct_layout, dictionary_layout}
 use Rattle.cells.specs.Cell.{Cell}
 use Rattle.cells.specs.Dictionary.{item_list, part_list}
 use Rattle.columns.specs.Built.{built, built_kind, built_parts, fixed_items, first_cell, other_cells}
@@ -13,6 +13,7 @@ use Rattle.columns.specs.Buffers.{Node, node_of, nodes_of, buffers_of, column_bu
 use Rattle.columns.specs.FromBuffers.{array_from, kind_array_from, arrays_from, node_count, buffer_count, dictionary_count, own_index}
 use Rattle.columns.specs.Tests.{Typed, typed, arrays_at, arrays_below, every_array}
 use Rattle.columns.specs.Layouts.{HasLayout, HasKindLayout, HaveLayouts, own_dictionary_arrays, dictionary_arrays}
+use Rattle.columns.specs.laws.Places.{arrays_listed}
 
 abbrev pub buffers_with : Typed → List (List ℕ)
 buffers_with t = column_buffers t.column t.array
@@ -115,10 +116,6 @@ node_count_is c a =
 
 -- ---- read again, whatever follows
 
-listed_arrays : (xs : Arrays) → arrays_of (array_list xs) ≡ xs
-listed_arrays no_array = refl
-listed_arrays (and_array a xs) = ap (and_array a) (listed_arrays xs)
-
 mutual
   unfolding arrays_at array_from HasLayout
 
@@ -140,7 +137,7 @@ mutual
       let dictionaries : flat_map own_dictionary_arrays (t ∷ []) ++ ds ≡ array_list (dictionary_in a) ∷ ds = ap (λ (xs : List (List Array)). xs ++ ds) (flat_map-cons own_dictionary_arrays t []) in
       ap (λ (xs : List (List ℕ)). array_from c (node_of t ∷ ns) xs (flat_map own_dictionary_arrays (t ∷ []) ++ ds)) buffers
       ∙ ap (array_from c (node_of t ∷ ns) (validity_in a ∷ indices_in a ∷ bs)) dictionaries
-      ∙ ap (λ (xs : Arrays). array (slots_in a) (validity_in a) (dictionary_layout (indices_in a) xs)) (listed_arrays (dictionary_in a)) ∙ sym h
+      ∙ ap (λ (xs : Arrays). array (slots_in a) (validity_in a) (dictionary_layout (indices_in a) xs)) (arrays_listed (dictionary_in a)) ∙ sym h
 
   kind_again : (k : Kind) (a : Array) (nulls_in : ℕ) → HasKindLayout k a → (ns : List Node) (bs : List (List ℕ)) (ds : List (List Array))
       → kind_array_from k (record { slots = slots_in a; null_count = nulls_in } ∷ (map node_of (arrays_below k a) ++ ns)) (kind_buffers k a ++ (flat_map buffers_with (arrays_below k a) ++ bs)) (flat_map own_dictionary_arrays (arrays_below k a) ++ ds) ≡ a

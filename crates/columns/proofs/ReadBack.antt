@@ -1,10 +1,11 @@
 -- The one array that cells are written as reads back as them.
 use Rattle.std.specs.Prelude.{◌==◌, slice_index_or}
 use Rattle.std.specs.List.{list_all}
-use Rattle.std.proofs.Common.{◌≡◌, ℕ, zero, suc, ◌+◌, ◌/◌, ◌<◌, Bool, true, false, List, [], ◌∷◌, map, length, get_or, drop, refl, arith, ap, sym, ◌∙◌}
+use Rattle.std.proofs.Common.{◌≡◌, ℕ, zero, suc, ◌+◌, ◌/◌, ◌<◌, Bool, true, false, List, [], ◌∷◌, map, length, get_or, refl, arith, sym, ◌∙◌}
 use Rattle.std.proofs.lemmas.Bool.{and_parts, ne_eqb}
 use Rattle.std.proofs.lemmas.List.{length-map}
-use Rattle.bitmap.specs.Bits.{bit, packed, packed_in}
+use Rattle.bitmap.specs.Bits.{bit, packed}
+use Rattle.bitmap.specs.laws.Packed.{length-packed_in}
 use Rattle.cells.specs.Cell.{Cell, null, boolean, number, text, bytes, items, parts}
 use Rattle.columns.specs.Array.{Array, Layout}
 use Rattle.cells.specs.Nulls.{is_there}
@@ -39,13 +40,9 @@ bit_of back p cells i lt = back (map p cells) i ∙ there cells i lt
     there (x ∷ xs) zero lt = refl
     there (x ∷ xs) (suc k) lt = there xs k (omega arith)
 
-pub bytes_in : (n : ℕ) (bits : List Bool) → length (packed_in n bits) ≡ n
-bytes_in zero bits = refl
-bytes_in (suc n) bits = ap suc (bytes_in n (drop 8 bits))
-
 some_bytes : (cells : List Cell) → 0 < length cells → (length (packed (map is_there cells)) == 0) ≡ false
 some_bytes cells some =
-    let count : length (packed (map is_there cells)) ≡ (length (map is_there cells) + 7) / 8 = bytes_in _ (map is_there cells) in
+    let count : length (packed (map is_there cells)) ≡ (length (map is_there cells) + 7) / 8 = length-packed_in _ (map is_there cells) in
     let same : length (map is_there cells) ≡ length cells = length-map cells is_there in
     ne_eqb _ _ (λ e. omega (arith, count, same))
 

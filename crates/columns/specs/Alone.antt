@@ -1,7 +1,7 @@
 -- The dictionaries of written arrays: each is the one array of a batch of rows of one cell, the entries.
 use Rattle.std.specs.Prelude.{◌≡◌, ◌≤◌, ℕ, true, List, sum_by}
 use Rattle.std.specs.List.{list_all}
-use Rattle.arrow_schema.specs.Column.{Columns, no_column, and_column}
+use Rattle.arrow_schema.specs.Column.{Column, Columns, no_column, and_column}
 use Rattle.cells.specs.Cell.{Cell, cells_of}
 use Rattle.cells.specs.Fit.{each_fits}
 use Rattle.cells.specs.Weight.{parts_weight}
@@ -14,9 +14,13 @@ use Rattle.columns.specs.Buildable.{can_build_rows}
 abbrev pub cells_weight : Columns → List (List Cell) → ℕ
 cells_weight columns rows = sum_by (λ row. parts_weight columns (cells_of row)) rows
 
+-- a column by itself
+abbrev pub alone : Column → Columns
+alone c = and_column c no_column
+
 -- the one column, and the one array, of a batch
 abbrev pub own_column : Typed → Columns
-own_column t = and_column t.column no_column
+own_column t = alone t.column
 
 abbrev pub own_array : Typed → Arrays
 own_array t = and_array t.array no_array

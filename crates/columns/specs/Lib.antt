@@ -15,6 +15,7 @@ pub mod Places
 pub mod Ends
 pub mod Within
 pub mod View
+pub mod FlatLayouts
 pub mod Borrowed
 pub mod laws
 pub mod inner

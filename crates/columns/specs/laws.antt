@@ -7,3 +7,6 @@ pub mod Sounds
 pub mod Grown
 pub mod FitTexts
 pub mod Longer
+pub mod Integers
+pub mod Rows
+pub mod Held

@@ -1,6 +1,6 @@
 // Little-endian numbers one after another.
-ghost use Rattle.std.specs.Prelude.{◌≡◌, ◌≤◌, ◌<◌, ◌+◌, ◌-◌, ◌*◌, ◌/◌, ◌^◌, ℕ, IfSome, Some, None, min, true, false, length, drop, nat_lt};
-ghost use Rattle.byteorder.specs.Endian.{little_number};
+ghost use Rattle.std.specs.Prelude.{◌≡◌, ◌≤◌, ◌<◌, ◌+◌, ◌-◌, ◌*◌, ◌/◌, ◌^◌, ◌++◌, ℕ, OnOk, IfSome, Some, None, min, true, false, length, drop, nat_lt};
+ghost use Rattle.byteorder.specs.Endian.{little_bytes, little_number};
 ghost use Rattle.arrow_schema.specs.View.{bits_of, date_kind};
 ghost use Rattle.arrow_schema.specs.declared.types.BitWidth.{BitWidth};
 ghost use Rattle.cells.specs.Fit.{date_bits};
@@ -10,6 +10,7 @@ ghost use Rattle.columns.specs.Offsets.{width_of};
 
 use arrow_schema::{BitWidth, DateUnit, IntegerType};
 use byteorder::{ByteOrder, LittleEndian};
+use std::alloc::AllocError;
 
 /// How wide offsets are: the large types have offsets of 64 bits.
 #[derive(Clone, Copy, Debug)]
@@ -49,6 +50,17 @@ fn first_number(width: OffsetWidth, bytes: &[u8]) -> u64
     match width {
         OffsetWidth::Four => u64::from(LittleEndian::read_u32(bytes)),
         OffsetWidth::Eight => LittleEndian::read_u64(bytes),
+    }
+}
+
+/// Appends an offset.
+pub fn push_offset(offsets: &mut Vec<u8>, width: OffsetWidth, offset: u64) -> Result<(), AllocError>
+    ensures { OnOk result (offsets.new.items ≡ offsets.old.items ++ little_bytes (width_of width) offset) }
+{
+    let bytes = offset.to_le_bytes();
+    match width {
+        OffsetWidth::Four => offsets.extend_from_slice(&bytes[..4]),
+        OffsetWidth::Eight => offsets.extend_from_slice(&bytes),
     }
 }
 

@@ -157,8 +157,8 @@ impl<'a> ArrayView<'a> {
         }
     }
 
-    // The items of lists or fixed lists.
-    pub(crate) fn items(self) -> Option<ArrayView<'a>>
+    /// The items of lists or fixed lists, where there are any.
+    pub fn items(self) -> Option<ArrayView<'a>>
         ensures { option_array result ≡ items_in (view_array self.entry) }
     {
         match &self.array.layout {

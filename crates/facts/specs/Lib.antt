@@ -1,4 +1,5 @@
 pub mod Bytes
 pub mod Checks
 pub mod Outcomes
+pub mod Texts
 pub mod laws

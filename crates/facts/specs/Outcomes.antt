@@ -1,5 +1,10 @@
--- What a call gives that a definition states, where it may also want memory.
+-- What a call gives that a definition states.
 use Rattle.std.specs.Prelude.{◌≡◌, Option, Some, None, Result, Ok, Err}
+
+-- what was read, seen by `view`, is what the definition reads
+abbrev pub Reads : {X Y : Type 0} → (X → Y) → Option X → Option Y → Type 0
+Reads view None read = read ≡ None
+Reads view (Some x) read = read ≡ Some (view x)
 
 -- what an error reports of what is stated: nothing where memory was refused
 abbrev pub Reports : {Y F : Type 0} → Option F → Result Y F → Type 0

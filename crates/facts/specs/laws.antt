@@ -2,3 +2,4 @@ pub mod Bytes
 pub mod Checks
 pub mod Levels
 pub mod Lists
+pub mod Numbers

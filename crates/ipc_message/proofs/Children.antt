@@ -3,6 +3,7 @@ use Rattle.std.proofs.Common.{◌≡◌, ℕ, suc, Bool, true, false, ◌&&◌, 
 use Rattle.std.specs.Prelude.{nat_eq, Option, Some, None, is_some, if◌then◌else◌}
 use Rattle.std.proofs.lemmas.Bool.Decides.{nat_tests}
 use Rattle.std.proofs.lemmas.List.{length-map}
+use Rattle.std.proofs.Math.Bool.{and-true}
 use Rattle.arrow_schema.specs.Column.{Kind, Column, lists, large_lists}
 use Rattle.ipc_message.specs.declared.raw_header.RawField.{RawField, out-RawField}
 use Rattle.ipc_message.specs.declared.raw_header.RawField.TheFolds.{fold_out-RawField}
@@ -23,12 +24,8 @@ pub leaf_type : (kind : Option Kind) (cs : List Column) → is_some (without_chi
 leaf_type kind [] = refl
 leaf_type kind (c ∷ cs) = ap (λ b. b && is_some kind) (not_empty (length cs))
 
-and_true : (a : Bool) → (a && true) ≡ a
-and_true true = refl
-and_true false = refl
-
 pub leaf_supported : (kind : Kind) (cs : List Column) → is_some (without_children (Some kind) cs) ≡ nat_eq (length cs) 0
-leaf_supported kind cs = leaf_type (Some kind) cs ∙ and_true _
+leaf_supported kind cs = leaf_type (Some kind) cs ∙ and-true _
 
 pub item_type : (kind : Column → Option Kind) (b : Bool) → ((c : Column) → is_some (kind c) ≡ b) → (cs : List Column) → is_some (with_item kind cs) ≡ (nat_eq (length cs) 1 && b)
 item_type kind b h [] = refl
@@ -48,10 +45,10 @@ sized_list (date_unit n) c = refl
 sized_list (timestamp_parameters n z) c = refl
 
 pub one_list : (cs : List Column) → is_some (with_item (λ item. Some (lists item)) cs) ≡ nat_eq (length cs) 1
-one_list cs = item_type (λ item. Some (lists item)) true (λ c. refl) cs ∙ and_true _
+one_list cs = item_type (λ item. Some (lists item)) true (λ c. refl) cs ∙ and-true _
 
 pub one_large_list : (cs : List Column) → is_some (with_item (λ item. Some (large_lists item)) cs) ≡ nat_eq (length cs) 1
-one_large_list cs = item_type (λ item. Some (large_lists item)) true (λ c. refl) cs ∙ and_true _
+one_large_list cs = item_type (λ item. Some (large_lists item)) true (λ c. refl) cs ∙ and-true _
 
 pub one_fixed_list : (p : RawParameters) (cs : List Column) → is_some (with_item (fixed_list p) cs) ≡ (nat_eq (length cs) 1 && has_list_size p)
 one_fixed_list p cs = item_type (fixed_list p) (has_list_size p) (sized_list p) cs

@@ -11,10 +11,10 @@ use Rattle.arrow_schema.specs.declared.limits.TheConstants.{MAX_FIELDS, MAX_DEPT
 use Rattle.facts.specs.laws.Checks.{unless_passed}
 use Rattle.arrow_schema.specs.Column.{Pair, Column, PlainSchema, nulls, columns_of, is_bit_width}
 use Rattle.arrow_schema.specs.Preorder as columns
-use Rattle.arrow_schema.specs.Preorder.{every_column, preorder_below, depth_below}
+use Rattle.arrow_schema.specs.Preorder.{every_column}
 use Rattle.arrow_schema.specs.Limits as limits
 use Rattle.arrow_schema.specs.Limits.{IsWithinLimits}
-use Rattle.std.proofs.lemmas.Bool.{and_parts, not-false, or_parts, ltb-false}
+use Rattle.std.proofs.lemmas.Bool.{and_parts, not-false, or_parts, ltb-false, and_from}
 use Rattle.ipc_message.specs.Raw.{RawParameters, RawEncoding, RawField, RawFields, raw_field, no_raw_field, and_raw_field, raw_fields_of, RawSchema}
 use Rattle.ipc_message.specs.Fields.{preorder, preorder_all, every_field, depth, depth_all, pairs_of}
 use Rattle.ipc_message.specs.Types.{type_name, decoded_type}
@@ -24,6 +24,7 @@ use Rattle.ipc_message.specs.Framing.{first_some}
 use Rattle.ipc_message.specs.laws.Accepted.{IsAccepted, accepted}
 use Rattle.ipc_message.specs.inner.Readable.{AreReadable}
 use Rattle.ipc_message.proofs.Shapes.{HasShape, decoded_shape}
+use Rattle.ipc_message.specs.laws.FieldLists.{columns_of_list}
 
 some_of : {A : Type 0} (o : Option A) (d : A) → is_some o ≡ true → o ≡ Some (unwrap_or o d)
 some_of None d h = absurd cc
@@ -67,11 +68,6 @@ mutual
       let split = sym (list_any-append is_bad (preorder f) (preorder_all fs)) ∙ h in
       ap (λ n. max n (columns.depth_all (columns_of (columns_of_fields fs)))) (same_depth f ((or_parts _ _ split).0)) ∙ ap (λ n. max (depth f) n) (all_same_depth fs ((or_parts _ _ split).1))
 
-pub columns_of_list : (fs : List RawField) → columns_of_fields (raw_fields_of fs) ≡ map column_of_field fs
-unfolding columns_of_fields
-columns_of_list [] = refl
-columns_of_list (f ∷ fs) = ap (λ cs. column_of_field f ∷ cs) (columns_of_list fs)
-
 -- ---- what the limits count
 
 count_pairs : (fs : List RawField) → sum_by limits.pairs_in (map column_of_field fs) ≡ sum_by (λ f. length (pairs_of f)) fs
@@ -102,14 +98,11 @@ count_bytes (f ∷ fs) h =
     let whole = ap (sum_by length) (flat_map-cons texts_of_field f fs) in
     omega (arith, whole, here, rest, sum_by-cons limits.bytes_in (column_of_field f) (map column_of_field fs), sum_by-append length (texts_of_field f) (flat_map texts_of_field fs))
 
-both : {a b : Bool} → a ≡ true → b ≡ true → (a && b) ≡ true
-both x y = rw x y
-
 numbers_fit : (fs : List RawField) → list_any is_bad fs ≡ false → list_all limits.has_number_in_range (map column_of_field fs) ≡ true
 unfolding column_of_field
 numbers_fit [] h = refl
 numbers_fit (raw_field name nullable code p d children pairs ∷ fs) h =
-    both (field_shape name nullable code p d children pairs ((or_parts _ _ h).0)).number (numbers_fit fs ((or_parts _ _ h).1))
+    and_from _ _ (field_shape name nullable code p d children pairs ((or_parts _ _ h).0)).number (numbers_fit fs ((or_parts _ _ h).1))
 
 same_some : (d : Option RawEncoding) → is_some (option_map decoded_index d) ≡ is_some d
 same_some None = refl
@@ -132,7 +125,7 @@ unfolding column_of_field
 widths_fit [] h = refl
 widths_fit (raw_field name nullable code p d children pairs ∷ fs) h =
     let good = not-false _ ((or_parts (is_bad (raw_field name nullable code p d children pairs)) _ h).0) in
-    both (both (field_shape name nullable code p d children pairs ((or_parts _ _ h).0)).width (index_width d (and_parts _ _ good).1)) (widths_fit fs ((or_parts _ _ h).1))
+    and_from _ _ (and_from _ _ (field_shape name nullable code p d children pairs ((or_parts _ _ h).0)).width (index_width d (and_parts _ _ good).1)) (widths_fit fs ((or_parts _ _ h).1))
 
 texts_fit : (fs : List RawField) → list_any is_bad fs ≡ false → list_all is_utf8 (flat_map texts_of_field fs) ≡ true → list_all limits.has_utf8_texts (map column_of_field fs) ≡ true
 unfolding column_of_field
@@ -142,7 +135,7 @@ texts_fit (raw_field name nullable code p d children pairs ∷ fs) h u =
     let all = and_parts (list_all is_utf8 (texts_of_field f)) _ (sym (list_all-append is_utf8 (texts_of_field f) (flat_map texts_of_field fs)) ∙ ap (list_all is_utf8) (sym (flat_map-cons texts_of_field f fs)) ∙ u) in
     let own = and_parts (is_utf8 name) _ all.0 in
     let rest = and_parts (is_utf8 (timezone_of p)) _ own.1 in
-    both (both own.0 (both ((field_shape name nullable code p d children pairs ((or_parts _ _ h).0)).utf8 rest.0) rest.1)) (texts_fit fs ((or_parts _ _ h).1) all.1)
+    and_from _ _ (and_from _ _ own.0 (and_from _ _ ((field_shape name nullable code p d children pairs ((or_parts _ _ h).0)).utf8 rest.0) rest.1)) (texts_fit fs ((or_parts _ _ h).1) all.1)
 
 -- an accepted schema is within the limits
 pub accepted_within : (s : RawSchema) → IsAccepted s → IsWithinLimits (plain_schema_of s)

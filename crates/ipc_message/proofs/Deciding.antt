@@ -8,6 +8,7 @@ use Rattle.std.proofs.lemmas.Bool.{false≢true}
 use Rattle.std.proofs.lemmas.Bool.Decides.{Decides-and, Decides-like, Decides-eqb}
 use Rattle.std.proofs.lemmas.Slice.Eq.{bytes_eq-Decides}
 use Rattle.arrow_schema.specs.Column.{Pair}
+use Rattle.arrow_schema.specs.laws.Columns.{pair_from_parts}
 use Rattle.ipc_message.specs.Raw.{RawParameters, no_parameters, integer_parameters, byte_width, list_size, date_unit, timestamp_parameters, RawEncoding, RawField, RawFields, raw_field, no_raw_field, and_raw_field}
 use Rattle.ipc_message.specs.Fields.{code_of, parameters_of, children_of}
 use Rattle.ipc_message.specs.Same.{same_parameters, same_index, same_pairs, same_parts, same_field, same_fields, same_value_type}
@@ -25,9 +26,6 @@ parameters_decide (date_unit m) (date_unit n) = Decides-like _ (λ h. cc) (λ e.
 parameters_decide (date_unit m) _ = (λ h. absurd (false≢true h), λ e. absurd (cc))
 parameters_decide (timestamp_parameters m y) (timestamp_parameters n z) = Decides-like _ (λ h. cc) (λ e. (cc, cc)) (Decides-and _ _ (Decides-eqb m n) (bytes_eq-Decides y z))
 parameters_decide (timestamp_parameters m y) _ = (λ h. absurd (false≢true h), λ e. absurd (cc))
-
-pair_from_parts : (p q : Pair) → p.0 ≡ q.0 → p.1 ≡ q.1 → p ≡ q
-pair_from_parts p q k v = ap (λ (x : List ℕ). let r : Pair = (x, p.1) in r) k ∙ ap (λ (x : List ℕ). let r : Pair = (q.0, x) in r) v
 
 pairs_decide : (ps qs : List Pair) → Decides (same_pairs ps qs) (ps ≡ qs)
 pairs_decide [] [] = (λ h. refl, λ e. refl)

@@ -1,9 +1,10 @@
 -- The first field of each dictionary id: where each field has the type of its first, no two of one id differ.
-use Rattle.std.proofs.Common.{◌≡◌, ◌<◌, ⊎_elim, ℕ, suc, zero, ◌+◌, ◌==◌, ◌||◌, ◌&&◌, not, Bool, true, false, List, [], ◌∷◌, length, slice_get, refl, ap, sym, ◌∙◌, arith}
+use Rattle.std.proofs.Common.{◌≡◌, ◌<◌, ⊎_elim, ℕ, suc, ◌+◌, ◌==◌, ◌||◌, ◌&&◌, not, Bool, true, false, List, [], ◌∷◌, length, slice_get, refl, ap, sym, ◌∙◌, arith}
 use Rattle.std.specs.Prelude.{Option, Some, None, option_map, get_or}
 use Rattle.std.specs.List.{list_any}
 use Rattle.std.proofs.lemmas.Option.{slice_get_within, slice_get-map, slice_get-get_or}
 use Rattle.std.proofs.lemmas.Bool.{false≢true, eqb-true, eq-eqb, cases_lt}
+use Rattle.std.proofs.lemmas.Map.Keys.{any_passes_from_place}
 use Rattle.ipc_message.specs.declared.fields.FieldRef.{FieldRef}
 use Rattle.ipc_message.specs.Raw.{RawEncoding, RawField}
 use Rattle.ipc_message.specs.View.{raw_field_of}
@@ -29,15 +30,6 @@ HaveFirsts fields first count = (j : ℕ) (f : RawField) (e : RawEncoding) → j
 none_any : {X : Type 0} (p : X → Bool) (xs : List X) → ((i : ℕ) (x : X) → slice_get xs i ≡ Some x → p x ≡ false) → list_any p xs ≡ false
 none_any p [] h = refl
 none_any p (x ∷ xs) h = ap (λ (b : Bool). b || list_any p xs) (h 0 x refl) ∙ none_any p xs (λ i. h (suc i))
-
-or_true : (b : Bool) → (b || true) ≡ true
-or_true true = refl
-or_true false = refl
-
-some_any : {X : Type 0} (p : X → Bool) (xs : List X) (i : ℕ) (x : X) → slice_get xs i ≡ Some x → p x ≡ true → list_any p xs ≡ true
-some_any p [] i x at h = absurd (cc)
-some_any p (y ∷ xs) zero x at h = let is : y ≡ x = cc in ap (λ z. p z || list_any p xs) is ∙ ap (λ (b : Bool). b || list_any p xs) h
-some_any p (y ∷ xs) (suc i) x at h = ap (λ (b : Bool). p y || b) (some_any p xs i x at h) ∙ or_true (p y)
 
 -- two fields that have the type of the first of their ids are not at odds
 agree_by_ids : (fields : List RawField) (first : ℕ → Option ℕ) (f g : RawField) (d e : RawEncoding) → HasFirst fields first f d.id → HasFirst fields first g e.id
@@ -77,8 +69,8 @@ pub two_types : (fields : List RawField) (i k : ℕ) (f g : RawField) (e : RawEn
     → same_value_type g f ≡ false → has_two_types fields ≡ true
 unfolding has_other_type
 two_types fields i k f g e at is there id differs =
-    some_any (has_other_type fields) fields k g there
-    (some_any (are_at_odds g) fields i f at (ap (λ (o : Option RawEncoding). one_id (dictionary_of g) o && not (same_value_type g f)) is ∙ ap (λ (b : Bool). b && not (same_value_type g f)) (with_id (dictionary_of g) e id) ∙ ap not differs))
+    any_passes_from_place (has_other_type fields) fields k g there
+    (any_passes_from_place (are_at_odds g) fields i f at (ap (λ (o : Option RawEncoding). one_id (dictionary_of g) o && not (same_value_type g f)) is ∙ ap (λ (b : Bool). b && not (same_value_type g f)) (with_id (dictionary_of g) e id) ∙ ap not differs))
 
 pub ids_stay : (fields : List RawField) (old new : ℕ → Option ℕ) (i found : ℕ) (f : RawField) (e : RawEncoding) → slice_get fields i ≡ Some f → dictionary_of f ≡ Some e
     → Adds old new e.id i found → HaveIds fields old → HaveIds fields new

@@ -222,7 +222,7 @@ fn copy_fields(alloc: Global, raw: &[RawField]) -> Result<Vec<Field>, AllocError
     Ok(fields)
 }
 
-#[tactic(auto, using(crate::proofs::Columns::accepted_readable, crate::proofs::Columns::accepted_pairs, crate::proofs::Columns::columns_of_list))]
+#[tactic(auto, using(crate::proofs::Columns::accepted_readable, crate::proofs::Columns::accepted_pairs, crate::specs::laws::FieldLists::columns_of_list))]
 fn copy_schema(alloc: Global, raw: &RawSchema) -> Result<Schema, AllocError>
     requires { IsAccepted (raw_schema_of raw.now) }
     ensures { IfOk result (λ schema. schema_of schema ≡ plain_schema_of (raw_schema_of raw.now)) }

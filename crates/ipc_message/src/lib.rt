@@ -51,3 +51,4 @@ pub use next_message::{CONTINUATION_MARKER, read_message};
 pub use raw_header::{
     Encoding, Header, KeyValue, Parameters, RawBatch, RawDictionaryBatch, RawField, RawSchema,
 };
+pub use texts::is_utf8;

@@ -10,7 +10,8 @@ ghost use Rattle.ipc_message.specs.Framing.{first_some, unless};
 ghost use Rattle.ipc_message.specs.Checks.{is_unsupported, name_of_type, is_bad, texts_of, count_of_pairs, exceeds_limit, has_two_types, is_nested, is_dictionary_of_nested, schema_checks};
 ghost use Rattle.ipc_message.specs.View.{raw_field_of, raw_schema_of};
 ghost use Rattle.ipc_message.specs.inner.Firsts.{Adds};
-ghost use Rattle.ipc_message.specs.inner.Listed.{listed, text_list};
+ghost use Rattle.facts.specs.Texts.{text_list};
+ghost use Rattle.ipc_message.specs.inner.Listed.{listed};
 ghost use Rattle.ipc_message.specs.Outcome.{Gives};
 
 use crate::error::ImportError;

@@ -6,7 +6,8 @@ ghost use Rattle.ipc_message.specs.Raw.{raw_fields_of};
 ghost use Rattle.ipc_message.specs.Fields.{preorder_all};
 ghost use Rattle.ipc_message.specs.Checks.{texts_of_pairs, texts_of_field, texts_of, timezone_of};
 ghost use Rattle.ipc_message.specs.View.{raw_field_of, raw_schema_of, key_value, parameters_of};
-ghost use Rattle.ipc_message.specs.inner.Listed.{listed, text_list};
+ghost use Rattle.facts.specs.Texts.{text_list};
+ghost use Rattle.ipc_message.specs.inner.Listed.{listed};
 
 use crate::fields::FieldRef;
 use crate::raw_header::{KeyValue, Parameters, RawField};
@@ -70,7 +71,8 @@ pub(crate) fn are_longer(texts: &[&[u8]], limit: u64) -> bool
     false
 }
 
-fn is_utf8(text: &[u8]) -> bool
+/// Whether bytes are UTF-8.
+pub fn is_utf8(text: &[u8]) -> bool
     ensures { result ≡ is_utf8 text.now }
 {
     simdutf8::basic::from_utf8(text).is_ok()

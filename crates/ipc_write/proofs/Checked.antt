@@ -4,8 +4,7 @@ use Rattle.std.specs.Bool.{beq}
 use Rattle.std.specs.List.{list_any, list_all}
 use Rattle.std.specs.Str.{is_utf8}
 use Rattle.std.proofs.Common.{◌≡◌, ℕ, ◌+◌, ◌<◌, ◌≤◌, Bool, true, false, List, [], ◌∷◌, ◌++◌, length, Option, Some, None, Ok, refl, arith, sym, ap, ◌∙◌}
-use Rattle.std.proofs.lemmas.Bool.{and_from, and_parts, le-ltb, or_from, or_parts, not-true}
-use Rattle.std.proofs.lemmas.Bool.Decides.{Decides-eqb}
+use Rattle.std.proofs.lemmas.Bool.{and_from, and_parts, le-ltb, or_from, or_parts, not-true, and_left, ne_eqb, eq-eqb, and_right, not_from_true}
 use Rattle.std.proofs.lemmas.Slice.Eq.{bytes_eq-Decides}
 use Rattle.std.proofs.lemmas.List.Concat.{flat_map-cons}
 use Rattle.std.proofs.lemmas.List.Folds.{list_all-append}
@@ -23,10 +22,11 @@ use Rattle.ipc_message.specs.Types.{type_name, decoded_type}
 use Rattle.ipc_message.specs.Convert.{columns_of_fields}
 use Rattle.ipc_message.specs.Same.{one_id, same_parameters, same_index, same_pairs, same_parts, same_field, same_fields}
 use Rattle.ipc_message.specs.Checks.{is_unsupported, is_bad, is_index_type, timezone_of as raw_timezone, texts_of_field, texts_of, exceeds_limit, are_at_odds, has_other_type, has_two_types, is_nested as is_nested_name, is_dictionary_of_nested, schema_checks, checked_schema}
+use Rattle.ipc_message.specs.laws.FieldLists.{fields_listed}
 use Rattle.ipc_write.specs.Trees.{code_of, ids_for}
 use Rattle.ipc_write.specs.Decoded.{parameters_of, encoding_of, raw_of, raw_below, raw_of_all, raw_schema}
 use Rattle.ipc_write.proofs.Room.{has_numbers, schema_numbers}
-use Rattle.ipc_write.proofs.Numbered.{own_ids, numbered, fields_numbered, fields_depth, fields_listed}
+use Rattle.ipc_write.proofs.Numbered.{own_ids, numbered, fields_numbered, fields_depth}
 use Rattle.ipc_write.proofs.Decoding.{is_size-number, schema_decoded}
 
 -- what holds of no column
@@ -172,16 +172,6 @@ texts_utf8 (c ∷ cs) h =
 
 -- ---- each dictionary has an id of its own
 
-and_none : (a b : Bool) → a ≡ false → (a && b) ≡ false
-and_none a b h = rw h refl
-
-not_one : (a b : Bool) → b ≡ true → (a && not b) ≡ false
-not_one false b h = refl
-not_one true b h = rw h refl
-
-equal_number : (n : ℕ) → (n == n) ≡ true
-equal_number n = (Decides-eqb n n).1 refl
-
 equal_bytes : (t : List ℕ) → bytes_eq t t ≡ true
 equal_bytes t = (bytes_eq-Decides t t).1 refl
 
@@ -191,15 +181,15 @@ equal_bool false = refl
 
 equal_parameters : (p : RawParameters) → same_parameters p p ≡ true
 equal_parameters no_parameters = refl
-equal_parameters (integer_parameters width signed) = and_from _ _ (equal_number width) (equal_bool signed)
-equal_parameters (byte_width width) = equal_number width
-equal_parameters (list_size size) = equal_number size
-equal_parameters (date_unit unit) = equal_number unit
-equal_parameters (timestamp_parameters unit timezone) = and_from _ _ (equal_number unit) (equal_bytes timezone)
+equal_parameters (integer_parameters width signed) = and_from _ _ (eq-eqb width width refl) (equal_bool signed)
+equal_parameters (byte_width width) = eq-eqb width width refl
+equal_parameters (list_size size) = eq-eqb size size refl
+equal_parameters (date_unit unit) = eq-eqb unit unit refl
+equal_parameters (timestamp_parameters unit timezone) = and_from _ _ (eq-eqb unit unit refl) (equal_bytes timezone)
 
 equal_index : (d : Option RawEncoding) → same_index d d ≡ true
 equal_index None = refl
-equal_index (Some e) = and_from _ _ (equal_number e.width) (equal_bool e.signed)
+equal_index (Some e) = and_from _ _ (eq-eqb e.width e.width refl) (equal_bool e.signed)
 
 equal_pairs : (ps : List Pair) → same_pairs ps ps ≡ true
 equal_pairs [] = refl
@@ -211,7 +201,7 @@ mutual
   equal_field : (f : RawField) → same_field f f ≡ true
   equal_field (raw_field name nullable code table dictionary children pairs) =
       and_from _ _
-      (and_from _ _ (and_from _ _ (and_from _ _ (and_from _ _ (and_from _ _ (equal_bytes name) (equal_bool nullable)) (equal_number code)) (equal_parameters table)) (equal_index dictionary)) (equal_pairs pairs))
+      (and_from _ _ (and_from _ _ (and_from _ _ (and_from _ _ (and_from _ _ (equal_bytes name) (equal_bool nullable)) (eq-eqb code code refl)) (equal_parameters table)) (equal_index dictionary)) (equal_pairs pairs))
       (equal_fields children)
 
   equal_fields : (fs : RawFields) → same_fields fs fs ≡ true
@@ -220,7 +210,7 @@ mutual
 
 not_at_odds_with_itself : (f : RawField) → are_at_odds f f ≡ false
 not_at_odds_with_itself (raw_field name nullable code table dictionary children pairs) =
-    not_one _ _ (and_from _ _ (and_from _ _ (equal_number code) (equal_parameters table)) (equal_fields children))
+    and_right _ _ (not_from_true _ (and_from _ _ (and_from _ _ (eq-eqb code code refl) (equal_parameters table)) (equal_fields children)))
 
 -- ids below a number
 abbrev IsBelow : ℕ → Option RawEncoding → Type 0
@@ -231,30 +221,23 @@ below_more : (d : Option RawEncoding) (m n : ℕ) → m ≤ n → IsBelow m d �
 below_more None m n le h = tt
 below_more (Some e) m n le h = omega (arith, le, h)
 
-unequal : (a b : ℕ) → (a ≡ b → ⊥) → (a == b) ≡ false
-unequal a b apart = decided (a == b) refl
-  where
-    decided : (r : Bool) → r ≡ (a == b) → r ≡ false
-    decided false e = refl
-    decided true e = absurd (apart ((Decides-eqb a b).0 (sym e)))
-
 apart : (d : Option RawEncoding) (n : ℕ) (dictionary : Option Index) → IsBelow n d → one_id d (encoding_of n dictionary) ≡ false
 apart None n dictionary h = refl
 apart (Some e) n None h = refl
-apart (Some e) n (Some index) h = unequal e.id n (λ same. omega (arith, h, same))
+apart (Some e) n (Some index) h = ne_eqb e.id n (λ same. omega (arith, h, same))
 
 apart_too : (d : Option RawEncoding) (n : ℕ) (dictionary : Option Index) → IsBelow n d → one_id (encoding_of n dictionary) d ≡ false
 apart_too d n None h = refl
 apart_too None n (Some index) h = refl
-apart_too (Some e) n (Some index) h = unequal n e.id (λ same. omega (arith, h, same))
+apart_too (Some e) n (Some index) h = ne_eqb n e.id (λ same. omega (arith, h, same))
 
 before_one : (f : RawField) (n : ℕ) (c : Column) → IsBelow n (dictionary_of f) → are_at_odds f (raw_of n c) ≡ false
 unfolding raw_of
-before_one f n (column name nullable kind dictionary pairs) h = and_none _ _ (apart (dictionary_of f) n dictionary h)
+before_one f n (column name nullable kind dictionary pairs) h = and_left _ _ (apart (dictionary_of f) n dictionary h)
 
 after_one : (f : RawField) (n : ℕ) (c : Column) → IsBelow n (dictionary_of f) → are_at_odds (raw_of n c) f ≡ false
 unfolding raw_of
-after_one f n (column name nullable kind dictionary pairs) h = and_none _ _ (apart_too (dictionary_of f) n dictionary h)
+after_one f n (column name nullable kind dictionary pairs) h = and_left _ _ (apart_too (dictionary_of f) n dictionary h)
 
 before_all : (f : RawField) (n : ℕ) (cs : List Column) → IsBelow n (dictionary_of f) → list_any (are_at_odds f) (numbered n cs) ≡ false
 before_all f n [] h = refl

@@ -1,13 +1,14 @@
 -- A schema that was written decodes to that schema.
 use Rattle.std.specs.Prelude.{nat_lt, option_map, unwrap_or, map}
 use Rattle.std.specs.List.{list_all}
-use Rattle.std.proofs.Common.{◌≡◌, ℕ, ◌+◌, true, List, [], ◌∷◌, Option, Some, None, refl, sym, ap, ◌∙◌}
+use Rattle.std.proofs.Common.{◌≡◌, ℕ, ◌+◌, true, List, ◌∷◌, Option, Some, None, refl, sym, ap, ◌∙◌}
 use Rattle.std.proofs.lemmas.Bool.{and_parts}
 use Rattle.std.proofs.lemmas.List.Folds.{list_all-append}
 use Rattle.arrow_schema.specs.declared.limits.TheConstants.{NUMBER_END}
 use Rattle.arrow_schema.specs.Column.{Index, days, date_milliseconds, seconds, milliseconds, microseconds, nanoseconds, Kind, Column, Columns, nulls, booleans, integers, dates, timestamps, texts, large_texts, binaries, large_binaries, fixed_binaries, lists, large_lists, fixed_lists, structs, column, no_column, and_column, columns_of, list_of, PlainSchema}
 use Rattle.arrow_schema.specs.Limits.{IsWithinLimits, number_of, has_number_in_range, has_bit_widths, is_kind_of_width, is_index_of_width}
 use Rattle.arrow_schema.specs.Preorder.{preorder, preorder_below, preorder_all}
+use Rattle.arrow_schema.specs.laws.Columns.{columns_list, columns_listed}
 use Rattle.ipc_message.specs.Raw.{RawFields, no_raw_field, and_raw_field, raw_list_of}
 use Rattle.ipc_message.specs.Types.{type_name, is_size, decoded_type}
 use Rattle.ipc_message.specs.Convert.{decoded_index, column_of_field, columns_of_fields, plain_schema_of}
@@ -17,14 +18,6 @@ use Rattle.ipc_write.proofs.Room.{has_numbers, schema_numbers}
 
 pub is_size-number : (n : ℕ) → nat_lt n NUMBER_END ≡ true → is_size n ≡ true
 is_size-number n h = h
-
-columns_listed : (cs : Columns) → columns_of (list_of cs) ≡ cs
-columns_listed no_column = refl
-columns_listed (and_column c cs) = ap (and_column c) (columns_listed cs)
-
-list_again : (cs : List Column) → list_of (columns_of cs) ≡ cs
-list_again [] = refl
-list_again (c ∷ cs) = ap (λ (ds : List Column). c ∷ ds) (list_again cs)
 
 index_again : (id : ℕ) (dictionary : Option Index) → option_map decoded_index (encoding_of id dictionary) ≡ dictionary
 index_again id None = refl
@@ -62,7 +55,7 @@ mutual
   kind_again id (lists item) n w below = ap lists (column_again id item below)
   kind_again id (large_lists item) n w below = ap large_lists (column_again id item below)
   kind_again id (fixed_lists size item) n w below = rw (is_size-number size n) (ap (fixed_lists size) (column_again id item below))
-  kind_again id (structs parts) n w below = ap structs (ap columns_of (columns_again id parts below) ∙ columns_listed parts)
+  kind_again id (structs parts) n w below = ap structs (ap columns_of (columns_again id parts below) ∙ columns_list parts)
 
   columns_again : (id : ℕ) (cs : Columns) → list_all has_numbers (preorder_all cs) ≡ true → columns_of_fields (raw_of_all id cs) ≡ list_of cs
   columns_again id no_column h = refl
@@ -79,5 +72,5 @@ map_listed (and_raw_field f fs) = ap (λ (cs : List Column). column_of_field f �
 
 pub schema_decoded : (s : PlainSchema) → IsWithinLimits s → plain_schema_of (raw_schema s) ≡ s
 schema_decoded s limits =
-    let columns = map_listed (raw_of_all 0 (columns_of s.columns)) ∙ columns_again 0 (columns_of s.columns) (schema_numbers s limits) ∙ list_again s.columns in
+    let columns = map_listed (raw_of_all 0 (columns_of s.columns)) ∙ columns_again 0 (columns_of s.columns) (schema_numbers s limits) ∙ columns_listed s.columns in
     λ i. record { columns = columns i; pairs = s.pairs }

@@ -5,7 +5,7 @@ use Rattle.std.proofs.lemmas.List.{append-nil}
 use Rattle.std.proofs.lemmas.List.Sums.{sum_by-cons, sum_by-append}
 use Rattle.arrow_schema.specs.Column.{Kind, Column, Columns, nulls, booleans, integers, dates, timestamps, texts, large_texts, binaries, large_binaries, fixed_binaries, lists, large_lists, fixed_lists, structs, column, no_column, and_column}
 use Rattle.arrow_schema.specs.Preorder.{depth, depth_below, depth_all, preorder, preorder_below, preorder_all}
-use Rattle.ipc_message.specs.Raw.{RawField, RawFields, no_raw_field, and_raw_field, raw_fields_of, raw_list_of}
+use Rattle.ipc_message.specs.Raw.{RawField}
 use Rattle.ipc_message.specs.Fields.{preorder as raw_preorder, preorder_all as raw_preorder_all, depth as raw_depth, depth_all as raw_depth_all}
 use Rattle.ipc_write.specs.Trees.{ids_for, ids_of, ids_below, ids_of_all}
 use Rattle.ipc_write.specs.Decoded.{raw_of, raw_below, raw_of_all}
@@ -106,8 +106,3 @@ mutual
   pub fields_depth : (id : ℕ) (cs : Columns) → raw_depth_all (raw_of_all id cs) ≤ depth_all cs
   fields_depth id no_column = omega arith
   fields_depth id (and_column c cs) = omega (arith, field_depth id c, fields_depth (id + ids_of c) cs)
-
--- the fields of a schema as a list
-pub fields_listed : (fs : RawFields) → raw_fields_of (raw_list_of fs) ≡ fs
-fields_listed no_raw_field = refl
-fields_listed (and_raw_field f fs) = ap (and_raw_field f) (fields_listed fs)

@@ -4,7 +4,7 @@ use Rattle.std.proofs.Common.{◌≡◌, ℕ, ◌+◌, ◌<◌, ◌≤◌, Bool,
 use Rattle.facts.specs.laws.Lists.{drop-item}
 use Rattle.std.proofs.lemmas.Option.{get_or_from_slice_get}
 use Rattle.std.proofs.lemmas.List.{drop-drop}
-use Rattle.std.proofs.lemmas.Bool.{le-leb}
+use Rattle.std.proofs.lemmas.Bool.{le-leb, lt-leb}
 use Rattle.std.proofs.lemmas.List.Sums.{sum_by-append, sum_by-cons}
 use Rattle.arrow_schema.specs.Column.{PlainSchema}
 use Rattle.cells.specs.Cell.{Cell}
@@ -27,9 +27,6 @@ no_more within taken left rest row is fits = rw (is, fits) refl
 pub all_taken : {A : Type 0} (within : List A → Bool) (taken left : List A) → left ≡ [] → pieces_from within taken left ≡ taken ∷ pieces within left
 all_taken within taken left none = rw none refl
 
-le_false : (a b : ℕ) → b < a → nat_le a b ≡ false
-le_false a b h = grind arith
-
 pub sum_more : (s : PlainSchema) (taken : List (List Cell)) (row : List Cell) → sum_by (row_weight s) (taken ++ row ∷ []) ≡ sum_by (row_weight s) taken + row_weight s row
 sum_more s taken row = sum_by-append (row_weight s) taken (row ∷ []) ∙ rw (sum_by-cons (row_weight s) row []) (omega arith)
 
@@ -39,7 +36,7 @@ is_within s taken row few light fits =
     rw (length-append taken (row ∷ []), sum_more s taken row, le-leb (length taken + 1) 4096 few, le-leb (sum_by (row_weight s) taken + row_weight s row) 16777216 light, fits) refl
 
 pub has_too_many : (s : PlainSchema) (taken : List (List Cell)) (row : List Cell) → 4096 < length taken + 1 → within_piece s (taken ++ row ∷ []) ≡ false
-has_too_many s taken row many = rw (length-append taken (row ∷ []), le_false (length taken + 1) 4096 many) refl
+has_too_many s taken row many = rw (length-append taken (row ∷ []), lt-leb (length taken + 1) 4096 many) refl
 
 and_false : (b c : Bool) → (b && false) && c ≡ false
 and_false true c = refl
@@ -47,7 +44,7 @@ and_false false c = refl
 
 pub is_too_heavy : (s : PlainSchema) (taken : List (List Cell)) (row : List Cell) → 16777216 < sum_by (row_weight s) taken + row_weight s row → within_piece s (taken ++ row ∷ []) ≡ false
 is_too_heavy s taken row heavy =
-    rw (sum_more s taken row, le_false (sum_by (row_weight s) taken + row_weight s row) 16777216 heavy) (and_false (nat_le (length (taken ++ row ∷ [])) 4096) (dictionaries_fit s (taken ++ row ∷ [])))
+    rw (sum_more s taken row, lt-leb (sum_by (row_weight s) taken + row_weight s row) 16777216 heavy) (and_false (nat_le (length (taken ++ row ∷ [])) 4096) (dictionaries_fit s (taken ++ row ∷ [])))
 
 pub one_weight : (s : PlainSchema) (row : List Cell) → sum_by (row_weight s) (row ∷ []) ≡ row_weight s row
 one_weight s row = sum_by-cons (row_weight s) row [] ∙ omega arith

@@ -6,8 +6,9 @@ use Rattle.std.proofs.lemmas.Bool.{and_parts, and_from, le-leb, leb-true}
 use Rattle.std.proofs.lemmas.List.{map-append}
 use Rattle.arrow_schema.specs.Column.{Index, Kind, Column, Columns, columns_of, lists, large_lists, fixed_lists, structs, column, no_column, and_column, PlainSchema}
 use Rattle.cells.specs.Cell.{Cell}
-use Rattle.cells.specs.Dictionary.{Holding, own_holding, has_few_entries, holdings, holdings_below, holdings_from, holdings_of, is_entry, with_new, entry_in, with_option, with_entry, with_entries, entries_of, entry_limit, is_within, item_list, part_list, cells_at, dictionaries_fit}
-use Rattle.table_cut.proofs.SeenLemmas.{AreJoined, all_joined, entries_append}
+use Rattle.cells.specs.Dictionary.{Holding, own_holding, has_few_entries, holdings, holdings_below, holdings_from, holdings_of, is_entry, with_new, with_option, with_entries, entries_of, entry_limit, is_within, item_list, part_list, cells_at, dictionaries_fit}
+use Rattle.cells.specs.laws.Entries.{entries_grow, entries_append}
+use Rattle.table_cut.proofs.SeenLemmas.{AreJoined, all_joined}
 
 -- ---- entries are never fewer
 
@@ -19,14 +20,6 @@ one_option : (entries : List Cell) (o : Option Cell) → length entries ≤ leng
 one_option entries None = omega arith
 one_option entries (Some c) = one_new entries c (list_any (is_entry c) entries) refl
 
-never_fewer : (entries cells : List Cell) → length entries ≤ length (with_entries entries cells)
-unfolding with_entries
-never_fewer entries [] = omega arith
-never_fewer entries (c ∷ cells) =
-    let first = one_option entries (entry_in c) in
-    let rest = never_fewer (with_entry entries c) cells in
-    omega (arith, first, rest)
-
 within_less : (limit : Option ℕ) (m n : ℕ) → m ≤ n → is_within limit n ≡ true → is_within limit m ≡ true
 within_less None m n less h = refl
 within_less (Some most) m n less h = let few = leb-true n most h in le-leb m most (omega (arith, few, less))
@@ -35,7 +28,7 @@ front_fits : (index : Index) (front others all : List Cell) → all ≡ front ++
     → is_within (entry_limit index) (length (entries_of front)) ≡ true
 front_fits index front others all is h =
     let more : entries_of all ≡ with_entries (entries_of front) others = ap entries_of is ∙ entries_append [] front others in
-    let grown = never_fewer (entries_of front) others in
+    let grown = entries_grow (entries_of front) others in
     within_less (entry_limit index) (length (entries_of front)) (length (entries_of all)) (omega (arith, ap length more, grown)) h
 
 -- ---- the dictionaries of a schema have the same indices in any rows

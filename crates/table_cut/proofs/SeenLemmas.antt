@@ -7,7 +7,8 @@ use Rattle.std.proofs.lemmas.List.{append-nil, map-append, drop-set-lt, length-m
 use Rattle.std.proofs.lemmas.List.Concat.{flat_map-append}
 use Rattle.arrow_schema.specs.Column.{Index, Kind, Column, Columns, columns_of, lists, large_lists, fixed_lists, structs, column, no_column, and_column, PlainSchema}
 use Rattle.cells.specs.Cell.{Cell}
-use Rattle.cells.specs.Dictionary.{Holding, own_holding, has_few_entries, holdings, holdings_below, holdings_from, holdings_of, entries_of, with_entry, with_entries, item_list, part_list, cells_at, dictionaries_fit}
+use Rattle.cells.specs.Dictionary.{Holding, own_holding, has_few_entries, holdings, holdings_below, holdings_from, holdings_of, entries_of, with_entries, item_list, part_list, cells_at, dictionaries_fit}
+use Rattle.cells.specs.laws.Entries.{entries_append}
 use Rattle.table_cut.specs.inner.Seen.{LimitedCells, held_of, entries_held, with_all, are_within}
 
 pub append_none : {A : Type 0} (xs : List A) → xs ++ [] ≡ xs
@@ -15,11 +16,6 @@ append_none xs = append-nil xs
 
 pub held_append : (hs ks : List Holding) → map held_of (hs ++ ks) ≡ map held_of hs ++ map held_of ks
 held_append hs ks = map-append held_of hs ks
-
-pub entries_append : (es a b : List Cell) → with_entries es (a ++ b) ≡ with_entries (with_entries es a) b
-unfolding with_entries
-entries_append es [] b = refl
-entries_append es (c ∷ a) b = entries_append (with_entry es c) a b
 
 -- the dictionary columns of some rows, of rows behind them, and of all of these
 abbrev pub AreJoined : List Holding → List Holding → List Holding → Type 0

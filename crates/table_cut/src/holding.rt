@@ -10,42 +10,13 @@ ghost use Rattle.values.specs.Borrowed.{borrowed_cell, borrowed_cells};
 use arrow_schema::{DataType, DictSpec, Field};
 use cells::entry_limit;
 use std::alloc::{AllocError, Global};
-use values::{ValueRef, Values};
+use values::{ValueRef, Values, items};
 
 /// A dictionary column in a row: how many entries its indices can name, and its cells.
 #[derive(Debug, Drop)]
 pub(crate) struct Held<'a> {
     pub(crate) limit: Option<usize>,
     pub(crate) cells: Vec<ValueRef<'a>>,
-}
-
-fn add_all<'a>(cells: &mut Vec<ValueRef<'a>>, values: Values<'a>) -> Result<(), AllocError>
-    ensures { OnOk result (map borrowed_cell cells.new.items ≡ map borrowed_cell cells.old.items ++ borrowed_cells values.entry) }
-{
-    for value in values.iter() {
-        cells.push(value)?;
-    }
-    Ok(())
-}
-
-#[tactic(auto, using(cells::specs::laws::Cells::cells_listed, crate::proofs::SeenLemmas::append_none))]
-fn add_items<'a>(items: &mut Vec<ValueRef<'a>>, value: ValueRef<'a>) -> Result<(), AllocError>
-    ensures { OnOk result (map borrowed_cell items.new.items ≡ map borrowed_cell items.old.items ++ item_list (borrowed_cell value.entry)) }
-{
-    match value {
-        ValueRef::List(values) => add_all(items, values),
-        _ => Ok(()),
-    }
-}
-
-fn items_of<'a>(alloc: Global, cells: &[ValueRef<'a>]) -> Result<Vec<ValueRef<'a>>, AllocError>
-    ensures { IfOk result (λ v. map borrowed_cell v.items ≡ flat_map item_list (map borrowed_cell cells.now)) }
-{
-    let mut items = Vec::new(alloc);
-    for cell in cells {
-        add_items(&mut items, *cell)?;
-    }
-    Ok(items)
 }
 
 fn add_at<'a>(cells: &mut Vec<ValueRef<'a>>, values: Values<'a>, i: usize) -> Result<(), AllocError>
@@ -155,7 +126,7 @@ fn hold_items<'a>(
     ensures { OnOk result (map held_in held.new.items ≡ map held_in held.old.items
         ++ map held_of (holdings (column_of item.now) (flat_map item_list (map borrowed_cell cells.now)))) }
 {
-    let items = items_of(alloc, cells)?;
+    let items = items(alloc, cells)?;
     hold_field(alloc, held, item, &items)
 }
 

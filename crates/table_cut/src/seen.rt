@@ -3,40 +3,16 @@ ghost use Rattle.std.specs.Prelude.{◌≡◌, [], ◌∷◌, ◌++◌, List, ma
 ghost use Rattle.arrow_schema.specs.Column.{columns_of};
 ghost use Rattle.arrow_schema.specs.View.{schema_of};
 ghost use Rattle.cells.specs.Cell.{Cell};
-ghost use Rattle.cells.specs.Dictionary.{with_entry, with_entries, entry_in, is_within, is_any_limited, dictionaries_fit};
-ghost use Rattle.cells.specs.Entry.{entry_cell, entry_cell_of};
+ghost use Rattle.cells.specs.Dictionary.{with_entries, is_within, is_any_limited, dictionaries_fit};
 ghost use Rattle.table_cut.specs.inner.Seen.{held_in, entries_in, entries_held, with_all, are_within, AreSeen};
 ghost use Rattle.values.specs.Borrowed.{borrowed_cell, borrowed_cells};
 
 use crate::holding::{Held, held_in_row};
 use arrow_schema::Schema;
-use cells::Entry;
+use cells::{Entry, note};
 use indexmap::IndexSet;
 use std::alloc::{AllocError, Global};
 use values::{ValueRef, Values};
-
-fn entry_of(value: ValueRef<'_>) -> Option<Entry<'_>>
-    ensures { entry_cell_of result ≡ entry_in (borrowed_cell value.entry) }
-{
-    match value {
-        ValueRef::Bool(boolean) => Some(Entry::Bool(boolean)),
-        ValueRef::Int(number) => Some(Entry::Int(number)),
-        ValueRef::Text(text) => Some(Entry::Text(text)),
-        ValueRef::Bytes(bytes) => Some(Entry::Bytes(bytes)),
-        ValueRef::Null => None,
-        ValueRef::List(_) => None,
-        ValueRef::Struct(_) => None,
-    }
-}
-
-fn note<'a>(entries: &mut IndexSet<Entry<'a>>, value: ValueRef<'a>) -> Result<(), AllocError>
-    ensures { OnOk result (entries_in entries.new ≡ with_entry (entries_in entries.old) (borrowed_cell value.entry)) }
-{
-    if let Some(entry) = entry_of(value) {
-        entries.insert(entry)?;
-    }
-    Ok(())
-}
 
 #[tactic(auto, unfolding(cells::specs::Dictionary::with_entries))]
 fn note_all<'a>(
@@ -46,7 +22,7 @@ fn note_all<'a>(
     ensures { OnOk result (entries_in entries.new ≡ with_entries (entries_in entries.old) (map borrowed_cell values.now)) }
 {
     for value in values {
-        note(entries, *value)?;
+        note(entries, value.as_entry())?;
     }
     Ok(())
 }

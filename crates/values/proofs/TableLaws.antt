@@ -11,9 +11,7 @@ use Rattle.cells.specs.Row.{is_row}
 use Rattle.cells.specs.Weight.{row_weight, table_weight, capped_weight}
 use Rattle.values.specs.Table.{IsTable, first_unfit, weighed, table_from, too_heavy}
 use Rattle.values.proofs.AcceptLemmas.{all_rows, none_unfit, is_light}
-
-abbrev table : PlainSchema → List (List Cell) → PlainTable
-table s rows = record { schema = s; rows = rows }
+use Rattle.values.specs.PlainTables.{plain_table}
 
 pub accepted : (t : PlainTable) → IsTable t → table_from t.schema t.rows ≡ Ok t
 accepted t is =
@@ -21,10 +19,10 @@ accepted t is =
     is_light t.schema (capped_weight (table_weight t.schema t.rows)) t.rows none refl (omega (arith, is.weight))
 
 made : (s : PlainSchema) (rows : List (List Cell)) (t : PlainTable) (b : Bool) → IsWithinLimits s → first_unfit s rows ≡ None → nat_le (table_weight s rows) 268435456 ≡ b
-    → (if b then Ok (table s rows) else Err too_heavy) ≡ Ok t → (t ≡ table s rows) × IsTable t
+    → (if b then Ok (plain_table s rows) else Err too_heavy) ≡ Ok t → (t ≡ plain_table s rows) × IsTable t
 made s rows t true limits none light h =
-    let same : table s rows ≡ t = cc in
-    let is : IsTable (table s rows) = record {
+    let same : plain_table s rows ≡ t = cc in
+    let is : IsTable (plain_table s rows) = record {
       schema = limits;
       rows = AllPass-from_list_all (is_row s) rows (all_rows s rows none);
       weight = leb-true _ _ light;
@@ -32,15 +30,15 @@ made s rows t true limits none light h =
     (sym same, subst (λ (x : PlainTable). IsTable x) same is)
 made s rows t false limits none light h = cc
 
-from : (s : PlainSchema) (rows : List (List Cell)) (t : PlainTable) (o : Option ℕ) → IsWithinLimits s → first_unfit s rows ≡ o → weighed s rows o ≡ Ok t → (t ≡ table s rows) × IsTable t
+from : (s : PlainSchema) (rows : List (List Cell)) (t : PlainTable) (o : Option ℕ) → IsWithinLimits s → first_unfit s rows ≡ o → weighed s rows o ≡ Ok t → (t ≡ plain_table s rows) × IsTable t
 from s rows t (Some i) limits e h = cc
 from s rows t None limits e h = made s rows t (nat_le (table_weight s rows) 268435456) limits e refl h
 
-pub kept : (s : PlainSchema) (rows : List (List Cell)) (t : PlainTable) → IsWithinLimits s → table_from s rows ≡ Ok t → (t ≡ table s rows) × IsTable t
+pub kept : (s : PlainSchema) (rows : List (List Cell)) (t : PlainTable) → IsWithinLimits s → table_from s rows ≡ Ok t → (t ≡ plain_table s rows) × IsTable t
 unfolding table_from
 kept s rows t limits h = from s rows t (first_unfit s rows) limits refl h
 
-pub joined : (s : PlainSchema) (a b : List (List Cell)) → IsTable (table s a) → IsTable (table s b) → table_weight s (a ++ b) ≤ 268435456 → IsTable (table s (a ++ b))
+pub joined : (s : PlainSchema) (a b : List (List Cell)) → IsTable (plain_table s a) → IsTable (plain_table s b) → table_weight s (a ++ b) ≤ 268435456 → IsTable (plain_table s (a ++ b))
 joined s a b x y light = record {
   schema = x.schema;
   rows = AllPass-from_list_all (is_row s) (a ++ b)
@@ -48,7 +46,7 @@ joined s a b x y light = record {
   weight = light;
 }
 
-pub parted : (s : PlainSchema) (a b : List (List Cell)) → IsTable (table s (a ++ b)) → IsTable (table s a) × IsTable (table s b)
+pub parted : (s : PlainSchema) (a b : List (List Cell)) → IsTable (plain_table s (a ++ b)) → IsTable (plain_table s a) × IsTable (plain_table s b)
 parted s a b x =
     let both = and_parts _ _ (sym (list_all-append (is_row s) a b) ∙ list_all-from_AllPass (is_row s) (a ++ b) x.rows) in
     let weight = sum_by-append (row_weight s) a b in (

@@ -4,7 +4,7 @@ ghost use Rattle.cells.specs.View.{cell};
 ghost use Rattle.columns.specs.Borrowed.{borrowed_cell as cell_in_arrays, borrowed_cells as cells_in_arrays};
 ghost use Rattle.values.specs.Borrowed.{borrowed_cell};
 
-use cells::Value;
+use cells::{Entry, Value};
 
 /// A value that is borrowed. Integers, dates and timestamps are `Int`; texts and binaries of either width are `Text` and
 /// `Bytes`; a null of any type is `Null`.
@@ -17,6 +17,26 @@ pub enum ValueRef<'a> {
     Bytes(&'a [u8]),
     List(Values<'a>),
     Struct(Values<'a>),
+}
+
+impl<'a> ValueRef<'a> {
+    ghost use Rattle.cells.specs.Dictionary.{entry_in};
+    ghost use Rattle.cells.specs.Entry.{entry_cell_of};
+
+    /// The entry of a dictionary that it would be: a null, a list and a struct are none.
+    pub fn as_entry(self) -> Option<Entry<'a>>
+        ensures { entry_cell_of result ≡ entry_in (borrowed_cell self.entry) }
+    {
+        match self {
+            ValueRef::Bool(boolean) => Some(Entry::Bool(boolean)),
+            ValueRef::Int(number) => Some(Entry::Int(number)),
+            ValueRef::Text(text) => Some(Entry::Text(text)),
+            ValueRef::Bytes(bytes) => Some(Entry::Bytes(bytes)),
+            ValueRef::Null => None,
+            ValueRef::List(_) => None,
+            ValueRef::Struct(_) => None,
+        }
+    }
 }
 
 /// How the values that are borrowed are kept: as they stand, or in arrays.

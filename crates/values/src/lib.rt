@@ -19,6 +19,7 @@ mod borrowed;
 mod content;
 mod errors;
 mod laws;
+mod list_items;
 mod part;
 mod rows;
 mod starts;
@@ -32,6 +33,7 @@ pub use cells::{
 };
 pub use errors::TableError;
 pub use laws::{accepted_rows_are_a_table, tables_are_joined_and_cut};
+pub use list_items::{items, push_all};
 pub use part::{Batch, Part};
 pub use rows::Rows;
 pub use table::Table;

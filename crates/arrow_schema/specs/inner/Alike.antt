@@ -5,6 +5,7 @@ use Rattle.std.specs.Bool.{beq}
 use Rattle.arrow_schema.specs.declared.compare.Detail.{Detail}
 use Rattle.arrow_schema.specs.Column.{Index, Pair, DateKind, days, date_milliseconds, TimeKind, seconds, milliseconds, microseconds, nanoseconds, Kind, Column, Columns, nulls, booleans, integers, dates, timestamps, texts, large_texts, binaries, large_binaries, fixed_binaries, lists, large_lists, fixed_lists, structs, column, no_column, and_column}
 use Rattle.arrow_schema.specs.Shape.{seen_dictionary, seen_pairs}
+use Rattle.arrow_schema.specs.Parts.{is_nulls}
 
 abbrev pub index_eq : Index → Index → Bool
 index_eq a b = a.bits == b.bits && beq a.signed b.signed
@@ -32,11 +33,6 @@ time_number seconds = 0
 time_number milliseconds = 1
 time_number microseconds = 2
 time_number nanoseconds = 3
-
--- a kind of this form, with a fact of its parts
-abbrev pub is_nulls : Kind → Bool
-is_nulls nulls = true
-is_nulls _ = false
 
 abbrev pub is_booleans : Kind → Bool
 is_booleans booleans = true

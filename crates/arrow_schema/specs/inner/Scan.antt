@@ -1,5 +1,5 @@
 -- What a field text begins with, and what follows it.
-use Rattle.std.specs.Prelude.{◌≡◌, ℕ, ◌-◌, ◌^◌, ◌==◌, min, Bool, true, false, not, ◌&&◌, ◌||◌, nat_le, nat_lt, List, [], ◌∷◌, map, length, get_or, codes, Option, None, Some, is_some, option_map, if◌then◌else◌}
+use Rattle.std.specs.Prelude.{ℕ, ◌-◌, ◌^◌, ◌==◌, min, Bool, true, false, not, ◌&&◌, ◌||◌, nat_le, nat_lt, List, [], ◌∷◌, map, length, get_or, codes, Option, None, Some, is_some, option_map, if◌then◌else◌}
 use Rattle.std.specs.List.{list_all}
 use Rattle.std.specs.Option.{option_and_then, option_or, unwrap_or}
 use Rattle.std.specs.Int.Digits.{number_from_digits}
@@ -13,11 +13,6 @@ use Rattle.arrow_schema.specs.Column.{Index, Kind, nulls, booleans, integers, da
 use Rattle.arrow_schema.specs.View.{bits_of, date_kind, time_kind}
 use Rattle.arrow_schema.specs.Keywords.{keyword_text}
 use Rattle.arrow_schema.specs.Typed.{is_timezone_byte, is_name}
-
--- what the code read is what reading the bytes gives
-abbrev pub Reads : {X Y : Type 0} → (X → Y) → Option X → Option Y → Type 0
-Reads view None read = read ≡ None
-Reads view (Some x) read = read ≡ Some (view x)
 
 -- what follows a beginning
 unfoldable pub stripped : List ℕ → List ℕ → Option (List ℕ)

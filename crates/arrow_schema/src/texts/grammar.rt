@@ -2,7 +2,7 @@
 ghost use Rattle.std.specs.Prelude.{◌≡◌, ◌↔◌, IfOk, Bool, reverse, true};
 ghost use Rattle.arrow_schema.specs.Typed.{IsFieldText};
 ghost use Rattle.arrow_schema.specs.inner.OpeningView.{opening_view};
-ghost use Rattle.arrow_schema.specs.inner.Scan.{Reads};
+ghost use Rattle.facts.specs.Outcomes.{Reads};
 ghost use Rattle.arrow_schema.specs.inner.Standing.{close_of, begun, continued, is_over, step};
 ghost use Rattle.arrow_schema.specs.declared.texts.grammar.Place.TheVariants.{BeforeType, AfterType};
 

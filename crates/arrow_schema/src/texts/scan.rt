@@ -1,8 +1,9 @@
 // What a field text begins with, and what follows it. No call here takes memory.
 ghost use Rattle.std.specs.Prelude.{◌≡◌, ◌<◌};
 ghost use Rattle.std.specs.List.{list_all};
+ghost use Rattle.facts.specs.Outcomes.{Reads};
 ghost use Rattle.arrow_schema.specs.Typed.{is_name_byte, is_timezone_byte, is_name};
-ghost use Rattle.arrow_schema.specs.inner.Scan.{Reads, stripped, cut_at, keyword_in, keyword_at, is_numeral, value, capped_number, is_size, size_at, is_timezone, timezone_at, flat_at, dictionary_at, opening_at, name_at, has_nullable_suffix, after_nullable_suffix};
+ghost use Rattle.arrow_schema.specs.inner.Scan.{stripped, cut_at, keyword_in, keyword_at, is_numeral, value, capped_number, is_size, size_at, is_timezone, timezone_at, flat_at, dictionary_at, opening_at, name_at, has_nullable_suffix, after_nullable_suffix};
 ghost use Rattle.arrow_schema.specs.inner.OpeningView.{flat_kind, opening_view};
 
 use super::keyword::{KEYWORDS, Keyword};

@@ -1,5 +1,5 @@
 -- Arrays of which no test finds anything can be looked up.
-use Rattle.std.specs.Prelude.{not, ◌||◌, nat_lt, nat_le, ◌/◌}
+use Rattle.std.specs.Prelude.{◌||◌, nat_lt, nat_le, ◌/◌}
 use Rattle.std.specs.List.{list_any, list_all, flat_map}
 use Rattle.std.proofs.Common.{◌≡◌, ℕ, ◌*◌, Bool, true, false, List, [], ◌∷◌, ◌++◌, map, drop, Some, None, refl, sym, arith, ◌∙◌}
 use Rattle.std.proofs.lemmas.Bool.{and_parts, or_parts}
@@ -63,9 +63,6 @@ front_clean (x ∷ xs) ys h =
 rest_clean : (xs ys : List Typed) → AreClean (xs ++ ys) → AreClean ys
 rest_clean [] ys h = h
 rest_clean (x ∷ xs) ys h = rest_clean xs ys (others_clean x (xs ++ ys) h)
-
-off : (b : Bool) → b ≡ false → not b ≡ true
-off b h = rw h refl
 
 -- an array without a dictionary, by its own tests and its children
 own_sound : (k : Kind) (a : Array) → (has_short_validity a || has_short_buffer k a) ≡ false → has_bad_offsets k a ≡ false → has_sound_children k a ≡ true → is_kind_sound k a ≡ true

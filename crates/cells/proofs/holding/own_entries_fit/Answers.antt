@@ -2,7 +2,7 @@ use Rattle.std.proofs.Common.{sym, map, arith, []}
 use Rattle.std.proofs.lemmas.Bool.{le-leb}
 use Rattle.std.proofs.lemmas.List.{length-map}
 use Rattle.cells.specs.View.{cell_behind}
-use Rattle.cells.proofs.HoldingLemmas.{entries_few}
+use Rattle.cells.specs.laws.Entries.{entries_few}
 use Rattle.cells.proofs.holding.own_entries_fit.Goals as goal
 
 pub returns-then-cells-most : goal.returns-then-cells-most

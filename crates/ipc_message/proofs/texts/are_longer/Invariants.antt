@@ -1,6 +1,6 @@
 use Rattle.std.proofs.Common.{◌≡◌, ◌+◌, ◌≤◌, length, drop}
 use Rattle.std.specs.Prelude.{sum_by, nat_lt}
-use Rattle.ipc_message.specs.inner.Listed.{text_list}
+use Rattle.facts.specs.Texts.{text_list}
 use Rattle.ipc_message.proofs.texts.are_longer.Given as goal
 
 abbrev pub invariant-loop-text : goal.invariant-loop-text

@@ -1,7 +1,7 @@
 use Rattle.std.proofs.Common.{◌≡◌, drop}
 use Rattle.std.specs.List.{list_all}
 use Rattle.std.specs.Str.{is_utf8}
-use Rattle.ipc_message.specs.inner.Listed.{text_list}
+use Rattle.facts.specs.Texts.{text_list}
 use Rattle.ipc_message.proofs.texts.are_utf8.Given as goal
 
 abbrev pub invariant-loop-text : goal.invariant-loop-text

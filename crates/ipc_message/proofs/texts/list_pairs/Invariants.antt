@@ -1,7 +1,7 @@
 use Rattle.std.proofs.Common.{◌≡◌, ◌++◌, drop, map}
+use Rattle.facts.specs.Texts.{text_list}
 use Rattle.ipc_message.specs.Checks.{texts_of_pairs}
 use Rattle.ipc_message.specs.View.{key_value}
-use Rattle.ipc_message.specs.inner.Listed.{text_list}
 use Rattle.ipc_message.proofs.texts.list_pairs.Given as goal
 
 abbrev pub invariant-loop-pair : goal.invariant-loop-pair

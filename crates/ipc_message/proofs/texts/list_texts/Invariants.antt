@@ -1,8 +1,9 @@
 use Rattle.std.proofs.Common.{◌≡◌, ◌++◌, drop, map}
 use Rattle.std.specs.Prelude.{flat_map}
+use Rattle.facts.specs.Texts.{text_list}
 use Rattle.ipc_message.specs.Checks.{texts_of_pairs, texts_of_field}
 use Rattle.ipc_message.specs.View.{key_value}
-use Rattle.ipc_message.specs.inner.Listed.{listed, text_list}
+use Rattle.ipc_message.specs.inner.Listed.{listed}
 use Rattle.ipc_message.proofs.texts.list_texts.Given as goal
 
 abbrev pub invariant-loop-place : goal.invariant-loop-place

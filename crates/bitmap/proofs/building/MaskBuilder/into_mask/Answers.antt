@@ -1,7 +1,8 @@
 use Rattle.std.proofs.Common.{List, ℕ, length, ap, ◌∙◌, arith}
 use Rattle.bitmap.specs.Bits.{bit, bytes_of, packed}
-use Rattle.bitmap.proofs.Packs.{bit_of_packed, length-packed_in}
+use Rattle.bitmap.proofs.Packs.{bit_of_packed}
 use Rattle.bitmap.proofs.building.MaskBuilder.into_mask.Goals as goal
+use Rattle.bitmap.specs.laws.Packed.{length-packed_in}
 
 pub returns-clause-bits : goal.returns-clause-bits
 returns-clause-bits c = λ i.

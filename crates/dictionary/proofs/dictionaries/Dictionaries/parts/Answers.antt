@@ -7,8 +7,8 @@ use Rattle.dictionary.specs.InEffect.{in_effect}
 use Rattle.dictionary.specs.Kept.{IsPart}
 use Rattle.columns.specs.Within.{stands_within}
 use Rattle.dictionary.proofs.Parts.{map_next}
-use Rattle.facts.specs.laws.Lists.{all_more}
-use Rattle.dictionary.proofs.Within.{all_more_pass, part_within}
+use Rattle.facts.specs.laws.Lists.{all_more, all_pushed}
+use Rattle.dictionary.proofs.Within.{part_within}
 use Rattle.dictionary.proofs.dictionaries.Dictionaries.parts.Goals as goal
 
 pub loop-id-preserved : goal.loop-id-preserved
@@ -22,7 +22,7 @@ loop-id-preserved c = record {
       (c.loop-id.invariant.effect bytes before lists h e) (c.part.ensures.effect bytes before lists h e) c.loop-id-test.true;
   within = λ size lists e all.
       ap (list_all (stands_within size lists)) c.in_ok-push.ensures.items
-      ∙ all_more_pass (stands_within size lists) c.loop-id.parts.items c.part.result (c.loop-id.invariant.within size lists e all)
+      ∙ all_pushed (stands_within size lists) c.loop-id.parts.items c.part.result (c.loop-id.invariant.within size lists e all)
       (part_within c.args.self.now c.part.result size lists c.part.ensures.stands e all);
 }
 

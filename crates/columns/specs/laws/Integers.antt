@@ -1,22 +1,14 @@
 -- Integers as numbers of some bytes, and back.
 use Rattle.std.specs.Prelude.{negsuc, pos, ℤ, ◌-ℤ◌, ◌≤ℤ◌, ◌<ℤ◌, neg_ℤ, int_le, int_lt, ◌&&◌, if◌then◌else◌}
-use Rattle.std.proofs.Common.{◌≡◌, ℕ, zero, suc, ◌+◌, ◌-◌, ◌*◌, ◌/◌, ◌^◌, ◌<◌, ◌≤◌, Bool, true, false, refl, arith, ap, sym, ◌∙◌}
+use Rattle.std.proofs.Common.{◌≡◌, ℕ, zero, suc, ◌+◌, ◌-◌, ◌*◌, ◌/◌, ◌^◌, ◌<◌, ◌≤◌, Bool, true, false, refl, arith}
 use Rattle.std.proofs.lemmas.Bool.{le-ltb, lt-ltb, and_parts}
 use Rattle.std.proofs.lemmas.Int.{ints}
 use Rattle.std.proofs.lemmas.Bool.Decides.{nat_tests}
-use Rattle.std.proofs.lemmas.Nat.{pow-add}
 use Rattle.std.proofs.Math.Nat.{pow-suc}
+use Rattle.facts.specs.laws.Numbers.{powers}
 use Rattle.arrow_schema.specs.Column.{is_bit_width}
 use Rattle.cells.specs.Fit.{in_range}
 use Rattle.cells.specs.Integers.{integer_of, number_of}
-
--- bits and bytes
-pub powers : (w : ℕ) → 2 ^ (8 * w) ≡ 256 ^ w
-powers zero = let none : 8 * 0 ≡ 0 = omega arith in ap (λ (k : ℕ). 2 ^ k) none
-powers (suc w) =
-    let bits : 8 * suc w ≡ 8 + 8 * w = omega arith in
-    let one : suc w ≡ 1 + w = omega arith in
-    ap (λ (k : ℕ). 2 ^ k) bits ∙ pow-add 2 8 (8 * w) ∙ ap (λ (k : ℕ). 256 * k) (powers w) ∙ sym (ap (λ (k : ℕ). 256 ^ k) one ∙ pow-add 256 1 w)
 
 double : (k : ℕ) → 1 ≤ k → 2 ^ k ≡ 2 * 2 ^ (k - 1)
 double zero one = absurd (omega arith)
@@ -48,7 +40,7 @@ signed_parts k z h =
     (grind (arith, ints), grind (arith, ints))
 
 -- a number in range is one of so many bytes
-number_small : (w : ℕ) (signed : Bool) (z : ℤ) → 1 ≤ w → in_range (8 * w) signed z ≡ true → number_of w z < 2 ^ (8 * w)
+pub number_small : (w : ℕ) (signed : Bool) (z : ℤ) → 1 ≤ w → in_range (8 * w) signed z ≡ true → number_of w z < 2 ^ (8 * w)
 number_small w false (pos n) one h = let p = unsigned_parts (2 ^ (8 * w)) (pos n) h in omega (arith, ints, p.1)
 number_small w false (negsuc n) one h = let p = unsigned_parts (2 ^ (8 * w)) (negsuc n) h in absurd (omega (arith, ints, p.0))
 number_small w true (pos n) one h =

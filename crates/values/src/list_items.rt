@@ -1,0 +1,40 @@
+// The items of lists that are borrowed.
+ghost use Rattle.std.specs.Prelude.{◌≡◌, ◌++◌, OnOk, IfOk, map};
+ghost use Rattle.std.specs.List.{flat_map};
+ghost use Rattle.cells.specs.Dictionary.{item_list};
+ghost use Rattle.values.specs.Borrowed.{borrowed_cell, borrowed_cells};
+
+use crate::borrowed::{ValueRef, Values};
+use std::alloc::{AllocError, Global};
+
+/// Appends values that are borrowed, in order.
+pub fn push_all<'a>(cells: &mut Vec<ValueRef<'a>>, values: Values<'a>) -> Result<(), AllocError>
+    ensures { OnOk result (map borrowed_cell cells.new.items ≡ map borrowed_cell cells.old.items ++ borrowed_cells values.entry) }
+{
+    for value in values.iter() {
+        cells.push(value)?;
+    }
+    Ok(())
+}
+
+// The items of a list: none of another value.
+#[tactic(auto, using(cells::specs::laws::Cells::cells_listed))]
+fn push_items<'a>(items: &mut Vec<ValueRef<'a>>, cell: ValueRef<'a>) -> Result<(), AllocError>
+    ensures { OnOk result (map borrowed_cell items.new.items ≡ map borrowed_cell items.old.items ++ item_list (borrowed_cell cell.entry)) }
+{
+    match cell {
+        ValueRef::List(values) => push_all(items, values),
+        _ => Ok(()),
+    }
+}
+
+/// The items of lists, one after another: another value has none.
+pub fn items<'a>(alloc: Global, cells: &[ValueRef<'a>]) -> Result<Vec<ValueRef<'a>>, AllocError>
+    ensures { IfOk result (λ items. map borrowed_cell items.items ≡ flat_map item_list (map borrowed_cell cells.now)) }
+{
+    let mut items = Vec::new(alloc);
+    for cell in cells {
+        push_items(&mut items, *cell)?;
+    }
+    Ok(items)
+}
