@@ -23,4 +23,5 @@ mod RunParts
 mod RunSlots
 mod RunValues
 mod Sized
+mod Turns
 mod Written

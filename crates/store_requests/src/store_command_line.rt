@@ -101,11 +101,7 @@ fn words_of<'a>(
     matches: &ArgMatches<'a>,
     id: &str,
 ) -> Result<Vec<&'a str>, AllocError> {
-    let mut words = Vec::new(alloc);
-    if let Some(given) = matches.get_strs(id) {
-        words.extend_from_slice(given)?;
-    }
-    Ok(words)
+    matches.get_strs(id).unwrap_or_default().to_vec(alloc)
 }
 
 // Rows are appended from a stream, or from a text.
@@ -203,11 +199,18 @@ fn command<'a>(
     about: &'a str,
     example: &'a str,
 ) -> Result<Command<'a>, AllocError> {
-    let store = required(alloc, "STORE", "The file of the store");
     Command::new(alloc, name)
         .about(about)
         .after_help(example)
-        .arg(store)
+        .arg(required(alloc, "STORE", "The file of the store"))
+}
+
+// It takes the command over, so that no caller owns one where memory was refused.
+fn with_arg<'a>(
+    command: Result<Command<'a>, AllocError>,
+    arg: Arg<'a>,
+) -> Result<Command<'a>, AllocError> {
+    command?.arg(arg)
 }
 
 // A command of a table, which names it after the store's file.
@@ -218,7 +221,7 @@ fn table_command<'a>(
     example: &'a str,
 ) -> Result<Command<'a>, AllocError> {
     let table = required(alloc, "NAME", "The name of the table");
-    command(alloc, name, about, example)?.arg(table)
+    with_arg(command(alloc, name, about, example), table)
 }
 
 fn format<'a>(alloc: Global) -> Result<Command<'a>, AllocError> {
@@ -228,20 +231,20 @@ fn format<'a>(alloc: Global) -> Result<Command<'a>, AllocError> {
         "How many sectors of 512 bytes, 16 to 4194304",
     )
     .value_parser(ValueParser::unsigned(0, u64::MAX));
-    command(
+    let format = command(
         alloc,
         "format",
         "Makes a file of so many sectors, and an empty store in it",
         "Example: arrowstore format store 4096",
-    )?
-    .arg(sectors)
+    );
+    with_arg(format, sectors)
 }
 
 fn create<'a>(alloc: Global) -> Result<Command<'a>, AllocError> {
     let fields = Arg::new(alloc, "FIELD").num_args(0..).help(
         "The fields, each as NAME:TYPE, with a ? behind it where nulls are allowed",
     );
-    table_command(
+    let create = table_command(
         alloc,
         "create",
         "Makes a table without rows",
@@ -253,8 +256,8 @@ timestamp_ns, each of these four also with a zone, as timestamp_ms(UTC),
 fixed_binary(N), list<ITEM>, large_list<ITEM>, fixed_list(N,ITEM), struct<FIELD,..>
 or dict<INDEX,TYPE>, as dict<int8,utf8>. An ITEM is a TYPE, with a ? where nulls
 are allowed.",
-    )?
-    .arg(fields)
+    );
+    with_arg(create, fields)
 }
 
 fn import<'a>(alloc: Global) -> Result<Command<'a>, AllocError> {
@@ -266,52 +269,69 @@ fn import<'a>(alloc: Global) -> Result<Command<'a>, AllocError> {
     )
 }
 
-fn append<'a>(alloc: Global) -> Result<Command<'a>, AllocError> {
-    let form = Arg::new(alloc, "as")
+fn form<'a>(alloc: Global) -> Arg<'a> {
+    Arg::new(alloc, "as")
         .long("as")
         .value_name("FORM")
         .value_parser(ValueParser::Names(&FORMS))
         .default_value("stream")
         .help(
             "What the input is: CSV begins with the names of the columns, JSON Lines has a row on each line",
-        );
-    let null = Arg::new(alloc, "null")
+        )
+}
+
+fn null_text<'a>(alloc: Global) -> Arg<'a> {
+    Arg::new(alloc, "null")
         .long("null")
         .value_name("TEXT")
         .default_value("")
         .hide_default_value(true)
         .help(
             "In CSV, the text that stands for null where nulls are allowed; without this option the empty one",
-        );
-    table_command(
+        )
+}
+
+fn append<'a>(alloc: Global) -> Result<Command<'a>, AllocError> {
+    let append = table_command(
         alloc,
         "append",
         "Reads rows from standard input, and appends them to a table",
         "Example: arrowstore append store measurements --as csv --null NA < readings.csv
 where readings.csv begins with the line id,value",
-    )?
-    .arg(form)?
-    .arg(null)
+    );
+    with_arg(with_arg(append, form(alloc)), null_text(alloc))
 }
 
-fn query<'a>(alloc: Global) -> Result<Command<'a>, AllocError> {
-    let conditions = Arg::new(alloc, "CONDITION").num_args(0..).help(
+fn conditions<'a>(alloc: Global) -> Arg<'a> {
+    Arg::new(alloc, "CONDITION").num_args(0..).help(
         "What each row must meet: 'NAME OP LITERAL' with OP one of = != < <= > >=, 'NAME is null' or 'NAME is not null', split by single spaces",
-    );
-    let columns = Arg::new(alloc, "columns")
+    )
+}
+
+fn columns<'a>(alloc: Global) -> Arg<'a> {
+    Arg::new(alloc, "columns")
         .long("columns")
         .value_name("A,B")
-        .help("The columns, in this order; without this option all of them");
-    let limit = Arg::new(alloc, "limit")
+        .help("The columns, in this order; without this option all of them")
+}
+
+fn limit<'a>(alloc: Global) -> Arg<'a> {
+    Arg::new(alloc, "limit")
         .long("limit")
         .value_name("N")
         .value_parser(ValueParser::unsigned(0, u64::MAX))
-        .help("How many rows at most");
-    let save = Arg::new(alloc, "save")
+        .help("How many rows at most")
+}
+
+fn save<'a>(alloc: Global) -> Arg<'a> {
+    Arg::new(alloc, "save")
         .long("save")
         .value_name("NEW")
-        .help("Makes a table of this name of them, in place of printing");
-    table_command(
+        .help("Makes a table of this name of them, in place of printing")
+}
+
+fn query<'a>(alloc: Global) -> Result<Command<'a>, AllocError> {
+    let query = table_command(
         alloc,
         "query",
         "Prints the rows of a table that meet all conditions, each as a line of JSON",
@@ -321,22 +341,20 @@ A LITERAL stands without quotation marks, as in 'city = New York': all that is b
 the operator and one space is the text. Bytes are pairs of hexadecimal digits, bools
 true or false, dates and timestamps the integers that are stored: how many days,
 seconds, .. they are behind 1970-01-01.",
-    )?
-    .arg(conditions)?
-    .arg(columns)?
-    .arg(limit)?
-    .arg(save)
+    );
+    let query = with_arg(with_arg(query, conditions(alloc)), columns(alloc));
+    with_arg(with_arg(query, limit(alloc)), save(alloc))
 }
 
 fn rename<'a>(alloc: Global) -> Result<Command<'a>, AllocError> {
     let new = required(alloc, "NEW", "Its new name");
-    table_command(
+    let rename = table_command(
         alloc,
         "rename",
         "Gives a table another name",
         "Example: arrowstore rename store measurements readings",
-    )?
-    .arg(new)
+    );
+    with_arg(rename, new)
 }
 
 fn drop<'a>(alloc: Global) -> Result<Command<'a>, AllocError> {
@@ -384,27 +402,42 @@ fn check<'a>(alloc: Global) -> Result<Command<'a>, AllocError> {
     )
 }
 
-// Takes the command over, so that nothing is owned where memory was refused for it.
+// It takes both over, so that no caller owns one where memory was refused.
 fn with_command<'a>(
-    program: Command<'a>,
+    program: Result<Command<'a>, AllocError>,
     command: Result<Command<'a>, AllocError>,
 ) -> Result<Command<'a>, AllocError> {
-    program.subcommand(command?)
+    program?.subcommand(command?)
+}
+
+// Those that change the tables.
+fn with_changes<'a>(
+    alloc: Global,
+    program: Result<Command<'a>, AllocError>,
+) -> Result<Command<'a>, AllocError> {
+    let program = with_command(program, create(alloc));
+    let program = with_command(program, import(alloc));
+    let program = with_command(program, append(alloc));
+    let program = with_command(program, rename(alloc));
+    with_command(program, drop(alloc))
+}
+
+// Those that read them.
+fn with_reads<'a>(
+    alloc: Global,
+    program: Result<Command<'a>, AllocError>,
+) -> Result<Command<'a>, AllocError> {
+    let program = with_command(program, tables(alloc));
+    let program = with_command(program, schema(alloc));
+    let program = with_command(program, export(alloc));
+    let program = with_command(program, query(alloc));
+    with_command(program, check(alloc))
 }
 
 fn commands<'a>(alloc: Global) -> Result<Command<'a>, AllocError> {
     let program = Command::new(alloc, "arrowstore")
         .about("A crash-safe store of named tables in the Apache Arrow format")
         .subcommand_required(true);
-    let program = with_command(program, format(alloc))?;
-    let program = with_command(program, create(alloc))?;
-    let program = with_command(program, import(alloc))?;
-    let program = with_command(program, append(alloc))?;
-    let program = with_command(program, rename(alloc))?;
-    let program = with_command(program, drop(alloc))?;
-    let program = with_command(program, tables(alloc))?;
-    let program = with_command(program, schema(alloc))?;
-    let program = with_command(program, export(alloc))?;
-    let program = with_command(program, query(alloc))?;
-    with_command(program, check(alloc))
+    let program = with_command(Ok(program), format(alloc));
+    with_reads(alloc, with_changes(alloc, program))
 }

@@ -87,7 +87,7 @@ pub enum StoreCommand<'a> {
 fn takes_input_word(word: &str) -> bool
     ensures { result ≡ takes_input_word word.now }
 {
-    word == "import" || word == "append"
+    matches!(word, "import" | "append")
 }
 
 #[tactic(auto, unfolding(crate::specs::StoreWords::changes_word))]
@@ -101,14 +101,14 @@ fn changes_word(word: &str) -> bool
 fn reads_table_word(word: &str) -> bool
     ensures { result ≡ reads_table_word word.now }
 {
-    word == "schema" || word == "export" || word == "query"
+    matches!(word, "schema" | "export" | "query")
 }
 
 #[tactic(auto, unfolding(crate::specs::StoreWords::reads_word))]
 fn reads_word(word: &str) -> bool
     ensures { result ≡ reads_word word.now }
 {
-    reads_table_word(word) || word == "tables" || word == "check"
+    reads_table_word(word) || matches!(word, "tables" | "check")
 }
 
 #[tactic(auto, unfolding(crate::specs::StoreWords::is_store_word))]

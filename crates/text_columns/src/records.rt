@@ -83,17 +83,17 @@ fn push_records(
     alloc: Global,
     schema: &Schema,
     null_text: &[u8],
-    mut reader: Reader<&[u8]>,
+    reader: &mut Reader<&[u8]>,
     builders: &mut [ColumnBuilder],
     most: usize,
 ) -> Result<Option<RowsRead>, TextError>
-    ensures { (records : List (List (List ℕ))) → HasLeft reader.entry records → length records ≤ most → KeepAll (schema_of schema.now).columns [] builders.old
+    ensures { (records : List (List (List ℕ))) → HasLeft reader.old records → length records ≤ most → KeepAll (schema_of schema.now).columns [] builders.old
         → ReadsRows (schema_of schema.now) (rows_from (record_row (schema_of schema.now) null_text.now) 1 records) result builders.new }
 {
     let mut row = ByteRecord::new(alloc);
     let mut weight = 0;
     for index in 0..most {
-        if !read_next(&mut reader, &mut row)? {
+        if !read_next(reader, &mut row)? {
             return Ok(Some(RowsRead {
                 rows: index,
                 weight,
@@ -126,7 +126,7 @@ pub(crate) fn push_rows(
         → ReadsRows (schema_of schema.now) (csv_rows_of (schema_of schema.now) null_text.now text.now) result builders.new }
 {
     match csv_records(alloc, schema, text) {
-        Ok(reader) => push_records(alloc, schema, null_text, reader, builders, text.len()),
+        Ok(mut reader) => push_records(alloc, schema, null_text, &mut reader, builders, text.len()),
         Err(error) => Err(error),
     }
 }

@@ -184,17 +184,17 @@ fn record_rows(
     alloc: Global,
     schema: &Schema,
     null_text: &[u8],
-    mut reader: Reader<&[u8]>,
+    reader: &mut Reader<&[u8]>,
     most: usize,
 ) -> Result<Vec<Row>, TextError>
-    ensures { (records : List (List (List ℕ))) → HasLeft reader.entry records → length records ≤ most
+    ensures { (records : List (List (List ℕ))) → HasLeft reader.old records → length records ≤ most
         → Gives refused_by (λ v. map row_of v.items) result (rows_from (record_row (schema_of schema.now) null_text.now) 1 records) }
 {
     let limited = has_limits(schema);
     let mut row = ByteRecord::new(alloc);
     let mut rows = Vec::new(alloc);
     for index in 0..most {
-        if !read_next(&mut reader, &mut row)? {
+        if !read_next(reader, &mut row)? {
             return Ok(rows);
         }
         let number = index as u64 + 1;
@@ -270,7 +270,7 @@ pub fn csv_rows(
     ensures exact { Gives refused_by (λ v. map row_of v.items) result (csv_rows_of (schema_of schema.now) null_text.now text.now) }
 {
     match csv_records(alloc, schema, text) {
-        Ok(reader) => record_rows(alloc, schema, null_text.as_bytes(), reader, text.len()),
+        Ok(mut reader) => record_rows(alloc, schema, null_text.as_bytes(), &mut reader, text.len()),
         Err(error) => Err(error),
     }
 }

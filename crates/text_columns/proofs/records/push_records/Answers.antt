@@ -11,7 +11,7 @@ use Rattle.text_columns.proofs.records.push_records.Goals as goal
 pub loop-index-init : goal.loop-index-init
 loop-index-init c = record {
   few = omega arith;
-  read = λ records has few keeps. read_none (ByReader c.args.reader 0 c.args.most) (schema_of c.args.schema.now) c.args.null_text.now records c.args.builders.now (has, omega (arith, few)) keeps;
+  read = λ records has few keeps. read_none (ByReader c.args.reader.now 0 c.args.most) (schema_of c.args.schema.now) c.args.null_text.now records c.args.builders.now (has, omega (arith, few)) keeps;
 }
 
 pub returns-then-not-branch : goal.returns-then-not-branch

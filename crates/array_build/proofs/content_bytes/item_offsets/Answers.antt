@@ -1,0 +1,24 @@
+use Rattle.std.specs.List.{flat_map}
+use Rattle.std.proofs.Common.{◌≡◌, ◌∙◌, ◌+◌, map, drop, length, append_assoc, length-append, arith}
+use Rattle.facts.specs.laws.Lists.{drop-item}
+use Rattle.byteorder.specs.Endian.{little_bytes}
+use Rattle.cells.specs.Dictionary.{item_list}
+use Rattle.columns.specs.Built.{sums_from}
+use Rattle.columns.specs.Offsets.{width_of}
+use Rattle.values.specs.Borrowed.{borrowed_cell}
+use Rattle.array_build.proofs.content_bytes.item_offsets.Goals as goal
+
+pub loop-cell-preserved : goal.loop-cell-preserved
+loop-cell-preserved c =
+    let cell = c.cell-item.result in
+    let end = c.loop-cell.end in
+    let others = map borrowed_cell (drop (c.loop-cell.cell-index + 1) c.args.cells.now) in
+    let own = item_list (borrowed_cell cell) in
+    let bytes = little_bytes (width_of c.args.width) in
+    let item = drop-item c.args.cells.now c.loop-cell.cell-index cell c.loop-cell-test.true c.cell-item.is in
+    let offsets = rw item at c.loop-cell.invariant.offsets in
+    let ends = rw item at c.loop-cell.invariant.end in
+    record {
+      offsets = rw (c.in_ok-push_offset.ensures, c.item_count.ensures) (append_assoc c.loop-cell.offsets.items (bytes end) (flat_map bytes (sums_from (end + length own) (map (λ other. length (item_list other)) others))) ∙ offsets);
+      end = rw c.item_count.ensures (omega (arith, length-append own (flat_map item_list others), ends));
+    }
