@@ -200,8 +200,8 @@ fn put_sized_codes<'a, const SIZE: usize, const SIGNED: bool>(
     requires known { AreKnown (map entry_cell entries.old.keys) (own_entries field.now slots.view) known.old }
     requires room { length indices.old ≡ SIZE * (to - from) }
     requires places { length valid.old ≡ to - from }
-    ensures { OnOk result (IsWritten SIZE (map entry_cell entries.old.keys) (map entry_cell entries.new.keys) indices.new valid.new
-        (cells_from (cell_at (column_of field.now) (view_array slots.entry.view)) from (to - from))) }
+    ensures { OnOk result (IsWritten SIZE (map entry_cell entries.old.keys) (map entry_cell entries.new.keys)
+        indices.new valid.new (cells_from (cell_at (column_of field.now) (view_array slots.entry.view)) from (to - from))) }
 {
     // a number of the code is below 2^64, so that the places of all indices are too
     let _room = indices.len();
@@ -229,8 +229,8 @@ fn put_slot_codes<'a>(
     requires known { AreKnown (map entry_cell entries.old.keys) (own_entries field.now slots.view) known.old }
     requires room { length indices.old ≡ bits_of slots.spec.index.width / 8 * (to - from) }
     requires places { length valid.old ≡ to - from }
-    ensures { OnOk result (IsWritten (bits_of slots.entry.spec.index.width / 8) (map entry_cell entries.old.keys) (map entry_cell entries.new.keys) indices.new valid.new
-        (cells_from (cell_at (column_of field.now) (view_array slots.entry.view)) from (to - from))) }
+    ensures { OnOk result (IsWritten (bits_of slots.entry.spec.index.width / 8) (map entry_cell entries.old.keys) (map entry_cell entries.new.keys)
+        indices.new valid.new (cells_from (cell_at (column_of field.now) (view_array slots.entry.view)) from (to - from))) }
 {
     match (slots.spec.index.width, slots.spec.index.signed) {
         (BitWidth::Eight, true) => put_sized_codes::<1, true>(

@@ -1,5 +1,5 @@
 -- Calls of a place, one after another.
-use Rattle.std.proofs.Common.{◌≡◌, ◌≢◌, ◌++◌, ◌∷◌, [], ℕ, Bool, true, false, List, refl, sym, ap, ◌∙◌, subst, arith, if◌then◌else◌}
+use Rattle.std.proofs.Common.{◌≡◌, ◌≢◌, ◌++◌, ◌∷◌, [], ℕ, Bool, true, false, List, refl, sym, ap, ◌∙◌, subst, if◌then◌else◌}
 use Rattle.std.specs.Prelude.{nat_lt}
 use Rattle.sector_dev.specs.Disk.{Story, now}
 use Rattle.sector_dev.specs.Time.{LeavesOnly}
@@ -19,9 +19,8 @@ use Rattle.store.specs.Steps.{Step}
 use Rattle.store.specs.Runs.{Goes}
 use Rattle.store.specs.Fits.{setting_of, StoreFits, Opens, Shuts}
 use Rattle.store.specs.Applying.{GoesOn}
-use Rattle.std.proofs.lemmas.Bool.Decides.{nat_tests}
 use Rattle.store.specs.Places.{call_of, reply_in, calls_of, replies_of, device_in, ShutFits, PlaceFits, PlaceGoes, PlaceRuns, PlaceLives}
-use Rattle.store.proofs.Asked.{refused_elsewhere}
+use Rattle.store.proofs.Asked.{not_less, refused_elsewhere}
 use Rattle.store.specs.laws.Going.{no_run, run_of_one, runs_joined}
 use Rattle.store.specs.laws.Left.{left_from}
 use Rattle.store.specs.laws.Kept.{stops_keep}
@@ -30,9 +29,6 @@ use Rattle.store.specs.laws.Counted.{undisturbed}
 use Rattle.store.specs.laws.Never.{tells_none_damaged, tells_a_store_since}
 use Rattle.store.specs.laws.Unhalted.{tells_no_halt}
 
-none_written : (n : ℕ) → nat_lt n n ≡ false
-none_written n = grind (arith, nat_tests)
-
 not_running : (p : Phase) → p ≡ shut → p ≢ running
 not_running shut is other = cc other
 not_running running is other = cc is
@@ -40,14 +36,14 @@ not_running halted is other = cc is
 
 halted_step : (s : Setting) (m : Machine) (call : PlainCall) (n : ℕ) → needs_store call ≡ true → m.phase ≡ shut → Step s m call (refused refusals.Halted) (nat_lt n n) m
 unfolding Step
-halted_step s m (apply_call c) n needs is = (not_running m.phase is, (none_written n, refl))
+halted_step s m (apply_call c) n needs is = (not_running m.phase is, (not_less n, refl))
 halted_step s m format_call n needs is = absurd (cc needs)
 halted_step s m open_call n needs is = absurd (cc needs)
-halted_step s m close_call n needs is = (is, (none_written n, refl))
-halted_step s m tables_call n needs is = (not_running m.phase is, (none_written n, refl))
-halted_step s m (schema_call name) n needs is = (not_running m.phase is, (none_written n, refl))
-halted_step s m (read_call name) n needs is = (not_running m.phase is, (none_written n, refl))
-halted_step s m (export_call name) n needs is = (not_running m.phase is, (none_written n, refl))
+halted_step s m close_call n needs is = (is, (not_less n, refl))
+halted_step s m tables_call n needs is = (not_running m.phase is, (not_less n, refl))
+halted_step s m (schema_call name) n needs is = (not_running m.phase is, (not_less n, refl))
+halted_step s m (read_call name) n needs is = (not_running m.phase is, (not_less n, refl))
+halted_step s m (export_call name) n needs is = (not_running m.phase is, (not_less n, refl))
 
 -- where no store is open such a call is refused, and nothing happens
 pub refused_shut : (s : Setting) (m : Machine) (call : PlainCall) (story : Story) (failed : ℕ) → needs_store call ≡ true → m.phase ≡ shut → LeavesOnly (Allows s m) (now story)
@@ -76,7 +72,7 @@ closed size story failed base m store fits =
       next = shut_down m;
       same = refl;
       goes = record {
-        step = (not_shut store.halted m.phase fits.phase, none_written (now (story store.device)).writes, refl);
+        step = (not_shut store.halted m.phase fits.phase, not_less (now (story store.device)).writes, refl);
         moments = stays (AllowsEach (setting_of (size store.device) base) close_call done m (now (story store.device))) (story store.device);
         settles = λ image may. fits.device.allows image may;
         quiet = λ no quiet. refl;

@@ -7,6 +7,7 @@ use Rattle.sector_dev.specs.laws.Crash.{only_image}
 use Rattle.sector_dev.specs.laws.Time.{stays, goes_on, weaken, now_read}
 use Rattle.sector_dev.specs.declared.device.SectorDevice.{Ghosts}
 use Rattle.segments.specs.Usages.{IsUsedIn, SameUsages}
+use Rattle.segments.specs.laws.Usages.{or_false}
 use Rattle.catalogue.specs.View.{catalogue_of}
 use Rattle.commit.specs.Standing.{standing, Stands}
 use Rattle.commit.specs.declared.recovery.Opened.{Opened}
@@ -29,7 +30,7 @@ use Rattle.store.specs.Reading.{OnlyReadsStore, ended}
 use Rattle.store.specs.Runs.{Goes, TellsFound, TellsRoom}
 use Rattle.store.specs.Steps.{Step, RefusesFrom}
 use Rattle.store.specs.Fits.{setting_of, StoreFits, commit_of, listed_in, IsOnDisk}
-use Rattle.store.specs.Applying.{EndsAs, IsKept, HasDone, IsOldOrDone, IsApplying, Writes, HasWritten, GoesOn, reply_of}
+use Rattle.store.specs.Applying.{EndsAs, IsKept, HasDone, IsOldOrDone, IsApplying, Writes, HasWritten, GoesOn}
 use Rattle.store.specs.Carrying.{IsCarried}
 use Rattle.store.specs.Verdicts.{IsVerdict, IsUndecided}
 use Rattle.store.proofs.Asked.{still, not_running, refused_elsewhere}
@@ -93,12 +94,8 @@ reads_nothing size story failed tells reply store quiet = record {
     count = sym (ap (λ (b : Bool). if b then min (failed store.device + 1) (2 ^ 64 - 1) else failed store.device) quiet);
   };
   kept = refl;
-  halts = sym (ap (λ (b : Bool). store.halted || b) quiet ∙ or_no store.halted);
+  halts = sym (ap (λ (b : Bool). store.halted || b) quiet ∙ or_false store.halted);
 }
-  where
-    or_no : (b : Bool) → (b || false) ≡ b
-    or_no true = refl
-    or_no false = refl
 
 -- why a command is refused before anything is written, by where its refusal comes from
 abbrev RefusesFirst : Origin → Tables → PlainCommand → Refusal → Type 0
@@ -244,7 +241,7 @@ ended_quiet (Ok x) h = refl
 ended_quiet (Err e) h = h
 
 -- what is found is told of openings and formattings alone
-pub tells_command : (s : Setting) (d : Disk) (r : Result (Unit {0}) Refusal) → TellsFound s (reply_of r) d
+pub tells_command : (s : Setting) (d : Disk) (r : Result (Unit {0}) Refusal) → TellsFound s (ended r) d
 tells_command s d (Ok unit) = tt
 tells_command s d (Err e) = tt
 

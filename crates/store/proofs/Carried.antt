@@ -1,8 +1,8 @@
 -- A command in the words of the machine, from what publishing promises.
-use Rattle.std.specs.Prelude.{None, ◌≡◌, ◌≢◌, ◌<◌, ◌+◌, ◌-◌, ◌%◌, ◌^◌, ℕ, min, Bool, true, false, nat_lt, List, [], ◌∷◌, ◌++◌, Some, Ok, Err, IsOk, is_ok, refl}
+use Rattle.std.specs.Prelude.{None, ◌≡◌, ◌≢◌, ◌<◌, ◌+◌, ◌-◌, ◌%◌, ◌^◌, ℕ, min, Bool, true, false, List, [], ◌∷◌, ◌++◌, Some, Ok, Err, IsOk, is_ok, refl}
 use Rattle.std.proofs.Common.{inl, inr, ⊎_elim, sym, ap, ◌∙◌, subst, arith}
 use Rattle.std.proofs.lemmas.Bool.{lt-ltb}
-use Rattle.std.proofs.lemmas.Bool.Decides.{nat_tests}
+use Rattle.std.proofs.lemmas.Nat.{mod_below}
 use Rattle.sector_dev.specs.Disk.{Disk, Sector, Story, Image, now, synced_image, shown_image}
 use Rattle.sector_dev.specs.declared.device.SectorDevice.{Ghosts}
 use Rattle.sector_dev.specs.Time.{Grows, LeavesOnly}
@@ -47,14 +47,9 @@ use Rattle.store.specs.Carrying.{IsCarried, IsCarriedOut, asked_sizes}
 use Rattle.store.specs.inner.Prepared.{IsPrepared}
 use Rattle.store.specs.laws.Frame.{held_is, same_tables}
 use Rattle.store.specs.laws.Changed.{edited_held}
+use Rattle.store.proofs.Asked.{not_less}
 use Rattle.store.proofs.Prepared.{runs_are, streams_held, can_replace}
 use Rattle.store.proofs.Roomed.{room_by}
-
-not_less : (n : ℕ) → nat_lt n n ≡ false
-not_less n = grind (arith, nat_tests)
-
-low : (n : ℕ) → n % 2 < 2
-low n = omega arith
 
 uncounted : (r : Refusal) (failed : ℕ) → r ≢ refusals.Device → failed ≡ counted (refused r) failed
 uncounted refusals.Device failed other = absurd (other refl)
@@ -159,7 +154,7 @@ module _ (old new : Space) (k : Commit) (was : PlainCatalogue) (change : PlainCh
   was_held : (image : Image) → ((n : ℕ) → IsOutside plan.commit (plain_pieces plan.pieces.items) n → image n ≡ (d.at n).synced) → tables_held image was ≡ Some t
   was_held image outside =
       same_tables (synced_image d) image was listed.entries
-      (λ n within. outside n (can.free n (inr within), λ e. let above = above_used whole_reading size (synced_image d) k was n can.stands.found (inr within) in omega (arith, above, e, low plan.commit.epoch)))
+      (λ n within. outside n (can.free n (inr within), λ e. let above = above_used whole_reading size (synced_image d) k was n can.stands.found (inr within) in omega (arith, above, e, mod_below plan.commit.epoch 2 (omega arith))))
       ∙ tables
 
   pub old_held : (image : Image) → ((n : ℕ) → IsOutside plan.commit (plain_pieces plan.pieces.items) n → image n ≡ (d.at n).synced) → StandsAs whole_reading size k was image → held_by size image ≡ holds t
@@ -203,7 +198,7 @@ module _ (old new : Space) (k : Commit) (was : PlainCatalogue) (change : PlainCh
       record {
         which = ⊎_elim (λ (stood : StandsAs whole_reading size k was image). inl stood)
             (λ (both : StandsAs whole_reading size plan.commit (catalogue_of plan.catalogue.list) image × HoldsEach image (plain_pieces plan.pieces.items)). inr (has_done image both.0 both.1)) either.which;
-        kept = λ n within. either.outside n (can.free n within, λ e. let above = above_used whole_reading size (synced_image d) k was n can.stands.found within in omega (arith, above, e, low plan.commit.epoch));
+        kept = λ n within. either.outside n (can.free n within, λ e. let above = above_used whole_reading size (synced_image d) k was n can.stands.found within in omega (arith, above, e, mod_below plan.commit.epoch 2 (omega arith)));
       }
 
   -- the runs of the pieces are those that were taken

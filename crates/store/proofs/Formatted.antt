@@ -1,7 +1,6 @@
 -- A formatting is a call of the machine.
-use Rattle.std.specs.Prelude.{◌≡◌, ◌≢◌, ◌⊎◌, ◌≤◌, ◌&&◌, ℕ, Bool, true, false, nat_le, nat_lt, [], Option, Some, None, Result, Ok, Err, if◌then◌else◌, refl}
+use Rattle.std.specs.Prelude.{◌≡◌, ◌≢◌, ◌⊎◌, ◌≤◌, ◌&&◌, ℕ, Bool, true, false, nat_le, [], Option, Some, None, Result, Ok, Err, if◌then◌else◌, refl}
 use Rattle.std.proofs.Common.{inl, inr, ap, sym, subst, ◌∙◌, arith}
-use Rattle.std.proofs.lemmas.Bool.Decides.{nat_tests}
 use Rattle.std.proofs.lemmas.Bool.{and_parts, leb-true, le-leb, lt-ltb}
 use Rattle.sector_dev.specs.Disk.{Disk, Story, Image, now, MayLeave, ShowsImage, shown_image, synced_image}
 use Rattle.sector_dev.specs.Time.{Grows, LeavesOnly, OnlyReads}
@@ -29,6 +28,7 @@ use Rattle.store.specs.Machine.{no_store, holds, Machine, opened, shut_down, All
 use Rattle.store.specs.Held.{whole_reading, catalogue_or_cause, tables_held, held_tables, held_of, held_by}
 use Rattle.store.specs.Fits.{setting_of, IsFresh}
 use Rattle.store.specs.Opening.{formatting_of, TellsFormatting, IsOfFormatting}
+use Rattle.store.proofs.Asked.{not_less}
 use Rattle.store.proofs.Opened.{not_started}
 
 -- what a formatting counts, in the words of replies
@@ -181,9 +181,6 @@ module _ (size : ℕ) (limits : is_size size ≡ true) (spelled : catalogue_at e
     -- no write began where nothing changed
     same_written : (s0 s1 : Story) → now s1 ≡ now s0 → has_written (now s0) (now s1) ≡ false
     same_written s0 s1 same = ap (has_written (now s0)) same ∙ not_less (now s0).writes
-      where
-        not_less : (n : ℕ) → nat_lt n n ≡ false
-        not_less n = grind (arith, nat_tests)
 
     pub format_refused : (e : FormatError) (s0 s1 : Story) (f f' : ℕ) → (m.started ≡ false → IsFresh base m) → LeavesOnly (Allows (setting_of size base) m) (now s0) → Grows (IsEarly (now s0)) s0 s1
         → ((cause : Cause) → e ≢ errors.Damaged cause) → (e ≢ errors.Device → now s1 ≡ now s0) → f' ≡ counted (shut_by (formatting_of e)) f

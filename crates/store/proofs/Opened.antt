@@ -1,7 +1,6 @@
 -- What an opening finds is what the machine allows.
-use Rattle.std.proofs.Common.{◌≡◌, ◌⊎◌, inl, inr, ℕ, Bool, true, false, ◌&&◌, ◌≢◌, Option, Some, None, refl, sym, ap, ◌∙◌, subst, arith}
-use Rattle.std.proofs.lemmas.Bool.Decides.{nat_tests}
-use Rattle.std.specs.Prelude.{nat_lt, Result, Ok, Err}
+use Rattle.std.proofs.Common.{◌≡◌, ◌⊎◌, inl, inr, ℕ, Bool, true, false, ◌&&◌, ◌≢◌, Option, Some, None, refl, sym, ap, ◌∙◌, subst}
+use Rattle.std.specs.Prelude.{Result, Ok, Err}
 use Rattle.sector_dev.specs.Disk.{Disk, Story, Image, now, MayLeave, ShowsImage, shown_image, synced_image, flushed}
 use Rattle.sector_dev.specs.Time.{Grows, LeavesOnly}
 use Rattle.sector_dev.specs.laws.Time.{weaken, now_has}
@@ -20,11 +19,12 @@ use Rattle.store.specs.Calls.{open_call, PlainReply, done, shut_by, may_be_done,
 use Rattle.store.specs.Steps.{Step}
 use Rattle.store.specs.Runs.{Goes}
 use Rattle.store.specs.Machine as machines
-use Rattle.store.specs.Machine.{Held, broken, holds, Setting, Machine, with_doubt, running, opened, shut_down, Allows, AllowsEach, meanwhile, has_written}
+use Rattle.store.specs.Machine.{broken, holds, Machine, with_doubt, running, opened, shut_down, Allows, AllowsEach, meanwhile, has_written}
 use Rattle.store.specs.Held.{whole_reading, tables_held, held_tables, held_of, held_by}
 use Rattle.store.specs.Fits.{setting_of}
 use Rattle.store.specs.Opening.{opening_of, TellsOpening}
 use Rattle.commit.specs.declared.opening_refusal.OpeningRefusal.TheVariants as refusals
+use Rattle.store.proofs.Asked.{not_less}
 
 -- the machine after an opening that found these tables: its settled commands make them
 pub record Finds (base : Tables) (m : Machine) (found : Option Tables) : Type 0 where
@@ -105,9 +105,6 @@ module _ (size : ℕ) (base : Tables) (m : Machine) where
       each d (inl is) image may = same (may_be_done reply && has_written (now s0) d) image (allows image (subst (λ (x : Disk). MayLeave x image) is may))
       each d (inr is) image may =
           same (may_be_done reply && has_written (now s0) d) image (subst (λ (x : Image). Allows (setting_of size base) m x) (sym (only_flushed (now s0) image (subst (λ (x : Disk). MayLeave x image) is may))) (allows (shown_image (now s0)) shows))
-
-  not_less : (n : ℕ) → nat_lt n n ≡ false
-  not_less n = grind (arith, nat_tests)
 
   -- an opening begins no write
   none_written : (s0 s1 : Story) → IsOpening (now s0) (now s1) → has_written (now s0) (now s1) ≡ false

@@ -2,7 +2,7 @@
 use Rattle.std.specs.Prelude.{◌≡◌, ◌≤◌, ◌<◌, ◌+◌, ◌^◌, ◌==◌, ◌&&◌, ◌||◌, ℕ, Bool, true, false, not, nat_le, List, [], ◌∷◌, ◌++◌, length, map, if◌then◌else◌, Some, None, Err, refl}
 use Rattle.std.specs.List.{list_all, AllByRecursion}
 use Rattle.std.proofs.Common.{get_or, take, inl, inr, ⊎_elim, ◌≢◌, sym, ap, ◌∙◌, subst, arith}
-use Rattle.std.proofs.lemmas.Bool.{and_parts, false_from_ne_true, leb-true, cases_eq}
+use Rattle.std.proofs.lemmas.Bool.{and_parts, or_parts, false_from_ne_true, leb-true, cases_eq}
 use Rattle.std.proofs.lemmas.List.{get_or-map, length-map, take_more}
 use Rattle.sector_dev.specs.Disk.{Disk, Image}
 use Rattle.segments.specs.declared.errors.TakeError.{TakeError}
@@ -14,34 +14,34 @@ use Rattle.segments.specs.Runs.{OutOf}
 use Rattle.segments.specs.Sectors.{sector_count}
 use Rattle.segments.specs.declared.extent.Extent.{Extent}
 use Rattle.segments.specs.declared.entries.Usage.{Usage}
-use Rattle.segments.specs.Usages.{Space, same_run, IsUsedIn, SameUsages}
-use Rattle.segments.specs.laws.Usages.{same_run_is}
+use Rattle.segments.specs.Usages.{Space, same_run, IsUsedIn, SameUsages, GivesAll}
+use Rattle.segments.specs.laws.Usages.{same_run_is, among_both}
 use Rattle.segments.specs.Writing.{runs_of, HoldsEach}
 use Rattle.segments.specs.laws.ReadBack.{read_back}
 use Rattle.catalogue.specs.declared.limits.TheConstants.{MAX_SEGMENTS}
-use Rattle.catalogue.specs.Entries.{PlainCatalogue, is_between, is_segment, IsCatalogue, segment_count}
+use Rattle.catalogue.specs.Entries.{PlainCatalogue, is_segment, IsCatalogue, segment_count}
 use Rattle.catalogue.specs.Entries as entries
 use Rattle.catalogue.specs.Text.{list_size}
 use Rattle.catalogue.specs.Reading.{catalogue_at}
 use Rattle.catalogue.specs.View.{catalogue_of}
 use Rattle.commit.specs.declared.sector.Commit.{Commit}
 use Rattle.commit.specs.declared.publishing.Plan.{Plan}
-use Rattle.commit.specs.Placing.{is_among, times_among, Uses, counts_of, contents_of, Takes}
+use Rattle.commit.specs.Placing.{is_among, times_among, Uses, sectors_of, counts_of, contents_of, Takes}
 use Rattle.commit.specs.Publishing.{next_commit}
 use Rattle.commit.specs.Replacing as replacing
-use Rattle.commit.specs.Replacing.{IsPieceOf, IsMade, CanReplace}
+use Rattle.commit.specs.Replacing.{IsPieceOf, CanReplace}
 use Rattle.commit.specs.Standing.{is_size, is_extent, is_on_device, is_apart, are_apart, runs_fault, Stands}
-use Rattle.commit.specs.laws.Taking.{TookAll, GivesAll, all_given_back}
+use Rattle.commit.specs.laws.Taking.{TookAll, all_given_back}
 use Rattle.commit.specs.laws.Apart.{on_device_is}
 use Rattle.commit.specs.laws.Frame.{fault_none}
-use Rattle.commit.specs.laws.Placed.{plan_follows, placed_extent, taken_free, uses_used, taken_uses, given_uses, among_both}
+use Rattle.commit.specs.laws.Placed.{plan_follows, placed_extent, taken_free, uses_used, taken_uses, given_uses}
 use Rattle.commit.specs.laws.Fit.{fit_again, times_both, times_some, some_times, once, all_on}
 use Rattle.store.specs.declared.stored.StoredCatalogue.{StoredCatalogue}
 use Rattle.store.specs.Held.{whole_reading, catalogue_or_cause}
 use Rattle.store.specs.Changes.{PlainChange, PlainEdit, IsChange, edited, given_up, placed_segments, HoldsStreams}
 use Rattle.store.specs.Carrying.{HasNext, unplaced, outline, asked_sizes, IsCarried}
 use Rattle.store.specs.inner.Prepared.{placed, taking_refusal, IsPrepared}
-use Rattle.store.specs.laws.Segments.{stream_sectors, are_streams, placed_number, placed_runs, placed_sound, took_front, unplaced_number, unplaced_sound}
+use Rattle.store.specs.laws.Segments.{are_streams, placed_number, placed_runs, placed_sound, took_front, unplaced_number, unplaced_sound}
 use Rattle.store.specs.laws.Edited.{edited_stands, edited_size, edited_count, edited_times, given_up_times, edited_runs}
 
 -- ---- the catalogues of a change
@@ -64,7 +64,7 @@ module _ (c : PlainCatalogue) (change : PlainChange) (sound : IsChange c change)
     pub placed_segments_sound : (old new : Space) (text : Run) → old.size < 2 ^ 64 → TookAll old new (asked_sizes c change) (places ++ text ∷ []) → list_all is_segment (placed_segments places change.streams change.counts) ≡ true
     placed_segments_sound old new text low all =
         placed_sound old.size (IsUsedIn old.entries) places change.streams change.counts low
-        (took_front old.size (IsUsedIn old.entries) (map stream_sectors change.streams) places (sector_count (list_size (outline c change))) text all.took) (are_streams change.streams sound.some sound.short) sound.rows
+        (took_front old.size (IsUsedIn old.entries) (map sectors_of change.streams) places (sector_count (list_size (outline c change))) text all.took) (are_streams change.streams sound.some sound.short) sound.rows
 
     pub placed_stands : (old new : Space) (text : Run) → IsCatalogue c → segment_count (outline c change) ≤ MAX_SEGMENTS → old.size < 2 ^ 64 → TookAll old new (asked_sizes c change) (places ++ text ∷ []) → IsCatalogue (placed c change places)
     placed_stands old new text stands few low all =
@@ -112,18 +112,13 @@ holds_streams image [] more counts many holds = refl
 holds_streams image (x ∷ xs) more [] many holds = absurd (omega arith)
 holds_streams image (x ∷ xs) more (count ∷ counts) many holds = (read_back image x.run.start x.bytes holds.0, refl, holds_streams image xs more counts (omega arith) holds.1)
 
-some_sizes : (streams : List (List ℕ)) (n : ℕ) → AllByRecursion (λ (stream : List ℕ). 1 ≤ length stream) streams → 1 ≤ n → AllByRecursion (λ (m : ℕ). 1 ≤ m) (map stream_sectors streams ++ n ∷ [])
+some_sizes : (streams : List (List ℕ)) (n : ℕ) → AllByRecursion (λ (stream : List ℕ). 1 ≤ length stream) streams → 1 ≤ n → AllByRecursion (λ (m : ℕ). 1 ≤ m) (map sectors_of streams ++ n ∷ [])
 some_sizes [] n some one = (one, tt)
 some_sizes (stream ∷ streams) n some one = (omega (arith, some.0), some_sizes streams n some.1 one)
 
 -- what is given up was named
 given_named : (c : PlainCatalogue) (edit : PlainEdit) (run : Run) → is_among (given_up c edit) run ≡ true → is_among (entries.runs_of c) run ≡ true
 given_named c edit run is = let some = times_some (given_up c edit) run is in let few = given_up_times c edit run in some_times (entries.runs_of c) run (omega (arith, some, few))
-
-or_parts : (x y : Bool) → (x || y) ≡ false → (x ≡ false) × (y ≡ false)
-or_parts false false is = (refl, refl)
-or_parts false true is = absurd (cc is)
-or_parts true y is = absurd (cc is)
 
 -- of runs in use that were taken or given up, which are left
 left_over : (w r g l t : Bool) → (w ≡ true → r ≡ false) → (g ≡ true → r ≡ true) → ((l || (t || false)) ≡ true → (w || r) ≡ false)
@@ -157,11 +152,11 @@ module _ (old new : Space) (k : Commit) (c : PlainCatalogue) (change : PlainChan
   many = length-map p.pieces (λ (x : PlainPiece). x.run) ∙ sym (length-map p.pieces (λ (x : PlainPiece). x.bytes)) ∙ ap (λ (xs : List (List ℕ)). length xs) p.streams
 
   -- given back, each run is used for what it was
-  pub failed_usages : (last : Space) → GivesAll new last (runs_of (plain_pieces plan.pieces.items)) → SameUsages old.entries last.entries
-  failed_usages last gives = all_given_back old new last (asked_sizes c change) taken p.took (subst (λ (rs : List Run). GivesAll new last rs) runs_are gives)
+  pub failed_usages : (last : Space) → GivesAll new last plan.runs.items → SameUsages old.entries last.entries
+  failed_usages last gives = all_given_back old new last (asked_sizes c change) taken p.took (subst (λ (rs : List Run). GivesAll new last rs) p.runs gives)
 
   extent : is_extent old.size 4 (record { run = p.run; bytes = list_size (outline c change) }) ≡ true
-  extent = placed_extent old new (map stream_sectors change.streams) (runs_of p.pieces) p.run (list_size (outline c change)) (omega arith) p.took
+  extent = placed_extent old new (map sectors_of change.streams) (runs_of p.pieces) p.run (list_size (outline c change)) (omega arith) p.took
 
   pub placed_then : is_on_device old.size plan.commit.catalogue.run ≡ true
   placed_then =
@@ -267,7 +262,7 @@ taking_carried size used k c change takings.OutOfMemory next few takes = tt
 
 module _ (c : PlainCatalogue) (change : PlainChange) (sound : IsChange c change) (contents : List (List ℕ)) (plain_is : contents ≡ change.streams) (bytes : ℕ) (bytes_is : bytes ≡ list_size (outline c change)) where
   pub asked : counts_of contents bytes ≡ asked_sizes c change
-  asked = λ i. map stream_sectors (plain_is i) ++ sector_count (bytes_is i) ∷ []
+  asked = λ i. map sectors_of (plain_is i) ++ sector_count (bytes_is i) ∷ []
 
   module _ (old new : Space) (limits : is_size old.size ≡ true) (few : segment_count (outline c change) ≤ MAX_SEGMENTS) (pieces ps : List PlainPiece) (run : Run) (runs : List Run) (counts : List ℕ)
       (all : TookAll old new (counts_of contents bytes) runs) (runs_is : runs ≡ runs_of pieces ++ run ∷ []) (contents_is : contents_of pieces ≡ contents) (ps_is : ps ≡ pieces) (counts_is : counts ≡ change.counts) where
@@ -302,9 +297,9 @@ module _ (c : PlainCatalogue) (change : PlainChange) (sound : IsChange c change)
 
     pub prepared : (k : Commit) (text : List ℕ) (next : StoredCatalogue) (plan : Plan StoredCatalogue) (back : List Run) → k.device_sectors ≡ old.size → HasNext k
         → catalogue_of next.list ≡ edited c change.edit (placed_segments (runs_of ps) (contents_of ps) counts) → catalogue_at text ≡ Some (catalogue_of next.list) → length text ≡ list_size (catalogue_of next.list)
-        → plan.commit ≡ next_commit k run (length text) → plan.catalogue ≡ next → plain_pieces plan.pieces.items ≡ pieces ++ record { run = run; bytes = text } ∷ [] → back ≡ given_up c change.edit ++ k.catalogue.run ∷ []
+        → plan.commit ≡ next_commit k run (length text) → plan.catalogue ≡ next → plain_pieces plan.pieces.items ≡ pieces ++ record { run = run; bytes = text } ∷ [] → plan.runs.items ≡ runs → back ≡ given_up c change.edit ++ k.catalogue.run ∷ []
         → IsPrepared old new k c change plan back
-    prepared k text next plan back own epoch list_is text_is size_is commit_is catalogue_is pieces_is back_is =
+    prepared k text next plan back own epoch list_is text_is size_is commit_is catalogue_is pieces_is taken_is back_is =
         let long : length text ≡ list_size (outline c change) = size_is ∙ ap list_size (list_is ∙ given_is) ∙ placed_size c change sound (runs_of pieces) as_many in
         record {
           next = epoch;
@@ -315,6 +310,7 @@ module _ (c : PlainCatalogue) (change : PlainChange) (sound : IsChange c change)
           took = took;
           streams = streams_is;
           whole = pieces_is;
+          runs = taken_is ∙ runs_is;
           catalogue = ap (λ (s : StoredCatalogue). catalogue_of s.list) catalogue_is ∙ list_is ∙ given_is;
           found = text_is ∙ ap (λ (s : StoredCatalogue). Some (catalogue_of s.list)) (sym catalogue_is);
           size = long;

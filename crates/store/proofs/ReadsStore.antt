@@ -1,10 +1,12 @@
 -- A call that reads a table is a call of the machine: it changes nothing, unless its device fails.
 use Rattle.std.specs.Prelude.{◌≢◌, ◌||◌, ◌&&◌, min, if◌then◌else◌}
 use Rattle.std.proofs.Common.{◌≡◌, ◌+◌, ◌-◌, ◌^◌, ℕ, Bool, true, false, List, [], Option, Some, None, refl, sym, ap, ◌∙◌, subst}
+use Rattle.std.proofs.lemmas.Bool.{and_right}
 use Rattle.sector_dev.specs.Disk.{Disk, Story, Image, now, MayLeave, shown_image, synced_image}
 use Rattle.sector_dev.specs.Time.{Grows, LeavesOnly, OnlyReads}
 use Rattle.sector_dev.specs.laws.Time.{weaken, now_read}
 use Rattle.sector_dev.specs.declared.device.SectorDevice.{Ghosts}
+use Rattle.segments.specs.laws.Usages.{or_false}
 use Rattle.cells.specs.Cell.{PlainTable}
 use Rattle.catalogue.specs.Entries.{PlainEntry, IsCatalogue, is_entry}
 use Rattle.catalogue.specs.Edits.{entry_of}
@@ -44,16 +46,12 @@ shown_is_synced d quiet = λ i n. quiet n i
 none_written : (old new : Story) → OnlyReads old new → has_written (now old) (now new) ≡ false
 none_written old new reads = ap (has_written (now old)) (now_read old new reads) ∙ not_less (now old).writes
 
-never : (b : Bool) → (b && false) ≡ false
-never true = refl
-never false = refl
-
 -- at each moment the machine allows what it allowed
 pub moments_read : (s : Setting) (m : Machine) (call : PlainCall) (reply : PlainReply) (old new : Story) → LeavesOnly (Allows s m) (now old) → OnlyReads old new → Grows (AllowsEach s call reply m (now old)) old new
 moments_read s m call reply old new allows reads = weaken each reads
   where
     written : (d : Disk) → d ≡ now old → (may_be_done reply && has_written (now old) d) ≡ false
-    written d is = ap (λ (b : Bool). may_be_done reply && b) (ap (has_written (now old)) is ∙ not_less (now old).writes) ∙ never (may_be_done reply)
+    written d is = ap (λ (b : Bool). may_be_done reply && b) (ap (has_written (now old)) is ∙ not_less (now old).writes) ∙ and_right (may_be_done reply) false refl
 
     each : (d : Disk) → d ≡ now old → AllowsEach s call reply m (now old) d
     each d is image may =
@@ -96,17 +94,13 @@ module _ {D : Type 0} {g : Ghosts D} (size : D → ℕ) (story : D → Story) (f
   fits_reading ends quiet reads =
       let later : now (story new.device) ≡ now (story old.device) = now_read (story old.device) (story new.device) (reads.device.moments told) in
       let allows : LeavesOnly (Allows own m) (now (story new.device)) = subst (λ (d : Disk). LeavesOnly (Allows own m) d) (sym later) fits.device.allows in
-      let halts : new.halted ≡ old.halted = reads.halts ∙ ap (λ (b : Bool). old.halted || b) quiet ∙ or_no old.halted in
+      let halts : new.halted ≡ old.halted = reads.halts ∙ ap (λ (b : Bool). old.halted || b) quiet ∙ or_false old.halted in
       record {
         phase = fits.phase ∙ ap (λ (b : Bool). if b then halted else running) (sym halts);
         started = fits.started;
         device = device_after m ends reads (refl, refl, refl) allows;
         sound = λ on. sound_after ends reads (fits.sound on);
       }
-    where
-      or_no : (b : Bool) → (b || false) ≡ b
-      or_no true = refl
-      or_no false = refl
 
   -- where the device does not fail
   pub stays_reading : (call : PlainCall) (reply ends : PlainReply) → is_device_reply ends ≡ false → is_device_reply reply ≡ false → TellsFound own reply (now (story old.device))

@@ -1,10 +1,10 @@
 -- A command ends by what stood on the disk when it was called: its commit, its catalogue and the runs that they use.
-use Rattle.std.specs.Prelude.{◌||◌}
-use Rattle.std.proofs.Common.{◌≡◌, ℕ, Bool, true, false, Result, Ok, Err, refl, ap, ◌∙◌, subst}
+use Rattle.std.proofs.Common.{◌≡◌, ℕ, Bool, true, Result, Ok, Err, ap, ◌∙◌, subst}
 use Rattle.sector_dev.specs.Disk.{Disk, Story, now, shown_image}
 use Rattle.sector_dev.specs.declared.device.SectorDevice.{Ghosts}
 use Rattle.segments.specs.declared.run.Run.{Run}
 use Rattle.segments.specs.Usages.{is_used, usage_of, IsUsedIn}
+use Rattle.segments.specs.laws.Usages.{or_false}
 use Rattle.catalogue.specs.Entries.{PlainCatalogue}
 use Rattle.commit.specs.declared.sector.Commit.{Commit}
 use Rattle.commit.specs.Placing.{is_among}
@@ -31,14 +31,10 @@ room_by by_device size before after c r ended = tt
 room_by by_halt size before after c r ended = tt
 room_by elsewhere size before after c r ended = tt
 
-or_no : (b : Bool) → (b || false) ≡ b
-or_no true = refl
-or_no false = refl
-
 module _ {D : Type 0} {g : Ghosts D} (size : D → ℕ) (story : D → Story) (base : Tables) (m : Machine) (store : Store D g) (sound : IsSound size story base m store) where
   -- the runs in use are those of the commit and its catalogue
   same_used : (run : Run) → is_used (usage_of store.opened.map.entries run) ≡ is_among (used_runs whole_reading store.opened.commit (listed_in store)) run
-  same_used run = ap is_used (sound.uses run) ∙ or_no (is_among (used_runs whole_reading store.opened.commit (listed_in store)) run)
+  same_used run = ap is_used (sound.uses run) ∙ or_false (is_among (used_runs whole_reading store.opened.commit (listed_in store)) run)
 
   pub carried_out : (c : PlainCommand) (change : PlainChange) (result : Result (Unit {0}) Refusal) (k' : Commit) (c' : PlainCatalogue) (after : Disk)
       → IsDecided true (shown_image (now (story store.device))) (listed_in store) c (Ok change) → standing whole_reading (size store.device) (shown_image after) ≡ rules k' c'

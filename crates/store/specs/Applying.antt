@@ -16,7 +16,7 @@ use Rattle.tables.specs.declared.refusal.Refusal.{Refusal}
 use Rattle.tables.specs.Tables.{Tables}
 use Rattle.tables.specs.Commands.{PlainCommand}
 use Rattle.store.specs.declared.store.Store.{Store}
-use Rattle.store.specs.Calls.{PlainCall, PlainReply, done, refused}
+use Rattle.store.specs.Calls.{PlainCall, PlainReply}
 use Rattle.store.specs.Machine.{Machine}
 use Rattle.store.specs.Held.{whole_reading}
 use Rattle.store.specs.Runs.{Goes}
@@ -86,11 +86,6 @@ pub record HasWritten {D : Type 0} {g : Ghosts D} (size : D → ℕ) (story : D 
   pub holds : HasDone (size (device_of old)) (IsUsedIn old.opened.map.entries) (commit_of old) (listed_in old) (now (story (device_of old))) command (synced_image (now (story (device_of new))))
 
 -- ---- what a call leaves
-
--- what a call replies that gives nothing
-abbrev pub reply_of : Result (Unit {0}) Refusal → PlainReply
-reply_of (Ok unit) = done
-reply_of (Err r) = refused r
 
 -- a call of an open store: some machine goes on, and the store stands for it
 pub record GoesOn {D : Type 0} {g : Ghosts D} (size : D → ℕ) (story : D → Story) (failed : D → ℕ) (base : Tables) (m : Machine) (call : PlainCall) (reply : PlainReply) (old new : Store D g) : Type 0 where

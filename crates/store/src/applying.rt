@@ -24,7 +24,7 @@ impl<D: SectorDevice> Store<D> {
     ghost use Rattle.store.specs.Calls.{apply_call, counted};
     ghost use Rattle.store.specs.Machine.{Machine};
     ghost use Rattle.store.specs.Fits.{StoreFits, device_of, is_halted, IsOnDisk};
-    ghost use Rattle.store.specs.Applying.{GoesOn, reply_of, IsApplied, IsKept, Writes, HasWritten};
+    ghost use Rattle.store.specs.Applying.{GoesOn, IsApplied, IsKept, Writes, HasWritten};
 
     // What a command changes. Only an append and a query that is saved read the device.
     fn decide(&mut self, alloc: Global, command: Command) -> Result<Change, Refusal>
@@ -65,7 +65,7 @@ impl<D: SectorDevice> Store<D> {
     pub fn apply(&mut self, alloc: Global, command: Command) -> Result<(), Refusal>
         // On a store that stands for a machine: it does what the command does to the tables of the settled commands, or is refused as they say.
         ensures goes { D.tells ≡ true → (base : Tables) (m : Machine) → StoreFits D.size D.story base m self.old
-            → GoesOn D.size D.story D.failed base m (apply_call (command_of command)) (reply_of result) self.old self.new }
+            → GoesOn D.size D.story D.failed base m (apply_call (command_of command)) (ended result) self.old self.new }
         // On any store and any device: what its catalogue decides of the command, and for an append or a query that is saved the table that was
         // read, is carried out or told; each refusal has its one reason.
         ensures applied { is_halted self.old ≡ false → IsApplied D.size D.story D.tells self.old (command_of command) result self.new }
@@ -84,7 +84,7 @@ impl<D: SectorDevice> Store<D> {
         ensures written { OnOk result (D.tells ≡ true → IsOnDisk D.size D.story self.old
             → HasWritten D.size D.story self.old (command_of command) self.new) }
         ensures size { D.size (device_of self.new) ≡ D.size (device_of self.old) }
-        ensures count { D.failed (device_of self.new) ≡ counted (reply_of result) (D.failed (device_of self.old)) }
+        ensures count { D.failed (device_of self.new) ≡ counted (ended result) (D.failed (device_of self.old)) }
     {
         if self.halted {
             return Err(Refusal::Halted);

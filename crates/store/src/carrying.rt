@@ -1,7 +1,7 @@
 // A change is carried out: the one place where a command writes.
 ghost use Rattle.std.specs.Prelude.{◌≡◌, ◌≢◌, ◌≤◌, ◌++◌, ◌∷◌, [], ℕ, Ok, Err, Some, OnErr, IfOk, IfErr, length, true};
 ghost use Rattle.std.specs.List.{list_all};
-ghost use Rattle.segments.specs.Usages.{IsUsedIn, SameUsages};
+ghost use Rattle.segments.specs.Usages.{IsUsedIn, SameUsages, GivesAll};
 ghost use Rattle.segments.specs.Pieces.{bytes_of_parts, plain_pieces};
 ghost use Rattle.segments.specs.Writing.{runs_of};
 ghost use Rattle.canonical_write.specs.View.{joined_parts, streams_in};
@@ -12,7 +12,6 @@ ghost use Rattle.catalogue.specs.Reading.{catalogue_at};
 ghost use Rattle.catalogue.specs.View.{catalogue_of};
 ghost use Rattle.commit.specs.Placing.{Takes, contents_of, plain_contents};
 ghost use Rattle.commit.specs.Standing.{is_size};
-ghost use Rattle.commit.specs.laws.Taking.{GivesAll};
 ghost use Rattle.store.specs.Changes.{change_of, edit_of, CanChange, IsChange, edited, given_up, placed_segments};
 ghost use Rattle.store.specs.Carrying.{HasNext, asked_sizes, IsCarried, outline};
 ghost use Rattle.store.specs.inner.Prepared.{taking_refusal, IsPrepared};
@@ -24,7 +23,7 @@ use crate::stored::StoredCatalogue;
 use array_build::Buffer;
 use canonical_write::EncodedPieces;
 use catalogue::{MAX_SEGMENTS, encode, one_text_each, texts_have_these_sizes};
-use commit::{Commit, Opened, Plan, give_runs, place, plan_next, publish};
+use commit::{Commit, Opened, Plan, place, plan_next, publish};
 use sector_dev::SectorDevice;
 use segments::{FreeMap, Part, Piece, Run, TakeError};
 use std::alloc::{AllocError, Global};
@@ -35,15 +34,6 @@ use tables::{Limit, Refusal};
 struct Prepared<'a> {
     plan: Plan<'a, StoredCatalogue>,
     back: Vec<Run>,
-}
-
-// Gives the runs of these pieces back.
-fn give_pieces(map: &mut FreeMap, pieces: &[Piece<'_>])
-    ensures { GivesAll map.old map.new (runs_of (plain_pieces pieces.now)) }
-{
-    for piece in pieces {
-        map.give(piece.run);
-    }
 }
 
 // What goes back once an edit was published: what it gives up, and the run of the text that rules now.
@@ -182,7 +172,7 @@ fn plan_change<'a>(
             back,
         }),
         Err(error) => {
-            give_runs(map, &places.runs);
+            map.give_each(&places.runs);
             Err(error.into())
         }
     }
@@ -234,10 +224,11 @@ fn settle(opened: &mut Opened<StoredCatalogue>, prepared: Prepared<'_>)
         commit,
         catalogue,
         pieces: _pieces,
+        runs: _runs,
     } = plan;
     opened.commit = commit;
     opened.catalogue = catalogue;
-    give_runs(&mut opened.map, &back);
+    opened.map.give_each(&back);
 }
 
 impl<D: SectorDevice> Store<D> {
@@ -251,7 +242,8 @@ impl<D: SectorDevice> Store<D> {
     ghost use Rattle.store.specs.Fits.{StoreFits, device_of, listed_in, setting_of, IsOnDisk};
     ghost use Rattle.store.specs.Changes.{MakesOf};
     ghost use Rattle.store.specs.Deciding.{IsDecided};
-    ghost use Rattle.store.specs.Applying.{GoesOn, reply_of, EndsAs, IsKept, Writes, HasWritten};
+    ghost use Rattle.store.specs.Reading.{ended};
+    ghost use Rattle.store.specs.Applying.{GoesOn, EndsAs, IsKept, Writes, HasWritten};
 
     /// Carries out a change of the catalogue: makes the streams of the new segments, takes runs, writes these and the new catalogue, and publishes them.
     ///
@@ -261,7 +253,7 @@ impl<D: SectorDevice> Store<D> {
         requires sound { CanChange (listed_in self.old) (change_of change.now) }
         requires on { self.old.halted ≡ false }
         ensures size { D.size (device_of self.new) ≡ D.size (device_of self.old) }
-        ensures count { D.failed (device_of self.new) ≡ counted (reply_of result) (D.failed (device_of self.old)) }
+        ensures count { D.failed (device_of self.new) ≡ counted (ended result) (D.failed (device_of self.old)) }
         ensures carried { EndsAs D.size self.old (Ok (change_of change.now)) result self.new }
         ensures halts { (self.new.halted ≡ true) ↔ (result ≡ Err Refusal.Device) }
         ensures not_halted { IfErr result (λ e. e ≢ Refusal.Halted) }
@@ -280,7 +272,7 @@ impl<D: SectorDevice> Store<D> {
             → verdict (tables_now (setting_of (D.size (device_of self.old)) base) m) c ≡ Ok new
             → MakesOf (tables_now (setting_of (D.size (device_of self.old)) base) m) (change_of change.now) new
             → IsDecided true (shown_image (now (D.story (device_of self.old)))) (listed_in self.old) c (Ok (change_of change.now))
-            → GoesOn D.size D.story D.failed base m (apply_call c) (reply_of result) self.old self.new }
+            → GoesOn D.size D.story D.failed base m (apply_call c) (ended result) self.old self.new }
     {
         let pieces = change.pieces(alloc)?;
         let prepared = prepare(
@@ -297,7 +289,7 @@ impl<D: SectorDevice> Store<D> {
                 Ok(())
             }
             Err(_) => {
-                give_pieces(&mut self.opened.map, &prepared.plan.pieces);
+                self.opened.map.give_each(&prepared.plan.runs);
                 self.halted = true;
                 Err(Refusal::Device)
             }

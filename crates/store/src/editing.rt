@@ -14,10 +14,14 @@ ghost use Rattle.store.specs.laws.Edited.{segments_at};
 
 use crate::change::Edit;
 use arrow_schema::Schema;
-use catalogue::{Catalogue, Segment, TableEntry};
+use catalogue::{Catalogue, MAX_SEGMENT_ROWS, Segment, TableEntry};
+use cells::MAX_PIECE_ROWS;
 use sector_dev::SECTOR_BYTES;
 use segments::{Extent, Part, Piece, Run, byte_count};
 use std::alloc::{AllocError, Global};
+
+// A segment holds the rows of one piece.
+const _: () = prove!(MAX_SEGMENT_ROWS == MAX_PIECE_ROWS as u64);
 
 fn new_entry(
     alloc: Global,

@@ -41,6 +41,7 @@ pub record IsPrepared (old new : Space) (k : Commit) (c : PlainCatalogue) (chang
   pub took : TookAll old new (asked_sizes c change) (runs_of pieces ++ run ∷ [])
   pub streams : contents_of pieces ≡ change.streams
   pub whole : plain_pieces plan.pieces.items ≡ pieces ++ record { run = run; bytes = text } ∷ []
+  pub runs : plan.runs.items ≡ runs_of pieces ++ run ∷ []
   pub catalogue : catalogue_of plan.catalogue.list ≡ placed c change (runs_of pieces)
   pub found : catalogue_at text ≡ Some (catalogue_of plan.catalogue.list)
   pub size : length text ≡ list_size (outline c change)

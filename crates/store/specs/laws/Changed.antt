@@ -4,11 +4,9 @@ use Rattle.std.proofs.Common.{sym, ap, ◌∙◌, arith, append_assoc}
 use Rattle.std.proofs.lemmas.Bool.{and_parts}
 use Rattle.std.proofs.lemmas.Cmp.{nat_list_cmp_total}
 use Rattle.std.proofs.lemmas.Slice.Eq.{bytes_eq-Decides}
-use Rattle.std.specs.declared.cmp.Ordering.{Ordering}
-use Rattle.std.specs.declared.cmp.Ordering.TheVariants.{Less, Equal, Greater}
+use Rattle.std.specs.declared.cmp.Ordering.TheVariants.{Less, Equal}
 use Rattle.std.specs.Str.{bytes_eq}
-use Rattle.std.specs.Cmp.Lexicographic.{slice_cmp}
-use Rattle.std.specs.Ordering.{nat_cmp, match_ordering}
+use Rattle.std.specs.Ordering.{match_ordering}
 use Rattle.std.specs.Cmp.{tied_itself}
 use Rattle.std.specs.FinMap as maps
 use Rattle.sector_dev.specs.Disk.{Image}
@@ -18,6 +16,7 @@ use Rattle.values.specs.Table.{table_from}
 use Rattle.catalogue.specs.declared.entry.Segment.{Segment}
 use Rattle.catalogue.specs.Entries.{PlainEntry, PlainCatalogue, names_of, comes_before, ascends, IsCatalogue}
 use Rattle.catalogue.specs.Edits.{entry_of, with_entry, without, named, renamed, with_segments, with_more}
+use Rattle.catalogue.specs.laws.Order.{order, by_order}
 use Rattle.tables.specs.Tables.{Tables, no_tables, table_at, with_table, without_table, table_count}
 use Rattle.tables.specs.Verdict.{joined}
 use Rattle.tables.specs.laws.Maps.{put_apart, put_over, put_and_taken, put_not_taken, none_taken}
@@ -57,15 +56,6 @@ rows_behind schema (g ∷ gs) b image =
     ap (joined_rows (segment_rows schema g image)) (rows_behind schema gs b image) ∙ sym (joined_after (segment_rows schema g image) (rows_held schema gs image) (rows_held schema b image))
 
 -- ---- an entry in its place
-
-abbrev order : List ℕ → List ℕ → Ordering
-order = slice_cmp nat_cmp
-
--- an ordering, and that it is so
-by_order : {G : Type 0} (o : Ordering) → (o ≡ Less → G) → (o ≡ Equal → G) → (o ≡ Greater → G) → G
-by_order Less l e g = l refl
-by_order Equal l e g = e refl
-by_order Greater l e g = g refl
 
 less_apart : (a b : List ℕ) → order a b ≡ Less → a ≢ b
 less_apart a b less same = let tie : order a a ≡ Equal = tied_itself nat_list_cmp_total a in let here : order a a ≡ Less = ap (order a) same ∙ less in absurd (cc (tie, here))

@@ -25,9 +25,6 @@ in_right : (rs ss : List Run) (n : ℕ) → InSome ss n → InSome (rs ++ ss) n
 in_right [] ss n some = some
 in_right (r ∷ rs) ss n some = inr (in_right rs ss n some)
 
-run_of : Segment → Run
-run_of segment = segment.place.run
-
 -- the sectors of a segment are those that its bytes need
 sectors_of : (segment : Segment) → is_segment segment ≡ true → segment.place.run.count ≡ sector_count segment.place.bytes
 sectors_of segment sound =

@@ -6,10 +6,9 @@ use Rattle.std.proofs.lemmas.Bool.{and_parts, eqb-true}
 use Rattle.std.proofs.lemmas.List.{length-append}
 use Rattle.std.proofs.lemmas.List.Sums.{sum_by-cons}
 use Rattle.std.proofs.lemmas.Cmp.{nat_list_cmp_total}
-use Rattle.std.specs.declared.cmp.Ordering.{Ordering}
-use Rattle.std.specs.declared.cmp.Ordering.TheVariants.{Less, Equal, Greater}
+use Rattle.std.specs.declared.cmp.Ordering.TheVariants.{Less}
 use Rattle.std.specs.Cmp.Lexicographic.{slice_cmp}
-use Rattle.std.specs.Ordering.{nat_cmp, is_lt}
+use Rattle.std.specs.Ordering.{nat_cmp}
 use Rattle.std.specs.FinMap as maps
 use Rattle.sector_dev.specs.Disk.{Image}
 use Rattle.segments.specs.Sectors.{bytes_at}
@@ -22,6 +21,7 @@ use Rattle.ipc_stream.specs.Meaning.{meaning}
 use Rattle.catalogue.specs.declared.entry.Segment.{Segment}
 use Rattle.catalogue.specs.Entries.{PlainEntry, PlainCatalogue, names_of, comes_before, ascends, row_count, IsCatalogue}
 use Rattle.catalogue.specs.Edits.{entry_of, tables_of}
+use Rattle.catalogue.specs.laws.Order.{less_is}
 use Rattle.tables.specs.Tables.{Tables, no_tables, table_at, with_table, table_count, row_counts}
 use Rattle.store.specs.Held.{rows_where, rows_in_bytes, segment_rows, joined_rows, rows_held, table_held, with_held, tables_held}
 use Rattle.store.specs.Verdicts.{TellsTable, Lists}
@@ -73,11 +73,6 @@ abbrev AreHeld : Image → PlainCatalogue → List (List ℕ × PlainTable) → 
 AreHeld image [] xs = xs ≡ []
 AreHeld image (e ∷ es) [] = ⊥
 AreHeld image (e ∷ es) (x ∷ xs) = (x.0 ≡ e.name) × (table_held image e ≡ Some x.1) × AreHeld image es xs
-
-less_is : (o : Ordering) → is_lt o ≡ true → o ≡ Less
-less_is Less h = refl
-less_is Equal h = absurd (cc h)
-less_is Greater h = absurd (cc h)
 
 -- a name that comes before the others stands in front of them
 put_first : (image : Image) (c : PlainCatalogue) (name : List ℕ) (table : PlainTable) (xs : List (List ℕ × PlainTable)) → comes_before name (names_of c) ≡ true → AreHeld image c xs

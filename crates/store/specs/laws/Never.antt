@@ -2,7 +2,9 @@
 use Rattle.std.specs.Prelude.{◌≡◌, ◌||◌, ℕ, zero, suc, Bool, true, false, List, [], ◌∷◌, take, drop, refl}
 use Rattle.std.specs.List.{list_any}
 use Rattle.std.proofs.Common.{sym, ap, ◌∙◌}
+use Rattle.std.proofs.lemmas.Bool.{or_from, or_left}
 use Rattle.sector_dev.specs.Disk.{Story}
+use Rattle.segments.specs.laws.Usages.{or_false}
 use Rattle.commit.specs.declared.cause.Cause.{Cause}
 use Rattle.commit.specs.declared.opening_refusal.OpeningRefusal.TheVariants as openings
 use Rattle.store.specs.Calls.{PlainCall, apply_call, format_call, open_call, close_call, tables_call, schema_call, read_call, export_call, PlainReply, shut_by, is_change}
@@ -11,10 +13,6 @@ use Rattle.store.specs.Steps.{Step}
 use Rattle.store.specs.Runs.{Run}
 use Rattle.store.specs.History.{any_change, tells_damage, tells_no_store}
 use Rattle.store.specs.laws.Settled.{Moves, one_step}
-
-none_of_two : (a b : Bool) → a ≡ false → b ≡ false → (a || b) ≡ false
-none_of_two false b first others = others
-none_of_two true b first others = absurd (cc first)
 
 -- ---- damage
 
@@ -38,7 +36,7 @@ pub tells_none_damaged : (s : Setting) (calls : List PlainCall) (replies : List 
 unfolding Run
 tells_none_damaged s [] [] m old failed m' new failed' run = refl
 tells_none_damaged s (call ∷ calls) (reply ∷ replies) m old failed m' new failed' run =
-    none_of_two (tells_damage reply) (list_any tells_damage replies) (sound_reply s m call reply _ run.machine run.goes.step)
+    or_from (tells_damage reply) (list_any tells_damage replies) (sound_reply s m call reply _ run.machine run.goes.step)
     (tells_none_damaged s calls replies run.machine run.story run.failures m' new failed' run.others)
 tells_none_damaged s [] (reply ∷ replies) m old failed m' new failed' run = absurd run
 tells_none_damaged s (call ∷ calls) [] m old failed m' new failed' run = absurd run
@@ -71,24 +69,17 @@ unfolding Run
 tells_a_store s [] [] m old failed m' new failed' run started = refl
 tells_a_store s (call ∷ calls) (reply ∷ replies) m old failed m' new failed' run started =
     let moves = one_step s m call reply _ run.machine run.goes.step in
-    none_of_two (tells_no_store reply) (list_any tells_no_store replies) (started_reply s m call reply _ run.machine started run.goes.step)
+    or_from (tells_no_store reply) (list_any tells_no_store replies) (started_reply s m call reply _ run.machine started run.goes.step)
     (tells_a_store s calls replies run.machine run.story run.failures m' new failed' run.others (true_unless m.started run.machine.started started (λ no. (moves.starts no).0)))
 tells_a_store s [] (reply ∷ replies) m old failed m' new failed' run started = absurd run
 tells_a_store s (call ∷ calls) [] m old failed m' new failed' run started = absurd run
 
-or_none : (b : Bool) → (b || false) ≡ true → b ≡ true
-or_none true is = refl
-or_none false is = absurd (cc is)
-
 -- and a call that was done starts it
-or_true : (a b : Bool) → a ≡ true → (a || b) ≡ true
-or_true a b is = ap (λ (x : Bool). x || b) is
-
 started_next : (m next : Machine) (call : PlainCall) (reply : PlainReply) → Moves m call reply next → (more : Bool) → (m.started || (is_change call reply || more)) ≡ true → (next.started || more) ≡ true
 started_next m next call reply moves more is = by_next next.started refl
   where
     by_next : (b : Bool) → next.started ≡ b → (next.started || more) ≡ true
-    by_next true now = or_true next.started more now
+    by_next true now = or_left next.started more now
     by_next false early =
         let before = moves.starts early in
         ap (λ (b : Bool). b || more) early ∙ sym (λ i. before.0 i || (before.1 i || more)) ∙ is
@@ -99,7 +90,7 @@ unfolding Run
 tells_a_store_since s [] [] m old failed m' new failed' run zero there = refl
 tells_a_store_since s [] [] m old failed m' new failed' run (suc i) there = refl
 tells_a_store_since s (call ∷ calls) (reply ∷ replies) m old failed m' new failed' run zero there =
-    tells_a_store s (call ∷ calls) (reply ∷ replies) m old failed m' new failed' run (or_none m.started there)
+    tells_a_store s (call ∷ calls) (reply ∷ replies) m old failed m' new failed' run (sym (or_false m.started) ∙ there)
 tells_a_store_since s (call ∷ calls) (reply ∷ replies) m old failed m' new failed' run (suc i) there =
     tells_a_store_since s calls replies run.machine run.story run.failures m' new failed' run.others i
     (started_next m run.machine call reply (one_step s m call reply _ run.machine run.goes.step) (any_change (take i calls) (take i replies)) there)

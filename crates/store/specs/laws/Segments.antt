@@ -5,16 +5,13 @@ use Rattle.std.proofs.Common.{refl, ap, arith}
 use Rattle.std.proofs.lemmas.Bool.{and_parts, and_from, le-leb, lt-ltb, eq-eqb}
 use Rattle.segments.specs.declared.run.Run.{Run}
 use Rattle.segments.specs.Sectors.{sector_count}
+use Rattle.commit.specs.Placing.{sectors_of}
 use Rattle.catalogue.specs.declared.limits.TheConstants.{MAX_SEGMENT_ROWS}
 use Rattle.catalogue.specs.declared.entry.Segment.{Segment}
 use Rattle.catalogue.specs.Entries.{is_between, is_segment}
 use Rattle.commit.specs.laws.Taking.{Took}
 use Rattle.store.specs.Changes.{placed_segments}
 use Rattle.store.specs.Carrying.{unplaced}
-
--- how many sectors a stream takes
-abbrev pub stream_sectors : List ℕ → ℕ
-stream_sectors stream = sector_count (length stream)
 
 -- what may be a segment's stream
 abbrev pub IsStream : List ℕ → Type 0
@@ -46,7 +43,7 @@ placed_number (r ∷ rs) (s ∷ ss) [] a b = absurd (omega (arith, b))
 placed_number (r ∷ rs) (s ∷ ss) (n ∷ ns) a b = let more = placed_number rs ss ns (omega (arith, a)) (omega (arith, b)) in omega (arith, more)
 
 -- each may stand in a catalogue, in runs that were taken for them
-pub placed_sound : (size : ℕ) (used : Run → Type 0) (runs : List Run) (streams : List (List ℕ)) (counts : List ℕ) → size < 2 ^ 64 → Took size used (map stream_sectors streams) runs → AllByRecursion IsStream streams
+pub placed_sound : (size : ℕ) (used : Run → Type 0) (runs : List Run) (streams : List (List ℕ)) (counts : List ℕ) → size < 2 ^ 64 → Took size used (map sectors_of streams) runs → AllByRecursion IsStream streams
     → list_all (is_between 1 MAX_SEGMENT_ROWS) counts ≡ true → list_all is_segment (placed_segments runs streams counts) ≡ true
 placed_sound size used [] streams counts limit took are rows = refl
 placed_sound size used (r ∷ rs) [] counts limit took are rows = absurd took

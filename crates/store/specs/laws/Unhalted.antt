@@ -1,8 +1,8 @@
 -- Where no reply says that a device failed, none is refused as halted while a store is open.
-use Rattle.std.specs.Prelude.{◌≡◌, ◌≢◌, ◌⊎◌, ◌||◌, Bool, true, false, ℕ, List, [], ◌∷◌, refl}
+use Rattle.std.specs.Prelude.{◌≡◌, ◌≢◌, ◌⊎◌, Bool, true, false, ℕ, List, [], ◌∷◌, refl}
 use Rattle.std.specs.List.{list_any}
 use Rattle.std.proofs.Common.{inl, inr, ap, sym, ◌∙◌}
-use Rattle.std.proofs.lemmas.Bool.{or_parts}
+use Rattle.std.proofs.lemmas.Bool.{or_from, or_parts}
 use Rattle.sector_dev.specs.Disk.{Story}
 use Rattle.tables.specs.declared.refusal.Refusal.{Refusal}
 use Rattle.tables.specs.declared.refusal.Refusal.TheVariants as refusals
@@ -103,10 +103,6 @@ turns s m (export_call name) (refused refusals.OutOfMemory) wrote new is_open st
 turns s m (export_call name) (refused refusals.Device) wrote new is_open step at quiet = failing quiet
 turns s m (export_call name) _ wrote new is_open step at quiet = absurd step
 
-none_of_two : (a b : Bool) → a ≡ false → b ≡ false → (a || b) ≡ false
-none_of_two false b first others = others
-none_of_two true b first others = failing first
-
 pub tells_no_halt : (s : Setting) (calls : List PlainCall) (replies : List PlainReply) (m : Machine) (old : Story) (failed : ℕ) (m' : Machine) (new : Story) (failed' : ℕ)
     → Run s calls replies m old failed m' new failed' → (is_open : Bool) → m.phase ≡ phase_where is_open → list_any is_device_reply replies ≡ false → tells_halt_while_open is_open calls replies ≡ false
 unfolding Run
@@ -114,7 +110,7 @@ tells_no_halt s [] [] m old failed m' new failed' run is_open at quiet = refl
 tells_no_halt s (call ∷ calls) (reply ∷ replies) m old failed m' new failed' run is_open at quiet =
     let parts = or_parts (is_device_reply reply) (list_any is_device_reply replies) quiet in
     let one = turns s m call reply _ run.machine is_open run.goes.step at parts.0 in
-    none_of_two (tells_halt is_open reply) (tells_halt_while_open (is_open_after call reply is_open) calls replies) one.on
+    or_from (tells_halt is_open reply) (tells_halt_while_open (is_open_after call reply is_open) calls replies) one.on
     (tells_no_halt s calls replies run.machine run.story run.failures m' new failed' run.others (is_open_after call reply is_open) one.phase parts.1)
 tells_no_halt s [] (reply ∷ replies) m old failed m' new failed' run is_open at quiet = absurd run
 tells_no_halt s (call ∷ calls) [] m old failed m' new failed' run is_open at quiet = absurd run

@@ -1,6 +1,8 @@
 use Rattle.std.proofs.Common.{◌≡◌, ◌∙◌, ℕ, List, ap, sym, subst}
 use Rattle.std.specs.Prelude.{Err}
 use Rattle.std.proofs.lemmas.Result.{err_from_is_err_and}
+use Rattle.std.specs.Global.{Vec}
+use Rattle.segments.specs.declared.run.Run.{Run}
 use Rattle.segments.specs.Pieces.{plain_pieces}
 use Rattle.segments.specs.Usages.{IsUsedIn}
 use Rattle.catalogue.specs.View.{catalogue_of}
@@ -65,4 +67,4 @@ returns-in-Ok-clause-ok c =
     c.args.map.now c.place.new.map c.requires.limits c.requires.few (plain_pieces c.in_ok-places.places.pieces.items) (plain_pieces c.deref-3.result.now) c.in_ok-places.places.text c.in_ok-places.places.runs.items c.deref-4.result.now
     c.in_ok-places.ensures.taken c.in_ok-places.ensures.runs c.in_ok-places.ensures.contents (ap plain_pieces c.deref-3.ensures.value) (c.deref-4.ensures.value ∙ c.requires.counts)
     c.args.commit c.in-Ok.text.items c.in-Ok.next c.plan_next.result c.in_ok-back.back.items c.requires.own c.requires.next c.in-Ok.ensures.catalogue c.in-Ok.ensures.found c.in-Ok.ensures.size
-    c.plan_next.ensures.commit c.plan_next.ensures.catalogue c.plan_next.ensures.pieces c.in_ok-back.ensures
+    c.plan_next.ensures.commit c.plan_next.ensures.catalogue c.plan_next.ensures.pieces (ap (λ (v : Vec Run). v.items) c.plan_next.ensures.runs) c.in_ok-back.ensures

@@ -9,7 +9,8 @@ use Rattle.store.specs.Changes.{change_of}
 use Rattle.store.specs.Held.{tables_held}
 use Rattle.store.specs.Machine.{tables_now}
 use Rattle.store.specs.Fits.{setting_of, listed_in}
-use Rattle.store.specs.Applying.{IsKept, reply_of}
+use Rattle.store.specs.Applying.{IsKept}
+use Rattle.store.specs.Reading.{ended}
 use Rattle.store.specs.Deciding.{IsAnswered, reads_device}
 use Rattle.store.proofs.Decided.{is_change, with_ok}
 use Rattle.store.proofs.Asked.{is_running}
@@ -37,7 +38,7 @@ returns-in-Ok-clause-goes g c = λ told base m fits.
     let decided = change_verdict t cmd (change_of c.in-Ok.change)
     (c.decisions_are_verdicts.ensures.answered image (listed_in old) t cmd (Ok (change_of c.in-Ok.change)) (catalogue_is (listed_in old) old.opened.catalogue.list.kept) held c.commands_bring_tables.ensures answers) in
     let there = fits_reading D.size D.story D.failed base m D.tells told old mid fits done refl c.in-Ok.ensures.reads in
-    goes_after D.size D.story D.failed base m cmd D.tells told old mid c.carry_out.new.self done (reply_of c.carry_out.result) refl fits c.in-Ok.ensures.reads
+    goes_after D.size D.story D.failed base m cmd D.tells told old mid c.carry_out.new.self done (ended c.carry_out.result) refl fits c.in-Ok.ensures.reads
     (tells_command (setting_of (D.size old.device) base) (now (D.story old.device)) c.carry_out.result) (c.carry_out.ensures.goes told base m cmd decided.0 there runs decided.1 decided.2
     (decided_after D.size D.story D.failed D.tells old mid done c.in-Ok.ensures.reads told cmd (change_of c.in-Ok.change)
     (is_change D.tells (shown_image (now (D.story old.device))) (listed_in old) cmd (change_of c.in-Ok.change) told c.in-Ok.ensures.answers)))

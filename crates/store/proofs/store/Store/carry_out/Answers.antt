@@ -5,9 +5,9 @@ use Rattle.sector_dev.specs.declared.device.DevError.{DevError}
 use Rattle.sector_dev.specs.Disk.{now, synced_image, Counts}
 use Rattle.sector_dev.specs.Time.{LeavesOnly}
 use Rattle.sector_dev.specs.laws.Time.{stays}
-use Rattle.segments.specs.declared.piece.Piece.{Piece}
+use Rattle.segments.specs.declared.run.Run.{Run}
 use Rattle.segments.specs.Pieces.{plain_pieces}
-use Rattle.segments.specs.Usages.{IsUsedIn}
+use Rattle.segments.specs.Usages.{IsUsedIn, GivesAll}
 use Rattle.segments.specs.Writing.{runs_of}
 use Rattle.catalogue.specs.Entries as entries
 use Rattle.catalogue.specs.View.{catalogue_of}
@@ -16,7 +16,7 @@ use Rattle.commit.specs.declared.sector.Commit.{Commit}
 use Rattle.commit.specs.Placing.{Uses, Takes}
 use Rattle.commit.specs.Replacing.{StandsAs}
 use Rattle.commit.specs.Standing.{is_size, is_on_device, runs_fault, standing}
-use Rattle.commit.specs.laws.Taking.{GivesAll, took_takes}
+use Rattle.commit.specs.laws.Taking.{took_takes}
 use Rattle.store.specs.declared.stored.StoredCatalogue.{StoredCatalogue}
 use Rattle.store.specs.Calls.{apply_call}
 use Rattle.store.specs.Machine.{halted, running, has_written, settle, halt, Allows}
@@ -110,11 +110,11 @@ invariant_of-self-in-Err g c =
     let back = c.in_ok-prepared.prepared.back.items in
     let prep = c.in_ok-prepared.ensures.ok in
     let sized = c.publish.ensures.size in
-    let gives = subst (λ (ps : List Piece). GivesAll c.prepare.new.map c.give_pieces.new.map (runs_of (plain_pieces ps))) c.deref.ensures.value c.give_pieces.ensures in
-    let usages = failed_usages s.opened.map c.prepare.new.map s.opened.commit listed change plan back prep c.give_pieces.new.map gives in
+    let gives = subst (λ (rs : List Run). GivesAll c.prepare.new.map c.give_each.new.self rs) c.deref.ensures.value c.give_each.ensures in
+    let usages = failed_usages s.opened.map c.prepare.new.map s.opened.commit listed change plan back prep c.give_each.new.self gives in
     record {
       in_limits = subst (λ (n : ℕ). is_size n ≡ true) (sym sized) s.in_limits;
-      same = c.give_pieces.ensures.size ∙ c.in_ok-prepared.ensures.size ∙ s.same ∙ sym sized;
+      same = c.give_each.ensures.size ∙ c.in_ok-prepared.ensures.size ∙ s.same ∙ sym sized;
       own = s.own ∙ sym sized;
       fit = subst (λ (n : ℕ). runs_fault n s.opened.commit.catalogue.run (entries.runs_of listed) ≡ None) (sym sized) s.fit;
       placed = subst (λ (n : ℕ). is_on_device n s.opened.commit.catalogue.run ≡ true) (sym sized) s.placed;
