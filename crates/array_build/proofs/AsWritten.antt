@@ -2,7 +2,7 @@
 use Rattle.std.specs.Prelude.{Some, None, ◌==◌, ◌||◌, replicate}
 use Rattle.std.specs.List.{list_all, range_with_len}
 use Rattle.std.proofs.Common.{◌≡◌, ℕ, Bool, true, false, List, [], ◌∷◌, length, refl, ap₂}
-use Rattle.std.proofs.lemmas.Bool.{and_parts, eqb-true}
+use Rattle.std.proofs.lemmas.Bool.{and_parts, eqb-true, or_left}
 use Rattle.arrow_schema.specs.Column.{Kind, nulls, booleans, integers, dates, timestamps, texts, large_texts, binaries, large_binaries, fixed_binaries, lists, large_lists, fixed_lists, structs}
 use Rattle.array_build.specs.Batch.{plain_column}
 use Rattle.array_build.specs.inner.Runs.{AreAsWritten, AreReady, are_runs_as_written, are_zeros, contents_width, fixed_width, has_nothing_below, is_as_written, is_run_as_written}
@@ -70,10 +70,6 @@ no_bytes_written kind width a i is h = let none = no_values kind width is in rw 
 
 -- ---- valid slots
 
-or_more : (b c : Bool) → b ≡ true → (b || c) ≡ true
-or_more true c h = refl
-or_more false c h = cc
-
 or_none : (b : Bool) → (b || false) ≡ true → b ≡ true
 or_none true h = refl
 or_none false h = h
@@ -82,7 +78,7 @@ slots_written : (kind : Kind) (a : Array) (is : List ℕ) → list_all (is_valid
 slots_written kind a [] h = refl
 slots_written kind a (i ∷ is) h =
     let parts = and_parts (is_valid a i) (list_all (is_valid a) is) h in
-    let first : is_as_written kind a i ≡ true = or_more (is_valid a i) (has_nothing_below (fixed_width kind) (contents_width kind) a i) parts.0 in
+    let first : is_as_written kind a i ≡ true = or_left (is_valid a i) (has_nothing_below (fixed_width kind) (contents_width kind) a i) parts.0 in
     rw first (slots_written kind a is parts.1)
 
 pub valid_written : (kind : Kind) (run : SlotRun) → is_run_valid run ≡ true → is_run_as_written kind run ≡ true

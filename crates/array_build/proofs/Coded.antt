@@ -8,17 +8,13 @@ use Rattle.cells.specs.Cell.{Cell}
 use Rattle.columns.specs.Array.{Array, slots_in, validity_in}
 use Rattle.columns.specs.Buildable.{are_nulls_or_fit, is_null_or_entry, names_entries, can_build, can_build_below}
 use Rattle.columns.specs.Buffers.{node_of, null_count, column_buffers}
-use Rattle.columns.specs.Built.{built, built_kind}
+use Rattle.columns.specs.Built.{built}
 use Rattle.columns.specs.Tests.{Typed, arrays_at, unset_bits}
+use Rattle.columns.specs.laws.Rows.{slots_built}
 use Rattle.array_build.specs.Batch.{PlainBatch, PlainDictionary, batch_of, built_at, plain_column, with_arrays}
 use Rattle.array_build.specs.inner.Nodes.{with_buffer, with_node}
 use Rattle.array_build.specs.inner.Coded.{with_dictionary, with_indices, values_batch}
 use Rattle.cells.specs.Dictionary.{entries_of}
-
-slots_of_kind : (kind : Kind) (cells : List Cell) → slots_in (built_kind kind cells) ≡ length cells
-unfolding built
-slots_of_kind nulls cells = refl
-slots_of_kind _ cells = refl
 
 -- the batch of so many slots, whose arrays are these
 abbrev batch_with : ℕ → List Typed → PlainDictionary
@@ -30,7 +26,7 @@ values_are : (kind : Kind) (entries : List Cell) → let batch = batch_of (built
 unfolding with_arrays built arrays_at
 values_are kind entries =
     let arrays : List Typed = built_at (plain_column kind None) entries in
-    sym (ap (λ (n : ℕ). batch_with n (arrays ++ [])) (slots_of_kind kind entries) ∙ ap (batch_with (length entries)) (append-nil arrays))
+    sym (ap (λ (n : ℕ). batch_with n (arrays ++ [])) (slots_built kind entries) ∙ ap (batch_with (length entries)) (append-nil arrays))
 
 pub values_built : (kind : Kind) (entries : List Cell) (slots : ℕ) (p : PlainBatch) → slots ≡ length entries → p ≡ batch_of (built_at (plain_column kind None) entries)
     → record { slots = slots; nodes = p.nodes; buffers = p.buffers } ≡ values_batch kind entries

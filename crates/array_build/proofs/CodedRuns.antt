@@ -3,13 +3,13 @@ use Rattle.std.specs.Prelude.{None, Some, ◌||◌, Option, is_some, option_map,
 use Rattle.std.specs.List.{list_all, list_any}
 use Rattle.std.specs.Str.{is_utf8}
 use Rattle.std.proofs.Common.{◌≡◌, ℕ, suc, ◌+◌, ◌-◌, ◌<◌, ◌++◌, Bool, true, false, List, [], ◌∷◌, map, refl, ap, sym, ◌∙◌, arith}
-use Rattle.std.proofs.lemmas.Bool.{and_parts, and_from}
+use Rattle.std.proofs.lemmas.Bool.{and_parts, and_from, not-true}
 use Rattle.std.proofs.lemmas.Slice.Eq.{bytes_eq-Decides}
 use Rattle.arrow_schema.specs.Column.{Index, Pair, Kind, Column, and_column, column, no_column}
 use Rattle.arrow_schema.specs.View.{column_of, index_of, kind_of, pair_of}
 use Rattle.arrow_schema.specs.declared.types.DictSpec.{DictSpec}
 use Rattle.arrow_schema.specs.declared.types.Field.{Field}
-use Rattle.array_build.proofs.Fields.{field_is}
+use Rattle.arrow_schema.specs.laws.Parts.{field_parts}
 use Rattle.cells.specs.Cell.{Cell, and_cell, no_cell, null, boolean, number, text, bytes, items, parts}
 use Rattle.cells.specs.Dictionary.{entries_of, is_entry, with_entries, with_entry}
 use Rattle.cells.specs.Fit.{each_fits, fits}
@@ -136,13 +136,13 @@ coded_some (Some d) name nullable kind pairs cells some h = coded_cells name nul
 -- all cells of a field with a dictionary
 pub field_coded : (f : Field) (cells : List Cell) → is_some f.dictionary ≡ true → can_build (column_of f) cells ≡ true → list_all is_coded cells ≡ true
 field_coded f cells some h =
-    coded_some f.dictionary (string_bytes f.name) f.nullable (kind_of f.data_type) (map pair_of f.pairs.items) cells some (ap (λ (c : Column). can_build c cells) (sym (field_is f)) ∙ h)
+    coded_some f.dictionary (string_bytes f.name) f.nullable (kind_of f.data_type) (map pair_of f.pairs.items) cells some (ap (λ (c : Column). can_build c cells) (sym (field_parts f)) ∙ h)
 
 -- ---- the cell at a slot
 
 coded_column : (f : Field) (d : DictSpec) → f.dictionary ≡ Some d → column_of f ≡ column (string_bytes f.name) f.nullable (kind_of f.data_type) (Some (index_of d)) (map pair_of f.pairs.items)
 coded_column f d is =
-    field_is f ∙ ap (λ (o : Option DictSpec). column (string_bytes f.name) f.nullable (kind_of f.data_type) (option_map index_of o) (map pair_of f.pairs.items)) is
+    field_parts f ∙ ap (λ (o : Option DictSpec). column (string_bytes f.name) f.nullable (kind_of f.data_type) (option_map index_of o) (map pair_of f.pairs.items)) is
 
 pub valid_cell : (f : Field) (d : DictSpec) (a : Array) (i : ℕ) → f.dictionary ≡ Some d → is_valid a i ≡ true
     → cell_at (column_of f) a i ≡ entry_at (entries_of_kind (kind_of f.data_type) (dictionary_in a)) (index_at (index_of d) a i)
@@ -153,10 +153,6 @@ pub hidden_cell : (f : Field) (d : DictSpec) (a : Array) (i : ℕ) → f.diction
 unfolding cell_at
 hidden_cell f d a i is hidden = ap (λ (c : Column). cell_at c a i) (coded_column f d is) ∙ rw hidden refl
 
-not_so : (b : Bool) → not b ≡ true → b ≡ false
-not_so true h = cc
-not_so false h = refl
-
 -- its buffers are long enough
 pub long_buffers : (f : Field) (d : DictSpec) (a : Array) → f.dictionary ≡ Some d → is_sound (column_of f) a ≡ true
     → (has_short_validity a ≡ false) × (are_few ((index_of d).bits / 8) a (indices_in a) ≡ false)
@@ -165,4 +161,4 @@ long_buffers f d a is sound =
     let whole = ap (λ (c : Column). is_sound c a) (sym (coded_column f d is)) ∙ sound in
     let own = and_parts (not (has_short_validity a)) _ whole in
     let rest = and_parts (not (are_few ((index_of d).bits / 8) a (indices_in a))) _ own.1 in
-    (not_so (has_short_validity a) own.0, not_so (are_few ((index_of d).bits / 8) a (indices_in a)) rest.0)
+    (not-true (has_short_validity a) own.0, not-true (are_few ((index_of d).bits / 8) a (indices_in a)) rest.0)

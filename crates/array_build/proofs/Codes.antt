@@ -20,6 +20,7 @@ use Rattle.array_build.specs.inner.Runs.{with_run_slots}
 use Rattle.cells.specs.Cell.{Cell, null, boolean, number, text, bytes, items, parts}
 use Rattle.cells.specs.Dictionary.{entry_in, entries_of, is_entry, with_entries, with_entry, with_new, with_option}
 use Rattle.cells.specs.Nulls.{is_there}
+use Rattle.cells.specs.laws.Entries.{entries_append}
 use Rattle.columns.specs.Buildable.{is_null_or_entry}
 use Rattle.columns.specs.Built.{index_bytes}
 use Rattle.columns.specs.CellAt.{entry_at, named_number}
@@ -166,11 +167,6 @@ code_stays es cs c =
     let more : Adds (with_entry es c) (with_entries (with_entry es c) cs) = adds (with_entry es c) cs in
     ap (λ (xs : List Cell). code_in xs c) more.1 ∙ (cell_stays (with_entry es c) more.0 c (twice es c)).1
 
-joined : (es xs ys : List Cell) → with_entries es (xs ++ ys) ≡ with_entries (with_entries es xs) ys
-unfolding with_entries
-joined es [] ys = refl
-joined es (c ∷ xs) ys = joined (with_entry es c) xs ys
-
 -- ---- codes, cell by cell
 
 pub record IsUnderway (start : List Cell) (all : List Cell) (es : List Cell) (ks : List (Option ℕ)) (left : List Cell) : Type 0 where
@@ -189,19 +185,19 @@ one_coded start all es codes c left es' k h added code = record {
       let final : List Cell = with_entries (with_entries start all) more in
       let own : k ≡ code_in final c =
       code ∙ ap (λ (xs : List Cell). code_in xs c) added ∙ sym (code_stays es (left ++ more) c)
-      ∙ ap (λ (xs : List Cell). code_in xs c) (joined (with_entry es c) left more ∙ ap (λ (xs : List Cell). with_entries xs more) h.entries) in
+      ∙ ap (λ (xs : List Cell). code_in xs c) (entries_append (with_entry es c) left more ∙ ap (λ (xs : List Cell). with_entries xs more) h.entries) in
       append_assoc codes (k ∷ []) (map (code_in final) left) ∙ ap (λ (j : Option ℕ). codes ++ j ∷ map (code_in final) left) own ∙ h.codes more;
 }
 
 pub some_coded : (start : List Cell) (all es : List Cell) (codes : List (Option ℕ)) (cs left es' : List Cell) (codes' : List (Option ℕ))
     → IsUnderway start all es codes (cs ++ left) → IsCoded es es' codes' cs → IsUnderway start all es' (codes ++ codes') left
 some_coded start all es codes cs left es' codes' h coded =
-    let whole : with_entries es' left ≡ with_entries start all = ap (λ (xs : List Cell). with_entries xs left) coded.entries ∙ sym (joined es cs left) ∙ h.entries in
+    let whole : with_entries es' left ≡ with_entries start all = ap (λ (xs : List Cell). with_entries xs left) coded.entries ∙ sym (entries_append es cs left) ∙ h.entries in
     record {
       entries = whole;
       codes = λ more.
           let final : List Cell = with_entries (with_entries start all) more in
-          let same : with_entries es' (left ++ more) ≡ final = joined es' left more ∙ ap (λ (xs : List Cell). with_entries xs more) whole in
+          let same : with_entries es' (left ++ more) ≡ final = entries_append es' left more ∙ ap (λ (xs : List Cell). with_entries xs more) whole in
           let own : codes' ≡ map (code_in final) cs = coded.places (left ++ more) ∙ ap (λ (xs : List Cell). map (code_in xs) cs) same in
           append_assoc codes codes' (map (code_in final) left)
           ∙ ap (λ (ks : List (Option ℕ)). codes ++ (ks ++ map (code_in final) left)) own

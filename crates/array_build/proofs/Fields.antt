@@ -2,36 +2,34 @@
 use Rattle.std.specs.Prelude.{Option, Some, None, option_map, String, string_bytes}
 use Rattle.std.specs.Global.{Global}
 use Rattle.std.proofs.Common.{◌≡◌, true, List, map, ap, sym, ◌∙◌}
-use Rattle.arrow_schema.specs.Column.{Kind, Column, column, timestamps}
+use Rattle.arrow_schema.specs.Column.{Kind, Column, timestamps}
 use Rattle.arrow_schema.specs.View.{column_of, kind_of, index_of, pair_of, time_kind, kind_step, column_step}
-use Rattle.arrow_schema.specs.declared.types.DataType.TheFolds.{fold_out-Field, fold-roll-DataType}
+use Rattle.arrow_schema.specs.declared.types.DataType.TheFolds.{fold-roll-DataType}
 use Rattle.arrow_schema.specs.declared.types.DataType.TheOpen as types
 use Rattle.arrow_schema.specs.declared.types.DataType.TheVariants.{Timestamp, rolls-Timestamp}
 use Rattle.arrow_schema.specs.declared.types.DictSpec.{DictSpec}
 use Rattle.arrow_schema.specs.declared.types.Field.{Field}
 use Rattle.arrow_schema.specs.declared.types.TimeUnit.{TimeUnit}
+use Rattle.arrow_schema.specs.laws.Parts.{field_parts}
 use Rattle.cells.specs.Cell.{Cell}
 use Rattle.columns.specs.Buildable.{can_build}
 use Rattle.array_build.specs.Batch.{PlainBatch, with_arrays, built_at, plain_column}
 use Rattle.array_build.proofs.Arrays.{any_name}
 use Rattle.array_build.proofs.Premises.{any_name_can}
 
-pub field_is : (f : Field) → column_of f ≡ column (string_bytes f.name) f.nullable (kind_of f.data_type) (option_map index_of f.dictionary) (map pair_of f.pairs.items)
-field_is f = fold_out-Field Kind Column kind_step column_step f
-
 plain_can : (f : Field) (o : Option DictSpec) (cells : List Cell) → f.dictionary ≡ o → can_build (column_of f) cells ≡ true
     → can_build (plain_column (kind_of f.data_type) (option_map index_of o)) cells ≡ true
 plain_can f o cells is h =
     ap (λ (d : Option DictSpec). can_build (plain_column (kind_of f.data_type) (option_map index_of d)) cells) (sym is)
     ∙ sym (any_name_can (string_bytes f.name) f.nullable (kind_of f.data_type) (option_map index_of f.dictionary) (map pair_of f.pairs.items) cells)
-    ∙ ap (λ (c : Column). can_build c cells) (sym (field_is f)) ∙ h
+    ∙ ap (λ (c : Column). can_build c cells) (sym (field_parts f)) ∙ h
 
 plain_is : (p : PlainBatch) (f : Field) (o : Option DictSpec) (cells : List Cell) → f.dictionary ≡ o
     → with_arrays p (built_at (plain_column (kind_of f.data_type) (option_map index_of o)) cells) ≡ with_arrays p (built_at (column_of f) cells)
 plain_is p f o cells is =
     ap (λ (d : Option DictSpec). with_arrays p (built_at (plain_column (kind_of f.data_type) (option_map index_of d)) cells)) (sym is)
     ∙ any_name p (string_bytes f.name) f.nullable (kind_of f.data_type) (option_map index_of f.dictionary) (map pair_of f.pairs.items) cells
-    ∙ ap (λ (c : Column). with_arrays p (built_at c cells)) (sym (field_is f))
+    ∙ ap (λ (c : Column). with_arrays p (built_at c cells)) (sym (field_parts f))
 
 pub plain_can_be_built : (f : Field) (cells : List Cell) → f.dictionary ≡ None → can_build (column_of f) cells ≡ true
     → can_build (plain_column (kind_of f.data_type) None) cells ≡ true

@@ -7,7 +7,6 @@ mod Entries
 mod Equals
 mod Fields
 mod FirstCells
-mod Listed
 mod Low
 mod Numbers
 mod PartColumns

@@ -5,9 +5,10 @@ use Rattle.std.proofs.Common.{◌≡◌, ℕ, refl, zero, suc, ◌+◌, ◌-◌,
 use Rattle.std.specs.List.{flat_map}
 use Rattle.std.proofs.lemmas.Bool.{and_parts}
 use Rattle.std.proofs.lemmas.Int.{ints}
-use Rattle.std.proofs.Math.Nat.{add-mul-div_left, add-mul-mod_self_left, div-one, mod-add-div, mod-eq_of_lt, one-le-pow, pow-suc, pow-succ', zero-div}
+use Rattle.std.proofs.Math.Nat.{add-mul-div_left, add-mul-mod_self_left, mod-add-div, mod-eq_of_lt, one-le-pow, pow-suc, pow-succ', zero-div}
 use Rattle.std.proofs.lemmas.Nat.{pow-add}
 use Rattle.std.proofs.Math.Pow.{not_mod}
+use Rattle.facts.specs.laws.Numbers.{powers, byte_at-pow}
 use Rattle.byteorder.specs.Endian.{little_bytes, low_bytes}
 use Rattle.arrow_schema.specs.Column.{is_bit_width}
 use Rattle.arrow_schema.specs.Column.{integers}
@@ -20,10 +21,7 @@ use Rattle.cells.specs.Integers.{number_of}
 use Rattle.columns.specs.Buildable.{are_nulls_or_fit}
 use Rattle.columns.specs.Built.{integer_bytes}
 use Rattle.array_build.specs.inner.Stored.{low_bytes_of}
-use Rattle.columns.proofs.Integers.{powers, number_fits, number_back, width_cases}
-
-number_small : (w : ℕ) (signed : Bool) (z : ℤ) → 1 ≤ w → in_range (8 * w) signed z ≡ true → number_of w z < 2 ^ (8 * w)
-number_small w signed z one h = rw (powers w) (number_fits w signed z one h)
+use Rattle.columns.specs.laws.Integers.{number_back, width_cases, number_small}
 
 halves : (k : ℕ) → 1 ≤ k → 2 ^ (k - 1) ≤ 2 ^ k
 halves zero one = absurd (omega arith)
@@ -61,15 +59,11 @@ byte_above x p m some =
     let above : x / p ≡ (x % b) / p + 256 * (m * (x / b)) = ap (λ (t : ℕ). t / p) (sym split) ∙ add-mul-div_left (x % b) (256 * (m * (x / b))) some in
     sym (ap (λ (t : ℕ). t % 256) above ∙ add-mul-mod_self_left ((x % b) / p) 256 (m * (x / b)))
 
-byte_place : (i x : ℕ) → byte_at i x ≡ x / 256 ^ i % 256
-byte_place zero x = ap (λ (t : ℕ). t % 256) (sym (div-one x))
-byte_place (suc i) x = refl
-
 byte_left : (x i k : ℕ) → byte_at i (x % 256 ^ (i + suc k)) ≡ byte_at i x
 byte_left x i k =
     let whole : 256 ^ (i + suc k) ≡ 256 ^ i * (256 * 256 ^ k) = pow-add 256 i (suc k) ∙ ap (λ (t : ℕ). 256 ^ i * t) (pow-succ' 256 k) in
-    byte_place i (x % 256 ^ (i + suc k))
-    ∙ (ap (λ (b : ℕ). (x % b) / 256 ^ i % 256) whole ∙ (byte_above x (256 ^ i) (256 ^ k) (one-le-pow i 256 (omega arith)) ∙ sym (byte_place i x)))
+    byte_at-pow i (x % 256 ^ (i + suc k))
+    ∙ (ap (λ (b : ℕ). (x % b) / 256 ^ i % 256) whole ∙ (byte_above x (256 ^ i) (256 ^ k) (one-le-pow i 256 (omega arith)) ∙ sym (byte_at-pow i x)))
 
 bytes_left : (x i n k : ℕ) → bytes_low_first i n (x % 256 ^ (i + n + k)) ≡ bytes_low_first i n x
 bytes_left x i zero k = refl
@@ -113,7 +107,7 @@ stored_fits width signed z h =
 pub zero_bytes : (i n : ℕ) → bytes_low_first i n 0 ≡ replicate n 0
 zero_bytes i zero = refl
 zero_bytes i (suc n) =
-    ap₂ (λ (b : ℕ) (bs : List ℕ). b ∷ bs) (byte_place i 0 ∙ ap (λ (t : ℕ). t % 256) (zero-div (256 ^ i))) (zero_bytes (suc i) n)
+    ap₂ (λ (b : ℕ) (bs : List ℕ). b ∷ bs) (byte_at-pow i 0 ∙ ap (λ (t : ℕ). t % 256) (zero-div (256 ^ i))) (zero_bytes (suc i) n)
 
 -- what is written for a cell is its value
 stored_value : (width : BitWidth) (signed : Bool) (c : Cell) → null_or true (fits_kind (integers (bits_of width) signed)) c ≡ true

@@ -5,22 +5,14 @@ use Rattle.std.specs.Int.{byte_at, bytes_low_first}
 use Rattle.std.proofs.lemmas.Bool.{cases_lt, le-ltb, lt-ltb}
 use Rattle.std.proofs.lemmas.Int.{ints}
 use Rattle.std.proofs.lemmas.List.{length-take-le}
-use Rattle.std.proofs.lemmas.Nat.{pow-add}
 use Rattle.facts.specs.Bytes.{AreBytes}
 use Rattle.facts.specs.laws.Bytes.{cons-bytes, take-bytes}
+use Rattle.facts.specs.laws.Numbers.{powers}
 use Rattle.byteorder.specs.Endian.{little_number, little_bytes}
 use Rattle.byteorder.specs.Numbers.{little_number-reads_back, length-bytes_low_first, little_from-cons, little_from-take, little_from-lt}
 use Rattle.cells.specs.Integers.{integer_of, number_of}
 use Rattle.columns.specs.Built.{integer_bytes}
 use Rattle.cells.specs.Cell.{number}
-
--- bits and bytes
-powers : (w : ℕ) → 2 ^ (8 * w) ≡ 256 ^ w
-powers zero = let none : 8 * 0 ≡ 0 = omega arith in ap (λ (k : ℕ). 2 ^ k) none
-powers (suc w) =
-    let bits : 8 * suc w ≡ 8 + 8 * w = omega arith in
-    let one : suc w ≡ 1 + w = omega arith in
-    ap (λ (k : ℕ). 2 ^ k) bits ∙ pow-add 2 8 (8 * w) ∙ ap (λ (k : ℕ). 256 * k) (powers w) ∙ sym (ap (λ (k : ℕ). 256 ^ k) one ∙ pow-add 256 1 w)
 
 -- a number below another, less it
 below : (w n m : ℕ) → n < m → m ≡ 2 ^ (8 * w) → number_of w (pos n -ℤ pos m) ≡ n

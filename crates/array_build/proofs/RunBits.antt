@@ -2,7 +2,7 @@
 use Rattle.std.specs.Prelude.{None, not, ◌&&◌, nat_le, replicate}
 use Rattle.std.specs.List.{list_all, range_with_len}
 use Rattle.std.proofs.Common.{◌≡◌, ℕ, zero, suc, ◌+◌, ◌-◌, ◌*◌, ◌≤◌, Bool, true, false, List, ◌∷◌, map, length, refl, ap, ap₂, ◌∙◌, arith}
-use Rattle.std.proofs.lemmas.Bool.{and_parts, leb-true, ltb-false}
+use Rattle.std.proofs.lemmas.Bool.{and_parts, leb-true, ltb-false, not-true}
 use Rattle.arrow_schema.specs.Column.{booleans}
 use Rattle.array_build.proofs.Repeated.{repeated_map}
 use Rattle.array_build.specs.Batch.{plain_column}
@@ -30,16 +30,12 @@ slots_set a from (suc n) valid =
     let parts = and_parts (is_valid a from) (list_all (is_valid a) (range_with_len (from + 1) n)) valid in
     ap₂ (λ (b : Bool) (bs : List Bool). b ∷ bs) (slot_set a from parts.0) (slots_set a (from + 1) n parts.1)
 
-not_false : (b : Bool) → not b ≡ true → b ≡ false
-not_false true h = cc
-not_false false h = refl
-
 bits_long : (a : Array) → is_sound (plain_column booleans None) a ≡ true → slots_in a ≤ 8 * length (bits_in a)
 unfolding is_sound
 bits_long a h =
     let rest = (and_parts (not (has_short_validity a)) _ h).1 in
     let own = and_parts (not (has_short_buffer booleans a)) (not (has_bad_offsets booleans a) && has_sound_children booleans a) rest in
-    let long : bytes_of (slots_in a) ≤ length (bits_in a) = ltb-false _ _ (not_false _ own.0) in
+    let long : bytes_of (slots_in a) ≤ length (bits_in a) = ltb-false _ _ (not-true _ own.0) in
     omega (arith, long)
 
 -- what is known of a run of booleans that are valid

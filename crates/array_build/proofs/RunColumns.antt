@@ -9,7 +9,8 @@ use Rattle.arrow_schema.specs.Column.{Pair, Kind, Column, Columns, no_column, an
 use Rattle.arrow_schema.specs.View.{column_of, kind_of, index_of, pair_of}
 use Rattle.arrow_schema.specs.declared.types.DictSpec.{DictSpec}
 use Rattle.arrow_schema.specs.declared.types.Field.{Field}
-use Rattle.array_build.proofs.Fields.{field_is, plain_can_be_built, plain_field}
+use Rattle.arrow_schema.specs.laws.Parts.{field_parts}
+use Rattle.array_build.proofs.Fields.{plain_can_be_built, plain_field}
 use Rattle.array_build.specs.Batch.{PlainBatch, built_at, built_below, plain_column, with_arrays}
 use Rattle.array_build.specs.inner.Runs.{AreReady, built_columns, kind_cells}
 use Rattle.array_build.specs.laws.Joined.{more_arrays, no_arrays}
@@ -63,7 +64,7 @@ names_sound name nullable kind pairs (run ∷ runs) = ap₂ (λ (a b : Bool). a 
 
 plain_form : (f : Field) → f.dictionary ≡ None → column_of f ≡ column (string_bytes f.name) f.nullable (kind_of f.data_type) None (map pair_of f.pairs.items)
 plain_form f none =
-    field_is f ∙ ap (λ (o : Option DictSpec). column (string_bytes f.name) f.nullable (kind_of f.data_type) (option_map index_of o) (map pair_of f.pairs.items)) none
+    field_parts f ∙ ap (λ (o : Option DictSpec). column (string_bytes f.name) f.nullable (kind_of f.data_type) (option_map index_of o) (map pair_of f.pairs.items)) none
 
 pub field_cells : (f : Field) (runs : List SlotRun) → f.dictionary ≡ None → runs_cells (column_of f) runs ≡ kind_cells (kind_of f.data_type) runs
 field_cells f runs none =

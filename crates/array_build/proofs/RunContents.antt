@@ -2,7 +2,7 @@
 use Rattle.std.specs.Prelude.{Some, None, not, ◌*◌, ◌==◌, ◌&&◌, nat_le, replicate}
 use Rattle.std.specs.List.{flat_map, list_all, range_with_len}
 use Rattle.std.proofs.Common.{◌≡◌, ℕ, zero, suc, ◌+◌, ◌-◌, ◌≤◌, ◌<◌, ◌++◌, Bool, true, false, List, [], ◌∷◌, length, take, drop, refl, ap, ap₂, sym, subst, ◌∙◌, arith, append_assoc, length-append, length-drop, mul-le-mul_right}
-use Rattle.std.proofs.lemmas.Bool.{and_parts, leb-true, ltb-false, ne_eqb}
+use Rattle.std.proofs.lemmas.Bool.{and_parts, leb-true, ltb-false, ne_eqb, not-true}
 use Rattle.std.proofs.lemmas.List.{drop-drop, length-take-le}
 use Rattle.std.proofs.lemmas.List.Concat.{flat_map-append}
 use Rattle.std.proofs.Math.Seq.{take-add}
@@ -33,16 +33,12 @@ plain_cell kind a i = cell_at (plain_column kind None) a i
 
 -- ---- offsets of a sound array
 
-not_false : (b : Bool) → not b ≡ true → b ≡ false
-not_false true h = cc
-not_false false h = refl
-
 by_tests : (kind : Kind) (a : Array) → is_sound (plain_column kind None) a ≡ true → (has_short_buffer kind a ≡ false) × (has_bad_offsets kind a ≡ false)
 unfolding is_sound
 by_tests kind a h =
     let rest = (and_parts (not (has_short_validity a)) _ h).1 in
     let more = and_parts (not (has_short_buffer kind a)) (not (has_bad_offsets kind a) && has_sound_children kind a) rest in
-    (not_false _ more.0, not_false _ (and_parts (not (has_bad_offsets kind a)) (has_sound_children kind a) more.1).0)
+    (not-true _ more.0, not-true _ (and_parts (not (has_bad_offsets kind a)) (has_sound_children kind a) more.1).0)
 
 abbrev IsOrdered : ℕ → Array → Type 0
 IsOrdered width a = (are_few_offsets width a ≡ false) × (are_unordered width (length (contents_in a)) a ≡ false)

@@ -6,10 +6,8 @@ use Rattle.std.proofs.Math.Nat.{mul-le-mul_left}
 use Rattle.std.proofs.lemmas.Bool.{and_parts, leb-true}
 use Rattle.arrow_schema.specs.Column.{Column, fixed_lists}
 use Rattle.array_build.proofs.Arrays.{fixed_lists_are}
-use Rattle.array_build.proofs.Listed.{listed_again}
 use Rattle.array_build.proofs.Repeated.{repeated_each}
 use Rattle.array_build.proofs.RunArrays.{kind_slots}
-use Rattle.array_build.proofs.RunItems.{cells_join}
 use Rattle.array_build.specs.Batch.{PlainBatch, built_at, with_arrays}
 use Rattle.array_build.specs.inner.RunItems.{AreItems, HasSlots, fixed_column}
 use Rattle.array_build.specs.inner.Runs.{kind_cells, runs_bits, with_run_slots}
@@ -17,6 +15,7 @@ use Rattle.array_runs.specs.Runs.{run_cells, runs_cells, is_run_sound, is_run_va
 use Rattle.array_runs.specs.declared.run.SlotRun.{SlotRun}
 use Rattle.array_runs.specs.declared.run.SlotRun.TheVariants.{Slots, Nulls}
 use Rattle.cells.specs.Cell.{Cell, null}
+use Rattle.cells.specs.laws.Cells.{cells_listed}
 use Rattle.columns.specs.Array.{Array, slots_in, items_in}
 use Rattle.columns.specs.Built.{fixed_items}
 use Rattle.columns.specs.CellAt.{cell_at, kind_cell, cells_from, is_valid}
@@ -24,6 +23,7 @@ use Rattle.columns.specs.Sound.{is_sound, has_sound_children}
 use Rattle.columns.specs.View.{view_array}
 use Rattle.columns.specs.declared.view.ArrayView.{ArrayView}
 use Rattle.columns.specs.laws.SoundParts.{sound_children}
+use Rattle.columns.specs.laws.Rows.{cells_from-append}
 
 -- what is known of a run of slots
 pub record AreFixed (size : ℕ) (item : Column) (v : ArrayView) (from n : ℕ) : Type 0 where
@@ -55,7 +55,7 @@ are_fixed size item v from n run is sound valid =
 
 slot_items : (size : ℕ) (item : Column) (a : Array) (i : ℕ) → is_valid a i ≡ true → fixed_items size (cell_at (fixed_column size item) a i) ≡ cells_from (cell_at item (items_in a)) (i * size) size
 unfolding cell_at kind_cell
-slot_items size item a i valid = rw valid (listed_again (cells_from (cell_at item (items_in a)) (i * size) size))
+slot_items size item a i valid = rw valid (cells_listed (cells_from (cell_at item (items_in a)) (i * size) size))
 
 slots_items : (size : ℕ) (item : Column) (a : Array) (from n : ℕ) → list_all (is_valid a) (range_with_len from n) ≡ true
     → flat_map (fixed_items size) (cells_from (cell_at (fixed_column size item) a) from n) ≡ cells_from (cell_at item (items_in a)) (from * size) (n * size)
@@ -69,7 +69,7 @@ slots_items size item a from (suc n) valid =
     let whole : size + n * size ≡ suc n * size = omega arith in
     ap₂ (λ (xs ys : List Cell). xs ++ ys) (slot_items size item a from both.0) (slots_items size item a (from + 1) n both.1)
     ∙ ap (λ (s : ℕ). cells_from g (from * size) size ++ cells_from g s (n * size)) next
-    ∙ sym (cells_join g (from * size) size (n * size))
+    ∙ sym (cells_from-append g (from * size) size (n * size))
     ∙ ap (cells_from g (from * size)) whole
 
 pub fixed_found : (size : ℕ) (item : Column) (v : ArrayView) (from n : ℕ) (run part : SlotRun) → run ≡ Slots v from n → AreFixed size item v from n

@@ -10,7 +10,6 @@ use Rattle.std.proofs.lemmas.List.FromFn.{length-map-range_with_len}
 use Rattle.byteorder.specs.Endian.{little_bytes}
 use Rattle.arrow_schema.specs.Column.{Column, lists, large_lists}
 use Rattle.array_build.proofs.Arrays.{lists_are}
-use Rattle.array_build.proofs.Listed.{listed_again}
 use Rattle.array_build.proofs.Premises.{lists_fit}
 use Rattle.array_build.proofs.Repeated.{none_each}
 use Rattle.array_build.proofs.RunArrays.{kind_slots, count_run}
@@ -25,6 +24,7 @@ use Rattle.array_runs.specs.declared.run.SlotRun.{SlotRun}
 use Rattle.array_runs.specs.declared.run.SlotRun.TheVariants.{Slots, Nulls}
 use Rattle.cells.specs.Cell.{Cell, null}
 use Rattle.cells.specs.Dictionary.{item_list}
+use Rattle.cells.specs.laws.Cells.{cells_listed}
 use Rattle.columns.specs.Array.{Array, empty_array, slots_in, offsets_in, items_in}
 use Rattle.columns.specs.Buildable.{can_build, large_offset}
 use Rattle.columns.specs.Built.{list_offsets}
@@ -38,18 +38,9 @@ use Rattle.columns.specs.declared.numbers.OffsetWidth.TheVariants.{Four, Eight}
 use Rattle.columns.specs.declared.view.ArrayView.{ArrayView}
 use Rattle.columns.specs.laws.Offsets.{offsets_ascend, spans_fit}
 use Rattle.columns.specs.laws.SoundParts.{sound_buffer, sound_offsets, sound_children}
+use Rattle.columns.specs.laws.Rows.{cells_from-append}
 
 -- ---- cells one after another
-
-pub cells_join : (g : ℕ → Cell) (s m n : ℕ) → cells_from g s (m + n) ≡ cells_from g s m ++ cells_from g (s + m) n
-cells_join g s zero n =
-    let whole : 0 + n ≡ n = omega arith in
-    let start : s ≡ s + 0 = omega arith in
-    ap₂ (λ (a k : ℕ). cells_from g a k) start whole
-cells_join g s (suc m) n =
-    let whole : suc m + n ≡ suc (m + n) = omega arith in
-    let start : s + 1 + m ≡ s + suc m = omega arith in
-    ap (cells_from g s) whole ∙ ap (λ (xs : List Cell). g s ∷ xs) (cells_join g (s + 1) m n) ∙ ap (λ (a : ℕ). g s ∷ (cells_from g (s + 1) m ++ cells_from g a n)) start
 
 cell_get : (g : ℕ → Cell) (s n i : ℕ) → i < n → get_or (cells_from g s n) i null ≡ g (s + i)
 cell_get g s zero i lt = absurd (omega arith)
@@ -97,8 +88,8 @@ are_lists width item v from n run is sound valid =
 slot_items : (width : OffsetWidth) (item : Column) (a : Array) (i : ℕ) → is_valid a i ≡ true
     → item_list (cell_at (list_column width item) a i) ≡ span_cells (width_of width) (cell_at item (items_in a)) a i
 unfolding cell_at kind_cell
-slot_items Four item a i valid = rw valid (listed_again (span_cells 4 (cell_at item (items_in a)) a i))
-slot_items Eight item a i valid = rw valid (listed_again (span_cells 8 (cell_at item (items_in a)) a i))
+slot_items Four item a i valid = rw valid (cells_listed (span_cells 4 (cell_at item (items_in a)) a i))
+slot_items Eight item a i valid = rw valid (cells_listed (span_cells 8 (cell_at item (items_in a)) a i))
 
 -- the items of slots are those between the first offset and the last
 slots_items : (width : OffsetWidth) (item : Column) (a : Array) (from n : ℕ) → are_unordered (width_of width) (slots_in (items_in a)) a ≡ false → from + n ≤ slots_in a
@@ -121,7 +112,7 @@ slots_items width item a from (suc n) up within valid =
     let whole : (f (from + 1) - f from) + (f (from + 1 + n) - f (from + 1)) ≡ f (from + suc n) - f from = omega (arith, first, others, end) in
     ap₂ (λ (xs ys : List Cell). xs ++ ys) (slot_items width item a from both.0) (slots_items width item a (from + 1) n up (omega arith) both.1)
     ∙ ap (λ (s : ℕ). cells_from g (f from) (f (from + 1) - f from) ++ cells_from g s (f (from + 1 + n) - f (from + 1))) next
-    ∙ sym (cells_join g (f from) (f (from + 1) - f from) (f (from + 1 + n) - f (from + 1)))
+    ∙ sym (cells_from-append g (f from) (f (from + 1) - f from) (f (from + 1 + n) - f (from + 1)))
     ∙ ap (cells_from g (f from)) whole
 
 pub item_found : (a : Array) (child : ArrayView) (from n : ℕ) → view_array child ≡ a → from + n ≤ slots_in a → HasSlots a from n (Slots child from n)

@@ -2,10 +2,10 @@
 use Rattle.std.specs.Prelude.{None, nat_le}
 use Rattle.std.specs.List.{flat_map, list_all, range_with_len}
 use Rattle.std.proofs.Common.{◌≡◌, ℕ, zero, suc, ◌+◌, ◌<◌, ◌≤◌, Bool, true, List, [], ◌∷◌, ◌++◌, map, length, drop, get_or, refl, sym, ap, ap₂, subst, ◌∙◌, arith, append_assoc, append-nil}
-use Rattle.std.proofs.lemmas.Bool.{and_parts, and_from, leb-true, le-leb}
+use Rattle.std.proofs.lemmas.Bool.{and_parts, and_from, leb-true}
 use Rattle.std.proofs.lemmas.List.{drop_all, map-append}
-use Rattle.std.proofs.lemmas.List.Concat.{flat_map-append}
 use Rattle.std.proofs.lemmas.List.Folds.{list_all-append}
+use Rattle.facts.specs.laws.Lists.{flat_map-push}
 use Rattle.array_build.proofs.Arrays.{structs_are}
 use Rattle.array_build.proofs.Premises.{parts_can_be_built}
 use Rattle.array_build.proofs.Repeated.{repeated_map}
@@ -17,7 +17,7 @@ use Rattle.array_build.specs.laws.Joined.{no_arrays, more_arrays}
 use Rattle.array_runs.specs.Runs.{run_cells, runs_cells, is_run_sound, are_runs_sound, is_run_valid, are_runs_valid}
 use Rattle.array_runs.specs.declared.run.SlotRun.{SlotRun}
 use Rattle.array_runs.specs.declared.run.SlotRun.TheVariants.{Slots, Nulls}
-use Rattle.arrow_schema.specs.Column.{Column, Columns, no_column, and_column, columns_of, structs}
+use Rattle.arrow_schema.specs.Column.{Column, Columns, and_column, columns_of, structs}
 use Rattle.arrow_schema.specs.View.{column_of}
 use Rattle.arrow_schema.specs.declared.types.Field.{Field}
 use Rattle.cells.specs.Cell.{Cell, null}
@@ -25,7 +25,7 @@ use Rattle.cells.specs.Dictionary.{part_list}
 use Rattle.columns.specs.Array.{Array, Arrays, slots_in, children_in, first_array, other_arrays}
 use Rattle.columns.specs.Buildable.{can_build, can_build_parts}
 use Rattle.columns.specs.Built.{first_cell, other_cells, built}
-use Rattle.columns.specs.CellAt.{cell_at, kind_cell, cells_from, is_valid, part_cells, row_at}
+use Rattle.columns.specs.CellAt.{cell_at, kind_cell, cells_from, is_valid, row_at}
 use Rattle.columns.specs.Sound.{is_sound, are_sound, has_sound_children}
 use Rattle.columns.specs.Tests.{Typed, every_array}
 use Rattle.columns.specs.View.{view_array, array_in, arrays_in, placed_arrays}
@@ -33,6 +33,7 @@ use Rattle.columns.specs.declared.array.Dictionary.{Dictionary}
 use Rattle.columns.specs.declared.array.PlacedArray.{PlacedArray}
 use Rattle.columns.specs.declared.view.ArrayView.{ArrayView}
 use Rattle.columns.specs.laws.SoundParts.{sound_children}
+use Rattle.columns.specs.laws.Rows.{fewer_sound, first_cells, other_rows}
 
 -- ---- the array at a place
 
@@ -78,9 +79,6 @@ part_nulls j n = λ c h. (refl, refl)
 
 -- ---- the runs of the field at a place
 
-one_joined : {X A : Type 0} (f : X → List A) (xs : List X) (x : X) → flat_map f (xs ++ x ∷ []) ≡ flat_map f xs ++ f x
-one_joined f xs x = flat_map-append f xs (x ∷ []) ∙ ap (λ ys. flat_map f xs ++ ys) (append-nil (f x))
-
 -- those of the runs so far, and what is left
 abbrev pub ArePartsLeft : ℕ → (all left parts : List SlotRun) → Type 0
 ArePartsLeft j all left parts = (c : Column) → list_all (has_sound_part j c) all ≡ true
@@ -98,7 +96,7 @@ part_more j all left rest run part old new item pushed is was = λ c h.
     let others : List Cell = flat_map (part_cells_behind j c) rest in
     let joined : runs_cells c new ++ others ≡ flat_map (part_cells_behind j c) all =
     ap (λ (rs : List SlotRun). runs_cells c rs ++ others) pushed
-    ∙ ap (λ (xs : List Cell). xs ++ others) (one_joined (run_cells c) old part)
+    ∙ ap (λ (xs : List Cell). xs ++ others) (flat_map-push (run_cells c) old part)
     ∙ append_assoc (runs_cells c old) (run_cells c part) others
     ∙ ap (λ (xs : List Cell). runs_cells c old ++ (xs ++ others)) own.0
     ∙ ap (λ (rs : List SlotRun). runs_cells c old ++ flat_map (part_cells_behind j c) rs) (sym item)
@@ -116,23 +114,13 @@ is_part j all left parts none was = λ c h.
 
 -- ---- the rows of parts, field by field
 
-first_cells : (c : Column) (cs : Columns) (arrays : Arrays) (places : List ℕ) → map first_cell (map (row_at (and_column c cs) arrays) places) ≡ map (cell_at c (first_array arrays)) places
-unfolding part_cells
-first_cells c cs arrays [] = refl
-first_cells c cs arrays (i ∷ places) = ap (λ (cells : List Cell). cell_at c (first_array arrays) i ∷ cells) (first_cells c cs arrays places)
-
-others : (c : Column) (cs : Columns) (arrays : Arrays) (places : List ℕ) → map other_cells (map (row_at (and_column c cs) arrays) places) ≡ map (row_at cs (other_arrays arrays)) places
-unfolding part_cells
-others c cs arrays [] = refl
-others c cs arrays (i ∷ places) = ap (λ (rows : List (List Cell)). row_at cs (other_arrays arrays) i ∷ rows) (others c cs arrays places)
-
 first_of_run : (j : ℕ) (c : Column) (cs : Columns) (run : SlotRun) → map first_cell (parts_behind j (and_column c cs) run) ≡ part_cells_behind j c run
 first_of_run j c cs (Slots v from n) = first_cells c cs (children_behind j v) (range_with_len from n)
 first_of_run j c cs (Nulls n) = repeated_map first_cell n []
 
 others_of_run : (j : ℕ) (c : Column) (cs : Columns) (run : SlotRun) → map other_cells (parts_behind j (and_column c cs) run) ≡ parts_behind (j + 1) cs run
 others_of_run j c cs (Slots v from n) =
-    others c cs (children_behind j v) (range_with_len from n)
+    other_rows c cs (children_behind j v) (range_with_len from n)
     ∙ ap (λ (arrays : Arrays). map (row_at cs arrays) (range_with_len from n)) (next_arrays (children_in (view_array v)) j)
 others_of_run j c cs (Nulls n) = repeated_map other_cells n []
 
@@ -193,15 +181,6 @@ runs_parts cs (run ∷ runs) valid =
     let both = and_parts (is_run_valid run) (are_runs_valid runs) valid in
     map-append part_list (run_cells (plain_column (structs cs) None) run) (kind_cells (structs cs) runs)
     ∙ ap₂ (λ (xs ys : List (List Cell)). xs ++ ys) (run_parts cs run both.0) (runs_parts cs runs both.1)
-
-fewer_sound : (cs : Columns) (arrays : Arrays) (slots fewer : ℕ) → are_sound cs slots arrays ≡ true → fewer ≤ slots → are_sound cs fewer arrays ≡ true
-unfolding are_sound
-fewer_sound no_column arrays slots fewer h le = refl
-fewer_sound (and_column c cs) arrays slots fewer h le =
-    let long = and_parts (nat_le slots (slots_in (first_array arrays))) _ h in
-    let parts = and_parts (is_sound c (first_array arrays)) _ long.1 in
-    let most : slots ≤ slots_in (first_array arrays) = leb-true _ _ long.0 in
-    rw (le-leb fewer (slots_in (first_array arrays)) (omega arith), parts.0) (fewer_sound cs (other_arrays arrays) slots fewer parts.1 le)
 
 children_sound : (cs : Columns) (a : Array) → is_sound (plain_column (structs cs) None) a ≡ true → are_sound cs (slots_in a) (children_in a) ≡ true
 unfolding is_sound has_sound_children

@@ -1,8 +1,8 @@
 -- Which slots of runs are valid.
-use Rattle.std.specs.Prelude.{not, ◌==◌, ◌&&◌, replicate}
+use Rattle.std.specs.Prelude.{not, ◌==◌, replicate}
 use Rattle.std.specs.List.{list_all, range_with_len}
 use Rattle.std.proofs.Common.{◌≡◌, ℕ, zero, suc, ◌+◌, ◌≤◌, ◌<◌, Bool, true, false, List, ◌∷◌, map, length, inl, inr, refl, ap, ap₂, sym, ◌∙◌, arith}
-use Rattle.std.proofs.lemmas.Bool.{cases_lt, eq-eqb, ne_eqb}
+use Rattle.std.proofs.lemmas.Bool.{cases_lt, eq-eqb, ne_eqb, and_right}
 use Rattle.std.proofs.lemmas.List.FromFn.{length-map-range_with_len}
 use Rattle.array_build.specs.inner.Runs.{run_bits}
 use Rattle.array_runs.specs.declared.run.SlotRun.{SlotRun}
@@ -24,14 +24,10 @@ all_in_row p from (suc n) h =
     let first : p from ≡ true = h from (omega arith) (omega arith) in
     rw first (all_in_row p (from + 1) n (λ i low high. h i (omega arith) (omega arith)))
 
-after_false : (b c : Bool) → c ≡ false → (b && c) ≡ false
-after_false true c h = h
-after_false false c h = refl
-
 pub one_fails : (p : ℕ → Bool) (from n i : ℕ) → from ≤ i → i < from + n → p i ≡ false → list_all p (range_with_len from n) ≡ false
 one_fails p from zero i low high h = absurd (omega arith)
 one_fails p from (suc n) i low high h = elim (cases_lt from i) [
-  | inl lt ↦ after_false (p from) (list_all p (range_with_len (from + 1) n)) (one_fails p (from + 1) n i (omega arith) (omega arith) h)
+  | inl lt ↦ and_right (p from) (list_all p (range_with_len (from + 1) n)) (one_fails p (from + 1) n i (omega arith) (omega arith) h)
   | inr le ↦
       let here : from ≡ i = omega arith in
       let first : p from ≡ false = ap p here ∙ h in

@@ -2,7 +2,7 @@
 use Rattle.std.specs.Prelude.{Some, None, not, ◌&&◌, nat_le, replicate}
 use Rattle.std.specs.List.{flat_map, list_all, range_with_len}
 use Rattle.std.proofs.Common.{◌≡◌, ℕ, zero, suc, ◌+◌, ◌*◌, ◌/◌, ◌≤◌, ◌<◌, ◌++◌, Bool, true, false, List, length, take, drop, refl, ap, ap₂, sym, ◌∙◌, arith, length-drop, mul-le-mul_right}
-use Rattle.std.proofs.lemmas.Bool.{and_parts, ltb-false, leb-true}
+use Rattle.std.proofs.lemmas.Bool.{and_parts, ltb-false, leb-true, not-true}
 use Rattle.std.proofs.lemmas.List.{drop-drop, length-take-le}
 use Rattle.std.proofs.Math.Seq.{take-add}
 use Rattle.arrow_schema.specs.Column.{Kind, nulls, booleans, integers, dates, timestamps, texts, large_texts, binaries, large_binaries, fixed_binaries, lists, large_lists, fixed_lists, structs}
@@ -103,12 +103,8 @@ module _ (a : Array) (small : AreBytes (values_in a)) where
       ∙ sym (zeros_are own (zeros_below kind width a i is written unset) ∙ ap (λ (n : ℕ). replicate n 0) size)
 
 -- a sound array has values for all its slots
-not_false : (b : Bool) → not b ≡ true → b ≡ false
-not_false true h = cc
-not_false false h = refl
-
 long_values : (a : Array) (w : ℕ) → not (are_few w a (values_in a)) ≡ true → slots_in a * w ≤ length (values_in a)
-long_values a w h = ltb-false _ _ (not_false (are_few w a (values_in a)) h)
+long_values a w h = ltb-false _ _ (not-true (are_few w a (values_in a)) h)
 
 buffer_long : (kind : Kind) (a : Array) → is_sound (plain_column kind None) a ≡ true → not (has_short_buffer kind a) ≡ true
 unfolding is_sound

@@ -16,12 +16,12 @@ use crate::flat::{
     build_binaries, build_booleans, build_dates, build_fixed_binaries, build_integers, build_nulls,
     build_texts, build_timestamps,
 };
-use crate::item_cells::{items, items_of_size};
+use crate::item_cells::items_of_size;
 use crate::part_cells::{cells_at, parts};
 use arrow_schema::{DataType, DictSpec, Field};
 use columns::OffsetWidth;
 use std::alloc::{AllocError, Global};
-use values::{ValueRef, Values};
+use values::{ValueRef, Values, items};
 
 /// Adds the array of a field's cells, and all below it.
 #[tactic(auto, using(crate::proofs::Fields::plain_field, crate::proofs::Fields::dictionary_field))]

@@ -1,7 +1,6 @@
 // The bytes of texts and binaries, and where they end.
-ghost use Rattle.std.specs.Prelude.{◌≡◌, ◌++◌, true, OnOk, IfOk, length, map};
+ghost use Rattle.std.specs.Prelude.{◌≡◌, true, IfOk, length, map};
 ghost use Rattle.std.specs.List.{flat_map};
-ghost use Rattle.byteorder.specs.Endian.{little_bytes};
 ghost use Rattle.cells.specs.Dictionary.{item_list};
 ghost use Rattle.columns.specs.Buildable.{contents_fit, items_fit, large_offset};
 ghost use Rattle.columns.specs.Built.{contents_of, list_offsets, offsets_of};
@@ -9,7 +8,7 @@ ghost use Rattle.columns.specs.Offsets.{width_of};
 ghost use Rattle.values.specs.Borrowed.{borrowed_cell};
 
 use byteorder::{ByteOrder, LittleEndian};
-use columns::OffsetWidth;
+use columns::{OffsetWidth, push_offset};
 use std::alloc::{AllocError, Global};
 use values::ValueRef;
 
@@ -35,20 +34,6 @@ pub(crate) fn contents(alloc: Global, cells: &[ValueRef<'_>]) -> Result<Vec<u8>,
     Ok(contents)
 }
 
-pub(crate) fn push_offset(
-    offsets: &mut Vec<u8>,
-    width: OffsetWidth,
-    offset: u64,
-) -> Result<(), AllocError>
-    ensures { OnOk result (offsets.new.items ≡ offsets.old.items ++ little_bytes (width_of width) offset) }
-{
-    let bytes = offset.to_le_bytes();
-    match width {
-        OffsetWidth::Four => offsets.extend_from_slice(&bytes[..4]),
-        OffsetWidth::Eight => offsets.extend_from_slice(&bytes),
-    }
-}
-
 /// The offsets of texts or binaries: 0, and then where each ends.
 pub(crate) fn content_offsets(
     alloc: Global,
@@ -68,7 +53,7 @@ pub(crate) fn content_offsets(
     Ok(offsets)
 }
 
-#[tactic(auto, using(crate::proofs::Listed::listed_again))]
+#[tactic(auto, using(cells::specs::laws::Cells::cells_listed))]
 fn item_count(cell: ValueRef<'_>) -> usize
     ensures { result ≡ length (item_list (borrowed_cell cell.entry)) }
 {

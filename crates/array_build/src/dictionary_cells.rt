@@ -4,39 +4,16 @@ ghost use Rattle.std.specs.List.{flat_map};
 ghost use Rattle.arrow_schema.specs.View.{bits_of};
 ghost use Rattle.array_build.specs.inner.Codes.{code_in, sized_code};
 ghost use Rattle.byteorder.specs.Endian.{little_bytes};
-ghost use Rattle.cells.specs.Dictionary.{entry_in, entries_of, with_entry};
-ghost use Rattle.cells.specs.Entry.{entry_cell, entry_cell_of};
+ghost use Rattle.cells.specs.Dictionary.{entries_of, with_entry};
+ghost use Rattle.cells.specs.Entry.{entry_cell};
 ghost use Rattle.columns.specs.Built.{entry_index, index_bytes, place_or_zero};
 ghost use Rattle.values.specs.Borrowed.{borrowed_cell};
 
 use arrow_schema::{BitWidth, IntegerType};
-use cells::Entry;
+use cells::{Entry, note};
 use indexmap::IndexSet;
 use std::alloc::{AllocError, Global};
 use values::ValueRef;
-
-fn entry_of(cell: ValueRef<'_>) -> Option<Entry<'_>>
-    ensures { entry_cell_of result ≡ entry_in (borrowed_cell cell.entry) }
-{
-    match cell {
-        ValueRef::Bool(boolean) => Some(Entry::Bool(boolean)),
-        ValueRef::Int(number) => Some(Entry::Int(number)),
-        ValueRef::Text(text) => Some(Entry::Text(text)),
-        ValueRef::Bytes(bytes) => Some(Entry::Bytes(bytes)),
-        ValueRef::Null => None,
-        ValueRef::List(_) => None,
-        ValueRef::Struct(_) => None,
-    }
-}
-
-fn note<'a>(entries: &mut IndexSet<Entry<'a>>, cell: ValueRef<'a>) -> Result<(), AllocError>
-    ensures { OnOk result (map entry_cell entries.new.keys ≡ with_entry (map entry_cell entries.old.keys) (borrowed_cell cell.entry)) }
-{
-    if let Some(entry) = entry_of(cell) {
-        entries.insert(entry)?;
-    }
-    Ok(())
-}
 
 /// The entries of a dictionary that has these cells: the distinct values, in the order in which they are first seen.
 #[tactic(auto, unfolding(cells::specs::Dictionary::with_entries))]
@@ -48,7 +25,7 @@ pub(crate) fn entry_set<'a>(
 {
     let mut entries = IndexSet::new(alloc);
     for cell in cells {
-        note(&mut entries, *cell)?;
+        note(&mut entries, cell.as_entry())?;
     }
     Ok(entries)
 }
@@ -61,7 +38,7 @@ pub(crate) fn code_of<'a>(
     ensures entries { OnOk result (map entry_cell entries.new.keys ≡ with_entry (map entry_cell entries.old.keys) (borrowed_cell cell.entry)) }
     ensures code { IfOk result (λ code. code ≡ code_in (map entry_cell entries.new.keys) (borrowed_cell cell.entry)) }
 {
-    match entry_of(cell) {
+    match cell.as_entry() {
         None => Ok(None),
         Some(entry) => {
             let (place, _) = entries.insert_full(entry)?;
@@ -99,7 +76,7 @@ pub(crate) fn entry_cells<'a>(
 fn entry_index(entries: &IndexSet<Entry<'_>>, cell: ValueRef<'_>) -> usize
     ensures { result ≡ entry_index (map entry_cell entries.now.keys) (borrowed_cell cell.entry) }
 {
-    match entry_of(cell) {
+    match cell.as_entry() {
         None => 0,
         Some(entry) => match entries.get_index_of(&entry) {
             None => 0,

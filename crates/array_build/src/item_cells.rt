@@ -1,47 +1,12 @@
-// The cells below lists and structs.
+// The cells below lists of one size.
 ghost use Rattle.std.specs.Prelude.{◌≡◌, ◌++◌, OnOk, IfOk, map, replicate};
 ghost use Rattle.std.specs.List.{flat_map};
 ghost use Rattle.cells.specs.Cell.{null};
-ghost use Rattle.cells.specs.Dictionary.{item_list};
 ghost use Rattle.columns.specs.Built.{fixed_items};
-ghost use Rattle.values.specs.Borrowed.{borrowed_cell, borrowed_cells};
+ghost use Rattle.values.specs.Borrowed.{borrowed_cell};
 
 use std::alloc::{AllocError, Global};
-use values::{ValueRef, Values};
-
-fn add_all<'a>(items: &mut Vec<ValueRef<'a>>, values: Values<'a>) -> Result<(), AllocError>
-    ensures { OnOk result (map borrowed_cell items.new.items ≡ map borrowed_cell items.old.items ++ borrowed_cells values.entry) }
-{
-    for value in values.iter() {
-        items.push(value)?;
-    }
-    Ok(())
-}
-
-// The items of a list: none of another value.
-#[tactic(auto, using(crate::proofs::Listed::listed_again))]
-fn add_items<'a>(items: &mut Vec<ValueRef<'a>>, cell: ValueRef<'a>) -> Result<(), AllocError>
-    ensures { OnOk result (map borrowed_cell items.new.items ≡ map borrowed_cell items.old.items ++ item_list (borrowed_cell cell.entry)) }
-{
-    match cell {
-        ValueRef::List(values) => add_all(items, values),
-        _ => Ok(()),
-    }
-}
-
-/// The items of lists, one after another; a null has none.
-pub(crate) fn items<'a>(
-    alloc: Global,
-    cells: &[ValueRef<'a>],
-) -> Result<Vec<ValueRef<'a>>, AllocError>
-    ensures { IfOk result (λ items. map borrowed_cell items.items ≡ flat_map item_list (map borrowed_cell cells.now)) }
-{
-    let mut items = Vec::new(alloc);
-    for cell in cells {
-        add_items(&mut items, *cell)?;
-    }
-    Ok(items)
-}
+use values::{ValueRef, push_all};
 
 // Adds nulls.
 #[tactic(auto, using(crate::proofs::Equals::one_more))]
@@ -55,7 +20,7 @@ fn add_nulls(items: &mut Vec<ValueRef<'_>>, count: usize) -> Result<(), AllocErr
 }
 
 // The items of a list, and as many nulls as a list of this size has below a null.
-#[tactic(auto, using(crate::proofs::Listed::listed_again))]
+#[tactic(auto, using(cells::specs::laws::Cells::cells_listed))]
 fn add_fixed_items<'a>(
     items: &mut Vec<ValueRef<'a>>,
     size: usize,
@@ -65,7 +30,7 @@ fn add_fixed_items<'a>(
 {
     match cell {
         ValueRef::Null => add_nulls(items, size),
-        ValueRef::List(values) => add_all(items, values),
+        ValueRef::List(values) => push_all(items, values),
         _ => Ok(()),
     }
 }

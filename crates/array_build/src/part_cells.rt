@@ -62,7 +62,7 @@ pub(crate) fn cells_at<'a>(
 }
 
 // The part of a struct at a place: a null where there is none.
-#[tactic(auto, using(crate::proofs::Listed::listed_again))]
+#[tactic(auto, using(cells::specs::laws::Cells::cells_listed))]
 fn part_at<'a>(cell: ValueRef<'a>, place: usize) -> ValueRef<'a>
     ensures { borrowed_cell result ≡ first_cell (drop place (part_list (borrowed_cell cell.entry))) }
 {

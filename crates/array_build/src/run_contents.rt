@@ -15,12 +15,11 @@ ghost use Rattle.columns.specs.Tests.{are_few_offsets, are_unordered};
 ghost use Rattle.columns.specs.View.{view_array};
 
 use crate::batch::Buffer;
-use crate::content_bytes::push_offset;
 use crate::run_slots::{count_slots, only_run};
 use array_runs::SlotRun;
 use arrow_schema::DataType;
 use byteorder::{ByteOrder, LittleEndian};
-use columns::{ArrayView, OffsetWidth, bytes_at};
+use columns::{ArrayView, OffsetWidth, bytes_at, push_offset};
 use std::alloc::{AllocError, Global};
 
 // The bytes of some slots' texts or binaries.

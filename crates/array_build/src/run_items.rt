@@ -12,12 +12,11 @@ ghost use Rattle.columns.specs.Buildable.{large_offset};
 ghost use Rattle.columns.specs.Built.{list_offsets};
 ghost use Rattle.columns.specs.Offsets.{width_of};
 
-use crate::content_bytes::push_offset;
 use crate::item_slots::item_slots;
 use crate::run_slots::{count_slots, run_len};
 use array_runs::SlotRun;
 use arrow_schema::Field;
-use columns::OffsetWidth;
+use columns::{OffsetWidth, push_offset};
 use std::alloc::{AllocError, Global};
 
 // How many items the list at a place of a run has.

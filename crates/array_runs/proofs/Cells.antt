@@ -1,22 +1,11 @@
 -- The cells of slots one after another.
 use Rattle.std.specs.Prelude.{Some, None, replicate}
-use Rattle.std.proofs.Common.{◌≡◌, ℕ, zero, suc, ◌+◌, ◌≤◌, ◌<◌, ◌++◌, true, false, List, ◌∷◌, refl, ap, ap₂, arith}
+use Rattle.std.proofs.Common.{◌≡◌, ℕ, zero, suc, ◌+◌, ◌≤◌, ◌<◌, true, false, List, ◌∷◌, refl, ap₂, arith}
 use Rattle.std.specs.List.{list_all, range_with_len}
 use Rattle.arrow_schema.specs.Column.{Column, column}
 use Rattle.cells.specs.Cell.{Cell, null}
 use Rattle.columns.specs.Array.{Array}
 use Rattle.columns.specs.CellAt.{cell_at, cells_from, is_valid}
-
--- those of some slots, and then those of the others
-pub split_cells : (f : ℕ → Cell) (from m n : ℕ) → cells_from f from (m + n) ≡ cells_from f from m ++ cells_from f (from + m) n
-split_cells f from zero n =
-    let size : 0 + n ≡ n = omega arith in
-    let here : from + 0 ≡ from = omega arith in
-    rw (size, here) refl
-split_cells f from (suc m) n =
-    let size : suc m + n ≡ suc (m + n) = omega arith in
-    let there : from + suc m ≡ from + 1 + m = omega arith in
-    rw (size, there) (ap (λ (cells : List Cell). f from ∷ cells) (split_cells f (from + 1) m n))
 
 -- a slot that is not valid is a null in any column
 pub invalid_cell : (c : Column) (a : Array) (i : ℕ) → is_valid a i ≡ false → cell_at c a i ≡ null

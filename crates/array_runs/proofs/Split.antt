@@ -7,28 +7,26 @@ use Rattle.std.proofs.lemmas.Bool.Decides.{nat_tests}
 use Rattle.std.proofs.lemmas.List.{append-nil, drop_all}
 use Rattle.std.proofs.lemmas.List.Concat.{flat_map-append}
 use Rattle.std.proofs.lemmas.List.Folds.{list_all-append}
+use Rattle.facts.specs.laws.Lists.{all_pushed}
 use Rattle.arrow_schema.specs.Column.{Column}
 use Rattle.array_runs.specs.Runs.{run_cells, runs_cells, is_run_sound, are_runs_sound, is_run_valid, HaveSameCells}
 use Rattle.array_runs.specs.inner.Split.{AreAlike, IsAdded}
 use Rattle.array_runs.specs.declared.run.SlotRun.{SlotRun}
 use Rattle.array_runs.specs.declared.run.SlotRun.TheVariants.{Slots, Nulls}
-use Rattle.array_runs.proofs.Cells.{split_cells, invalid_cells, valid_slots}
+use Rattle.array_runs.proofs.Cells.{invalid_cells, valid_slots}
 use Rattle.columns.specs.Array.{slots_in}
 use Rattle.columns.specs.CellAt.{cell_at, cells_from}
 use Rattle.columns.specs.Sound.{is_sound}
 use Rattle.columns.specs.View.{view_array}
 use Rattle.columns.specs.declared.view.ArrayView.{ArrayView}
-
--- a test of one more
-and_last : {X : Type 0} (p : X → Bool) (xs : List X) (x : X) → list_all p xs ≡ true → p x ≡ true → list_all p (xs ++ x ∷ []) ≡ true
-and_last p xs x h here = list_all-append p xs (x ∷ []) ∙ rw (h, here) refl
+use Rattle.columns.specs.laws.Rows.{cells_from-append}
 
 -- a run that stands for another, of which each slot is valid
 added : (old : List SlotRun) (own run : SlotRun) → is_run_valid own ≡ true → ((c : Column) → is_run_sound c run ≡ true → is_run_sound c own ≡ true) → ((c : Column) → run_cells c own ≡ run_cells c run)
     → IsAdded old (old ++ own ∷ []) run
 added old own run valid sound same = record {
-  valid = λ h. and_last is_run_valid old own h valid;
-  sound = λ c h all. and_last (is_run_sound c) old own all (sound c h);
+  valid = λ h. all_pushed is_run_valid old own h valid;
+  sound = λ c h all. all_pushed (is_run_sound c) old own all (sound c h);
   cells = λ c. flat_map-append (run_cells c) old (own ∷ []) ∙ ap (λ cells. runs_cells c old ++ cells) (append-nil (run_cells c own) ∙ same c);
 }
 
@@ -60,7 +58,7 @@ more_added old mid new v from m n first next = record {
   cells = λ c.
       next.cells c ∙ ap (λ cells. cells ++ cells_from (cell_at c (view_array v)) (from + m) n) (first.cells c)
       ∙ append_assoc (runs_cells c old) (cells_from (cell_at c (view_array v)) from m) (cells_from (cell_at c (view_array v)) (from + m) n)
-      ∙ ap (λ cells. runs_cells c old ++ cells) (sym (split_cells (cell_at c (view_array v)) from m n));
+      ∙ ap (λ cells. runs_cells c old ++ cells) (sym (cells_from-append (cell_at c (view_array v)) from m n));
 }
 
 -- a run of all is replaced

@@ -1,8 +1,8 @@
 -- What is answered of a record batch, and what its arrays are where their own checks found nothing.
-use Rattle.std.specs.Prelude.{not, ◌==◌, nat_lt}
+use Rattle.std.specs.Prelude.{not, ◌==◌}
 use Rattle.std.specs.List.{list_any, list_all, zip}
-use Rattle.std.proofs.Common.{◌≡◌, ℕ, Bool, true, false, List, [], ◌∷◌, map, Option, Some, None, Ok, Err, refl, sym, ap, arith, ◌∙◌}
-use Rattle.std.proofs.lemmas.Bool.{or_parts, or_from, eqb-true, le-ltb, not-false}
+use Rattle.std.proofs.Common.{◌≡◌, ℕ, Bool, true, false, List, ◌∷◌, map, Option, Some, None, Ok, Err, refl, sym, ap, ◌∙◌}
+use Rattle.std.proofs.lemmas.Bool.{or_parts}
 use Rattle.facts.specs.Checks.{when, first_some, unless}
 use Rattle.facts.specs.laws.Checks.{unless_passed, first_some-after, first_some-before}
 use Rattle.arrow_schema.specs.Column.{Column, Columns, columns_of, PlainSchema}
@@ -17,6 +17,7 @@ use Rattle.columns.specs.Sound.{are_sound}
 use Rattle.columns.specs.Tests.{every_array}
 use Rattle.columns.specs.Visible.{Slot, visible_in}
 use Rattle.columns.specs.laws.Sounds.{AreClean, is_typed_sound, all_sound}
+use Rattle.columns.specs.laws.Rows.{none_shorter}
 use Rattle.arrays.specs.Entries.{has_bad_entry}
 use Rattle.arrays.specs.Checks.{plain_node, buffer_bytes, batch_arrays, array_checks, arrays_read, slot_checks, batch_read, batch_checks, has_other_layout, has_bad_length, is_bad_length, is_outside, is_miscounted, typed_is_short, typed_is_unordered}
 
@@ -64,14 +65,6 @@ slots_pass s before b body ds arrays h found = after_arrays s before b body ds a
 pub passed : (t : Bool) (f : Fault) (rest : List (Option Fault)) → first_some (when t f ∷ rest) ≡ None → (t ≡ false) × (first_some rest ≡ None)
 passed true f rest h = absurd cc
 passed false f rest h = (refl, h)
-
-none_shorter : (n : ℕ) (xs : List Array) → list_any (λ a. not (slots_in a == n)) xs ≡ false → list_any (λ a. nat_lt (slots_in a) n) xs ≡ false
-none_shorter n [] h = refl
-none_shorter n (x ∷ xs) h =
-    let parts = or_parts (not (slots_in x == n)) (list_any (λ a. not (slots_in a == n)) xs) h in
-    let same : slots_in x ≡ n = eqb-true _ _ (not-false _ parts.0) in
-    let here : nat_lt (slots_in x) n ≡ false = le-ltb _ _ (omega (arith, same)) in
-    or_from (nat_lt (slots_in x) n) (list_any (λ a. nat_lt (slots_in a) n) xs) here (none_shorter n xs parts.1)
 
 -- each array has as many slots as the batch has rows
 pub read_lengths : (cs : Columns) (b : RawBatch) (body : List ℕ) (ds : List (List Array)) → first_some (array_checks cs b body (batch_arrays cs b body ds)) ≡ None

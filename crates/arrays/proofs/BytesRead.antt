@@ -1,7 +1,7 @@
 -- What is read of a batch has bytes where its body has: the arrays of a record batch, those of a dictionary batch, and the dictionaries that are in effect.
-use Rattle.std.specs.Prelude.{nat_lt, if◌then◌else◌}
+use Rattle.std.specs.Prelude.{if◌then◌else◌}
 use Rattle.std.specs.List.{list_all}
-use Rattle.std.proofs.Common.{◌≡◌, ℕ, zero, suc, Bool, true, false, List, [], ◌∷◌, ◌++◌, map, take, drop, get_or, Option, Some, None, Ok, refl, subst, ◌∙◌}
+use Rattle.std.proofs.Common.{◌≡◌, ℕ, zero, suc, Bool, true, false, List, [], ◌∷◌, ◌++◌, map, drop, get_or, Option, Some, None, Ok, refl, subst, ◌∙◌}
 use Rattle.std.proofs.lemmas.Bool.{and_parts, and_from}
 use Rattle.std.proofs.lemmas.List.Folds.{list_all-append}
 use Rattle.facts.specs.Checks.{first_some}
@@ -11,22 +11,19 @@ use Rattle.ipc_message.specs.Raw.{RawBuffer, RawBatch, RawDictionaryBatch}
 use Rattle.columns.specs.Array.{Array, Arrays, arrays_of, first_array}
 use Rattle.columns.specs.Buffers.{Node}
 use Rattle.columns.specs.FromBuffers.{array_from, kind_array_from, arrays_from, node_count, buffer_count, dictionary_count}
+use Rattle.columns.specs.Alone.{alone}
 use Rattle.dictionary.specs.InEffect.{DictionaryBatch, has_id, after_batch, after_batches}
 use Rattle.arrays.specs.Bytes.{are_bytes, has_bytes, have_bytes}
 use Rattle.arrays.specs.Checks.{plain_node, buffer_bytes, batch_arrays}
-use Rattle.arrays.specs.Dictionaries.{DictionaryColumn, column_of_id, alone, entries_in, dictionary_checks, dictionary_read, read_with, batch_with, dictionaries_after}
-use Rattle.arrays.proofs.RowsFit.{dropped_bytes, first_bytes}
+use Rattle.arrays.specs.Dictionaries.{DictionaryColumn, column_of_id, entries_in, dictionary_checks, dictionary_read, read_with, batch_with, dictionaries_after}
+use Rattle.arrays.proofs.RowsFit.{first_bytes}
+use Rattle.arrays.specs.laws.Bytes.{are_bytes-drop, are_bytes-take}
 
 -- ---- the arrays of a batch
 
-taken_bytes : (n : ℕ) (xs : List ℕ) → are_bytes xs ≡ true → are_bytes (take n xs) ≡ true
-taken_bytes zero xs h = refl
-taken_bytes (suc n) [] h = refl
-taken_bytes (suc n) (x ∷ xs) h = let p = and_parts (nat_lt x 256) (are_bytes xs) h in and_from _ _ p.0 (taken_bytes n xs p.1)
-
 buffers_bytes : (body : List ℕ) (bs : List RawBuffer) → are_bytes body ≡ true → list_all are_bytes (map (buffer_bytes body) bs) ≡ true
 buffers_bytes body [] h = refl
-buffers_bytes body (b ∷ bs) h = and_from _ _ (taken_bytes b.length (drop b.offset body) (dropped_bytes b.offset body h)) (buffers_bytes body bs h)
+buffers_bytes body (b ∷ bs) h = and_from _ _ (are_bytes-take b.length (drop b.offset body) (are_bytes-drop b.offset body h)) (buffers_bytes body bs h)
 
 dropped_all : {X : Type 0} (p : X → Bool) (n : ℕ) (xs : List X) → list_all p xs ≡ true → list_all p (drop n xs) ≡ true
 dropped_all p zero xs h = h

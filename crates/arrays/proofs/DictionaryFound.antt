@@ -1,7 +1,6 @@
 -- The column of an id, id by id.
 use Rattle.std.specs.Prelude.{◌==◌, cond, option_map}
 use Rattle.std.proofs.Common.{◌≡◌, ℕ, zero, suc, ◌+◌, ◌≤◌, ◌<◌, Bool, true, false, Option, Some, None, List, [], ◌∷◌, length, get_or, map, take, drop, refl, ap, sym, ◌∙◌, arith}
-use Rattle.std.proofs.lemmas.Bool.Decides.{nat_tests}
 use Rattle.std.proofs.lemmas.List.{drop-drop, drop_more}
 use Rattle.arrow_schema.specs.Column.{Column}
 use Rattle.arrays.specs.Dictionaries.{DictionaryColumn, column_of_id}
@@ -57,6 +56,3 @@ one_past f [] zero past = refl
 one_past f [] (suc i) past = refl
 one_past f (x ∷ xs) zero past = absurd (omega arith)
 one_past f (x ∷ xs) (suc i) past = one_past f xs i (omega arith)
-
-pub is_no_id : (a b : ℕ) → (a ≡ b → ⊥) → (a == b) ≡ false
-is_no_id a b h = grind (arith, nat_tests)

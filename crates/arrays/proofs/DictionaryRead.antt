@@ -15,10 +15,11 @@ use Rattle.columns.specs.declared.array.PlacedArray.{PlacedArray}
 use Rattle.columns.specs.Array.{Array, Arrays, first_array}
 use Rattle.columns.specs.View.{array_in, no_dictionary, placed_arrays, IsNoArray}
 use Rattle.columns.specs.Visible.{visible_in, is_no_text}
+use Rattle.columns.specs.Alone.{alone}
 use Rattle.dictionary.specs.InEffect.{DictionaryBatch}
 use Rattle.arrays.specs.Checks.{array_checks, arrays_read}
 use Rattle.arrays.proofs.BatchRead.{unless_failed}
-use Rattle.arrays.specs.Dictionaries.{DictionaryColumn, alone, entries_in, entry_checks, entries_read, dictionary_checks, has_no_base, batch_with, read_with}
+use Rattle.arrays.specs.Dictionaries.{DictionaryColumn, entries_in, entry_checks, entries_read, dictionary_checks, has_no_base, batch_with, read_with}
 
 pub entries_fail : (c : Column) (b : RawBatch) (body : List ℕ) (e : ImportError) → Fails e (arrays_read (alone c) b body []) → Fails e (entries_read c b body)
 unfolding arrays_read entry_checks

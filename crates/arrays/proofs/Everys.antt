@@ -1,7 +1,7 @@
 -- A test of every array, in a loop.
 use Rattle.std.specs.Prelude.{◌||◌}
 use Rattle.std.specs.List.{list_any, zip}
-use Rattle.std.proofs.Common.{◌≡◌, ℕ, zero, suc, ◌+◌, ◌/◌, ◌<◌, Bool, true, false, List, [], ◌∷◌, ◌++◌, length, map, drop, get_or, Some, None, refl, arith, sym, ap, ◌∙◌}
+use Rattle.std.proofs.Common.{◌≡◌, ℕ, ◌+◌, ◌/◌, ◌<◌, Bool, true, false, List, ◌∷◌, ◌++◌, length, map, drop, get_or, Some, None, refl, sym, ap, ◌∙◌}
 use Rattle.std.proofs.lemmas.Bool.{or_parts}
 use Rattle.facts.specs.laws.Lists.{drop-item}
 use Rattle.ipc_message.specs.Raw.{RawNode}
@@ -14,6 +14,7 @@ use Rattle.columns.specs.declared.array.Dictionary.{Dictionary}
 use Rattle.columns.specs.Array.{Array, Arrays, indices_in, first_array, other_arrays}
 use Rattle.columns.specs.Tests.{Typed, arrays_at, every_array, is_short, has_short_validity, has_short_buffer, are_few}
 use Rattle.columns.specs.View.{placed_arrays}
+use Rattle.columns.specs.laws.Rows.{other_placed}
 use Rattle.arrays.specs.declared.every.TypedView.{TypedView}
 use Rattle.arrays.specs.Checks.{is_miscounted}
 use Rattle.arrays.specs.inner.Every.{typed_view, all_of}
@@ -53,15 +54,6 @@ short_validity (column name nullable kind (Some index) pairs) a h = (or_parts (h
 
 -- ---- the arrays of columns, listed one after another
 
-pub others_placed : (bytes : List ℕ) (all : List Dictionary) (xs : List PlacedArray) (i : ℕ) → other_arrays (placed_arrays bytes all (drop i xs)) ≡ placed_arrays bytes all (drop (suc i) xs)
-others_placed bytes all [] zero = refl
-others_placed bytes all [] (suc i) = refl
-others_placed bytes all (x ∷ xs) zero = refl
-others_placed bytes all (x ∷ xs) (suc i) = others_placed bytes all xs i
-
-pub next_placed : (bytes : List ℕ) (all : List Dictionary) (xs : List PlacedArray) (i : ℕ) → other_arrays (placed_arrays bytes all (drop i xs)) ≡ placed_arrays bytes all (drop (i + 1) xs)
-next_placed bytes all xs i = others_placed bytes all xs i ∙ (let s : suc i ≡ i + 1 = omega arith in ap (λ (k : ℕ). placed_arrays bytes all (drop k xs)) s)
-
 -- with one more column
 pub listed_more : (bytes : List ℕ) (all : List Dictionary) (fs : List Field) (arrays : List PlacedArray) (i : ℕ) (f : Field) (a : Array) (before after every : List Typed)
     → drop i fs ≡ f ∷ drop (i + 1) fs → a ≡ first_array (placed_arrays bytes all (drop i arrays)) → after ≡ before ++ arrays_at (column_of f) a
@@ -71,7 +63,7 @@ unfolding every_array
 listed_more bytes all fs arrays i f a before after every next is more h =
     let here : Arrays = placed_arrays bytes all (drop i arrays) in
     let cs : Columns = columns_of (map column_of (drop (i + 1) fs)) in
-    let others : placed_arrays bytes all (drop (i + 1) arrays) ≡ other_arrays here = sym (next_placed bytes all arrays i) in
+    let others : placed_arrays bytes all (drop (i + 1) arrays) ≡ other_arrays here = sym (other_placed bytes all arrays i) in
     let e : every_array (columns_of (map column_of (drop i fs))) here ≡ arrays_at (column_of f) (first_array here) ++ every_array cs (other_arrays here)
     = ap (λ (gs : List Field). every_array (columns_of (map column_of gs)) here) next in
     (λ j. more j ++ every_array cs (others j))

@@ -15,9 +15,10 @@ use Rattle.columns.specs.CellAt.{cell_at, cells_in}
 use Rattle.columns.specs.FromBuffers.{arrays_from}
 use Rattle.columns.specs.Sound.{is_sound, are_sound}
 use Rattle.columns.specs.Visible.{visible_in, is_no_text, is_bad_text}
+use Rattle.columns.specs.Alone.{alone}
 use Rattle.dictionary.specs.InEffect.{DictionaryBatch, has_id, after_batch, after_batches}
 use Rattle.arrays.specs.Checks.{plain_node, buffer_bytes, array_checks, arrays_read}
-use Rattle.arrays.specs.Dictionaries.{DictionaryColumn, column_of_id, alone, entries_in, entry_checks, dictionary_checks, dictionary_read, read_with, batch_with, has_no_base, dictionaries_after}
+use Rattle.arrays.specs.Dictionaries.{DictionaryColumn, column_of_id, entries_in, entry_checks, dictionary_checks, dictionary_read, read_with, batch_with, has_no_base, dictionaries_after}
 use Rattle.arrays.specs.Known.{is_readable, are_readable, is_readable_for, is_readable_batch, IsAsFirst}
 use Rattle.arrays.specs.inner.VisibleSpans.{any_slot, any_visible, any_below}
 use Rattle.arrays.proofs.BatchRead.{passed, read_sound, read_lengths}

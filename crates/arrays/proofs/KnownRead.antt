@@ -1,8 +1,7 @@
 -- Where what is known of dictionaries is readable, so are the dictionaries of the arrays of a batch.
-use Rattle.std.specs.Prelude.{not}
 use Rattle.std.specs.List.{list_any, list_all, flat_map}
 use Rattle.std.proofs.Common.{◌≡◌, ℕ, zero, suc, ◌+◌, Bool, true, false, List, [], ◌∷◌, ◌++◌, length, map, drop, Some, None, refl, sym, ap, ◌∙◌}
-use Rattle.std.proofs.lemmas.Bool.{and_parts}
+use Rattle.std.proofs.lemmas.Bool.{and_parts, not-true}
 use Rattle.std.proofs.lemmas.Grind.{flat_map-append}
 use Rattle.std.proofs.lemmas.List.{append-nil, length-append}
 use Rattle.std.proofs.lemmas.List.Folds.{list_all-append, list_any-append}
@@ -18,10 +17,6 @@ use Rattle.columns.specs.laws.Places.{listed}
 use Rattle.columns.specs.laws.Sounds.{is_typed_sound}
 use Rattle.arrays.specs.Entries.{has_bad_entry}
 use Rattle.arrays.specs.Known.{is_readable, are_readable, own_values, values_in, dictionary_values}
-
-off : (b : Bool) → not b ≡ true → b ≡ false
-off true h = sym h
-off false h = refl
 
 -- ---- lists of what is known
 
@@ -73,7 +68,7 @@ no_bad_text kind [] h = refl
 no_bad_text kind (x ∷ xs) h =
     let values : Column = column [] true kind None [] in
     let own = and_parts (is_readable values x) (list_all (is_readable values) xs) h in
-    let here : list_any is_bad_text (cells_from (unless_null (kind_cell kind) x) 0 (slots_in x)) ≡ false = off _ (and_parts (is_sound values x) _ own.0).1 in
+    let here : list_any is_bad_text (cells_from (unless_null (kind_cell kind) x) 0 (slots_in x)) ≡ false = not-true _ (and_parts (is_sound values x) _ own.0).1 in
     list_any-append is_bad_text (cells_from (unless_null (kind_cell kind) x) 0 (slots_in x)) (flat_map (λ a. cells_from (unless_null (kind_cell kind) a) 0 (slots_in a)) xs)
     ∙ rw here (no_bad_text kind xs own.1)
 

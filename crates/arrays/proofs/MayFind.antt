@@ -1,11 +1,11 @@
 -- What is not found by the type is not found in any slot.
-use Rattle.std.specs.Prelude.{not, ◌&&◌, ◌||◌, is_some, if◌then◌else◌}
+use Rattle.std.specs.Prelude.{is_some, if◌then◌else◌}
 use Rattle.std.specs.List.{list_any, flat_map, range_with_len}
-use Rattle.std.proofs.Common.{◌≡◌, ℕ, ◌+◌, ◌<◌, ◌≤◌, ◌*◌, Bool, true, false, List, [], ◌∷◌, ◌++◌, length, drop, get_or, map, Option, Some, None, refl, sym, ap, ◌∙◌}
-use Rattle.std.proofs.lemmas.Bool.{or_parts, or_from}
+use Rattle.std.proofs.Common.{◌≡◌, ℕ, ◌+◌, ◌<◌, ◌≤◌, ◌*◌, Bool, true, false, List, [], ◌∷◌, length, drop, get_or, Option, Some, None, refl, sym, ap, ◌∙◌}
+use Rattle.std.proofs.lemmas.Bool.{or_parts}
 use Rattle.std.proofs.lemmas.List.{drop_all}
 use Rattle.std.proofs.lemmas.List.Folds.{list_any-append}
-use Rattle.facts.specs.laws.Lists.{drop-item}
+use Rattle.facts.specs.laws.Lists.{drop-item, none_in_range}
 use Rattle.arrow_schema.specs.declared.types.Field.{Field, out-Field}
 use Rattle.arrow_schema.specs.Column.{Kind, Column, Columns, nulls, booleans, integers, dates, timestamps, texts, large_texts, binaries, large_binaries, fixed_binaries, lists, large_lists, fixed_lists, structs, column, no_column, and_column}
 use Rattle.arrow_schema.specs.Parts.{kind_of_column}
@@ -14,12 +14,11 @@ use Rattle.arrow_schema.specs.View.{column_of, kind_of}
 use Rattle.columns.specs.Array.{Array, Arrays, items_in, children_in, first_array, other_arrays}
 use Rattle.columns.specs.CellAt.{is_valid, cell_at, span_start, span_size}
 use Rattle.columns.specs.View.{fields_of}
-use Rattle.columns.specs.Visible.{Slot, slot, visible, visible_below, visible_parts, is_forbidden}
+use Rattle.columns.specs.Visible.{Slot, slot, visible, visible_below, visible_parts}
 use Rattle.arrays.specs.declared.visible.slot_test.SlotTest.{SlotTest}
 use Rattle.arrays.specs.declared.visible.slot_test.SlotTest.TheVariants.{NoEntry, NotUtf8, Forbidden}
 use Rattle.arrays.specs.inner.MayFind.{may_find_own, may_find, may_find_below, any_may_find}
-use Rattle.arrays.specs.inner.VisibleSpans.{any_slot, finds, text_width, slots_below, any_below, has_below}
-use Rattle.arrays.proofs.Ranges.{any-none}
+use Rattle.arrays.specs.inner.VisibleSpans.{any_slot, finds, text_width, slots_below, any_below}
 use Rattle.arrays.proofs.VisibleSlots.{no_text_at}
 
 no_width : (o : Option ℕ) → is_some o ≡ false → o ≡ None
@@ -37,7 +36,7 @@ own_not_found Forbidden (column name false kind dictionary pairs) a i h = absurd
 
 -- in the slots of a span themselves
 pub own_none : (test : SlotTest) (c : Column) (a : Array) (from n : ℕ) → may_find_own test c ≡ false → any_slot (finds test) c a from n ≡ false
-own_none test c a from n h = any-none (λ i. finds test (slot c a i)) from n (λ i low high. own_not_found test c a i h)
+own_none test c a from n h = none_in_range (λ i. finds test (slot c a i)) from n (λ i low high. own_not_found test c a i h)
 
 each_not_found : (f : Slot → Bool) (g : ℕ → List Slot) → ((i : ℕ) → list_any f (g i) ≡ false) → (xs : List ℕ) → list_any f (flat_map g xs) ≡ false
 each_not_found f g h [] = refl

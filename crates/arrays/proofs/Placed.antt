@@ -9,6 +9,7 @@ use Rattle.columns.specs.Array.{Array, Arrays, Layout, array, no_array, and_arra
 use Rattle.columns.specs.Buffers.{Node}
 use Rattle.columns.specs.FromBuffers.{array_from, kind_array_from, arrays_from, first_slots, node_count, buffer_count, dictionary_count}
 use Rattle.columns.specs.View.{array_in, arrays_in, placed_arrays}
+use Rattle.columns.specs.laws.Places.{arrays_listed}
 use Rattle.arrays.specs.declared.rest.Rest.{Rest}
 use Rattle.arrays.specs.inner.Rest.{rest_nodes, rest_buffers, rest_known, rest_dictionaries, IsPlaced, ArePlaced, IsPlacedBelow, ArePlacedBelow, IsLeft}
 
@@ -40,10 +41,6 @@ own_array k nodes buffers dictionaries slots validity layout s e f =
 
 -- ---- the arrays of columns, one after another
 
-again : (arrays : Arrays) → arrays_of (array_list arrays) ≡ arrays
-again no_array = refl
-again (and_array a others) = ap (λ r. and_array a r) (again others)
-
 more_after : (y : Array) (xs ys all : List Array) → xs ≡ ys → y ∷ ys ≡ all → y ∷ xs ≡ all
 more_after y xs ys all e h = ap (λ zs. y ∷ zs) e ∙ h
 
@@ -55,7 +52,7 @@ placed_more g (b ∷ arrays) a x others all is h = more_after (g b) (map g (arra
 
 -- all of them
 pub placed_all : (g : PlacedArray → Array) (arrays : List PlacedArray) (all : Arrays) → map g arrays ++ [] ≡ array_list all → arrays_of (map g arrays) ≡ all
-placed_all g arrays all h = ap arrays_of (sym (append-nil (map g arrays)) ∙ h) ∙ again all
+placed_all g arrays all h = ap arrays_of (sym (append-nil (map g arrays)) ∙ h) ∙ arrays_listed all
 
 abbrev pub placed_from : Rest → List Field → Arrays
 placed_from r fs = arrays_from (columns_of (map column_of fs)) (rest_nodes r) (rest_buffers r) (rest_dictionaries r)

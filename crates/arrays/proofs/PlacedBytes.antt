@@ -1,7 +1,6 @@
 -- Arrays that stand in bytes are of bytes.
-use Rattle.std.specs.Prelude.{nat_lt}
-use Rattle.std.proofs.Common.{◌≡◌, ℕ, zero, suc, true, List, [], ◌∷◌, map, take, drop, refl, ap, subst, ◌∙◌}
-use Rattle.std.proofs.lemmas.Bool.{and_parts, and_from}
+use Rattle.std.proofs.Common.{◌≡◌, ℕ, true, List, [], ◌∷◌, map, take, drop, refl, ap, subst, ◌∙◌}
+use Rattle.std.proofs.lemmas.Bool.{and_from}
 use Rattle.columns.specs.declared.array.PlacedArray.{PlacedArray}
 use Rattle.columns.specs.declared.array.PlacedLayout.{PlacedLayout}
 use Rattle.columns.specs.declared.array.PlacedLayout.TheOpen.{PlacedArray-F, PlacedLayout-F}
@@ -14,14 +13,7 @@ use Rattle.columns.specs.Array.{Array, Layout, arrays_of}
 use Rattle.columns.specs.Places.{within}
 use Rattle.columns.specs.View.{layout_step, array_step, array_in, arrays_in, arrays_numbered, no_dictionary, placed_arrays}
 use Rattle.arrays.specs.Bytes.{are_bytes, has_bytes, has_layout_bytes, have_bytes}
-use Rattle.arrays.proofs.RowsFit.{dropped_bytes}
-
-taken_bytes : (n : ℕ) (xs : List ℕ) → are_bytes xs ≡ true → are_bytes (take n xs) ≡ true
-taken_bytes zero xs h = refl
-taken_bytes (suc n) [] h = refl
-taken_bytes (suc n) (x ∷ xs) h =
-    let both = and_parts (nat_lt x 256) (are_bytes xs) h in
-    and_from _ _ both.0 (taken_bytes n xs both.1)
+use Rattle.arrays.specs.laws.Bytes.{are_bytes-drop, are_bytes-take}
 
 module _ (bytes : List ℕ) (known : DictionaryPart → List Array) (small : are_bytes bytes ≡ true) (smalls : (p : DictionaryPart) → have_bytes (arrays_of (known p)) ≡ true) where
   abbrev ArrayHas : PlacedArray → Type 0
@@ -40,7 +32,7 @@ module _ (bytes : List ℕ) (known : DictionaryPart → List Array) (small : are
   ArrayOfBytes = (a : PlacedArray) × ArrayHas a
 
   span_bytes : (span : Span) → are_bytes (within bytes span) ≡ true
-  span_bytes span = taken_bytes span.len (drop span.start bytes) (dropped_bytes span.start bytes small)
+  span_bytes span = are_bytes-take span.len (drop span.start bytes) (are_bytes-drop span.start bytes small)
 
   all_have : (xs : List ArrayOfBytes) → have_bytes (arrays_of (map (array_in bytes known) (map (λ e. e.0) xs))) ≡ true
   unfolding have_bytes

@@ -92,13 +92,6 @@ flat_map-spans g s from (suc n) rise =
         let rest = risen s (at + 1) n (λ i low high. rise i (omega arith) (omega arith)) in
         rw e (omega (arith, first, rest))
 
--- a test finds nothing where it finds nothing at any number, and what it finds at one
-pub any-none : (p : ℕ → Bool) (at n : ℕ) → ((i : ℕ) → at ≤ i → i < at + n → p i ≡ false) → list_any p (range_with_len at n) ≡ false
-any-none p at zero none = refl
-any-none p at (suc n) none =
-    let here : p at ≡ false = none at (omega arith) (omega arith) in
-    rw here (any-none p (at + 1) n (λ i low high. none i (omega arith) (omega arith)))
-
 -- one of them does not pass, where fewer pass than there are
 pub any-fewer : (p : ℕ → Bool) (xs : List ℕ) → list_any (λ i. not (p i)) xs ≡ nat_lt (count_by p xs) (length xs)
 any-fewer p [] = refl

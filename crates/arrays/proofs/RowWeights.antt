@@ -1,8 +1,8 @@
 -- What rows weigh, by the spans of their columns.
 use Rattle.std.specs.Prelude.{◌||◌, nat_lt, if◌then◌else◌}
 use Rattle.std.specs.List.{list_any, range_with_len}
-use Rattle.std.proofs.Common.{Some, None, inl, inr, ◌≡◌, ℕ, zero, suc, ◌+◌, ◌-◌, ◌≤◌, ◌<◌, Bool, true, false, List, ◌∷◌, map, refl, sym, ap, arith, ◌∙◌}
-use Rattle.std.proofs.Math.Bool.{or_assoc}
+use Rattle.std.proofs.Common.{Some, None, ◌≡◌, ℕ, zero, suc, ◌+◌, ◌-◌, ◌≤◌, ◌<◌, Bool, true, false, List, map, refl, sym, ap, arith, ◌∙◌}
+use Rattle.std.proofs.Math.Bool.{or_assoc, or-false}
 use Rattle.std.proofs.lemmas.Bool.{le-ltb, lt-ltb, or_right}
 use Rattle.arrow_schema.specs.Column.{Column, Columns, no_column, and_column, columns_of, PlainSchema}
 use Rattle.cells.specs.declared.limits.TheConstants.{MAX_ROW_WEIGHT, MAX_TABLE_WEIGHT}
@@ -47,10 +47,6 @@ is_heavy columns arrays i = nat_lt MAX_ROW_WEIGHT (rows_weight columns arrays i 
 rows_heavy : (s : PlainSchema) (arrays : Arrays) (rows : ℕ) → list_any (heavy s) (rows_in (columns_of s.columns) arrays rows) ≡ list_any (is_heavy (columns_of s.columns) arrays) (range_with_len 0 rows)
 rows_heavy s arrays rows = any_row (heavy s) (is_heavy (columns_of s.columns) arrays) (row_at (columns_of s.columns) arrays) 0 rows (λ i. ap (nat_lt MAX_ROW_WEIGHT) (one_row s arrays i))
 
-or_false_right : (b : Bool) → (b || false) ≡ b
-or_false_right true = refl
-or_false_right false = refl
-
 pub heavy_together : (s : PlainSchema) (before : ℕ) (arrays : Arrays) (rows : ℕ) → MAX_TABLE_WEIGHT < before + rows_weight (columns_of s.columns) arrays 0 rows
     → are_too_heavy s before (rows_in (columns_of s.columns) arrays rows) ≡ true
 heavy_together s before arrays rows h =
@@ -63,7 +59,7 @@ pub heavy_alone : (s : PlainSchema) (before : ℕ) (arrays : Arrays) (rows : ℕ
 heavy_alone s before arrays rows h =
     let whole : table_weight s (rows_in (columns_of s.columns) arrays rows) ≡ rows_weight (columns_of s.columns) arrays 0 rows = rows_spanned s arrays 0 rows in
     let within : nat_lt MAX_TABLE_WEIGHT (before + table_weight s (rows_in (columns_of s.columns) arrays rows)) ≡ false = rw whole (le-ltb MAX_TABLE_WEIGHT (before + rows_weight (columns_of s.columns) arrays 0 rows) h) in
-    rw within (or_false_right (list_any (heavy s) (rows_in (columns_of s.columns) arrays rows)) ∙ rows_heavy s arrays rows)
+    rw within (or-false (list_any (heavy s) (rows_in (columns_of s.columns) arrays rows)) ∙ rows_heavy s arrays rows)
 
 -- ---- what is answered of them
 

@@ -3,8 +3,7 @@ use Rattle.std.specs.Prelude.{ℤ, pos, negsuc, not, ◌&&◌, ◌==◌, nat_lt,
 use Rattle.std.specs.List.{list_any, list_all, flat_map, range_with_len}
 use Rattle.std.specs.Str.{is_utf8}
 use Rattle.std.proofs.Common.{◌≡◌, ℕ, zero, suc, ◌+◌, ◌*◌, ◌/◌, ◌^◌, ◌≤◌, ◌<◌, Bool, true, false, List, [], ◌∷◌, ◌++◌, map, length, take, drop, get_or, Some, None, refl, sym, subst, arith, ◌∙◌, length-take, length-drop}
-use Rattle.std.proofs.lemmas.Bool.{and_parts, and_from, or_parts, or_from, ltb-true, leb-true, ltb-false}
-use Rattle.std.proofs.lemmas.Bool.Decides.{nat_tests}
+use Rattle.std.proofs.lemmas.Bool.{and_parts, and_from, or_parts, or_from, ltb-true, leb-true, ltb-false, not-false, not-true, eq-eqb}
 use Rattle.std.proofs.Math.Nat.{mul-le-mul_right}
 use Rattle.std.proofs.lemmas.List.Folds.{list_any-append, list_all-append}
 use Rattle.std.proofs.lemmas.List.Sums.{list_all-from_AllPass}
@@ -25,8 +24,10 @@ use Rattle.columns.specs.Tests.{arrays_at, arrays_below, every_array, are_few, a
 use Rattle.columns.specs.Visible.{Slot, slot, visible, visible_below, visible_parts, visible_in, is_bad_text, is_no_text, is_forbidden}
 use Rattle.columns.specs.laws.Offsets.{spans_fit}
 use Rattle.columns.specs.laws.SoundParts.{sound_buffer, sound_offsets, sound_children}
+use Rattle.columns.specs.laws.Held.{AreSoundColumns}
 use Rattle.arrays.specs.Bytes.{are_bytes, has_bytes, have_bytes}
 use Rattle.arrays.specs.Entries.{has_bad_entry}
+use Rattle.arrays.specs.laws.Bytes.{are_bytes-drop}
 
 -- ---- the tests of some slots
 
@@ -101,13 +102,8 @@ small_byte [] k h = omega arith
 small_byte (x ∷ xs) zero h = ltb-true x 256 (and_parts (nat_lt x 256) (are_bytes xs) h).0
 small_byte (x ∷ xs) (suc k) h = small_byte xs k (and_parts (nat_lt x 256) (are_bytes xs) h).1
 
-pub dropped_bytes : (n : ℕ) (xs : List ℕ) → are_bytes xs ≡ true → are_bytes (drop n xs) ≡ true
-dropped_bytes zero xs h = h
-dropped_bytes (suc n) [] h = refl
-dropped_bytes (suc n) (x ∷ xs) h = dropped_bytes n xs (and_parts (nat_lt x 256) (are_bytes xs) h).1
-
 pub small_number : (width k : ℕ) (values : List ℕ) → are_bytes values ≡ true → number_at width values k < 256 ^ width
-small_number width k values h = little_from-lt 0 width (drop (k * width) values) (λ i. small_byte (drop (k * width) values) i (dropped_bytes (k * width) values h))
+small_number width k values h = little_from-lt 0 width (drop (k * width) values) (λ i. small_byte (drop (k * width) values) i (are_bytes-drop (k * width) values h))
 
 pub values_bytes : (a : Array) → has_bytes a ≡ true → are_bytes (values_in a) ≡ true
 unfolding has_bytes
@@ -180,23 +176,12 @@ there_fits p (bytes t) h there = h
 there_fits p (items cs) h there = h
 there_fits p (parts cs) h there = h
 
-not_bad : (b : Bool) → not b ≡ false → b ≡ true
-not_bad true h = refl
-not_bad false h = absurd cc
-
-pub not_set : (b : Bool) → not b ≡ true → b ≡ false
-not_set true h = absurd cc
-not_set false h = refl
-
 date_wide : (unit : DateKind) → is_bit_width (date_bits unit) ≡ true
 date_wide days = refl
 date_wide date_milliseconds = refl
 
 integer_here : (bits : ℕ) (signed : Bool) (values : List ℕ) (i : ℕ) → is_bit_width bits ≡ true → are_bytes values ≡ true → in_range bits signed (integer_at (bits / 8) signed values i) ≡ true
 integer_here bits signed values i wide small = integer_fits bits signed (number_at (bits / 8) values i) wide (small_number (bits / 8) i values small)
-
-same_number : (n : ℕ) → (n == n) ≡ true
-same_number n = grind (arith, nat_tests)
 
 -- the value at a place is whole
 whole_value : (width slots i : ℕ) (values : List ℕ) → nat_lt (length values) (slots * width) ≡ false → i < slots → (length (value_at width values i) == width) ≡ true
@@ -206,7 +191,7 @@ whole_value width slots i values few less =
     let split : (i + 1) * width ≡ i * width + width = omega arith in
     let long : width ≤ length (drop (i * width) values) = omega (arith, length-drop (i * width) values, enough, one, split) in
     let is : length (take width (drop (i * width) values)) ≡ width = omega (arith, length-take width (drop (i * width) values), long) in
-    rw is (same_number width)
+    rw is (eq-eqb width width refl)
 
 flat_fits : (k : Kind) (a : Array) (i : ℕ) → is_nested k ≡ false → is_kind_of_width k ≡ true → is_kind_sound k a ≡ true → has_bytes a ≡ true → i < slots_in a
     → is_bad_text (kind_cell k a i) ≡ false → is_null (kind_cell k a i) ≡ false → fits_kind k (kind_cell k a i) ≡ true
@@ -216,8 +201,8 @@ flat_fits booleans a i flat wide sound small less good there = refl
 flat_fits (integers bits signed) a i flat wide sound small less good there = integer_here bits signed (values_in a) i wide (values_bytes a small)
 flat_fits (dates unit) a i flat wide sound small less good there = integer_here (date_bits unit) true (values_in a) i (date_wide unit) (values_bytes a small)
 flat_fits (timestamps unit timezone) a i flat wide sound small less good there = integer_here 64 true (values_in a) i refl (values_bytes a small)
-flat_fits texts a i flat wide sound small less good there = not_bad (is_utf8 (contents_at 4 a i)) good
-flat_fits large_texts a i flat wide sound small less good there = not_bad (is_utf8 (contents_at 8 a i)) good
+flat_fits texts a i flat wide sound small less good there = not-false (is_utf8 (contents_at 4 a i)) good
+flat_fits large_texts a i flat wide sound small less good there = not-false (is_utf8 (contents_at 8 a i)) good
 flat_fits binaries a i flat wide sound small less good there = refl
 flat_fits large_binaries a i flat wide sound small less good there = refl
 flat_fits (fixed_binaries width) a i flat wide sound small less good there = whole_value width (slots_in a) i (values_in a) (sound_buffer (fixed_binaries width) a sound) less
@@ -273,14 +258,10 @@ indexed_fits false p entries n all there = absurd cc
 
 -- ---- every column
 
--- the columns of which nothing is asked but what their schema's limits say
-abbrev pub AreSound : List Column → Type 0
-AreSound cs = (list_all has_flat_dictionary cs ≡ true) × (list_all has_bit_widths cs ≡ true)
-
-pub front_sound : (xs ys : List Column) → AreSound (xs ++ ys) → AreSound xs
+pub front_sound : (xs ys : List Column) → AreSoundColumns (xs ++ ys) → AreSoundColumns xs
 front_sound xs ys h = ((and_parts (list_all has_flat_dictionary xs) _ (sym (list_all-append has_flat_dictionary xs ys) ∙ h.0)).0, (and_parts (list_all has_bit_widths xs) _ (sym (list_all-append has_bit_widths xs ys) ∙ h.1)).0)
 
-pub rest_sound : (xs ys : List Column) → AreSound (xs ++ ys) → AreSound ys
+pub rest_sound : (xs ys : List Column) → AreSoundColumns (xs ++ ys) → AreSoundColumns ys
 rest_sound xs ys h = ((and_parts (list_all has_flat_dictionary xs) _ (sym (list_all-append has_flat_dictionary xs ys) ∙ h.0)).1, (and_parts (list_all has_bit_widths xs) _ (sym (list_all-append has_bit_widths xs ys) ∙ h.1)).1)
 
 item_there : (width most : ℕ) (a : Array) (i j : ℕ) → are_unordered width most a ≡ false → i < slots_in a → j < span_size width a i → span_start width a i + j < most
@@ -306,7 +287,7 @@ valid_pass false slots pass e = absurd cc
 mutual
   unfolding visible visible_below visible_parts cell_at kind_cell part_cells fits fits_kind each_fits is_sound has_sound_children are_sound has_bytes arrays_at arrays_below every_array preorder preorder_below preorder_all
 
-  slot_fits : (c : Column) (a : Array) (i : ℕ) → AreSound (preorder c) → is_sound c a ≡ true → has_bytes a ≡ true → list_any has_bad_entry (arrays_at c a) ≡ false → i < slots_in a
+  slot_fits : (c : Column) (a : Array) (i : ℕ) → AreSoundColumns (preorder c) → is_sound c a ≡ true → has_bytes a ≡ true → list_any has_bad_entry (arrays_at c a) ≡ false → i < slots_in a
       → Pass (visible c a i) → fits c (cell_at c a i) ≡ true
   slot_fits (column name nullable kind (Some index) pairs) a i limits sound small entries less pass =
       let c : Column = column name nullable kind (Some index) pairs in
@@ -315,7 +296,7 @@ mutual
       let wide = and_parts (is_kind_of_width kind && is_bit_width index.bits) (list_all has_bit_widths (preorder_below kind)) limits.1 in
       let sounds = (and_parts (not (are_few (index.bits / 8) a (indices_in a))) _ (and_parts (not (has_short_validity a)) _ sound).1).1 in
       let good = (or_parts (list_any is_bad_text (entries_of_kind kind (dictionary_in a))) false entries).0 in
-      let fit = entries_fit kind (dictionary_in a) (not_set _ flat.0) (and_parts (is_kind_of_width kind) _ wide.0).0 sounds (dictionary_bytes a small).1 good in
+      let fit = entries_fit kind (dictionary_in a) (not-true _ flat.0) (and_parts (is_kind_of_width kind) _ wide.0).0 sounds (dictionary_bytes a small).1 good in
       null_or_from nullable (fits_kind kind) (cell_at c a i) own.1 (λ there. indexed_fits (is_valid a i) (fits_kind kind) (entries_of_kind kind (dictionary_in a)) (index_at index a i) fit there)
   slot_fits (column name nullable kind None pairs) a i limits sound small entries less pass =
       let c : Column = column name nullable kind None pairs in
@@ -328,7 +309,7 @@ mutual
       (valid_text (is_valid a i) (kind_cell kind a i) own.0 valid)
       (valid_pass (is_valid a i) (visible_below kind a i) (others_pass (slot c a i) (if is_valid a i then visible_below kind a i else []) pass) valid) present))
 
-  kind_fits : (k : Kind) (a : Array) (i : ℕ) → AreSound (preorder_below k) → is_kind_of_width k ≡ true → is_kind_sound k a ≡ true → has_bytes a ≡ true → list_any has_bad_entry (arrays_below k a) ≡ false
+  kind_fits : (k : Kind) (a : Array) (i : ℕ) → AreSoundColumns (preorder_below k) → is_kind_of_width k ≡ true → is_kind_sound k a ≡ true → has_bytes a ≡ true → list_any has_bad_entry (arrays_below k a) ≡ false
       → i < slots_in a → is_bad_text (kind_cell k a i) ≡ false → Pass (visible_below k a i) → is_null (kind_cell k a i) ≡ false → fits_kind k (kind_cell k a i) ≡ true
   kind_fits (lists item) a i limits wide sound small entries less good pass there =
       all_from (fits item) (cell_at item (items_in a)) (span_start 4 a i) (span_size 4 a i)
@@ -342,7 +323,7 @@ mutual
       (one_passes (visible item (items_in a)) (span_start 8 a i) (span_size 8 a i) j pass inside))
   kind_fits (fixed_lists size item) a i limits wide sound small entries less good pass there =
       let below = and_parts (nat_le (slots_in a * size) (slots_in (items_in a))) (is_sound item (items_in a)) (sound_children (fixed_lists size item) a sound) in
-      and_from _ _ (rw (count_from (cell_at item (items_in a)) (i * size) size) (same_number size))
+      and_from _ _ (rw (count_from (cell_at item (items_in a)) (i * size) size) (eq-eqb size size refl))
       (all_from (fits item) (cell_at item (items_in a)) (i * size) size
       (λ j inside. slot_fits item (items_in a) (i * size + j) limits below.1 (items_bytes a small) entries
       (fixed_there size (slots_in a) (slots_in (items_in a)) i j below.0 less inside)
@@ -360,7 +341,7 @@ mutual
   kind_fits large_binaries a i limits wide sound small entries less good pass there = flat_fits large_binaries a i refl wide sound small less good there
   kind_fits (fixed_binaries width) a i limits wide sound small entries less good pass there = flat_fits (fixed_binaries width) a i refl wide sound small less good there
 
-  pub parts_fit : (cs : Columns) (arrays : Arrays) (slots i : ℕ) → AreSound (preorder_all cs) → are_sound cs slots arrays ≡ true → have_bytes arrays ≡ true → list_any has_bad_entry (every_array cs arrays) ≡ false
+  pub parts_fit : (cs : Columns) (arrays : Arrays) (slots i : ℕ) → AreSoundColumns (preorder_all cs) → are_sound cs slots arrays ≡ true → have_bytes arrays ≡ true → list_any has_bad_entry (every_array cs arrays) ≡ false
       → i < slots → Pass (visible_parts cs arrays i) → each_fits cs (part_cells cs arrays i) ≡ true
   parts_fit no_column arrays slots i limits sound small entries less pass = refl
   parts_fit (and_column c cs) arrays slots i limits sound small entries less pass =
@@ -392,7 +373,7 @@ rows_from q g start (suc n) h =
     let first : q (g start) ≡ true = rw e at (h 0 (omega arith)) in
     and_from _ _ first (rows_from q g (start + 1) n (λ j less. let f : start + suc j ≡ start + 1 + j = omega arith in rw f at (h (suc j) (omega arith))))
 
-pub sound_columns : (s : PlainSchema) → IsWithinLimits s → AreSound (every_column s)
+pub sound_columns : (s : PlainSchema) → IsWithinLimits s → AreSoundColumns (every_column s)
 sound_columns s limits = (list_all-from_AllPass has_flat_dictionary (every_column s) limits.dictionaries, list_all-from_AllPass has_bit_widths (every_column s) limits.widths)
 
 pub rows_fit : (s : PlainSchema) (arrays : Arrays) (rows : ℕ) → IsWithinLimits s → are_sound (columns_of s.columns) rows arrays ≡ true → have_bytes arrays ≡ true

@@ -4,7 +4,7 @@ use Rattle.std.specs.List.{list_any, list_all, flat_map, range_with_len}
 use Rattle.std.specs.List.{IsDistinct}
 use Rattle.std.specs.Cmp.{nat_eq_equiv}
 use Rattle.std.proofs.Common.{◌≡◌, ◌⊎◌, inl, inr, ℕ, zero, suc, ◌+◌, ◌-◌, ◌*◌, ◌/◌, ◌^◌, ◌≤◌, ◌<◌, Bool, true, false, List, [], ◌∷◌, ◌++◌, map, length, drop, get_or, Option, Some, None, refl, sym, ap, subst, arith, ◌∙◌}
-use Rattle.std.proofs.lemmas.Bool.{and_parts, and_from, or_parts, or_from, le-leb, eqb-true}
+use Rattle.std.proofs.lemmas.Bool.{and_parts, and_from, or_parts, or_from, le-leb, eqb-true, not-true}
 use Rattle.std.proofs.lemmas.Bool.Decides.{Decides-int_eq}
 use Rattle.std.proofs.lemmas.Int.{ints}
 use Rattle.std.proofs.lemmas.List.{length-map, map-append}
@@ -19,11 +19,14 @@ use Rattle.cells.specs.Cell.{Cell, null, boolean, number, text, bytes, items, pa
 use Rattle.cells.specs.Dictionary.{Holding, item_list, part_list, cells_at, holdings, holdings_below, holdings_from, entry_in, is_entry, with_new, with_entry, with_entries, entries_of, has_few_entries, is_within, entry_limit, dictionaries_fit}
 use Rattle.cells.specs.Fit.{in_range}
 use Rattle.cells.specs.laws.Ranges.{integer_fits}
+use Rattle.cells.specs.laws.Entries.{none_below}
+use Rattle.cells.specs.laws.Cells.{cells_listed}
 use Rattle.columns.specs.Array.{Array, Arrays, items_in, children_in, dictionary_in, indices_in, first_array, other_arrays}
 use Rattle.columns.specs.CellAt.{is_valid, number_at, span_start, span_size, cells_from, entries_of_kind, entry_at, index_at, cell_at, kind_cell, part_cells, rows_in, row_at}
+use Rattle.columns.specs.laws.Held.{AreSoundColumns, HaveFew}
 use Rattle.arrays.specs.Bytes.{are_bytes, has_bytes, have_bytes}
 use Rattle.arrays.specs.Shared.{SharesEntries, SharesBelow, ShareEntries, AreRowsSharing}
-use Rattle.arrays.proofs.RowsFit.{AreSound, sound_columns, front_sound, rest_sound, not_set, small_number, items_bytes, children_bytes, dictionary_bytes, first_bytes}
+use Rattle.arrays.proofs.RowsFit.{sound_columns, front_sound, rest_sound, small_number, items_bytes, children_bytes, dictionary_bytes, first_bytes}
 
 -- ---- distinct entries are named by distinct numbers
 
@@ -177,33 +180,8 @@ IsCellOf c a x = (x ≡ null) ⊎ ((b : Array) × (j : ℕ) × (has_bytes b ≡ 
 abbrev IsRowOf : ℕ → Columns → Arrays → List Cell → Type 0
 IsRowOf i cs arrays row = (drop i row ≡ []) ⊎ ((others : Arrays) × (j : ℕ) × (have_bytes others ≡ true) × ShareEntries cs arrays others × (drop i row ≡ cell_list (part_cells cs others j)))
 
-abbrev HaveFew : List Holding → Type 0
-HaveFew hs = list_all has_few_entries hs ≡ true
-
 have_both : (xs ys : List Holding) → HaveFew xs → HaveFew ys → HaveFew (xs ++ ys)
 have_both xs ys a b = list_all-append has_few_entries xs ys ∙ and_from _ _ a b
-
-flat_has_none : (k : Kind) (cells : List Cell) → is_nested k ≡ false → holdings_below k cells ≡ []
-unfolding holdings
-flat_has_none nulls cells h = refl
-flat_has_none booleans cells h = refl
-flat_has_none (integers bits signed) cells h = refl
-flat_has_none (dates unit) cells h = refl
-flat_has_none (timestamps unit timezone) cells h = refl
-flat_has_none texts cells h = refl
-flat_has_none large_texts cells h = refl
-flat_has_none binaries cells h = refl
-flat_has_none large_binaries cells h = refl
-flat_has_none (fixed_binaries width) cells h = refl
-flat_has_none (lists item) cells h = absurd cc
-flat_has_none (large_lists item) cells h = absurd cc
-flat_has_none (fixed_lists size item) cells h = absurd cc
-flat_has_none (structs columns) cells h = absurd cc
-
--- the items of a cell of an array of lists
-listed : (xs : List Cell) → cell_list (cells_of xs) ≡ xs
-listed [] = refl
-listed (x ∷ xs) = ap (λ (ys : List Cell). x ∷ ys) (listed xs)
 
 each_cell : (c : Column) (a b : Array) (start n : ℕ) → has_bytes b ≡ true → SharesEntries c a b → Each (IsCellOf c a) (cells_from (cell_at c b) start n)
 each_cell c a b start zero small shares = tt
@@ -211,7 +189,7 @@ each_cell c a b start (suc n) small shares = (inr (b, start, small, shares, refl
 
 items_here : (c : Column) (a b : Array) (v : Bool) (start n : ℕ) → has_bytes b ≡ true → SharesEntries c a b
     → Each (IsCellOf c a) (item_list (if v then items (cells_of (cells_from (cell_at c b) start n)) else null))
-items_here c a b true start n small shares = subst (Each (IsCellOf c a)) (sym (listed (cells_from (cell_at c b) start n))) (each_cell c a b start n small shares)
+items_here c a b true start n small shares = subst (Each (IsCellOf c a)) (sym (cells_listed (cells_from (cell_at c b) start n))) (each_cell c a b start n small shares)
 items_here c a b false start n small shares = tt
 
 parts_here : (cs : Columns) (arrays others : Arrays) (v : Bool) (j : ℕ) → have_bytes others ≡ true → ShareEntries cs arrays others
@@ -278,20 +256,20 @@ others_here i c cs arrays (row ∷ rows) (inr w, others) =
 mutual
   unfolding cell_at kind_cell part_cells holdings holdings_below holdings_from preorder preorder_below preorder_all SharesEntries SharesBelow ShareEntries
 
-  column_few : (c : Column) (a : Array) (cells : List Cell) → AreSound (preorder c) → Each (IsCellOf c a) cells → HaveFew (holdings c cells)
+  column_few : (c : Column) (a : Array) (cells : List Cell) → AreSoundColumns (preorder c) → Each (IsCellOf c a) cells → HaveFew (holdings c cells)
   column_few (column name nullable kind (Some index) pairs) a cells limits each =
-      let flat = not_set _ (and_parts (not (is_nested kind)) (list_all has_flat_dictionary (preorder_below kind)) limits.0).0 in
+      let flat = not-true _ (and_parts (not (is_nested kind)) (list_all has_flat_dictionary (preorder_below kind)) limits.0).0 in
       let wide = (and_parts (is_kind_of_width kind) (is_bit_width index.bits) (and_parts (is_kind_of_width kind && is_bit_width index.bits) (list_all has_bit_widths (preorder_below kind)) limits.1).0).1 in
       let entries : List Cell = entries_of_kind kind (dictionary_in a) in
       let own : is_within (entry_limit index) (length (entries_of cells)) ≡ true =
       within_limit (entry_limit index) (length (entries_of cells))
       (λ most limit. few_named entries most cells
       (each_weaker (IsCellOf (column name nullable kind (Some index) pairs) a) (IsNamed entries most) (λ x is. named_cell name nullable kind index pairs a entries most x refl wide limit is) cells each)) in
-      and_from _ _ own (subst HaveFew (sym (flat_has_none kind cells flat)) refl)
+      and_from _ _ own (subst HaveFew (sym (none_below kind cells flat)) refl)
   column_few (column name nullable kind None pairs) a cells limits each =
       below_few name nullable kind pairs a cells ((and_parts (not (false && is_nested kind)) (list_all has_flat_dictionary (preorder_below kind)) limits.0).1, (and_parts (is_kind_of_width kind && true) (list_all has_bit_widths (preorder_below kind)) limits.1).1) each
 
-  below_few : (name : List ℕ) (nullable : Bool) (k : Kind) (pairs : List Pair) (a : Array) (cells : List Cell) → AreSound (preorder_below k)
+  below_few : (name : List ℕ) (nullable : Bool) (k : Kind) (pairs : List Pair) (a : Array) (cells : List Cell) → AreSoundColumns (preorder_below k)
       → Each (IsCellOf (column name nullable k None pairs) a) cells → HaveFew (holdings_below k cells)
   below_few name nullable (lists item) pairs a cells limits each =
       column_few item (items_in a) (flat_map item_list cells) limits
@@ -324,7 +302,7 @@ mutual
   below_few name nullable large_binaries pairs a cells limits each = refl
   below_few name nullable (fixed_binaries width) pairs a cells limits each = refl
 
-  parts_few : (i : ℕ) (cs : Columns) (arrays : Arrays) (rows : List (List Cell)) → AreSound (preorder_all cs) → Each (IsRowOf i cs arrays) rows → HaveFew (holdings_from i cs rows)
+  parts_few : (i : ℕ) (cs : Columns) (arrays : Arrays) (rows : List (List Cell)) → AreSoundColumns (preorder_all cs) → Each (IsRowOf i cs arrays) rows → HaveFew (holdings_from i cs rows)
   parts_few i no_column arrays rows limits each = refl
   parts_few i (and_column c cs) arrays rows limits each =
       have_both (holdings c (cells_at i rows)) (holdings_from (i + 1) cs rows)

@@ -1,5 +1,5 @@
 -- The dictionaries of an accepted schema, as its fields and its columns have them: the same values in preorder, and of one id one type.
-use Rattle.std.specs.Prelude.{not, ◌&&◌, ◌||◌, ◌==◌, if◌then◌else◌, Option, None, Some, IfSome, is_some, option_map, unwrap_or, flat_map, find}
+use Rattle.std.specs.Prelude.{not, ◌&&◌, ◌==◌, if◌then◌else◌, Option, None, Some, IfSome, is_some, option_map, unwrap_or, flat_map, find}
 use Rattle.std.specs.List.{list_any, AllByRecursion}
 use Rattle.std.specs.Cmp.{booleans_Decides}
 use Rattle.std.proofs.lemmas.Slice.Eq.{bytes_eq-Decides}
@@ -19,10 +19,11 @@ use Rattle.ipc_message.specs.Types.{type_name, without_children, with_item, is_s
 use Rattle.ipc_message.specs.Convert.{column_of_field, columns_of_fields, plain_schema_of}
 use Rattle.ipc_message.specs.Same.{same_parameters, same_value_type}
 use Rattle.ipc_message.specs.Checks.{is_bad, is_nested, are_at_odds, has_other_type, has_two_types, is_dictionary_of_nested}
+use Rattle.ipc_message.specs.laws.FieldLists.{columns_of_list}
 use Rattle.columns.specs.Array.{Array, Arrays, no_array, and_array, items_in, children_in, first_array, other_arrays}
 use Rattle.columns.specs.Tests.{arrays_at, arrays_below, every_array}
 use Rattle.columns.specs.Buffers.{value_column}
-use Rattle.arrays.specs.Dictionaries.{DictionaryColumn, own_dictionary, dictionary_columns}
+use Rattle.arrays.specs.Dictionaries.{DictionaryColumn, own_dictionary, dictionary_columns, is_column_of}
 use Rattle.arrays.specs.Known.{own_values, values_in, dictionary_values, IsAsFirst, HaveOneType}
 
 -- ---- what a decoded type says of its children
@@ -173,11 +174,6 @@ mutual
       ∙ ap (λ (cs : List Column). found_in (preorder f) ++ cs) (values_all fs (any_right is_bad (preorder f) _ h) (any_right is_dictionary_of_nested (preorder f) _ n) (other_arrays xs))
       ∙ sym (found-append (preorder f) (preorder_all fs))
 
-columns_of_list : (fs : List RawField) → columns_of_fields (raw_fields_of fs) ≡ map column_of_field fs
-unfolding columns_of_fields
-columns_of_list [] = refl
-columns_of_list (f ∷ fs) = ap (λ (cs : List Column). column_of_field f ∷ cs) (columns_of_list fs)
-
 pub values_listed : (s : RawSchema) → list_any is_bad (every_field s) ≡ false → list_any is_dictionary_of_nested (every_field s) ≡ false
     → dictionary_values (columns_of (plain_schema_of s).columns) ≡ map (λ c. c.values) (dictionary_columns s)
 values_listed s h n = ap (λ (cs : List Column). dictionary_values (columns_of cs)) (sym (columns_of_list s.fields)) ∙ values_all (raw_fields_of s.fields) h n no_array
@@ -204,21 +200,18 @@ no_children name nullable code p e fs pairs h n = (type_below (type_name code) p
 abbrev values_of : RawField → Column
 values_of f = value_column (column_of_field f)
 
-abbrev has_id : ℕ → DictionaryColumn → Bool
-has_id id c = c.id == id
-
 -- the first of an id, where it is this one or a later one
 abbrev AreValues : Column → Option DictionaryColumn → Type 0
 AreValues values found = IfSome found (λ c. c.values ≡ values)
 
-first_or_later : (values : Column) (id : ℕ) (d : DictionaryColumn) (cs : List DictionaryColumn) (b : Bool) → has_id id d ≡ b → (d.id ≡ id → d.values ≡ values)
-    → AreValues values (find (has_id id) cs) → AreValues values (find (has_id id) (d ∷ cs))
+first_or_later : (values : Column) (id : ℕ) (d : DictionaryColumn) (cs : List DictionaryColumn) (b : Bool) → is_column_of id d ≡ b → (d.id ≡ id → d.values ≡ values)
+    → AreValues values (find (is_column_of id) cs) → AreValues values (find (is_column_of id) (d ∷ cs))
 first_or_later values id d cs true is own h = rw is (own (eqb-true _ _ is))
 first_or_later values id d cs false is own h = rw is h
 
 agree : (name : List ℕ) (nullable : Bool) (code : ℕ) (p : RawParameters) (e : RawEncoding) (fs : RawFields) (pairs : List Pair) → columns_of_fields fs ≡ [] → (fields : List RawField)
     → list_any (are_at_odds (raw_field name nullable code p (Some e) fs pairs)) fields ≡ false → list_any is_bad fields ≡ false → list_any is_dictionary_of_nested fields ≡ false
-    → AreValues (values_of (raw_field name nullable code p (Some e) fs pairs)) (find (has_id e.id) (columns_in fields))
+    → AreValues (values_of (raw_field name nullable code p (Some e) fs pairs)) (find (is_column_of e.id) (columns_in fields))
 unfolding column_of_field
 agree name nullable code p e fs pairs flat [] odds h n = tt
 agree name nullable code p e fs pairs flat (raw_field a b c q None gs others ∷ fields) odds h n =
@@ -240,13 +233,13 @@ agree name nullable code p e fs pairs flat (raw_field a b c q (Some d) gs others
 
 -- an id that a part has, all have
 abbrev HasIds : List DictionaryColumn → List DictionaryColumn → Type 0
-HasIds all part = (id : ℕ) → is_some (find (has_id id) part) ≡ true → is_some (find (has_id id) all) ≡ true
+HasIds all part = (id : ℕ) → is_some (find (is_column_of id) part) ≡ true → is_some (find (is_column_of id) all) ≡ true
 
-one_before : (id : ℕ) (d : DictionaryColumn) (cs : List DictionaryColumn) (b : Bool) → has_id id d ≡ b → is_some (find (has_id id) cs) ≡ true → is_some (find (has_id id) (d ∷ cs)) ≡ true
+one_before : (id : ℕ) (d : DictionaryColumn) (cs : List DictionaryColumn) (b : Bool) → is_column_of id d ≡ b → is_some (find (is_column_of id) cs) ≡ true → is_some (find (is_column_of id) (d ∷ cs)) ≡ true
 one_before id d cs true is h = rw is refl
 one_before id d cs false is h = rw is h
 
-found_own : (d : DictionaryColumn) (cs : List DictionaryColumn) → is_some (find (has_id d.id) (d ∷ cs)) ≡ true
+found_own : (d : DictionaryColumn) (cs : List DictionaryColumn) → is_some (find (is_column_of d.id) (d ∷ cs)) ≡ true
 found_own d cs = rw ((Decides-eqb d.id d.id).1 refl) refl
 
 found_values : (found : Option DictionaryColumn) (values : Column) → is_some found ≡ true → AreValues values found → option_map (λ d. d.values) found ≡ Some values
@@ -263,7 +256,7 @@ types_from all (raw_field name nullable code p (Some e) fs pairs ∷ rest) bad n
     let f = raw_field name nullable code p (Some e) fs pairs in
     let d : DictionaryColumn = record { id = e.id; values = values_of f } in
     let flat = no_children name nullable code p e fs pairs (or_parts _ _ h).0 (or_parts _ _ n).0 in (
-      found_values (find (has_id e.id) (columns_in all)) (values_of f) (has e.id (found_own d (columns_in rest))) (agree name nullable code p e fs pairs flat all (or_parts _ _ odds).0 bad nested),
+      found_values (find (is_column_of e.id) (columns_in all)) (values_of f) (has e.id (found_own d (columns_in rest))) (agree name nullable code p e fs pairs flat all (or_parts _ _ odds).0 bad nested),
       types_from all rest bad nested (or_parts _ _ h).1 (or_parts _ _ n).1 (λ id is. has id (one_before id d (columns_in rest) _ refl is)) (or_parts _ _ odds).1,
     )
 

@@ -1,12 +1,12 @@
 -- Tests of several spans, and the loops over them.
-use Rattle.std.specs.Prelude.{◌&&◌, ◌||◌, nat_lt, nat_le}
+use Rattle.std.specs.Prelude.{◌||◌, nat_lt, nat_le}
 use Rattle.std.specs.List.{list_any, list_all}
 use Rattle.std.proofs.Common.{◌≡◌, ℕ, ◌+◌, ◌-◌, ◌*◌, ◌≤◌, ◌<◌, Bool, true, false, List, [], ◌∷◌, ◌++◌, length, map, take, drop, get_or, refl, arith, sym, ap, ◌∙◌}
 use Rattle.std.proofs.Math.Bool.{or-false, or_assoc}
 use Rattle.std.proofs.lemmas.Bool.{and_parts, and_from, leb-true, le-leb, ltb-true, lt-ltb}
 use Rattle.std.proofs.lemmas.List.{drop_all, drop_more, map-append, take_all, take_more}
-use Rattle.std.proofs.lemmas.List.Folds.{list_any-append, list_all-append}
-use Rattle.facts.specs.laws.Lists.{drop-item}
+use Rattle.std.proofs.lemmas.List.Folds.{list_any-append}
+use Rattle.facts.specs.laws.Lists.{drop-item, all_pushed}
 use Rattle.arrow_schema.specs.Column.{Kind, Column, Columns, lists, large_lists, fixed_lists, structs, no_column, and_column}
 use Rattle.arrow_schema.specs.declared.types.Field.{Field, out-Field}
 use Rattle.arrow_schema.specs.View.{column_of, kind_of}
@@ -19,13 +19,14 @@ use Rattle.columns.specs.Tests.{are_unordered}
 use Rattle.columns.specs.View.{placed_arrays, fields_of}
 use Rattle.columns.specs.Visible.{Slot, visible_in}
 use Rattle.columns.specs.laws.Offsets.{spans_fit}
+use Rattle.columns.specs.laws.Rows.{fewer_sound}
 use Rattle.arrays.specs.declared.visible.slot_test.SlotTest.{SlotTest}
 use Rattle.arrays.specs.declared.visible.span_list.SlotSpan.{SlotSpan}
 use Rattle.arrays.specs.inner.MayFind.{may_find_own, may_find_below}
 use Rattle.arrays.specs.inner.SpanLists.{any_slot_of, any_visible_of, any_below_of, any_below_runs, any_part_of, is_within, are_within, is_run, are_runs, are_long_for, item_span, fixed_item_span}
 use Rattle.arrays.specs.inner.VisibleSpans.{any_slot, any_visible, any_below, any_valid_below, any_part, finds, has_below}
 use Rattle.arrays.proofs.MayFind.{own_none, none_in_span}
-use Rattle.arrays.proofs.SpanWeights.{fewer_sound, sound_next}
+use Rattle.arrays.proofs.SpanWeights.{sound_next}
 use Rattle.arrays.proofs.VisibleSpans.{own_and_below, nothing_below, null_run, valid_run, run_joined, no_run_left, items_below, fixed_items_below, fixed_within, fields_below, all_visible, others}
 
 -- ---- lists
@@ -65,9 +66,6 @@ all_next p spans i lt h = and_parts (p (span_at spans i)) (list_all p (drop (i +
 
 pub any_pushed : {X : Type 0} (p : X → Bool) (xs : List X) (x : X) → list_any p (xs ++ x ∷ []) ≡ (list_any p xs || p x)
 any_pushed p xs x = list_any-append p xs (x ∷ []) ∙ ap (λ (b : Bool). list_any p xs || b) (or-false (p x))
-
-pub all_pushed : {X : Type 0} (p : X → Bool) (xs : List X) (x : X) → list_all p xs ≡ true → p x ≡ true → list_all p (xs ++ x ∷ []) ≡ true
-all_pushed p xs x h here = list_all-append p xs (x ∷ []) ∙ and_from _ _ h (and_from _ _ here refl)
 
 -- what was found or is kept, with what is found here or in the rest
 pub or_step : (old new here rest all : Bool) → new ≡ (old || here) → (old || (here || rest)) ≡ all → (new || rest) ≡ all

@@ -2,23 +2,23 @@
 use Rattle.std.specs.Prelude.{ℤ, nat_le, negsuc, pos, Some, get_or}
 use Rattle.std.proofs.Common.{◌≡◌, ℕ, zero, suc, ◌+◌, ◌-◌, ◌*◌, ◌≤◌, ◌<◌, true, false, List, ◌∷◌, length, map, drop, refl, sym, ap, subst, arith, ◌∙◌}
 use Rattle.std.specs.List.{range_with_len}
-use Rattle.std.proofs.lemmas.Bool.{and_parts, leb-true, le-leb}
+use Rattle.std.proofs.lemmas.Bool.{and_parts, leb-true}
 use Rattle.std.proofs.lemmas.List.{drop_all}
 use Rattle.std.proofs.lemmas.List.Sums.{sum_by-cons}
 use Rattle.arrow_schema.specs.declared.types.Field.{Field}
 use Rattle.arrow_schema.specs.View.{column_of}
-use Rattle.arrow_schema.specs.Column.{Index, Kind, Column, Columns, nulls, booleans, integers, dates, timestamps, texts, large_texts, binaries, large_binaries, fixed_binaries, lists, large_lists, fixed_lists, structs, column, no_column, and_column, columns_of}
+use Rattle.arrow_schema.specs.Column.{Index, Kind, Column, Columns, nulls, booleans, integers, dates, timestamps, texts, large_texts, binaries, large_binaries, fixed_binaries, lists, large_lists, fixed_lists, structs, column, and_column, columns_of}
 use Rattle.arrow_schema.specs.Parts.{kind_of_column}
 use Rattle.cells.specs.Cell.{Cell, null}
 use Rattle.cells.specs.Weight.{weight, kind_weight, capped_weight}
 use Rattle.columns.specs.declared.array.PlacedArray.{PlacedArray}
 use Rattle.columns.specs.declared.array.Dictionary.{Dictionary}
-use Rattle.columns.specs.Array.{Array, Arrays, dictionary_in, slots_in, first_array, other_arrays}
+use Rattle.columns.specs.Array.{Array, Arrays, dictionary_in, slots_in, first_array}
 use Rattle.columns.specs.CellAt.{entries_of_kind, entry_at, index_at, indexed_cell, is_valid, named_number, unless_null, kind_cell}
 use Rattle.columns.specs.Sound.{is_sound, are_sound}
 use Rattle.columns.specs.View.{placed_arrays}
+use Rattle.columns.specs.laws.Rows.{other_placed}
 use Rattle.arrays.specs.inner.Weights.{AreEntryWeights, sum_from, span_weight, plain_weight, valid_weight, parts_span_weight, has_one_weight}
-use Rattle.arrays.proofs.Everys.{next_placed}
 
 pub next : {X : Type 0} (w : X → ℕ) (f : ℕ → X) (start n : ℕ) → sum_from w f start (suc n) ≡ w (f start) + sum_from w f (start + 1) n
 next w f start n = sum_by-cons w (f start) (map f (range_with_len (start + 1) n))
@@ -159,7 +159,7 @@ parts_next bytes all fs arrays i f a start n next_field is =
     let here : Arrays = placed_arrays bytes all (drop i arrays) in
     let cs : Columns = columns_of (map column_of (drop (i + 1) fs)) in
     ap (λ (gs : List Field). parts_span_weight (columns_of (map column_of gs)) here start n) next_field
-    ∙ λ j. span_weight (column_of f) (sym is j) start n + parts_span_weight cs (next_placed bytes all arrays i j) start n
+    ∙ λ j. span_weight (column_of f) (sym is j) start n + parts_span_weight cs (other_placed bytes all arrays i j) start n
 
 pub parts_end : (fs : List Field) (i : ℕ) (arrays : Arrays) (start n : ℕ) → length fs ≤ i → parts_span_weight (columns_of (map column_of (drop i fs))) arrays start n ≡ 0
 unfolding parts_span_weight
@@ -179,18 +179,8 @@ sound_next bytes all fs arrays i f a slots next_field is h =
     let most : slots ≤ slots_in (first_array here) = leb-true _ _ long.0 in (
       subst (λ (x : Array). slots ≤ slots_in x) (sym is) most,
       ap (is_sound (column_of f)) is ∙ parts.0,
-      sym (ap (are_sound cs slots) (next_placed bytes all arrays i)) ∙ parts.1,
+      sym (ap (are_sound cs slots) (other_placed bytes all arrays i)) ∙ parts.1,
     )
-
--- arrays that are long enough for some slots are so for fewer
-pub fewer_sound : (cs : Columns) (arrays : Arrays) (slots fewer : ℕ) → are_sound cs slots arrays ≡ true → fewer ≤ slots → are_sound cs fewer arrays ≡ true
-unfolding are_sound
-fewer_sound no_column arrays slots fewer h le = refl
-fewer_sound (and_column c cs) arrays slots fewer h le =
-    let long = and_parts (nat_le slots (slots_in (first_array arrays))) _ h in
-    let parts = and_parts (is_sound c (first_array arrays)) _ long.1 in
-    let most : slots ≤ slots_in (first_array arrays) = leb-true _ _ long.0 in
-    rw (le-leb fewer (slots_in (first_array arrays)) (omega arith), parts.0) (fewer_sound cs (other_arrays arrays) slots fewer parts.1 le)
 
 -- ---- entries of dictionaries
 

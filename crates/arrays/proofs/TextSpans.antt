@@ -2,11 +2,11 @@
 use Rattle.std.specs.Prelude.{◌==◌, ◌&&◌, not}
 use Rattle.std.specs.List.{list_any, range_with_len}
 use Rattle.std.specs.Str.{IsCharBoundary, IsUtf8, is_utf8}
-use Rattle.std.proofs.Common.{◌≡◌, ℕ, ◌+◌, ◌-◌, ◌*◌, ◌≤◌, ◌<◌, Bool, true, false, List, [], length, take, drop, inl, inr, refl, ap, sym, subst, ◌∙◌, arith, length-drop, mul-le-mul_right}
-use Rattle.std.proofs.lemmas.Bool.{cases_lt, ltb-false, ne_eqb}
+use Rattle.std.proofs.Common.{◌≡◌, ℕ, ◌+◌, ◌-◌, ◌*◌, ◌≤◌, ◌<◌, true, false, List, [], length, take, drop, inl, inr, ap, subst, ◌∙◌, arith, length-drop, mul-le-mul_right}
+use Rattle.std.proofs.lemmas.Bool.{cases_lt, ltb-false, ne_eqb, and_right, not_from_true}
 use Rattle.std.proofs.lemmas.List.{drop-drop, drop-take, length-take-le, take-take}
 use Rattle.std.proofs.lemmas.Str.{IsCharBoundary-end, IsUtf8-between, IsUtf8-nil, is_utf8-from_IsUtf8}
-use Rattle.arrays.proofs.Ranges.{any-none}
+use Rattle.facts.specs.laws.Lists.{none_in_range}
 use Rattle.columns.specs.Array.{Array, contents_in, offsets_in, slots_in}
 use Rattle.columns.specs.CellAt.{contents_at, is_valid, number_at}
 use Rattle.columns.specs.Tests.{are_few_offsets, are_unordered}
@@ -76,10 +76,6 @@ module _ (w : ℕ) (a : Array) (few : are_few_offsets w a ≡ false) (up : are_u
       let empty : contents_at w a i ≡ [] = ap (λ (n : ℕ). take n (drop (f i) (contents_in a))) size in
       rw empty (is_utf8-from_IsUtf8 [] IsUtf8-nil)
 
-no_other : (b c : Bool) → c ≡ true → (b && not c) ≡ false
-no_other true c h = rw h refl
-no_other false c h = refl
-
 pub none_is_other : (w : ℕ) (a : Array) (from count : ℕ) → ((i : ℕ) → from ≤ i → i < from + count → is_utf8 (contents_at w a i) ≡ true)
     → list_any (λ i. is_valid a i && not (is_utf8 (contents_at w a i))) (range_with_len from count) ≡ false
-none_is_other w a from count texts = any-none (λ i. is_valid a i && not (is_utf8 (contents_at w a i))) from count (λ i low high. no_other (is_valid a i) (is_utf8 (contents_at w a i)) (texts i low high))
+none_is_other w a from count texts = none_in_range (λ i. is_valid a i && not (is_utf8 (contents_at w a i))) from count (λ i low high. and_right (is_valid a i) _ (not_from_true _ (texts i low high)))

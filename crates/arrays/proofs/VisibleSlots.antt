@@ -3,11 +3,12 @@ use Rattle.std.specs.Prelude.{◌||◌, ◌&&◌, not, ◌==◌, nat_lt, if◌th
 use Rattle.std.specs.List.{list_all, list_any, range_with_len}
 use Rattle.std.specs.Str.{is_utf8}
 use Rattle.std.proofs.Common.{◌≡◌, ℕ, zero, suc, ◌/◌, Bool, true, false, List, length, Some, None, refl, arith, sym, ap, ◌∙◌}
-use Rattle.std.proofs.lemmas.Bool.{and_parts}
+use Rattle.std.proofs.lemmas.Bool.{and_parts, not-true}
 use Rattle.std.proofs.lemmas.Bool.Decides.{nat_tests}
 use Rattle.std.proofs.lemmas.List.FromFn.{length-range_with_len}
-use Rattle.arrow_schema.specs.Parts.{is_nullable_column, kind_of_column, index_of_column}
-use Rattle.arrays.proofs.Ranges.{any-none, any-fewer}
+use Rattle.facts.specs.laws.Lists.{none_in_range}
+use Rattle.arrow_schema.specs.Parts.{is_nullable_column, kind_of_column, index_of_column, is_nulls}
+use Rattle.arrays.proofs.Ranges.{any-fewer}
 use Rattle.bitmap.specs.Bits.{bit, count_of}
 use Rattle.arrow_schema.specs.declared.types.DictSpec.{DictSpec}
 use Rattle.arrow_schema.specs.View.{index_of}
@@ -23,7 +24,7 @@ use Rattle.columns.specs.Sound.{is_sound, is_kind_sound}
 use Rattle.columns.specs.Tests.{has_short_validity, has_short_buffer, are_few, are_few_offsets}
 use Rattle.columns.specs.laws.SoundParts.{sound_buffer}
 use Rattle.columns.specs.Visible.{is_bad_text, is_null, is_past, names_no_entry, is_forbidden}
-use Rattle.arrays.specs.inner.VisibleSpans.{any_slot, is_no_plain_text, text_width, is_of_nulls}
+use Rattle.arrays.specs.inner.VisibleSpans.{any_slot, is_no_plain_text, text_width}
 
 -- ---- what the loops over slots ask
 
@@ -38,7 +39,7 @@ pub any_same : (p q : ℕ → Bool) (xs : List ℕ) → ((i : ℕ) → p i ≡ q
 any_same p q xs same = (λ j. list_any (λ i. same i j) xs)
 
 pub any_never : (p : ℕ → Bool) (from n : ℕ) → ((i : ℕ) → p i ≡ false) → list_any p (range_with_len from n) ≡ false
-any_never p from n never = any-none p from n (λ i low high. never i)
+any_never p from n never = none_in_range p from n (λ i low high. never i)
 
 pub any_always : (p : ℕ → Bool) (from n : ℕ) → ((i : ℕ) → p i ≡ true) → list_any p (range_with_len from n) ≡ nat_lt 0 n
 any_always p from zero always = refl
@@ -98,7 +99,7 @@ if_filled : (b : Bool) (c : Cell) → is_null c ≡ false → is_null (if b then
 if_filled true c h = h
 if_filled false c h = refl
 
-pub null_at : (kind : Kind) (a : Array) (i : ℕ) → is_null (unless_null (kind_cell kind) a i) ≡ (is_of_nulls kind || not (is_valid a i))
+pub null_at : (kind : Kind) (a : Array) (i : ℕ) → is_null (unless_null (kind_cell kind) a i) ≡ (is_nulls kind || not (is_valid a i))
 unfolding kind_cell
 null_at nulls a i = if_null (is_valid a i)
 null_at booleans a i = if_filled (is_valid a i) _ refl
@@ -171,21 +172,17 @@ entry_nulls_tested (column name nullable kind (Some other) pairs) index a from n
 
 -- ---- what soundness gives them
 
-off : (b : Bool) → not b ≡ true → b ≡ false
-off true h = sym h
-off false h = cc
-
 pub sound_slots : (c : Column) (a : Array) → is_sound c a ≡ true → has_short_validity a ≡ false
 unfolding is_sound
-sound_slots (column name nullable kind None pairs) a h = off _ (and_parts (not (has_short_validity a)) _ h).0
-sound_slots (column name nullable kind (Some index) pairs) a h = off _ (and_parts (not (has_short_validity a)) _ h).0
+sound_slots (column name nullable kind None pairs) a h = not-true _ (and_parts (not (has_short_validity a)) _ h).0
+sound_slots (column name nullable kind (Some index) pairs) a h = not-true _ (and_parts (not (has_short_validity a)) _ h).0
 
 pub sound_indices : (c : Column) (index : Index) (a : Array) → index_of_column c ≡ Some index → is_sound c a ≡ true → are_few (index.bits / 8) a (indices_in a) ≡ false
 unfolding is_sound
 sound_indices (column name nullable kind None pairs) index a some h = absurd cc
 sound_indices (column name nullable kind (Some other) pairs) index a some h =
     let e : other ≡ index = cc in
-    ap (λ (x : Index). are_few (x.bits / 8) a (indices_in a)) (sym e) ∙ off _ (and_parts (not (are_few (other.bits / 8) a (indices_in a))) _ (and_parts (not (has_short_validity a)) _ h).1).0
+    ap (λ (x : Index). are_few (x.bits / 8) a (indices_in a)) (sym e) ∙ not-true _ (and_parts (not (are_few (other.bits / 8) a (indices_in a))) _ (and_parts (not (has_short_validity a)) _ h).1).0
 
 pub sound_entries : (c : Column) (index : Index) (a : Array) → index_of_column c ≡ Some index → is_sound c a ≡ true → list_all (is_kind_sound (kind_of_column c)) (array_list (dictionary_in a)) ≡ true
 unfolding is_sound

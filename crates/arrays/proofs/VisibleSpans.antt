@@ -1,7 +1,7 @@
 -- What is visible by spans of slots.
 use Rattle.std.specs.Prelude.{◌||◌, nat_le, if◌then◌else◌}
 use Rattle.std.specs.List.{list_any, flat_map, range_with_len}
-use Rattle.std.proofs.Common.{◌≡◌, ℕ, suc, ◌+◌, ◌-◌, ◌*◌, ◌≤◌, ◌<◌, Bool, true, false, List, [], ◌∷◌, length, drop, get_or, Some, None, refl, arith, sym, ap, ◌∙◌}
+use Rattle.std.proofs.Common.{◌≡◌, ℕ, ◌+◌, ◌-◌, ◌*◌, ◌≤◌, ◌<◌, Bool, true, false, List, [], ◌∷◌, drop, Some, None, refl, arith, sym, ap, ◌∙◌}
 use Rattle.std.proofs.Math.Nat.{mul-le-mul_left}
 use Rattle.std.proofs.lemmas.Bool.{leb-true}
 use Rattle.std.proofs.lemmas.List.Folds.{list_any-append}
@@ -19,10 +19,10 @@ use Rattle.columns.specs.CellAt.{is_valid, number_at, span_start}
 use Rattle.columns.specs.Sound.{is_sound, is_kind_sound}
 use Rattle.columns.specs.Tests.{are_unordered}
 use Rattle.columns.specs.laws.Offsets.{offsets_ascend}
-use Rattle.columns.specs.View.{placed_arrays, fields_of}
+use Rattle.columns.specs.View.{placed_arrays}
 use Rattle.columns.specs.Visible.{Slot, slot, visible, visible_below, visible_parts, visible_in}
+use Rattle.columns.specs.laws.Rows.{other_placed}
 use Rattle.arrays.specs.inner.VisibleSpans.{any_slot, any_visible, any_valid_below, slots_below, any_below, any_part, has_below}
-use Rattle.arrays.proofs.Everys.{others_placed}
 
 -- ---- a slot and what is below it
 
@@ -189,4 +189,4 @@ all_visible f (and_column c cs) arrays rows =
     ∙ sym (list_any-append f (flat_map (visible c (first_array arrays)) (range_with_len 0 rows)) (visible_in cs (other_arrays arrays) rows))
 
 pub others : (bytes : List ℕ) (all : List Dictionary) (xs : List PlacedArray) (i : ℕ) → placed_arrays bytes all (drop (i + 1) xs) ≡ other_arrays (placed_arrays bytes all (drop i xs))
-others bytes all xs i = let s : i + 1 ≡ suc i = omega arith in rw s (sym (others_placed bytes all xs i))
+others bytes all xs i = sym (other_placed bytes all xs i)

@@ -1,27 +1,22 @@
 -- Where no visible slot is a text that is not UTF-8, all texts of a row are UTF-8, at every level.
-use Rattle.std.specs.Prelude.{not, ◌&&◌, ◌||◌, ℤ, pos, negsuc, if◌then◌else◌, is_some}
+use Rattle.std.specs.Prelude.{not, ◌&&◌, ℤ, pos, negsuc, if◌then◌else◌}
 use Rattle.std.specs.List.{list_any, list_all, flat_map, range_with_len}
-use Rattle.std.specs.Str.{is_utf8}
-use Rattle.std.proofs.Common.{inl, inr, ◌≡◌, ℕ, zero, suc, ◌+◌, ◌≤◌, ◌<◌, ◌*◌, Bool, true, false, List, [], ◌∷◌, ◌++◌, map, length, get_or, Option, Some, None, Ok, refl, sym, ap, subst, arith, ◌∙◌}
-use Rattle.std.proofs.lemmas.Bool.{and_parts, or_parts, cases_lt}
+use Rattle.std.proofs.Common.{inl, inr, ◌≡◌, ℕ, zero, suc, ◌+◌, ◌≤◌, ◌<◌, ◌*◌, Bool, true, false, List, [], ◌∷◌, map, length, get_or, Some, None, Ok, refl, sym, subst, arith, ◌∙◌}
+use Rattle.std.proofs.lemmas.Bool.{and_parts, or_parts, cases_lt, not-false}
 use Rattle.std.proofs.lemmas.List.Folds.{list_all-append, list_any-append}
 use Rattle.facts.specs.Checks.{first_some}
 use Rattle.facts.specs.laws.Checks.{unless_passed, first_some-both}
-use Rattle.arrow_schema.specs.Column.{Index, Kind, Column, Columns, columns_of, PlainSchema, nulls, booleans, integers, dates, timestamps, texts, large_texts, binaries, large_binaries, fixed_binaries, lists, large_lists, fixed_lists, structs, column, no_column, and_column}
+use Rattle.arrow_schema.specs.Column.{Kind, Column, Columns, columns_of, PlainSchema, nulls, booleans, integers, dates, timestamps, texts, large_texts, binaries, large_binaries, fixed_binaries, lists, large_lists, fixed_lists, structs, column, no_column, and_column}
 use Rattle.arrow_schema.specs.Limits.{is_nested, has_flat_dictionary}
 use Rattle.arrow_schema.specs.Preorder.{preorder, preorder_below, preorder_all, every_column}
-use Rattle.cells.specs.Cell.{Cell, Cells, null, boolean, number, text, bytes, items, parts, cells_of}
+use Rattle.cells.specs.Cell.{Cell, null, boolean, number, text, bytes, items, parts, cells_of}
 use Rattle.columns.specs.Array.{Array, Arrays, slots_in, items_in, children_in, dictionary_in, array_list, first_array, other_arrays}
 use Rattle.columns.specs.CellAt.{is_valid, cell_at, kind_cell, part_cells, cells_from, entry_at, entries_of_kind, index_at, span_start, span_size, unless_null}
 use Rattle.columns.specs.Texts.{has_utf8_texts, have_utf8_texts}
-use Rattle.columns.specs.Visible.{Slot, visible, visible_below, visible_parts, visible_in, is_bad_text, is_no_text, names_no_entry, is_forbidden}
+use Rattle.columns.specs.Visible.{Slot, visible, visible_below, visible_parts, visible_in, is_bad_text, is_no_text, names_no_entry}
 use Rattle.ipc_message.specs.Raw.{RawBatch}
 use Rattle.arrays.specs.Checks.{batch_arrays, array_checks, slot_checks, batch_checks, batch_read}
 use Rattle.arrays.proofs.BatchRead.{passed}
-
-off : (b : Bool) → not b ≡ false → b ≡ true
-off true h = refl
-off false h = sym h
 
 -- ---- entries: a cell of a flat type has no cells below it
 
@@ -35,7 +30,7 @@ unfolding has_utf8_texts
 flat_texts null f h = refl
 flat_texts (boolean b) f h = refl
 flat_texts (number n) f h = refl
-flat_texts (text t) f h = off _ h
+flat_texts (text t) f h = not-false _ h
 flat_texts (bytes t) f h = refl
 flat_texts (items cs) f h = absurd cc
 flat_texts (parts cs) f h = absurd cc
@@ -124,8 +119,8 @@ mutual
   texts_below (integers bits signed) a i flat own h = refl
   texts_below (dates unit) a i flat own h = refl
   texts_below (timestamps unit timezone) a i flat own h = refl
-  texts_below texts a i flat own h = off _ own
-  texts_below large_texts a i flat own h = off _ own
+  texts_below texts a i flat own h = not-false _ own
+  texts_below large_texts a i flat own h = not-false _ own
   texts_below binaries a i flat own h = refl
   texts_below large_binaries a i flat own h = refl
   texts_below (fixed_binaries width) a i flat own h = refl

@@ -2,7 +2,7 @@
 -- "DictionaryEncoding").
 use Rattle.std.specs.Prelude.{ℕ, Bool, not, ◌&&◌, ◌==◌, List, [], ◌∷◌, ◌++◌, map, Option, Some, None, Result, Ok, Err}
 use Rattle.std.specs.List.{list_any, flat_map, find}
-use Rattle.arrow_schema.specs.Column.{Column, Columns, no_column, and_column}
+use Rattle.arrow_schema.specs.Column.{Column}
 use Rattle.facts.specs.Checks.{when, first_some, unless}
 use Rattle.ipc_message.specs.declared.fault.Fault.{Fault}
 use Rattle.ipc_message.specs.declared.fault.Fault.TheVariants.{DictionaryId, DeltaWithoutBase, NotUtf8}
@@ -12,6 +12,7 @@ use Rattle.ipc_message.specs.Convert.{column_of_field}
 use Rattle.columns.specs.Array.{Array, Arrays, first_array}
 use Rattle.columns.specs.Buffers.{value_column}
 use Rattle.columns.specs.Visible.{visible_in, is_no_text}
+use Rattle.columns.specs.Alone.{alone}
 use Rattle.dictionary.specs.InEffect.{DictionaryBatch, has_id, in_effect}
 use Rattle.arrays.specs.Checks.{batch_arrays, array_checks}
 
@@ -35,13 +36,13 @@ abbrev pub dictionaries_after : List DictionaryBatch → List DictionaryColumn �
 dictionaries_after before columns = map (λ c. in_effect c.id before) columns
 
 -- the column of an id is the first that has it: all columns of an id have values of one type, or the schema is refused
+abbrev pub is_column_of : ℕ → DictionaryColumn → Bool
+is_column_of id c = c.id == id
+
 abbrev pub column_of_id : ℕ → List DictionaryColumn → Option DictionaryColumn
-column_of_id id columns = find (λ c. c.id == id) columns
+column_of_id id columns = find (is_column_of id) columns
 
 -- ---- the checks of a dictionary batch
-
-abbrev pub alone : Column → Columns
-alone c = and_column c no_column
 
 -- its array: a batch of the one column of values
 abbrev pub entries_in : Column → RawBatch → List ℕ → Arrays

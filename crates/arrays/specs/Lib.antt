@@ -6,4 +6,5 @@ pub mod Known
 pub mod Placed
 pub mod Bytes
 pub mod Shared
+pub mod laws
 pub mod inner

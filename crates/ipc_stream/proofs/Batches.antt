@@ -1,9 +1,9 @@
 -- What is known after a record batch.
 use Rattle.std.specs.Prelude.{◌&&◌, nat_lt, nat_le, get_or, IfOk, slice_index}
 use Rattle.std.specs.List.{AllPass, list_all}
-use Rattle.std.proofs.Common.{◌≡◌, ℕ, zero, suc, ◌+◌, ◌<◌, ◌≤◌, true, List, [], ◌∷◌, ◌++◌, length, map, take, drop, Ok, Err, Result, refl, sym, ap, ◌∙◌, subst, arith}
+use Rattle.std.proofs.Common.{◌≡◌, ℕ, suc, ◌+◌, ◌<◌, ◌≤◌, true, List, [], ◌∷◌, ◌++◌, length, map, take, drop, Ok, Err, Result, refl, sym, ap, ◌∙◌, subst, arith}
 use Rattle.std.proofs.Math.Path.{fun_ext}
-use Rattle.std.proofs.lemmas.Bool.{lt-ltb, and_parts, and_from}
+use Rattle.std.proofs.lemmas.Bool.{lt-ltb, and_from}
 use Rattle.std.proofs.lemmas.Grind.{flat_map-append}
 use Rattle.std.proofs.lemmas.List.{append-nil}
 use Rattle.std.proofs.lemmas.List.Folds.{list_all-append}
@@ -32,6 +32,7 @@ use Rattle.arrays.specs.Checks.{batch_read, batch_weight}
 use Rattle.arrays.specs.Dictionaries.{dictionaries_after}
 use Rattle.arrays.specs.DictionaryColumns.{dictionary_columns_of}
 use Rattle.arrays.specs.Known.{are_readable, dictionary_values}
+use Rattle.arrays.specs.laws.Bytes.{are_bytes-take, are_bytes-drop}
 use Rattle.values.specs.declared.part.Batch.{Batch}
 use Rattle.ipc_message.specs.declared.error.ImportError.{ImportError}
 use Rattle.ipc_message.specs.declared.error.ImportError.TheVariants as errors
@@ -50,20 +51,8 @@ pub all_small : (bytes : List ℕ) → ((i : ℕ) → slice_index bytes i < 256)
 all_small [] h = refl
 all_small (b ∷ bytes) h = and_from (nat_lt b 256) (are_bytes bytes) (lt-ltb b 256 (h 0)) (all_small bytes (λ i. h (suc i)))
 
-taken_small : (n : ℕ) (bytes : List ℕ) → are_bytes bytes ≡ true → are_bytes (take n bytes) ≡ true
-taken_small zero [] h = refl
-taken_small zero (b ∷ bytes) h = refl
-taken_small (suc n) [] h = refl
-taken_small (suc n) (b ∷ bytes) h = let both = and_parts (nat_lt b 256) (are_bytes bytes) h in and_from (nat_lt b 256) (are_bytes (take n bytes)) both.0 (taken_small n bytes both.1)
-
-pub dropped_small : (n : ℕ) (bytes : List ℕ) → are_bytes bytes ≡ true → are_bytes (drop n bytes) ≡ true
-dropped_small zero [] h = refl
-dropped_small zero (b ∷ bytes) h = h
-dropped_small (suc n) [] h = refl
-dropped_small (suc n) (b ∷ bytes) h = dropped_small n bytes (and_parts (nat_lt b 256) (are_bytes bytes) h).1
-
 pub within_small : (bytes : List ℕ) (span : Span) → ((i : ℕ) → slice_index bytes i < 256) → are_bytes (within bytes span) ≡ true
-within_small bytes span h = taken_small span.len (drop span.start bytes) (dropped_small span.start bytes (all_small bytes h))
+within_small bytes span h = are_bytes-take span.len (drop span.start bytes) (are_bytes-drop span.start bytes (all_small bytes h))
 
 -- ---- the same lists of arrays, however they are kept
 

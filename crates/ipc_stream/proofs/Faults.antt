@@ -4,11 +4,12 @@ use Rattle.std.specs.List.{list_any}
 use Rattle.std.proofs.Common.{◌≡◌, ℕ, Bool, true, false, List, [], ◌∷◌, ◌++◌, Result, Ok, Err}
 use Rattle.arrow_schema.specs.Column.{Column, Columns, PlainSchema, columns_of}
 use Rattle.arrays.specs.Checks.{array_checks, slot_checks, batch_checks, batch_read, batch_arrays}
-use Rattle.arrays.specs.Dictionaries.{DictionaryColumn, entry_checks, dictionary_checks, read_with, dictionary_read, column_of_id, alone, entries_in, batch_with, dictionaries_after}
+use Rattle.arrays.specs.Dictionaries.{DictionaryColumn, entry_checks, dictionary_checks, read_with, dictionary_read, column_of_id, entries_in, batch_with, dictionaries_after}
 use Rattle.cells.specs.Weight.{table_weight}
 use Rattle.columns.specs.Array.{Array, Arrays, first_array}
 use Rattle.columns.specs.CellAt.{rows_in}
 use Rattle.columns.specs.Visible.{visible_in, is_no_text}
+use Rattle.columns.specs.Alone.{alone}
 use Rattle.dictionary.specs.InEffect.{DictionaryBatch}
 use Rattle.flatbuf.specs.declared.FlatError.{FlatError}
 use Rattle.flatbuf.specs.declared.FlatError.TheVariants.{Bounds, VtableSize, Budget}

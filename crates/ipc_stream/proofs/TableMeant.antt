@@ -13,6 +13,7 @@ use Rattle.cells.specs.Row.{is_row}
 use Rattle.columns.specs.CellAt.{rows_in}
 use Rattle.arrays.specs.Bytes.{are_bytes}
 use Rattle.arrays.specs.Dictionaries.{dictionary_read}
+use Rattle.arrays.specs.laws.Bytes.{are_bytes-drop}
 use Rattle.ipc_message.specs.declared.fault.Fault.{Fault}
 use Rattle.ipc_message.specs.declared.fault.Fault.TheVariants.{AfterEnd}
 use Rattle.ipc_message.specs.Checks.{schema_checks, checked_schema}
@@ -23,7 +24,7 @@ use Rattle.ipc_message.specs.Raw.{RawSchema, RawHeader, schema_header, dictionar
 use Rattle.values.specs.Table.{IsTable}
 use Rattle.ipc_stream.specs.Meaning.{Known, known_first, known_table, with_dictionary, with_rows, order_fault, read_after, read_header, read_next, known_at_end, known_at_end_of_stream, by_next_message, read_from, meaning, ◌>>=◌, is_empty}
 use Rattle.ipc_stream.specs.Progress.{known_batch}
-use Rattle.ipc_stream.proofs.Batches.{RowLaws, IsKnown, all_small, dropped_small, table_after}
+use Rattle.ipc_stream.proofs.Batches.{RowLaws, IsKnown, all_small, table_after}
 use Rattle.ipc_stream.proofs.Firsts.{reported_ok}
 use Rattle.ipc_stream.proofs.Dictionaries.{ColumnLaws, BatchLaws, first_dictionaries, dictionaries_stay, dictionaries_more}
 
@@ -138,7 +139,7 @@ stream_known laws supported (suc steps) before bytes next is small e =
     (λ h.
     let found = bound (next_message bytes) (after_next supported steps before bytes) next h in
     step_known laws supported steps before bytes found.0 next found.1 is small
-    (λ k known goes. stream_known laws supported steps (Some k) (drop (taken found.0) bytes) next known (dropped_small (taken found.0) bytes small) goes) found.2) e
+    (λ k known goes. stream_known laws supported steps (Some k) (drop (taken found.0) bytes) next known (are_bytes-drop (taken found.0) bytes small) goes) found.2) e
 
 pub meaning_table : StreamLaws → (supported : ℕ → Bool) (bytes : List ℕ) (t : PlainTable) → AreBytes bytes → meaning supported bytes ≡ Ok t → IsTable t
 unfolding meaning

@@ -2,45 +2,27 @@
 use Rattle.std.specs.Prelude.{nat_le}
 use Rattle.std.specs.List.{flat_map, list_all, range_with_len}
 use Rattle.std.specs.Global.{Global}
-use Rattle.std.proofs.Common.{Vec, ◌≡◌, ℕ, zero, suc, ◌+◌, ◌<◌, Bool, true, List, [], ◌∷◌, ◌++◌, map, length, take, drop, get_or, refl, sym, ap, subst, ◌∙◌, arith}
+use Rattle.std.proofs.Common.{Vec, ◌≡◌, ℕ, suc, ◌+◌, ◌<◌, Bool, true, List, [], ◌∷◌, ◌++◌, map, length, take, get_or, refl, sym, ap, subst, ◌∙◌, arith}
 use Rattle.std.proofs.lemmas.Bool.{and_parts, and_from}
 use Rattle.std.proofs.lemmas.List.{map-append}
 use Rattle.std.proofs.lemmas.List.Folds.{list_all-append}
+use Rattle.facts.specs.laws.Lists.{take-item, flat_map-push, all_with_item}
 use Rattle.array_runs.specs.Runs.{run_cells, runs_cells, is_run_sound, are_runs_sound, HaveRuns, are_columns_sound}
 use Rattle.array_runs.specs.declared.run.SlotRun.{SlotRun}
 use Rattle.arrow_schema.specs.Column.{Column, Columns, and_column, columns_of}
 use Rattle.cells.specs.Cell.{Cell}
-use Rattle.columns.specs.Array.{Arrays, slots_in, first_array, other_arrays}
+use Rattle.columns.specs.Array.{Arrays, slots_in, other_arrays}
 use Rattle.columns.specs.Built.{first_cell, other_cells}
-use Rattle.columns.specs.CellAt.{cell_at, part_cells, row_at}
+use Rattle.columns.specs.CellAt.{row_at}
 use Rattle.columns.specs.Sound.{is_sound, are_sound}
-use Rattle.columns.specs.View.{placed_arrays}
-use Rattle.columns.specs.declared.array.Dictionary.{Dictionary}
-use Rattle.columns.specs.declared.array.PlacedArray.{PlacedArray}
+use Rattle.columns.specs.laws.Rows.{first_cells, other_rows, other_placed}
 use Rattle.run_pieces.specs.declared.row_run.RowRun.{RowRun}
 use Rattle.run_pieces.specs.inner.Columns.{arrays_behind, rows_behind, cells_behind, array_at, has_sound_array, IsColumn, AreColumns}
-use Rattle.run_pieces.proofs.PartLemmas.{first_and_next, one_joined, next_passes}
 
 -- ---- rows of arrays, column by column
 
-first_cells : (c : Column) (cs : Columns) (arrays : Arrays) (places : List ℕ) → map first_cell (map (row_at (and_column c cs) arrays) places) ≡ map (cell_at c (first_array arrays)) places
-unfolding part_cells
-first_cells c cs arrays [] = refl
-first_cells c cs arrays (i ∷ places) = ap (λ (cells : List Cell). cell_at c (first_array arrays) i ∷ cells) (first_cells c cs arrays places)
-
-others : (c : Column) (cs : Columns) (arrays : Arrays) (places : List ℕ) → map other_cells (map (row_at (and_column c cs) arrays) places) ≡ map (row_at cs (other_arrays arrays)) places
-unfolding part_cells
-others c cs arrays [] = refl
-others c cs arrays (i ∷ places) = ap (λ (rows : List (List Cell)). row_at cs (other_arrays arrays) i ∷ rows) (others c cs arrays places)
-
-others_placed : (bytes : List ℕ) (all : List Dictionary) (xs : List PlacedArray) (j : ℕ) → other_arrays (placed_arrays bytes all (drop j xs)) ≡ placed_arrays bytes all (drop (j + 1) xs)
-others_placed bytes all [] zero = refl
-others_placed bytes all [] (suc j) = let e : suc j + 1 ≡ suc (j + 1) = omega arith in rw e refl
-others_placed bytes all (x ∷ xs) zero = refl
-others_placed bytes all (x ∷ xs) (suc j) = let e : suc j + 1 ≡ suc (j + 1) = omega arith in rw e (others_placed bytes all xs j)
-
 pub arrays_next : (j : ℕ) (r : RowRun) → other_arrays (arrays_behind j r) ≡ arrays_behind (j + 1) r
-arrays_next j r = others_placed r.bytes.now r.dictionaries.now r.arrays.now j
+arrays_next j r = other_placed r.bytes.now r.dictionaries.now r.arrays.now j
 
 rows_first : (j : ℕ) (c : Column) (cs : Columns) (rows : List RowRun) → map first_cell (flat_map (rows_behind j (and_column c cs)) rows) ≡ flat_map (cells_behind j c) rows
 rows_first j c cs [] = refl
@@ -52,7 +34,7 @@ rows_others : (j : ℕ) (c : Column) (cs : Columns) (rows : List RowRun) → map
 rows_others j c cs [] = refl
 rows_others j c cs (r ∷ rows) =
     let own : map other_cells (rows_behind j (and_column c cs) r) ≡ rows_behind (j + 1) cs r
-    = others c cs (arrays_behind j r) (range_with_len r.from r.len) ∙ ap (λ (arrays : Arrays). map (row_at cs arrays) (range_with_len r.from r.len)) (arrays_next j r) in
+    = other_rows c cs (arrays_behind j r) (range_with_len r.from r.len) ∙ ap (λ (arrays : Arrays). map (row_at cs arrays) (range_with_len r.from r.len)) (arrays_next j r) in
     map-append other_cells (rows_behind j (and_column c cs) r) (flat_map (rows_behind j (and_column c cs)) rows)
     ∙ λ i. own i ++ rows_others j c cs rows i
 
@@ -66,12 +48,12 @@ pub column_more : (j : ℕ) (rows : List RowRun) (i : ℕ) (row : RowRun) (old n
     → ((c : Column) → has_sound_array j c row ≡ true → is_run_sound c slot ≡ true)
     → IsColumn j (take i rows) old → IsColumn j (take (i + 1) rows) new
 column_more j rows i row old new slot lt is pushed cells sound was = λ c all.
-    let both = next_passes (has_sound_array j c) rows i row lt is all in
+    let both = all_with_item (has_sound_array j c) rows i row lt is all in
     let before = was c both.0 in
     let last : run_cells c slot ≡ cells_behind j c row = cells c both.1 in
     let joined : runs_cells c new ≡ flat_map (cells_behind j c) (take (i + 1) rows) =
-    ap (runs_cells c) pushed ∙ one_joined (run_cells c) old slot ∙ (λ k. before.0 k ++ last k)
-    ∙ sym (one_joined (cells_behind j c) (take i rows) row) ∙ ap (flat_map (cells_behind j c)) (sym (first_and_next rows i row lt is)) in
+    ap (runs_cells c) pushed ∙ flat_map-push (run_cells c) old slot ∙ (λ k. before.0 k ++ last k)
+    ∙ sym (flat_map-push (cells_behind j c) (take i rows) row) ∙ ap (flat_map (cells_behind j c)) (sym (take-item rows i row lt is)) in
     let good : are_runs_sound c new ≡ true =
     ap (are_runs_sound c) pushed ∙ list_all-append (is_run_sound c) old (slot ∷ []) ∙ and_from _ _ before.1 (and_from _ _ (sound c both.1) refl) in
     (joined, good)

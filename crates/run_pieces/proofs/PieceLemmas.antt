@@ -1,9 +1,10 @@
 -- Where a piece ends.
-use Rattle.std.specs.Prelude.{nat_le, sum_by, ◌&&◌}
+use Rattle.std.specs.Prelude.{nat_le, sum_by}
 use Rattle.std.specs.List.{range_with_len, list_all}
-use Rattle.std.proofs.Common.{◌≡◌, ◌≢◌, ◌⊎◌, inl, inr, ℕ, zero, suc, ◌+◌, ◌-◌, ◌<◌, ◌≤◌, Bool, true, false, List, [], ◌∷◌, ◌++◌, map, length, drop, set, refl, sym, ap, ◌∙◌, arith, length-append}
-use Rattle.std.proofs.lemmas.Bool.{and_parts, and_from, leb-true, le-leb}
+use Rattle.std.proofs.Common.{◌≡◌, ◌≢◌, ◌⊎◌, inl, inr, ℕ, zero, suc, ◌+◌, ◌-◌, ◌<◌, ◌≤◌, true, false, List, [], ◌∷◌, ◌++◌, map, length, drop, set, refl, sym, ap, ◌∙◌, arith, length-append}
+use Rattle.std.proofs.lemmas.Bool.{and_parts, and_from, leb-true, le-leb, lt-leb}
 use Rattle.std.proofs.lemmas.List.Sums.{sum_by-append, sum_by-cons}
+use Rattle.std.proofs.Math.Bool.{and-false}
 use Rattle.arrow_schema.specs.Column.{PlainSchema, columns_of}
 use Rattle.cells.specs.Cell.{Cell}
 use Rattle.cells.specs.Dictionary.{dictionaries_fit}
@@ -26,21 +27,14 @@ abbrev pub IsFull : PlainSchema → List (List Cell) → List (List Cell) → Ty
 IsFull s piece [] = Unit {0}
 IsFull s piece (row ∷ rows) = ((4096 ≤ length piece) ⊎ (16777216 < table_weight s piece + row_weight s row)) ⊎ (dictionaries_fit s (piece ++ row ∷ []) ≡ false)
 
-le_false : (a b : ℕ) → b < a → nat_le a b ≡ false
-le_false a b h = grind arith
-
-and_last : (b : Bool) → (b && false) ≡ false
-and_last true = refl
-and_last false = refl
-
 too_long : (s : PlainSchema) (rows : List (List Cell)) → 4096 < length rows → within_limits (row_weight s) 4096 16777216 rows ≡ false
-too_long s rows h = rw (le_false (length rows) 4096 h) refl
+too_long s rows h = rw (lt-leb (length rows) 4096 h) refl
 
 too_heavy : (s : PlainSchema) (rows : List (List Cell)) → 16777216 < table_weight s rows → within_limits (row_weight s) 4096 16777216 rows ≡ false
-too_heavy s rows h = rw (le_false (sum_by (row_weight s) rows) 16777216 h) (and_last (nat_le (length rows) 4096))
+too_heavy s rows h = rw (lt-leb (sum_by (row_weight s) rows) 16777216 h) (and-false (nat_le (length rows) 4096))
 
 too_many_entries : (s : PlainSchema) (rows : List (List Cell)) → dictionaries_fit s rows ≡ false → within_piece s rows ≡ false
-too_many_entries s rows h = rw h (and_last (within_limits (row_weight s) 4096 16777216 rows))
+too_many_entries s rows h = rw h (and-false (within_limits (row_weight s) 4096 16777216 rows))
 
 past_limits : (s : PlainSchema) (rows : List (List Cell)) → within_limits (row_weight s) 4096 16777216 rows ≡ false → within_piece s rows ≡ false
 past_limits s rows h = rw h refl

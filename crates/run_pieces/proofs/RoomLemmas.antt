@@ -19,11 +19,11 @@ use Rattle.columns.specs.CellAt.{part_cells, row_at}
 use Rattle.columns.specs.Texts.{have_utf8_texts}
 use Rattle.columns.specs.laws.FitTexts.{row_texts}
 use Rattle.facts.specs.Bytes.{AreBytes}
+use Rattle.facts.specs.laws.Lists.{take-item, flat_map-push}
 use Rattle.run_pieces.specs.Rows.{arrays_of_run, run_rows, runs_rows}
 use Rattle.run_pieces.specs.declared.row_run.RowRun.{RowRun}
 use Rattle.run_pieces.specs.inner.Room.{HasRoom, row_in}
-use Rattle.run_pieces.proofs.PartLemmas.{first_and_next, one_joined}
-use Rattle.run_pieces.proofs.RunSteps.{run_size}
+use Rattle.run_pieces.specs.laws.Runs.{run_size}
 
 -- ---- rows that a table takes
 
@@ -128,7 +128,7 @@ rows_of_run s (r ∷ runs) (suc i) run lt is h =
 
 pub one_run_more : (cs : Columns) (runs : List RowRun) (i : ℕ) (run : RowRun) → i < length runs → run ≡ get_or runs i run
     → runs_rows cs (take i runs) ++ run_rows cs run ≡ runs_rows cs (take (i + 1) runs)
-one_run_more cs runs i run lt is = sym (ap (runs_rows cs) (first_and_next runs i run lt is) ∙ one_joined (run_rows cs) (take i runs) run)
+one_run_more cs runs i run lt is = sym (ap (runs_rows cs) (take-item runs i run lt is) ∙ flat_map-push (run_rows cs) (take i runs) run)
 
 -- ---- bytes, and rows that share entries
 

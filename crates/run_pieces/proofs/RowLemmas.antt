@@ -1,13 +1,11 @@
 -- Runs of rows, cut in two.
-use Rattle.std.specs.Prelude.{nat_le}
 use Rattle.std.specs.List.{range_with_len}
 use Rattle.std.proofs.Common.{◌≡◌, ℕ, zero, suc, ◌+◌, ◌-◌, ◌≤◌, true, map, take, drop, refl, sym, arith}
-use Rattle.std.proofs.lemmas.Bool.{and_parts, leb-true, le-leb}
 use Rattle.std.proofs.lemmas.List.FromFn.{take-map-range_with_len}
-use Rattle.arrow_schema.specs.Column.{Columns, no_column, and_column}
-use Rattle.columns.specs.Array.{Arrays, slots_in, first_array, other_arrays}
+use Rattle.arrow_schema.specs.Column.{Columns}
+use Rattle.columns.specs.Array.{Arrays}
 use Rattle.columns.specs.CellAt.{row_at}
-use Rattle.columns.specs.Sound.{is_sound, are_sound}
+use Rattle.columns.specs.Sound.{are_sound}
 
 drop_range : {X : Type 0} (f : ℕ → X) (a n k : ℕ) → k ≤ n → drop k (map f (range_with_len a n)) ≡ map f (range_with_len (a + k) (n - k))
 drop_range f a n zero le =
@@ -19,16 +17,6 @@ drop_range f a (suc n) (suc k) le =
     let e : a + suc k ≡ a + 1 + k = omega arith in
     let d : suc n - suc k ≡ n - k = omega arith in
     rw (e, d) (drop_range f (a + 1) n k (omega arith))
-
--- arrays that are long enough for some slots are so for fewer
-pub fewer_sound : (cs : Columns) (arrays : Arrays) (slots fewer : ℕ) → are_sound cs slots arrays ≡ true → fewer ≤ slots → are_sound cs fewer arrays ≡ true
-unfolding are_sound
-fewer_sound no_column arrays slots fewer h le = refl
-fewer_sound (and_column c cs) arrays slots fewer h le =
-    let long = and_parts (nat_le slots (slots_in (first_array arrays))) _ h in
-    let parts = and_parts (is_sound c (first_array arrays)) _ long.1 in
-    let most : slots ≤ slots_in (first_array arrays) = leb-true _ _ long.0 in
-    rw (le-leb fewer (slots_in (first_array arrays)) (omega arith), parts.0) (fewer_sound cs (other_arrays arrays) slots fewer parts.1 le)
 
 -- the first rows of a span, and those behind them
 pub front_rows : (cs : Columns) (arrays : Arrays) (from n k : ℕ) → k ≤ n → map (row_at cs arrays) (range_with_len from k) ≡ take k (map (row_at cs arrays) (range_with_len from n))

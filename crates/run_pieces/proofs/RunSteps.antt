@@ -4,7 +4,6 @@ use Rattle.std.proofs.Common.{◌≡◌, ℕ, ◌+◌, ◌-◌, ◌<◌, ◌≤�
 use Rattle.std.proofs.lemmas.Bool.{and_parts}
 use Rattle.std.proofs.lemmas.List.{take-append-drop, length-take-le, take_all}
 use Rattle.std.proofs.lemmas.List.Concat.{flat_map-cons}
-use Rattle.std.proofs.lemmas.List.FromFn.{length-map-range_with_len}
 use Rattle.facts.specs.laws.Lists.{drop-item}
 use Rattle.arrow_schema.specs.Column.{PlainSchema, Columns, columns_of}
 use Rattle.cells.specs.Cell.{Cell}
@@ -17,9 +16,7 @@ use Rattle.run_pieces.specs.declared.row_run.RowRun.{RowRun}
 use Rattle.run_pieces.specs.Rows.{arrays_of_run, run_rows, runs_rows, is_run_sound, are_runs_sound}
 use Rattle.run_pieces.proofs.PieceLemmas.{IsFull, IsPastLimits, run_full, drop_set}
 use Rattle.run_pieces.proofs.RowLemmas.{rows_behind}
-
-pub run_size : (cs : Columns) (run : RowRun) → length (run_rows cs run) ≡ run.len
-run_size cs run = length-map-range_with_len (row_at cs (arrays_of_run run)) run.from run.len
+use Rattle.run_pieces.specs.laws.Runs.{run_size}
 
 pub front_size : (cs : Columns) (run : RowRun) (k : ℕ) → k ≤ run.len → length (take k (run_rows cs run)) ≡ k
 front_size cs run k le = let size = run_size cs run in length-take-le k (run_rows cs run) (omega (arith, size))

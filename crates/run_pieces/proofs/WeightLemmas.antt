@@ -11,7 +11,7 @@ use Rattle.columns.specs.Array.{Arrays}
 use Rattle.columns.specs.CellAt.{row_at}
 use Rattle.columns.specs.Sound.{are_sound}
 use Rattle.columns.specs.View.{fields_of}
-use Rattle.run_pieces.proofs.RowLemmas.{fewer_sound}
+use Rattle.columns.specs.laws.Rows.{fewer_sound}
 
 -- so many rows of the arrays of a schema's columns
 abbrev span : PlainSchema → Arrays → (from n : ℕ) → List (List Cell)

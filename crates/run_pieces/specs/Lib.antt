@@ -1,3 +1,4 @@
 pub mod Rows
 pub mod Left
+pub mod laws
 pub mod inner

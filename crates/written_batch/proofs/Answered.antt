@@ -18,8 +18,9 @@ use Rattle.columns.specs.Array.{Array, Arrays, no_array, and_array, slots_in, fi
 use Rattle.columns.specs.Tests.{arrays_at, every_array}
 use Rattle.columns.specs.CellAt.{rows_in}
 use Rattle.columns.specs.Visible.{visible_in, names_no_entry, is_no_text, is_forbidden}
+use Rattle.columns.specs.Alone.{alone}
 use Rattle.arrays.specs.Checks.{batch_arrays, array_checks, slot_checks, are_too_heavy}
-use Rattle.arrays.specs.Dictionaries.{alone, entry_checks, entries_read}
+use Rattle.arrays.specs.Dictionaries.{entry_checks, entries_read}
 use Rattle.written_batch.proofs.Checked.{none_found}
 
 -- ---- rows

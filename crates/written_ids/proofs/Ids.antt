@@ -1,17 +1,18 @@
 -- A written schema counts its dictionaries in preorder.
 use Rattle.std.specs.Prelude.{◌==◌, None, Some, flat_map, find}
 use Rattle.std.specs.List.{range_with_len, AllByRecursion}
-use Rattle.std.proofs.Common.{◌≡◌, ◌≤◌, ℕ, suc, ◌+◌, Bool, false, List, [], ◌∷◌, ◌++◌, length, map, append-nil, refl, ap, sym, arith, ◌∙◌}
+use Rattle.std.proofs.Common.{◌≡◌, ◌≤◌, ℕ, suc, ◌+◌, false, List, [], ◌∷◌, ◌++◌, length, map, append-nil, refl, ap, sym, arith, ◌∙◌}
 use Rattle.std.proofs.lemmas.Bool.Decides.{Decides-eqb, nat_tests}
 use Rattle.std.proofs.lemmas.List.{map-append}
 use Rattle.std.proofs.lemmas.List.Concat.{flat_map-append}
 use Rattle.facts.specs.laws.Lists.{range-append}
 use Rattle.arrow_schema.specs.Column.{Kind, Column, Columns, lists, large_lists, fixed_lists, structs, column, no_column, and_column, columns_of, PlainSchema}
-use Rattle.ipc_message.specs.Raw.{RawField, RawFields, no_raw_field, and_raw_field, raw_fields_of, raw_list_of}
+use Rattle.ipc_message.specs.Raw.{RawField, RawFields}
 use Rattle.ipc_message.specs.Fields.{preorder, preorder_all, dictionary_of}
+use Rattle.ipc_message.specs.laws.FieldLists.{fields_listed}
 use Rattle.ipc_write.specs.Trees.{ids_of, ids_below, ids_of_all}
 use Rattle.ipc_write.specs.Decoded.{raw_of, raw_below, raw_of_all, raw_schema}
-use Rattle.arrays.specs.Dictionaries.{DictionaryColumn, own_dictionary, dictionary_columns, column_of_id}
+use Rattle.arrays.specs.Dictionaries.{DictionaryColumn, own_dictionary, dictionary_columns, column_of_id, is_column_of}
 
 abbrev ids_in : List RawField → List ℕ
 ids_in fields = map (λ c. c.id) (flat_map (λ f. own_dictionary (dictionary_of f) f) fields)
@@ -47,17 +48,10 @@ mutual
       ∙ (λ j. ids_at id c j ++ ids_all (id + ids_of c) cs j)
       ∙ sym (range-append id (ids_of c) (ids_of_all cs))
 
-listed : (fs : RawFields) → raw_fields_of (raw_list_of fs) ≡ fs
-listed no_raw_field = refl
-listed (and_raw_field f fs) = ap (and_raw_field f) (listed fs)
-
 pub ids_of_schema : (s : PlainSchema) → map (λ c. c.id) (dictionary_columns (raw_schema s)) ≡ range_with_len 0 (ids_of_all (columns_of s.columns))
-ids_of_schema s = ap (λ (fs : RawFields). ids_in (preorder_all fs)) (listed (raw_of_all 0 (columns_of s.columns))) ∙ ids_all 0 (columns_of s.columns)
+ids_of_schema s = ap (λ (fs : RawFields). ids_in (preorder_all fs)) (fields_listed (raw_of_all 0 (columns_of s.columns))) ∙ ids_all 0 (columns_of s.columns)
 
 -- ---- each id leads to its own column
-
-abbrev has_id : ℕ → DictionaryColumn → Bool
-has_id id c = c.id == id
 
 other : (m n : ℕ) → m + 1 ≤ n → (m == n) ≡ false
 other m n h = grind (arith, nat_tests)
@@ -69,12 +63,12 @@ head_same : (m n : ℕ) (ms ns : List ℕ) → m ∷ ms ≡ n ∷ ns → (m ≡ 
 head_same m n ms ns h = (cc, cc)
 
 own_from : (all : List DictionaryColumn) (n : ℕ) (cs : List DictionaryColumn) → map (λ c. c.id) cs ≡ range_with_len n (length cs)
-    → ((id : ℕ) → n ≤ id → find (has_id id) all ≡ find (has_id id) cs) → AllByRecursion (λ (c : DictionaryColumn). column_of_id c.id all ≡ Some c) cs
+    → ((id : ℕ) → n ≤ id → find (is_column_of id) all ≡ find (is_column_of id) cs) → AllByRecursion (λ (c : DictionaryColumn). column_of_id c.id all ≡ Some c) cs
 own_from all n [] ids same = tt
 own_from all n (c ∷ cs) ids same =
     let parts = head_same c.id n (map (λ d. d.id) cs) (range_with_len (n + 1) (length cs)) ids in
-    let here : find (has_id c.id) (c ∷ cs) ≡ Some c = rw ((Decides-eqb c.id c.id).1 refl) refl in
-    let later : (id : ℕ) → n + 1 ≤ id → find (has_id id) (c ∷ cs) ≡ find (has_id id) cs = λ id h. rw (ap (λ (m : ℕ). m == id) parts.0 ∙ other n id h) refl in
+    let here : find (is_column_of c.id) (c ∷ cs) ≡ Some c = rw ((Decides-eqb c.id c.id).1 refl) refl in
+    let later : (id : ℕ) → n + 1 ≤ id → find (is_column_of id) (c ∷ cs) ≡ find (is_column_of id) cs = λ id h. rw (ap (λ (m : ℕ). m == id) parts.0 ∙ other n id h) refl in
     (same c.id (omega (arith, parts.0)) ∙ here, own_from all (n + 1) cs parts.1 (λ id h. same id (omega (arith, h)) ∙ later id h))
 
 pub own : (columns : List DictionaryColumn) → map (λ c. c.id) columns ≡ range_with_len 0 (length columns)

@@ -1,7 +1,7 @@
 -- Tests of the visible slots of spans.
-use Rattle.std.specs.Prelude.{ℕ, Bool, true, false, ◌||◌, List, [], Option, Some, None, if◌then◌else◌}
+use Rattle.std.specs.Prelude.{ℕ, Bool, false, ◌||◌, List, [], Option, Some, None, if◌then◌else◌}
 use Rattle.std.specs.List.{list_any, flat_map, range_with_len}
-use Rattle.arrow_schema.specs.Column.{Kind, Column, Columns, nulls, texts, large_texts, column, no_column, and_column}
+use Rattle.arrow_schema.specs.Column.{Kind, Column, Columns, texts, large_texts, column, no_column, and_column}
 use Rattle.arrow_schema.specs.Limits.{is_nested}
 use Rattle.arrow_schema.specs.View.{kind_of, index_of}
 use Rattle.arrow_schema.specs.declared.types.DataType.{DataType}
@@ -70,8 +70,3 @@ abbrev pub text_width : Kind → Option ℕ
 text_width texts = Some 4
 text_width large_texts = Some 8
 text_width _ = None
-
--- each slot is null
-abbrev pub is_of_nulls : Kind → Bool
-is_of_nulls nulls = true
-is_of_nulls _ = false

@@ -14,12 +14,7 @@ ghost use Rattle.arrays.specs.inner.VisibleSpans.{any_slot, is_no_plain_text, te
 use arrow_schema::{DataType, Field};
 use byteorder::{ByteOrder, LittleEndian};
 use columns::{ArrayView, OffsetWidth, bytes_at};
-
-fn is_utf8(text: &[u8]) -> bool
-    ensures { result ≡ is_utf8 text.now }
-{
-    simdutf8::basic::from_utf8(text).is_ok()
-}
+use ipc_message::is_utf8;
 
 fn is_text_at(width: OffsetWidth, view: ArrayView<'_>, i: usize) -> bool
     requires long { are_few_offsets (width_of width) (view_array view) ≡ false }

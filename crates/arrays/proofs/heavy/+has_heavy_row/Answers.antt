@@ -1,9 +1,9 @@
-use Rattle.std.proofs.Common.{◌≡◌, ℕ, ◌+◌, ◌-◌, ◌/◌, Bool, map, sym, arith}
+use Rattle.std.proofs.Common.{ℕ, ◌+◌, ◌-◌, ◌/◌, Bool, map, sym, arith}
 use Rattle.arrow_schema.specs.Column.{Columns, columns_of}
 use Rattle.arrow_schema.specs.View.{column_of}
 use Rattle.columns.specs.Array.{Arrays}
+use Rattle.columns.specs.laws.Rows.{fewer_sound}
 use Rattle.arrays.specs.inner.Read.{placed_in}
-use Rattle.arrays.proofs.SpanWeights.{fewer_sound}
 use Rattle.arrays.proofs.RowWeights.{is_heavy, rows_cut, none_heavy, one_heavy, found_in_front, found_behind}
 use Rattle.arrays.proofs.heavy.+has_heavy_row.Goals as goal
 

@@ -18,9 +18,10 @@ use Rattle.columns.specs.View.{array_in, no_dictionary, view_array, placed_array
 use Rattle.columns.specs.declared.entry.EntryPlace.{EntryPlace}
 use Rattle.columns.specs.laws.Places.{listed}
 use Rattle.columns.specs.laws.Offsets.{spans_fit}
+use Rattle.columns.specs.laws.Rows.{fewer_sound}
 use Rattle.facts.specs.laws.Lists.{drop-item}
 use Rattle.arrays.specs.inner.Weights.{has_one_weight}
-use Rattle.arrays.proofs.SpanWeights.{known_weight, one_slot, valid_weighs, column_one_weight, valid_run, null_run, run_more, slot_more, next_total, parts_next, parts_end, sound_next, fewer_sound}
+use Rattle.arrays.proofs.SpanWeights.{known_weight, one_slot, valid_weighs, column_one_weight, valid_run, null_run, run_more, slot_more, next_total, parts_next, parts_end, sound_next}
 use Rattle.arrays.proofs.KindWeights.{items_total, fixed_total, fields_total, fixed_within}
 use Rattle.arrays.proofs.weights.+weights.Goals as goal
 

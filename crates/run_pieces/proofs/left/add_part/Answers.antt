@@ -1,12 +1,13 @@
 use Rattle.std.specs.List.{flat_map, list_all}
 use Rattle.std.proofs.Common.{◌++◌, List, sym, ap, ◌∙◌}
 use Rattle.std.proofs.lemmas.List.{append-nil}
+use Rattle.facts.specs.laws.Lists.{all_with_item}
 use Rattle.columns.specs.CellAt.{rows_in}
 use Rattle.columns.specs.Sound.{are_sound}
 use Rattle.columns.specs.View.{placed_arrays}
 use Rattle.columns.specs.declared.array.PlacedArray.{PlacedArray}
 use Rattle.run_pieces.specs.Rows.{runs_rows}
-use Rattle.run_pieces.proofs.PartLemmas.{next_joined, next_passes}
+use Rattle.run_pieces.proofs.PartLemmas.{next_joined}
 use Rattle.run_pieces.proofs.RunSteps.{all_items}
 use Rattle.values.specs.Parts.{batch_rows, is_batch_sound}
 use Rattle.values.specs.declared.part.Batch.{Batch}
@@ -31,7 +32,7 @@ loop-batch-preserved c =
           (c.in_ok-push_run.ensures.rows cs ∙ ap (λ xs. runs_rows cs c.loop-batch.runs.items ++ xs) (c.whole_batch.ensures.rows cs ∙ ap (λ (arrays : List PlacedArray). rows_in cs (placed_arrays c.args.part.now.bytes.items c.args.part.now.dictionaries.items arrays) c.batch-item.result.rows) c.deref.ensures.value))
           (is.rows cs);
       sound = λ cs before passes.
-          let both = next_passes (is_batch_sound cs c.args.part.now) all i c.batch-item.result c.loop-batch-test.true c.batch-item.is passes in
+          let both = all_with_item (is_batch_sound cs c.args.part.now) all i c.batch-item.result c.loop-batch-test.true c.batch-item.is passes in
           c.in_ok-push_run.ensures.sound cs (is.sound cs before both.0) (c.whole_batch.ensures.sound cs (ap (λ (arrays : List PlacedArray). are_sound cs c.batch-item.result.rows (placed_arrays c.args.part.now.bytes.items c.args.part.now.dictionaries.items arrays)) c.deref.ensures.value ∙ both.1));
     }
 

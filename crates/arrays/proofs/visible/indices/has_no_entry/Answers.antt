@@ -1,6 +1,7 @@
-use Rattle.std.specs.Prelude.{ℤ, Some, ◌&&◌, pos, negsuc, nat_le}
-use Rattle.std.proofs.Common.{◌≡◌, ◌<◌, ℕ, Bool, List, true, false, length, arith, sym}
+use Rattle.std.specs.Prelude.{ℤ, Some, pos, negsuc, nat_le}
+use Rattle.std.proofs.Common.{◌≡◌, ◌<◌, ℕ, List, false, length, arith, sym}
 use Rattle.std.proofs.lemmas.Bool.Decides.{nat_tests}
+use Rattle.std.proofs.lemmas.Bool.{and_right}
 use Rattle.arrow_schema.specs.View.{index_of}
 use Rattle.cells.specs.Cell.{Cell}
 use Rattle.columns.specs.Array.{dictionary_in}
@@ -17,13 +18,9 @@ not_past : (index : ℤ) (entries : List Cell) (n : ℕ) → named_number index 
 not_past (pos m) entries n is lt = let same : m ≡ n = cc in not_below (length entries) m n same lt
 not_past (negsuc m) entries n is lt = cc
 
-none_is : (valid past : Bool) → past ≡ false → (valid && past) ≡ false
-none_is true past h = h
-none_is false past h = cc
-
 pub returns-in-Some : goal.returns-in-Some
 returns-in-Some g c = λ kind.
     let index : ℤ = index_at (index_of c.args.slots.spec) (view_array c.args.slots.view) c.args.i in
     let entries : List Cell = entries_of_kind kind (dictionary_in (view_array c.args.slots.view)) in
     let inside = not_past index entries c.in-Some.field-0 c.in-Some.ensures.named (omega (arith, c.in-Some.ensures.below, c.requires.limit, c.requires.count kind)) in
-    sym (none_is (is_valid (view_array c.args.slots.view) c.args.i) (is_past index entries) inside)
+    sym (and_right (is_valid (view_array c.args.slots.view) c.args.i) (is_past index entries) inside)

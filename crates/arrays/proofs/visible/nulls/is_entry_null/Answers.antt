@@ -2,13 +2,13 @@ use Rattle.std.specs.Prelude.{not, ◌||◌, if◌then◌else◌}
 use Rattle.std.proofs.Common.{◌≡◌, Bool, true, false, ap, sym, ◌∙◌}
 use Rattle.arrow_schema.specs.Column.{Kind}
 use Rattle.arrow_schema.specs.View.{index_of, kind_of}
+use Rattle.arrow_schema.specs.Parts.{is_nulls}
 use Rattle.cells.specs.Cell.{Cell, null}
 use Rattle.columns.specs.Array.{Array}
 use Rattle.columns.specs.CellAt.{is_valid, indexed_cell, kind_cell, unless_null}
 use Rattle.columns.specs.laws.SoundParts.{sound_validity}
 use Rattle.columns.specs.View.{view_array}
 use Rattle.columns.specs.Visible.{is_null}
-use Rattle.arrays.specs.inner.VisibleSpans.{is_of_nulls}
 use Rattle.arrays.proofs.VisibleSlots.{null_at}
 use Rattle.arrays.proofs.visible.nulls.is_entry_null.Goals as goal
 
@@ -35,7 +35,7 @@ returns-then-is_of_nulls c =
     let a : Array = view_array c.args.view in
     let b : Array = view_array c.in-Some.entry.view in
     let unset : Bool = not (is_valid b c.in-Some.entry.place) in
-    let of_nulls : is_of_nulls kind ≡ true = sym c.is_of_nulls.ensures ∙ c.if-is_of_nulls.true in
+    let of_nulls : is_nulls kind ≡ true = sym c.is_of_nulls.ensures ∙ c.if-is_of_nulls.true in
     c.if-is_of_nulls.true ∙ ap (λ (x : Bool). x || unset) (sym of_nulls) ∙ sym (null_at kind b c.in-Some.entry.place)
     ∙ shown (is_valid a c.args.i) (unless_null (kind_cell kind) b c.in-Some.entry.place) (indexed_cell (index_of c.args.spec) kind a c.args.i)
     (sym c.is_valid.ensures ∙ c.if-not-is_valid.false) (c.in-Some.ensures.cell kind)
@@ -46,7 +46,7 @@ returns-else-is_of_nulls c =
     let a : Array = view_array c.args.view in
     let b : Array = view_array c.in-Some.entry.view in
     let unset : Bool = not (is_valid b c.in-Some.entry.place) in
-    let filled : is_of_nulls kind ≡ false = sym c.is_of_nulls.ensures ∙ c.if-is_of_nulls.false in
+    let filled : is_nulls kind ≡ false = sym c.is_of_nulls.ensures ∙ c.if-is_of_nulls.false in
     ap not c.is_valid-else-is_of_nulls.ensures ∙ ap (λ (x : Bool). x || unset) (sym filled) ∙ sym (null_at kind b c.in-Some.entry.place)
     ∙ shown (is_valid a c.args.i) (unless_null (kind_cell kind) b c.in-Some.entry.place) (indexed_cell (index_of c.args.spec) kind a c.args.i)
     (sym c.is_valid.ensures ∙ c.if-not-is_valid.false) (c.in-Some.ensures.cell kind)

@@ -1,7 +1,8 @@
 use Rattle.std.specs.List.{list_all}
 use Rattle.std.proofs.Common.{refl, ap, ◌∙◌, []}
+use Rattle.facts.specs.laws.Lists.{all_with_item}
 use Rattle.run_pieces.specs.Rows.{runs_rows, are_runs_sound}
-use Rattle.run_pieces.proofs.PartLemmas.{next_joined, next_passes}
+use Rattle.run_pieces.proofs.PartLemmas.{next_joined}
 use Rattle.run_pieces.proofs.RunSteps.{all_items}
 use Rattle.values.specs.Parts.{part_rows, parts_rows, are_parts_sound, is_batch_sound}
 use Rattle.values.specs.declared.part.Part.{Part}
@@ -21,7 +22,7 @@ loop-part-preserved c =
       rows = λ cs. next_joined (part_rows cs) c.args.parts.now i c.part-item.result (runs_rows cs c.add_part.new.runs.items) (runs_rows cs c.loop-part.runs.items) []
           c.loop-part-test.true c.part-item.is (c.in_ok-add_part.ensures.rows cs) (is.rows cs);
       sound = λ cs passes.
-          let both = next_passes (λ (p : Part). list_all (is_batch_sound cs p) p.batches.items) c.args.parts.now i c.part-item.result c.loop-part-test.true c.part-item.is passes in
+          let both = all_with_item (λ (p : Part). list_all (is_batch_sound cs p) p.batches.items) c.args.parts.now i c.part-item.result c.loop-part-test.true c.part-item.is passes in
           c.in_ok-add_part.ensures.sound cs (is.sound cs both.0) both.1;
     }
 

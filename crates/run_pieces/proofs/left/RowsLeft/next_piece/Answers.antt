@@ -17,8 +17,9 @@ use Rattle.run_pieces.specs.declared.row_run.RowRun.{RowRun}
 use Rattle.run_pieces.specs.inner.Room.{HasRoom, IsSeenWithin}
 use Rattle.run_pieces.proofs.PieceLemmas.{IsFull, IsPastLimits, cut_here, drop_set, some_taken}
 use Rattle.run_pieces.proofs.RoomLemmas.{HasRoomBelow, rows_of_parts, rows_of_first, front_room, lighter_front}
-use Rattle.run_pieces.proofs.RunSteps.{run_size, front_size, run_first, sound_first, taken_front, cut_front, cut_full}
+use Rattle.run_pieces.proofs.RunSteps.{front_size, run_first, sound_first, taken_front, cut_front, cut_full}
 use Rattle.run_pieces.proofs.left.RowsLeft.next_piece.Goals as goal
+use Rattle.run_pieces.specs.laws.Runs.{run_size}
 
 pub loop-self-init : goal.loop-self-init
 loop-self-init c =

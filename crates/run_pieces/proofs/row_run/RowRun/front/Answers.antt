@@ -1,6 +1,7 @@
 use Rattle.run_pieces.specs.Rows.{arrays_of_run}
 use Rattle.std.proofs.Common.{◌+◌, arith}
-use Rattle.run_pieces.proofs.RowLemmas.{front_rows, fewer_sound}
+use Rattle.columns.specs.laws.Rows.{fewer_sound}
+use Rattle.run_pieces.proofs.RowLemmas.{front_rows}
 use Rattle.run_pieces.proofs.row_run.RowRun.front.Goals as goal
 
 pub returns-clause-rows : goal.returns-clause-rows
