@@ -45,3 +45,48 @@ pub(crate) fn fill<D: SectorDevice>(
 ) -> Result<(), DevError> {
     write(rt, device, n, &[byte; 512])
 }
+
+// Reads a sector, if the device has it.
+pub(crate) fn read_sector<D: SectorDevice>(
+    device: &mut D,
+    n: u64,
+    to: &mut [u8; 512],
+) -> Result<(), DevError> {
+    if n < device.sectors() {
+        device.read(n, to)
+    } else {
+        Err(DevError::Unreadable)
+    }
+}
+
+// Writes a sector, if the device has it.
+pub(crate) fn write_sector<D: SectorDevice>(
+    device: &mut D,
+    n: u64,
+    from: &[u8; 512],
+) -> Result<(), DevError> {
+    if n < device.sectors() {
+        device.write(n, from)
+    } else {
+        Err(DevError::Unreadable)
+    }
+}
+
+// Fills a sector with a byte, if the device has it.
+pub(crate) fn fill_sector<D: SectorDevice>(
+    device: &mut D,
+    n: u64,
+    byte: u8,
+) -> Result<(), DevError> {
+    write_sector(device, n, &[byte; 512])
+}
+
+// Reads a sector: the byte that fills it. `None`: its bytes are not all the same.
+pub(crate) fn filling<D: SectorDevice>(device: &mut D, n: u64) -> Option<Result<u8, DevError>> {
+    let mut sector = [255; 512];
+    match read_sector(device, n, &mut sector) {
+        Ok(()) if sector == [sector[0]; 512] => Some(Ok(sector[0])),
+        Ok(()) => None,
+        Err(error) => Some(Err(error)),
+    }
+}
