@@ -124,7 +124,7 @@ fn is_filled(alloc: Global, device: &mut ModelDevice, start: u64, byte: u8) -> b
         return false;
     }
     match read_run(alloc, device, start, 600) {
-        Ok(bytes) => bytes.iter().all(|b| *b == byte),
+        Ok(bytes) => bytes.as_slice() == [byte; 600].as_slice(),
         Err(_) => false,
     }
 }
