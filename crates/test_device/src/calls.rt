@@ -24,18 +24,6 @@ pub(crate) fn write<D: SectorDevice>(
     device.write(n, from)
 }
 
-// Writes neighbouring sectors that the device has.
-pub(crate) fn write_row<D: SectorDevice>(
-    rt: &impl Abort,
-    device: &mut D,
-    start: u64,
-    contents: &[[u8; 512]],
-) -> Result<(), DevError> {
-    let sectors = device.sectors();
-    assert!(rt; start < sectors && contents.len() as u64 <= sectors - start);
-    device.write_sectors(start, contents)
-}
-
 // Reads a sector: the byte that fills it.
 pub(crate) fn byte_of<D: SectorDevice>(
     rt: &impl Abort,
@@ -56,4 +44,63 @@ pub(crate) fn fill<D: SectorDevice>(
     byte: u8,
 ) -> Result<(), DevError> {
     write(rt, device, n, &[byte; 512])
+}
+
+// Reads a sector, if the device has it.
+pub(crate) fn read_sector<D: SectorDevice>(
+    device: &mut D,
+    n: u64,
+    to: &mut [u8; 512],
+) -> Result<(), DevError> {
+    if n < device.sectors() {
+        device.read(n, to)
+    } else {
+        Err(DevError::Unreadable)
+    }
+}
+
+// Writes a sector, if the device has it.
+pub(crate) fn write_sector<D: SectorDevice>(
+    device: &mut D,
+    n: u64,
+    from: &[u8; 512],
+) -> Result<(), DevError> {
+    if n < device.sectors() {
+        device.write(n, from)
+    } else {
+        Err(DevError::Unreadable)
+    }
+}
+
+// Writes neighbouring sectors, if the device has them.
+pub(crate) fn write_row<D: SectorDevice>(
+    device: &mut D,
+    start: u64,
+    contents: &[[u8; 512]],
+) -> Result<(), DevError> {
+    let sectors = device.sectors();
+    if start < sectors && contents.len() as u64 <= sectors - start {
+        device.write_sectors(start, contents)
+    } else {
+        Err(DevError::Unreadable)
+    }
+}
+
+// Fills a sector with a byte, if the device has it.
+pub(crate) fn fill_sector<D: SectorDevice>(
+    device: &mut D,
+    n: u64,
+    byte: u8,
+) -> Result<(), DevError> {
+    write_sector(device, n, &[byte; 512])
+}
+
+// Reads a sector: the byte that fills it. `None`: its bytes are not all the same.
+pub(crate) fn filling<D: SectorDevice>(device: &mut D, n: u64) -> Option<Result<u8, DevError>> {
+    let mut sector = [255; 512];
+    match read_sector(device, n, &mut sector) {
+        Ok(()) if sector == [sector[0]; 512] => Some(Ok(sector[0])),
+        Ok(()) => None,
+        Err(error) => Some(Err(error)),
+    }
 }

@@ -1,11 +1,10 @@
 // A device over a file of which one call fails.
-use crate::calls::{byte_of, fill};
+use crate::calls::{fill_sector, filling};
 use sector_dev::{DevError, FileDevice, FileError, SectorDevice};
 use std::alloc::Global;
 use std::cell::Cell;
 use std::fs::{Metadata, OpenFile};
 use std::io::{self, Cursor, ErrorKind, Read, Seek, SeekFrom, Write};
-use std::process::Abort;
 
 const SMALL: usize = 16;
 
@@ -92,70 +91,106 @@ fn device_over(
 }
 
 // Writes this sector, and each fourth time syncs: how many calls failed, and what the sector is to hold.
-fn write_and_sync(
-    rt: &impl Abort,
-    device: &mut FileDevice<Flaky>,
-    i: usize,
-    n: u64,
-    had: u8,
-) -> (u64, u8) {
+fn write_and_sync(device: &mut FileDevice<Flaky>, i: usize, n: u64, had: u8) -> (u64, u8) {
     let byte = (i % 100) as u8 + 1;
-    let written = fill(rt, device, n, byte).is_ok();
+    let written = fill_sector(device, n, byte).is_ok();
     let synced = i % 4 != 3 || device.sync().is_ok();
     let failures = !written as u64 + !synced as u64;
     (failures, if written { byte } else { had })
 }
 
-// Runs a list of writes and syncs, of which one call of the file fails: what each sector is to hold.
-fn run_flaky(rt: &impl Abort, device: &mut FileDevice<Flaky>) -> [u8; SMALL] {
-    let mut want = [0u8; SMALL];
-    for (i, n) in [3, 4, 5, 4, 9, 10, 3, 11, 12, 0, 15, 14, 13]
-        .iter()
-        .enumerate()
-    {
-        let before = device.failures();
-        let (failures, byte) = write_and_sync(rt, device, i, *n as u64, want[*n]);
-        want[*n] = byte;
-        let counted = device.failures() == before.wrapping_add(failures);
-        let read = byte_of(rt, device, *n as u64);
-        let well = counted && (read.is_err() || read == Ok(byte));
-        assert!(rt; well, "write {i}");
+// Whether a sector is read as this byte, or its read fails.
+fn is_read_or_fails(device: &mut FileDevice<Flaky>, n: u64, byte: u8) -> bool {
+    match filling(device, n) {
+        Some(Ok(found)) => found == byte,
+        Some(Err(_)) => true,
+        None => false,
     }
-    want
 }
 
-// The call of this number fails, counted from the opening: what was written is read.
-fn assert_nothing_is_lost(rt: &impl Abort, device: &mut FileDevice<Flaky>, fails_at: u64) {
-    let want = run_flaky(rt, device);
-    // one call fails at the most
-    let synced = device.sync().is_ok() || device.sync().is_ok();
-    assert!(rt; synced && device.failures() <= 1, "call {fails_at}");
-    for (n, byte) in want.iter().enumerate() {
-        let read = byte_of(rt, device, n as u64);
-        assert!(rt; read == Ok(*byte), "call {fails_at}, sector {n}");
+// Writes this sector: what it is to hold; `None`: a failed call is not counted, or it holds something else.
+fn written(device: &mut FileDevice<Flaky>, i: usize, n: u64, had: u8) -> Option<u8> {
+    let before = device.failures();
+    let (failures, byte) = write_and_sync(device, i, n, had);
+    let counted = device.failures() == before.wrapping_add(failures);
+    if counted && is_read_or_fails(device, n, byte) {
+        Some(byte)
+    } else {
+        None
     }
+}
+
+// The sectors that are written, one after another.
+const WRITES: [usize; 13] = [3, 4, 5, 4, 9, 10, 3, 11, 12, 0, 15, 14, 13];
+
+// Makes the writes, with some syncs, of which one call of the file fails: what each sector is to hold.
+fn run_flaky(device: &mut FileDevice<Flaky>) -> Option<[u8; SMALL]> {
+    let mut want = [0u8; SMALL];
+    for (i, n) in WRITES.iter().enumerate() {
+        want[*n] = written(device, i, *n as u64, want[*n])?;
+    }
+    Some(want)
+}
+
+// Whether each sector holds what it is to.
+fn holds(device: &mut FileDevice<Flaky>, want: &[u8; SMALL]) -> bool {
+    let mut well = true;
+    for (n, byte) in want.iter().enumerate() {
+        well = well && filling(device, n as u64) == Some(Ok(*byte));
+    }
+    well
+}
+
+// Whether what was written is read, though one call of the file fails at the most.
+fn loses_nothing(device: &mut FileDevice<Flaky>) -> bool {
+    let Some(want) = run_flaky(device) else {
+        return false;
+    };
+    let synced = device.sync().is_ok() || device.sync().is_ok();
+    synced && device.failures() <= 1 && holds(device, &want)
+}
+
+// The call of this number fails, counted from the opening, which makes one.
+fn survives(alloc: Global, fails_at: u64) -> bool {
+    match device_over(alloc, fails_at, false) {
+        Ok(mut device) => loses_nothing(&mut device),
+        Err(error) => error == FileError::Io && fails_at == 1,
+    }
+}
+
+// The first call after whose failure something is lost.
+fn wrong_call(alloc: Global) -> Option<u64> {
+    for fails_at in 0..41 {
+        if !survives(alloc, fails_at) {
+            return Some(fails_at);
+        }
+    }
+    None
 }
 
 // Each call of the file fails in turn: no write that answered Ok is lost, and each failed call is counted.
 #[test]
 fn a_delayed_write_that_fails_is_not_lost(rt: HostRuntime) {
-    for fails_at in 0..41 {
-        match device_over(rt.alloc(), fails_at, false) {
-            Ok(mut device) => assert_nothing_is_lost(&rt, &mut device, fails_at),
-            // the one call of the opening
-            Err(error) => assert!(&rt; error == FileError::Io && fails_at == 1),
-        }
+    assert!(&rt; wrong_call(rt.alloc()).is_none());
+}
+
+// Whether the sync fails and is counted, and what was written is still read.
+fn is_refused(device: &mut FileDevice<Flaky>) -> bool {
+    fill_sector(device, 3, 7).is_ok()
+        && device.sync() == Err(DevError::Failed)
+        && device.failures() == 1
+        && filling(device, 3) == Some(Ok(7))
+}
+
+fn is_sync_refused(alloc: Global) -> bool {
+    match device_over(alloc, 0, true) {
+        Ok(mut device) => is_refused(&mut device),
+        Err(_) => false,
     }
 }
 
 // So a sync is never left to the system's leisure.
 #[test]
 fn a_sync_that_the_system_refuses_fails(rt: HostRuntime) {
-    let Ok(mut device) = device_over(rt.alloc(), 0, true) else {
-        panic!(&rt; "not opened");
-    };
-    let written = fill(&rt, &mut device, 3, 7).is_ok();
-    let refused = device.sync() == Err(DevError::Failed) && device.failures() == 1;
-    let kept = byte_of(&rt, &mut device, 3) == Ok(7);
-    assert!(&rt; written && refused && kept);
+    assert!(&rt; is_sync_refused(rt.alloc()));
 }

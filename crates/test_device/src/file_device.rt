@@ -1,10 +1,8 @@
 // A device that is a file of the system. Its sizes are tested by the commands of a store (tests/stores).
-use crate::calls::{byte_of, read, write, write_row};
+use crate::calls::{filling, read_sector, write_row, write_sector};
 use sector_dev::{FileDevice, FileError, SectorDevice};
 use std::env;
 use std::fs::{self, File};
-use std::process::Abort;
-use std::test::Fail;
 
 // A path of this test's own, at which there is nothing. `None`: there was no memory for it.
 fn path_of(rt: &HostRuntime, name: &str) -> Option<String> {
@@ -16,7 +14,7 @@ fn path_of(rt: &HostRuntime, name: &str) -> Option<String> {
     Some(path)
 }
 
-// The content of a sector: its number and that of its write.
+// The content of a sector: its number and how often it was written.
 fn content(n: u64, times: u8) -> [u8; 512] {
     let mut content = [times; 512];
     content[0] = (n % 251) as u8;
@@ -24,38 +22,34 @@ fn content(n: u64, times: u8) -> [u8; 512] {
     content
 }
 
-fn assert_writes<D: SectorDevice>(rt: &impl Abort, device: &mut D, n: u64, times: u8) {
-    let written = write(rt, device, n, &content(n, times)).is_ok();
-    assert!(rt; written, "sector {n}");
+fn is_written<D: SectorDevice>(device: &mut D, n: u64, times: u8) -> bool {
+    write_sector(device, n, &content(n, times)).is_ok()
 }
 
-fn assert_reads<D: SectorDevice>(rt: &impl Abort, device: &mut D, n: u64, times: u8) {
+fn is_read<D: SectorDevice>(device: &mut D, n: u64, times: u8) -> bool {
     let mut sector = [255; 512];
-    let well = read(rt, device, n, &mut sector).is_ok() && sector == content(n, times);
-    assert!(rt; well, "sector {n}");
+    read_sector(device, n, &mut sector).is_ok() && sector == content(n, times)
 }
 
 // Writes 20 sectors from one on.
-fn assert_writes_row<D: SectorDevice>(rt: &impl Abort, device: &mut D, start: u64, times: u8) {
+fn is_row_written<D: SectorDevice>(device: &mut D, start: u64, times: u8) -> bool {
     let mut row = [[0; 512]; 20];
     for (i, sector) in row.iter_mut().enumerate() {
         *sector = content(start.wrapping_add(i as u64), times);
     }
-    let written = write_row(rt, device, start, &row).is_ok();
-    assert!(rt; written, "sectors from {start}");
+    write_row(device, start, &row).is_ok()
 }
 
 // Writes the 200 sectors from 2000 on, which are more than are buffered.
-fn assert_writes_long_row<D: SectorDevice>(rt: &impl Abort, device: &mut D) {
+fn is_long_row_written<D: SectorDevice>(device: &mut D) -> bool {
     let mut row = [[0; 512]; 200];
     for (i, sector) in row.iter_mut().enumerate() {
         *sector = content(2000 + i as u64, 5);
     }
-    let written = write_row(rt, device, 2000, &row).is_ok();
-    assert!(rt; written);
+    write_row(device, 2000, &row).is_ok()
 }
 
-// The number of the last write of a sector by `use_device`.
+// The number of the last write of a sector by `is_used`.
 fn times_of(n: u64) -> u8 {
     match n {
         1000 | 1001 | 4990 | 4999 => 2,
@@ -67,35 +61,62 @@ fn times_of(n: u64) -> u8 {
     }
 }
 
-// Longer runs than are kept in memory, and reads among writes.
-fn use_device<D: SectorDevice>(rt: &impl Abort, device: &mut D) {
+// Writes 5,000 sectors, which are more than are kept in memory.
+fn are_written<D: SectorDevice>(device: &mut D) -> bool {
+    let mut well = true;
     for n in 0..5000 {
-        assert_writes(rt, device, n, 1);
+        well = well && is_written(device, n, 1);
     }
-    // not yet in the file, and in the file
+    well
+}
+
+// Writes them again and reads them: not yet in the file, and in the file.
+fn are_written_again<D: SectorDevice>(device: &mut D) -> bool {
+    let mut well = true;
     for n in [4990, 4999, 1000, 1001] {
-        assert_writes(rt, device, n, 2);
-        assert_reads(rt, device, n, 2);
+        well = well && is_written(device, n, 2) && is_read(device, n, 2);
     }
-    // what was read ahead is not what is written since
+    well
+}
+
+// What was read ahead is not what is written since.
+fn are_read_ahead<D: SectorDevice>(device: &mut D) -> bool {
+    let mut well = true;
     for n in 100..110 {
-        assert_reads(rt, device, n, 1);
+        well = well && is_read(device, n, 1);
     }
-    for n in [112, 200] {
-        assert_writes(rt, device, n, 3);
+    well && is_written(device, 112, 3) && is_written(device, 200, 3)
+}
+
+// Each sector is read, from this one on in steps of so many.
+fn are_read<D: SectorDevice>(device: &mut D, step: u64) -> bool {
+    let mut well = true;
+    for i in 0..5000u64 {
+        let n = i.wrapping_mul(step) % 5000;
+        well = well && is_read(device, n, times_of(n));
     }
-    // a row that is not yet in the file, a long one over some of it, and one over some of that
-    assert_writes_row(rt, device, 2180, 4);
-    assert_writes_row(rt, device, 2200, 4);
-    assert_writes_long_row(rt, device);
-    assert_reads(rt, device, 2190, 5);
-    assert_writes_row(rt, device, 2100, 6);
-    for n in 0..5000 {
-        assert_reads(rt, device, n, times_of(n));
-    }
-    let well = device.sync().is_ok() && device.failures() == 0;
-    assert!(rt; well);
-    assert_reads(rt, device, 112, 3);
+    well
+}
+
+// A row that is not yet in the file, a long one over some of it, and one over some of that.
+fn are_rows_written<D: SectorDevice>(device: &mut D) -> bool {
+    is_row_written(device, 2180, 4)
+        && is_row_written(device, 2200, 4)
+        && is_long_row_written(device)
+        && is_read(device, 2190, 5)
+        && is_row_written(device, 2100, 6)
+}
+
+// Longer runs than are kept in memory, and reads among writes.
+fn is_used<D: SectorDevice>(device: &mut D) -> bool {
+    are_written(device)
+        && are_written_again(device)
+        && are_read_ahead(device)
+        && are_rows_written(device)
+        && are_read(device, 1)
+        && device.sync().is_ok()
+        && device.failures() == 0
+        && is_read(device, 112, 3)
 }
 
 // Makes a device. Where memory is refused once, nothing is left, and it is made at the second try.
@@ -118,25 +139,32 @@ fn open_twice(rt: &HostRuntime, path: &str) -> Option<FileDevice<File>> {
     }
 }
 
+// Makes a device and uses it, opens it again, and reads its sectors in an order of its own.
+fn is_made_and_used(rt: &HostRuntime, path: &str) -> bool {
+    let used = match create_twice(rt, path) {
+        Some(mut device) => is_used(&mut device),
+        None => false,
+    };
+    let read = match open_twice(rt, path) {
+        Some(mut device) => {
+            are_read(&mut device, 1237) && filling(&mut device, 5999) == Some(Ok(0))
+        }
+        None => false,
+    };
+    used && read
+}
+
+fn is_removed(rt: &HostRuntime, path: &str) -> bool {
+    fs::remove_file(rt, path).is_ok() || fs::remove_file(rt, path).is_ok()
+}
+
 // One allocation at the most is refused, by tests/refused_memory_in_crates: `create` and `open` may refuse for want of it,
 // and then no file is left by `create`; no call of a device does.
 #[test]
-fn a_file_is_made_and_used_also_without_memory(rt: HostRuntime) -> Result<(), Fail> {
-    let Some(path) = path_of(&rt, "memory") else {
-        return Ok(());
+fn a_file_is_made_and_used_also_without_memory(rt: HostRuntime) {
+    let well = match path_of(&rt, "memory") {
+        Some(path) => is_made_and_used(&rt, path.as_str()) && is_removed(&rt, path.as_str()),
+        None => true,
     };
-    let path = path.as_str();
-    let mut device = create_twice(&rt, path).ok_or(FileError::Io)?;
-    use_device(&rt, &mut device);
-    drop(device);
-    let mut device = open_twice(&rt, path).ok_or(FileError::Io)?;
-    for i in 0..5000 {
-        // in an order of its own
-        let n = i * 1237 % 5000;
-        assert_reads(&rt, &mut device, n, times_of(n));
-    }
-    let blank = byte_of(&rt, &mut device, 5999) == Ok(0);
-    let removed = fs::remove_file(&rt, path).or(fs::remove_file(&rt, path));
-    assert!(&rt; blank && removed.is_ok());
-    Ok(())
+    assert!(&rt; well);
 }

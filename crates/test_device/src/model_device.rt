@@ -1,10 +1,9 @@
 // A device in memory: what is done to it, and what its sectors read as then. Which images a crash may leave, and which calls fail, is proved.
-use crate::calls::{byte_of, fill};
+use crate::calls::{fill_sector, filling};
 use Choice::{Lost, New, Old};
 use Step::{Crash, Fail, FailRead, Fill, Flush, Leaves, Shows, Stop};
 use sector_dev::{Choice, DevError, ModelDevice, SectorDevice};
 use std::alloc::{AllocError, Global};
-use std::process::Abort;
 
 // What each sector reads as; `None`: it is unreadable.
 type Sectors = [Option<u8>; 8];
@@ -59,28 +58,28 @@ const FAILED: Sectors = [
 ];
 
 // Whether each sector of a device reads as this, and no read is counted as a failure.
-fn shows(rt: &impl Abort, device: &mut ModelDevice, want: &Sectors) -> bool {
+fn shows(device: &mut ModelDevice, want: &Sectors) -> bool {
     let failures = device.failures();
     let mut same = true;
     for (n, want) in want.iter().enumerate() {
-        same = same && byte_of(rt, device, n as u64) == want.ok_or(DevError::Unreadable);
+        same = same && filling(device, n as u64) == Some(want.ok_or(DevError::Unreadable));
     }
     same && device.failures() == failures
 }
 
 // Whether each kind of call fails.
-fn is_stopped(rt: &impl Abort, device: &mut ModelDevice) -> bool {
+fn is_stopped(device: &mut ModelDevice) -> bool {
     device.stop_at(1);
     let failed = Err(DevError::Failed);
-    fill(rt, device, 3, 5) == failed
+    fill_sector(device, 3, 5) == failed
         && device.sync() == failed
-        && byte_of(rt, device, 3) == Err(DevError::Failed)
+        && filling(device, 3) == Some(Err(DevError::Failed))
 }
 
 // Takes a step: whether it goes as it is to.
-fn goes_well(rt: &impl Abort, device: &mut ModelDevice, step: Step) -> Result<bool, AllocError> {
+fn goes_well(device: &mut ModelDevice, step: Step) -> Result<bool, AllocError> {
     let well = match step {
-        Fill(n, byte) => fill(rt, device, n, byte).is_ok(),
+        Fill(n, byte) => fill_sector(device, n, byte).is_ok(),
         Flush => device.sync().is_ok(),
         Crash(choice) => {
             *device = device.crash(choice)?;
@@ -88,32 +87,30 @@ fn goes_well(rt: &impl Abort, device: &mut ModelDevice, step: Step) -> Result<bo
         }
         FailRead(n) => {
             device.fail_read_at(1);
-            byte_of(rt, device, n) == Err(DevError::Failed)
+            filling(device, n) == Some(Err(DevError::Failed))
         }
         Fail(n, byte) => {
             device.fail_at(1);
-            fill(rt, device, n, byte) == Err(DevError::Failed)
+            fill_sector(device, n, byte) == Err(DevError::Failed)
         }
-        Stop => is_stopped(rt, device),
-        Shows(want) => shows(rt, device, &want),
-        Leaves(choice, want) => shows(rt, &mut device.crash(choice)?, &want),
+        Stop => is_stopped(device),
+        Shows(want) => shows(device, &want),
+        Leaves(choice, want) => shows(&mut device.crash(choice)?, &want),
     };
     Ok(well && device.is_recorded())
 }
 
-fn are_taken(rt: &impl Abort, alloc: Global, steps: &[Step]) -> Result<bool, AllocError> {
+fn are_taken(alloc: Global, steps: &[Step]) -> Result<bool, AllocError> {
     let mut device = ModelDevice::new(alloc, 8)?;
     let mut well = true;
     for step in steps {
-        well = well && goes_well(rt, &mut device, *step)?;
+        well = well && goes_well(&mut device, *step)?;
     }
     // the read and the write that were told to fail, and three calls after the stop
     Ok(well && device.failures() == 5)
 }
 
-// tests/refused_memory_in_crates refuses one allocation at the most: then one of two runs ends for want of memory.
-#[test]
-fn sectors_read_as_they_were_written_also_without_memory(rt: HostRuntime) {
+fn all_are_taken(alloc: Global) -> Result<bool, AllocError> {
     let steps = [
         Fill(3, 1),
         Fill(6, 2),
@@ -139,17 +136,24 @@ fn sectors_read_as_they_were_written_also_without_memory(rt: HostRuntime) {
         Stop,
         Leaves(Old, WRITTEN),
     ];
-    let first = are_taken(&rt, rt.alloc(), &steps).ok() == Some(true);
-    let second = are_taken(&rt, rt.alloc(), &steps).ok() == Some(true);
-    assert!(&rt; first || second);
+    are_taken(alloc, &steps)
+}
+
+// tests/refused_memory_in_crates refuses one allocation at the most: then one of two runs ends for want of memory.
+#[test]
+fn sectors_read_as_they_were_written_also_without_memory(rt: HostRuntime) {
+    let first = all_are_taken(rt.alloc());
+    let second = all_are_taken(rt.alloc());
+    assert!(&rt; first == Ok(true) || second == Ok(true));
 }
 
 // Sectors that were never written take no memory.
+fn is_made_at_once(alloc: Global) -> Result<bool, AllocError> {
+    let mut device = ModelDevice::new(alloc, u64::MAX)?;
+    Ok(filling(&mut device, u64::MAX - 1) == Some(Ok(0)))
+}
+
 #[test]
 fn a_great_device_is_made_at_once(rt: HostRuntime) {
-    let Ok(mut device) = ModelDevice::new(rt.alloc(), u64::MAX) else {
-        panic!(&rt; "out of memory");
-    };
-    let well = byte_of(&rt, &mut device, u64::MAX - 1) == Ok(0);
-    assert!(&rt; well);
+    assert!(&rt; is_made_at_once(rt.alloc()) == Ok(true));
 }

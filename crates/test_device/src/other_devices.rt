@@ -252,8 +252,7 @@ fn each_kind_of_device_is_called(rt: HostRuntime) -> Result<(), Fail> {
     let mut counting = Counting { device, calls: 0 };
     let counted = use_once(&rt, &mut counting) == [Ok(()); 3] && counting.calls == 3;
     assert!(&rt; counted);
-    let rows = write_row(&rt, &mut counting, 4, &[[2; 512], [3; 512]]).is_ok()
-        && counting.calls == 5;
+    let rows = write_row(&mut counting, 4, &[[2; 512], [3; 512]]).is_ok() && counting.calls == 5;
     assert!(&rt; rows && byte_of(&rt, &mut counting, 5) == Ok(3));
     Ok(())
 }
