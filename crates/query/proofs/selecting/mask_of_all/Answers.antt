@@ -10,6 +10,7 @@ use Rattle.query.specs.Bound as plain
 use Rattle.query.specs.Selection.{holds_all}
 use Rattle.query.specs.inner.BoundView.{bound_in}
 use Rattle.query.specs.inner.Masks.{IsMask}
+use Rattle.query.proofs.Keeping.{mask_long}
 use Rattle.query.proofs.Joining.{joined_mask, one_more, no_condition, one_condition, one_taken}
 use Rattle.query.proofs.selecting.mask_of_all.Goals as goal
 
@@ -21,6 +22,16 @@ returns-in_default c =
 pub loop-bound-init : goal.loop-bound-init
 loop-bound-init c =
     one_condition c.args.bounds.now c.in-Some.others.now c.in-Some.first.now (table_of c.args.table.now).rows c.in_ok-mask.mask.items c.in-Some.ensures.cases.0 c.in_ok-mask.ensures
+
+pub and-requires-clause-first : goal.and-requires-clause-first
+and-requires-clause-first c =
+    let met = map bound_in (take (suc c.loop-bound.bound-index) c.args.bounds.now) in
+    rw c.len-rows.ensures (mask_long c.deref.result.now (holds_all met) (table_of c.args.table.now).rows (rw c.deref.ensures.value c.loop-bound.invariant))
+
+pub and-requires-clause-second : goal.and-requires-clause-second
+and-requires-clause-second c =
+    rw c.len-rows.ensures
+    (mask_long c.deref-in-loop-bound.result.now (holds (bound_in c.bound-item.result)) (table_of c.args.table.now).rows (rw c.deref-in-loop-bound.ensures.value c.in_ok-own.ensures))
 
 pub loop-bound-preserved : goal.loop-bound-preserved
 loop-bound-preserved c =
