@@ -1,5 +1,5 @@
 -- Flags of slots, block by block.
-use Rattle.std.proofs.Common.{◌≡◌, ℕ, zero, suc, ◌+◌, ◌*◌, ◌/◌, ◌^◌, ◌<◌, ◌≤◌, Bool, true, false, List, [], ◌∷◌, ◌++◌, ◌==◌, length, get_or, map, refl, sym, ap, subst, ◌∙◌, append_assoc, arith}
+use Rattle.std.proofs.Common.{◌≡◌, ℕ, ◌+◌, ◌*◌, ◌/◌, ◌^◌, ◌<◌, ◌≤◌, Bool, true, false, List, [], ◌∷◌, ◌++◌, ◌==◌, length, get_or, map, refl, sym, ap, subst, ◌∙◌, append_assoc, arith}
 use Rattle.std.specs.List.{range_with_len}
 use Rattle.std.specs.Simd.Lanes.{mask_l}
 use Rattle.std.proofs.lemmas.List.{map-append}
@@ -8,6 +8,7 @@ use Rattle.std.proofs.lemmas.Nat.{div-add-mod'}
 use Rattle.std.proofs.Math.Nat.{mul-le-mul_left, mul_comm}
 use Rattle.std.specs.Prelude.{bit_and}
 use Rattle.std.specs.Int.{bit_at}
+use Rattle.facts.specs.laws.Lists.{range-append}
 use Rattle.query.specs.declared.cut.Cut.{Cut}
 use Rattle.query.specs.declared.slots.Comparison.{Comparison}
 use Rattle.query.specs.inner.Slots.{width_of, is_valid_in, holds_in}
@@ -16,19 +17,13 @@ use Rattle.query.proofs.Cuts.{answers_hold}
 use Rattle.query.proofs.Masked.{masked_word}
 use mir.Val.{bool_byte}
 
-ranges : (a m n : ℕ) → range_with_len a (m + n) ≡ range_with_len a m ++ range_with_len (a + m) n
-ranges a zero n = let e : 0 + n ≡ n = omega arith in let f : a + 0 ≡ a = omega arith in rw (e, f) refl
-ranges a (suc m) n =
-    let e : suc m + n ≡ suc (m + n) = omega arith in let f : a + suc m ≡ a + 1 + m = omega arith in
-    rw (e, f) (ap (λ (xs : List ℕ). a ∷ xs) (ranges (a + 1) m n))
-
 -- the flags of some more slots
 pub more_flags : (f : ℕ → Bool) (m n : ℕ) (start : List Bool) → start ++ map f (range_with_len 0 m) ++ map f (range_with_len m n) ≡ start ++ map f (range_with_len 0 (m + n))
 more_flags f m n start =
     let own : 0 + m ≡ m = omega arith in
     append_assoc start (map f (range_with_len 0 m)) (map f (range_with_len m n))
     ∙ ap (λ (bits : List Bool). start ++ bits)
-    (ap (λ k. map f (range_with_len 0 m) ++ map f (range_with_len k n)) (sym own) ∙ sym (map-append f (range_with_len 0 m) (range_with_len (0 + m) n)) ∙ ap (map f) (sym (ranges 0 m n)))
+    (ap (λ k. map f (range_with_len 0 m) ++ map f (range_with_len k n)) (sym own) ∙ sym (map-append f (range_with_len 0 m) (range_with_len (0 + m) n)) ∙ ap (map f) (sym (range-append 0 m n)))
 
 -- the whole blocks of some rows are within them
 pub blocks_within : (slots block rows : ℕ) → block < rows / slots → slots * block + slots ≤ rows
@@ -40,10 +35,6 @@ blocks_within slots block rows h =
 pub one_bit : (b : Bool) → mask_l (b ∷ []) ≡ bool_byte b
 one_bit true = refl
 one_bit false = refl
-
-pub bit_small : (b : Bool) → bool_byte b < 2
-bit_small true = omega arith
-bit_small false = omega arith
 
 pub word_fits : (word n : ℕ) (bits : List Bool) → word ≡ mask_l bits → length bits ≡ n → word < 2 ^ n
 word_fits word n bits is size = subst (λ k. word < 2 ^ k) size (subst (λ w. w < 2 ^ length bits) (sym is) (mask_l-lt bits))

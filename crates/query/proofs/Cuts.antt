@@ -11,6 +11,7 @@ use Rattle.std.proofs.lemmas.Bool.{lt-ltb, le-ltb, eq-eqb, ne_eqb, cases_lt}
 use Rattle.std.proofs.lemmas.Int.{ints}
 use Rattle.std.proofs.lemmas.List.{get_or-drop}
 use Rattle.std.proofs.lemmas.Nat.{mod-mul-add, mod_below}
+use Rattle.facts.specs.laws.Lists.{maps_same}
 use Rattle.byteorder.specs.Endian.{little_from, twos_complement}
 use Rattle.arrow_schema.specs.View.{bits_of}
 use Rattle.arrow_schema.specs.declared.types.BitWidth.{BitWidth}
@@ -25,7 +26,6 @@ use Rattle.query.specs.Bound.{accepts}
 use Rattle.query.specs.inner.Slots.{width_of, is_valid_in, holds_in}
 use lib.Signed.{non_neg}
 use Rattle.query.specs.inner.Cuts.{bias_in, moved, answer_at, IsCut}
-use Rattle.query.proofs.Maps.{maps_same}
 
 -- ---- numbers that are not negative
 

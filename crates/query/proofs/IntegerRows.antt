@@ -1,12 +1,13 @@
 -- Rows of integers, batch by batch of the parts of a table.
-use Rattle.std.proofs.Common.{◌≡◌, ℕ, zero, suc, ◌+◌, ◌*◌, ◌≤◌, ◌<◌, true, false, List, [], ◌∷◌, ◌++◌, map, length, take, get_or, refl, sym, ap, subst, ◌∙◌, arith, append_assoc, length-append}
+use Rattle.std.proofs.Common.{◌≡◌, ℕ, ◌+◌, ◌*◌, ◌≤◌, ◌<◌, true, false, List, [], ◌∷◌, ◌++◌, map, length, take, get_or, refl, sym, ap, subst, ◌∙◌, arith, append_assoc, length-append}
 use Rattle.std.specs.Prelude.{not, nat_le, Option, Some, slice_get}
 use Rattle.std.specs.List.{cons_option, flat_map, list_all, range_with_len}
 use Rattle.std.proofs.lemmas.Bool.{and_from, and_parts, leb-true, le-leb, ltb-false, not-true}
-use Rattle.std.proofs.lemmas.List.{append-nil, map-append, take_more}
+use Rattle.std.proofs.lemmas.List.{append-nil, map-append, take_more, get_or_default}
 use Rattle.std.proofs.lemmas.List.Folds.{length-flat_map-take}
 use Rattle.std.proofs.lemmas.List.FromFn.{length-map-range_with_len}
 use Rattle.std.proofs.Math.Nat.{mul-le-mul_right}
+use Rattle.facts.specs.laws.Lists.{maps_same, map_map, flat_map-item}
 use Rattle.arrow_schema.specs.Column.{Column, columns_of}
 use Rattle.arrow_schema.specs.declared.types.IntegerType.{IntegerType}
 use Rattle.cells.specs.Cell.{Cell, PlainTable}
@@ -28,8 +29,7 @@ use Rattle.query.specs.inner.Keeping.{HasKept, Keeps}
 use Rattle.query.specs.inner.Slots.{width_of, array_of, has_integers}
 use Rattle.query.proofs.Keeping.{kept_same}
 use Rattle.query.specs.laws.RowsSet.{set_append}
-use Rattle.query.proofs.Maps.{maps_same}
-use Rattle.query.proofs.SlotFlags.{all_here, one_taken, all_too, map_map, flat_is, cell_in_row, array_sound}
+use Rattle.query.proofs.SlotFlags.{all_here, all_too, flat_is, cell_in_row, array_sound}
 
 -- ---- what is kept
 
@@ -47,7 +47,7 @@ keeps_more g xs i x most mask start next a b c within is at h more =
     let both : rows_set mask start (flat_map g (take i xs)) ++ rows_set mask next (g x) ≡ rows_set mask start (flat_map g (take (i + 1) xs)) =
     ap (λ n. rows_set mask start (flat_map g (take i xs)) ++ rows_set mask n (g x)) at
     ∙ sym (set_append mask start (flat_map g (take i xs)) (g x))
-    ∙ ap (rows_set mask start) (sym (one_taken g xs i x within is)) in
+    ∙ ap (rows_set mask start) (sym (flat_map-item g xs i x within is)) in
     let P : List (List Cell) → Type 0 = λ rows. Keeps most a c rows in
     subst P both (keeps_both most a b c _ _ h more)
 
@@ -59,7 +59,7 @@ room_more g xs i x within is =
 
 -- and it ends there
 pub end_more : {X : Type 0} (g : X → List (List Cell)) (xs : List X) (i : ℕ) (x : X) → i < length xs → x ≡ get_or xs i x → length (flat_map g (take (i + 1) xs)) ≡ length (flat_map g (take i xs)) + length (g x)
-end_more g xs i x within is = ap length (one_taken g xs i x within is) ∙ length-append (flat_map g (take i xs)) (g x)
+end_more g xs i x within is = ap length (flat_map-item g xs i x within is) ∙ length-append (flat_map g (take i xs)) (g x)
 
 pub batch_size : (columns : List IntegerColumn) (p : Part) (b : Batch) → length (batch_integers columns p b) ≡ b.rows
 batch_size columns p b = length-map-range_with_len (integer_row columns p b) 0 b.rows
@@ -132,15 +132,10 @@ set_more g xs i x most mask next a b within is at h more =
     (ap (take most)
     (ap (λ n. rows_set mask 0 (flat_map g (take i xs)) ++ rows_set mask n (g x)) e
     ∙ sym (set_append mask 0 (flat_map g (take i xs)) (g x))
-    ∙ ap (rows_set mask 0) (sym (one_taken g xs i x within is))))
+    ∙ ap (rows_set mask 0) (sym (flat_map-item g xs i x within is))))
     (more (rows_set mask 0 (flat_map g (take i xs))) h)
 
 -- ---- the code
-
-get_or_any : {X : Type 0} (xs : List X) (k : ℕ) (d e : X) → k < length xs → get_or xs k d ≡ get_or xs k e
-get_or_any [] k d e h = absurd (omega (arith, h))
-get_or_any (x ∷ xs) zero d e h = refl
-get_or_any (x ∷ xs) (suc k) d e h = get_or_any xs k d e (omega (arith, h))
 
 fewer_slots : (t : IntegerType) (rows slot : ℕ) (a : Array) → slot < rows → has_integers t rows a ≡ true → has_integers t (slot + 1) a ≡ true
 fewer_slots t rows slot a h there =
@@ -152,7 +147,7 @@ pub value_there : (columns : List IntegerColumn) (p : Part) (b : Batch) (slot k 
     → has_integers (get_or columns k d).integer (slot + 1) (array_of (get_or columns k d).place p b) ≡ true
 value_there columns p b slot k d there within at =
     let c = get_or columns k d in
-    let same : c ≡ get_or columns k c = get_or_any columns k d c at in
+    let same : c ≡ get_or columns k c = get_or_default columns k d c at in
     fewer_slots c.integer b.rows slot (array_of c.place p b) within (all_here (λ e. has_integers e.integer b.rows (array_of e.place p b)) columns k c there at same)
 
 -- its value, added

@@ -8,6 +8,8 @@ use Rattle.std.proofs.lemmas.Nat.Bits.{bit_at_ones}
 use Rattle.std.proofs.lemmas.Bool.{and_right, lt-ltb, le-ltb, cases_lt}
 use Rattle.std.proofs.lemmas.Bool.Decides.{nat_tests}
 use Rattle.std.proofs.lemmas.List.Folds.{list_all-append}
+use Rattle.std.proofs.Math.Bool.{and-true}
+use Rattle.facts.specs.laws.Lists.{maps_same}
 use Rattle.bitmap.specs.Bits.{bit, both, bytes_of}
 use Rattle.cells.specs.Cell.{Cell}
 use Rattle.query.specs.Bound.{Bound, holds}
@@ -15,7 +17,6 @@ use Rattle.query.specs.Selection.{holds_all}
 use Rattle.query.specs.declared.bound.Bound as code
 use Rattle.query.specs.inner.BoundView.{bound_in}
 use Rattle.query.specs.inner.Masks.{IsMask}
-use Rattle.query.proofs.Maps.{maps_same}
 
 lt-suc : (i n : ℕ) → nat_lt (suc i) (suc n) ≡ nat_lt i n
 lt-suc i n = grind (arith, nat_tests)
@@ -33,13 +34,9 @@ joined_mask a b c p q r xs same x y bits size = record {
   size = size ∙ ap bytes_of (sym (length-map xs r));
 }
 
-and_true : (t : Bool) → (t && true) ≡ t
-and_true true = refl
-and_true false = refl
-
 -- one more condition
 pub one_more : (bs : List Bound) (b : Bound) (row : List Cell) → holds_all (bs ++ b ∷ []) row ≡ (holds_all bs row && holds b row)
-one_more bs b row = list_all-append (λ b. holds b row) bs (b ∷ []) ∙ ap (λ (t : Bool). holds_all bs row && t) (and_true (holds b row))
+one_more bs b row = list_all-append (λ b. holds b row) bs (b ∷ []) ∙ ap (λ (t : Bool). holds_all bs row && t) (and-true (holds b row))
 
 -- no condition
 trues : {X : Type 0} (xs : List X) → map (λ x. true) xs ≡ replicate (length xs) true
@@ -61,7 +58,7 @@ pub one_condition : (bounds others : List code.Bound) (b : code.Bound) (rows : L
     → IsMask mask (map (holds_all (map bound_in (take 1 bounds))) rows)
 one_condition bounds others b rows mask e is =
     let same : map (holds (bound_in b)) rows ≡ map (holds_all (map bound_in (take 1 bounds))) rows =
-    rw e (maps_same (holds (bound_in b)) (λ row. holds (bound_in b) row && true) (λ row. sym (and_true (holds (bound_in b) row))) rows) in
+    rw e (maps_same (holds (bound_in b)) (λ row. holds (bound_in b) row && true) (λ row. sym (and-true (holds (bound_in b) row))) rows) in
     subst (λ (bits : List Bool). IsMask mask bits) same is
 
 -- a condition more, behind the first

@@ -6,11 +6,11 @@ use Rattle.std.specs.Simd.Lanes.{Each1, zip2, chunk, top, sel_l, mask_l, number_
 use Rattle.std.proofs.lemmas.Simd.{map-map, tops_compared, zip2_splat, bitmask_splat, get_or_wider, length-chunk, get_or-chunk}
 use Rattle.std.proofs.lemmas.List.{drop_more, drop-drop, drop-take, take-take, length-map, length-drop, get_or-drop, ext_get_or}
 use Rattle.std.proofs.lemmas.List.FromFn.{get_or-map-range_with_len, length-map-range_with_len}
+use Rattle.facts.specs.laws.Lists.{maps_same}
 use Rattle.byteorder.specs.Endian.{little_from}
 use Rattle.query.specs.declared.cut.Cut.{Cut}
 use Rattle.columns.specs.CellAt.{number_at}
 use Rattle.query.specs.inner.Cuts.{answer, moved, answer_at}
-use Rattle.query.proofs.Maps.{maps_same}
 use mir.Syntax.{Width}
 use mir.Val.{bits, hbits, bool_byte}
 

@@ -12,7 +12,6 @@ pub mod MadeTables
 pub mod Numbers
 pub mod Lines
 pub mod SlotFlags
-pub mod Maps
 pub mod IntegerRows
 pub mod Cuts
 pub mod Lanes

@@ -1,17 +1,17 @@
 -- Comparisons with integers, slot by slot.
-use Rattle.std.proofs.Common.{◌≡◌, ℕ, ◌+◌, ◌<◌, zero, suc, Bool, true, false, List, [], ◌∷◌, ◌++◌, map, length, take, drop, refl, sym, ap, subst, ◌∙◌, append_assoc}
-use Rattle.std.specs.Prelude.{not, ◌&&◌, nat_le, Option, Some, None, option_map, string_bytes, slice_get, get_or, IfSome, if◌then◌else◌}
+use Rattle.std.proofs.Common.{◌≡◌, ℕ, ◌+◌, ◌<◌, zero, suc, Bool, true, false, List, [], ◌∷◌, ◌++◌, map, length, take, drop, refl, sym, ap, subst, ◌∙◌, append_assoc, arith}
+use Rattle.std.specs.Prelude.{not, ◌&&◌, nat_le, Option, Some, None, string_bytes, slice_get, get_or, IfSome, if◌then◌else◌}
 use Rattle.std.specs.List.{flat_map, list_all, range_with_len}
 use Rattle.std.specs.Ordering.{int_cmp}
 use Rattle.std.proofs.lemmas.Bool.{and_parts, and_from}
-use Rattle.std.proofs.lemmas.Grind.{flat_map-append}
-use Rattle.std.proofs.lemmas.List.{append-nil, take_more}
+use Rattle.std.proofs.lemmas.List.{drop_all}
 use Rattle.std.proofs.lemmas.List.Folds.{list_all_at}
+use Rattle.facts.specs.laws.Lists.{maps_same, map_map, flat_map-item}
 use Rattle.arrow_schema.specs.Column.{Kind, Column, column, columns_of}
-use Rattle.arrow_schema.specs.View.{column_of, kind_of, index_of, pair_of, kind_step, column_step}
-use Rattle.arrow_schema.specs.declared.types.DataType.TheFolds.{fold_out-Field}
+use Rattle.arrow_schema.specs.View.{column_of, kind_of, pair_of}
 use Rattle.arrow_schema.specs.declared.types.Field.{Field}
 use Rattle.arrow_schema.specs.declared.types.IntegerType.{IntegerType}
+use Rattle.arrow_schema.specs.laws.Parts.{field_parts}
 use Rattle.cells.specs.Cell.{Cell, null, number, cell_list, PlainTable}
 use Rattle.columns.specs.Array.{Array, slots_in, values_in, first_array, arrays_of, empty_array}
 use Rattle.columns.specs.CellAt.{cell_at, is_valid, integer_at, unless_null, part_cells, row_at}
@@ -28,12 +28,8 @@ use Rattle.query.specs.declared.slots.Comparison.{Comparison}
 use Rattle.query.specs.Bound.{Bound, Demand, compares, accepts, meets, meets_at, holds}
 use Rattle.query.specs.inner.Masks.{IsMask}
 use Rattle.query.specs.inner.Slots.{width_of, integer_cell, IsIntegerKind, IsIntegerColumn, IsComparison, holds_at, array_of, batch_flags, part_flags, parts_flags, has_slots, batch_has_slots, part_has_slots}
-use Rattle.query.proofs.Maps.{maps_same}
 
 -- ---- columns of integers
-
-field_is : (f : Field) → column_of f ≡ column (string_bytes f.name) f.nullable (kind_of f.data_type) (option_map index_of f.dictionary) (map pair_of f.pairs.items)
-field_is f = fold_out-Field Kind Column kind_step column_step f
 
 kind_is : (name : List ℕ) (nullable : Bool) (kind : Kind) (p : _) (t : IntegerType) → IsIntegerKind kind t → IsIntegerColumn (column name nullable kind None p) t
 unfolding cell_at is_sound
@@ -44,7 +40,7 @@ kind_is name nullable kind p t is = record {
 }
 
 field_integers : (f : Field) (t : IntegerType) → f.dictionary ≡ None → IsIntegerKind (kind_of f.data_type) t → IsIntegerColumn (column_of f) t
-field_integers f t e is = rw (field_is f, e) (kind_is (string_bytes f.name) f.nullable (kind_of f.data_type) (map pair_of f.pairs.items) t is)
+field_integers f t e is = rw (field_parts f, e) (kind_is (string_bytes f.name) f.nullable (kind_of f.data_type) (map pair_of f.pairs.items) t is)
 
 pub some_integers : (f : Field) (o : Option IntegerType) → f.dictionary ≡ None → IfSome o (λ t. IsIntegerKind (kind_of f.data_type) t) → IfSome o (λ t. IsIntegerColumn (column_of f) t)
 some_integers f None e h = tt
@@ -70,10 +66,6 @@ slot_holds d c a i e = rw e (by (is_valid a i))
     by true = refl
     by false = refl
 
-none_dropped : (n : ℕ) → drop {A = PlacedArray} n [] ≡ []
-none_dropped zero = refl
-none_dropped (suc n) = refl
-
 -- the cell of a column in a row
 pub cell_in_row : (f : PlacedArray → Array) (cs : List Column) (place : ℕ) (c : Column) (arrays : List PlacedArray) (i : ℕ) → slice_get cs place ≡ Some c
     → slice_get (cell_list (part_cells (columns_of cs) (arrays_of (map f arrays)) i)) place ≡ Some (cell_at c (first_array (arrays_of (map f (drop place arrays)))) i)
@@ -81,7 +73,7 @@ unfolding part_cells
 cell_in_row f [] place c arrays i e = absurd cc
 cell_in_row f (d ∷ cs) zero c arrays i e = let same : d ≡ c = cc in rw same refl
 cell_in_row f (d ∷ cs) (suc place) c [] i e =
-    cell_in_row f cs place c [] i e ∙ ap (λ (placed : List PlacedArray). Some (cell_at c (first_array (arrays_of (map f placed))) i)) (none_dropped place)
+    cell_in_row f cs place c [] i e ∙ ap (λ (placed : List PlacedArray). Some (cell_at c (first_array (arrays_of (map f placed))) i)) (drop_all {X = PlacedArray} place [] (omega arith))
 cell_in_row f (d ∷ cs) (suc place) c (a ∷ arrays) i e = cell_in_row f cs place c arrays i e
 
 -- its array can be looked up
@@ -96,13 +88,9 @@ array_sound f (d ∷ cs) zero c arrays rows e h =
     (both.0, rw (← same) (and_parts (is_sound d (first_array (arrays_of (map f arrays)))) _ both.1).0)
 array_sound f (d ∷ cs) (suc place) c [] rows e h =
     let P : List PlacedArray → Type 0 = λ placed. (nat_le rows (slots_in (first_array (arrays_of (map f placed)))) ≡ true) × (is_sound c (first_array (arrays_of (map f placed))) ≡ true) in
-    subst P (none_dropped place) (array_sound f cs place c [] rows e (and_parts (is_sound d empty_array) _ (and_parts (nat_le rows 0) _ h).1).1)
+    subst P (drop_all {X = PlacedArray} place [] (omega arith)) (array_sound f cs place c [] rows e (and_parts (is_sound d empty_array) _ (and_parts (nat_le rows 0) _ h).1).1)
 array_sound f (d ∷ cs) (suc place) c (a ∷ arrays) rows e h =
     array_sound f cs place c arrays rows e (and_parts (is_sound d (f a)) _ (and_parts (nat_le rows (slots_in (f a))) _ h).1).1
-
-pub map_map : {X Y Z : Type 0} (f : Y → Z) (g : X → Y) (xs : List X) → map f (map g xs) ≡ map (λ x. f (g x)) xs
-map_map f g [] = refl
-map_map f g (x ∷ xs) = ap (λ zs. f (g x) ∷ zs) (map_map f g xs)
 
 row_holds : (cs : List Column) (b : Bound) (c : Comparison) (p : Part) (batch : Batch) → IsComparison cs b c → (i : ℕ)
     → holds b (row_at (columns_of cs) (arrays_with p batch) i) ≡ holds_at c (array_of c.place p batch) i
@@ -160,17 +148,11 @@ view_is place p batch bytes all a arrays same_bytes same_all same_arrays is =
     ∙ ap (λ (d : List Dictionary). first_array (placed_arrays p.bytes.items d (drop place arrays))) same_all
     ∙ ap (λ (xs : List PlacedArray). first_array (placed_arrays p.bytes.items p.dictionaries.items (drop place xs))) same_arrays
 
--- what one more batch, or one more part, has
-pub one_taken : {X Y : Type 0} (g : X → List Y) (xs : List X) (k : ℕ) (x : X) → k < length xs → x ≡ get_or xs k x → flat_map g (take (k + 1) xs) ≡ flat_map g (take k xs) ++ g x
-one_taken {Y = Y} g xs k x within is =
-    let taken : take (k + 1) xs ≡ take k xs ++ x ∷ [] = take_more xs k x within ∙ ap (λ y. take k xs ++ y ∷ []) (sym is) in
-    ap (flat_map g) taken ∙ flat_map-append g (take k xs) (x ∷ []) ∙ ap (λ (ys : List Y). flat_map g (take k xs) ++ ys) (append-nil (g x))
-
 -- its flags
 pub flags_more : {X : Type 0} (g : X → List Bool) (xs : List X) (k : ℕ) (x : X) (start flags : List Bool) → k < length xs → x ≡ get_or xs k x → flags ≡ start ++ flat_map g (take k xs)
     → flags ++ g x ≡ start ++ flat_map g (take (k + 1) xs)
 flags_more g xs k x start flags within is h =
-    ap (λ (ys : List Bool). ys ++ g x) h ∙ append_assoc start (flat_map g (take k xs)) (g x) ∙ ap (λ (ys : List Bool). start ++ ys) (sym (one_taken g xs k x within is))
+    ap (λ (ys : List Bool). ys ++ g x) h ∙ append_assoc start (flat_map g (take k xs)) (g x) ∙ ap (λ (ys : List Bool). start ++ ys) (sym (flat_map-item g xs k x within is))
 
 -- the mask of the flags of all parts is that of the rows
 pub parts_mask : (t : PlainTable) (cs : List Column) (b : Bound) (c : Comparison) (parts : List Part) (mask : List ℕ) → IsComparison cs b c → cs ≡ t.schema.columns

@@ -4,8 +4,8 @@ use Rattle.std.specs.Prelude.{Option, Some, None}
 use Rattle.std.specs.List.{position_or_len}
 use Rattle.std.proofs.lemmas.Bool.{lt-ltb, le-ltb}
 use Rattle.std.proofs.lemmas.Str.Pattern.{IsSplitOnceResult, split_once_first}
+use Rattle.facts.specs.Outcomes.{Reads}
 use Rattle.query.specs.ConditionText.{split_at_space}
-use Rattle.query.specs.View.{Reads}
 
 pub split_reads : (text : List ℕ) (r : Option (Bor (List ℕ) × Bor (List ℕ))) → IsSplitOnceResult 32 text r → Reads (λ p. (p.0.now, p.1.now)) r (split_at_space text)
 unfolding split_at_space

@@ -1,5 +1,5 @@
 -- What a query of the code is, and how an answer tells a refusal.
-use Rattle.std.specs.Prelude.{◌≡◌, ℕ, List, map, string_bytes, Option, Some, None, Result, Err}
+use Rattle.std.specs.Prelude.{◌≡◌, ℕ, List, map, string_bytes, Option, None, Result, Err}
 use Rattle.query.specs.declared.condition.Test.{Test}
 use Rattle.query.specs.declared.condition.Test.TheVariants.{IsNull, IsNotNull, Compared}
 use Rattle.query.specs.declared.condition.Condition.{Condition}
@@ -33,11 +33,6 @@ IsNoCondition UnknownColumn o = ⊥
 IsNoCondition BadCondition o = o ≡ None
 IsNoCondition NotComparable o = ⊥
 IsNoCondition OutOfMemory o = Unit {0}
-
--- what the code read is what the definition reads
-abbrev pub Reads : {X Y : Type 0} → (X → Y) → Option X → Option Y → Type 0
-Reads view None read = read ≡ None
-Reads view (Some x) read = read ≡ Some (view x)
 
 -- the columns asked for are not there, or memory is wanting
 abbrev pub Unchosen : QueryError → Option (List ℕ) → Type 0

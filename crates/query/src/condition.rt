@@ -45,7 +45,8 @@ impl Condition {
 
 ghost use Rattle.std.specs.Prelude.{◌≡◌, option_map, IfOk};
 ghost use Rattle.query.specs.ConditionText.{split_at_space, test_of, comparison_of};
-ghost use Rattle.query.specs.View.{Reads, test_in};
+ghost use Rattle.facts.specs.Outcomes.{Reads};
+ghost use Rattle.query.specs.View.{test_in};
 
 // What stands before the first space, and what after it.
 fn split_at_space(text: &str) -> Option<(&str, &str)>

@@ -1,5 +1,5 @@
 use Rattle.std.proofs.Common.{◌≡◌, true, List, map, sym, ap, subst, ◌∙◌}
-use Rattle.std.specs.Prelude.{Result, Ok, Err, IfOk}
+use Rattle.std.proofs.lemmas.Result.{IfOk-weaker}
 use Rattle.arrow_schema.specs.Column.{Column, PlainSchema, columns_of}
 use Rattle.arrow_schema.specs.View.{column_of}
 use Rattle.values.specs.Parts.{are_parts_sound}
@@ -7,10 +7,6 @@ use Rattle.values.specs.TableView.{table_of}
 use Rattle.query.specs.inner.BoundView.{bound_in}
 use Rattle.query.proofs.SlotFlags.{parts_there, parts_mask}
 use Rattle.query.proofs.selecting.mask_of.Goals as goal
-
-where_ok : {A E : Type 0} (r : Result A E) (P Q : A → Type 0) → ((a : A) → P a → Q a) → IfOk r P → IfOk r Q
-where_ok (Ok a) P Q more h = more a h
-where_ok (Err e) P Q more h = tt
 
 pub mask_of-requires : goal.mask_of-requires
 mask_of-requires c =
@@ -24,7 +20,7 @@ pub returns-in-Some-Some : goal.returns-in-Some-Some
 returns-in-Some-Some c =
     let columns : map column_of c.deref.result.now ≡ (table_of c.args.table.now).schema.columns =
     ap (map column_of) c.deref.ensures.value ∙ ap (λ (s : PlainSchema). s.columns) c.schema-schema.ensures.schema in
-    where_ok c.mask_of.result _ _
+    IfOk-weaker c.mask_of.result _ _
     (λ mask h. parts_mask (table_of c.args.table.now) (map column_of c.deref.result.now) (bound_in c.args.bound.now) c.in-Some-Some.comparison c.in-Some-Some.parts.now mask.items
     c.in-Some-Some.ensures' columns c.in-Some-Some.ensures.rows h)
     c.mask_of.ensures

@@ -1,10 +1,11 @@
 use Rattle.std.proofs.Common.{◌≡◌, ℕ, Bool, List, [], ◌∷◌, ◌++◌, map, refl, sym, ap, ◌∙◌, append_assoc, arith}
 use Rattle.std.specs.List.{range_with_len}
 use Rattle.std.proofs.lemmas.List.FromFn.{map-range_with_len_more}
+use Rattle.facts.specs.laws.Numbers.{bool_byte-lt}
 use Rattle.columns.specs.Array.{validity_in}
 use Rattle.columns.specs.View.{view_array}
 use Rattle.query.specs.inner.Slots.{holds_in, holds_at}
-use Rattle.query.proofs.BlockFlags.{one_bit, bit_small}
+use Rattle.query.proofs.BlockFlags.{one_bit}
 use Rattle.query.proofs.slots.Comparison.push_slots.Goals as goal
 
 pub loop-i-init : goal.loop-i-init
@@ -16,7 +17,7 @@ loop-i-init c =
     ∙ ap (λ (v : List ℕ). c.args.flags.now ++ map (holds_in c.args.self (validity_in a) v) begun) c.values-values.ensures
 
 pub push_word-requires-clause-word : goal.push_word-requires-clause-word
-push_word-requires-clause-word c = omega (arith, c.from.ensures, bit_small c.holds.result)
+push_word-requires-clause-word c = omega (arith, c.from.ensures, bool_byte-lt c.holds.result)
 
 pub loop-i-preserved : goal.loop-i-preserved
 loop-i-preserved c =
