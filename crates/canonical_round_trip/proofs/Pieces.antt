@@ -1,7 +1,7 @@
 -- The pieces of a table are read one after another, and make the table.
 use Rattle.std.specs.Prelude.{Some, None, nat_le, sum_by}
 use Rattle.std.specs.List.{AllByRecursion, flat_map, range_with_len}
-use Rattle.std.proofs.Common.{◌≡◌, ◌≤◌, ◌+◌, ℕ, false, List, [], ◌∷◌, ◌++◌, map, length, Ok, refl, sym, ap, subst, ◌∙◌, arith, append_assoc}
+use Rattle.std.proofs.Common.{◌≡◌, ◌≤◌, ◌+◌, ℕ, List, [], ◌∷◌, ◌++◌, map, length, Ok, refl, sym, ap, subst, ◌∙◌, arith, append_assoc}
 use Rattle.std.proofs.lemmas.Bool.{and_parts, leb-true}
 use Rattle.std.proofs.lemmas.List.{append-nil, length-map}
 use Rattle.std.proofs.lemmas.List.Sums.{sum_by-append}
@@ -30,6 +30,7 @@ use Rattle.ipc_write.specs.Decoded.{raw_schema}
 use Rattle.ipc_write.specs.Written.{schema_message, schema_envelope, batch_message, batch_envelope, end_of_stream}
 use Rattle.table_cut.specs.Piece.{pieces_of, within_piece}
 use Rattle.values.specs.Table.{IsTable}
+use Rattle.values.specs.PlainTables.{plain_table}
 use Rattle.written_batch.specs.WrittenBatch.{raw_nodes, written_batch, written_body, IsWritable}
 use Rattle.written_ids.specs.Numbered.{replacing}
 use Rattle.canonical_stream.specs.Canonical.{canonical, piece_messages, entries_messages}
@@ -37,7 +38,7 @@ use Rattle.canonical_stream.specs.Pieces.{IsPieceOf}
 use Rattle.ipc_stream.specs.Meaning.{Known, known_first, read_next, meaning}
 use Rattle.table_cut.specs.laws.Joined.{pieces_joined}
 use Rattle.canonical_round_trip.proofs.Entries.{known_with, arrays_in, all_entries_read, dictionaries_for, ids_counted, dictionaries_numbered}
-use Rattle.canonical_round_trip.proofs.Written.{SchemaLaw, DictionaryLaw, BatchLaw, EntriesLaw, RowsLaw, table_with}
+use Rattle.canonical_round_trip.proofs.Written.{SchemaLaw, DictionaryLaw, BatchLaw, EntriesLaw, RowsLaw}
 use Rattle.canonical_round_trip.proofs.Messages.{Reads, Stands, message_reads, nothing_reads, both_read, whole_means}
 
 -- ---- the schema
@@ -101,7 +102,7 @@ in_effect_after schema entries s batches rows within passes =
     entries.effect (dictionary_columns (raw_schema s)) batches (arrays_in ts) (ids ∙ ap (range_with_len 0) count) ∙ each_alone ts
 
 -- its arrays are read, after rows with which it is a table
-arrays_read : RowsLaw → (s : PlainSchema) (before rows : List (List Cell)) → IsPieceOf s rows → IsTable (table_with s (before ++ rows))
+arrays_read : RowsLaw → (s : PlainSchema) (before rows : List (List Cell)) → IsPieceOf s rows → IsTable (plain_table s (before ++ rows))
     → batch_read s (table_weight s before) (written_batch (columns_of s.columns) (built_parts (columns_of s.columns) rows) (length rows)) (written_body (columns_of s.columns) (built_parts (columns_of s.columns) rows))
     (map (λ t. t.array ∷ []) (dictionaries_for s rows)) ≡ Ok (built_parts (columns_of s.columns) rows)
 arrays_read law s before rows piece table =
@@ -117,7 +118,7 @@ pub record Laws : Type 0 where
   pub entries : EntriesLaw
   pub rows : RowsLaw
 
-batch_is_next : Laws → (s : PlainSchema) (batches : List DictionaryBatch) (before rows : List (List Cell)) → Passes s → IsPieceOf s rows → IsTable (table_with s (before ++ rows))
+batch_is_next : Laws → (s : PlainSchema) (batches : List DictionaryBatch) (before rows : List (List Cell)) → Passes s → IsPieceOf s rows → IsTable (plain_table s (before ++ rows))
     → read_next supported_codes (Some (known_with s (batches ++ batches_for s rows) before)) (piece_envelope s rows) ≡ Ok (known_with s (batches ++ batches_for s rows) (before ++ rows))
 unfolding read_next
 batch_is_next law s batches before rows passes piece table =
@@ -130,7 +131,7 @@ batch_is_next law s batches before rows passes piece table =
       arrays_read law.rows s before rows piece table,
     ) (ap (λ (new : List (List Cell)). Ok (known_with s (batches ++ batches_for s rows) (before ++ new))) back)
 
-batch_reads : Laws → (s : PlainSchema) (batches : List DictionaryBatch) (before rows : List (List Cell)) → Passes s → IsPieceOf s rows → IsTable (table_with s (before ++ rows))
+batch_reads : Laws → (s : PlainSchema) (batches : List DictionaryBatch) (before rows : List (List Cell)) → Passes s → IsPieceOf s rows → IsTable (plain_table s (before ++ rows))
     → Reads supported_codes (Some (known_with s (batches ++ batches_for s rows) before)) (known_with s (batches ++ batches_for s rows) (before ++ rows))
     (batch_message (length rows) (nodes_for s rows) (buffers_for s rows))
 batch_reads law s batches before rows passes piece table =
@@ -143,7 +144,7 @@ batch_reads law s batches before rows passes piece table =
     message_reads supported_codes (Some (known_with s now before)) (known_with s now (before ++ rows)) (batch_message (length rows) (nodes_for s rows) (buffers_for s rows)) (piece_envelope s rows) stands
     (batch_is_next law s batches before rows passes piece table)
 
-piece_reads : Laws → (s : PlainSchema) (batches : List DictionaryBatch) (before rows : List (List Cell)) → Passes s → IsPieceOf s rows → IsTable (table_with s (before ++ rows))
+piece_reads : Laws → (s : PlainSchema) (batches : List DictionaryBatch) (before rows : List (List Cell)) → Passes s → IsPieceOf s rows → IsTable (plain_table s (before ++ rows))
     → Reads supported_codes (Some (known_with s batches before)) (known_with s (batches ++ batches_for s rows) (before ++ rows)) (piece_messages s rows)
 unfolding piece_messages
 piece_reads law s batches before rows passes piece table =
@@ -162,12 +163,12 @@ batches_after s batches [] = batches
 batches_after s batches (p ∷ ps) = batches_after s (batches ++ batches_for s p) ps
 
 pieces_read : Laws → (s : PlainSchema) (batches : List DictionaryBatch) (before : List (List Cell)) (ps : List (List (List Cell))) → Passes s → AllByRecursion (IsPieceOf s) ps
-    → IsTable (table_with s (before ++ joined ps)) → Reads supported_codes (Some (known_with s batches before)) (known_with s (batches_after s batches ps) (before ++ joined ps)) (flat_map (piece_messages s) ps)
+    → IsTable (plain_table s (before ++ joined ps)) → Reads supported_codes (Some (known_with s batches before)) (known_with s (batches_after s batches ps) (before ++ joined ps)) (flat_map (piece_messages s) ps)
 pieces_read law s batches before [] passes each table =
     subst (λ (rows : List (List Cell)). Reads supported_codes (Some (known_with s batches before)) (known_with s batches rows) []) (sym (append-nil before)) (nothing_reads supported_codes (known_with s batches before))
 pieces_read law s batches before (p ∷ ps) passes each table =
     let same : (before ++ p) ++ joined ps ≡ before ++ (p ++ joined ps) = append_assoc before p (joined ps) in
-    let whole : IsTable (table_with s ((before ++ p) ++ joined ps)) = subst (λ (rows : List (List Cell)). IsTable (table_with s rows)) (sym same) table in
+    let whole : IsTable (plain_table s ((before ++ p) ++ joined ps)) = subst (λ (rows : List (List Cell)). IsTable (plain_table s rows)) (sym same) table in
     let now : List DictionaryBatch = batches ++ batches_for s p in
     let last : List DictionaryBatch = batches_after s now ps in
     let first = piece_reads law s batches before p passes each.0 (law.rows.cut s (before ++ p) (joined ps) whole).0 in
@@ -181,10 +182,10 @@ table_means law t each table =
     let s : PlainSchema = t.schema in
     let passes : Passes s = schema_passes s (law.schema.checked s table.schema) in
     let whole : joined (pieces_of t) ≡ t.rows = pieces_joined (within_piece s) t.rows in
-    let joined_table : IsTable (table_with s (joined (pieces_of t))) = subst (λ (rows : List (List Cell)). IsTable (table_with s rows)) (sym whole) table in
+    let joined_table : IsTable (plain_table s (joined (pieces_of t))) = subst (λ (rows : List (List Cell)). IsTable (plain_table s rows)) (sym whole) table in
     let pieces : List ℕ = flat_map (piece_messages s) (pieces_of t) in
     let last : Known = known_with s (batches_after s [] (pieces_of t)) (joined (pieces_of t)) in
     let all = both_read supported_codes None (known_with s [] []) last (schema_message s) pieces (schema_reads law.schema s table.schema passes) (pieces_read law s [] [] (pieces_of t) passes each joined_table) in
     ap (meaning supported_codes) (sym (append_assoc (schema_message s) pieces end_of_stream))
     ∙ whole_means supported_codes (schema_message s ++ pieces) last all
-    ∙ ap (λ (rows : List (List Cell)). Ok (table_with s rows)) whole
+    ∙ ap (λ (rows : List (List Cell)). Ok (plain_table s rows)) whole

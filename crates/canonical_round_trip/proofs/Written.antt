@@ -4,7 +4,7 @@ use Rattle.std.proofs.Common.{◌≡◌, ◌<◌, ◌≤◌, ◌+◌, ◌^◌, �
 use Rattle.arrow_schema.specs.Column.{Columns, PlainSchema, columns_of}
 use Rattle.arrow_schema.specs.Limits.{has_flat_dictionary, IsWithinLimits}
 use Rattle.arrow_schema.specs.Preorder.{preorder_all}
-use Rattle.cells.specs.Cell.{Cell, PlainTable}
+use Rattle.cells.specs.Cell.{Cell}
 use Rattle.cells.specs.Row.{is_row}
 use Rattle.cells.specs.Weight.{table_weight}
 use Rattle.columns.specs.Alone.{cells_weight, own_column, own_array, IsBuiltAlone}
@@ -29,6 +29,7 @@ use Rattle.ipc_write.specs.Decoded.{raw_schema}
 use Rattle.ipc_write.specs.Trees.{ids_of_all}
 use Rattle.ipc_write.specs.Written.{schema_message, schema_envelope, dictionary_message, dictionary_envelope, dictionary_batch_of, batch_message, batch_envelope, batch_of, IsWritableBatch}
 use Rattle.values.specs.Table.{IsTable}
+use Rattle.values.specs.PlainTables.{plain_table}
 use Rattle.written_batch.specs.WrittenBatch.{raw_nodes, written_batch, written_body, IsWritable}
 use Rattle.written_ids.specs.Numbered.{replacing}
 
@@ -84,9 +85,6 @@ pub record EntriesLaw : Type 0 where
   pub replaced : (columns : List DictionaryColumn) (before : List DictionaryBatch) (d : RawDictionaryBatch) (body : List ℕ) (c : DictionaryColumn) (a : Array)
       → column_of_id d.id columns ≡ Some c → d.is_delta ≡ false → entries_read c.values d.batch body ≡ Ok a → dictionary_read columns before d body ≡ Ok (batch_with d a)
 
-abbrev pub table_with : PlainSchema → List (List Cell) → PlainTable
-table_with s rows = record { schema = s; rows = rows }
-
 pub record RowsLaw : Type 0 where
   pub weight : (s : PlainSchema) (rows : List (List Cell)) → cells_weight (columns_of s.columns) rows ≤ table_weight s rows
   pub writable : (columns : Columns) (rows : List (List Cell)) → IsWritable columns rows
@@ -95,4 +93,4 @@ pub record RowsLaw : Type 0 where
       → batch_read s before (written_batch (columns_of s.columns) (built_parts (columns_of s.columns) rows) (length rows)) (written_body (columns_of s.columns) (built_parts (columns_of s.columns) rows))
       (map (λ t. t.array ∷ []) (dictionaries_of (columns_of s.columns) (built_parts (columns_of s.columns) rows))) ≡ Ok (built_parts (columns_of s.columns) rows)
   pub back : (columns : Columns) (rows : List (List Cell)) → can_build_rows columns rows ≡ true → rows_in columns (built_parts columns rows) (length rows) ≡ rows
-  pub cut : (s : PlainSchema) (a b : List (List Cell)) → IsTable (table_with s (a ++ b)) → IsTable (table_with s a) × IsTable (table_with s b)
+  pub cut : (s : PlainSchema) (a b : List (List Cell)) → IsTable (plain_table s (a ++ b)) → IsTable (plain_table s a) × IsTable (plain_table s b)

@@ -14,22 +14,20 @@ use Rattle.table_cut.specs.Cut.{pieces_from, within_limits}
 use Rattle.table_cut.specs.Piece.{within_piece, pieces_of}
 use Rattle.table_cut.specs.laws.OneRow.{one_within}
 use Rattle.values.specs.Table.{IsTable}
+use Rattle.values.specs.PlainTables.{plain_table}
 use Rattle.canonical_stream.specs.Pieces.{IsPieceOf}
-
-abbrev table_with : PlainSchema → List (List Cell) → PlainTable
-table_with s rows = record { schema = s; rows = rows }
 
 -- what is known of tables: clauses of laws
 pub record TableLaws : Type 0 where
   pub built : (s : PlainSchema) (rows : List (List Cell)) → IsWithinLimits s → AllPass (is_row s) rows → table_weight s rows ≤ 268435456
       → dictionaries_fit s rows ≡ true → can_build_rows (columns_of s.columns) rows ≡ true
-  pub cut : (s : PlainSchema) (a b : List (List Cell)) → IsTable (table_with s (a ++ b)) → IsTable (table_with s a) × IsTable (table_with s b)
+  pub cut : (s : PlainSchema) (a b : List (List Cell)) → IsTable (plain_table s (a ++ b)) → IsTable (plain_table s a) × IsTable (plain_table s b)
 
-first_within : (s : PlainSchema) (row : List Cell) (rows : List (List Cell)) → IsTable (table_with s (row ∷ rows)) → within_piece s (row ∷ []) ≡ true
+first_within : (s : PlainSchema) (row : List Cell) (rows : List (List Cell)) → IsTable (plain_table s (row ∷ rows)) → within_piece s (row ∷ []) ≡ true
 first_within s row rows table =
     one_within s row (and_parts (is_row s row) (list_all (is_row s) rows) (list_all-from_AllPass (is_row s) (row ∷ rows) table.rows)).0
 
-is_piece : TableLaws → (s : PlainSchema) (rows : List (List Cell)) → 1 ≤ length rows → within_piece s rows ≡ true → IsTable (table_with s rows) → IsPieceOf s rows
+is_piece : TableLaws → (s : PlainSchema) (rows : List (List Cell)) → 1 ≤ length rows → within_piece s rows ≡ true → IsTable (plain_table s rows) → IsPieceOf s rows
 is_piece laws s rows some within table = record {
   some = some;
   within = within;
@@ -41,24 +39,24 @@ abbrev AreFrom : PlainSchema → List (List Cell) → List (List Cell) → Type 
 AreFrom s taken rows = AllByRecursion (IsPieceOf s) (pieces_from (within_piece s) taken rows)
 
 step : TableLaws → (s : PlainSchema) (taken : List (List Cell)) (row : List Cell) (rows : List (List Cell)) (b : Bool) → within_piece s (taken ++ row ∷ []) ≡ b
-    → 1 ≤ length taken → within_piece s taken ≡ true → IsTable (table_with s (taken ++ row ∷ rows))
+    → 1 ≤ length taken → within_piece s taken ≡ true → IsTable (plain_table s (taken ++ row ∷ rows))
     → (within_piece s (taken ++ row ∷ []) ≡ true → AreFrom s (taken ++ row ∷ []) rows) → AreFrom s (row ∷ []) rows
     → AreFrom s taken (row ∷ rows)
 step laws s taken row rows true h some within table more apart = rw h (more h)
 step laws s taken row rows false h some within table more apart = rw h (is_piece laws s taken some within (laws.cut s taken (row ∷ rows) table).0, apart)
 
-each_from : TableLaws → (s : PlainSchema) (taken rows : List (List Cell)) → 1 ≤ length taken → within_piece s taken ≡ true → IsTable (table_with s (taken ++ rows)) → AreFrom s taken rows
+each_from : TableLaws → (s : PlainSchema) (taken rows : List (List Cell)) → 1 ≤ length taken → within_piece s taken ≡ true → IsTable (plain_table s (taken ++ rows)) → AreFrom s taken rows
 each_from laws s taken [] some within table = (is_piece laws s taken some within (laws.cut s taken [] table).0, tt)
 each_from laws s taken (row ∷ rows) some within table =
     let same : (taken ++ row ∷ []) ++ rows ≡ taken ++ row ∷ rows = append_assoc taken (row ∷ []) rows in
-    let whole : IsTable (table_with s ((taken ++ row ∷ []) ++ rows)) = subst (λ (x : List (List Cell)). IsTable (table_with s x)) (sym same) table in
-    let behind : IsTable (table_with s (row ∷ rows)) = (laws.cut s taken (row ∷ rows) table).1 in
+    let whole : IsTable (plain_table s ((taken ++ row ∷ []) ++ rows)) = subst (λ (x : List (List Cell)). IsTable (plain_table s x)) (sym same) table in
+    let behind : IsTable (plain_table s (row ∷ rows)) = (laws.cut s taken (row ∷ rows) table).1 in
     let longer : 1 ≤ length (taken ++ row ∷ []) = let n = length-append taken (row ∷ []) in omega (arith, n) in
     step laws s taken row rows (within_piece s (taken ++ row ∷ [])) refl some within table
     (λ h. each_from laws s (taken ++ row ∷ []) rows longer h whole)
     (each_from laws s (row ∷ []) rows (omega arith) (first_within s row rows behind) behind)
 
-each_of : TableLaws → (s : PlainSchema) (rows : List (List Cell)) → IsTable (table_with s rows) → AllByRecursion (IsPieceOf s) (pieces_of (table_with s rows))
+each_of : TableLaws → (s : PlainSchema) (rows : List (List Cell)) → IsTable (plain_table s rows) → AllByRecursion (IsPieceOf s) (pieces_of (plain_table s rows))
 each_of laws s [] table = tt
 each_of laws s (row ∷ rows) table = each_from laws s (row ∷ []) rows (omega arith) (first_within s row rows table) table
 

@@ -8,24 +8,25 @@ use Rattle.arrow_schema.specs.Column.{PlainSchema}
 use Rattle.canonical_stream.specs.Canonical.{canonical, piece_messages}
 use Rattle.canonical_stream.specs.Pieces.{IsPieceOf}
 use Rattle.canonical_write.proofs.Steps.{few_rows}
-use Rattle.canonical_write.specs.Pieces.{piece_table, piece_stream, IsPiece}
+use Rattle.canonical_write.specs.Pieces.{piece_stream, IsPiece}
 use Rattle.cells.specs.Cell.{Cell, PlainTable}
 use Rattle.ipc_message.specs.Header.{supported_codes}
 use Rattle.ipc_stream.specs.Meaning.{meaning}
 use Rattle.ipc_write.specs.Written.{schema_message, end_of_stream}
 use Rattle.table_cut.specs.Piece.{pieces_of}
 use Rattle.values.specs.Table.{IsTable}
+use Rattle.values.specs.PlainTables.{plain_table}
 
 stream_begins : (s : PlainSchema) (rows : List (List Cell)) → starts_with nat_eq (piece_stream s rows) (schema_message s) ≡ true
 unfolding canonical
 stream_begins s rows =
     (starts_is Decides-eqb (piece_stream s rows) (schema_message s) (starts_with nat_eq (piece_stream s rows) (schema_message s)) refl).1
-    (flat_map (piece_messages s) (pieces_of (piece_table s rows)) ++ end_of_stream) refl
+    (flat_map (piece_messages s) (pieces_of (plain_table s rows)) ++ end_of_stream) refl
 
 stream_some : (s : PlainSchema) (rows : List (List Cell)) → 1 ≤ length (piece_stream s rows)
 unfolding canonical
 stream_some s rows =
-    let messages : List ℕ = flat_map (piece_messages s) (pieces_of (piece_table s rows)) in
+    let messages : List ℕ = flat_map (piece_messages s) (pieces_of (plain_table s rows)) in
     omega (arith, length-append (schema_message s) (messages ++ end_of_stream), length-append messages end_of_stream)
 
 -- what is known of streams: a clause of a law
@@ -37,7 +38,7 @@ one_meant law s rows piece = record {
   table = piece.table;
   some = piece.some;
   few = few_rows s rows piece.within;
-  means = law (piece_table s rows) piece.table;
+  means = law (plain_table s rows) piece.table;
   begins = stream_begins s rows;
   bytes = stream_some s rows;
 }

@@ -10,13 +10,10 @@ use Rattle.ipc_stream.specs.Meaning.{meaning}
 use Rattle.ipc_write.specs.Written.{schema_message}
 use Rattle.table_cut.specs.Piece.{pieces_of}
 use Rattle.values.specs.Table.{IsTable}
-
--- some rows as a table of a schema
-abbrev pub piece_table : PlainSchema → List (List Cell) → PlainTable
-piece_table s rows = record { schema = s; rows = rows }
+use Rattle.values.specs.PlainTables.{plain_table}
 
 abbrev pub piece_stream : PlainSchema → List (List Cell) → List ℕ
-piece_stream s rows = canonical (piece_table s rows)
+piece_stream s rows = canonical (plain_table s rows)
 
 -- the streams of a table's pieces, and how many rows each has
 unfoldable pub piece_streams : PlainTable → List (List ℕ)
@@ -27,9 +24,9 @@ piece_counts t = map length (pieces_of t)
 
 -- rows that are a piece: few, and a table by themselves, which their stream means. It begins with the message of the schema
 pub record IsPiece (s : PlainSchema) (rows : List (List Cell)) : Type 0 where
-  pub table : IsTable (piece_table s rows)
+  pub table : IsTable (plain_table s rows)
   pub some : 1 ≤ length rows
   pub few : length rows ≤ MAX_PIECE_ROWS
-  pub means : meaning supported_codes (piece_stream s rows) ≡ Ok (piece_table s rows)
+  pub means : meaning supported_codes (piece_stream s rows) ≡ Ok (plain_table s rows)
   pub begins : starts_with nat_eq (piece_stream s rows) (schema_message s) ≡ true
   pub bytes : 1 ≤ length (piece_stream s rows)

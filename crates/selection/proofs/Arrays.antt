@@ -2,7 +2,7 @@
 use Rattle.std.proofs.Common.{◌≡◌, ℕ, zero, suc, ◌+◌, ◌<◌, ◌≤◌, Bool, true, false, List, [], ◌∷◌, ◌++◌, map, length, drop, get_or, refl, sym, ap, ◌∙◌, arith, append_assoc}
 use Rattle.std.specs.Prelude.{◌&&◌, nat_le, Option, Some, None, slice_get}
 use Rattle.std.specs.List.{cons_option, list_all}
-use Rattle.std.proofs.lemmas.List.{map-append}
+use Rattle.std.proofs.lemmas.List.{map-append, get_or_default, drop_all}
 use Rattle.facts.specs.laws.Lists.{drop-item}
 use Rattle.arrow_schema.specs.Column.{Column, columns_of}
 use Rattle.cells.specs.Cell.{Cell}
@@ -16,16 +16,12 @@ use Rattle.selection.specs.inner.Picked.{first_arrays}
 
 -- ---- the array at a place
 
-none_dropped : (n : ℕ) → drop {A = PlacedArray} n [] ≡ []
-none_dropped zero = refl
-none_dropped (suc n) = refl
-
 array_at : (f : PlacedArray → Array) (n p : ℕ) (arrays : List PlacedArray) → p < n
     → slice_get (first_arrays n (arrays_of (map f arrays))) p ≡ Some (first_array (arrays_of (map f (drop p arrays))))
 array_at f zero p arrays h = absurd (omega (arith, h))
 array_at f (suc n) zero arrays h = refl
 array_at f (suc n) (suc p) [] h =
-    array_at f n p [] (omega (arith, h)) ∙ ap (λ (placed : List PlacedArray). Some (first_array (arrays_of (map f placed)))) (none_dropped p)
+    array_at f n p [] (omega (arith, h)) ∙ ap (λ (placed : List PlacedArray). Some (first_array (arrays_of (map f placed)))) (drop_all {X = PlacedArray} p [] (omega arith))
 array_at f (suc n) (suc p) (a ∷ arrays) h = array_at f n p arrays (omega (arith, h))
 
 no_array_at : (n p : ℕ) (arrays : Arrays) → n ≤ p → slice_get (first_arrays n arrays) p ≡ None
@@ -33,14 +29,9 @@ no_array_at zero p arrays h = refl
 no_array_at (suc n) zero arrays h = absurd (omega (arith, h))
 no_array_at (suc n) (suc p) arrays h = no_array_at n p (other_arrays arrays) (omega (arith, h))
 
-get_or_any : {X : Type 0} (xs : List X) (k : ℕ) (d e : X) → k < length xs → get_or xs k d ≡ get_or xs k e
-get_or_any [] k d e h = absurd (omega (arith, h))
-get_or_any (x ∷ xs) zero d e h = refl
-get_or_any (x ∷ xs) (suc k) d e h = get_or_any xs k d e (omega (arith, h))
-
 -- what stands at the places from one on
 picked_from : {X : Type 0} (ps : List ℕ) (i : ℕ) (xs : List X) → i < length ps → pick (drop i ps) xs ≡ cons_option (slice_get xs (get_or ps i 0)) (pick (drop (i + 1) ps) xs)
-picked_from ps i xs lt = ap (λ (qs : List ℕ). pick qs xs) (drop-item ps i (get_or ps i 0) lt (get_or_any ps i 0 (get_or ps i 0) lt))
+picked_from ps i xs lt = ap (λ (qs : List ℕ). pick qs xs) (drop-item ps i (get_or ps i 0) lt (get_or_default ps i 0 (get_or ps i 0) lt))
 
 -- an array more
 pub one_picked : (f : PlacedArray → Array) (ps : List ℕ) (i n : ℕ) (arrays before more : List PlacedArray) (a : PlacedArray) (all : List Array) → i < length ps → get_or ps i 0 < n

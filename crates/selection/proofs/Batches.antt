@@ -1,13 +1,12 @@
 -- The batches of the columns asked for, one after another.
-use Rattle.std.proofs.Common.{◌≡◌, ℕ, ◌+◌, ◌<◌, ◌≤◌, Bool, true, List, [], ◌∷◌, ◌++◌, map, length, take, get_or, refl, sym, ap, ◌∙◌, append_assoc, length-append, arith}
+use Rattle.std.proofs.Common.{◌≡◌, ℕ, ◌+◌, ◌<◌, true, List, [], ◌∷◌, ◌++◌, map, length, take, get_or, refl, sym, ap, ◌∙◌, append_assoc, length-append, arith}
 use Rattle.std.specs.Prelude.{sum_by}
-use Rattle.std.specs.List.{flat_map, list_all, range_with_len}
-use Rattle.std.proofs.lemmas.Bool.{and_parts, and_from}
-use Rattle.std.proofs.lemmas.List.{take_more, append-nil, map-append, length-map}
-use Rattle.std.proofs.lemmas.List.Concat.{flat_map-append, flat_map-cons}
-use Rattle.std.proofs.lemmas.List.Folds.{list_all-append}
+use Rattle.std.specs.List.{flat_map, range_with_len}
+use Rattle.std.proofs.lemmas.List.{map-append, length-map}
+use Rattle.std.proofs.lemmas.List.Concat.{flat_map-cons}
 use Rattle.std.proofs.lemmas.List.FromFn.{length-map-range_with_len}
-use Rattle.std.proofs.lemmas.List.Sums.{sum_by-cons, sum_by-append, sum_by-take-le}
+use Rattle.std.proofs.lemmas.List.Sums.{sum_by-cons, sum_by-append}
+use Rattle.facts.specs.laws.Lists.{maps_same, map_map, take-item, flat_map-item}
 use Rattle.arrow_schema.specs.Column.{Column, Columns}
 use Rattle.arrow_schema.specs.View.{column_of}
 use Rattle.arrow_schema.specs.declared.types.Field.{Field}
@@ -24,28 +23,6 @@ use Rattle.values.specs.declared.part.Part.{Part}
 
 -- ---- lists
 
-maps_same : {X Y : Type 0} (f g : X → Y) → ((x : X) → f x ≡ g x) → (xs : List X) → map f xs ≡ map g xs
-maps_same f g h [] = refl
-maps_same {Y = Y} f g h (x ∷ xs) = (λ k. h x k ∷ maps_same f g h xs k)
-
-map_map : {X Y Z : Type 0} (f : Y → Z) (g : X → Y) (xs : List X) → map f (map g xs) ≡ map (λ x. f (g x)) xs
-map_map f g [] = refl
-map_map f g (x ∷ xs) = ap (λ zs. f (g x) ∷ zs) (map_map f g xs)
-
-first_and_next : {X : Type 0} (xs : List X) (i : ℕ) (x : X) → i < length xs → x ≡ get_or xs i x → take (i + 1) xs ≡ take i xs ++ x ∷ []
-first_and_next xs i x lt is = take_more xs i x lt ∙ ap (λ y. take i xs ++ y ∷ []) (sym is)
-
-pub one_joined : {X A : Type 0} (f : X → List A) (xs : List X) (x : X) → flat_map f (xs ++ x ∷ []) ≡ flat_map f xs ++ f x
-one_joined f xs x = flat_map-append f xs (x ∷ []) ∙ ap (λ ys. flat_map f xs ++ ys) (flat_map-cons f x [] ∙ append-nil (f x))
-
-pub next_taken : {X A : Type 0} (f : X → List A) (xs : List X) (i : ℕ) (x : X) → i < length xs → x ≡ get_or xs i x → flat_map f (take (i + 1) xs) ≡ flat_map f (take i xs) ++ f x
-next_taken f xs i x lt is = ap (flat_map f) (first_and_next xs i x lt is) ∙ one_joined f (take i xs) x
-
-pub next_passes : {X : Type 0} (p : X → Bool) (xs : List X) (i : ℕ) (x : X) → i < length xs → x ≡ get_or xs i x → list_all p (take (i + 1) xs) ≡ true → (list_all p (take i xs) ≡ true) × (p x ≡ true)
-next_passes p xs i x lt is all =
-    let both = and_parts (list_all p (take i xs)) (list_all p (x ∷ [])) (sym (list_all-append p (take i xs) (x ∷ [])) ∙ ap (list_all p) (sym (first_and_next xs i x lt is)) ∙ all) in
-    (both.0, (and_parts (p x) true both.1).0)
-
 -- ---- one more batch, or the batches of one more part
 
 -- the rows of what was added, where those of what it came from are mapped
@@ -54,7 +31,7 @@ pub joined_more : {X A : Type 0} (h : A → A) (f : X → List A) (xs : List X) 
 joined_more {A = A} h f xs i x new old own before lt is added are was =
     added ∙ (λ k. was k ++ are k) ∙ append_assoc before (map h (flat_map f (take i xs))) (map h (f x))
     ∙ ap (λ (ys : List A). before ++ ys) (sym (map-append h (flat_map f (take i xs)) (f x)))
-    ∙ ap (λ (ys : List A). before ++ map h ys) (sym (next_taken f xs i x lt is))
+    ∙ ap (λ (ys : List A). before ++ map h ys) (sym (flat_map-item f xs i x lt is))
 
 -- ---- what a batch has
 
@@ -94,4 +71,4 @@ rows_counted cs (b ∷ bs) =
 pub sum_more : (bs : List PickedBatch) (i : ℕ) (b : PickedBatch) → i < length bs → b ≡ get_or bs i b → sum_by (λ c. c.rows) (take (i + 1) bs) ≡ sum_by (λ c. c.rows) (take i bs) + b.rows
 sum_more bs i b lt is =
     let f = λ (c : PickedBatch). c.rows in
-    ap (sum_by f) (first_and_next bs i b lt is) ∙ sum_by-append f (take i bs) (b ∷ []) ∙ ap (λ n. sum_by f (take i bs) + n) (omega (arith, sum_by-cons f b []))
+    ap (sum_by f) (take-item bs i b lt is) ∙ sum_by-append f (take i bs) (b ∷ []) ∙ ap (λ n. sum_by f (take i bs) + n) (omega (arith, sum_by-cons f b []))

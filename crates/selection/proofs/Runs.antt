@@ -1,20 +1,14 @@
 -- The rows that a mask keeps, as runs.
 use Rattle.std.proofs.Common.{◌≡◌, ℕ, ◌+◌, ◌-◌, ◌<◌, ◌≤◌, true, false, List, [], ◌++◌, length, take, drop, sym, ap, subst, ◌∙◌, arith, length-append}
 use Rattle.std.proofs.lemmas.List.{length-take-le, length-drop, take-take}
-use Rattle.std.proofs.lemmas.List.FromFn.{length-map-range_with_len}
 use Rattle.arrow_schema.specs.Column.{Columns}
 use Rattle.bitmap.specs.Bits.{bit}
 use Rattle.cells.specs.Cell.{Cell}
-use Rattle.columns.specs.CellAt.{row_at}
 use Rattle.query.specs.Choice.{rows_set}
 use Rattle.query.specs.laws.RowsSet.{kept_front, set_append, take-none, front_start, front_next, front_run, front_done}
-use Rattle.run_pieces.specs.Rows.{arrays_of_run, run_rows, runs_rows, are_runs_sound}
-use Rattle.run_pieces.specs.declared.row_run.RowRun.{RowRun}
+use Rattle.run_pieces.specs.Rows.{runs_rows, are_runs_sound}
 use Rattle.selection.specs.declared.kept.KeptRuns.{KeptRuns}
 use Rattle.selection.specs.inner.Kept.{AreKept, Keeps}
-
-pub run_size : (cs : Columns) (run : RowRun) → length (run_rows cs run) ≡ run.len
-run_size cs run = length-map-range_with_len (row_at cs (arrays_of_run run)) run.from run.len
 
 -- the same rows
 pub kept_same : (cs : Columns) (before after : List (List Cell)) (k : KeptRuns) → before ≡ after → AreKept cs before k → AreKept cs after k

@@ -22,11 +22,12 @@ use Rattle.columns.specs.declared.array.PlacedLayout.TheVariants as layouts
 use Rattle.columns.specs.declared.span.Span.{Span}
 use Rattle.columns.specs.laws.Grown.{longer_bytes}
 use Rattle.columns.specs.laws.Longer.{within_more}
+use Rattle.columns.specs.FlatLayouts.{flat_layout}
 use Rattle.text_columns.specs.declared.column_values.Values.{Values}
 use Rattle.text_columns.specs.declared.column_values.Values.TheVariants.{Booleans, Integers, Texts}
 use Rattle.text_columns.specs.declared.builder.ColumnBuilder.{ColumnBuilder}
 use Rattle.text_columns.specs.inner.Kept.{Holds, IsOf, Keeps, column_at}
-use Rattle.text_columns.specs.inner.Placed.{ArePlaced, IsAppended, IsLaid, IsPlaced, array_of, is_layout_within, layout_of, layout_placed, validity_of_bits}
+use Rattle.text_columns.specs.inner.Placed.{ArePlaced, IsAppended, IsLaid, IsPlaced, array_of, is_layout_within, layout_of, validity_of_bits}
 
 -- ---- buffers
 
@@ -51,21 +52,21 @@ ends_last : (old buffer new : List ℕ) (span : Span) → IsAppended old buffer 
 ends_last old buffer new span a = ap (λ (xs : List ℕ). ends_within (length xs) span) (sym (append-nil new)) ∙ a.ends []
 
 -- layouts without arrays below them, as places in bytes
-bits_are : (bytes : List ℕ) (span : Span) → layout_placed bytes (layouts.Bits span) ≡ bit_layout (within bytes span)
-bits_are bytes span = ap (layout_placed bytes) (sym (layouts.rolls-Bits span)) ∙ fold-roll-PlacedLayout Layout Array (layout_step bytes no_dictionary) (array_step bytes) (placed.Bits span)
+bits_are : (bytes : List ℕ) (span : Span) → flat_layout bytes (layouts.Bits span) ≡ bit_layout (within bytes span)
+bits_are bytes span = ap (flat_layout bytes) (sym (layouts.rolls-Bits span)) ∙ fold-roll-PlacedLayout Layout Array (layout_step bytes no_dictionary) (array_step bytes) (placed.Bits span)
 
 bits_within : (size : ℕ) (span : Span) → is_layout_within size (layouts.Bits span) ≡ ends_within size span
 bits_within size span = ap (is_layout_within size) (sym (layouts.rolls-Bits span)) ∙ fold-roll-PlacedLayout Bool Bool (layout_within size (λ part. true)) (array_within size) (placed.Bits span)
 
-values_are : (bytes : List ℕ) (span : Span) → layout_placed bytes (layouts.Fixed span) ≡ fixed_layout (within bytes span)
-values_are bytes span = ap (layout_placed bytes) (sym (layouts.rolls-Fixed span)) ∙ fold-roll-PlacedLayout Layout Array (layout_step bytes no_dictionary) (array_step bytes) (placed.Fixed span)
+values_are : (bytes : List ℕ) (span : Span) → flat_layout bytes (layouts.Fixed span) ≡ fixed_layout (within bytes span)
+values_are bytes span = ap (flat_layout bytes) (sym (layouts.rolls-Fixed span)) ∙ fold-roll-PlacedLayout Layout Array (layout_step bytes no_dictionary) (array_step bytes) (placed.Fixed span)
 
 values_within : (size : ℕ) (span : Span) → is_layout_within size (layouts.Fixed span) ≡ ends_within size span
 values_within size span = ap (is_layout_within size) (sym (layouts.rolls-Fixed span)) ∙ fold-roll-PlacedLayout Bool Bool (layout_within size (λ part. true)) (array_within size) (placed.Fixed span)
 
-texts_are : (bytes : List ℕ) (first second : Span) → layout_placed bytes (layouts.Binary first second) ≡ binary_layout (within bytes first) (within bytes second)
+texts_are : (bytes : List ℕ) (first second : Span) → flat_layout bytes (layouts.Binary first second) ≡ binary_layout (within bytes first) (within bytes second)
 texts_are bytes first second =
-    ap (layout_placed bytes) (sym (layouts.rolls-Binary first second)) ∙ fold-roll-PlacedLayout Layout Array (layout_step bytes no_dictionary) (array_step bytes) (placed.Binary first second)
+    ap (flat_layout bytes) (sym (layouts.rolls-Binary first second)) ∙ fold-roll-PlacedLayout Layout Array (layout_step bytes no_dictionary) (array_step bytes) (placed.Binary first second)
 
 texts_within : (size : ℕ) (first second : Span) → is_layout_within size (layouts.Binary first second) ≡ (ends_within size first && ends_within size second)
 texts_within size first second =
@@ -89,7 +90,7 @@ texts_laid width offsets contents old mid new first second a b =
       ends = texts_within (length new) first second ∙ and_from _ _ inner (ends_last mid _ new second b);
     }
 
-array_is : (bytes : List ℕ) (a : PlacedArray) → array_in bytes no_dictionary a ≡ array a.slots (within bytes a.validity) (layout_placed bytes a.layout)
+array_is : (bytes : List ℕ) (a : PlacedArray) → array_in bytes no_dictionary a ≡ array a.slots (within bytes a.validity) (flat_layout bytes a.layout)
 array_is bytes a = fold_out-PlacedArray Layout Array (layout_step bytes no_dictionary) (array_step bytes) a
 
 within_is : (size : ℕ) (a : PlacedArray) → is_within_by size (λ part. true) a ≡ (ends_within size a.validity && is_layout_within size a.layout)

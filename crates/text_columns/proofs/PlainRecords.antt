@@ -2,7 +2,7 @@
 use Rattle.std.specs.Prelude.{not, ◌||◌, ◌==◌, Some, if◌then◌else◌}
 use Rattle.std.specs.List.{list_all}
 use Rattle.std.proofs.Common.{◌≡◌, ℕ, zero, suc, Bool, true, false, List, [], ◌∷◌, ◌++◌, refl, arith, ap, sym, subst, ◌∙◌, append_assoc, append-nil}
-use Rattle.std.proofs.lemmas.Bool.{and_parts, eqb-true, false≢true, or_parts}
+use Rattle.std.proofs.lemmas.Bool.{and_parts, eqb-true, false≢true, or_parts, not-true}
 use Rattle.csv.specs.Machine.{after_end, next_record}
 use Rattle.csv.specs.Reading.{default_config, records_from}
 use Rattle.csv.specs.declared.parser.State.{State}
@@ -11,10 +11,6 @@ use Rattle.csv.specs.declared.parser.Terminator.TheVariants as term
 use Rattle.text_import.specs.Stands.{Left}
 use Rattle.text_import.specs.laws.Left.{enough, left_some}
 use Rattle.text_columns.specs.inner.Plain.{IsFresh, begins_quoted, ends_field, ends_line}
-
-off : (b : Bool) → not b ≡ true → b ≡ false
-off false h = refl
-off true h = cc
 
 -- ---- fields
 
@@ -28,7 +24,7 @@ module _ (fs : List (List ℕ)) where
   run_in [] field rest h = ap (λ (xs : List ℕ). next_record default_config st.InField fs xs rest) (sym (append-nil field))
   run_in (c ∷ f) field rest h =
       let parts = and_parts (not (ends_field c)) (list_all (λ b. not (ends_field b)) f) h in
-      joins c field (f ++ rest) (off _ parts.0) ∙ run_in f (field ++ c ∷ []) rest parts.1 ∙ ap (λ (xs : List ℕ). next_record default_config st.InField fs xs rest) (append_assoc field (c ∷ []) f)
+      joins c field (f ++ rest) (not-true _ parts.0) ∙ run_in f (field ++ c ∷ []) rest parts.1 ∙ ap (λ (xs : List ℕ). next_record default_config st.InField fs xs rest) (append_assoc field (c ∷ []) f)
 
   -- its first byte, where that is no quote
   begins : (c : ℕ) (rest : List ℕ) → ends_field c ≡ false → (c == 34) ≡ false → next_record default_config st.StartField fs [] (c ∷ rest) ≡ next_record default_config st.InField fs (c ∷ []) rest
@@ -57,7 +53,7 @@ field_in : (fs : List (List ℕ)) (c : ℕ) (f rest : List ℕ) → list_all (λ
     → next_record default_config st.StartField fs [] ((c ∷ f) ++ rest) ≡ next_record default_config st.InField fs (c ∷ f) rest
 field_in fs c f rest h q =
     let parts = and_parts (not (ends_field c)) (list_all (λ b. not (ends_field b)) f) h in
-    begins fs c (f ++ rest) (off _ parts.0) q ∙ run_in fs f (c ∷ []) rest parts.1
+    begins fs c (f ++ rest) (not-true _ parts.0) q ∙ run_in fs f (c ∷ []) rest parts.1
 
 pub before_comma : (fs : List (List ℕ)) (f rest : List ℕ) → list_all (λ b. not (ends_field b)) f ≡ true → begins_quoted f ≡ false
     → next_record default_config st.StartField fs [] (f ++ 44 ∷ rest) ≡ next_record default_config st.StartField (fs ++ f ∷ []) [] rest
@@ -135,7 +131,7 @@ record Ends (s : State) (fs : List (List ℕ)) (field run rest : List ℕ) (e : 
   is : next_record default_config s fs field (run ++ e ∷ rest) ≡ Some (fields, after_end term.CRLF e, rest)
 
 quiet_parts : (c : ℕ) → not (ends_line c || (c == 34)) ≡ true → (ends_line c ≡ false) × ((c == 34) ≡ false)
-quiet_parts c h = let parts = or_parts (ends_line c) (c == 34) (off _ h) in (parts.0, parts.1)
+quiet_parts c h = let parts = or_parts (ends_line c) (c == 34) (not-true _ h) in (parts.0, parts.1)
 
 comma_at_once : (fs : List (List ℕ)) (rest : List ℕ) → next_record default_config st.StartField fs [] (44 ∷ rest) ≡ next_record default_config st.StartField (fs ++ [] ∷ []) [] rest
 unfolding next_record

@@ -3,6 +3,7 @@ use Rattle.std.specs.Prelude.{◌==◌, Some, slice_get, slice_index}
 use Rattle.std.proofs.Common.{◌≡◌, ℕ, zero, suc, ◌+◌, ◌-◌, ◌≤◌, ◌<◌, true, false, List, [], ◌∷◌, ◌++◌, length, take, drop, set, refl, arith, ap, sym, subst, ◌∙◌, append_assoc, append-nil, length-append, length-set}
 use Rattle.std.proofs.lemmas.Bool.{eqb-true}
 use Rattle.std.proofs.lemmas.Option.{slice_get_within}
+use Rattle.std.proofs.lemmas.List.{drop_more, drop_all}
 use Rattle.csv.specs.Machine.{after_end, next_record}
 use Rattle.csv.specs.Reading.{default_config, strip_bom}
 use Rattle.csv.specs.declared.parser.State.TheVariants as st
@@ -17,7 +18,7 @@ use Rattle.text_columns.specs.declared.plain.PlainRow.{PlainRow}
 use Rattle.text_columns.specs.inner.Kept.{KeepAll, KeepsField, KeepsFields}
 use Rattle.text_columns.specs.inner.Plain.{IsFieldAt, PushesPlain, SkipsEnds, SkipsRecord, begins_quoted, begins_with, ends_field, ends_line}
 use Rattle.text_columns.proofs.PlainRecords.{after_line, before_comma, before_end, before_line, begins_line, left_fresh, left_passed, left_skipped, starts_record}
-use Rattle.text_columns.proofs.PlainText.{byte_at, nothing_left, parted}
+use Rattle.text_columns.proofs.PlainText.{parted}
 use Rattle.text_columns.proofs.Rows.{Half, half_all, half_more, half_none}
 
 at_place : {X : Type 0} (xs ys : List X) (x : X) (i : ℕ) → length xs ≡ i → slice_get (xs ++ x ∷ ys) i ≡ Some x
@@ -83,7 +84,7 @@ module _ (text null_text : List ℕ) (from at end i heavy more : ℕ) (old bs : 
 
       comma_rest : (text : List ℕ) (end : ℕ) → end < length text → begins_with 44 (drop end text) ≡ true → drop end text ≡ 44 ∷ drop (end + 1) text
       comma_rest text end lt c =
-          let byte = byte_at text end lt in
+          let byte = drop_more text end 0 lt in
           let is : slice_index text end ≡ 44 = eqb-true _ _ (rw byte at c) in
           byte ∙ ap (λ (x : ℕ). x ∷ drop (end + 1) text) is
 
@@ -105,7 +106,7 @@ module _ (text null_text : List ℕ) (from at end i heavy more : ℕ) (old bs : 
   line_there : (e : ℕ) (rest : List ℕ) → drop end text ≡ e ∷ rest → begins_with 44 (drop end text) ≡ false → ends_line e ≡ true
   line_there e rest is other =
       let inside : end < length text = there text end e rest is in
-      let byte = byte_at text end inside in
+      let byte = drop_more text end 0 inside in
       let same : slice_index text end ≡ e = cc in
       let stop : ends_field e ≡ true = subst (λ (x : ℕ). ends_field x ≡ true) same (field.stops inside) in
       let comma : (e == 44) ≡ false = rw is at other in
@@ -159,12 +160,12 @@ unfolding next_record
 nothing left stands = left_none left st.StartRecord [] stands refl
 
 pub text_ended : (text : List ℕ) (at : ℕ) (left : List (List (List ℕ))) → at ≡ length text → InText text at left → left ≡ []
-text_ended text at left end stands = nothing left (subst (λ (xs : List ℕ). Left left st.StartRecord xs) (nothing_left text at (omega (arith, end))) stands)
+text_ended text at left end stands = nothing left (subst (λ (xs : List ℕ). Left left st.StartRecord xs) (drop_all at text (omega (arith, end))) stands)
 
 pub next_stands : (text null_text : List ℕ) (at : ℕ) (row : PlainRow) (old new : List ColumnBuilder) (left : List (List (List ℕ))) (p : PushesPlain text null_text at row old new) → at < length text
     → ends_line (slice_index text at) ≡ false → InText text at left → (others : List (List (List ℕ))) × (left ≡ p.fields ∷ others) × InText text row.next others
 next_stands text null_text at row old new left p lt quiet stands =
-    let byte = byte_at text at lt in
+    let byte = drop_more text at 0 lt in
     let starts : next_record default_config st.StartRecord [] [] (drop at text) ≡ next_record default_config st.StartField [] [] (drop at text) =
     ap (next_record default_config st.StartRecord [] []) byte ∙ starts_record (slice_index text at) (drop (at + 1) text) quiet ∙ ap (next_record default_config st.StartField [] []) (sym byte) in
     let (others, whole, more) = left_some left st.StartRecord (drop at text) (p.fields, p.state, drop row.next text) stands (starts ∙ p.read) in
@@ -175,10 +176,10 @@ pub header_passed : (text : List ℕ) (mark at from : ℕ) (header : List (List 
 header_passed text mark at from header records marked skips passes is =
     let first : InText text mark (header ∷ records) = subst (λ (xs : List ℕ). Left (header ∷ records) st.StartRecord xs) (sym marked) (subst (λ (rs : List (List (List ℕ))). Left rs st.StartRecord (strip_bom text)) is (left_first text)) in
     let start = ends_passed text mark at (header ∷ records) skips first in
-    let byte = byte_at text passes.last passes.high in
+    let byte = drop_more text passes.last 0 passes.high in
     let whole : drop at text ≡ take (passes.last - at) (drop at text) ++ slice_index text passes.last ∷ drop (passes.last + 1) text = parted text at passes.last passes.low ∙ ap (λ (xs : List ℕ). take (passes.last - at) (drop at text) ++ xs) byte in
     let inside : at < length text = omega (arith, passes.low, passes.high) in
-    let quiet : begins_line (drop at text) ≡ false = ap begins_line (byte_at text at inside) ∙ skips.stops inside in
+    let quiet : begins_line (drop at text) ≡ false = ap begins_line (drop_more text at 0 inside) ∙ skips.stops inside in
     let left = left_passed header records (take (passes.last - at) (drop at text)) (drop (passes.last + 1) text) (slice_index text passes.last) passes.plain passes.stops (ap begins_line (sym whole) ∙ quiet)
     (subst (λ (xs : List ℕ). Left (header ∷ records) st.StartRecord xs) whole start) in
     subst (λ (n : ℕ). InText text n records) (sym passes.behind) left

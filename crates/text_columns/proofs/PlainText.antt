@@ -1,9 +1,9 @@
 -- Bytes of a text between two places.
 use Rattle.std.specs.Prelude.{get_or, slice_index}
 use Rattle.std.specs.List.{list_all}
-use Rattle.std.proofs.Common.{◌≡◌, ℕ, zero, suc, ◌+◌, ◌-◌, ◌≤◌, ◌<◌, Bool, true, false, List, [], ◌∷◌, ◌++◌, length, take, drop, refl, arith, ap, sym, ◌∙◌, length-drop}
+use Rattle.std.proofs.Common.{◌≡◌, ℕ, ◌+◌, ◌-◌, ◌≤◌, ◌<◌, Bool, true, false, List, [], ◌∷◌, ◌++◌, length, take, drop, refl, arith, ap, sym, ◌∙◌, length-drop}
 use Rattle.std.proofs.lemmas.Bool.{and_from}
-use Rattle.std.proofs.lemmas.List.{drop-drop, drop_more, get_or-drop, take-append-drop, take_more}
+use Rattle.std.proofs.lemmas.List.{drop-drop, get_or-drop, take-append-drop, take_more}
 use Rattle.csv.specs.Reading.{is_bom, strip_bom}
 use Rattle.std.proofs.lemmas.List.Folds.{list_all-append}
 use Rattle.text_columns.specs.inner.Plain.{AllBetween}
@@ -28,15 +28,6 @@ pub parted : (text : List ℕ) (from end : ℕ) → from ≤ end → drop from t
 parted text from end le =
     let e : from + (end - from) ≡ end = omega arith in
     sym (take-append-drop (end - from) (drop from text)) ∙ ap (λ (ys : List ℕ). take (end - from) (drop from text) ++ ys) (drop-drop (end - from) from text ∙ ap (λ (n : ℕ). drop n text) e)
-
-pub byte_at : (text : List ℕ) (i : ℕ) → i < length text → drop i text ≡ slice_index text i ∷ drop (i + 1) text
-byte_at text i lt = drop_more text i 0 lt
-
-pub nothing_left : (text : List ℕ) (i : ℕ) → length text ≤ i → drop i text ≡ []
-nothing_left [] zero le = refl
-nothing_left [] (suc i) le = refl
-nothing_left (b ∷ text) zero le = absurd (omega arith)
-nothing_left (b ∷ text) (suc i) le = nothing_left text i (omega arith)
 
 -- ---- a byte order mark
 

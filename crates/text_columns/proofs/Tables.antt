@@ -2,14 +2,14 @@
 use Rattle.std.specs.Prelude.{◌==◌, not, nat_lt, Some, None, Result, Ok, slice_get}
 use Rattle.std.specs.List.{AllPass, flat_map, list_all, list_any}
 use Rattle.std.proofs.Common.{◌≡◌, ℕ, zero, suc, true, false, List, [], ◌∷◌, ◌++◌, length, map, refl, arith, ap, sym, subst, ◌∙◌, append-nil}
-use Rattle.std.proofs.lemmas.Bool.{and_from, eqb-true, le-ltb, not-false, or_from, or_parts}
+use Rattle.std.proofs.lemmas.Bool.{and_from}
 use Rattle.arrow_schema.specs.Column.{Column, Columns, Kind, booleans, integers, dates, timestamps, texts, large_texts, column, columns_of, PlainSchema}
 use Rattle.arrow_schema.specs.Limits.{IsWithinLimits}
 use Rattle.cells.specs.Cell.{Cell, PlainTable}
 use Rattle.cells.specs.Row.{is_row}
 use Rattle.cells.specs.Weight.{table_weight}
 use Rattle.text_import.specs.declared.refusal.Refused.{Refused}
-use Rattle.columns.specs.Array.{Array, Arrays, arrays_of, array_list, slots_in}
+use Rattle.columns.specs.Array.{Arrays, arrays_of, array_list, slots_in}
 use Rattle.columns.specs.Buffers.{buffers_of, nodes_of, typed_dictionaries}
 use Rattle.columns.specs.Built.{built, built_kind, built_parts, first_cell, other_cells}
 use Rattle.columns.specs.CellAt.{rows_in}
@@ -19,6 +19,7 @@ use Rattle.columns.specs.Sound.{are_sound}
 use Rattle.columns.specs.Tests.{arrays_at, arrays_below, every_array, has_short_child, is_short, is_unordered, typed}
 use Rattle.columns.specs.View.{placed_arrays}
 use Rattle.columns.specs.laws.Sounds.{AreClean, all_sound}
+use Rattle.columns.specs.laws.Rows.{none_shorter}
 use Rattle.values.specs.Parts.{are_parts_sound, parts_table}
 use Rattle.values.specs.Table.{IsTable}
 use Rattle.values.specs.declared.part.Batch.{Batch}
@@ -81,14 +82,6 @@ all_kept : (cs : List Column) (rows : List (List Cell)) (bs : List ColumnBuilder
 all_kept cs rows bs k j c dc = let (b, db) = there_too cs bs j c k.count dc in (column_at j rows, b, k.each j c b dc db)
 
 -- ---- the batch
-
-none_shorter : (n : ℕ) (xs : List Array) → list_any (λ a. not (slots_in a == n)) xs ≡ false → list_any (λ a. nat_lt (slots_in a) n) xs ≡ false
-none_shorter n [] h = refl
-none_shorter n (x ∷ xs) h =
-    let parts = or_parts (not (slots_in x == n)) (list_any (λ a. not (slots_in a == n)) xs) h in
-    let same : slots_in x ≡ n = eqb-true _ _ (not-false _ parts.0) in
-    let here : nat_lt (slots_in x) n ≡ false = le-ltb _ _ (omega (arith, same)) in
-    or_from (nat_lt (slots_in x) n) (list_any (λ a. nat_lt (slots_in a) n) xs) here (none_shorter n xs parts.1)
 
 -- what is known of the arrays that rows are written as
 pub record AreBuilt (cs : Columns) (rows : List (List Cell)) : Type 0 where

@@ -5,9 +5,9 @@ ghost use Rattle.cells.specs.Typed.{typed_boolean};
 ghost use Rattle.text_columns.specs.inner.Kept.{AppendsBoolean, TakesNull, TakesText};
 
 use crate::integers::push_integer;
-use crate::texts::{push_contents, push_offset};
+use crate::texts::push_contents;
 use arrow_schema::{BitWidth, IntegerType};
-use columns::OffsetWidth;
+use columns::{OffsetWidth, push_offset};
 use std::alloc::AllocError;
 use text_import::spelled_boolean;
 
@@ -53,7 +53,7 @@ impl Values {
             Values::Booleans(bits) => bits.push(false)?,
             Values::Integers(integer, values) => push_zeros(values, integer.width)?,
             Values::Texts(width, offsets, contents) => {
-                push_offset(offsets, *width, contents.len())?;
+                push_offset(offsets, *width, contents.len() as u64)?;
             }
         }
         Ok(())

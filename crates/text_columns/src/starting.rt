@@ -6,9 +6,8 @@ ghost use Rattle.text_columns.specs.inner.Kept.{KeepAll, Keeps, StartsTexts, Tak
 
 use crate::builder::ColumnBuilder;
 use crate::column_values::Values;
-use crate::texts::push_offset;
 use arrow_schema::{DataType, Field};
-use columns::{OffsetWidth, date_integer, timestamp_integer};
+use columns::{OffsetWidth, date_integer, push_offset, timestamp_integer};
 use std::alloc::{AllocError, Global};
 
 // Before the first text stands the offset 0.

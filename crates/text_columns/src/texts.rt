@@ -1,27 +1,12 @@
 // Texts: where they end, and their bytes.
-ghost use Rattle.std.specs.Prelude.{◌≡◌, ◌+◌, ◌++◌, true, length, OnOk, IfOk, IfSome};
+ghost use Rattle.std.specs.Prelude.{◌≡◌, ◌+◌, ◌++◌, true, length, IfOk, IfSome};
 ghost use Rattle.std.specs.Str.{is_utf8};
 ghost use Rattle.byteorder.specs.Endian.{little_bytes};
 ghost use Rattle.columns.specs.Offsets.{width_of};
 
-use columns::OffsetWidth;
+use columns::{OffsetWidth, push_offset};
 use std::alloc::AllocError;
 use text_import::text_of;
-
-/// Appends an offset.
-pub(crate) fn push_offset(
-    offsets: &mut Vec<u8>,
-    width: OffsetWidth,
-    offset: usize,
-) -> Result<(), AllocError>
-    ensures { OnOk result (offsets.new.items ≡ offsets.old.items ++ little_bytes (width_of width) offset) }
-{
-    let bytes = (offset as u64).to_le_bytes();
-    match width {
-        OffsetWidth::Four => offsets.extend_from_slice(&bytes[..4]),
-        OffsetWidth::Eight => offsets.extend_from_slice(&bytes),
-    }
-}
 
 /// Appends a text that is UTF-8 and where it ends, and answers what it weighs.
 pub(crate) fn push_contents(
@@ -38,6 +23,6 @@ pub(crate) fn push_contents(
         return Ok(None);
     }
     contents.extend_from_slice(text)?;
-    push_offset(offsets, width, contents.len())?;
+    push_offset(offsets, width, contents.len() as u64)?;
     Ok(Some(1 + text.len() as u64))
 }

@@ -5,7 +5,7 @@ use Rattle.std.specs.Global.{Global}
 use Rattle.std.specs.Borrow.{Bor}
 use Rattle.std.specs.Map.{keys_of as keys_of_entries}
 use Rattle.std.proofs.Common.{arith}
-use Rattle.std.proofs.lemmas.Bool.{ne_eqb, eq-eqb}
+use Rattle.std.proofs.lemmas.Bool.{ne_eqb, eq-eqb, or_right}
 use Rattle.serde_json.specs.Data.{Data, Items, Members}
 use Rattle.serde_json.specs.View.{view, items_view, members_view}
 use Rattle.serde_json.specs.declared.value.Value.{Value}
@@ -20,11 +20,12 @@ use Rattle.text_import.specs.declared.refusal.Refused.{Refused}
 use Rattle.text_import.specs.declared.refusal.CellError.{CellError}
 use Rattle.text_import.specs.Refusals.{refusal_of, numbered}
 use Rattle.facts.specs.Outcomes.{Gives, Reports}
+use Rattle.facts.specs.Texts.{text_list}
 use Rattle.text_import.specs.Rows.{rows_from}
 use Rattle.cells.specs.Cell.{Cell, cells_of}
 use Rattle.text_import.specs.declared.refusal.Refusal.{Refusal}
 use Rattle.text_import.specs.declared.refusal.Refusal.TheVariants.{Width}
-use Rattle.text_import.specs.inner.Names.{text_list, member_of}
+use Rattle.text_import.specs.inner.Names.{member_of}
 use Rattle.text_import.proofs.RowLemmas.{cells_behind, cells_behind_more, cells_behind_end}
 use Rattle.text_import.specs.laws.Behind.{behind, told, row_more, row_refused, rows_end}
 use Rattle.std.specs.List.{list_any}
@@ -36,13 +37,9 @@ use Rattle.text_import.specs.Objects.{has_name, repeats, keys_of, item_count, co
 pub bytes_eq_sym : (a b : List ℕ) → bytes_eq a b ≡ bytes_eq b a
 bytes_eq_sym a b = same_from_decides (bytes_eq a b) (bytes_eq b a) (bytes_eq-Decides a b) (Decides-like (bytes_eq b a) sym sym (bytes_eq-Decides b a))
 
-or_true : (a b : Bool) → b ≡ true → (a || b) ≡ true
-or_true true b e = refl
-or_true false b e = e
-
 among_later : (xs ys : List (List ℕ)) (x y : List ℕ) → bytes_eq x y ≡ true → has_name (xs ++ x ∷ ys) y ≡ true
 among_later [] ys x y e = rw (bytes_eq_sym y x, e) refl
-among_later (z ∷ zs) ys x y e = or_true (bytes_eq y z) _ (among_later zs ys x y e)
+among_later (z ∷ zs) ys x y e = or_right (bytes_eq y z) _ (among_later zs ys x y e)
 
 -- a name that stands among those before it
 pub repeats_at : (xs ys : List (List ℕ)) (x : List ℕ) → has_name xs x ≡ true → repeats (xs ++ x ∷ ys) ≡ true
@@ -51,7 +48,7 @@ repeats_at (y ∷ zs) ys x e = by (bytes_eq x y) refl e (repeats_at zs ys x)
   where
     by : (b : Bool) → bytes_eq x y ≡ b → (b || has_name zs x) ≡ true → (has_name zs x ≡ true → repeats (zs ++ x ∷ ys) ≡ true) → repeats ((y ∷ zs) ++ x ∷ ys) ≡ true
     by true is h more = rw (among_later zs ys x y is) refl
-    by false is h more = or_true (has_name (zs ++ x ∷ ys) y) _ (more h)
+    by false is h more = or_right (has_name (zs ++ x ∷ ys) y) _ (more h)
 
 any_append : (k : List ℕ) (xs ys : List (List ℕ)) → has_name (xs ++ ys) k ≡ (has_name xs k || has_name ys k)
 any_append k [] ys = refl

@@ -5,6 +5,7 @@ use Rattle.std.proofs.lemmas.Bool.{ne_eqb, eq-eqb}
 use Rattle.std.specs.Borrow.{Bor}
 use Rattle.std.proofs.lemmas.List.{drop_more}
 use Rattle.std.proofs.lemmas.Option.{slice_get_past}
+use Rattle.facts.specs.Texts.{text_list}
 use Rattle.serde_json.specs.Data.{Items, Members}
 use Rattle.serde_json.specs.View.{view, items_view}
 use Rattle.serde_json.specs.declared.value.Value.{Value}
@@ -15,7 +16,7 @@ use Rattle.arrow_schema.specs.Parts.{name_of_column}
 use Rattle.text_import.specs.Flat.{field_cell}
 use Rattle.text_import.specs.Objects.{cell_in, is_blank, names_of, keys_of, repeats, has_unknown}
 use Rattle.text_import.specs.Part.{field, is_refused, refused_field, refused_by_place, refused_by_name, refused_in_items, refused_in_members}
-use Rattle.text_import.specs.inner.Names.{text_list, member_of, tested}
+use Rattle.text_import.specs.inner.Names.{member_of, tested}
 use Rattle.text_import.specs.declared.refusal.Refusal.{Refusal}
 use Rattle.text_import.specs.declared.refusal.Refusal.TheVariants.{AmbiguousNames, UnknownName}
 use Rattle.text_import.proofs.ObjectLemmas.{item_count_is, column_count_is}

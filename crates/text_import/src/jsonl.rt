@@ -9,7 +9,7 @@ ghost use Rattle.cells.specs.Dictionary.{is_any_limited};
 ghost use Rattle.text_import.specs.Refusals.{refusal_of, refused_by};
 ghost use Rattle.facts.specs.Outcomes.{Gives};
 ghost use Rattle.text_import.specs.Objects.{is_blank, line_value, line_row, lines_of, jsonl_rows_of};
-ghost use Rattle.text_import.specs.inner.Names.{text_list};
+ghost use Rattle.facts.specs.Texts.{text_list};
 
 use crate::objects::value_row;
 use crate::refusal::{CellError, Refusal, TextError};

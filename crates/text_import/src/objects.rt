@@ -12,7 +12,8 @@ ghost use Rattle.cells.specs.Dictionary.{is_any_limited};
 ghost use Rattle.text_import.specs.Refusals.{refusal_of};
 ghost use Rattle.facts.specs.Outcomes.{Gives};
 ghost use Rattle.text_import.specs.Objects.{boolean_in, number_in, text_in, bytes_in, list_in, each_item, fixed_list_in, cell_in, kind_in, cells_by_place, cells_by_name, cells_in, absent, sized, column_count, has_name, names_of, keys_of, repeats, has_unknown, value_row};
-ghost use Rattle.text_import.specs.inner.Names.{text_list, member_of, tested};
+ghost use Rattle.facts.specs.Texts.{text_list};
+ghost use Rattle.text_import.specs.inner.Names.{member_of, tested};
 
 use crate::flat::{hex_cell, number_cell, own_text};
 use crate::refusal::{CellError, Refusal};

@@ -4,12 +4,13 @@ use Rattle.std.specs.List.{list_all}
 use Rattle.bitmap.specs.Bits.{packed}
 use Rattle.columns.specs.Array.{Array, Layout, array, bit_layout, fixed_layout, binary_layout}
 use Rattle.columns.specs.Places.{within}
-use Rattle.columns.specs.View.{array_in, array_step, layout_step, no_dictionary}
+use Rattle.columns.specs.View.{array_in, no_dictionary}
 use Rattle.columns.specs.Within.{array_within, ends_within, is_within_by, layout_within}
 use Rattle.columns.specs.declared.array.PlacedArray.{PlacedArray}
 use Rattle.columns.specs.declared.array.PlacedLayout.{PlacedLayout}
 use Rattle.columns.specs.declared.array.PlacedLayout.TheFolds.{fold-PlacedLayout}
 use Rattle.columns.specs.declared.span.Span.{Span}
+use Rattle.columns.specs.FlatLayouts.{flat_layout}
 use Rattle.text_columns.specs.declared.column_values.Values.{Values}
 use Rattle.text_columns.specs.declared.column_values.Values.TheVariants.{Booleans, Integers, Texts}
 use Rattle.text_columns.specs.declared.builder.ColumnBuilder.{ColumnBuilder}
@@ -32,10 +33,6 @@ pub record IsAppended (old buffer new : List ℕ) (span : Span) : Type 0 where
   pub stands : (more : List ℕ) → within (new ++ more) span ≡ buffer
   pub ends : (more : List ℕ) → ends_within (length (new ++ more)) span ≡ true
 
--- the layout that is placed in bytes
-abbrev pub layout_placed : List ℕ → PlacedLayout → Layout
-layout_placed bytes = fold-PlacedLayout Layout Array (layout_step bytes no_dictionary) (array_step bytes)
-
 abbrev pub is_layout_within : (size : ℕ) → PlacedLayout → Bool
 is_layout_within size = fold-PlacedLayout Bool Bool (layout_within size (λ part. true)) (array_within size)
 
@@ -43,7 +40,7 @@ is_layout_within size = fold-PlacedLayout Bool Bool (layout_within size (λ part
 pub record IsLaid (values : Values) (old new : List ℕ) (layout : PlacedLayout) : Type 0 where
   pub more : List ℕ
   pub whole : new ≡ old ++ more
-  pub laid : layout_placed new layout ≡ layout_of values
+  pub laid : flat_layout new layout ≡ layout_of values
   pub ends : is_layout_within (length new) layout ≡ true
 
 -- those of a column

@@ -1,5 +1,5 @@
--- Texts behind references, and the names of an object's members.
-use Rattle.std.specs.Prelude.{◌≡◌, ℕ, List, map, Option, Some, None, Result, Ok, Err, option_map, if◌then◌else◌}
+-- A text behind a reference, and the names of an object's members.
+use Rattle.std.specs.Prelude.{◌≡◌, ℕ, List, Option, Some, None, Result, Ok, Err, option_map, if◌then◌else◌}
 use Rattle.std.specs.Borrow.{Bor}
 use Rattle.std.specs.Str.{is_utf8}
 use Rattle.serde_json.specs.Data.{Members}
@@ -10,9 +10,6 @@ use Rattle.text_import.specs.declared.refusal.Refusal.{Refusal}
 use Rattle.arrow_schema.specs.Parts.{name_of_column, is_nullable_column}
 use Rattle.text_import.specs.declared.refusal.Refusal.TheVariants.{AmbiguousNames, UnknownName}
 use Rattle.text_import.specs.Objects.{member_in, cell_in, repeats, has_unknown, keys_of}
-
-abbrev pub text_list : List (Bor (List ℕ)) → List (List ℕ)
-text_list texts = map (λ t. t.now) texts
 
 -- a text, where there is one
 abbrev pub IsText : Option (List ℕ) → Option (Bor (List ℕ)) → Type 0

@@ -2,7 +2,8 @@ use Rattle.std.proofs.Common.{◌≡◌, ℕ, ◌+◌, ◌-◌, ◌<◌, ◌≤�
 use Rattle.bitmap.specs.Bits.{bit}
 use Rattle.cells.specs.Cell.{Cell}
 use Rattle.run_pieces.specs.Rows.{run_rows, runs_rows}
-use Rattle.selection.proofs.Runs.{run_size, front_taken, kept_start, kept_next, kept_run, kept_done}
+use Rattle.run_pieces.specs.laws.Runs.{run_size}
+use Rattle.selection.proofs.Runs.{front_taken, kept_start, kept_next, kept_run, kept_done}
 use Rattle.selection.proofs.kept.keep_batch.Goals as goal
 
 pub loop-next-init : goal.loop-next-init

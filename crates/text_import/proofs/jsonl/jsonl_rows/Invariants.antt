@@ -2,11 +2,11 @@ use Rattle.std.proofs.Common.{◌≡◌, ◌+◌, map, drop}
 use Rattle.std.specs.Vec.{vec_len}
 use Rattle.std.specs.Prelude.{not}
 use Rattle.std.specs.List.{filter}
+use Rattle.facts.specs.Texts.{text_list}
 use Rattle.arrow_schema.specs.View.{schema_of}
 use Rattle.cells.specs.Row.{row_of}
 use Rattle.text_import.specs.Rows.{rows_from}
 use Rattle.text_import.specs.Objects.{is_blank, line_row, jsonl_rows_of}
-use Rattle.text_import.specs.inner.Names.{text_list}
 use Rattle.text_import.specs.laws.Behind.{behind}
 use Rattle.text_import.proofs.jsonl.jsonl_rows.Given as goal
 

@@ -1,7 +1,7 @@
 use Rattle.std.proofs.Common.{◌≡◌, ◌∙◌, ap, sym, map, true, false}
 use Rattle.std.specs.Prelude.{string_bytes}
+use Rattle.facts.specs.Texts.{text_list}
 use Rattle.text_import.specs.Objects.{has_unknown, has_name}
-use Rattle.text_import.specs.inner.Names.{text_list}
 use Rattle.text_import.proofs.ObjectLemmas.{keys_listed, among_texts}
 use Rattle.text_import.proofs.objects.has_unknown.Goals as goal
 

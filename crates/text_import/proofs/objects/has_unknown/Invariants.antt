@@ -1,8 +1,8 @@
 use Rattle.std.proofs.Common.{◌≡◌, map}
 use Rattle.std.specs.Prelude.{string_bytes}
+use Rattle.facts.specs.Texts.{text_list}
 use Rattle.serde_json.specs.View.{members_view}
 use Rattle.text_import.specs.Objects.{has_unknown, keys_of}
-use Rattle.text_import.specs.inner.Names.{text_list}
 use Rattle.text_import.proofs.objects.has_unknown.Given as goal
 
 abbrev pub invariant-loop-key : goal.invariant-loop-key

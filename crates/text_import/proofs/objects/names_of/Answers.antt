@@ -1,11 +1,11 @@
 use Rattle.std.proofs.Common.{◌≡◌, ◌∙◌, ◌+◌, sym, [], ◌∷◌, ◌++◌, map, drop, true, false, refl, append_assoc}
 use Rattle.std.proofs.lemmas.Bool.{not-false, not-true}
 use Rattle.facts.specs.laws.Lists.{drop-item}
+use Rattle.facts.specs.Texts.{text_list}
 use Rattle.arrow_schema.specs.Column.{columns_of}
 use Rattle.arrow_schema.specs.View.{column_of}
 use Rattle.arrow_schema.specs.Parts.{name_of_column}
 use Rattle.text_import.specs.Objects.{names_of, has_name}
-use Rattle.text_import.specs.inner.Names.{text_list}
 use Rattle.text_import.proofs.ObjectLemmas.{repeats_at, repeats_more}
 use Rattle.text_import.proofs.objects.names_of.Goals as goal
 

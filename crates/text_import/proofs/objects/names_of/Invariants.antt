@@ -1,8 +1,8 @@
 use Rattle.std.proofs.Common.{◌≡◌, ◌++◌, map, drop, false}
+use Rattle.facts.specs.Texts.{text_list}
 use Rattle.arrow_schema.specs.Column.{columns_of}
 use Rattle.arrow_schema.specs.View.{column_of}
 use Rattle.text_import.specs.Objects.{names_of, repeats}
-use Rattle.text_import.specs.inner.Names.{text_list}
 use Rattle.text_import.proofs.objects.names_of.Given as goal
 
 abbrev pub invariant-loop-field : goal.invariant-loop-field
