@@ -1,13 +1,12 @@
 -- What is known of bytes is known of them with more bytes behind.
 use Rattle.std.specs.Prelude.{Option, Some, None, get_or}
 use Rattle.std.specs.List.{list_all}
-use Rattle.std.proofs.Common.{◌≡◌, ℕ, zero, suc, ◌≤◌, true, List, [], ◌∷◌, ◌++◌, length, drop, map, refl, ap, sym, ◌∙◌, arith, append_assoc, length-append}
+use Rattle.std.proofs.Common.{◌≡◌, ℕ, zero, suc, ◌≤◌, true, List, [], ◌∷◌, ◌++◌, length, drop, refl, ap, sym, ◌∙◌, arith, append_assoc, length-append}
 use Rattle.std.proofs.lemmas.Bool.{and_parts, and_from}
 use Rattle.std.proofs.lemmas.List.{drop-append-le}
 use Rattle.columns.specs.declared.array.Dictionary.{Dictionary}
 use Rattle.columns.specs.declared.array.PlacedArray.{PlacedArray}
-use Rattle.columns.specs.laws.Grown.{longer_bytes}
-use Rattle.columns.specs.View.{array_in, no_dictionary}
+use Rattle.columns.specs.laws.Grown.{flat_stay}
 use Rattle.columns.specs.Within.{is_within_by}
 use Rattle.dictionary.specs.InEffect.{DictionaryBatch}
 use Rattle.dictionary.specs.Kept.{Kept, HasInEffect, are_kept_within, arrays_for, list_at, number_in, lists_of, KeepsParts}
@@ -18,13 +17,6 @@ use Rattle.ipc_stream.specs.inner.Reached.{IsReadTo, known_from, after_all, acce
 use Rattle.ipc_stream.proofs.Grown.{plains_end, batches_end, batches_stay_sound, batches_keep_rows}
 
 -- ---- dictionaries
-
-flat_stay : (bytes more : List ℕ) (arrays : List PlacedArray) → list_all (is_within_by (length bytes) (λ p. true)) arrays ≡ true
-    → map (array_in (bytes ++ more) no_dictionary) arrays ≡ map (array_in bytes no_dictionary) arrays
-flat_stay bytes more [] end = refl
-flat_stay bytes more (a ∷ arrays) end =
-    let parts = and_parts (is_within_by (length bytes) (λ p. true) a) (list_all (is_within_by (length bytes) (λ p. true)) arrays) end in
-    λ j. longer_bytes bytes more (λ p. true) no_dictionary no_dictionary (λ p e. refl) a parts.0 j ∷ flat_stay bytes more arrays parts.1 j
 
 list_ends : (size n : ℕ) (lists : List (List PlacedArray)) → list_all (list_all (is_within_by size (λ p. true))) lists ≡ true
     → list_all (is_within_by size (λ p. true)) (get_or lists n []) ≡ true

@@ -20,7 +20,7 @@ use Rattle.columns.specs.declared.array.PlacedLayout.TheFolds.{fold_out-PlacedAr
 use Rattle.columns.specs.declared.array.PlacedLayout.TheOpen as placed
 use Rattle.columns.specs.declared.array.PlacedLayout.TheVariants as layouts
 use Rattle.columns.specs.declared.span.Span.{Span}
-use Rattle.columns.specs.laws.Grown.{longer_bytes}
+use Rattle.columns.specs.laws.Grown.{flat_stay}
 use Rattle.columns.specs.laws.Longer.{within_more}
 use Rattle.columns.specs.FlatLayouts.{flat_layout}
 use Rattle.text_columns.specs.declared.column_values.Values.{Values}
@@ -114,13 +114,6 @@ pub record SoFar (bs : List ColumnBuilder) (bytes : List ℕ) (arrays : List Pla
   pub placed : ArePlaced bs bytes arrays
   pub ends : list_all (is_within_by (length bytes) (λ part. true)) arrays ≡ true
 
-grown : (bytes more : List ℕ) (arrays : List PlacedArray) → list_all (is_within_by (length bytes) (λ part. true)) arrays ≡ true
-    → map (array_in (bytes ++ more) no_dictionary) arrays ≡ map (array_in bytes no_dictionary) arrays
-grown bytes more [] h = refl
-grown bytes more (a ∷ arrays) h =
-    let parts = and_parts (is_within_by (length bytes) (λ part. true) a) (list_all (is_within_by (length bytes) (λ part. true)) arrays) h in
-    λ j. longer_bytes bytes more (λ part. true) no_dictionary no_dictionary (λ part e. refl) a parts.0 j ∷ grown bytes more arrays parts.1 j
-
 stay_within : (size more : ℕ) (arrays : List PlacedArray) → size ≤ more → list_all (is_within_by size (λ part. true)) arrays ≡ true → list_all (is_within_by more (λ part. true)) arrays ≡ true
 stay_within size more [] le h = refl
 stay_within size more (a ∷ arrays) le h =
@@ -138,7 +131,7 @@ placed_more : (bs : List ColumnBuilder) (b : ColumnBuilder) (old new : List ℕ)
     → SoFar (bs ++ b ∷ []) new (arrays ++ a ∷ [])
 placed_more bs b old new arrays a so p =
     let longer : length new ≡ length old + length p.more = ap length p.whole ∙ length-append old p.more in
-    let before : map (array_in new no_dictionary) arrays ≡ map array_of bs = ap (λ (xs : List ℕ). map (array_in xs no_dictionary) arrays) p.whole ∙ grown old p.more arrays so.ends ∙ so.placed in
+    let before : map (array_in new no_dictionary) arrays ≡ map array_of bs = ap (λ (xs : List ℕ). map (array_in xs no_dictionary) arrays) p.whole ∙ flat_stay old p.more arrays so.ends ∙ so.placed in
     record {
       placed = map-append (array_in new no_dictionary) arrays (a ∷ []) ∙ (λ j. before j ++ p.placed j ∷ []) ∙ sym (map-append array_of bs (b ∷ []));
       ends = one_within (length new) arrays a (stay_within (length old) (length new) arrays (omega (arith, longer)) so.ends) p.ends;

@@ -117,7 +117,7 @@ known_in bytes [] part = ap (map (array_in bytes no_dictionary)) (sym (ap (take 
     none (suc n) = refl
 known_in bytes (d ∷ dictionaries) part = refl
 
-flat_stay : (bytes more : List ℕ) (xs : List PlacedArray) → list_all (is_within_by (length bytes) (λ p. true)) xs ≡ true
+pub flat_stay : (bytes more : List ℕ) (xs : List PlacedArray) → list_all (is_within_by (length bytes) (λ p. true)) xs ≡ true
     → map (array_in (bytes ++ more) no_dictionary) xs ≡ map (array_in bytes no_dictionary) xs
 flat_stay bytes more [] h = refl
 flat_stay bytes more (x ∷ xs) h =
