@@ -4,6 +4,7 @@ use Rattle.std.specs.Prelude.{Option, None, Result, Ok, Err, IfOk, IfErr, IsOk, 
 use Rattle.std.proofs.lemmas.Bool.{and_from, le-leb}
 use Rattle.sector_dev.specs.declared.device.SectorDevice.{Ghosts}
 use Rattle.sector_dev.specs.declared.file.FileError.{FileError}
+use Rattle.sector_dev.specs.declared.file.TheConstants.{LEAST_SECTORS, MOST_SECTORS}
 use Rattle.sector_dev.specs.declared.file.FileError.TheVariants as files
 use Rattle.commit.specs.Standing.{is_size}
 use Rattle.store.specs.declared.store.Store.{Store}
@@ -28,19 +29,19 @@ unfolding IsOfOpening
 of_file g files.Io = tt
 of_file g files.BadSize = tt
 
-pub of_making : {D T : Type 0} (g : Ghosts D) (sectors : ℕ) (e : FileError) → (IsErrOf {T = T} (Err e) files.BadSize ↔ ¬ ((16 ≤ sectors) × (sectors ≤ 4194304))) → RefusesFormat g sectors (file_refusal e)
+pub of_making : {D T : Type 0} (g : Ghosts D) (sectors : ℕ) (e : FileError) → (IsErrOf {T = T} (Err e) files.BadSize ↔ ¬ ((LEAST_SECTORS ≤ sectors) × (sectors ≤ MOST_SECTORS))) → RefusesFormat g sectors (file_refusal e)
 unfolding RefusesFormat
 of_making g sectors files.Io bad = tt
 of_making g sectors files.BadSize bad = bad.0 refl
 
 -- a file that was made has a size of a store
-pub of_size : {T : Type 0} (sectors : ℕ) (made : T) → (IsErrOf {T = T} (Ok made) files.BadSize ↔ ¬ ((16 ≤ sectors) × (sectors ≤ 4194304))) → is_size sectors ≡ true
+pub of_size : {T : Type 0} (sectors : ℕ) (made : T) → (IsErrOf {T = T} (Ok made) files.BadSize ↔ ¬ ((LEAST_SECTORS ≤ sectors) × (sectors ≤ MOST_SECTORS))) → is_size sectors ≡ true
 of_size sectors made bad = by_test (is_size sectors) refl
   where
     by_test : (b : Bool) → is_size sectors ≡ b → is_size sectors ≡ true
     by_test true is = is
     by_test false is =
-        let no = bad.1 (λ both. let yes : is_size sectors ≡ true = and_from _ _ (le-leb 16 sectors both.0) (le-leb sectors 4194304 both.1) in cc (is, yes)) in
+        let no = bad.1 (λ both. let yes : is_size sectors ≡ true = and_from _ _ (le-leb LEAST_SECTORS sectors both.0) (le-leb sectors MOST_SECTORS both.1) in cc (is, yes)) in
         absurd (cc no)
 
 -- a formatting that was refused on a device of this size

@@ -2,6 +2,7 @@
 use Rattle.std.specs.Prelude.{◌≡◌, ◌⊎◌, ◌≤◌, ℕ, Bool, true, false, List, codes, Option, Some, None, Result, Ok, Err, IfErr, OnOk, IsErrAnd}
 use Rattle.std.specs.Io.KnownBytes.{Appends}
 use Rattle.sector_dev.specs.declared.device.SectorDevice.{Ghosts}
+use Rattle.sector_dev.specs.declared.file.TheConstants.{LEAST_SECTORS, MOST_SECTORS}
 use Rattle.commit.specs.Standing.{is_size}
 use Rattle.text_import.specs.declared.part.RefusedPart.{RefusedPart}
 use Rattle.store.specs.declared.store.Store.{Store}
@@ -73,7 +74,7 @@ FailsToFormat g sectors _ = ⊥
 -- why none is made in a new file of so many sectors: the system refuses the file, no store has that size, or some device was not formatted
 unfoldable pub RefusesFormat : {D : Type 0} → (g : Ghosts D) → (sectors : ℕ) → Refusal → Type 0
 RefusesFormat g sectors refusals.Io = Unit {0}
-RefusesFormat g sectors refusals.BadSize = ¬ ((16 ≤ sectors) × (sectors ≤ 4194304))
+RefusesFormat g sectors refusals.BadSize = ¬ ((LEAST_SECTORS ≤ sectors) × (sectors ≤ MOST_SECTORS))
 RefusesFormat g sectors (refusals.Opening r) = (is_size sectors ≡ true) × FailsToFormat g sectors (refusals.Opening r)
 RefusesFormat g sectors _ = ⊥
 

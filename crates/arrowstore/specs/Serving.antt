@@ -15,12 +15,12 @@ use Rattle.tables.specs.Tables.{Tables}
 use Rattle.tables.specs.Commands.{PlainCommand, import_stream, append_stream, append_rows}
 use Rattle.tables.specs.View.{command_of}
 use Rattle.store.specs.declared.store.Store.{Store}
-use Rattle.store.specs.Applying.{GoesOn, reply_of}
+use Rattle.store.specs.Applying.{GoesOn}
 use Rattle.store.specs.Calls.{apply_call}
 use Rattle.store.specs.Fits.{StoreFits, device_of, is_halted, listed_in}
 use Rattle.store.specs.Listing.{RefusesTables, RefusesSchema}
 use Rattle.store.specs.Machine.{Machine}
-use Rattle.store.specs.Reading.{ReadsTable, RefusesRead, OnlyReadsStore}
+use Rattle.store.specs.Reading.{ReadsTable, RefusesRead, OnlyReadsStore, ended}
 use Rattle.command_refusals.specs.declared.refusal.Refusal.{Refusal}
 use Rattle.store_commands.specs.Changing.{Answered, AnswersCommand, Hands, RefusesImport, RefusesAppend}
 use Rattle.store_commands.specs.Printed.{tables_text, schema_text, RefusesPrinting}
@@ -43,7 +43,7 @@ channels input output hint = record { input = input; output = output; hint = hin
 pub record Carries {D : Type 0} {g : Ghosts D} {R W : Type 0} (contents : W → Option (List ℕ)) (command : PlainCommand)
     (old new : Store D g) (before after : Channels R W) (result : Result (Unit {0}) Refusal) : Type 0 where
   pub goes : g.tells ≡ true → (base : Tables) (m : Machine) → StoreFits g.size g.story base m old
-      → Answered (λ answer. GoesOn g.size g.story g.failed base m (apply_call command) (reply_of answer) old new) result
+      → Answered (λ answer. GoesOn g.size g.story g.failed base m (apply_call command) (ended answer) old new) result
   pub told : Answered (λ answer. AnswersCommand g.size g.story g.tells command answer old new) result
   pub written : OnOk result (Appends (contents before.output) (contents after.output) (codes "ok\n"))
   pub unhinted : after.hint ≡ before.hint
@@ -53,7 +53,7 @@ pub record CarriesInput {D : Type 0} {g : Ghosts D} {R W : Type 0} (contents : W
     (command : List ℕ → PlainCommand) (refuses : Refusal → Type 0) (old new : Store D g) (before after : Channels R W)
     (result : Result (Unit {0}) Refusal) : Type 0 where
   pub goes : g.tells ≡ true → (base : Tables) (m : Machine) → StoreFits g.size g.story base m old
-      → Hands input (λ bytes answer. GoesOn g.size g.story g.failed base m (apply_call (command bytes)) (reply_of answer) old new) (λ refusal. new ≡ old) result
+      → Hands input (λ bytes answer. GoesOn g.size g.story g.failed base m (apply_call (command bytes)) (ended answer) old new) (λ refusal. new ≡ old) result
   pub told : Hands input (λ bytes answer. AnswersCommand g.size g.story g.tells (command bytes) answer old new)
       (λ refusal. refuses refusal × (new ≡ old) × (after.output ≡ before.output)) result
   pub written : OnOk result (Appends (contents before.output) (contents after.output) (codes "ok\n"))
@@ -65,7 +65,7 @@ pub record CarriesText {D : Type 0} {g : Ghosts D} {R W : Type 0} (contents : W 
     (result : Result (Unit {0}) Refusal) : Type 0 where
   pub goes : g.tells ≡ true → (base : Tables) (m : Machine) → StoreFits g.size g.story base m old
       → HandsRows form (entry_of (listed_in old) name) input
-      (λ rows answer. GoesOn g.size g.story g.failed base m (apply_call (append_rows name rows)) (reply_of answer) old new) (λ refusal. new ≡ old) result
+      (λ rows answer. GoesOn g.size g.story g.failed base m (apply_call (append_rows name rows)) (ended answer) old new) (λ refusal. new ≡ old) result
   pub told : HandsRows form (entry_of (listed_in old) name) input (λ rows answer. AnswersCommand g.size g.story g.tells (append_rows name rows) answer old new)
       (λ refusal. refuses refusal × (new ≡ old) × (after.output ≡ before.output)) result
   pub refused : IfErr result (IfOfText form (entry_of (listed_in old) name) input)

@@ -5,10 +5,11 @@ ghost use Rattle.catalogue.specs.Edits.{entry_of};
 ghost use Rattle.tables.specs.Commands.{import_stream, append_stream};
 ghost use Rattle.tables.specs.Tables.{Tables};
 ghost use Rattle.tables.specs.View.{command_of};
-ghost use Rattle.store.specs.Applying.{GoesOn, reply_of};
+ghost use Rattle.store.specs.Applying.{GoesOn};
 ghost use Rattle.store.specs.Calls.{apply_call};
 ghost use Rattle.store.specs.Fits.{StoreFits, is_halted, listed_in};
 ghost use Rattle.store.specs.Machine.{Machine};
+ghost use Rattle.store.specs.Reading.{ended};
 ghost use Rattle.store_commands.specs.Changing.{Answered, AnswersCommand, Hands, RefusesImport, RefusesAppend};
 
 use crate::{LARGEST_INPUT, read_at_most};
@@ -29,7 +30,7 @@ pub fn apply_command<D: SectorDevice, W: Write>(
 ) -> Result<(), Refusal>
     // The answer is the store's: done only where it has the command done, and else its refusal.
     ensures goes { D.tells ≡ true → (base : Tables) (m : Machine) → StoreFits D.size D.story base m store.old
-        → Answered (λ answer. GoesOn D.size D.story D.failed base m (apply_call (command_of command)) (reply_of answer) store.old store.new) result }
+        → Answered (λ answer. GoesOn D.size D.story D.failed base m (apply_call (command_of command)) (ended answer) store.old store.new) result }
     // On every store and every device: the store was given the command, and what it answered is told.
     ensures told { Answered (λ answer. AnswersCommand D.size D.story D.tells (command_of command) answer store.old store.new) result }
     ensures written { OnOk result (Appends (W.contents output.old) (W.contents output.new) (codes "ok\n")) }
@@ -51,7 +52,7 @@ pub fn import_input<D: SectorDevice, R: Read, W: Write>(
 ) -> Result<(), Refusal>
     ensures goes { D.tells ≡ true → (base : Tables) (m : Machine) → StoreFits D.size D.story base m store.old
         → Hands (R.remaining input.old)
-        (λ bytes answer. GoesOn D.size D.story D.failed base m (apply_call (import_stream name.now bytes)) (reply_of answer) store.old store.new)
+        (λ bytes answer. GoesOn D.size D.story D.failed base m (apply_call (import_stream name.now bytes)) (ended answer) store.old store.new)
         (λ refusal. store.new ≡ store.old) result }
     // On any store: it was given all of the input, and what it answered is told; or there was a reason before, and nothing is changed or written.
     ensures told { Hands (R.remaining input.old)
@@ -80,7 +81,7 @@ pub fn append_input<D: SectorDevice, R: Read, W: Write>(
 ) -> Result<(), Refusal>
     ensures goes { D.tells ≡ true → (base : Tables) (m : Machine) → StoreFits D.size D.story base m store.old
         → Hands (R.remaining input.old)
-        (λ bytes answer. GoesOn D.size D.story D.failed base m (apply_call (append_stream name.now bytes)) (reply_of answer) store.old store.new)
+        (λ bytes answer. GoesOn D.size D.story D.failed base m (apply_call (append_stream name.now bytes)) (ended answer) store.old store.new)
         (λ refusal. store.new ≡ store.old) result }
     ensures told { Hands (R.remaining input.old)
         (λ bytes answer. AnswersCommand D.size D.story D.tells (append_stream name.now bytes) answer store.old store.new)

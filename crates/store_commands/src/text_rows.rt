@@ -5,10 +5,11 @@ ghost use Rattle.catalogue.specs.Edits.{entry_of};
 ghost use Rattle.tables.specs.Commands.{append_rows};
 ghost use Rattle.tables.specs.Tables.{Tables};
 ghost use Rattle.tables.specs.View.{command_of};
-ghost use Rattle.store.specs.Applying.{GoesOn, reply_of};
+ghost use Rattle.store.specs.Applying.{GoesOn};
 ghost use Rattle.store.specs.Calls.{apply_call};
 ghost use Rattle.store.specs.Fits.{StoreFits, is_halted, listed_in};
 ghost use Rattle.store.specs.Machine.{Machine};
+ghost use Rattle.store.specs.Reading.{ended};
 ghost use Rattle.store_commands.specs.Changing.{AnswersCommand};
 ghost use Rattle.arrow_schema.specs.Limits.{IsWithinLimits};
 ghost use Rattle.arrow_schema.specs.View.{schema_of};
@@ -114,7 +115,7 @@ pub fn append_text<D: SectorDevice, R: Read, W: Write>(
     // What the store is given are the rows of the input, as they are defined.
     ensures goes { D.tells ≡ true → (base : Tables) (m : Machine) → StoreFits D.size D.story base m store.old
         → HandsRows form.now (entry_of (listed_in store.old) name.now) (R.remaining input.old)
-        (λ rows answer. GoesOn D.size D.story D.failed base m (apply_call (append_rows name.now rows)) (reply_of answer) store.old store.new)
+        (λ rows answer. GoesOn D.size D.story D.failed base m (apply_call (append_rows name.now rows)) (ended answer) store.old store.new)
         (λ refusal. store.new ≡ store.old) result }
     // On any store: it was given these rows, and what it answered is told; or there was a reason before, and nothing is changed or written.
     ensures told { HandsRows form.now (entry_of (listed_in store.old) name.now) (R.remaining input.old)
