@@ -98,6 +98,14 @@ fn are_read<D: SectorDevice>(device: &mut D, step: u64) -> bool {
     well
 }
 
+// A long row with nothing buffered, over what was read ahead.
+fn is_read_anew<D: SectorDevice>(device: &mut D) -> bool {
+    device.sync().is_ok()
+        && is_read(device, 2000, 1)
+        && is_long_row_written(device)
+        && is_read(device, 2002, 5)
+}
+
 // A row that is not yet in the file, a long one over some of it, and one over some of that.
 fn are_rows_written<D: SectorDevice>(device: &mut D) -> bool {
     is_row_written(device, 2180, 4)
@@ -112,6 +120,7 @@ fn is_used<D: SectorDevice>(device: &mut D) -> bool {
     are_written(device)
         && are_written_again(device)
         && are_read_ahead(device)
+        && is_read_anew(device)
         && are_rows_written(device)
         && are_read(device, 1)
         && device.sync().is_ok()

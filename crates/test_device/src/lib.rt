@@ -11,6 +11,8 @@ mod commits;
 mod damaged_stores;
 #[cfg(test)]
 mod failing_file;
+#[cfg(test)]
+mod failing_row;
 mod few;
 #[cfg(test)]
 mod file_device;

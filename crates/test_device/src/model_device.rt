@@ -1,7 +1,7 @@
 // A device in memory: what is done to it, and what its sectors read as then. Which images a crash may leave, and which calls fail, is proved.
-use crate::calls::{fill_sector, filling};
+use crate::calls::{fill_sector, filling, write_row};
 use Choice::{Lost, New, Old};
-use Step::{Crash, Fail, FailRead, Fill, Flush, Leaves, Shows, Stop};
+use Step::{Crash, Fail, FailRead, FailRow, Fill, Flush, Leaves, Shows, Stop};
 use sector_dev::{Choice, DevError, ModelDevice, SectorDevice};
 use std::alloc::{AllocError, Global};
 
@@ -17,6 +17,8 @@ enum Step {
     FailRead(u64),
     // the next write is of this sector, and fails
     Fail(u64, u8),
+    // the second write of a row of three, from this sector on, fails
+    FailRow(u64),
     // no call begins any more
     Stop,
     Shows(Sectors),
@@ -51,6 +53,17 @@ const FAILED: Sectors = [
     Some(4),
     Some(0),
     Some(0),
+    Some(0),
+    Some(0),
+    Some(3),
+    Some(0),
+];
+
+const CUT_SHORT: Sectors = [
+    Some(0),
+    Some(4),
+    Some(6),
+    Some(7),
     Some(0),
     Some(0),
     Some(3),
@@ -93,6 +106,10 @@ fn goes_well(device: &mut ModelDevice, step: Step) -> Result<bool, AllocError> {
             device.fail_at(1);
             fill_sector(device, n, byte) == Err(DevError::Failed)
         }
+        FailRow(start) => {
+            device.fail_at(2);
+            write_row(device, start, &[[6; 512], [7; 512], [8; 512]]) == Err(DevError::Failed)
+        }
         Stop => is_stopped(device),
         Shows(want) => shows(device, &want),
         Leaves(choice, want) => shows(&mut device.crash(choice)?, &want),
@@ -106,8 +123,8 @@ fn are_taken(alloc: Global, steps: &[Step]) -> Result<bool, AllocError> {
     for step in steps {
         well = well && goes_well(&mut device, *step)?;
     }
-    // the read and the write that were told to fail, and three calls after the stop
-    Ok(well && device.failures() == 5)
+    // the read, the write and the row that were told to fail, and three calls after the stop
+    Ok(well && device.failures() == 6)
 }
 
 fn all_are_taken(alloc: Global) -> Result<bool, AllocError> {
@@ -133,6 +150,11 @@ fn all_are_taken(alloc: Global) -> Result<bool, AllocError> {
         Shows(FAILED),
         Leaves(Old, WRITTEN),
         Leaves(New, FAILED),
+        // the write that fails is the last of its row
+        FailRow(2),
+        Shows(CUT_SHORT),
+        Leaves(Old, WRITTEN),
+        Leaves(New, CUT_SHORT),
         Stop,
         Leaves(Old, WRITTEN),
     ];
