@@ -37,7 +37,8 @@ impl Write for CutFile {
         match self.state {
             State::Whole if buf.len() > LONG => {
                 self.state = State::Cut;
-                self.bytes.write(&buf[..LONG])
+                let front = buf.len().min(LONG);
+                self.bytes.write(&buf[..front])
             }
             State::Cut => {
                 self.state = State::Failed;
