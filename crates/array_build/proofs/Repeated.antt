@@ -1,11 +1,7 @@
 -- Equal items.
 use Rattle.std.specs.Prelude.{replicate}
-use Rattle.std.specs.List.{flat_map, list_all}
-use Rattle.std.proofs.Common.{◌≡◌, ℕ, zero, suc, ◌+◌, ◌*◌, true, List, [], ◌∷◌, ◌++◌, map, refl, ap, ap₂, arith}
-
-pub all_true : (n : ℕ) → list_all (λ b. b) (replicate n true) ≡ true
-all_true zero = refl
-all_true (suc n) = all_true n
+use Rattle.std.specs.List.{flat_map}
+use Rattle.std.proofs.Common.{◌≡◌, ℕ, zero, suc, ◌+◌, ◌*◌, List, [], ◌∷◌, ◌++◌, map, refl, ap, ap₂, arith}
 
 pub repeated_more : {X : Type 0} (m n : ℕ) (x : X) → replicate (m + n) x ≡ replicate m x ++ replicate n x
 repeated_more zero n x = let e : 0 + n ≡ n = omega arith in ap (λ (k : ℕ). replicate k x) e

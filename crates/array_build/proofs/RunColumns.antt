@@ -86,9 +86,6 @@ field_built p f runs none =
 
 -- ---- columns, one after another
 
-abbrev pub columns_from : ℕ → List Field → Columns
-columns_from i fields = columns_of (map column_of (drop i fields))
-
 abbrev pub lists_of : List (Vec SlotRun Global) → List (List SlotRun)
 lists_of columns = map (λ v. v.items) columns
 

@@ -1,6 +1,6 @@
 -- The column of an id, id by id.
 use Rattle.std.specs.Prelude.{◌==◌, cond, option_map}
-use Rattle.std.proofs.Common.{◌≡◌, ℕ, zero, suc, ◌+◌, ◌≤◌, ◌<◌, Bool, true, false, Option, Some, None, List, [], ◌∷◌, length, get_or, map, take, drop, refl, ap, sym, ◌∙◌, arith}
+use Rattle.std.proofs.Common.{◌≡◌, ℕ, zero, suc, ◌+◌, ◌<◌, Bool, true, false, Option, Some, List, [], ◌∷◌, length, get_or, map, take, drop, refl, ap, sym, ◌∙◌, arith}
 use Rattle.std.proofs.lemmas.List.{drop-drop, drop_more}
 use Rattle.arrow_schema.specs.Column.{Column}
 use Rattle.arrays.specs.Dictionaries.{DictionaryColumn, column_of_id}
@@ -50,9 +50,3 @@ pub one_within : {X : Type 0} (f : X → Column) (xs : List X) (i : ℕ) → i <
 one_within f [] i within = absurd (omega arith)
 one_within f (x ∷ xs) zero within = refl
 one_within f (x ∷ xs) (suc i) within = one_within f xs i (omega arith)
-
-pub one_past : {X : Type 0} (f : X → Column) (xs : List X) (i : ℕ) → length xs ≤ i → (let none : Option (List Column) = None in none) ≡ first_alone (drop i (map f xs))
-one_past f [] zero past = refl
-one_past f [] (suc i) past = refl
-one_past f (x ∷ xs) zero past = absurd (omega arith)
-one_past f (x ∷ xs) (suc i) past = one_past f xs i (omega arith)

@@ -1,7 +1,7 @@
 -- What is answered of a dictionary batch.
 use Rattle.std.specs.Prelude.{option_map}
 use Rattle.std.specs.List.{list_any}
-use Rattle.std.proofs.Common.{◌≡◌, ℕ, Bool, true, false, List, [], ◌∷◌, length, get_or, ◌<◌, Option, Some, None, Result, Ok, Err, refl, sym, ap, arith, ◌∙◌, subst}
+use Rattle.std.proofs.Common.{◌≡◌, ℕ, Bool, true, false, List, [], ◌∷◌, length, Option, Some, None, Result, Ok, Err, refl, sym, ap, ◌∙◌, subst}
 use Rattle.facts.specs.Checks.{when, first_some, unless}
 use Rattle.facts.specs.laws.Checks.{unless_passed, first_some-after, first_some-before}
 use Rattle.arrow_schema.specs.Column.{Column, columns_of}
@@ -13,7 +13,7 @@ use Rattle.ipc_message.specs.Outcome.{Fails, Gives}
 use Rattle.ipc_message.specs.Raw.{RawBatch, RawDictionaryBatch}
 use Rattle.columns.specs.declared.array.PlacedArray.{PlacedArray}
 use Rattle.columns.specs.Array.{Array, Arrays, first_array}
-use Rattle.columns.specs.View.{array_in, no_dictionary, placed_arrays, IsNoArray}
+use Rattle.columns.specs.View.{placed_arrays}
 use Rattle.columns.specs.Visible.{visible_in, is_no_text}
 use Rattle.columns.specs.Alone.{alone}
 use Rattle.dictionary.specs.InEffect.{DictionaryBatch}
@@ -65,14 +65,6 @@ good cs c b body bytes items xs is same h found =
     entries_good c b body (placed_arrays bytes [] items) (subst (λ (x : List Column). arrays_read (columns_of x) b body [] ≡ Ok (placed_arrays bytes [] items)) is h)
     (subst (λ (x : List Column). list_any is_no_text (visible_in (columns_of x) (placed_arrays bytes [] items) b.length) ≡ false) is
     (subst (λ (x : List PlacedArray). list_any is_no_text (visible_in (columns_of cs) (placed_arrays bytes [] x) b.length) ≡ false) same (sym found)))
-
-pub first_is : (bytes : List ℕ) (items : List PlacedArray) (x : PlacedArray) → 0 < length items → x ≡ get_or items 0 x → array_in bytes no_dictionary x ≡ first_array (placed_arrays bytes [] items)
-first_is bytes [] x some is = absurd (omega arith)
-first_is bytes (y ∷ items) x some is = ap (array_in bytes no_dictionary) is
-
-pub none_is : (bytes : List ℕ) (items : List PlacedArray) (x : PlacedArray) → length items ≡ 0 → IsNoArray x → array_in bytes no_dictionary x ≡ first_array (placed_arrays bytes [] items)
-none_is bytes [] x none is = is bytes []
-none_is bytes (y ∷ items) x none is = absurd (omega arith)
 
 abbrev alone_of : Option DictionaryColumn → Option (List Column)
 alone_of found = option_map (λ c. c.values ∷ []) found

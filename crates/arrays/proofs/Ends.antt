@@ -1,28 +1,16 @@
 -- Where the arrays of a batch end.
-use Rattle.std.specs.Prelude.{◌&&◌, nat_le}
 use Rattle.std.specs.List.{list_all}
-use Rattle.std.proofs.Common.{◌≡◌, ℕ, zero, suc, ◌+◌, ◌≤◌, Bool, true, List, [], ◌∷◌, ◌++◌, map, take, drop, length, get_or, ◌<◌, refl, sym, ap, subst, arith, ◌∙◌}
-use Rattle.std.proofs.lemmas.Bool.{and_parts, le-leb}
+use Rattle.std.proofs.Common.{◌≡◌, ℕ, zero, suc, ◌+◌, Bool, true, List, [], ◌∷◌, ◌++◌, map, drop, length, get_or, ◌<◌, refl, ap, subst, arith, ◌∙◌}
+use Rattle.std.proofs.lemmas.Bool.{and_parts}
 use Rattle.std.proofs.lemmas.List.Folds.{list_all-append, list_all-map}
 use Rattle.columns.specs.declared.array.PlacedArray.{PlacedArray}
-use Rattle.columns.specs.declared.array.PlacedLayout.{PlacedLayout}
-use Rattle.columns.specs.declared.array.PlacedLayout.TheFolds.{fold-PlacedLayout, fold_out-PlacedArray}
 use Rattle.columns.specs.declared.array.Dictionary.{Dictionary}
-use Rattle.columns.specs.declared.array.DictionaryPart.{DictionaryPart}
 use Rattle.columns.specs.declared.span.Span.{Span}
-use Rattle.columns.specs.Within.{ends_within, layout_within, array_within, is_within_by, stands_within, is_placed_within}
+use Rattle.columns.specs.Within.{stands_within, is_placed_within}
 use Rattle.arrays.specs.Placed.{EndWithin, EndsWithin}
 use Rattle.columns.specs.laws.Longer.{within_more}
 use Rattle.arrays.specs.declared.rest.Rest.{Rest}
-use Rattle.arrays.specs.inner.Rest.{IsInBody, PartEnds, LayoutEnds, ArrayEnds, ArraysEnd, IsLeft}
-
-pub span_ends : (r : Rest) (span : Span) (size : ℕ) → IsInBody r span → r.body.start + r.body.len ≤ size → ends_within size span ≡ true
-span_ends r span size h le = le-leb (span.start + span.len) size (omega (arith, h, le))
-
-pub array_ends : (r : Rest) (a : PlacedArray) → IsInBody r a.validity → LayoutEnds r a.layout → ArrayEnds r a
-array_ends r a validity layout size le known =
-    fold_out-PlacedArray Bool Bool (layout_within size (stands_within size r.dictionaries.now)) (array_within size) a
-    ∙ rw (span_ends r a.validity size validity le) (layout size le known)
+use Rattle.arrays.specs.inner.Rest.{ArrayEnds, ArraysEnd, IsLeft}
 
 pub children_end : (r : Rest) (arrays : List PlacedArray) (size : ℕ) → list_all (is_placed_within size r.dictionaries.now) arrays ≡ true
     → list_all (λ b. b) (map (is_placed_within size r.dictionaries.now) arrays) ≡ true
@@ -35,24 +23,9 @@ all_left p zero xs h = h
 all_left p (suc n) [] h = refl
 all_left p (suc n) (x ∷ xs) h = all_left p n xs (and_parts (p x) (list_all p xs) h).1
 
-pub first_stands : (p : DictionaryPart → Bool) (xs : List DictionaryPart) (x : DictionaryPart) → x ∷ drop 1 xs ≡ xs → list_all p xs ≡ true → p x ≡ true
-first_stands p [] x is h = absurd cc
-first_stands p (y ∷ xs) x is h = let same : y ≡ x = cc in rw (sym same) (and_parts (p y) (list_all p xs) h).0
-
-pub body_left : (r left : Rest) (n b d size : ℕ) → IsLeft r left n b d → r.body.start + r.body.len ≤ size → left.body.start + left.body.len ≤ size
-body_left r left n b d size h le = subst (λ (s : Span). s.start + s.len ≤ size) (sym h.same_body) le
-
 pub parts_left : (r left : Rest) (n b d size : ℕ) → IsLeft r left n b d → list_all (stands_within size r.dictionaries.now) r.parts.now ≡ true
     → list_all (stands_within size left.dictionaries.now) left.parts.now ≡ true
 parts_left r left n b d size h known = (λ j. list_all (stands_within size (h.same_dictionaries j)) (h.parts_left j)) ∙ all_left (stands_within size r.dictionaries.now) d r.parts.now known
-
-pub ends_above : (r left : Rest) (n b d : ℕ) (a : PlacedArray) → IsLeft r left n b d → ArrayEnds left a → ArrayEnds r a
-ends_above r left n b d a h ends size le known =
-    subst (λ (ds : List Dictionary). is_placed_within size ds a ≡ true) h.same_dictionaries (ends size (body_left r left n b d size h le) (parts_left r left n b d size h known))
-
-pub end_above : (r left : Rest) (n b d : ℕ) (arrays : List PlacedArray) → IsLeft r left n b d → ArraysEnd left arrays → ArraysEnd r arrays
-end_above r left n b d arrays h end size le known =
-    subst (λ (ds : List Dictionary). list_all (is_placed_within size ds) arrays ≡ true) h.same_dictionaries (end size (body_left r left n b d size h le) (parts_left r left n b d size h known))
 
 -- ---- array by array
 

@@ -1,6 +1,6 @@
 -- The cells of a dictionary column of arrays are no more distinct values than its indices name.
 use Rattle.std.specs.Prelude.{ℤ, pos, negsuc, neg_ℤ, int_lt, int_le, not, ◌&&◌, ◌||◌, nat_le, nat_eq, slice_get, is_some, if◌then◌else◌}
-use Rattle.std.specs.List.{list_any, list_all, flat_map, range_with_len}
+use Rattle.std.specs.List.{AllByRecursion, list_any, list_all, flat_map, range_with_len}
 use Rattle.std.specs.List.{IsDistinct}
 use Rattle.std.specs.Cmp.{nat_eq_equiv}
 use Rattle.std.proofs.Common.{◌≡◌, ◌⊎◌, inl, inr, ℕ, zero, suc, ◌+◌, ◌-◌, ◌*◌, ◌/◌, ◌^◌, ◌≤◌, ◌<◌, Bool, true, false, List, [], ◌∷◌, ◌++◌, map, length, drop, get_or, Option, Some, None, refl, sym, ap, subst, arith, ◌∙◌}
@@ -30,19 +30,15 @@ use Rattle.arrays.proofs.RowsFit.{sound_columns, front_sound, rest_sound, small_
 
 -- ---- distinct entries are named by distinct numbers
 
-abbrev pub Each : {X : Type 0} → (X → Type 0) → List X → Type 0
-Each P [] = Unit {0}
-Each P (x ∷ xs) = P x × Each P xs
-
-each_append : {X : Type 0} (P : X → Type 0) (xs ys : List X) → Each P xs → Each P ys → Each P (xs ++ ys)
+each_append : {X : Type 0} (P : X → Type 0) (xs ys : List X) → AllByRecursion P xs → AllByRecursion P ys → AllByRecursion P (xs ++ ys)
 each_append P [] ys a b = b
 each_append P (x ∷ xs) ys a b = (a.0, each_append P xs ys a.1 b)
 
-each_below : {X Y : Type 0} (P : X → Type 0) (Q : Y → Type 0) (f : X → List Y) → ((x : X) → P x → Each Q (f x)) → (xs : List X) → Each P xs → Each Q (flat_map f xs)
+each_below : {X Y : Type 0} (P : X → Type 0) (Q : Y → Type 0) (f : X → List Y) → ((x : X) → P x → AllByRecursion Q (f x)) → (xs : List X) → AllByRecursion P xs → AllByRecursion Q (flat_map f xs)
 each_below P Q f h [] e = tt
 each_below P Q f h (x ∷ xs) e = each_append Q (f x) (flat_map f xs) (h x e.0) (each_below P Q f h xs e.1)
 
-each_mapped : {X Y : Type 0} (P : X → Type 0) (Q : Y → Type 0) (f : X → Y) → ((x : X) → P x → Q (f x)) → (xs : List X) → Each P xs → Each Q (map f xs)
+each_mapped : {X Y : Type 0} (P : X → Type 0) (Q : Y → Type 0) (f : X → Y) → ((x : X) → P x → Q (f x)) → (xs : List X) → AllByRecursion P xs → AllByRecursion Q (map f xs)
 each_mapped P Q f h [] e = tt
 each_mapped P Q f h (x ∷ xs) e = (h x e.0, each_mapped P Q f h xs e.1)
 
@@ -126,12 +122,12 @@ next_tracked entries most found (text x) t (inr n) = with_one entries most n.0 f
 next_tracked entries most found (bytes x) t (inl e) = absurd cc
 next_tracked entries most found (bytes x) t (inr n) = with_one entries most n.0 found (bytes x) t n.1 n.2 refl
 
-all_tracked : (entries : List Cell) (most : ℕ) (found cells : List Cell) → Tracks entries most found → Each (IsNamed entries most) cells → Tracks entries most (with_entries found cells)
+all_tracked : (entries : List Cell) (most : ℕ) (found cells : List Cell) → Tracks entries most found → AllByRecursion (IsNamed entries most) cells → Tracks entries most (with_entries found cells)
 unfolding with_entries
 all_tracked entries most found [] t e = t
 all_tracked entries most found (c ∷ cells) t e = all_tracked entries most (with_entry found c) cells (next_tracked entries most found c t e.0) e.1
 
-few_named : (entries : List Cell) (most : ℕ) (cells : List Cell) → Each (IsNamed entries most) cells → length (entries_of cells) ≤ most
+few_named : (entries : List Cell) (most : ℕ) (cells : List Cell) → AllByRecursion (IsNamed entries most) cells → length (entries_of cells) ≤ most
 unfolding IsDistinct
 few_named entries most cells e =
     let t = all_tracked entries most [] cells (record { numbers = []; are = refl; distinct = tt; below = λ n h. absurd cc }) e in
@@ -183,13 +179,13 @@ IsRowOf i cs arrays row = (drop i row ≡ []) ⊎ ((others : Arrays) × (j : ℕ
 have_both : (xs ys : List Holding) → HaveFew xs → HaveFew ys → HaveFew (xs ++ ys)
 have_both xs ys a b = list_all-append has_few_entries xs ys ∙ and_from _ _ a b
 
-each_cell : (c : Column) (a b : Array) (start n : ℕ) → has_bytes b ≡ true → SharesEntries c a b → Each (IsCellOf c a) (cells_from (cell_at c b) start n)
+each_cell : (c : Column) (a b : Array) (start n : ℕ) → has_bytes b ≡ true → SharesEntries c a b → AllByRecursion (IsCellOf c a) (cells_from (cell_at c b) start n)
 each_cell c a b start zero small shares = tt
 each_cell c a b start (suc n) small shares = (inr (b, start, small, shares, refl), each_cell c a b (start + 1) n small shares)
 
 items_here : (c : Column) (a b : Array) (v : Bool) (start n : ℕ) → has_bytes b ≡ true → SharesEntries c a b
-    → Each (IsCellOf c a) (item_list (if v then items (cells_of (cells_from (cell_at c b) start n)) else null))
-items_here c a b true start n small shares = subst (Each (IsCellOf c a)) (sym (cells_listed (cells_from (cell_at c b) start n))) (each_cell c a b start n small shares)
+    → AllByRecursion (IsCellOf c a) (item_list (if v then items (cells_of (cells_from (cell_at c b) start n)) else null))
+items_here c a b true start n small shares = subst (AllByRecursion (IsCellOf c a)) (sym (cells_listed (cells_from (cell_at c b) start n))) (each_cell c a b start n small shares)
 items_here c a b false start n small shares = tt
 
 parts_here : (cs : Columns) (arrays others : Arrays) (v : Bool) (j : ℕ) → have_bytes others ≡ true → ShareEntries cs arrays others
@@ -215,7 +211,7 @@ no_cell_there (suc i) (y ∷ row) h =
     let e : suc i + 1 ≡ suc (i + 1) = omega arith in
     rw e (no_cell_there i row h)
 
-each_weaker : {X : Type 0} (P Q : X → Type 0) → ((x : X) → P x → Q x) → (xs : List X) → Each P xs → Each Q xs
+each_weaker : {X : Type 0} (P Q : X → Type 0) → ((x : X) → P x → Q x) → (xs : List X) → AllByRecursion P xs → AllByRecursion Q xs
 each_weaker P Q h [] e = tt
 each_weaker P Q h (x ∷ xs) e = (h x e.0, each_weaker P Q h xs e.1)
 
@@ -237,7 +233,7 @@ named_cell name nullable kind index pairs a entries most x are wide limit is =
     subst (λ (es : List Cell). IsNamed entries most (if is_valid b j then entry_at es (index_at index b j) else null)) (sym own)
     (named_if (is_valid b j) entries most (entry_at entries (index_at index b j)) (index_named index entries b j most wide (dictionary_bytes b small).0 limit))) x is
 
-firsts_here : (i : ℕ) (c : Column) (cs : Columns) (arrays : Arrays) (rows : List (List Cell)) → Each (IsRowOf i (and_column c cs) arrays) rows → Each (IsCellOf c (first_array arrays)) (cells_at i rows)
+firsts_here : (i : ℕ) (c : Column) (cs : Columns) (arrays : Arrays) (rows : List (List Cell)) → AllByRecursion (IsRowOf i (and_column c cs) arrays) rows → AllByRecursion (IsCellOf c (first_array arrays)) (cells_at i rows)
 unfolding part_cells ShareEntries
 firsts_here i c cs arrays [] each = tt
 firsts_here i c cs arrays (row ∷ rows) (inl none, others) =
@@ -246,7 +242,7 @@ firsts_here i c cs arrays (row ∷ rows) (inr w, others) =
     rw (cell_there i row (cell_at c (first_array w.0) w.1) (cell_list (part_cells cs (other_arrays w.0) w.1)) w.4).0
     (inr (first_array w.0, w.1, (first_bytes w.0 w.2).0, w.3.0, refl), firsts_here i c cs arrays rows others)
 
-others_here : (i : ℕ) (c : Column) (cs : Columns) (arrays : Arrays) (rows : List (List Cell)) → Each (IsRowOf i (and_column c cs) arrays) rows → Each (IsRowOf (i + 1) cs (other_arrays arrays)) rows
+others_here : (i : ℕ) (c : Column) (cs : Columns) (arrays : Arrays) (rows : List (List Cell)) → AllByRecursion (IsRowOf i (and_column c cs) arrays) rows → AllByRecursion (IsRowOf (i + 1) cs (other_arrays arrays)) rows
 unfolding part_cells ShareEntries
 others_here i c cs arrays [] each = tt
 others_here i c cs arrays (row ∷ rows) (inl none, others) = (inl (no_cell_there i row none).1, others_here i c cs arrays rows others)
@@ -256,7 +252,7 @@ others_here i c cs arrays (row ∷ rows) (inr w, others) =
 mutual
   unfolding cell_at kind_cell part_cells holdings holdings_below holdings_from preorder preorder_below preorder_all SharesEntries SharesBelow ShareEntries
 
-  column_few : (c : Column) (a : Array) (cells : List Cell) → AreSoundColumns (preorder c) → Each (IsCellOf c a) cells → HaveFew (holdings c cells)
+  column_few : (c : Column) (a : Array) (cells : List Cell) → AreSoundColumns (preorder c) → AllByRecursion (IsCellOf c a) cells → HaveFew (holdings c cells)
   column_few (column name nullable kind (Some index) pairs) a cells limits each =
       let flat = not-true _ (and_parts (not (is_nested kind)) (list_all has_flat_dictionary (preorder_below kind)) limits.0).0 in
       let wide = (and_parts (is_kind_of_width kind) (is_bit_width index.bits) (and_parts (is_kind_of_width kind && is_bit_width index.bits) (list_all has_bit_widths (preorder_below kind)) limits.1).0).1 in
@@ -270,21 +266,21 @@ mutual
       below_few name nullable kind pairs a cells ((and_parts (not (false && is_nested kind)) (list_all has_flat_dictionary (preorder_below kind)) limits.0).1, (and_parts (is_kind_of_width kind && true) (list_all has_bit_widths (preorder_below kind)) limits.1).1) each
 
   below_few : (name : List ℕ) (nullable : Bool) (k : Kind) (pairs : List Pair) (a : Array) (cells : List Cell) → AreSoundColumns (preorder_below k)
-      → Each (IsCellOf (column name nullable k None pairs) a) cells → HaveFew (holdings_below k cells)
+      → AllByRecursion (IsCellOf (column name nullable k None pairs) a) cells → HaveFew (holdings_below k cells)
   below_few name nullable (lists item) pairs a cells limits each =
       column_few item (items_in a) (flat_map item_list cells) limits
       (each_below (IsCellOf (column name nullable (lists item) None pairs) a) (IsCellOf item (items_in a)) item_list
-      (λ x is. by_cell (column name nullable (lists item) None pairs) a (λ y. Each (IsCellOf item (items_in a)) (item_list y)) tt
+      (λ x is. by_cell (column name nullable (lists item) None pairs) a (λ y. AllByRecursion (IsCellOf item (items_in a)) (item_list y)) tt
       (λ b j small shares. items_here item (items_in a) (items_in b) (is_valid b j) (span_start 4 b j) (span_size 4 b j) (items_bytes b small) shares) x is) cells each)
   below_few name nullable (large_lists item) pairs a cells limits each =
       column_few item (items_in a) (flat_map item_list cells) limits
       (each_below (IsCellOf (column name nullable (large_lists item) None pairs) a) (IsCellOf item (items_in a)) item_list
-      (λ x is. by_cell (column name nullable (large_lists item) None pairs) a (λ y. Each (IsCellOf item (items_in a)) (item_list y)) tt
+      (λ x is. by_cell (column name nullable (large_lists item) None pairs) a (λ y. AllByRecursion (IsCellOf item (items_in a)) (item_list y)) tt
       (λ b j small shares. items_here item (items_in a) (items_in b) (is_valid b j) (span_start 8 b j) (span_size 8 b j) (items_bytes b small) shares) x is) cells each)
   below_few name nullable (fixed_lists size item) pairs a cells limits each =
       column_few item (items_in a) (flat_map item_list cells) limits
       (each_below (IsCellOf (column name nullable (fixed_lists size item) None pairs) a) (IsCellOf item (items_in a)) item_list
-      (λ x is. by_cell (column name nullable (fixed_lists size item) None pairs) a (λ y. Each (IsCellOf item (items_in a)) (item_list y)) tt
+      (λ x is. by_cell (column name nullable (fixed_lists size item) None pairs) a (λ y. AllByRecursion (IsCellOf item (items_in a)) (item_list y)) tt
       (λ b j small shares. items_here item (items_in a) (items_in b) (is_valid b j) (j * size) size (items_bytes b small) shares) x is) cells each)
   below_few name nullable (structs columns) pairs a cells limits each =
       parts_few 0 columns (children_in a) (map part_list cells) limits
@@ -302,7 +298,7 @@ mutual
   below_few name nullable large_binaries pairs a cells limits each = refl
   below_few name nullable (fixed_binaries width) pairs a cells limits each = refl
 
-  parts_few : (i : ℕ) (cs : Columns) (arrays : Arrays) (rows : List (List Cell)) → AreSoundColumns (preorder_all cs) → Each (IsRowOf i cs arrays) rows → HaveFew (holdings_from i cs rows)
+  parts_few : (i : ℕ) (cs : Columns) (arrays : Arrays) (rows : List (List Cell)) → AreSoundColumns (preorder_all cs) → AllByRecursion (IsRowOf i cs arrays) rows → HaveFew (holdings_from i cs rows)
   parts_few i no_column arrays rows limits each = refl
   parts_few i (and_column c cs) arrays rows limits each =
       have_both (holdings c (cells_at i rows)) (holdings_from (i + 1) cs rows)
@@ -340,7 +336,7 @@ mutual
 
 -- ---- rows
 
-rows_sharing : (cs : Columns) (own : Arrays) (rows : List (List Cell)) → AreRowsSharing cs own rows → Each (IsRowOf 0 cs own) rows
+rows_sharing : (cs : Columns) (own : Arrays) (rows : List (List Cell)) → AreRowsSharing cs own rows → AllByRecursion (IsRowOf 0 cs own) rows
 rows_sharing cs own [] are = tt
 rows_sharing cs own (row ∷ rows) are = (inr (are.0.0, are.0.1, are.0.2, are.0.3, are.0.4), rows_sharing cs own rows are.1)
 

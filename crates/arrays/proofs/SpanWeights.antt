@@ -135,9 +135,6 @@ run_more k a start next end le most =
 
 -- ---- loops over what is left
 
-twice : (n : ℕ) → capped_weight (capped_weight n) ≡ capped_weight n
-twice n = omega arith
-
 -- a part more, and what is left behind it
 pub next_total : (whole total before part left weight new : ℕ) → capped_weight (total + before) ≡ whole → before ≡ part + left → weight ≡ capped_weight part → new ≡ capped_weight (total + weight)
     → (capped_weight (new + left) ≡ whole) × (capped_weight new ≡ new)

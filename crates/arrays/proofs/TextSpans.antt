@@ -1,9 +1,9 @@
 -- Slots whose bytes are one text.
-use Rattle.std.specs.Prelude.{◌==◌, ◌&&◌, not}
+use Rattle.std.specs.Prelude.{◌&&◌, not}
 use Rattle.std.specs.List.{list_any, range_with_len}
 use Rattle.std.specs.Str.{IsCharBoundary, IsUtf8, is_utf8}
-use Rattle.std.proofs.Common.{◌≡◌, ℕ, ◌+◌, ◌-◌, ◌*◌, ◌≤◌, ◌<◌, true, false, List, [], length, take, drop, inl, inr, ap, subst, ◌∙◌, arith, length-drop, mul-le-mul_right}
-use Rattle.std.proofs.lemmas.Bool.{cases_lt, ltb-false, ne_eqb, and_right, not_from_true}
+use Rattle.std.proofs.Common.{◌≡◌, ℕ, ◌+◌, ◌-◌, ◌≤◌, ◌<◌, true, false, List, [], length, take, drop, inl, inr, ap, subst, ◌∙◌, arith, length-drop}
+use Rattle.std.proofs.lemmas.Bool.{cases_lt, and_right, not_from_true}
 use Rattle.std.proofs.lemmas.List.{drop-drop, drop-take, length-take-le, take-take}
 use Rattle.std.proofs.lemmas.Str.{IsCharBoundary-end, IsUtf8-between, IsUtf8-nil, is_utf8-from_IsUtf8}
 use Rattle.facts.specs.laws.Lists.{none_in_range}
@@ -23,14 +23,6 @@ part_of_part xs s n d m fits =
     ∙ ap (take m) (drop-drop d s xs)
 
 module _ (w : ℕ) (a : Array) (few : are_few_offsets w a ≡ false) (up : are_unordered w (length (contents_in a)) a ≡ false) where
-  -- there is an offset behind the last of some slots
-  pub offsets_long : (to : ℕ) → 0 < to → to ≤ slots_in a → (to + 1) * w ≤ length (offsets_in a)
-  offsets_long to some within =
-      let filled : (slots_in a == 0) ≡ false = ne_eqb _ _ (λ e. omega arith) in
-      let long : (slots_in a + 1) * w ≤ length (offsets_in a) = ltb-false _ _ (rw filled at few) in
-      let most : (to + 1) * w ≤ (slots_in a + 1) * w = mul-le-mul_right w (omega arith) in
-      omega (arith, long, most)
-
   -- a text that is cut where characters begin
   pub each_is_text : (from count : ℕ) (bs : List ℕ) → 0 < count → from + count ≤ slots_in a
       → bs ≡ take (number_at w (offsets_in a) (from + count) - number_at w (offsets_in a) from) (drop (number_at w (offsets_in a) from) (contents_in a)) → IsUtf8 bs

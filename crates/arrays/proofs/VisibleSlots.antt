@@ -1,8 +1,8 @@
 -- What is asked of a visible slot itself.
 use Rattle.std.specs.Prelude.{◌||◌, ◌&&◌, not, ◌==◌, nat_lt, if◌then◌else◌}
-use Rattle.std.specs.List.{list_all, list_any, range_with_len}
+use Rattle.std.specs.List.{list_any, range_with_len}
 use Rattle.std.specs.Str.{is_utf8}
-use Rattle.std.proofs.Common.{◌≡◌, ℕ, zero, suc, ◌/◌, Bool, true, false, List, length, Some, None, refl, arith, sym, ap, ◌∙◌}
+use Rattle.std.proofs.Common.{◌≡◌, ℕ, zero, suc, Bool, true, false, List, length, Some, None, refl, arith, ap, ◌∙◌}
 use Rattle.std.proofs.lemmas.Bool.{and_parts, not-true}
 use Rattle.std.proofs.lemmas.Bool.Decides.{nat_tests}
 use Rattle.std.proofs.lemmas.List.FromFn.{length-range_with_len}
@@ -18,11 +18,10 @@ use Rattle.columns.specs.declared.numbers.OffsetWidth.{OffsetWidth}
 use Rattle.columns.specs.declared.view.ArrayView.{ArrayView}
 use Rattle.columns.specs.Offsets.{width_of}
 use Rattle.columns.specs.View.{view_array}
-use Rattle.columns.specs.Array.{Array, validity_in, indices_in, dictionary_in, array_list}
+use Rattle.columns.specs.Array.{Array, validity_in, dictionary_in}
 use Rattle.columns.specs.CellAt.{is_valid, cell_at, contents_at, kind_cell, unless_null, indexed_cell, index_at, entries_of_kind}
-use Rattle.columns.specs.Sound.{is_sound, is_kind_sound}
-use Rattle.columns.specs.Tests.{has_short_validity, has_short_buffer, are_few, are_few_offsets}
-use Rattle.columns.specs.laws.SoundParts.{sound_buffer}
+use Rattle.columns.specs.Sound.{is_sound}
+use Rattle.columns.specs.Tests.{has_short_validity}
 use Rattle.columns.specs.Visible.{is_bad_text, is_null, is_past, names_no_entry, is_forbidden}
 use Rattle.arrays.specs.inner.VisibleSpans.{any_slot, is_no_plain_text, text_width}
 
@@ -176,37 +175,3 @@ pub sound_slots : (c : Column) (a : Array) → is_sound c a ≡ true → has_sho
 unfolding is_sound
 sound_slots (column name nullable kind None pairs) a h = not-true _ (and_parts (not (has_short_validity a)) _ h).0
 sound_slots (column name nullable kind (Some index) pairs) a h = not-true _ (and_parts (not (has_short_validity a)) _ h).0
-
-pub sound_indices : (c : Column) (index : Index) (a : Array) → index_of_column c ≡ Some index → is_sound c a ≡ true → are_few (index.bits / 8) a (indices_in a) ≡ false
-unfolding is_sound
-sound_indices (column name nullable kind None pairs) index a some h = absurd cc
-sound_indices (column name nullable kind (Some other) pairs) index a some h =
-    let e : other ≡ index = cc in
-    ap (λ (x : Index). are_few (x.bits / 8) a (indices_in a)) (sym e) ∙ not-true _ (and_parts (not (are_few (other.bits / 8) a (indices_in a))) _ (and_parts (not (has_short_validity a)) _ h).1).0
-
-pub sound_entries : (c : Column) (index : Index) (a : Array) → index_of_column c ≡ Some index → is_sound c a ≡ true → list_all (is_kind_sound (kind_of_column c)) (array_list (dictionary_in a)) ≡ true
-unfolding is_sound
-sound_entries (column name nullable kind None pairs) index a some h = absurd cc
-sound_entries (column name nullable kind (Some other) pairs) index a some h =
-    (and_parts (not (are_few (other.bits / 8) a (indices_in a))) _ (and_parts (not (has_short_validity a)) _ h).1).1
-
-kind_texts_long : (kind : Kind) (w : ℕ) (a : Array) → text_width kind ≡ Some w → has_short_buffer kind a ≡ false → are_few_offsets w a ≡ false
-kind_texts_long texts w a wide h = let e : 4 ≡ w = cc in ap (λ (k : ℕ). are_few_offsets k a) (sym e) ∙ h
-kind_texts_long large_texts w a wide h = let e : 8 ≡ w = cc in ap (λ (k : ℕ). are_few_offsets k a) (sym e) ∙ h
-kind_texts_long nulls w a wide h = absurd cc
-kind_texts_long booleans w a wide h = absurd cc
-kind_texts_long (integers bits signed) w a wide h = absurd cc
-kind_texts_long (dates unit) w a wide h = absurd cc
-kind_texts_long (timestamps unit timezone) w a wide h = absurd cc
-kind_texts_long binaries w a wide h = absurd cc
-kind_texts_long large_binaries w a wide h = absurd cc
-kind_texts_long (fixed_binaries width) w a wide h = absurd cc
-kind_texts_long (lists item) w a wide h = absurd cc
-kind_texts_long (large_lists item) w a wide h = absurd cc
-kind_texts_long (fixed_lists size item) w a wide h = absurd cc
-kind_texts_long (structs columns) w a wide h = absurd cc
-
-pub sound_texts : (c : Column) (w : ℕ) (a : Array) → index_of_column c ≡ None → text_width (kind_of_column c) ≡ Some w → is_sound c a ≡ true → are_few_offsets w a ≡ false
-unfolding is_sound
-sound_texts (column name nullable kind None pairs) w a none wide h = kind_texts_long kind w a wide (sound_buffer kind a h)
-sound_texts (column name nullable kind (Some index) pairs) w a none wide h = absurd cc

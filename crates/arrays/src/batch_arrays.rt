@@ -13,13 +13,13 @@ ghost use Rattle.arrays.specs.Placed.{EndWithin};
 ghost use Rattle.arrays.specs.inner.Every.{all_of};
 ghost use Rattle.arrays.specs.inner.Read.{placed_in};
 
+use crate::array_checks::{any_miscounted, any_short, any_short_child, any_unordered};
 use crate::every::{TypedView, add_all};
 use crate::lengths::{
     any_bad_length, any_other_length, any_outside, has_other_layout, is_bad_length,
 };
 use crate::place::place_all;
 use crate::rest::Rest;
-use crate::tests::{any_miscounted, any_short, any_short_child, any_unordered};
 use arrow_schema::Field;
 use columns::{Dictionary, DictionaryPart, PlacedArray, Span, bytes_at, no_array};
 use ipc_message::{Fault, ImportError, RawBatch};

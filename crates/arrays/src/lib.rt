@@ -12,6 +12,7 @@
 //! ```
 #![tactic(auto)]
 
+mod array_checks;
 mod batch;
 mod batch_arrays;
 mod counts;
@@ -27,7 +28,6 @@ mod raw;
 mod rest;
 mod runs;
 mod schema_dictionaries;
-mod tests;
 mod visible;
 mod weights;
 

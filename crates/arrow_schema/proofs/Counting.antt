@@ -1,6 +1,7 @@
 -- Depths against a number of levels, and what a tally has counted.
 use Rattle.std.proofs.Common.{◌≡◌, ℕ, suc, ◌+◌, ◌-◌, ◌^◌, ◌≤◌, ◌<◌, Bool, true, false, ◌&&◌, List, [], ◌∷◌, ◌++◌, length, refl, ap, sym, ◌∙◌, arith}
 use Rattle.std.proofs.Common.{◌↔◌, get_or, drop, map, add-one, drop-cons}
+use Rattle.std.proofs.Math.Bool.{and_assoc, and-true}
 use Rattle.std.specs.Prelude.{nat_le, not, sum_by, Result, Ok, Err, IsOk, if◌then◌else◌}
 use Rattle.std.proofs.lemmas.Bool.{lt-leb, le-leb, leb-true, false≢true}
 use Rattle.std.specs.List.{list_all}
@@ -40,22 +41,14 @@ unfolding tallied tallied_one
 tallied_bytes t [] h = omega arith
 tallied_bytes t (c ∷ cs) h = tallied_bytes (tallied_one t c) cs (omega arith) ∙ omega (arith, sum_by-cons bytes_in c cs)
 
-and_assoc : (a b c : Bool) → ((a && b) && c) ≡ (a && (b && c))
-and_assoc true b c = refl
-and_assoc false b c = refl
-
-and_true : (a : Bool) → a ≡ (a && true)
-and_true true = refl
-and_true false = refl
-
 pub tallied_numbers : (t : Tally) (cs : List Column) → (tallied t cs).numbers_fit ≡ (t.numbers_fit && list_all has_number_in_range cs)
 unfolding tallied tallied_one
-tallied_numbers t [] = and_true t.numbers_fit
+tallied_numbers t [] = sym (and-true t.numbers_fit)
 tallied_numbers t (c ∷ cs) = tallied_numbers (tallied_one t c) cs ∙ and_assoc t.numbers_fit (has_number_in_range c) (list_all has_number_in_range cs)
 
 pub tallied_dictionaries : (t : Tally) (cs : List Column) → (tallied t cs).dictionaries_fit ≡ (t.dictionaries_fit && list_all has_flat_dictionary cs)
 unfolding tallied tallied_one
-tallied_dictionaries t [] = and_true t.dictionaries_fit
+tallied_dictionaries t [] = sym (and-true t.dictionaries_fit)
 tallied_dictionaries t (c ∷ cs) = tallied_dictionaries (tallied_one t c) cs ∙ and_assoc t.dictionaries_fit (has_flat_dictionary c) (list_all has_flat_dictionary cs)
 
 pub ruleset depth_rules = nat_le_max

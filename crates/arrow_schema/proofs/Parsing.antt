@@ -1,5 +1,5 @@
 -- What parsing field texts reports.
-use Rattle.std.proofs.Common.{◌≡◌, ◌⊎◌, ◌<◌, ◌≤◌, ◌+◌, ℕ, suc, Bool, true, false, ◌&&◌, List, [], ◌∷◌, ◌++◌, length, get_or, map, drop, drop-cons, add-one, Bor, refl, sym, ap, ◌∙◌, subst, arith, cond, inl, inr, ⊎_elim}
+use Rattle.std.proofs.Common.{◌≡◌, ◌⊎◌, ◌<◌, ◌≤◌, ◌+◌, ℕ, suc, Bool, true, false, ◌&&◌, List, [], ◌∷◌, ◌++◌, length, get_or, map, drop, drop-cons, add-one, Bor, refl, sym, ap, ◌∙◌, subst, arith, cond, inr, ⊎_elim}
 use Rattle.std.specs.Prelude.{Option, None, Some, option_map, nat_le, Ok, Err}
 use Rattle.std.specs.Prelude.{String}
 use Rattle.std.specs.Global.{Global}
@@ -11,8 +11,7 @@ use Rattle.facts.specs.laws.Levels.{nat_le_max}
 use Rattle.arrow_schema.specs.declared.limits.TheConstants.{MAX_DEPTH}
 use Rattle.arrow_schema.specs.declared.texts.build.BuildError.{BuildError}
 use Rattle.arrow_schema.specs.declared.texts.build.BuildError.TheVariants.{Unread, Memory}
-use Rattle.arrow_schema.specs.declared.texts.parse.ParseError.{ParseError}
-use Rattle.arrow_schema.specs.declared.texts.parse.ParseError.TheVariants.{BadText, Limit, OutOfMemory}
+use Rattle.arrow_schema.specs.declared.texts.parse.ParseError.TheVariants.{Limit}
 use Rattle.arrow_schema.specs.Column.{Pair, Column, columns_of, PlainSchema}
 use Rattle.arrow_schema.specs.View.{pair_of}
 use Rattle.arrow_schema.specs.Preorder.{depth, depth_all}
@@ -20,7 +19,7 @@ use Rattle.arrow_schema.specs.Limits.{IsWithinLimits}
 use Rattle.arrow_schema.specs.Typed.{IsTextOf, IsFieldText}
 use Rattle.arrow_schema.specs.inner.Build.{field_from, column_at, Builds, columns_at, before_columns}
 use Rattle.arrow_schema.specs.Reported.{AreTextsOf, schema_with, IsReported}
-use Rattle.arrow_schema.specs.inner.Tested.{TestsOne, Tests}
+use Rattle.arrow_schema.specs.inner.Tested.{Tests}
 use Rattle.arrow_schema.proofs.Again.{always, field_again}
 
 both_by : (a b : Bool) (c : Column) (cs : List Column) (o : Option (List Column)) → o ≡ cond b (Some cs) None
@@ -76,11 +75,6 @@ reported_deep texts good e =
           none-some _ (sym e ∙ columns_again texts all.columns MAX_DEPTH all.texts_of ∙ ap (λ (b : Bool). cond b (Some all.columns) None) shallow);
     })
 
-pub reported_err : (texts : List (List ℕ)) (e : ParseError) → Tests texts (Err e) → IsReported texts (Err e)
-reported_err texts (BadText n) h = h
-reported_err texts Limit h = inl h
-reported_err texts OutOfMemory h = tt
-
 -- the test of each text in turn
 pub next_good : (texts : List (List ℕ)) (i : ℕ) → ((k : ℕ) → k < i → IsFieldText true (get_or texts k [])) → IsFieldText true (get_or texts i []) → (k : ℕ) → k < i + 1 → IsFieldText true (get_or texts k [])
 next_good texts i before here k h =
@@ -88,11 +82,6 @@ next_good texts i before here k h =
   where
     split : (k i : ℕ) → k < i + 1 → (k < i) ⊎ (k ≡ i)
     split k i h = grind (arith, h)
-
-pub one_refused : (texts : List (List ℕ)) (i : ℕ) (e : ParseError) → i < length texts → ((k : ℕ) → k < i → IsFieldText true (get_or texts k [])) → TestsOne (i + 1) (get_or texts i []) (Err e) → Tests texts (Err e)
-one_refused texts i (BadText n) among before h = record { index = i; counted = h.0; first = record { among = among; before = before; refused = h.1 }; bad = h.2 }
-one_refused texts i Limit among before h = record { index = i; first = record { among = among; before = before; refused = h.0 }; text = h.1 }
-one_refused texts i OutOfMemory among before h = tt
 
 -- the columns of each text in turn
 pub next_column : (earlier cs : List Column) (c : Column) (l : ℕ) (text : List ℕ) (texts : List (List ℕ)) (rest : List ℕ) → field_from (column_at l) text ≡ Some (c, rest)

@@ -5,7 +5,7 @@ ghost use Rattle.arrow_schema.specs.Column.{columns_of};
 ghost use Rattle.arrow_schema.specs.View.{schema_of, kind_of, column_of, pair_of};
 ghost use Rattle.arrow_schema.specs.Preorder.{preorder, preorder_below, preorder_all, depth, depth_below, depth_all, every_column};
 ghost use Rattle.arrow_schema.specs.Limits.{IsWithinLimits, first_exceeded, number_of, is_nested, timezone_of, bytes_of_pairs, count_of_pairs, count_of_bytes, has_number_in_range, has_flat_dictionary};
-ghost use Rattle.arrow_schema.specs.inner.Tally.{saturated, tallied, tallied_one, tally_of_pairs};
+ghost use Rattle.arrow_schema.specs.inner.Tally.{saturated, tallied, tallied_one};
 
 use crate::types::{DataType, Field, Schema};
 

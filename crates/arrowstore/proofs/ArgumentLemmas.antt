@@ -7,7 +7,7 @@ use Rattle.std.proofs.lemmas.Slice.Eq.{bytes_eq-Decides}
 use Rattle.std.proofs.lemmas.Option.{none-some, same_Some, cond_some}
 use Rattle.std.proofs.lemmas.List.{append-nil}
 use Rattle.clap.specs.Lexer.{strip_byte, long_of, short_of, long_of_rest, short_of_rest, name_and_value, has_byte}
-use Rattle.clap.specs.Walk.{Names, Rule, Step, Walk, idle, plain, done, value, nothing_held, walk, walk_from, walked, arg_by_long, arg_by_short, long_or_other, short_or_plain, after_flag, long_met, short_met, bundle_step, bundle_met, settled, finished}
+use Rattle.clap.specs.Walk.{Names, Rule, Step, Walk, idle, plain, done, value, nothing_held, walk, walk_from, walked, arg_by_long, arg_by_short, long_or_other, after_flag, long_met, short_met, bundle_step, bundle_met, settled, finished}
 use Rattle.clap.specs.Simple.{Shape, built, help_rule, filled_from, names_of, entered}
 use Rattle.clap.specs.Kinds.{or_else, Kinds, IsAmong}
 use Rattle.clap.specs.Faults.{fault_of, walk_fault, turn_fault, flag_word_fault, long_fault, short_fault, bundle_step_fault, flags_fault, level_fault, entered_fault, settle_fault, defaults_fault, check_fault}
@@ -48,18 +48,6 @@ long_kinds stray found v word =
     let met = long_met rules found v nothing_held in
     or_else (long_fault rules false found v nothing_held) (unless_value stray (after_flag rules idle word met.0 met.1).1)
 
-long_is : (stray : Kinds) (p : Text × Option Text) (word : Text) → word_kinds stray (Some p) word ≡ long_kinds stray (arg_by_long rules p.0) p.1 word
-long_is stray p word = refl
-
-unknown_long : (stray : Kinds) (v : Option Text) (word : Text) → long_kinds stray None v word ≡ UnknownArgument ∷ []
-unknown_long stray v word = refl
-
-help_long : (stray : Kinds) (word : Text) → long_kinds stray (Some help) None word ≡ DisplayHelp ∷ []
-help_long stray word = refl
-
-valued_long : (stray : Kinds) (v word : Text) → long_kinds stray (Some help) (Some v) word ≡ TooManyValues ∷ []
-valued_long stray v word = refl
-
 long_found : (name : Text) → (b : Bool) → bytes_eq (codes "help") name ≡ b → ((arg_by_long rules name ≡ Some help) × (codes "help" ≡ name)) ⊎ (arg_by_long rules name ≡ None)
 long_found name true e = inl (rw e refl, (bytes_eq-Decides (codes "help") name).0 e)
 long_found name false e = inr (rw e refl)
@@ -70,12 +58,6 @@ abbrev letter_kinds : Kinds → Option ℕ → ℕ → Text → Text → Kinds
 letter_kinds stray letter k flags word =
     let met = bundle_step rules letter flags 0 plain nothing_held (bundle_met rules k) in
     or_else (bundle_step_fault rules false letter flags 0 nothing_held (flags_fault rules false k)) (unless_value stray (after_flag rules idle word met.0 met.1).1)
-
-no_letter : (stray : Kinds) (k : ℕ) (flags word : Text) → letter_kinds stray None k flags word ≡ stray
-no_letter stray k flags word = refl
-
-short_kinds : Kinds → Option Text → Text → Kinds
-short_kinds stray flags word = or_else (flag_word_fault rules false None word nothing_held) (unless_value stray (short_or_plain rules idle word flags nothing_held).1)
 
 letters_are : (stray : Kinds) (x : ℕ) (xs word : Text) → short_of word ≡ Some (x ∷ xs) → word_kinds stray None word ≡ letter_kinds stray (slice_get (chars (x ∷ xs)) 0) (length xs) (x ∷ xs) word
 unfolding clap_on_literals
@@ -91,15 +73,6 @@ found_kinds stray found x k flags word =
     let rest = drop (length (encode_utf8 x)) flags in
     let met = short_met rules found rest nothing_held (bundle_met rules k rest 0 done) in
     or_else (short_fault rules false found rest nothing_held (flags_fault rules false k rest 0)) (unless_value stray (after_flag rules idle word met.0 met.1).1)
-
-letter_is : (stray : Kinds) (x k : ℕ) (flags word : Text) → letter_kinds stray (Some x) k flags word ≡ found_kinds stray (arg_by_short rules x) x k flags word
-letter_is stray x k flags word = refl
-
-unknown_letter : (stray : Kinds) (x k : ℕ) (flags word : Text) → found_kinds stray None x k flags word ≡ UnknownArgument ∷ []
-unknown_letter stray x k flags word = refl
-
-help_letter : (stray : Kinds) (x k : ℕ) (flags word : Text) → found_kinds stray (Some help) x k flags word ≡ DisplayHelp ∷ []
-help_letter stray x k flags word = refl
 
 -- ---- what the words look like
 

@@ -1,5 +1,4 @@
 -- The messages of what was built, and the steps over the pieces of a table.
-use Rattle.std.specs.Global.{Vec}
 use Rattle.std.specs.Prelude.{nat_le, sum_by, true, false}
 use Rattle.std.specs.List.{AllByRecursion, flat_map}
 use Rattle.std.proofs.Common.{◌≡◌, ◌≤◌, ◌+◌, ℕ, List, [], ◌∷◌, ◌++◌, map, length, refl, sym, subst, ap, ◌∙◌, arith, append_assoc}
@@ -78,14 +77,7 @@ next_made f old new all made piece cut rest next pushed is was =
     ∙ ap (λ x. old ++ map f x) (sym next)
     ∙ was
 
--- and with none left
-pub none_left : {A B : Type 0} (f : A → B) (old all : List B) (cut : List A) → cut ≡ [] → old ++ map f cut ≡ all → old ≡ all
-none_left f old all cut none was = sym (append-nil old) ∙ ap (λ x. old ++ map f x) (sym none) ∙ was
-
 -- ---- a piece of what was built
-
-abbrev pub items_in : Vec ℕ → List ℕ
-items_in v = v.items
 
 pub nodes_built : (b : BuiltBatch) (ts : List Typed) → batch_in b ≡ batch_of ts → map node_in b.nodes.items ≡ map node_of ts
 unfolding batch_in with_arrays

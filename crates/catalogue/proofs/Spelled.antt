@@ -1,6 +1,6 @@
 -- What is read was written so.
 use Rattle.std.proofs.Common.{◌≡◌, ◌≤◌, ◌<◌, ◌+◌, ◌*◌, ◌/◌, ◌%◌, ◌^◌, ◌&&◌, leb, eqb, ℕ, zero, suc, Bool, true, false, cond, List, [], ◌∷◌, ◌++◌, length, take, drop, Option, Some, None, refl, sym, ap, subst, ◌∙◌, append_assoc, arith}
-use Rattle.std.proofs.Math.Nat.{div-div-eq-div-mul, div-one, pow-suc}
+use Rattle.std.proofs.Math.Nat.{div-div-eq-div-mul, pow-suc}
 use Rattle.std.specs.Int.{byte_at, bytes_low_first}
 use Rattle.std.specs.List.{flat_map}
 use Rattle.std.specs.Str.{bytes_eq}
@@ -12,6 +12,7 @@ use Rattle.byteorder.specs.Endian.{little_bytes, little_number}
 use Rattle.byteorder.specs.Numbers.{little_from-cons, little_from-take}
 use Rattle.facts.specs.Bytes.{AreBytes}
 use Rattle.facts.specs.laws.Bytes.{take-bytes, drop-bytes}
+use Rattle.facts.specs.laws.Numbers.{byte_at-pow}
 use Rattle.arrow_schema.specs.Column.{PlainSchema}
 use Rattle.ipc_message.specs.Header.{supported_codes}
 use Rattle.ipc_message.specs.Checks.{checked_schema}
@@ -23,10 +24,6 @@ use Rattle.catalogue.specs.Reading.{◌>>=◌, front_number, sized_at, many_at, 
 use Rattle.catalogue.specs.laws.Kept.{catalogue_is}
 
 -- ---- numbers
-
-byte_at-pow : (i x : ℕ) → byte_at i x ≡ x / 256 ^ i % 256
-byte_at-pow zero x = ap (λ (y : ℕ). y % 256) (sym (div-one x))
-byte_at-pow (suc i) x = refl
 
 -- a byte in front moves the others on
 byte_behind : (i b x : ℕ) → b < 256 → byte_at (suc i) (b + 256 * x) ≡ byte_at i x

@@ -1,11 +1,10 @@
 // Laws of the definitions, for the crates above: each call does nothing, and its contract is the law.
-ghost use Rattle.std.specs.Prelude.{◌≡◌, ◌≤◌, ◌*◌, ◌++◌, ℕ, true, List, length, Some};
-ghost use Rattle.std.specs.List.{list_all, Contains};
-ghost use Rattle.arrow_schema.specs.Limits.{IsWithinLimits};
+ghost use Rattle.std.specs.Prelude.{◌≡◌, ◌≤◌, ◌*◌, ◌++◌, ℕ, List, length, Some};
+ghost use Rattle.std.specs.List.{Contains};
 ghost use Rattle.facts.specs.Bytes.{AreBytes};
 ghost use Rattle.catalogue.specs.declared.entry.Segment.{Segment};
 ghost use Rattle.catalogue.specs.declared.limits.TheConstants.{MAX_SEGMENTS, MAX_SEGMENT_ROWS};
-ghost use Rattle.catalogue.specs.Entries.{PlainEntry, PlainCatalogue, is_name, is_segment, is_entry, row_count, runs_of, IsCatalogue};
+ghost use Rattle.catalogue.specs.Entries.{PlainEntry, PlainCatalogue, row_count, runs_of, IsCatalogue};
 ghost use Rattle.catalogue.specs.Edits.{entry_of, with_entry, without};
 ghost use Rattle.catalogue.specs.Counts.{HasMore, HasSame, HasFewer};
 ghost use Rattle.catalogue.specs.Text.{list_text, list_size};
@@ -35,11 +34,6 @@ pub fn one_text_each()
 /// How many bytes a text has. Where runs start makes no difference.
 pub fn texts_have_these_sizes()
     ensures { (c : PlainCatalogue) → length (list_text c) ≡ list_size c }
-{}
-
-/// An entry may stand where each of its parts may.
-pub fn sound_parts_make_an_entry()
-    ensures { (e : PlainEntry) → is_name e.name ≡ true → IsWithinLimits e.schema → list_all is_segment e.segments ≡ true → is_entry e ≡ true }
 {}
 
 /// How many tables and segments there are after a change.

@@ -27,8 +27,7 @@ pub use decoding::{DecodeError, decode};
 pub use encoding::encode;
 pub use entry::{Segment, TableEntry};
 pub use laws::{
-    counts_after_changes, one_text_each, rows_are_few, runs_are_named, sound_parts_make_an_entry,
-    texts_have_these_sizes,
+    counts_after_changes, one_text_each, rows_are_few, runs_are_named, texts_have_these_sizes,
 };
 pub use limits::{MAX_NAME_BYTES, MAX_SEGMENT_ROWS, MAX_SEGMENTS, MAX_TABLES};
 pub use names::is_name;

@@ -12,6 +12,7 @@
 #![tactic(auto)]
 
 mod array;
+mod array_checks;
 mod borrowed;
 mod borrowing;
 mod coded_slots;
@@ -21,10 +22,10 @@ mod laws;
 mod numbers;
 mod read;
 mod span;
-mod tests;
 mod view;
 
 pub use array::{Dictionary, DictionaryPart, PlacedArray, PlacedLayout};
+pub use array_checks::{counts_wrong, has_short_child, is_short, is_unordered};
 pub use borrowed::{ValueRef, Values, ValuesIter};
 pub use borrowing::borrow_value;
 pub use coded_slots::CodedSlots;
@@ -38,5 +39,4 @@ pub use laws::{
 pub use numbers::{OffsetWidth, date_integer, push_offset, timestamp_integer};
 pub use read::{row, value};
 pub use span::{Span, bytes_at};
-pub use tests::{counts_wrong, has_short_child, is_short, is_unordered};
 pub use view::{ArrayView, array_or, known_arrays, no_array};

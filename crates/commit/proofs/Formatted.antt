@@ -1,7 +1,6 @@
 -- The moments of a formatting.
 use Rattle.std.proofs.Common.{◌≡◌, ◌≢◌, ◌⊎◌, inl, inr, ⊎_elim, ◌≤◌, ◌<◌, ◌+◌, ◌==◌, if◌then◌else◌, nat_lt, ℕ, Bool, true, false, List, [], take, option_map, replicate, Option, Some, None, refl, sym, ap, ◌∙◌, subst, arith}
 use Rattle.std.proofs.lemmas.Bool.{cases_eq}
-use Rattle.std.specs.Bool.{OnFalse}
 use Rattle.std.proofs.lemmas.Bool.Decides.{nat_tests}
 use Rattle.sector_dev.specs.Disk.{Disk, Sector, Story, Image, now, put, flushed, with_content, synced_image, shown_image, MayLeave, MayHold, ShowsImage, Puts, FailsToPut, Flushes}
 use Rattle.sector_dev.specs.Time.{Grows, LeavesOnly, OnlyReads}
@@ -18,10 +17,6 @@ use Rattle.commit.specs.Formatting.{HoldsNoCommit, HasNoCommit, IsNoneOrEmpty, I
 use Rattle.commit.specs.laws.Sectors.{none_unreadable, none_begins}
 use Rattle.sector_dev.specs.laws.Crash.{one_more}
 use Rattle.commit.specs.inner.Prepared.{IsPrepared, HasZeros, HasFirst, Begins, Clears}
-
-pub on_false : {P Q : Type 0} (b : Bool) → OnFalse b P → (P → Q) → OnFalse b Q
-on_false true p f = tt
-on_false false p f = f p
 
 -- a content that spells no commit may be written anywhere: where nothing spelled one before, nothing does then
 pub put_keeps : (d : Disk) (n : ℕ) (c : List ℕ) (x : Option (List ℕ)) → ((k : ℕ) → k < 2 → k ≡ n → commit_at k (Some c) ≡ None) → HasNoCommit d → HasNoCommit (put d n c x)

@@ -28,9 +28,6 @@ module _ (old new : Commit) (pieces : List PlainPiece) (d0 : Disk) (above : Star
   abbrev slot : ℕ
   slot = new.epoch % 2
 
-  at_slot_out : OutOf (runs_of pieces) slot
-  at_slot_out = out_of_commits pieces slot (mod_below new.epoch 2 (omega arith)) above
-
   -- while the pieces are written each image has the old commit sectors
   pub while_written : (d : Disk) → WritesOnly (runs_of pieces) d0 d → P d
   while_written d w =

@@ -1,10 +1,10 @@
 -- The lists of arrays after one more batch.
 use Rattle.std.specs.Prelude.{◌==◌, if◌then◌else◌}
-use Rattle.std.proofs.Common.{◌≡◌, ◌≢◌, ℕ, zero, ◌+◌, ◌≤◌, ◌<◌, Bool, true, false, Option, Some, None, List, [], ◌∷◌, ◌++◌, length, get_or, map, take, refl, ap, sym, ◌∙◌, arith, length-append, subst, ◌⊎◌, inl, inr, ⊎_elim}
+use Rattle.std.proofs.Common.{◌≡◌, ◌≢◌, ℕ, ◌+◌, ◌≤◌, ◌<◌, Bool, true, false, Option, Some, None, List, [], ◌∷◌, ◌++◌, length, get_or, map, take, refl, ap, sym, ◌∙◌, arith, length-append, subst, ◌⊎◌, inl, inr, ⊎_elim}
 use Rattle.std.proofs.Math.ListN.{set}
-use Rattle.std.proofs.lemmas.Bool.{cases_lt, cases_eq}
+use Rattle.std.proofs.lemmas.Bool.{cases_eq}
 use Rattle.std.proofs.lemmas.Bool.Decides.{nat_tests}
-use Rattle.std.proofs.lemmas.List.{length-set, get_or_append_left, get_or_at, get_or-set_same, get_or-set_other, get_or_past, take-append-le, map-append}
+use Rattle.std.proofs.lemmas.List.{get_or_append_left, get_or_at, get_or-set_same, get_or-set_other, take-append-le, map-append}
 use Rattle.columns.specs.declared.array.PlacedArray.{PlacedArray}
 use Rattle.columns.specs.Array.{Array}
 use Rattle.columns.specs.View.{array_in, no_dictionary}
@@ -82,23 +82,6 @@ effect_more bytes old new before id is_delta a is h other =
 
 -- ---- parts that stood there
 
-none_known : (n : ℕ) (lists : Lists) (i : ℕ) → n ≤ length (get_or lists i []) → length lists ≤ i → n ≡ zero
-none_known n lists i h past =
-    let e : get_or lists i [] ≡ [] = get_or_past lists i [] past in
-    let le : n ≤ length (let xs : List PlacedArray = [] in xs) = rw e at h in
-    omega arith
-
-pub begun_keeps : (lists : Lists) (more : List PlacedArray) → KeepsParts lists (lists ++ more ∷ [])
-begun_keeps lists more part stands =
-    ⊎_elim
-    (λ (within : part.number < length lists).
-    let same : get_or (lists ++ more ∷ []) part.number [] ≡ get_or lists part.number [] = get_or_append_left lists (more ∷ []) [] part.number within in
-    (subst (λ (xs : List PlacedArray). part.known ≤ length xs) (sym same) stands, ap (λ (xs : List PlacedArray). take part.known xs) same))
-    (λ (past : length lists ≤ part.number).
-    let none : part.known ≡ zero = none_known part.known lists part.number stands past in
-    rw none (omega arith, refl))
-    (cases_lt part.number (length lists))
-
 pub grown_keeps : (lists : Lists) (n : ℕ) (more : List PlacedArray) → n < length lists → KeepsParts lists (set lists n (get_or lists n [] ++ more))
 grown_keeps lists n more within part stands =
     ⊎_elim
@@ -140,10 +123,4 @@ begun_apart lists numbers id more old = record {
       (λ (both : ((id == i) ≡ true) × ((id == j) ≡ true)). sym (is_same id i both.0) ∙ is_same id j both.1)
       (λ (both : (number_in i numbers ≡ Some m) × (number_in j numbers ≡ Some m)). old.apart i j m both.0 both.1)
       (one_step (id == i) (id == j) (length lists) m (number_in i numbers) (number_in j numbers) (old.within i) (old.within j) (sym (number_is id (length lists) i numbers) ∙ h) (sym (number_is id (length lists) j numbers) ∙ k));
-}
-
-pub grown_apart : (lists : Lists) (numbers : List CurrentList) (n : ℕ) (more : List PlacedArray) → AreApart lists numbers → AreApart (set lists n more) numbers
-grown_apart lists numbers n more old = record {
-  within = λ id m h. let lt : m < length lists = old.within id m h in omega (arith, length-set lists n more);
-  apart = old.apart;
 }

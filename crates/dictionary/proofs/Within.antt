@@ -35,12 +35,6 @@ all_taken p (x ∷ xs) (suc n) all =
 abbrev is_in : ℕ → PlacedArray → Bool
 is_in size = is_within_by size (λ p. true)
 
-pub began_within : {T E : Type 0} (r : Result T E) (k : Kept) (new : Kept) (lists : List (List PlacedArray)) (a : PlacedArray) → lists ≡ k.lists → OnOk r (new.lists ≡ lists ++ (a ∷ []) ∷ []) → OnOk r (StaysWithin k a new)
-began_within (Ok x) k new lists a is longer = λ size all one.
-    ap (list_all (list_all (is_in size))) (longer ∙ ap (λ (xs : List (List PlacedArray)). xs ++ (a ∷ []) ∷ []) is)
-    ∙ all_pushed (list_all (is_in size)) k.lists (a ∷ []) all (and_from (is_in size a) true one refl)
-began_within (Err e) k new lists a is longer = tt
-
 pub grew_within : {T E : Type 0} (r : Result T E) (k : Kept) (new : Kept) (lists : List (List PlacedArray)) (n : ℕ) (a : PlacedArray) → lists ≡ k.lists
     → OnOk r (new.lists ≡ set lists n (get_or lists n [] ++ a ∷ [])) → OnOk r (StaysWithin k a new)
 grew_within (Ok x) k new lists n a is longer = λ size all one.

@@ -10,10 +10,7 @@ use Rattle.dictionary.specs.Kept.{HasInEffect, KeepsParts, are_kept_within, list
 use Rattle.arrays.specs.Bytes.{are_bytes}
 use Rattle.arrays.specs.Dictionaries.{dictionary_read}
 use Rattle.arrays.specs.DictionaryColumns.{dictionary_columns_of}
-use Rattle.ipc_message.specs.declared.error.ImportError.{ImportError}
-use Rattle.ipc_message.specs.declared.error.ImportError.TheVariants as errors
 use Rattle.ipc_message.specs.declared.fault.Fault.{Fault}
-use Rattle.ipc_message.specs.Outcome.{Fails}
 use Rattle.ipc_message.specs.Raw.{RawDictionaryBatch, dictionary_header}
 use Rattle.values.specs.declared.part.Batch.{Batch}
 use Rattle.ipc_stream.specs.declared.front.Front.{Front}
@@ -62,8 +59,3 @@ pub dictionary_added : BatchLaws → (bytes : List ℕ) (f next : Front) (k : Kn
     → GivesFront bytes (Ok next) (read_after k body (dictionary_header d))
 dictionary_added laws bytes f next k d body b lists is small read there has =
     (with_dictionary k b, ap (λ (r : Result DictionaryBatch Fault). r >>= λ b. Ok (with_dictionary k b)) read, front_grown laws bytes f next k d body b lists is small read there has)
-
-pub dictionary_refused : (k : Known) (d : RawDictionaryBatch) (body : List ℕ) (e : ImportError) → Fails e (dictionary_read k.columns k.dictionaries d body)
-    → Fails e (read_after k body (dictionary_header d))
-dictionary_refused k d body errors.OutOfMemory h = tt
-dictionary_refused k d body (errors.Fault fault) h = ap (λ (r : Result DictionaryBatch Fault). r >>= λ b. Ok (with_dictionary k b)) h

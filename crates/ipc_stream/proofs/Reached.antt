@@ -171,9 +171,6 @@ nowhere bytes k h = rw h refl
 
 -- ---- reading
 
-pub reads_first : (bytes : List ℕ) → IsReadTo bytes 0 0 None
-reads_first bytes = record { before = None; known = tt; within = omega arith; begins = refl; others = λ more. refl; waits = λ more. refl; messages = []; counted = refl; sized = refl; passed = λ more. refl }
-
 -- a message that stands at the front of the rest
 module _ (bytes : List ℕ) (start : ℕ) (m : Envelope) (some : 0 < length (drop start bytes)) (e : next_message (drop start bytes) ≡ Ok (message m)) where
   abbrev rest : List ℕ
@@ -371,9 +368,6 @@ refused_message bytes number start front m (errors.Fault fault) r some next h =
 
 -- ---- at the end of the bytes
 
-pub ends_cut : (bytes : List ℕ) (r : Reading) → Rests bytes r → 0 < r.held → GivesFront bytes (Err (errors.Fault Truncated)) (known_from None bytes)
-ends_cut bytes r rests h = rests.cut_off h
-
 pub ends_without_schema : (bytes : List ℕ) (r : Reading) → Rests bytes r → r.held ≤ 0 → r.front ≡ None → GivesFront bytes (Err (errors.Fault NoSchema)) (known_from None bytes)
 ends_without_schema bytes r rests h none = rests.whole h ∙ no_schema rests.read.before (subst (λ (x : Option Front). IsBefore bytes x rests.read.before) none rests.read.known)
   where
@@ -394,10 +388,6 @@ stopped_fails bytes errors.OutOfMemory number start h = tt
 stopped_fails bytes (errors.Fault fault) number start h = (refused_settled bytes fault h.0).2
 
 -- ---- where a fault stands
-
-pub stopped_place : (bytes : List ℕ) (e : ImportError) (fault : Fault) (number start : ℕ) → e ≡ errors.Fault fault → StoppedBy bytes e number start
-    → Some (number, start) ≡ place_of supported_codes bytes
-stopped_place bytes e fault number start is h = sym (subst (λ (x : ImportError). StoppedBy bytes x number start) is h).1
 
 pub cut_place : (bytes : List ℕ) (r : Reading) → Rests bytes r → 0 < r.held → Some (r.number, r.start) ≡ place_of supported_codes bytes
 cut_place bytes r rests h = sym (placed bytes r.number r.start r.front rests.read Truncated rests.stops (rests.cut_off h))

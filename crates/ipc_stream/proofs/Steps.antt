@@ -4,10 +4,6 @@ use Rattle.std.proofs.Common.{◌≡◌, ℕ, suc, ◌+◌, ◌<◌, ◌≤◌, 
 use Rattle.std.proofs.Math.Seq.{drop-append-add, drop-append_seam, take-append_seam}
 use Rattle.std.proofs.lemmas.List.{drop-drop}
 use Rattle.ipc_message.specs.declared.fault.Fault.{Fault}
-use Rattle.ipc_message.specs.declared.message.Message as code_message
-use Rattle.ipc_message.specs.declared.message.NextMessage as code_next_message
-use Rattle.ipc_message.specs.declared.message.NextMessage.TheVariants as next_messages
-use Rattle.ipc_message.specs.Messages.{next_message_of}
 use Rattle.ipc_message.specs.Framing.{Envelope, NextMessage, end_of_stream, message, next_message, taken, Framed, continuation_marker}
 use Rattle.ipc_message.specs.Header.{supported_codes}
 use Rattle.ipc_stream.specs.Meaning.{Known, read_next, read_from, known_at_end, known_at_end_of_stream, is_empty}
@@ -65,7 +61,3 @@ pub step_on : (supported : ℕ → Bool) (less : ℕ) (before : Option Known) (b
     → read_next supported before m ≡ Ok k → read_from supported (suc less) before bytes ≡ read_from supported less (Some k) (drop (taken (message m)) bytes)
 unfolding read_from
 step_on supported less before bytes m k some e goes = rw (some, e, goes) refl
-
-pub is_end_of_stream : (f : code_next_message.NextMessage) → ((m : code_message.Message) → f ≡ next_messages.Message m → ⊥) → next_message_of f ≡ end_of_stream
-is_end_of_stream (next_messages.Message m) other = absurd (other m refl)
-is_end_of_stream next_messages.EndOfStream other = refl

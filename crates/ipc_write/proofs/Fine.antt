@@ -35,9 +35,6 @@ fine_span bytes at len n h = rw (le-leb (at + len) (length bytes) h) refl
 pub fine_spans : (bytes : List ℕ) (w : ℕ) (s : Option ℕ) (p n : ℕ) → s ≡ Some p → p + w ≤ length bytes → Fine bytes (spans w s) n n
 fine_spans bytes w s p n e h = rw e (fine_span bytes p w n h)
 
-pub fine_absent : (bytes : List ℕ) (w : ℕ) (s : Option ℕ) (n : ℕ) → s ≡ None → Fine bytes (spans w s) n n
-fine_absent bytes w s n e = rw e (fine_none bytes n)
-
 -- a vector, all of it within the bytes
 pub fine_vector : (bytes : List ℕ) (w : ℕ) (s : Option ℕ) (p n : ℕ) → s ≡ Some p → p + 4 ≤ length bytes → target bytes p + 4 ≤ length bytes
     → target bytes p + 4 + w * number 4 bytes (target bytes p) ≤ length bytes → Fine bytes (vector_at w bytes s) n n

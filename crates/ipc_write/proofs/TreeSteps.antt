@@ -4,7 +4,7 @@ use Rattle.std.proofs.Common.{◌≡◌, ℕ, ◌+◌, ◌<◌, ◌≤◌, true,
 use Rattle.std.proofs.lemmas.Bool.{eqb-true}
 use Rattle.std.proofs.lemmas.List.{map-append, drop_all}
 use Rattle.facts.specs.laws.Lists.{drop-item}
-use Rattle.flatbuf.specs.Tree.{Tree, Nodes, Slots, text, references, no_node, and_node, no_slot, refers}
+use Rattle.flatbuf.specs.Tree.{Tree, Nodes, Slots, references, no_node, and_node, no_slot, refers}
 use Rattle.flatbuf.specs.declared.nodes.Node.{Node}
 use Rattle.flatbuf.specs.declared.nodes.Slot.{Slot}
 use Rattle.flatbuf.specs.View.{nodes_of, slots_in, node_of, slot_before}
@@ -12,21 +12,13 @@ use Rattle.arrow_schema.specs.declared.types.Field.{Field}
 use Rattle.arrow_schema.specs.Column.{Index, Pair, Kind, Column, column, no_column, columns_of}
 use Rattle.arrow_schema.specs.Parts.{kind_of_column, index_of_column}
 use Rattle.arrow_schema.specs.View.{column_of}
-use Rattle.ipc_write.specs.Trees.{timezone_slot, pair_tree, pair_nodes, pairs_slot, dictionary_slot, ids_for, ids_of, ids_below, ids_of_all, field_tree, child_nodes, field_nodes}
+use Rattle.ipc_write.specs.Trees.{pair_tree, pair_nodes, pairs_slot, dictionary_slot, ids_for, ids_of, ids_of_all, field_tree, child_nodes, field_nodes}
 use Rattle.ipc_write.specs.inner.Steps.{slots_then, nodes_then, field_table}
 
 -- ---- what is written only where there is some
 
 no_item : {X : Type 0} (x : X) (xs : List X) → (length (x ∷ xs) == 0) ≡ true → ⊥
 no_item x xs h = let none : length (x ∷ xs) ≡ 0 = eqb-true (length (x ∷ xs)) 0 h in omega (arith, none)
-
-pub timezone_none : (z : List ℕ) → (length z == 0) ≡ true → timezone_slot z ≡ no_slot
-timezone_none [] h = refl
-timezone_none (b ∷ bs) h = absurd (no_item b bs h)
-
-pub timezone_some : (z : List ℕ) → (length z == 0) ≡ false → timezone_slot z ≡ refers (text z) no_slot
-timezone_some [] h = absurd cc
-timezone_some (b ∷ bs) h = refl
 
 pub pairs_none : {X : Type 0} (pair : X → Pair) (xs : List X) → (length xs == 0) ≡ true → pairs_slot (map pair xs) ≡ no_slot
 pairs_none pair [] h = refl
@@ -59,9 +51,6 @@ nodes_push [] n rest = refl
 nodes_push (m ∷ ns) n rest = ap (and_node m) (nodes_push ns n rest)
 
 -- ---- fields
-
-pub ids_are : (c : Column) → ids_of c ≡ ids_for (index_of_column c) + ids_below (kind_of_column c)
-ids_are (column name nullable kind dictionary pairs) = refl
 
 field_again : (id : ℕ) (c : Column) (encoding : Slots → Slots) → ((rest : Slots) → encoding rest ≡ dictionary_slot id (index_of_column c) rest)
     → field_table c encoding (child_nodes (id + ids_for (index_of_column c)) (kind_of_column c)) ≡ field_tree id c

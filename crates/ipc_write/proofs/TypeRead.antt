@@ -10,7 +10,7 @@ use Rattle.flatbuf.specs.Laid.{count_of, slots_of}
 use Rattle.flatbuf.specs.Tree.{Slots, table, no_slot, scalar}
 use Rattle.arrow_schema.specs.Column.{Index, Pair, Kind, nulls, booleans, integers, dates, timestamps, texts, large_texts, binaries, large_binaries, fixed_binaries, lists, large_lists, fixed_lists, structs}
 use Rattle.ipc_message.specs.Raw.{timestamp_parameters}
-use Rattle.ipc_message.specs.Header.{int_things, size_things, date_things, timestamp_things, type_things, encoding_things, pair_things, pairs_things, parameters_in, encoding_in, int_of, pair_at, pairs_in}
+use Rattle.ipc_message.specs.Header.{int_things, size_things, date_things, timestamp_things, type_things, encoding_things, pair_things, pairs_things, parameters_in, encoding_in, pair_at, pairs_in}
 use Rattle.ipc_write.specs.Trees.{bit, code_of, int_tree, type_tree, timezone_slot, pair_tree, pair_nodes, pairs_slot, dictionary_slot, date_unit_of, time_unit_of}
 use Rattle.ipc_write.specs.Decoded.{parameters_of, encoding_of}
 use Rattle.ipc_write.specs.Walked.{type_tables, encoding_tables}
@@ -19,10 +19,6 @@ use Rattle.ipc_write.proofs.Fine.{Fine, fine_none, fine_append, fine_more, fine_
 pub is_set-bit : (b : Bool) → is_set (bit b) ≡ b
 is_set-bit true = refl
 is_set-bit false = refl
-
--- an Int behind a reference
-pub int_read : (bytes : List ℕ) (s : Option ℕ) (p bits : ℕ) (signed : Bool) → s ≡ Some p → Has bytes (target bytes p) (int_tree bits signed) → int_of bytes (table_behind bytes s) ≡ (bits, signed)
-int_read bytes s p bits signed e has = rw (e, has.1.0.1, has.1.0.2, has.1.1.0.1, has.1.1.0.2, is_set-bit signed) refl
 
 pub int_fine : (bytes : List ℕ) (left : ℕ) (s : Option ℕ) (p n bits : ℕ) (signed : Bool) → s ≡ Some p → p + 4 ≤ length bytes → Has bytes (target bytes p) (int_tree bits signed) → 0 < left → n < MAX_BUFFER_TABLES
     → Fine bytes (int_things left bytes s) n (n + 1)
@@ -76,9 +72,6 @@ date_fine bytes left s p n unit e reference has deep room =
 timezone_fine : (bytes : List ℕ) (t : Place) (n : ℕ) (timezone : List ℕ) → HasSlots bytes t 1 (timezone_slot timezone) → Fine bytes (vector_at 1 bytes (slot bytes t 1)) n n
 timezone_fine bytes t n [] has = fine_no_vector bytes 1 (slot bytes t 1) n (has 1 (omega arith))
 timezone_fine bytes t n (b ∷ bs) has = fine_text bytes (slot bytes t 1) has.0.0 n (b ∷ bs) has.0.1 has.0.2 has.0.3
-
-timezone_slots : (timezone : List ℕ) → (k : ℕ) × (slots_of (timezone_slot timezone) ≡ k)
-timezone_slots timezone = (slots_of (timezone_slot timezone), refl)
 
 pub timestamp_fine : (bytes : List ℕ) (left : ℕ) (s : Option ℕ) (p n unit : ℕ) (timezone : List ℕ) → s ≡ Some p → p + 4 ≤ length bytes → Has bytes (target bytes p) (table (scalar 2 unit (timezone_slot timezone))) → 0 < left → n < MAX_BUFFER_TABLES
     → Fine bytes (timestamp_things left bytes s) n (n + 1)

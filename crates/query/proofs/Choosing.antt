@@ -82,12 +82,6 @@ still_distinct (x ∷ xs) p d h =
     let new = or_parts (x == p) (list_any (λ y. y == p) xs) h in
     and_from _ _ (not_from_false _ (other_test x xs p (not-true _ both.0) new.0)) (still_distinct xs p both.1 new.1)
 
--- without names, all columns
-pub chosen_none : (cs : List Column) (names : List (List ℕ)) → length names ≡ 0 → chosen cs names ≡ Some (range_with_len 0 (length cs))
-unfolding chosen
-chosen_none cs [] h = refl
-chosen_none cs (name ∷ names) h = absurd (omega (arith, h))
-
 -- all places, one by one
 pub one_place_more : (a n j : ℕ) → a + n ≡ j → range_with_len a (n + 1) ≡ range_with_len a n ++ j ∷ []
 one_place_more a n j h = sym (map_same (range_with_len a (n + 1))) ∙ (map-range_with_len_more (λ (x : ℕ). x) a n j h ∙ ap (λ (xs : List ℕ). xs ++ j ∷ []) (map_same (range_with_len a n)))

@@ -10,7 +10,6 @@ pub mod Choosing
 pub mod Binding
 pub mod MadeTables
 pub mod Numbers
-pub mod Lines
 pub mod SlotFlags
 pub mod IntegerRows
 pub mod Cuts

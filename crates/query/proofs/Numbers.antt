@@ -1,5 +1,5 @@
 -- The number that `parse` reads is that of the definition.
-use Rattle.std.proofs.Common.{◌≡◌, ◌≢◌, inl, inr, ◌-◌, ℕ, zero, suc, ◌^◌, ◌≤◌, ◌<◌, ◌==◌, Bool, true, false, List, [], ◌∷◌, length, drop, get_or, refl, sym, subst, ◌∙◌, arith}
+use Rattle.std.proofs.Common.{◌≡◌, ◌≢◌, inl, inr, ◌-◌, ℕ, zero, suc, ◌^◌, ◌≤◌, ◌<◌, ◌==◌, Bool, true, false, List, length, drop, get_or, refl, sym, ◌∙◌, arith}
 use Rattle.std.specs.Prelude.{ℤ, pos, neg_ℤ, int_le, int_lt, Option, Some, None, option_map, Result, Ok, Err, not, if◌then◌else◌}
 use Rattle.std.specs.Option.{option_and_then}
 use Rattle.std.specs.Result.{OkIff}
@@ -70,12 +70,3 @@ first_of t r h other false e = where_numeral pos t ∙ plain t r (parse_signed_p
 pub number_read : {E : Type 0} (t : List ℕ) (r : Result ℤ E) → ParsesSigned w128 10 t r → get_or t 0 0 ≢ 43 → number_in t ≡ literal_read r
 unfolding number_in
 number_read t r h other = first_of t r h other (get_or t 0 0 == 45) refl
-
--- a plus is no digit
-plus_first : (xs : List ℕ) → number_in (43 ∷ xs) ≡ None
-unfolding number_in
-plus_first xs = let none : is_numeral (43 ∷ xs) ≡ false = and_right (not (length (43 ∷ xs) == 0)) (all_ascii_digits (43 ∷ xs)) refl in rw none refl
-
-pub no_plus : (t : List ℕ) → get_or t 0 0 ≡ 43 → number_in t ≡ None
-no_plus [] h = absurd (omega (arith, h))
-no_plus (x ∷ xs) h = subst (λ (y : ℕ). number_in (y ∷ xs) ≡ None) (sym h) (plus_first xs)

@@ -1,6 +1,7 @@
 -- The arrays at some places of those of a record batch, and the rows that they have.
-use Rattle.std.proofs.Common.{◌≡◌, ℕ, zero, suc, ◌+◌, ◌<◌, ◌≤◌, Bool, true, false, List, [], ◌∷◌, ◌++◌, map, length, drop, get_or, refl, sym, ap, ◌∙◌, arith, append_assoc}
+use Rattle.std.proofs.Common.{◌≡◌, ℕ, zero, suc, ◌+◌, ◌<◌, ◌≤◌, Bool, true, List, [], ◌∷◌, ◌++◌, map, length, drop, get_or, refl, sym, ap, ◌∙◌, arith, append_assoc}
 use Rattle.std.specs.Prelude.{◌&&◌, nat_le, Option, Some, None, slice_get}
+use Rattle.std.proofs.Math.Bool.{and_assoc}
 use Rattle.std.specs.List.{cons_option, list_all}
 use Rattle.std.proofs.lemmas.List.{map-append, get_or_default, drop_all}
 use Rattle.facts.specs.laws.Lists.{drop-item}
@@ -96,17 +97,13 @@ unfolding part_cells
 row_beside [] arrays i = refl
 row_beside (c ∷ cs) arrays i = ap (λ (xs : List Cell). cell_at c (first_array arrays) i ∷ xs) (row_beside cs (other_arrays arrays) i)
 
-and_joined : (a b c : Bool) → (a && (b && c)) ≡ ((a && b) && c)
-and_joined true b c = refl
-and_joined false b c = refl
-
 sound_beside : (cs : List Column) (arrays : Arrays) (n : ℕ) → are_sound (columns_of cs) n arrays ≡ list_all (is_long_and_sound n) (beside cs arrays)
 unfolding are_sound
 sound_beside [] arrays n = refl
 sound_beside (c ∷ cs) arrays n =
     let a = first_array arrays in
     ap (λ (b : Bool). nat_le n (slots_in a) && (is_sound c a && b)) (sound_beside cs (other_arrays arrays) n)
-    ∙ and_joined (nat_le n (slots_in a)) (is_sound c a) (list_all (is_long_and_sound n) (beside cs (other_arrays arrays)))
+    ∙ sym (and_assoc (nat_le n (slots_in a)) (is_sound c a) (list_all (is_long_and_sound n) (beside cs (other_arrays arrays))))
 
 picked_beside : (cs : List Column) (ps : List ℕ) (arrays : Arrays) (own : List Array) → own ≡ pick ps (first_arrays (length cs) arrays)
     → beside (pick ps cs) (arrays_of own) ≡ pick ps (beside cs arrays)

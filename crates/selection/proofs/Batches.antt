@@ -1,12 +1,12 @@
 -- The batches of the columns asked for, one after another.
-use Rattle.std.proofs.Common.{◌≡◌, ℕ, ◌+◌, ◌<◌, true, List, [], ◌∷◌, ◌++◌, map, length, take, get_or, refl, sym, ap, ◌∙◌, append_assoc, length-append, arith}
+use Rattle.std.proofs.Common.{◌≡◌, ℕ, ◌+◌, ◌<◌, true, List, [], ◌∷◌, map, length, take, get_or, refl, sym, ap, ◌∙◌, length-append, arith}
 use Rattle.std.specs.Prelude.{sum_by}
 use Rattle.std.specs.List.{flat_map, range_with_len}
-use Rattle.std.proofs.lemmas.List.{map-append, length-map}
+use Rattle.std.proofs.lemmas.List.{length-map}
 use Rattle.std.proofs.lemmas.List.Concat.{flat_map-cons}
 use Rattle.std.proofs.lemmas.List.FromFn.{length-map-range_with_len}
 use Rattle.std.proofs.lemmas.List.Sums.{sum_by-cons, sum_by-append}
-use Rattle.facts.specs.laws.Lists.{maps_same, map_map, take-item, flat_map-item}
+use Rattle.facts.specs.laws.Lists.{maps_same, map_map, take-item}
 use Rattle.arrow_schema.specs.Column.{Column, Columns}
 use Rattle.arrow_schema.specs.View.{column_of}
 use Rattle.arrow_schema.specs.declared.types.Field.{Field}
@@ -20,18 +20,6 @@ use Rattle.selection.proofs.Arrays.{picked_row, picked_sound}
 use Rattle.values.specs.Parts.{arrays_with, batch_rows, is_batch_sound}
 use Rattle.values.specs.declared.part.Batch.{Batch}
 use Rattle.values.specs.declared.part.Part.{Part}
-
--- ---- lists
-
--- ---- one more batch, or the batches of one more part
-
--- the rows of what was added, where those of what it came from are mapped
-pub joined_more : {X A : Type 0} (h : A → A) (f : X → List A) (xs : List X) (i : ℕ) (x : X) (new old own before : List A) → i < length xs → x ≡ get_or xs i x
-    → new ≡ old ++ own → own ≡ map h (f x) → old ≡ before ++ map h (flat_map f (take i xs)) → new ≡ before ++ map h (flat_map f (take (i + 1) xs))
-joined_more {A = A} h f xs i x new old own before lt is added are was =
-    added ∙ (λ k. was k ++ are k) ∙ append_assoc before (map h (flat_map f (take i xs))) (map h (f x))
-    ∙ ap (λ (ys : List A). before ++ ys) (sym (map-append h (flat_map f (take i xs)) (f x)))
-    ∙ ap (λ (ys : List A). before ++ map h ys) (sym (flat_map-item f xs i x lt is))
 
 -- ---- what a batch has
 

@@ -1,11 +1,11 @@
 -- The rows that a mask keeps, as runs.
-use Rattle.std.proofs.Common.{◌≡◌, ℕ, ◌+◌, ◌-◌, ◌<◌, ◌≤◌, true, false, List, [], ◌++◌, length, take, drop, sym, ap, subst, ◌∙◌, arith, length-append}
+use Rattle.std.proofs.Common.{◌≡◌, ℕ, ◌+◌, ◌-◌, ◌<◌, ◌≤◌, true, false, List, ◌++◌, length, take, drop, sym, ap, subst, ◌∙◌, arith, length-append}
 use Rattle.std.proofs.lemmas.List.{length-take-le, length-drop, take-take}
 use Rattle.arrow_schema.specs.Column.{Columns}
 use Rattle.bitmap.specs.Bits.{bit}
 use Rattle.cells.specs.Cell.{Cell}
 use Rattle.query.specs.Choice.{rows_set}
-use Rattle.query.specs.laws.RowsSet.{kept_front, set_append, take-none, front_start, front_next, front_run, front_done}
+use Rattle.query.specs.laws.RowsSet.{kept_front, set_append, front_start, front_next, front_run, front_done}
 use Rattle.run_pieces.specs.Rows.{runs_rows, are_runs_sound}
 use Rattle.selection.specs.declared.kept.KeptRuns.{KeptRuns}
 use Rattle.selection.specs.inner.Kept.{AreKept, Keeps}
@@ -46,14 +46,6 @@ pub kept_done : (cs : Columns) (most : ℕ) (others : List (List Cell)) (mask : 
     → AreKept cs (kept_front most others mask start xs i) k → AreKept cs (take most (others ++ rows_set mask start xs)) k
 kept_done cs most others mask start xs i k within full h =
     kept_same cs _ _ k (front_done most others mask start xs i within (λ lt. omega (arith, full lt, h.count_is))) h
-
--- nothing is kept yet
-pub none_kept : (cs : Columns) (most : ℕ) (k : KeptRuns) → k.runs.items ≡ [] → k.rows ≡ 0 → AreKept cs (take most []) k
-none_kept cs most k e z = record {
-  rows_are = ap (runs_rows cs) e ∙ sym (take-none most);
-  sound = ap (are_runs_sound cs) e;
-  count_is = z ∙ sym (ap length (take-none {X = List Cell} most));
-}
 
 -- of one more batch
 pub kept_batch : (cs : Columns) (most : ℕ) (mask : List ℕ) (start : ℕ) (front own whole : List (List Cell)) (before after : KeptRuns) → start ≡ length front → whole ≡ front ++ own

@@ -1,7 +1,6 @@
 -- What is read of a table: its segments one after another, and the table that they make.
 use Rattle.std.specs.Prelude.{◌&&◌, slice_get, get_or, sum_by, min, if◌then◌else◌, Result, Ok, Err}
-use Rattle.std.specs.List.{list_all}
-use Rattle.std.proofs.Common.{◌≡◌, ◌≤◌, ◌<◌, ◌+◌, ◌-◌, ◌^◌, ◌++◌, ◌∷◌, [], ℕ, zero, suc, Bool, true, false, List, Option, Some, None, length, map, take, drop, refl, sym, ap, ◌∙◌, subst, arith, append-nil, append_assoc}
+use Rattle.std.proofs.Common.{◌≡◌, ◌≤◌, ◌<◌, ◌+◌, ◌-◌, ◌^◌, ◌++◌, ◌∷◌, [], ℕ, suc, Bool, true, false, List, Option, Some, None, length, map, take, drop, refl, sym, ap, ◌∙◌, subst, arith, append-nil, append_assoc}
 use Rattle.std.proofs.lemmas.Bool.{and_parts}
 use Rattle.std.proofs.lemmas.List.{length-map, get_or-map, take-append-drop, take_more}
 use Rattle.std.proofs.lemmas.List.Concat.{flat_map-cons}
@@ -19,7 +18,7 @@ use Rattle.cells.specs.Weight.{table_weight}
 use Rattle.cells.specs.declared.limits.TheConstants.{MAX_TABLE_WEIGHT}
 use Rattle.values.specs.Table.{Refusal, IsTable, table_from}
 use Rattle.catalogue.specs.declared.entry.Segment.{Segment}
-use Rattle.catalogue.specs.Entries.{PlainEntry, PlainCatalogue, is_segment, runs_in, runs_of}
+use Rattle.catalogue.specs.Entries.{PlainEntry, PlainCatalogue, runs_in, runs_of}
 use Rattle.catalogue.specs.Edits.{entry_of}
 use Rattle.catalogue.specs.laws.Order.{by_found}
 use Rattle.commit.specs.Standing.{is_on_device, all_on_device}
@@ -32,7 +31,6 @@ use Rattle.store.specs.Reading.{ArePast, IsUnread, Unreads, OnlyReadsDevice}
 use Rattle.store.specs.inner.Reading.{UnreadsSegment}
 use Rattle.store.specs.laws.Changed.{rows_behind}
 use Rattle.store.specs.laws.Named.{held_has}
-use Rattle.store.proofs.HeldTables.{Accepts}
 
 -- ---- segments
 
@@ -55,6 +53,10 @@ unfolding rows_held
 rows_of_none schema image = refl
 
 -- ---- the table
+
+-- a clause of a law: accepted rows are a table
+abbrev pub Accepts : Type 0
+Accepts = (s : PlainSchema) (rows : List (List Cell)) (t : PlainTable) → IsWithinLimits s → table_from s rows ≡ Ok t → (t ≡ record { schema = s; rows = rows }) × IsTable t
 
 -- what the laws of tables say of the rows of this schema
 pub record TableLaws : Type 0 where
@@ -146,14 +148,6 @@ run_at size segments place segment on inside is =
     let count : length (map (λ (s : Segment). s.place.run) segments) ≡ length segments = length-map segments (λ (s : Segment). s.place.run) in
     subst (λ (r : Run). is_on_device size r ≡ true) (get_or-map (λ (s : Segment). s.place.run) segments place segment segment.place.run inside ∙ ap (λ (s : Segment). s.place.run) (sym is))
     (all_at size (map (λ (s : Segment). s.place.run) segments) place segment.place.run on (omega (arith, count, inside)))
-
-at_all : (segments : List Segment) (place : ℕ) (d : Segment) → list_all is_segment segments ≡ true → place < length segments → is_segment (get_or segments place d) ≡ true
-at_all [] place d sound inside = absurd (omega arith)
-at_all (s ∷ ss) zero d sound inside = (and_parts (is_segment s) (list_all is_segment ss) sound).0
-at_all (s ∷ ss) (suc place) d sound inside = at_all ss place d (and_parts (is_segment s) (list_all is_segment ss) sound).1 (omega arith)
-
-pub segment_at : (segments : List Segment) (place : ℕ) (segment : Segment) → list_all is_segment segments ≡ true → place < length segments → segment ≡ get_or segments place segment → is_segment segment ≡ true
-segment_at segments place segment sound inside is = subst (λ (s : Segment). is_segment s ≡ true) (sym is) (at_all segments place segment sound inside)
 
 -- ---- segments one after another
 

@@ -1,6 +1,6 @@
 -- What a reader gives in two goes.
-use Rattle.std.proofs.Common.{◌≡◌, ◌∙◌, ℕ, ◌+◌, ◌-◌, ◌≤◌, List, [], ◌++◌, length, Option, Some, None, ap, sym, append_assoc, length-append, arith}
-use Rattle.std.specs.Io.KnownBytes.{Consumes, Keeps}
+use Rattle.std.proofs.Common.{◌≡◌, ◌∙◌, ℕ, ◌+◌, ◌-◌, ◌≤◌, List, ◌++◌, length, Option, Some, None, ap, sym, append_assoc, length-append, arith}
+use Rattle.std.specs.Io.KnownBytes.{Consumes}
 use Rattle.std.specs.Prelude.{Result, Ok, Err, IsErrOf, IfSome, vec_len}
 use Rattle.std.specs.Global.{Vec}
 use Rattle.command_refusals.specs.declared.refusal.Refusal.{Refusal}
@@ -21,12 +21,6 @@ given_both a b c xs n m first all given =
 pub given_both_at_most : (a b c : Option (List ℕ)) (xs : List ℕ) (n m : ℕ) → Consumes a b xs → length xs + n ≤ m → HasGivenAtMost b c n → HasGivenAtMost a c m
 given_both_at_most a b c xs n m first all given =
     (xs ++ given.0, consumes_both a b c xs given.0 first given.1, let more = given.2 in omega (arith, more, all, length-append xs given.0))
-
--- what is kept was given nothing
-pub given_nothing : (a b : Option (List ℕ)) (n : ℕ) → Keeps a b → HasGivenAtMost a b n
-given_nothing None b n kept = ([], tt, omega arith)
-given_nothing (Some a) None n kept = absurd kept
-given_nothing (Some a) (Some b) n kept = ([], sym kept, omega arith)
 
 -- what holds of every answer but one, and follows from it
 pub unless_more : (A B : Type 0) (e : Refusal) (P Q : Type 0) → (P → Q) → UnlessTooManyBytes {A = A} (Err e) P → UnlessTooManyBytes {A = B} (Err e) Q

@@ -6,7 +6,7 @@ use Rattle.std.proofs.Math.Bool.{or-false}
 use Rattle.std.proofs.lemmas.List.{take_more, get_or-map, length-map}
 use Rattle.std.proofs.lemmas.Option.{slice_get-get_or}
 use Rattle.facts.specs.laws.Lists.{all_more}
-use Rattle.sector_dev.specs.Disk.{Story, Image, now, shown_image}
+use Rattle.sector_dev.specs.Disk.{Story, now, shown_image}
 use Rattle.sector_dev.specs.laws.Time.{stays, read_on, now_read}
 use Rattle.sector_dev.specs.declared.device.SectorDevice.{Ghosts}
 use Rattle.cells.specs.Cell.{PlainTable}
@@ -48,9 +48,6 @@ all_mapped P f xs ys zs same is all = subst (AllByRecursion P) (ap (map f) same 
 -- ---- a store that was only read
 
 module _ {D : Type 0} {g : Ghosts D} (story : D → Story) where
-  image_of : Store D g → Image
-  image_of store = shown_image (now (story (device_of store)))
-
   -- a store that was not asked to read anything
   pub read_nothing : (size failed : D → ℕ) (tells : Bool) (store : Store D g) → OnlyReadsStore size story failed tells done store store
   read_nothing size failed tells store = record {

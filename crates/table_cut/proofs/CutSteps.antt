@@ -24,9 +24,6 @@ pub no_more : {A : Type 0} (within : List A → Bool) (taken left rest : List A)
     → pieces_from within taken left ≡ taken ∷ pieces within left
 no_more within taken left rest row is fits = rw (is, fits) refl
 
-pub all_taken : {A : Type 0} (within : List A → Bool) (taken left : List A) → left ≡ [] → pieces_from within taken left ≡ taken ∷ pieces within left
-all_taken within taken left none = rw none refl
-
 pub sum_more : (s : PlainSchema) (taken : List (List Cell)) (row : List Cell) → sum_by (row_weight s) (taken ++ row ∷ []) ≡ sum_by (row_weight s) taken + row_weight s row
 sum_more s taken row = sum_by-append (row_weight s) taken (row ∷ []) ∙ rw (sum_by-cons (row_weight s) row []) (omega arith)
 

@@ -1,24 +1,16 @@
 -- Where the dictionaries of rows have room for all of their values, so have those of the first of these rows.
 use Rattle.std.specs.Prelude.{Option, Some, None}
-use Rattle.std.specs.List.{list_all, list_any, flat_map}
-use Rattle.std.proofs.Common.{◌≡◌, ◌≤◌, ◌+◌, ℕ, Bool, true, false, List, [], ◌∷◌, ◌++◌, map, length, refl, sym, ap, ◌∙◌, arith, length-append}
+use Rattle.std.specs.List.{list_all, flat_map}
+use Rattle.std.proofs.Common.{◌≡◌, ◌≤◌, ◌+◌, ℕ, true, List, [], ◌∷◌, ◌++◌, map, length, refl, sym, ap, ◌∙◌, arith}
 use Rattle.std.proofs.lemmas.Bool.{and_parts, and_from, le-leb, leb-true}
 use Rattle.std.proofs.lemmas.List.{map-append}
 use Rattle.arrow_schema.specs.Column.{Index, Kind, Column, Columns, columns_of, lists, large_lists, fixed_lists, structs, column, no_column, and_column, PlainSchema}
 use Rattle.cells.specs.Cell.{Cell}
-use Rattle.cells.specs.Dictionary.{Holding, own_holding, has_few_entries, holdings, holdings_below, holdings_from, holdings_of, is_entry, with_new, with_option, with_entries, entries_of, entry_limit, is_within, item_list, part_list, cells_at, dictionaries_fit}
+use Rattle.cells.specs.Dictionary.{Holding, own_holding, has_few_entries, holdings, holdings_below, holdings_from, holdings_of, with_entries, entries_of, entry_limit, is_within, item_list, part_list, cells_at, dictionaries_fit}
 use Rattle.cells.specs.laws.Entries.{entries_grow, entries_append}
 use Rattle.table_cut.proofs.SeenLemmas.{AreJoined, all_joined}
 
 -- ---- entries are never fewer
-
-one_new : (entries : List Cell) (c : Cell) (b : Bool) → list_any (is_entry c) entries ≡ b → length entries ≤ length (with_new entries c)
-one_new entries c true h = rw h (omega arith)
-one_new entries c false h = rw h (omega (arith, length-append entries (c ∷ [])))
-
-one_option : (entries : List Cell) (o : Option Cell) → length entries ≤ length (with_option entries o)
-one_option entries None = omega arith
-one_option entries (Some c) = one_new entries c (list_any (is_entry c) entries) refl
 
 within_less : (limit : Option ℕ) (m n : ℕ) → m ≤ n → is_within limit n ≡ true → is_within limit m ≡ true
 within_less None m n less h = refl

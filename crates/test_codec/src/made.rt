@@ -41,7 +41,7 @@ impl From<ParseError> for NotMade {
 }
 
 /// The schema of columns of these field texts.
-pub fn schema_of(alloc: Global, columns: &[&str]) -> Result<Schema, NotMade> {
+pub fn schema_of_columns(alloc: Global, columns: &[&str]) -> Result<Schema, NotMade> {
     let fields = parse_fields(alloc, columns)?;
     Ok(Schema {
         fields,
@@ -51,7 +51,7 @@ pub fn schema_of(alloc: Global, columns: &[&str]) -> Result<Schema, NotMade> {
 
 /// The table of these rows.
 pub fn table_of_rows(alloc: Global, columns: &[&str], rows: Vec<Row>) -> Result<Table, NotMade> {
-    let schema = schema_of(alloc, columns)?;
+    let schema = schema_of_columns(alloc, columns)?;
     if schema.check().is_err() {
         return Err(NotMade);
     }

@@ -1,6 +1,8 @@
 // Streams of tables that are made of rows (canonical_write, ipc_stream). What the built program shows of streams is tested by scripts, without
 // a proof (tests/program, tests/refused_memory).
-use crate::made::{NotMade, assert_no_row, is_one_well, schema_of, table_of_cells, table_of_rows};
+use crate::made::{
+    NotMade, assert_no_row, is_one_well, schema_of_columns, table_of_cells, table_of_rows,
+};
 use crate::stream_bytes::{
     END, MINUS_ONE, NO_FIELDS, NUMBERS, SCHEMA, SEVEN, THREE_ROWS, TWO_COLUMNS, batch, joined,
 };
@@ -74,11 +76,17 @@ fn stream_of_many(alloc: Global) -> Result<Vec<u8>, AllocError> {
 fn table_of(alloc: Global, made: Made) -> Result<Table, NotMade> {
     match made {
         Made::OfRows => table_of_rows(alloc, COLUMNS, rows_of_numbers(alloc)?),
-        Made::OfCells => table_of_cells(schema_of(alloc, COLUMNS)?, cells_of_numbers(alloc)?, 3),
-        Made::WithoutColumns => table_of_cells(schema_of(alloc, &[])?, Vec::new(alloc), 3),
-        Made::OverAPiece => {
-            table_of_cells(schema_of(alloc, &["a:int32"])?, cells_of_many(alloc)?, 4097)
-        }
+        Made::OfCells => table_of_cells(
+            schema_of_columns(alloc, COLUMNS)?,
+            cells_of_numbers(alloc)?,
+            3,
+        ),
+        Made::WithoutColumns => table_of_cells(schema_of_columns(alloc, &[])?, Vec::new(alloc), 3),
+        Made::OverAPiece => table_of_cells(
+            schema_of_columns(alloc, &["a:int32"])?,
+            cells_of_many(alloc)?,
+            4097,
+        ),
     }
 }
 
@@ -139,7 +147,7 @@ fn has_numbers(table: &Table) -> bool {
 }
 
 fn is_read(alloc: Global) -> Result<bool, NotMade> {
-    let schema = schema_of(alloc, COLUMNS)?;
+    let schema = schema_of_columns(alloc, COLUMNS)?;
     match decode(alloc, Vec::from_slice(alloc, &TWO_COLUMNS)?) {
         Ok(again) => Ok(has_numbers(&again) && same_shape(again.schema(), &schema)),
         Err(_) => Err(NotMade),

@@ -1,6 +1,6 @@
 // Tables that are made of many cells, and what is told of a refusal (values). Which rows a table takes is tested by scripts, without a proof (tests/texts,
 // tests/queries).
-use super::made::{NotMade, assert_no_row, schema_of, table_of_cells};
+use super::made::{NotMade, assert_no_row, schema_of_columns, table_of_cells};
 use std::alloc::{AllocError, Global};
 use values::{TableError, Value, ValueRef};
 
@@ -36,7 +36,7 @@ fn ten_million_cells(alloc: Global) -> Result<Vec<Value>, AllocError> {
 }
 
 fn has_ten_million_rows(alloc: Global) -> Result<bool, NotMade> {
-    let schema = schema_of(alloc, &["a:int32?"])?;
+    let schema = schema_of_columns(alloc, &["a:int32?"])?;
     let made = table_of_cells(schema, ten_million_cells(alloc)?, 10_000_000)?;
     let last = made.row(9_999_999).and_then(|row| row.get(0));
     Ok(made.len() == 10_000_000 && matches!(last, Some(ValueRef::Int(9_999_999))))

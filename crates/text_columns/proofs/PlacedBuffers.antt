@@ -2,9 +2,9 @@
 use Rattle.std.specs.Prelude.{◌&&◌, if◌then◌else◌, get_or, Some, None, slice_get}
 use Rattle.std.specs.Global.{Vec}
 use Rattle.std.specs.List.{flat_map, list_all}
-use Rattle.std.proofs.Common.{◌≡◌, ℕ, suc, ◌+◌, ◌/◌, ◌≤◌, Bool, true, List, [], ◌∷◌, ◌++◌, length, map, take, drop, refl, arith, ap, sym, subst, ◌∙◌, append_assoc, append-nil, length-append}
-use Rattle.std.proofs.lemmas.Bool.{and_from, and_parts, le-leb}
-use Rattle.std.proofs.lemmas.List.{take_at, drop_at, length-map, map-append}
+use Rattle.std.proofs.Common.{◌≡◌, ℕ, suc, ◌+◌, ◌/◌, ◌≤◌, Bool, true, List, [], ◌∷◌, ◌++◌, length, map, refl, arith, ap, sym, subst, ◌∙◌, append_assoc, append-nil, length-append}
+use Rattle.std.proofs.lemmas.Bool.{and_from, and_parts}
+use Rattle.std.proofs.lemmas.List.{length-map, map-append}
 use Rattle.bitmap.specs.Bits.{packed}
 use Rattle.arrow_schema.specs.Column.{Kind, Column, booleans, integers, dates, timestamps, texts, large_texts, column, columns_of}
 use Rattle.cells.specs.Cell.{Cell, null}
@@ -16,7 +16,7 @@ use Rattle.columns.specs.Places.{within}
 use Rattle.columns.specs.View.{array_in, array_step, layout_step, no_dictionary}
 use Rattle.columns.specs.Within.{array_within, ends_within, is_within_by, layout_within}
 use Rattle.columns.specs.declared.array.PlacedArray.{PlacedArray}
-use Rattle.columns.specs.declared.array.PlacedLayout.TheFolds.{fold_out-PlacedArray, fold-roll-PlacedLayout}
+use Rattle.columns.specs.declared.array.PlacedLayout.TheFolds.{fold-roll-PlacedLayout}
 use Rattle.columns.specs.declared.array.PlacedLayout.TheOpen as placed
 use Rattle.columns.specs.declared.array.PlacedLayout.TheVariants as layouts
 use Rattle.columns.specs.declared.span.Span.{Span}
@@ -30,19 +30,6 @@ use Rattle.text_columns.specs.inner.Kept.{Holds, IsOf, Keeps, column_at}
 use Rattle.text_columns.specs.inner.Placed.{ArePlaced, IsAppended, IsLaid, IsPlaced, array_of, is_layout_within, layout_of, validity_of_bits}
 
 -- ---- buffers
-
-pub appended : (old buffer new : List ℕ) (span : Span) → new ≡ old ++ buffer → span.start ≡ length old → span.len ≡ length buffer → IsAppended old buffer new span
-appended old buffer new span whole start len = record {
-  whole = whole;
-  stands = λ more.
-      let parts : new ++ more ≡ old ++ (buffer ++ more) = ap (λ (xs : List ℕ). xs ++ more) whole ∙ append_assoc old buffer more in
-      ap (λ (xs : List ℕ). take span.len (drop span.start xs)) parts
-      ∙ ap (take span.len) (drop_at old (buffer ++ more) span.start (sym start))
-      ∙ take_at buffer more span.len (sym len);
-  ends = λ more.
-      let size : length (new ++ more) ≡ length old + length buffer + length more = length-append new more ∙ ap (λ (n : ℕ). n + length more) (ap length whole ∙ length-append old buffer) in
-      le-leb (span.start + span.len) (length (new ++ more)) (omega (arith, size, start, len));
-}
 
 -- where nothing comes behind it
 stands_last : (old buffer new : List ℕ) (span : Span) → IsAppended old buffer new span → within new span ≡ buffer
@@ -88,24 +75,6 @@ texts_laid width offsets contents old mid new first second a b =
       whole = b.whole ∙ ap (λ (xs : List ℕ). xs ++ contents.items) a.whole ∙ append_assoc old offsets.items contents.items;
       laid = texts_are new first second ∙ (λ j. binary_layout (front j) (stands_last mid _ new second b j));
       ends = texts_within (length new) first second ∙ and_from _ _ inner (ends_last mid _ new second b);
-    }
-
-array_is : (bytes : List ℕ) (a : PlacedArray) → array_in bytes no_dictionary a ≡ array a.slots (within bytes a.validity) (flat_layout bytes a.layout)
-array_is bytes a = fold_out-PlacedArray Layout Array (layout_step bytes no_dictionary) (array_step bytes) a
-
-within_is : (size : ℕ) (a : PlacedArray) → is_within_by size (λ part. true) a ≡ (ends_within size a.validity && is_layout_within size a.layout)
-within_is size a = fold_out-PlacedArray Bool Bool (layout_within size (λ part. true)) (array_within size) a
-
-pub column_placed : (b : ColumnBuilder) (old mid new : List ℕ) (a : PlacedArray) → IsAppended old (validity_of_bits b.valid.items) mid a.validity → IsLaid b.values mid new a.layout → a.slots ≡ length b.valid.items
-    → IsPlaced b old new a
-column_placed b old mid new a validity laid slots =
-    let bitmap : within new a.validity ≡ validity_of_bits b.valid.items = ap (λ (xs : List ℕ). within xs a.validity) laid.whole ∙ validity.stands laid.more in
-    let inner : ends_within (length new) a.validity ≡ true = ap (λ (xs : List ℕ). ends_within (length xs) a.validity) laid.whole ∙ validity.ends laid.more in
-    record {
-      more = validity_of_bits b.valid.items ++ laid.more;
-      whole = laid.whole ∙ ap (λ (xs : List ℕ). xs ++ laid.more) validity.whole ∙ append_assoc old (validity_of_bits b.valid.items) laid.more;
-      placed = array_is new a ∙ (λ j. array (slots j) (bitmap j) (laid.laid j));
-      ends = within_is (length new) a ∙ and_from _ _ inner laid.ends;
     }
 
 -- ---- arrays, one behind another

@@ -8,9 +8,6 @@ use Rattle.csv.specs.Reading.{is_bom, strip_bom}
 use Rattle.std.proofs.lemmas.List.Folds.{list_all-append}
 use Rattle.text_columns.specs.inner.Plain.{AllBetween}
 
-pub none_between : (p : ℕ → Bool) (text : List ℕ) (from : ℕ) → AllBetween p text from from
-none_between p text from = let e : from - from ≡ 0 = omega arith in ap (λ (n : ℕ). list_all p (take n (drop from text))) e
-
 pub one_between : (p : ℕ → Bool) (text : List ℕ) (from i : ℕ) → from ≤ i → i < length text → p (slice_index text i) ≡ true → AllBetween p text from i → AllBetween p text from (i + 1)
 one_between p text from i le lt is h =
     let size = length-drop from text in

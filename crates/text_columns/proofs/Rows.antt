@@ -229,10 +229,6 @@ kept_unlimited (column name nullable kind None pairs) cells b k = by kind b.valu
     by _ (Integers i bytes) h = absurd h
     by _ (Texts width offsets contents) h = absurd h
 
-others_keep : (c : Column) (cs : List Column) (rows : List (List Cell)) (b : ColumnBuilder) (bs : List ColumnBuilder) → KeepAll (c ∷ cs) rows (b ∷ bs)
-    → (Keeps c (column_at 0 rows) b) × ((j : ℕ) (d : Column) (e : ColumnBuilder) → slice_get cs j ≡ Some d → slice_get bs j ≡ Some e → Keeps d (column_at (suc j) rows) e)
-others_keep c cs rows b bs k = (k.each 0 c b refl refl, λ j d e dc db. k.each (suc j) d e dc db)
-
 unlimited_by : (cs : List Column) (bs : List ColumnBuilder) → length bs ≡ length cs → ((j : ℕ) (c : Column) (b : ColumnBuilder) → slice_get cs j ≡ Some c → slice_get bs j ≡ Some b → is_limited c ≡ false)
     → is_any_limited (columns_of cs) ≡ false
 unfolding is_any_limited

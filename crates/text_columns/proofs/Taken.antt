@@ -3,7 +3,7 @@ use Rattle.std.specs.Prelude.{ℤ, Option, Some, None, Ok, Err, Result, IfOk, If
 use Rattle.std.specs.List.{flat_map}
 use Rattle.std.specs.Str.{is_utf8}
 use Rattle.std.specs.Global.{Vec}
-use Rattle.std.proofs.Common.{◌≡◌, ℕ, ◌+◌, ◌/◌, Bool, true, false, List, [], ◌∷◌, ◌++◌, length, map, replicate, refl, arith, ap, sym, ◌∙◌, append-nil, length-append}
+use Rattle.std.proofs.Common.{◌≡◌, ℕ, ◌+◌, ◌/◌, Bool, true, false, List, [], ◌∷◌, ◌++◌, length, map, refl, arith, ap, sym, ◌∙◌, append-nil, length-append}
 use Rattle.std.proofs.lemmas.List.{map-append}
 use Rattle.std.proofs.lemmas.List.Concat.{flat_map-append}
 use Rattle.byteorder.specs.Endian.{little_bytes}
@@ -55,26 +55,11 @@ texts_hold width cells c offsets contents newer longer holds more end =
     (rw (holds.0, holds.1) at end ∙ sym (offset_more (width_of width) cells c), one_joined contents_of cells c contents.items longer.items holds.1 more)
 
 -- the type of values is theirs whatever they hold
-booleans_of : (kind : Kind) (old new : Vec Bool) → IsOf kind (Booleans old) → IsOf kind (Booleans new)
-booleans_of booleans old new h = h
-booleans_of _ old new h = h
-
-integers_of : (kind : Kind) (i : IntegerType) (old new : Vec ℕ) → IsOf kind (Integers i old) → IsOf kind (Integers i new)
-integers_of (integers bits signed) i old new h = h
-integers_of _ i old new h = h
-
 texts_of : (kind : Kind) (width : OffsetWidth) (offsets contents newer longer : Vec ℕ) → IsOf kind (Texts width offsets contents) → IsOf kind (Texts width newer longer)
 texts_of texts width offsets contents newer longer h = h
 texts_of _ width offsets contents newer longer h = h
 
 -- ---- nulls
-
-pub booleans_null : (old new : Vec Bool) → new.items ≡ old.items ++ false ∷ [] → TakesNull (Booleans old) (Booleans new)
-booleans_null old new e = λ kind cells t. record { kind_is = booleans_of kind old new t.kind_is; holds = one_mapped is_set cells null old.items new.items t.holds e }
-
-pub integers_null : (i : IntegerType) (old new : Vec ℕ) → new.items ≡ old.items ++ replicate (bits_of i.width / 8) 0 → TakesNull (Integers i old) (Integers i new)
-integers_null i old new e = λ kind cells t.
-    record { kind_is = integers_of kind i old new t.kind_is; holds = one_joined (integer_bytes (bits_of i.width / 8)) cells null old.items new.items t.holds e }
 
 pub texts_null : (width : OffsetWidth) (old contents new : Vec ℕ) → new.items ≡ old.items ++ little_bytes (width_of width) (length contents.items) → TakesNull (Texts width old contents) (Texts width new contents)
 texts_null width old contents new e = λ kind cells t.

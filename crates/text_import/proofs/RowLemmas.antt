@@ -20,10 +20,6 @@ joined_end : (so : List Cell) → joined so no_cell ≡ cells_of so
 joined_end [] = refl
 joined_end (c ∷ so) = ap (and_cell c) (joined_end so)
 
-pub cells_behind_none : {E : Type 0} (r : Result Cells E) → cells_behind [] r ≡ r
-cells_behind_none (Ok cs) = refl
-cells_behind_none (Err e) = refl
-
 pub cells_behind_more : {E : Type 0} (so : List Cell) (x : Cell) (r : Result Cells E) → cells_behind so (given (and_cell x) r) ≡ cells_behind (so ++ x ∷ []) r
 cells_behind_more so x (Ok cs) = ap Ok (joined_more so x cs)
 cells_behind_more so x (Err e) = refl

@@ -1,8 +1,8 @@
 //! Tables in memory.
 //!
-//! Contracts see of a [`Table`] its schema and its rows alone, however it keeps them. A table's rows fit its schema, and
-//! they and the whole are within the limits of weight and of dictionaries; where a row is not, the first such row is
-//! reported. Values and rows are those of `cells`.
+//! Contracts see of a [`Table`] its schema and its rows alone, however it keeps them. A table's rows fit its schema;
+//! each row is within the limits of weight and of dictionaries, and all together within that of weight. The first row
+//! that is not, or that does not fit, is reported. Values and rows are those of `cells`.
 //!
 //! ```
 //! let row = Row { cells: vec![in alloc; Value::Int(7)]? };

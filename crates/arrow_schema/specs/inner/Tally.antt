@@ -1,21 +1,11 @@
 -- What the test of a schema counts as it goes over the columns. Numbers stay at the greatest of 64 bits.
-use Rattle.std.specs.Prelude.{ℕ, ◌+◌, ◌-◌, ◌^◌, min, length, true, ◌&&◌, List, [], ◌∷◌}
+use Rattle.std.specs.Prelude.{ℕ, ◌+◌, ◌-◌, ◌^◌, min, ◌&&◌, List, [], ◌∷◌}
 use Rattle.arrow_schema.specs.declared.limits.Tally.{Tally}
-use Rattle.arrow_schema.specs.Column.{Pair, Column}
-use Rattle.arrow_schema.specs.Limits.{bytes_of_pairs, pairs_in, bytes_in, has_number_in_range, has_flat_dictionary}
+use Rattle.arrow_schema.specs.Column.{Column}
+use Rattle.arrow_schema.specs.Limits.{pairs_in, bytes_in, has_number_in_range, has_flat_dictionary}
 
 abbrev pub saturated : ℕ → ℕ
 saturated n = min n (2 ^ 64 - 1)
-
--- before any column
-abbrev pub tally_of_pairs : List Pair → Tally
-tally_of_pairs pairs = record {
-  fields = 0;
-  pairs = saturated (length pairs);
-  bytes = saturated (bytes_of_pairs pairs);
-  numbers_fit = true;
-  dictionaries_fit = true;
-}
 
 -- after one column more
 unfoldable pub tallied_one : Tally → Column → Tally

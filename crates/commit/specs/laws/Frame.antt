@@ -1,5 +1,5 @@
 -- What one who opens finds depends on the commit sectors and on the runs in use alone.
-use Rattle.std.specs.Prelude.{◌≡◌, ◌≤◌, ◌<◌, ◌+◌, ◌%◌, ◌==◌, ◌&&◌, ℕ, Bool, true, false, nat_le, if◌then◌else◌, List, [], ◌∷◌, length, Option, Some, None, Result, Ok, Err, refl}
+use Rattle.std.specs.Prelude.{◌≡◌, ◌≤◌, ◌<◌, ◌+◌, ◌%◌, ◌==◌, ◌&&◌, ℕ, Bool, true, false, nat_le, if◌then◌else◌, List, [], ◌∷◌, Option, Some, None, Result, Ok, Err, refl}
 use Rattle.std.proofs.Common.{inl, inr, ⊎_elim, sym, ap, ◌∙◌, subst, arith}
 use Rattle.std.proofs.lemmas.Bool.{and_parts, eq-eqb}
 use Rattle.std.proofs.lemmas.Bool.Decides.{nat_tests}
@@ -74,10 +74,6 @@ pub piece_holds : (image : Image) (pieces : List PlainPiece) (run : Run) (bytes 
 piece_holds image [] run bytes holds is = absurd is
 piece_holds image (p ∷ ps) run bytes holds (inl is) = subst (λ (r : Run). Holds image r.start bytes) is.0 (subst (λ (b : List ℕ). Holds image p.run.start b) is.1 holds.0)
 piece_holds image (p ∷ ps) run bytes holds (inr later) = piece_holds image ps run bytes holds.1 later
-
--- and is read back
-pub piece_read : (image : Image) (pieces : List PlainPiece) (run : Run) (bytes : List ℕ) → HoldsEach image pieces → IsPieceOf pieces run bytes → bytes_at image run.start (length bytes) ≡ Some bytes
-piece_read image pieces run bytes holds is = read_back image run.start bytes (piece_holds image pieces run bytes holds is)
 
 module _ {C : Type 0} (reading : Reading C) (size : ℕ) where
   -- all tests passed

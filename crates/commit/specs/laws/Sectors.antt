@@ -41,10 +41,6 @@ fields_again c is =
       kind = one_kind c.kind i;
     }
 
-by_test : (t : Bool) (x : Commit) → t ≡ true → (if t then Some x else None) ≡ Some x
-by_test true x is = refl
-by_test false x is = absurd (cc is)
-
 -- a commit that is written in its sector is found there
 pub found_again : (c : Commit) → IsCommit c → commit_at (c.epoch % 2) (Some (commit_text c)) ≡ Some c
 unfolding commit_at

@@ -47,16 +47,11 @@ pub rows_end : {A : Type 0} (read : A → Result (List Cell) Refusal) (n : ℕ) 
 unfolding rows_from
 rows_end read n so = behind_end so
 
--- one more cell of a record, a cell that is refused, and the end
+-- one more cell of a record, and the end
 pub field_more : (null_text : List ℕ) (so : List Cell) (c : Column) (cs : List Column) (t : List ℕ) (ts : List (List ℕ)) (x : Cell) → field_cell null_text c t ≡ Ok x
     → behind so (field_cells null_text (c ∷ cs) (t ∷ ts)) ≡ behind (so ++ x ∷ []) (field_cells null_text cs ts)
 unfolding field_cells
 field_more null_text so c cs t ts x e = rw e (behind_more so x (field_cells null_text cs ts))
-
-pub field_refused : (null_text : List ℕ) (so : List Cell) (c : Column) (cs : List Column) (t : List ℕ) (ts : List (List ℕ)) (r : Refusal) → field_cell null_text c t ≡ Err r
-    → behind so (field_cells null_text (c ∷ cs) (t ∷ ts)) ≡ Err r
-unfolding field_cells
-field_refused null_text so c cs t ts r e = rw e refl
 
 pub fields_end : (null_text : List ℕ) (so : List Cell) (ts : List (List ℕ)) → behind so (field_cells null_text [] ts) ≡ Ok so
 unfolding field_cells

@@ -2,7 +2,7 @@ use Rattle.std.proofs.Common.{◌≡◌, false, drop}
 use Rattle.std.specs.List.{list_any}
 use Rattle.arrays.specs.Checks.{typed_is_short, typed_is_unordered}
 use Rattle.arrays.specs.inner.Every.{all_of}
-use Rattle.arrays.proofs.tests.any_unordered.Given as goal
+use Rattle.arrays.proofs.array_checks.any_unordered.Given as goal
 
 abbrev pub invariant-loop-array : goal.invariant-loop-array
 invariant-loop-array l = record {

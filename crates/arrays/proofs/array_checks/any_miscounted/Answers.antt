@@ -8,7 +8,7 @@ use Rattle.arrays.specs.Checks.{is_miscounted, typed_is_short}
 use Rattle.arrays.specs.inner.Every.{typed_view}
 use Rattle.arrays.proofs.Raws.{node_at, next_node, count_nodes}
 use Rattle.arrays.proofs.Everys.{none_here, pair_here, pair_later, short_validity}
-use Rattle.arrays.proofs.tests.any_miscounted.Goals as goal
+use Rattle.arrays.proofs.array_checks.any_miscounted.Goals as goal
 
 pub pair_at-null_count-requires : goal.pair_at-null_count-requires
 pair_at-null_count-requires c = omega (arith, count_nodes c.args.nodes.now, c.requires.count)

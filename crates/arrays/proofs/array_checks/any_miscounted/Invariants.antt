@@ -3,7 +3,7 @@ use Rattle.std.specs.List.{list_any, zip}
 use Rattle.ipc_message.specs.Raw.{nodes_in}
 use Rattle.arrays.specs.Checks.{is_miscounted, typed_is_short}
 use Rattle.arrays.specs.inner.Every.{all_of}
-use Rattle.arrays.proofs.tests.any_miscounted.Given as goal
+use Rattle.arrays.proofs.array_checks.any_miscounted.Given as goal
 
 abbrev pub invariant-loop-i : goal.invariant-loop-i
 invariant-loop-i l = record {

@@ -4,7 +4,7 @@ use Rattle.std.proofs.lemmas.List.{length-drop, take_all}
 use Rattle.byteorder.specs.Endian.{little_number}
 use Rattle.columns.specs.CellAt.{number_at}
 use Rattle.columns.proofs.Unordered.{any_more}
-use Rattle.columns.proofs.tests.any_sized_falls.Goals as goal
+use Rattle.columns.proofs.array_checks.any_sized_falls.Goals as goal
 
 to_end : (n : ℕ) (xs : List ℕ) → take (length xs - n) (drop n xs) ≡ drop n xs
 to_end n xs = let le : length (drop n xs) ≤ length xs - n = omega (arith, length-drop n xs) in take_all (length xs - n) (drop n xs) le

@@ -2,7 +2,7 @@ use Rattle.std.proofs.Common.{sym, ◌∙◌}
 use Rattle.columns.specs.Offsets.{width_of}
 use Rattle.columns.specs.View.{view_array}
 use Rattle.columns.proofs.Unordered.{none_falls, either_true, either_false}
-use Rattle.columns.proofs.tests.are_unordered.Goals as goal
+use Rattle.columns.proofs.array_checks.are_unordered.Goals as goal
 
 pub returns-then-is_negative : goal.returns-then-is_negative
 returns-then-is_negative c =

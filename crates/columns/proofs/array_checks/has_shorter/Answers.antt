@@ -3,7 +3,7 @@ use Rattle.std.specs.List.{list_any}
 use Rattle.std.proofs.Common.{◌≡◌, sym, ◌∙◌}
 use Rattle.columns.specs.Array.{array_list, slots_in}
 use Rattle.columns.proofs.Children.{any_shorter}
-use Rattle.columns.proofs.tests.has_shorter.Goals as goal
+use Rattle.columns.proofs.array_checks.has_shorter.Goals as goal
 
 pub returns : goal.returns
 returns c =
