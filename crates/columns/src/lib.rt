@@ -35,7 +35,7 @@ pub use laws::{
     rows_can_be_built, worked_cases, written_arrays_have_their_shape, written_arrays_pass,
     written_slots_pass,
 };
-pub use numbers::{OffsetWidth, date_integer, push_offset, timestamp_integer};
+pub use numbers::{OffsetWidth, date_integer, least_negative, push_offset, timestamp_integer};
 pub use read::{row, value};
 pub use span::{Span, bytes_at};
 pub use tests::{counts_wrong, has_short_child, is_short, is_unordered};
