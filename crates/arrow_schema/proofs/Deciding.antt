@@ -8,9 +8,9 @@ use Rattle.std.proofs.lemmas.Slice.Eq.{bytes_eq-Decides, slice_eq-Decides}
 use Rattle.std.specs.Cmp.{booleans_Decides}
 use Rattle.arrow_schema.specs.declared.compare.Detail.{Detail}
 use Rattle.arrow_schema.specs.declared.compare.Detail.TheVariants.{Shape, Whole}
-use Rattle.arrow_schema.specs.Column.{Index, Pair, DateKind, days, date_milliseconds, TimeKind, seconds, milliseconds, microseconds, nanoseconds, Kind, Column, Columns, nulls, booleans, integers, dates, timestamps, texts, large_texts, binaries, large_binaries, fixed_binaries, lists, large_lists, fixed_lists, structs, column, no_column, and_column, columns_of, list_of, PlainSchema}
+use Rattle.arrow_schema.specs.Column.{Index, Pair, DateKind, days, date_milliseconds, date_unit_of, TimeKind, seconds, milliseconds, microseconds, nanoseconds, time_unit_of, Kind, Column, Columns, nulls, booleans, integers, dates, timestamps, texts, large_texts, binaries, large_binaries, fixed_binaries, lists, large_lists, fixed_lists, structs, column, no_column, and_column, columns_of, list_of, PlainSchema}
 use Rattle.arrow_schema.specs.Shape.{seen, seen_kind, seen_all, seen_dictionary, seen_pairs, shape_of, HaveOneShape}
-use Rattle.arrow_schema.specs.inner.Alike.{index_eq, dictionary_eq, pair_eq, pairs_eq, date_eq, time_number, alike, alike_kind, alike_all}
+use Rattle.arrow_schema.specs.inner.Alike.{index_eq, dictionary_eq, pair_eq, pairs_eq, alike, alike_kind, alike_all}
 use Rattle.arrow_schema.specs.laws.Columns.{columns_listed, pair_from_parts}
 
 index_from_parts : (a b : Index) → a.bits ≡ b.bits → a.signed ≡ b.signed → a ≡ b
@@ -34,13 +34,13 @@ pair_decides a b =
 pairs_decides : (xs ys : List Pair) → Decides (pairs_eq xs ys) (xs ≡ ys)
 pairs_decides xs ys = slice_eq-Decides pair_decides xs ys (pairs_eq xs ys) refl
 
-date_decides : (a b : DateKind) → Decides (date_eq a b) (a ≡ b)
+date_decides : (a b : DateKind) → Decides (date_unit_of a == date_unit_of b) (a ≡ b)
 date_decides days days = (λ h. refl, λ e. refl)
 date_decides date_milliseconds date_milliseconds = (λ h. refl, λ e. refl)
 date_decides days date_milliseconds = (λ h. absurd (false≢true h), λ e. absurd (cc))
 date_decides date_milliseconds days = (λ h. absurd (false≢true h), λ e. absurd (cc))
 
-time_decides : (a b : TimeKind) → Decides (time_number a == time_number b) (a ≡ b)
+time_decides : (a b : TimeKind) → Decides (time_unit_of a == time_unit_of b) (a ≡ b)
 time_decides seconds seconds = (λ h. refl, λ e. refl)
 time_decides milliseconds milliseconds = (λ h. refl, λ e. refl)
 time_decides microseconds microseconds = (λ h. refl, λ e. refl)

@@ -19,12 +19,24 @@ pub data DateKind : Type 0 where
   days : DateKind
   date_milliseconds : DateKind
 
+-- its number (Schema.fbs, `DateUnit`)
+abbrev pub date_unit_of : DateKind → ℕ
+date_unit_of days = 0
+date_unit_of date_milliseconds = 1
+
 -- the unit of a timestamp
 pub data TimeKind : Type 0 where
   seconds : TimeKind
   milliseconds : TimeKind
   microseconds : TimeKind
   nanoseconds : TimeKind
+
+-- its number (Schema.fbs, `TimeUnit`)
+abbrev pub time_unit_of : TimeKind → ℕ
+time_unit_of seconds = 0
+time_unit_of milliseconds = 1
+time_unit_of microseconds = 2
+time_unit_of nanoseconds = 3
 
 mutual
   -- a logical type

@@ -1,10 +1,10 @@
 // Whether two schemas have one shape, and whether two fields are equal.
 ghost use Rattle.std.specs.Prelude.{◌≡◌, ◌↔◌, ◌==◌, ◌&&◌, IsTrue, map, option_map, length};
-ghost use Rattle.arrow_schema.specs.Column.{columns_of};
+ghost use Rattle.arrow_schema.specs.Column.{columns_of, date_unit_of, time_unit_of};
 ghost use Rattle.arrow_schema.specs.View.{schema_of, kind_of, column_of, pair_of, index_of, bits_of, date_kind, time_kind};
 ghost use Rattle.arrow_schema.specs.Shape.{seen_dictionary, seen_pairs, HaveOneShape};
 ghost use Rattle.std.specs.Bool.{beq};
-ghost use Rattle.arrow_schema.specs.inner.Alike.{dictionary_eq, pairs_eq, date_eq, time_number, alike, alike_kind, alike_all};
+ghost use Rattle.arrow_schema.specs.inner.Alike.{dictionary_eq, pairs_eq, alike, alike_kind, alike_all};
 
 use crate::types::{DataType, DateUnit, DictSpec, Field, IntegerType, Schema, TimeUnit};
 
@@ -22,13 +22,13 @@ fn same_integer(a: IntegerType, b: IntegerType) -> bool
 }
 
 fn same_date(a: DateUnit, b: DateUnit) -> bool
-    ensures { result ≡ date_eq (date_kind a) (date_kind b) }
+    ensures { result ≡ (date_unit_of (date_kind a) == date_unit_of (date_kind b)) }
 {
     a == b
 }
 
 fn same_time(a: TimeUnit, b: TimeUnit) -> bool
-    ensures { result ≡ (time_number (time_kind a) == time_number (time_kind b)) }
+    ensures { result ≡ (time_unit_of (time_kind a) == time_unit_of (time_kind b)) }
 {
     a == b
 }

@@ -123,10 +123,12 @@ pub(crate) fn integer_at(integer: IntegerType, values: &[u8], slots: usize, i: u
     first_integer(integer, rest)
 }
 
-// The least number of a width that is negative as a signed integer.
+/// The least number of a width that is negative as a signed integer: half of how many numbers it has.
 #[inline]
-fn least_negative(width: BitWidth) -> u64
-    ensures { result ≡ 2 ^ (bits_of width - 1) }
+pub fn least_negative(width: BitWidth) -> u64
+    ensures value { result ≡ 2 ^ (bits_of width - 1) }
+    ensures half { 2 * result ≡ 256 ^ (bits_of width / 8) }
+    ensures most { result ≤ 2 ^ 63 }
 {
     match width {
         BitWidth::Eight => 0x80,

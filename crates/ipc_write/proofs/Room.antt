@@ -11,11 +11,11 @@ use Rattle.flatbuf.specs.Laid.{gap, count_of, slots_of, vtable_len, inline_end, 
 use Rattle.flatbuf.specs.Ends.{end_at, ends_at, below_ends_at}
 use Rattle.flatbuf.specs.Held.{Fits, FitsAll, FitsSlots, FitsStructs}
 use Rattle.arrow_schema.specs.declared.limits.TheConstants.{NUMBER_END}
-use Rattle.arrow_schema.specs.Column.{Index, Pair, DateKind, days, date_milliseconds, TimeKind, seconds, milliseconds, microseconds, nanoseconds, Kind, Column, Columns, nulls, booleans, integers, dates, timestamps, texts, large_texts, binaries, large_binaries, fixed_binaries, lists, large_lists, fixed_lists, structs as struct_kind, column, no_column, and_column, columns_of, PlainSchema, is_bit_width}
+use Rattle.arrow_schema.specs.Column.{Index, Pair, DateKind, days, date_milliseconds, date_unit_of, TimeKind, seconds, milliseconds, microseconds, nanoseconds, time_unit_of, Kind, Column, Columns, nulls, booleans, integers, dates, timestamps, texts, large_texts, binaries, large_binaries, fixed_binaries, lists, large_lists, fixed_lists, structs as struct_kind, column, no_column, and_column, columns_of, PlainSchema, is_bit_width}
 use Rattle.arrow_schema.specs.Limits.{IsWithinLimits, timezone_of, number_of, bytes_of_pairs, pairs_in, bytes_in, has_number_in_range, is_kind_of_width, is_index_of_width, has_bit_widths}
 use Rattle.arrow_schema.specs.Preorder.{preorder, preorder_below, preorder_all, every_column}
 use Rattle.ipc_message.specs.declared.header_type.TheConstants.{SCHEMA, DICTIONARY_BATCH, RECORD_BATCH}
-use Rattle.ipc_write.specs.Trees.{bit, code_of, date_unit_of, time_unit_of, type_tree, pair_nodes, pairs_slot, encoding_tree, dictionary_slot, ids_for, ids_of, ids_below, ids_of_all, field_tree, field_nodes, child_nodes, schema_tree, message_tree}
+use Rattle.ipc_write.specs.Trees.{bit, code_of, type_tree, pair_nodes, pairs_slot, encoding_tree, dictionary_slot, ids_for, ids_of, ids_below, ids_of_all, field_tree, field_nodes, child_nodes, schema_tree, message_tree}
 
 gap_small : (m c : ℕ) → gap m c ≤ m
 gap_small zero c = let none : 0 - c % 0 ≡ 0 = omega arith in rw none (omega arith)

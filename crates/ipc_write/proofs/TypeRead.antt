@@ -8,10 +8,10 @@ use Rattle.flatbuf.specs.Walk.{spans, vector_at, reference_things, table_things}
 use Rattle.flatbuf.specs.Held.{Has, HasAll, HasSlots}
 use Rattle.flatbuf.specs.Laid.{count_of, slots_of}
 use Rattle.flatbuf.specs.Tree.{Slots, table, no_slot, scalar}
-use Rattle.arrow_schema.specs.Column.{Index, Pair, Kind, nulls, booleans, integers, dates, timestamps, texts, large_texts, binaries, large_binaries, fixed_binaries, lists, large_lists, fixed_lists, structs}
+use Rattle.arrow_schema.specs.Column.{Index, Pair, date_unit_of, time_unit_of, Kind, nulls, booleans, integers, dates, timestamps, texts, large_texts, binaries, large_binaries, fixed_binaries, lists, large_lists, fixed_lists, structs}
 use Rattle.ipc_message.specs.Raw.{timestamp_parameters}
 use Rattle.ipc_message.specs.Header.{int_things, size_things, date_things, timestamp_things, type_things, encoding_things, pair_things, pairs_things, parameters_in, encoding_in, pair_at, pairs_in}
-use Rattle.ipc_write.specs.Trees.{bit, code_of, int_tree, type_tree, timezone_slot, pair_tree, pair_nodes, pairs_slot, dictionary_slot, date_unit_of, time_unit_of}
+use Rattle.ipc_write.specs.Trees.{bit, code_of, int_tree, type_tree, timezone_slot, pair_tree, pair_nodes, pairs_slot, dictionary_slot}
 use Rattle.ipc_write.specs.Decoded.{parameters_of, encoding_of}
 use Rattle.ipc_write.specs.Walked.{type_tables, encoding_tables}
 use Rattle.ipc_write.proofs.Fine.{Fine, fine_none, fine_append, fine_more, fine_after, fine_spans, fine_text, fine_references, fine_no_vector, fine_reference, fine_table, text_read, elements_read}

@@ -1,8 +1,8 @@
 -- What the header of a written message decodes to.
 use Rattle.std.specs.Prelude.{ℕ, ◌+◌, Option, Some, None}
-use Rattle.arrow_schema.specs.Column.{Index, Kind, Column, Columns, nulls, booleans, integers, dates, timestamps, texts, large_texts, binaries, large_binaries, fixed_binaries, lists, large_lists, fixed_lists, structs, column, no_column, and_column, columns_of, PlainSchema}
+use Rattle.arrow_schema.specs.Column.{Index, date_unit_of, time_unit_of, Kind, Column, Columns, nulls, booleans, integers, dates, timestamps, texts, large_texts, binaries, large_binaries, fixed_binaries, lists, large_lists, fixed_lists, structs, column, no_column, and_column, columns_of, PlainSchema}
 use Rattle.ipc_message.specs.Raw.{RawParameters, no_parameters, integer_parameters, byte_width, list_size, date_unit, timestamp_parameters, RawEncoding, RawField, RawFields, raw_field, no_raw_field, and_raw_field, raw_list_of, RawSchema}
-use Rattle.ipc_write.specs.Trees.{code_of, date_unit_of, time_unit_of, ids_for, ids_of}
+use Rattle.ipc_write.specs.Trees.{code_of, ids_for, ids_of}
 
 abbrev pub parameters_of : Kind → RawParameters
 parameters_of nulls = no_parameters

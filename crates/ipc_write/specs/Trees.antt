@@ -2,7 +2,7 @@
 -- written, also where it is the default; each vector of fields, children, nodes and buffers too, also where it is empty.
 use Rattle.std.specs.Prelude.{ℕ, ◌+◌, Bool, true, false, List, [], ◌∷◌, map, Option, Some, None}
 use Rattle.flatbuf.specs.Tree.{Tree, Nodes, Slots, table, text, references, structs, no_node, and_node, no_slot, absent, scalar, refers}
-use Rattle.arrow_schema.specs.Column.{Index, Pair, DateKind, days, date_milliseconds, TimeKind, seconds, milliseconds, microseconds, nanoseconds, Kind, Column, Columns, nulls, booleans, integers, dates, timestamps, texts, large_texts, binaries, large_binaries, fixed_binaries, lists, large_lists, fixed_lists, structs as struct_kind, column, no_column, and_column, columns_of, PlainSchema}
+use Rattle.arrow_schema.specs.Column.{Index, Pair, date_unit_of, time_unit_of, Kind, Column, Columns, nulls, booleans, integers, dates, timestamps, texts, large_texts, binaries, large_binaries, fixed_binaries, lists, large_lists, fixed_lists, structs as struct_kind, column, no_column, and_column, columns_of, PlainSchema}
 use Rattle.ipc_message.specs.declared.type_codes.TheConstants.{NULL, INT, BINARY, UTF8, BOOL, DATE, TIMESTAMP, LIST, STRUCT, FIXED_SIZE_BINARY, FIXED_SIZE_LIST, LARGE_BINARY, LARGE_UTF8, LARGE_LIST}
 use Rattle.ipc_message.specs.declared.message.TheConstants.{V5}
 use Rattle.ipc_message.specs.Raw.{RawNode, RawBuffer, RawBatch, RawDictionaryBatch}
@@ -27,16 +27,6 @@ code_of (fixed_lists size item) = FIXED_SIZE_LIST
 code_of large_binaries = LARGE_BINARY
 code_of large_texts = LARGE_UTF8
 code_of (large_lists item) = LARGE_LIST
-
-abbrev pub date_unit_of : DateKind → ℕ
-date_unit_of days = 0
-date_unit_of date_milliseconds = 1
-
-abbrev pub time_unit_of : TimeKind → ℕ
-time_unit_of seconds = 0
-time_unit_of milliseconds = 1
-time_unit_of microseconds = 2
-time_unit_of nanoseconds = 3
 
 -- an Int: bitWidth, is_signed
 abbrev pub int_tree : ℕ → Bool → Tree

@@ -1,11 +1,11 @@
 // The tables of a message, as trees that are yet to be written (docs/formats/writing.md).
 ghost use Rattle.std.specs.Prelude.{◌≡◌, ◌+◌, ◌^◌, ◌<◌, map, option_map, string_bytes, IfOk, OnOk};
 ghost use Rattle.arrow_schema.specs.View.{schema_of, kind_of, column_of, pair_of, index_of, date_kind, time_kind, bits_of};
-ghost use Rattle.arrow_schema.specs.Column.{columns_of};
+ghost use Rattle.arrow_schema.specs.Column.{columns_of, date_unit_of, time_unit_of};
 ghost use Rattle.arrow_schema.specs.Limits.{IsWithinLimits};
 ghost use Rattle.flatbuf.specs.Tree.{Slots, table, text, references, structs, scalar, refers, no_slot};
 ghost use Rattle.flatbuf.specs.View.{node_of, slot_before, nodes_of};
-ghost use Rattle.ipc_write.specs.Trees.{bit, code_of, date_unit_of, time_unit_of, int_tree, timezone_slot, type_tree, pair_tree, pair_nodes, pairs_slot, encoding_tree, dictionary_slot, ids_for, schema_tree, message_tree};
+ghost use Rattle.ipc_write.specs.Trees.{bit, code_of, int_tree, timezone_slot, type_tree, pair_tree, pair_nodes, pairs_slot, encoding_tree, dictionary_slot, ids_for, schema_tree, message_tree};
 ghost use Rattle.ipc_write.specs.inner.Steps.{slots_then, field_table};
 
 use crate::fields::field_nodes;

@@ -41,6 +41,14 @@ pub absolute_below : (z : ℤ) (m : ℕ) → pos 0 ≤ℤ z → z <ℤ pos m →
 absolute_below (pos n) m h below = omega (arith, ints, below)
 absolute_below (negsuc n) m h below = absurd (omega (arith, ints, h))
 
+-- ---- numbers of a width
+
+pub folded_is : (w : BitWidth) (h n : ℕ) → h ≡ 2 ^ (bits_of w - 1) → (if nat_lt n h then pos n else pos n -ℤ pos (2 * h)) ≡ twos_complement (bits_of w / 8) n
+folded_is Eight h n e = ap (λ x. if nat_lt n x then pos n else pos n -ℤ pos (2 * x)) e
+folded_is Sixteen h n e = ap (λ x. if nat_lt n x then pos n else pos n -ℤ pos (2 * x)) e
+folded_is ThirtyTwo h n e = ap (λ x. if nat_lt n x then pos n else pos n -ℤ pos (2 * x)) e
+folded_is SixtyFour h n e = ap (λ x. if nat_lt n x then pos n else pos n -ℤ pos (2 * x)) e
+
 -- ---- numbers with a bias
 
 signed_is : (k h n : ℕ) → 2 ^ (8 * k - 1) ≡ h → 2 ^ (8 * k) ≡ 2 * h → n < 2 * h → twos_complement k n ≡ pos ((n + h) % (2 * h)) -ℤ pos h
@@ -74,7 +82,7 @@ moved_is : (t : IntegerType) (n : ℕ) → n < 256 ^ width_of t → integer_of (
 moved_is t n = by t.width t.signed
   where
     by : (w : BitWidth) (s : Bool) → n < 256 ^ (bits_of w / 8)
-        → integer_of (bits_of w / 8) s n ≡ pos ((n + (if s then 256 ^ (bits_of w / 8) / 2 else 0)) % 256 ^ (bits_of w / 8)) -ℤ pos (if s then 256 ^ (bits_of w / 8) / 2 else 0)
+        → integer_of (bits_of w / 8) s n ≡ pos ((n + (if s then 2 ^ (bits_of w - 1) else 0)) % 256 ^ (bits_of w / 8)) -ℤ pos (if s then 2 ^ (bits_of w - 1) else 0)
     by Eight true h = signed_is 1 (2 ^ 7) n refl refl h
     by Sixteen true h = signed_is 2 (2 ^ 15) n refl refl h
     by ThirtyTwo true h = signed_is 4 (2 ^ 31) n refl refl h
@@ -84,7 +92,7 @@ moved_is t n = by t.width t.signed
 bias_fits : (t : IntegerType) → bias_in t < 256 ^ width_of t
 bias_fits t = by t.width t.signed
   where
-    by : (w : BitWidth) (s : Bool) → (if s then 256 ^ (bits_of w / 8) / 2 else 0) < 256 ^ (bits_of w / 8)
+    by : (w : BitWidth) (s : Bool) → (if s then 2 ^ (bits_of w - 1) else 0) < 256 ^ (bits_of w / 8)
     by Eight true = omega arith
     by Sixteen true = omega arith
     by ThirtyTwo true = omega arith

@@ -1,11 +1,11 @@
 // Answers of a comparison by the order of numbers to a key.
-ghost use Rattle.std.specs.Prelude.{◌≡◌, ◌<◌, ◌≤◌, ◌*◌, ◌/◌, ◌^◌, ◌<ℤ◌, ◌≤ℤ◌, pos, MatchResult};
-ghost use Rattle.arrow_schema.specs.View.{bits_of};
+ghost use Rattle.std.specs.Prelude.{◌≡◌, ◌<◌, ◌≤◌, ◌*◌, ◌^◌, ◌<ℤ◌, ◌≤ℤ◌, pos, MatchResult};
 ghost use Rattle.query.specs.inner.Slots.{width_of};
 ghost use Rattle.query.specs.inner.Cuts.{bias_in, IsKey, AllStand, IsCut};
 
 use crate::operator::{Operator, accepts};
-use arrow_schema::{BitWidth, IntegerType};
+use arrow_schema::IntegerType;
+use columns::least_negative;
 use std::cmp::Ordering;
 
 /// What is answered of a number by its order to a key. The bias is added to each number first, and makes 0 of the least.
@@ -18,25 +18,11 @@ pub(crate) struct Cut {
     pub(crate) above: bool,
 }
 
-// Half of how many numbers a width has.
-fn half(width: BitWidth) -> u64
-    ensures half { result ≡ 256 ^ (bits_of width / 8) / 2 }
-    ensures whole { 2 * result ≡ 256 ^ (bits_of width / 8) }
-    ensures most { result ≤ 2 ^ 63 }
-{
-    match width {
-        BitWidth::Eight => 0x80,
-        BitWidth::Sixteen => 0x8000,
-        BitWidth::ThirtyTwo => 0x8000_0000,
-        BitWidth::SixtyFour => 0x8000_0000_0000_0000,
-    }
-}
-
 fn bias_of(integer: IntegerType) -> u64
     ensures { result ≡ bias_in integer }
 {
     if integer.signed {
-        half(integer.width)
+        least_negative(integer.width)
     } else {
         0
     }
@@ -72,7 +58,7 @@ impl Cut {
         ensures { IsCut integer operator literal result }
     {
         let bias = bias_of(integer);
-        match key_of(literal, bias, half(integer.width)) {
+        match key_of(literal, bias, least_negative(integer.width)) {
             Ok(key) => Cut {
                 bias,
                 key,

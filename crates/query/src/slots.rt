@@ -17,7 +17,7 @@ use arrow_schema::{BitWidth, DataType, DateUnit, Field, IntegerType};
 use bitmap::MaskBuilder;
 use byteorder::{ByteOrder, LittleEndian};
 use cells::Value;
-use columns::{ArrayView, array_or, no_array};
+use columns::{ArrayView, array_or, least_negative, no_array};
 use std::alloc::{AllocError, Global};
 use values::{Batch, Part};
 
@@ -107,12 +107,7 @@ fn folded(number: u64, half: u64) -> i128
 fn signed_number(width: BitWidth, number: u64) -> i128
     ensures { result ≡ twos_complement (bits_of width / 8) number }
 {
-    match width {
-        BitWidth::Eight => folded(number, 0x80),
-        BitWidth::Sixteen => folded(number, 0x8000),
-        BitWidth::ThirtyTwo => folded(number, 0x8000_0000),
-        BitWidth::SixtyFour => folded(number, 0x8000_0000_0000_0000),
-    }
+    folded(number, least_negative(width))
 }
 
 /// The integer of a slot.

@@ -3,7 +3,7 @@ use Rattle.std.specs.Prelude.{ℕ, Bool, true, false, ◌==◌, ◌&&◌, List, 
 use Rattle.std.specs.Cmp.Lexicographic.{pointwise}
 use Rattle.std.specs.Bool.{beq}
 use Rattle.arrow_schema.specs.declared.compare.Detail.{Detail}
-use Rattle.arrow_schema.specs.Column.{Index, Pair, DateKind, days, date_milliseconds, TimeKind, seconds, milliseconds, microseconds, nanoseconds, Kind, Column, Columns, nulls, booleans, integers, dates, timestamps, texts, large_texts, binaries, large_binaries, fixed_binaries, lists, large_lists, fixed_lists, structs, column, no_column, and_column}
+use Rattle.arrow_schema.specs.Column.{Index, Pair, DateKind, date_unit_of, TimeKind, time_unit_of, Kind, Column, Columns, nulls, booleans, integers, dates, timestamps, texts, large_texts, binaries, large_binaries, fixed_binaries, lists, large_lists, fixed_lists, structs, column, no_column, and_column}
 use Rattle.arrow_schema.specs.Shape.{seen_dictionary, seen_pairs}
 use Rattle.arrow_schema.specs.Parts.{is_nulls}
 
@@ -21,18 +21,6 @@ pair_eq a b = bytes_eq a.0 b.0 && bytes_eq a.1 b.1
 
 abbrev pub pairs_eq : List Pair → List Pair → Bool
 pairs_eq = pointwise pair_eq
-
-abbrev pub date_eq : DateKind → DateKind → Bool
-date_eq days days = true
-date_eq date_milliseconds date_milliseconds = true
-date_eq days date_milliseconds = false
-date_eq date_milliseconds days = false
-
-abbrev pub time_number : TimeKind → ℕ
-time_number seconds = 0
-time_number milliseconds = 1
-time_number microseconds = 2
-time_number nanoseconds = 3
 
 abbrev pub is_booleans : Kind → Bool
 is_booleans booleans = true
@@ -106,8 +94,8 @@ unfoldable mutual
   alike_kind detail nulls = is_nulls
   alike_kind detail booleans = is_booleans
   alike_kind detail (integers bits signed) = integers_where (λ b s. bits == b && beq signed s)
-  alike_kind detail (dates unit) = dates_where (date_eq unit)
-  alike_kind detail (timestamps unit timezone) = timestamps_where (λ u z. time_number unit == time_number u && bytes_eq timezone z)
+  alike_kind detail (dates unit) = dates_where (λ u. date_unit_of unit == date_unit_of u)
+  alike_kind detail (timestamps unit timezone) = timestamps_where (λ u z. time_unit_of unit == time_unit_of u && bytes_eq timezone z)
   alike_kind detail texts = is_texts
   alike_kind detail large_texts = is_large_texts
   alike_kind detail binaries = is_binaries

@@ -1,5 +1,5 @@
 -- Comparisons of numbers with a key.
-use Rattle.std.specs.Prelude.{◌≡◌, ℕ, ℤ, pos, ◌+◌, ◌/◌, ◌%◌, ◌^◌, ◌<◌, ◌+ℤ◌, ◌-ℤ◌, Bool, nat_lt, ◌==◌, List, if◌then◌else◌}
+use Rattle.std.specs.Prelude.{◌≡◌, ℕ, ℤ, pos, ◌+◌, ◌-◌, ◌/◌, ◌%◌, ◌^◌, ◌<◌, ◌+ℤ◌, ◌-ℤ◌, Bool, nat_lt, ◌==◌, List, if◌then◌else◌}
 use Rattle.std.specs.Ordering.{int_cmp}
 use Rattle.std.specs.declared.cmp.Ordering.{Ordering}
 use Rattle.arrow_schema.specs.View.{bits_of}
@@ -18,7 +18,7 @@ block_slots width = 512 / bits_of width
 
 -- what makes 0 of the least integer of a type
 abbrev pub bias_in : IntegerType → ℕ
-bias_in t = if t.signed then 256 ^ width_of t / 2 else 0
+bias_in t = if t.signed then 2 ^ (bits_of t.width - 1) else 0
 
 -- what the bias makes of a literal, where it is one of so many numbers
 abbrev pub IsKey : ℤ → (bias numbers : ℕ) → ℕ → Type 0

@@ -14,7 +14,7 @@ returns-in-Ok c =
     let key : pos c.in-Ok.key ≡ c.args.literal +ℤ pos bias = c.in-Ok.ensures.0 ∙ ap (λ (z : ℤ). z +ℤ pos bias) same in
     cut_is c.args.integer c.args.operator c.args.literal
     (record { bias = bias; key = c.in-Ok.key; below = c.accepts.result; equal = c.accepts-in-Ok.result; above = c.accepts-in-Ok-2.result })
-    c.half.result c.bias_of-bias.ensures c.half.ensures.whole key c.in-Ok.ensures.1 c.accepts.ensures c.accepts-in-Ok.ensures c.accepts-in-Ok-2.ensures
+    c.least_negative.result c.bias_of-bias.ensures c.least_negative.ensures.half key c.in-Ok.ensures.1 c.accepts.ensures c.accepts-in-Ok.ensures c.accepts-in-Ok-2.ensures
 
 pub returns-in-Err : goal.returns-in-Err
 returns-in-Err c =
@@ -23,6 +23,6 @@ returns-in-Err c =
     let answer = c.accepts-answer.result in
     same_cut_is c.args.integer c.args.operator c.args.literal
     (record { bias = bias; key = 0; below = answer; equal = answer; above = answer })
-    c.half.result c.in-Err.order c.bias_of-bias.ensures c.half.ensures.whole refl
+    c.least_negative.result c.in-Err.order c.bias_of-bias.ensures c.least_negative.ensures.half refl
     (λ n h. ap (λ (z : ℤ). int_cmp (pos n -ℤ pos bias) z) (sym same) ∙ c.in-Err.ensures n h)
     c.accepts-answer.ensures c.accepts-answer.ensures c.accepts-answer.ensures
