@@ -6,7 +6,7 @@ use crate::openings::{STORED, T, U, device_after};
 use crate::playing::{Slot, Way, is_played, replies_of, shut, wrong_reply};
 use crate::steps::{Step, Steps};
 use crate::stops::are_refused;
-use Input::{Column, Ints};
+use Input::Column;
 use Step::{Append, Export, Give, Open, Read, Remove, Save, Tables};
 use sector_dev::ModelDevice;
 use std::alloc::Global;
