@@ -67,12 +67,20 @@ pub fn table_of_cells(schema: Schema, cells: Vec<Value>, rows: usize) -> Result<
     Table::from_cells(*cells.allocator(), schema, cells, rows).map_err(|_| NotMade)
 }
 
-// Whether a value is `null`, this number, or this text behind `'`.
+// Whether a text is the one behind `'`, or has so many bytes as stands behind `#`.
+fn is_text(text: &str, want: &str) -> bool {
+    match want.strip_prefix("#") {
+        Some(length) => length.parse::<i128>().ok() == Some(text.len() as i128),
+        None => want.strip_prefix("'") == Some(text),
+    }
+}
+
+// Whether a value is `null`, this number, or this text.
 fn is_value(value: ValueRef<'_>, want: &str) -> bool {
     match value {
         ValueRef::Null => want == "null",
         ValueRef::Int(number) => want.parse::<i128>().ok() == Some(number),
-        ValueRef::Text(text) => want.strip_prefix("'") == Some(text),
+        ValueRef::Text(text) => is_text(text, want),
         _ => false,
     }
 }

@@ -207,10 +207,63 @@ const DEEP_CHANGED: &[Row] = &[
     ),
 ];
 
-// A list of 16,777,216 nulls; structs of 21 levels, each of which names the next one twice; 2,048 fields, and 2,049. Each takes a while.
-const LARGE: &[(&[u8], Row)] = &[
+// Of `DICTIONARY`: its field twice, both on the same arrays, and its texts repeated to 8,388,608 bytes, so that the record batch begins at 8,389,032.
+const IN_TWO_COLUMNS: &[(usize, usize, usize)] = &[
+    (0, 424, 1),
+    (424, 432, 1_048_576),
+    (432, 544, 1),
+    (528, 584, 1),
+    (552, 608, 1),
+];
+
+// With a first text of 8,388,606 bytes a row weighs 16,777,215, and with one more it is too heavy.
+const HEAVY: &[(usize, u8)] = &[
+    // two fields, of which the second is the first
+    (68, 0x02),
+    (76, 0x14),
+    // the lengths of the body and of the texts, and where the two texts end
+    (240, 0x10),
+    (242, 0x80),
+    (400, 0x00),
+    (402, 0x80),
+    (412, 0xfe),
+    (413, 0xff),
+    (414, 0x7f),
+    (416, 0xfe),
+    (417, 0xff),
+    (418, 0x7f),
+    // the size of the metadata, where its buffers begin, two nodes and four buffers
+    (8_389_036, 0xc0),
+    (8_389_116, 0x30),
+    (8_389_124, 0x02),
+    (8_389_164, 0x04),
+];
+
+const TOO_HEAVY: &[(usize, u8)] = &[
+    (68, 0x02),
+    (76, 0x14),
+    (240, 0x10),
+    (242, 0x80),
+    (400, 0x00),
+    (402, 0x80),
+    (412, 0xff),
+    (413, 0xff),
+    (414, 0x7f),
+    (416, 0xff),
+    (417, 0xff),
+    (418, 0x7f),
+    (8_389_036, 0xc0),
+    (8_389_116, 0x30),
+    (8_389_124, 0x02),
+    (8_389_164, 0x04),
+];
+
+// A list of 16,777,216 nulls; structs of 21 levels, each of which names the next one twice; 2,048 fields, and 2,049; long texts, cut seven times within
+// their dictionary and once within the record batch. Each takes a while. Behind each stream stands how many bytes a piece has.
+const LARGE: &[(&[u8], usize, Row)] = &[
     (
         &LIST_OF_NULLS,
+        1,
         (
             ALL,
             &[(280, 0x01), (304, 0x01), (368, 0x08)],
@@ -219,6 +272,7 @@ const LARGE: &[(&[u8], Row)] = &[
     ),
     (
         &DEEP,
+        1,
         (
             &[(0, 104, 1), (140, 180, 20), (180, 204, 1)],
             &[(4, 0x98), (5, 0x03)],
@@ -227,6 +281,7 @@ const LARGE: &[(&[u8], Row)] = &[
     ),
     (
         &DEEP,
+        1,
         (
             &[(0, 104, 1), (140, 180, 10), (180, 204, 1)],
             &[(4, 0x08), (5, 0x02), (64, 0x02)],
@@ -235,11 +290,31 @@ const LARGE: &[(&[u8], Row)] = &[
     ),
     (
         &DEEP,
+        1,
         (
             &[(0, 104, 1), (140, 180, 10), (180, 204, 1)],
             &[(4, 0x08), (5, 0x02), (64, 0x03)],
             Err((SchemaLimit, 0, 0)),
         ),
+    ),
+    (
+        &DICTIONARY,
+        1_048_640,
+        (
+            IN_TWO_COLUMNS,
+            HEAVY,
+            Ok(&[
+                &["#8388606", "#8388606"],
+                &["'", "'"],
+                &["#8388606", "#8388606"],
+                &["null", "null"],
+            ]),
+        ),
+    ),
+    (
+        &DICTIONARY,
+        1_048_640,
+        (IN_TWO_COLUMNS, TOO_HEAVY, Err((TooHeavy, 2, 8_389_032))),
     ),
 ];
 
@@ -330,12 +405,12 @@ fn is_read_in_pieces(
     Ok(is_finished(alloc, decoder, wanted)? && well)
 }
 
-// Read whole, for its place, and byte by byte.
-fn is_read(alloc: Global, bytes: &[u8], wanted: &Wanted) -> Result<bool, NotMade> {
+// Read whole, for its place, and in pieces of this size.
+fn is_read(alloc: Global, bytes: &[u8], size: usize, wanted: &Wanted) -> Result<bool, NotMade> {
     Ok(
         is_decoded(alloc, bytes, wanted)?
             && is_placed(alloc, bytes, wanted)?
-            && is_read_in_pieces(alloc, 0, 1, bytes, wanted)?,
+            && is_read_in_pieces(alloc, 0, size, bytes, wanted)?,
     )
 }
 
@@ -348,8 +423,8 @@ fn is_read_in_two(alloc: Global, bytes: &[u8], wanted: &Wanted) -> Result<bool, 
     Ok(well)
 }
 
-fn is_row_read(alloc: Global, stream: &[u8], row: &Row) -> Result<bool, NotMade> {
-    is_read(alloc, &bytes_of(alloc, stream, row)?, &row.2)
+fn is_row_read(alloc: Global, stream: &[u8], size: usize, row: &Row) -> Result<bool, NotMade> {
+    is_read(alloc, &bytes_of(alloc, stream, row)?, size, &row.2)
 }
 
 fn is_row_read_in_two(alloc: Global, stream: &[u8], row: &Row) -> Result<bool, NotMade> {
@@ -358,7 +433,7 @@ fn is_row_read_in_two(alloc: Global, stream: &[u8], row: &Row) -> Result<bool, N
 
 fn wrongly_read(alloc: Global, stream: &[u8], rows: &[Row]) -> Result<Option<usize>, NotMade> {
     for (place, row) in rows.iter().enumerate() {
-        if !is_row_read(alloc, stream, row)? || !is_row_read_in_two(alloc, stream, row)? {
+        if !is_row_read(alloc, stream, 1, row)? || !is_row_read_in_two(alloc, stream, row)? {
             return Ok(Some(place));
         }
     }
@@ -366,8 +441,8 @@ fn wrongly_read(alloc: Global, stream: &[u8], rows: &[Row]) -> Result<Option<usi
 }
 
 fn wrongly_read_of_large(alloc: Global) -> Result<Option<usize>, NotMade> {
-    for (place, (stream, row)) in LARGE.iter().enumerate() {
-        if !is_row_read(alloc, stream, row)? {
+    for (place, (stream, size, row)) in LARGE.iter().enumerate() {
+        if !is_row_read(alloc, stream, *size, row)? {
             return Ok(Some(place));
         }
     }
@@ -437,7 +512,7 @@ fn what_is_left_of_a_message_waits(rt: HostRuntime) {
 }
 
 fn is_null_read(alloc: Global) -> Result<bool, NotMade> {
-    is_read(alloc, &SHORT_NULL_LAST, &Ok(LAST_NULL))
+    is_read(alloc, &SHORT_NULL_LAST, 1, &Ok(LAST_NULL))
 }
 
 // tests/refused_memory_in_crates refuses each allocation in turn: then one of two runs ends for want of memory.

@@ -210,6 +210,25 @@ const ROOM: &[Row] = &[
 
 // Of each command the tests in their order: the first that fails is told, and then nothing has changed.
 const REFUSED: &[Row] = &[
+    // A store that is open is not formatted: it is closed, and stands as before.
+    (
+        16,
+        &[
+            (Format, "ok"),
+            (Import("t", TWO), "ok"),
+            (Format, "C2 AlreadyAStore"),
+            (Tables, "S10 Halted"),
+            (Create("u", INT), "S10 Halted"),
+            (Close, "S10 Halted"),
+            (Format, "C2 AlreadyAStore"),
+            (Open, "ok"),
+            (Read("t"), "\"a\":int32?: 7 -1"),
+            (Format, "C2 AlreadyAStore"),
+            (Open, "ok"),
+            (Tables, "t 2"),
+        ],
+        "epoch 2, 201 in 4, t: 3+1",
+    ),
     (
         16,
         &[

@@ -1,35 +1,23 @@
 // A read of the device that fails while a store is opened, a table is read or exported, or its rows are weighed for an append or selected from. The store is halted
 // then; opened again it has all that it had.
-use crate::inputs::{INT, Input};
+use crate::inputs::Input;
 use crate::made::{NotMade, assert_no_row};
-use crate::openings::device_after;
+use crate::openings::{STORED, T, U, device_after};
 use crate::playing::{Slot, Way, is_played, replies_of, shut, wrong_reply};
 use crate::steps::{Step, Steps};
 use crate::stops::are_refused;
-use Input::{Column, Ints};
-use Step::{Append, Create, Export, Format, Give, Import, Open, Read, Remove, Save, Tables};
+use Input::Column;
+use Step::{Append, Export, Give, Open, Read, Remove, Save, Tables};
 use sector_dev::ModelDevice;
 use std::alloc::Global;
 use store::{Place, Reply, Store};
 use tables::Refusal;
 
-// The table t has two segments of a sector each, and u one of two: 312 bytes and 8 for each of 26 values.
-const STORED: Steps = &[
-    (Format, "ok"),
-    (Import("t", Ints(&[7, -1])), "ok"),
-    (Append("t", Ints(&[5])), "ok"),
-    (Import("u", Column("b:int64", &[1; 26])), "ok"),
-    (Create("v", INT), "ok"),
-];
-
 const READING: Steps = &[
     (Open, "ok"),
-    (Read("t"), "\"a\":int32?: 7 -1 5"),
+    (Read("t"), T),
     (Read("v"), "\"a\":int32?:"),
-    (
-        Read("u"),
-        "\"b\":int64: 1 1 1 1 1 1 1 1 1 1 1 1 1 1 1 1 1 1 1 1 1 1 1 1 1 1",
-    ),
+    (Read("u"), U),
     (Export("t"), "stream of \"a\":int32?: 7 -1 5"),
     (Give("t", &[]), "ok"),
     (Save("t", "w", (&[], &[], None)), "ok"),
@@ -124,7 +112,7 @@ const ROOMS: &[(usize, Result<(), Refusal>)] = &[
     (328, Ok(())),
 ];
 
-const STILL_THERE: Steps = &[(Read("t"), "\"a\":int32?: 7 -1 5")];
+const STILL_THERE: Steps = &[(Read("t"), T)];
 
 fn is_written(
     alloc: Global,

@@ -1,11 +1,11 @@
-// Devices that are formatted or opened: of other sizes, with a store, and with bytes that were changed.
+// Devices that are formatted or opened: of other sizes, with a store, with bytes that were changed, and with sectors that can't be read.
 use crate::inputs::{Cell, INT, Input};
 use crate::made::{NotMade, assert_no_row};
 use crate::playing::{Slot, is_played, new_slot, shut};
 use crate::shown::contents;
 use crate::steps::{Step, Steps};
 use Cell::Text;
-use Input::{Changed, First, Ints};
+use Input::{Changed, Column, First, Ints};
 use Step::{Append, Create, Export, Format, Give, Import, Open, Read, Remove, Save, Tables};
 use sector_dev::{Choice, ModelDevice, SectorDevice};
 use std::alloc::Global;
@@ -109,9 +109,12 @@ fn changed(device: &ModelDevice, changes: &[Change]) -> Result<ModelDevice, NotM
     Ok(left)
 }
 
-// What is changed, and what is answered then. In a commit its epoch stands at byte 8, the catalogue's first sector at 16 and
-// the sectors of the device at 40; in the text the first sector of the segment at 169.
-const CAUSES: &[(&[Change], Steps)] = &[
+// What is changed, and what is answered then.
+type Row = (&'static [Change], Steps);
+
+// In a commit its epoch stands at byte 8, the catalogue's first sector at 16 and the sectors of the device at 40; in the text
+// the first sector of the segment at 169.
+const CAUSES: &[Row] = &[
     (
         &[(3, 0, 1)],
         &[(Open, "ok"), (Read("t"), "\"a\":int32?: 1 2 3")],
@@ -175,26 +178,139 @@ const CAUSES: &[(&[Change], Steps)] = &[
     (&[(5, 169, 7)], &[(Open, "C3 Damaged RunOverlap")]),
 ];
 
+/// The table t has two segments of a sector each, in 3 and 2, and u one of two, in 6 and 7: 312 bytes and 8 for each of 26 values. Epoch 5 in
+/// sector 1 has its catalogue in 8 and 9, and epoch 4 in sector 0, before v was made, in 4.
+pub const STORED: Steps = &[
+    (Format, "ok"),
+    (Import("t", Ints(&[7, -1])), "ok"),
+    (Append("t", Ints(&[5])), "ok"),
+    (Import("u", Column("b:int64", &[1; 26])), "ok"),
+    (Create("v", INT), "ok"),
+];
+
+/// The table t of it.
+pub const T: &str = "\"a\":int32?: 7 -1 5";
+
+/// The table u of it.
+pub const U: &str = "\"b\":int64: 1 1 1 1 1 1 1 1 1 1 1 1 1 1 1 1 1 1 1 1 1 1 1 1 1 1";
+
+const WHOLE: Steps = &[
+    (Open, "ok"),
+    (Tables, "t 3, u 26, v 0"),
+    (Read("t"), T),
+    (Read("u"), U),
+];
+
+const OF_EPOCH_4: Steps = &[(Open, "ok"), (Tables, "t 3, u 26"), (Read("t"), T)];
+
+const UNREADABLE: Steps = &[
+    (Open, "C3 Damaged CatalogueUnreadable"),
+    (Tables, "S10 Halted"),
+    (Format, "C2 AlreadyAStore"),
+];
+
+const WITHOUT_U: Steps = &[
+    (Open, "ok"),
+    (Read("u"), "S13 SegmentUnread 0"),
+    (Export("u"), "S13 SegmentUnread 0"),
+    (Read("t"), T),
+    (Remove("u"), "ok"),
+    (Tables, "t 3, v 0"),
+];
+
+// Which sectors of it were written and not yet synced when a stop came, and can't be read then, and what is answered.
+const LOST: &[Row] = &[
+    (&[(0, 0, 1)], WHOLE),
+    (&[(1, 0, 1)], OF_EPOCH_4),
+    (
+        &[(0, 0, 1), (1, 0, 1)],
+        &[(Open, "C1 NotAStore"), (Format, "ok"), (Tables, "")],
+    ),
+    (&[(4, 0, 1)], WHOLE),
+    (&[(8, 0, 1)], UNREADABLE),
+    (&[(9, 0, 1)], UNREADABLE),
+    (&[(1, 0, 1), (4, 0, 1)], UNREADABLE),
+    // The other tables are read as ever.
+    (
+        &[(3, 0, 1)],
+        &[
+            (Open, "ok"),
+            (Tables, "t 3, u 26, v 0"),
+            (Read("t"), "S13 SegmentUnread 0"),
+            (Export("t"), "S13 SegmentUnread 0"),
+            (Append("t", Ints(&[])), "S13 SegmentUnread 0"),
+            (Give("t", &[]), "S13 SegmentUnread 0"),
+            (Save("t", "w", (&[], &[], None)), "S13 SegmentUnread 0"),
+            (Read("u"), U),
+            (Read("v"), "\"a\":int32?:"),
+            (Append("v", Ints(&[4])), "ok"),
+            (Tables, "t 3, u 26, v 1"),
+        ],
+    ),
+    // A table in place of one that can't be read.
+    (
+        &[(2, 0, 1)],
+        &[
+            (Open, "ok"),
+            (Read("t"), "S13 SegmentUnread 1"),
+            (Export("t"), "S13 SegmentUnread 1"),
+            (Export("v"), "stream of \"a\":int32?:"),
+            (Import("t", Ints(&[4])), "ok"),
+            (Read("t"), "\"a\":int32?: 4"),
+            (Read("u"), U),
+        ],
+    ),
+    (&[(2, 0, 1), (3, 0, 1)], &[(Open, "ok"), (Read("t"), "S13 SegmentUnread 0")]),
+    (&[(6, 0, 1)], WITHOUT_U),
+    (&[(7, 0, 1)], WITHOUT_U),
+];
+
 fn is_told(alloc: Global, device: ModelDevice, steps: Steps) -> Result<bool, NotMade> {
     is_played(alloc, &mut Some(Place::Shut(device)), steps)
 }
 
-fn wrong_cause(alloc: Global, device: &ModelDevice) -> Result<Option<usize>, NotMade> {
-    for (place, (changes, steps)) in CAUSES.iter().enumerate() {
-        if !is_told(alloc, changed(device, changes)?, steps)? {
+// What a stop leaves of a device that is changed.
+fn stopped(
+    device: &ModelDevice,
+    changes: &[Change],
+    choice: Choice,
+) -> Result<ModelDevice, NotMade> {
+    Ok(changed(device, changes)?.crash(choice)?)
+}
+
+fn wrong_cause(
+    alloc: Global,
+    device: &ModelDevice,
+    choice: Choice,
+    rows: &[Row],
+) -> Result<Option<usize>, NotMade> {
+    for (place, (changes, steps)) in rows.iter().enumerate() {
+        if !is_told(alloc, stopped(device, changes, choice)?, steps)? {
             return Ok(Some(place));
         }
     }
     Ok(None)
 }
 
-fn wrongly_told(alloc: Global) -> Result<Option<usize>, NotMade> {
-    wrong_cause(alloc, &device_after(alloc, TWICE)?)
+fn wrongly_told(
+    alloc: Global,
+    before: Steps,
+    choice: Choice,
+    rows: &[Row],
+) -> Result<Option<usize>, NotMade> {
+    wrong_cause(alloc, &device_after(alloc, before)?, choice, rows)
 }
 
 #[test]
 fn the_first_cause_is_told(rt: HostRuntime) {
-    assert_no_row(&rt, wrongly_told(rt.alloc()));
+    assert_no_row(
+        &rt,
+        wrongly_told(rt.alloc(), TWICE, Choice::New, CAUSES),
+    );
+    assert_no_row(
+        &rt,
+        wrongly_told(rt.alloc(), STORED, Choice::Lost(u64::MAX), LOST),
+    );
 }
 
 // What a device with one changed byte holds; `None`: a segment does not hold the rows that the catalogue tells.
