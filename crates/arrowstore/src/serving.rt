@@ -77,7 +77,7 @@ fn format_file<
     let device = FileDevice::create(rt, path, sectors)?;
     match format_on(rt.alloc(), device) {
         Ok(store) => Ok(store),
-        // The device is kept until then: nobody else changes a file that is about to go.
+        // It is removed while the device still has it locked: nobody else has put anything into it.
         Err((refusal, _device)) => {
             let _removed = fs::remove_file(rt, path);
             Err(refusal)
