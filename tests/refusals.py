@@ -1,5 +1,5 @@
-"""Runs a program with each of its allocations refused, or each read of its input or write of its output failed, in turn, by a library that is loaded
-before the C library."""
+"""Runs a program with each of its allocations refused, or each read of its input, write of its output, or write and sync of a file failed, in turn, by a
+library that is loaded before the C library."""
 import functools
 import os
 import shutil
@@ -41,6 +41,18 @@ def on_a_copy(store):
     return answer
 
 
+def of_a_new_file(path):
+    """Answers of commands that make this file, each in a folder of its own; and beside them the bytes of the file, where it is left, and the answer of the
+    same command after it, undisturbed."""
+    def answer(command, given, **extra):
+        with tempfile.TemporaryDirectory() as room:
+            made = os.path.join(room, "made")
+            words = [made if word == path else word for word in command]
+            answered, left = answer_of(words, given, **extra), content(made) if os.path.exists(made) else None
+            return *answered, (left, answer_of(words, given))
+    return answer
+
+
 def in_turn(counted, command, given, answer, setting, **extra):
     """The answer undisturbed, and the answers with the first, the second .. of what is counted going wrong."""
     counts = os.path.join(ROOM.name, "counts")
@@ -64,6 +76,11 @@ def each_read_failed(command, given, error, answer=answer_of):
 def each_write_failed(command, given, error, most):
     """With each write to standard output failed, with this error of the system; each of the others takes at most so many bytes."""
     return in_turn(2, command, given, answer_of, "FAILED_WRITE", CALL_ERROR=str(error), MOST=str(most))
+
+
+def each_change_failed(command, given, error, answer=answer_of):
+    """With each write to a file and each sync of one failed, with this error of the system."""
+    return in_turn(3, command, given, answer, "FAILED_CHANGE", CALL_ERROR=str(error))
 
 
 def in_pieces(command, given, most):

@@ -1,7 +1,8 @@
 /* Loaded before the C library: refuses one allocation of a program, the one whose number is in REFUSED, or fails one read of its
-   standard input, the one whose number is in FAILED_READ, or one write to its standard output, that in FAILED_WRITE, with the error
-   CALL_ERROR, where 0 is a call that moves no byte; all are counted from 1. Where MOST is set, such a call moves at most so many bytes.
-   At its end the program's numbers of allocations, of such reads and of such writes are written into the file COUNTS, where that is set. */
+   standard input, the one whose number is in FAILED_READ, or one write to its standard output, that in FAILED_WRITE, or one write to a
+   file or sync of one, that in FAILED_CHANGE, with the error CALL_ERROR, where 0 is a call that moves no byte; all are counted from 1.
+   Where MOST is set, a read or write of these streams moves at most so many bytes. At its end the program's numbers of allocations, of
+   such reads, of such writes and of such changes are written into the file COUNTS, where that is set. */
 #define _GNU_SOURCE
 #include <errno.h>
 #include <stdio.h>
@@ -13,7 +14,7 @@
 extern void *__libc_malloc(size_t), *__libc_calloc(size_t, size_t), *__libc_realloc(void *, size_t);
 extern void *__libc_memalign(size_t, size_t);
 
-static long allocations, refused, reads, failed_read, writes, failed_write, error, most;
+static long allocations, refused, reads, failed_read, writes, failed_write, changes, failed_change, error, most;
 
 static long number(const char *name) {
     const char *given = getenv(name);
@@ -24,16 +25,17 @@ __attribute__((constructor)) static void begin(void) {
     refused = number("REFUSED");
     failed_read = number("FAILED_READ");
     failed_write = number("FAILED_WRITE");
+    failed_change = number("FAILED_CHANGE");
     error = number("CALL_ERROR");
     most = number("MOST");
-    allocations = reads = writes = 0;
+    allocations = reads = writes = changes = 0;
 }
 
 __attribute__((destructor)) static void end(void) {
     const char *path = getenv("COUNTS");
     FILE *out = path ? fopen(path, "w") : NULL;
     if (out) {
-        fprintf(out, "%ld %ld %ld\n", allocations, reads, writes);
+        fprintf(out, "%ld %ld %ld %ld\n", allocations, reads, writes, changes);
         fclose(out);
     }
 }
@@ -88,8 +90,20 @@ ssize_t read(int file, void *to, size_t size) {
     return ++reads == failed_read ? failed() : syscall(SYS_read, file, to, taken(size));
 }
 
+static int change_fails(int file) {
+    return file > STDERR_FILENO && ++changes == failed_change;
+}
+
 ssize_t write(int file, const void *from, size_t size) {
     if (file != STDOUT_FILENO)
-        return syscall(SYS_write, file, from, size);
+        return change_fails(file) ? failed() : syscall(SYS_write, file, from, size);
     return ++writes == failed_write ? failed() : syscall(SYS_write, file, from, taken(size));
+}
+
+int fsync(int file) {
+    return change_fails(file) ? (int)failed() : (int)syscall(SYS_fsync, file);
+}
+
+int fdatasync(int file) {
+    return change_fails(file) ? (int)failed() : (int)syscall(SYS_fdatasync, file);
 }

@@ -45,11 +45,10 @@ of_size sectors made bad = by_test (is_size sectors) refl
         absurd (cc no)
 
 -- a formatting that was refused on a device of this size
-pub of_formatting : {D T : Type 0} (g : Ghosts D) (size sectors : ℕ) (r : Result T Refusal) → size ≡ sectors → is_size sectors ≡ true → IfErr r (FailsToFormat g size) → IfErr r (RefusesFormat g sectors)
+pub of_formatting : {D : Type 0} (g : Ghosts D) (size sectors : ℕ) (refusal : Refusal) → size ≡ sectors → is_size sectors ≡ true → FailsToFormat g size refusal → RefusesFormat g sectors refusal
 unfolding FailsToFormat RefusesFormat
-of_formatting g size sectors (Ok store) same limits why = tt
-of_formatting g size sectors (Err (Opening r)) same limits why = (limits, subst (λ (n : ℕ). FailsToFormat g n (Opening r)) same why)
-of_formatting g size sectors (Err _) same limits why = absurd why
+of_formatting g size sectors (Opening r) same limits why = (limits, subst (λ (n : ℕ). FailsToFormat g n (Opening r)) same why)
+of_formatting g size sectors _ same limits why = absurd why
 
 -- a store that was opened on a device is one that was opened on some device
 pub opened_on_some : {D : Type 0} {g : Ghosts D} (device : D) (r : Result (Store D g) Refusal) → IfOk r (IsOpened device) → IfOk r (λ store. (d : D) × IsOpened d store)

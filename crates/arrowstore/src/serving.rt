@@ -29,15 +29,15 @@ fn open_on<D: SectorDevice + Drop>(alloc: Global, device: D) -> Result<Store<D>,
     }
 }
 
-// An empty store on a device.
-fn format_on<D: SectorDevice + Drop>(alloc: Global, device: D) -> Result<Store<D>, Refusal>
+// An empty store on a device, or why not, with the device.
+fn format_on<D: SectorDevice + Drop>(alloc: Global, device: D) -> Result<Store<D>, (Refusal, D)>
     ensures made { IfOk result (IsNewStore (D.size device)) }
     ensures size { IfOk result (λ store. D.size (device_of store) ≡ D.size device) }
-    ensures refused { IfErr result (FailsToFormat ⟦<D as SectorDevice>⟧ (D.size device)) }
+    ensures refused { IfErr result (λ e. FailsToFormat ⟦<D as SectorDevice>⟧ (D.size device) e.0) }
 {
     match Store::format(alloc, device) {
         Ok(store) => Ok(store),
-        Err((refusal, _back)) => Err(Refusal::Opening(refusal)),
+        Err((refusal, back)) => Err((Refusal::Opening(refusal), back)),
     }
 }
 
@@ -65,6 +65,7 @@ fn open_for<F: Read + Write + Seek + OpenFile + LockFile + Drop, H: Files<File =
     open_on(rt.alloc(), device_of(rt, path, command)?)
 }
 
+// A store in a new file. Where it is not made, no file is left, unless the system refuses to remove it too.
 fn format_file<
     F: Read + Write + Seek + OpenFile + LockFile + Drop,
     H: Files<File = F> + AllocGlobal,
@@ -73,7 +74,15 @@ fn format_file<
     ensures size { IfOk result (λ store. ⟦<FileDevice<F> as SectorDevice>⟧.size (device_of store) ≡ sectors) }
     ensures refused { IfErr result (RefusesFormat ⟦<FileDevice<F> as SectorDevice>⟧ sectors) }
 {
-    format_on(rt.alloc(), FileDevice::create(rt, path, sectors)?)
+    let device = FileDevice::create(rt, path, sectors)?;
+    match format_on(rt.alloc(), device) {
+        Ok(store) => Ok(store),
+        // It is removed while the device still has it locked: nobody else has put anything into it.
+        Err((refusal, _device)) => {
+            let _removed = fs::remove_file(rt, path);
+            Err(refusal)
+        }
+    }
 }
 
 fn serve_format<

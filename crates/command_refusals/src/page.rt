@@ -114,11 +114,19 @@ imported or appended. A fault without a remedy of its own lies with the program 
   ",
     FILE_OF_A_STORE,
     "
-- C3 Damaged CAUSE: a store stands in the file, but its list of tables can't be used: the bytes of the
-  file were changed, or it was copied while it was written. ",
+- C3 Damaged CAUSE: a store stands in the file, but it can't be used: the file was cut short or made
+  longer, bytes of it were changed, or it was copied while it was written.
+  DeviceSize: the file is shorter or longer than its store says.
+  CatalogueRange: the list of tables would lie past the end of the file or in its first two sectors, or
+  has an impossible length.
+  CatalogueText: what lies there is no list of tables.
+  RunRange: rows would lie past the end of the file or in its first two sectors.
+  RunOverlap: rows would lie where other rows lie, or the list of tables.
+  ",
     EARLIER_COPY,
     "
-- C4 Device: the file could not be read or synced while it was opened. Nothing is lost by it.
+- C4 Device: the file could not be read or synced while it was opened; or `format` could not read, write
+  or sync the file that it made, which is then removed. Nothing is lost by it.
   ",
     TRY_AGAIN,
     "

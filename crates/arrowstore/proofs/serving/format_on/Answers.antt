@@ -6,4 +6,4 @@ pub returns-in-Err-clause-refused : goal.returns-in-Err-clause-refused
 unfolding FailsToFormat
 returns-in-Err-clause-refused g c =
     let e = c.in-Err.ensures in
-    (c.args.device, c.in-Err._back, refl, record { told = e.told; reason = e.reason; untouched = e.untouched; quiet = e.quiet; moments = e.moments; limits = e.limits })
+    (c.args.device, c.in-Err.back, refl, record { told = e.told; reason = e.reason; untouched = e.untouched; quiet = e.quiet; moments = e.moments; limits = e.limits })
