@@ -47,7 +47,8 @@ fn run_slice<'a>(
     requires width { fixed_width (kind_of data_type.now) ≡ Some width }
     requires sound { is_run_sound (plain_column (kind_of data_type.now) None) (Slots array from len) ≡ true }
     requires written { is_run_as_written (kind_of data_type.now) (Slots array from len) ≡ true }
-    ensures { result.now ≡ flat_map (fixed_value (kind_of data_type.now)) (run_cells (plain_column (kind_of data_type.now) None) (Slots array.entry from len)) }
+    ensures { result.now ≡ flat_map (fixed_value (kind_of data_type.now))
+        (run_cells (plain_column (kind_of data_type.now) None) (Slots array.entry from len)) }
 {
     slot_values(array, width, from, len)
 }

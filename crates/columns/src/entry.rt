@@ -64,8 +64,10 @@ pub fn entry_place<'a>(
     bytes: &'a [u8],
     index: u128,
 ) -> Option<EntryPlace<'a>>
-    ensures cell { (kind : Kind) → located_cell kind result ≡ get_or (entries_of_kind kind (placed_dictionary bytes.now known.entry.arrays.now)) index null }
-    ensures present { (kind : Kind) → is_some result ≡ not (nat_le (length (entries_of_kind kind (placed_dictionary bytes.now known.entry.arrays.now))) index) }
+    ensures cell { (kind : Kind) → located_cell kind result
+        ≡ get_or (entries_of_kind kind (placed_dictionary bytes.now known.entry.arrays.now)) index null }
+    ensures present { (kind : Kind) → is_some result
+        ≡ not (nat_le (length (entries_of_kind kind (placed_dictionary bytes.now known.entry.arrays.now))) index) }
     ensures sound { (kind : Kind) → list_all (is_kind_sound kind) (map (array_in bytes.now no_dictionary) known.entry.arrays.now) ≡ true
         → IsSoundPlace kind result }
 {

@@ -37,7 +37,8 @@ pub trait ReadCatalogue: Drop {
         ensures moments { D.tells ≡ true → OnlyReads (D.story device.old) (D.story device.new) }
         ensures found { IfOk result
             (λ catalogue. D.tells ≡ true → spelled_shown reading (D.size device.old) (D.story device.old) commit text.now ≡ Ok (plain_of catalogue)) }
-        ensures damaged { IfErr result (λ e. D.tells ≡ true → TellsCause e (spelled_shown reading (D.size device.old) (D.story device.old) commit text.now)) }
+        ensures damaged { IfErr result (λ e. D.tells ≡ true
+            → TellsCause e (spelled_shown reading (D.size device.old) (D.story device.old) commit text.now)) }
         ensures a_store { IfErr result (λ e. e ≢ OpenError.NotAStore) };
 
     /// The runs that it names.
