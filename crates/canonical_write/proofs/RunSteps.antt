@@ -1,20 +1,27 @@
--- What the columns of a piece's rows are, whatever the fields stand in.
-use Rattle.std.specs.List.{list_all}
-use Rattle.std.proofs.Common.{◌≡◌, ◌≢◌, ◌+◌, ◌≤◌, true, List, [], ◌∷◌, ◌++◌, length, sym, ap, subst, ◌∙◌, arith, length-append}
+-- What the columns of a piece's rows are, whatever the fields stand in, and the rows that are left behind some pieces.
+use Rattle.std.specs.List.{AllByRecursion, list_all}
+use Rattle.std.proofs.Common.{◌≡◌, ◌≢◌, ◌+◌, ◌<◌, ◌≤◌, ℕ, true, List, [], ◌∷◌, ◌++◌, length, sym, ap, subst, ◌∙◌, arith, length-append}
 use Rattle.std.proofs.lemmas.Bool.{and_parts}
 use Rattle.std.proofs.lemmas.List.Folds.{list_all-append}
+use Rattle.std.proofs.lemmas.List.Sums.{list_all-from_AllPass}
 use Rattle.array_runs.specs.Runs.{HaveRuns, are_columns_sound, can_build_columns}
 use Rattle.array_runs.specs.declared.run.SlotRun.{SlotRun}
 use Rattle.array_runs.specs.laws.Rows.{runs_can_be_built}
 use Rattle.arrow_schema.specs.Column.{PlainSchema, Columns, columns_of}
 use Rattle.arrow_schema.specs.declared.types.Field.{Field}
 use Rattle.canonical_stream.specs.Pieces.{IsPieceOf}
-use Rattle.cells.specs.Cell.{Cell}
+use Rattle.cells.specs.Cell.{Cell, PlainTable}
 use Rattle.cells.specs.Row.{is_row}
 use Rattle.columns.specs.Buildable.{can_build_parts, has_each_part}
 use Rattle.columns.specs.View.{fields_of}
-use Rattle.run_pieces.specs.Rows.{runs_rows}
+use Rattle.run_pieces.specs.Left.{runs_left, rows_left}
+use Rattle.run_pieces.specs.Rows.{runs_rows, are_runs_sound}
+use Rattle.run_pieces.specs.declared.left.RowsLeft.{RowsLeft}
 use Rattle.run_pieces.specs.declared.row_run.RowRun.{RowRun}
+use Rattle.table_cut.specs.Cut.{pieces}
+use Rattle.table_cut.specs.Piece.{pieces_of, within_piece}
+use Rattle.values.specs.PlainTables.{plain_table}
+use Rattle.values.specs.Table.{IsTable}
 
 -- the runs of rows, by columns that are given again
 abbrev pub AreRunsOf : List Field → List (List SlotRun) → List RowRun → Type 0
@@ -33,14 +40,50 @@ piece_can s rows columns piece have =
     let cs : Columns = columns_of s.columns in
     runs_can_be_built cs columns rows have (and_parts (list_all (has_each_part cs) rows) (can_build_parts cs rows) piece.built).1
 
-pub not_empty : (rows : List (List Cell)) → 1 ≤ length rows → rows ≢ []
+-- ---- the rows that are left
+
+-- what is known of a table's pieces: a clause of a law
+abbrev pub PiecesLaw : Type 0
+PiecesLaw = (t : PlainTable) → IsTable t → AllByRecursion (IsPieceOf t.schema) (pieces_of t)
+
+-- the rows of a table that are left behind so many: all others of so many, in pieces
+pub record AreLeft (s : PlainSchema) (left : RowsLeft) (from rows : ℕ) : Type 0 where
+  pub within : from + length (rows_left (columns_of s.columns) left) ≡ rows
+  pub are : list_all (is_row s) (rows_left (columns_of s.columns) left) ≡ true
+  pub sound : are_runs_sound (columns_of s.columns) (runs_left left) ≡ true
+  pub each : AllByRecursion (IsPieceOf s) (pieces (within_piece s) (rows_left (columns_of s.columns) left))
+
+pub all_left : PiecesLaw → (s : PlainSchema) (left : RowsLeft) (rows : ℕ) (all : List (List Cell)) → rows_left (columns_of s.columns) left ≡ all → IsTable (plain_table s all)
+    → are_runs_sound (columns_of s.columns) (runs_left left) ≡ true → rows ≡ length all → AreLeft s left 0 rows
+all_left law s left rows all is table sound count = record {
+  within = omega (arith, ap length is, count);
+  are = ap (list_all (is_row s)) is ∙ list_all-from_AllPass (is_row s) all table.rows;
+  sound = sound;
+  each = subst (λ (xs : List (List Cell)). AllByRecursion (IsPieceOf s) (pieces (within_piece s) xs)) (sym is) (law (plain_table s all) table);
+}
+
+not_empty : (rows : List (List Cell)) → 1 ≤ length rows → rows ≢ []
 not_empty [] some = absurd (omega arith)
 not_empty (row ∷ rows) some = λ h. cc
 
--- the rows of the first piece are rows of the table, and those behind it are
-pub rows_behind : (s : PlainSchema) (all piece rest : List (List Cell)) → all ≡ piece ++ rest → list_all (is_row s) all ≡ true → list_all (is_row s) rest ≡ true
-rows_behind s all piece rest is are =
-    (and_parts (list_all (is_row s) piece) (list_all (is_row s) rest) (sym (list_all-append (is_row s) piece rest) ∙ sym (ap (list_all (is_row s)) is) ∙ are)).1
+pub some_left : {s : PlainSchema} {left : RowsLeft} {from rows : ℕ} → AreLeft s left from rows → from < rows → rows_left (columns_of s.columns) left ≢ []
+some_left {s = s} {left = left} is more = not_empty (rows_left (columns_of s.columns) left) (omega (arith, is.within, more))
 
-pub count_behind : (all piece rest : List (List Cell)) → all ≡ piece ++ rest → length all ≡ length piece + length rest
-count_behind all piece rest is = ap length is ∙ length-append piece rest
+pub first_piece : {s : PlainSchema} {left : RowsLeft} {from rows : ℕ} {piece : List (List Cell)} {rest : List (List (List Cell))} → AreLeft s left from rows
+    → pieces (within_piece s) (rows_left (columns_of s.columns) left) ≡ piece ∷ rest → IsPieceOf s piece
+first_piece {s = s} is cut = (subst (AllByRecursion (IsPieceOf s)) cut is.each).0
+
+-- the rows of the first piece are rows of the table, and those behind it are
+pub next_left : {s : PlainSchema} {old : RowsLeft} {from rows : ℕ} (new : RowsLeft) (count : ℕ) (piece : List (List Cell)) → AreLeft s old from rows
+    → pieces (within_piece s) (rows_left (columns_of s.columns) old) ≡ piece ∷ pieces (within_piece s) (rows_left (columns_of s.columns) new)
+    → rows_left (columns_of s.columns) old ≡ piece ++ rows_left (columns_of s.columns) new → are_runs_sound (columns_of s.columns) (runs_left new) ≡ true
+    → count ≡ length piece → AreLeft s new (from + count) rows
+next_left {s = s} new count piece is cut front sound many =
+    let rest : List (List Cell) = rows_left (columns_of s.columns) new in
+    let are : list_all (is_row s) (piece ++ rest) ≡ true = sym (ap (list_all (is_row s)) front) ∙ is.are in
+    record {
+      within = omega (arith, is.within, many, ap length front, length-append piece rest);
+      are = (and_parts (list_all (is_row s) piece) (list_all (is_row s) rest) (sym (list_all-append (is_row s) piece rest) ∙ are)).1;
+      sound = sound;
+      each = (subst (AllByRecursion (IsPieceOf s)) cut is.each).1;
+    }

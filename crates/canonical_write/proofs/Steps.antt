@@ -14,20 +14,20 @@ use Rattle.array_build.specs.Batch.{PlainBatch, buffers_in, dictionary_of, node_
 use Rattle.canonical_write.specs.Pieces.{piece_stream, piece_streams, piece_counts}
 use Rattle.canonical_write.specs.View.{with_schema}
 use Rattle.array_build.specs.declared.batch.BuiltBatch.{BuiltBatch}
-use Rattle.canonical_write.specs.inner.Messages.{built_messages, built_batch, entries_of_piece, batch_of_piece, AreFew, HasFew}
+use Rattle.canonical_write.specs.inner.Messages.{built_messages, built_batch, entries_of_piece, batch_of_piece, IsFront, AreFew, HasFew}
 use Rattle.cells.specs.Cell.{Cell, PlainTable}
 use Rattle.cells.specs.Dictionary.{dictionaries_fit}
 use Rattle.cells.specs.Weight.{row_weight, table_weight}
 use Rattle.columns.specs.Alone.{cells_weight, own_column, own_array, IsBuiltAlone}
 use Rattle.columns.specs.Array.{slots_in}
 use Rattle.columns.specs.Buildable.{can_build_rows}
-use Rattle.columns.specs.Buffers.{node_of, nodes_of, column_buffers, buffers_of, typed_dictionaries, dictionaries_of}
+use Rattle.columns.specs.Buffers.{Node, node_of, nodes_of, column_buffers, buffers_of, typed_dictionaries, dictionaries_of}
 use Rattle.columns.specs.Built.{built_parts}
 use Rattle.columns.specs.Tests.{Typed}
 use Rattle.ipc_message.specs.Raw.{RawNode}
 use Rattle.table_cut.specs.Cut.{pieces, within_limits}
 use Rattle.ipc_write.specs.Trees.{raw_node as written_node}
-use Rattle.ipc_write.specs.Written.{schema_message, dictionary_message, batch_message, end_of_stream, IsWritableBatch}
+use Rattle.ipc_write.specs.Written.{body, schema_message, dictionary_message, batch_message, end_of_stream, HasRoom, IsWritableBatch}
 use Rattle.table_cut.specs.Piece.{within_piece}
 use Rattle.written_batch.specs.WrittenBatch.{raw_node, raw_nodes, IsWritable}
 
@@ -42,14 +42,17 @@ abbrev pub EntriesLaw : Type 0
 EntriesLaw = (t : Typed) → IsBuiltAlone 16777216 t → length (preorder_all (own_column t)) ≤ 2048
     → IsWritableBatch (slots_in t.array) (raw_nodes (own_column t) (own_array t)) (buffers_of (own_column t) (own_array t))
 
+-- a message has as much room for nodes as they are written
+room_of : (nodes : List Node) (buffers : List (List ℕ)) → HasRoom (length (map raw_node nodes)) buffers → AreFew nodes buffers
+room_of nodes buffers room = subst (λ (n : ℕ). HasRoom n buffers) (length-map nodes raw_node) room
+
+-- and for those of the code
+pub code_room : (nodes : List (ℕ × ℕ)) (given buffers : List (List ℕ)) → given ≡ buffers → AreFew (map node_in nodes) buffers → HasRoom (length nodes) given
+code_room nodes given buffers same few =
+    subst (λ (bs : List (List ℕ)). HasRoom (length nodes) bs) (sym same) (subst (λ (n : ℕ). HasRoom n buffers) (length-map nodes node_in) few)
+
 one_few : EntriesLaw → (t : Typed) → IsBuiltAlone 16777216 t → length (preorder_all (own_column t)) ≤ 2048 → HasFew (dictionary_of t)
-one_few law t alone few =
-    let w = law t alone few in
-    record {
-      few_nodes = let n = w.few_nodes in omega (arith, n, length-map (nodes_of (own_column t) (own_array t)) raw_node);
-      few_buffers = w.few_buffers;
-      short_body = w.short_body;
-    }
+one_few law t alone few = room_of (nodes_of (own_column t) (own_array t)) (buffers_of (own_column t) (own_array t)) (law t alone few).room
 
 pub all_few : EntriesLaw → (ts : List Typed) → AllByRecursion (IsBuiltAlone 16777216) ts → AllByRecursion (λ t. length (preorder_all (own_column t)) ≤ 2048) ts
     → AllByRecursion HasFew (map dictionary_of ts)
@@ -103,6 +106,17 @@ pub batch_is : (rows : ℕ) (nodes : List (ℕ × ℕ)) (given buffers : List (L
     → batch_message rows (map written_node nodes) given ≡ batch_message rows (map raw_node (map node_in nodes)) buffers
 batch_is rows nodes given buffers same i = batch_message rows (nodes_are nodes i) (same i)
 
+-- what is known of fronts: a clause of a law
+abbrev pub FrontsLaw : Type 0
+FrontsLaw = (rows : ℕ) (nodes : List RawNode) (front : List ℕ) (buffers others : List (List ℕ)) → map length buffers ≡ map length others
+    → front ++ body buffers ≡ batch_message rows nodes buffers → front ++ body others ≡ batch_message rows nodes others
+
+-- the front of a record batch is that of any buffers as long as its own
+pub front_of : FrontsLaw → (rows : ℕ) (nodes own : List (ℕ × ℕ)) (lengths front : List ℕ) (given : List (List ℕ)) → own ≡ nodes → lengths ≡ map length given
+    → IsFront front rows (map node_in nodes) given → (buffers : List (List ℕ)) → map length buffers ≡ lengths → IsFront front rows (map node_in own) buffers
+front_of law rows nodes own lengths front given same are is buffers like =
+    law rows (map raw_node (map node_in nodes)) front given buffers (sym are ∙ sym like) is ∙ ap (λ (ns : List (ℕ × ℕ)). built_batch rows (map node_in ns) buffers) (sym same)
+
 -- ---- limits of a piece
 
 limits : (s : PlainSchema) (rows : List (List Cell)) → within_piece s rows ≡ true → (length rows ≤ 4096) × (table_weight s rows ≤ 16777216)
@@ -129,12 +143,7 @@ batch_few law s rows piece weighs =
     let cs : Columns = columns_of s.columns in
     let few = few_rows s rows piece.within in
     let w = law cs rows (record { can = piece.built; few_columns = piece.table.schema.fields; few_rows = omega (arith, few); weighs = weighs }) in
-    let few_nodes = w.few_nodes in
-    record {
-      few_nodes = omega (arith, few_nodes, length-map (map node_of (built_below cs rows)) raw_node);
-      few_buffers = w.few_buffers;
-      short_body = w.short_body;
-    }
+    room_of (map node_of (built_below cs rows)) (buffers_of cs (built_parts cs rows)) w.room
 
 -- ---- the batch of a piece
 

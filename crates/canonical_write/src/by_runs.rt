@@ -17,6 +17,7 @@ ghost use Rattle.values.specs.Parts.{are_parts_sound, parts_rows, parts_table};
 ghost use Rattle.values.specs.Table.{IsTable};
 
 use crate::encoder::EncodedPieces;
+use crate::front::BatchFront;
 use crate::messages::write_run_piece;
 use crate::stream::{Stream, begin_stream, end_stream, into_bytes, into_parts, schema_bytes};
 use array_build::Buffer;
@@ -42,10 +43,11 @@ fn encode_left<'a>(
     let mut left = all;
     let first = schema_bytes(alloc, schema)?;
     let mut stream = begin_stream(alloc, first);
+    let mut kept = None;
     let mut from = 0;
     while from < rows {
         let piece = left.next_piece(alloc, schema)?;
-        write_run_piece(alloc, &mut stream, schema, &piece)?;
+        write_run_piece(alloc, &mut stream, &mut kept, schema, &piece)?;
         from += piece.rows;
     }
     end_stream(&mut stream)?;
@@ -93,6 +95,7 @@ fn encode_run_piece<'a>(
     alloc: Global,
     schema: &Schema,
     before: usize,
+    kept: &mut Option<BatchFront>,
     piece: &RunPiece<'a>,
 ) -> Result<Vec<Buffer<'a>>, AllocError>
     requires piece { IsPieceOf (schema_of schema.now) (runs_rows (columns_of (schema_of schema.now).columns) piece.now.runs.items) }
@@ -106,7 +109,7 @@ fn encode_run_piece<'a>(
     ensures short { IfOk result (λ parts. length (schema_message (schema_of schema.now) ++ joined_parts parts.items) < 2 ^ 64) }
 {
     let mut stream = begin_stream(alloc, Vec::new(alloc));
-    write_run_piece(alloc, &mut stream, schema, piece)?;
+    write_run_piece(alloc, &mut stream, kept, schema, piece)?;
     end_stream(&mut stream)?;
     into_parts(before, stream)
 }
@@ -131,10 +134,11 @@ pub(crate) fn encode_parts_pieces<'a>(
     let mut left = RowsLeft::new(alloc, parts)?;
     let mut streams = Vec::new(alloc);
     let mut counts = Vec::new(alloc);
+    let mut kept = None;
     let mut from = 0;
     while from < rows {
         let piece = left.next_piece(alloc, schema)?;
-        let stream = encode_run_piece(alloc, schema, before, &piece)?;
+        let stream = encode_run_piece(alloc, schema, before, &mut kept, &piece)?;
         streams.push(stream)?;
         counts.push(piece.rows as u64)?;
         from += piece.rows;

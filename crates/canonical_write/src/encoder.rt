@@ -15,6 +15,7 @@ ghost use Rattle.values.specs.Table.{IsTable};
 ghost use Rattle.values.specs.TableView.{table_of};
 
 use crate::by_runs::{encode_parts, encode_parts_pieces};
+use crate::front::BatchFront;
 use crate::messages::write_piece;
 use crate::stream::{Stream, begin_stream, end_stream, into_bytes, into_parts, schema_bytes};
 use array_build::Buffer;
@@ -41,10 +42,11 @@ fn encode_rows<'a>(alloc: Global, schema: &Schema, table: &Table) -> Result<Stre
     pieces_can_be_built();
     let first = schema_bytes(alloc, schema)?;
     let mut stream = begin_stream(alloc, first);
+    let mut kept = None;
     let mut from = 0;
     while from < table.len() {
         let piece = next_piece(alloc, schema, table, from)?;
-        write_piece(alloc, &mut stream, schema, &piece)?;
+        write_piece(alloc, &mut stream, &mut kept, schema, &piece)?;
         from += piece.len();
     }
     end_stream(&mut stream)?;
@@ -79,6 +81,7 @@ fn encode_piece<'a>(
     alloc: Global,
     schema: &Schema,
     before: usize,
+    kept: &mut Option<BatchFront>,
     rows: &[Values<'_>],
 ) -> Result<Vec<Buffer<'a>>, AllocError>
     requires piece { IsPieceOf (schema_of schema.now) (map borrowed_cells rows.now) }
@@ -89,7 +92,7 @@ fn encode_piece<'a>(
     ensures short { IfOk result (λ parts. length (schema_message (schema_of schema.now) ++ joined_parts parts.items) < 2 ^ 64) }
 {
     let mut stream = begin_stream(alloc, Vec::new(alloc));
-    write_piece(alloc, &mut stream, schema, rows)?;
+    write_piece(alloc, &mut stream, kept, schema, rows)?;
     end_stream(&mut stream)?;
     into_parts(before, stream)
 }
@@ -125,10 +128,11 @@ fn encode_rows_pieces<'a>(
     let before = schema_message.len();
     let mut streams = Vec::new(alloc);
     let mut counts = Vec::new(alloc);
+    let mut kept = None;
     let mut from = 0;
     while from < table.len() {
         let piece = next_piece(alloc, schema, table, from)?;
-        let stream = encode_piece(alloc, schema, before, &piece)?;
+        let stream = encode_piece(alloc, schema, before, &mut kept, &piece)?;
         streams.push(stream)?;
         counts.push(piece.len() as u64)?;
         from += piece.len();

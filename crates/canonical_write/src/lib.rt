@@ -12,6 +12,7 @@
 
 mod by_runs;
 mod encoder;
+mod front;
 mod laws;
 mod messages;
 mod stream;

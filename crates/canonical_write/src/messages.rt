@@ -12,26 +12,16 @@ ghost use Rattle.canonical_write.specs.inner.Stream.{stream_in};
 ghost use Rattle.ipc_write.specs.Written.{body};
 ghost use Rattle.values.specs.Borrowed.{borrowed_cells};
 
+use crate::front::{BatchFront, borrowed};
 use crate::stream::{Stream, push_body};
 use array_build::{Buffer, BuiltBatch, BuiltDictionary, build, build_runs};
 use arrow_schema::Schema;
 use columns::{dictionaries_are_written_alone, written_arrays_have_their_shape};
-use ipc_write::{write_batch_front, write_dictionary_front};
+use ipc_write::{BatchContents, write_dictionary_front};
 use run_pieces::{RowRun, RunPiece, column_runs};
 use std::alloc::{AllocError, Global};
 use values::Values;
 use written_batch::{written_batches_pass, written_entries_are_read};
-
-// Buffers as they are handed to a message.
-fn borrowed<'a>(alloc: Global, buffers: &'a [Buffer<'_>]) -> Result<Vec<&'a [u8]>, AllocError>
-    ensures { IfOk result (λ slices. map (λ b. b.now) slices.items ≡ buffers_in buffers.now) }
-{
-    let mut slices: Vec<&[u8]> = Vec::with_capacity(alloc, buffers.len())?;
-    for buffer in buffers {
-        slices.push(buffer.bytes())?;
-    }
-    Ok(slices)
-}
 
 // All but the body of the message of a dictionary's entries.
 fn write_entries_front(
@@ -47,7 +37,12 @@ fn write_entries_front(
         ≡ out.old.items ++ built_message id (record { slots = slots; nodes = map node_in nodes.items; buffers = buffers_in buffers.now })) }
 {
     let buffers = borrowed(alloc, buffers)?;
-    write_dictionary_front(alloc, out, id, false, slots, nodes, &buffers)
+    let contents = BatchContents {
+        rows: slots,
+        nodes,
+        buffers: &buffers,
+    };
+    write_dictionary_front(alloc, out, id, false, contents)
 }
 
 // All entries of the dictionary with this id.
@@ -86,10 +81,11 @@ fn write_all_entries<'a>(
     Ok(())
 }
 
-// All but the body of the record batch of so many rows.
+// All but the body of the record batch of so many rows: the front that is kept where it is the same, and else it is made and kept.
 fn write_rows_front(
     alloc: Global,
     out: &mut Vec<u8>,
+    kept: &mut Option<BatchFront>,
     rows: usize,
     nodes: Vec<(u64, u64)>,
     buffers: &[Buffer<'_>],
@@ -98,14 +94,22 @@ fn write_rows_front(
     ensures { OnOk result (out.new.items ++ body (buffers_in buffers.now)
         ≡ out.old.items ++ built_batch rows (map node_in nodes.items) (buffers_in buffers.now)) }
 {
-    let buffers = borrowed(alloc, buffers)?;
-    write_batch_front(alloc, out, rows as u64, nodes, &buffers)
+    if let Some(front) = &*kept {
+        if front.is_of(rows, &nodes, buffers) {
+            return out.extend_from_slice(&front.bytes);
+        }
+    }
+    let front = BatchFront::new(alloc, rows, nodes, buffers)?;
+    let written = out.extend_from_slice(&front.bytes);
+    *kept = Some(front);
+    written
 }
 
 // The record batch of so many rows.
 fn write_rows<'a>(
     alloc: Global,
     stream: &mut Stream<'a>,
+    kept: &mut Option<BatchFront>,
     rows: usize,
     nodes: Vec<(u64, u64)>,
     buffers: Vec<Buffer<'a>>,
@@ -114,7 +118,7 @@ fn write_rows<'a>(
     ensures { OnOk result (stream_in stream.new
         ≡ stream_in stream.old ++ built_batch rows (map node_in nodes.items) (buffers_in buffers.entry.items)) }
 {
-    write_rows_front(alloc, &mut stream.last, rows, nodes, &buffers)?;
+    write_rows_front(alloc, &mut stream.last, kept, rows, nodes, &buffers)?;
     push_body(alloc, stream, buffers)
 }
 
@@ -122,6 +126,7 @@ fn write_rows<'a>(
 fn write_built<'a>(
     alloc: Global,
     stream: &mut Stream<'a>,
+    kept: &mut Option<BatchFront>,
     rows: usize,
     built: BuiltBatch<'a>,
 ) -> Result<(), AllocError>
@@ -136,7 +141,7 @@ fn write_built<'a>(
         dictionaries,
     } = built;
     write_all_entries(alloc, stream, dictionaries)?;
-    write_rows(alloc, stream, rows, nodes, buffers)
+    write_rows(alloc, stream, kept, rows, nodes, buffers)
 }
 
 // The arrays of a piece, which messages have room for.
@@ -160,11 +165,13 @@ fn build_piece<'a>(
     build(alloc, &schema.fields, rows)
 }
 
-/// Appends the messages of a piece: a dictionary batch for each column with a dictionary, and the record batch of these rows.
+/// Appends the messages of a piece: a dictionary batch for each column with a dictionary, and the record batch of these rows. The front of that is kept for the
+/// next piece.
 #[tactic(auto, unfolding(canonical_stream::specs::Canonical::piece_messages))]
 pub(crate) fn write_piece(
     alloc: Global,
     stream: &mut Stream<'_>,
+    kept: &mut Option<BatchFront>,
     schema: &Schema,
     rows: &[Values<'_>],
 ) -> Result<(), AllocError>
@@ -172,7 +179,7 @@ pub(crate) fn write_piece(
     ensures { OnOk result (stream_in stream.new ≡ stream_in stream.old ++ piece_messages (schema_of schema.now) (map borrowed_cells rows.now)) }
 {
     let built = build_piece(alloc, schema, rows)?;
-    write_built(alloc, stream, rows.len(), built)
+    write_built(alloc, stream, kept, rows.len(), built)
 }
 
 // The arrays of a piece whose rows are runs, which messages have room for.
@@ -203,6 +210,7 @@ fn build_run_piece<'a>(
 pub(crate) fn write_run_piece<'a>(
     alloc: Global,
     stream: &mut Stream<'a>,
+    kept: &mut Option<BatchFront>,
     schema: &Schema,
     piece: &RunPiece<'a>,
 ) -> Result<(), AllocError>
@@ -213,5 +221,5 @@ pub(crate) fn write_run_piece<'a>(
         ++ piece_messages (schema_of schema.now) (runs_rows (columns_of (schema_of schema.now).columns) piece.now.runs.items)) }
 {
     let built = build_run_piece(alloc, schema, &piece.runs)?;
-    write_built(alloc, stream, piece.rows, built)
+    write_built(alloc, stream, kept, piece.rows, built)
 }

@@ -1,5 +1,5 @@
 -- The trees of batches, and the bytes of messages with a tree.
-use Rattle.std.proofs.Common.{add-one, ◌+◌, suc, take, get_or, zero, ◌≡◌, ℕ, Bool, ◌≤◌, ◌<◌, ◌^◌, List, [], ◌∷◌, ◌++◌, map, length, refl, sym, ap, ◌∙◌, arith, subst}
+use Rattle.std.proofs.Common.{add-one, ◌+◌, suc, take, get_or, zero, ◌≡◌, ℕ, Bool, ◌<◌, ◌^◌, List, [], ◌∷◌, ◌++◌, map, length, refl, sym, ap, ◌∙◌, arith, subst}
 use Rattle.flatbuf.specs.Tree.{Tree, table, structs, scalar, refers, no_slot}
 use Rattle.flatbuf.specs.Held.{FitsStructs}
 use Rattle.std.proofs.lemmas.List.{length-map}
@@ -7,7 +7,7 @@ use Rattle.ipc_message.specs.Raw.{RawNode}
 use Rattle.arrow_schema.specs.Column.{PlainSchema}
 use Rattle.ipc_message.specs.declared.header_type.TheConstants.{SCHEMA, DICTIONARY_BATCH, RECORD_BATCH}
 use Rattle.ipc_write.specs.Trees.{bit, schema_tree, batch_tree, dictionary_tree, message_tree, node_pair, raw_node, buffer_pair}
-use Rattle.ipc_write.specs.Written.{framed, message_bytes, body, placed, batch_of, dictionary_batch_of, schema_message, batch_message, dictionary_message, IsWritableBatch}
+use Rattle.ipc_write.specs.Written.{framed, message_bytes, body, placed, batch_of, dictionary_batch_of, schema_message, batch_message, dictionary_message, HasRoom, IsWritableBatch}
 use Rattle.flatbuf.specs.Laid.{metadata}
 
 pub fits_more : (ps : List (ℕ × ℕ)) (p : ℕ × ℕ) → FitsStructs ps → p.0 < 2 ^ 64 → p.1 < 2 ^ 64 → FitsStructs (ps ++ p ∷ [])
@@ -33,13 +33,11 @@ tree_of rows nodes ranges = table (scalar 8 rows (refers (structs nodes) (refers
 pub header_is : (rows : ℕ) (nodes ranges : List (ℕ × ℕ)) (buffers : List (List ℕ)) → ranges ≡ map buffer_pair (placed 0 buffers) → tree_of rows nodes ranges ≡ batch_tree (batch_of rows (map raw_node nodes) buffers)
 header_is rows nodes ranges buffers is = ap (λ (ns : List (ℕ × ℕ)). tree_of rows ns ranges) (sym (pairs_again nodes)) ∙ ap (tree_of rows (map node_pair (map raw_node nodes))) is
 
-pub is_writable : (rows : ℕ) (nodes : List (ℕ × ℕ)) (buffers : List (List ℕ)) → rows < 2 ^ 64 → FitsStructs nodes → length nodes ≤ 2048 → length buffers ≤ 65536 → length (body buffers) < 2 ^ 62 → IsWritableBatch rows (map raw_node nodes) buffers
-is_writable rows nodes buffers small fits few some short = record {
+pub is_writable : (rows : ℕ) (nodes : List (ℕ × ℕ)) (buffers : List (List ℕ)) → rows < 2 ^ 64 → FitsStructs nodes → HasRoom (length nodes) buffers → IsWritableBatch rows (map raw_node nodes) buffers
+is_writable rows nodes buffers small fits room = record {
   rows_fit = small;
   nodes_fit = subst FitsStructs (sym (pairs_again nodes)) fits;
-  few_nodes = omega (arith, few, length-map nodes raw_node);
-  few_buffers = some;
-  short_body = short;
+  room = subst (λ (n : ℕ). HasRoom n buffers) (sym (length-map nodes raw_node)) room;
 }
 
 -- ---- the bytes of messages

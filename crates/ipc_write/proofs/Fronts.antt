@@ -3,7 +3,7 @@ use Rattle.std.proofs.Common.{◌≡◌, ℕ, List, [], ◌++◌, append_assoc, 
 use Rattle.std.proofs.lemmas.List.{append-nil}
 use Rattle.ipc_write.specs.Written.{framed}
 
-front_and : (meta b : List ℕ) → framed meta [] ++ b ≡ framed meta b
+pub front_and : (meta b : List ℕ) → framed meta [] ++ b ≡ framed meta b
 front_and meta b = simp append-nil
 
 pub then_body : (new old meta b message : List ℕ) → new ≡ old ++ framed meta [] → framed meta b ≡ message → new ++ b ≡ old ++ message

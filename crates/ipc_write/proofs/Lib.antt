@@ -13,3 +13,4 @@ mod Numbered
 mod Decoding
 mod Checked
 mod Bodies
+mod SameLengths

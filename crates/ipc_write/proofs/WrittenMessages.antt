@@ -17,6 +17,7 @@ use Rattle.ipc_message.specs.declared.header_type.TheConstants.{SCHEMA, DICTIONA
 use Rattle.ipc_message.specs.Framing.{continuation_marker, message, next_message, taken, type_of}
 use Rattle.ipc_message.specs.Raw.{RawNode, schema_header, dictionary_header, batch_header}
 use Rattle.ipc_message.specs.Header.{header}
+use Rattle.ipc_write.specs.declared.contents.TheConstants.{MAX_BATCH_BUFFERS}
 use Rattle.ipc_write.specs.Decoded.{raw_schema}
 use Rattle.ipc_write.specs.Trees.{schema_tree, dictionary_tree, batch_tree, message_tree, node_pair, buffer_pair}
 use Rattle.ipc_write.specs.Walked.{HoldsTimes, type_tables, tables_of, tables_below, tables_of_all, IsHeaderType}
@@ -157,9 +158,9 @@ placed_fit at (b ∷ bs) small =
     (omega (arith, small, whole), omega (arith, small, whole, filled), placed_fit (at + length (padded b)) bs (omega (arith, small, whole)))
 
 buffers_fit : (rows : ℕ) (nodes : List RawNode) (buffers : List (List ℕ)) → IsWritableBatch rows nodes buffers → FitsStructs (map buffer_pair (placed 0 buffers))
-buffers_fit rows nodes buffers fits = placed_fit 0 buffers (omega (arith, fits.short_body))
+buffers_fit rows nodes buffers fits = placed_fit 0 buffers (omega (arith, fits.room.short_body))
 
-few_ranges : (buffers : List (List ℕ)) → length buffers ≤ 65536 → length (map buffer_pair (placed 0 buffers)) ≤ 65536
+few_ranges : (buffers : List (List ℕ)) → length buffers ≤ MAX_BATCH_BUFFERS → length (map buffer_pair (placed 0 buffers)) ≤ MAX_BATCH_BUFFERS
 few_ranges buffers few = omega (arith, few, length-map (placed 0 buffers) buffer_pair, length-placed 0 buffers)
 
 -- ---- a record batch
@@ -171,15 +172,15 @@ batch_written rows nodes buffers = refl
 pub batch_small : Sizes → (rows : ℕ) (nodes : List RawNode) (buffers : List (List ℕ)) → IsWritableBatch rows nodes buffers → length (batch_envelope rows nodes buffers).metadata ≤ 16777216
 batch_small size rows nodes buffers fits =
     let room = batch_room size rows (length (body buffers)) (map node_pair nodes) (map buffer_pair (placed 0 buffers)) in
-    omega (arith, room, length-map nodes node_pair, few_ranges buffers fits.few_buffers, fits.few_nodes)
+    omega (arith, room, length-map nodes node_pair, few_ranges buffers fits.room.few_buffers, fits.room.few_nodes)
 
 pub batch_tree_fits : (rows : ℕ) (nodes : List RawNode) (buffers : List (List ℕ)) → IsWritableBatch rows nodes buffers → Fits (message_tree RECORD_BATCH (batch_tree (batch_of rows nodes buffers)) (length (body buffers)))
 batch_tree_fits rows nodes buffers fits =
-    batch_fits rows (length (body buffers)) (map node_pair nodes) (map buffer_pair (placed 0 buffers)) fits.rows_fit (omega (arith, fits.short_body)) fits.nodes_fit (buffers_fit rows nodes buffers fits)
+    batch_fits rows (length (body buffers)) (map node_pair nodes) (map buffer_pair (placed 0 buffers)) fits.rows_fit (omega (arith, fits.room.short_body)) fits.nodes_fit (buffers_fit rows nodes buffers fits)
 
 batch_readable : (rows : ℕ) (nodes : List RawNode) (buffers : List (List ℕ)) → IsWritableBatch rows nodes buffers → length (batch_envelope rows nodes buffers).metadata ≤ 16777216
     → IsReadable RECORD_BATCH (batch_tree (batch_of rows nodes buffers)) (body buffers)
-batch_readable rows nodes buffers fits small = record { fits = batch_tree_fits rows nodes buffers fits; small = small; short = omega (arith, fits.short_body) }
+batch_readable rows nodes buffers fits small = record { fits = batch_tree_fits rows nodes buffers fits; small = small; short = omega (arith, fits.room.short_body) }
 
 pub batch_next_message : Roots → NextMessages → (rows : ℕ) (nodes : List RawNode) (buffers : List (List ℕ)) (rest : List ℕ) → IsWritableBatch rows nodes buffers → length (batch_envelope rows nodes buffers).metadata ≤ 16777216
     → next_message (batch_message rows nodes buffers ++ rest) ≡ Ok (message (batch_envelope rows nodes buffers))
@@ -211,17 +212,17 @@ dictionary_written id is_delta rows nodes buffers = refl
 pub dictionary_small : Sizes → (id : ℕ) (is_delta : Bool) (rows : ℕ) (nodes : List RawNode) (buffers : List (List ℕ)) → IsWritableBatch rows nodes buffers → length (dictionary_envelope id is_delta rows nodes buffers).metadata ≤ 16777216
 dictionary_small size id is_delta rows nodes buffers fits =
     let room = dictionary_batch_room size id is_delta rows (length (body buffers)) (map node_pair nodes) (map buffer_pair (placed 0 buffers)) in
-    omega (arith, room, length-map nodes node_pair, few_ranges buffers fits.few_buffers, fits.few_nodes)
+    omega (arith, room, length-map nodes node_pair, few_ranges buffers fits.room.few_buffers, fits.room.few_nodes)
 
 pub dictionary_tree_fits : (id : ℕ) (is_delta : Bool) (rows : ℕ) (nodes : List RawNode) (buffers : List (List ℕ)) → id < 2 ^ 64 → IsWritableBatch rows nodes buffers
     → Fits (message_tree DICTIONARY_BATCH (dictionary_tree (dictionary_batch_of id is_delta rows nodes buffers)) (length (body buffers)))
 dictionary_tree_fits id is_delta rows nodes buffers known fits =
-    dictionary_batch_fits id is_delta rows (length (body buffers)) (map node_pair nodes) (map buffer_pair (placed 0 buffers)) known fits.rows_fit (omega (arith, fits.short_body)) fits.nodes_fit (buffers_fit rows nodes buffers fits)
+    dictionary_batch_fits id is_delta rows (length (body buffers)) (map node_pair nodes) (map buffer_pair (placed 0 buffers)) known fits.rows_fit (omega (arith, fits.room.short_body)) fits.nodes_fit (buffers_fit rows nodes buffers fits)
 
 dictionary_readable : (id : ℕ) (is_delta : Bool) (rows : ℕ) (nodes : List RawNode) (buffers : List (List ℕ)) → id < 2 ^ 64 → IsWritableBatch rows nodes buffers
     → length (dictionary_envelope id is_delta rows nodes buffers).metadata ≤ 16777216 → IsReadable DICTIONARY_BATCH (dictionary_tree (dictionary_batch_of id is_delta rows nodes buffers)) (body buffers)
 dictionary_readable id is_delta rows nodes buffers known fits small =
-    record { fits = dictionary_tree_fits id is_delta rows nodes buffers known fits; small = small; short = omega (arith, fits.short_body) }
+    record { fits = dictionary_tree_fits id is_delta rows nodes buffers known fits; small = small; short = omega (arith, fits.room.short_body) }
 
 pub dictionary_next_message : Roots → NextMessages → (id : ℕ) (is_delta : Bool) (rows : ℕ) (nodes : List RawNode) (buffers : List (List ℕ)) (rest : List ℕ) → id < 2 ^ 64 → IsWritableBatch rows nodes buffers
     → length (dictionary_envelope id is_delta rows nodes buffers).metadata ≤ 16777216 → next_message (dictionary_message id is_delta rows nodes buffers ++ rest) ≡ Ok (message (dictionary_envelope id is_delta rows nodes buffers))

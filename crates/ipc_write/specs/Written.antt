@@ -8,6 +8,7 @@ use Rattle.arrow_schema.specs.Column.{PlainSchema}
 use Rattle.ipc_message.specs.declared.header_type.TheConstants.{SCHEMA, DICTIONARY_BATCH, RECORD_BATCH}
 use Rattle.ipc_message.specs.Framing.{continuation_marker, no_size, Envelope}
 use Rattle.ipc_message.specs.Raw.{RawNode, RawBuffer, RawBatch, RawDictionaryBatch}
+use Rattle.ipc_write.specs.declared.contents.TheConstants.{MAX_BATCH_NODES, MAX_BATCH_BUFFERS}
 use Rattle.ipc_write.specs.Trees.{schema_tree, batch_tree, dictionary_tree, message_tree, node_pair}
 
 -- the continuation marker, the size of the metadata, the metadata, the body
@@ -64,13 +65,17 @@ dictionary_envelope id is_delta rows nodes buffers = envelope DICTIONARY_BATCH (
 abbrev pub batch_envelope : ℕ → List RawNode → List (List ℕ) → Envelope
 batch_envelope rows nodes buffers = envelope RECORD_BATCH (batch_tree (batch_of rows nodes buffers)) (body buffers)
 
--- a batch whose numbers fit 64 bits, with no more nodes than a schema has columns, and whose metadata and body stay in their limits
+-- what a message has room for: so many nodes, and these buffers
+pub record HasRoom (nodes : ℕ) (buffers : List (List ℕ)) : Type 0 where
+  pub few_nodes : nodes ≤ MAX_BATCH_NODES
+  pub few_buffers : length buffers ≤ MAX_BATCH_BUFFERS
+  pub short_body : length (body buffers) < 2 ^ 62
+
+-- a batch that a message has room for, and whose numbers fit 64 bits
 pub record IsWritableBatch (rows : ℕ) (nodes : List RawNode) (buffers : List (List ℕ)) : Type 0 where
   pub rows_fit : rows < 2 ^ 64
   pub nodes_fit : FitsStructs (map node_pair nodes)
-  pub few_nodes : length nodes ≤ 2048
-  pub few_buffers : length buffers ≤ 65536
-  pub short_body : length (body buffers) < 2 ^ 62
+  pub room : HasRoom (length nodes) buffers
 
 -- the end of stream
 abbrev pub end_of_stream : List ℕ

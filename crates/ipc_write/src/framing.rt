@@ -7,9 +7,11 @@ ghost use Rattle.flatbuf.specs.Held.{Fits, FitsStructs};
 ghost use Rattle.flatbuf.specs.Laid.{metadata};
 ghost use Rattle.flatbuf.specs.View.{node_of};
 ghost use Rattle.ipc_message.specs.Framing.{continuation_marker};
-ghost use Rattle.ipc_write.specs.Trees.{batch_tree, message_tree, buffer_pair, raw_node};
+ghost use Rattle.ipc_write.specs.Contents.{CanBeWritten, nodes_in, buffers_in};
+ghost use Rattle.ipc_write.specs.Trees.{batch_tree, message_tree, buffer_pair};
 ghost use Rattle.ipc_write.specs.Written.{framed, message_bytes, schema_message, dictionary_message, batch_message, batch_of, IsWritableBatch, end_of_stream, padded, body, placed};
 
+use crate::contents::BatchContents;
 use crate::laws::metadata_is_within_its_limit;
 use crate::trees::{batch_node, dictionary_node, message_node, schema_node};
 use arrow_schema::Schema;
@@ -141,20 +143,18 @@ fn numbers_fit(nodes: &[(u64, u64)])
     }
 }
 
-/// The RecordBatch of so many rows with these nodes and buffers, and how long its body is.
-fn batch_header(
-    alloc: Global,
-    rows: u64,
-    nodes: Vec<(u64, u64)>,
-    buffers: &[&[u8]],
-) -> Result<(Node, u64), AllocError>
-    requires nodes { length nodes.items ≤ 2048 }
-    requires buffers { length buffers.now ≤ 65536 }
-    requires body { length (body (map (λ b. b.now) buffers.now)) < 2 ^ 62 }
-    ensures node { IfOk result (λ r. node_of r.0 ≡ batch_tree (batch_of rows (map raw_node nodes.items) (map (λ b. b.now) buffers.now))) }
-    ensures length { IfOk result (λ r. r.1 ≡ length (body (map (λ b. b.now) buffers.now))) }
-    ensures writable { IfOk result (λ _. IsWritableBatch rows (map raw_node nodes.items) (map (λ b. b.now) buffers.now)) }
+/// The RecordBatch of these contents, and how long its body is.
+fn batch_header(alloc: Global, contents: BatchContents<'_>) -> Result<(Node, u64), AllocError>
+    requires { CanBeWritten contents }
+    ensures node { IfOk result (λ r. node_of r.0 ≡ batch_tree (batch_of contents.entry.rows (nodes_in contents.entry) (buffers_in contents.entry))) }
+    ensures length { IfOk result (λ r. r.1 ≡ length (body (buffers_in contents.entry))) }
+    ensures writable { IfOk result (λ _. IsWritableBatch contents.entry.rows (nodes_in contents.entry) (buffers_in contents.entry)) }
 {
+    let BatchContents {
+        rows,
+        nodes,
+        buffers,
+    } = contents;
     numbers_fit(&nodes);
     let (ranges, body_length) = ranges_of(alloc, buffers)?;
     let header = batch_node(alloc, rows, nodes, ranges)?;
@@ -163,99 +163,76 @@ fn batch_header(
 
 /// Appends all but the body of the message that [`write_dictionary`] appends, or nothing where memory is refused. The body is each buffer, filled to a
 /// multiple of 8 as [`write_padding`] does.
-///
-/// The caller sees to it that there are at most 2,048 nodes and 65,536 buffers, and that the body is below 2^62 bytes.
 pub fn write_dictionary_front(
     alloc: Global,
     out: &mut Vec<u8>,
     id: u64,
     is_delta: bool,
-    rows: u64,
-    nodes: Vec<(u64, u64)>,
-    buffers: &[&[u8]],
+    contents: BatchContents<'_>,
 ) -> Result<(), AllocError>
-    requires nodes { length nodes.items ≤ 2048 }
-    requires buffers { length buffers.now ≤ 65536 }
-    requires body { length (body (map (λ b. b.now) buffers.now)) < 2 ^ 62 }
-    ensures appended { OnOk result (out.new.items ++ body (map (λ b. b.now) buffers.now) ≡ out.old.items
-        ++ dictionary_message id is_delta rows (map raw_node nodes.items) (map (λ b. b.now) buffers.now)) }
+    requires { CanBeWritten contents }
+    ensures appended { OnOk result (out.new.items ++ body (buffers_in contents.entry) ≡ out.old.items
+        ++ dictionary_message id is_delta contents.entry.rows (nodes_in contents.entry) (buffers_in contents.entry)) }
     ensures begins { take (length out.old.items) out.new.items ≡ out.old.items }
     ensures kept { OnErr result (out.new.items ≡ out.old.items) }
 {
     metadata_is_within_its_limit();
-    let (batch, body_length) = batch_header(alloc, rows, nodes, buffers)?;
+    let (batch, body_length) = batch_header(alloc, contents)?;
     let header = dictionary_node(alloc, id, batch, is_delta)?;
     write_front(alloc, out, DICTIONARY_BATCH, header, body_length)
 }
 
-/// Appends a dictionary batch of so many entries, with a node for each array and these buffers, or nothing where memory
-/// is refused: they replace the entries of this id, or a delta is appended to them.
-///
-/// The caller sees to it that there are at most 2,048 nodes and 65,536 buffers, and that the body is below 2^62 bytes.
+/// Appends a dictionary batch of these contents, or nothing where memory is refused: its rows replace the entries of this id, or are appended to them as a delta.
 pub fn write_dictionary(
     alloc: Global,
     out: &mut Vec<u8>,
     id: u64,
     is_delta: bool,
-    rows: u64,
-    nodes: Vec<(u64, u64)>,
-    buffers: &[&[u8]],
+    contents: BatchContents<'_>,
 ) -> Result<(), AllocError>
-    requires nodes { length nodes.items ≤ 2048 }
-    requires buffers { length buffers.now ≤ 65536 }
-    requires body { length (body (map (λ b. b.now) buffers.now)) < 2 ^ 62 }
+    requires { CanBeWritten contents }
     ensures appended { OnOk result (out.new.items ≡ out.old.items
-        ++ dictionary_message id is_delta rows (map raw_node nodes.items) (map (λ b. b.now) buffers.now)) }
+        ++ dictionary_message id is_delta contents.entry.rows (nodes_in contents.entry) (buffers_in contents.entry)) }
     ensures kept { OnErr result (out.new.items ≡ out.old.items) }
 {
     let before = out.len();
-    write_dictionary_front(alloc, out, id, is_delta, rows, nodes, buffers)?;
+    let buffers = contents.buffers;
+    write_dictionary_front(alloc, out, id, is_delta, contents)?;
     put_body_or_cut(out, buffers, before)
 }
 
 /// Appends all but the body of the message that [`write_batch`] appends, or nothing where memory is refused. The body is each buffer, filled to a
 /// multiple of 8 as [`write_padding`] does.
-///
-/// The caller sees to it that there are at most 2,048 nodes and 65,536 buffers, and that the body is below 2^62 bytes.
 pub fn write_batch_front(
     alloc: Global,
     out: &mut Vec<u8>,
-    rows: u64,
-    nodes: Vec<(u64, u64)>,
-    buffers: &[&[u8]],
+    contents: BatchContents<'_>,
 ) -> Result<(), AllocError>
-    requires nodes { length nodes.items ≤ 2048 }
-    requires buffers { length buffers.now ≤ 65536 }
-    requires body { length (body (map (λ b. b.now) buffers.now)) < 2 ^ 62 }
-    ensures appended { OnOk result (out.new.items ++ body (map (λ b. b.now) buffers.now) ≡ out.old.items
-        ++ batch_message rows (map raw_node nodes.items) (map (λ b. b.now) buffers.now)) }
+    requires { CanBeWritten contents }
+    ensures appended { OnOk result (out.new.items ++ body (buffers_in contents.entry) ≡ out.old.items
+        ++ batch_message contents.entry.rows (nodes_in contents.entry) (buffers_in contents.entry)) }
     ensures begins { take (length out.old.items) out.new.items ≡ out.old.items }
     ensures kept { OnErr result (out.new.items ≡ out.old.items) }
 {
     metadata_is_within_its_limit();
-    let (header, body_length) = batch_header(alloc, rows, nodes, buffers)?;
+    let (header, body_length) = batch_header(alloc, contents)?;
     write_front(alloc, out, RECORD_BATCH, header, body_length)
 }
 
-/// Appends a record batch of so many rows, with a node for each array (its length and null count) and these buffers, or
-/// nothing where memory is refused.
-///
-/// The caller sees to it that there are at most 2,048 nodes and 65,536 buffers, and that the body is below 2^62 bytes.
+/// Appends a record batch of these contents, or nothing where memory is refused.
 pub fn write_batch(
     alloc: Global,
     out: &mut Vec<u8>,
-    rows: u64,
-    nodes: Vec<(u64, u64)>,
-    buffers: &[&[u8]],
+    contents: BatchContents<'_>,
 ) -> Result<(), AllocError>
-    requires nodes { length nodes.items ≤ 2048 }
-    requires buffers { length buffers.now ≤ 65536 }
-    requires body { length (body (map (λ b. b.now) buffers.now)) < 2 ^ 62 }
-    ensures appended { OnOk result (out.new.items ≡ out.old.items ++ batch_message rows (map raw_node nodes.items) (map (λ b. b.now) buffers.now)) }
+    requires { CanBeWritten contents }
+    ensures appended { OnOk result (out.new.items ≡ out.old.items
+        ++ batch_message contents.entry.rows (nodes_in contents.entry) (buffers_in contents.entry)) }
     ensures kept { OnErr result (out.new.items ≡ out.old.items) }
 {
     let before = out.len();
-    write_batch_front(alloc, out, rows, nodes, buffers)?;
+    let buffers = contents.buffers;
+    write_batch_front(alloc, out, contents)?;
     put_body_or_cut(out, buffers, before)
 }
 

@@ -1,7 +1,7 @@
 // Messages that are written (ipc_write). The bytes are those of another writer. Schemas are written by the program (tests/vectors/streams).
 use crate::made::{NotMade, is_one_well};
 use crate::stream_bytes::{BATCH, END};
-use ipc_write::{write_batch, write_dictionary, write_end};
+use ipc_write::{BatchContents, write_batch, write_dictionary, write_end};
 use std::alloc::Global;
 
 /// A dictionary batch: the one entry 32767 of 16 bits.
@@ -38,12 +38,23 @@ fn put(alloc: Global, out: &mut Vec<u8>, wanted: Wanted) -> Result<(), NotMade> 
     match wanted {
         Wanted::Dictionary { is_delta } => {
             let nodes = vec![in alloc; (1, 0)]?;
-            Ok(write_dictionary(alloc, out, 0, is_delta, 1, nodes, &[&[], &[255, 127]])?)
+            let buffers: [&[u8]; 2] = [&[], &[255, 127]];
+            let contents = BatchContents {
+                rows: 1,
+                nodes,
+                buffers: &buffers,
+            };
+            Ok(write_dictionary(alloc, out, 0, is_delta, contents)?)
         }
         Wanted::Batch => {
             let nodes = vec![in alloc; (2, 0)]?;
-            let values = [7, 0, 0, 0, 255, 255, 255, 255];
-            Ok(write_batch(alloc, out, 2, nodes, &[&[], &values])?)
+            let buffers: [&[u8]; 2] = [&[], &[7, 0, 0, 0, 255, 255, 255, 255]];
+            let contents = BatchContents {
+                rows: 2,
+                nodes,
+                buffers: &buffers,
+            };
+            Ok(write_batch(alloc, out, contents)?)
         }
         Wanted::End => Ok(write_end(out)?),
     }

@@ -6,7 +6,7 @@ ghost use Rattle.arrow_schema.specs.Limits.{IsWithinLimits};
 use crate::made::NotMade;
 use arrow_schema::{Schema, parse_fields};
 use canonical_write::encode;
-use ipc_write::{write_batch, write_end, write_schema};
+use ipc_write::{BatchContents, write_batch, write_end, write_schema};
 use std::alloc::{AllocError, Global};
 use values::{Row, Table, Value};
 
@@ -104,17 +104,21 @@ fn rows_alone(alloc: Global, rows: usize) -> Result<Vec<u8>, NotMade> {
     let mut stream = Vec::new(alloc);
     write_schema(alloc, &mut stream, &new_schema(alloc, &[])?)?;
     for _ in 0..rows / ROWS_IN_BATCH {
-        write_batch(
-            alloc,
-            &mut stream,
-            ROWS_IN_BATCH as u64,
-            Vec::new(alloc),
-            &[],
-        )?;
+        let most = BatchContents {
+            rows: ROWS_IN_BATCH as u64,
+            nodes: Vec::new(alloc),
+            buffers: &[],
+        };
+        write_batch(alloc, &mut stream, most)?;
     }
     let rest = rows % ROWS_IN_BATCH;
     if rest > 0 {
-        write_batch(alloc, &mut stream, rest as u64, Vec::new(alloc), &[])?;
+        let last = BatchContents {
+            rows: rest as u64,
+            nodes: Vec::new(alloc),
+            buffers: &[],
+        };
+        write_batch(alloc, &mut stream, last)?;
     }
     write_end(&mut stream)?;
     Ok(stream)

@@ -77,7 +77,9 @@ pub is_writable : (cs : Columns) (n : ℕ) (xs : Arrays) → AreWritten cs n xs 
 is_writable cs n xs w stand = record {
   rows_fit = omega (arith, w.few_rows);
   nodes_fit = nodes_fit (every_array cs xs) w.few_slots;
-  few_nodes = omega (arith, w.few_nodes, length-map (nodes_of cs xs) raw_node);
-  few_buffers = omega (arith, w.few_buffers);
-  short_body = body_short cs n xs w stand;
+  room = record {
+    few_nodes = omega (arith, w.few_nodes, length-map (nodes_of cs xs) raw_node);
+    few_buffers = omega (arith, w.few_buffers);
+    short_body = body_short cs n xs w stand;
+  };
 }

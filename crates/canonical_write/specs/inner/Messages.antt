@@ -1,12 +1,12 @@
 -- The messages of a piece, and those of what was built.
-use Rattle.std.specs.Prelude.{ℕ, ◌+◌, ◌^◌, ◌<◌, ◌≤◌, false, List, [], ◌∷◌, ◌++◌, map, length}
+use Rattle.std.specs.Prelude.{◌≡◌, ℕ, ◌+◌, false, List, [], ◌∷◌, ◌++◌, map, length}
 use Rattle.arrow_schema.specs.Column.{PlainSchema, columns_of}
 use Rattle.canonical_stream.specs.Canonical.{entries_messages}
 use Rattle.array_build.specs.Batch.{PlainDictionary}
 use Rattle.cells.specs.Cell.{Cell}
 use Rattle.columns.specs.Buffers.{Node, buffers_of, dictionaries_of}
 use Rattle.columns.specs.Built.{built_parts}
-use Rattle.ipc_write.specs.Written.{body, batch_message, dictionary_message}
+use Rattle.ipc_write.specs.Written.{body, batch_message, dictionary_message, HasRoom}
 use Rattle.written_batch.specs.WrittenBatch.{raw_node, raw_nodes}
 
 -- the dictionaries of a piece, and its record batch: the two parts of `piece_messages`
@@ -30,11 +30,13 @@ built_messages id (d ∷ ds) = built_message id d ++ built_messages (id + 1) ds
 abbrev pub built_batch : (rows : ℕ) → List Node → List (List ℕ) → List ℕ
 built_batch rows nodes buffers = batch_message rows (map raw_node nodes) buffers
 
--- what a message has room for: who writes one sees to it
-pub record AreFew (nodes : List Node) (buffers : List (List ℕ)) : Type 0 where
-  pub few_nodes : length nodes ≤ 2048
-  pub few_buffers : length buffers ≤ 65536
-  pub short_body : length (body buffers) < 2 ^ 62
+-- all but the body of this record batch
+abbrev pub IsFront : (front : List ℕ) (rows : ℕ) → List Node → List (List ℕ) → Type 0
+IsFront front rows nodes buffers = front ++ body buffers ≡ built_batch rows nodes buffers
+
+-- a message has room for these: who writes one sees to it
+abbrev pub AreFew : List Node → List (List ℕ) → Type 0
+AreFew nodes buffers = HasRoom (length nodes) buffers
 
 abbrev pub HasFew : PlainDictionary → Type 0
 HasFew d = AreFew d.nodes d.buffers

@@ -1,34 +1,28 @@
-use Rattle.std.specs.List.{AllByRecursion, list_all}
-use Rattle.std.proofs.Common.{◌≡◌, ◌+◌, ◌-◌, ◌<◌, ◌^◌, ◌++◌, true, length, map}
+use Rattle.std.specs.List.{AllByRecursion}
+use Rattle.std.proofs.Common.{◌≡◌, ◌-◌, ◌<◌, ◌^◌, ◌++◌, length, map}
 use Rattle.arrow_schema.specs.Column.{columns_of}
 use Rattle.arrow_schema.specs.View.{schema_of}
-use Rattle.canonical_stream.specs.Pieces.{IsPieceOf}
 use Rattle.canonical_write.proofs.Alone.{IsAlone}
 use Rattle.canonical_write.specs.Pieces.{piece_stream, piece_streams, piece_counts}
 use Rattle.canonical_write.specs.View.{streams_behind}
-use Rattle.cells.specs.Row.{is_row}
-use Rattle.run_pieces.specs.Left.{runs_left, rows_left}
-use Rattle.run_pieces.specs.Rows.{are_runs_sound}
+use Rattle.run_pieces.specs.Left.{rows_left}
 use Rattle.ipc_write.specs.Written.{schema_message}
 use Rattle.table_cut.specs.Cut.{pieces}
 use Rattle.table_cut.specs.Piece.{within_piece}
 use Rattle.values.specs.Parts.{parts_table}
+use Rattle.canonical_write.proofs.RunSteps.{AreLeft}
 use Rattle.canonical_write.proofs.by_runs.encode_parts_pieces.Given as goal
 
 -- the streams so far, and those of the pieces that are left, are those of all
 abbrev pub invariant-loop-from : goal.invariant-loop-from
 invariant-loop-from l =
     let s = schema_of l.schema in
-    let columns = columns_of s.columns in
-    let left = pieces (within_piece s) (rows_left columns l.left) in
+    let cut = pieces (within_piece s) (rows_left (columns_of s.columns) l.left) in
     record {
-      within : l.from + length (rows_left columns l.left) ≡ l.rows;
-      are : list_all (is_row s) (rows_left columns l.left) ≡ true;
-      sound : are_runs_sound columns (runs_left l.left) ≡ true;
-      each : AllByRecursion (IsPieceOf s) left;
-      alone : AllByRecursion (IsAlone (within_piece s)) left;
-      streams : streams_behind (schema_message s) l.streams.items ++ map (piece_stream s) left ≡ piece_streams (parts_table s l.parts);
-      counts : l.counts.items ++ map length left ≡ piece_counts (parts_table s l.parts);
+      left : AreLeft s l.left l.from l.rows;
+      alone : AllByRecursion (IsAlone (within_piece s)) cut;
+      streams : streams_behind (schema_message s) l.streams.items ++ map (piece_stream s) cut ≡ piece_streams (parts_table s l.parts);
+      counts : l.counts.items ++ map length cut ≡ piece_counts (parts_table s l.parts);
       short : AllByRecursion (λ stream. length stream < 2 ^ 64) (streams_behind (schema_message s) l.streams.items);
     }
 

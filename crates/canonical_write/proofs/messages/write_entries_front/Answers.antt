@@ -2,8 +2,13 @@ use Rattle.std.proofs.Common.{◌≡◌, ◌++◌, List, ℕ, map, ap, sym, ◌�
 use Rattle.std.proofs.lemmas.Result.{on_ok_weaker}
 use Rattle.array_build.specs.Batch.{buffers_in}
 use Rattle.ipc_write.specs.Written.{body}
-use Rattle.canonical_write.proofs.Steps.{entries_are}
+use Rattle.canonical_write.proofs.Steps.{code_room, entries_are}
 use Rattle.canonical_write.proofs.messages.write_entries_front.Goals as goal
+
+pub write_dictionary_front-requires : goal.write_dictionary_front-requires
+write_dictionary_front-requires c =
+    let given : map (λ b. b.now) c.deref.result.now ≡ buffers_in c.args.buffers.now = ap (map (λ b. b.now)) c.deref.ensures.value ∙ c.in_ok-buffers.ensures in
+    code_room c.args.nodes.items _ _ given c.requires
 
 pub returns : goal.returns
 returns c =

@@ -1,11 +1,12 @@
-use Rattle.std.proofs.Common.{◌≡◌, ℕ, List, map, refl, ◌∙◌}
+use Rattle.std.proofs.Common.{◌≡◌, ℕ, List, refl, ◌∙◌}
 use Rattle.std.proofs.lemmas.Result.{on_ok_weaker}
 use Rattle.flatbuf.specs.Laid.{metadata}
 use Rattle.flatbuf.specs.Tree.{Tree}
 use Rattle.flatbuf.specs.View.{node_of}
 use Rattle.ipc_message.specs.declared.header_type.TheConstants.{RECORD_BATCH}
 use Rattle.ipc_message.specs.Raw.{RawNode}
-use Rattle.ipc_write.specs.Trees.{message_tree, raw_node}
+use Rattle.ipc_write.specs.Contents.{nodes_in, buffers_in}
+use Rattle.ipc_write.specs.Trees.{message_tree}
 use Rattle.ipc_write.specs.Written.{batch_message, body, framed}
 use Rattle.ipc_write.proofs.BatchNode.{batch_is, framed_is}
 use Rattle.ipc_write.proofs.Fronts.{then_body}
@@ -25,12 +26,13 @@ write_front-requires-clause-small c =
 
 pub returns-clause-appended : goal.returns-clause-appended
 returns-clause-appended c =
-    let nodes : List RawNode = map raw_node c.args.nodes.items in
-    let buffers : List (List ℕ) = map (λ b. b.now) c.args.buffers.now in
+    let rows : ℕ = c.args.contents.rows in
+    let nodes : List RawNode = nodes_in c.args.contents in
+    let buffers : List (List ℕ) = buffers_in c.args.contents in
     let header : Tree = node_of c.in_ok-header.header in
     let len : ℕ = c.in_ok-header.body_length in
-    let is : framed (metadata (message_tree RECORD_BATCH header len)) (body buffers) ≡ batch_message c.args.rows nodes buffers =
-    framed_is _ (message_tree RECORD_BATCH header len) header RECORD_BATCH len (body buffers) refl refl c.in_ok-header.ensures.length ∙ batch_is header c.args.rows nodes buffers c.in_ok-header.ensures.node in
+    let is : framed (metadata (message_tree RECORD_BATCH header len)) (body buffers) ≡ batch_message rows nodes buffers =
+    framed_is _ (message_tree RECORD_BATCH header len) header RECORD_BATCH len (body buffers) refl refl c.in_ok-header.ensures.length ∙ batch_is header rows nodes buffers c.in_ok-header.ensures.node in
     on_ok_weaker c.write_front.result
-    (λ done. then_body c.write_front.new.out.items c.args.out.now.items (metadata (message_tree RECORD_BATCH header len)) (body buffers) (batch_message c.args.rows nodes buffers) done is)
+    (λ done. then_body c.write_front.new.out.items c.args.out.now.items (metadata (message_tree RECORD_BATCH header len)) (body buffers) (batch_message rows nodes buffers) done is)
     c.write_front.ensures.appended

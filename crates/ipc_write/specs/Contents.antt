@@ -1,0 +1,17 @@
+-- What a batch is written from, as plain values.
+use Rattle.std.specs.Borrow.{Bor}
+use Rattle.std.specs.Prelude.{ℕ, List, map, length}
+use Rattle.ipc_message.specs.Raw.{RawNode}
+use Rattle.ipc_write.specs.Trees.{raw_node}
+use Rattle.ipc_write.specs.Written.{HasRoom}
+use Rattle.ipc_write.specs.declared.contents.BatchContents.{BatchContents}
+
+abbrev pub nodes_in : BatchContents → List RawNode
+nodes_in contents = map raw_node contents.nodes.items
+
+abbrev pub buffers_in : BatchContents → List (List ℕ)
+buffers_in contents = map (λ (b : Bor (List ℕ)). b.now) contents.buffers.now
+
+-- a message has room for it
+abbrev pub CanBeWritten : BatchContents → Type 0
+CanBeWritten contents = HasRoom (length contents.nodes.items) (buffers_in contents)
