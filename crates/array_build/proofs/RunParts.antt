@@ -74,9 +74,6 @@ part_absent j v from n xs children le = λ c h.
     let short : 0 ≡ n = omega (arith, none, most) in
     (ap (cells_from (cell_at c (child_at j v)) from) short, refl)
 
-pub part_nulls : (j n : ℕ) → IsPartOf j (Nulls n) (Nulls n)
-part_nulls j n = λ c h. (refl, refl)
-
 -- ---- the runs of the field at a place
 
 -- those of the runs so far, and what is left

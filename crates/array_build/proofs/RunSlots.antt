@@ -42,9 +42,6 @@ no_bitmap a i none = rw none refl
 pub bit_tells : (a : Array) (i : ℕ) → (length (validity_in a) ≡ 0 → ⊥) → is_valid a i ≡ bit (validity_in a) i
 bit_tells a i some = let e : (length (validity_in a) == 0) ≡ false = ne_eqb _ _ some in rw e refl
 
-pub unset_tells : (a : Array) (from n : ℕ) → 0 < n → (length (validity_in a) ≡ 0 → ⊥) → bit (validity_in a) from ≡ false → list_all (is_valid a) (range_with_len from n) ≡ false
-unset_tells a from n filled some unset = one_fails (is_valid a) from n from (omega arith) (omega arith) (bit_tells a from some ∙ unset)
-
 -- the end of a run of set bits tells whether all are
 pub run_tells : (a : Array) (from n stop : ℕ) → (length (validity_in a) ≡ 0 → ⊥) → bit (validity_in a) from ≡ true → from < stop → stop ≤ from + n
     → ((i : ℕ) → from ≤ i → i < stop → bit (validity_in a) i ≡ bit (validity_in a) from) → (stop < from + n → bit (validity_in a) stop ≡ not (bit (validity_in a) from))
@@ -64,7 +61,3 @@ all_without a from n none = all_in_row (is_valid a) from n (λ i low high. no_bi
 pub bits_without : (a : Array) (from n : ℕ) → length (validity_in a) ≡ 0 → map (is_valid a) (range_with_len from n) ≡ replicate n true
 bits_without a from zero none = refl
 bits_without a from (suc n) none = ap₂ (λ (b : Bool) (bs : List Bool). b ∷ bs) (no_bitmap a from none) (bits_without a (from + 1) n none)
-
-pub bits_with : (a : Array) (from n : ℕ) → (length (validity_in a) ≡ 0 → ⊥) → map (is_valid a) (range_with_len from n) ≡ map (bit (validity_in a)) (range_with_len from n)
-bits_with a from zero some = refl
-bits_with a from (suc n) some = ap₂ (λ (b : Bool) (bs : List Bool). b ∷ bs) (bit_tells a from some) (bits_with a (from + 1) n some)

@@ -1,11 +1,10 @@
 -- Runs of rows, cut in two.
 use Rattle.std.specs.List.{range_with_len}
-use Rattle.std.proofs.Common.{◌≡◌, ℕ, zero, suc, ◌+◌, ◌-◌, ◌≤◌, true, map, take, drop, refl, sym, arith}
+use Rattle.std.proofs.Common.{◌≡◌, ℕ, zero, suc, ◌+◌, ◌-◌, ◌≤◌, map, take, drop, refl, sym, arith}
 use Rattle.std.proofs.lemmas.List.FromFn.{take-map-range_with_len}
 use Rattle.arrow_schema.specs.Column.{Columns}
 use Rattle.columns.specs.Array.{Arrays}
 use Rattle.columns.specs.CellAt.{row_at}
-use Rattle.columns.specs.Sound.{are_sound}
 
 drop_range : {X : Type 0} (f : ℕ → X) (a n k : ℕ) → k ≤ n → drop k (map f (range_with_len a n)) ≡ map f (range_with_len (a + k) (n - k))
 drop_range f a n zero le =
@@ -25,6 +24,3 @@ front_rows cs arrays from n k le = sym (take-map-range_with_len (row_at cs array
 pub rows_behind : (cs : Columns) (arrays : Arrays) (from n k : ℕ) → k ≤ n
     → map (row_at cs arrays) (range_with_len (from + k) (n - k)) ≡ drop k (map (row_at cs arrays) (range_with_len from n))
 rows_behind cs arrays from n k le = sym (drop_range (row_at cs arrays) from n k le)
-
-pub behind_sound : (cs : Columns) (arrays : Arrays) (from n k : ℕ) → are_sound cs (from + n) arrays ≡ true → k ≤ n → are_sound cs (from + k + (n - k)) arrays ≡ true
-behind_sound cs arrays from n k h le = let e : from + k + (n - k) ≡ from + n = omega arith in rw e h

@@ -1,32 +1,24 @@
 -- What is decided by the catalogue, as its tests go.
-use Rattle.std.proofs.Common.{◌≡◌, ℕ, Bool, true, List, Option, Some, None, Result, Ok, Err, inl, inr, refl, sym, ap, subst}
-use Rattle.std.specs.Prelude.{OnOk, ◌⊎◌, map}
+use Rattle.std.proofs.Common.{◌≡◌, ℕ, Bool, true, List, Option, None, Result, Ok, Err, inl, inr, refl, sym, ap, subst}
+use Rattle.std.specs.Prelude.{OnOk}
 use Rattle.facts.specs.Checks.{unless}
 use Rattle.sector_dev.specs.Disk.{Image}
 use Rattle.arrow_schema.specs.Column.{PlainSchema}
 use Rattle.cells.specs.Cell.{PlainTable}
-use Rattle.cells.specs.Row.{row_of}
-use Rattle.values.specs.TableView.{table_of}
 use Rattle.ipc_message.specs.declared.fault.Fault.{Fault}
 use Rattle.ipc_message.specs.declared.error.ImportError.{ImportError}
 use Rattle.ipc_message.specs.declared.error.ImportError.TheVariants as imports
 use Rattle.ipc_message.specs.Header.{supported_codes}
 use Rattle.ipc_message.specs.Outcome.{Fails}
 use Rattle.ipc_stream.specs.Meaning.{meaning}
-use Rattle.query.specs.Query.{PlainQuery}
-use Rattle.catalogue.specs.Entries.{PlainEntry, PlainCatalogue}
-use Rattle.catalogue.specs.Edits.{entry_of}
+use Rattle.catalogue.specs.Entries.{PlainCatalogue}
 use Rattle.tables.specs.declared.refusal.Refusal.{Refusal}
-use Rattle.tables.specs.declared.refusal.Refusal.TheVariants.{NoTable, OutOfMemory}
-use Rattle.tables.specs.Commands.{PlainCommand, create, import_stream, save_as, rename, drop_table}
+use Rattle.tables.specs.declared.refusal.Refusal.TheVariants.{OutOfMemory}
+use Rattle.tables.specs.Commands.{PlainCommand, create, import_stream, rename, drop_table}
 use Rattle.tables.specs.Refusals.{import_refusal}
 use Rattle.tables.specs.Verdict.{of_meaning, import_tests}
 use Rattle.store.specs.Changes.{put, move, remove, PlainChange}
-use Rattle.store.specs.Deciding.{missing_in, full_in, create_tests, rename_tests, names_changed, pieces_put, decided_table, of_entry, Addition, given_rows, streamed_rows, selected_entry, entry_added, entry_selected, IsAdded, IsSaved, IsNotRead, IsDecided, IsAnswered}
-use Rattle.store.specs.declared.new_rows.NewRows.{NewRows}
-use Rattle.store.specs.declared.new_rows.NewRows.TheVariants.{Stream, Given, OfTable}
-use Rattle.store.specs.inner.Appending.{append_of, added_to, IsAppended}
-use Rattle.store.specs.inner.Saving.{IsSelected}
+use Rattle.store.specs.Deciding.{missing_in, full_in, create_tests, rename_tests, names_changed, pieces_put, decided_table, IsDecided, IsAnswered}
 
 -- ---- commands that bring no rows
 
@@ -56,35 +48,6 @@ module _ (tells : Bool) (image : Image) (c : PlainCatalogue) (name bytes : List 
       → IsAnswered tells image c (import_stream name bytes) (unless o (Ok (pieces_put (put name table.schema) table)))
   table_answers table o tested means room =
       inr (inr (λ i. unless (sym tested i) (of_meaning (sym means i) (λ t. unless (sym room i) (Ok (pieces_put (put name t.schema) t))))))
-
--- ---- append
-
--- no entry has the name
-pub none_answers : (tells : Bool) (image : Image) (c : PlainCatalogue) (name : List ℕ) (new : NewRows) → entry_of c name ≡ None → IsAnswered tells image c (append_of name new) (Err NoTable)
-none_answers tells image c name (Stream bytes) none = inr (inr (subst (λ (o : Option PlainEntry). IsAdded tells image name (of_entry o (streamed_rows bytes.items)) (Err NoTable)) (sym none) refl))
-none_answers tells image c name (Given rows) none = inr (inr (subst (λ (o : Option PlainEntry). IsAdded tells image name (of_entry o (given_rows (map row_of rows.items))) (Err NoTable)) (sym none) refl))
-none_answers tells image c name (OfTable new) none = inr (inr (subst (λ (o : Option PlainEntry). IsAdded tells image name (of_entry o (given_rows (table_of new.table).rows)) (Err NoTable)) (sym none) refl))
-
--- what is answered of new rows for the table of a name
-abbrev pub IsAddedAt : (tells : Bool) → Image → List ℕ → (PlainEntry → Result Addition Refusal) → Option PlainEntry → Result PlainChange Refusal → Type 0
-IsAddedAt tells image name tested o d = (d ≡ Err OutOfMemory) ⊎ IsNotRead tells image (entry_added (of_entry o tested)) d ⊎ IsAdded tells image name (of_entry o tested) d
-
--- what is answered of an append to the table of an entry
-pub appended_answers : (tells : Bool) (image : Image) (c : PlainCatalogue) (name : List ℕ) (new : NewRows) (e : PlainEntry) (d : Result PlainChange Refusal) → entry_of c name ≡ Some e → IsAppended tells image name (added_to new e) d
-    → IsAnswered tells image c (append_of name new) d
-appended_answers tells image c name (Stream bytes) e d there answers = subst (λ (o : Option PlainEntry). IsAddedAt tells image name (streamed_rows bytes.items) o d) (sym there) answers
-appended_answers tells image c name (Given rows) e d there answers = subst (λ (o : Option PlainEntry). IsAddedAt tells image name (given_rows (map row_of rows.items)) o d) (sym there) answers
-appended_answers tells image c name (OfTable new) e d there answers = subst (λ (o : Option PlainEntry). IsAddedAt tells image name (given_rows (table_of new.table).rows) o d) (sym there) answers
-
--- ---- a query that is saved
-
-pub no_source_answers : (tells : Bool) (image : Image) (c : PlainCatalogue) (from to : List ℕ) (query : PlainQuery) → entry_of c from ≡ None → IsAnswered tells image c (save_as from to query) (Err NoTable)
-no_source_answers tells image c from to query none = inr (inr (subst (λ (o : Option PlainEntry). IsSaved tells image to query (of_entry o (selected_entry c to query)) (Err NoTable)) (sym none) refl))
-
-pub saved_answers : (tells : Bool) (image : Image) (c : PlainCatalogue) (from to : List ℕ) (query : PlainQuery) (e : PlainEntry) (d : Result PlainChange Refusal) → entry_of c from ≡ Some e
-    → IsSelected tells image to query (selected_entry c to query e) d → IsAnswered tells image c (save_as from to query) d
-saved_answers tells image c from to query e d there answers =
-    subst (λ (o : Option PlainEntry). (d ≡ Err OutOfMemory) ⊎ IsNotRead tells image (entry_selected (of_entry o (selected_entry c to query))) d ⊎ IsSaved tells image to query (of_entry o (selected_entry c to query)) d) (sym there) answers
 
 -- ---- what was answered
 

@@ -12,7 +12,6 @@ mod Saved
 mod Verdicts
 mod Answered
 mod Began
-mod HeldTables
 mod MoreRows
 mod ReadTables
 mod ReadsStore

@@ -1,15 +1,18 @@
 -- What was prepared for a change can be published, and then stands.
-use Rattle.std.specs.Prelude.{◌≡◌, ◌≤◌, ◌<◌, ◌+◌, ◌^◌, ◌==◌, ◌&&◌, ◌||◌, ℕ, Bool, true, false, not, nat_le, List, [], ◌∷◌, ◌++◌, length, map, if◌then◌else◌, Some, None, Err, refl}
+use Rattle.std.specs.Prelude.{◌≡◌, ◌≤◌, ◌<◌, ◌+◌, ◌^◌, ◌==◌, ◌&&◌, ◌||◌, ℕ, Bool, true, false, not, nat_le, List, [], ◌∷◌, ◌++◌, length, map, if◌then◌else◌, Some, None, Err, refl, vec_len}
+use Rattle.std.specs.Global.{Vec}
 use Rattle.std.specs.List.{list_all, AllByRecursion}
-use Rattle.std.proofs.Common.{get_or, take, inl, inr, ⊎_elim, ◌≢◌, sym, ap, ◌∙◌, subst, arith}
+use Rattle.std.proofs.Common.{inl, inr, ⊎_elim, ◌≢◌, sym, ap, ◌∙◌, subst, arith}
 use Rattle.std.proofs.lemmas.Bool.{and_parts, or_parts, false_from_ne_true, leb-true, cases_eq}
-use Rattle.std.proofs.lemmas.List.{get_or-map, length-map, take_more}
+use Rattle.std.proofs.lemmas.List.{length-map}
 use Rattle.sector_dev.specs.Disk.{Disk, Image}
+use Rattle.array_build.specs.declared.batch.Buffer.{Buffer}
+use Rattle.canonical_write.specs.View.{joined_parts, streams_in}
+use Rattle.canonical_write.specs.declared.encoder.EncodedPieces.{EncodedPieces}
 use Rattle.segments.specs.declared.errors.TakeError.{TakeError}
 use Rattle.segments.specs.declared.errors.TakeError.TheVariants as takings
 use Rattle.segments.specs.declared.run.Run.{Run}
-use Rattle.segments.specs.Pieces.{PlainPiece, plain_piece, plain_pieces}
-use Rattle.segments.specs.declared.piece.Piece.{Piece}
+use Rattle.segments.specs.Pieces.{PlainPiece, plain_pieces}
 use Rattle.segments.specs.Runs.{OutOf}
 use Rattle.segments.specs.Sectors.{sector_count}
 use Rattle.segments.specs.declared.extent.Extent.{Extent}
@@ -45,6 +48,14 @@ use Rattle.store.specs.laws.Segments.{are_streams, placed_number, placed_runs, p
 use Rattle.store.specs.laws.Edited.{edited_stands, edited_size, edited_count, edited_times, given_up_times, edited_runs}
 
 -- ---- the catalogues of a change
+
+-- as many segments without places as there are pieces
+pub unplaced_count : (pieces : EncodedPieces) (change : PlainChange) (n : ℕ) → n ≡ vec_len pieces.parts → streams_in pieces ≡ change.streams → length change.streams ≡ length change.counts
+    → length (unplaced change.streams change.counts) ≡ n
+unplaced_count pieces change n count same each =
+    let whole = pieces.parts.ok in
+    let streams = length-map pieces.parts.items (λ (v : Vec Buffer). pieces.schema_message.items ++ joined_parts v.items) in
+    omega (arith, unplaced_number change.streams change.counts each, streams, ap (λ (xs : List (List ℕ)). length xs) same, count, whole)
 
 module _ (c : PlainCatalogue) (change : PlainChange) (sound : IsChange c change) where
   -- its outline may stand, where it has few enough segments
@@ -85,18 +96,6 @@ module _ (c : PlainCatalogue) (change : PlainChange) (sound : IsChange c change)
         (subst (λ (rs : List Run). is_among rs run ≡ true → is_among (entries.runs_of c) run ≡ false) (sym (placed_runs places change.streams change.counts many sound.each)) other))
 
 -- ---- pieces
-
--- the run of a piece, behind those of the pieces before it
-pub run_behind : (pieces : List Piece) (i : ℕ) (piece : Piece) → i < length pieces → piece ≡ get_or pieces i piece
-    → take (i + 1) (runs_of (plain_pieces pieces)) ≡ take i (runs_of (plain_pieces pieces)) ++ piece.run ∷ []
-run_behind pieces i piece within is =
-    let plain : List PlainPiece = plain_pieces pieces in
-    let long = length-map pieces plain_piece in
-    let more : i < length plain = omega (arith, long, within) in
-    let longer = length-map plain (λ (p : PlainPiece). p.run) in
-    let at : get_or (runs_of plain) i piece.run ≡ piece.run =
-    get_or-map (λ (p : PlainPiece). p.run) plain i (plain_piece piece) piece.run more ∙ ap (λ (p : PlainPiece). p.run) (get_or-map plain_piece pieces i piece (plain_piece piece) within) ∙ ap (λ (p : Piece). p.run) (sym is) in
-    take_more (runs_of plain) i piece.run (omega (arith, longer, more)) ∙ ap (λ (r : Run). take i (runs_of plain) ++ r ∷ []) at
 
 last_piece : (pieces : List PlainPiece) (p : PlainPiece) → IsPieceOf (pieces ++ p ∷ []) p.run p.bytes
 last_piece [] p = inl (refl, refl)

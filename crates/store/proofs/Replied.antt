@@ -1,5 +1,5 @@
 -- What each call answers of any place, from what the calls of a store promise.
-use Rattle.std.proofs.Common.{◌≡◌, ◌++◌, ◌∷◌, [], ℕ, Bool, true, false, List, refl, subst}
+use Rattle.std.proofs.Common.{◌≡◌, ◌++◌, ◌∷◌, [], ℕ, Bool, true, List, refl, subst}
 use Rattle.std.specs.Prelude.{Option}
 use Rattle.sector_dev.specs.Disk.{Story}
 use Rattle.sector_dev.specs.declared.device.SectorDevice.{Ghosts}
@@ -13,10 +13,6 @@ use Rattle.store.specs.Calls.{PlainCall, needs_store, apply_call, format_call, o
 use Rattle.store.specs.Listing.{RefusesTables, RefusesSchema}
 use Rattle.store.specs.Reading.{OnlyReadsStore}
 use Rattle.store.specs.Answering.{Answers, AnswersEach}
-
--- a call without a device's failure counts none
-pub none_counted : (reply : PlainReply) (failed : ℕ) → is_device_reply reply ≡ false → failed ≡ counted reply failed
-none_counted reply failed quiet = cc quiet
 
 pub list_counts : (halted : Bool) (r : Refusal) (failed : ℕ) → RefusesTables halted r → failed ≡ counted (refused r) failed
 list_counts halted refusals.Halted failed told = refl

@@ -212,12 +212,6 @@ create_names c name h =
     let three = first_none (full_in c name) [] two.1 in
     record { named = one.0; room = three.0 }
 
-pub create_is_change : (c : PlainCatalogue) (name : List ℕ) (schema : PlainSchema) → Counts c → IsCatalogue c → create_tests c name ≡ None → IsWithinLimits schema
-    → IsChange c (record { edit = put name schema; streams = []; counts = [] })
-create_is_change c name schema counts sound h within =
-    let passed = create_names c name h in
-    record { edit = put_is_edit c name schema [] counts sound passed.named passed.room within; each = refl; some = tt; short = tt; rows = refl }
-
 -- no rows are a table of any schema
 pub empty_rows : (schema : PlainSchema) → table_from schema [] ≡ Ok (rows_under schema [])
 unfolding table_from first_unfit

@@ -14,13 +14,14 @@ ghost use Rattle.store.specs.Reading.{RefusesRead, ReadsTable, OnlyReadsStore, e
 ghost use Rattle.values.specs.TableView.{table_of};
 
 use crate::Store;
+use crate::laws::table_laws;
 use canonical_round_trip::canonical_means_its_table;
 use canonical_write::{WriteError, encode, encode_to};
 use sector_dev::SectorDevice;
 use std::alloc::Global;
 use std::io::Write;
 use tables::Refusal;
-use values::{Table, accepted_rows_are_a_table, tables_are_joined_and_cut};
+use values::Table;
 
 impl<D: SectorDevice> Store<D> {
     // The table of a name, whose canonical stream is to be given.
@@ -38,8 +39,7 @@ impl<D: SectorDevice> Store<D> {
             (entry_of (listed_in self.old) name.now)) }
         ensures reads { OnlyReadsStore D.size D.story D.failed D.tells (ended result) self.old self.new }
     {
-        accepted_rows_are_a_table();
-        tables_are_joined_and_cut();
+        table_laws();
         canonical_means_its_table();
         match self.read_named(alloc, name) {
             Ok(table) => Ok(table),
@@ -89,10 +89,12 @@ impl<D: SectorDevice> Store<D> {
         ensures goes { OnOk result (D.tells ≡ true → (base : Tables) (m : Machine) → StoreFits D.size D.story base m self.old → (bytes : List ℕ)
             × Appends (W.contents writer.old) (W.contents writer.new) bytes
             × GoesOn D.size D.story D.failed base m (export_call name.now) (bytes_are bytes) self.old self.new) }
-        ensures refused { IfErr result (λ e. e ≢ Refusal.Write → D.tells ≡ true → (base : Tables) (m : Machine) → StoreFits D.size D.story base m self.old
+        ensures refused { IfErr result (λ e. e ≢ Refusal.Write → D.tells ≡ true → (base : Tables) (m : Machine)
+            → StoreFits D.size D.story base m self.old
             → GoesOn D.size D.story D.failed base m (export_call name.now) (refused e) self.old self.new) }
         // A writer that fails is no failure of the store: it has given such a stream all the same.
-        ensures unwritten { IfErr result (λ e. e ≡ Refusal.Write → D.tells ≡ true → (base : Tables) (m : Machine) → StoreFits D.size D.story base m self.old
+        ensures unwritten { IfErr result (λ e. e ≡ Refusal.Write → D.tells ≡ true → (base : Tables) (m : Machine)
+            → StoreFits D.size D.story base m self.old
             → (bytes : List ℕ) × GoesOn D.size D.story D.failed base m (export_call name.now) (bytes_are bytes) self.old self.new) }
         // Of any store it is that of what reads show of its catalogue's entry.
         ensures written { OnOk result ((t : PlainTable) × ReadsTable (is_halted self.old) D.tells (shown_image (now (D.story (device_of self.old))))
