@@ -4,7 +4,7 @@ ghost use Rattle.arrow_schema.specs.Column.{columns_of, fixed_lists, structs};
 ghost use Rattle.arrow_schema.specs.View.{kind_of, column_of};
 ghost use Rattle.array_build.specs.Batch.{batch_in, batch_of, built_at, built_below, plain_column, with_arrays};
 ghost use Rattle.array_build.specs.inner.Nodes.{list_kind};
-ghost use Rattle.array_build.specs.inner.Runs.{AreAsWritten, AreReady, built_columns, contents_width, fixed_width, kind_cells};
+ghost use Rattle.array_build.specs.inner.Runs.{AddsRuns, AreAsWritten, AreReady, built_columns, contents_width, fixed_width, kind_cells};
 ghost use Rattle.array_runs.specs.Runs.{HaveRuns, are_columns_sound, are_runs_sound, can_build_columns, runs_cells};
 ghost use Rattle.cells.specs.Cell.{Cell};
 ghost use Rattle.cells.specs.Dictionary.{part_list};
@@ -55,8 +55,7 @@ fn build_valid_kind<'a>(
     requires values { fixed_width (kind_of data_type.now) ≡ None }
     requires contents { contents_width (kind_of data_type.now) ≡ None }
     requires ready { AreReady (kind_of data_type.now) runs.now }
-    ensures { OnOk result (batch_in batch.new ≡ with_arrays (batch_in batch.old)
-        (built_at (plain_column (kind_of data_type.now) None) (kind_cells (kind_of data_type.now) runs.now))) }
+    ensures { OnOk result (AddsRuns (kind_of data_type.now) runs.now batch.old batch.new) }
 {
     match data_type {
         DataType::Null => build_run_nulls(batch, data_type, runs),
@@ -80,8 +79,7 @@ fn build_written_kind<'a>(
     runs: &[SlotRun<'a>],
 ) -> Result<(), AllocError>
     requires ready { AreAsWritten (kind_of data_type.now) runs.now }
-    ensures { OnOk result (batch_in batch.new ≡ with_arrays (batch_in batch.old)
-        (built_at (plain_column (kind_of data_type.now) None) (kind_cells (kind_of data_type.now) runs.now))) }
+    ensures { OnOk result (AddsRuns (kind_of data_type.now) runs.now batch.old batch.new) }
 {
     match (value_width(data_type), contents_width(data_type)) {
         (Some(width), _) => build_run_values(alloc, batch, data_type, width, runs),
@@ -100,8 +98,7 @@ fn build_run_lists<'a>(
     runs: &[SlotRun<'a>],
 ) -> Result<(), AllocError>
     requires ready { AreReady (list_kind width (column_of item.now)) runs.now }
-    ensures { OnOk result (batch_in batch.new ≡ with_arrays (batch_in batch.old)
-        (built_at (plain_column (list_kind width (column_of item.now)) None) (kind_cells (list_kind width (column_of item.now)) runs.now))) }
+    ensures { OnOk result (AddsRuns (list_kind width (column_of item.now)) runs.now batch.old batch.new) }
 {
     let offsets = run_list_offsets(alloc, item, width, runs)?;
     let items = item_runs(alloc, item, width, runs)?;
@@ -120,8 +117,7 @@ fn build_run_fixed_lists<'a>(
     runs: &[SlotRun<'a>],
 ) -> Result<(), AllocError>
     requires ready { AreReady (fixed_lists size (column_of item.now)) runs.now }
-    ensures { OnOk result (batch_in batch.new ≡ with_arrays (batch_in batch.old)
-        (built_at (plain_column (fixed_lists size (column_of item.now)) None) (kind_cells (fixed_lists size (column_of item.now)) runs.now))) }
+    ensures { OnOk result (AddsRuns (fixed_lists size (column_of item.now)) runs.now batch.old batch.new) }
 {
     let items = fixed_item_runs(alloc, item, size, runs)?;
     push_run_slots(alloc, batch, runs)?;
@@ -137,8 +133,7 @@ fn build_run_structs<'a>(
     runs: &[SlotRun<'a>],
 ) -> Result<(), AllocError>
     requires ready { AreReady (structs (columns_of (map column_of fields.now))) runs.now }
-    ensures { OnOk result (batch_in batch.new ≡ with_arrays (batch_in batch.old) (built_at (plain_column (structs (columns_of (map column_of fields.now))) None)
-        (kind_cells (structs (columns_of (map column_of fields.now))) runs.now))) }
+    ensures { OnOk result (AddsRuns (structs (columns_of (map column_of fields.now))) runs.now batch.old batch.new) }
 {
     push_run_slots(alloc, batch, runs)?;
     build_struct_parts(alloc, batch, fields, runs)
@@ -163,24 +158,7 @@ fn build_struct_parts<'a>(
     Ok(())
 }
 
-// The same of any runs, which are split at their nulls.
-#[cycle(by_runs)]
-fn build_split_kind<'a>(
-    alloc: Global,
-    batch: &mut BuiltBatch<'a>,
-    data_type: &DataType,
-    runs: &[SlotRun<'a>],
-) -> Result<(), AllocError>
-    requires sound { are_runs_sound (plain_column (kind_of data_type.now) None) runs.now ≡ true }
-    requires fits { can_build (plain_column (kind_of data_type.now) None) (kind_cells (kind_of data_type.now) runs.now) ≡ true }
-    ensures { OnOk result (batch_in batch.new ≡ with_arrays (batch_in batch.old)
-        (built_at (plain_column (kind_of data_type.now) None) (kind_cells (kind_of data_type.now) runs.now))) }
-{
-    let valid = valid_runs(alloc, runs)?;
-    build_written_kind(alloc, batch, data_type, &valid)
-}
-
-// Adds the array of a column of a type, whatever its name, and all below it. Runs that stand as they are written stay whole.
+// Adds the array of a column of a type, whatever its name, and all below it. Runs that do not stand as they are written are split at their nulls.
 #[cycle(by_runs)]
 fn build_run_kind<'a>(
     alloc: Global,
@@ -190,14 +168,13 @@ fn build_run_kind<'a>(
 ) -> Result<(), AllocError>
     requires sound { are_runs_sound (plain_column (kind_of data_type.now) None) runs.now ≡ true }
     requires fits { can_build (plain_column (kind_of data_type.now) None) (kind_cells (kind_of data_type.now) runs.now) ≡ true }
-    ensures { OnOk result (batch_in batch.new ≡ with_arrays (batch_in batch.old)
-        (built_at (plain_column (kind_of data_type.now) None) (kind_cells (kind_of data_type.now) runs.now))) }
+    ensures { OnOk result (AddsRuns (kind_of data_type.now) runs.now batch.old batch.new) }
 {
     if are_as_written(data_type, runs) {
-        build_written_kind(alloc, batch, data_type, runs)
-    } else {
-        build_split_kind(alloc, batch, data_type, runs)
+        return build_written_kind(alloc, batch, data_type, runs);
     }
+    let valid = valid_runs(alloc, runs)?;
+    build_written_kind(alloc, batch, data_type, &valid)
 }
 
 // The same of a field.

@@ -1,10 +1,8 @@
 // Arrays of types that have no fields below them, from runs whose slots are all valid or stand as they are written.
-ghost use Rattle.std.specs.Prelude.{◌≡◌, true, OnOk, IfOk, Some, None, length, map};
-ghost use Rattle.std.specs.List.{flat_map};
+ghost use Rattle.std.specs.Prelude.{◌≡◌, OnOk, Some};
 ghost use Rattle.arrow_schema.specs.Column.{nulls, booleans};
 ghost use Rattle.arrow_schema.specs.View.{kind_of};
-ghost use Rattle.array_build.specs.Batch.{batch_in, built_at, plain_column, with_arrays};
-ghost use Rattle.array_build.specs.inner.Runs.{AreAsWritten, AreReady, contents_width, fixed_width, kind_cells};
+ghost use Rattle.array_build.specs.inner.Runs.{AddsRuns, AreAsWritten, AreReady, contents_width, fixed_width};
 ghost use Rattle.columns.specs.Offsets.{width_of};
 
 use crate::batch::{BuiltBatch, push_any_buffer, push_buffer, push_node};
@@ -25,8 +23,7 @@ pub(crate) fn build_run_nulls(
     runs: &[SlotRun<'_>],
 ) -> Result<(), AllocError>
     requires nulls { kind_of data_type.now ≡ nulls }
-    ensures { OnOk result (batch_in batch.new ≡ with_arrays (batch_in batch.old)
-        (built_at (plain_column (kind_of data_type.now) None) (kind_cells (kind_of data_type.now) runs.now))) }
+    ensures { OnOk result (AddsRuns (kind_of data_type.now) runs.now batch.old batch.new) }
 {
     let slots = count_slots(runs)?;
     push_node(batch, slots, slots)
@@ -41,8 +38,7 @@ pub(crate) fn build_run_bits(
 ) -> Result<(), AllocError>
     requires booleans { kind_of data_type.now ≡ booleans }
     requires ready { AreReady (kind_of data_type.now) runs.now }
-    ensures { OnOk result (batch_in batch.new ≡ with_arrays (batch_in batch.old)
-        (built_at (plain_column (kind_of data_type.now) None) (kind_cells (kind_of data_type.now) runs.now))) }
+    ensures { OnOk result (AddsRuns (kind_of data_type.now) runs.now batch.old batch.new) }
 {
     let bits = run_booleans(alloc, runs)?;
     push_run_slots(alloc, batch, runs)?;
@@ -60,8 +56,7 @@ pub(crate) fn build_run_values<'a>(
 ) -> Result<(), AllocError>
     requires width { fixed_width (kind_of data_type.now) ≡ Some width }
     requires ready { AreAsWritten (kind_of data_type.now) runs.now }
-    ensures { OnOk result (batch_in batch.new ≡ with_arrays (batch_in batch.old)
-        (built_at (plain_column (kind_of data_type.now) None) (kind_cells (kind_of data_type.now) runs.now))) }
+    ensures { OnOk result (AddsRuns (kind_of data_type.now) runs.now batch.old batch.new) }
 {
     let values = run_values(alloc, data_type, width, runs)?;
     push_run_slots(alloc, batch, runs)?;
@@ -79,8 +74,7 @@ pub(crate) fn build_run_contents<'a>(
 ) -> Result<(), AllocError>
     requires width { contents_width (kind_of data_type.now) ≡ Some (width_of width) }
     requires ready { AreAsWritten (kind_of data_type.now) runs.now }
-    ensures { OnOk result (batch_in batch.new ≡ with_arrays (batch_in batch.old)
-        (built_at (plain_column (kind_of data_type.now) None) (kind_cells (kind_of data_type.now) runs.now))) }
+    ensures { OnOk result (AddsRuns (kind_of data_type.now) runs.now batch.old batch.new) }
 {
     let offsets = run_offsets(alloc, data_type, width, runs)?;
     let contents = run_contents(alloc, data_type, width, runs)?;

@@ -1,18 +1,16 @@
 // The places of cells among the entries of a dictionary, of runs of slots. An entry of an array's own dictionary is looked up once for each run, and
 // then known by its number.
-ghost use Rattle.std.specs.Prelude.{◌≡◌, ◌≤◌, ◌<◌, ◌+◌, ◌-◌, ◌*◌, ◌/◌, ◌++◌, true, false, OnOk, IfOk, Some, List, drop, is_some, length, map, replicate, set, take};
+ghost use Rattle.std.specs.Prelude.{◌≡◌, ◌≤◌, ◌+◌, ◌-◌, ◌*◌, ◌/◌, ◌++◌, true, false, OnOk, IfOk, Some, List, drop, is_some, length, map, replicate, set, take};
 ghost use Rattle.std.specs.List.{list_all};
 ghost use Rattle.arrow_schema.specs.View.{bits_of, column_of, index_of};
-ghost use Rattle.array_build.specs.inner.Codes.{AreKnown, IsPut, IsWritten, code_in, known_at, noted, own_entries, sized_code};
+ghost use Rattle.array_build.specs.inner.Codes.{AreCodedSlots, AreKnown, HasPlace, IsCodedSlot, IsPut, IsWritten, code_in, coded_cell, known_at, noted, own_entries, sized_code};
 ghost use Rattle.array_build.specs.inner.RunCells.{is_coded};
 ghost use Rattle.array_build.specs.inner.Runs.{run_bits, runs_bits};
 ghost use Rattle.array_runs.specs.Runs.{are_runs_sound, is_run_sound, run_cells, runs_cells};
 ghost use Rattle.array_runs.specs.declared.run.SlotRun.TheVariants.{Slots};
 ghost use Rattle.cells.specs.Dictionary.{with_entry};
 ghost use Rattle.cells.specs.Entry.{entry_cell};
-ghost use Rattle.columns.specs.Array.{slots_in};
-ghost use Rattle.columns.specs.CellAt.{cell_at, cells_from, is_valid};
-ghost use Rattle.columns.specs.Sound.{is_sound};
+ghost use Rattle.columns.specs.CellAt.{cells_from, is_valid};
 ghost use Rattle.columns.specs.View.{view_array};
 ghost use Rattle.cells.specs.Cell.{Cell};
 
@@ -70,15 +68,11 @@ fn new_code<'a>(
     slots: CodedSlots<'a>,
     i: usize,
 ) -> Result<Option<usize>, AllocError>
-    requires spec { field.now.dictionary ≡ Some slots.spec }
-    requires sound { is_sound (column_of field.now) (view_array slots.view) ≡ true }
-    requires within { i < slots_in (view_array slots.view) }
-    requires coded { is_coded (cell_at (column_of field.now) (view_array slots.view) i) ≡ true }
+    requires slot { IsCodedSlot field.now slots i }
     requires valid { is_valid (view_array slots.view) i ≡ true }
     requires known { AreKnown (map entry_cell entries.old.keys) (own_entries field.now slots.view) known.old }
-    ensures entries { OnOk result (map entry_cell entries.new.keys
-        ≡ with_entry (map entry_cell entries.old.keys) (cell_at (column_of field.now) (view_array slots.entry.view) i)) }
-    ensures code { IfOk result (λ code. code ≡ code_in (map entry_cell entries.new.keys) (cell_at (column_of field.now) (view_array slots.entry.view) i)) }
+    ensures entries { OnOk result (map entry_cell entries.new.keys ≡ with_entry (map entry_cell entries.old.keys) (coded_cell field.now slots.entry i)) }
+    ensures code { IfOk result (λ code. code ≡ code_in (map entry_cell entries.new.keys) (coded_cell field.now slots.entry i)) }
     ensures known { OnOk result (AreKnown (map entry_cell entries.new.keys) (own_entries field.now slots.entry.view) known.new) }
 {
     let number = slots.number(i);
@@ -95,9 +89,7 @@ fn put_at<const SIZE: usize>(
     place: usize,
     code: Option<usize>,
 )
-    requires small { SIZE ≤ 8 }
-    requires room { SIZE * place + SIZE ≤ length indices.old }
-    requires places { place < length valid.old }
+    requires { HasPlace SIZE place indices.old valid.old }
     ensures index { indices.new ≡ take (SIZE * place) indices.old ++ (sized_code SIZE code ++ drop (SIZE * place + SIZE) indices.old) }
     ensures valid { valid.new ≡ set valid.old place (is_some code) }
 {
@@ -119,18 +111,12 @@ fn put_new_code<'a, const SIZE: usize>(
     i: usize,
     place: usize,
 ) -> Result<(), AllocError>
-    requires small { SIZE ≤ 8 }
-    requires spec { field.now.dictionary ≡ Some slots.spec }
-    requires sound { is_sound (column_of field.now) (view_array slots.view) ≡ true }
-    requires within { i < slots_in (view_array slots.view) }
-    requires coded { is_coded (cell_at (column_of field.now) (view_array slots.view) i) ≡ true }
+    requires slot { IsCodedSlot field.now slots i }
     requires valid { is_valid (view_array slots.view) i ≡ true }
     requires known { AreKnown (map entry_cell entries.old.keys) (own_entries field.now slots.view) known.old }
-    requires room { SIZE * place + SIZE ≤ length indices.old }
-    requires places { place < length valid.old }
-    ensures entries { OnOk result (map entry_cell entries.new.keys
-        ≡ with_entry (map entry_cell entries.old.keys) (cell_at (column_of field.now) (view_array slots.entry.view) i)) }
-    ensures put { OnOk result (IsPut SIZE place (map entry_cell entries.new.keys) (cell_at (column_of field.now) (view_array slots.entry.view) i)
+    requires place { HasPlace SIZE place indices.old valid.old }
+    ensures entries { OnOk result (map entry_cell entries.new.keys ≡ with_entry (map entry_cell entries.old.keys) (coded_cell field.now slots.entry i)) }
+    ensures put { OnOk result (IsPut SIZE place (map entry_cell entries.new.keys) (coded_cell field.now slots.entry i)
         indices.old indices.new valid.old valid.new) }
     ensures known { OnOk result (AreKnown (map entry_cell entries.new.keys) (own_entries field.now slots.entry.view) known.new) }
 {
@@ -151,19 +137,13 @@ fn put_slot_code<'a, const SIZE: usize, const SIGNED: bool>(
     i: usize,
     place: usize,
 ) -> Result<(), AllocError>
-    requires small { SIZE ≤ 8 }
     requires size { SIZE ≡ (index_of slots.spec).bits / 8 }
     requires signed { SIGNED ≡ (index_of slots.spec).signed }
-    requires spec { field.now.dictionary ≡ Some slots.spec }
-    requires sound { is_sound (column_of field.now) (view_array slots.view) ≡ true }
-    requires within { i < slots_in (view_array slots.view) }
-    requires coded { is_coded (cell_at (column_of field.now) (view_array slots.view) i) ≡ true }
+    requires slot { IsCodedSlot field.now slots i }
     requires known { AreKnown (map entry_cell entries.old.keys) (own_entries field.now slots.view) known.old }
-    requires room { SIZE * place + SIZE ≤ length indices.old }
-    requires places { place < length valid.old }
-    ensures entries { OnOk result (map entry_cell entries.new.keys
-        ≡ with_entry (map entry_cell entries.old.keys) (cell_at (column_of field.now) (view_array slots.entry.view) i)) }
-    ensures put { OnOk result (IsPut SIZE place (map entry_cell entries.new.keys) (cell_at (column_of field.now) (view_array slots.entry.view) i)
+    requires place { HasPlace SIZE place indices.old valid.old }
+    ensures entries { OnOk result (map entry_cell entries.new.keys ≡ with_entry (map entry_cell entries.old.keys) (coded_cell field.now slots.entry i)) }
+    ensures put { OnOk result (IsPut SIZE place (map entry_cell entries.new.keys) (coded_cell field.now slots.entry i)
         indices.old indices.new valid.old valid.new) }
     ensures known { OnOk result (AreKnown (map entry_cell entries.new.keys) (own_entries field.now slots.entry.view) known.new) }
 {
@@ -193,15 +173,12 @@ fn put_sized_codes<'a, const SIZE: usize, const SIGNED: bool>(
     requires small { SIZE ≤ 8 }
     requires size { SIZE ≡ (index_of slots.spec).bits / 8 }
     requires signed { SIGNED ≡ (index_of slots.spec).signed }
-    requires spec { field.now.dictionary ≡ Some slots.spec }
-    requires sound { is_sound (column_of field.now) (view_array slots.view) ≡ true }
-    requires within { to ≤ slots_in (view_array slots.view) }
-    requires coded { list_all is_coded (cells_from (cell_at (column_of field.now) (view_array slots.view)) from (to - from)) ≡ true }
+    requires slots { AreCodedSlots field.now slots from to }
     requires known { AreKnown (map entry_cell entries.old.keys) (own_entries field.now slots.view) known.old }
     requires room { length indices.old ≡ SIZE * (to - from) }
     requires places { length valid.old ≡ to - from }
     ensures { OnOk result (IsWritten SIZE (map entry_cell entries.old.keys) (map entry_cell entries.new.keys)
-        indices.new valid.new (cells_from (cell_at (column_of field.now) (view_array slots.entry.view)) from (to - from))) }
+        indices.new valid.new (cells_from (coded_cell field.now slots.entry) from (to - from))) }
 {
     // a number of the code is below 2^64, so that the places of all indices are too
     let _room = indices.len();
@@ -222,15 +199,12 @@ fn put_slot_codes<'a>(
     from: usize,
     to: usize,
 ) -> Result<(), AllocError>
-    requires spec { field.now.dictionary ≡ Some slots.spec }
-    requires sound { is_sound (column_of field.now) (view_array slots.view) ≡ true }
-    requires within { to ≤ slots_in (view_array slots.view) }
-    requires coded { list_all is_coded (cells_from (cell_at (column_of field.now) (view_array slots.view)) from (to - from)) ≡ true }
+    requires slots { AreCodedSlots field.now slots from to }
     requires known { AreKnown (map entry_cell entries.old.keys) (own_entries field.now slots.view) known.old }
     requires room { length indices.old ≡ bits_of slots.spec.index.width / 8 * (to - from) }
     requires places { length valid.old ≡ to - from }
     ensures { OnOk result (IsWritten (bits_of slots.entry.spec.index.width / 8) (map entry_cell entries.old.keys) (map entry_cell entries.new.keys)
-        indices.new valid.new (cells_from (cell_at (column_of field.now) (view_array slots.entry.view)) from (to - from))) }
+        indices.new valid.new (cells_from (coded_cell field.now slots.entry) from (to - from))) }
 {
     match (slots.spec.index.width, slots.spec.index.signed) {
         (BitWidth::Eight, true) => put_sized_codes::<1, true>(

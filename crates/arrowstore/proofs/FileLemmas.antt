@@ -16,12 +16,12 @@ use Rattle.program_texts.specs.declared.status.Status.TheVariants.{Done, Refused
 use Rattle.program_texts.specs.declared.status.Ended.{Ended}
 use Rattle.program_texts.specs.Ending.{HasReported, TellsRefusal}
 use Rattle.program_texts.specs.Reported.{IfRefused}
+use Rattle.program_texts.specs.declared.telling.Audience.{Audience}
 use Rattle.store_requests.specs.declared.store_words.StoreRequest.{StoreRequest}
 use Rattle.store_requests.specs.declared.store_words.StoreRequest.TheVariants as requests
 use Rattle.clap.specs.Words.{Text}
-use Rattle.command_refusals.specs.declared.hint.Hint.{Hint}
 use Rattle.store_requests.specs.StoreWords.{takes_input, takes_input_word, first_word}
-use Rattle.arrowstore.specs.OnFiles.{IsOpened, IsOfOpening, FailsToFormat, RefusesFormat, ServesRequest, ServesWord, status_of}
+use Rattle.arrowstore.specs.OnFiles.{Ends, IsOpened, IsOfOpening, FailsToFormat, RefusesFormat, ServesRequest, ServesWord, status_of}
 use Rattle.arrowstore.specs.Serving.{Channels}
 
 pub of_file : {D : Type 0} (g : Ghosts D) (e : FileError) → IsOfOpening g (file_refusal e)
@@ -87,10 +87,11 @@ has_reported contents tells output output' errors errors' (Err e) ended silent i
 }
 
 -- what was served of a word was served of the same one
-pub served_as : {D : Type 0} (g : Ghosts D) {R W : Type 0} (remaining : R → Option (List ℕ)) (contents : W → Option (List ℕ)) (word other : List ℕ) (input input' : R) (output output' : W)
-    (tells : Option Hint → Type 0) (status : Status) → word ≡ other → ServesWord g remaining contents word input input' output output' tells status → ServesWord g remaining contents other input input' output output' tells status
-served_as g remaining contents word other input input' output output' tells status same served =
-    subst (λ (w : List ℕ). ServesWord g remaining contents w input input' output output' tells status) same served
+pub served_as : {D : Type 0} (g : Ghosts D) {R W E : Type 0} (remaining : R → Option (List ℕ)) (contents : W → Option (List ℕ)) (reported : E → Option (List ℕ)) (audience : Audience)
+    (word other : List ℕ) (before after : Ends R W E) (ended : Ended) → word ≡ other
+    → ServesWord g remaining contents reported audience word before after ended → ServesWord g remaining contents reported audience other before after ended
+served_as g remaining contents reported audience word other before after ended same served =
+    subst (λ (w : List ℕ). ServesWord g remaining contents reported audience w before after ended) same served
 
 -- a command whose word says that it reads the input
 pub takes_input_by : (arguments : List Text) (word : Text) → word ≡ first_word arguments → takes_input_word word ≡ true → takes_input arguments ≡ true

@@ -110,31 +110,41 @@ abbrev pub hinted_part : Option Hint → Option RefusedPart
 hinted_part (Some (hints.Part p)) = Some p.now
 hinted_part _ = None
 
+-- what a run reads, what it writes, and where it reports
+pub record Ends (R W E : Type 0) : Type 0 where
+  pub input : R
+  pub output : W
+  pub errors : E
+
+abbrev pub ends_of : {R W E : Type 0} → R → W → E → Ends R W E
+ends_of input output errors = record { input = input; output = output; errors = errors }
+
+-- what a run is said to end with was told to an audience, with a hint
+abbrev pub HasTold : {W E : Type 0} → (reported : E → Option (List ℕ)) → Audience → (output output' : W) → (errors errors' : E) → Ended → Option Hint → Type 0
+HasTold reported audience output output' errors errors' ended hint = HasReported reported (told audience hint) output output' errors errors' ended
+
 -- a request of this word was served, and what is hinted is told
-pub record ServesWord {D : Type 0} (g : Ghosts D) {R W : Type 0} (remaining : R → Option (List ℕ)) (contents : W → Option (List ℕ)) (word : List ℕ)
-    (input input' : R) (output output' : W) (tells : Option Hint → Type 0) (status : Status) : Type 0 where
+pub record ServesWord {D : Type 0} (g : Ghosts D) {R W E : Type 0} (remaining : R → Option (List ℕ)) (contents : W → Option (List ℕ))
+    (reported : E → Option (List ℕ)) (audience : Audience) (word : List ℕ) (before after : Ends R W E) (ended : Ended) : Type 0 where
   pub request : StoreRequest
   pub asks : request_word request ≡ word
   pub part : Option RefusedPart
   pub result : Result (Unit {0}) Refusal
-  pub serves : ServesRequest g remaining contents request (channels input output None) (channels input' output' part) result
-  pub ends : status ≡ status_of result
+  pub serves : ServesRequest g remaining contents request (channels before.input before.output None) (channels after.input after.output part) result
+  pub ends : ended.status ≡ status_of result
   pub hint : Option Hint
   -- what is told of the input is the part that is refused, and else none is told
   pub hints : hinted_part hint ≡ part
-  pub told : tells hint
+  pub told : HasTold reported audience before.output after.output before.errors after.errors ended hint
 
 -- no command is asked for: some word asks for help, or what the words say is reported as wrong and nothing is written
 abbrev pub AsksForNone : {W : Type 0} → (asks_for_help : Bool) → (output output' : W) → Status → Type 0
 AsksForNone asks_for_help output output' status = (asks_for_help ≡ true) ⊎ (IsWrong status × (output' ≡ output))
 
--- what a run is said to end with was told to an audience, with a hint
-abbrev pub HasTold : {W E : Type 0} → (contents : E → Option (List ℕ)) → Audience → (output output' : W) → (errors errors' : E) → Ended → Option Hint → Type 0
-HasTold contents audience output output' errors errors' ended = λ hint. HasReported contents (told audience hint) output output' errors errors' ended
-
 -- arguments for a store: they ask for no command, and nothing is read; or the command of their first word was served
-abbrev pub RunsOnStore : {D : Type 0} → (g : Ghosts D) → {R W : Type 0} → (remaining : R → Option (List ℕ)) → (contents : W → Option (List ℕ))
-    → (arguments : List (List ℕ)) → (input input' : R) → (output output' : W) → (tells : Option Hint → Type 0) → Status → Type 0
-RunsOnStore g remaining contents arguments input input' output output' tells status =
-    (AsksForNone (ask_for_help arguments) output output' status × (input' ≡ input) × tells None)
-    ⊎ ServesWord g remaining contents (first_word arguments) input input' output output' tells status
+abbrev pub RunsOnStore : {D : Type 0} → (g : Ghosts D) → {R W E : Type 0} → (remaining : R → Option (List ℕ)) → (contents : W → Option (List ℕ))
+    → (reported : E → Option (List ℕ)) → Audience → (arguments : List (List ℕ)) → (before after : Ends R W E) → Ended → Type 0
+RunsOnStore g remaining contents reported audience arguments before after ended =
+    (AsksForNone (ask_for_help arguments) before.output after.output ended.status × (after.input ≡ before.input)
+    × HasTold reported audience before.output after.output before.errors after.errors ended None)
+    ⊎ ServesWord g remaining contents reported audience (first_word arguments) before after ended

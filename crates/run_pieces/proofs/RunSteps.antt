@@ -1,12 +1,14 @@
 -- The run that a piece is at, taken whole or in part.
 use Rattle.std.specs.List.{range_with_len}
-use Rattle.std.proofs.Common.{◌≡◌, ℕ, ◌+◌, ◌-◌, ◌<◌, ◌≤◌, true, List, ◌++◌, map, length, take, drop, get_or, set, sym, ap, subst, ◌∙◌, arith, append_assoc}
+use Rattle.std.proofs.Common.{◌≡◌, ℕ, ◌+◌, ◌-◌, ◌<◌, ◌≤◌, true, List, ◌++◌, map, length, take, drop, get_or, set, sym, ap, subst, ◌∙◌, arith, append_assoc, length-append}
 use Rattle.std.proofs.lemmas.Bool.{and_parts}
 use Rattle.std.proofs.lemmas.List.{take-append-drop, length-take-le, take_all}
 use Rattle.std.proofs.lemmas.List.Concat.{flat_map-cons}
+use Rattle.std.proofs.lemmas.List.Sums.{sum_by-append}
 use Rattle.facts.specs.laws.Lists.{drop-item}
 use Rattle.arrow_schema.specs.Column.{PlainSchema, Columns, columns_of}
 use Rattle.cells.specs.Cell.{Cell}
+use Rattle.cells.specs.Weight.{row_weight, table_weight}
 use Rattle.columns.specs.CellAt.{row_at}
 use Rattle.columns.specs.Sound.{are_sound}
 use Rattle.columns.specs.View.{placed_arrays}
@@ -20,6 +22,20 @@ use Rattle.run_pieces.specs.laws.Runs.{run_size}
 
 pub front_size : (cs : Columns) (run : RowRun) (k : ℕ) → k ≤ run.len → length (take k (run_rows cs run)) ≡ k
 front_size cs run k le = let size = run_size cs run in length-take-le k (run_rows cs run) (omega (arith, size))
+
+-- rows of a piece, and so many of a run behind them
+pub record HasTaken (s : PlainSchema) (before new : List (List Cell)) (run : RowRun) (k : ℕ) : Type 0 where
+  pub count : length new ≡ length before + k
+  pub weight : table_weight s new ≡ table_weight s before + table_weight s (take k (run_rows (columns_of s.columns) run))
+
+pub has_taken : (s : PlainSchema) (before new : List (List Cell)) (run : RowRun) (k : ℕ) → k ≤ run.len → new ≡ before ++ take k (run_rows (columns_of s.columns) run)
+    → HasTaken s before new run k
+has_taken s before new run k le taken =
+    let rows : List (List Cell) = take k (run_rows (columns_of s.columns) run) in
+    let size = front_size (columns_of s.columns) run k le in
+    let long = length-append before rows in
+    let both = sum_by-append (row_weight s) before rows in
+    record { count = omega (arith, ap length taken, long, size); weight = omega (arith, ap (table_weight s) taken, both) }
 
 -- the run at a place, before the others
 pub run_first : (cs : Columns) (items : List RowRun) (next : ℕ) (run : RowRun) → next < length items → run ≡ get_or items next run

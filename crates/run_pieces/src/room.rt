@@ -1,17 +1,15 @@
 // How many rows of a run the dictionaries of a piece have room for.
-ghost use Rattle.std.specs.Prelude.{◌≡◌, ◌≤◌, ◌<◌, ◌+◌, ◌++◌, [], ◌∷◌, true, false, take, List, IfOk, OnOk};
-ghost use Rattle.std.specs.List.{list_all};
+ghost use Rattle.std.specs.Prelude.{◌≡◌, ◌<◌, ◌+◌, ◌++◌, [], true, take, List, IfOk, OnOk};
 ghost use Rattle.arrays.specs.Shared.{ShareEntries, AreRowsSharing};
 ghost use Rattle.arrow_schema.specs.Column.{columns_of};
 ghost use Rattle.arrow_schema.specs.Limits.{IsWithinLimits};
 ghost use Rattle.arrow_schema.specs.View.{schema_of};
 ghost use Rattle.cells.specs.Cell.{Cell};
 ghost use Rattle.cells.specs.Dictionary.{is_any_limited, dictionaries_fit};
-ghost use Rattle.cells.specs.Row.{is_row};
 ghost use Rattle.columns.specs.CellAt.{row_at};
 ghost use Rattle.facts.specs.Bytes.{AreBytes};
-ghost use Rattle.run_pieces.specs.Rows.{arrays_of_run, run_rows, runs_rows, is_run_sound, are_runs_sound};
-ghost use Rattle.run_pieces.specs.inner.Room.{IsSeen, IsSeenWithin, HasRoom, IsRoom};
+ghost use Rattle.run_pieces.specs.Rows.{arrays_of_run, run_rows, runs_rows};
+ghost use Rattle.run_pieces.specs.inner.Room.{IsRunOf, AreRunsOf, IsRunBehind, IsSeen, IsSeenWithin, HasRoom, IsRoom};
 ghost use Rattle.table_cut.specs.SeenRows.{HaveSeen};
 ghost use Rattle.values.specs.Borrowed.{borrowed_cells};
 
@@ -48,8 +46,7 @@ fn are_bytes(bytes: &[u8])
 {}
 
 fn row_of<'a>(schema: &'a Schema, run: RowRun<'a>, i: usize) -> Values<'a>
-    requires sound { is_run_sound (columns_of (schema_of schema.now).columns) run ≡ true }
-    requires rows { list_all (is_row (schema_of schema.now)) (run_rows (columns_of (schema_of schema.now).columns) run) ≡ true }
+    requires run { IsRunOf (schema_of schema.now) run }
     requires within { i < run.len }
     ensures { borrowed_cells result ≡ row_at (columns_of (schema_of schema.now).columns) (arrays_of_run run.entry) (run.entry.from + i) }
 {
@@ -71,8 +68,7 @@ fn see_rows<'a>(
     run: RowRun<'a>,
 ) -> Result<(), AllocError>
     requires limited { is_any_limited (columns_of (schema_of schema.now).columns) ≡ true }
-    requires sound { is_run_sound (columns_of (schema_of schema.now).columns) run ≡ true }
-    requires rows { list_all (is_row (schema_of schema.now)) (run_rows (columns_of (schema_of schema.now).columns) run) ≡ true }
+    requires run { IsRunOf (schema_of schema.now) run }
     requires seen { (rows : List (List Cell)) × HaveSeen (schema_of schema.now) rows seen.old }
     ensures { OnOk result ((rows : List (List Cell)) → HaveSeen (schema_of schema.now) rows seen.old
         → HaveSeen (schema_of schema.now) (rows ++ run_rows (columns_of (schema_of schema.now).columns) run.entry) seen.new) }
@@ -90,8 +86,7 @@ fn see_runs<'a>(
     runs: &[RowRun<'a>],
 ) -> Result<SeenRows<'a>, AllocError>
     requires limited { is_any_limited (columns_of (schema_of schema.now).columns) ≡ true }
-    requires sound { are_runs_sound (columns_of (schema_of schema.now).columns) runs.now ≡ true }
-    requires rows { list_all (is_row (schema_of schema.now)) (runs_rows (columns_of (schema_of schema.now).columns) runs.now) ≡ true }
+    requires runs { AreRunsOf (schema_of schema.now) runs.now }
     ensures { IfOk result (λ seen. HaveSeen (schema_of schema.now) (runs_rows (columns_of (schema_of schema.now).columns) runs.now) seen) }
 {
     let mut seen = SeenRows::none();
@@ -109,8 +104,7 @@ fn take_rows<'a>(
     run: RowRun<'a>,
 ) -> Result<usize, AllocError>
     requires limited { is_any_limited (columns_of (schema_of schema.now).columns) ≡ true }
-    requires sound { is_run_sound (columns_of (schema_of schema.now).columns) run ≡ true }
-    requires rows { list_all (is_row (schema_of schema.now)) (run_rows (columns_of (schema_of schema.now).columns) run) ≡ true }
+    requires run { IsRunOf (schema_of schema.now) run }
     requires seen { (rows : List (List Cell)) × HaveSeen (schema_of schema.now) rows seen.old }
     ensures room { IfOk result (λ n. (rows : List (List Cell)) → HaveSeen (schema_of schema.now) rows seen.old
         → dictionaries_fit (schema_of schema.now) rows ≡ true → HasRoom (schema_of schema.now) rows run.entry n) }
@@ -133,8 +127,7 @@ fn room_behind<'a>(
     run: RowRun<'a>,
 ) -> Result<Room<'a>, AllocError>
     requires limited { is_any_limited (columns_of (schema_of schema.now).columns) ≡ true }
-    requires sound { is_run_sound (columns_of (schema_of schema.now).columns) run ≡ true }
-    requires rows { list_all (is_row (schema_of schema.now)) (run_rows (columns_of (schema_of schema.now).columns) run) ≡ true }
+    requires run { IsRunOf (schema_of schema.now) run }
     requires seen { (rows : List (List Cell)) × HaveSeen (schema_of schema.now) rows before }
     ensures { IfOk result (λ room. (rows : List (List Cell)) → HaveSeen (schema_of schema.now) rows before.entry
         → dictionaries_fit (schema_of schema.now) rows ≡ true → IsRoom (schema_of schema.now) rows run.entry room) }
@@ -179,13 +172,8 @@ fn room_behind_shared<'a>(
     piece: &[RowRun<'a>],
     run: RowRun<'a>,
 ) -> Result<Room<'a>, AllocError>
-    requires schema { IsWithinLimits (schema_of schema.now) }
     requires limited { is_any_limited (columns_of (schema_of schema.now).columns) ≡ true }
-    requires sound { are_runs_sound (columns_of (schema_of schema.now).columns) piece.now ≡ true }
-    requires rows { list_all (is_row (schema_of schema.now)) (runs_rows (columns_of (schema_of schema.now).columns) piece.now) ≡ true }
-    requires next_sound { is_run_sound (columns_of (schema_of schema.now).columns) run ≡ true }
-    requires next_rows { list_all (is_row (schema_of schema.now)) (run_rows (columns_of (schema_of schema.now).columns) run) ≡ true }
-    requires fits { dictionaries_fit (schema_of schema.now) (runs_rows (columns_of (schema_of schema.now).columns) piece.now) ≡ true }
+    requires behind { IsRunBehind (schema_of schema.now) piece.now run }
     requires seen { let columns = columns_of (schema_of schema.now).columns in AreRowsSharing columns (arrays_of_run first) (runs_rows columns piece.now) }
     ensures { IfOk result (λ room. IsRoom (schema_of schema.now) (runs_rows (columns_of (schema_of schema.now).columns) piece.now) run.entry room) }
 {
@@ -204,13 +192,8 @@ fn room_for<'a>(
     piece: &[RowRun<'a>],
     run: RowRun<'a>,
 ) -> Result<Room<'a>, AllocError>
-    requires schema { IsWithinLimits (schema_of schema.now) }
     requires limited { is_any_limited (columns_of (schema_of schema.now).columns) ≡ true }
-    requires sound { are_runs_sound (columns_of (schema_of schema.now).columns) piece.now ≡ true }
-    requires rows { list_all (is_row (schema_of schema.now)) (runs_rows (columns_of (schema_of schema.now).columns) piece.now) ≡ true }
-    requires next_sound { is_run_sound (columns_of (schema_of schema.now).columns) run ≡ true }
-    requires next_rows { list_all (is_row (schema_of schema.now)) (run_rows (columns_of (schema_of schema.now).columns) run) ≡ true }
-    requires fits { dictionaries_fit (schema_of schema.now) (runs_rows (columns_of (schema_of schema.now).columns) piece.now) ≡ true }
+    requires behind { IsRunBehind (schema_of schema.now) piece.now run }
     requires seen { IsSeen (schema_of schema.now) (runs_rows (columns_of (schema_of schema.now).columns) piece.now) seen }
     ensures { IfOk result (λ room. IsRoom (schema_of schema.now) (runs_rows (columns_of (schema_of schema.now).columns) piece.now) run.entry room) }
 {
@@ -231,13 +214,8 @@ pub(crate) fn room_within<'a>(
     piece: &[RowRun<'a>],
     run: RowRun<'a>,
 ) -> Result<Room<'a>, AllocError>
-    requires schema { IsWithinLimits (schema_of schema.now) }
     requires limited { limited ≡ is_any_limited (columns_of (schema_of schema.now).columns) }
-    requires sound { are_runs_sound (columns_of (schema_of schema.now).columns) piece.now ≡ true }
-    requires rows { list_all (is_row (schema_of schema.now)) (runs_rows (columns_of (schema_of schema.now).columns) piece.now) ≡ true }
-    requires next_sound { is_run_sound (columns_of (schema_of schema.now).columns) run ≡ true }
-    requires next_rows { list_all (is_row (schema_of schema.now)) (run_rows (columns_of (schema_of schema.now).columns) run) ≡ true }
-    requires fits { dictionaries_fit (schema_of schema.now) (runs_rows (columns_of (schema_of schema.now).columns) piece.now) ≡ true }
+    requires behind { IsRunBehind (schema_of schema.now) piece.now run }
     requires seen { IsSeenWithin (schema_of schema.now) (runs_rows (columns_of (schema_of schema.now).columns) piece.now) seen }
     ensures room { IfOk result (λ room. let columns = columns_of (schema_of schema.now).columns in
         HasRoom (schema_of schema.now) (runs_rows columns piece.now) run.entry room.rows) }

@@ -15,7 +15,6 @@ use Rattle.values.specs.Table.{IsTable, table_from, first_unfit}
 use Rattle.ipc_message.specs.declared.fault.Fault.{Fault}
 use Rattle.ipc_message.specs.Header.{supported_codes}
 use Rattle.ipc_stream.specs.Meaning.{meaning}
-use Rattle.canonical_write.specs.Pieces.{piece_streams, piece_counts}
 use Rattle.catalogue.specs.Entries.{PlainEntry, PlainCatalogue}
 use Rattle.catalogue.specs.Edits.{entry_of}
 use Rattle.tables.specs.declared.refusal.Limit.TheVariants as limits
@@ -25,11 +24,11 @@ use Rattle.tables.specs.declared.refusal.Refusal.TheVariants.{NoTable, TooMany}
 use Rattle.tables.specs.Commands.{PlainCommand, append_stream, append_rows}
 use Rattle.tables.specs.Tables.{Tables, table_at, with_table}
 use Rattle.tables.specs.Verdict.{too_many_bytes, other_shape, unfit_row, too_heavy, of_table, of_meaning, appended, appended_table, appended_stream, verdict}
-use Rattle.store.specs.Changes.{PlainChange, extend, rows_under, stream_rows}
+use Rattle.store.specs.Changes.{PlainChange, extend, rows_under}
 use Rattle.store.specs.Deciding.{of_entry, Addition, given_rows, rows_of_table, streamed_rows, pieces_put, IsAdded}
 use Rattle.store.specs.Held.{table_held}
+use Rattle.store.specs.inner.LawsBelow.{LawsBelow}
 use Rattle.store.specs.Verdicts.{TellsTable, AreListed, IsVerdict}
-use Rattle.store.proofs.ReadTables.{TableLaws}
 
 -- ---- tests in turn
 
@@ -130,12 +129,6 @@ streamed_is e bytes a h = by_meaning (meaning supported_codes bytes) (passed (to
 
 -- ---- tables
 
--- what the laws of rows and of pieces say
-pub record RowLaws : Type 0 where
-  pub tables : TableLaws
-  pub join : (s : PlainSchema) (a b : List (List Cell)) → IsTable (rows_under s a) → IsTable (rows_under s b) → table_weight s (a ++ b) ≤ MAX_TABLE_WEIGHT → IsTable (rows_under s (a ++ b))
-  pub held : (t : PlainTable) → IsTable t → stream_rows t.schema (piece_streams t) (piece_counts t) ≡ Some t.rows
-
 -- rows that fit and are light are accepted
 pub accepted : (s : PlainSchema) (rows : List (List Cell)) → first_unfit s rows ≡ None → nat_le (table_weight s rows) MAX_TABLE_WEIGHT ≡ true → table_from s rows ≡ Ok (rows_under s rows)
 unfolding table_from
@@ -146,7 +139,7 @@ light_none true h = refl
 light_none false h = absurd (cc h)
 
 -- new rows under the entry's schema, that are light behind those that stand
-pub new_table : RowLaws → (e : PlainEntry) (a : Addition) (standing : List (List Cell)) → IsWithinLimits e.schema → IsFitting e a → nat_le (table_weight e.schema (standing ++ a.rows)) MAX_TABLE_WEIGHT ≡ true
+pub new_table : LawsBelow → (e : PlainEntry) (a : Addition) (standing : List (List Cell)) → IsWithinLimits e.schema → IsFitting e a → nat_le (table_weight e.schema (standing ++ a.rows)) MAX_TABLE_WEIGHT ≡ true
     → IsTable (rows_under e.schema a.rows)
 new_table laws e a standing within fitting light =
     let whole : table_weight e.schema (standing ++ a.rows) ≤ MAX_TABLE_WEIGHT = leb-true (table_weight e.schema (standing ++ a.rows)) MAX_TABLE_WEIGHT light in
@@ -172,7 +165,7 @@ under : (t : Tables) (name : List ℕ) (s : PlainSchema) (table : PlainTable) �
 under t name s table at same = at ∙ (λ i. Some (rows_under (same i) table.rows))
 
 -- of rows for the table of an entry, by whatever command
-module _ (laws : RowLaws) (image : Image) (c : PlainCatalogue) (t : Tables) (listed : AreListed image c t) (name : List ℕ) (e : PlainEntry) (there : entry_of c name ≡ Some e)
+module _ (laws : LawsBelow) (image : Image) (c : PlainCatalogue) (t : Tables) (listed : AreListed image c t) (name : List ℕ) (e : PlainEntry) (there : entry_of c name ≡ Some e)
     (command : PlainCommand) (tested : Result Addition Refusal) (fitting : (a : Addition) → tested ≡ Ok a → IsFitting e a)
     (verdict_is : (rows : List (List Cell)) (found : table_at t name ≡ Some (rows_under e.schema rows)) → verdict t command ≡ onto tested (behind t name e rows found)) where
   by_weight : (rows : List (List Cell)) (found : table_at t name ≡ Some (rows_under e.schema rows)) → IsTable (rows_under e.schema rows) → (a : Addition) (w : Option Refusal) → tested ≡ Ok a
@@ -183,7 +176,7 @@ module _ (laws : RowLaws) (image : Image) (c : PlainCatalogue) (t : Tables) (lis
   by_weight rows found old a None is light =
       let test : nat_le (table_weight e.schema (rows ++ a.rows)) MAX_TABLE_WEIGHT ≡ true = light_none (nat_le (table_weight e.schema (rows ++ a.rows)) MAX_TABLE_WEIGHT) light in
       let more = new_table laws e a rows old.schema (fitting a is) test in
-      let whole = laws.join e.schema rows a.rows old more (leb-true (table_weight e.schema (rows ++ a.rows)) MAX_TABLE_WEIGHT test) in (
+      let whole = laws.tables.joined e.schema rows a.rows old more (leb-true (table_weight e.schema (rows ++ a.rows)) MAX_TABLE_WEIGHT test) in (
         with_table t name (rows_under e.schema (rows ++ a.rows)),
         verdict_is rows found ∙ ap (λ (x : Result Addition Refusal). onto x (behind t name e rows found)) is
             ∙ ap (λ (o : Option Refusal). unless o (Ok (with_table t name (rows_under e.schema (rows ++ a.rows))))) light,
@@ -207,7 +200,7 @@ module _ (laws : RowLaws) (image : Image) (c : PlainCatalogue) (t : Tables) (lis
           stands.2 ∙ (λ i. unless (too_heavy (own i).schema (stands.0.rows ++ a.rows)) (Ok (pieces_put (extend name) (rows_under (own i).schema a.rows)))) in
           subst (IsVerdict t command) (sym same) (by_weight stands.0.rows (under t name e.schema stands.0 at schema) old a (too_heavy e.schema (stands.0.rows ++ a.rows)) test refl)
 
-module _ (laws : RowLaws) (image : Image) (c : PlainCatalogue) (t : Tables) (listed : AreListed image c t) (name : List ℕ) (d : Result PlainChange Refusal) where
+module _ (laws : LawsBelow) (image : Image) (c : PlainCatalogue) (t : Tables) (listed : AreListed image c t) (name : List ℕ) (d : Result PlainChange Refusal) where
   -- no table has the name
   missing_rows : (rows : List (List Cell)) → entry_of c name ≡ None → verdict t (append_rows name rows) ≡ Err NoTable
   unfolding verdict

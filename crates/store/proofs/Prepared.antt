@@ -1,10 +1,14 @@
 -- What was prepared for a change can be published, and then stands.
-use Rattle.std.specs.Prelude.{◌≡◌, ◌≤◌, ◌<◌, ◌+◌, ◌^◌, ◌==◌, ◌&&◌, ◌||◌, ℕ, Bool, true, false, not, nat_le, List, [], ◌∷◌, ◌++◌, length, map, if◌then◌else◌, Some, None, Err, refl}
+use Rattle.std.specs.Prelude.{◌≡◌, ◌≤◌, ◌<◌, ◌+◌, ◌^◌, ◌==◌, ◌&&◌, ◌||◌, ℕ, Bool, true, false, not, nat_le, List, [], ◌∷◌, ◌++◌, length, map, if◌then◌else◌, Some, None, Err, refl, vec_len}
+use Rattle.std.specs.Global.{Vec}
 use Rattle.std.specs.List.{list_all, AllByRecursion}
 use Rattle.std.proofs.Common.{inl, inr, ⊎_elim, ◌≢◌, sym, ap, ◌∙◌, subst, arith}
 use Rattle.std.proofs.lemmas.Bool.{and_parts, or_parts, false_from_ne_true, leb-true, cases_eq}
 use Rattle.std.proofs.lemmas.List.{length-map}
 use Rattle.sector_dev.specs.Disk.{Disk, Image}
+use Rattle.array_build.specs.declared.batch.Buffer.{Buffer}
+use Rattle.canonical_write.specs.View.{joined_parts, streams_in}
+use Rattle.canonical_write.specs.declared.encoder.EncodedPieces.{EncodedPieces}
 use Rattle.segments.specs.declared.errors.TakeError.{TakeError}
 use Rattle.segments.specs.declared.errors.TakeError.TheVariants as takings
 use Rattle.segments.specs.declared.run.Run.{Run}
@@ -44,6 +48,14 @@ use Rattle.store.specs.laws.Segments.{are_streams, placed_number, placed_runs, p
 use Rattle.store.specs.laws.Edited.{edited_stands, edited_size, edited_count, edited_times, given_up_times, edited_runs}
 
 -- ---- the catalogues of a change
+
+-- as many segments without places as there are pieces
+pub unplaced_count : (pieces : EncodedPieces) (change : PlainChange) (n : ℕ) → n ≡ vec_len pieces.parts → streams_in pieces ≡ change.streams → length change.streams ≡ length change.counts
+    → length (unplaced change.streams change.counts) ≡ n
+unplaced_count pieces change n count same each =
+    let whole = pieces.parts.ok in
+    let streams = length-map pieces.parts.items (λ (v : Vec Buffer). pieces.schema_message.items ++ joined_parts v.items) in
+    omega (arith, unplaced_number change.streams change.counts each, streams, ap (λ (xs : List (List ℕ)). length xs) same, count, whole)
 
 module _ (c : PlainCatalogue) (change : PlainChange) (sound : IsChange c change) where
   -- its outline may stand, where it has few enough segments

@@ -28,6 +28,7 @@ use Rattle.tables.specs.declared.refusal.Refusal.{Refusal as Told}
 use Rattle.tables.specs.declared.refusal.Refusal.TheVariants as refusals
 use Rattle.store.specs.Calls.{PlainReply, done, is_device_reply, counted}
 use Rattle.store.specs.Reading.{ArePast, IsUnread, Unreads, OnlyReadsDevice}
+use Rattle.store.specs.inner.LawsBelow.{TableLaws}
 use Rattle.store.specs.inner.Reading.{UnreadsSegment}
 use Rattle.store.specs.laws.Changed.{rows_behind}
 use Rattle.store.specs.laws.Named.{held_has}
@@ -53,16 +54,6 @@ unfolding rows_held
 rows_of_none schema image = refl
 
 -- ---- the table
-
--- a clause of a law: accepted rows are a table
-abbrev pub Accepts : Type 0
-Accepts = (s : PlainSchema) (rows : List (List Cell)) (t : PlainTable) → IsWithinLimits s → table_from s rows ≡ Ok t → (t ≡ record { schema = s; rows = rows }) × IsTable t
-
--- what the laws of tables say of the rows of this schema
-pub record TableLaws : Type 0 where
-  pub accepts : Accepts
-  pub accepted : (t : PlainTable) → IsTable t → table_from t.schema t.rows ≡ Ok t
-  pub cut : (s : PlainSchema) (a b : List (List Cell)) → IsTable (record { schema = s; rows = a ++ b }) → IsTable (record { schema = s; rows = a }) × IsTable (record { schema = s; rows = b })
 
 pub read_is_held : TableLaws → (image : Image) (e : PlainEntry) (t : PlainTable) → IsTable t → t.schema ≡ e.schema → rows_held e.schema e.segments image ≡ Some t.rows → table_held image e ≡ Some t
 read_is_held laws image e t is same rows =

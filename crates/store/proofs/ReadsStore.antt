@@ -33,7 +33,8 @@ use Rattle.store.specs.Applying.{GoesOn}
 use Rattle.store.specs.Reading.{IsUnread, Unreads, RefusesRead, ReadsTable, OnlyReadsStore}
 use Rattle.store.specs.laws.Named.{entry_has, entry_lacks}
 use Rattle.store.proofs.Asked.{not_less, is_running, not_running, refused_elsewhere}
-use Rattle.store.proofs.ReadTables.{TableLaws, unread_not_held}
+use Rattle.store.specs.inner.LawsBelow.{TableLaws}
+use Rattle.store.proofs.ReadTables.{unread_not_held}
 
 -- ---- images
 

@@ -18,20 +18,15 @@ use Rattle.tables.specs.Verdict.{bad_name, of_table, of_query, empty_table, made
 use Rattle.store.specs.Changes.{PlainChange, put}
 use Rattle.store.specs.Deciding.{create_tests, of_entry, selected_entry, pieces_put, IsSaved}
 use Rattle.store.specs.Verdicts.{AreListed, IsVerdict}
-use Rattle.store.proofs.Appended.{RowLaws, listed_at, none_listed}
+use Rattle.store.specs.inner.LawsBelow.{LawsBelow}
+use Rattle.store.proofs.Appended.{listed_at, none_listed}
 use Rattle.store.proofs.Tested.{taken_same, full_same}
-
--- what the laws of queries say
-pub record QueryLaws : Type 0 where
-  pub rows : RowLaws
-  pub selects : (t : PlainTable) (q : PlainQuery) (s : PlainTable) → IsTable t → selection t q ≡ Ok s → IsTable s
-  pub alike : (t u : PlainTable) (q : PlainQuery) (r : queries.Refusal) → t.schema ≡ u.schema → selection t q ≡ Err r → selection u q ≡ Err r
 
 -- the test of the query, by the selection of a table without rows
 abbrev told : Result PlainTable queries.Refusal → Option Refusal
 told s = elim s [ Ok table ↦ None | Err r ↦ Some (query_refusal r) ]
 
-module _ (laws : QueryLaws) (image : Image) (c : PlainCatalogue) (t : Tables) (listed : AreListed image c t) (from to : List ℕ) (query : PlainQuery) where
+module _ (laws : LawsBelow) (image : Image) (c : PlainCatalogue) (t : Tables) (listed : AreListed image c t) (from to : List ℕ) (query : PlainQuery) where
   abbrev command : PlainCommand
   command = save_as from to query
 
@@ -56,7 +51,7 @@ module _ (laws : QueryLaws) (image : Image) (c : PlainCatalogue) (t : Tables) (l
       let sound = laws.selects table query new kept is in (
         with_table t to new,
         verdict_by table (Ok new) at is ∙ made_by new None tested,
-        (new.rows, laws.rows.held new sound, laws.rows.tables.accepted new sound, refl),
+        (new.rows, laws.held new sound, laws.tables.accepted new sound, refl),
       )
 
   module _ (e : PlainEntry) (there : entry_of c from ≡ Some e) where

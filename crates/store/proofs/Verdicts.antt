@@ -8,7 +8,6 @@ use Rattle.segments.specs.declared.entries.UsageEntry.{UsageEntry}
 use Rattle.segments.specs.Usages.{IsUsedIn}
 use Rattle.arrow_schema.specs.Column.{PlainSchema}
 use Rattle.cells.specs.Cell.{PlainTable}
-use Rattle.values.specs.Table.{IsTable}
 use Rattle.ipc_message.specs.declared.fault.Fault.{Fault}
 use Rattle.ipc_message.specs.Header.{supported_codes}
 use Rattle.ipc_stream.specs.Meaning.{meaning}
@@ -34,6 +33,7 @@ use Rattle.store.specs.Reading.{Unreads}
 use Rattle.store.specs.Deciding.{missing_in, full_in, create_tests, rename_tests, names_changed, pieces_put, decided_create, decided_table, of_entry, Addition, given_rows, streamed_rows, unselected, entry_added, entry_selected, entry_read, reads_device, IsNotRead, IsDecided, IsAnswered}
 use Rattle.store.specs.Carrying.{outline}
 use Rattle.store.specs.Applying.{HasDone}
+use Rattle.store.specs.inner.LawsBelow.{LawsBelow}
 use Rattle.store.specs.Verdicts.{Lists, AreListed, IsVerdict, IsUndecided, HoldsVerdict}
 use Rattle.store.specs.laws.Changed.{edited_held}
 use Rattle.store.specs.laws.Frame.{held_is, same_tables}
@@ -42,14 +42,8 @@ use Rattle.store.specs.laws.Named.{entry_has}
 use Rattle.store.proofs.Appended.{given_is, streamed_is, rows_decided, stream_decided}
 use Rattle.store.proofs.ReadTables.{unread_not_held}
 use Rattle.store.proofs.ReadsStore.{shown_is_synced}
-use Rattle.store.proofs.Saved.{QueryLaws, saved_decided}
+use Rattle.store.proofs.Saved.{saved_decided}
 use Rattle.store.proofs.Tested.{create_same, rename_by, rename_passed, rename_made, drop_by, drop_made, full_same, import_by, empty_rows}
-
--- what the laws say of queries, of what streams mean, and of catalogues that are read
-pub record Laws : Type 0 where
-  pub queries : QueryLaws
-  pub means : (bytes : List ℕ) (table : PlainTable) → AreBytes bytes → meaning supported_codes bytes ≡ Ok table → IsTable table
-  pub catalogues : (bytes : List ℕ) (c : PlainCatalogue) → catalogue_at bytes ≡ Some c → IsCatalogue c
 
 -- ---- commands that read nothing
 
@@ -76,7 +70,7 @@ module _ (c : PlainCatalogue) (t : Tables) (lists : Lists c t) where
   dropped name (Some r) h = drop_by c t name r lists (table_at t name) refl h
   dropped name None h = (without_table t name, drop_made c t name lists h, refl)
 
-  imported : Laws → (name bytes : List ℕ) → AreBytes bytes → (o : Option Refusal) (m : Result PlainTable Fault) → import_tests name bytes ≡ o → meaning supported_codes bytes ≡ m
+  imported : LawsBelow → (name bytes : List ℕ) → AreBytes bytes → (o : Option Refusal) (m : Result PlainTable Fault) → import_tests name bytes ≡ o → meaning supported_codes bytes ≡ m
       → IsVerdict t (import_stream name bytes) (unless o (of_meaning m (decided_table c name)))
   imported laws name bytes are (Some r) m tested means = import_by t name bytes (Some r) m tested means
   imported laws name bytes are None (Err fault) tested means = import_by t name bytes None (Err fault) tested means
@@ -84,18 +78,18 @@ module _ (c : PlainCatalogue) (t : Tables) (lists : Lists c t) where
       let sound = laws.means bytes table are means in
       by_test t (import_stream name bytes) (pieces_put (put name table.schema) table) (with_table t name table) (full_in c name)
       (import_by t name bytes None (Ok table) tested means ∙ ap (λ (o : Option Refusal). unless o (Ok (with_table t name table))) (full_same c t name lists))
-      ((table.rows, laws.queries.rows.held table sound, laws.queries.rows.tables.accepted table sound, refl))
+      ((table.rows, laws.held table sound, laws.tables.accepted table sound, refl))
 
 -- ---- what is decided
 
-pub decided : Laws → (image : Image) (c : PlainCatalogue) (t : Tables) (command : PlainCommand) (d : Result PlainChange Refusal) → AreListed image c t → BringsTables command
+pub decided : LawsBelow → (image : Image) (c : PlainCatalogue) (t : Tables) (command : PlainCommand) (d : Result PlainChange Refusal) → AreListed image c t → BringsTables command
     → IsDecided true image c command d → IsVerdict t command d
 decided laws image c t (create name schema) d listed brings is = subst (IsVerdict t (create name schema)) (sym is) (created c t listed.lists name schema)
 decided laws image c t (import_stream name bytes) d listed brings is =
     subst (IsVerdict t (import_stream name bytes)) (sym is) (imported c t listed.lists laws name bytes brings (import_tests name bytes) (meaning supported_codes bytes) refl refl)
-decided laws image c t (append_stream name bytes) d listed brings is = stream_decided laws.queries.rows image c t listed name d bytes is
-decided laws image c t (append_rows name rows) d listed brings is = rows_decided laws.queries.rows image c t listed name d rows is
-decided laws image c t (save_as from to query) d listed brings is = saved_decided laws.queries image c t listed from to query d is
+decided laws image c t (append_stream name bytes) d listed brings is = stream_decided laws image c t listed name d bytes is
+decided laws image c t (append_rows name rows) d listed brings is = rows_decided laws image c t listed name d rows is
+decided laws image c t (save_as from to query) d listed brings is = saved_decided laws image c t listed from to query d is
 decided laws image c t (rename from to) d listed brings is = subst (IsVerdict t (rename from to)) (sym is) (renamed c t listed.lists from to (rename_tests c from to) refl)
 decided laws image c t (drop_table name) d listed brings is = subst (IsVerdict t (drop_table name)) (sym is) (dropped c t listed.lists name (missing_in c name) refl)
 
@@ -143,13 +137,13 @@ reads_at c (rename from to) e is = absurd (cc is)
 reads_at c (drop_table name) e is = absurd (cc is)
 
 -- a table that is held is not read only where the device fails, or memory is refused
-module _ (laws : Laws) (image : Image) (c : PlainCatalogue) (t : Tables) (catalogue : IsCatalogue c) (held : tables_held image c ≡ Some t) (name : List ℕ) (e : PlainEntry) (there : entry_of c name ≡ Some e) where
+module _ (laws : LawsBelow) (image : Image) (c : PlainCatalogue) (t : Tables) (catalogue : IsCatalogue c) (held : tables_held image c ≡ Some t) (name : List ℕ) (e : PlainEntry) (there : entry_of c name ≡ Some e) where
   why_unread : (r : Refusal) → Unreads true image e r → (r ≡ refusals.OutOfMemory) ⊎ (r ≡ refusals.Device)
   why_unread refusals.Device u = inr refl
   why_unread refusals.OutOfMemory u = inl refl
   why_unread (refusals.SegmentUnread place) u =
       let has = entry_has image c t held name e there in
-      absurd (unread_not_held laws.queries.rows.tables image e place has.0 (entry_is e (found_passes is_entry c name e catalogue.entries there)).schema (u.1 refl) has.1)
+      absurd (unread_not_held laws.tables image e place has.0 (entry_is e (found_passes is_entry c name e catalogue.entries there)).schema (u.1 refl) has.1)
   why_unread refusals.NoTable u = absurd u
   why_unread refusals.NameTaken u = absurd u
   why_unread refusals.BadName u = absurd u
@@ -165,7 +159,7 @@ module _ (laws : Laws) (image : Image) (c : PlainCatalogue) (t : Tables) (catalo
   why_unread (refusals.SegmentDamaged segment) u = absurd u
   why_unread refusals.Write u = absurd u
 
-not_read : Laws → (image : Image) (c : PlainCatalogue) (t : Tables) (command : PlainCommand) (d : Result PlainChange Refusal) → IsCatalogue c → tables_held image c ≡ Some t
+not_read : LawsBelow → (image : Image) (c : PlainCatalogue) (t : Tables) (command : PlainCommand) (d : Result PlainChange Refusal) → IsCatalogue c → tables_held image c ≡ Some t
     → IsNotRead true image (entry_read c command) d → IsUndecided command d
 not_read laws image c t command d catalogue held unread =
     let at = reads_at c command unread.entry unread.tested in
@@ -175,7 +169,7 @@ not_read laws image c t command d catalogue held unread =
     by_refusal reads (inl memory) = inl (unread.told ∙ ap Err memory)
     by_refusal reads (inr device) = inr (unread.told ∙ ap Err device, reads)
 
-pub answered : Laws → (image : Image) (c : PlainCatalogue) (t : Tables) (command : PlainCommand) (d : Result PlainChange Refusal) → IsCatalogue c → tables_held image c ≡ Some t → BringsTables command
+pub answered : LawsBelow → (image : Image) (c : PlainCatalogue) (t : Tables) (command : PlainCommand) (d : Result PlainChange Refusal) → IsCatalogue c → tables_held image c ≡ Some t → BringsTables command
     → IsAnswered true image c command d → IsUndecided command d ⊎ IsVerdict t command d
 answered laws image c t command d catalogue held brings (inl memory) = inl (inl memory)
 answered laws image c t command d catalogue held brings (inr (inl unread)) = inl (not_read laws image c t command d catalogue held unread)
@@ -184,7 +178,7 @@ answered laws image c t command d catalogue held brings (inr (inr is)) = inr (de
 -- ---- what is done
 
 -- a catalogue that stands was read
-pub standing_catalogue : Laws → (size : ℕ) (image : Image) (k : Commit) (c : PlainCatalogue) → standing whole_reading size image ≡ rules k c → IsCatalogue c
+pub standing_catalogue : LawsBelow → (size : ℕ) (image : Image) (k : Commit) (c : PlainCatalogue) → standing whole_reading size image ≡ rules k c → IsCatalogue c
 standing_catalogue laws size image k c is =
     let found = rules_found whole_reading size image k c is in
     laws.catalogues found.text c (by_text (catalogue_at found.text) found.spelled)
@@ -193,7 +187,7 @@ standing_catalogue laws size image k c is =
     by_text None h = absurd (cc h)
     by_text (Some x) h = let same : x ≡ c = cc h in ap Some same
 
-module _ (laws : Laws) (size : ℕ) (entries : List UsageEntry) (k : Commit) (c : PlainCatalogue) (before : Disk) (t : Tables) (command : PlainCommand) (image : Image)
+module _ (laws : LawsBelow) (size : ℕ) (entries : List UsageEntry) (k : Commit) (c : PlainCatalogue) (before : Disk) (t : Tables) (command : PlainCommand) (image : Image)
     (stands : Stands whole_reading size before k c) (held : tables_held (synced_image before) c ≡ Some t) (brings : BringsTables command)
     (kept : (n : ℕ) → InSome (used_runs whole_reading k c) n → image n ≡ (before.at n).synced) where
   catalogue : IsCatalogue c

@@ -4,3 +4,4 @@ pub mod Saving
 pub mod Prepared
 pub mod Gathered
 pub mod Reading
+pub mod LawsBelow

@@ -14,13 +14,14 @@ ghost use Rattle.store.specs.Reading.{RefusesRead, ReadsTable, OnlyReadsStore, e
 ghost use Rattle.values.specs.TableView.{table_of};
 
 use crate::Store;
+use crate::laws::table_laws;
 use canonical_round_trip::canonical_means_its_table;
 use canonical_write::{WriteError, encode, encode_to};
 use sector_dev::SectorDevice;
 use std::alloc::Global;
 use std::io::Write;
 use tables::Refusal;
-use values::{Table, accepted_rows_are_a_table, tables_are_joined_and_cut};
+use values::Table;
 
 impl<D: SectorDevice> Store<D> {
     // The table of a name, whose canonical stream is to be given.
@@ -38,8 +39,7 @@ impl<D: SectorDevice> Store<D> {
             (entry_of (listed_in self.old) name.now)) }
         ensures reads { OnlyReadsStore D.size D.story D.failed D.tells (ended result) self.old self.new }
     {
-        accepted_rows_are_a_table();
-        tables_are_joined_and_cut();
+        table_laws();
         canonical_means_its_table();
         match self.read_named(alloc, name) {
             Ok(table) => Ok(table),

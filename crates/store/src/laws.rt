@@ -19,6 +19,7 @@ ghost use Rattle.store.specs.Deciding.{IsDecided, IsAnswered};
 ghost use Rattle.store.specs.Applying.{HasDone, IsOldOrDone};
 ghost use Rattle.store.specs.Verdicts.{AreListed, IsVerdict, IsUndecided, HoldsVerdict};
 ghost use Rattle.store.specs.Runs.{Goes, Run};
+ghost use Rattle.store.specs.inner.LawsBelow.{LawsBelow, TableLaws};
 ghost use Rattle.store.specs.Since.{story_at, IsLeftFrom};
 ghost use Rattle.store.specs.Halting.{phase_where, tells_halt_while_open};
 ghost use Rattle.store.specs.History.{any_change, begun, acknowledged, Settles, SettlesAll, Keeps, tells_damage, tells_no_store};
@@ -101,6 +102,26 @@ pub fn a_stop_keeps_what_was_acknowledged()
         → Keeps s m (any_change (take i calls) (take i replies)) (acknowledged (take i calls) (take i replies)) (begun calls replies) image }
 {}
 
+// What the laws of tables say, as one fact.
+pub(crate) fn table_laws()
+    ensures { TableLaws }
+{
+    accepted_rows_are_a_table();
+    tables_are_joined_and_cut();
+}
+
+// What all laws below the store say.
+fn laws_below()
+    ensures { LawsBelow }
+{
+    table_laws();
+    pieces_are_tables();
+    selection_is_a_table();
+    rows_refuse_no_query();
+    meaning_is_a_table();
+    one_text_each();
+}
+
 /// What is decided of a command by a catalogue, and by what reads show, is the verdict on the tables that the catalogue lists: a change that makes
 /// of them what the command makes, or the same refusal. `decided` is also of a store of which some segment can't be read. Where each can be read
 /// (`listed`) there is no other answer, but that memory was refused, or that the device failed (`answered`). `catalogues`: what stands is a catalogue.
@@ -113,13 +134,7 @@ pub fn decisions_are_verdicts()
         → IsUndecided command d ⊎ IsVerdict t command d }
     ensures catalogues { (size : ℕ) (image : Image) (k : Commit) (c : PlainCatalogue) → standing whole_reading size image ≡ rules k c → IsCatalogue c }
 {
-    accepted_rows_are_a_table();
-    tables_are_joined_and_cut();
-    pieces_are_tables();
-    selection_is_a_table();
-    rows_refuse_no_query();
-    meaning_is_a_table();
-    one_text_each();
+    laws_below();
 }
 
 /// Of a store that lies on its disk, with these tables: an image on which a command is done has the tables that the verdict says, where what lay in
@@ -133,11 +148,5 @@ pub fn what_is_done_is_the_verdict()
         (image : Image) → Stands whole_reading size before k c → tables_held (synced_image before) c ≡ Some t → BringsTables command
         → IsOldOrDone size (IsUsedIn entries) k c before command image → (held_by size image ≡ holds t) ⊎ HoldsVerdict size image t command }
 {
-    accepted_rows_are_a_table();
-    tables_are_joined_and_cut();
-    pieces_are_tables();
-    selection_is_a_table();
-    rows_refuse_no_query();
-    meaning_is_a_table();
-    one_text_each();
+    laws_below();
 }

@@ -8,7 +8,7 @@ ghost use Rattle.arrow_schema.specs.View.{schema_of};
 ghost use Rattle.values.specs.TableView.{table_of, is_in_parts};
 ghost use Rattle.cells.specs.Weight.{table_weight};
 ghost use Rattle.ipc_write.specs.Written.{schema_message};
-ghost use Rattle.catalogue.specs.Entries.{is_segment, is_entry, plain_entry, row_count};
+ghost use Rattle.catalogue.specs.Entries.{is_segment, is_entry, plain_entry};
 ghost use Rattle.commit.specs.Standing.{is_size, is_on_device, all_on_device};
 ghost use Rattle.store.specs.Held.{rows_in_bytes, segment_rows, joined_rows, rows_held};
 ghost use Rattle.store.specs.Reading.{IsRead, Unreads, OnlyReadsDevice, ended};
@@ -19,6 +19,7 @@ ghost use Rattle.store.specs.inner.Reading.{UnreadsSegment, FailsReading, runs_i
 
 use crate::Store;
 use crate::gathered::Gathered;
+use crate::laws::table_laws;
 use arrow_schema::Schema;
 use catalogue::{Segment, TableEntry};
 use cells::MAX_TABLE_WEIGHT;
@@ -29,7 +30,7 @@ use sector_dev::SectorDevice;
 use segments::{ReadError, read_run};
 use std::alloc::{AllocError, Global};
 use tables::Refusal;
-use values::{Table, TableError, Weighed, accepted_rows_are_a_table, tables_are_joined_and_cut};
+use values::{Table, TableError, Weighed};
 
 // The table of so many rows that some bytes hold, if they begin with the message of its schema.
 fn table_in_bytes(
@@ -199,8 +200,7 @@ pub(crate) fn gather_entry<D: SectorDevice>(
     ensures table { IfOk result (λ g. IsRead D.tells (shown_image (now (D.story device.old))) (plain_entry entry.now) (gathered_table g)) }
     ensures unread { IfErr result (Unreads D.tells (shown_image (now (D.story device.old))) (plain_entry entry.now)) }
 {
-    accepted_rows_are_a_table();
-    tables_are_joined_and_cut();
+    table_laws();
     match start_table(alloc, &entry.schema) {
         Ok((front, empty)) => {
             match read_segments(alloc, device, &front, empty, &entry.segments) {
@@ -291,8 +291,7 @@ impl<D: SectorDevice> Store<D> {
             (entry_of (listed_in self.old) name.now)) }
         ensures reads { OnlyReadsStore D.size D.story D.failed D.tells (ended result) self.old self.new }
     {
-        accepted_rows_are_a_table();
-        tables_are_joined_and_cut();
+        table_laws();
         match self.read_named(alloc, name) {
             Ok(table) => Ok(table),
             Err(refusal) => Err(refusal),

@@ -1,15 +1,18 @@
 -- The place that each cell of a column has among the entries of its dictionary, as cells and their entries are added.
-use Rattle.std.specs.Prelude.{◌≡◌, ℕ, ◌+◌, ◌*◌, ◌++◌, Bool, List, drop, map, take, get_or, is_some, set, position, Option, Some, None}
-use Rattle.std.specs.List.{flat_map}
+use Rattle.std.specs.Prelude.{◌≡◌, ◌≤◌, ◌<◌, ℕ, ◌+◌, ◌-◌, ◌*◌, ◌++◌, Bool, true, List, drop, length, map, take, get_or, is_some, set, position, Option, Some, None}
+use Rattle.std.specs.List.{flat_map, list_all}
 use Rattle.byteorder.specs.Endian.{little_bytes}
-use Rattle.arrow_schema.specs.View.{kind_of}
+use Rattle.array_build.specs.inner.RunCells.{is_coded}
+use Rattle.arrow_schema.specs.View.{column_of, kind_of}
 use Rattle.arrow_schema.specs.declared.types.Field.{Field}
 use Rattle.cells.specs.Cell.{Cell, null}
 use Rattle.cells.specs.Dictionary.{is_entry, with_entries, with_entry}
-use Rattle.columns.specs.Array.{dictionary_in}
+use Rattle.columns.specs.Array.{dictionary_in, slots_in}
 use Rattle.columns.specs.Built.{place_or_zero}
-use Rattle.columns.specs.CellAt.{entries_of_kind}
+use Rattle.columns.specs.CellAt.{cell_at, cells_from, entries_of_kind}
+use Rattle.columns.specs.Sound.{is_sound}
 use Rattle.columns.specs.View.{view_array}
+use Rattle.columns.specs.declared.coded_slots.CodedSlots.{CodedSlots}
 use Rattle.columns.specs.declared.view.ArrayView.{ArrayView}
 
 -- the place of a cell among entries: a null has none
@@ -19,6 +22,30 @@ code_in entries c = position (is_entry c) entries
 -- the index of so many bytes that stands for it
 abbrev pub sized_code : (size : ℕ) → Option ℕ → List ℕ
 sized_code size code = little_bytes size (place_or_zero code)
+
+-- the cell of a slot
+abbrev pub coded_cell : Field → CodedSlots → ℕ → Cell
+coded_cell field slots = cell_at (column_of field) (view_array slots.view)
+
+-- a slot that has a null or an entry of a field's dictionary
+pub record IsCodedSlot (field : Field) (slots : CodedSlots) (i : ℕ) : Type 0 where
+  pub spec : field.dictionary ≡ Some slots.spec
+  pub sound : is_sound (column_of field) (view_array slots.view) ≡ true
+  pub within : i < slots_in (view_array slots.view)
+  pub coded : is_coded (coded_cell field slots i) ≡ true
+
+-- each slot from one up to another has
+pub record AreCodedSlots (field : Field) (slots : CodedSlots) (from to : ℕ) : Type 0 where
+  pub spec : field.dictionary ≡ Some slots.spec
+  pub sound : is_sound (column_of field) (view_array slots.view) ≡ true
+  pub within : to ≤ slots_in (view_array slots.view)
+  pub coded : list_all is_coded (cells_from (coded_cell field slots) from (to - from)) ≡ true
+
+-- there is room at a place for an index of so many bytes, and for whether it stands for an entry
+pub record HasPlace (size place : ℕ) (indices : List ℕ) (valid : List Bool) : Type 0 where
+  pub small : size ≤ 8
+  pub room : size * place + size ≤ length indices
+  pub places : place < length valid
 
 -- codes of some cells, which stay the same whatever entries are added
 pub record IsCoded (old_entries new_entries : List Cell) (codes : List (Option ℕ)) (cells : List Cell) : Type 0 where

@@ -15,7 +15,8 @@ use Rattle.columns.specs.Built.{contents_of, integer_bytes, fixed_bytes, sums_fr
 use Rattle.columns.specs.CellAt.{is_valid, number_at, span_size, value_at}
 use Rattle.columns.specs.Tests.{Typed, unset_bits}
 use Rattle.columns.specs.View.{view_array}
-use Rattle.array_build.specs.Batch.{PlainBatch, built_at, plain_column}
+use Rattle.array_build.specs.Batch.{PlainBatch, batch_in, built_at, plain_column, with_arrays}
+use Rattle.array_build.specs.declared.batch.BuiltBatch.{BuiltBatch}
 use Rattle.array_build.specs.inner.Nodes.{with_node, with_buffer}
 
 -- the arrays of each column, and all below them
@@ -27,6 +28,10 @@ built_columns (and_column c cs) (r ∷ rs) = built_at c (runs_cells c r) ++ buil
 -- the cells of runs as those of a type
 abbrev pub kind_cells : Kind → List SlotRun → List Cell
 kind_cells kind runs = runs_cells (plain_column kind None) runs
+
+-- a batch with the array of such runs, and all below it, behind what it had
+abbrev pub AddsRuns : Kind → List SlotRun → (old new : BuiltBatch) → Type 0
+AddsRuns kind runs old new = batch_in new ≡ with_arrays (batch_in old) (built_at (plain_column kind None) (kind_cells kind runs))
 
 -- the array of such runs can be built run by run
 pub record AreReady (kind : Kind) (runs : List SlotRun) : Type 0 where

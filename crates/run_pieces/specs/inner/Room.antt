@@ -1,16 +1,35 @@
 -- What is known of the entries of dictionaries in the rows of a piece, and the room that there is for more.
 use Rattle.std.specs.Prelude.{◌≡◌, ◌≤◌, ◌<◌, ◌+◌, ℕ, true, false, List, [], ◌∷◌, ◌++◌, take}
+use Rattle.std.specs.List.{list_all}
 use Rattle.arrays.specs.Shared.{AreRowsSharing}
 use Rattle.arrow_schema.specs.Column.{PlainSchema, columns_of}
+use Rattle.arrow_schema.specs.Limits.{IsWithinLimits}
 use Rattle.cells.specs.Cell.{Cell}
 use Rattle.cells.specs.Dictionary.{dictionaries_fit, is_any_limited}
+use Rattle.cells.specs.Row.{is_row}
 use Rattle.columns.specs.CellAt.{row_at}
-use Rattle.run_pieces.specs.Rows.{arrays_of_run, run_rows}
+use Rattle.run_pieces.specs.Rows.{arrays_of_run, run_rows, runs_rows, is_run_sound, are_runs_sound}
 use Rattle.run_pieces.specs.declared.room.Room.{Room}
 use Rattle.run_pieces.specs.declared.room.Seen.{Seen}
 use Rattle.run_pieces.specs.declared.room.Seen.TheVariants as seens
 use Rattle.run_pieces.specs.declared.row_run.RowRun.{RowRun}
 use Rattle.table_cut.specs.SeenRows.{HaveSeen}
+
+-- a run of rows of this schema
+pub record IsRunOf (s : PlainSchema) (run : RowRun) : Type 0 where
+  pub sound : is_run_sound (columns_of s.columns) run ≡ true
+  pub rows : list_all (is_row s) (run_rows (columns_of s.columns) run) ≡ true
+
+pub record AreRunsOf (s : PlainSchema) (runs : List RowRun) : Type 0 where
+  pub sound : are_runs_sound (columns_of s.columns) runs ≡ true
+  pub rows : list_all (is_row s) (runs_rows (columns_of s.columns) runs) ≡ true
+
+-- a run behind a piece: both have rows of the schema, and its dictionaries have room for those of the piece
+pub record IsRunBehind (s : PlainSchema) (piece : List RowRun) (run : RowRun) : Type 0 where
+  pub limits : IsWithinLimits s
+  pub before : AreRunsOf s piece
+  pub own : IsRunOf s run
+  pub fits : dictionaries_fit s (runs_rows (columns_of s.columns) piece) ≡ true
 
 abbrev pub IsSeen : PlainSchema → List (List Cell) → Seen → Type 0
 IsSeen s rows seens.Nothing = rows ≡ []

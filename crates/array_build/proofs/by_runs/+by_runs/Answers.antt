@@ -137,24 +137,24 @@ build_run_kind-build_written_kind-requires t c =
     = record { sound = c.requires.sound; written = c.are_as_written.ensures c.if-are_as_written.true; fit = c.requires.fits } in
     (search (rules, field_lemmas), ready)
 
-pub build_split_kind-valid_runs-requires : goal.build_split_kind-valid_runs-requires
-build_split_kind-valid_runs-requires t c = have_validity (kind_of c.args.data_type.now) c.args.runs.now c.requires.sound
+pub build_run_kind-valid_runs-requires : goal.build_run_kind-valid_runs-requires
+build_run_kind-valid_runs-requires t c = have_validity (kind_of c.args.data_type.now) c.args.runs.now c.requires.sound
 
-pub build_split_kind-build_written_kind-requires : goal.build_split_kind-build_written_kind-requires
-build_split_kind-build_written_kind-requires t c =
+pub build_run_kind-build_written_kind-requires-2 : goal.build_run_kind-build_written_kind-requires-2
+build_run_kind-build_written_kind-requires-2 t c =
     let kind : Kind = kind_of c.args.data_type.now in (
       search (rules, field_lemmas),
       subst (λ (runs : List SlotRun). AreAsWritten kind runs) (sym c.deref.ensures.value)
           (written_of kind c.in_ok-valid.valid.items (are_ready kind c.in_ok-valid.valid.items c.args.runs.now c.in_ok-valid.ensures.same c.in_ok-valid.ensures.valid c.requires.sound c.requires.fits)),
     )
 
-pub build_split_kind-returns : goal.build_split_kind-returns
-build_split_kind-returns t c =
+pub build_run_kind-returns : goal.build_run_kind-returns
+build_run_kind-returns t c =
     let kind : Kind = kind_of c.args.data_type.now in
     let same = ap (λ (runs : List SlotRun). kind_cells kind runs) c.deref.ensures.value ∙ same_cells kind c.in_ok-valid.valid.items c.args.runs.now c.in_ok-valid.ensures.same c.requires.sound in
-    on_ok_weaker c.build_written_kind.result
+    on_ok_weaker c.build_written_kind-2.result
     (λ h. h ∙ ap (λ (cells : List Cell). with_arrays (batch_in c.args.batch.now) (built_at (plain_column kind None) cells)) same)
-    c.build_written_kind.ensures
+    c.build_written_kind-2.ensures
 
 pub build_run_column-build_run_kind-requires : goal.build_run_column-build_run_kind-requires
 build_run_column-build_run_kind-requires t c =

@@ -18,7 +18,7 @@ returns-clause-known c =
     let own : List Cell = own_entries c.args.field.now c.args.slots.view in
     let z : ℤ = index_at (index_of c.args.slots.spec) (view_array c.args.slots.view) c.args.i in
     let cell : borrowed_cell c.slot_cell.result ≡ entry_at own z =
-    c.slot_cell.ensures ∙ valid_cell c.args.field.now c.args.slots.spec (view_array c.args.slots.view) c.args.i c.requires.spec c.requires.valid in
+    c.slot_cell.ensures ∙ valid_cell c.args.field.now c.args.slots.spec (view_array c.args.slots.view) c.args.i c.requires.slot.spec c.requires.valid in
     let code : c.in_ok-code.code ≡ code_in (with_entry es (entry_at own z)) (entry_at own z) =
     c.in_ok-code.ensures.code
     ∙ ap (λ (xs : List Cell). code_in xs (borrowed_cell c.slot_cell.result)) c.in_ok-code.ensures.entries

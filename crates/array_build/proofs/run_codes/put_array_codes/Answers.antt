@@ -40,28 +40,18 @@ same_slots col v w from len to e end =
     ap (λ (u : ArrayView). cells_from (cell_at col (view_array u)) from (to - from)) e
     ∙ ap (cells_from (cell_at col (view_array w)) from) size
 
-pub put_slot_codes-requires-clause-spec : goal.put_slot_codes-requires-clause-spec
-put_slot_codes-requires-clause-spec c = c.requires.spec ∙ ap (λ (d : DictSpec). Some d) (sym c.new-slots.ensures.spec)
-
-pub put_slot_codes-requires-clause-sound : goal.put_slot_codes-requires-clause-sound
-put_slot_codes-requires-clause-sound c =
-    let col : Column = column_of c.args.field.now in
-    let sound = and_parts (is_sound col (view_array c.args.array)) _ c.requires.sound in
-    ap (λ (v : ArrayView). is_sound col (view_array v)) c.new-slots.ensures.view ∙ sound.0
-
-pub put_slot_codes-requires-clause-within : goal.put_slot_codes-requires-clause-within
-put_slot_codes-requires-clause-within c =
+pub put_slot_codes-requires-clause-slots : goal.put_slot_codes-requires-clause-slots
+put_slot_codes-requires-clause-slots c =
     let col : Column = column_of c.args.field.now in
     let sound = and_parts (is_sound col (view_array c.args.array)) _ c.requires.sound in
     let most : c.args.from + c.args.len ≤ slots_in (view_array c.args.array) = leb-true _ _ sound.1 in
-    let same = ap (λ (v : ArrayView). slots_in (view_array v)) c.new-slots.ensures.view in
-    omega (arith, most, same)
-
-pub put_slot_codes-requires-clause-coded : goal.put_slot_codes-requires-clause-coded
-put_slot_codes-requires-clause-coded c =
-    let col : Column = column_of c.args.field.now in
-    let same = same_slots col c.new-slots.result.view c.args.array c.args.from c.args.len _ c.new-slots.ensures.view refl in
-    ap (list_all is_coded) same ∙ c.requires.coded
+    let same = c.new-slots.ensures.view in
+    record {
+      spec = c.requires.spec ∙ ap (λ (d : DictSpec). Some d) (sym c.new-slots.ensures.spec);
+      sound = ap (λ (v : ArrayView). is_sound col (view_array v)) same ∙ sound.0;
+      within = omega (arith, most, ap (λ (v : ArrayView). slots_in (view_array v)) same);
+      coded = ap (list_all is_coded) (same_slots col c.new-slots.result.view c.args.array c.args.from c.args.len _ same refl) ∙ c.requires.coded;
+    }
 
 pub put_slot_codes-requires-clause-known : goal.put_slot_codes-requires-clause-known
 put_slot_codes-requires-clause-known c = λ n place some.

@@ -10,14 +10,22 @@ use Rattle.cells.specs.Entry.{entry_cell}
 use Rattle.columns.specs.CellAt.{cell_at, cells_from}
 use Rattle.columns.specs.View.{view_array}
 
-pub put_slot_code-requires-clause-coded : goal.put_slot_code-requires-clause-coded
-put_slot_code-requires-clause-coded g c =
-    (coded_here (cell_at (column_of c.args.field.now) (view_array c.args.slots.view)) c.loop-i.i c.args.to c.loop-i-test.true c.loop-i.invariant.coded).0
+pub put_slot_code-requires-clause-slot : goal.put_slot_code-requires-clause-slot
+put_slot_code-requires-clause-slot g c = record {
+  spec = c.requires.slots.spec;
+  sound = c.requires.slots.sound;
+  within = omega (arith, c.requires.slots.within, c.loop-i-test.true);
+  coded = (coded_here (cell_at (column_of c.args.field.now) (view_array c.args.slots.view)) c.loop-i.i c.args.to c.loop-i-test.true c.loop-i.invariant.coded).0;
+}
 
-pub put_slot_code-requires-clause-room : goal.put_slot_code-requires-clause-room
-put_slot_code-requires-clause-room g c =
+pub put_slot_code-requires-clause-place : goal.put_slot_code-requires-clause-place
+put_slot_code-requires-clause-place g c =
     let le : c.loop-i.i - c.args.from + 1 ≤ c.args.to - c.args.from = omega (arith, c.loop-i-test.true) in
-    omega (arith, mul-le-mul_left g.row.SIZE le, c.requires.room, c.loop-i.auto.indices)
+    record {
+      small = c.requires.small;
+      room = omega (arith, mul-le-mul_left g.row.SIZE le, c.requires.room, c.loop-i.auto.indices);
+      places = omega (arith, le, c.requires.places, c.loop-i.auto.valid);
+    }
 
 pub loop-i-preserved : goal.loop-i-preserved
 loop-i-preserved g c =
@@ -45,7 +53,7 @@ loop-i-init g c =
     let f : ℕ → Cell = cell_at (column_of c.args.field.now) (view_array c.args.slots.view) in
     let none : c.args.from - c.args.from ≡ 0 = omega arith in
     record {
-      coded = c.requires.coded;
+      coded = c.requires.slots.coded;
       known = c.requires.known;
       written = none_written g.row.SIZE (map entry_cell c.args.entries.now.keys) (cells_from f c.args.from (c.args.to - c.args.from)) c.args.indices.now c.args.valid.now _ none;
     }

@@ -20,4 +20,4 @@ room_behind-requires-clause-seen c = (runs_rows (columns_of (schema_of c.args.sc
 
 pub returns : goal.returns
 returns c =
-    IfOk-weaker c.room_behind.result _ _ (λ room is. is (runs_rows (columns_of (schema_of c.args.schema.now).columns) c.args.piece.now) c.in_ok-seen.ensures c.requires.fits) c.room_behind.ensures
+    IfOk-weaker c.room_behind.result _ _ (λ room is. is (runs_rows (columns_of (schema_of c.args.schema.now).columns) c.args.piece.now) c.in_ok-seen.ensures c.requires.behind.fits) c.room_behind.ensures

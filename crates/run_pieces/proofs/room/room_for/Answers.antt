@@ -23,7 +23,7 @@ pub returns-in-Rows : goal.returns-in-Rows
 returns-in-Rows c =
     let s : PlainSchema = schema_of c.args.schema.now in
     let seen = subst (λ (seen : Seen). IsSeen s (runs_rows (columns_of s.columns) c.args.piece.now) seen) c.in-Rows.is c.requires.seen in
-    IfOk-weaker c.room_behind.result _ _ (λ room is. is (runs_rows (columns_of s.columns) c.args.piece.now) seen c.requires.fits) c.room_behind.ensures
+    IfOk-weaker c.room_behind.result _ _ (λ room is. is (runs_rows (columns_of s.columns) c.args.piece.now) seen c.requires.behind.fits) c.room_behind.ensures
 
 pub room_behind_shared-requires-clause-seen : goal.room_behind_shared-requires-clause-seen
 room_behind_shared-requires-clause-seen c =

@@ -11,12 +11,12 @@ use Rattle.run_pieces.proofs.room.row_of.Goals as goal
 
 pub row-requires-clause-sound : goal.row-requires-clause-sound
 row-requires-clause-sound c =
-    sound_front c.deref.result.now c.args.schema.now.fields.items (arrays_of_run c.args.run) (c.args.run.from + c.args.run.len) (c.args.run.from + c.args.run.len) c.deref.ensures.value c.requires.sound (omega arith)
+    sound_front c.deref.result.now c.args.schema.now.fields.items (arrays_of_run c.args.run) (c.args.run.from + c.args.run.len) (c.args.run.from + c.args.run.len) c.deref.ensures.value c.requires.run.sound (omega arith)
 
 pub row-requires-clause-texts : goal.row-requires-clause-texts
 row-requires-clause-texts c =
     ap (λ (fields : List Field). have_utf8_texts (part_cells (fields_of fields) (arrays_of_run c.args.run) (c.args.run.from + c.args.i))) c.deref.ensures.value
-    ∙ row_utf8 (schema_of c.args.schema.now) c.args.run c.args.i c.requires.rows c.requires.within
+    ∙ row_utf8 (schema_of c.args.schema.now) c.args.run c.args.i c.requires.run.rows c.requires.within
 
 pub returns : goal.returns
 returns c =

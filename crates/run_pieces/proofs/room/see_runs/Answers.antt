@@ -1,4 +1,4 @@
-use Rattle.std.proofs.Common.{List, take, refl, subst}
+use Rattle.std.proofs.Common.{ℕ, List, take, refl, subst}
 use Rattle.arrow_schema.specs.Column.{PlainSchema, Columns, columns_of}
 use Rattle.arrow_schema.specs.View.{schema_of}
 use Rattle.cells.specs.Cell.{Cell}
@@ -12,13 +12,14 @@ use Rattle.run_pieces.proofs.room.see_runs.Goals as goal
 pub loop-run-init : goal.loop-run-init
 loop-run-init c = c.none-seen.ensures (schema_of c.args.schema.now)
 
-pub see_rows-requires-clause-sound : goal.see_rows-requires-clause-sound
-see_rows-requires-clause-sound c =
-    item_passes (is_run_sound (columns_of (schema_of c.args.schema.now).columns)) c.args.runs.now c.loop-run.run-index c.run-item.result c.loop-run-test.true c.run-item.is c.requires.sound
-
-pub see_rows-requires-clause-rows : goal.see_rows-requires-clause-rows
-see_rows-requires-clause-rows c =
-    rows_of_run (schema_of c.args.schema.now) c.args.runs.now c.loop-run.run-index c.run-item.result c.loop-run-test.true c.run-item.is c.requires.rows
+pub see_rows-requires-clause-run : goal.see_rows-requires-clause-run
+see_rows-requires-clause-run c =
+    let s : PlainSchema = schema_of c.args.schema.now in
+    let i : ℕ = c.loop-run.run-index in
+    record {
+      sound = item_passes (is_run_sound (columns_of s.columns)) c.args.runs.now i c.run-item.result c.loop-run-test.true c.run-item.is c.requires.runs.sound;
+      rows = rows_of_run s c.args.runs.now i c.run-item.result c.loop-run-test.true c.run-item.is c.requires.runs.rows;
+    }
 
 pub see_rows-requires-clause-seen : goal.see_rows-requires-clause-seen
 see_rows-requires-clause-seen c = (runs_rows (columns_of (schema_of c.args.schema.now).columns) (take c.loop-run.run-index c.args.runs.now), c.loop-run.invariant)

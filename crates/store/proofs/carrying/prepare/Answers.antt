@@ -1,9 +1,5 @@
-use Rattle.std.proofs.Common.{◌≡◌, ◌≤◌, ◌++◌, ℕ, List, length, ap, sym, subst, arith}
+use Rattle.std.proofs.Common.{◌≤◌, sym, subst, arith}
 use Rattle.std.specs.Prelude.{Err}
-use Rattle.std.proofs.lemmas.List.{length-map}
-use Rattle.std.specs.Global.{Vec}
-use Rattle.array_build.specs.declared.batch.Buffer.{Buffer}
-use Rattle.canonical_write.specs.View.{joined_parts}
 use Rattle.segments.specs.Usages.{IsUsedIn}
 use Rattle.catalogue.specs.declared.limits.TheConstants.{MAX_SEGMENTS}
 use Rattle.catalogue.specs.Entries.{segment_count}
@@ -11,20 +7,13 @@ use Rattle.catalogue.specs.View.{catalogue_of}
 use Rattle.tables.specs.declared.refusal.Refusal.{Refusal}
 use Rattle.store.specs.Changes.{PlainChange, change_of}
 use Rattle.store.specs.Carrying.{HasNext, IsCarried, outline, unplaced}
-use Rattle.store.specs.laws.Segments.{unplaced_number}
-use Rattle.store.proofs.Prepared.{taking_carried}
+use Rattle.store.proofs.Prepared.{taking_carried, unplaced_count}
 use Rattle.store.proofs.carrying.prepare.Goals as goal
 
 pub returns-then-segments_after-gt-MAX_SEGMENTS-clause-why : goal.returns-then-segments_after-gt-MAX_SEGMENTS-clause-why
 returns-then-segments_after-gt-MAX_SEGMENTS-clause-why c =
     let change : PlainChange = change_of c.args.change.now in
-    let parts = c.args.pieces.now.parts in
-    let streams = length-map parts.items (λ (v : Vec Buffer). c.args.pieces.now.schema_message.items ++ joined_parts v.items) in
-    let same = ap (λ (xs : List (List ℕ)). length xs) c.requires.streams in
-    let long = unplaced_number change.streams change.counts c.requires.sound.each in
-    let len = c.len-count.ensures in
-    let whole = parts.ok in
-    let many : length (unplaced change.streams change.counts) ≡ c.len-count.result = omega (arith, long, streams, same, len, whole) in
+    let many = unplaced_count c.args.pieces.now change c.len-count.result c.len-count.ensures c.requires.streams c.requires.sound.each in
     let after = c.segments_after.ensures (unplaced change.streams change.counts) many in
     let above = c.if-segments_after-gt-MAX_SEGMENTS.true in
     (omega arith, omega (arith, after, above))
@@ -32,13 +21,7 @@ returns-then-segments_after-gt-MAX_SEGMENTS-clause-why c =
 pub plan_change-requires-clause-few : goal.plan_change-requires-clause-few
 plan_change-requires-clause-few c =
     let change : PlainChange = change_of c.args.change.now in
-    let parts = c.args.pieces.now.parts in
-    let streams = length-map parts.items (λ (v : Vec Buffer). c.args.pieces.now.schema_message.items ++ joined_parts v.items) in
-    let same = ap (λ (xs : List (List ℕ)). length xs) c.requires.streams in
-    let long = unplaced_number change.streams change.counts c.requires.sound.each in
-    let len = c.len-count.ensures in
-    let whole = parts.ok in
-    let many : length (unplaced change.streams change.counts) ≡ c.len-count.result = omega (arith, long, streams, same, len, whole) in
+    let many = unplaced_count c.args.pieces.now change c.len-count.result c.len-count.ensures c.requires.streams c.requires.sound.each in
     let after = c.segments_after.ensures (unplaced change.streams change.counts) many in
     let within = c.if-segments_after-gt-MAX_SEGMENTS.false in
     omega (arith, after, within)
@@ -47,13 +30,7 @@ pub returns-in-Err-clause-why : goal.returns-in-Err-clause-why
 returns-in-Err-clause-why c =
     let listed = catalogue_of c.args.stored.now.list in
     let change : PlainChange = change_of c.args.change.now in
-    let parts = c.args.pieces.now.parts in
-    let streams = length-map parts.items (λ (v : Vec Buffer). c.args.pieces.now.schema_message.items ++ joined_parts v.items) in
-    let same = ap (λ (xs : List (List ℕ)). length xs) c.requires.streams in
-    let long = unplaced_number change.streams change.counts c.requires.sound.each in
-    let len = c.len-count.ensures in
-    let whole = parts.ok in
-    let many : length (unplaced change.streams change.counts) ≡ c.len-count.result = omega (arith, long, streams, same, len, whole) in
+    let many = unplaced_count c.args.pieces.now change c.len-count.result c.len-count.ensures c.requires.streams c.requires.sound.each in
     let after = c.segments_after.ensures (unplaced change.streams change.counts) many in
     let within = c.if-segments_after-gt-MAX_SEGMENTS.false in
     let next : HasNext c.args.commit = omega arith in

@@ -7,7 +7,7 @@ use Rattle.catalogue.specs.laws.Kept.{entry_is}
 use Rattle.store.specs.inner.Gathered.{gathered_table}
 use Rattle.store.specs.Held.{rows_held}
 use Rattle.store.specs.Reading.{Unreads}
-use Rattle.store.proofs.ReadTables.{TableLaws, rows_of, read_is_held}
+use Rattle.store.proofs.ReadTables.{rows_of, read_is_held}
 use Rattle.store.proofs.reading.gather_entry.Goals as goal
 
 pub start_table-requires : goal.start_table-requires
@@ -18,7 +18,6 @@ returns-in-Ok-read_segments-clause-table g c =
     let D = g.D.SectorDevice in
     let image = shown_image (now (D.story c.args.device.now)) in
     let e = plain_entry c.args.entry.now in
-    let laws : TableLaws = record { accepts = c.accepted_rows_are_a_table.ensures.kept; accepted = c.accepted_rows_are_a_table.ensures.accepted; cut = c.tables_are_joined_and_cut.ensures.cut } in
     let start : (gathered_table c.in-Ok.empty).schema ≡ e.schema = ap (λ (t : PlainTable). t.schema) c.in-Ok.ensures.empty in
     let segments : c.deref-in-Ok.result.now ≡ e.segments = c.deref-in-Ok.ensures.value in
     let gathered = c.in-Ok-read_segments.gathered in
@@ -27,7 +26,7 @@ returns-in-Ok-read_segments-clause-table g c =
       kept = gathered.kept;
       schema = schema;
       count = c.in-Ok-read_segments.ensures.count ∙ ap (sum_by rows_of) segments;
-      held = λ told. read_is_held laws image e (gathered_table gathered) gathered.kept schema ((λ i. rows_held (sym start i) (sym segments i) image) ∙ c.in-Ok-read_segments.ensures.rows told);
+      held = λ told. read_is_held c.table_laws.ensures image e (gathered_table gathered) gathered.kept schema ((λ i. rows_held (sym start i) (sym segments i) image) ∙ c.in-Ok-read_segments.ensures.rows told);
     }
 
 pub returns-in-Ok-clause-unread : goal.returns-in-Ok-clause-unread

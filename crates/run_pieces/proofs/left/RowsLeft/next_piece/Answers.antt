@@ -1,8 +1,7 @@
 use Rattle.std.specs.List.{list_all}
-use Rattle.std.proofs.Common.{◌≡◌, ◌⊎◌, inl, inr, ◌+◌, ◌<◌, ◌≤◌, ◌++◌, ◌∷◌, ℕ, List, [], length, take, drop, set, sym, ap, subst, ◌∙◌, arith, length-append}
+use Rattle.std.proofs.Common.{◌≡◌, ◌⊎◌, inl, inr, ◌+◌, ◌<◌, ◌≤◌, ◌++◌, ◌∷◌, ℕ, List, [], length, take, drop, set, sym, ap, subst, ◌∙◌, arith}
 use Rattle.std.proofs.lemmas.Bool.{and_from, cases_lt}
 use Rattle.std.proofs.lemmas.List.{drop_all}
-use Rattle.std.proofs.lemmas.List.Sums.{sum_by-append}
 use Rattle.arrow_schema.specs.Column.{PlainSchema, Columns, columns_of}
 use Rattle.arrow_schema.specs.View.{schema_of}
 use Rattle.cells.specs.Cell.{Cell}
@@ -17,7 +16,7 @@ use Rattle.run_pieces.specs.declared.row_run.RowRun.{RowRun}
 use Rattle.run_pieces.specs.inner.Room.{HasRoom, IsSeenWithin}
 use Rattle.run_pieces.proofs.PieceLemmas.{IsFull, IsPastLimits, cut_here, drop_set, some_taken}
 use Rattle.run_pieces.proofs.RoomLemmas.{HasRoomBelow, rows_of_parts, rows_of_first, front_room, lighter_front}
-use Rattle.run_pieces.proofs.RunSteps.{front_size, run_first, sound_first, taken_front, cut_front, cut_full}
+use Rattle.run_pieces.proofs.RunSteps.{has_taken, run_first, sound_first, taken_front, cut_front, cut_full}
 use Rattle.run_pieces.proofs.left.RowsLeft.next_piece.Goals as goal
 use Rattle.run_pieces.specs.laws.Runs.{run_size}
 
@@ -41,39 +40,29 @@ loop-self-init c =
 pub room_within-requires-clause-limited : goal.room_within-requires-clause-limited
 room_within-requires-clause-limited c = c.has_limits-limited.ensures
 
-pub room_within-requires-clause-sound : goal.room_within-requires-clause-sound
-room_within-requires-clause-sound c = ap (are_runs_sound (columns_of (schema_of c.args.schema.now).columns)) c.deref.ensures.value ∙ c.loop-self.invariant.sound
-
-pub room_within-requires-clause-rows : goal.room_within-requires-clause-rows
-room_within-requires-clause-rows c =
+pub room_within-requires-clause-behind : goal.room_within-requires-clause-behind
+room_within-requires-clause-behind c =
     let s : PlainSchema = schema_of c.args.schema.now in
     let cs : Columns = columns_of s.columns in
-    ap (λ (runs : List RowRun). list_all (is_row s) (runs_rows cs runs)) c.deref.ensures.value
-    ∙ (rows_of_parts s (rows_left cs c.args.self.now) (runs_rows cs c.loop-self.runs.items) (rows_left cs c.loop-self.self) c.loop-self.invariant.front c.requires.rows).0
-
-pub room_within-requires-clause-next_sound : goal.room_within-requires-clause-next_sound
-room_within-requires-clause-next_sound c =
-    let cs : Columns = columns_of (schema_of c.args.schema.now).columns in
-    let items : List RowRun = c.loop-self.self.runs.items in
-    let lt : c.loop-self.self.next < length items = omega (arith, c.loop-self.self.runs.ok.0, c.len.ensures, c.loop-self-test.true) in
-    c.front-most.ensures.sound cs (sound_first cs items c.loop-self.self.next c.index-run.result.now lt c.index-run.ensures c.loop-self.invariant.left).0
-
-pub room_within-requires-clause-next_rows : goal.room_within-requires-clause-next_rows
-room_within-requires-clause-next_rows c =
-    let s : PlainSchema = schema_of c.args.schema.now in
-    let cs : Columns = columns_of s.columns in
+    let is = c.loop-self.invariant in
     let items : List RowRun = c.loop-self.self.runs.items in
     let next : ℕ = c.loop-self.self.next in
     let run : RowRun = c.index-run.result.now in
     let lt : next < length items = omega (arith, c.loop-self.self.runs.ok.0, c.len.ensures, c.loop-self-test.true) in
-    let rest = (rows_of_parts s (rows_left cs c.args.self.now) (runs_rows cs c.loop-self.runs.items) (rows_left cs c.loop-self.self) c.loop-self.invariant.front c.requires.rows).1 in
-    ap (list_all (is_row s)) (c.front-most.ensures.rows cs)
-    ∙ rows_of_first s (rows_left cs c.loop-self.self) (run_rows cs run) (runs_rows cs (drop (next + 1) items)) c.fitting-taken.result.rows (run_first cs items next run lt c.index-run.ensures) rest
-
-pub room_within-requires-clause-fits : goal.room_within-requires-clause-fits
-room_within-requires-clause-fits c =
-    let s : PlainSchema = schema_of c.args.schema.now in
-    ap (λ (runs : List RowRun). dictionaries_fit s (runs_rows (columns_of s.columns) runs)) c.deref.ensures.value ∙ c.loop-self.invariant.fits
+    let parts = rows_of_parts s (rows_left cs c.args.self.now) (runs_rows cs c.loop-self.runs.items) (rows_left cs c.loop-self.self) is.front c.requires.rows in
+    record {
+      limits = c.requires.schema;
+      before = record {
+        sound = ap (are_runs_sound cs) c.deref.ensures.value ∙ is.sound;
+        rows = ap (λ (runs : List RowRun). list_all (is_row s) (runs_rows cs runs)) c.deref.ensures.value ∙ parts.0;
+      };
+      own = record {
+        sound = c.front-most.ensures.sound cs (sound_first cs items next run lt c.index-run.ensures is.left).0;
+        rows = ap (list_all (is_row s)) (c.front-most.ensures.rows cs)
+            ∙ rows_of_first s (rows_left cs c.loop-self.self) (run_rows cs run) (runs_rows cs (drop (next + 1) items)) c.fitting-taken.result.rows (run_first cs items next run lt c.index-run.ensures) parts.1;
+      };
+      fits = ap (λ (runs : List RowRun). dictionaries_fit s (runs_rows cs runs)) c.deref.ensures.value ∙ is.fits;
+    }
 
 pub room_within-requires-clause-seen : goal.room_within-requires-clause-seen
 room_within-requires-clause-seen c =
@@ -106,21 +95,19 @@ loop-self-preserved c =
     let same : t ≡ k = omega (arith, room.within, c.fitting-taken.ensures.within, c.if-room-run.false) in
     let le : k ≤ run.len = omega (arith, same, c.fitting-taken.ensures.within) in
     let taken : new ≡ before ++ take k (run_rows cs run) = c.in_ok-push_run.ensures.rows cs ∙ ap (λ (xs : List (List Cell)). before ++ xs) (c.front.ensures.rows cs) in
-    let size = front_size cs run k le in
+    let took = has_taken s before new run k le taken in
     let whole = run_size cs run in
     let none : drop k (run_rows cs run) ≡ [] = drop_all k (run_rows cs run) (omega (arith, whole, c.if-room-run.false)) in
     let sound = sound_first cs items next run lt c.index-run.ensures is.left in
-    let long = length-append before (take k (run_rows cs run)) in
-    let both = sum_by-append (row_weight s) before (take k (run_rows cs run)) in
     let heavy = ap (λ (n : ℕ). table_weight s (take n (run_rows cs run))) same in
     let seen_rows : runs_rows cs c.deref.result.now ++ run_rows cs most ≡ new =
     (λ i. runs_rows cs (c.deref.ensures.value i) ++ c.front-most.ensures.rows cs i) ∙ ap (λ (n : ℕ). before ++ take n (run_rows cs run)) same ∙ sym taken in
     record {
       front = taken_front cs items next run (rows_left cs c.args.self.now) before new k lt c.index-run.ensures is.front taken
           ∙ ap (λ (xs : List (List Cell)). new ++ (xs ++ runs_rows cs (drop (next + 1) items))) none;
-      count = omega (arith, ap length taken, long, size, is.count);
+      count = omega (arith, took.count, is.count);
       few = omega (arith, same, c.fitting-taken.ensures.few, is.few, c.if-rows-lt-MAX_PIECE_ROWS.true);
-      weight = omega (arith, c.fitting-taken.ensures.weight, is.weight, both, ap (table_weight s) taken, heavy);
+      weight = omega (arith, c.fitting-taken.ensures.weight, is.weight, took.weight, heavy);
       light = c.fitting-taken.ensures.light;
       sound = c.in_ok-push_run.ensures.sound cs is.sound (c.front.ensures.sound cs sound.0);
       left = sound.1;
@@ -130,16 +117,15 @@ loop-self-preserved c =
 
 pub returns-then-room-run-clause-count : goal.returns-then-room-run-clause-count
 returns-then-room-run-clause-count c =
-    let cs : Columns = columns_of (schema_of c.args.schema.now).columns in
-    let is = c.loop-self.invariant in
+    let s : PlainSchema = schema_of c.args.schema.now in
+    let cs : Columns = columns_of s.columns in
     let run : RowRun = c.index-run.result.now in
     let k : ℕ = c.in_ok-room.room.rows in
     let before : List (List Cell) = runs_rows cs c.loop-self.runs.items in
     let new : List (List Cell) = runs_rows cs c.push_run.new.runs.items in
     let taken : new ≡ before ++ take k (run_rows cs run) = c.in_ok-push_run.ensures.rows cs ∙ ap (λ (xs : List (List Cell)). before ++ xs) (c.front.ensures.rows cs) in
-    let size = front_size cs run k (omega (arith, c.if-room-run.true)) in
-    let long = length-append before (take k (run_rows cs run)) in
-    omega (arith, ap length taken, long, size, is.count)
+    let took = has_taken s before new run k (omega (arith, c.if-room-run.true)) taken in
+    omega (arith, took.count, c.loop-self.invariant.count)
 
 pub returns-then-room-run-clause-front : goal.returns-then-room-run-clause-front
 returns-then-room-run-clause-front c =
@@ -176,10 +162,7 @@ returns-then-room-run-clause-piece c =
     let front : all ≡ new ++ rest = cut_front cs items next run c.behind.result all before new k lt c.index-run.ensures is.front taken (c.behind.ensures.rows cs) in
     let room : HasRoomBelow s before run t k = front_room s before run most t k c.front-most.ensures.len (c.front-most.ensures.rows cs) c.front-most.ensures.arrays c.front-most.ensures.from
     (subst (λ (runs : List RowRun). HasRoom s (runs_rows cs runs) most k) c.deref.ensures.value c.in_ok-room.ensures.room) in
-    let size = front_size cs run k (omega (arith, c.if-room-run.true)) in
-    let long = length-append before (take k (run_rows cs run)) in
-    let both = sum_by-append (row_weight s) before (take k (run_rows cs run)) in
-    let own = ap (table_weight s) taken in
+    let took = has_taken s before new run k (omega (arith, c.if-room-run.true)) taken in
     let lighter = lighter_front s (run_rows cs run) k t room.within in
     let weight = c.fitting-taken.ensures.weight in
     let past : IsPastLimits s new row = elim (cases_lt k t) [
@@ -189,15 +172,15 @@ returns-then-room-run-clause-piece c =
           let heavier = ap (λ (n : ℕ). table_weight s (take n (run_rows cs run))) same in
           let next_row = ap (λ (n : ℕ). row_weight s (row_at cs (arrays_of_run run) (run.from + n))) same in
           elim (c.fitting-taken.ensures.full (omega (arith, same, c.if-room-run.true))) as (λ _. (4096 ≤ length new) ⊎ (16777216 < table_weight s new + row_weight s row)) [
-            | inl many ↦ inl (omega (arith, many, same, ap length taken, long, size, is.count, is.few))
-            | inr heavy ↦ inr (omega (arith, heavy, weight, is.weight, own, both, heavier, next_row))
+            | inl many ↦ inl (omega (arith, many, same, took.count, is.count, is.few))
+            | inr heavy ↦ inr (omega (arith, heavy, weight, is.weight, took.weight, heavier, next_row))
           ])
     ] in
     let full : IsFull s new rest = cut_full s items next run c.behind.result new k lt (c.behind.ensures.rows cs) c.if-room-run.true past in
     let some : 1 ≤ length new = some_taken s all new rest front c.requires.rows c.requires.some full in
     cut_here c.longest_fronts_are_pieces.ensures.next s all new rest front some
-    (omega (arith, ap length taken, long, size, is.count, room.within, c.fitting-taken.ensures.few, c.if-rows-lt-MAX_PIECE_ROWS.true))
-    (omega (arith, own, both, lighter, weight, is.weight, c.fitting-taken.ensures.light))
+    (omega (arith, took.count, is.count, room.within, c.fitting-taken.ensures.few, c.if-rows-lt-MAX_PIECE_ROWS.true))
+    (omega (arith, took.weight, lighter, weight, is.weight, c.fitting-taken.ensures.light))
     (ap (dictionaries_fit s) taken ∙ room.fits) full
 
 pub returns-then-room-run-clause-sound : goal.returns-then-room-run-clause-sound

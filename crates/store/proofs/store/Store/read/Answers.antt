@@ -4,7 +4,6 @@ use Rattle.values.specs.TableView.{table_of}
 use Rattle.store.specs.Calls.{done, read_call, table_is}
 use Rattle.store.specs.Steps.{Step}
 use Rattle.store.specs.Fits.{listed_in}
-use Rattle.store.proofs.ReadTables.{TableLaws}
 use Rattle.store.proofs.ReadsStore.{found_table, stays_reading, refused_reading, read_step}
 use Rattle.store.proofs.store.Store.read.Goals as goal
 
@@ -22,5 +21,4 @@ returns-in-Err-clause-refused g c = λ told base m fits.
     let D = g.D.SectorDevice in
     let old = c.args.self.now in
     let name = c.args.name.now in
-    let laws : TableLaws = record { accepts = c.accepted_rows_are_a_table.ensures.kept; accepted = c.accepted_rows_are_a_table.ensures.accepted; cut = c.tables_are_joined_and_cut.ensures.cut } in
-    refused_reading D.size D.story D.failed base m D.tells told old c.read_named.new.self fits laws (catalogue_is (listed_in old) old.opened.catalogue.list.kept) (read_call name) name (read_step _ m name) c.in-Err.refusal c.in-Err.ensures.told c.in-Err.ensures.reads
+    refused_reading D.size D.story D.failed base m D.tells told old c.read_named.new.self fits c.table_laws.ensures (catalogue_is (listed_in old) old.opened.catalogue.list.kept) (read_call name) name (read_step _ m name) c.in-Err.refusal c.in-Err.ensures.told c.in-Err.ensures.reads
