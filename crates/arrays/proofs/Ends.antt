@@ -11,7 +11,7 @@ use Rattle.columns.specs.declared.array.Dictionary.{Dictionary}
 use Rattle.columns.specs.declared.array.DictionaryPart.{DictionaryPart}
 use Rattle.columns.specs.declared.span.Span.{Span}
 use Rattle.columns.specs.Within.{ends_within, layout_within, array_within, is_within_by, stands_within, is_placed_within}
-use Rattle.arrays.specs.Placed.{EndWithin, EndsWithin}
+use Rattle.arrays.specs.Placed.{ArraysEndWithin, ArrayEndsWithin}
 use Rattle.columns.specs.laws.Longer.{within_more}
 use Rattle.arrays.specs.declared.rest.Rest.{Rest}
 use Rattle.arrays.specs.inner.Rest.{IsInBody, PartEnds, LayoutEnds, ArrayEnds, ArraysEnd, IsLeft}
@@ -83,6 +83,6 @@ first_of_all : (p : PlacedArray → Bool) (items : List PlacedArray) (x : Placed
 first_of_all p [] x some is h = absurd (omega arith)
 first_of_all p (y ∷ items) x some is h = ap p is ∙ (and_parts (p y) (list_all p items) h).0
 
-pub first_ends : (body : Span) (items : List PlacedArray) (x : PlacedArray) → 0 < length items → x ≡ get_or items 0 x → EndWithin body [] [] items → EndsWithin body x
+pub first_ends : (body : Span) (items : List PlacedArray) (x : PlacedArray) → 0 < length items → x ≡ get_or items 0 x → ArraysEndWithin body [] [] items → ArrayEndsWithin body x
 first_ends body items x some is end size le =
     within_more size size (omega arith) (stands_within size []) (λ p. true) (λ p h. refl) x (first_of_all (is_placed_within size []) items x some is (end size le refl))

@@ -78,7 +78,7 @@ none_has p = refl
 entries_have : (bytes : List ℕ) (dictionaries : List Dictionary) → are_bytes bytes ≡ true → (p : DictionaryPart) → have_bytes (arrays_of (arrays_in bytes dictionaries p)) ≡ true
 unfolding have_bytes
 entries_have bytes [] small p = refl
-entries_have bytes (d ∷ dictionaries) small p = each_has bytes no_dictionary small none_has (take p.known (arrays_numbered (d ∷ dictionaries) p.number))
+entries_have bytes (d ∷ dictionaries) small p = each_has bytes no_dictionary small none_has (take p.count (arrays_numbered (d ∷ dictionaries) p.number))
 
 pub placed_bytes : (bytes : List ℕ) (dictionaries : List Dictionary) (arrays : List PlacedArray) → are_bytes bytes ≡ true → have_bytes (placed_arrays bytes dictionaries arrays) ≡ true
 placed_bytes bytes dictionaries arrays small = each_has bytes (arrays_in bytes dictionaries) small (entries_have bytes dictionaries small) arrays

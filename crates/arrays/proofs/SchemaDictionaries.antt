@@ -12,7 +12,7 @@ use Rattle.ipc_message.specs.Convert.{column_of_field}
 use Rattle.ipc_message.specs.DictionaryTypes.{dictionaries_in, dictionaries_of_schema, plain_dictionary_of}
 use Rattle.ipc_message.specs.DictionaryTypes as types
 use Rattle.columns.specs.Buffers.{value_column}
-use Rattle.arrays.specs.Dictionaries.{DictionaryColumn, own_dictionary, dictionary_columns}
+use Rattle.arrays.specs.Dictionaries.{DictionaryColumn, own_dictionary_column, dictionary_columns}
 use Rattle.arrays.specs.declared.dictionary_columns.DictionaryColumns.{DictionaryColumns}
 use Rattle.arrays.specs.DictionaryColumns.{columns_with, dictionary_columns_of}
 use Rattle.arrays.specs.inner.SchemaDictionaries.{column_of_dictionary, columns_of_types}
@@ -21,14 +21,14 @@ value_is : (c : Column) → value_column c ≡ column [] true (kind_of_column c)
 value_is (column name nullable kind dictionary pairs) = refl
 
 with_own : (found : Option RawEncoding) (f : RawField) (rest : List DictionaryColumn) (others : List types.PlainDictionary) → rest ≡ map column_of_dictionary others
-    → own_dictionary found f ++ rest ≡ map column_of_dictionary (types.own_dictionary found f ++ others)
+    → own_dictionary_column found f ++ rest ≡ map column_of_dictionary (types.own_dictionary found f ++ others)
 with_own None f rest others same = same
 with_own (Some e) f rest others same =
     λ j. (record { id = e.id; values = value_is (column_of_field f) j }) ∷ same j
 
-of_fields : (fields : List RawField) → flat_map (λ f. own_dictionary (dictionary_of f) f) fields ≡ map column_of_dictionary (dictionaries_in fields)
+of_fields : (fields : List RawField) → flat_map (λ f. own_dictionary_column (dictionary_of f) f) fields ≡ map column_of_dictionary (dictionaries_in fields)
 of_fields [] = refl
-of_fields (f ∷ fields) = with_own (dictionary_of f) f (flat_map (λ x. own_dictionary (dictionary_of x) x) fields) (dictionaries_in fields) (of_fields fields)
+of_fields (f ∷ fields) = with_own (dictionary_of f) f (flat_map (λ x. own_dictionary_column (dictionary_of x) x) fields) (dictionaries_in fields) (of_fields fields)
 
 of_schema : (s : RawSchema) → dictionary_columns s ≡ map column_of_dictionary (dictionaries_of_schema s)
 of_schema s = of_fields (every_field s)

@@ -23,7 +23,7 @@ use Rattle.ipc_message.specs.laws.FieldLists.{columns_of_list}
 use Rattle.columns.specs.Array.{Array, Arrays, no_array, and_array, items_in, children_in, first_array, other_arrays}
 use Rattle.columns.specs.Tests.{arrays_at, arrays_below, every_array}
 use Rattle.columns.specs.Buffers.{value_column}
-use Rattle.arrays.specs.Dictionaries.{DictionaryColumn, own_dictionary, dictionary_columns, is_column_of}
+use Rattle.arrays.specs.Dictionaries.{DictionaryColumn, own_dictionary_column, dictionary_columns, is_column_of}
 use Rattle.arrays.specs.Known.{own_values, values_in, dictionary_values, IsAsFirst, HaveOneType}
 
 -- ---- what a decoded type says of its children
@@ -139,13 +139,13 @@ some_of (Some k) h = refl
 -- ---- the values, in preorder
 
 abbrev columns_in : List RawField → List DictionaryColumn
-columns_in fields = flat_map (λ f. own_dictionary (dictionary_of f) f) fields
+columns_in fields = flat_map (λ f. own_dictionary_column (dictionary_of f) f) fields
 
 abbrev found_in : List RawField → List Column
 found_in fields = map (λ c. c.values) (columns_in fields)
 
 found-append : (fs gs : List RawField) → found_in (fs ++ gs) ≡ found_in fs ++ found_in gs
-found-append fs gs = ap (map (λ c. c.values)) (flat_map-append (λ f. own_dictionary (dictionary_of f) f) fs gs) ∙ map-append (λ c. c.values) (columns_in fs) (columns_in gs)
+found-append fs gs = ap (map (λ c. c.values)) (flat_map-append (λ f. own_dictionary_column (dictionary_of f) f) fs gs) ∙ map-append (λ c. c.values) (columns_in fs) (columns_in gs)
 
 none_below : (fs : RawFields) → columns_of_fields fs ≡ [] → found_in (preorder_all fs) ≡ []
 unfolding columns_of_fields preorder_all

@@ -23,13 +23,13 @@ pub record DictionaryColumn : Type 0 where
   pub id : ℕ
   pub values : Column
 
-abbrev pub own_dictionary : Option RawEncoding → RawField → List DictionaryColumn
-own_dictionary None f = []
-own_dictionary (Some e) f = record { id = e.id; values = value_column (column_of_field f) } ∷ []
+abbrev pub own_dictionary_column : Option RawEncoding → RawField → List DictionaryColumn
+own_dictionary_column None f = []
+own_dictionary_column (Some e) f = record { id = e.id; values = value_column (column_of_field f) } ∷ []
 
 -- those of a schema, in preorder
 abbrev pub dictionary_columns : RawSchema → List DictionaryColumn
-dictionary_columns s = flat_map (λ f. own_dictionary (dictionary_of f) f) (every_field s)
+dictionary_columns s = flat_map (λ f. own_dictionary_column (dictionary_of f) f) (every_field s)
 
 -- the dictionaries that a record batch takes after these batches
 abbrev pub dictionaries_after : List DictionaryBatch → List DictionaryColumn → List (List Array)

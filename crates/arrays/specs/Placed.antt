@@ -8,10 +8,10 @@ use Rattle.columns.specs.declared.span.Span.{Span}
 use Rattle.columns.specs.Within.{is_within_by, stands_within, is_placed_within}
 
 -- within so many bytes, as their body does and what they know of dictionaries
-abbrev pub EndWithin : Span → List Dictionary → List DictionaryPart → List PlacedArray → Type 0
-EndWithin body dictionaries parts arrays =
+abbrev pub ArraysEndWithin : Span → List Dictionary → List DictionaryPart → List PlacedArray → Type 0
+ArraysEndWithin body dictionaries parts arrays =
     (size : ℕ) → body.start + body.len ≤ size → list_all (stands_within size dictionaries) parts ≡ true → list_all (is_placed_within size dictionaries) arrays ≡ true
 
 -- the same of an array without dictionaries
-abbrev pub EndsWithin : Span → PlacedArray → Type 0
-EndsWithin body a = (size : ℕ) → body.start + body.len ≤ size → is_within_by size (λ p. true) a ≡ true
+abbrev pub ArrayEndsWithin : Span → PlacedArray → Type 0
+ArrayEndsWithin body a = (size : ℕ) → body.start + body.len ≤ size → is_within_by size (λ p. true) a ≡ true

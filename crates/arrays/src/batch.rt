@@ -13,7 +13,7 @@ ghost use Rattle.columns.specs.View.{arrays_in, placed_arrays};
 ghost use Rattle.arrays.specs.Checks.{batch_read, batch_weight, slot_checks};
 ghost use Rattle.arrays.specs.Entries.{has_bad_entry};
 ghost use Rattle.arrays.specs.Known.{are_readable, dictionary_values};
-ghost use Rattle.arrays.specs.Placed.{EndWithin};
+ghost use Rattle.arrays.specs.Placed.{ArraysEndWithin};
 ghost use Rattle.arrays.specs.inner.Read.{placed_in};
 
 use crate::batch_arrays::{Placed, read_arrays};
@@ -91,7 +91,7 @@ pub fn read(
     ensures arrays { let known = map (arrays_in bytes.now dictionaries.now) parts.now in
         let exact = batch_read (schema_of schema.now) before (raw_batch_of batch.now) (within bytes.now body) known in
         Gives (λ v. placed_arrays bytes.now dictionaries.now v.arrays.items) result exact }
-    ensures placed { IfOk result (λ v. EndWithin body dictionaries.now parts.now v.arrays.items) }
+    ensures placed { IfOk result (λ v. ArraysEndWithin body dictionaries.now parts.now v.arrays.items) }
     ensures weight { let rows = (raw_batch_of batch.now).length in
         IfOk result (λ v. v.weight ≡ batch_weight (schema_of schema.now) rows (placed_arrays bytes.now dictionaries.now v.arrays.items)) }
     ensures sound { let columns = columns_of (schema_of schema.now).columns in

@@ -9,7 +9,7 @@ ghost use Rattle.columns.specs.Tests.{every_array};
 ghost use Rattle.columns.specs.Places.{within};
 ghost use Rattle.columns.specs.View.{arrays_in, placed_arrays};
 ghost use Rattle.arrays.specs.Checks.{array_checks, has_bad_length, arrays_read};
-ghost use Rattle.arrays.specs.Placed.{EndWithin};
+ghost use Rattle.arrays.specs.Placed.{ArraysEndWithin};
 ghost use Rattle.arrays.specs.inner.Every.{all_of};
 ghost use Rattle.arrays.specs.inner.Read.{placed_in};
 
@@ -123,7 +123,7 @@ pub fn read_arrays(
     ensures arrays { let known = map (arrays_in bytes.now dictionaries.now) parts.now in
         let exact = arrays_read (columns_of (map column_of fields.now)) (raw_batch_of batch.now) (within bytes.now body) known in
         Gives (λ v. placed_arrays bytes.now dictionaries.now v.items) result exact }
-    ensures placed { IfOk result (λ v. EndWithin body dictionaries.now parts.now v.items) }
+    ensures placed { IfOk result (λ v. ArraysEndWithin body dictionaries.now parts.now v.items) }
 {
     let rest = Rest {
         nodes: batch.nodes,

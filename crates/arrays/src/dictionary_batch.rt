@@ -11,7 +11,7 @@ ghost use Rattle.dictionary.specs.InEffect.{DictionaryBatch};
 ghost use Rattle.dictionary.specs.Kept.{HasInEffect};
 ghost use Rattle.arrays.specs.Dictionaries.{entries_read, has_no_base, batch_with, dictionary_read};
 ghost use Rattle.columns.specs.declared.span.Span.{Span};
-ghost use Rattle.arrays.specs.Placed.{EndWithin, EndsWithin};
+ghost use Rattle.arrays.specs.Placed.{ArraysEndWithin, ArrayEndsWithin};
 ghost use Rattle.arrays.specs.DictionaryColumns.{dictionary_columns_of, columns_with, first_alone, values_of_id};
 
 use crate::batch_arrays::read_arrays;
@@ -55,7 +55,7 @@ fn find_values_of(columns: &DictionaryColumns, id: u64) -> Option<&[Field]>
 // The first of some arrays, or one without slots.
 fn first_of(arrays: Vec<PlacedArray>) -> PlacedArray
     ensures array { (bytes : List ℕ) → array_in bytes no_dictionary result ≡ first_array (placed_arrays bytes [] arrays.items) }
-    ensures placed { (body : Span) → EndWithin body [] [] arrays.items → EndsWithin body result }
+    ensures placed { (body : Span) → ArraysEndWithin body [] [] arrays.items → ArrayEndsWithin body result }
 {
     let mut arrays = arrays;
     if arrays.len() == 0 {
@@ -79,7 +79,7 @@ fn read_entries(
     requires { body.start + body.len < 2 ^ 64 }
     ensures array { (c : Column) → map column_of values.now ≡ c ∷ []
         → Gives (array_in bytes.now no_dictionary) result (entries_read c (raw_batch_of batch.now) (within bytes.now body)) }
-    ensures placed { IfOk result (λ a. EndsWithin body a) }
+    ensures placed { IfOk result (λ a. ArrayEndsWithin body a) }
 {
     match read_arrays(alloc, values, batch, body, bytes, &[], &[]) {
         Ok(arrays) => {
@@ -115,7 +115,7 @@ pub fn read_dictionary(
         → let batch = raw_dictionary_of raw.now in
         let exact = dictionary_read (dictionary_columns_of columns.now) before batch (within bytes.now body) in
         Gives (λ a. batch_with batch (array_in bytes.now no_dictionary a)) result exact }
-    ensures placed { IfOk result (λ a. EndsWithin body a) }
+    ensures placed { IfOk result (λ a. ArrayEndsWithin body a) }
 {
     match find_values_of(columns, raw.id) {
         None => Err(ImportError::Fault(Fault::DictionaryId)),

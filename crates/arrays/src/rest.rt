@@ -62,7 +62,7 @@ impl<'a> Rest<'a> {
             Some(part) => *part,
             None => DictionaryPart {
                 number: 0,
-                known: 0,
+                count: 0,
             },
         }
     }

@@ -40,7 +40,7 @@ arrays_numbered dictionaries n = get_or (map (λ d. d.arrays.items) dictionaries
 -- the arrays of a dictionary that were there when an array was read
 abbrev pub arrays_in : List ℕ → List Dictionary → DictionaryPart → List Array
 arrays_in bytes [] part = []
-arrays_in bytes (d ∷ dictionaries) part = map (array_in bytes no_dictionary) (take part.known (arrays_numbered (d ∷ dictionaries) part.number))
+arrays_in bytes (d ∷ dictionaries) part = map (array_in bytes no_dictionary) (take part.count (arrays_numbered (d ∷ dictionaries) part.number))
 
 -- the arrays of a batch or of a struct, and those of a dictionary
 abbrev pub placed_arrays : List ℕ → List Dictionary → List PlacedArray → Arrays

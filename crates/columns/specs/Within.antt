@@ -33,7 +33,7 @@ is_within_by size stands = fold-PlacedArray Bool Bool (layout_within size stands
 -- the arrays that a part of a dictionary knows are there, and end within so many bytes; they have no dictionaries themselves
 abbrev pub stands_within : (size : ℕ) → List Dictionary → DictionaryPart → Bool
 stands_within size dictionaries part =
-    nat_le part.known (length (arrays_numbered dictionaries part.number)) && list_all (is_within_by size (λ p. true)) (take part.known (arrays_numbered dictionaries part.number))
+    nat_le part.count (length (arrays_numbered dictionaries part.number)) && list_all (is_within_by size (λ p. true)) (take part.count (arrays_numbered dictionaries part.number))
 
 abbrev pub is_placed_within : (size : ℕ) → List Dictionary → PlacedArray → Bool
 is_placed_within size dictionaries = is_within_by size (stands_within size dictionaries)

@@ -31,7 +31,7 @@ pub enum PlacedLayout {
 #[derive(Clone, Copy, Debug)]
 pub struct DictionaryPart {
     pub number: usize,
-    pub known: usize,
+    pub count: usize,
 }
 
 /// The arrays of a dictionary: that of the batch that began it, and those of the batches that were appended. It keeps how many entries there are up to the end of

@@ -113,9 +113,11 @@ pub fn written_arrays_have_their_shape()
     ensures few_nodes { (columns : Columns) (arrays : Arrays) → length (nodes_of columns arrays) ≤ length (preorder_all columns) }
     ensures few_buffers { (columns : Columns) (arrays : Arrays) → length (buffers_of columns arrays) ≤ 3 * length (nodes_of columns arrays) }
     ensures weight { (s : PlainSchema) (rows : List (List Cell)) → cells_weight (columns_of s.columns) rows ≤ table_weight s rows }
-    ensures few_slots { (most : ℕ) (columns : Columns) (rows : List (List Cell)) → can_build_rows columns rows ≡ true → cells_weight columns rows ≤ most
+    ensures few_slots { (most : ℕ) (columns : Columns) (rows : List (List Cell)) → can_build_rows columns rows ≡ true
+        → cells_weight columns rows ≤ most
         → AllByRecursion (λ t. slots_in t.array ≤ most) (every_array columns (built_parts columns rows)) }
-    ensures few_bytes { (most : ℕ) (columns : Columns) (rows : List (List Cell)) → can_build_rows columns rows ≡ true → cells_weight columns rows ≤ most
+    ensures few_bytes { (most : ℕ) (columns : Columns) (rows : List (List Cell)) → can_build_rows columns rows ≡ true
+        → cells_weight columns rows ≤ most
         → sum_by length (buffers_of columns (built_parts columns rows)) ≤ length (nodes_of columns (built_parts columns rows)) * (10 * most + 8) }
 {}
 
@@ -152,7 +154,8 @@ pub fn written_slots_pass()
 pub fn longer_bytes_keep_arrays()
     ensures spans { (bytes more : List ℕ) (span : Span) → ends_within (length bytes) span ≡ true → within (bytes ++ more) span ≡ within bytes span }
     ensures arrays { (bytes more : List ℕ) (old new : List Dictionary) (a : PlacedArray)
-        → ((part : DictionaryPart) → part.known ≤ length (arrays_numbered old part.number)
-        → take part.known (arrays_numbered new part.number) ≡ take part.known (arrays_numbered old part.number))
-        → is_placed_within (length bytes) old a ≡ true → array_in (bytes ++ more) (arrays_in (bytes ++ more) new) a ≡ array_in bytes (arrays_in bytes old) a }
+        → ((part : DictionaryPart) → part.count ≤ length (arrays_numbered old part.number)
+        → take part.count (arrays_numbered new part.number) ≡ take part.count (arrays_numbered old part.number))
+        → is_placed_within (length bytes) old a ≡ true → array_in (bytes ++ more) (arrays_in (bytes ++ more) new) a
+        ≡ array_in bytes (arrays_in bytes old) a }
 {}

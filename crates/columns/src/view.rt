@@ -45,10 +45,10 @@ pub fn array_or<'a>(arrays: &'a [PlacedArray], i: usize, none: &'a PlacedArray) 
 
 /// The arrays that a part of a dictionary knows: none where there is no such dictionary.
 pub fn known_arrays<'a>(dictionaries: &'a [Dictionary], part: &DictionaryPart) -> KnownArrays<'a>
-    ensures { result.arrays.now ≡ take part.now.known (arrays_numbered dictionaries.now part.now.number) }
+    ensures { result.arrays.now ≡ take part.now.count (arrays_numbered dictionaries.now part.now.number) }
 {
     match dictionaries.get(part.number) {
-        Some(dictionary) => dictionary.first(part.known),
+        Some(dictionary) => dictionary.first(part.count),
         None => KnownArrays::none(),
     }
 }

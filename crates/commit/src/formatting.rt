@@ -132,7 +132,8 @@ pub fn format<D: SectorDevice>(
 ) -> Result<(Commit, FreeMap), FormatError>
     ensures size { D.size device.new ≡ D.size device.old }
     ensures count { CountsFormat (D.failed device.old) (D.failed device.new) result }
-    ensures limits { is_size (D.size device.old) ≡ false → (result ≡ Err (FormatError.Damaged Cause.DeviceSize)) × (D.story device.new ≡ D.story device.old) }
+    ensures limits { is_size (D.size device.old) ≡ false → (result ≡ Err (FormatError.Damaged Cause.DeviceSize))
+        × (D.story device.new ≡ D.story device.old) }
     ensures damaged { IfErr result (λ e. (cause : Cause) → e ≡ FormatError.Damaged cause → is_size (D.size device.old) ≡ false) }
     ensures already { IsErrOf result FormatError.AlreadyAStore → D.tells ≡ true → ruling (shown_image (now (D.story device.old))) ≢ None }
     ensures none_before { OnOk result (D.tells ≡ true → ruling (shown_image (now (D.story device.old))) ≡ None) }

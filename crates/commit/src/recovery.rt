@@ -103,7 +103,8 @@ pub fn recover<C: ReadCatalogue, D: SectorDevice>(
 ) -> Result<Opened<C>, OpenError>
     ensures size { D.size device.new ≡ D.size device.old }
     ensures count { CountsOpen (D.failed device.old) (D.failed device.new) result }
-    ensures limits { is_size (D.size device.old) ≡ false → (result ≡ Err (OpenError.Damaged Cause.DeviceSize)) × (D.story device.new ≡ D.story device.old) }
+    ensures limits { is_size (D.size device.old) ≡ false → (result ≡ Err (OpenError.Damaged Cause.DeviceSize))
+        × (D.story device.new ≡ D.story device.old) }
     ensures moments { D.tells ≡ true → Grows (IsOpening (now (D.story device.old))) (D.story device.old) (D.story device.new) }
     ensures found { IfOk result
         (λ store. D.tells ≡ true → standing_shown C.reading (D.size device.old) (D.story device.old) ≡ rules store.commit (C.plain_of store.catalogue)) }

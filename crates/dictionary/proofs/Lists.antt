@@ -93,9 +93,9 @@ begun_keeps lists more part stands =
     ⊎_elim
     (λ (within : part.number < length lists).
     let same : get_or (lists ++ more ∷ []) part.number [] ≡ get_or lists part.number [] = get_or_append_left lists (more ∷ []) [] part.number within in
-    (subst (λ (xs : List PlacedArray). part.known ≤ length xs) (sym same) stands, ap (λ (xs : List PlacedArray). take part.known xs) same))
+    (subst (λ (xs : List PlacedArray). part.count ≤ length xs) (sym same) stands, ap (λ (xs : List PlacedArray). take part.count xs) same))
     (λ (past : length lists ≤ part.number).
-    let none : part.known ≡ zero = none_known part.known lists part.number stands past in
+    let none : part.count ≡ zero = none_known part.count lists part.number stands past in
     rw none (omega arith, refl))
     (cases_lt part.number (length lists))
 
@@ -103,17 +103,17 @@ pub grown_keeps : (lists : Lists) (n : ℕ) (more : List PlacedArray) → n < le
 grown_keeps lists n more within part stands =
     ⊎_elim
     (λ (here : part.number ≡ n).
-    let there : part.known ≤ length (get_or lists n []) = rw here at stands in
+    let there : part.count ≤ length (get_or lists n []) = rw here at stands in
     let same : get_or (set lists n (get_or lists n [] ++ more)) part.number [] ≡ get_or lists n [] ++ more =
     rw here (get_or-set_same lists n (get_or lists n [] ++ more) [] within) in
-    let longer : part.known ≤ length (get_or lists n [] ++ more) = omega (arith, length-append (get_or lists n []) more) in
+    let longer : part.count ≤ length (get_or lists n [] ++ more) = omega (arith, length-append (get_or lists n []) more) in
     let was : get_or lists part.number [] ≡ get_or lists n [] = ap (λ (i : ℕ). get_or lists i []) here in (
-      subst (λ (xs : List PlacedArray). part.known ≤ length xs) (sym same) longer,
-      ap (λ (xs : List PlacedArray). take part.known xs) same ∙ take-append-le part.known (get_or lists n []) more there ∙ ap (λ (xs : List PlacedArray). take part.known xs) (sym was),
+      subst (λ (xs : List PlacedArray). part.count ≤ length xs) (sym same) longer,
+      ap (λ (xs : List PlacedArray). take part.count xs) same ∙ take-append-le part.count (get_or lists n []) more there ∙ ap (λ (xs : List PlacedArray). take part.count xs) (sym was),
     ))
     (λ (other : part.number ≢ n).
     let same : get_or (set lists n (get_or lists n [] ++ more)) part.number [] ≡ get_or lists part.number [] = get_or-set_other lists n part.number (get_or lists n [] ++ more) [] other in
-    (subst (λ (xs : List PlacedArray). part.known ≤ length xs) (sym same) stands, ap (λ (xs : List PlacedArray). take part.known xs) same))
+    (subst (λ (xs : List PlacedArray). part.count ≤ length xs) (sym same) stands, ap (λ (xs : List PlacedArray). take part.count xs) same))
     (cases_eq part.number n)
 
 -- ---- each id has a list of its own

@@ -52,6 +52,6 @@ grew_within (Err e) k new lists n a is longer = tt
 
 pub part_within : (k : Kept) (part : DictionaryPart) (size : ℕ) (lists : List Dictionary) → IsPart k.lists part → lists_of lists ≡ k.lists → are_kept_within size k ≡ true → stands_within size lists part ≡ true
 part_within k part size lists stands is all =
-    subst (λ (xs : List (List PlacedArray)). (nat_le part.known (length (get_or xs part.number [])) && list_all (is_in size) (take part.known (get_or xs part.number []))) ≡ true) (sym is)
-    (and_from (nat_le part.known (length (get_or k.lists part.number []))) (list_all (is_in size) (take part.known (get_or k.lists part.number []))) (le-leb part.known (length (get_or k.lists part.number [])) stands)
-    (all_taken (is_in size) (get_or k.lists part.number []) part.known (all_at (is_in size) k.lists part.number all)))
+    subst (λ (xs : List (List PlacedArray)). (nat_le part.count (length (get_or xs part.number [])) && list_all (is_in size) (take part.count (get_or xs part.number []))) ≡ true) (sym is)
+    (and_from (nat_le part.count (length (get_or k.lists part.number []))) (list_all (is_in size) (take part.count (get_or k.lists part.number []))) (le-leb part.count (length (get_or k.lists part.number [])) stands)
+    (all_taken (is_in size) (get_or k.lists part.number []) part.count (all_at (is_in size) k.lists part.number all)))

@@ -62,11 +62,11 @@ batch_of id is_delta a = record { id = id; is_delta = is_delta; array = a }
 
 -- the arrays that a part of a dictionary knows
 abbrev pub known_arrays : List (List PlacedArray) → DictionaryPart → List PlacedArray
-known_arrays lists part = take part.known (get_or lists part.number [])
+known_arrays lists part = take part.count (get_or lists part.number [])
 
 -- a part whose arrays stand there
 abbrev pub IsPart : List (List PlacedArray) → DictionaryPart → Type 0
-IsPart lists part = part.known ≤ length (get_or lists part.number [])
+IsPart lists part = part.count ≤ length (get_or lists part.number [])
 
 -- all parts that stood there stand there, with the same arrays
 abbrev pub KeepsParts : List (List PlacedArray) → List (List PlacedArray) → Type 0

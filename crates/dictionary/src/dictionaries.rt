@@ -113,7 +113,7 @@ impl Dictionaries {
     pub fn has(&self, id: u64) -> bool
         ensures { (bytes : List ℕ) (before : List DictionaryBatch) → HasInEffect bytes self.now before → result ≡ list_any (has_id id) before }
     {
-        self.part(id).known > 0
+        self.part(id).count > 0
     }
 
     /// The part of an id's dictionary that is known now: all of the arrays that are in effect.
@@ -125,11 +125,11 @@ impl Dictionaries {
         match number_of(&self.numbers, id) {
             None => DictionaryPart {
                 number: 0,
-                known: 0,
+                count: 0,
             },
             Some(number) => DictionaryPart {
                 number,
-                known: self.lists[number].arrays.len(),
+                count: self.lists[number].arrays.len(),
             },
         }
     }

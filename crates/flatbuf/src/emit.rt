@@ -162,7 +162,8 @@ fn put_slot(
     requires small { length out.old.items < 2 ^ 31 }
     requires low { below_ends_at reached.cursor (slot_before slot.now no_slot) < 2 ^ 31 }
     requires room { (rest : Slots) × (at + inline_end reached.offset (slot_before slot.now rest) ≤ reached.cursor) }
-    ensures bytes { IfOk result (λ r. (rest : Slots) → out.new.items ++ to_put at r rest ≡ out.old.items ++ to_put at reached (slot_before slot.now rest)) }
+    ensures bytes { IfOk result (λ r. (rest : Slots) → out.new.items ++ to_put at r rest
+        ≡ out.old.items ++ to_put at reached (slot_before slot.now rest)) }
     ensures inline { IfOk result (λ r. (rest : Slots) → inline_end r.offset rest ≡ inline_end reached.offset (slot_before slot.now rest)) }
     ensures below { IfOk result (λ r. (rest : Slots) → below_ends_at r.cursor rest ≡ below_ends_at reached.cursor (slot_before slot.now rest)) }
     ensures up { IfOk result (λ r. reached.cursor ≤ r.cursor) }

@@ -60,7 +60,7 @@ known_same : (bytes : List ℕ) (l m : List Dictionary) → lists_of l ≡ lists
 known_same bytes [] [] e part = refl
 known_same bytes [] (d ∷ m) e part = absurd cc
 known_same bytes (d ∷ l) [] e part = absurd cc
-known_same bytes (d ∷ l) (c ∷ m) e part = ap (λ (lists : List (List PlacedArray)). map (array_in bytes no_dictionary) (take part.known (get_or lists part.number []))) e
+known_same bytes (d ∷ l) (c ∷ m) e part = ap (λ (lists : List (List PlacedArray)). map (array_in bytes no_dictionary) (take part.count (get_or lists part.number []))) e
 
 placed_same : (bytes : List ℕ) (l m : List Dictionary) (arrays : List PlacedArray) → lists_of l ≡ lists_of m → placed_arrays bytes l arrays ≡ placed_arrays bytes m arrays
 placed_same bytes l m arrays e = ap (λ (known : DictionaryPart → List Array). arrays_of (map (array_in bytes known) arrays)) (fun_ext (known_same bytes l m e))
@@ -68,7 +68,7 @@ placed_same bytes l m arrays e = ap (λ (known : DictionaryPart → List Array).
 within_same : (size : ℕ) (l m : List Dictionary) (arrays : List PlacedArray) → lists_of l ≡ lists_of m → list_all (is_placed_within size l) arrays ≡ list_all (is_placed_within size m) arrays
 within_same size l m arrays e =
     ap (λ (lists : List (List PlacedArray)).
-    list_all (is_within_by size (λ part. nat_le part.known (length (get_or lists part.number [])) && list_all (is_within_by size (λ p. true)) (take part.known (get_or lists part.number [])))) arrays) e
+    list_all (is_within_by size (λ part. nat_le part.count (length (get_or lists part.number [])) && list_all (is_within_by size (λ p. true)) (take part.count (get_or lists part.number [])))) arrays) e
 
 -- ---- reading the arrays
 

@@ -45,10 +45,10 @@ plains_end size larger le (a ∷ arrays) end =
 part_stays : (size larger : ℕ) (old new : List Dictionary) (part : DictionaryPart) → size ≤ larger → KeepsParts (lists_of old) (lists_of new)
     → stands_within size old part ≡ true → stands_within larger new part ≡ true
 part_stays size larger old new part le keeps stands =
-    let parts = and_parts (nat_le part.known (length (arrays_numbered old part.number))) _ stands in
-    let kept = keeps part (leb-true part.known (length (arrays_numbered old part.number)) parts.0) in
-    and_from (nat_le part.known (length (arrays_numbered new part.number))) _ (le-leb part.known (length (arrays_numbered new part.number)) kept.0)
-    (ap (list_all (is_within_by larger (λ p. true))) kept.1 ∙ plains_end size larger le (take part.known (arrays_numbered old part.number)) parts.1)
+    let parts = and_parts (nat_le part.count (length (arrays_numbered old part.number))) _ stands in
+    let kept = keeps part (leb-true part.count (length (arrays_numbered old part.number)) parts.0) in
+    and_from (nat_le part.count (length (arrays_numbered new part.number))) _ (le-leb part.count (length (arrays_numbered new part.number)) kept.0)
+    (ap (list_all (is_within_by larger (λ p. true))) kept.1 ∙ plains_end size larger le (take part.count (arrays_numbered old part.number)) parts.1)
 
 array_ends : (size larger : ℕ) (old new : List Dictionary) (a : PlacedArray) → size ≤ larger → KeepsParts (lists_of old) (lists_of new)
     → is_placed_within size old a ≡ true → is_placed_within larger new a ≡ true

@@ -25,10 +25,13 @@ use ipc_message::{
 /// means none has messages that are read, one after another, and then what the fault refuses; and a fault that stands is reported.
 pub fn meaning_is_framed()
     ensures table { (supported : ℕ → Bool) (bytes : List ℕ) (t : PlainTable) → meaning supported bytes ≡ Ok t → StreamEncodes supported bytes t }
-    ensures once { (supported : ℕ → Bool) (bytes : List ℕ) (t u : PlainTable) → StreamEncodes supported bytes t → StreamEncodes supported bytes u → t ≡ u }
+    ensures once { (supported : ℕ → Bool) (bytes : List ℕ) (t u : PlainTable) → StreamEncodes supported bytes t
+        → StreamEncodes supported bytes u → t ≡ u }
     ensures means { (supported : ℕ → Bool) (bytes : List ℕ) (t : PlainTable) → StreamEncodes supported bytes t → meaning supported bytes ≡ Ok t }
-    ensures fault { (supported : ℕ → Bool) (bytes : List ℕ) (fault : Fault) → meaning supported bytes ≡ Err fault → FaultStands supported bytes fault }
-    ensures reported { (supported : ℕ → Bool) (bytes : List ℕ) (fault : Fault) → FaultStands supported bytes fault → meaning supported bytes ≡ Err fault }
+    ensures fault { (supported : ℕ → Bool) (bytes : List ℕ) (fault : Fault) → meaning supported bytes ≡ Err fault
+        → FaultStands supported bytes fault }
+    ensures reported { (supported : ℕ → Bool) (bytes : List ℕ) (fault : Fault) → FaultStands supported bytes fault
+        → meaning supported bytes ≡ Err fault }
 {
     next_message_is_framed();
 }
@@ -37,7 +40,8 @@ pub fn meaning_is_framed()
 pub fn faults_stand_at_their_place()
     ensures placed { (supported : ℕ → Bool) (bytes : List ℕ) (fault : Fault) → (stands : FaultStands supported bytes fault)
         → place_of supported bytes ≡ Some (length stands.messages, bytes_taken stands.messages) }
-    ensures nowhere { (supported : ℕ → Bool) (bytes : List ℕ) (t : PlainTable) → meaning supported bytes ≡ Ok t → place_of supported bytes ≡ None }
+    ensures nowhere { (supported : ℕ → Bool) (bytes : List ℕ) (t : PlainTable) → meaning supported bytes ≡ Ok t
+        → place_of supported bytes ≡ None }
 {
     next_message_is_framed();
 }

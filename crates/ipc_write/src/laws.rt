@@ -33,7 +33,8 @@ pub fn field_is_read_again()
 
 /// A message that was framed stands at the front of whatever follows it.
 pub fn message_is_read_again()
-    ensures { (metadata body rest : List ℕ) (type : ℕ) (header : Tree) → IsHeaderType type → 4 ≤ length metadata → length metadata ≤ MAX_BUFFER_BYTES
+    ensures { (metadata body rest : List ℕ) (type : ℕ) (header : Tree) → IsHeaderType type → 4 ≤ length metadata
+        → length metadata ≤ MAX_BUFFER_BYTES
         → length body < 2 ^ 63
         → Has metadata (target metadata 0) (message_tree type header (length body))
         → next_message (framed metadata body ++ rest) ≡ Ok (message (record { metadata = metadata; body = body })) }
@@ -43,21 +44,25 @@ pub fn message_is_read_again()
 
 /// The header of a schema message that was written is the schema that was written.
 pub fn schema_is_read_again()
-    ensures { (supported : ℕ → Bool) (metadata : List ℕ) (body_len : ℕ) (s : PlainSchema) → HoldsTimes supported → depth_all (columns_of s.columns) ≤ 36
+    ensures { (supported : ℕ → Bool) (metadata : List ℕ) (body_len : ℕ) (s : PlainSchema) → HoldsTimes supported
+        → depth_all (columns_of s.columns) ≤ 36
         → 2 + tables_of_all (columns_of s.columns) + length s.pairs ≤ MAX_BUFFER_TABLES
-        → Has metadata (target metadata 0) (message_tree SCHEMA (schema_tree s) body_len) → header supported metadata ≡ Ok (schema_header (raw_schema s)) }
+        → Has metadata (target metadata 0) (message_tree SCHEMA (schema_tree s) body_len)
+        → header supported metadata ≡ Ok (schema_header (raw_schema s)) }
 {}
 
 /// The header of a dictionary batch that was written is the dictionary batch that was written.
 pub fn dictionary_is_read_again()
     ensures { (supported : ℕ → Bool) (metadata : List ℕ) (body_len : ℕ) (d : RawDictionaryBatch) → d.batch.compressed ≡ false
         → FitsStructs (map node_pair d.batch.nodes) → FitsStructs (map buffer_pair d.batch.buffers)
-        → Has metadata (target metadata 0) (message_tree DICTIONARY_BATCH (dictionary_tree d) body_len) → header supported metadata ≡ Ok (dictionary_header d) }
+        → Has metadata (target metadata 0) (message_tree DICTIONARY_BATCH (dictionary_tree d) body_len)
+        → header supported metadata ≡ Ok (dictionary_header d) }
 {}
 
 /// The header of a record batch that was written is the record batch that was written.
 pub fn batch_is_read_again()
-    ensures { (supported : ℕ → Bool) (metadata : List ℕ) (body_len : ℕ) (b : RawBatch) → b.compressed ≡ false → FitsStructs (map node_pair b.nodes)
+    ensures { (supported : ℕ → Bool) (metadata : List ℕ) (body_len : ℕ) (b : RawBatch) → b.compressed ≡ false
+        → FitsStructs (map node_pair b.nodes)
         → FitsStructs (map buffer_pair b.buffers)
         → Has metadata (target metadata 0) (message_tree RECORD_BATCH (batch_tree b) body_len) → header supported metadata ≡ Ok (batch_header b) }
 {}
@@ -77,7 +82,8 @@ pub fn metadata_is_within_its_limit()
 /// `kind`: its header is a schema; `header`: what that header holds; `decoded`: that is the schema that was written;
 /// `checked`: no check refuses it; `after`: past it stands what follows it.
 pub fn schema_message_is_read_again()
-    ensures next_message { (s : PlainSchema) (rest : List ℕ) → IsWithinLimits s → next_message (schema_message s ++ rest) ≡ Ok (message (schema_envelope s)) }
+    ensures next_message { (s : PlainSchema) (rest : List ℕ) → IsWithinLimits s
+        → next_message (schema_message s ++ rest) ≡ Ok (message (schema_envelope s)) }
     ensures kind { (s : PlainSchema) → IsWithinLimits s → type_of (schema_envelope s).metadata ≡ SCHEMA }
     ensures header { (supported : ℕ → Bool) (s : PlainSchema) → HoldsTimes supported → IsWithinLimits s
         → header supported (schema_envelope s).metadata ≡ Ok (schema_header (raw_schema s)) }
@@ -95,7 +101,8 @@ pub fn dictionary_message_is_read_again()
     ensures next_message { (id : ℕ) (is_delta : Bool) (rows : ℕ) (nodes : List RawNode) (buffers : List (List ℕ)) (rest : List ℕ)
         → id < 2 ^ 64 → IsWritableBatch rows nodes buffers
         → next_message (dictionary_message id is_delta rows nodes buffers ++ rest) ≡ Ok (message (dictionary_envelope id is_delta rows nodes buffers)) }
-    ensures kind { (id : ℕ) (is_delta : Bool) (rows : ℕ) (nodes : List RawNode) (buffers : List (List ℕ)) → id < 2 ^ 64 → IsWritableBatch rows nodes buffers
+    ensures kind { (id : ℕ) (is_delta : Bool) (rows : ℕ) (nodes : List RawNode) (buffers : List (List ℕ)) → id < 2 ^ 64
+        → IsWritableBatch rows nodes buffers
         → type_of (dictionary_envelope id is_delta rows nodes buffers).metadata ≡ DICTIONARY_BATCH }
     ensures header { (supported : ℕ → Bool) (id : ℕ) (is_delta : Bool) (rows : ℕ) (nodes : List RawNode) (buffers : List (List ℕ))
         → id < 2 ^ 64 → IsWritableBatch rows nodes buffers

@@ -21,7 +21,7 @@ use Rattle.values.specs.declared.errors.TableError.TheVariants as errors
 use Rattle.values.specs.TableView as tables
 use Rattle.values.specs.Table as table
 use Rattle.values.specs.Table.{IsTable}
-use Rattle.values.specs.Rows.{rows_in, table_in}
+use Rattle.values.specs.Rows.{cell_rows, table_in}
 use Rattle.query.specs.declared.errors.QueryError.{QueryError}
 use Rattle.query.specs.declared.errors.QueryError.TheVariants.{UnknownColumn, BadCondition, NotComparable, OutOfMemory}
 use Rattle.query.specs.Query.{PlainQuery}
@@ -43,7 +43,7 @@ row_long : (s : PlainSchema) (row : List Cell) → is_row s row ≡ true → len
 unfolding is_row
 row_long s row h = fits_long s.columns row (and_parts _ _ h).0
 
-rows_again : (s : PlainSchema) (rows : List (List Cell)) → list_all (is_row s) rows ≡ true → rows_in (length s.columns) (length rows) (flat_map (λ row. row) rows) ≡ rows
+rows_again : (s : PlainSchema) (rows : List (List Cell)) → list_all (is_row s) rows ≡ true → cell_rows (length s.columns) (length rows) (flat_map (λ row. row) rows) ≡ rows
 rows_again s [] h = refl
 rows_again s (row ∷ rows) h =
     let both = and_parts (is_row s row) (list_all (is_row s) rows) h in
@@ -67,7 +67,7 @@ pub made_table : (schema : Schema) (cells : List Value) (n : ℕ) (s : PlainTabl
     → table_in schema n cells ≡ s
 made_table schema cells n s h same joined count =
     let again = rows_again s.schema s.rows (list_all-from_AllPass (is_row s.schema) s.rows h.rows) in
-    let rows : rows_in (length schema.fields.items) n (map cell cells) ≡ s.rows = rw (width_of schema s.schema same, joined, count) again in
+    let rows : cell_rows (length schema.fields.items) n (map cell cells) ≡ s.rows = rw (width_of schema s.schema same, joined, count) again in
     (λ k. record { schema = same k; rows = rows k })
 
 pub made_cells : (schema : Schema) (cells : List Value) (n : ℕ) (s : PlainTable) → IsTable s → schema_of schema ≡ s.schema → map cell cells ≡ flat_map (λ row. row) s.rows → n ≡ length s.rows

@@ -83,7 +83,8 @@ impl<'a> RowsLeft<'a> {
     /// All rows.
     pub fn new(alloc: Global, parts: &'a [Part]) -> Result<RowsLeft<'a>, AllocError>
         ensures rows { IfOk result (λ left. (columns : Columns) → rows_left columns left ≡ parts_rows columns parts.now) }
-        ensures sound { IfOk result (λ left. (columns : Columns) → are_parts_sound columns parts.now ≡ true → are_runs_sound columns (runs_left left) ≡ true) }
+        ensures sound { IfOk result (λ left. (columns : Columns) → are_parts_sound columns parts.now ≡ true
+            → are_runs_sound columns (runs_left left) ≡ true) }
     {
         let mut runs = Vec::new(alloc);
         for part in parts {

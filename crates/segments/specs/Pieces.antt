@@ -3,7 +3,7 @@ use Rattle.std.specs.Prelude.{ℕ, List, map}
 use Rattle.std.specs.List.{flat_map}
 use Rattle.segments.specs.declared.run.Run.{Run}
 use Rattle.segments.specs.declared.piece.Part.{Part}
-use Rattle.segments.specs.declared.piece.Part.TheVariants.{Made, Lent}
+use Rattle.segments.specs.declared.piece.Part.TheVariants.{Made, Borrowed}
 use Rattle.segments.specs.declared.piece.Piece.{Piece}
 
 -- a run, and bytes
@@ -14,7 +14,7 @@ pub record PlainPiece : Type 0 where
 -- the bytes of a part, wherever they stand
 abbrev pub part_bytes : Part → List ℕ
 part_bytes (Made v) = v.items
-part_bytes (Lent b) = b.now
+part_bytes (Borrowed b) = b.now
 
 -- those of parts, behind one another
 abbrev pub bytes_of_parts : List Part → List ℕ

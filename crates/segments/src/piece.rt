@@ -4,11 +4,11 @@ ghost use Rattle.segments.specs.Pieces.{part_bytes, bytes_of_parts};
 
 use crate::Run;
 
-/// Some of a piece's bytes, made for it or lent.
+/// Some of a piece's bytes, made for it or borrowed.
 #[derive(Debug, Drop)]
 pub enum Part<'a> {
     Made(Vec<u8>),
-    Lent(&'a [u8]),
+    Borrowed(&'a [u8]),
 }
 
 impl Part<'_> {
@@ -17,7 +17,7 @@ impl Part<'_> {
     {
         match self {
             Part::Made(bytes) => bytes,
-            Part::Lent(bytes) => bytes,
+            Part::Borrowed(bytes) => bytes,
         }
     }
 }

@@ -39,8 +39,10 @@ pub fn read_run<D: SectorDevice>(
     ensures moments { D.tells ≡ true → OnlyReads (D.story device.old) (D.story device.new) }
     ensures length { IfOk result (λ bytes. vec_len bytes ≡ byte_count) }
     ensures found { IfOk result (λ bytes. D.tells ≡ true → bytes_at (shown_image (now (D.story device.old))) start byte_count ≡ Some bytes.items) }
-    ensures unreadable { IsErrOf result ReadError.Unreadable → D.tells ≡ true → bytes_at (shown_image (now (D.story device.old))) start byte_count ≡ None }
-    ensures first { IfErr result (λ e. e ≢ ReadError.OutOfMemory → D.tells ≡ true → EndsInRun e start byte_count (D.story device.old) (D.story device.new)) }
+    ensures unreadable { IsErrOf result ReadError.Unreadable → D.tells ≡ true
+        → bytes_at (shown_image (now (D.story device.old))) start byte_count ≡ None }
+    ensures first { IfErr result (λ e. e ≢ ReadError.OutOfMemory → D.tells ≡ true
+        → EndsInRun e start byte_count (D.story device.old) (D.story device.new)) }
     ensures memory { IsErrOf result ReadError.OutOfMemory → D.tells ≡ true → D.story device.new ≡ D.story device.old }
 {
     let count = byte_count.div_ceil(SECTOR_BYTES);

@@ -38,7 +38,8 @@ fn write_part<D: SectorDevice>(
     ensures order { OnOk result
         (D.tells ≡ true → GrowsBy (run_writes tail.old.start (whole_bytes (tail_bytes tail.old ++ bytes.now))) (D.story device.old) (D.story device.new)) }
     ensures cut_short { OnErr result
-        (D.tells ≡ true → FailsAmong (run_writes tail.old.start (whole_bytes (tail_bytes tail.old ++ bytes.now))) (D.story device.old) (D.story device.new)) }
+        (D.tells ≡ true → FailsAmong (run_writes tail.old.start (whole_bytes (tail_bytes tail.old
+        ++ bytes.now))) (D.story device.old) (D.story device.new)) }
     ensures start { OnOk result (tail.new.start ≡ tail.old.start + length (tail_bytes tail.old ++ bytes.now) / 512) }
     ensures rest { OnOk result (tail_bytes tail.new ≡ rest_bytes (tail_bytes tail.old ++ bytes.now)) }
 {
@@ -107,7 +108,7 @@ pub fn write_run<D: SectorDevice>(device: &mut D, start: u64, bytes: &[u8]) -> R
     ensures order { OnOk result (D.tells ≡ true → GrowsBy (run_writes start bytes.now) (D.story device.old) (D.story device.new)) }
     ensures cut_short { OnErr result (D.tells ≡ true → FailsAmong (run_writes start bytes.now) (D.story device.old) (D.story device.new)) }
 {
-    write_parts(device, start, &[Part::Lent(bytes)])
+    write_parts(device, start, &[Part::Borrowed(bytes)])
 }
 
 /// Writes each piece into its run, one after another.

@@ -83,7 +83,8 @@ fn pick_part<'a>(
     places: &[usize],
 ) -> Result<(), AllocError>
     ensures rows { OnOk result (flat_map (picked_rows (picked_columns fields.now places.now)) picked.new.items
-        ≡ flat_map (picked_rows (picked_columns fields.now places.now)) picked.old.items ++ map (pick places.now) (part_rows (fields_of fields.now) part.now)) }
+        ≡ flat_map (picked_rows (picked_columns fields.now places.now)) picked.old.items
+        ++ map (pick places.now) (part_rows (fields_of fields.now) part.now)) }
     ensures sound { OnOk result (list_all (is_picked_sound (picked_columns fields.now places.now)) picked.old.items ≡ true
         → list_all (is_batch_sound (fields_of fields.now) part.now) part.now.batches.items ≡ true
         → list_all (is_picked_sound (picked_columns fields.now places.now)) picked.new.items ≡ true) }

@@ -30,7 +30,7 @@ use Rattle.store.specs.Reading.{OnlyReadsStore, ended}
 use Rattle.store.specs.Runs.{Goes, TellsFound, TellsRoom}
 use Rattle.store.specs.Steps.{Step, RefusesFrom}
 use Rattle.store.specs.Fits.{setting_of, StoreFits, commit_of, listed_in, IsOnDisk}
-use Rattle.store.specs.Applying.{EndsAs, IsKept, HasDone, IsOldOrDone, IsApplying, Writes, HasWritten, GoesOn}
+use Rattle.store.specs.Applying.{EndsAs, IsKept, HasDone, IsOldOrDone, IsApplying, IsApplyingAtEachMoment, IsDoneOnDisk, GoesOn}
 use Rattle.store.specs.Carrying.{IsCarried}
 use Rattle.store.specs.Verdicts.{IsVerdict, IsUndecided}
 use Rattle.store.proofs.Asked.{still, not_running, refused_elsewhere}
@@ -217,14 +217,14 @@ module _ {D : Type 0} {g : Ghosts D} (size : D → ℕ) (story : D → Story) (f
               kept = λ n within. ap (λ (i : Image). i n) one;
             }
 
-    pub writes_after : (new : Store D g) → IsOnDisk size story old → Writes size story mid c new → Writes size story old c new
+    pub writes_after : (new : Store D g) → IsOnDisk size story old → IsApplyingAtEachMoment size story mid c new → IsApplyingAtEachMoment size story old c new
     writes_after new on writes =
         goes_on (stood on)
         (subst (λ (o : Opened StoredCatalogue). Grows (IsApplying (size old.device) (IsUsedIn o.map.entries) o.commit (catalogue_of o.catalogue.list) (now (story old.device)) c) (story mid.device) (story new.device)) reads.kept
         (subst (λ (n : ℕ). Grows (IsApplying n (IsUsedIn mid.opened.map.entries) mid.opened.commit (listed_in mid) (now (story old.device)) c) (story mid.device) (story new.device)) reads.device.same
         (subst (λ (d : Disk). Grows (IsApplying (size mid.device) (IsUsedIn mid.opened.map.entries) mid.opened.commit (listed_in mid) d c) (story mid.device) (story new.device)) later writes)))
 
-    pub written_after : (new : Store D g) → HasWritten size story mid c new → HasWritten size story old c new
+    pub written_after : (new : Store D g) → IsDoneOnDisk size story mid c new → IsDoneOnDisk size story old c new
     written_after new has = record {
       stands = has.stands;
       holds =

@@ -26,7 +26,7 @@ use Rattle.store.specs.Opening.{TellsOpening, TellsFormatting, IsOfFormatting}
 use Rattle.store.specs.Held.{whole_reading}
 use Rattle.store.specs.Fits.{device_of, listed_in, is_halted, IsOnDisk, FindsStore, FormatsStore, IsNewStore}
 use Rattle.store.specs.Deciding.{reads_device}
-use Rattle.store.specs.Applying.{IsApplied, IsKept, Writes, HasWritten}
+use Rattle.store.specs.Applying.{IsApplied, IsKept, IsApplyingAtEachMoment, IsDoneOnDisk}
 use Rattle.store.specs.Listing.{RefusesTables, RefusesSchema}
 use Rattle.store.specs.Reading.{RefusesRead, ReadsTable, OnlyReadsStore}
 use Rattle.store.specs.Places.{device_in}
@@ -87,8 +87,8 @@ pub record Applies {D : Type 0} {g : Ghosts D} (size : D → ℕ) (story : D →
   pub halted : (result ≡ Err refusals.Halted) ↔ (is_halted old ≡ true)
   pub still : is_halted old ≡ true → new ≡ old
   pub halts : is_halted old ≡ false → (is_halted new ≡ true) ↔ (result ≡ Err refusals.Device)
-  pub writes : is_halted old ≡ false → tells ≡ true → IsOnDisk size story old → Writes size story old command new
-  pub written : OnOk result (tells ≡ true → IsOnDisk size story old → HasWritten size story old command new)
+  pub writes : is_halted old ≡ false → tells ≡ true → IsOnDisk size story old → IsApplyingAtEachMoment size story old command new
+  pub written : OnOk result (tells ≡ true → IsOnDisk size story old → IsDoneOnDisk size story old command new)
 
 abbrev pub AnswersCommand : {D : Type 0} {g : Ghosts D} → (size : D → ℕ) → (story : D → Story) → (tells : Bool) → Store D g → PlainCommand → PlainReply → Store D g → Type 0
 AnswersCommand size story tells old command done new = Applies size story tells old command (Ok tt) new

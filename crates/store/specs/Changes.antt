@@ -43,17 +43,17 @@ pub record PlainChange : Type 0 where
   pub counts : List ℕ
 
 -- the rows of new segments as a table
-abbrev pub rows_in : SegmentRows → PlainTable
-rows_in new = table_under new.schema new.table
+abbrev pub rows_table : SegmentRows → PlainTable
+rows_table new = table_under new.schema new.table
 
 -- the new segments are the streams of its pieces, with the number of rows of each
 abbrev pub new_streams : Option SegmentRows → List (List ℕ)
 new_streams None = []
-new_streams (Some new) = piece_streams (rows_in new)
+new_streams (Some new) = piece_streams (rows_table new)
 
 abbrev pub new_counts : Option SegmentRows → List ℕ
 new_counts None = []
-new_counts (Some new) = piece_counts (rows_in new)
+new_counts (Some new) = piece_counts (rows_table new)
 
 abbrev pub change_of : Change → PlainChange
 change_of change = record { edit = edit_of change.edit; streams = new_streams change.new; counts = new_counts change.new }

@@ -49,7 +49,8 @@ fn decide_behind(
     weight: u64,
 ) -> Result<Change, Refusal>
     requires table { IsTable (rows_under (plain_entry entry.now).schema (table_of new).rows) }
-    ensures ok { IfOk result (λ change. (c : PlainCatalogue) → entry_of c (string_bytes name) ≡ Some (plain_entry entry.now) → CanChange c (change_of change)) }
+    ensures ok { IfOk result (λ change. (c : PlainCatalogue) → entry_of c (string_bytes name) ≡ Some (plain_entry entry.now)
+        → CanChange c (change_of change)) }
     ensures answers { (decision_of result ≡ Err Refusal.OutOfMemory) ⊎ ((standing : List (List Cell))
         → weight ≡ table_weight (plain_entry entry.now).schema (standing ++ (table_of new).rows)
         → decision_of result ≡ decided_behind (string_bytes name) (record { entry = plain_entry entry.now; rows = (table_of new).rows }) standing) }
@@ -81,7 +82,8 @@ fn append_to_entry<D: SectorDevice>(
     requires placed { all_on_device (D.size device.old) (runs_in (plain_entry entry.now).segments) ≡ true }
     requires sound { is_entry (plain_entry entry.now) ≡ true }
     ensures reads { OnlyReadsDevice D.size D.story D.failed D.tells (ended result) device.old device.new }
-    ensures ok { IfOk result (λ change. (c : PlainCatalogue) → entry_of c (string_bytes name) ≡ Some (plain_entry entry.now) → CanChange c (change_of change)) }
+    ensures ok { IfOk result (λ change. (c : PlainCatalogue) → entry_of c (string_bytes name) ≡ Some (plain_entry entry.now)
+        → CanChange c (change_of change)) }
     ensures answers { IsAppended D.tells (shown_image (now (D.story device.old))) (string_bytes name) (added_to new (plain_entry entry.now))
         (decision_of result) }
     ensures not_halted { IfErr result (λ e. e ≢ Refusal.Halted) }

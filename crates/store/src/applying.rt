@@ -24,7 +24,7 @@ impl<D: SectorDevice> Store<D> {
     ghost use Rattle.store.specs.Calls.{apply_call, counted};
     ghost use Rattle.store.specs.Machine.{Machine};
     ghost use Rattle.store.specs.Fits.{StoreFits, device_of, is_halted, IsOnDisk};
-    ghost use Rattle.store.specs.Applying.{GoesOn, IsApplied, IsKept, Writes, HasWritten};
+    ghost use Rattle.store.specs.Applying.{GoesOn, IsApplied, IsKept, IsApplyingAtEachMoment, IsDoneOnDisk};
 
     // What a command changes. Only an append and a query that is saved read the device.
     fn decide(&mut self, alloc: Global, command: Command) -> Result<Change, Refusal>
@@ -80,9 +80,9 @@ impl<D: SectorDevice> Store<D> {
         // On a store that lies on its disk, whatever its segments hold: at each moment a stop leaves what stood, or the command done, and no sector
         // was touched outside the runs that it takes, but the one of the next commit.
         ensures writes { is_halted self.old ≡ false → D.tells ≡ true → IsOnDisk D.size D.story self.old
-            → Writes D.size D.story self.old (command_of command) self.new }
+            → IsApplyingAtEachMoment D.size D.story self.old (command_of command) self.new }
         ensures written { OnOk result (D.tells ≡ true → IsOnDisk D.size D.story self.old
-            → HasWritten D.size D.story self.old (command_of command) self.new) }
+            → IsDoneOnDisk D.size D.story self.old (command_of command) self.new) }
         ensures size { D.size (device_of self.new) ≡ D.size (device_of self.old) }
         ensures count { D.failed (device_of self.new) ≡ counted (ended result) (D.failed (device_of self.old)) }
     {

@@ -51,33 +51,33 @@ fn back_after(
 }
 
 // Bytes and more parts behind them, where they stand.
-fn lent_parts<'a>(
+fn borrowed_parts<'a>(
     alloc: Global,
     first: &'a [u8],
     parts: &'a [Buffer<'_>],
 ) -> Result<Vec<Part<'a>>, AllocError>
-    ensures { IfOk result (λ lent. bytes_of_parts lent.items ≡ first.now ++ joined_parts parts.now) }
+    ensures { IfOk result (λ borrowed. bytes_of_parts borrowed.items ≡ first.now ++ joined_parts parts.now) }
 {
-    let mut lent = Vec::new(alloc);
-    lent.push(Part::Lent(first))?;
+    let mut borrowed = Vec::new(alloc);
+    borrowed.push(Part::Borrowed(first))?;
     for part in parts {
-        lent.push(Part::Lent(part.bytes()))?;
+        borrowed.push(Part::Borrowed(part.bytes()))?;
     }
-    Ok(lent)
+    Ok(borrowed)
 }
 
 // The streams of pieces, where their parts stand.
-fn lent_streams<'a>(
+fn borrowed_streams<'a>(
     alloc: Global,
     pieces: &'a EncodedPieces<'_>,
 ) -> Result<Vec<Vec<Part<'a>>>, AllocError>
-    ensures { IfOk result (λ lent. plain_contents lent.items ≡ streams_in pieces.now) }
+    ensures { IfOk result (λ borrowed. plain_contents borrowed.items ≡ streams_in pieces.now) }
 {
-    let mut lent = Vec::with_capacity(alloc, pieces.parts.len())?;
+    let mut borrowed = Vec::with_capacity(alloc, pieces.parts.len())?;
     for parts in &pieces.parts {
-        lent.push(lent_parts(alloc, &pieces.schema_message, parts)?)?;
+        borrowed.push(borrowed_parts(alloc, &pieces.schema_message, parts)?)?;
     }
-    Ok(lent)
+    Ok(borrowed)
 }
 
 // How many bytes the text of the new catalogue has. Where its new segments lie makes no difference.
@@ -163,7 +163,7 @@ fn plan_change<'a>(
     ensures err { OnErr result (SameUsages map.old.entries map.new.entries) }
 {
     let back = back_after(alloc, commit, stored, &change.edit)?;
-    let streams = lent_streams(alloc, pieces)?;
+    let streams = borrowed_streams(alloc, pieces)?;
     let text_bytes = text_size(alloc, stored, change, &streams, &pieces.rows)?;
     let places = place(alloc, map, streams, text_bytes)?;
     match next_catalogue(alloc, stored, &change.edit, &places.pieces, &pieces.rows) {
@@ -243,7 +243,7 @@ impl<D: SectorDevice> Store<D> {
     ghost use Rattle.store.specs.Changes.{MakesOf};
     ghost use Rattle.store.specs.Deciding.{IsDecided};
     ghost use Rattle.store.specs.Reading.{ended};
-    ghost use Rattle.store.specs.Applying.{GoesOn, EndsAs, IsKept, Writes, HasWritten};
+    ghost use Rattle.store.specs.Applying.{GoesOn, EndsAs, IsKept, IsApplyingAtEachMoment, IsDoneOnDisk};
 
     /// Carries out a change of the catalogue: makes the streams of the new segments, takes runs, writes these and the new catalogue, and publishes them.
     ///
@@ -262,10 +262,10 @@ impl<D: SectorDevice> Store<D> {
         // On a store that lies on its disk, where a command asks for the change.
         ensures writes { D.tells ≡ true → (c : PlainCommand) → IsOnDisk D.size D.story self.old
             → IsDecided true (shown_image (now (D.story (device_of self.old)))) (listed_in self.old) c (Ok (change_of change.now))
-            → Writes D.size D.story self.old c self.new }
+            → IsApplyingAtEachMoment D.size D.story self.old c self.new }
         ensures written { OnOk result (D.tells ≡ true → (c : PlainCommand) → IsOnDisk D.size D.story self.old
             → IsDecided true (shown_image (now (D.story (device_of self.old)))) (listed_in self.old) c (Ok (change_of change.now))
-            → HasWritten D.size D.story self.old c self.new) }
+            → IsDoneOnDisk D.size D.story self.old c self.new) }
         // On a store whose tables the machine knows, where the change makes what a command makes: the machine goes on by the command.
         ensures goes { D.tells ≡ true → (base : Tables) (m : Machine) (c : PlainCommand) (new : Tables)
             → StoreFits D.size D.story base m self.old → m.phase ≡ running

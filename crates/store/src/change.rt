@@ -40,12 +40,12 @@ pub struct Change {
 
 impl SegmentRows {
     ghost use Rattle.canonical_write.specs.Pieces.{piece_streams, piece_counts};
-    ghost use Rattle.store.specs.Changes.{rows_in};
+    ghost use Rattle.store.specs.Changes.{rows_table};
 
     // The pieces of the rows.
     fn pieces(&self, alloc: Global) -> Result<EncodedPieces<'_>, AllocError>
-        ensures streams { IfOk result (λ pieces. streams_in pieces ≡ piece_streams (rows_in self.now)) }
-        ensures counts { IfOk result (λ pieces. pieces.rows.items ≡ piece_counts (rows_in self.now)) }
+        ensures streams { IfOk result (λ pieces. streams_in pieces ≡ piece_streams (rows_table self.now)) }
+        ensures counts { IfOk result (λ pieces. pieces.rows.items ≡ piece_counts (rows_table self.now)) }
         ensures short { IfOk result (λ pieces. AreShort (streams_in pieces)) }
     {
         match &self.schema {

@@ -89,10 +89,12 @@ impl<D: SectorDevice> Store<D> {
         ensures goes { OnOk result (D.tells ≡ true → (base : Tables) (m : Machine) → StoreFits D.size D.story base m self.old → (bytes : List ℕ)
             × Appends (W.contents writer.old) (W.contents writer.new) bytes
             × GoesOn D.size D.story D.failed base m (export_call name.now) (bytes_are bytes) self.old self.new) }
-        ensures refused { IfErr result (λ e. e ≢ Refusal.Write → D.tells ≡ true → (base : Tables) (m : Machine) → StoreFits D.size D.story base m self.old
+        ensures refused { IfErr result (λ e. e ≢ Refusal.Write → D.tells ≡ true → (base : Tables) (m : Machine)
+            → StoreFits D.size D.story base m self.old
             → GoesOn D.size D.story D.failed base m (export_call name.now) (refused e) self.old self.new) }
         // A writer that fails is no failure of the store: it has given such a stream all the same.
-        ensures unwritten { IfErr result (λ e. e ≡ Refusal.Write → D.tells ≡ true → (base : Tables) (m : Machine) → StoreFits D.size D.story base m self.old
+        ensures unwritten { IfErr result (λ e. e ≡ Refusal.Write → D.tells ≡ true → (base : Tables) (m : Machine)
+            → StoreFits D.size D.story base m self.old
             → (bytes : List ℕ) × GoesOn D.size D.story D.failed base m (export_call name.now) (bytes_are bytes) self.old self.new) }
         // Of any store it is that of what reads show of its catalogue's entry.
         ensures written { OnOk result ((t : PlainTable) × ReadsTable (is_halted self.old) D.tells (shown_image (now (D.story (device_of self.old))))

@@ -75,7 +75,8 @@ pub fn undisturbed_runs_settle_what_was_acknowledged()
 /// of the device halts one.
 pub fn undisturbed_runs_tell_no_halt()
     ensures { (s : Setting) (calls : List PlainCall) (replies : List PlainReply) (m : Machine) (old : Story) (failed : ℕ)
-        (m' : Machine) (new : Story) (failed' : ℕ) → Run s calls replies m old failed m' new failed' → (is_open : Bool) → m.phase ≡ phase_where is_open
+        (m' : Machine) (new : Story) (failed' : ℕ) → Run s calls replies m old failed m' new failed' → (is_open : Bool)
+        → m.phase ≡ phase_where is_open
         → list_any is_device_reply replies ≡ false → tells_halt_while_open is_open calls replies ≡ false }
 {}
 

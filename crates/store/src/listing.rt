@@ -21,7 +21,8 @@ impl<D: SectorDevice> Store<D> {
     // The catalogue, unless the device failed.
     fn listed(&self) -> Result<&Catalogue, Refusal>
         ensures { MatchResult result
-            (λ list. (list.now ≡ self.now.opened.catalogue.list) × (self.now.halted ≡ false)) (λ e. (e ≡ Refusal.Halted) × (self.now.halted ≡ true)) }
+            (λ list. (list.now ≡ self.now.opened.catalogue.list) × (self.now.halted ≡ false)) (λ e. (e ≡ Refusal.Halted)
+            × (self.now.halted ≡ true)) }
     {
         if self.halted {
             Err(Refusal::Halted)

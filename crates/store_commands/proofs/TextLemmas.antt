@@ -15,7 +15,7 @@ use Rattle.command_refusals.specs.declared.refusal.Refusal.TheVariants.{Io}
 use Rattle.text_import.specs.declared.form.TextForm.{TextForm}
 use Rattle.store_commands.specs.Given.{IsWholeInput, HasGivenAtMost}
 use Rattle.store_commands.specs.declared.input.TheConstants.{LARGEST_INPUT}
-use Rattle.text_import.specs.Form.{rows_in}
+use Rattle.text_import.specs.Form.{rows_of_text}
 use Rattle.text_import.specs.Part.{part_of, refused_part}
 use Rattle.text_import.specs.Refusals.{given, refused_by}
 use Rattle.text_import.specs.declared.part.RefusedPart.{RefusedPart}
@@ -28,19 +28,19 @@ use Rattle.store_commands.specs.Selecting.{rows_text, QueryAnswers, RefusesQuery
 
 -- the schema is that of the entry that is found
 pub input_gives : (form : TextForm) (found : Option PlainEntry) (input : Option (List ℕ)) (s : PlainSchema) (bytes : List ℕ) (given : Result (List (List Cell)) Refused)
-    → option_map (λ e. e.schema) found ≡ Some s → IsWholeInput input bytes → rows_in form s bytes ≡ given → InputGives form found input given
+    → option_map (λ e. e.schema) found ≡ Some s → IsWholeInput input bytes → rows_of_text form s bytes ≡ given → InputGives form found input given
 input_gives form None input s bytes given is whole gives = cc
 input_gives form (Some e) input s bytes given is whole gives = record {
   entry = e;
   is_there = refl;
   bytes = bytes;
   whole = whole;
-  gives = ap (λ t. rows_in form t bytes) (ap (λ o. unwrap_or o s) is) ∙ gives;
+  gives = ap (λ t. rows_of_text form t bytes) (ap (λ o. unwrap_or o s) is) ∙ gives;
 }
 
 -- a refusal of a text for the schema of the entry that is found
 pub input_refused : (form : TextForm) (found : Option PlainEntry) (input : Option (List ℕ)) (s : PlainSchema) (bytes : List ℕ) (error : TextError) → option_map (λ e. e.schema) found ≡ Some s
-    → IsWholeInput input bytes → Reports (refused_by error) (rows_in form s bytes) → IfOfText form found input (text_refusal error)
+    → IsWholeInput input bytes → Reports (refused_by error) (rows_of_text form s bytes) → IfOfText form found input (text_refusal error)
 input_refused form found input s bytes (texts.Refused refused) is whole gives = input_gives form found input s bytes (Err refused) is whole gives
 input_refused form found input s bytes texts.OutOfMemory is whole gives = tt
 
@@ -56,7 +56,7 @@ no_hint (Some part) form found input result e = absurd cc
 
 -- what is hinted of a text for the schema of the entry that is found
 pub input_hints : (form : TextForm) (found : Option PlainEntry) (input : Option (List ℕ)) (s : PlainSchema) (bytes : List ℕ) (error : TextError) (hint : Option RefusedPart)
-    → option_map (λ e. e.schema) found ≡ Some s → IsWholeInput input bytes → Reports (refused_by error) (rows_in form s bytes) → HintsAt hint form s bytes (refused_by error)
+    → option_map (λ e. e.schema) found ≡ Some s → IsWholeInput input bytes → Reports (refused_by error) (rows_of_text form s bytes) → HintsAt hint form s bytes (refused_by error)
     → IfHinted hint form found input (Err (text_refusal error))
 input_hints form found input s bytes error None is whole gives hints = tt
 input_hints form None input s bytes error (Some part) is whole gives hints = absurd cc
@@ -68,7 +68,7 @@ input_hints form (Some e) input s bytes (texts.Refused refused) (Some part) is w
       is_there = refl;
       bytes = bytes;
       whole = whole;
-      refuses = ap (λ t. rows_in form t bytes) schema ∙ gives;
+      refuses = ap (λ t. rows_of_text form t bytes) schema ∙ gives;
       names = ap (λ t. refused_part form t bytes refused.number) schema ∙ hints;
     }
 
@@ -88,7 +88,7 @@ there_is (Some e) s is = refl
 
 -- why the rows of a text that is refused are not handed on
 pub refuses_text : {R : Type 0} (remaining : R → Option (List ℕ)) (form : TextForm) (halted : Bool) (found : Option PlainEntry) (old new : R) (s : PlainSchema) (bytes : List ℕ) (error : TextError)
-    → halted ≡ false → option_map (λ e. e.schema) found ≡ Some s → IsWholeInput (remaining old) bytes → Reports (refused_by error) (rows_in form s bytes)
+    → halted ≡ false → option_map (λ e. e.schema) found ≡ Some s → IsWholeInput (remaining old) bytes → Reports (refused_by error) (rows_of_text form s bytes)
     → IsAtEnd (remaining new) → HasGivenAtMost (remaining old) (remaining new) LARGEST_INPUT → RefusesText remaining form halted found old new (text_refusal error)
 refuses_text remaining form halted found old new s bytes (texts.Refused refused) on is whole gives end few =
     (on, input_gives form found (remaining old) s bytes (Err refused) is whole gives, end)

@@ -10,7 +10,7 @@ use Rattle.tables.specs.declared.refusal.Refusal as tables
 use Rattle.tables.specs.declared.refusal.Refusal.TheVariants as refusals
 use Rattle.tables.specs.Commands.{PlainCommand}
 use Rattle.store.specs.declared.store.Store as stores
-use Rattle.store.specs.Applying.{IsApplied, IsKept, Writes, HasWritten}
+use Rattle.store.specs.Applying.{IsApplied, IsKept, IsApplyingAtEachMoment, IsDoneOnDisk}
 use Rattle.store.specs.Fits.{device_of, is_halted, IsOnDisk}
 use Rattle.store.specs.Listing.{RefusesSchema}
 use Rattle.command_refusals.specs.declared.refusal.Refusal.{Refusal}
@@ -41,8 +41,8 @@ pub record AnswersCommand {D : Type 0} {g : Ghosts D} (size : D → ℕ) (story 
   pub still : is_halted old ≡ true → new ≡ old
   pub halts : is_halted old ≡ false → (is_halted new ≡ true) ↔ (answer ≡ Err refusals.Device)
   -- on a store that lies on its disk each stop leaves what stood, or the command done; and once it is answered, it is done
-  pub writes : is_halted old ≡ false → tells ≡ true → IsOnDisk size story old → Writes size story old command new
-  pub written : OnOk answer (tells ≡ true → IsOnDisk size story old → HasWritten size story old command new)
+  pub writes : is_halted old ≡ false → tells ≡ true → IsOnDisk size story old → IsApplyingAtEachMoment size story old command new
+  pub written : OnOk answer (tells ≡ true → IsOnDisk size story old → IsDoneOnDisk size story old command new)
 
 -- all of an input was handed to the store, which gave an answer, and the program's follows it; or it was refused before, for a reason of which this holds
 abbrev pub Hands : Option (List ℕ) → (List ℕ → Result (Unit {0}) tables.Refusal → Type 0) → (before : Refusal → Type 0) → Result (Unit {0}) Refusal → Type 0

@@ -4,7 +4,7 @@ use Rattle.std.specs.Io.KnownBytes.{IsAtEnd}
 use Rattle.cells.specs.Cell.{Cell}
 use Rattle.catalogue.specs.Entries.{PlainEntry}
 use Rattle.text_import.specs.declared.refusal.Refused.{Refused}
-use Rattle.text_import.specs.Form.{rows_in}
+use Rattle.text_import.specs.Form.{rows_of_text}
 use Rattle.text_import.specs.Part.{PlainPart, part_of, refused_part}
 use Rattle.text_import.specs.declared.part.RefusedPart.{RefusedPart}
 use Rattle.arrow_schema.specs.Column.{PlainSchema}
@@ -21,7 +21,7 @@ pub record InputGives (form : TextForm) (found : Option PlainEntry) (input : Opt
   pub is_there : found ≡ Some entry
   pub bytes : List ℕ
   pub whole : IsWholeInput input bytes
-  pub gives : rows_in form entry.schema bytes ≡ given
+  pub gives : rows_of_text form entry.schema bytes ≡ given
 
 -- the rows of all of an input were handed to the store, which gave an answer, and the program's follows it; or it was refused before, and this holds of
 -- the refusal
@@ -54,7 +54,7 @@ pub record HintsPart (part : PlainPart) (form : TextForm) (found : Option PlainE
   pub is_there : found ≡ Some entry
   pub bytes : List ℕ
   pub whole : IsWholeInput input bytes
-  pub refuses : rows_in form entry.schema bytes ≡ Err refused
+  pub refuses : rows_of_text form entry.schema bytes ≡ Err refused
   pub names : refused_part form entry.schema bytes refused.number ≡ Some part
 
 -- nothing is hinted but of a refused text

@@ -14,7 +14,7 @@ ghost use Rattle.store_commands.specs.Changing.{AnswersCommand};
 ghost use Rattle.arrow_schema.specs.Limits.{IsWithinLimits};
 ghost use Rattle.arrow_schema.specs.View.{schema_of};
 ghost use Rattle.facts.specs.Outcomes.{Gives};
-ghost use Rattle.text_import.specs.Form.{rows_in};
+ghost use Rattle.text_import.specs.Form.{rows_of_text};
 ghost use Rattle.text_import.specs.Refusals.{given, refused_by};
 ghost use Rattle.store_commands.specs.TextRows.{HandsRows, RefusesText, IfOfText, HintsAt, IfHinted};
 
@@ -27,7 +27,7 @@ use std::io::{Read, Write};
 use store::Store;
 use tables::Command;
 use text_columns::csv_table;
-use text_import::{RefusedPart, TextError, TextForm, refused_part, rows_in};
+use text_import::{RefusedPart, TextError, TextForm, refused_part, rows_of_text};
 
 // The part of the first refused record that is refused. Where memory is refused for it, no part is told.
 #[tactic(auto, using(crate::proofs::TextLemmas::hints_at))]
@@ -64,14 +64,14 @@ fn read_command(
     name: String,
 ) -> Result<Command, TextError>
     requires { IsWithinLimits (schema_of schema.now) }
-    ensures { Gives refused_by command_of result (given (append_rows (string_bytes name)) (rows_in form.now (schema_of schema.now) text.now)) }
+    ensures { Gives refused_by command_of result (given (append_rows (string_bytes name)) (rows_of_text form.now (schema_of schema.now) text.now)) }
 {
     if let TextForm::Csv { null_text } = form {
         if let Some(new) = csv_table(alloc, schema, text, null_text)? {
             return Ok(Command::AppendTable { name, new });
         }
     }
-    let rows = rows_in(alloc, form, schema, text)?;
+    let rows = rows_of_text(alloc, form, schema, text)?;
     Ok(Command::AppendRows { name, rows })
 }
 
@@ -85,7 +85,7 @@ fn take_command(
     hint: &mut Option<RefusedPart>,
 ) -> Result<Command, TextError>
     requires { IsWithinLimits (schema_of schema.now) }
-    ensures command { Gives refused_by command_of result (given (append_rows (string_bytes name)) (rows_in form.now (schema_of schema.now) text.items)) }
+    ensures command { Gives refused_by command_of result (given (append_rows (string_bytes name)) (rows_of_text form.now (schema_of schema.now) text.items)) }
     ensures kept { OnOk result (hint.new ≡ hint.old) }
     ensures hint { IfErr result (λ error. HintsAt hint.new form.now (schema_of schema.now) text.items (refused_by error)) }
 {

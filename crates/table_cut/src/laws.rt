@@ -20,7 +20,8 @@ pub fn pieces_are_the_cut()
 /// The next piece by what it is. `next`: rows within the limits of a piece that have no room for the row that follows them; `unlimited`: where no
 /// dictionary has a limit, only how many they are counts, and what they weigh.
 pub fn longest_fronts_are_pieces()
-    ensures next { (s : PlainSchema) (piece rest : List (List Cell)) → piece ≢ [] → within_piece s piece ≡ true → HasNoRoom (within_piece s) piece rest
+    ensures next { (s : PlainSchema) (piece rest : List (List Cell)) → piece ≢ [] → within_piece s piece ≡ true
+        → HasNoRoom (within_piece s) piece rest
         → pieces (within_piece s) (piece ++ rest) ≡ piece ∷ pieces (within_piece s) rest }
     ensures unlimited { (s : PlainSchema) (rows : List (List Cell)) → is_any_limited (columns_of s.columns) ≡ false
         → within_piece s rows ≡ within_limits (row_weight s) MAX_PIECE_ROWS MAX_PIECE_WEIGHT rows }

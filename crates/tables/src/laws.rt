@@ -79,7 +79,8 @@ pub fn commands_bring_tables(command: &Command)
 pub fn worked_commands()
     ensures appended { (t u : Tables) (name : List ℕ) (table : PlainTable) (rows : List (List Cell)) → table_at t name ≡ Some table
         → verdict t (append_rows name rows) ≡ Ok u → u ≡ with_table t name (joined table rows) }
-    ensures streamed { (t u : Tables) (name bytes : List ℕ) (table new : PlainTable) → table_at t name ≡ Some table → meaning supported_codes bytes ≡ Ok new
+    ensures streamed { (t u : Tables) (name bytes : List ℕ) (table new : PlainTable) → table_at t name ≡ Some table
+        → meaning supported_codes bytes ≡ Ok new
         → verdict t (append_stream name bytes) ≡ Ok u → u ≡ with_table t name (joined table new.rows) }
     ensures saved { (t u : Tables) (from to : List ℕ) (query : PlainQuery) (table selected : PlainTable) → table_at t from ≡ Some table
         → selection table query ≡ Ok selected → verdict t (save_as from to query) ≡ Ok u → u ≡ with_table t to selected }

@@ -19,8 +19,8 @@ fn are_read(rt: &impl Abort, alloc: Global, device: &mut ModelDevice, start: u64
 fn parts_of<'a>(alloc: Global, bytes: &'a [u8]) -> Result<Vec<Part<'a>>, AllocError> {
     let (front, back) = bytes.split_at_checked(700).unwrap_or((bytes, &[]));
     let mut parts = Vec::new(alloc);
-    parts.push(Part::Lent(front))?;
-    parts.push(Part::Lent(&[]))?;
+    parts.push(Part::Borrowed(front))?;
+    parts.push(Part::Borrowed(&[]))?;
     parts.push(Part::Made(Vec::from_slice(alloc, back)?))?;
     Ok(parts)
 }

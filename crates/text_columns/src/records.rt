@@ -87,7 +87,8 @@ fn push_records(
     builders: &mut [ColumnBuilder],
     most: usize,
 ) -> Result<Option<RowsRead>, TextError>
-    ensures { (records : List (List (List ℕ))) → HasLeft reader.old records → length records ≤ most → KeepAll (schema_of schema.now).columns [] builders.old
+    ensures { (records : List (List (List ℕ))) → HasLeft reader.old records → length records ≤ most
+        → KeepAll (schema_of schema.now).columns [] builders.old
         → ReadsRows (schema_of schema.now) (rows_from (record_row (schema_of schema.now) null_text.now) 1 records) result builders.new }
 {
     let mut row = ByteRecord::new(alloc);

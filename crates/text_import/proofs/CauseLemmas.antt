@@ -17,7 +17,7 @@ use Rattle.text_import.specs.Rows.{accepted, rows_from}
 use Rattle.text_import.specs.Flat.{field_cell}
 use Rattle.text_import.specs.Records.{field_cells, record_row, are_names, whole, rows_behind_header, is_nested_column, csv_rows_of, records_of}
 use Rattle.text_import.specs.Objects.{line_row, lines_of, jsonl_rows_of}
-use Rattle.text_import.specs.Form.{rows_in}
+use Rattle.text_import.specs.Form.{rows_of_text}
 use Rattle.text_import.specs.Part.{PlainPart, field, line, is_refused, refused_field, refused_in_record, refused_in_line, refused_part}
 use Rattle.text_import.specs.Cause.{IsFieldCause, IsLineCause, IsCause}
 
@@ -134,6 +134,6 @@ jsonl_cause s t r part h names =
     let same : refused_in_line s found.item ≡ part = cc in
     rw (← same) found.refuses
 
-pub parts_are_causes : (form : TextForm) (s : PlainSchema) (t : List ℕ) (r : Refused) (part : PlainPart) → rows_in form s t ≡ Err r → refused_part form s t r.number ≡ Some part → IsCause form s part r.refusal
+pub parts_are_causes : (form : TextForm) (s : PlainSchema) (t : List ℕ) (r : Refused) (part : PlainPart) → rows_of_text form s t ≡ Err r → refused_part form s t r.number ≡ Some part → IsCause form s part r.refusal
 parts_are_causes (Csv null_text) s t r part h names = csv_cause s null_text.now t r part h names
 parts_are_causes JsonLines s t r part h names = jsonl_cause s t r part h names

@@ -9,6 +9,6 @@ use Rattle.text_import.specs.Objects.{jsonl_rows_of}
 use Rattle.text_import.specs.Records.{csv_rows_of}
 
 -- the rows that a text has for a schema, or its first refusal
-abbrev pub rows_in : TextForm → PlainSchema → List ℕ → Result (List (List Cell)) Refused
-rows_in (Csv null_text) schema text = csv_rows_of schema null_text.now text
-rows_in JsonLines schema text = jsonl_rows_of schema text
+abbrev pub rows_of_text : TextForm → PlainSchema → List ℕ → Result (List (List Cell)) Refused
+rows_of_text (Csv null_text) schema text = csv_rows_of schema null_text.now text
+rows_of_text JsonLines schema text = jsonl_rows_of schema text

@@ -94,7 +94,8 @@ fn integer(text: &[u8]) -> Option<i128>
 /// The integer that a text spells, where one does. One that no type holds is told as some integer that no type holds.
 #[tactic(auto, using(crate::proofs::NumberLemmas::integers_capped))]
 pub fn spelled_integer(text: &[u8]) -> Option<i128>
-    ensures { (bits : ℕ) (signed : Bool) → bits ≤ 64 → number_cell (integers bits signed) result ≡ number_cell (integers bits signed) (typed_integer text.now) }
+    ensures { (bits : ℕ) (signed : Bool) → bits ≤ 64 → number_cell (integers bits signed) result
+        ≡ number_cell (integers bits signed) (typed_integer text.now) }
 {
     integer(text)
 }

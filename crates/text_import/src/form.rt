@@ -3,7 +3,7 @@ ghost use Rattle.std.specs.Prelude.{map};
 ghost use Rattle.facts.specs.Outcomes.{Gives};
 ghost use Rattle.arrow_schema.specs.View.{schema_of};
 ghost use Rattle.cells.specs.Row.{row_of};
-ghost use Rattle.text_import.specs.Form.{rows_in};
+ghost use Rattle.text_import.specs.Form.{rows_of_text};
 ghost use Rattle.text_import.specs.Refusals.{refused_by};
 
 use crate::{TextError, csv_rows, jsonl_rows};
@@ -21,13 +21,13 @@ pub enum TextForm<'a> {
 }
 
 /// The rows that a text of this form has for a schema, or its first refusal, with the number of its record.
-pub fn rows_in(
+pub fn rows_of_text(
     alloc: Global,
     form: &TextForm<'_>,
     schema: &Schema,
     text: &[u8],
 ) -> Result<Vec<Row>, TextError>
-    ensures { Gives refused_by (λ v. map row_of v.items) result (rows_in form.now (schema_of schema.now) text.now) }
+    ensures { Gives refused_by (λ v. map row_of v.items) result (rows_of_text form.now (schema_of schema.now) text.now) }
 {
     match form {
         TextForm::Csv { null_text } => csv_rows(alloc, schema, text, null_text),

@@ -8,18 +8,19 @@ ghost use Rattle.text_import.specs.declared.form.TextForm.{TextForm};
 ghost use Rattle.text_import.specs.declared.refusal.Refused.{Refused};
 ghost use Rattle.text_import.specs.Records.{csv_rows_of};
 ghost use Rattle.text_import.specs.Objects.{jsonl_rows_of};
-ghost use Rattle.text_import.specs.Form.{rows_in};
+ghost use Rattle.text_import.specs.Form.{rows_of_text};
 ghost use Rattle.text_import.specs.Part.{PlainPart, refused_part};
 ghost use Rattle.text_import.specs.Cause.{IsCause};
 
 /// The rows of a text are rows that a table of the schema takes, each by itself: all fit, none is too heavy, none fills a dictionary.
 pub fn rows_of_texts_are_rows()
-    ensures csv { (s : PlainSchema) (null_text text : List ℕ) (rows : List (List Cell)) → csv_rows_of s null_text text ≡ Ok rows → AllPass (is_row s) rows }
+    ensures csv { (s : PlainSchema) (null_text text : List ℕ) (rows : List (List Cell)) → csv_rows_of s null_text text ≡ Ok rows
+        → AllPass (is_row s) rows }
     ensures jsonl { (s : PlainSchema) (text : List ℕ) (rows : List (List Cell)) → jsonl_rows_of s text ≡ Ok rows → AllPass (is_row s) rows }
 {}
 
 /// The part of the first refused record is why it is refused: the text of a field is, for a column of its name, or the line.
 pub fn refused_parts_are_causes()
-    ensures { (form : TextForm) (s : PlainSchema) (text : List ℕ) (r : Refused) (part : PlainPart) → rows_in form s text ≡ Err r
+    ensures { (form : TextForm) (s : PlainSchema) (text : List ℕ) (r : Refused) (part : PlainPart) → rows_of_text form s text ≡ Err r
         → refused_part form s text r.number ≡ Some part → IsCause form s part r.refusal }
 {}

@@ -1,6 +1,6 @@
 //! Rows of texts: CSV and JSON Lines, under a schema.
 //!
-//! [`csv_rows`] and [`jsonl_rows`] (or [`rows_in`], of either form) answer the rows of a text, or the first refusal with the number of its record. Which
+//! [`csv_rows`] and [`jsonl_rows`] (or [`rows_of_text`], of either form) answer the rows of a text, or the first refusal with the number of its record. Which
 //! records a text has is the word of the crate `csv`, and which values its lines have that of `serde_json`; what becomes
 //! of them, cell by cell, is stated in `specs/` and promised exactly, for every text. [`refused_part`] answers which field or line
 //! of a refused record it is.
@@ -26,7 +26,7 @@ mod rows;
 mod texts;
 
 pub use flat::{spelled_boolean, spelled_integer};
-pub use form::{TextForm, rows_in};
+pub use form::{TextForm, rows_of_text};
 pub use jsonl::jsonl_rows;
 pub use laws::{refused_parts_are_causes, rows_of_texts_are_rows};
 pub use part::{RefusedPart, refused_part};

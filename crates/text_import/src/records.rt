@@ -58,7 +58,8 @@ fn read_record(reader: &mut Reader<&[u8]>, row: &mut ByteRecord) -> Result<bool,
 /// Reads the next record, where there is one.
 #[tactic(auto, using(crate::proofs::RecordLemmas::taken))]
 pub fn read_next(reader: &mut Reader<&[u8]>, row: &mut ByteRecord) -> Result<bool, AllocError>
-    ensures { IfOk result (λ found. (records : List (List (List ℕ))) → HasLeft reader.old records → TakesNext records found (fields_of row.new) reader.new) }
+    ensures { IfOk result (λ found. (records : List (List (List ℕ))) → HasLeft reader.old records
+        → TakesNext records found (fields_of row.new) reader.new) }
 {
     let found = read_record(reader, row)?;
     Ok(found)
@@ -219,7 +220,8 @@ pub fn csv_records<'a>(
 ) -> Result<Reader<&'a [u8]>, TextError>
     ensures behind { IfOk result (λ reader. (records : List (List (List ℕ))) × HasLeft reader records × (length records ≤ length text.now)
         × ((header : List (List ℕ)) × (records_of text.now ≡ header ∷ records))
-        × ((null_text : List ℕ) → csv_rows_of (schema_of schema.now) null_text text.now ≡ rows_from (record_row (schema_of schema.now) null_text) 1 records)) }
+        × ((null_text : List ℕ) → csv_rows_of (schema_of schema.now) null_text text.now
+        ≡ rows_from (record_row (schema_of schema.now) null_text) 1 records)) }
     ensures refused { IfErr result (λ e. (null_text : List ℕ) → Reports (refused_by e) (csv_rows_of (schema_of schema.now) null_text text.now)) }
 {
     if has_nested(&schema.fields) {

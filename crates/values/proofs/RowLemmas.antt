@@ -3,9 +3,9 @@ use Rattle.std.proofs.Common.{◌≡◌, ℕ, zero, suc, ◌+◌, ◌*◌, ◌�
 use Rattle.std.specs.Prelude.{Some, slice_get}
 use Rattle.std.proofs.Math.Nat.{mul-le-mul_left}
 use Rattle.std.proofs.lemmas.List.{drop-drop, take-map, drop-map}
-use Rattle.values.specs.Rows.{rows_in}
+use Rattle.values.specs.Rows.{cell_rows}
 
-pub length_rows : {X : Type 0} (width n : ℕ) (cells : List X) → length (rows_in width n cells) ≡ n
+pub length_rows : {X : Type 0} (width n : ℕ) (cells : List X) → length (cell_rows width n cells) ≡ n
 length_rows width zero cells = refl
 length_rows width (suc n) cells = ap suc (length_rows width n (drop width cells))
 
@@ -16,17 +16,17 @@ next_drop : {X : Type 0} (width i : ℕ) (cells : List X) → drop (width * i) (
 next_drop {X = X} width i cells = drop-drop (width * i) width cells ∙ ap (λ (k : ℕ). drop k cells) (let more : width + width * i ≡ width * suc i = omega arith in more)
 
 -- the rows from a place on
-drop_rows : {X : Type 0} (width n i : ℕ) (cells : List X) → i < n → drop i (rows_in width n cells) ≡ take width (drop (width * i) cells) ∷ drop (suc i) (rows_in width n cells)
+drop_rows : {X : Type 0} (width n i : ℕ) (cells : List X) → i < n → drop i (cell_rows width n cells) ≡ take width (drop (width * i) cells) ∷ drop (suc i) (cell_rows width n cells)
 drop_rows width zero i cells lt = absurd (omega arith)
-drop_rows {X = X} width (suc n) zero cells lt = ap (λ (xs : List X). take width xs ∷ rows_in width n (drop width cells)) (sym (no_drop width cells))
+drop_rows {X = X} width (suc n) zero cells lt = ap (λ (xs : List X). take width xs ∷ cell_rows width n (drop width cells)) (sym (no_drop width cells))
 drop_rows {X = X} width (suc n) (suc i) cells lt =
-    drop_rows width n i (drop width cells) (omega arith) ∙ ap (λ (xs : List X). take width xs ∷ drop (suc i) (rows_in width n (drop width cells))) (next_drop width i cells)
+    drop_rows width n i (drop width cells) (omega arith) ∙ ap (λ (xs : List X). take width xs ∷ drop (suc i) (cell_rows width n (drop width cells))) (next_drop width i cells)
 
-pub next_row : {X : Type 0} (width n i : ℕ) (cells : List X) → i < n → drop i (rows_in width n cells) ≡ take width (drop (width * i) cells) ∷ drop (i + 1) (rows_in width n cells)
+pub next_row : {X : Type 0} (width n i : ℕ) (cells : List X) → i < n → drop i (cell_rows width n cells) ≡ take width (drop (width * i) cells) ∷ drop (i + 1) (cell_rows width n cells)
 next_row width n i cells lt = rw (add-one i) (drop_rows width n i cells lt)
 
 -- the row at a place
-pub row_in : {X : Type 0} (width n i : ℕ) (cells : List X) → i < n → slice_get (rows_in width n cells) i ≡ Some (take width (drop (width * i) cells))
+pub row_in : {X : Type 0} (width n i : ℕ) (cells : List X) → i < n → slice_get (cell_rows width n cells) i ≡ Some (take width (drop (width * i) cells))
 row_in width zero i cells lt = absurd (omega arith)
 row_in {X = X} width (suc n) zero cells lt = ap (λ (xs : List X). Some (take width xs)) (sym (no_drop width cells))
 row_in {X = X} width (suc n) (suc i) cells lt =

@@ -8,13 +8,13 @@ use Rattle.values.specs.declared.content.Content.TheVariants.{Rows, Cells, Batch
 use Rattle.cells.specs.Cell.{Cell, PlainTable}
 use Rattle.cells.specs.Row.{row_of}
 use Rattle.values.specs.Parts.{parts_rows, are_parts_sound}
-use Rattle.values.specs.Rows.{rows_in}
+use Rattle.values.specs.Rows.{cell_rows}
 use Rattle.values.specs.inner.Starts.{part_lengths}
 use Rattle.cells.specs.View.{cell}
 
 abbrev pub rows_of : Schema → ℕ → Content → List (List Cell)
 rows_of schema n (Rows rows) = map row_of rows.items
-rows_of schema n (Cells cells) = rows_in (length schema.fields.items) n (map cell cells.items)
+rows_of schema n (Cells cells) = cell_rows (length schema.fields.items) n (map cell cells.items)
 rows_of schema n (Batches batches) = parts_rows (columns_of (schema_of schema).columns) batches.parts.items
 
 -- a schema and so many rows

@@ -7,10 +7,10 @@ use Rattle.cells.specs.Cell.{PlainTable}
 use Rattle.cells.specs.View.{cell}
 
 -- so many rows of this width
-abbrev pub rows_in : {X : Type 0} → ℕ → ℕ → List X → List (List X)
-rows_in width zero cells = []
-rows_in width (suc n) cells = take width cells ∷ rows_in width n (drop width cells)
+abbrev pub cell_rows : {X : Type 0} → ℕ → ℕ → List X → List (List X)
+cell_rows width zero cells = []
+cell_rows width (suc n) cells = take width cells ∷ cell_rows width n (drop width cells)
 
 -- a schema and so many rows of its width
 abbrev pub table_in : Schema → ℕ → List Value → PlainTable
-table_in schema n cells = record { schema = schema_of schema; rows = rows_in (length schema.fields.items) n (map cell cells) }
+table_in schema n cells = record { schema = schema_of schema; rows = cell_rows (length schema.fields.items) n (map cell cells) }

@@ -4,7 +4,7 @@ ghost use Rattle.arrow_schema.specs.View.{schema_of};
 ghost use Rattle.cells.specs.View.{cell};
 ghost use Rattle.cells.specs.Weight.{table_weight, capped_weight};
 ghost use Rattle.values.specs.Table.{first_unfit, table_from};
-ghost use Rattle.values.specs.Rows.{rows_in};
+ghost use Rattle.values.specs.Rows.{cell_rows};
 ghost use Rattle.values.specs.TableView.{Reports};
 ghost use Rattle.cells.specs.Row.{row_of};
 
@@ -39,10 +39,10 @@ pub(crate) fn weigh_cells(
     alloc: Global,
 ) -> Result<u64, TableError>
     requires { length cells.now ≡ length schema.now.fields.items * rows }
-    ensures taken { IfOk result (λ _. first_unfit (schema_of schema.now) (rows_in (length schema.now.fields.items) rows (map cell cells.now)) ≡ None) }
+    ensures taken { IfOk result (λ _. first_unfit (schema_of schema.now) (cell_rows (length schema.now.fields.items) rows (map cell cells.now)) ≡ None) }
     ensures weight { IfOk result (λ w.
-        w ≡ capped_weight (table_weight (schema_of schema.now) (rows_in (length schema.now.fields.items) rows (map cell cells.now)))) }
-    ensures refused { IfErr result (λ e. Reports e (table_from (schema_of schema.now) (rows_in (length schema.now.fields.items) rows (map cell cells.now)))) }
+        w ≡ capped_weight (table_weight (schema_of schema.now) (cell_rows (length schema.now.fields.items) rows (map cell cells.now)))) }
+    ensures refused { IfErr result (λ e. Reports e (table_from (schema_of schema.now) (cell_rows (length schema.now.fields.items) rows (map cell cells.now)))) }
 {
     let limited = has_limits(schema);
     let width = schema.fields.len();

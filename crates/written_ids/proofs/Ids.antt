@@ -12,15 +12,15 @@ use Rattle.ipc_message.specs.Fields.{preorder, preorder_all, dictionary_of}
 use Rattle.ipc_message.specs.laws.FieldLists.{fields_listed}
 use Rattle.ipc_write.specs.Trees.{ids_of, ids_below, ids_of_all}
 use Rattle.ipc_write.specs.Decoded.{raw_of, raw_below, raw_of_all, raw_schema}
-use Rattle.arrays.specs.Dictionaries.{DictionaryColumn, own_dictionary, dictionary_columns, column_of_id, is_column_of}
+use Rattle.arrays.specs.Dictionaries.{DictionaryColumn, own_dictionary_column, dictionary_columns, column_of_id, is_column_of}
 
 abbrev ids_in : List RawField → List ℕ
-ids_in fields = map (λ c. c.id) (flat_map (λ f. own_dictionary (dictionary_of f) f) fields)
+ids_in fields = map (λ c. c.id) (flat_map (λ f. own_dictionary_column (dictionary_of f) f) fields)
 
 ids-append : (fs gs : List RawField) → ids_in (fs ++ gs) ≡ ids_in fs ++ ids_in gs
 ids-append fs gs =
-    ap (map (λ (c : DictionaryColumn). c.id)) (flat_map-append (λ f. own_dictionary (dictionary_of f) f) fs gs)
-    ∙ map-append (λ (c : DictionaryColumn). c.id) (flat_map (λ f. own_dictionary (dictionary_of f) f) fs) (flat_map (λ f. own_dictionary (dictionary_of f) f) gs)
+    ap (map (λ (c : DictionaryColumn). c.id)) (flat_map-append (λ f. own_dictionary_column (dictionary_of f) f) fs gs)
+    ∙ map-append (λ (c : DictionaryColumn). c.id) (flat_map (λ f. own_dictionary_column (dictionary_of f) f) fs) (flat_map (λ f. own_dictionary_column (dictionary_of f) f) gs)
 
 mutual
   unfolding preorder preorder_all raw_of raw_below raw_of_all

@@ -16,7 +16,7 @@ use Rattle.columns.specs.Within.{layout_within, array_within, stands_within, is_
 use Rattle.columns.specs.View.{array_in, arrays_in, layout_step, array_step, placed_arrays}
 use Rattle.arrays.specs.declared.rest.Rest.{Rest}
 use Rattle.arrays.specs.Checks.{plain_node, buffer_bytes}
-use Rattle.arrays.specs.Placed.{EndWithin}
+use Rattle.arrays.specs.Placed.{ArraysEndWithin}
 
 abbrev pub rest_nodes : Rest → List Node
 rest_nodes r = map plain_node (nodes_in r.nodes.now)
@@ -79,7 +79,7 @@ abbrev pub ArrayEnds : Rest → PlacedArray → Type 0
 ArrayEnds r a = Ends r (λ size. is_placed_within size r.dictionaries.now a)
 
 abbrev pub ArraysEnd : Rest → List PlacedArray → Type 0
-ArraysEnd r arrays = EndWithin r.body r.dictionaries.now r.parts.now arrays
+ArraysEnd r arrays = ArraysEndWithin r.body r.dictionaries.now r.parts.now arrays
 
 -- what is left after so many nodes, buffers and dictionaries
 pub record IsLeft (r left : Rest) (nodes buffers dictionaries : ℕ) : Type 0 where

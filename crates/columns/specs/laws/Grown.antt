@@ -109,8 +109,8 @@ nothing_taken : (n : ℕ) → take {A = PlacedArray} n [] ≡ []
 nothing_taken zero = refl
 nothing_taken (suc n) = refl
 
-known_in : (bytes : List ℕ) (dictionaries : List Dictionary) (part : DictionaryPart) → arrays_in bytes dictionaries part ≡ map (array_in bytes no_dictionary) (take part.known (arrays_numbered dictionaries part.number))
-known_in bytes [] part = ap (map (array_in bytes no_dictionary)) (sym (ap (take part.known) (none part.number) ∙ nothing_taken part.known))
+known_in : (bytes : List ℕ) (dictionaries : List Dictionary) (part : DictionaryPart) → arrays_in bytes dictionaries part ≡ map (array_in bytes no_dictionary) (take part.count (arrays_numbered dictionaries part.number))
+known_in bytes [] part = ap (map (array_in bytes no_dictionary)) (sym (ap (take part.count) (none part.number) ∙ nothing_taken part.count))
   where
     none : (n : ℕ) → arrays_numbered [] n ≡ []
     none zero = refl
@@ -125,14 +125,14 @@ flat_stay bytes more (x ∷ xs) h =
     λ j. longer_bytes bytes more (λ p. true) no_dictionary no_dictionary (λ p e. refl) x parts.0 j ∷ flat_stay bytes more xs parts.1 j
 
 pub array_grown : (bytes more : List ℕ) (old new : List Dictionary) (a : PlacedArray)
-    → ((part : DictionaryPart) → part.known ≤ length (arrays_numbered old part.number) → take part.known (arrays_numbered new part.number) ≡ take part.known (arrays_numbered old part.number))
+    → ((part : DictionaryPart) → part.count ≤ length (arrays_numbered old part.number) → take part.count (arrays_numbered new part.number) ≡ take part.count (arrays_numbered old part.number))
     → is_placed_within (length bytes) old a ≡ true
     → array_in (bytes ++ more) (arrays_in (bytes ++ more) new) a ≡ array_in bytes (arrays_in bytes old) a
 array_grown bytes more old new a keeps h = longer_bytes bytes more (stands_within (length bytes) old) (arrays_in bytes old) (arrays_in (bytes ++ more) new)
     (λ part stands.
-    let parts = and_parts (nat_le part.known (length (arrays_numbered old part.number))) _ stands in
+    let parts = and_parts (nat_le part.count (length (arrays_numbered old part.number))) _ stands in
     known_in (bytes ++ more) new part
     ∙ ap (map (array_in (bytes ++ more) no_dictionary)) (keeps part (leb-true _ _ parts.0))
-    ∙ flat_stay bytes more (take part.known (arrays_numbered old part.number)) parts.1
+    ∙ flat_stay bytes more (take part.count (arrays_numbered old part.number)) parts.1
     ∙ sym (known_in bytes old part))
     a h

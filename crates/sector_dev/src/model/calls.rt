@@ -98,7 +98,8 @@ impl SectorDevice for ModelDevice {
         ensures error { IfErr result (λ e. e ≡ DevError.Failed) }
         ensures ok { OnOk result (Puts (history_of self.old) n from.now (Some from.now) (history_of self.new)) }
         // After a failed write a read gives the new content.
-        ensures err { OnErr result ((history_of self.new ≡ history_of self.old) ⊎ Puts (history_of self.old) n from.now (Some from.now) (history_of self.new)) }
+        ensures err { OnErr result ((history_of self.new ≡ history_of self.old)
+            ⊎ Puts (history_of self.old) n from.now (Some from.now) (history_of self.new)) }
         ensures faults { faults_of self.new ≡ after_call (faults_of self.old) }
         ensures scheduled { CallFails (faults_of self.old) → result ≡ Err DevError.Failed }
         // A scheduled fault is recorded too.

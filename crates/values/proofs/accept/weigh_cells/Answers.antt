@@ -3,7 +3,7 @@ use Rattle.std.specs.Prelude.{Some, None}
 use Rattle.arrow_schema.specs.View.{schema_of}
 use Rattle.cells.specs.View.{cell}
 use Rattle.cells.specs.Row.{accepted_weight}
-use Rattle.values.specs.Rows.{rows_in}
+use Rattle.values.specs.Rows.{cell_rows}
 use Rattle.values.proofs.RowLemmas.{length_rows, next_row}
 use Rattle.values.proofs.AcceptLemmas.{reported_from, goes_on, stops, ends, no_unfit, reported_all, is_unfit}
 use Rattle.values.proofs.accept.weigh_cells.Goals as goal
@@ -13,7 +13,7 @@ returns-in-None-clause-refused c =
     let s = schema_of c.args.schema.now in
     let width = c.len-width.result in
     let cells = map cell c.args.cells.now in
-    let rows = rows_in width c.args.rows cells in
+    let rows = cell_rows width c.args.rows cells in
     let row = take width (drop (width * c.loop-place.place) cells) in
     let next = next_row width c.args.rows c.loop-place.place cells c.loop-place-test.true in
     let none : None ≡ accepted_weight s row = sym c.in-None.is ∙ (c.in_ok-accepted_weight.ensures ∙ ap (accepted_weight s) c.row_at.ensures) in
@@ -25,7 +25,7 @@ loop-place-preserved c =
     let s = schema_of c.args.schema.now in
     let width = c.len-width.result in
     let cells = map cell c.args.cells.now in
-    let rows = rows_in width c.args.rows cells in
+    let rows = cell_rows width c.args.rows cells in
     let row = take width (drop (width * c.loop-place.place) cells) in
     let next = next_row width c.args.rows c.loop-place.place cells c.loop-place-test.true in
     let some : Some c.in-Some.weight ≡ accepted_weight s row = sym c.in-Some.is ∙ (c.in_ok-accepted_weight.ensures ∙ ap (accepted_weight s) c.row_at.ensures) in
@@ -37,7 +37,7 @@ returns-clause-taken c =
     let s = schema_of c.args.schema.now in
     let width = c.len-width.result in
     let cells = map cell c.args.cells.now in
-    let rows = rows_in width c.args.rows cells in
+    let rows = cell_rows width c.args.rows cells in
     let end = ends s rows c.loop-place.place c.loop-place.total (omega (arith, length_rows width c.args.rows cells)) in
     let columns : width ≡ length c.args.schema.now.fields.items = search rules in
     rw (← columns) (no_unfit s c.loop-place.total rows (sym c.loop-place.invariant.0 ∙ end))
@@ -47,7 +47,7 @@ returns-clause-weight c =
     let s = schema_of c.args.schema.now in
     let width = c.len-width.result in
     let cells = map cell c.args.cells.now in
-    let rows = rows_in width c.args.rows cells in
+    let rows = cell_rows width c.args.rows cells in
     let end = ends s rows c.loop-place.place c.loop-place.total (omega (arith, length_rows width c.args.rows cells)) in
     let columns : width ≡ length c.args.schema.now.fields.items = search rules in
     rw (← columns) (reported_all s c.loop-place.total rows (sym c.loop-place.invariant.0 ∙ end))
