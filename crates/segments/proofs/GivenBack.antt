@@ -1,5 +1,5 @@
 -- What changes as runs are given back: first in their entries, and then those that are not used go.
-use Rattle.std.proofs.Common.{◌≡◌, ⊎_elim, ◌≤◌, ◌<◌, ◌+◌, ◌++◌, ◌||◌, ℕ, zero, suc, Bool, true, false, cond, List, [], ◌∷◌, filter, length, get_or, set, length-set, take, take_at, refl, sym, ap, ◌∙◌, subst, arith}
+use Rattle.std.proofs.Common.{◌≡◌, ⊎_elim, ◌≤◌, ◌<◌, ◌+◌, ◌++◌, ◌||◌, ℕ, zero, suc, Bool, true, false, cond, List, [], ◌∷◌, filter, length, get_or, set, length-set, refl, sym, ap, ◌∙◌, subst, arith}
 use Rattle.std.proofs.lemmas.Bool.{cond_both, cond-true, cond-false, cases_Bool, true≢false}
 use Rattle.segments.specs.declared.run.Run.{Run}
 use Rattle.segments.specs.declared.entries.Usage.{Usage}
@@ -123,10 +123,6 @@ usage_kept from (e ∷ es) run a =
     ∙ sym (cond-true (same_run e.run run) e.usage (usage_of es run) t ∙ unused e.usage (λ used. true≢false (sym used ∙ f))))
     (λ (f : same_run e.run run ≡ false). sym (cond-false (same_run e.run run) e.usage (usage_of es run) f))
     (cases_Bool (same_run e.run run)))
-
--- what a vector holds whose entries were given back in place
-pub written : (old mid rest : List UsageEntry) (runs : List Run) (len : ℕ) → GivenAmong old mid runs → len ≡ length old → take len (mid ++ rest) ≡ mid
-written old mid rest runs len all is = take_at mid rest len (all.len ∙ sym is)
 
 -- runs were given back, and only the used entries stay
 pub kept_ordered : (old mid new : List UsageEntry) (runs : List Run) → GivenAmong old mid runs → new ≡ used_entries mid → Ordered 2 new

@@ -9,3 +9,4 @@ pub mod Order
 pub mod Stretches
 pub mod Pieces
 pub mod Gathered
+pub mod Gaps

@@ -1,6 +1,6 @@
 -- The entries are in order, so each run has its place among them.
 use Rattle.std.proofs.Common.{◌≡◌, ◌⊎◌, ◌↔◌, inl, inr, ⊎_elim, ◌≤◌, ◌<◌, ◌+◌, ltb, ℕ, zero, suc, Bool, true, false, List, [], ◌∷◌, length, get_or, refl, sym, ap, ◌∙◌, subst, arith}
-use Rattle.std.proofs.lemmas.Bool.{cond_both, cond-true, cond-false, ltb-true, ltb-false, false_from_ne_true, cases_Bool, cases_lt, true≢false}
+use Rattle.std.proofs.lemmas.Bool.{cond_both, cond-true, cond-false, ltb-true, ltb-false, lt-ltb, le-ltb, false_from_ne_true, cases_Bool, cases_lt, true≢false}
 use Rattle.segments.specs.declared.run.Run.{Run}
 use Rattle.segments.specs.declared.entries.UsageEntry.{UsageEntry}
 use Rattle.segments.specs.Runs.{IsApart}
@@ -31,13 +31,13 @@ at_place start [] d lt = absurd (omega arith)
 at_place start (e ∷ es) d lt =
     cond_both (ltb e.run.start start) (suc (place_of start es)) 0 (λ p. p < suc (length es) → start ≤ (get_or (e ∷ es) p d).run.start) (λ _ lt. at_place start es d (omega arith)) (λ f _. ltb-false _ _ f) lt
 
--- a partition by the start is at the place
-pub place_is : (start : ℕ) (es : List UsageEntry) (i : ℕ) → i ≤ length es → ((k : ℕ) (d : UsageEntry) → 0 ≤ k → k < i → ltb (get_or es k d).run.start start ≡ true) → ((k : ℕ) (d : UsageEntry) → i ≤ k → k < length es → ltb (get_or es k d).run.start start ≡ false) → i ≡ place_of start es
-place_is start [] i le before after = omega arith
-place_is start (e ∷ es) zero le before after = sym (cond-false (ltb e.run.start start) (suc (place_of start es)) 0 (after 0 e (omega arith) (omega arith)))
-place_is start (e ∷ es) (suc i) le before after =
-    ap suc (place_is start es i (omega arith) (λ k d low lt. before (suc k) d (omega arith) (omega arith)) (λ k d ge lt. after (suc k) d (omega arith) (omega arith)))
-    ∙ sym (cond-true (ltb e.run.start start) (suc (place_of start es)) 0 (before 0 e (omega arith) (omega arith)))
+-- what has those before it start below, and no other, is the place
+pub place_is : (start : ℕ) (es : List UsageEntry) (i : ℕ) → i ≤ length es → ((k : ℕ) (d : UsageEntry) → k < i → (get_or es k d).run.start < start) → ((k : ℕ) (d : UsageEntry) → i ≤ k → k < length es → start ≤ (get_or es k d).run.start) → i ≡ place_of start es
+place_is start [] i le before behind = omega arith
+place_is start (e ∷ es) zero le before behind = sym (cond-false (ltb e.run.start start) (suc (place_of start es)) 0 (le-ltb e.run.start start (behind 0 e (omega arith) (omega arith))))
+place_is start (e ∷ es) (suc i) le before behind =
+    ap suc (place_is start es i (omega arith) (λ k d lt. before (suc k) d (omega arith)) (λ k d ge lt. behind (suc k) d (omega arith) (omega arith)))
+    ∙ sym (cond-true (ltb e.run.start start) (suc (place_of start es)) 0 (lt-ltb e.run.start start (before 0 e (omega arith))))
 
 pub ordered_from : (from low : ℕ) (es : List UsageEntry) → low ≤ from → Ordered from es → Ordered low es
 ordered_from from low [] le o = tt

@@ -1,9 +1,10 @@
 // The runs in use, as a list in order.
-ghost use Rattle.std.specs.Prelude.{◌≡◌, ◌≤◌, ◌↔◌, ℕ, IsTrue, IfNone, IfSome, filter, length};
+ghost use Rattle.std.specs.Prelude.{◌≡◌, ◌≤◌, ◌↔◌, ℕ, IsTrue, IfNone, IfSome, length};
 ghost use Rattle.segments.specs.Runs.{IsLowest};
 ghost use Rattle.segments.specs.Usages.{is_used, usage_of, usage_after, with_usage, UNUSED, Ordered, EndBy, IsUsedIn, IsSearched};
 ghost use Rattle.segments.specs.inner.Places.{place_of, end_before, ApartEach, Ascending, GivenAmong, HasEntryAt};
 
+use crate::gap_buffer::GapBuffer;
 use crate::{Run, Searched};
 
 /// What a run is used for: the catalogue that rules (`taken`), and so many snapshots (`pins`).
@@ -29,23 +30,33 @@ impl Usage {
 }
 
 // How many entries stand before one that starts here.
-pub(crate) fn place_of_start(entries: &[UsageEntry], start: u64) -> usize
+pub(crate) fn place_of_start(entries: &GapBuffer, start: u64) -> usize
     requires { Ascending 2 entries.now }
     ensures place { result ≡ place_of start entries.now }
     ensures within { result ≤ length entries.now }
 {
-    entries.partition_point(|entry| entry.run.start < start)
+    let mut low = 0;
+    let mut high = entries.len();
+    while low < high {
+        let middle = low + (high - low) / 2;
+        if entries.get(middle).run.start < start {
+            low = middle + 1;
+        } else {
+            high = middle;
+        }
+    }
+    low
 }
 
 // The place of the run's entry, if it has one.
-pub(crate) fn place_of_run(entries: &[UsageEntry], run: Run) -> Option<usize>
+pub(crate) fn place_of_run(entries: &GapBuffer, run: Run) -> Option<usize>
     requires { Ascending 2 entries.now }
     ensures none { IfNone result (usage_of entries.now run ≡ UNUSED) }
     ensures place { IfSome result (λ i. i ≡ place_of run.start entries.now) }
     ensures found { IfSome result (λ i. HasEntryAt entries.now run i) }
 {
     let place = place_of_start(entries, run.start);
-    if place < entries.len() && entries[place].run == run {
+    if place < entries.len() && entries.get(place).run == run {
         Some(place)
     } else {
         None
@@ -53,29 +64,29 @@ pub(crate) fn place_of_run(entries: &[UsageEntry], run: Run) -> Option<usize>
 }
 
 // Whether the run meets none of the entries.
-pub(crate) fn is_apart(entries: &[UsageEntry], run: Run) -> bool
+pub(crate) fn is_apart(entries: &GapBuffer, run: Run) -> bool
     requires ordered { Ordered 2 entries.now }
     requires some { 1 ≤ run.count }
     ensures { IsTrue result ↔ ApartEach run entries.now }
 {
     let place = place_of_start(entries, run.start);
-    if place > 0 && entries[place - 1].run.contains(run.start) {
+    if place > 0 && entries.get(place - 1).run.contains(run.start) {
         return false;
     }
-    if place < entries.len() && run.contains(entries[place].run.start) {
+    if place < entries.len() && run.contains(entries.get(place).run.start) {
         return false;
     }
     true
 }
 
 // Where the entries before this place end.
-fn end_before(size: u64, entries: &[UsageEntry], place: usize) -> u64
+fn end_before(size: u64, entries: &GapBuffer, place: usize) -> u64
     requires within { EndBy size entries.now }
     requires place { place ≤ length entries.now }
     ensures { result ≡ end_before 2 entries.now place }
 {
     if place > 0 {
-        entries[place - 1].run.end()
+        entries.get(place - 1).run.end()
     } else {
         2
     }
@@ -84,7 +95,7 @@ fn end_before(size: u64, entries: &[UsageEntry], place: usize) -> u64
 // The lowest free run, going up from where the search has come, or from the first sector where what was passed may fit.
 pub(crate) fn lowest(
     size: u64,
-    entries: &[UsageEntry],
+    entries: &GapBuffer,
     count: u64,
     searched: &mut Searched,
 ) -> Option<Run>
@@ -102,13 +113,14 @@ pub(crate) fn lowest(
     let place = place_of_start(entries, searched.start);
     searched.start = end_before(size, entries, place);
     for index in place..entries.len() {
-        let gap = entries[index].run.start - searched.start;
+        let run = entries.get(index).run;
+        let gap = run.start - searched.start;
         if count <= gap {
             let start = searched.start;
             return Some(Run { start, count });
         }
         searched.widest = searched.widest.max(gap);
-        searched.start = entries[index].run.end();
+        searched.start = run.end();
     }
     let start = searched.start;
     if count <= size.saturating_sub(start) {
@@ -119,20 +131,20 @@ pub(crate) fn lowest(
 }
 
 // Gives the run, whose entry stands at this place, another usage.
-pub(crate) fn change(entries: &mut Vec<UsageEntry>, run: Run, place: usize, usage: Usage)
-    requires place { place ≡ place_of run.start entries.old.items }
-    requires found { HasEntryAt entries.old.items run place }
-    ensures { entries.new.items ≡ with_usage run usage entries.old.items }
+pub(crate) fn change(entries: &mut GapBuffer, run: Run, place: usize, usage: Usage)
+    requires place { place ≡ place_of run.start entries.old }
+    requires found { HasEntryAt entries.old run place }
+    ensures { entries.new ≡ with_usage run usage entries.old }
 {
     if usage.is_used() {
-        entries[place] = UsageEntry { run, usage };
+        entries.set(place, UsageEntry { run, usage });
     } else {
         entries.remove(place);
     }
 }
 
 // Each of these runs that has an entry is given back. An entry that is not used any more stays where it is.
-fn give_among(entries: &mut [UsageEntry], runs: &[Run])
+fn give_among(entries: &mut GapBuffer, runs: &[Run])
     requires { Ascending 2 entries.old }
     ensures { GivenAmong entries.old entries.new runs.now }
 {
@@ -140,29 +152,20 @@ fn give_among(entries: &mut [UsageEntry], runs: &[Run])
         if let Some(place) = place_of_run(entries, *run) {
             let run = *run;
             let taken = false;
-            let pins = entries[place].usage.pins;
-            entries[place] = UsageEntry {
-                run,
-                usage: Usage { taken, pins },
-            };
+            let pins = entries.get(place).usage.pins;
+            let usage = Usage { taken, pins };
+            entries.set(place, UsageEntry { run, usage });
         }
     }
 }
 
-// Only the entries that are used stay.
-fn keep_used(entries: &mut Vec<UsageEntry>)
-    ensures { entries.new.items ≡ filter (λ e. is_used e.usage) entries.old.items }
-{
-    entries.retain(|entry| entry.usage.is_used());
-}
-
-// Gives these runs back. What stays is moved once, however many they are.
-pub(crate) fn give_each(entries: &mut Vec<UsageEntry>, runs: &[Run])
-    requires { Ordered 2 entries.old.items }
-    ensures ordered { Ordered 2 entries.new.items }
-    ensures within { (size : ℕ) → EndBy size entries.old.items → EndBy size entries.new.items }
-    ensures usages { (run : Run) → usage_of entries.new.items run ≡ usage_after runs.now run (usage_of entries.old.items run) }
+// Gives these runs back. What stays is moved twice at the most, however many they are.
+pub(crate) fn give_each(entries: &mut GapBuffer, runs: &[Run])
+    requires { Ordered 2 entries.old }
+    ensures ordered { Ordered 2 entries.new }
+    ensures within { (size : ℕ) → EndBy size entries.old → EndBy size entries.new }
+    ensures usages { (run : Run) → usage_of entries.new run ≡ usage_after runs.now run (usage_of entries.old run) }
 {
     give_among(entries, runs);
-    keep_used(entries);
+    entries.keep_used();
 }

@@ -5,6 +5,7 @@ ghost use Rattle.segments.specs.Usages.{UNUSED, TAKEN, given, pinned, unpinned, 
 ghost use Rattle.segments.specs.Usages.{Overlaps, IsUnused, Changes, GivesAll};
 
 use crate::entries::{change, give_each, is_apart, lowest, place_of_run, place_of_start};
+use crate::gap_buffer::GapBuffer;
 use crate::{EnterError, Run, Searched, TakeError, Usage, UsageEntry};
 use std::alloc::{AllocError, Global};
 use std::marker::Model;
@@ -14,7 +15,7 @@ use std::marker::Model;
 #[derive(Drop)]
 pub struct FreeMap {
     size: u64,
-    entries: Vec<UsageEntry>,
+    entries: GapBuffer,
 }
 
 impl Model for FreeMap {
@@ -22,9 +23,9 @@ impl Model for FreeMap {
 
     ghost Value = { Space };
 
-    ghost view = { λ map. record { size = map.size; entries = map.entries.items } };
+    ghost view = { λ map. record { size = map.size; entries = map.entries } };
 
-    ghost invariant = { λ map. IsSound (record { size = map.size; entries = map.entries.items }) };
+    ghost invariant = { λ map. IsSound (record { size = map.size; entries = map.entries }) };
 }
 
 impl FreeMap {
@@ -34,7 +35,7 @@ impl FreeMap {
     {
         FreeMap {
             size,
-            entries: Vec::new(alloc),
+            entries: GapBuffer::new(alloc),
         }
     }
 
@@ -44,7 +45,7 @@ impl FreeMap {
         ensures on_device { is_used result ≡ true → IsOnDevice self.now.size run }
     {
         match place_of_run(&self.entries, run) {
-            Some(place) => self.entries[place].usage,
+            Some(place) => self.entries.get(place).usage,
             None => Usage {
                 taken: false,
                 pins: 0,
@@ -74,8 +75,8 @@ impl FreeMap {
     }
 
     /// Takes the lowest free run of so many sectors, as `take` does, and looks only where no earlier search has found too
-    /// little room. Where `searched` goes from one call to the next, the runs in use are gone through once in all, as long as
-    /// no call asks for so few sectors that a gap which was passed may hold them; then the search begins anew.
+    /// little room. Where `searched` goes from one call to the next, the runs in use are gone through once in all, and moved
+    /// once, as long as no call asks for so few sectors that a gap which was passed may hold them; then the search begins anew.
     pub fn take_onward(&mut self, count: u64, searched: &mut Searched) -> Result<Run, TakeError>
         requires some { 1 ≤ count }
         requires searched { IsSearched self.old searched.old }
@@ -127,8 +128,8 @@ impl FreeMap {
         self.set_usage(run, Usage { taken: false, pins });
     }
 
-    /// Gives these runs back. A run that is pinned stays in use. It takes no memory, and however many runs there are, the
-    /// entries of the map are moved once.
+    /// Gives these runs back. A run that is pinned stays in use. It takes no memory, and however many runs there are, each
+    /// entry of the map is moved twice at the most.
     pub fn give_each(&mut self, runs: &[Run])
         ensures { GivesAll self.old self.new runs.now }
     {

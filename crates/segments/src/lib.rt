@@ -15,6 +15,7 @@ mod entries;
 mod errors;
 mod extent;
 mod free_map;
+mod gap_buffer;
 mod piece;
 mod reading;
 mod run;

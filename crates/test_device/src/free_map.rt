@@ -1,5 +1,5 @@
 // Worked rows of the free map, and one with many runs.
-use segments::{EnterError, FreeMap, Run, Searched, TakeError};
+use segments::{EnterError, FreeMap, Run, Searched, TakeError, Usage};
 use std::alloc::Global;
 
 // A call of a free map, and its answer. A run is its start and its count.
@@ -11,13 +11,16 @@ enum Step {
     // `None`: there is no room
     Take(u64, Option<(u64, u64)>),
     Give(u64, u64),
+    GiveBoth((u64, u64), (u64, u64)),
     Occupy(u64, u64, Option<EnterError>),
     Pin(u64, u64, Option<EnterError>),
     Unpin(u64, u64),
+    // whether a run is taken, and how often it is pinned
+    Used(u64, u64, bool, u32),
 }
 
 use EnterError::{Overlap, Range};
-use Step::{Find, Format, Give, Occupy, Pin, Take, Unpin};
+use Step::{Find, Format, Give, GiveBoth, Occupy, Pin, Take, Unpin, Used};
 
 fn formatted(alloc: Global) -> Result<FreeMap, EnterError> {
     let mut map = FreeMap::new(alloc, 16);
@@ -43,11 +46,22 @@ fn answers(map: &mut FreeMap, step: Step) -> bool {
             map.give(Run { start, count });
             true
         }
+        GiveBoth(one, other) => {
+            let (start, count) = one;
+            let one = Run { start, count };
+            let (start, count) = other;
+            let other = Run { start, count };
+            map.give_each(&[one, other]);
+            true
+        }
         Occupy(start, count, want) => map.occupy(Run { start, count }).err() == want,
         Pin(start, count, want) => map.pin(Run { start, count }).err() == want,
         Unpin(start, count) => {
             map.unpin(Run { start, count });
             true
+        }
+        Used(start, count, taken, pins) => {
+            map.usage(Run { start, count }) == Usage { taken, pins }
         }
     }
 }
@@ -140,6 +154,50 @@ const ENTERED_RUNS_ARE_TESTED: [Step; 25] = [
     Find(1, None),
 ];
 
+// Runs are taken in front of others, and each call is made where some entries stand before the last that came in and some behind it.
+const RUNS_ARE_TAKEN_IN_FRONT_OF_OTHERS: [Step; 39] = [
+    Occupy(10, 1, None),
+    Occupy(12, 1, None),
+    Occupy(14, 1, None),
+    Take(2, Some((3, 2))),
+    Used(2, 1, true, 0),
+    Used(3, 2, true, 0),
+    Used(10, 1, true, 0),
+    Used(11, 1, false, 0),
+    Used(14, 1, true, 0),
+    Used(14, 2, false, 0),
+    Find(1, Some((5, 1))),
+    Find(5, Some((5, 5))),
+    Find(6, None),
+    Pin(12, 1, None),
+    Used(12, 1, true, 1),
+    Take(2, Some((5, 2))),
+    // a free run is pinned
+    Pin(11, 1, None),
+    Used(11, 1, false, 1),
+    Take(3, Some((7, 3))),
+    Take(1, Some((13, 1))),
+    Take(1, Some((15, 1))),
+    Take(1, None),
+    Give(7, 3),
+    Take(1, Some((7, 1))),
+    GiveBoth((14, 1), (12, 1)),
+    Used(12, 1, false, 1),
+    Used(14, 1, false, 0),
+    Take(1, Some((8, 1))),
+    Unpin(12, 1),
+    Unpin(11, 1),
+    Used(11, 1, false, 0),
+    Used(12, 1, false, 0),
+    Find(2, Some((11, 2))),
+    Find(3, None),
+    Take(1, Some((9, 1))),
+    Occupy(13, 2, Some(Overlap)),
+    Occupy(11, 2, None),
+    Occupy(14, 1, None),
+    Find(1, None),
+];
+
 // Plays some steps on a formatted device: the place of the first that goes wrong.
 fn wrong_step(alloc: Global, steps: &[Step]) -> Result<Option<usize>, EnterError> {
     let mut map = formatted(alloc)?;
@@ -160,6 +218,7 @@ const ROWS: &[&[Step]] = &[
     &TABLE_IS_IMPORTED_AGAIN_AND_DROPPED,
     &SNAPSHOT_KEEPS_ITS_SEGMENT,
     &ENTERED_RUNS_ARE_TESTED,
+    &RUNS_ARE_TAKEN_IN_FRONT_OF_OTHERS,
 ];
 
 fn are_answered(alloc: Global) -> bool {
@@ -217,11 +276,23 @@ fn finds_among_65536(map: &mut FreeMap) -> bool {
         let start = 131_073;
         well = well && map.find(count) == Some(Run { start, count });
     }
-    well && map.take(1) == Ok(Run { start: 3, count: 1 })
+    well
+}
+
+// Nor is each other run moved whenever one is taken. Whether a run is taken in front of each of those but the first.
+fn takes_among_65536(map: &mut FreeMap) -> bool {
+    let mut searched = Searched::nothing();
+    let mut well = true;
+    for i in 0..65_536 {
+        let start = 3 + 2 * i;
+        let taken = map.take_onward(1, &mut searched);
+        well = well && taken == Ok(Run { start, count: 1 });
+    }
+    well
 }
 
 #[test]
-fn a_run_is_found_among_65536(rt: HostRuntime) {
+fn runs_are_found_and_taken_among_65536(rt: HostRuntime) {
     let mut map = FreeMap::new(rt.alloc(), 4_194_304);
-    assert!(&rt; finds_among_65536(&mut map));
+    assert!(&rt; finds_among_65536(&mut map) && takes_among_65536(&mut map));
 }

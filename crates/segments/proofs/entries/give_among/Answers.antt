@@ -1,5 +1,5 @@
 use Rattle.std.proofs.Common.{◌∙◌, take, get_or, sym, ap, subst, List, [], ◌∷◌, ◌++◌}
-use Rattle.std.proofs.lemmas.List.{take_more, get_or_default}
+use Rattle.std.proofs.lemmas.List.{take_more}
 use Rattle.segments.specs.declared.run.Run.{Run}
 use Rattle.segments.specs.declared.entries.UsageEntry.{UsageEntry}
 use Rattle.segments.specs.Usages.{UNUSED, given}
@@ -10,9 +10,6 @@ use Rattle.segments.proofs.entries.give_among.Goals.{in-Some, in_default}
 
 abbrev none : Run
 none = record { start = 0; count = 0 }
-
-abbrev no_entry : UsageEntry
-no_entry = record { run = none; usage = UNUSED }
 
 pub loop-run-preserved : goal.loop-run-preserved
 loop-run-preserved c =
@@ -27,8 +24,8 @@ loop-run-preserved c =
           let k = w.in-Some.place in
           let found = w.in-Some.ensures.found in
           let own : UsageEntry = record { run = run; usage = UNUSED } in
-          given_at old es c.match-place_of_run.entries (take i runs) run k (given (get_or es k no_entry).usage) c.loop-run.invariant found
-          (ap given (ap (λ (e : UsageEntry). e.usage) (get_or_default es k no_entry own found.within) ∙ found.usage)) w.entries-is
+          given_at old es c.match-place_of_run.entries (take i runs) run k (given w.get-pins.result.usage) c.loop-run.invariant found
+          (ap given (ap (λ (e : UsageEntry). e.usage) (w.get-pins.ensures own) ∙ found.usage)) (w.entries-is ∙ w.set.ensures)
       | in_default w ↦
           subst (λ (es : List UsageEntry). GivenAmong old es (take i runs ++ run ∷ [])) (sym w.entries-is) (given_unused old es (take i runs) run c.loop-run.invariant w.in_default.ensures.none)
     ])

@@ -10,8 +10,8 @@ use Rattle.segments.proofs.free_map.FreeMap.enter.Goals as goal
 pub returns-then-not-is_apart-clause-overlap : goal.returns-then-not-is_apart-clause-overlap
 returns-then-not-is_apart-clause-overlap c = λ _ free.
     let here = subst (λ (s : Space). IsFree s.size (IsUsedIn s.entries) c.args.run) (sym c.self.view_is) free in
-    let apart = free_apart c.self.inside.size c.self.inside.entries.items c.args.run c.self.invariant.ordered here in
-    let is = c.is_apart.ensures.1 (subst (ApartEach c.args.run) (sym c.deref.ensures.value) apart) in
+    let apart = free_apart c.self.inside.size c.self.inside.entries c.args.run c.self.invariant.ordered here in
+    let is = c.is_apart.ensures.1 apart in
     true≢false (sym is ∙ c.if-not-is_apart.true)
 
 -- a run on the device that meets no entry is free
@@ -20,15 +20,12 @@ fits {inside} {view} is run on apart = subst (λ (s : Space). IsOnDevice s.size 
 
 pub insert-requires-clause-free : goal.insert-requires-clause-free
 insert-requires-clause-free c =
-    (fits c.self.view_is c.args.run (c.is_on_device.ensures.0 c.if-not-is_on_device.false)
-    (subst (ApartEach c.args.run) c.deref.ensures.value (c.is_apart.ensures.0 c.if-not-is_apart.false))).1
+    (fits c.self.view_is c.args.run (c.is_on_device.ensures.0 c.if-not-is_on_device.false) (c.is_apart.ensures.0 c.if-not-is_apart.false)).1
 
 pub returns-in_err-insert-clause-memory : goal.returns-in_err-insert-clause-memory
 returns-in_err-insert-clause-memory c = λ _.
-    fits c.self.view_is c.args.run (c.is_on_device.ensures.0 c.if-not-is_on_device.false)
-    (subst (ApartEach c.args.run) c.deref.ensures.value (c.is_apart.ensures.0 c.if-not-is_apart.false))
+    fits c.self.view_is c.args.run (c.is_on_device.ensures.0 c.if-not-is_on_device.false) (c.is_apart.ensures.0 c.if-not-is_apart.false)
 
 pub returns-clause-fits : goal.returns-clause-fits
 returns-clause-fits c =
-    fits c.self.view_is c.args.run (c.is_on_device.ensures.0 c.if-not-is_on_device.false)
-    (subst (ApartEach c.args.run) c.deref.ensures.value (c.is_apart.ensures.0 c.if-not-is_apart.false))
+    fits c.self.view_is c.args.run (c.is_on_device.ensures.0 c.if-not-is_on_device.false) (c.is_apart.ensures.0 c.if-not-is_apart.false)

@@ -7,5 +7,5 @@ invariant_of-self c = record { ordered = c.give_each.ensures.ordered; within = c
 
 pub returns : goal.returns
 returns c =
-    let after : Space = record { size = c.self.inside.size; entries = c.give_each.new.entries.items } in
+    let after : Space = record { size = c.self.inside.size; entries = c.give_each.new.entries } in
     subst (λ (s : Space). GivesAll s after c.args.runs.now) c.self.view_is (record { size = refl; usages = c.give_each.ensures.usages })

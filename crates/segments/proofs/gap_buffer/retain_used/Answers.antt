@@ -1,6 +1,6 @@
 use Rattle.std.proofs.Common.{rules}
 use Rattle.std.proofs.lemmas.Fn.{filter_same}
-use Rattle.segments.proofs.entries.keep_used.Goals as goal
+use Rattle.segments.proofs.gap_buffer.retain_used.Goals as goal
 
 pub returns : goal.returns
 returns c = filter_same _ _ _ (λ x b f' k. search rules) _ _ c.retain.ensures.filtered
