@@ -260,7 +260,10 @@ const LOST: &[Row] = &[
             (Read("u"), U),
         ],
     ),
-    (&[(2, 0, 1), (3, 0, 1)], &[(Open, "ok"), (Read("t"), "S13 SegmentUnread 0")]),
+    (
+        &[(2, 0, 1), (3, 0, 1)],
+        &[(Open, "ok"), (Read("t"), "S13 SegmentUnread 0")],
+    ),
     (&[(6, 0, 1)], WITHOUT_U),
     (&[(7, 0, 1)], WITHOUT_U),
 ];
@@ -303,10 +306,7 @@ fn wrongly_told(
 
 #[test]
 fn the_first_cause_is_told(rt: HostRuntime) {
-    assert_no_row(
-        &rt,
-        wrongly_told(rt.alloc(), TWICE, Choice::New, CAUSES),
-    );
+    assert_no_row(&rt, wrongly_told(rt.alloc(), TWICE, Choice::New, CAUSES));
     assert_no_row(
         &rt,
         wrongly_told(rt.alloc(), STORED, Choice::Lost(u64::MAX), LOST),
