@@ -35,18 +35,18 @@ loop-slot-preserved c =
     let rest = slots_in (map slot_before (drop (i + 1) slots)) in
     let end = rw (drop-item slots i slot (omega arith) c.slot-item.is) at c.loop-slot.invariant.end in
     elim c.match-width.branch [
-      in-None+in_ok-extend_from_slice-in-None w ↦ record {
+      | in-None+in_ok-extend_from_slice-in-None w ↦ record {
         bytes = distance_put old new w.to_le_bytes.result _ from to i slots slot (omega arith) c.slot-item.is
-        (rw w.out-is w.in_ok-extend_from_slice-in-None.ensures.items)
-        (rw (w.offset-is, w.to_le_bytes.ensures) (sym (w.in-None.ensures.vtable from rest)))
-        c.loop-slot.invariant.bytes;
+            (rw w.out-is w.in_ok-extend_from_slice-in-None.ensures.items)
+            (rw (w.offset-is, w.to_le_bytes.ensures) (sym (w.in-None.ensures.vtable from rest)))
+            c.loop-slot.invariant.bytes;
         end = rw w.offset-is (sym (w.in-None.ensures.inline from rest) ∙ end);
       }
       | in-Some+in_ok-extend_from_slice-in-Some w ↦ record {
         bytes = distance_put old new w.to_le_bytes-in-Some.result _ from to i slots slot (omega arith) c.slot-item.is
-        (rw w.out-is w.in_ok-extend_from_slice-in-Some.ensures.items)
-        (rw (w.offset-is, w.to_le_bytes-in-Some.ensures, w.aligned-field.ensures) (sym (w.in-Some.ensures.vtable from rest)))
-        c.loop-slot.invariant.bytes;
+            (rw w.out-is w.in_ok-extend_from_slice-in-Some.ensures.items)
+            (rw (w.offset-is, w.to_le_bytes-in-Some.ensures, w.aligned-field.ensures) (sym (w.in-Some.ensures.vtable from rest)))
+            c.loop-slot.invariant.bytes;
         end = rw (w.offset-is, w.aligned-field.ensures) (sym (w.in-Some.ensures.inline from rest) ∙ end);
       }
     ]

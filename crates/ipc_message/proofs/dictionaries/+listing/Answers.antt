@@ -31,9 +31,9 @@ list_fields-loop-field-preserved t c =
     let old = map plain_dictionary_of c.loop-field.list.items in
     record {
       listed = rw c.in_ok-list_field.ensures (
-        append_assoc old (dictionaries_in own) (dictionaries_in rest)
-        ∙ ap (λ (t : List PlainDictionary). old ++ t) (sym (flat_map-append (λ (f : raw.RawField). own_dictionary (dictionary_of f) f) own rest))
-        ∙ (rw next at c.loop-field.invariant.listed)
-      );
+          append_assoc old (dictionaries_in own) (dictionaries_in rest)
+          ∙ ap (λ (t : List PlainDictionary). old ++ t) (sym (flat_map-append (λ (f : raw.RawField). own_dictionary (dictionary_of f) f) own rest))
+          ∙ (rw next at c.loop-field.invariant.listed)
+          );
       readable = right_readable own rest (rw next at c.loop-field.invariant.readable);
     }
