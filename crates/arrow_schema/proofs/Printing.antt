@@ -18,3 +18,6 @@ pub two_before : (a b c x y z : List ℕ) → b ≡ a ++ x → c ≡ b ++ y → 
 two_before a b c x y z e f =
     let grouped : (a ++ x ++ y) ++ z ≡ a ++ (x ++ y ++ z) = simp append_assoc in
     rw (f, e) grouped
+
+pub three_behind : (a b c d x y z : List ℕ) → b ≡ a ++ x → c ≡ b ++ y → d ≡ c ++ z → d ≡ a ++ (x ++ y ++ z)
+three_behind a b c d x y z e f g = g ∙ two_before a b c x y z e f
