@@ -1,6 +1,7 @@
 -- The answers of an opening.
-use Rattle.std.proofs.Common.{◌≡◌, ◌≤◌, ℕ, nat_le, true, false, List, Result, Ok, Err, IfOk, IfErr, Option, Some, refl, sym, ap, ◌∙◌, subst}
-use Rattle.std.proofs.lemmas.Bool.{and_parts, false_from_ne_true, leb-true}
+use Rattle.std.proofs.Common.{◌≡◌, ◌≤◌, ℕ, inl, inr, arith, nat_le, true, false, List, Result, Ok, Err, IfOk, IfErr, Option, Some, refl, sym, ap, ◌∙◌, subst}
+use Rattle.std.proofs.lemmas.Bool.Decides.{leb_tells}
+use Rattle.std.proofs.lemmas.Bool.{and_from, and_parts, false_from_ne_true, leb-true}
 use Rattle.sector_dev.specs.Disk.{Disk, shown_image, flushed}
 use Rattle.commit.specs.declared.sector.Commit.{Commit}
 use Rattle.commit.specs.declared.cause.Cause.{Cause}
@@ -50,6 +51,13 @@ flushed_stands reading size d e k c is found = subst (λ (x : Disk). Stands read
 -- a size outside the limits is none of a store
 pub no_size : (size : ℕ) → (is_size size ≡ true → ⊥) → is_size size ≡ false
 no_size size other = false_from_ne_true (is_size size) other
+
+-- and a size within them is one of a store
+leb_is : (a b : ℕ) → a ≤ b → nat_le a b ≡ true
+leb_is a b le = elim (leb_tells a b) [ inl is ↦ is.0 | inr other ↦ absurd (omega (arith, other.1)) ]
+
+pub sized : (size n : ℕ) → n ≡ size → 16 ≤ n → n ≤ 4194304 → is_size size ≡ true
+sized size n is low high = rw (← is) (and_from _ _ (leb_is 16 n low) (leb_is n 4194304 high))
 
 pub within : (size : ℕ) → is_size size ≡ true → (16 ≤ size) × (size ≤ 4194304)
 within size is = let parts = and_parts (nat_le 16 size) (nat_le size 4194304) is in (leb-true _ _ parts.0, leb-true _ _ parts.1)

@@ -1,5 +1,5 @@
 // Rows of CSV texts.
-ghost use Rattle.std.specs.Prelude.{◌≡◌, ℕ, ◌<◌, ◌≤◌, List, [], ◌∷◌, Some, IfOk, IfErr, map, option_map, length, slice_get, slice_index_or};
+ghost use Rattle.std.specs.Prelude.{◌≡◌, ℕ, ◌<◌, ◌≤◌, true, false, List, [], ◌∷◌, Some, None, IfOk, IfErr, map, option_map, length, slice_get, slice_index_or};
 ghost use Rattle.std.specs.List.{list_any};
 ghost use Rattle.csv.specs.Machine.{next_record};
 ghost use Rattle.csv.specs.Reading.{default_config};
@@ -238,6 +238,20 @@ pub fn csv_records<'a>(
     Ok(reader)
 }
 
+// Reads the record at a place, counted from the one that the reader stands at, where there is one.
+fn read_at(reader: &mut Reader<&[u8]>, row: &mut ByteRecord, place: u64) -> Result<bool, AllocError>
+    ensures { IfOk result (λ found. (records : List (List (List ℕ))) → HasLeft reader.old records
+        → (found ≡ true → slice_get records place ≡ Some (fields_of row.new)) × (found ≡ false → slice_get records place ≡ None)) }
+{
+    for _i in 0..place {
+        if !read_next(reader, row)? {
+            return Ok(false);
+        }
+    }
+    let found = read_next(reader, row)?;
+    Ok(found)
+}
+
 // The record at a place, where the header stands at 0.
 pub(crate) fn record_at(
     alloc: Global,
@@ -248,12 +262,7 @@ pub(crate) fn record_at(
 {
     let mut reader = reader_of(alloc, text);
     let mut row = ByteRecord::new(alloc);
-    for _i in 0..place {
-        if !read_next(&mut reader, &mut row)? {
-            return Ok(None);
-        }
-    }
-    let found = read_next(&mut reader, &mut row)?;
+    let found = read_at(&mut reader, &mut row, place)?;
     if found { Ok(Some(row)) } else { Ok(None) }
 }
 

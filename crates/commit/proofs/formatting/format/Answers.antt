@@ -1,4 +1,5 @@
-use Rattle.std.proofs.Common.{◌≡◌, ◌≢◌, inl, subst, ℕ, Bool, false, Option, Some, None, Result, Ok, Err, IfErr, is_some}
+use Rattle.std.proofs.Common.{◌≡◌, ◌≢◌, ◌∙◌, inl, sym, subst, arith, ℕ, Bool, false, Option, Some, None, Result, Ok, Err, IfErr, is_some}
+use Rattle.std.proofs.lemmas.Bool.{false≢true}
 use Rattle.sector_dev.specs.Disk.{Disk, now, shown_image}
 use Rattle.sector_dev.specs.laws.Time.{weaken, now_read}
 use Rattle.commit.specs.declared.sector.Commit.{Commit}
@@ -6,6 +7,7 @@ use Rattle.commit.specs.declared.formatting.FormatError.{FormatError}
 use Rattle.commit.specs.declared.formatting.FormatError.TheVariants.{Device}
 use Rattle.commit.specs.Formatting.{IsFormatted, IsMadeEmpty}
 use Rattle.commit.proofs.Formatted.{read_first, still_none}
+use Rattle.commit.proofs.Told.{sized}
 use Rattle.commit.proofs.formatting.format.Goals as goal
 
 -- what ruled before is what was found
@@ -63,3 +65,18 @@ returns-clause-made g c = λ told.
     let s2 = D.story c.clear_and_begin.new.device in
     let made = subst (λ (n : ℕ). IsMadeEmpty n (shown_image (now s1)) (shown_image (now s2))) c.read_ruling.ensures.size (c.in_ok-clear_and_begin.ensures.made told) in
     subst (λ (d : Disk). IsMadeEmpty (D.size c.args.device.now) (shown_image d) (shown_image (now s2))) (now_read s0 s1 (c.read_ruling.ensures.moments told)) made
+
+pub returns-in_err-ruling-clause-limits : goal.returns-in_err-ruling-clause-limits
+returns-in_err-ruling-clause-limits g c = λ other. absurd (false≢true (sym other ∙ sized (g.D.SectorDevice.size c.args.device.now) c.sectors-sectors.result c.sectors-sectors.ensures (omega arith) (omega arith)))
+
+pub returns-then-is_some-clause-limits : goal.returns-then-is_some-clause-limits
+returns-then-is_some-clause-limits g c = λ other. absurd (false≢true (sym other ∙ sized (g.D.SectorDevice.size c.args.device.now) c.sectors-sectors.result c.sectors-sectors.ensures (omega arith) (omega arith)))
+
+pub returns-in_err-map-clause-limits : goal.returns-in_err-map-clause-limits
+returns-in_err-map-clause-limits g c = λ other. absurd (false≢true (sym other ∙ sized (g.D.SectorDevice.size c.args.device.now) c.sectors-sectors.result c.sectors-sectors.ensures (omega arith) (omega arith)))
+
+pub returns-in_err-clear_and_begin-clause-limits : goal.returns-in_err-clear_and_begin-clause-limits
+returns-in_err-clear_and_begin-clause-limits g c = λ other. absurd (false≢true (sym other ∙ sized (g.D.SectorDevice.size c.args.device.now) c.sectors-sectors.result c.sectors-sectors.ensures (omega arith) (omega arith)))
+
+pub returns-clause-limits : goal.returns-clause-limits
+returns-clause-limits g c = λ other. absurd (false≢true (sym other ∙ sized (g.D.SectorDevice.size c.args.device.now) c.sectors-sectors.result c.sectors-sectors.ensures (omega arith) (omega arith)))

@@ -1,11 +1,12 @@
-use Rattle.std.proofs.Common.{◌≢◌, ◌∙◌, ap, inl, inr, IfErr, Result, Ok, Err, arith}
+use Rattle.std.proofs.Common.{◌≢◌, ◌∙◌, sym, ap, inl, inr, IfErr, Result, Ok, Err, arith}
+use Rattle.std.proofs.lemmas.Bool.{false≢true}
 use Rattle.sector_dev.specs.Disk.{now, shown_image, flushed}
 use Rattle.sector_dev.specs.laws.Time.{weaken, goes_on, passed, two, now_read}
 use Rattle.commit.specs.Opening.{IsOpening}
 use Rattle.commit.specs.declared.reading.OpenError.{OpenError}
 use Rattle.commit.specs.declared.reading.OpenError.TheVariants.{Device}
 use Rattle.commit.specs.laws.Frame.{stands_on_no_device}
-use Rattle.commit.proofs.Told.{flushed_stands, no_size, within}
+use Rattle.commit.proofs.Told.{flushed_stands, no_size, sized, within}
 use Rattle.commit.proofs.recovery.recover.Goals as goal
 
 if_err : {T P Q : Type 0} (r : Result T OpenError) → (P → Q) → IfErr r (λ e. e ≢ Device → P → Q)
@@ -43,3 +44,15 @@ returns-clause-stands g c = λ told.
     flushed_stands g.C.ReadCatalogue.reading (g.D.SectorDevice.size c.args.device.now) (now (g.D.SectorDevice.story c.args.device.now)) _ _ _
     (ap now (c.in_ok-sync.ensures.ok told) ∙ ap flushed (now_read _ _ (c.read_store.ensures.moments told)))
     (c.in_ok-store.ensures.found told)
+
+pub returns-in_err-store-clause-limits : goal.returns-in_err-store-clause-limits
+returns-in_err-store-clause-limits g c = λ other. absurd (false≢true (sym other ∙ sized (g.D.SectorDevice.size c.args.device.now) c.sectors-sectors.result c.sectors-sectors.ensures (omega arith) (omega arith)))
+
+pub returns-in_err-sync-clause-limits : goal.returns-in_err-sync-clause-limits
+returns-in_err-sync-clause-limits g c = λ other. absurd (false≢true (sym other ∙ sized (g.D.SectorDevice.size c.args.device.now) c.sectors-sectors.result c.sectors-sectors.ensures (omega arith) (omega arith)))
+
+pub returns-clause-limits : goal.returns-clause-limits
+returns-clause-limits g c = λ other. absurd (false≢true (sym other ∙ sized (g.D.SectorDevice.size c.args.device.now) c.sectors-sectors.result c.sectors-sectors.ensures (omega arith) (omega arith)))
+
+pub returns-clause-in_limits : goal.returns-clause-in_limits
+returns-clause-in_limits g c = sized (g.D.SectorDevice.size c.args.device.now) c.sectors-sectors.result c.sectors-sectors.ensures (omega arith) (omega arith)

@@ -3,7 +3,7 @@ use Rattle.flatbuf.specs.declared.nodes.Node.{the_lemmas}
 use Rattle.flatbuf.specs.View.{node_of, nodes_of, slot_before, slots_in}
 use Rattle.facts.specs.laws.Lists.{drop-item}
 use Rattle.flatbuf.proofs.Cases.{node_fits, slot_fits, fits_split}
-use Rattle.flatbuf.proofs.Puts.{below_kept, ends_kept, slot_put}
+use Rattle.flatbuf.proofs.Puts.{below_kept, ends_kept, slot_put, node_put}
 use Rattle.flatbuf.proofs.emit.+put.Goals as goal
 
 pub put_references-put-requires : goal.put_references-put-requires
@@ -23,6 +23,16 @@ put_references-put-requires t c =
         ),
       ),
     )
+
+pub put_references-loop-node-preserved : goal.put_references-loop-node-preserved
+put_references-loop-node-preserved t c =
+    let ns = c.args.nodes.now in
+    let i = c.loop-node.node-index in
+    let fits = rw (drop-item ns i c.node-item.result (omega arith) c.node-item.is) at c.loop-node.invariant.fits in
+    record {
+      bytes = node_put c.loop-node.out.items c.put.new.out.items _ i ns c.node-item.result (omega arith) c.node-item.is c.in_ok-put.ensures c.loop-node.invariant.bytes;
+      fits = fits.1;
+    }
 
 pub put_table-put_below-requires : goal.put_table-put_below-requires
 put_table-put_below-requires t c =

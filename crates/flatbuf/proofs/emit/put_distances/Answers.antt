@@ -1,9 +1,19 @@
-use Rattle.std.proofs.Common.{◌+◌, map, drop, arith}
-use Rattle.flatbuf.specs.Laid.{gap}
+use Rattle.std.proofs.Common.{◌≡◌, ◌<◌, ◌+◌, ◌++◌, ℕ, List, map, drop, length, get_or, sym, ◌∙◌, arith}
+use Rattle.flatbuf.specs.declared.nodes.Slot.{Slot}
+use Rattle.flatbuf.specs.Laid.{gap, distances}
 use Rattle.flatbuf.specs.View.{slot_before, slots_in}
 use Rattle.facts.specs.laws.Lists.{drop-item}
 use Rattle.flatbuf.proofs.ReadBack.{inline_le_end}
+use Rattle.flatbuf.proofs.Puts.{next_part}
 use Rattle.flatbuf.proofs.emit.put_distances.Goals as goal
+use Rattle.flatbuf.proofs.emit.put_distances.Goals.{in-None+in_ok-extend_from_slice-in-None, in-Some+in_ok-extend_from_slice-in-Some}
+
+-- one distance is put, and those of the other slots are left
+distance_put : (old new field whole : List ℕ) (from to i : ℕ) (slots : List Slot) (slot : Slot) → i < length slots → slot ≡ get_or slots i slot → new ≡ old ++ field
+    → field ++ distances to (slots_in (map slot_before (drop (i + 1) slots))) ≡ distances from (slot_before slot (slots_in (map slot_before (drop (i + 1) slots))))
+    → old ++ distances from (slots_in (map slot_before (drop i slots))) ≡ whole → new ++ distances to (slots_in (map slot_before (drop (i + 1) slots))) ≡ whole
+distance_put old new field whole from to i slots slot lt is e f h =
+    next_part old new field _ whole e (rw f (rw (drop-item slots i slot lt is) at h))
 
 pub overflow_cast-field : goal.overflow_cast-field
 overflow_cast-field c =
@@ -12,3 +22,31 @@ overflow_cast-field c =
     let rest = slots_in (map slot_before (drop (c.loop-slot.slot-index + 1) slots)) in
     let whole = rw (drop-item slots c.loop-slot.slot-index c.slot-item.result (omega arith) c.slot-item.is) at c.loop-slot.invariant.end in
     omega (arith, c.aligned-field.ensures, whole, c.in-Some.ensures.inline offset rest, inline_le_end (offset + gap c.in-Some.width offset + c.in-Some.width) rest)
+
+pub loop-slot-preserved : goal.loop-slot-preserved
+loop-slot-preserved c =
+    let old = c.loop-slot.out.items in
+    let new = c.match-width.out.items in
+    let from = c.loop-slot.offset in
+    let to = c.match-width.offset in
+    let i = c.loop-slot.slot-index in
+    let slots = c.args.slots.now in
+    let slot = c.slot-item.result in
+    let rest = slots_in (map slot_before (drop (i + 1) slots)) in
+    let end = rw (drop-item slots i slot (omega arith) c.slot-item.is) at c.loop-slot.invariant.end in
+    elim c.match-width.branch [
+      | in-None+in_ok-extend_from_slice-in-None w ↦ record {
+        bytes = distance_put old new w.to_le_bytes.result _ from to i slots slot (omega arith) c.slot-item.is
+            (rw w.out-is w.in_ok-extend_from_slice-in-None.ensures.items)
+            (rw (w.offset-is, w.to_le_bytes.ensures) (sym (w.in-None.ensures.vtable from rest)))
+            c.loop-slot.invariant.bytes;
+        end = rw w.offset-is (sym (w.in-None.ensures.inline from rest) ∙ end);
+      }
+      | in-Some+in_ok-extend_from_slice-in-Some w ↦ record {
+        bytes = distance_put old new w.to_le_bytes-in-Some.result _ from to i slots slot (omega arith) c.slot-item.is
+            (rw w.out-is w.in_ok-extend_from_slice-in-Some.ensures.items)
+            (rw (w.offset-is, w.to_le_bytes-in-Some.ensures, w.aligned-field.ensures) (sym (w.in-Some.ensures.vtable from rest)))
+            c.loop-slot.invariant.bytes;
+        end = rw (w.offset-is, w.aligned-field.ensures) (sym (w.in-Some.ensures.inline from rest) ∙ end);
+      }
+    ]

@@ -1,4 +1,4 @@
-use Rattle.std.proofs.Common.{◌≡◌, ◌<◌, ◌+◌, ◌^◌, ◌++◌, ℕ, List, length, map, drop, arith}
+use Rattle.std.proofs.Common.{◌≡◌, ◌<◌, ◌+◌, ◌^◌, ◌++◌, ℕ, List, length, map, drop, ◌∙◌, arith}
 use Rattle.flatbuf.specs.Ends.{below_ends_at}
 use Rattle.flatbuf.specs.Laid.{inline, inline_end, slot_starts}
 use Rattle.flatbuf.specs.Tree.{Slots}
@@ -29,3 +29,15 @@ pub pad-requires-clause-small : goal.pad-requires-clause-small
 pad-requires-clause-small c =
     let small = written_small c.args.out.now.items c.loop-slot.out.items c.args.at c.loop-slot.reached.offset c.loop-slot.reached.cursor c.args.below _ _ c.loop-slot.invariant.bytes c.loop-slot.invariant.end c.requires.here c.requires.room c.requires.small in
     omega (arith, small)
+
+pub loop-slot-preserved : goal.loop-slot-preserved
+loop-slot-preserved c =
+    let slots = c.args.slots.now in
+    let rest = slots_in (map slot_before (drop (c.loop-slot.slot-index + 1) slots)) in
+    let next = drop-item slots c.loop-slot.slot-index c.slot-item.result (omega arith) c.slot-item.is in
+    record {
+      bytes = c.in_ok-reached.ensures.bytes rest ∙ (rw next at c.loop-slot.invariant.bytes);
+      end = c.in_ok-reached.ensures.inline rest ∙ (rw next at c.loop-slot.invariant.end);
+      low = omega (arith, c.in_ok-reached.ensures.up, c.loop-slot.invariant.low);
+      below = c.in_ok-reached.ensures.below rest ∙ (rw next at c.loop-slot.invariant.below);
+    }
