@@ -152,7 +152,8 @@ fn give_among(entries: &mut GapBuffer, runs: &[Run])
         if let Some(place) = place_of_run(entries, *run) {
             let run = *run;
             let taken = false;
-            let pins = entries.get(place).usage.pins;
+            let entry = entries.get(place);
+            let pins = entry.usage.pins;
             let usage = Usage { taken, pins };
             entries.set(place, UsageEntry { run, usage });
         }

@@ -24,8 +24,8 @@ loop-run-preserved c =
           let k = w.in-Some.place in
           let found = w.in-Some.ensures.found in
           let own : UsageEntry = record { run = run; usage = UNUSED } in
-          given_at old es c.match-place_of_run.entries (take i runs) run k (given w.get-pins.result.usage) c.loop-run.invariant found
-          (ap given (ap (λ (e : UsageEntry). e.usage) (w.get-pins.ensures own) ∙ found.usage)) (w.entries-is ∙ w.set.ensures)
+          given_at old es c.match-place_of_run.entries (take i runs) run k (given w.get-entry.result.usage) c.loop-run.invariant found
+          (ap given (ap (λ (e : UsageEntry). e.usage) (w.get-entry.ensures own) ∙ found.usage)) (w.entries-is ∙ w.set.ensures)
       | in_default w ↦
           subst (λ (es : List UsageEntry). GivenAmong old es (take i runs ++ run ∷ [])) (sym w.entries-is) (given_unused old es (take i runs) run c.loop-run.invariant w.in_default.ensures.none)
     ])
