@@ -1,5 +1,5 @@
 -- A slot of the code is absent, a number, or a reference; and how many slots and nodes a vector holds.
-use Rattle.std.proofs.Common.{◌≡◌, ◌≤◌, ◌<◌, ◌+◌, ℕ, suc, get_or, drop, add-one, drop-cons, List, [], ◌∷◌, map, length, refl, sym, ap, subst, ◌∙◌}
+use Rattle.std.proofs.Common.{◌≡◌, ◌≤◌, ◌<◌, ◌+◌, ℕ, suc, get_or, drop, List, [], ◌∷◌, map, length, refl, sym, ap, subst, ◌∙◌}
 use Rattle.facts.specs.laws.Lists.{drop-item}
 use Rattle.flatbuf.specs.declared.nodes.Slot.{Slot}
 use Rattle.flatbuf.specs.declared.nodes.Node.{Node}
