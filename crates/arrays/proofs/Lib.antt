@@ -1,5 +1,6 @@
 pub mod Raws
 pub mod Placed
+pub mod LaidOut
 pub mod SlotCounts
 pub mod TextSpans
 pub mod Layouts
