@@ -85,12 +85,12 @@ each_item-returns-in_err-cell_in t c =
     let kept = rw item at c.loop-value.invariant in
     let p = err_from_is_err_and c.from_residual-in_err-cell_in.result c.from_residual-in_err-cell_in.ensures.1 in
     rw (p.1, p.2) (
-      told
-      (refusal_of c.in_err-cell_in.field-0.0)
-      (f (view c.value-item.result))
-      (each_item f (items_view c.args.values.now))
-      c.in_err-cell_in.ensures
-      (λ r e. sym kept ∙ item_refused f (map cell c.loop-value.cells.items) c.value-item.result (drop (i + 1) c.args.values.now) r e)
+    told
+    (refusal_of c.in_err-cell_in.field-0.0)
+    (f (view c.value-item.result))
+    (each_item f (items_view c.args.values.now))
+    c.in_err-cell_in.ensures
+    (λ r e. sym kept ∙ item_refused f (map cell c.loop-value.cells.items) c.value-item.result (drop (i + 1) c.args.values.now) r e)
     )
 
 pub cells_by_place-returns-in_err-cell_in : goal.cells_by_place-returns-in_err-cell_in
@@ -102,20 +102,20 @@ cells_by_place-returns-in_err-cell_in t c =
     let kept = rw (item, value) at c.loop-i.invariant in
     let p = err_from_is_err_and c.from_residual-in_err-cell_in.result c.from_residual-in_err-cell_in.ensures.1 in
     rw (p.1, p.2) (
-      told
-      (refusal_of c.in_err-cell_in.field-0.0)
-      (cell_in (column_of f) (view c.index-values-i.result))
-      (cells_by_place (columns_of (map column_of c.args.fields.now)) (items_view c.args.values.now))
-      c.in_err-cell_in.ensures
-      (λ r e. sym kept
-      ∙ place_refused
-      (map cell c.loop-i.cells.items)
-      (column_of f)
-      (columns_of (map column_of (drop (i + 1) c.args.fields.now)))
-      c.index-values-i.result
-      (drop (i + 1) c.args.values.now)
-      r
-      e)
+    told
+    (refusal_of c.in_err-cell_in.field-0.0)
+    (cell_in (column_of f) (view c.index-values-i.result))
+    (cells_by_place (columns_of (map column_of c.args.fields.now)) (items_view c.args.values.now))
+    c.in_err-cell_in.ensures
+    (λ r e. sym kept
+    ∙ place_refused
+    (map cell c.loop-i.cells.items)
+    (column_of f)
+    (columns_of (map column_of (drop (i + 1) c.args.fields.now)))
+    c.index-values-i.result
+    (drop (i + 1) c.args.values.now)
+    r
+    e)
     )
 
 pub cells_by_name-returns-in_err-member_in : goal.cells_by_name-returns-in_err-member_in
@@ -127,10 +127,10 @@ cells_by_name-returns-in_err-member_in t c =
     let kept = rw item at c.loop-field.invariant in
     let p = err_from_is_err_and c.from_residual-in_err-member_in.result c.from_residual-in_err-member_in.ensures.1 in
     rw (p.1, p.2) (
-      told
-      (refusal_of c.in_err-member_in.field-0.0)
-      (member_of (column_of f) ms)
-      (cells_by_name (columns_of (map column_of c.args.fields.now)) ms)
-      c.in_err-member_in.ensures
-      (λ r e. sym kept ∙ name_refused (map cell c.loop-field.cells.items) (column_of f) (columns_of (map column_of (drop (i + 1) c.args.fields.now))) ms r e)
+    told
+    (refusal_of c.in_err-member_in.field-0.0)
+    (member_of (column_of f) ms)
+    (cells_by_name (columns_of (map column_of c.args.fields.now)) ms)
+    c.in_err-member_in.ensures
+    (λ r e. sym kept ∙ name_refused (map cell c.loop-field.cells.items) (column_of f) (columns_of (map column_of (drop (i + 1) c.args.fields.now))) ms r e)
     )
