@@ -1,7 +1,8 @@
 -- Rows behind those of a table: what is decided of an append is the verdict.
-use Rattle.std.specs.Prelude.{nat_le, not}
-use Rattle.std.proofs.Common.{◌≡◌, ℕ, ◌≤◌, Bool, true, false, List, [], ◌∷◌, ◌++◌, Option, Some, None, Result, Ok, Err, refl, sym, ap, ◌∙◌, subst, arith}
+use Rattle.std.specs.Prelude.{◌⊎◌, ◌<◌, ◌+◌, nat_le, not}
+use Rattle.std.proofs.Common.{◌≡◌, ℕ, ◌≤◌, Bool, true, false, List, [], ◌∷◌, ◌++◌, Option, Some, None, Result, Ok, Err, inl, inr, refl, sym, ap, ◌∙◌, subst, arith}
 use Rattle.std.proofs.lemmas.Bool.{leb-true, le-leb}
+use Rattle.std.proofs.lemmas.Bool.Decides.{leb_tells}
 use Rattle.std.proofs.lemmas.List.Sums.{sum_by-append}
 use Rattle.facts.specs.Checks.{when, first_some, unless}
 use Rattle.sector_dev.specs.Disk.{Image}
@@ -20,13 +21,15 @@ use Rattle.catalogue.specs.Edits.{entry_of}
 use Rattle.tables.specs.declared.refusal.Limit.TheVariants as limits
 use Rattle.tables.specs.declared.refusal.Refusal.{Refusal}
 use Rattle.tables.specs.declared.refusal.Refusal.TheVariants as refusals
-use Rattle.tables.specs.declared.refusal.Refusal.TheVariants.{NoTable, TooMany}
+use Rattle.tables.specs.declared.refusal.Refusal.TheVariants.{NoTable, OutOfMemory, TooMany}
 use Rattle.tables.specs.Commands.{PlainCommand, append_stream, append_rows}
 use Rattle.tables.specs.Tables.{Tables, table_at, with_table}
 use Rattle.tables.specs.Verdict.{too_many_bytes, other_shape, unfit_row, too_heavy, of_table, of_meaning, appended, appended_table, appended_stream, verdict}
 use Rattle.store.specs.Changes.{PlainChange, extend, rows_under}
-use Rattle.store.specs.Deciding.{of_entry, Addition, given_rows, rows_of_table, streamed_rows, pieces_put, IsAdded}
+use Rattle.store.specs.Deciding.{of_entry, Addition, given_rows, rows_of_table, streamed_rows, pieces_put, decided_behind, IsAdded}
 use Rattle.store.specs.Held.{table_held}
+use Rattle.store.specs.Reading.{IsRead}
+use Rattle.store.specs.inner.Appending.{IsAppended}
 use Rattle.store.specs.inner.LawsBelow.{LawsBelow}
 use Rattle.store.specs.Verdicts.{TellsTable, AreListed, IsVerdict}
 
@@ -225,3 +228,35 @@ module _ (laws : LawsBelow) (image : Image) (c : PlainCatalogue) (t : Tables) (l
       by_entry (Some e) there added =
           added_verdict laws image c t listed name e there (append_stream name bytes) (streamed_rows bytes e) (streamed_is e bytes) (λ old found. stream_verdict t name e old found bytes) d added
       by_entry None none same = subst (IsVerdict t (append_stream name bytes)) (sym same) (missing_stream bytes none)
+
+-- ---- what is answered of rows for the table of an entry
+
+-- what stands and new rows weigh as much together as the one and the others
+pub weighed_both : (e : PlainEntry) (t : PlainTable) (rows : List (List Cell)) (a b : ℕ) → t.schema ≡ e.schema → a ≡ table_weight t.schema t.rows → b ≡ table_weight e.schema rows
+    → a + b ≡ table_weight e.schema (t.rows ++ rows)
+weighed_both e t rows a b same standing new =
+    let own : a ≡ table_weight e.schema t.rows = standing ∙ ap (λ (s : PlainSchema). table_weight s t.rows) same in
+    let split = sum_by-append (row_weight e.schema) t.rows rows in
+    omega (arith, own, new, split)
+
+heavy_test : (a b : ℕ) → b < a → nat_le a b ≡ false
+heavy_test a b less = elim (leb_tells a b) [ inl is ↦ absurd (omega (arith, less, is.1)) | inr other ↦ other.0 ]
+
+module _ (tells : Bool) (image : Image) (name : List ℕ) (e : PlainEntry) (tested : Result Addition Refusal) (rows : List (List Cell)) (standing : PlainTable)
+    (passed : tested ≡ Ok (record { entry = e; rows = rows })) (read : IsRead tells image e standing) where
+  added : (d : Result PlainChange Refusal) → d ≡ decided_behind name (record { entry = e; rows = rows }) standing.rows → IsAdded tells image name tested d
+  added d is = subst (λ (x : Result Addition Refusal). IsAdded tells image name x d) (sym passed) (standing, read, is)
+
+  -- rows that are too heavy alone
+  pub heavy_alone : MAX_TABLE_WEIGHT < table_weight e.schema rows → IsAdded tells image name tested (Err (TooMany limits.Weight))
+  heavy_alone heavy =
+      let split = sum_by-append (row_weight e.schema) standing.rows rows in
+      let whole : nat_le (table_weight e.schema (standing.rows ++ rows)) MAX_TABLE_WEIGHT ≡ false = heavy_test (table_weight e.schema (standing.rows ++ rows)) MAX_TABLE_WEIGHT (omega (arith, heavy, split)) in
+      added (Err (TooMany limits.Weight)) (sym (ap (λ (b : Bool). unless (when (not b) (TooMany limits.Weight)) (Ok (pieces_put (extend name) (rows_under e.schema rows)))) whole))
+
+  -- rows that are decided behind those that stand
+  pub appended_behind : (d : Result PlainChange Refusal) (weight : ℕ) → weight ≡ table_weight e.schema (standing.rows ++ rows)
+      → (d ≡ Err OutOfMemory) ⊎ ((s : List (List Cell)) → weight ≡ table_weight e.schema (s ++ rows) → d ≡ decided_behind name (record { entry = e; rows = rows }) s)
+      → IsAppended tells image name tested d
+  appended_behind d weight weighs (inl none) = inl none
+  appended_behind d weight weighs (inr decided) = inr (inr (added d (decided standing.rows weighs)))

@@ -1,5 +1,5 @@
 -- What is read of a table: its segments one after another, and the table that they make.
-use Rattle.std.specs.Prelude.{◌&&◌, slice_get, get_or, sum_by, min, if◌then◌else◌, Result, Ok, Err}
+use Rattle.std.specs.Prelude.{◌&&◌, slice_get, get_or, sum_by, min, if◌then◌else◌, Result, Ok, Err, IfErr}
 use Rattle.std.proofs.Common.{◌≡◌, ◌≤◌, ◌<◌, ◌+◌, ◌-◌, ◌^◌, ◌++◌, ◌∷◌, [], ℕ, suc, Bool, true, false, List, Option, Some, None, length, map, take, drop, refl, sym, ap, ◌∙◌, subst, arith, append-nil, append_assoc}
 use Rattle.std.proofs.lemmas.Bool.{and_parts}
 use Rattle.std.proofs.lemmas.List.{length-map, get_or-map, take-append-drop, take_more}
@@ -26,8 +26,8 @@ use Rattle.commit.specs.laws.Apart.{all_at}
 use Rattle.store.specs.Held.{segment_rows, joined_rows, rows_held, table_where, table_of_rows, table_held}
 use Rattle.tables.specs.declared.refusal.Refusal.{Refusal as Told}
 use Rattle.tables.specs.declared.refusal.Refusal.TheVariants as refusals
-use Rattle.store.specs.Calls.{PlainReply, done, is_device_reply, counted}
-use Rattle.store.specs.Reading.{ArePast, IsUnread, Unreads, OnlyReadsDevice}
+use Rattle.store.specs.Calls.{PlainReply, done, is_failure, is_device_reply, counted}
+use Rattle.store.specs.Reading.{ArePast, IsUnread, Unreads, OnlyReadsDevice, ended}
 use Rattle.store.specs.inner.LawsBelow.{TableLaws}
 use Rattle.store.specs.inner.Reading.{UnreadsSegment}
 use Rattle.store.specs.laws.Changed.{rows_behind}
@@ -209,6 +209,16 @@ reads_quiet size story failed tells reply a quiet = record {
   same = refl;
   moments = λ told. stays (λ (d : Disk). d ≡ now (story a)) (story a);
   count = sym (ap (λ (b : Bool). if b then min (failed a + 1) (2 ^ 64 - 1) else failed a) quiet);
+}
+
+-- reads, and an answer that no device failed
+pub reads_ended : {D T : Type 0} (size : D → ℕ) (story : D → Story) (failed : D → ℕ) (tells : Bool) (r : Result T Told) (a b : D) → IfErr r (λ e. is_failure e ≡ false)
+    → OnlyReadsDevice size story failed tells done a b → OnlyReadsDevice size story failed tells (ended r) a b
+reads_ended size story failed tells (Ok x) a b quiet reads = reads
+reads_ended size story failed tells (Err e) a b quiet reads = record {
+  same = reads.same;
+  moments = reads.moments;
+  count = reads.count ∙ sym (ap (λ (f : Bool). if f then min (failed a + 1) (2 ^ 64 - 1) else failed a) quiet);
 }
 
 -- what reads show stays

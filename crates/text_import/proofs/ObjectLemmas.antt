@@ -120,6 +120,19 @@ pub names_end : (so : List Cell) (ms : Members) → cells_behind so (cells_by_na
 unfolding cells_by_name
 names_end so ms = cells_behind_end so
 
+-- one that is refused
+pub item_refused : (f : Data → Result Cell Refusal) (so : List Cell) (v : Value) (vs : List Value) (r : Refusal) → f (view v) ≡ Err r → cells_behind so (each_item f (items_view (v ∷ vs))) ≡ Err r
+item_refused f so v vs r e = rw e refl
+
+pub place_refused : (so : List Cell) (c : Column) (cs : Columns) (v : Value) (vs : List Value) (r : Refusal) → cell_in c (view v) ≡ Err r
+    → cells_behind so (cells_by_place (and_column c cs) (items_view (v ∷ vs))) ≡ Err r
+unfolding cells_by_place
+place_refused so c cs v vs r e = rw e refl
+
+pub name_refused : (so : List Cell) (c : Column) (cs : Columns) (ms : Members) (r : Refusal) → member_of c ms ≡ Err r → cells_behind so (cells_by_name (and_column c cs) ms) ≡ Err r
+unfolding cells_by_name
+name_refused so c cs ms r e = rw e refl
+
 -- the rows of the lines from a place on
 abbrev pub rows_of_lines : PlainSchema → ℕ → List (Bor (List ℕ)) → Result (List (List Cell)) Refused
 rows_of_lines s n lines = rows_from (line_row s) n (filter (λ line. not (is_blank line)) (text_list lines))

@@ -70,6 +70,22 @@ fn add_name<'a>(names: &mut IndexSet<&'a str>, name: &'a str) -> Result<bool, Al
     Ok(added)
 }
 
+// Adds the names of fields up to the first that is among them, and answers whether there was none.
+fn add_names<'a>(names: &mut IndexSet<&'a str>, fields: &'a [Field]) -> Result<bool, AllocError>
+    ensures repeated { IfOk result (λ distinct. distinct ≡ false
+        → repeats (text_list names.old.keys ++ names_of (columns_of (map column_of fields.now))) ≡ true) }
+    ensures added { IfOk result (λ distinct. distinct ≡ true → repeats (text_list names.old.keys) ≡ false
+        → (text_list names.new.keys ≡ text_list names.old.keys ++ names_of (columns_of (map column_of fields.now)))
+        × (repeats (text_list names.new.keys) ≡ false)) }
+{
+    for field in fields {
+        if !add_name(names, name_of(field))? {
+            return Ok(false);
+        }
+    }
+    Ok(true)
+}
+
 // The names of fields, where no two share one.
 fn names_of<'a>(alloc: Global, fields: &'a [Field]) -> Result<Option<IndexSet<&'a str>>, AllocError>
     ensures { IfOk result (λ o. MatchOption o (repeats (names_of (columns_of (map column_of fields.now))) ≡ true)
@@ -77,12 +93,8 @@ fn names_of<'a>(alloc: Global, fields: &'a [Field]) -> Result<Option<IndexSet<&'
         × (text_list names.keys ≡ names_of (columns_of (map column_of fields.now))))) }
 {
     let mut names = IndexSet::with_capacity(alloc, fields.len())?;
-    for field in fields {
-        if !add_name(&mut names, name_of(field))? {
-            return Ok(None);
-        }
-    }
-    Ok(Some(names))
+    let distinct = add_names(&mut names, fields)?;
+    if distinct { Ok(Some(names)) } else { Ok(None) }
 }
 
 fn has_unknown(names: &IndexSet<&str>, members: &Map<String, Json>) -> bool

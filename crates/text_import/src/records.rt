@@ -1,5 +1,5 @@
 // Rows of CSV texts.
-ghost use Rattle.std.specs.Prelude.{◌≡◌, ℕ, ◌<◌, ◌≤◌, true, false, List, [], ◌∷◌, Some, None, IfOk, IfErr, map, option_map, length, slice_get, slice_index_or};
+ghost use Rattle.std.specs.Prelude.{◌≡◌, ℕ, ◌<◌, ◌≤◌, true, false, List, [], ◌∷◌, Some, None, Err, IfOk, IfErr, map, option_map, length, slice_get, slice_index_or};
 ghost use Rattle.std.specs.List.{list_any};
 ghost use Rattle.csv.specs.Machine.{next_record};
 ghost use Rattle.csv.specs.Reading.{default_config};
@@ -14,7 +14,7 @@ ghost use Rattle.cells.specs.Dictionary.{is_any_limited};
 ghost use Rattle.text_import.specs.Refusals.{numbered, refusal_of, refused_by};
 ghost use Rattle.facts.specs.Outcomes.{Gives, Reports};
 ghost use Rattle.text_import.specs.Rows.{rows_from};
-ghost use Rattle.text_import.specs.Records.{whole, are_names, is_nested_column, field_cells, record_cells, record_row, records_of, csv_rows_of};
+ghost use Rattle.text_import.specs.Records.{whole, are_names, is_nested_column, field_cells, record_cells, record_row, records_of, rows_behind_header, csv_rows_of};
 ghost use Rattle.text_import.specs.Stands.{HasLeft, Stands, Reads, TakesNext, is_text};
 
 use crate::flat::field_cell;
@@ -208,6 +208,27 @@ fn record_rows(
     Ok(rows)
 }
 
+// Reads the header, and answers whether it is the names of the columns.
+fn pass_header(
+    alloc: Global,
+    schema: &Schema,
+    reader: &mut Reader<&[u8]>,
+) -> Result<bool, AllocError>
+    ensures named { IfOk result (λ named. named ≡ true → (all : List (List (List ℕ))) → HasLeft reader.old all
+        → (header : List (List ℕ)) × (records : List (List (List ℕ))) × (all ≡ header ∷ records) × HasLeft reader.new records
+        × ((null_text : List ℕ) → rows_behind_header (schema_of schema.now) null_text all ≡ rows_from (record_row (schema_of schema.now) null_text) 1 records)) }
+    ensures other { IfOk result (λ named. named ≡ false → (all : List (List (List ℕ))) → HasLeft reader.old all
+        → (null_text : List ℕ) → rows_behind_header (schema_of schema.now) null_text all ≡ Err (whole Refusal.Header)) }
+{
+    let mut row = ByteRecord::new(alloc);
+    let found = read_next(reader, &mut row)?;
+    if found {
+        Ok(are_names(&row, &schema.fields))
+    } else {
+        Ok(false)
+    }
+}
+
 /// A reader of the records of a text that stands behind the header, the names of the columns. Behind it a text has no more records than bytes.
 ///
 /// # Errors
@@ -228,14 +249,12 @@ pub fn csv_records<'a>(
         return Err(whole(Refusal::Nested));
     }
     let mut reader = reader_of(alloc, text);
-    let mut row = ByteRecord::new(alloc);
-    if !read_next(&mut reader, &mut row)? {
-        return Err(whole(Refusal::Header));
+    let named = pass_header(alloc, schema, &mut reader)?;
+    if named {
+        Ok(reader)
+    } else {
+        Err(whole(Refusal::Header))
     }
-    if !are_names(&row, &schema.fields) {
-        return Err(whole(Refusal::Header));
-    }
-    Ok(reader)
 }
 
 // Reads the record at a place, counted from the one that the reader stands at, where there is one.

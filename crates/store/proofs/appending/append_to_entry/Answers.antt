@@ -1,6 +1,41 @@
+use Rattle.std.proofs.Common.{◌+◌, inr, string_bytes}
+use Rattle.sector_dev.specs.Disk.{now, shown_image}
 use Rattle.catalogue.specs.Entries.{plain_entry}
 use Rattle.catalogue.specs.laws.Kept.{entry_is}
+use Rattle.values.specs.TableView.{table_of}
+use Rattle.store.specs.inner.Appending.{added_to}
+use Rattle.store.specs.inner.Gathered.{gathered_table}
+use Rattle.store.specs.inner.Tests.{decision_of}
+use Rattle.store.proofs.Appended.{weighed_both, heavy_alone, appended_behind}
+use Rattle.store.proofs.ReadTables.{reads_ended}
 use Rattle.store.proofs.appending.append_to_entry.Goals as goal
 
 pub pass_new-requires : goal.pass_new-requires
 pass_new-requires g c = (entry_is (plain_entry c.args.entry.now) c.requires.sound).schema
+
+pub returns-in-Some-clause-reads : goal.returns-in-Some-clause-reads
+returns-in-Some-clause-reads g c =
+    let D = g.D.SectorDevice in
+    reads_ended D.size D.story D.failed D.tells c.decide_behind.result c.args.device.now c.gather_entry.new.device c.decide_behind.ensures.no_device c.in-Ok-gather_entry.ensures.reads
+
+pub returns-in-Some-clause-answers : goal.returns-in-Some-clause-answers
+returns-in-Some-clause-answers g c =
+    let D = g.D.SectorDevice in
+    let e = plain_entry c.args.entry.now in
+    let standing = c.in-Ok-gather_entry.standing in
+    let read = c.in-Ok-gather_entry.ensures.table in
+    let rows = (table_of c.in-Some.field-0.table).rows in
+    let passed = rw c.in-Some.is at c.in-Ok.ensures.passed in
+    appended_behind D.tells (shown_image (now (D.story c.args.device.now))) (string_bytes c.args.name) e (added_to c.args.new e) rows (gathered_table standing) passed.0 read
+    (decision_of c.decide_behind.result)
+    (standing.weight + c.in-Some.field-0.weight)
+    (weighed_both e (gathered_table standing) rows standing.weight c.in-Some.field-0.weight read.schema standing.weighs passed.1)
+    c.decide_behind.ensures.answers
+
+pub returns-in-None-clause-answers : goal.returns-in-None-clause-answers
+returns-in-None-clause-answers g c =
+    let D = g.D.SectorDevice in
+    let e = plain_entry c.args.entry.now in
+    let passed = rw c.in-None.is at c.in-Ok.ensures.passed in
+    inr (inr (heavy_alone D.tells (shown_image (now (D.story c.args.device.now))) (string_bytes c.args.name) e (added_to c.args.new e) passed.0 (gathered_table c.in-Ok-gather_entry.standing) passed.1
+    c.in-Ok-gather_entry.ensures.table passed.2))

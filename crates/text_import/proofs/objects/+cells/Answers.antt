@@ -1,12 +1,16 @@
 use Rattle.std.proofs.Common.{◌≡◌, ◌∙◌, ◌+◌, sym, [], ◌∷◌, map, drop, arith}
 use Rattle.std.proofs.lemmas.List.{drop_all, map-append}
+use Rattle.std.proofs.lemmas.Result.{err_from_is_err_and}
 use Rattle.facts.specs.laws.Lists.{drop-item}
-use Rattle.serde_json.specs.View.{items_view, members_view}
+use Rattle.serde_json.specs.View.{view, items_view, members_view}
 use Rattle.arrow_schema.specs.Column.{columns_of}
 use Rattle.arrow_schema.specs.View.{column_of}
 use Rattle.cells.specs.View.{cell}
-use Rattle.text_import.specs.Objects.{cell_in, each_item}
-use Rattle.text_import.proofs.ObjectLemmas.{sized_no, sized_yes, item_more, place_more, places_end, name_more, names_end}
+use Rattle.text_import.specs.Objects.{cell_in, each_item, cells_by_place, cells_by_name}
+use Rattle.text_import.specs.Refusals.{refusal_of}
+use Rattle.text_import.specs.inner.Names.{member_of}
+use Rattle.text_import.specs.laws.Behind.{told}
+use Rattle.text_import.proofs.ObjectLemmas.{sized_no, sized_yes, item_more, item_refused, place_more, place_refused, places_end, name_more, name_refused, names_end}
 use Rattle.text_import.proofs.RowLemmas.{cells_behind_end}
 use Rattle.text_import.proofs.objects.+cells.Goals as goal
 
@@ -72,3 +76,61 @@ sized_items-returns-then-values-size t c = sized_no c.args.size (each_item (cell
 
 pub sized_items-returns : goal.sized_items-returns
 sized_items-returns t c = rw (sized_yes c.args.size (each_item (cell_in (column_of c.args.item.now))) c.args.values.now c.if-values-size.false) c.each_item.ensures
+
+pub each_item-returns-in_err-cell_in : goal.each_item-returns-in_err-cell_in
+each_item-returns-in_err-cell_in t c =
+    let f = cell_in (column_of c.args.item.now) in
+    let i = c.loop-value.value-index in
+    let item = drop-item c.args.values.now i c.value-item.result c.loop-value-test.true c.value-item.is in
+    let kept = rw item at c.loop-value.invariant in
+    let p = err_from_is_err_and c.from_residual-in_err-cell_in.result c.from_residual-in_err-cell_in.ensures.1 in
+    rw (p.1, p.2) (
+    told
+    (refusal_of c.in_err-cell_in.field-0.0)
+    (f (view c.value-item.result))
+    (each_item f (items_view c.args.values.now))
+    c.in_err-cell_in.ensures
+    (λ r e. sym kept ∙ item_refused f (map cell c.loop-value.cells.items) c.value-item.result (drop (i + 1) c.args.values.now) r e)
+    )
+
+pub cells_by_place-returns-in_err-cell_in : goal.cells_by_place-returns-in_err-cell_in
+cells_by_place-returns-in_err-cell_in t c =
+    let i = c.loop-i.i in
+    let f = c.index-fields-i.result in
+    let item = drop-item c.args.fields.now i f c.loop-i-test.true c.index-fields-i.is in
+    let value = drop-item c.args.values.now i c.index-values-i.result (omega arith) c.index-values-i.is in
+    let kept = rw (item, value) at c.loop-i.invariant in
+    let p = err_from_is_err_and c.from_residual-in_err-cell_in.result c.from_residual-in_err-cell_in.ensures.1 in
+    rw (p.1, p.2) (
+    told
+    (refusal_of c.in_err-cell_in.field-0.0)
+    (cell_in (column_of f) (view c.index-values-i.result))
+    (cells_by_place (columns_of (map column_of c.args.fields.now)) (items_view c.args.values.now))
+    c.in_err-cell_in.ensures
+    (λ r e. sym kept
+    ∙ place_refused
+    (map cell c.loop-i.cells.items)
+    (column_of f)
+    (columns_of (map column_of (drop (i + 1) c.args.fields.now)))
+    c.index-values-i.result
+    (drop (i + 1) c.args.values.now)
+    r
+    e)
+    )
+
+pub cells_by_name-returns-in_err-member_in : goal.cells_by_name-returns-in_err-member_in
+cells_by_name-returns-in_err-member_in t c =
+    let i = c.loop-field.field-index in
+    let f = c.field-item.result in
+    let ms = members_view c.args.members.now.entries in
+    let item = drop-item c.args.fields.now i f c.loop-field-test.true c.field-item.is in
+    let kept = rw item at c.loop-field.invariant in
+    let p = err_from_is_err_and c.from_residual-in_err-member_in.result c.from_residual-in_err-member_in.ensures.1 in
+    rw (p.1, p.2) (
+    told
+    (refusal_of c.in_err-member_in.field-0.0)
+    (member_of (column_of f) ms)
+    (cells_by_name (columns_of (map column_of c.args.fields.now)) ms)
+    c.in_err-member_in.ensures
+    (λ r e. sym kept ∙ name_refused (map cell c.loop-field.cells.items) (column_of f) (columns_of (map column_of (drop (i + 1) c.args.fields.now))) ms r e)
+    )

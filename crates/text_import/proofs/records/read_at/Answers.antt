@@ -1,4 +1,4 @@
-use Rattle.std.proofs.Common.{◌≡◌, ◌+◌, drop, suc, sym, arith}
+use Rattle.std.proofs.Common.{◌≡◌, ◌+◌, drop, suc, arith}
 use Rattle.std.proofs.lemmas.Bool.{false≢true}
 use Rattle.csv.specs.Records.{fields_of}
 use Rattle.text_import.specs.laws.Behind.{taken_none, taken_some}
