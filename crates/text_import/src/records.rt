@@ -216,7 +216,8 @@ fn pass_header(
 ) -> Result<bool, AllocError>
     ensures named { IfOk result (λ named. named ≡ true → (all : List (List (List ℕ))) → HasLeft reader.old all
         → (header : List (List ℕ)) × (records : List (List (List ℕ))) × (all ≡ header ∷ records) × HasLeft reader.new records
-        × ((null_text : List ℕ) → rows_behind_header (schema_of schema.now) null_text all ≡ rows_from (record_row (schema_of schema.now) null_text) 1 records)) }
+        × ((null_text : List ℕ) → rows_behind_header (schema_of schema.now) null_text all
+        ≡ rows_from (record_row (schema_of schema.now) null_text) 1 records)) }
     ensures other { IfOk result (λ named. named ≡ false → (all : List (List (List ℕ))) → HasLeft reader.old all
         → (null_text : List ℕ) → rows_behind_header (schema_of schema.now) null_text all ≡ Err (whole Refusal.Header)) }
 {

@@ -42,7 +42,8 @@ pub(crate) fn weigh_cells(
     ensures taken { IfOk result (λ _. first_unfit (schema_of schema.now) (cell_rows (length schema.now.fields.items) rows (map cell cells.now)) ≡ None) }
     ensures weight { IfOk result (λ w.
         w ≡ capped_weight (table_weight (schema_of schema.now) (cell_rows (length schema.now.fields.items) rows (map cell cells.now)))) }
-    ensures refused { IfErr result (λ e. Reports e (table_from (schema_of schema.now) (cell_rows (length schema.now.fields.items) rows (map cell cells.now)))) }
+    ensures refused { IfErr result (λ e.
+        Reports e (table_from (schema_of schema.now) (cell_rows (length schema.now.fields.items) rows (map cell cells.now)))) }
 {
     let limited = has_limits(schema);
     let width = schema.fields.len();
