@@ -182,7 +182,7 @@ pub fn write_dictionary_front(
     write_front(alloc, out, DICTIONARY_BATCH, header, body_length)
 }
 
-/// Appends a dictionary batch of these contents, or nothing where memory is refused: its rows replace the entries of this id, or are appended to them as a delta.
+/// Appends a dictionary batch of these contents, or nothing where memory is refused: they replace the entries of this id, or a delta is appended to them.
 pub fn write_dictionary(
     alloc: Global,
     out: &mut Vec<u8>,

@@ -75,13 +75,15 @@ pub record IsApplying (size : ℕ) (used : Run → Type 0) (k : Commit) (c : Pla
   pub leaves : LeavesOnly (IsOldOrDone size used k c before command) d
 
 -- at each moment of a command of a store that lies on its disk
-abbrev pub IsApplyingAtEachMoment : {D : Type 0} {g : Ghosts D} → (size : D → ℕ) → (story : D → Story) → (old : Store D g) → PlainCommand → (new : Store D g) → Type 0
+abbrev pub IsApplyingAtEachMoment : {D : Type 0} {g : Ghosts D} → (size : D → ℕ) → (story : D → Story) → (old : Store D g) → PlainCommand
+    → (new : Store D g) → Type 0
 IsApplyingAtEachMoment size story old command new =
     Grows (IsApplying (size (device_of old)) (IsUsedIn old.opened.map.entries) (commit_of old) (listed_in old) (now (story (device_of old))) command)
     (story (device_of old)) (story (device_of new))
 
 -- and after one that was done
-pub record IsDoneOnDisk {D : Type 0} {g : Ghosts D} (size : D → ℕ) (story : D → Story) (old : Store D g) (command : PlainCommand) (new : Store D g) : Type 0 where
+pub record IsDoneOnDisk {D : Type 0} {g : Ghosts D} (size : D → ℕ) (story : D → Story) (old : Store D g) (command : PlainCommand)
+    (new : Store D g) : Type 0 where
   pub stands : IsOnDisk size story new
   pub holds : HasDone (size (device_of old)) (IsUsedIn old.opened.map.entries) (commit_of old) (listed_in old) (now (story (device_of old))) command (synced_image (now (story (device_of new))))
 

@@ -21,7 +21,8 @@ use Rattle.store.specs.Changes.{rows_under, stream_rows}
 pub record TableLaws : Type 0 where
   pub accepts : (s : PlainSchema) (rows : List (List Cell)) (t : PlainTable) → IsWithinLimits s → table_from s rows ≡ Ok t → (t ≡ rows_under s rows) × IsTable t
   pub accepted : (t : PlainTable) → IsTable t → table_from t.schema t.rows ≡ Ok t
-  pub joined : (s : PlainSchema) (a b : List (List Cell)) → IsTable (rows_under s a) → IsTable (rows_under s b) → table_weight s (a ++ b) ≤ MAX_TABLE_WEIGHT → IsTable (rows_under s (a ++ b))
+  pub joined : (s : PlainSchema) (a b : List (List Cell)) → IsTable (rows_under s a) → IsTable (rows_under s b)
+      → table_weight s (a ++ b) ≤ MAX_TABLE_WEIGHT → IsTable (rows_under s (a ++ b))
   pub cut : (s : PlainSchema) (a b : List (List Cell)) → IsTable (rows_under s (a ++ b)) → IsTable (rows_under s a) × IsTable (rows_under s b)
 
 -- of tables, pieces, queries, what streams mean, and catalogues that are read
