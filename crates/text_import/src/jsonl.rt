@@ -1,6 +1,6 @@
 // Rows of texts of JSON Lines.
-ghost use Rattle.std.specs.Prelude.{◌≡◌, ◌==◌, map, option_map, slice_get, IfOk};
-ghost use Rattle.std.specs.List.{slice_split};
+ghost use Rattle.std.specs.Prelude.{◌≡◌, ◌==◌, not, map, option_map, slice_get, IfOk};
+ghost use Rattle.std.specs.List.{filter, slice_split};
 ghost use Rattle.serde_json.specs.View.{view};
 ghost use Rattle.arrow_schema.specs.Column.{columns_of};
 ghost use Rattle.arrow_schema.specs.View.{schema_of};
@@ -8,6 +8,7 @@ ghost use Rattle.cells.specs.Row.{row_of};
 ghost use Rattle.cells.specs.Dictionary.{is_any_limited};
 ghost use Rattle.text_import.specs.Refusals.{refusal_of, refused_by};
 ghost use Rattle.facts.specs.Outcomes.{Gives};
+ghost use Rattle.text_import.specs.Rows.{rows_from};
 ghost use Rattle.text_import.specs.Objects.{is_blank, line_value, line_row, lines_of, jsonl_rows_of};
 ghost use Rattle.facts.specs.Texts.{text_list};
 
@@ -81,19 +82,14 @@ pub(crate) fn line_at(alloc: Global, text: &[u8], place: u64) -> Result<Option<&
     Ok(None)
 }
 
-/// The rows of a text of JSON Lines: each line is a row, an array by position or an object by name. Blank lines are
-/// skipped and not counted.
-///
-/// # Errors
-///
-/// The first line that is refused, with its number.
-pub fn jsonl_rows(alloc: Global, schema: &Schema, text: &[u8]) -> Result<Vec<Row>, TextError>
-    ensures exact { Gives refused_by (λ v. map row_of v.items) result (jsonl_rows_of (schema_of schema.now) text.now) }
+// The rows of lines, of which those that are blank are skipped and not counted.
+fn line_rows(alloc: Global, schema: &Schema, lines: &[&[u8]]) -> Result<Vec<Row>, TextError>
+    ensures { Gives refused_by (λ v. map row_of v.items) result
+        (rows_from (line_row (schema_of schema.now)) 1 (filter (λ line. not (is_blank line)) (text_list lines.now))) }
 {
     let limited = has_limits(schema);
     let mut rows = Vec::new(alloc);
-    let parts = parts_of(alloc, text)?;
-    for line in &parts {
+    for line in lines {
         if is_blank(line) {
             continue;
         }
@@ -105,4 +101,17 @@ pub fn jsonl_rows(alloc: Global, schema: &Schema, text: &[u8]) -> Result<Vec<Row
         rows.push(row)?;
     }
     Ok(rows)
+}
+
+/// The rows of a text of JSON Lines: each line is a row, an array by position or an object by name. Blank lines are
+/// skipped and not counted.
+///
+/// # Errors
+///
+/// The first line that is refused, with its number.
+pub fn jsonl_rows(alloc: Global, schema: &Schema, text: &[u8]) -> Result<Vec<Row>, TextError>
+    ensures exact { Gives refused_by (λ v. map row_of v.items) result (jsonl_rows_of (schema_of schema.now) text.now) }
+{
+    let parts = parts_of(alloc, text)?;
+    line_rows(alloc, schema, &parts)
 }

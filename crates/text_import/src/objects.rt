@@ -1,5 +1,5 @@
 // Cells and rows of JSON values.
-ghost use Rattle.std.specs.Prelude.{◌≡◌, [], ◌∷◌, ◌++◌, true, false, not, map, length, option_map, IfOk, MatchOption};
+ghost use Rattle.std.specs.Prelude.{◌≡◌, [], ◌∷◌, ◌++◌, true, false, not, map, length, option_map, IfOk};
 ghost use Rattle.serde_json.specs.Find.{get_member};
 ghost use Rattle.serde_json.specs.View.{view, items_view, members_view};
 ghost use Rattle.arrow_schema.specs.Column.{columns_of};
@@ -86,17 +86,6 @@ fn add_names<'a>(names: &mut IndexSet<&'a str>, fields: &'a [Field]) -> Result<b
     Ok(true)
 }
 
-// The names of fields, where no two share one.
-fn names_of<'a>(alloc: Global, fields: &'a [Field]) -> Result<Option<IndexSet<&'a str>>, AllocError>
-    ensures { IfOk result (λ o. MatchOption o (repeats (names_of (columns_of (map column_of fields.now))) ≡ true)
-        (λ names. (repeats (names_of (columns_of (map column_of fields.now))) ≡ false)
-        × (text_list names.keys ≡ names_of (columns_of (map column_of fields.now))))) }
-{
-    let mut names = IndexSet::with_capacity(alloc, fields.len())?;
-    let distinct = add_names(&mut names, fields)?;
-    if distinct { Ok(Some(names)) } else { Ok(None) }
-}
-
 fn has_unknown(names: &IndexSet<&str>, members: &Map<String, Json>) -> bool
     ensures { result ≡ has_unknown (text_list names.now.keys) (keys_of (members_view members.now.entries)) }
 {
@@ -160,6 +149,26 @@ fn test_few_names(fields: &[Field], members: &Map<String, Json>) -> Result<(), C
     }
 }
 
+// The same with the set of the names, which is lent empty.
+fn test_many_names<'a>(
+    names: &mut IndexSet<&'a str>,
+    fields: &'a [Field],
+    members: &Map<String, Json>,
+) -> Result<(), CellError>
+    requires { names.old.keys ≡ [] }
+    ensures { Gives refusal_of (λ _. members_view members.now.entries) result
+        (tested (names_of (columns_of (map column_of fields.now))) (members_view members.now.entries)) }
+{
+    if !add_names(names, fields)? {
+        return Err(CellError::Refused(Refusal::AmbiguousNames));
+    }
+    if has_unknown(names, members) {
+        Err(CellError::Refused(Refusal::UnknownName))
+    } else {
+        Ok(())
+    }
+}
+
 // Why the members of an object are not those of the fields.
 pub(crate) fn test_names(
     alloc: Global,
@@ -172,16 +181,8 @@ pub(crate) fn test_names(
     if fields.len() <= FEW_NAMES {
         return test_few_names(fields, members);
     }
-    match names_of(alloc, fields)? {
-        None => Err(CellError::Refused(Refusal::AmbiguousNames)),
-        Some(names) => {
-            if has_unknown(&names, members) {
-                Err(CellError::Refused(Refusal::UnknownName))
-            } else {
-                Ok(())
-            }
-        }
-    }
+    let mut names = IndexSet::with_capacity(alloc, fields.len())?;
+    test_many_names(&mut names, fields, members)
 }
 
 fn member<'a>(members: &'a Map<String, Json>, name: &str) -> Option<&'a Json>

@@ -102,9 +102,11 @@ fn part_of_record(
     ensures { IfOk result (λ part. option_map part_of part
         ≡ option_and_then (refused_in_record null_text.now (schema_of schema.now).columns) (slice_get (records_of text.now) place)) }
 {
-    match record_at(alloc, text, place)? {
-        None => Ok(None),
-        Some(row) => refused_in_record(alloc, &schema.fields, null_text.as_bytes(), &row),
+    let mut row = ByteRecord::new(alloc);
+    if record_at(alloc, text, &mut row, place)? {
+        refused_in_record(alloc, &schema.fields, null_text.as_bytes(), &row)
+    } else {
+        Ok(None)
     }
 }
 

@@ -1,5 +1,5 @@
 // Rows of CSV texts.
-ghost use Rattle.std.specs.Prelude.{◌≡◌, ℕ, ◌<◌, ◌≤◌, true, false, List, [], ◌∷◌, Some, None, Err, IfOk, IfErr, map, option_map, length, slice_get, slice_index_or};
+ghost use Rattle.std.specs.Prelude.{◌≡◌, ℕ, ◌<◌, ◌≤◌, true, false, List, [], ◌∷◌, Some, None, Err, IfOk, IfErr, map, length, slice_get, slice_index_or};
 ghost use Rattle.std.specs.List.{list_any};
 ghost use Rattle.csv.specs.Machine.{next_record};
 ghost use Rattle.csv.specs.Reading.{default_config};
@@ -180,26 +180,26 @@ pub fn numbered_row(
     numbered(number, record_row(alloc, schema, limited, null_text, row))
 }
 
-// The rows of the records that a reader has left, of which there are at most so many.
+// The rows of the records that a reader has left, of which there are at most so many. They are read into a record that is lent.
 fn record_rows(
     alloc: Global,
     schema: &Schema,
     null_text: &[u8],
     reader: &mut Reader<&[u8]>,
+    row: &mut ByteRecord,
     most: usize,
 ) -> Result<Vec<Row>, TextError>
     ensures { (records : List (List (List ℕ))) → HasLeft reader.old records → length records ≤ most
         → Gives refused_by (λ v. map row_of v.items) result (rows_from (record_row (schema_of schema.now) null_text.now) 1 records) }
 {
     let limited = has_limits(schema);
-    let mut row = ByteRecord::new(alloc);
     let mut rows = Vec::new(alloc);
     for index in 0..most {
-        if !read_next(reader, &mut row)? {
+        if !read_next(reader, row)? {
             return Ok(rows);
         }
         let number = index as u64 + 1;
-        let read = match numbered_row(alloc, schema, limited, null_text, &row, number) {
+        let read = match numbered_row(alloc, schema, limited, null_text, row, number) {
             Ok(read) => read,
             Err(error) => return Err(error),
         };
@@ -208,25 +208,26 @@ fn record_rows(
     Ok(rows)
 }
 
-// Reads the header, and answers whether it is the names of the columns.
+// Reads the header into a record, and refuses one that is not the names of the columns.
 fn pass_header(
-    alloc: Global,
     schema: &Schema,
     reader: &mut Reader<&[u8]>,
-) -> Result<bool, AllocError>
-    ensures named { IfOk result (λ named. named ≡ true → (all : List (List (List ℕ))) → HasLeft reader.old all
+    row: &mut ByteRecord,
+) -> Result<(), TextError>
+    ensures behind { IfOk result (λ _. (all : List (List (List ℕ))) → HasLeft reader.old all
         → (header : List (List ℕ)) × (records : List (List (List ℕ))) × (all ≡ header ∷ records) × HasLeft reader.new records
         × ((null_text : List ℕ) → rows_behind_header (schema_of schema.now) null_text all
         ≡ rows_from (record_row (schema_of schema.now) null_text) 1 records)) }
-    ensures other { IfOk result (λ named. named ≡ false → (all : List (List (List ℕ))) → HasLeft reader.old all
-        → (null_text : List ℕ) → rows_behind_header (schema_of schema.now) null_text all ≡ Err (whole Refusal.Header)) }
+    ensures refused { IfErr result (λ e. (all : List (List (List ℕ))) → HasLeft reader.old all
+        → (null_text : List ℕ) → Reports (refused_by e) (rows_behind_header (schema_of schema.now) null_text all)) }
 {
-    let mut row = ByteRecord::new(alloc);
-    let found = read_next(reader, &mut row)?;
-    if found {
-        Ok(are_names(&row, &schema.fields))
+    if !read_next(reader, row)? {
+        return Err(whole(Refusal::Header));
+    }
+    if are_names(row, &schema.fields) {
+        Ok(())
     } else {
-        Ok(false)
+        Err(whole(Refusal::Header))
     }
 }
 
@@ -249,12 +250,11 @@ pub fn csv_records<'a>(
     if has_nested(&schema.fields) {
         return Err(whole(Refusal::Nested));
     }
+    let mut row = ByteRecord::new(alloc);
     let mut reader = reader_of(alloc, text);
-    let named = pass_header(alloc, schema, &mut reader)?;
-    if named {
-        Ok(reader)
-    } else {
-        Err(whole(Refusal::Header))
+    match pass_header(schema, &mut reader, &mut row) {
+        Ok(()) => Ok(reader),
+        Err(error) => Err(error),
     }
 }
 
@@ -272,18 +272,18 @@ fn read_at(reader: &mut Reader<&[u8]>, row: &mut ByteRecord, place: u64) -> Resu
     Ok(found)
 }
 
-// The record at a place, where the header stands at 0.
+// Reads the record at a place, where the header stands at 0 and there is one.
 pub(crate) fn record_at(
     alloc: Global,
     text: &[u8],
+    row: &mut ByteRecord,
     place: u64,
-) -> Result<Option<ByteRecord>, AllocError>
-    ensures { IfOk result (λ row. option_map fields_of row ≡ slice_get (records_of text.now) place) }
+) -> Result<bool, AllocError>
+    ensures there { IfOk result (λ found. found ≡ true → slice_get (records_of text.now) place ≡ Some (fields_of row.new)) }
+    ensures none { IfOk result (λ found. found ≡ false → slice_get (records_of text.now) place ≡ None) }
 {
     let mut reader = reader_of(alloc, text);
-    let mut row = ByteRecord::new(alloc);
-    let found = read_at(&mut reader, &mut row, place)?;
-    if found { Ok(Some(row)) } else { Ok(None) }
+    read_at(&mut reader, row, place)
 }
 
 /// The rows of a CSV text: the records behind the header, which is the names of the columns. A field that is the null
@@ -301,7 +301,17 @@ pub fn csv_rows(
     ensures exact { Gives refused_by (λ v. map row_of v.items) result (csv_rows_of (schema_of schema.now) null_text.now text.now) }
 {
     match csv_records(alloc, schema, text) {
-        Ok(mut reader) => record_rows(alloc, schema, null_text.as_bytes(), &mut reader, text.len()),
+        Ok(mut reader) => {
+            let mut row = ByteRecord::new(alloc);
+            record_rows(
+                alloc,
+                schema,
+                null_text.as_bytes(),
+                &mut reader,
+                &mut row,
+                text.len(),
+            )
+        }
         Err(error) => Err(error),
     }
 }

@@ -60,7 +60,7 @@ pub enum TextError {
 }
 
 // The same of a part of a record, which does not know its number.
-#[derive(Clone, Copy, Debug, PartialEq, Eq)]
+#[derive(Clone, Copy)]
 pub enum CellError {
     Refused(Refusal),
     OutOfMemory,

@@ -9,11 +9,11 @@ returns-then-has_nested c =
     let nested = rw c.deref.ensures.value at (sym c.has_nested.ensures ∙ c.if-has_nested.true) in
     record { behind = tt; refused = λ null_text. rw c.whole.ensures (nested_refused (schema_of c.args.schema.now) null_text c.args.text.now nested) }
 
-pub returns-then-named : goal.returns-then-named
-returns-then-named c =
+pub returns-in-Ok : goal.returns-in-Ok
+returns-in-Ok c =
     let t = c.args.text.now in
     let s = schema_of c.args.schema.now in
-    let (header, records, whole, has, rows) = c.in_ok-named.ensures.named c.if-named.true (records_of t) c.reader_of-reader.ensures in
+    let (header, records, whole, has, rows) = c.in-Ok.ensures.behind (records_of t) c.reader_of-reader.ensures in
     let flat = rw c.deref.ensures.value at (sym c.has_nested.ensures ∙ c.if-has_nested.false) in
     record { behind = (records, has, few_behind t header records whole, (header, whole), λ null_text. unnested s null_text t flat ∙ rows null_text); refused = tt }
 
@@ -22,7 +22,4 @@ returns c =
     let t = c.args.text.now in
     let s = schema_of c.args.schema.now in
     let flat = rw c.deref.ensures.value at (sym c.has_nested.ensures ∙ c.if-has_nested.false) in
-    record {
-      behind = tt;
-      refused = λ null_text. rw c.whole-else-named.ensures (unnested s null_text t flat ∙ c.in_ok-named.ensures.other c.if-named.false (records_of t) c.reader_of-reader.ensures null_text);
-    }
+    record { behind = tt; refused = λ null_text. rw (unnested s null_text t flat) (c.in-Err.ensures.refused (records_of t) c.reader_of-reader.ensures null_text) }
