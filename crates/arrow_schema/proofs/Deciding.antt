@@ -10,7 +10,8 @@ use Rattle.arrow_schema.specs.declared.compare.Detail.{Detail}
 use Rattle.arrow_schema.specs.declared.compare.Detail.TheVariants.{Shape, Whole}
 use Rattle.arrow_schema.specs.Column.{Index, Pair, DateKind, days, date_milliseconds, date_unit_of, TimeKind, seconds, milliseconds, microseconds, nanoseconds, time_unit_of, Kind, Column, Columns, nulls, booleans, integers, dates, timestamps, texts, large_texts, binaries, large_binaries, fixed_binaries, lists, large_lists, fixed_lists, structs, column, no_column, and_column, columns_of, list_of, PlainSchema}
 use Rattle.arrow_schema.specs.Shape.{seen, seen_kind, seen_all, seen_dictionary, seen_pairs, shape_of, HaveOneShape}
-use Rattle.arrow_schema.specs.inner.Alike.{index_eq, dictionary_eq, pair_eq, pairs_eq, alike, alike_kind, alike_all}
+use Rattle.arrow_schema.specs.Parts.{is_nulls}
+use Rattle.arrow_schema.specs.inner.Alike.{index_eq, dictionary_eq, pair_eq, pairs_eq, is_booleans, is_texts, is_large_texts, is_binaries, is_large_binaries, integers_where, dates_where, timestamps_where, fixed_binaries_where, lists_where, large_lists_where, fixed_lists_where, structs_where, alike, alike_kind, alike_all}
 use Rattle.arrow_schema.specs.laws.Columns.{columns_listed, pair_from_parts}
 
 index_from_parts : (a b : Index) → a.bits ≡ b.bits → a.signed ≡ b.signed → a ≡ b
@@ -63,33 +64,33 @@ mutual
 
   pub alike_kind_decides : (detail : Detail) (a b : Kind) → Decides (alike_kind detail a b) (seen_kind detail a ≡ seen_kind detail b)
   alike_kind_decides detail nulls nulls = (λ h. refl, λ e. refl)
-  alike_kind_decides detail nulls _ = (λ h. absurd (false≢true h), λ e. absurd (cc))
+  alike_kind_decides detail nulls _ = (λ h. absurd (false≢true h), λ e. absurd (false≢true (sym (ap is_nulls e))))
   alike_kind_decides detail booleans booleans = (λ h. refl, λ e. refl)
-  alike_kind_decides detail booleans _ = (λ h. absurd (false≢true h), λ e. absurd (cc))
+  alike_kind_decides detail booleans _ = (λ h. absurd (false≢true h), λ e. absurd (false≢true (sym (ap is_booleans e))))
   alike_kind_decides detail texts texts = (λ h. refl, λ e. refl)
-  alike_kind_decides detail texts _ = (λ h. absurd (false≢true h), λ e. absurd (cc))
+  alike_kind_decides detail texts _ = (λ h. absurd (false≢true h), λ e. absurd (false≢true (sym (ap is_texts e))))
   alike_kind_decides detail large_texts large_texts = (λ h. refl, λ e. refl)
-  alike_kind_decides detail large_texts _ = (λ h. absurd (false≢true h), λ e. absurd (cc))
+  alike_kind_decides detail large_texts _ = (λ h. absurd (false≢true h), λ e. absurd (false≢true (sym (ap is_large_texts e))))
   alike_kind_decides detail binaries binaries = (λ h. refl, λ e. refl)
-  alike_kind_decides detail binaries _ = (λ h. absurd (false≢true h), λ e. absurd (cc))
+  alike_kind_decides detail binaries _ = (λ h. absurd (false≢true h), λ e. absurd (false≢true (sym (ap is_binaries e))))
   alike_kind_decides detail large_binaries large_binaries = (λ h. refl, λ e. refl)
-  alike_kind_decides detail large_binaries _ = (λ h. absurd (false≢true h), λ e. absurd (cc))
+  alike_kind_decides detail large_binaries _ = (λ h. absurd (false≢true h), λ e. absurd (false≢true (sym (ap is_large_binaries e))))
   alike_kind_decides detail (integers bits signed) (integers b s) = Decides-like _ (λ h. cc) (λ e. (cc, cc)) (Decides-and _ _ (Decides-eqb bits b) (booleans_Decides signed s))
-  alike_kind_decides detail (integers bits signed) _ = (λ h. absurd (false≢true h), λ e. absurd (cc))
+  alike_kind_decides detail (integers bits signed) _ = (λ h. absurd (false≢true h), λ e. absurd (false≢true (sym (ap (integers_where (λ _ _. true)) e))))
   alike_kind_decides detail (dates unit) (dates u) = Decides-like _ (λ h. cc) (λ e. cc) (date_decides unit u)
-  alike_kind_decides detail (dates unit) _ = (λ h. absurd (false≢true h), λ e. absurd (cc))
+  alike_kind_decides detail (dates unit) _ = (λ h. absurd (false≢true h), λ e. absurd (false≢true (sym (ap (dates_where (λ _. true)) e))))
   alike_kind_decides detail (timestamps unit timezone) (timestamps u z) = Decides-like _ (λ h. cc) (λ e. (cc, cc)) (Decides-and _ _ (time_decides unit u) (bytes_eq-Decides timezone z))
-  alike_kind_decides detail (timestamps unit timezone) _ = (λ h. absurd (false≢true h), λ e. absurd (cc))
+  alike_kind_decides detail (timestamps unit timezone) _ = (λ h. absurd (false≢true h), λ e. absurd (false≢true (sym (ap (timestamps_where (λ _ _. true)) e))))
   alike_kind_decides detail (fixed_binaries width) (fixed_binaries w) = Decides-like _ (λ h. cc) (λ e. cc) (Decides-eqb width w)
-  alike_kind_decides detail (fixed_binaries width) _ = (λ h. absurd (false≢true h), λ e. absurd (cc))
+  alike_kind_decides detail (fixed_binaries width) _ = (λ h. absurd (false≢true h), λ e. absurd (false≢true (sym (ap (fixed_binaries_where (λ _. true)) e))))
   alike_kind_decides detail (lists x) (lists y) = Decides-like _ (λ h. cc) (λ e. cc) (alike_decides detail x y)
-  alike_kind_decides detail (lists x) _ = (λ h. absurd (false≢true h), λ e. absurd (cc))
+  alike_kind_decides detail (lists x) _ = (λ h. absurd (false≢true h), λ e. absurd (false≢true (sym (ap (lists_where (λ _. true)) e))))
   alike_kind_decides detail (large_lists x) (large_lists y) = Decides-like _ (λ h. cc) (λ e. cc) (alike_decides detail x y)
-  alike_kind_decides detail (large_lists x) _ = (λ h. absurd (false≢true h), λ e. absurd (cc))
+  alike_kind_decides detail (large_lists x) _ = (λ h. absurd (false≢true h), λ e. absurd (false≢true (sym (ap (large_lists_where (λ _. true)) e))))
   alike_kind_decides detail (fixed_lists size x) (fixed_lists n y) = Decides-like _ (λ h. cc) (λ e. (cc, cc)) (Decides-and _ _ (Decides-eqb size n) (alike_decides detail x y))
-  alike_kind_decides detail (fixed_lists size x) _ = (λ h. absurd (false≢true h), λ e. absurd (cc))
+  alike_kind_decides detail (fixed_lists size x) _ = (λ h. absurd (false≢true h), λ e. absurd (false≢true (sym (ap (fixed_lists_where (λ _ _. true)) e))))
   alike_kind_decides detail (structs xs) (structs ys) = Decides-like _ (λ h. cc) (λ e. cc) (alike_all_decides detail xs ys)
-  alike_kind_decides detail (structs xs) _ = (λ h. absurd (false≢true h), λ e. absurd (cc))
+  alike_kind_decides detail (structs xs) _ = (λ h. absurd (false≢true h), λ e. absurd (false≢true (sym (ap (structs_where (λ _. true)) e))))
 
   pub alike_all_decides : (detail : Detail) (xs ys : Columns) → Decides (alike_all detail xs ys) (seen_all detail xs ≡ seen_all detail ys)
   alike_all_decides detail no_column no_column = (λ h. refl, λ e. refl)

@@ -14,10 +14,11 @@ use std::alloc::{AllocError, Global};
 use std::fmt::Write;
 
 // The JSON text of a text.
-fn json_text(alloc: Global, text: &str) -> Result<String, AllocError>
-    ensures { IfOk result (λ json. string_bytes json ≡ quoted text.now) }
+fn push_json(alloc: Global, text: &mut String, part: &str) -> Result<(), AllocError>
+    ensures { OnOk result (string_bytes text.new ≡ string_bytes text.old ++ quoted part.now) }
 {
-    Value::try_from_str(alloc, text)?.to_string(alloc)
+    let json = Value::try_from_str(alloc, part)?.to_string(alloc)?;
+    text.push_str(json.as_str())
 }
 
 /// The form that `schema` prints: names, items' names and timezones are JSON texts. Pairs are not printed.
@@ -61,12 +62,12 @@ fn push_dictionary(text: &mut String, dictionary: DictSpec) -> Result<(), AllocE
 fn push_timezone(alloc: Global, text: &mut String, timezone: &str) -> Result<(), AllocError>
     ensures { OnOk result (string_bytes text.new ≡ string_bytes text.old ++ timezone_text printed timezone.now) }
 {
-    if !timezone.is_empty() {
-        text.push_str("(")?;
-        text.push_str(json_text(alloc, timezone)?.as_str())?;
-        text.push_str(")")?;
+    if timezone.is_empty() {
+        return Ok(());
     }
-    Ok(())
+    text.push_str("(")?;
+    push_json(alloc, text, timezone)?;
+    text.push_str(")")
 }
 
 // A name, an item's too, and its type.
@@ -75,11 +76,11 @@ fn push_timezone(alloc: Global, text: &mut String, timezone: &str) -> Result<(),
 fn push_field(alloc: Global, text: &mut String, field: &Field) -> Result<(), AllocError>
     ensures { OnOk result (string_bytes text.new ≡ string_bytes text.old ++ field_text printed (column_of field.now)) }
 {
-    text.push_str(json_text(alloc, field.name.as_str())?.as_str())?;
+    push_json(alloc, text, field.name.as_str())?;
     text.push_str(":")?;
     push_with_dictionary(alloc, text, field)?;
     if field.nullable {
-        text.push_str("?")?;
+        return text.push_str("?");
     }
     Ok(())
 }

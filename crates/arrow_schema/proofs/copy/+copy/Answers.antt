@@ -2,7 +2,7 @@ use Rattle.std.proofs.Common.{◌≡◌, ◌∙◌, ◌++◌, ℕ, Bool, Option,
 use Rattle.std.proofs.lemmas.List.{map_push}
 use Rattle.facts.specs.laws.Lists.{take-item}
 use Rattle.arrow_schema.specs.Column.{Column, Kind, Index, Pair, column}
-use Rattle.arrow_schema.specs.View.{column_of, kind_step, column_step}
+use Rattle.arrow_schema.specs.View.{kind_of, column_of, kind_step, column_step}
 use Rattle.arrow_schema.specs.declared.types.DataType.TheFolds.{fold_out-Field, fold-roll-Field}
 use Rattle.arrow_schema.proofs.copy.+copy.Goals as goal
 
@@ -29,3 +29,30 @@ same_column a b c = cc
 pub copy_field-returns : goal.copy_field-returns
 copy_field-returns t c =
     fold-roll-Field Kind Column kind_step column_step _ ∙ same_column (search rules) c.in_ok-copy_type.ensures (search rules) ∙ sym (fold_out-Field Kind Column kind_step column_step c.args.field.now)
+
+pub copy_type-returns-in-Null : goal.copy_type-returns-in-Null
+copy_type-returns-in-Null t c = ap kind_of (sym c.in-Null.is)
+
+pub copy_type-returns-in-Bool : goal.copy_type-returns-in-Bool
+copy_type-returns-in-Bool t c = ap kind_of (sym c.in-Bool.is)
+
+pub copy_type-returns-in-Int : goal.copy_type-returns-in-Int
+copy_type-returns-in-Int t c = ap kind_of (sym c.in-Int.is)
+
+pub copy_type-returns-in-Date : goal.copy_type-returns-in-Date
+copy_type-returns-in-Date t c = ap kind_of (sym c.in-Date.is)
+
+pub copy_type-returns-in-Utf8 : goal.copy_type-returns-in-Utf8
+copy_type-returns-in-Utf8 t c = ap kind_of (sym c.in-Utf8.is)
+
+pub copy_type-returns-in-LargeUtf8 : goal.copy_type-returns-in-LargeUtf8
+copy_type-returns-in-LargeUtf8 t c = ap kind_of (sym c.in-LargeUtf8.is)
+
+pub copy_type-returns-in-Binary : goal.copy_type-returns-in-Binary
+copy_type-returns-in-Binary t c = ap kind_of (sym c.in-Binary.is)
+
+pub copy_type-returns-in-LargeBinary : goal.copy_type-returns-in-LargeBinary
+copy_type-returns-in-LargeBinary t c = ap kind_of (sym c.in-LargeBinary.is)
+
+pub copy_type-returns-in-FixedSizeBinary : goal.copy_type-returns-in-FixedSizeBinary
+copy_type-returns-in-FixedSizeBinary t c = ap kind_of (sym c.in-FixedSizeBinary.is)
