@@ -17,6 +17,11 @@ append_none xs = append-nil xs
 pub held_append : (hs ks : List Holding) → map held_of (hs ++ ks) ≡ map held_of hs ++ map held_of ks
 held_append hs ks = map-append held_of hs ks
 
+-- what is held of some columns, and then of others
+pub held_more : (old new : List LimitedCells) (own rest : List Holding) → new ≡ old ++ map held_of own → new ++ map held_of rest ≡ old ++ map held_of (own ++ rest)
+held_more old new own rest more =
+    ap (λ (x : List LimitedCells). x ++ map held_of rest) more ∙ append_assoc old (map held_of own) (map held_of rest) ∙ ap (λ (x : List LimitedCells). old ++ x) (sym (held_append own rest))
+
 -- the dictionary columns of some rows, of rows behind them, and of all of these
 abbrev pub AreJoined : List Holding → List Holding → List Holding → Type 0
 AreJoined [] [] [] = Unit {0}

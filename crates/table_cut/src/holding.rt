@@ -13,7 +13,7 @@ use std::alloc::{AllocError, Global};
 use values::{ValueRef, Values, items};
 
 /// A dictionary column in a row: how many entries its indices can name, and its cells.
-#[derive(Debug, Drop)]
+#[derive(Drop)]
 pub(crate) struct Held<'a> {
     pub(crate) limit: Option<usize>,
     pub(crate) cells: Vec<ValueRef<'a>>,

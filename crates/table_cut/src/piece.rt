@@ -38,8 +38,9 @@ pub fn next_piece<'a>(
     let limited = has_limits(schema);
     let rows = table.len();
     let first = row_at(table, from);
+    // room for as many rows as a piece may have, and no more than are left
     let mut piece = Vec::with_capacity(alloc, MAX_PIECE_ROWS.min(rows - from))?;
-    piece.push(first)?;
+    piece.push(first).unwrap();
     let mut weight = row_weight(schema, first);
     let mut entries = first_entries(alloc, schema, first, limited)?;
     for place in from + 1..rows {
@@ -51,7 +52,7 @@ pub fn next_piece<'a>(
         if !takes_row(alloc, schema, &mut entries, row, limited)? {
             return Ok(piece);
         }
-        piece.push(row)?;
+        piece.push(row).unwrap();
     }
     Ok(piece)
 }

@@ -1,6 +1,7 @@
-use Rattle.std.specs.Prelude.{sum_by, true, false}
-use Rattle.std.proofs.Common.{◌≡◌, ◌≤◌, ◌+◌, ◌∷◌, ◌++◌, [], List, ℕ, map, length, take, drop, subst, sym, ap, ◌∙◌, refl, arith, length-append}
-use Rattle.std.proofs.lemmas.List.{map-append, length-map}
+use Rattle.std.specs.Prelude.{sum_by, Bool, true, false}
+use Rattle.std.proofs.Common.{◌≡◌, ◌≤◌, ◌<◌, ◌+◌, ◌∷◌, ◌++◌, [], List, ℕ, map, length, take, drop, subst, sym, ap, ◌∙◌, refl, is_ok, arith, length-append}
+use Rattle.std.proofs.lemmas.Bool.{cond-true}
+use Rattle.std.proofs.lemmas.List.{map-append, length-map, drop_all}
 use Rattle.arrow_schema.specs.Column.{PlainSchema}
 use Rattle.cells.specs.Cell.{Cell}
 use Rattle.cells.specs.Weight.{row_weight, capped_weight}
@@ -17,19 +18,33 @@ use Rattle.values.specs.declared.borrowed.Values.{Values}
 use Rattle.table_cut.proofs.piece.next_piece.Goals.{then-len-ge-MAX_PIECE_ROWS-via-then-len-ge-MAX_PIECE_ROWS, then-len-ge-MAX_PIECE_ROWS-via-else-len-ge-MAX_PIECE_ROWS+then-weight-gt-MAX_PIECE_WEIGHT}
 use Rattle.table_cut.proofs.piece.next_piece.Goals as goal
 
+pub unwrap-requires : goal.unwrap-requires
+unwrap-requires c =
+    c.push.ensures.succeeds (omega (arith, c.in_ok-piece.ensures.len, c.in_ok-piece.ensures.capacity, c.min.ensures, c.len-rows.ensures, c.requires.left))
+
+pub unwrap-requires-in-loop-place : goal.unwrap-requires-in-loop-place
+unwrap-requires-in-loop-place c =
+    let is = c.loop-place.invariant in
+    let taken : ℕ = length c.loop-place.piece.items in
+    let few : taken < 4096 = omega (arith, c.loop-place.piece.ok.0, c.len.ensures, c.if-len-ge-MAX_PIECE_ROWS.false) in
+    let there : c.args.from + taken < length (table_of c.args.table.now).rows = omega (arith, is.place, c.loop-place-test.true, c.len-rows.ensures) in
+    c.push-in-loop-place.ensures.succeeds (omega (arith, is.room taken few there, c.loop-place.piece.ok.0))
+
 pub loop-place-init : goal.loop-place-init
 loop-place-init c =
     let s : PlainSchema = schema_of c.args.schema.now in
     let rows : List (List Cell) = (table_of c.args.table.now).rows in
     let from : ℕ = c.args.from in
     let first : List Cell = borrowed_cells c.row_at-first.result in
-    let pushed : c.push.new.self.items ≡ c.row_at-first.result ∷ [] = c.in_ok-push.ensures.items ∙ ap (λ (x : List Values). x ++ c.row_at-first.result ∷ []) c.in_ok-piece.ensures.items in
+    let is_pushed : is_ok c.push.result ≡ true = ap is_ok c.unwrap.ensures in
+    let pushed : c.push.new.self.items ≡ c.row_at-first.result ∷ [] = c.push.ensures.items ∙ cond-true (is_ok c.push.result) _ _ is_pushed ∙ ap (λ (x : List Values). x ++ c.row_at-first.result ∷ []) c.in_ok-piece.ensures.items in
     let next : drop from rows ≡ first ∷ drop (from + 1) rows = row_before rows from first c.requires.left c.row_at-first.ensures in
     let weighed : c.row_weight-weight.result ≡ capped_weight (row_weight s first) = c.row_weight-weight.ensures in
     record {
       place = omega (arith, ap length pushed);
       some = omega (arith, ap length pushed);
       inside = omega (arith, c.requires.left);
+      room = λ n few there. omega (arith, few, there, c.in_ok-piece.ensures.capacity, c.push.ensures.capacity, c.min.ensures, c.len-rows.ensures);
       cut = ap (λ (x : List Values). pieces_from (within_piece s) (map borrowed_cells x) (drop (from + 1) rows)) pushed ∙ first_row (within_piece s) (drop from rows) (drop (from + 1) rows) first next;
       taken = rw (pushed, next) refl;
       seen = subst (λ (x : List Values). AreSeen s (map borrowed_cells x) (map entries_in c.in_ok-entries.entries.items)) (sym pushed)
@@ -87,7 +102,8 @@ loop-place-preserved c =
     let count : length front ≡ length old = length-map old borrowed_cells in
     let next : drop place rows ≡ row ∷ drop (place + 1) rows = row_before rows place row (omega (arith, c.loop-place-test.true)) c.row_at-row.ensures in
     let weighed : c.row_weight.result ≡ capped_weight (row_weight s row) = c.row_weight.ensures in
-    let pushed : new ≡ old ++ c.row_at-row.result ∷ [] = c.in_ok-push-2.ensures.items in
+    let is_pushed : is_ok c.push-in-loop-place.result ≡ true = ap is_ok c.unwrap-in-loop-place.ensures in
+    let pushed : new ≡ old ++ c.row_at-row.result ∷ [] = c.push-in-loop-place.ensures.items ∙ cond-true (is_ok c.push-in-loop-place.result) _ _ is_pushed in
     let mapped : map borrowed_cells new ≡ front ++ row ∷ [] = ap (map borrowed_cells) pushed ∙ map-append borrowed_cells old (c.row_at-row.result ∷ []) in
     let longer : length new ≡ length old + 1 = ap length pushed ∙ length-append old (c.row_at-row.result ∷ []) in
     let few : length front + 1 ≤ 4096 = omega (arith, count, c.if-len-ge-MAX_PIECE_ROWS.false) in
@@ -112,6 +128,7 @@ loop-place-preserved c =
       place = omega (arith, longer, is.place);
       some = omega (arith, longer);
       inside = omega (arith, c.loop-place-test.true);
+      room = λ n few there. omega (arith, is.room n few there, c.push-in-loop-place.ensures.capacity);
       cut = ap (λ (x : List (List Cell)). pieces_from (within_piece s) x (drop (place + 1) rows)) mapped
           ∙ sym (one_more (within_piece s) front (drop place rows) (drop (place + 1) rows) row next fits) ∙ is.cut;
       taken = mapped ∙ ap (λ (x : List (List Cell)). x ++ row ∷ []) is.taken
@@ -120,3 +137,47 @@ loop-place-preserved c =
       seen = seen;
       weight = omega (arith, sums, is.weight, weighed, c.add_weights-weight.ensures);
     }
+
+pub takes_row-requires-clause-seen : goal.takes_row-requires-clause-seen
+takes_row-requires-clause-seen c =
+    let s : PlainSchema = schema_of c.args.schema.now in
+    let front : List (List Cell) = map borrowed_cells c.loop-place.piece.items in
+    (front, subst (λ x. AreSeen s front (map entries_in x)) (sym c.deref_mut.ensures.value) c.loop-place.invariant.seen)
+
+pub returns-clause-piece : goal.returns-clause-piece
+returns-clause-piece c =
+    let within : List (List Cell) → Bool = within_piece (schema_of c.args.schema.now) in
+    let rows : List (List Cell) = (table_of c.args.table.now).rows in
+    let is = c.loop-place.invariant in
+    let front : List (List Cell) = map borrowed_cells c.loop-place.piece.items in
+    let none : drop c.loop-place.place rows ≡ [] = drop_all c.loop-place.place rows (omega (arith, c.loop-place-test.false, c.len-rows.ensures)) in
+    sym is.cut
+    ∙ ap (pieces_from within front) none
+    ∙ ap (λ (x : List (List Cell)). front ∷ pieces within x) (sym (ap (λ (p : ℕ). drop p rows) is.place ∙ none))
+
+pub returns-clause-some : goal.returns-clause-some
+returns-clause-some c = c.loop-place.invariant.some
+
+pub returns-clause-within : goal.returns-clause-within
+returns-clause-within c = omega (arith, c.loop-place.invariant.place, c.loop-place.invariant.inside)
+
+pub returns-clause-rows : goal.returns-clause-rows
+returns-clause-rows c = c.loop-place.invariant.taken
+
+pub returns-then-len-ge-MAX_PIECE_ROWS-clause-some : goal.returns-then-len-ge-MAX_PIECE_ROWS-clause-some
+returns-then-len-ge-MAX_PIECE_ROWS-clause-some c = c.loop-place.invariant.some
+
+pub returns-then-len-ge-MAX_PIECE_ROWS-clause-within : goal.returns-then-len-ge-MAX_PIECE_ROWS-clause-within
+returns-then-len-ge-MAX_PIECE_ROWS-clause-within c = omega (arith, c.loop-place.invariant.place, c.loop-place.invariant.inside)
+
+pub returns-then-len-ge-MAX_PIECE_ROWS-clause-rows : goal.returns-then-len-ge-MAX_PIECE_ROWS-clause-rows
+returns-then-len-ge-MAX_PIECE_ROWS-clause-rows c = c.loop-place.invariant.taken
+
+pub returns-then-not-branch-clause-some : goal.returns-then-not-branch-clause-some
+returns-then-not-branch-clause-some c = c.loop-place.invariant.some
+
+pub returns-then-not-branch-clause-within : goal.returns-then-not-branch-clause-within
+returns-then-not-branch-clause-within c = omega (arith, c.loop-place.invariant.place, c.loop-place.invariant.inside)
+
+pub returns-then-not-branch-clause-rows : goal.returns-then-not-branch-clause-rows
+returns-then-not-branch-clause-rows c = c.loop-place.invariant.taken

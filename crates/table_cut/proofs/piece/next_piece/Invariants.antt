@@ -1,5 +1,5 @@
 use Rattle.std.specs.Prelude.{sum_by}
-use Rattle.std.proofs.Common.{◌≡◌, ◌+◌, ◌≤◌, map, length, take, drop}
+use Rattle.std.proofs.Common.{◌≡◌, ◌+◌, ◌≤◌, ◌<◌, ℕ, map, length, take, drop, vec_capacity}
 use Rattle.arrow_schema.specs.View.{schema_of}
 use Rattle.cells.specs.Weight.{row_weight, capped_weight}
 use Rattle.table_cut.specs.Cut.{pieces, pieces_from}
@@ -18,6 +18,7 @@ invariant-loop-place l =
       place : l.from + length l.piece.items ≡ l.place;
       some : 1 ≤ length l.piece.items;
       inside : l.place ≤ length rows;
+      room : (n : ℕ) → n < 4096 → l.from + n < length rows → n < vec_capacity l.piece;
       cut : pieces_from (within_piece s) front (drop l.place rows) ≡ pieces (within_piece s) (drop l.from rows);
       taken : front ≡ take (length l.piece.items) (drop l.from rows);
       seen : AreSeen s front (map entries_in l.entries.items);

@@ -4,7 +4,7 @@ use Rattle.arrow_schema.specs.declared.types.Field.{the_lemmas as field_lemmas}
 use Rattle.arrow_schema.specs.Column.{Kind, Columns, columns_of, texts, large_texts, binaries, large_binaries, lists, large_lists, fixed_lists, structs}
 use Rattle.arrow_schema.specs.View.{kind_of, column_of}
 use Rattle.arrow_schema.specs.declared.types.Field.{Field}
-use Rattle.cells.specs.Cell.{Cell, null, cells_of}
+use Rattle.cells.specs.Cell.{Cell, null, no_cell, cells_of}
 use Rattle.cells.specs.Weight.{weight, kind_weight, parts_weight, sum_of, items_in, fixed_sum, parts_in, capped_weight}
 use Rattle.values.specs.Borrowed.{borrowed_cell, borrowed_cells}
 use Rattle.table_cut.proofs.WeightLemmas.{next_part}
@@ -26,6 +26,21 @@ parts_weight-loop-i-preserved t c =
     let same : capped_weight (c.add_weights-total.result + rest) ≡ capped_weight (c.loop-i.total + parts_weight (columns_of (map column_of (drop i fields))) (cells_of (drop i cells))) =
     omega (arith, next, weighed, c.add_weights-total.ensures) in
     (same ∙ c.loop-i.invariant.0, omega (arith, c.add_weights-total.ensures))
+
+pub nulls_weight-loop-field-preserved : goal.nulls_weight-loop-field-preserved
+unfolding parts_weight
+nulls_weight-loop-field-preserved t c =
+    let i : ℕ = c.loop-field.field-index in
+    let fields : List Field = c.args.fields.now in
+    let field : Field = c.field-item.result in
+    let first : ℕ = weight (column_of field) null in
+    let rest : ℕ = parts_weight (columns_of (map column_of (drop (i + 1) fields))) no_cell in
+    let next : parts_weight (columns_of (map column_of (drop i fields))) no_cell ≡ first + rest =
+    ap (λ (fs : List Field). parts_weight (columns_of (map column_of fs)) no_cell) (drop-item fields i field c.loop-field-test.true c.field-item.is) in
+    let weighed : c.weight.result ≡ capped_weight first = c.weight.ensures in
+    let same : capped_weight (c.add_weights-total.result + rest) ≡ capped_weight (c.loop-field.total + parts_weight (columns_of (map column_of (drop i fields))) no_cell) =
+    omega (arith, next, weighed, c.add_weights-total.ensures) in
+    (same ∙ c.loop-field.invariant.0, omega (arith, c.add_weights-total.ensures))
 
 pub type_weight-returns-in-Utf8 : goal.type_weight-returns-in-Utf8
 unfolding kind_weight
