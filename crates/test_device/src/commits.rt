@@ -67,22 +67,20 @@ fn plan_one<'a>(alloc: Global, store: &mut Opened<Few>, byte: u8) -> Option<Plan
     };
     let run = places.runs.first().copied().unwrap_or(places.text);
     let Ok(text) = text_of(alloc, run) else {
-        store.map.give_each(&places.runs);
         return None;
     };
     Some(plan_next(store.commit, Few::One(run), places, text))
 }
 
-// Publishes a segment that this byte fills in place of the one before: whether that was acknowledged.
-fn replace(alloc: Global, device: &mut ModelDevice, store: &mut Opened<Few>, byte: u8) -> bool
-    requires { IsOn (size_of device.old) store.old }
+// Publishes a plan: whether that was acknowledged. Then what it leaves out is free.
+fn is_published(device: &mut ModelDevice, store: &mut Opened<Few>, plan: &Plan<'_, Few>) -> bool
+    requires on { IsOn (size_of device.old) store.old }
+    requires plan { IsPlan store.old.map.size store.old.commit plan.now.commit (plain_pieces plan.now.pieces.items) }
+    requires sectors { plan.now.commit.device_sectors ≡ store.old.map.size }
     ensures size { size_of device.new ≡ size_of device.old }
     ensures on { IsOn (size_of device.new) store.new }
 {
-    let Some(plan) = plan_one(alloc, store, byte) else {
-        return false;
-    };
-    if publish(device, store, &plan).is_err() {
+    if publish(device, store, plan).is_err() {
         return false;
     }
     store.map.give(store.commit.catalogue.run);
@@ -94,23 +92,44 @@ fn replace(alloc: Global, device: &mut ModelDevice, store: &mut Opened<Few>, byt
     true
 }
 
+// Publishes a segment that this byte fills in place of the one before: whether that was acknowledged.
+fn replace(alloc: Global, device: &mut ModelDevice, store: &mut Opened<Few>, byte: u8) -> bool
+    requires { IsOn (size_of device.old) store.old }
+    ensures size { size_of device.new ≡ size_of device.old }
+    ensures on { IsOn (size_of device.new) store.new }
+{
+    match plan_one(alloc, store, byte) {
+        Some(plan) => is_published(device, store, &plan),
+        None => false,
+    }
+}
+
+// Publishes three segments: which of these calls is the first that is not acknowledged, or 4.
+fn publish_three(alloc: Global, device: &mut ModelDevice, store: &mut Opened<Few>) -> u64
+    requires { IsOn (size_of device.old) store.old }
+    ensures { size_of device.new ≡ size_of device.old }
+{
+    if !replace(alloc, device, store, 1) {
+        return 1;
+    }
+    if !replace(alloc, device, store, 2) {
+        return 2;
+    }
+    if replace(alloc, device, store, 3) {
+        4
+    } else {
+        3
+    }
+}
+
 // Formats the device and publishes three segments: how many of these calls were acknowledged.
 pub(crate) fn run_script(alloc: Global, device: &mut ModelDevice) -> u64
     ensures { size_of device.new ≡ size_of device.old }
 {
-    let Some(mut store) = formatted(alloc, device) else {
-        return 0;
-    };
-    if !replace(alloc, device, &mut store, 1) {
-        return 1;
+    match formatted(alloc, device) {
+        Some(mut store) => publish_three(alloc, device, &mut store),
+        None => 0,
     }
-    if !replace(alloc, device, &mut store, 2) {
-        return 2;
-    }
-    if !replace(alloc, device, &mut store, 3) {
-        return 3;
-    }
-    4
 }
 
 // The first sectors of text and segment, by the epoch.
@@ -178,40 +197,54 @@ fn epoch_left(alloc: Global, device: &mut ModelDevice, acknowledged: u64) -> Opt
     if well { Some(epoch) } else { None }
 }
 
-// Publishes one more segment to the store of this epoch, where there is one, and opens that. Where there is none, one can be made.
-fn publishes_more(alloc: Global, device: &mut ModelDevice, epoch: u64) -> bool {
-    let Ok(mut store) = recover::<Few, ModelDevice>(alloc, device) else {
-        return epoch == 0 && formatted(alloc, device).is_some();
-    };
+// Publishes one more segment to a store of this epoch, and opens that.
+fn publishes_next(
+    alloc: Global,
+    device: &mut ModelDevice,
+    store: &mut Opened<Few>,
+    epoch: u64,
+) -> bool
+    requires { IsOn (size_of device.old) store.old }
+{
     let byte = u8::try_from(epoch).unwrap_or(0);
     let next = epoch.wrapping_add(1);
-    replace(alloc, device, &mut store, byte) && epoch_left(alloc, device, next) == Some(next)
+    replace(alloc, device, store, byte) && epoch_left(alloc, device, next) == Some(next)
 }
 
-// Opens what a choice leaves, and goes on.
-fn goes_on(
-    alloc: Global,
-    device: &ModelDevice,
-    choice: Choice,
-    acknowledged: u64,
-) -> Result<bool, AllocError> {
-    let mut left = device.crash(choice)?;
-    match epoch_left(alloc, &mut left, acknowledged) {
-        Some(epoch) => Ok(publishes_more(alloc, &mut left, epoch)),
-        None => Ok(false),
+// Publishes one more segment to the store of this epoch, where there is one. Where there is none, one can be made.
+fn publishes_more(alloc: Global, device: &mut ModelDevice, epoch: u64) -> bool {
+    match recover::<Few, ModelDevice>(alloc, device) {
+        Ok(mut store) => publishes_next(alloc, device, &mut store, epoch),
+        Err(_) => epoch == 0 && formatted(alloc, device).is_some(),
+    }
+}
+
+// Opens what is left, and goes on.
+fn goes_on_from(alloc: Global, left: &mut ModelDevice, acknowledged: u64) -> bool {
+    match epoch_left(alloc, left, acknowledged) {
+        Some(epoch) => publishes_more(alloc, left, epoch),
+        None => false,
+    }
+}
+
+// Goes on from what a choice leaves. It does not where memory is refused.
+fn goes_on(alloc: Global, device: &ModelDevice, choice: Choice, acknowledged: u64) -> bool {
+    match device.crash(choice) {
+        Ok(mut left) => goes_on_from(alloc, &mut left, acknowledged),
+        Err(_) => false,
     }
 }
 
 // Each choice, and each pattern of the three sectors that are not yet synced at the most.
-fn all_go_on(alloc: Global, device: &ModelDevice, acknowledged: u64) -> Result<bool, AllocError> {
-    let mut well = goes_on(alloc, device, Choice::Old, acknowledged)?
-        && goes_on(alloc, device, Choice::New, acknowledged)?;
+fn all_go_on(alloc: Global, device: &ModelDevice, acknowledged: u64) -> bool {
+    let mut well = goes_on(alloc, device, Choice::Old, acknowledged)
+        && goes_on(alloc, device, Choice::New, acknowledged);
     for bits in 0..8 {
         well = well
-            && goes_on(alloc, device, Choice::Bits(bits), acknowledged)?
-            && goes_on(alloc, device, Choice::Lost(bits), acknowledged)?;
+            && goes_on(alloc, device, Choice::Bits(bits), acknowledged)
+            && goes_on(alloc, device, Choice::Lost(bits), acknowledged);
     }
-    Ok(well)
+    well
 }
 
 // Which call of the script fails.
@@ -241,42 +274,61 @@ fn acknowledged_with(fault: Fault) -> u64 {
 }
 
 // Runs the script with this fault. After a stop, and after a failed call, what a crash leaves goes on.
-fn survives(alloc: Global, fault: Fault) -> Result<bool, AllocError> {
-    let mut device = ModelDevice::new(alloc, 16)?;
-    set_fault(&mut device, fault);
-    let acknowledged = run_script(alloc, &mut device);
-    Ok(acknowledged == acknowledged_with(fault) && all_go_on(alloc, &device, acknowledged)?)
+fn survives_on(alloc: Global, device: &mut ModelDevice, fault: Fault) -> bool {
+    set_fault(device, fault);
+    let acknowledged = run_script(alloc, device);
+    acknowledged == acknowledged_with(fault) && all_go_on(alloc, device, acknowledged)
+}
+
+fn survives(alloc: Global, fault: Fault) -> bool {
+    match ModelDevice::new(alloc, 16) {
+        Ok(mut device) => survives_on(alloc, &mut device, fault),
+        Err(_) => false,
+    }
+}
+
+// Whether a crash that leaves the old content leaves a store of this epoch.
+fn is_safe(alloc: Global, device: &ModelDevice, epoch: u64) -> bool {
+    match device.crash(Choice::Old) {
+        Ok(mut left) => epoch_left(alloc, &mut left, epoch) == Some(epoch),
+        Err(_) => false,
+    }
+}
+
+fn stays_on(alloc: Global, device: &mut ModelDevice, k: u64) -> bool {
+    device.fail_at(k);
+    let acknowledged = run_script(alloc, device);
+    match epoch_left(alloc, device, acknowledged) {
+        Some(shown) => is_safe(alloc, device, shown),
+        None => false,
+    }
 }
 
 // What an opening has shown after a failed call stays.
-fn stays(alloc: Global, k: u64) -> Result<bool, AllocError> {
-    let mut device = ModelDevice::new(alloc, 16)?;
-    device.fail_at(k);
-    let acknowledged = run_script(alloc, &mut device);
-    let Some(shown) = epoch_left(alloc, &mut device, acknowledged) else {
-        return Ok(false);
-    };
-    let mut left = device.crash(Choice::Old)?;
-    Ok(epoch_left(alloc, &mut left, shown) == Some(shown))
+fn stays(alloc: Global, k: u64) -> bool {
+    match ModelDevice::new(alloc, 16) {
+        Ok(mut device) => stays_on(alloc, &mut device, k),
+        Err(_) => false,
+    }
 }
 
 // The first call after whose failure something is wrong. The last one syncs the third segment. Reads past the second do not fail.
-fn wrong_call(alloc: Global) -> Result<Option<u64>, AllocError> {
+fn wrong_call(alloc: Global) -> Option<u64> {
     for k in 1..=24 {
-        let well = survives(alloc, Fault::Fail(k))?
-            && survives(alloc, Fault::Stop(k))?
-            && survives(alloc, Fault::FailRead(k))?
-            && stays(alloc, k)?;
+        let well = survives(alloc, Fault::Fail(k))
+            && survives(alloc, Fault::Stop(k))
+            && survives(alloc, Fault::FailRead(k))
+            && stays(alloc, k);
         if !well {
-            return Ok(Some(k));
+            return Some(k);
         }
     }
-    Ok(None)
+    None
 }
 
 #[test]
 fn each_call_fails_or_stops(rt: HostRuntime) {
-    assert!(&rt; wrong_call(rt.alloc()) == Ok(None));
+    assert!(&rt; wrong_call(rt.alloc()).is_none());
 }
 
 // Opens a device, at the second try where memory is refused once: its epoch, 0 where no store is opened.
@@ -289,16 +341,23 @@ fn epoch_at_second_try(alloc: Global, device: &mut ModelDevice) -> u64 {
     0
 }
 
-fn is_made_and_opened(alloc: Global) -> Result<bool, AllocError> {
-    let mut device = ModelDevice::new(alloc, 16)?;
-    let acknowledged = run_script(alloc, &mut device);
-    let epoch = epoch_at_second_try(alloc, &mut device);
+fn is_opened(alloc: Global, device: &mut ModelDevice) -> bool {
+    let acknowledged = run_script(alloc, device);
+    let epoch = epoch_at_second_try(alloc, device);
     let well = epoch == acknowledged || epoch == acknowledged.wrapping_add(1);
-    Ok(well && device.failures() <= 1)
+    well && device.failures() <= 1
+}
+
+// Nothing can be said where there is no memory for the device itself.
+fn is_made_and_opened(alloc: Global) -> bool {
+    match ModelDevice::new(alloc, 16) {
+        Ok(mut device) => is_opened(alloc, &mut device),
+        Err(_) => true,
+    }
 }
 
 // One allocation at the most is refused, by tests/refused_memory_in_crates: that of the device itself, or another.
 #[test]
 fn a_store_is_made_and_opened_also_without_memory(rt: HostRuntime) {
-    assert!(&rt; is_made_and_opened(rt.alloc()) != Ok(false));
+    assert!(&rt; is_made_and_opened(rt.alloc()));
 }

@@ -139,8 +139,12 @@ fn survives(alloc: Global, is_synced: bool) -> bool {
     }
 }
 
+fn both_survive(alloc: Global) -> bool {
+    survives(alloc, false) && survives(alloc, true)
+}
+
 // A long row goes to the file from where it stands: a write that fails there loses nothing that was acknowledged, and leaves nothing that was read ahead.
 #[test]
 fn a_long_row_that_fails_is_read_the_same_each_time(rt: HostRuntime) {
-    assert!(&rt; survives(rt.alloc(), false) && survives(rt.alloc(), true));
+    assert!(&rt; both_survive(rt.alloc()));
 }

@@ -22,10 +22,9 @@ enum Step {
 use EnterError::{Overlap, Range};
 use Step::{Find, Format, Give, GiveBoth, Occupy, Pin, Take, Unpin, Used};
 
-fn formatted(alloc: Global) -> Result<FreeMap, EnterError> {
-    let mut map = FreeMap::new(alloc, 16);
-    map.occupy(Run { start: 2, count: 1 })?;
-    Ok(map)
+fn is_formatted(alloc: Global, map: &mut FreeMap) -> bool {
+    *map = FreeMap::new(alloc, 16);
+    map.occupy(Run { start: 2, count: 1 }).is_ok()
 }
 
 fn run_of(run: Option<(u64, u64)>) -> Option<Run> {
@@ -34,9 +33,9 @@ fn run_of(run: Option<(u64, u64)>) -> Option<Run> {
 }
 
 // Makes the call: whether it answers as it is to.
-fn answers(map: &mut FreeMap, step: Step) -> bool {
+fn answers(alloc: Global, map: &mut FreeMap, step: Step) -> bool {
     match step {
-        Format => true,
+        Format => is_formatted(alloc, map),
         Find(count, want) => map.find(count.max(1)) == run_of(want),
         Take(count, want) => {
             let count = count.max(1);
@@ -198,18 +197,14 @@ const RUNS_ARE_TAKEN_IN_FRONT_OF_OTHERS: [Step; 39] = [
     Find(1, None),
 ];
 
-// Plays some steps on a formatted device: the place of the first that goes wrong.
-fn wrong_step(alloc: Global, steps: &[Step]) -> Result<Option<usize>, EnterError> {
-    let mut map = formatted(alloc)?;
-    for (place, step) in steps.iter().enumerate() {
-        if let Format = step {
-            map = formatted(alloc)?;
-        }
-        if !answers(&mut map, *step) {
-            return Ok(Some(place));
-        }
+// Plays some steps on a formatted device.
+fn are_steps_answered(alloc: Global, steps: &[Step]) -> bool {
+    let mut map = FreeMap::new(alloc, 16);
+    let mut well = answers(alloc, &mut map, Format);
+    for step in steps {
+        well = well && answers(alloc, &mut map, *step);
     }
-    Ok(None)
+    well
 }
 
 const ROWS: &[&[Step]] = &[
@@ -224,15 +219,19 @@ const ROWS: &[&[Step]] = &[
 fn are_answered(alloc: Global) -> bool {
     let mut well = true;
     for steps in ROWS {
-        well = well && wrong_step(alloc, steps) == Ok(None);
+        well = well && are_steps_answered(alloc, steps);
     }
     well
 }
 
 // tests/refused_memory_in_crates refuses one allocation at the most: then one of two runs ends for want of memory.
+fn are_once_answered(alloc: Global) -> bool {
+    are_answered(alloc) || are_answered(alloc)
+}
+
 #[test]
 fn worked_rows_are_answered_also_without_memory(rt: HostRuntime) {
-    assert!(rt; are_answered(rt.alloc()) || are_answered(rt.alloc()));
+    assert!(rt; are_once_answered(rt.alloc()));
 }
 
 // A free run is looked for behind the last one, unless it may fit into a gap that was passed. Free are the sectors 3 to 4, 6 to 8 and 11 to 15.
@@ -254,14 +253,20 @@ fn takes_onward(map: &mut FreeMap) -> bool {
     behind_two && behind_three && from_the_front && last && full
 }
 
+const TAKEN: &[Step] = &[Occupy(2, 1, None), Occupy(5, 1, None), Occupy(9, 2, None)];
+
+fn are_taken_onward(alloc: Global) -> bool {
+    let mut map = FreeMap::new(alloc, 16);
+    let mut occupied = true;
+    for step in TAKEN {
+        occupied = occupied && answers(alloc, &mut map, *step);
+    }
+    occupied && takes_onward(&mut map)
+}
+
 #[test]
 fn runs_are_taken_onward(rt: HostRuntime) {
-    let mut map = FreeMap::new(rt.alloc(), 16);
-    let mut occupied = true;
-    for (start, count) in [(2, 1), (5, 1), (9, 2)] {
-        occupied = occupied && map.occupy(Run { start, count }).is_ok();
-    }
-    assert!(&rt; occupied && takes_onward(&mut map));
+    assert!(&rt; are_taken_onward(rt.alloc()));
 }
 
 // Each find goes over the runs once: if it went over them for each of them, this would take hours.
@@ -291,8 +296,12 @@ fn takes_among_65536(map: &mut FreeMap) -> bool {
     well
 }
 
+fn are_found_and_taken(alloc: Global) -> bool {
+    let mut map = FreeMap::new(alloc, 4_194_304);
+    finds_among_65536(&mut map) && takes_among_65536(&mut map)
+}
+
 #[test]
 fn runs_are_found_and_taken_among_65536(rt: HostRuntime) {
-    let mut map = FreeMap::new(rt.alloc(), 4_194_304);
-    assert!(&rt; finds_among_65536(&mut map) && takes_among_65536(&mut map));
+    assert!(&rt; are_found_and_taken(rt.alloc()));
 }

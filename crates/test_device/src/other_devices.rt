@@ -6,11 +6,10 @@ ghost use Rattle.sector_dev.specs.Disk.{blank};
 ghost use Rattle.sector_dev.specs.laws.Crash.{blank_shows, blank_whole};
 ghost use Rattle.test_device.specs.Life.{story_of, story_shows, story_begun, story_whole, SpeaksOfContents, speaks_prop};
 
-use crate::calls::{byte_of, fill, read, write_row};
+use crate::calls::{fill_sector, filling, read_sector, write_row};
 use crate::life::Life;
 use sector_dev::{DevError, ModelDevice, SectorDevice};
-use std::process::Abort;
-use std::test::Fail;
+use std::alloc::Global;
 
 // It tells nothing, and forgets what is written.
 #[derive(Drop)]
@@ -218,41 +217,57 @@ impl<D: SectorDevice + Drop> SectorDevice for Counting<D> {
 }
 
 // Writes, syncs and reads a sector.
-fn use_once<D: SectorDevice>(rt: &impl Abort, device: &mut D) -> [Result<(), DevError>; 3] {
-    let written = fill(rt, device, 3, 1);
+fn use_once<D: SectorDevice>(device: &mut D) -> [Result<(), DevError>; 3] {
+    let written = fill_sector(device, 3, 1);
     let synced = device.sync();
-    [written, synced, read(rt, device, 3, &mut [0; 512])]
+    [written, synced, read_sector(device, 3, &mut [0; 512])]
 }
 
 // Whether a fresh device that can be written once and read once answers as it is to.
-fn is_brief(rt: &impl Abort) -> bool {
+fn is_brief() -> bool {
     let mut brief = Brief {
         life: Life::Fresh,
         failed: 0,
     };
-    fill(rt, &mut brief, 5, 7).is_ok()
-        && byte_of(rt, &mut brief, 5) == Ok(7)
-        && use_once(rt, &mut brief) == [Err(DevError::Failed); 3]
+    fill_sector(&mut brief, 5, 7).is_ok()
+        && filling(&mut brief, 5) == Some(Ok(7))
+        && use_once(&mut brief) == [Err(DevError::Failed); 3]
         && brief.failures() == 3
 }
 
 // Whether a device near the greatest count stays there.
-fn is_broken(rt: &impl Abort) -> bool {
+fn is_broken() -> bool {
     let mut broken = Broken {
         failed: u64::MAX - 1,
     };
-    use_once(rt, &mut broken) == [Err(DevError::Failed); 3] && broken.failures() == u64::MAX
+    use_once(&mut broken) == [Err(DevError::Failed); 3] && broken.failures() == u64::MAX
+}
+
+fn is_silent() -> bool {
+    use_once(&mut Silent) == [Ok(()), Ok(()), Err(DevError::Unreadable)]
+}
+
+// Whether each call is counted and made, also those of a row.
+fn is_counted(counting: &mut Counting<ModelDevice>) -> bool {
+    use_once(counting) == [Ok(()); 3]
+        && counting.calls == 3
+        && write_row(counting, 4, &[[2; 512], [3; 512]]).is_ok()
+        && counting.calls == 5
+        && filling(counting, 5) == Some(Ok(3))
+}
+
+fn is_model_counted(alloc: Global) -> bool {
+    match ModelDevice::new(alloc, 16) {
+        Ok(device) => is_counted(&mut Counting { device, calls: 0 }),
+        Err(_) => false,
+    }
+}
+
+fn are_called(alloc: Global) -> bool {
+    is_silent() && is_broken() && is_brief() && is_model_counted(alloc)
 }
 
 #[test]
-fn each_kind_of_device_is_called(rt: HostRuntime) -> Result<(), Fail> {
-    let silent = use_once(&rt, &mut Silent) == [Ok(()), Ok(()), Err(DevError::Unreadable)];
-    assert!(&rt; silent && is_broken(&rt) && is_brief(&rt));
-    let device = ModelDevice::new(rt.alloc(), 16)?;
-    let mut counting = Counting { device, calls: 0 };
-    let counted = use_once(&rt, &mut counting) == [Ok(()); 3] && counting.calls == 3;
-    assert!(&rt; counted);
-    let rows = write_row(&mut counting, 4, &[[2; 512], [3; 512]]).is_ok() && counting.calls == 5;
-    assert!(&rt; rows && byte_of(&rt, &mut counting, 5) == Ok(3));
-    Ok(())
+fn each_kind_of_device_is_called(rt: HostRuntime) {
+    assert!(&rt; are_called(rt.alloc()));
 }
