@@ -11,10 +11,7 @@ use std::alloc::{AllocError, Global};
 pub fn push_all<'a>(cells: &mut Vec<ValueRef<'a>>, values: Values<'a>) -> Result<(), AllocError>
     ensures { OnOk result (map borrowed_cell cells.new.items ≡ map borrowed_cell cells.old.items ++ borrowed_cells values.entry) }
 {
-    for value in values.iter() {
-        cells.push(value)?;
-    }
-    Ok(())
+    cells.extend(values.iter())
 }
 
 // The items of a list: none of another value.
