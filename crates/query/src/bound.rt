@@ -19,7 +19,7 @@ use std::cmp::Ordering;
 use values::{ValueRef, Values};
 
 /// What is asked of a value.
-#[derive(Debug, Drop)]
+#[derive(Drop)]
 pub(crate) enum Demand {
     IsNull,
     IsValue,
@@ -27,7 +27,7 @@ pub(crate) enum Demand {
 }
 
 /// A condition whose column is known by its place, and whose literal by its value.
-#[derive(Debug, Drop)]
+#[derive(Drop)]
 pub(crate) struct Bound {
     pub(crate) place: usize,
     pub(crate) demand: Demand,

@@ -9,7 +9,7 @@ use columns::least_negative;
 use std::cmp::Ordering;
 
 /// What is answered of a number by its order to a key. The bias is added to each number first, and makes 0 of the least.
-#[derive(Clone, Copy, Debug)]
+#[derive(Clone, Copy)]
 pub(crate) struct Cut {
     pub(crate) bias: u64,
     pub(crate) key: u64,

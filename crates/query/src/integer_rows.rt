@@ -20,7 +20,7 @@ use std::alloc::{AllocError, Global};
 use values::{Batch, Part};
 
 /// A column of integers without a dictionary, by its place.
-#[derive(Clone, Copy, Debug)]
+#[derive(Clone, Copy)]
 pub(crate) struct IntegerColumn {
     place: usize,
     integer: IntegerType,

@@ -5,7 +5,7 @@ ghost use Rattle.bitmap.specs.Bits.{bit};
 use cells::Value;
 
 /// The cells of some rows, one after another.
-#[derive(Debug, Drop)]
+#[derive(Drop)]
 pub(crate) struct Kept {
     pub(crate) cells: Vec<Value>,
     pub(crate) rows: usize,

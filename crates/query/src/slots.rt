@@ -22,7 +22,7 @@ use std::alloc::{AllocError, Global};
 use values::{Batch, Part};
 
 /// What is asked of the integers of the column at a place.
-#[derive(Clone, Copy, Debug)]
+#[derive(Clone, Copy)]
 pub(crate) struct Comparison {
     place: usize,
     integer: IntegerType,
