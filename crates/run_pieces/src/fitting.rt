@@ -12,7 +12,7 @@ use arrow_schema::Schema;
 use cells::{MAX_PIECE_WEIGHT, add_weights};
 
 /// How many rows, and what a piece weighs with them.
-#[derive(Clone, Copy, Debug)]
+#[derive(Clone, Copy)]
 pub(crate) struct Taken {
     pub(crate) rows: usize,
     pub(crate) weight: u64,

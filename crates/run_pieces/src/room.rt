@@ -23,7 +23,7 @@ use table_cut::SeenRows;
 use values::Values;
 
 /// What is known of the entries that dictionaries have in the rows of a piece.
-#[derive(Debug, Drop)]
+#[derive(Drop)]
 pub(crate) enum Seen<'a> {
     /// There is no row.
     Nothing,
@@ -34,7 +34,7 @@ pub(crate) enum Seen<'a> {
 }
 
 /// How many rows of a run there is room for, and what is known where that is all of them.
-#[derive(Debug, Drop)]
+#[derive(Drop)]
 pub(crate) struct Room<'a> {
     pub(crate) rows: usize,
     pub(crate) seen: Seen<'a>,

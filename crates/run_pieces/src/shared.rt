@@ -26,7 +26,7 @@ const COMPARED_PER_ROW: usize = 64;
 const MOST_ARRAYS: usize = 16;
 
 // The bytes that a buffer is looked for in, and how many of a buffer are compared.
-#[derive(Clone, Copy, Debug)]
+#[derive(Clone, Copy)]
 struct Compared<'a> {
     own: &'a [u8],
     others: &'a [u8],
