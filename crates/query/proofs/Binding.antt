@@ -1,6 +1,7 @@
 -- Conditions, bound one after another.
 use Rattle.std.proofs.Common.{◌≡◌, ℕ, ◌+◌, ◌<◌, ◌≤◌, List, [], ◌∷◌, ◌++◌, map, length, take, drop, get_or, refl, sym, ap, ◌∙◌}
-use Rattle.std.proofs.lemmas.List.{take_all}
+use Rattle.std.proofs.lemmas.List.{take_all, map-append}
+use Rattle.facts.specs.laws.Lists.{take-item}
 use Rattle.query.proofs.Choosing.{parted}
 use Rattle.std.specs.Prelude.{Result, Ok, Err}
 use Rattle.query.specs.declared.errors.QueryError.{QueryError}
@@ -37,3 +38,12 @@ report_first g h view xs i x bs lt is so_far e r = reports_first e (g (h x)) (al
 pub all_of_them : {X Y Z B : Type 0} (g : Y → Result Z Refusal) (h : X → Y) (view : B → Z) (xs : List X) (i : ℕ) (bs : List B) → length xs ≤ i
     → map g (map h (take i xs)) ≡ map (λ b. Ok (view b)) bs → all_ok (map g (map h xs)) ≡ Ok (map view bs)
 all_of_them {X = X} g h view xs i bs all so_far = ap all_ok (sym (ap (λ (ys : List X). map g (map h ys)) (take_all i xs all)) ∙ so_far) ∙ all_bound view bs
+
+-- one more condition is bound
+pub one_more_bound : {X Y Z B : Type 0} (g : Y → Result Z Refusal) (h : X → Y) (view : B → Z) (xs : List X) (i : ℕ) (x : X) (bs : List B) (b : B) → i < length xs → x ≡ get_or xs i x
+    → map g (map h (take i xs)) ≡ map (λ b. Ok (view b)) bs → g (h x) ≡ Ok (view b) → map g (map h (take (i + 1) xs)) ≡ map (λ b. Ok (view b)) (bs ++ b ∷ [])
+one_more_bound {X = X} g h view xs i x bs b lt is so_far here =
+    ap (λ (ys : List X). map g (map h ys)) (take-item xs i x lt is)
+    ∙ ap (map g) (map-append h (take i xs) (x ∷ []))
+    ∙ map-append g (map h (take i xs)) (h x ∷ [])
+    ∙ rw (so_far, here) (sym (map-append (λ b. Ok (view b)) bs (b ∷ [])))

@@ -47,7 +47,7 @@ pub(crate) fn integer_columns(
         let Some(column) = integer_column(fields, *place) else {
             return Ok(None);
         };
-        columns.push(column)?;
+        columns.push_reserved(column);
     }
     Ok(Some(columns))
 }

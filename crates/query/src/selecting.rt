@@ -59,7 +59,7 @@ fn all_places(alloc: Global, count: usize) -> Result<Vec<usize>, AllocError>
 {
     let mut places = Vec::with_capacity(alloc, count)?;
     for place in 0..count {
-        places.push(place)?;
+        places.push_reserved(place);
     }
     Ok(places)
 }
@@ -76,7 +76,7 @@ fn bind_all(
     let mut bounds = Vec::with_capacity(alloc, conditions.len())?;
     for condition in conditions {
         let bound = bind(alloc, fields, condition)?;
-        bounds.push(bound).map_err(AllocError::from)?;
+        bounds.push_reserved(bound);
     }
     Ok(bounds)
 }

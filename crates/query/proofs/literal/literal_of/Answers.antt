@@ -1,8 +1,8 @@
 use Rattle.std.specs.Prelude.{string_bytes}
-use Rattle.std.proofs.Common.{◌≡◌, refl, rules}
+use Rattle.std.proofs.Common.{◌≡◌, map, refl, rules}
 use Rattle.arrow_schema.specs.declared.types.Field.{the_lemmas as field_lemmas}
-use Rattle.arrow_schema.specs.Column.{nulls, booleans, integers, dates, timestamps, binaries, large_binaries, fixed_binaries}
-use Rattle.arrow_schema.specs.View.{kind_of, bits_of, date_kind, time_kind}
+use Rattle.arrow_schema.specs.Column.{nulls, booleans, integers, dates, timestamps, binaries, large_binaries, fixed_binaries, lists, large_lists, fixed_lists, structs, columns_of}
+use Rattle.arrow_schema.specs.View.{kind_of, column_of, bits_of, date_kind, time_kind}
 use Rattle.query.proofs.literal.literal_of.Goals as goal
 
 pub returns-in-Null : goal.returns-in-Null
@@ -44,3 +44,23 @@ pub returns-in-FixedSizeBinary : goal.returns-in-FixedSizeBinary
 returns-in-FixedSizeBinary c =
     let kind : kind_of c.args.data_type.now ≡ fixed_binaries c.in-FixedSizeBinary.field-0 = rw c.in-FixedSizeBinary.is (search (rules, field_lemmas)) in
     rw kind c.bytes_in-in-FixedSizeBinary.ensures
+
+pub returns-in-List : goal.returns-in-List
+returns-in-List c =
+    let kind : kind_of c.args.data_type.now ≡ lists (column_of c.in-List.field-0.value) = rw c.in-List.is (search (rules, field_lemmas)) in
+    rw kind refl
+
+pub returns-in-LargeList : goal.returns-in-LargeList
+returns-in-LargeList c =
+    let kind : kind_of c.args.data_type.now ≡ large_lists (column_of c.in-LargeList.field-0.value) = rw c.in-LargeList.is (search (rules, field_lemmas)) in
+    rw kind refl
+
+pub returns-in-FixedSizeList : goal.returns-in-FixedSizeList
+returns-in-FixedSizeList c =
+    let kind : kind_of c.args.data_type.now ≡ fixed_lists c.in-FixedSizeList.field-0 (column_of c.in-FixedSizeList.field-1.value) = rw c.in-FixedSizeList.is (search (rules, field_lemmas)) in
+    rw kind refl
+
+pub returns-in-Struct : goal.returns-in-Struct
+returns-in-Struct c =
+    let kind : kind_of c.args.data_type.now ≡ structs (columns_of (map column_of c.in-Struct.field-0.items)) = rw c.in-Struct.is (search (rules, field_lemmas)) in
+    rw kind refl
