@@ -1,10 +1,10 @@
 -- The numbers of sectors that contents take.
-use Rattle.std.proofs.Common.{◌≡◌, ◌≤◌, ◌<◌, ◌+◌, ℕ, zero, suc, List, [], ◌∷◌, length, get_or, refl, arith}
+use Rattle.std.proofs.Common.{◌≡◌, ◌≤◌, ◌<◌, ◌+◌, ◌^◌, ◌++◌, ◌∙◌, ℕ, zero, suc, List, [], ◌∷◌, length, take, get_or, refl, sym, ap, arith}
 use Rattle.std.specs.Global.{Vec}
-use Rattle.std.proofs.lemmas.List.{length-map}
+use Rattle.std.proofs.lemmas.List.{length-map, map_more}
 use Rattle.segments.specs.declared.piece.Part.{Part}
 use Rattle.segments.specs.Pieces.{bytes_of_parts}
-use Rattle.commit.specs.Placing.{AreSome, counts_of, plain_contents}
+use Rattle.commit.specs.Placing.{AreSome, AreShort, counts_of, plain_contents}
 
 -- one for each, and one for the text
 pub counts_length : (contents : List (List ℕ)) (bytes : ℕ) → length (counts_of contents bytes) ≡ length contents + 1
@@ -20,3 +20,15 @@ counts_some [] bytes some le zero lt = omega arith
 counts_some [] bytes some le (suc i) lt = absurd (omega arith)
 counts_some (v ∷ vs) bytes some le zero lt = omega (arith, some.0)
 counts_some (v ∷ vs) bytes some le (suc i) lt = counts_some vs bytes some.1 le i (omega arith)
+
+-- one content more
+pub contents_more : (contents : List (Vec Part)) (i : ℕ) (parts : Vec Part) → i < length contents → parts ≡ get_or contents i parts
+    → plain_contents (take (i + 1) contents) ≡ plain_contents (take i contents) ++ bytes_of_parts parts.items ∷ []
+contents_more contents i parts lt is =
+    let here : plain_contents (take (i + 1) contents) ≡ plain_contents (take i contents) ++ bytes_of_parts (get_or contents i parts).items ∷ [] = map_more (λ (p : Vec Part). bytes_of_parts p.items) contents i parts lt in
+    let same : bytes_of_parts (get_or contents i parts).items ≡ bytes_of_parts parts.items = ap (λ (p : Vec Part). bytes_of_parts p.items) (sym is) in
+    here ∙ ap (λ (bytes : List ℕ). plain_contents (take i contents) ++ bytes ∷ []) same
+
+pub short_more : (contents : List (List ℕ)) (bytes : List ℕ) → AreShort contents → length bytes < 2 ^ 64 → AreShort (contents ++ bytes ∷ [])
+short_more [] bytes short here = (here, tt)
+short_more (v ∷ vs) bytes short here = (short.0, short_more vs bytes short.1 here)

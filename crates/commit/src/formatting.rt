@@ -152,13 +152,19 @@ pub fn format<D: SectorDevice>(
     if sectors < LEAST_SECTORS || sectors > MOST_SECTORS {
         return Err(FormatError::Damaged(Cause::DeviceSize));
     }
-    let ruling = read_ruling(device)?;
+    let Ok(ruling) = read_ruling(device) else {
+        return Err(FormatError::Device);
+    };
     if ruling.is_some() {
         return Err(FormatError::AlreadyAStore);
     }
-    let map = first_map(alloc, sectors)?;
-    clear_and_begin(device)?;
-    Ok((first_commit(sectors), map))
+    let Ok(map) = first_map(alloc, sectors) else {
+        return Err(FormatError::OutOfMemory);
+    };
+    match clear_and_begin(device) {
+        Ok(()) => Ok((first_commit(sectors), map)),
+        Err(_) => Err(FormatError::Device),
+    }
 }
 
 impl From<DevError> for FormatError {
