@@ -209,7 +209,7 @@ pub(crate) fn copy_field(alloc: Global, raw: &RawField) -> Result<Field, AllocEr
     })
 }
 
-#[tactic(auto, using(crate::proofs::Decoded::right_readable), unfolding(crate::specs::Fields::preorder_all, crate::specs::Convert::columns_of_fields))]
+#[tactic(auto, unfolding(crate::specs::Fields::preorder_all, crate::specs::Convert::columns_of_fields))]
 #[cycle(convert)]
 fn copy_fields(alloc: Global, raw: &[RawField]) -> Result<Vec<Field>, AllocError>
     requires { AreReadable (preorder_all (raw_fields_of (map raw_field_of raw.now))) }

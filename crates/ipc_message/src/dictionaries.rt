@@ -44,22 +44,7 @@ fn list_own(
     Ok(())
 }
 
-#[tactic(auto, using(std::proofs::Common::append_assoc), unfolding(crate::specs::Fields::preorder))]
-#[cycle(listing)]
-fn list_field(
-    alloc: Global,
-    list: &mut Vec<DictionaryType>,
-    field: &RawField,
-) -> Result<(), AllocError>
-    requires { AreReadable (preorder (raw_field_of field.now)) }
-    ensures { OnOk result (Appends list.old.items list.new.items (dictionaries_in (preorder (raw_field_of field.now)))) }
-{
-    list_own(alloc, list, field)?;
-    list_fields(alloc, list, &field.children)
-}
-
-#[tactic(auto, using(crate::proofs::Decoded::right_readable), unfolding(crate::specs::Fields::preorder_all))]
-#[cycle(listing)]
+#[tactic(auto, unfolding(crate::specs::Fields::preorder_all))]
 fn list_fields(
     alloc: Global,
     list: &mut Vec<DictionaryType>,
@@ -69,7 +54,8 @@ fn list_fields(
     ensures { OnOk result (Appends list.old.items list.new.items (dictionaries_in (preorder_all (raw_fields_of (map raw_field_of fields.now))))) }
 {
     for field in fields {
-        list_field(alloc, list, field)?;
+        list_own(alloc, list, field)?;
+        list_fields(alloc, list, &field.children)?;
     }
     Ok(())
 }

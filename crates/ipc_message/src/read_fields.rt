@@ -1,12 +1,12 @@
 // The fields of a schema and the pairs of key and value, as they stand: what is read is kept, and texts are borrowed.
 
-ghost use Rattle.std.specs.Prelude.{◌≡◌, ◌++◌, map, IfOk};
+ghost use Rattle.std.specs.Prelude.{◌≡◌, ◌<◌, ◌++◌, length, map, IfOk, slice_index};
 ghost use Rattle.std.specs.List.{flat_map};
 ghost use Rattle.flatbuf.specs.Lookup.{elements};
 ghost use Rattle.flatbuf.specs.Seen.{tables_in, bytes_of, place_of, levels_of, slot_of, bytes_behind, places_in, levels_behind};
-ghost use Rattle.ipc_message.specs.Header.{supported_codes, pair_things, pair_at, pairs_things, pairs_in, field_things, field_slots, field_at, field_with};
+ghost use Rattle.ipc_message.specs.Header.{supported_codes, pair_things, pair_at, pairs_things, pairs_in, field_things, field_at};
 ghost use Rattle.ipc_message.specs.View.{key_value, raw_field_of};
-ghost use Rattle.ipc_message.specs.inner.Tables.{at_place, in_slot, over_references, field_in, children_in, fields_behind};
+ghost use Rattle.ipc_message.specs.inner.Tables.{in_slot, at_reference, over_references, fields_behind};
 ghost use Rattle.ipc_message.specs.inner.Walked.{WalksUnlessRefused};
 
 use crate::read_tables::{pair_behind, read_field_table};
@@ -47,19 +47,22 @@ fn pairs_behind<'a>(
     Ok(found)
 }
 
-/// A field and all below it: its own table, its children, its custom_metadata.
+/// The field that reference `i` leads to and all below it: its own table, its children, its custom_metadata.
 #[cycle(walk)]
-fn field_of<'a>(
+fn field_behind<'a>(
     alloc: Global,
-    table: &Table<'a>,
+    fields: &References<'a>,
+    i: usize,
     budget: &mut Budget,
 ) -> Result<RawField<'a>, WalkError>
-    ensures walked { WalksUnlessRefused (bytes_of table.now) (at_place (field_slots supported_codes) table.now) budget.old budget.new result }
-    ensures value { IfOk result (λ f. raw_field_of f ≡ field_in table.now (children_in table.now)) }
+    requires { i < length (places_in fields.now) }
+    ensures walked { WalksUnlessRefused (bytes_behind fields.now) (at_reference (field_things supported_codes) fields.now i) budget.old budget.new result }
+    ensures value { IfOk result (λ f. raw_field_of f ≡ at_reference (field_at supported_codes) fields.now i) }
 {
-    let field_table = read_field_table(table, budget)?;
+    let table = fields.table(i, budget)?;
+    let field_table = read_field_table(&table, budget)?;
     let children = fields_behind(alloc, &field_table.children, budget)?;
-    let pairs = pairs_at(alloc, table, 6, budget)?;
+    let pairs = pairs_at(alloc, &table, 6, budget)?;
     Ok(RawField {
         name: field_table.name,
         nullable: field_table.nullable,
@@ -83,8 +86,7 @@ pub(crate) fn fields_behind<'a>(
 {
     let mut found = Vec::new(alloc);
     for i in 0..fields.len() {
-        let table = fields.table(i, budget)?;
-        let field = field_of(alloc, &table, budget)?;
+        let field = field_behind(alloc, fields, i, budget)?;
         found.push(field)?;
     }
     Ok(found)

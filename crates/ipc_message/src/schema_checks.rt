@@ -178,14 +178,26 @@ fn first_fault(
     }
 }
 
+// The same tests, where the fields are listed.
+fn check_fields<'a>(
+    alloc: Global,
+    schema: &RawSchema<'a>,
+    fields: &[FieldRef<'_, 'a>],
+) -> Result<(), ImportError>
+    requires { listed fields.now ≡ every_field (raw_schema_of schema.now) }
+    ensures { Gives (λ x. x) result (unless (first_some (schema_checks supported_codes (raw_schema_of schema.now))) (Ok tt)) }
+{
+    let texts = list_texts(alloc, &schema.pairs, fields)?;
+    match first_fault(alloc, schema, fields, &texts)? {
+        Some(fault) => Err(ImportError::Fault(fault)),
+        None => Ok(()),
+    }
+}
+
 /// Whether a schema passes its tests, and else the fault of the first that it fails. It copies no text.
 pub(crate) fn check_schema(alloc: Global, schema: &RawSchema) -> Result<(), ImportError>
     ensures { Gives (λ x. x) result (unless (first_some (schema_checks supported_codes (raw_schema_of schema.now))) (Ok tt)) }
 {
     let fields = every_field(alloc, &schema.fields)?;
-    let texts = list_texts(alloc, &schema.pairs, &fields)?;
-    match first_fault(alloc, schema, &fields, &texts)? {
-        Some(fault) => Err(ImportError::Fault(fault)),
-        None => Ok(()),
-    }
+    check_fields(alloc, schema, &fields)
 }

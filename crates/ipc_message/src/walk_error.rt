@@ -9,7 +9,7 @@ use flatbuf::FlatError;
 use std::alloc::{AllocError, AllocFailed};
 
 /// Memory ran out, or something bad was met.
-#[derive(Clone, Copy, Debug, PartialEq, Eq)]
+#[derive(Clone, Copy)]
 pub(crate) enum WalkError {
     Memory,
     Flat(FlatError),

@@ -1,14 +1,16 @@
-use Rattle.std.proofs.Common.{◌≡◌, ◌∙◌, ◌∷◌, ◌+◌, sym, ap, drop, suc, add-one, drop-cons, rules}
+use Rattle.std.proofs.Common.{◌≡◌, ◌∙◌, ◌∷◌, [], ◌+◌, ◌++◌, sym, ap, map, drop, append_assoc, rules}
 use Rattle.std.specs.Prelude.{unwrap_or, Option}
+use Rattle.std.proofs.lemmas.List.{map_push}
 use Rattle.arrow_schema.specs.Column.{Column, Kind, nulls}
-use Rattle.arrow_schema.specs.View.{kind_step, column_step}
+use Rattle.arrow_schema.specs.View.{kind_step, column_step, column_of}
 use Rattle.arrow_schema.specs.declared.types.Field.{fold-roll-Field}
-use Rattle.ipc_message.specs.declared.raw_header.RawField.{RawField}
+use Rattle.facts.specs.laws.Lists.{drop-item}
 use Rattle.ipc_message.specs.declared.raw_header.RawField.TheViews.{the_lemmas}
+use Rattle.ipc_message.specs.Raw.{raw_fields_of}
 use Rattle.ipc_message.specs.Fields.{preorder, preorder_all}
-use Rattle.ipc_message.specs.Convert.{column_of_field}
+use Rattle.ipc_message.specs.Convert.{column_of_field, columns_of_fields}
 use Rattle.ipc_message.specs.View.{raw_field_of}
-use Rattle.ipc_message.proofs.Decoded.{parts_readable, column_opened, left_readable, same_column}
+use Rattle.ipc_message.proofs.Decoded.{parts_readable, column_opened, left_readable, right_readable, same_column}
 use Rattle.ipc_message.proofs.convert.+convert.Goals as goal
 
 pub copy_field-copy_fields-requires : goal.copy_field-copy_fields-requires
@@ -42,7 +44,21 @@ copy_field-returns t c =
 pub copy_fields-copy_field-requires : goal.copy_fields-copy_field-requires
 unfolding preorder_all
 copy_fields-copy_field-requires t c =
+    let x = c.field-item.result in
+    let next = drop-item c.args.raw.now c.loop-field.field-index x c.loop-field-test.true c.field-item.is in
+    (search (rules, the_lemmas), left_readable (preorder (raw_field_of x)) _ (rw next at c.loop-field.invariant.readable))
+
+pub copy_fields-loop-field-preserved : goal.copy_fields-loop-field-preserved
+unfolding preorder_all columns_of_fields
+copy_fields-loop-field-preserved t c =
     let i = c.loop-field.field-index in
     let x = c.field-item.result in
-    let next : drop i c.args.raw.now ≡ x ∷ drop (i + 1) c.args.raw.now = rw add-one (drop-cons c.args.raw.now i x c.loop-field-test.true ∙ ap (λ (y : RawField). y ∷ drop (suc i) c.args.raw.now) (sym c.field-item.is)) in
-    (search (rules, the_lemmas), left_readable (preorder (raw_field_of x)) _ (rw next at c.loop-field.invariant.readable))
+    let old = map column_of c.loop-field.fields.items in
+    let rest = columns_of_fields (raw_fields_of (map raw_field_of (drop (i + 1) c.args.raw.now))) in
+    let next = drop-item c.args.raw.now i x c.loop-field-test.true c.field-item.is in
+    let copied : map column_of c.push.new.self.items ≡ old ++ column_of_field (raw_field_of x) ∷ []
+    = rw c.in_ok-push.ensures.items (map_push column_of c.loop-field.fields.items _ ∙ ap (λ (y : Column). old ++ y ∷ []) c.in_ok-copy_field.ensures) in
+    record {
+      copied = rw copied (append_assoc old (column_of_field (raw_field_of x) ∷ []) rest ∙ (rw next at c.loop-field.invariant.copied));
+      readable = right_readable (preorder (raw_field_of x)) _ (rw next at c.loop-field.invariant.readable);
+    }
