@@ -17,6 +17,7 @@ use Rattle.run_pieces.specs.inner.Room.{HasRoom, IsSeenWithin}
 use Rattle.run_pieces.proofs.PieceLemmas.{IsFull, IsPastLimits, cut_here, drop_set, some_taken}
 use Rattle.run_pieces.proofs.RoomLemmas.{HasRoomBelow, rows_of_parts, rows_of_first, front_room, lighter_front}
 use Rattle.run_pieces.proofs.RunSteps.{has_taken, run_first, sound_first, taken_front, cut_front, cut_full}
+use Rattle.run_pieces.proofs.left.RowsLeft.next_piece.Goals.{then-loop-self-test+else-rows-lt-MAX_PIECE_ROWS, else-loop-self-test}
 use Rattle.run_pieces.proofs.left.RowsLeft.next_piece.Goals as goal
 use Rattle.run_pieces.specs.laws.Runs.{run_size}
 
@@ -199,3 +200,38 @@ returns-then-room-run-clause-left c =
     let lt : next < length items = omega (arith, c.loop-self.self.runs.ok.0, c.len.ensures, c.loop-self-test.true) in
     let sound = sound_first cs items next c.index-run.result.now lt c.index-run.ensures c.loop-self.invariant.left in
     ap (are_runs_sound cs) (drop_set items next c.behind.result lt) ∙ and_from _ _ (c.behind.ensures.sound cs sound.0) sound.1
+
+pub returns-clause-front : goal.returns-clause-front
+returns-clause-front c = c.loop-self.invariant.front
+
+pub returns-clause-count : goal.returns-clause-count
+returns-clause-count c = c.loop-self.invariant.count
+
+pub returns-clause-sound : goal.returns-clause-sound
+returns-clause-sound c = c.loop-self.invariant.sound
+
+pub returns-clause-left : goal.returns-clause-left
+returns-clause-left c = c.loop-self.invariant.left
+
+-- a piece is full that has as many rows as it may have, or all that are left
+has_most : (s : PlainSchema) (piece rest : List (List Cell)) → 4096 ≤ length piece → IsFull s piece rest
+has_most s piece [] many = tt
+has_most s piece (row ∷ rest) many = inl (inl many)
+
+has_all : (s : PlainSchema) (piece rest : List (List Cell)) → rest ≡ [] → IsFull s piece rest
+has_all s piece rest none = subst (λ (rows : List (List Cell)). IsFull s piece rows) (sym none) tt
+
+pub returns-clause-piece : goal.returns-clause-piece
+returns-clause-piece c =
+    let s : PlainSchema = schema_of c.args.schema.now in
+    let cs : Columns = columns_of s.columns in
+    let is = c.loop-self.invariant in
+    let all : List (List Cell) = rows_left cs c.args.self.now in
+    let piece : List (List Cell) = runs_rows cs c.loop-self.runs.items in
+    let rest : List (List Cell) = rows_left cs c.loop-self.self in
+    let full : IsFull s piece rest = elim c.loop-self-test.branch [
+      | then-loop-self-test+else-rows-lt-MAX_PIECE_ROWS w ↦ has_most s piece rest (omega (arith, is.count, w.if-rows-lt-MAX_PIECE_ROWS.false))
+      | else-loop-self-test w ↦ has_all s piece rest (ap (runs_rows cs) (drop_all c.loop-self.self.next c.loop-self.self.runs.items (omega (arith, c.loop-self.self.runs.ok.0, c.len.ensures, w.loop-self-test.false))))
+    ] in
+    let some : 1 ≤ length piece = some_taken s all piece rest is.front c.requires.rows c.requires.some full in
+    cut_here c.longest_fronts_are_pieces.ensures.next s all piece rest is.front some (omega (arith, is.count, is.few)) (omega (arith, is.weight, is.light)) is.fits full
