@@ -3,7 +3,7 @@ use Rattle.std.proofs.Common.{◌≡◌, ℕ, List, Option, Some, Result, sym, a
 use Rattle.flatbuf.specs.declared.FlatError.{FlatError}
 use Rattle.flatbuf.specs.Lookup.{Place, slot}
 use Rattle.flatbuf.specs.Walk.{Thing, run}
-use Rattle.ipc_message.specs.Header.{slot_in}
+use Rattle.ipc_message.specs.Header.{slot_in, batch_things}
 
 pub walk_at : (things : List ℕ → Option ℕ → List Thing) (bytes there : List ℕ) (t u : Place) (k n : ℕ) (r : Result ℕ FlatError) → there ≡ bytes → t ≡ u
     → run there (things there (slot there t k)) n ≡ r → run bytes (things bytes (slot bytes u k)) n ≡ r
@@ -19,3 +19,7 @@ pub walk_behind : (things : List ℕ → Option ℕ → List Thing) (bytes there
     → run there (things there (slot there t k)) n ≡ r → run bytes (things bytes (slot_in bytes o k)) n ≡ r
 walk_behind things bytes there t o k n r same here walked =
     ap (λ (p : Option Place). run bytes (things bytes (slot_in bytes p k)) n) (sym here) ∙ ap (λ (b : List ℕ). run b (things b (slot b t k)) n) (sym same) ∙ walked
+
+pub batch_there : (bytes there : List ℕ) (t : Place) (o : Option Place) (n : ℕ) (r : Result ℕ FlatError) → there ≡ bytes → o ≡ Some t → run there (batch_things there (Some t)) n ≡ r → run bytes (batch_things bytes o) n ≡ r
+batch_there bytes there t o n r same here walked =
+    ap (λ (p : Option Place). run bytes (batch_things bytes p) n) here ∙ ap (λ (b : List ℕ). run b (batch_things b (Some t)) n) (sym same) ∙ walked
