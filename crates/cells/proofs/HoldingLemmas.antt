@@ -1,5 +1,5 @@
 -- Entries that a loop gathers, and columns that fill no dictionary.
-use Rattle.std.proofs.Common.{◌≡◌, ℕ, suc, ◌+◌, ◌<◌, true, List, [], ◌∷◌, length, map, refl, ap, sym, ◌∙◌, arith, get_or, drop, add-one, drop-cons}
+use Rattle.std.proofs.Common.{◌≡◌, ℕ, ◌+◌, ◌<◌, true, ◌&&◌, List, [], length, map, refl, ap, ◌∙◌, arith, get_or, drop}
 use Rattle.std.specs.Borrow.{Bor}
 use Rattle.cells.specs.declared.value.Value.{Value}
 use Rattle.cells.specs.View.{cell, cell_behind}
@@ -7,18 +7,19 @@ use Rattle.std.specs.Prelude.{Option, Some, None}
 use Rattle.std.specs.List.{list_all}
 use Rattle.std.proofs.lemmas.Bool.{le-leb, and_from}
 use Rattle.std.proofs.lemmas.List.Folds.{list_all-append}
-use Rattle.arrow_schema.specs.Column.{Index, Kind, Column, Columns, lists, large_lists, fixed_lists, structs, column, no_column, and_column}
+use Rattle.arrow_schema.specs.Column.{Index, Kind, Column, Columns, lists, large_lists, fixed_lists, structs, column, no_column, and_column, columns_of}
+use Rattle.arrow_schema.specs.View.{column_of}
+use Rattle.arrow_schema.specs.declared.types.Field.{Field}
 use Rattle.cells.specs.Cell.{Cell}
-use Rattle.cells.specs.Dictionary.{with_entry, with_entries, own_holding, entry_limit, is_within, has_few_entries, holdings, holdings_below, holdings_from}
+use Rattle.cells.specs.Dictionary.{with_entry, with_entries, own_holding, entry_limit, is_within, has_few_entries, cells_at, holdings, holdings_below, holdings_from}
 use Rattle.cells.specs.laws.Entries.{entries_grow, entries_few}
+use Rattle.cells.proofs.CellLemmas.{next_item}
 
 -- the step of a loop over cells
 pub next_value : (es : List Cell) (cells : List (Bor Value)) (i : ℕ) (x : Bor Value) → i < length cells → x ≡ get_or cells i x
     → with_entries es (map cell_behind (drop i cells)) ≡ with_entries (with_entry es (cell x.now)) (map cell_behind (drop (i + 1) cells))
 unfolding with_entries
-next_value es cells i x lt is =
-    let next : drop i cells ≡ x ∷ drop (i + 1) cells = rw add-one (drop-cons cells i x lt ∙ ap (λ (y : Bor Value). y ∷ drop (suc i) cells) (sym is)) in
-    rw next refl
+next_value es cells i x lt is = rw (next_item cells i x lt is) refl
 
 pub ruleset entries_rules = (entries_grow, entries_few)
 
@@ -52,3 +53,12 @@ mutual
       list_all-append has_few_entries (holdings c []) (holdings_from (i + 1) cs []) ∙ and_from _ _ (holdings_of_none c) (from_of_none (i + 1) cs)
 
 pub ruleset holding_rules = (holdings_of_none, list_all-append)
+
+-- the step of a loop over columns
+pub next_column : (fs : List Field) (i : ℕ) (f : Field) (rows : List (List Cell)) → i < length fs → f ≡ get_or fs i f
+    → list_all has_few_entries (holdings_from i (columns_of (map column_of (drop i fs))) rows)
+    ≡ (list_all has_few_entries (holdings (column_of f) (cells_at i rows)) && list_all has_few_entries (holdings_from (i + 1) (columns_of (map column_of (drop (i + 1) fs))) rows))
+unfolding holdings_from
+next_column fs i f rows lt is =
+    ap (λ (xs : List Field). list_all has_few_entries (holdings_from i (columns_of (map column_of xs)) rows)) (next_item fs i f lt is)
+    ∙ list_all-append has_few_entries (holdings (column_of f) (cells_at i rows)) (holdings_from (i + 1) (columns_of (map column_of (drop (i + 1) fs))) rows)
