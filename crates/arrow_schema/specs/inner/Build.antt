@@ -2,6 +2,8 @@
 use Rattle.std.specs.Prelude.{◌≡◌, ℕ, suc, true, Result, Ok, Err, zero, List, [], ◌∷◌, ◌++◌, length, codes, Option, None, Some, option_map}
 use Rattle.arrow_schema.specs.declared.texts.build.BuildError.{BuildError}
 use Rattle.arrow_schema.specs.declared.texts.build.BuildError.TheVariants.{Unread, Memory}
+use Rattle.arrow_schema.specs.declared.texts.build.Listing.{Listing}
+use Rattle.arrow_schema.specs.declared.texts.build.Listing.TheVariants as listings
 use Rattle.std.specs.Option.{option_and_then, option_or}
 use Rattle.arrow_schema.specs.Column.{Index, Kind, Column, lists, large_lists, fixed_lists, structs, column, columns_of}
 use Rattle.arrow_schema.specs.inner.Scan.{stripped, Opening, flat, list, large_list, fixed_list, struct, opening_at, name_at, has_nullable_suffix, after_nullable_suffix}
@@ -36,6 +38,21 @@ with_first earlier read = option_map (λ q. (earlier ++ q.0, q.1)) read
 
 unfoldable pub fields_from : Reader → List ℕ → Option (List Column × List ℕ)
 fields_from read text = option_or (closed text) (option_and_then (λ p. option_map (λ q. (p.0 ∷ q.0, q.1)) (more_from read (length text) p.1)) (field_from read text))
+
+-- the bracket behind the item of a list
+abbrev pub close_of : Listing → List ℕ
+close_of listings.List = codes ">"
+close_of listings.LargeList = codes ">"
+close_of (listings.FixedList size) = codes ")"
+
+abbrev pub list_kind : Listing → Column → Kind
+list_kind listings.List item = lists item
+list_kind listings.LargeList item = large_lists item
+list_kind (listings.FixedList size) item = fixed_lists size item
+
+-- a list, after its opening
+abbrev pub list_from : Reader → Listing → List ℕ → Option ((Kind × Option Index) × List ℕ)
+list_from read listing text = option_map (λ p. ((list_kind listing p.0, None), p.1)) (item_from read (close_of listing) text)
 
 -- the parts of a type, after its opening
 unfoldable pub parts_from : Reader → Opening → List ℕ → Option ((Kind × Option Index) × List ℕ)

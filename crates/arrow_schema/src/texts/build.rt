@@ -2,7 +2,7 @@
 ghost use Rattle.std.specs.Prelude.{◌≡◌, IfOk, map, option_map};
 ghost use Rattle.arrow_schema.specs.View.{kind_of, column_of, index_of};
 ghost use Rattle.arrow_schema.specs.inner.OpeningView.{flat_kind, opening_view};
-ghost use Rattle.arrow_schema.specs.inner.Build.{Builds, column_at, item_from, field_from, more_from, with_first, fields_from, parts_from, column_from};
+ghost use Rattle.arrow_schema.specs.inner.Build.{Builds, column_at, close_of, list_kind, list_from, field_from, more_from, with_first, fields_from, parts_from, column_from};
 ghost use Rattle.arrow_schema.specs.declared.texts.build.BuildError.TheVariants.{Memory};
 
 use super::scan::{Flat, Opening, name_of, nullable_suffix_of, opening_of, strip};
@@ -10,7 +10,7 @@ use crate::types::{DataType, DictSpec, Field};
 use std::alloc::{AllocError, AllocFailed, Global};
 
 /// Why a field was not built: its text is not one of so many levels, or there was no memory.
-#[derive(Debug, Drop)]
+#[derive(Drop)]
 pub(crate) enum BuildError {
     Unread,
     Memory,
@@ -51,22 +51,53 @@ fn flat_type(alloc: Global, flat: Flat) -> Result<DataType, AllocError>
     }
 }
 
-// The item of a list, and what follows the bracket after it.
+// The types of lists, as they are built of their items.
+#[derive(Clone, Copy)]
+pub(crate) enum Listing {
+    List,
+    LargeList,
+    FixedList(u32),
+}
+
+impl Listing {
+    // The bracket behind the item.
+    fn close(self) -> &'static str
+        ensures { result.now ≡ close_of self }
+    {
+        match self {
+            Listing::List | Listing::LargeList => ">",
+            Listing::FixedList(_) => ")",
+        }
+    }
+
+    fn of(self, item: Box<Field>) -> DataType
+        ensures { kind_of result ≡ list_kind self (column_of item.value) }
+    {
+        match self {
+            Listing::List => DataType::List(item),
+            Listing::LargeList => DataType::LargeList(item),
+            Listing::FixedList(size) => DataType::FixedSizeList(size, item),
+        }
+    }
+}
+
+// A list by the text of its item, which has no dictionary, and what follows the bracket.
 #[tactic(auto, unfolding(crate::specs::inner::Build::item_from))]
 #[cycle(build)]
-fn build_item<'a>(
+fn build_list<'a>(
     alloc: Global,
     levels: u64,
+    listing: Listing,
     text: &'a str,
-    close: &str,
-) -> Result<(Box<Field>, &'a str), BuildError>
-    ensures { Builds (λ p. (column_of p.0.value, p.1.now)) result (item_from (column_at levels) close.now text.now) }
+) -> Result<(DataType, Option<DictSpec>, &'a str), BuildError>
+    ensures { Builds (λ p. ((kind_of p.0, option_map index_of p.1), p.2.now)) result (list_from (column_at levels) listing text.now) }
 {
     let (item, rest) = build_column(alloc, levels, "item", text)?;
-    let Some(rest) = strip(rest, close) else {
+    let Some(rest) = strip(rest, listing.close()) else {
         return Err(BuildError::Unread);
     };
-    Ok((Box::new(alloc, item)?, rest))
+    let item = Box::new(alloc, item)?;
+    Ok((listing.of(item), None, rest))
 }
 
 #[tactic(auto, unfolding(crate::specs::inner::Build::field_from))]
@@ -139,18 +170,9 @@ fn build_parts<'a>(
 {
     match opening {
         Opening::Flat(flat, dictionary) => Ok((flat_type(alloc, flat)?, dictionary, text)),
-        Opening::List => {
-            let (item, rest) = build_item(alloc, levels, text, ">")?;
-            Ok((DataType::List(item), None, rest))
-        }
-        Opening::LargeList => {
-            let (item, rest) = build_item(alloc, levels, text, ">")?;
-            Ok((DataType::LargeList(item), None, rest))
-        }
-        Opening::FixedList(size) => {
-            let (item, rest) = build_item(alloc, levels, text, ")")?;
-            Ok((DataType::FixedSizeList(size, item), None, rest))
-        }
+        Opening::List => build_list(alloc, levels, Listing::List, text),
+        Opening::LargeList => build_list(alloc, levels, Listing::LargeList, text),
+        Opening::FixedList(size) => build_list(alloc, levels, Listing::FixedList(size), text),
         Opening::Struct => {
             let (fields, rest) = build_fields(alloc, levels, text)?;
             Ok((DataType::Struct(fields), None, rest))

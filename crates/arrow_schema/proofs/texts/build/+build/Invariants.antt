@@ -15,8 +15,8 @@ decreases-build_above l = 10 * l.levels + 5
 abbrev pub decreases-build_field : goal.decreases-build_field
 decreases-build_field l = 10 * l.levels + 1
 
-abbrev pub decreases-build_item : goal.decreases-build_item
-decreases-build_item l = 10 * l.levels + 1
+abbrev pub decreases-build_list : goal.decreases-build_list
+decreases-build_list l = 10 * l.levels + 1
 
 abbrev pub decreases-build_more : goal.decreases-build_more
 decreases-build_more l = 10 * l.levels + 2
