@@ -1,7 +1,8 @@
 // The nodes and buffers of a batch, as they are built.
-ghost use Rattle.std.specs.Prelude.{◌≡◌, OnOk, map, length};
+ghost use Rattle.std.specs.Prelude.{◌≡◌, ◌*◌, ◌||◌, ◌==◌, nat_le, true, OnOk, map, length};
 ghost use Rattle.array_build.specs.Batch.{batch_in, buffer_bytes, no_batch, node_in};
 ghost use Rattle.array_build.specs.inner.Nodes.{with_node, with_buffer, with_slots};
+ghost use Rattle.array_build.specs.inner.Runs.{with_validity};
 ghost use Rattle.values.specs.Borrowed.{borrowed_cell};
 
 use crate::valid_bits::{unset_bits, validity};
@@ -86,6 +87,20 @@ pub(crate) fn push_buffer(batch: &mut BuiltBatch<'_>, buffer: Vec<u8>) -> Result
     push_any_buffer(batch, Buffer::Made(buffer))
 }
 
+/// Adds the node and the validity bitmap of so many slots.
+pub(crate) fn push_validity(
+    batch: &mut BuiltBatch<'_>,
+    slots: usize,
+    validity: Vec<u8>,
+) -> Result<(), AllocError>
+    requires long { (length validity.items == 0 || nat_le slots (8 * length validity.items)) ≡ true }
+    ensures { OnOk result (batch_in batch.new ≡ with_validity (batch_in batch.old) slots validity.items) }
+{
+    let null_count = unset_bits(&validity, slots);
+    push_node(batch, slots, null_count)?;
+    push_buffer(batch, validity)
+}
+
 /// Adds the node and the validity bitmap of cells of any type but that of nulls.
 pub(crate) fn push_slots(
     alloc: Global,
@@ -95,7 +110,5 @@ pub(crate) fn push_slots(
     ensures { OnOk result (batch_in batch.new ≡ with_slots (batch_in batch.old) (map borrowed_cell cells.now)) }
 {
     let validity = validity(alloc, cells)?;
-    let null_count = unset_bits(&validity, cells.len());
-    push_node(batch, cells.len(), null_count)?;
-    push_buffer(batch, validity)
+    push_validity(batch, cells.len(), validity)
 }

@@ -88,10 +88,9 @@ fn build_lists(
     ensures { OnOk result (batch_in batch.new ≡ with_arrays (batch_in batch.old)
         (built_at (plain_column (list_kind width (column_of item.now)) None) (map borrowed_cell cells.now))) }
 {
-    let offsets = item_offsets(alloc, width, cells)?;
-    let listed = items(alloc, cells)?;
     push_slots(alloc, batch, cells)?;
-    push_buffer(batch, offsets)?;
+    push_buffer(batch, item_offsets(alloc, width, cells)?)?;
+    let listed = items(alloc, cells)?;
     build_column(alloc, batch, item, &listed)
 }
 
@@ -108,8 +107,8 @@ fn build_fixed_lists(
     ensures { OnOk result (batch_in batch.new ≡ with_arrays (batch_in batch.old)
         (built_at (plain_column (fixed_lists size (column_of item.now)) None) (map borrowed_cell cells.now))) }
 {
-    let items = items_of_size(alloc, size, cells)?;
     push_slots(alloc, batch, cells)?;
+    let items = items_of_size(alloc, size, cells)?;
     build_column(alloc, batch, item, &items)
 }
 

@@ -100,10 +100,9 @@ fn build_run_lists<'a>(
     requires ready { AreReady (list_kind width (column_of item.now)) runs.now }
     ensures { OnOk result (AddsRuns (list_kind width (column_of item.now)) runs.now batch.old batch.new) }
 {
-    let offsets = run_list_offsets(alloc, item, width, runs)?;
-    let items = item_runs(alloc, item, width, runs)?;
     push_run_slots(alloc, batch, runs)?;
-    push_buffer(batch, offsets)?;
+    push_buffer(batch, run_list_offsets(alloc, item, width, runs)?)?;
+    let items = item_runs(alloc, item, width, runs)?;
     build_run_column(alloc, batch, item, &items)
 }
 
@@ -119,8 +118,8 @@ fn build_run_fixed_lists<'a>(
     requires ready { AreReady (fixed_lists size (column_of item.now)) runs.now }
     ensures { OnOk result (AddsRuns (fixed_lists size (column_of item.now)) runs.now batch.old batch.new) }
 {
-    let items = fixed_item_runs(alloc, item, size, runs)?;
     push_run_slots(alloc, batch, runs)?;
+    let items = fixed_item_runs(alloc, item, size, runs)?;
     build_run_column(alloc, batch, item, &items)
 }
 

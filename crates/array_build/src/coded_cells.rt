@@ -1,12 +1,16 @@
 // The node and the buffers of a column with a dictionary, and what its dictionary has.
-ghost use Rattle.std.specs.Prelude.{◌≡◌, ◌≤◌, ◌*◌, ◌/◌, true, OnOk, IfOk, Some, length, map};
-ghost use Rattle.std.specs.List.{list_all};
+ghost use Rattle.std.specs.Prelude.{◌≡◌, ◌≤◌, ◌*◌, ◌/◌, true, OnOk, IfOk, Some, [], length, map};
+ghost use Rattle.std.specs.List.{flat_map, list_all};
 ghost use Rattle.arrow_schema.specs.View.{bits_of, column_of, index_of};
 ghost use Rattle.array_build.specs.Batch.{batch_in, dictionary_in};
 ghost use Rattle.array_build.specs.inner.Coded.{with_dictionary, with_indices};
+ghost use Rattle.array_build.specs.inner.Nodes.{with_buffer};
 ghost use Rattle.array_build.specs.inner.RunCells.{is_coded};
+ghost use Rattle.array_build.specs.inner.Runs.{runs_bits};
 ghost use Rattle.array_runs.specs.Runs.{are_runs_sound, runs_cells};
 ghost use Rattle.cells.specs.Dictionary.{entries_of};
+ghost use Rattle.cells.specs.Entry.{entry_cell};
+ghost use Rattle.columns.specs.Built.{index_bytes};
 ghost use Rattle.values.specs.Borrowed.{borrowed_cell};
 
 use crate::batch::{BuiltBatch, BuiltDictionary, push_buffer, push_slots};
@@ -15,10 +19,27 @@ use crate::run_codes::put_codes;
 use crate::run_slots::{count_slots, push_bit_slots};
 use array_runs::SlotRun;
 use arrow_schema::{BitWidth, DictSpec, Field, IntegerType};
+use cells::Entry;
 use columns::entry_count;
 use indexmap::IndexSet;
 use std::alloc::{AllocError, Global};
 use values::ValueRef;
+
+// Adds the indices of cells, each the place of an entry, and gives the cells of all entries.
+fn push_entries<'a>(
+    alloc: Global,
+    batch: &mut BuiltBatch<'_>,
+    index: IntegerType,
+    entries: &IndexSet<Entry<'a>>,
+    cells: &[ValueRef<'_>],
+) -> Result<Vec<ValueRef<'a>>, AllocError>
+    ensures entries { IfOk result (λ listed. map borrowed_cell listed.items ≡ map entry_cell entries.now.keys) }
+    ensures batch { let bytes = index_bytes (record { bits = bits_of index.width; signed = index.signed }) (map entry_cell entries.now.keys) in
+        OnOk result (batch_in batch.new ≡ with_buffer (batch_in batch.old) (flat_map bytes (map borrowed_cell cells.now))) }
+{
+    push_buffer(batch, indices(alloc, index, entries, cells)?)?;
+    entry_cells(alloc, entries)
+}
 
 /// Adds the node, the validity bitmap and the indices of cells, and gives the cells of the entries that they name.
 pub(crate) fn push_indices<'a>(
@@ -33,8 +54,7 @@ pub(crate) fn push_indices<'a>(
 {
     push_slots(alloc, batch, cells)?;
     let entries = entry_set(alloc, cells)?;
-    push_buffer(batch, indices(alloc, index, &entries, cells)?)?;
-    entry_cells(alloc, &entries)
+    push_entries(alloc, batch, index, &entries, cells)
 }
 
 // For how many entries there is room at once: those of the first run's dictionary, unless these are more than the slots of all runs.
@@ -64,6 +84,41 @@ fn room_for(alloc: Global, width: BitWidth, slots: usize) -> Result<Vec<u8>, All
     }
 }
 
+// Adds the node, the validity bitmap and the indices of the cells of runs that have so many slots, and gives the cells of the entries, of which there are
+// none before.
+fn push_codes<'a>(
+    alloc: Global,
+    batch: &mut BuiltBatch<'_>,
+    entries: &mut IndexSet<Entry<'a>>,
+    slots: usize,
+    field: &'a Field,
+    spec: DictSpec,
+    runs: &[SlotRun<'a>],
+) -> Result<Vec<ValueRef<'a>>, AllocError>
+    requires none { entries.old.keys ≡ [] }
+    requires count { slots ≡ length (runs_bits runs.now) }
+    requires spec { field.now.dictionary ≡ Some spec }
+    requires sound { are_runs_sound (column_of field.now) runs.now ≡ true }
+    requires coded { list_all is_coded (runs_cells (column_of field.now) runs.now) ≡ true }
+    ensures entries { IfOk result (λ listed. map borrowed_cell listed.items ≡ entries_of (runs_cells (column_of field.now) runs.now)) }
+    ensures batch { OnOk result (batch_in batch.new ≡ with_indices (batch_in batch.old) (index_of spec) (runs_cells (column_of field.now) runs.now)) }
+{
+    let mut indices = room_for(alloc, spec.index.width, slots)?;
+    let mut valid = vec![in alloc; false; slots]?;
+    put_codes(
+        alloc,
+        entries,
+        indices.as_mut_slice(),
+        valid.as_mut_slice(),
+        field,
+        spec,
+        runs,
+    )?;
+    push_bit_slots(alloc, batch, &valid)?;
+    push_buffer(batch, indices)?;
+    entry_cells(alloc, entries)
+}
+
 /// The same of the cells of runs.
 pub(crate) fn push_run_indices<'a>(
     alloc: Global,
@@ -80,21 +135,7 @@ pub(crate) fn push_run_indices<'a>(
 {
     let slots = count_slots(runs)?;
     let mut entries = IndexSet::with_capacity(alloc, likely_entries(slots, runs))?;
-    let mut indices = room_for(alloc, spec.index.width, slots)?;
-    let mut valid = vec![in alloc; false; slots]?;
-    put_codes(
-        alloc,
-        &mut entries,
-        indices.as_mut_slice(),
-        valid.as_mut_slice(),
-        field,
-        spec,
-        runs,
-    )?;
-    let cells = entry_cells(alloc, &entries)?;
-    push_bit_slots(alloc, batch, &valid)?;
-    push_buffer(batch, indices)?;
-    Ok(cells)
+    push_codes(alloc, batch, &mut entries, slots, field, spec, runs)
 }
 
 /// The batch of so many values, as a dictionary.

@@ -38,9 +38,8 @@ pub(crate) fn build_booleans(
 ) -> Result<(), AllocError>
     ensures { OnOk result (batch_in batch.new ≡ with_arrays (batch_in batch.old) (built_at (plain_column booleans None) (map borrowed_cell cells.now))) }
 {
-    let bits = bits(alloc, cells)?;
     push_slots(alloc, batch, cells)?;
-    push_buffer(batch, bits)
+    push_buffer(batch, bits(alloc, cells)?)
 }
 
 // The node, the validity bitmap and the values of integers.
@@ -54,9 +53,8 @@ fn push_integers(
     ensures { OnOk result (batch_in batch.new ≡ with_buffer (with_slots (batch_in batch.old) (map borrowed_cell cells.now))
         (flat_map (integer_bytes (bits_of integer.width / 8)) (map borrowed_cell cells.now))) }
 {
-    let values = integer_values(alloc, integer, cells)?;
     push_slots(alloc, batch, cells)?;
-    push_buffer(batch, values)
+    push_buffer(batch, integer_values(alloc, integer, cells)?)
 }
 
 #[tactic(auto, using(crate::proofs::Arrays::integers_are), unfolding(columns::specs::Buildable::can_build))]
@@ -114,9 +112,8 @@ pub(crate) fn build_fixed_binaries(
     ensures { OnOk result (batch_in batch.new ≡ with_arrays (batch_in batch.old)
         (built_at (plain_column (fixed_binaries width) None) (map borrowed_cell cells.now))) }
 {
-    let values = fixed_values(alloc, width, cells)?;
     push_slots(alloc, batch, cells)?;
-    push_buffer(batch, values)
+    push_buffer(batch, fixed_values(alloc, width, cells)?)
 }
 
 // The node, the validity bitmap, the offsets and the bytes of texts or binaries.
@@ -132,11 +129,9 @@ fn push_contents(
         (offsets_of (width_of width) (map (λ c. length (contents_of c)) (map borrowed_cell cells.now))))
         (flat_map contents_of (map borrowed_cell cells.now))) }
 {
-    let offsets = content_offsets(alloc, width, cells)?;
-    let contents = contents(alloc, cells)?;
     push_slots(alloc, batch, cells)?;
-    push_buffer(batch, offsets)?;
-    push_buffer(batch, contents)
+    push_buffer(batch, content_offsets(alloc, width, cells)?)?;
+    push_buffer(batch, contents(alloc, cells)?)
 }
 
 #[tactic(auto, using(crate::proofs::Arrays::texts_are, crate::proofs::Premises::texts_fit))]

@@ -40,9 +40,8 @@ pub(crate) fn build_run_bits(
     requires ready { AreReady (kind_of data_type.now) runs.now }
     ensures { OnOk result (AddsRuns (kind_of data_type.now) runs.now batch.old batch.new) }
 {
-    let bits = run_booleans(alloc, runs)?;
     push_run_slots(alloc, batch, runs)?;
-    push_buffer(batch, bits)
+    push_buffer(batch, run_booleans(alloc, runs)?)
 }
 
 /// Values of one width.
@@ -58,9 +57,8 @@ pub(crate) fn build_run_values<'a>(
     requires ready { AreAsWritten (kind_of data_type.now) runs.now }
     ensures { OnOk result (AddsRuns (kind_of data_type.now) runs.now batch.old batch.new) }
 {
-    let values = run_values(alloc, data_type, width, runs)?;
     push_run_slots(alloc, batch, runs)?;
-    push_any_buffer(batch, values)
+    push_any_buffer(batch, run_values(alloc, data_type, width, runs)?)
 }
 
 /// Texts and binaries.
@@ -76,9 +74,7 @@ pub(crate) fn build_run_contents<'a>(
     requires ready { AreAsWritten (kind_of data_type.now) runs.now }
     ensures { OnOk result (AddsRuns (kind_of data_type.now) runs.now batch.old batch.new) }
 {
-    let offsets = run_offsets(alloc, data_type, width, runs)?;
-    let contents = run_contents(alloc, data_type, width, runs)?;
     push_run_slots(alloc, batch, runs)?;
-    push_buffer(batch, offsets)?;
-    push_any_buffer(batch, contents)
+    push_buffer(batch, run_offsets(alloc, data_type, width, runs)?)?;
+    push_any_buffer(batch, run_contents(alloc, data_type, width, runs)?)
 }

@@ -2,15 +2,14 @@
 ghost use Rattle.std.specs.Prelude.{◌≡◌, ◌≤◌, ◌+◌, ◌++◌, ◌∷◌, [], IfSome, ◌==◌, ◌||◌, ◌*◌, nat_le, false, true, OnOk, IfOk, length, map};
 ghost use Rattle.std.specs.List.{list_all, range_with_len};
 ghost use Rattle.array_build.specs.Batch.{batch_in};
-ghost use Rattle.array_build.specs.inner.Runs.{bitmap_of, run_bits, runs_bits, with_run_slots, with_validity};
+ghost use Rattle.array_build.specs.inner.Runs.{bitmap_of, run_bits, runs_bits, with_run_slots};
 ghost use Rattle.array_runs.specs.Runs.{has_validity};
 ghost use Rattle.columns.specs.Array.{slots_in};
 ghost use Rattle.columns.specs.CellAt.{is_valid};
 ghost use Rattle.columns.specs.Tests.{has_short_validity};
 ghost use Rattle.columns.specs.View.{view_array};
 
-use crate::batch::{BuiltBatch, push_buffer, push_node};
-use crate::valid_bits::unset_bits;
+use crate::batch::{BuiltBatch, push_validity};
 use array_runs::SlotRun;
 use bitmap::{MaskBuilder, get, pack, run_end};
 use columns::ArrayView;
@@ -139,20 +138,6 @@ fn run_validity(alloc: Global, slots: usize, runs: &[SlotRun<'_>]) -> Result<Vec
         push_run_bits(&mut bits, run)?;
     }
     Ok(bits.into_mask())
-}
-
-// Adds the node and the validity bitmap of so many slots.
-fn push_validity(
-    batch: &mut BuiltBatch<'_>,
-    slots: usize,
-    validity: Vec<u8>,
-) -> Result<(), AllocError>
-    requires long { (length validity.items == 0 || nat_le slots (8 * length validity.items)) ≡ true }
-    ensures { OnOk result (batch_in batch.new ≡ with_validity (batch_in batch.old) slots validity.items) }
-{
-    let null_count = unset_bits(&validity, slots);
-    push_node(batch, slots, null_count)?;
-    push_buffer(batch, validity)
 }
 
 /// Adds the node and the validity bitmap of runs of any type but that of nulls.

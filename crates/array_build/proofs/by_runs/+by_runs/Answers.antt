@@ -99,7 +99,7 @@ build_run_lists-returns t c =
     let below : runs_cells item c.deref.result.now ≡ flat_map item_list (kind_cells (list_kind c.args.width item) c.args.runs.now) = ap (runs_cells item) c.deref.ensures.value ∙ c.in_ok-items.ensures.cells in
     on_ok_weaker c.build_run_column.result
     (λ h. h ∙ list_runs_are (batch_in c.args.batch.now) (batch_in c.push_run_slots.new.batch) (batch_in c.push_buffer.new.batch) c.args.width item c.args.runs.now c.deref.result.now _
-    below c.in_ok-offsets.ensures c.in_ok-push_run_slots.ensures c.in_ok-push_buffer.ensures)
+    below c.in_ok-run_list_offsets.ensures c.in_ok-push_run_slots.ensures c.in_ok-push_buffer.ensures)
     c.build_run_column.ensures
 
 pub build_run_fixed_lists-push_run_slots-requires : goal.build_run_fixed_lists-push_run_slots-requires
