@@ -3,6 +3,7 @@ mod AsWritten
 mod Coded
 mod Codes
 mod CodedRuns
+mod Ended
 mod Entries
 mod Equals
 mod Fields

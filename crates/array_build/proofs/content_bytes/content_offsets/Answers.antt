@@ -1,5 +1,6 @@
 use Rattle.std.specs.List.{flat_map}
-use Rattle.std.proofs.Common.{◌≡◌, ◌∙◌, ◌+◌, map, drop, length, append_assoc, length-append, arith}
+use Rattle.std.proofs.Common.{◌∙◌, ◌+◌, ap, map, drop, length, append_assoc, length-append, arith}
+use Rattle.std.proofs.lemmas.Bool.{leb-true}
 use Rattle.facts.specs.laws.Lists.{drop-item}
 use Rattle.byteorder.specs.Endian.{little_bytes}
 use Rattle.columns.specs.Built.{contents_of, sums_from}
@@ -21,3 +22,11 @@ loop-cell-preserved c =
       offsets = rw (c.in_ok-push_offset.ensures, c.contents_of.ensures) (append_assoc c.loop-cell.offsets.items (bytes end) (flat_map bytes (sums_from (end + length own) (map (λ other. length (contents_of other)) others))) ∙ offsets);
       end = rw c.contents_of.ensures (omega (arith, length-append own (flat_map contents_of others), ends));
     }
+
+pub overflow_add-end : goal.overflow_add-end
+overflow_add-end c =
+    let cell = c.cell-item.result in
+    let others = map borrowed_cell (drop (c.loop-cell.cell-index + 1) c.args.cells.now) in
+    let own = contents_of (borrowed_cell cell) in
+    let ends = rw (drop-item c.args.cells.now c.loop-cell.cell-index cell c.loop-cell-test.true c.cell-item.is) at c.loop-cell.invariant.end in
+    omega (arith, length-append own (flat_map contents_of others), ends, leb-true _ _ c.requires, ap length c.contents_of.ensures)

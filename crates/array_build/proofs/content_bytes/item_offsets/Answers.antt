@@ -1,5 +1,6 @@
 use Rattle.std.specs.List.{flat_map}
-use Rattle.std.proofs.Common.{◌≡◌, ◌∙◌, ◌+◌, map, drop, length, append_assoc, length-append, arith}
+use Rattle.std.proofs.Common.{◌∙◌, ◌+◌, map, drop, length, append_assoc, length-append, arith}
+use Rattle.std.proofs.lemmas.Bool.{leb-true}
 use Rattle.facts.specs.laws.Lists.{drop-item}
 use Rattle.byteorder.specs.Endian.{little_bytes}
 use Rattle.cells.specs.Dictionary.{item_list}
@@ -22,3 +23,11 @@ loop-cell-preserved c =
       offsets = rw (c.in_ok-push_offset.ensures, c.item_count.ensures) (append_assoc c.loop-cell.offsets.items (bytes end) (flat_map bytes (sums_from (end + length own) (map (λ other. length (item_list other)) others))) ∙ offsets);
       end = rw c.item_count.ensures (omega (arith, length-append own (flat_map item_list others), ends));
     }
+
+pub overflow_add-end : goal.overflow_add-end
+overflow_add-end c =
+    let cell = c.cell-item.result in
+    let others = map borrowed_cell (drop (c.loop-cell.cell-index + 1) c.args.cells.now) in
+    let own = item_list (borrowed_cell cell) in
+    let ends = rw (drop-item c.args.cells.now c.loop-cell.cell-index cell c.loop-cell-test.true c.cell-item.is) at c.loop-cell.invariant.end in
+    omega (arith, length-append own (flat_map item_list others), ends, leb-true _ _ c.requires, c.item_count.ensures)

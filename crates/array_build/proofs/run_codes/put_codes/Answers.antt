@@ -78,3 +78,17 @@ returns c =
     let places : length c.loop-run.valid ≤ at = omega (arith, whole, c.requires.places, c.loop-run.auto.valid) in
     all_written size start all es c.loop-run.indices c.loop-run.valid at
     (subst (λ (cs : List Cell). IsPartWritten size start all es cs c.loop-run.indices c.loop-run.valid at) none c.loop-run.invariant.written) room places
+
+pub put_run_codes-requires-clause-sound : goal.put_run_codes-requires-clause-sound
+put_run_codes-requires-clause-sound c =
+    let col : Column = column_of c.args.field.now in
+    let others : List SlotRun = drop (c.loop-run.run-index + 1) c.args.runs.now in
+    let item = drop-item c.args.runs.now c.loop-run.run-index c.run-item.result c.loop-run-test.true c.run-item.is in
+    (and_parts (is_run_sound col c.run-item.result) (are_runs_sound col others) (sym (ap (are_runs_sound col) item) ∙ c.loop-run.invariant.sound)).0
+
+pub put_run_codes-requires-clause-coded : goal.put_run_codes-requires-clause-coded
+put_run_codes-requires-clause-coded c =
+    let col : Column = column_of c.args.field.now in
+    let others : List SlotRun = drop (c.loop-run.run-index + 1) c.args.runs.now in
+    let item = drop-item c.args.runs.now c.loop-run.run-index c.run-item.result c.loop-run-test.true c.run-item.is in
+    (all_front is_coded (run_cells col c.run-item.result) (runs_cells col others) (sym (ap (λ (rs : List SlotRun). list_all is_coded (runs_cells col rs)) item) ∙ c.loop-run.invariant.coded)).0

@@ -1,8 +1,10 @@
 use Rattle.std.specs.List.{flat_map}
-use Rattle.std.proofs.Common.{◌+◌, map, drop}
+use Rattle.std.proofs.Common.{◌+◌, List, map, drop, refl}
 use Rattle.facts.specs.laws.Lists.{drop-item}
 use Rattle.columns.specs.Built.{fixed_bytes}
 use Rattle.values.specs.Borrowed.{borrowed_cell}
+use Rattle.values.specs.declared.borrowed.ValueRef.{ValueRef}
+use Rattle.array_build.proofs.Ended.{ended}
 use Rattle.array_build.proofs.Turns.{turned}
 use Rattle.array_build.proofs.value_bytes.fixed_values.Goals as goal
 
@@ -19,3 +21,8 @@ loop-cell-preserved c =
     _
     c.in_ok-push_fixed.ensures
     kept
+
+pub returns : goal.returns
+returns c =
+    ended (λ (cells : List ValueRef). flat_map (fixed_bytes c.args.width) (map borrowed_cell cells)) c.loop-cell.values.items _ c.args.cells.now c.loop-cell.cell-index refl c.loop-cell-test.false
+    c.loop-cell.invariant
