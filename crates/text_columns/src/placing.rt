@@ -72,8 +72,7 @@ fn place(
 ) -> Result<PlacedArray, AllocError>
     ensures { IfOk result (λ array. IsPlaced column.now bytes.old.items bytes.new.items array) }
 {
-    let bitmap = validity(alloc, &column.valid)?;
-    let validity = append(bytes, &bitmap)?;
+    let validity = append(bytes, &validity(alloc, &column.valid)?)?;
     let layout = place_values(alloc, bytes, &column.values)?;
     Ok(PlacedArray {
         slots: column.valid.len(),

@@ -30,7 +30,7 @@ fn read_plain(
     let Some(mut builders) = no_rows(alloc, &schema.fields)? else {
         return Ok(None);
     };
-    let _reader = csv_records(alloc, schema, text)?;
+    drop(csv_records(alloc, schema, text)?);
     match push_plain_text(builders.as_mut_slice(), null_text, text)? {
         Some(read) => Ok(Some(Columns { builders, read })),
         None => Ok(None),

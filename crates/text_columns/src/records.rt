@@ -79,11 +79,13 @@ fn refuse(
 }
 
 // Appends the rows of the records that a reader has left, of which there are at most so many; none where they are too heavy for a table.
+// They are read into a record that is lent.
 fn push_records(
     alloc: Global,
     schema: &Schema,
     null_text: &[u8],
     reader: &mut Reader<&[u8]>,
+    row: &mut ByteRecord,
     builders: &mut [ColumnBuilder],
     most: usize,
 ) -> Result<Option<RowsRead>, TextError>
@@ -91,17 +93,16 @@ fn push_records(
         → KeepAll (schema_of schema.now).columns [] builders.old
         → ReadsRows (schema_of schema.now) (rows_from (record_row (schema_of schema.now) null_text.now) 1 records) result builders.new }
 {
-    let mut row = ByteRecord::new(alloc);
     let mut weight = 0;
     for index in 0..most {
-        if !read_next(reader, &mut row)? {
+        if !read_next(reader, row)? {
             return Ok(Some(RowsRead {
                 rows: index,
                 weight,
             }));
         }
-        let Some(heavy) = push_record(builders, null_text, &row)? else {
-            return refuse(alloc, schema, null_text, &row, index as u64 + 1);
+        let Some(heavy) = push_record(builders, null_text, row)? else {
+            return refuse(alloc, schema, null_text, row, index as u64 + 1);
         };
         if heavy > MAX_TABLE_WEIGHT - weight {
             return Ok(None);
@@ -127,7 +128,18 @@ pub(crate) fn push_rows(
         → ReadsRows (schema_of schema.now) (csv_rows_of (schema_of schema.now) null_text.now text.now) result builders.new }
 {
     match csv_records(alloc, schema, text) {
-        Ok(mut reader) => push_records(alloc, schema, null_text, &mut reader, builders, text.len()),
+        Ok(mut reader) => {
+            let mut row = ByteRecord::new(alloc);
+            push_records(
+                alloc,
+                schema,
+                null_text,
+                &mut reader,
+                &mut row,
+                builders,
+                text.len(),
+            )
+        }
         Err(error) => Err(error),
     }
 }

@@ -12,7 +12,7 @@ use Rattle.text_columns.proofs.reading.read_plain.Goals as goal
 pub returns-in-Some-2 : goal.returns-in-Some-2
 returns-in-Some-2 c =
     let s = schema_of c.args.schema.now in
-    let (records, has, few, headed, same) = c.in_ok-_reader.ensures.behind in
+    let (records, has, few, headed, same) = c.in_ok-csv_records.ensures.behind in
     let started = rw (c.in-Some.is, c.deref.ensures.value) at c.in_ok-builders.ensures in
     let keeps : KeepAll s.columns [] c.as_mut_slice.result.now = subst (λ (bs : List ColumnBuilder). KeepAll s.columns [] bs) (sym c.as_mut_slice.ensures.value) started in
     let read = rw c.in-Some-2.is at c.in_ok-read.ensures in
