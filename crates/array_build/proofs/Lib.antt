@@ -10,6 +10,7 @@ mod Fields
 mod FirstCells
 mod Low
 mod Numbers
+mod Offsets
 mod PartColumns
 mod Premises
 mod Repeated

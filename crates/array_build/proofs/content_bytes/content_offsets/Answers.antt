@@ -1,11 +1,13 @@
 use Rattle.std.specs.List.{flat_map}
-use Rattle.std.proofs.Common.{◌∙◌, ◌+◌, ap, map, drop, length, append_assoc, length-append, arith}
+use Rattle.std.proofs.Common.{◌∙◌, ◌+◌, List, ap, map, drop, length, append_assoc, length-append, arith, refl}
 use Rattle.std.proofs.lemmas.Bool.{leb-true}
 use Rattle.facts.specs.laws.Lists.{drop-item}
 use Rattle.byteorder.specs.Endian.{little_bytes}
 use Rattle.columns.specs.Built.{contents_of, sums_from}
 use Rattle.columns.specs.Offsets.{width_of}
 use Rattle.values.specs.Borrowed.{borrowed_cell}
+use Rattle.values.specs.declared.borrowed.ValueRef.{ValueRef}
+use Rattle.array_build.proofs.Offsets.{last_offset}
 use Rattle.array_build.proofs.content_bytes.content_offsets.Goals as goal
 
 pub loop-cell-preserved : goal.loop-cell-preserved
@@ -30,3 +32,8 @@ overflow_add-end c =
     let own = contents_of (borrowed_cell cell) in
     let ends = rw (drop-item c.args.cells.now c.loop-cell.cell-index cell c.loop-cell-test.true c.cell-item.is) at c.loop-cell.invariant.end in
     omega (arith, length-append own (flat_map contents_of others), ends, leb-true _ _ c.requires, ap length c.contents_of.ensures)
+
+pub returns : goal.returns
+returns c =
+    last_offset (width_of c.args.width) (λ (cells : List ValueRef). map (λ cell. length (contents_of cell)) (map borrowed_cell cells)) c.loop-cell.offsets.items _ _ c.loop-cell.end c.args.cells.now
+    c.loop-cell.cell-index refl c.loop-cell-test.false c.in_ok-push_offset-2.ensures c.loop-cell.invariant.offsets

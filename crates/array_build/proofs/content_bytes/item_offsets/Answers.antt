@@ -1,5 +1,5 @@
 use Rattle.std.specs.List.{flat_map}
-use Rattle.std.proofs.Common.{◌∙◌, ◌+◌, map, drop, length, append_assoc, length-append, arith}
+use Rattle.std.proofs.Common.{◌∙◌, ◌+◌, List, map, drop, length, append_assoc, length-append, arith, refl}
 use Rattle.std.proofs.lemmas.Bool.{leb-true}
 use Rattle.facts.specs.laws.Lists.{drop-item}
 use Rattle.byteorder.specs.Endian.{little_bytes}
@@ -7,6 +7,8 @@ use Rattle.cells.specs.Dictionary.{item_list}
 use Rattle.columns.specs.Built.{sums_from}
 use Rattle.columns.specs.Offsets.{width_of}
 use Rattle.values.specs.Borrowed.{borrowed_cell}
+use Rattle.values.specs.declared.borrowed.ValueRef.{ValueRef}
+use Rattle.array_build.proofs.Offsets.{last_offset}
 use Rattle.array_build.proofs.content_bytes.item_offsets.Goals as goal
 
 pub loop-cell-preserved : goal.loop-cell-preserved
@@ -31,3 +33,8 @@ overflow_add-end c =
     let own = item_list (borrowed_cell cell) in
     let ends = rw (drop-item c.args.cells.now c.loop-cell.cell-index cell c.loop-cell-test.true c.cell-item.is) at c.loop-cell.invariant.end in
     omega (arith, length-append own (flat_map item_list others), ends, leb-true _ _ c.requires, c.item_count.ensures)
+
+pub returns : goal.returns
+returns c =
+    last_offset (width_of c.args.width) (λ (cells : List ValueRef). map (λ cell. length (item_list cell)) (map borrowed_cell cells)) c.loop-cell.offsets.items _ _ c.loop-cell.end c.args.cells.now
+    c.loop-cell.cell-index refl c.loop-cell-test.false c.in_ok-push_offset-2.ensures c.loop-cell.invariant.offsets

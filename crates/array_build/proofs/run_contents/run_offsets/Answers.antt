@@ -1,12 +1,13 @@
 use Rattle.std.specs.Prelude.{None}
 use Rattle.std.specs.List.{flat_map}
-use Rattle.std.proofs.Common.{◌≡◌, ◌∙◌, ◌+◌, ◌++◌, ℕ, List, ap, arith, drop, length, length-append, sym}
+use Rattle.std.proofs.Common.{◌≡◌, ◌∙◌, ◌+◌, ◌++◌, ℕ, List, ap, arith, drop, length, length-append, refl, sym}
 use Rattle.std.proofs.lemmas.Bool.{and_parts}
 use Rattle.std.proofs.lemmas.List.{map-append}
 use Rattle.std.proofs.lemmas.List.Concat.{flat_map-append}
 use Rattle.byteorder.specs.Endian.{little_bytes}
 use Rattle.arrow_schema.specs.Column.{Column, Kind}
 use Rattle.arrow_schema.specs.View.{kind_of}
+use Rattle.array_build.proofs.Offsets.{last_offset}
 use Rattle.array_build.proofs.RunContents.{run_room}
 use Rattle.array_build.proofs.run_contents.run_offsets.Goals as goal
 use Rattle.array_build.specs.Batch.{plain_column}
@@ -59,3 +60,8 @@ loop-run-preserved c =
       offsets = c.in_ok-next.ensures.offsets (cell_sizes left)
           ∙ sym (ap (λ (ns : List ℕ). c.loop-run.offsets.items ++ flat_map (little_bytes w) (sums_from c.loop-run.next ns)) sizes) ∙ c.loop-run.invariant.offsets;
     }
+
+pub returns : goal.returns
+returns c =
+    last_offset (width_of c.args.width) (λ (rs : List SlotRun). cell_sizes (kind_cells (kind_of c.args.data_type.now) rs)) c.loop-run.offsets.items _ _ c.loop-run.next c.args.runs.now
+    c.loop-run.run-index refl c.loop-run-test.false c.in_ok-push_offset.ensures c.loop-run.invariant.offsets

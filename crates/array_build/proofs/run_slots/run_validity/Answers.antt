@@ -1,7 +1,8 @@
+use Rattle.std.specs.Prelude.{◌*◌, ◌==◌, ◌||◌, nat_le}
 use Rattle.std.specs.List.{list_all}
-use Rattle.std.proofs.Common.{◌≡◌, ◌∙◌, ◌+◌, ◌++◌, Bool, false, List, ap, drop, refl, sym}
-use Rattle.std.proofs.lemmas.Bool.{and_parts}
-use Rattle.bitmap.specs.Bits.{packed}
+use Rattle.std.proofs.Common.{◌≡◌, ◌∙◌, ◌+◌, ◌++◌, ℕ, Bool, true, false, List, ap, arith, drop, length, refl, sym}
+use Rattle.std.proofs.lemmas.Bool.{and_parts, le-leb, or_right}
+use Rattle.bitmap.specs.Bits.{bytes_of, packed}
 use Rattle.facts.specs.laws.Lists.{drop-item}
 use Rattle.array_build.proofs.Ended.{ended}
 use Rattle.array_build.proofs.Turns.{turned}
@@ -33,3 +34,12 @@ pub returns-clause-bits : goal.returns-clause-bits
 returns-clause-bits c =
     let bits = ended runs_bits c.loop-run.bits _ c.args.runs.now c.loop-run.run-index refl c.loop-run-test.false c.loop-run.invariant.bits in
     c.into_mask.ensures.exact ∙ some_null c.loop-run.bits (runs_bits c.args.runs.now) (sym c.if-have_no_null.ensures) bits
+
+bits_fit : (n size : ℕ) → size ≡ bytes_of n → (size == 0 || nat_le n (8 * size)) ≡ true
+bits_fit n size is = or_right (size == 0) _ (le-leb _ _ (omega (arith, is)))
+
+pub returns-clause-long : goal.returns-clause-long
+returns-clause-long c =
+    let bits = ended runs_bits c.loop-run.bits _ c.args.runs.now c.loop-run.run-index refl c.loop-run-test.false c.loop-run.invariant.bits in
+    let count = ap length bits ∙ sym c.requires.count in
+    bits_fit c.args.slots _ (c.into_mask.ensures.length ∙ ap bytes_of count)
