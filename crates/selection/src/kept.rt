@@ -13,7 +13,7 @@ use run_pieces::RowRun;
 use std::alloc::{AllocError, Global};
 
 /// Rows that are kept, as runs, and how many they are.
-#[derive(Debug, Drop)]
+#[derive(Drop)]
 pub(crate) struct KeptRuns<'a> {
     pub(crate) runs: Vec<RowRun<'a>>,
     pub(crate) rows: usize,

@@ -18,7 +18,7 @@ use std::alloc::{AllocError, Global};
 use values::{Batch, Part};
 
 /// The arrays that a record batch has of the columns asked for, in the bytes of its part, and how many rows it has.
-#[derive(Debug, Drop)]
+#[derive(Drop)]
 pub(crate) struct PickedBatch<'a> {
     pub(crate) arrays: Vec<PlacedArray>,
     pub(crate) bytes: &'a [u8],
