@@ -1,13 +1,13 @@
 -- What is known of a field that decodes to a type, and whose texts are UTF-8.
 use Rattle.std.proofs.Common.{◌≡◌, ℕ, Bool, true, false, ◌&&◌, List, [], ◌∷◌, ◌++◌, length, refl, ap, sym, ◌∙◌, map}
 use Rattle.std.specs.Prelude.{Option, is_some, flat_map}
-use Rattle.std.specs.List.{list_any, list_all}
+use Rattle.std.specs.List.{list_all}
 use Rattle.std.specs.Str.{is_utf8}
 use Rattle.arrow_schema.specs.Column.{Index, Pair, Kind, Column, column}
 use Rattle.ipc_message.specs.Types.{without_children, with_item, fixed_list, has_list_size}
 use Rattle.std.specs.Prelude.{option_map}
 use Rattle.std.proofs.lemmas.Grind.{flat_map-append}
-use Rattle.std.proofs.lemmas.List.Folds.{list_any-append, list_all-append}
+use Rattle.std.proofs.lemmas.List.Folds.{list_all-append}
 use Rattle.ipc_message.specs.declared.raw_header.RawField as code
 use Rattle.ipc_message.specs.declared.raw_header.RawField.{out-RawField}
 use Rattle.ipc_message.specs.declared.raw_header.RawField.TheFolds.{fold_out-RawField}

@@ -1,5 +1,5 @@
 -- The parts of a field of the code, seen as a plain field.
-use Rattle.std.proofs.Common.{◌≡◌, ◌∙◌, ◌∷◌, refl, ap, map}
+use Rattle.std.proofs.Common.{◌≡◌, ◌∙◌, ◌∷◌, [], ◌++◌, ℕ, List, refl, ap, map, append_assoc}
 use Rattle.std.specs.Prelude.{option_map}
 use Rattle.ipc_message.specs.declared.raw_header.RawField.{RawField, out-RawField}
 use Rattle.ipc_message.specs.declared.raw_header.RawField.TheFolds.{fold_out-RawField}
@@ -21,3 +21,8 @@ preorder_parts (raw.raw_field name nullable code table dictionary children pairs
 -- a field, and then all below it
 pub preorder_opened : (f : RawField) → preorder (raw_field_of f) ≡ raw_field_of f ∷ preorder_all (raw_fields_of (map raw_field_of (out-RawField f).children.items))
 preorder_opened f = preorder_parts (raw_field_of f) ∙ ap (λ (cs : raw.RawFields). raw_field_of f ∷ preorder_all cs) (children_opened f)
+
+-- ---- texts that are listed
+
+pub two_listed : (old one two : List (List ℕ)) (s t : List ℕ) (rest : List (List ℕ)) → one ≡ old ++ s ∷ [] → two ≡ one ++ t ∷ [] → two ++ rest ≡ old ++ (s ∷ t ∷ rest)
+two_listed old one two s t rest first second = rw (second, first) (append_assoc (old ++ s ∷ []) (t ∷ []) rest ∙ append_assoc old (s ∷ []) (t ∷ rest))

@@ -1,4 +1,4 @@
-use Rattle.std.proofs.Common.{◌≡◌, ◌∙◌, ◌∷◌, [], List, map, Result, IfOk, true, sym, ap, subst}
+use Rattle.std.proofs.Common.{◌≡◌, ◌∙◌, List, map, Result, IfOk, true, sym, ap, subst}
 use Rattle.std.specs.Prelude.{Option, Some, is_some}
 use Rattle.arrow_schema.specs.Column.{Column, Kind, nulls, booleans, texts, large_texts, binaries, large_binaries}
 use Rattle.arrow_schema.specs.View.{kind_step, column_step, kind_of, column_of}
@@ -6,9 +6,9 @@ use Rattle.arrow_schema.specs.declared.types.DataType.{DataType}
 use Rattle.arrow_schema.specs.declared.types.DataType.TheOpen as layers
 use Rattle.arrow_schema.specs.declared.types.DataType.TheFolds.{fold-roll-DataType}
 use Rattle.arrow_schema.specs.declared.types.DataType.TheVariants.{Null, Bool, Utf8, LargeUtf8, Binary, LargeBinary, rolls-Null, rolls-Bool, rolls-Utf8, rolls-LargeUtf8, rolls-Binary, rolls-LargeBinary}
-use Rattle.ipc_message.specs.Types.{decoded_type, without_children, integer, date, timestamp, fixed_binary}
+use Rattle.ipc_message.specs.Types.{decoded_type, without_children, timestamp}
 use Rattle.ipc_message.specs.View.{parameters_of}
-use Rattle.ipc_message.proofs.Decoded.{leaf_is, leaf_some, item_one, sized}
+use Rattle.ipc_message.proofs.Decoded.{leaf_is, leaf_some}
 use Rattle.ipc_message.proofs.convert.data_type.Goals as goal
 
 -- the kinds of the types that have no parameters

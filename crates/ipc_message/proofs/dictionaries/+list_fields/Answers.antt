@@ -1,4 +1,4 @@
-use Rattle.std.proofs.Common.{◌≡◌, ◌∙◌, ◌∷◌, ◌+◌, ◌++◌, List, map, append_assoc, sym, ap, drop, rules, arith}
+use Rattle.std.proofs.Common.{◌≡◌, ◌∙◌, ◌+◌, ◌++◌, List, map, append_assoc, sym, ap, drop, rules}
 use Rattle.ipc_message.specs.declared.raw_header.RawField.{out-RawField}
 use Rattle.ipc_message.specs.declared.raw_header.RawField.TheViews.{the_lemmas}
 use Rattle.std.proofs.lemmas.List.Concat.{flat_map-append}

@@ -1,4 +1,4 @@
-use Rattle.std.proofs.Common.{◌≡◌, ◌∙◌, ◌+◌, ◌∷◌, [], ◌++◌, List, ap, sym, map, drop, append_assoc}
+use Rattle.std.proofs.Common.{◌≡◌, ◌∙◌, ◌+◌, ◌∷◌, [], ◌++◌, List, ap, map, drop, append_assoc}
 use Rattle.std.proofs.lemmas.List.{map_push}
 use Rattle.facts.specs.laws.Lists.{drop-item}
 use Rattle.ipc_message.specs.declared.fields.FieldRef.{FieldRef}
