@@ -17,3 +17,4 @@ pub mod BuiltVisible
 pub mod EachBuilt
 pub mod BuiltShape
 pub mod BuiltDictionaries
+pub mod KindParts
