@@ -1,10 +1,11 @@
 -- The numbers of sectors that contents take.
-use Rattle.std.proofs.Common.{◌≡◌, ◌≤◌, ◌<◌, ◌+◌, ◌^◌, ◌++◌, ◌∙◌, ℕ, zero, suc, List, [], ◌∷◌, length, take, get_or, refl, sym, ap, arith}
+use Rattle.std.proofs.Common.{◌≡◌, ◌≤◌, ◌<◌, ◌+◌, ◌++◌, ◌∙◌, ℕ, zero, suc, List, [], ◌∷◌, length, take, get_or, refl, sym, ap, arith}
 use Rattle.std.specs.Global.{Vec}
+use Rattle.std.specs.List.{AllByRecursion}
 use Rattle.std.proofs.lemmas.List.{length-map, map_more}
 use Rattle.segments.specs.declared.piece.Part.{Part}
 use Rattle.segments.specs.Pieces.{bytes_of_parts}
-use Rattle.commit.specs.Placing.{AreSome, AreShort, counts_of, plain_contents}
+use Rattle.commit.specs.Placing.{AreSome, counts_of, plain_contents}
 
 -- one for each, and one for the text
 pub counts_length : (contents : List (List ℕ)) (bytes : ℕ) → length (counts_of contents bytes) ≡ length contents + 1
@@ -29,6 +30,7 @@ contents_more contents i parts lt is =
     let same : bytes_of_parts (get_or contents i parts).items ≡ bytes_of_parts parts.items = ap (λ (p : Vec Part). bytes_of_parts p.items) (sym is) in
     here ∙ ap (λ (bytes : List ℕ). plain_contents (take i contents) ++ bytes ∷ []) same
 
-pub short_more : (contents : List (List ℕ)) (bytes : List ℕ) → AreShort contents → length bytes < 2 ^ 64 → AreShort (contents ++ bytes ∷ [])
-short_more [] bytes short here = (here, tt)
-short_more (v ∷ vs) bytes short here = (short.0, short_more vs bytes short.1 here)
+-- what holds of each item holds with one more
+pub all_more : {X : Type 0} (P : X → Type 0) (xs : List X) (x : X) → AllByRecursion P xs → P x → AllByRecursion P (xs ++ x ∷ [])
+all_more P [] x all here = (here, tt)
+all_more P (y ∷ ys) x all here = (all.0, all_more P ys x all.1 here)

@@ -4,7 +4,7 @@ use Rattle.std.proofs.lemmas.List.{map_push}
 use Rattle.segments.specs.declared.piece.Part.{Part}
 use Rattle.segments.specs.Pieces.{bytes_of_parts}
 use Rattle.commit.specs.Placing.{AreShort, plain_contents, sectors_of}
-use Rattle.commit.proofs.Counted.{contents_more, short_more}
+use Rattle.commit.proofs.Counted.{contents_more, all_more}
 use Rattle.commit.proofs.placing.counts_for.Goals as goal
 
 pub loop-parts-preserved : goal.loop-parts-preserved
@@ -23,5 +23,5 @@ loop-parts-preserved c =
     ap (λ (vs : List (List ℕ)). map sectors_of vs) more ∙ map_push sectors_of (plain_contents (take i contents)) bytes in
     record {
       counts = pushed ∙ sym joined;
-      short = subst (λ (vs : List (List ℕ)). AreShort vs) (sym more) (short_more (plain_contents (take i contents)) bytes c.loop-parts.invariant.short (subst (λ (n : ℕ). n < 2 ^ 64) same fits));
+      short = subst (λ (vs : List (List ℕ)). AreShort vs) (sym more) (all_more (λ (own : List ℕ). length own < 2 ^ 64) (plain_contents (take i contents)) bytes c.loop-parts.invariant.short (subst (λ (n : ℕ). n < 2 ^ 64) same fits));
     }

@@ -1,8 +1,28 @@
-use Rattle.std.proofs.Common.{◌∙◌, ℕ, ap, sym, Err}
+use Rattle.std.specs.Prelude.{◌&&◌, ◌==◌, nat_le}
+use Rattle.std.proofs.Common.{◌≡◌, ◌≤◌, ◌+◌, ◌∙◌, ℕ, true, ap, sym, Err, arith}
+use Rattle.std.proofs.lemmas.Bool.{and_parts, leb-true, eqb-true}
+use Rattle.segments.specs.Sectors.{sector_count}
+use Rattle.segments.specs.declared.extent.Extent.{Extent}
 use Rattle.sector_dev.specs.Disk.{now, shown_image}
-use Rattle.commit.specs.Standing.{is_extent}
+use Rattle.commit.specs.Standing.{is_extent, is_on_device}
 use Rattle.commit.specs.laws.Frame.{text_found, text_lost, text_outside, text_elsewhere}
 use Rattle.commit.proofs.reading.read_text.Goals as goal
+
+-- the bytes of an extent on a device lie there
+bytes_fit : (size : ℕ) (e : Extent) → is_extent size 4 e ≡ true → e.run.start + sector_count e.bytes ≤ size
+bytes_fit size e is =
+    let run = e.run in
+    let some = and_parts (nat_le 4 e.bytes) ((run.count == sector_count e.bytes) && is_on_device size run) is in
+    let own = and_parts (run.count == sector_count e.bytes) (is_on_device size run) some.1 in
+    let placed = and_parts (nat_le 2 run.start) (nat_le 1 run.count && nat_le (run.start + run.count) size) own.1 in
+    let ends = and_parts (nat_le 1 run.count) (nat_le (run.start + run.count) size) placed.1 in
+    omega (arith, leb-true (run.start + run.count) size ends.1, eqb-true run.count (sector_count e.bytes) own.0)
+
+pub read_run-requires-clause-within : goal.read_run-requires-clause-within
+read_run-requires-clause-within g c =
+    let size = g.D.SectorDevice.size c.args.device.now in
+    let extent = ap (λ (n : ℕ). is_extent n 4 c.args.commit.catalogue) (sym c.sectors-sectors.ensures) ∙ sym c.is_extent.ensures ∙ c.if-not-is_extent.false in
+    bytes_fit size c.args.commit.catalogue extent
 
 pub returns-then-commit-sectors-clause-damaged : goal.returns-then-commit-sectors-clause-damaged
 returns-then-commit-sectors-clause-damaged g c = λ told.
