@@ -389,6 +389,22 @@ fn is_finished(alloc: Global, decoder: Decoder, wanted: &Wanted) -> Result<bool,
 }
 
 // Fed the first bytes at once, and the others in pieces of this size.
+fn are_pieces_fed(
+    alloc: Global,
+    decoder: &mut Decoder,
+    first: usize,
+    size: usize,
+    bytes: &[u8],
+    wanted: &Wanted,
+) -> Result<bool, NotMade> {
+    let (front, rest) = bytes.split_at_checked(first).ok_or(NotMade)?;
+    let mut well = is_fed(alloc, decoder, front, wanted)?;
+    for piece in rest.chunks(size.max(1)) {
+        well = is_fed(alloc, decoder, piece, wanted)? && well;
+    }
+    Ok(well)
+}
+
 fn is_read_in_pieces(
     alloc: Global,
     first: usize,
@@ -396,12 +412,8 @@ fn is_read_in_pieces(
     bytes: &[u8],
     wanted: &Wanted,
 ) -> Result<bool, NotMade> {
-    let (front, rest) = bytes.split_at_checked(first).ok_or(NotMade)?;
     let mut decoder = Decoder::new(alloc);
-    let mut well = is_fed(alloc, &mut decoder, front, wanted)?;
-    for piece in rest.chunks(size.max(1)) {
-        well = is_fed(alloc, &mut decoder, piece, wanted)? && well;
-    }
+    let well = are_pieces_fed(alloc, &mut decoder, first, size, bytes, wanted)?;
     Ok(is_finished(alloc, decoder, wanted)? && well)
 }
 

@@ -85,7 +85,14 @@ pub const TWO_COLUMNS: [u8; 464] = [
     0x02, 0x01, 0x00, 0x00, 0x00, 0x00, 0x00, 0x00, 0xff, 0xff, 0xff, 0xff, 0x00, 0x00, 0x00, 0x00,
 ];
 
-pub const NUMBERS: [(i128, i128); 3] = [(-128, 18_446_744_073_709_551_615), (127, 0), (5, 258)];
+pub const NUMBERS: &[(i128, i128)] = &[(-128, 18_446_744_073_709_551_615), (127, 0), (5, 258)];
+
+/// The same as texts.
+pub const NUMBER_TEXTS: &[&[&str]] = &[
+    &["-128", "18446744073709551615"],
+    &["127", "0"],
+    &["5", "258"],
+];
 
 /// The stream of the column `a:int32?` with the rows 1 and null. Its schema ends at 152, and its record batch at 320.
 pub const NULL_LAST: [u8; 328] = [
@@ -276,28 +283,35 @@ pub fn joined(alloc: Global, parts: &[&[u8]]) -> Result<Vec<u8>, AllocError> {
     Ok(bytes)
 }
 
+fn add_values(bytes: &mut Vec<u8>, rows: &[u32]) -> Result<(), AllocError> {
+    for row in rows {
+        bytes.extend_from_slice(&row.to_le_bytes())?;
+    }
+    if rows.len() % 2 != 0 {
+        bytes.extend_from_slice(&[0; 4])?;
+    }
+    Ok(())
+}
+
 /// The record batch of these rows of the column.
 pub fn batch(alloc: Global, rows: &[u32]) -> Result<Vec<u8>, AllocError> {
     let values = rows.len().saturating_mul(4);
-    let mut bytes = joined(alloc, &[&BATCH[..152]])?;
+    let mut bytes = Vec::from_slice(alloc, &BATCH[..152])?;
     put(&mut bytes, BODY, values.saturating_add(values % 8));
     put(&mut bytes, ROWS, rows.len());
     put(&mut bytes, NODE, rows.len());
     put(&mut bytes, VALUES, values);
-    for row in rows {
-        bytes.extend_from_slice(&row.to_le_bytes())?;
-    }
-    if values % 8 != 0 {
-        bytes.extend_from_slice(&[0; 4])?;
-    }
+    add_values(&mut bytes, rows)?;
     Ok(bytes)
 }
 
 // Writes a 64-bit number at a place.
 fn put(bytes: &mut Vec<u8>, at: usize, number: usize) {
-    let number = number as u64;
-    for (to, from) in bytes.iter_mut().skip(at).zip(number.to_le_bytes()) {
-        *to = from;
+    let number = (number as u64).to_le_bytes();
+    for (place, from) in number.iter().enumerate() {
+        if let Some(to) = bytes.get_mut(at.wrapping_add(place)) {
+            *to = *from;
+        }
     }
 }
 

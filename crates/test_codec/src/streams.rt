@@ -1,16 +1,17 @@
 // Streams of tables that are made of rows (canonical_write, ipc_stream). What the built program shows of streams is tested by scripts, without
 // a proof (tests/program, tests/refused_memory).
 use crate::made::{
-    NotMade, assert_no_row, is_one_well, schema_of_columns, table_of_cells, table_of_rows,
+    NotMade, assert_no_row, has_rows, is_one_well, schema_of_columns, table_of_cells, table_of_rows,
 };
 use crate::stream_bytes::{
-    END, MINUS_ONE, NO_FIELDS, NUMBERS, SCHEMA, SEVEN, THREE_ROWS, TWO_COLUMNS, batch, joined,
+    END, MINUS_ONE, NO_FIELDS, NUMBER_TEXTS, NUMBERS, SCHEMA, SEVEN, THREE_ROWS, TWO_COLUMNS,
+    batch, joined,
 };
 use arrow_schema::same_shape;
 use canonical_write::encode;
 use ipc_stream::decode;
 use std::alloc::{AllocError, Global};
-use values::{Row, Table, Value, ValueRef};
+use values::{Row, Table, Value};
 
 const COLUMNS: &[&str] = &["a:int8", "b:uint64?"];
 
@@ -26,7 +27,7 @@ enum Made {
 fn rows_of_numbers(alloc: Global) -> Result<Vec<Row>, AllocError> {
     let mut rows = Vec::new(alloc);
     for (first, second) in NUMBERS {
-        let cells = vec![in alloc; Value::Int(first), Value::Int(second)]?;
+        let cells = vec![in alloc; Value::Int(*first), Value::Int(*second)]?;
         rows.push(Row { cells })?;
     }
     Ok(rows)
@@ -36,41 +37,55 @@ fn rows_of_numbers(alloc: Global) -> Result<Vec<Row>, AllocError> {
 fn cells_of_numbers(alloc: Global) -> Result<Vec<Value>, AllocError> {
     let mut cells = Vec::new(alloc);
     for (first, second) in NUMBERS {
-        cells.push(Value::Int(first))?;
-        cells.push(Value::Int(second))?;
+        cells.push(Value::Int(*first))?;
+        cells.push(Value::Int(*second))?;
     }
     Ok(cells)
 }
 
-// The 4,097 rows 7, -1, and 2 to 4,096.
+// How many rows make one batch more than a full one: 7, -1, and 2 to 4,096.
+const MANY: u32 = 4097;
+
+fn cells_of_many(alloc: Global) -> Result<Vec<Value>, AllocError> {
+    let mut cells = Vec::new(alloc);
+    for number in 0..MANY {
+        cells.push(Value::Int(match number {
+            0 => 7,
+            1 => -1,
+            _ => i128::from(number),
+        }))?;
+    }
+    Ok(cells)
+}
+
+// The same numbers as they stand in a batch.
 fn many(alloc: Global) -> Result<Vec<u32>, AllocError> {
     let mut rows = Vec::new(alloc);
-    rows.extend_from_slice(&[SEVEN, MINUS_ONE])?;
-    for n in 2..4097u32 {
-        rows.push(n)?;
+    for number in 0..MANY {
+        rows.push(match number {
+            0 => SEVEN,
+            1 => MINUS_ONE,
+            _ => number,
+        })?;
     }
     Ok(rows)
 }
 
-fn cells_of_many(alloc: Global) -> Result<Vec<Value>, AllocError> {
-    let mut cells = Vec::new(alloc);
-    for number in many(alloc)? {
-        let value = if number == MINUS_ONE {
-            -1
-        } else {
-            i128::from(number)
-        };
-        cells.push(Value::Int(value))?;
-    }
-    Ok(cells)
+fn add_batch(alloc: Global, stream: &mut Vec<u8>, rows: &[u32]) -> Result<(), AllocError> {
+    stream.extend_from_slice(&batch(alloc, rows)?)
+}
+
+fn add_batches(alloc: Global, stream: &mut Vec<u8>, rows: &[u32]) -> Result<(), AllocError> {
+    add_batch(alloc, stream, rows.get(..4096).unwrap_or(&[]))?;
+    add_batch(alloc, stream, rows.get(4096..).unwrap_or(&[]))?;
+    stream.extend_from_slice(&END)
 }
 
 // The canonical stream of these rows.
 fn stream_of_many(alloc: Global) -> Result<Vec<u8>, AllocError> {
-    let rows = many(alloc)?;
-    let first = batch(alloc, rows.get(..4096).unwrap_or(&[]))?;
-    let second = batch(alloc, rows.get(4096..).unwrap_or(&[]))?;
-    joined(alloc, &[&SCHEMA, &first, &second, &END])
+    let mut stream = Vec::from_slice(alloc, &SCHEMA)?;
+    add_batches(alloc, &mut stream, &many(alloc)?)?;
+    Ok(stream)
 }
 
 fn table_of(alloc: Global, made: Made) -> Result<Table, NotMade> {
@@ -99,10 +114,13 @@ fn bytes_of(alloc: Global, made: Made) -> Result<Vec<u8>, AllocError> {
     }
 }
 
+fn is_stream_of(alloc: Global, table: &Table, bytes: &[u8]) -> Result<bool, NotMade> {
+    Ok(encode(alloc, table)?.as_slice() == bytes)
+}
+
 fn is_written(alloc: Global, made: Made) -> Result<bool, NotMade> {
     let table = table_of(alloc, made)?;
-    let stream = encode(alloc, &table)?;
-    Ok(stream.as_slice() == bytes_of(alloc, made)?.as_slice())
+    is_stream_of(alloc, &table, &bytes_of(alloc, made)?)
 }
 
 const ALL: &[Made] = &[
@@ -134,27 +152,19 @@ fn rows_are_written_also_without_memory(rt: HostRuntime) {
     assert!(rt; is_one_well(first, second));
 }
 
-// Whether the table has the rows of `NUMBERS`.
-fn has_numbers(table: &Table) -> bool {
-    let mut well = table.len() == NUMBERS.len();
-    for (row, (first, second)) in table.rows().zip(NUMBERS) {
-        let (Some(ValueRef::Int(a)), Some(ValueRef::Int(b))) = (row.get(0), row.get(1)) else {
-            return false;
-        };
-        well = well && a == first && b == second;
-    }
-    well
+fn are_numbers(alloc: Global, table: &Table) -> Result<bool, NotMade> {
+    let schema = schema_of_columns(alloc, COLUMNS)?;
+    Ok(has_rows(table, NUMBER_TEXTS) && same_shape(table.schema(), &schema))
 }
 
 fn is_read(alloc: Global) -> Result<bool, NotMade> {
-    let schema = schema_of_columns(alloc, COLUMNS)?;
     match decode(alloc, Vec::from_slice(alloc, &TWO_COLUMNS)?) {
-        Ok(again) => Ok(has_numbers(&again) && same_shape(again.schema(), &schema)),
+        Ok(again) => are_numbers(alloc, &again),
         Err(_) => Err(NotMade),
     }
 }
 
 #[test]
 fn what_is_written_of_rows_is_read_as_them(rt: HostRuntime) {
-    assert!(rt; is_read(rt.alloc()) == Ok(true));
+    assert!(rt; matches!(is_read(rt.alloc()), Ok(true)));
 }

@@ -6,8 +6,8 @@ use Rattle.cells.specs.Cell.{Cell}
 use Rattle.columns.specs.Buildable.{can_build_rows}
 use Rattle.values.specs.Borrowed.{borrowed_cells}
 use Rattle.values.specs.TableView.{table_of}
-use Rattle.test_arrays.proofs.FirstRow.{first_can_be_built}
-use Rattle.test_arrays.proofs.batches.batch_of_row.Goals as goal
+use Rattle.test_codec.proofs.FirstRow.{first_can_be_built}
+use Rattle.test_codec.proofs.batches.batch_of_row.Goals as goal
 
 pub build-requires : goal.build-requires
 build-requires c =

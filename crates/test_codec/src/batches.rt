@@ -1,8 +1,7 @@
 // Batches that are built of rows (array_build). What is wanted of a case is worked by hand from the standard (Arrow columnar format, "Physical Memory
 // Layout").
-use anyhow::{Context, Result, bail};
+use crate::made::{NotMade, assert_no_row, schema_of_columns, table_of_rows};
 use array_build::{Buffer, BuiltBatch, BuiltDictionary, build};
-use arrow_schema::{Schema, parse_fields};
 use columns::rows_can_be_built;
 use std::alloc::Global;
 use text_import::jsonl_rows;
@@ -13,8 +12,19 @@ type Nodes = &'static [(u64, u64)];
 
 type Buffers = &'static [&'static [u8]];
 
-// The fields, a row as a line of JSON, the nodes and buffers of its batch, and those of its dictionaries behind how many values each has.
-const BATCHES: &[(&[&str], &str, Nodes, Buffers, &[(u64, Nodes, Buffers)])] = &[
+// The nodes and buffers of dictionaries, behind how many values each has.
+type Dictionaries = &'static [(u64, Nodes, Buffers)];
+
+// The fields, a row as a line of JSON, the nodes and buffers of its batch, and its dictionaries.
+type Case = (
+    &'static [&'static str],
+    &'static str,
+    Nodes,
+    Buffers,
+    Dictionaries,
+);
+
+const BATCHES: &[Case] = &[
     (&["a:null?"], "[null]", &[(1, 1)], &[], &[]),
     (&["a:bool?"], "[true]", &[(1, 0)], &[&[], &[1]], &[]),
     (&["a:bool?"], "[null]", &[(1, 1)], &[&[0], &[0]], &[]),
@@ -145,60 +155,60 @@ const BATCHES: &[(&[&str], &str, Nodes, Buffers, &[(u64, Nodes, Buffers)])] = &[
     ),
 ];
 
-// The table of these fields and rows.
-fn table_of(alloc: Global, fields: &[&str], rows: &str) -> Result<Table> {
-    let schema = Schema {
-        fields: parse_fields(alloc, fields).ok().context("no fields")?,
-        pairs: Vec::new(alloc),
-    };
-    let rows = jsonl_rows(alloc, &schema, rows.as_bytes())
-        .ok()
-        .context("no rows")?;
-    schema.check().ok().context("past the limits")?;
-    Table::new(alloc, schema, rows).ok().context("no table")
+fn table_of(alloc: Global, fields: &[&str], row: &str) -> Result<Table, NotMade> {
+    let schema = schema_of_columns(alloc, fields)?;
+    match jsonl_rows(alloc, &schema, row.as_bytes()) {
+        Ok(rows) => table_of_rows(alloc, fields, rows),
+        Err(_) => Err(NotMade),
+    }
 }
 
 // The batch of the first row of a table.
-fn batch_of_row(alloc: Global, table: &Table) -> Result<BuiltBatch<'_>> {
+fn batch_of_row(alloc: Global, table: &Table) -> Result<BuiltBatch<'_>, NotMade> {
     rows_can_be_built();
     match table.row(0) {
-        None => bail!("no row"),
+        None => Err(NotMade),
         Some(row) => Ok(build(alloc, &table.schema().fields, &[row])?),
     }
 }
 
 fn are_buffers(built: &[Buffer<'_>], want: Buffers) -> bool {
-    built.len() == want.len()
-        && built
-            .iter()
-            .zip(want)
-            .all(|(built, want)| built.bytes() == *want)
+    let mut well = built.len() == want.len();
+    for (built, want) in built.iter().zip(want) {
+        well = well && built.bytes() == *want;
+    }
+    well
 }
 
-fn are_dictionaries(built: &[BuiltDictionary<'_>], want: &[(u64, Nodes, Buffers)]) -> bool {
-    if built.len() != want.len() {
-        return false;
-    }
-    for (place, dictionary) in built.iter().enumerate() {
-        let (slots, nodes, buffers) = want[place];
-        if dictionary.slots != slots
-            || dictionary.nodes.as_slice() != nodes
-            || !are_buffers(&dictionary.buffers, buffers)
-        {
-            return false;
-        }
-    }
-    true
+fn is_dictionary(built: &BuiltDictionary<'_>, slots: u64, nodes: Nodes, buffers: Buffers) -> bool {
+    built.slots == slots && built.nodes.as_slice() == nodes && are_buffers(&built.buffers, buffers)
 }
 
-fn wrongly_built(alloc: Global) -> Result<Option<usize>> {
-    for (place, (fields, row, nodes, buffers, dictionaries)) in BATCHES.iter().enumerate() {
-        let table = table_of(alloc, fields, row)?;
-        let batch = batch_of_row(alloc, &table)?;
-        let well = batch.nodes.as_slice() == *nodes
-            && are_buffers(&batch.buffers, buffers)
-            && are_dictionaries(&batch.dictionaries, dictionaries);
-        if !well {
+fn are_dictionaries(built: &[BuiltDictionary<'_>], want: Dictionaries) -> bool {
+    let mut well = built.len() == want.len();
+    for (built, (slots, nodes, buffers)) in built.iter().zip(want) {
+        well = well && is_dictionary(built, *slots, *nodes, *buffers);
+    }
+    well
+}
+
+fn is_meant(built: &BuiltBatch<'_>, case: &Case) -> bool {
+    built.nodes.as_slice() == case.2
+        && are_buffers(&built.buffers, case.3)
+        && are_dictionaries(&built.dictionaries, case.4)
+}
+
+fn is_built(alloc: Global, case: &Case) -> Result<bool, NotMade> {
+    let table = table_of(alloc, case.0, case.1)?;
+    match batch_of_row(alloc, &table) {
+        Ok(batch) => Ok(is_meant(&batch, case)),
+        Err(error) => Err(error),
+    }
+}
+
+fn wrongly_built(alloc: Global) -> Result<Option<usize>, NotMade> {
+    for (place, case) in BATCHES.iter().enumerate() {
+        if !is_built(alloc, case)? {
             return Ok(Some(place));
         }
     }
@@ -207,5 +217,5 @@ fn wrongly_built(alloc: Global) -> Result<Option<usize>> {
 
 #[test]
 fn rows_are_built_as_arrays(rt: HostRuntime) {
-    assert!(rt; matches!(wrongly_built(rt.alloc()), Ok(None)));
+    assert_no_row(&rt, wrongly_built(rt.alloc()));
 }
