@@ -73,16 +73,12 @@ bench-texts: bin/arrowstore
 bench-store: bin/arrowstore
 	bench/store bin/arrowstore
 
-bench-device: crates/bench_device/out/bench_device
+bench-device: crates/bench/out/bench
 	bench/device.sh $<
 
-bench-bitmap: crates/bench_bitmap/out/bench_bitmap
-	$< 100
+bench-bitmap: crates/bench/out/bench
+	$< bitmap 100
 
-crates/bench_device/out/bench_device: $(SOURCES)
-	cd crates/bench_device && rt run -- device 1
-	@touch $@
-
-crates/bench_bitmap/out/bench_bitmap: $(SOURCES)
-	cd crates/bench_bitmap && rt run > /dev/null
+crates/bench/out/bench: $(SOURCES)
+	cd crates/bench && rt run > /dev/null
 	@touch $@

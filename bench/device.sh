@@ -2,7 +2,7 @@
 # Writes, syncs and reads so many mebibytes through a device that is a file, writes and syncs as many by rows of sectors, and does the same by dd, some times in
 # turn in one run, and prints the least times and their ratios.
 #   bench/device.sh PROGRAM [MEBIBYTES] [FOLDER] [TIMES]
-# The program is that of crates/bench_device; `make bench-device` builds it.
+# The program is that of crates/bench; `make bench-device` builds it.
 set -e
 program=$1
 size=${2:-100}
@@ -17,7 +17,7 @@ ratio() { printf '%d.%02d' $(($1 / $2)) $(($1 % $2 * 100 / $2)); }
 rm -f "$file" "$file".device "$file".write "$file".rows "$file".read
 dd if=/dev/urandom of="$file".source bs=1M count="$size" conv=fdatasync status=none
 for i in $(seq "$times"); do
-  "$program" "$file" "$size" 2>>"$file".device
+  "$program" device "$file" "$size" 2>>"$file".device
   start=$(micros)
   dd if="$file".source of="$file" bs=1M conv=fdatasync status=none
   echo $(($(micros) - start)) >>"$file".write
