@@ -25,4 +25,5 @@ mod RunSlots
 mod RunValues
 mod Sized
 mod Turns
+mod Unset
 mod Written
