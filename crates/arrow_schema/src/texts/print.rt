@@ -13,7 +13,7 @@ use serde_json::Value;
 use std::alloc::{AllocError, Global};
 use std::fmt::Write;
 
-// The JSON text of a text.
+// Appends the JSON text of a part.
 fn push_json(alloc: Global, text: &mut String, part: &str) -> Result<(), AllocError>
     ensures { OnOk result (string_bytes text.new ≡ string_bytes text.old ++ quoted part.now) }
 {
