@@ -63,7 +63,7 @@ pub(crate) fn no_rows(
         let Some(builder) = no_cells(alloc, field)? else {
             return Ok(None);
         };
-        builders.push(builder)?;
+        builders.push_reserved(builder);
     }
     Ok(Some(builders))
 }
