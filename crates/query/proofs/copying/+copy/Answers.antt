@@ -1,7 +1,7 @@
 use Rattle.std.proofs.Common.{◌∙◌, [], ◌∷◌, map, append_assoc, arith}
 use Rattle.std.proofs.lemmas.List.{map-append}
 use Rattle.cells.specs.View.{cell}
-use Rattle.values.specs.Borrowed.{borrowed_cell, values_left}
+use Rattle.values.specs.Borrowed.{borrowed_cell}
 use Rattle.query.proofs.copying.+copy.Goals as goal
 
 pub copy_values-loop-value-preserved : goal.copy_values-loop-value-preserved

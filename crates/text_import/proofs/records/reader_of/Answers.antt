@@ -1,4 +1,4 @@
-use Rattle.std.proofs.Common.{◌≡◌, ◌∙◌, inr, ap}
+use Rattle.std.proofs.Common.{◌∙◌, inr, ap}
 use Rattle.csv.specs.Reading.{strip_bom, builder_config, builder_trim, builder_names_headers}
 use Rattle.csv.specs.declared.parser.State.TheVariants as st
 use Rattle.text_import.specs.laws.Left.{left_first}
