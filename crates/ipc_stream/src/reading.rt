@@ -24,7 +24,7 @@ pub(crate) struct Reading {
 }
 
 /// Why a stream was read no further, after how many messages, and where they end.
-#[derive(Clone, Copy, Debug)]
+#[derive(Clone, Copy)]
 pub(crate) struct Stopped {
     pub(crate) error: ImportError,
     pub(crate) number: usize,
