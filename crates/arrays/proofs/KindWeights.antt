@@ -164,10 +164,3 @@ fields_total cs a arrays start n weight result is below total =
 
 -- ---- what a sound array has
 
-pub sound_parts : (k kind : Kind) (a : Array) → k ≡ kind → is_kind_sound k a ≡ true → (has_short_buffer kind a ≡ false) × (has_bad_offsets kind a ≡ false) × (has_sound_children kind a ≡ true)
-sound_parts k kind a is sound =
-    let own : is_kind_sound kind a ≡ true = subst (λ (x : Kind). is_kind_sound x a ≡ true) is sound in
-    let behind = (and_parts (not (has_short_validity a)) _ own).1 in
-    let buffer = and_parts (not (has_short_buffer kind a)) _ behind in
-    let offsets = and_parts (not (has_bad_offsets kind a)) _ buffer.1 in
-    (not-true _ buffer.0, not-true _ offsets.0, offsets.1)

@@ -4,6 +4,7 @@ use Rattle.std.specs.Prelude.{slice_get, option_map, option_to_list}
 use Rattle.std.proofs.Math.Bool.{and-false}
 use Rattle.std.proofs.lemmas.List.{length-map, drop_all, drop_more, take_more, append_assoc}
 use Rattle.std.proofs.lemmas.Option.{slice_get-map, slice_get_past, slice_get_read}
+use Rattle.facts.specs.laws.Lists.{drop-item}
 use Rattle.arrow_schema.specs.declared.types.Field.{Field}
 use Rattle.arrow_schema.specs.Column.{columns_of}
 use Rattle.arrow_schema.specs.View.{column_of}
@@ -32,21 +33,13 @@ part_found row i x lt e = ap option_to_list (slice_get-map cell row i ∙ ap (op
 pub part_absent : (row : List Value) (i : ℕ) → length row ≤ i → option_to_list (slice_get (map cell row) i) ≡ []
 part_absent row i le = ap option_to_list (slice_get_past (map cell row) i (omega (arith, length-map row cell)))
 
--- the item that a loop is at, before what is left
-pub next_item : {X : Type 0} (xs : List X) (i : ℕ) (x : X) → i < length xs → x ≡ get_or xs i x → drop i xs ≡ x ∷ drop (i + 1) xs
-next_item xs i x within is = drop_more xs i x within ∙ ap (λ y. y ∷ drop (i + 1) xs) (sym is)
-
--- the items that a loop has seen, with the one that it is at
-pub last_item : {X : Type 0} (xs : List X) (i : ℕ) (x : X) → i < length xs → x ≡ get_or xs i x → take (i + 1) xs ≡ take i xs ++ x ∷ []
-last_item xs i x within is = take_more xs i x within ∙ ap (λ y. take i xs ++ y ∷ []) (sym is)
-
 -- what a loop has put, before what is left to it
 pub joined : {X : Type 0} (old here rest : List X) {new left whole : List X} → new ≡ old ++ here → left ≡ here ++ rest → old ++ left ≡ whole → new ++ rest ≡ whole
 joined old here rest put next before = ap (λ xs. xs ++ rest) put ∙ append_assoc old here rest ∙ ap (λ xs. old ++ xs) (sym next) ∙ before
 
 -- the part at a place, a place past the last part, and the parts behind a place
 pub part_here : (vs : List Value) (i : ℕ) (v : Value) → i < length vs → v ≡ get_or vs i v → first_part (cells_of (map cell (drop i vs))) ≡ cell v
-part_here vs i v within is = ap (λ (xs : List Value). first_part (cells_of (map cell xs))) (next_item vs i v within is)
+part_here vs i v within is = ap (λ (xs : List Value). first_part (cells_of (map cell xs))) (drop-item vs i v within is)
 
 pub no_part_here : (vs : List Value) (i : ℕ) → length vs ≤ i → first_part (cells_of (map cell (drop i vs))) ≡ null
 no_part_here vs i past = ap (λ (xs : List Value). first_part (cells_of (map cell xs))) (drop_all i vs past)

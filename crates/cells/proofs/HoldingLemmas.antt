@@ -13,13 +13,13 @@ use Rattle.arrow_schema.specs.declared.types.Field.{Field}
 use Rattle.cells.specs.Cell.{Cell}
 use Rattle.cells.specs.Dictionary.{with_entry, with_entries, own_holding, entry_limit, is_within, has_few_entries, cells_at, holdings, holdings_below, holdings_from}
 use Rattle.cells.specs.laws.Entries.{entries_grow, entries_few}
-use Rattle.cells.proofs.CellLemmas.{next_item}
+use Rattle.facts.specs.laws.Lists.{drop-item}
 
 -- the step of a loop over cells
 pub next_value : (es : List Cell) (cells : List (Bor Value)) (i : ℕ) (x : Bor Value) → i < length cells → x ≡ get_or cells i x
     → with_entries es (map cell_behind (drop i cells)) ≡ with_entries (with_entry es (cell x.now)) (map cell_behind (drop (i + 1) cells))
 unfolding with_entries
-next_value es cells i x lt is = rw (next_item cells i x lt is) refl
+next_value es cells i x lt is = rw (drop-item cells i x lt is) refl
 
 pub ruleset entries_rules = (entries_grow, entries_few)
 
@@ -60,5 +60,5 @@ pub next_column : (fs : List Field) (i : ℕ) (f : Field) (rows : List (List Cel
     ≡ (list_all has_few_entries (holdings (column_of f) (cells_at i rows)) && list_all has_few_entries (holdings_from (i + 1) (columns_of (map column_of (drop (i + 1) fs))) rows))
 unfolding holdings_from
 next_column fs i f rows lt is =
-    ap (λ (xs : List Field). list_all has_few_entries (holdings_from i (columns_of (map column_of xs)) rows)) (next_item fs i f lt is)
+    ap (λ (xs : List Field). list_all has_few_entries (holdings_from i (columns_of (map column_of xs)) rows)) (drop-item fs i f lt is)
     ∙ list_all-append has_few_entries (holdings (column_of f) (cells_at i rows)) (holdings_from (i + 1) (columns_of (map column_of (drop (i + 1) fs))) rows)

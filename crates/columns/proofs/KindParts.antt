@@ -9,14 +9,6 @@ use Rattle.columns.specs.Sound.{has_sound_children, is_kind_sound}
 use Rattle.columns.specs.Tests.{has_short_validity, has_short_buffer, has_bad_offsets}
 use Rattle.columns.specs.Texts.{has_utf8_texts}
 
-pub sound_parts : (k kind : Kind) (a : Array) → k ≡ kind → is_kind_sound k a ≡ true → (has_short_buffer kind a ≡ false) × (has_bad_offsets kind a ≡ false) × (has_sound_children kind a ≡ true)
-sound_parts k kind a is sound =
-    let own : is_kind_sound kind a ≡ true = subst (λ (x : Kind). is_kind_sound x a ≡ true) is sound in
-    let behind = (and_parts (not (has_short_validity a)) _ own).1 in
-    let buffer = and_parts (not (has_short_buffer kind a)) _ behind in
-    let offsets = and_parts (not (has_bad_offsets kind a)) _ buffer.1 in
-    (not-true _ buffer.0, not-true _ offsets.0, offsets.1)
-
 pub text_parts : (k kind : Kind) (a : Array) (i : ℕ) → k ≡ kind → has_utf8_texts (kind_cell k a i) ≡ true → has_utf8_texts (kind_cell kind a i) ≡ true
 text_parts k kind a i is texts = subst (λ (x : Kind). has_utf8_texts (kind_cell x a i) ≡ true) is texts
 

@@ -22,7 +22,8 @@ use Rattle.columns.specs.laws.Rows.{fewer_sound}
 use Rattle.facts.specs.laws.Lists.{drop-item}
 use Rattle.arrays.specs.inner.Weights.{has_one_weight, valid_weight}
 use Rattle.arrays.proofs.SpanWeights.{known_weight, one_slot, valid_weighs, column_one_weight, valid_run, null_run, run_more, slot_more, next_total, parts_next, parts_end, sound_next}
-use Rattle.arrays.proofs.KindWeights.{sound_parts, items_total, fixed_total, fields_total, fixed_within}
+use Rattle.columns.specs.laws.SoundParts.{sound_parts}
+use Rattle.arrays.proofs.KindWeights.{items_total, fixed_total, fields_total, fixed_within}
 use Rattle.arrays.proofs.weights.+weights.Goals as goal
 
 pub span_weight-returns-then-has_one_weight : goal.span_weight-returns-then-has_one_weight

@@ -6,7 +6,7 @@ use Rattle.cells.specs.declared.value.Value.{Value}
 use Rattle.cells.specs.Cell.{Cell, cells_of}
 use Rattle.cells.specs.View.{cell}
 use Rattle.cells.specs.Fit.{fits, all_cells, each_fits}
-use Rattle.cells.proofs.CellLemmas.{next_item}
+use Rattle.facts.specs.laws.Lists.{drop-item}
 use Rattle.cells.proofs.fit.+fits.Goals as goal
 
 pub all_fit-loop-value-preserved : goal.all_fit-loop-value-preserved
@@ -15,7 +15,7 @@ all_fit-loop-value-preserved t c =
     let i = c.loop-value.value-index in
     let passes : Cell → Bool = fits (column_of c.args.item.now) in
     let rest : Bool = all_cells passes (cells_of (map cell (drop (i + 1) values))) in
-    let next = ap (λ (vs : List Value). all_cells passes (cells_of (map cell vs))) (next_item values i c.value-item.result c.loop-value-test.true c.value-item.is) in
+    let next = ap (λ (vs : List Value). all_cells passes (cells_of (map cell vs))) (drop-item values i c.value-item.result c.loop-value-test.true c.value-item.is) in
     sym (next ∙ ap (λ (b : Bool). b && rest) (sym c.fits.ensures ∙ c.if-not-fits.false)) ∙ c.loop-value.invariant
 
 pub all_fit-returns-then-not-fits : goal.all_fit-returns-then-not-fits
@@ -24,7 +24,7 @@ all_fit-returns-then-not-fits t c =
     let i = c.loop-value.value-index in
     let passes : Cell → Bool = fits (column_of c.args.item.now) in
     let rest : Bool = all_cells passes (cells_of (map cell (drop (i + 1) values))) in
-    let next = ap (λ (vs : List Value). all_cells passes (cells_of (map cell vs))) (next_item values i c.value-item.result c.loop-value-test.true c.value-item.is) in
+    let next = ap (λ (vs : List Value). all_cells passes (cells_of (map cell vs))) (drop-item values i c.value-item.result c.loop-value-test.true c.value-item.is) in
     sym (next ∙ ap (λ (b : Bool). b && rest) (sym c.fits.ensures ∙ c.if-not-fits.true)) ∙ c.loop-value.invariant
 
 -- the step of a loop over fields and their parts
@@ -32,7 +32,7 @@ next_part : (fields : List Field) (parts : List Value) (i : ℕ) (f : Field) (p 
     → each_fits (columns_of (map column_of (drop i fields))) (cells_of (map cell (drop i parts)))
     ≡ (fits (column_of f) (cell p) && each_fits (columns_of (map column_of (drop (i + 1) fields))) (cells_of (map cell (drop (i + 1) parts))))
 unfolding each_fits
-next_part fields parts i f p in_fields f_is in_parts p_is = rw (next_item fields i f in_fields f_is, next_item parts i p in_parts p_is) refl
+next_part fields parts i f p in_fields f_is in_parts p_is = rw (drop-item fields i f in_fields f_is, drop-item parts i p in_parts p_is) refl
 
 pub each_fits-loop-i-preserved : goal.each_fits-loop-i-preserved
 each_fits-loop-i-preserved t c =

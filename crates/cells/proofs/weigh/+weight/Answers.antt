@@ -7,7 +7,8 @@ use Rattle.cells.specs.declared.value.Value.TheVariants.{Null}
 use Rattle.cells.specs.Cell.{Cell, Cells, null, cells_of}
 use Rattle.cells.specs.View.{cell}
 use Rattle.cells.specs.Weight.{weight, kind_weight, parts_weight, first_part, sum_of, items_in, fixed_sum, parts_in, capped_weight}
-use Rattle.cells.proofs.CellLemmas.{next_item, part_here, no_part_here, parts_behind}
+use Rattle.facts.specs.laws.Lists.{drop-item}
+use Rattle.cells.proofs.CellLemmas.{part_here, no_part_here, parts_behind}
 use Rattle.cells.proofs.weigh.+weight.Goals as goal
 use Rattle.cells.proofs.weigh.+weight.Goals.{parts_weight-in-Some+in-Some-light_weight, parts_weight-in-Some+in-None-light_weight, parts_weight-in-None}
 
@@ -18,7 +19,7 @@ items_weight-loop-value-preserved t c =
     let w : Cell → ℕ = weight (column_of c.args.item.now) in
     let rest : ℕ = sum_of w (cells_of (map cell (drop (i + 1) values))) in
     let left : ℕ = sum_of w (cells_of (map cell (drop i values))) in
-    let next : left ≡ w (cell c.value-item.result) + rest = ap (λ (vs : List Value). sum_of w (cells_of (map cell vs))) (next_item values i c.value-item.result c.loop-value-test.true c.value-item.is) in
+    let next : left ≡ w (cell c.value-item.result) + rest = ap (λ (vs : List Value). sum_of w (cells_of (map cell vs))) (drop-item values i c.value-item.result c.loop-value-test.true c.value-item.is) in
     let same : capped_weight (c.add_weights-total.result + rest) ≡ capped_weight (c.loop-value.total + left) = omega (arith, next, c.weight.ensures, c.add_weights-total.ensures) in
     (same ∙ c.loop-value.invariant.0, omega (arith, c.add_weights-total.ensures))
 
@@ -94,7 +95,7 @@ parts_weight-loop-i-preserved t c =
     let rest : ℕ = parts_weight behind (cells_of (map cell (drop (i + 1) parts))) in
     let left : ℕ = parts_weight (columns_of (map column_of (drop i fields))) (cells_of (map cell (drop i parts))) in
     let next : left ≡ w part + rest =
-    ap (λ (fs : List Field). parts_weight (columns_of (map column_of fs)) (cells_of (map cell (drop i parts)))) (next_item fields i field c.loop-i-test.true c.index-fields-i.is)
+    ap (λ (fs : List Field). parts_weight (columns_of (map column_of fs)) (cells_of (map cell (drop i parts)))) (drop-item fields i field c.loop-i-test.true c.index-fields-i.is)
     ∙ ap (λ (cs : Cells). w part + parts_weight behind cs) (parts_behind parts i) in
     let absent : cell Null ≡ null = search (rules, value_lemmas) in
     let weighed : c.match-get.part_weight ≡ capped_weight (w part) =

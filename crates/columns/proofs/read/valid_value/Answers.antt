@@ -13,7 +13,8 @@ use Rattle.columns.specs.CellAt.{kind_cell}
 use Rattle.columns.specs.Sound.{has_sound_children}
 use Rattle.columns.specs.Texts.{has_utf8_texts}
 use Rattle.columns.specs.View.{view_array}
-use Rattle.columns.proofs.KindParts.{sound_parts, text_parts, cell_by}
+use Rattle.columns.specs.laws.SoundParts.{sound_parts}
+use Rattle.columns.proofs.KindParts.{text_parts, cell_by}
 use Rattle.columns.proofs.read.valid_value.Goals as goal
 
 pub returns-in-Null : goal.returns-in-Null
