@@ -1,6 +1,7 @@
 mod Opened
 mod Formatted
 mod Asked
+mod AtNames
 mod EditedCounts
 mod Tested
 mod Decided

@@ -1,8 +1,35 @@
-use Rattle.std.specs.Prelude.{Err}
-use Rattle.std.proofs.Common.{sym, ap, ◌∙◌}
+use Rattle.std.specs.Prelude.{◌&&◌, ◌==◌, nat_le, nat_lt, Err}
+use Rattle.std.proofs.Common.{◌≡◌, ◌≤◌, ◌+◌, ◌^◌, ℕ, true, sym, ap, ◌∙◌, arith}
+use Rattle.std.proofs.lemmas.Bool.{and_parts, leb-true, eqb-true}
 use Rattle.std.proofs.lemmas.Result.{IfOk-weaker}
+use Rattle.segments.specs.Sectors.{sector_count}
+use Rattle.catalogue.specs.Entries.{is_segment, is_between}
+use Rattle.catalogue.specs.declared.entry.Segment.{Segment}
+use Rattle.catalogue.specs.declared.limits.TheConstants.{MAX_SEGMENT_ROWS}
+use Rattle.commit.specs.Standing.{is_on_device}
 use Rattle.store.specs.Held.{rows_in_bytes, segment_rows}
 use Rattle.store.proofs.reading.read_segment.Goals as goal
+
+-- the bytes of a segment that lies on a device lie there
+bytes_fit : (size : ℕ) (s : Segment) → is_on_device size s.place.run ≡ true → is_segment s ≡ true → s.place.run.start + sector_count s.place.bytes ≤ size
+bytes_fit size s on sound =
+    let run = s.place.run in
+    let placed = and_parts (nat_le 2 run.start) (nat_le 1 run.count && nat_le (run.start + run.count) size) on in
+    let ends = and_parts (nat_le 1 run.count) (nat_le (run.start + run.count) size) placed.1 in
+    let few = is_between 1 MAX_SEGMENT_ROWS s.rows in
+    let own = and_parts (nat_lt run.start (2 ^ 64) && nat_lt s.place.bytes (2 ^ 64)) (nat_le 1 s.place.bytes && ((run.count == sector_count s.place.bytes) && few)) sound in
+    let some = and_parts (nat_le 1 s.place.bytes) ((run.count == sector_count s.place.bytes) && few) own.1 in
+    let count = and_parts (run.count == sector_count s.place.bytes) few some.1 in
+    omega (arith, leb-true (run.start + run.count) size ends.1, eqb-true run.count (sector_count s.place.bytes) count.0)
+
+pub read_run-requires-clause-within : goal.read_run-requires-clause-within
+read_run-requires-clause-within g c = bytes_fit (g.D.SectorDevice.size c.args.device.now) c.args.segment c.requires.placed c.requires.sound
+
+pub read_run-requires-clause-countable : goal.read_run-requires-clause-countable
+read_run-requires-clause-countable g c =
+    let size = g.D.SectorDevice.size c.args.device.now in
+    let limits = and_parts (nat_le 16 size) (nat_le size 4194304) c.requires.size in
+    omega (arith, leb-true size 4194304 limits.1)
 
 pub returns-in-Ok-clause-rows : goal.returns-in-Ok-clause-rows
 unfolding segment_rows

@@ -1,10 +1,18 @@
-use Rattle.std.proofs.Common.{◌≡◌, Some, sym, ap, ◌∙◌, string_bytes}
+use Rattle.std.specs.Prelude.{◌||◌}
+use Rattle.std.proofs.Common.{◌≡◌, Bool, Some, None, Ok, Err, refl, sym, ap, ◌∙◌, string_bytes}
+use Rattle.sector_dev.specs.Disk.{now, shown_image}
+use Rattle.segments.specs.laws.Usages.{or_false}
 use Rattle.catalogue.specs.Edits.{entry_of}
 use Rattle.catalogue.specs.Entries.{is_entry, plain_entry, runs_of}
 use Rattle.catalogue.specs.laws.Changed.{found_passes}
 use Rattle.commit.specs.laws.Frame.{fault_none}
+use Rattle.query.specs.View.{query_in}
+use Rattle.tables.specs.declared.refusal.Refusal.TheVariants.{NoTable}
+use Rattle.store.specs.Calls.{is_failure, refused}
+use Rattle.store.specs.Changes.{change_of}
 use Rattle.store.specs.Fits.{listed_in}
-use Rattle.store.proofs.ReadTables.{runs_on_device}
+use Rattle.store.proofs.AtNames.{save_at, save_nowhere}
+use Rattle.store.proofs.ReadTables.{runs_on_device, reads_quiet}
 use Rattle.store.proofs.store.Store.decide_save.Goals as goal
 
 pub save_from_entry-requires-clause-placed : goal.save_from_entry-requires-clause-placed
@@ -20,3 +28,40 @@ save_from_entry-requires-clause-sound g c =
     let store = c.args.self.now in
     let found : entry_of (listed_in store) (string_bytes c.args.from) ≡ Some (plain_entry c.in-Some.entry.now) = ap (entry_of (listed_in store)) (sym c.deref.ensures) ∙ sym c.in-Some.ensures.entry in
     found_passes is_entry (listed_in store) (string_bytes c.args.from) (plain_entry c.in-Some.entry.now) c.in-Some.ensures.kept.entries found
+
+pub returns-in-Ok-clause-reads : goal.returns-in-Ok-clause-reads
+returns-in-Ok-clause-reads g c =
+    record { device = c.in-Ok.ensures.reads; kept = refl; halts = sym (or_false c.args.self.now.halted) }
+
+pub returns-in-Ok-clause-answers : goal.returns-in-Ok-clause-answers
+returns-in-Ok-clause-answers g c =
+    let D = g.D.SectorDevice in
+    let store = c.args.self.now in
+    let image = shown_image (now (D.story store.device)) in
+    let found : entry_of (listed_in store) (string_bytes c.args.from) ≡ Some (plain_entry c.in-Some.entry.now) = ap (entry_of (listed_in store)) (sym c.deref.ensures) ∙ sym c.in-Some.ensures.entry in
+    save_at D.tells image (listed_in store) (string_bytes c.args.from) (string_bytes c.args.to) (query_in c.args.query) (plain_entry c.in-Some.entry.now) (Ok (change_of c.in-Ok.change)) found c.in-Ok.ensures.answers
+
+pub returns-in-Some-clause-reads : goal.returns-in-Some-clause-reads
+returns-in-Some-clause-reads g c =
+    record { device = c.in-Err.ensures.reads; kept = refl; halts = c.is_failure-self.ensures ∙ sym (ap (λ (b : Bool). b || is_failure c.in-Err.refusal) c.requires.on) }
+
+pub returns-in-Some-clause-answers : goal.returns-in-Some-clause-answers
+returns-in-Some-clause-answers g c =
+    let D = g.D.SectorDevice in
+    let store = c.args.self.now in
+    let image = shown_image (now (D.story store.device)) in
+    let found : entry_of (listed_in store) (string_bytes c.args.from) ≡ Some (plain_entry c.in-Some.entry.now) = ap (entry_of (listed_in store)) (sym c.deref.ensures) ∙ sym c.in-Some.ensures.entry in
+    save_at D.tells image (listed_in store) (string_bytes c.args.from) (string_bytes c.args.to) (query_in c.args.query) (plain_entry c.in-Some.entry.now) (Err c.in-Err.refusal) found c.in-Err.ensures.answers
+
+pub returns-clause-reads : goal.returns-clause-reads
+returns-clause-reads g c =
+    let D = g.D.SectorDevice in
+    record { device = reads_quiet D.size D.story D.failed D.tells (refused NoTable) c.args.self.now.device refl; kept = refl; halts = sym (or_false c.args.self.now.halted) }
+
+pub returns-clause-answers : goal.returns-clause-answers
+returns-clause-answers g c =
+    let D = g.D.SectorDevice in
+    let store = c.args.self.now in
+    let image = shown_image (now (D.story store.device)) in
+    let none : entry_of (listed_in store) (string_bytes c.args.from) ≡ None = ap (entry_of (listed_in store)) (sym c.deref.ensures) ∙ sym c.in-None.ensures.entry in
+    save_nowhere D.tells image (listed_in store) (string_bytes c.args.from) (string_bytes c.args.to) (query_in c.args.query) none
