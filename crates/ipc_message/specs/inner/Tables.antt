@@ -3,7 +3,7 @@ use Rattle.std.specs.Prelude.{ℕ, List, map, Option, Some, option_map, slice_in
 use Rattle.std.specs.List.{flat_map}
 use Rattle.flatbuf.specs.declared.table.Table.{Table}
 use Rattle.flatbuf.specs.declared.references.References.{References}
-use Rattle.flatbuf.specs.Lookup.{Place, elements, table_behind}
+use Rattle.flatbuf.specs.Lookup.{Place, table_behind}
 use Rattle.flatbuf.specs.Seen.{bytes_of, place_of, levels_of, slot_of, bytes_behind, places_in, levels_behind}
 use Rattle.flatbuf.specs.Walk.{Thing}
 use Rattle.ipc_message.specs.declared.read_tables.FieldTable.{FieldTable}
@@ -46,10 +46,6 @@ type_table t code = type_things supported_codes (levels_of t) (bytes_of t) code 
 -- the field of a table with these children
 abbrev pub field_in : Table → List RawField → RawField
 field_in t children = field_with supported_codes (bytes_of t) (place_of t) children
-
--- its children
-abbrev pub children_in : Table → List RawField
-children_in t = map (field_at supported_codes (levels_of t) (bytes_of t)) (elements (bytes_of t) (slot_of t 5))
 
 -- the fields that references lead to
 abbrev pub fields_behind : References → List RawField
