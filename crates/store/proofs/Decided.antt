@@ -13,7 +13,6 @@ use Rattle.ipc_message.specs.Outcome.{Fails}
 use Rattle.ipc_stream.specs.Meaning.{meaning}
 use Rattle.catalogue.specs.Entries.{PlainCatalogue}
 use Rattle.tables.specs.declared.refusal.Refusal.{Refusal}
-use Rattle.tables.specs.declared.refusal.Refusal.TheVariants.{OutOfMemory}
 use Rattle.tables.specs.Commands.{PlainCommand, create, import_stream, rename, drop_table}
 use Rattle.tables.specs.Refusals.{import_refusal}
 use Rattle.tables.specs.Verdict.{of_meaning, import_tests}

@@ -15,6 +15,7 @@ mod Answered
 mod Began
 mod MoreRows
 mod ReadTables
+mod Quiet
 mod ReadsStore
 mod Roomed
 mod Applied

@@ -7,7 +7,9 @@ use Rattle.store.specs.inner.Appending.{added_to}
 use Rattle.store.specs.inner.Gathered.{gathered_table}
 use Rattle.store.specs.inner.Tests.{decision_of}
 use Rattle.store.proofs.Appended.{weighed_both, heavy_alone, appended_behind}
-use Rattle.store.proofs.ReadTables.{reads_ended}
+use Rattle.store.specs.Calls.{refused}
+use Rattle.store.proofs.Quiet.{passes_quiet, passes_told}
+use Rattle.store.proofs.ReadTables.{reads_ended, reads_quiet}
 use Rattle.store.proofs.appending.append_to_entry.Goals as goal
 
 pub pass_new-requires : goal.pass_new-requires
@@ -39,3 +41,16 @@ returns-in-None-clause-answers g c =
     let passed = rw c.in-None.is at c.in-Ok.ensures.passed in
     inr (inr (heavy_alone D.tells (shown_image (now (D.story c.args.device.now))) (string_bytes c.args.name) e (added_to c.args.new e) passed.0 (gathered_table c.in-Ok-gather_entry.standing) passed.1
     c.in-Ok-gather_entry.ensures.table passed.2))
+
+pub returns-in-Err-clause-reads : goal.returns-in-Err-clause-reads
+returns-in-Err-clause-reads g c =
+    let D = g.D.SectorDevice in
+    reads_quiet D.size D.story D.failed D.tells (refused c.in-Err.refusal) c.args.device.now (passes_quiet c.args.new (plain_entry c.args.entry.now) c.in-Err.refusal c.in-Err.ensures.refused).device
+
+pub returns-in-Err-clause-answers : goal.returns-in-Err-clause-answers
+returns-in-Err-clause-answers g c =
+    let D = g.D.SectorDevice in
+    passes_told c.args.new (plain_entry c.args.entry.now) c.in-Err.refusal c.in-Err.ensures.refused D.tells (shown_image (now (D.story c.args.device.now))) (string_bytes c.args.name)
+
+pub returns-in-Err-clause-not_halted : goal.returns-in-Err-clause-not_halted
+returns-in-Err-clause-not_halted g c = (passes_quiet c.args.new (plain_entry c.args.entry.now) c.in-Err.refusal c.in-Err.ensures.refused).halted
