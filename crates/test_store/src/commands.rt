@@ -1,8 +1,8 @@
 // Commands, one after another: what is answered, and what the device holds then.
 use crate::inputs::{Cell, INT, Input};
-use crate::made::{NotMade, assert_no_step};
+use crate::made::{NotMade, assert_no_row};
 use crate::playing::{Slot, WAYS, Way, new_slot, play, shut};
-use crate::shown::layout;
+use crate::shown::is_laid_out;
 use crate::steps::{Step, Steps};
 use Cell::{Null, Number, Text};
 use Input::{Changed, Column, First, Front, Ints, Texts};
@@ -10,7 +10,6 @@ use Step::{
     Append, Close, Create, Export, Format, Give, GiveTable, Import, Open, Read, Remove, Rename,
     Save, Schema, Tables,
 };
-use sector_dev::ModelDevice;
 use std::alloc::Global;
 
 const TWO: Input = Ints(&[7, -1]);
@@ -519,11 +518,6 @@ const READ: &[Row] = &[
     ),
 ];
 
-// Whether a device holds what the text says.
-fn is_laid_out(alloc: Global, device: &mut ModelDevice, want: &str) -> Result<bool, NotMade> {
-    Ok(layout(alloc, device)?.as_str() == want)
-}
-
 // The place of the step whose reply is wrong, or the number of steps where the layout is.
 fn wrong_step_on(
     alloc: Global,
@@ -543,11 +537,12 @@ fn wrong_step(alloc: Global, row: &Row, way: Way) -> Result<Option<usize>, NotMa
     wrong_step_on(alloc, &mut new_slot(alloc, row.0)?, row, way)
 }
 
-fn wrong_row(alloc: Global, rows: &[Row]) -> Result<Option<(usize, usize)>, NotMade> {
+// The place of the first row of which a step is wrong, a hundred for each, and that of the step.
+fn wrong_row(alloc: Global, rows: &[Row]) -> Result<Option<usize>, NotMade> {
     for (place, row) in rows.iter().enumerate() {
         for way in WAYS {
             if let Some(step) = wrong_step(alloc, row, *way)? {
-                return Ok(Some((place, step)));
+                return Ok(Some(place.wrapping_mul(100).wrapping_add(step)));
             }
         }
     }
@@ -556,20 +551,20 @@ fn wrong_row(alloc: Global, rows: &[Row]) -> Result<Option<(usize, usize)>, NotM
 
 #[test]
 fn changes_take_the_lowest_runs_that_fit(rt: HostRuntime) {
-    assert_no_step(&rt, wrong_row(rt.alloc(), PLACES));
+    assert_no_row(&rt, wrong_row(rt.alloc(), PLACES));
 }
 
 #[test]
 fn room_is_told_of_a_run_that_stands_nowhere(rt: HostRuntime) {
-    assert_no_step(&rt, wrong_row(rt.alloc(), ROOM));
+    assert_no_row(&rt, wrong_row(rt.alloc(), ROOM));
 }
 
 #[test]
 fn a_table_is_read_as_it_was_written(rt: HostRuntime) {
-    assert_no_step(&rt, wrong_row(rt.alloc(), READ));
+    assert_no_row(&rt, wrong_row(rt.alloc(), READ));
 }
 
 #[test]
 fn the_first_test_that_fails_is_told(rt: HostRuntime) {
-    assert_no_step(&rt, wrong_row(rt.alloc(), REFUSED));
+    assert_no_row(&rt, wrong_row(rt.alloc(), REFUSED));
 }

@@ -5,7 +5,7 @@ use crate::made::{NotMade, assert_no_row};
 use crate::openings::{STORED, T, U, device_after};
 use crate::playing::{Slot, Way, is_played, replies_of, shut, wrong_reply};
 use crate::steps::{Step, Steps};
-use crate::stops::are_refused;
+use crate::stops::{are_refused, count_below};
 use Input::Column;
 use Step::{Append, Export, Give, Open, Read, Remove, Save, Tables};
 use sector_dev::ModelDevice;
@@ -61,7 +61,7 @@ fn survives_on(alloc: Global, slot: &mut Slot, done: usize, way: Way) -> Result<
 }
 
 fn survives(alloc: Global, k: u64, way: Way) -> Result<bool, NotMade> {
-    let done = READS.iter().filter(|reads| **reads < k).count();
+    let done = count_below(READS, k);
     survives_on(alloc, &mut Some(Place::Shut(failing(alloc, k)?)), done, way)
 }
 

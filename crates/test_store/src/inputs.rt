@@ -99,28 +99,39 @@ fn stream_of(
 // As many rows as a record batch may have.
 const ROWS_IN_BATCH: usize = 16_777_216;
 
-// So many rows without a column, in as few record batches as they may have: many take no longer to make than few.
-fn rows_alone(alloc: Global, rows: usize) -> Result<Vec<u8>, NotMade> {
-    let mut stream = Vec::new(alloc);
-    write_schema(alloc, &mut stream, &new_schema(alloc, &[])?)?;
+// Adds a record batch of rows without a column.
+fn add_rows_alone(alloc: Global, stream: &mut Vec<u8>, rows: usize) -> Result<(), NotMade> {
+    if rows > ROWS_IN_BATCH {
+        return Err(NotMade);
+    }
+    let contents = BatchContents {
+        rows: rows as u64,
+        nodes: Vec::new(alloc),
+        buffers: &[],
+    };
+    Ok(write_batch(alloc, stream, contents)?)
+}
+
+fn add_schema_alone(alloc: Global, stream: &mut Vec<u8>) -> Result<(), NotMade> {
+    Ok(write_schema(alloc, stream, &new_schema(alloc, &[])?)?)
+}
+
+fn add_stream_alone(alloc: Global, stream: &mut Vec<u8>, rows: usize) -> Result<(), NotMade> {
+    add_schema_alone(alloc, stream)?;
     for _ in 0..rows / ROWS_IN_BATCH {
-        let most = BatchContents {
-            rows: ROWS_IN_BATCH as u64,
-            nodes: Vec::new(alloc),
-            buffers: &[],
-        };
-        write_batch(alloc, &mut stream, most)?;
+        add_rows_alone(alloc, stream, ROWS_IN_BATCH)?;
     }
     let rest = rows % ROWS_IN_BATCH;
     if rest > 0 {
-        let last = BatchContents {
-            rows: rest as u64,
-            nodes: Vec::new(alloc),
-            buffers: &[],
-        };
-        write_batch(alloc, &mut stream, last)?;
+        add_rows_alone(alloc, stream, rest)?;
     }
-    write_end(&mut stream)?;
+    Ok(write_end(stream)?)
+}
+
+// So many rows without a column, in as few record batches as they may have: many take no longer to make than few.
+fn rows_alone(alloc: Global, rows: usize) -> Result<Vec<u8>, NotMade> {
+    let mut stream = Vec::new(alloc);
+    add_stream_alone(alloc, &mut stream, rows)?;
     Ok(stream)
 }
 

@@ -5,17 +5,16 @@ use std::alloc::{AllocError, AllocFailed};
 use std::process::Abort;
 
 /// Nothing was made: memory was refused, or a row of a test is not of its form.
-#[derive(Clone, Copy, Debug, PartialEq)]
+#[derive(Clone, Copy)]
 pub struct NotMade;
 
 /// The place of the first wrong row of a table, from 0: there is none.
 pub fn assert_no_row(rt: &impl Abort, wrong: Result<Option<usize>, NotMade>) {
-    assert!(rt; wrong == Ok(None), "{wrong:?}");
-}
-
-/// The row and the step of the first wrong reply: there is none.
-pub fn assert_no_step(rt: &impl Abort, wrong: Result<Option<(usize, usize)>, NotMade>) {
-    assert!(rt; wrong == Ok(None), "{wrong:?}");
+    match wrong {
+        Ok(None) => {}
+        Ok(Some(place)) => panic!(rt; "row {place}"),
+        Err(NotMade) => panic!(rt; "not made"),
+    }
 }
 
 impl From<AllocError> for NotMade {

@@ -313,34 +313,23 @@ fn the_first_cause_is_told(rt: HostRuntime) {
     );
 }
 
-// What a device with one changed byte holds; `None`: a segment does not hold the rows that the catalogue tells.
-fn contents_after(
-    alloc: Global,
-    device: &ModelDevice,
-    one: Change,
-) -> Result<Option<String>, NotMade> {
-    Ok(contents(alloc, &mut changed(device, &[one])?).ok())
-}
-
 // The only byte whose change gives another table: the name `t`.
 const NAME: (u64, usize) = (5, 8);
 
-// Whether these are the tables of an epoch, or none are shown.
-fn may_show(found: Option<&str>, (n, at, _): Change) -> bool {
-    match found {
-        None => n == 5,
-        Some(text) => {
-            text == NEWER
-                || text == "damaged"
-                || text == OLDER && n < 2
-                || (n, at) == NAME && text.ends_with(": 1 2 3")
-        }
-    }
+// Whether these are the tables of an epoch.
+fn may_show(text: &str, (n, at, _): Change) -> bool {
+    text == NEWER
+        || text == "damaged"
+        || text == OLDER && n < 2
+        || (n, at) == NAME && text.as_bytes().ends_with(b": 1 2 3")
 }
 
+// Whether a device with one changed byte has the tables of an epoch. It may have a segment that does not hold the rows that the catalogue tells.
 fn is_no_other(alloc: Global, device: &ModelDevice, one: Change) -> Result<bool, NotMade> {
-    let found = contents_after(alloc, device, one)?;
-    Ok(may_show(found.as_deref(), one))
+    match contents(alloc, &mut changed(device, &[one])?) {
+        Ok(text) => Ok(may_show(text.as_str(), one)),
+        Err(NotMade) => Ok(one.0 == 5),
+    }
 }
 
 const BITS: &[u8] = &[1, 2, 4, 8, 16, 32, 64, 128];

@@ -74,19 +74,31 @@ fn exported(alloc: Global, store: &mut Store<ModelDevice>, name: &str) -> Reply 
     }
 }
 
-fn on_store(alloc: Global, store: Store<ModelDevice>, call: Call) -> (Place<ModelDevice>, Reply) {
+// What is asked of an open store that stays open.
+fn reply_of(alloc: Global, store: &mut Store<ModelDevice>, call: Call) -> Reply {
+    match call {
+        Call::Apply(command) => applied(alloc, store, command),
+        Call::Tables => listed(alloc, store),
+        Call::Schema(name) => schema_at(alloc, store, &name),
+        Call::Read(name) => read_at(alloc, store, &name),
+        Call::Export(name) => exported(alloc, store, &name),
+        Call::Format | Call::Open | Call::Close => Reply::Done,
+    }
+}
+
+fn on_open(alloc: Global, store: Store<ModelDevice>, call: Call) -> (Place<ModelDevice>, Reply) {
     let mut store = store;
-    let reply = match call {
-        Call::Format => return opened(Store::format(alloc, store.close())),
-        Call::Open => return opened(Store::open(alloc, store.close())),
-        Call::Close => return (Place::Shut(store.close()), Reply::Done),
-        Call::Apply(command) => applied(alloc, &mut store, command),
-        Call::Tables => listed(alloc, &store),
-        Call::Schema(name) => schema_at(alloc, &store, &name),
-        Call::Read(name) => read_at(alloc, &mut store, &name),
-        Call::Export(name) => exported(alloc, &mut store, &name),
-    };
+    let reply = reply_of(alloc, &mut store, call);
     (Place::Open(store), reply)
+}
+
+fn on_store(alloc: Global, store: Store<ModelDevice>, call: Call) -> (Place<ModelDevice>, Reply) {
+    match call {
+        Call::Format => opened(Store::format(alloc, store.close())),
+        Call::Open => opened(Store::open(alloc, store.close())),
+        Call::Close => (Place::Shut(store.close()), Reply::Done),
+        call => on_open(alloc, store, call),
+    }
 }
 
 /// Takes one call of a store.
@@ -163,7 +175,8 @@ pub fn wrong_reply(
     if replies.len() != steps.len() {
         return Ok(Some(replies.len()));
     }
-    for (place, (reply, (_, want))) in replies.iter().zip(steps).enumerate() {
+    for (place, (_, want)) in steps.iter().enumerate() {
+        let reply = replies.get(place).ok_or(NotMade)?;
         if !says(alloc, reply, want)? {
             return Ok(Some(place));
         }

@@ -1,7 +1,7 @@
 // Selections of a table that is made of rows, and not read from a store (query). All others are made by commands, here and by scripts (tests/texts, tests/queries).
 use crate::inputs::{Cell, Given, INT, new_schema, rows_of};
 use crate::made::{NotMade, assert_no_row};
-use crate::steps::{Asked, query, table_text};
+use crate::steps::{Asked, add_table, query};
 use Cell::{Null, Number, Text};
 use selection::select;
 use std::alloc::Global;
@@ -46,17 +46,27 @@ fn table_of(alloc: Global, columns: &[&str], rows: Given) -> Result<Table, NotMa
     Table::new(alloc, schema, rows_of(alloc, rows)?).map_err(|_| NotMade)
 }
 
-fn selected(alloc: Global, table: &Table, asked: Asked) -> Result<String, NotMade> {
+fn add_selected(
+    alloc: Global,
+    text: &mut String,
+    table: &Table,
+    asked: Asked,
+) -> Result<(), NotMade> {
     match select(alloc, table, &query(alloc, asked)?) {
-        Ok(found) => table_text(alloc, &found),
-        Err(refusal) => Ok(refusal.to_string(alloc)?),
+        Ok(found) => add_table(alloc, text, &found),
+        Err(refusal) => Ok(write!(text, "{refusal}")?),
     }
+}
+
+fn is_selected(alloc: Global, table: &Table, asked: Asked, want: &str) -> Result<bool, NotMade> {
+    let mut text = String::new(alloc);
+    add_selected(alloc, &mut text, table, asked)?;
+    Ok(text.as_str() == want)
 }
 
 fn wrongly_selected(alloc: Global) -> Result<Option<usize>, NotMade> {
     for (place, (columns, rows, asked, want)) in SELECTED.iter().enumerate() {
-        let found = selected(alloc, &table_of(alloc, columns, rows)?, *asked)?;
-        if found.as_str() != *want {
+        if !is_selected(alloc, &table_of(alloc, columns, rows)?, *asked, want)? {
             return Ok(Some(place));
         }
     }

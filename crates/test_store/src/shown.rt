@@ -1,6 +1,6 @@
 // What a device holds, as texts: where its store keeps what, and the values of its tables, read without a store.
 use crate::made::NotMade;
-use crate::steps::{add_part, add_values};
+use crate::steps::{add_comma, add_values};
 use arrow_schema::same_shape;
 use catalogue::{Segment, TableEntry};
 use commit::{Commit, OpenError, recover};
@@ -34,11 +34,13 @@ fn is_part(entry: &TableEntry, segment: Segment, table: &Table) -> bool {
 
 // Adds the values of a segment of a table.
 fn add_segment(
+    alloc: Global,
     text: &mut String,
+    device: &mut ModelDevice,
     entry: &TableEntry,
     segment: Segment,
-    table: Table,
 ) -> Result<(), NotMade> {
+    let table = table_at(alloc, device, segment)?;
     if is_part(entry, segment, &table) {
         add_values(text, &table)
     } else {
@@ -47,69 +49,83 @@ fn add_segment(
 }
 
 // As `t: 7 -1`.
-fn values_of(
+fn add_values_of(
     alloc: Global,
+    text: &mut String,
     device: &mut ModelDevice,
     entry: &TableEntry,
-) -> Result<String, NotMade> {
+) -> Result<(), NotMade> {
     let name = entry.name.as_str();
-    let mut text = format!(in alloc; "{name}:")?;
+    write!(text, "{name}:")?;
     for segment in &entry.segments {
-        let table = table_at(alloc, device, *segment)?;
-        add_segment(&mut text, entry, *segment, table)?;
+        add_segment(alloc, text, device, entry, *segment)?;
     }
-    Ok(text)
+    Ok(())
 }
 
-fn all_values(
+fn add_all_values(
     alloc: Global,
+    text: &mut String,
     device: &mut ModelDevice,
     entries: &[TableEntry],
-) -> Result<String, NotMade> {
-    let mut all = String::new(alloc);
-    for entry in entries {
-        add_part(&mut all, &values_of(alloc, device, entry)?)?;
+) -> Result<(), NotMade> {
+    for (place, entry) in entries.iter().enumerate() {
+        add_comma(text, place)?;
+        add_values_of(alloc, text, device, entry)?;
     }
-    Ok(all)
+    Ok(())
+}
+
+fn add_contents(alloc: Global, text: &mut String, device: &mut ModelDevice) -> Result<(), NotMade> {
+    match recover::<StoredCatalogue, ModelDevice>(alloc, device) {
+        Ok(store) => add_all_values(alloc, text, device, store.catalogue.list.entries()),
+        Err(OpenError::NotAStore) => Ok(text.push_str("none")?),
+        Err(OpenError::Damaged(_)) => Ok(text.push_str("damaged")?),
+        Err(_) => Err(NotMade),
+    }
 }
 
 /// The values of each table, as `t: 7 -1, u:`; `none` where there is no store, and `damaged` where that is.
 pub fn contents(alloc: Global, device: &mut ModelDevice) -> Result<String, NotMade> {
-    match recover::<StoredCatalogue, ModelDevice>(alloc, device) {
-        Ok(store) => all_values(alloc, device, store.catalogue.list.entries()),
-        Err(OpenError::NotAStore) => Ok(String::from_str(alloc, "none")?),
-        Err(OpenError::Damaged(_)) => Ok(String::from_str(alloc, "damaged")?),
-        Err(_) => Err(NotMade),
-    }
-}
-
-// As `t: 3+1 5+2`: the first sector of each segment, and how many there are.
-fn places_of(alloc: Global, entry: &TableEntry) -> Result<String, NotMade> {
-    let name = entry.name.as_str();
-    let mut text = format!(in alloc; "{name}:")?;
-    for segment in &entry.segments {
-        let (start, count) = (segment.place.run.start, segment.place.run.count);
-        text.push_str(&format!(in alloc; " {start}+{count}")?)?;
-    }
+    let mut text = String::new(alloc);
+    add_contents(alloc, &mut text, device)?;
     Ok(text)
 }
 
-// As `epoch 2, 201 in 4, t: 3+1`.
-fn layout_text(alloc: Global, commit: Commit, entries: &[TableEntry]) -> Result<String, NotMade> {
-    let (epoch, place) = (commit.epoch, commit.catalogue);
-    let (bytes, start) = (place.bytes, place.run.start);
-    let mut all = format!(in alloc; "epoch {epoch}, {bytes} in {start}")?;
-    for entry in entries {
-        add_part(&mut all, &places_of(alloc, entry)?)?;
+// As `t: 3+1 5+2`: the first sector of each segment, and how many there are.
+fn add_places_of(text: &mut String, entry: &TableEntry) -> Result<(), NotMade> {
+    let name = entry.name.as_str();
+    write!(text, "{name}:")?;
+    for segment in &entry.segments {
+        let (start, count) = (segment.place.run.start, segment.place.run.count);
+        write!(text, " {start}+{count}")?;
     }
-    Ok(all)
+    Ok(())
 }
 
-/// The epoch, the bytes of the catalogue and their first sector, and the segments of each table; `none` where there is no store.
-pub fn layout(alloc: Global, device: &mut ModelDevice) -> Result<String, NotMade> {
+// As `epoch 2, 201 in 4, t: 3+1`.
+fn add_places(text: &mut String, commit: Commit, entries: &[TableEntry]) -> Result<(), NotMade> {
+    let (epoch, place) = (commit.epoch, commit.catalogue);
+    let (bytes, start) = (place.bytes, place.run.start);
+    write!(text, "epoch {epoch}, {bytes} in {start}")?;
+    for entry in entries {
+        text.push_str(", ")?;
+        add_places_of(text, entry)?;
+    }
+    Ok(())
+}
+
+fn add_layout(alloc: Global, text: &mut String, device: &mut ModelDevice) -> Result<(), NotMade> {
     match recover::<StoredCatalogue, ModelDevice>(alloc, device) {
-        Ok(store) => layout_text(alloc, store.commit, store.catalogue.list.entries()),
-        Err(OpenError::NotAStore) => Ok(String::from_str(alloc, "none")?),
+        Ok(store) => add_places(text, store.commit, store.catalogue.list.entries()),
+        Err(OpenError::NotAStore) => Ok(text.push_str("none")?),
         Err(_) => Err(NotMade),
     }
+}
+
+/// Whether these are the epoch, the bytes of the catalogue and their first sector, and the segments of each table; `none` where there is no store.
+pub fn is_laid_out(alloc: Global, device: &mut ModelDevice, want: &str) -> Result<bool, NotMade> {
+    let mut text = String::new(alloc);
+    add_layout(alloc, &mut text, device)?;
+    Ok(text.as_str() == want)
 }

@@ -135,30 +135,30 @@ pub fn call_of(alloc: Global, step: Step) -> Result<Call, NotMade> {
     })
 }
 
-/// Adds a part behind a comma.
-pub fn add_part(all: &mut String, part: &str) -> Result<(), NotMade> {
-    if !all.is_empty() {
-        all.push_str(", ")?;
+/// Adds a comma, unless this is the first part.
+pub fn add_comma(text: &mut String, place: usize) -> Result<(), NotMade> {
+    if place > 0 {
+        text.push_str(", ")?;
     }
-    Ok(all.push_str(part)?)
+    Ok(())
 }
 
 // As `t 2, u 0`.
-fn tables_text(alloc: Global, tables: &[(String, u64)]) -> Result<String, NotMade> {
-    let mut all = String::new(alloc);
-    for (name, rows) in tables {
-        add_part(&mut all, &format!(in alloc; "{name} {rows}")?)?;
+fn add_tables(text: &mut String, tables: &[(String, u64)]) -> Result<(), NotMade> {
+    for (place, (name, rows)) in tables.iter().enumerate() {
+        add_comma(text, place)?;
+        write!(text, "{name} {rows}")?;
     }
-    Ok(all)
+    Ok(())
 }
 
 // As `"a":int32?, "b":int8`.
-fn schema_text(alloc: Global, schema: &Schema) -> Result<String, NotMade> {
-    let mut all = String::new(alloc);
-    for field in &schema.fields {
-        add_part(&mut all, &field_text(alloc, field)?)?;
+fn add_schema(alloc: Global, text: &mut String, schema: &Schema) -> Result<(), NotMade> {
+    for (place, field) in schema.fields.iter().enumerate() {
+        add_comma(text, place)?;
+        text.push_str(&field_text(alloc, field)?)?;
     }
-    Ok(all)
+    Ok(())
 }
 
 fn add_value(text: &mut String, value: ValueRef<'_>) -> Result<(), NotMade> {
@@ -190,39 +190,52 @@ pub fn add_values(text: &mut String, table: &Table) -> Result<(), NotMade> {
 }
 
 /// As `"a":int32?: 7 -1`.
-pub fn table_text(alloc: Global, table: &Table) -> Result<String, NotMade> {
-    let mut text = schema_text(alloc, table.schema())?;
+pub fn add_table(alloc: Global, text: &mut String, table: &Table) -> Result<(), NotMade> {
+    add_schema(alloc, text, table.schema())?;
     text.push_str(":")?;
-    add_values(&mut text, table)?;
-    Ok(text)
+    add_values(text, table)
 }
 
-// As `stream of "a":int32?: 7 -1`, where the bytes are the canonical stream of a table.
-fn stream_text(alloc: Global, bytes: &[u8]) -> Result<String, NotMade> {
-    let Ok(table) = decode(alloc, Vec::from_slice(alloc, bytes)?) else {
-        return Err(NotMade);
-    };
-    if encode(alloc, &table)?.as_slice() != bytes {
-        return Ok(String::from_str(alloc, "another stream")?);
+fn is_canonical(alloc: Global, table: &Table, bytes: &[u8]) -> Result<bool, NotMade> {
+    Ok(encode(alloc, table)?.as_slice() == bytes)
+}
+
+// As `stream of "a":int32?: 7 -1`, where the bytes are the canonical stream of the table that they mean.
+fn add_stream_of(
+    alloc: Global,
+    text: &mut String,
+    table: &Table,
+    bytes: &[u8],
+) -> Result<(), NotMade> {
+    if !is_canonical(alloc, table, bytes)? {
+        return Ok(text.push_str("another stream")?);
     }
-    let text = table_text(alloc, &table)?;
-    Ok(format!(in alloc; "stream of {text}")?)
+    text.push_str("stream of ")?;
+    add_table(alloc, text, table)
 }
 
-/// The text of a reply.
-pub fn text_of(alloc: Global, reply: &Reply) -> Result<String, NotMade> {
+fn add_stream(alloc: Global, text: &mut String, bytes: &[u8]) -> Result<(), NotMade> {
+    match decode(alloc, Vec::from_slice(alloc, bytes)?) {
+        Ok(table) => add_stream_of(alloc, text, &table, bytes),
+        Err(_) => Err(NotMade),
+    }
+}
+
+fn add_reply(alloc: Global, text: &mut String, reply: &Reply) -> Result<(), NotMade> {
     match reply {
-        Reply::Done => Ok(String::from_str(alloc, "ok")?),
-        Reply::Tables(tables) => tables_text(alloc, tables),
-        Reply::Schema(schema) => schema_text(alloc, schema),
-        Reply::Table(table) => table_text(alloc, table),
-        Reply::Bytes(bytes) => stream_text(alloc, bytes),
-        Reply::Refused(refusal) => Ok(refusal.to_string(alloc)?),
-        Reply::NotOpened(refusal) => Ok(refusal.to_string(alloc)?),
+        Reply::Done => Ok(text.push_str("ok")?),
+        Reply::Tables(tables) => add_tables(text, tables),
+        Reply::Schema(schema) => add_schema(alloc, text, schema),
+        Reply::Table(table) => add_table(alloc, text, table),
+        Reply::Bytes(bytes) => add_stream(alloc, text, bytes),
+        Reply::Refused(refusal) => Ok(write!(text, "{refusal}")?),
+        Reply::NotOpened(refusal) => Ok(write!(text, "{refusal}")?),
     }
 }
 
 /// Whether a reply has this text.
 pub fn says(alloc: Global, reply: &Reply, want: &str) -> Result<bool, NotMade> {
-    Ok(text_of(alloc, reply)?.as_str() == want)
+    let mut text = String::new(alloc);
+    add_reply(alloc, &mut text, reply)?;
+    Ok(text.as_str() == want)
 }

@@ -76,6 +76,17 @@ enum Fault {
     Stop(u64),
 }
 
+/// How many of these numbers, of which each is greater than the one before, are less than this one.
+pub fn count_below(numbers: &[u64], end: u64) -> usize {
+    let mut count = 0;
+    for (place, number) in numbers.iter().enumerate() {
+        if *number < end {
+            count = place.wrapping_add(1);
+        }
+    }
+    count
+}
+
 // A device of 16 sectors with these faults.
 fn faulty(alloc: Global, faults: &[Fault]) -> Result<Slot, NotMade> {
     let mut device = ModelDevice::new(alloc, 16)?;
@@ -132,9 +143,8 @@ fn steps_found(found: &str, done: usize) -> Option<usize> {
 }
 
 // Whether the tables of a device have these values.
-fn has(alloc: Global, device: ModelDevice, want: &str) -> Result<bool, NotMade> {
-    let mut device = device;
-    Ok(contents(alloc, &mut device)?.as_str() == want)
+fn has(alloc: Global, device: &mut ModelDevice, want: &str) -> Result<bool, NotMade> {
+    Ok(contents(alloc, device)?.as_str() == want)
 }
 
 // Takes the steps behind the first ones: whether they are done.
@@ -143,7 +153,7 @@ fn goes_on(alloc: Global, slot: &mut Slot, from: usize) -> Result<bool, NotMade>
     if from > 0 && !is_played(alloc, slot, OPENING)? || !is_played(alloc, slot, rest)? {
         return Ok(false);
     }
-    has(alloc, shut(slot)?, "s: 5, w: 5")
+    has(alloc, &mut shut(slot)?, "s: 5, w: 5")
 }
 
 // How many steps were taken, of which so many were acknowledged.
@@ -217,7 +227,7 @@ fn survives(alloc: Global, fault: Fault, way: Way) -> Result<bool, NotMade> {
         Fault::Fail(k) => (k, true),
         Fault::Stop(k) => (k, false),
     };
-    let done = CALLS.iter().filter(|calls| **calls < k).count();
+    let done = count_below(CALLS, k);
     survives_on(alloc, &mut faulty(alloc, &[fault])?, done, way, goes_on)
 }
 
@@ -372,7 +382,7 @@ const STOPPED: &[Row] = &[
 fn leaves(alloc: Global, device: &ModelDevice, wants: &[(Choice, &str)]) -> Result<bool, NotMade> {
     let mut well = true;
     for (choice, want) in wants {
-        well = well && has(alloc, device.crash(*choice)?, want)?;
+        well = well && has(alloc, &mut device.crash(*choice)?, want)?;
     }
     Ok(well)
 }

@@ -2,7 +2,7 @@
 use crate::inputs::Input;
 use crate::made::NotMade;
 use crate::playing::{Slot, Way, new_slot, replies_of, reply_to, shut, wrong_reply};
-use crate::shown::layout;
+use crate::shown::is_laid_out;
 use crate::steps::{Step, Steps, says};
 use crate::stops::{SCRIPT, is_whole};
 use Step::{Close, Export, Format, Import, Open, Read, Schema, Tables};
@@ -18,7 +18,7 @@ const LAYOUT: &str = "epoch 9, 398 in 5, s: 4+1, w: 2+1";
 fn wants_memory(reply: &Reply) -> bool {
     match reply {
         Reply::Refused(refusal) => matches!(refusal, Refusal::OutOfMemory | Refusal::Write),
-        Reply::NotOpened(refusal) => *refusal == OpeningRefusal::OutOfMemory,
+        Reply::NotOpened(refusal) => matches!(refusal, OpeningRefusal::OutOfMemory),
         _ => false,
     }
 }
@@ -47,24 +47,31 @@ fn steps_done(alloc: Global, slot: &mut Slot, steps: Steps) -> Result<usize, Not
     Ok(steps.len())
 }
 
-fn is_laid_out(alloc: Global, device: ModelDevice) -> Result<bool, NotMade> {
-    let mut device = device;
-    Ok(layout(alloc, &mut device)?.as_str() == LAYOUT)
+// Whether a device that failed once, where so many steps are done, is whole.
+fn is_left_whole(alloc: Global, device: ModelDevice, done: usize) -> Result<bool, NotMade> {
+    if device.failures() == 1 {
+        is_whole(alloc, device, done)
+    } else {
+        Ok(false)
+    }
 }
 
-// Whether a device that failed where so many steps are done is whole, and one that did not holds what the script leaves.
-fn is_left(alloc: Global, device: ModelDevice, done: usize) -> Result<bool, NotMade> {
-    let failures = device.failures();
-    if done < SCRIPT.len() {
-        Ok(failures == 1 && is_whole(alloc, device, done)?)
+// Whether a device that did not fail holds what the script leaves.
+fn is_all_left(alloc: Global, device: &mut ModelDevice) -> Result<bool, NotMade> {
+    if device.failures() == 0 {
+        is_laid_out(alloc, device, LAYOUT)
     } else {
-        Ok(failures == 0 && is_laid_out(alloc, device)?)
+        Ok(false)
     }
 }
 
 fn are_done_on(alloc: Global, slot: &mut Slot) -> Result<bool, NotMade> {
     let done = steps_done(alloc, slot, SCRIPT)?;
-    is_left(alloc, shut(slot)?, done)
+    if done < SCRIPT.len() {
+        is_left_whole(alloc, shut(slot)?, done)
+    } else {
+        is_all_left(alloc, &mut shut(slot)?)
+    }
 }
 
 // A step that was refused for want of memory has changed nothing: in the end all stands where it stands else. A step that the
@@ -101,16 +108,24 @@ const LISTED: Steps = &[
 ];
 
 // Whether a reply tells that memory was refused, to the store or to the device.
-fn is_disturbed(replies: &[Reply]) -> bool {
-    replies.iter().any(|reply| match reply {
-        Reply::Refused(refusal) => *refusal == Refusal::OutOfMemory || *refusal == Refusal::Device,
+fn is_disturbed(reply: &Reply) -> bool {
+    match reply {
+        Reply::Refused(refusal) => matches!(refusal, Refusal::OutOfMemory | Refusal::Device),
         Reply::NotOpened(_) => true,
         _ => false,
-    })
+    }
+}
+
+fn are_disturbed(replies: &[Reply]) -> bool {
+    let mut disturbed = false;
+    for reply in replies {
+        disturbed = disturbed || is_disturbed(reply);
+    }
+    disturbed
 }
 
 fn are_listed_well(alloc: Global, replies: &[Reply]) -> Result<bool, NotMade> {
-    if is_disturbed(replies) {
+    if are_disturbed(replies) {
         return Err(NotMade);
     }
     Ok(wrong_reply(alloc, replies, LISTED)?.is_none())
