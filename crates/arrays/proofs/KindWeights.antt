@@ -163,4 +163,3 @@ fields_total cs a arrays start n weight result is below total =
     all ∙ ap capped_weight (sym (structs_weigh cs a start n))
 
 -- ---- what a sound array has
-
