@@ -35,7 +35,7 @@ test gate-cost:
 
 # The gate proves every crate from nothing and builds the program and the tests, which then run with refused memory.
 gate:
-	RT_JOBS=$$(tests/proofs_at_once) rt ci
+	RT_JOBS=$${RT_JOBS:-$$(tests/proofs_at_once)} rt ci
 	@$(MAKE) --no-print-directory memory vectors
 
 # Why each must-fail edit is refused (docs/gate.md).
