@@ -13,7 +13,7 @@ use Rattle.arrays.specs.declared.visible.span_list.SlotSpan.{SlotSpan}
 use Rattle.arrays.specs.inner.SpanLists.{any_visible_of, any_below_of, any_below_runs, any_part_of, are_runs, are_within}
 use Rattle.arrays.specs.inner.VisibleSpans.{any_below, finds}
 use Rattle.facts.specs.laws.Lists.{drop-item}
-use Rattle.arrays.proofs.KindWeights.{sound_parts}
+use Rattle.columns.specs.laws.SoundParts.{sound_parts}
 use Rattle.arrays.proofs.SpanWeights.{sound_next}
 use Rattle.arrays.proofs.VisibleSlots.{sound_slots}
 use Rattle.arrays.proofs.VisibleSpans.{nested_kind, sound_kind}
