@@ -1,10 +1,11 @@
 -- Rows, segments and runs of entries that are gone over one after another.
-use Rattle.std.proofs.Common.{◌≡◌, ◌≤◌, ◌<◌, ◌+◌, ◌*◌, ◌^◌, ◌&&◌, ◌++◌, ltb, leb, eqb, ℕ, zero, suc, true, List, [], ◌∷◌, length, get_or, take, map, append-nil, sym, ap, subst, ◌∙◌, arith}
+use Rattle.std.proofs.Common.{◌≡◌, ◌≤◌, ◌<◌, ◌+◌, ◌*◌, ◌^◌, ◌&&◌, ◌++◌, ltb, leb, eqb, ℕ, zero, suc, true, List, [], ◌∷◌, length, get_or, take, map, append-nil, append_assoc, sym, ap, subst, ◌∙◌, arith}
 use Rattle.std.specs.List.{list_all, sum_by}
 use Rattle.std.proofs.lemmas.Bool.{and_parts, leb-true}
 use Rattle.std.proofs.lemmas.List.{length-map, map-append, take-map, take_more}
 use Rattle.std.proofs.lemmas.Grind.{flat_map-append}
 use Rattle.std.proofs.lemmas.List.Sums.{sum_by-cons, sum_by_more_le}
+use Rattle.facts.specs.laws.Lists.{take-item}
 use Rattle.segments.specs.Sectors.{sector_count}
 use Rattle.catalogue.specs.declared.entry.Segment.{Segment}
 use Rattle.catalogue.specs.declared.entry.TableEntry.{TableEntry}
@@ -65,6 +66,15 @@ more_runs es i x lt is =
     ∙ ap runs_of (map-append plain_entry (take i es) (x ∷ []))
     ∙ flat_map-append runs_in (map plain_entry (take i es)) (plain_entry x ∷ [])
     ∙ ap (λ rs. runs_of (map plain_entry (take i es)) ++ rs) one)
+
+-- what was put so far, and the next part
+pub next_put : {A : Type 0} (out front so_far all part old new : List A) → new ≡ old ++ part → old ≡ out ++ (front ++ so_far) → all ≡ so_far ++ part → new ≡ out ++ (front ++ all)
+next_put out front so_far all part old new e h more =
+    e ∙ ap (λ t. t ++ part) h ∙ append_assoc out (front ++ so_far) part ∙ ap (λ t. out ++ t) (append_assoc front so_far part ∙ ap (λ t. front ++ t) (sym more))
+
+-- what is made of the items so far, and of the next one
+pub map-item : {X Y : Type 0} (f : X → Y) (xs : List X) (i : ℕ) (x : X) → i < length xs → x ≡ get_or xs i x → map f (take (i + 1) xs) ≡ map f (take i xs) ++ f x ∷ []
+map-item f xs i x lt is = ap (map f) (take-item xs i x lt is) ∙ map-append f (take i xs) (x ∷ [])
 
 -- what is known of an entry of a catalogue
 pub record StandsAt (x : TableEntry) : Type 0 where

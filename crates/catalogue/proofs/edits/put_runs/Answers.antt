@@ -1,0 +1,15 @@
+use Rattle.std.proofs.Common.{◌≡◌, ◌<◌, ◌+◌, ◌++◌, ◌∙◌, ℕ, List, [], ◌∷◌, length, get_or, take, map, ap}
+use Rattle.std.proofs.lemmas.List.{map-append, take_more}
+use Rattle.catalogue.specs.declared.entry.Segment.{Segment}
+use Rattle.catalogue.proofs.Rows.{next_put}
+use Rattle.catalogue.proofs.edits.put_runs.Goals as goal
+
+-- the runs so far, and that of the next segment
+more_runs : (ss : List Segment) (i : ℕ) (d : Segment) → i < length ss
+    → map (λ (s : Segment). s.place.run) (take (i + 1) ss) ≡ map (λ (s : Segment). s.place.run) (take i ss) ++ (get_or ss i d).place.run ∷ []
+more_runs ss i d lt = ap (map (λ (s : Segment). s.place.run)) (take_more ss i d lt) ∙ map-append (λ (s : Segment). s.place.run) (take i ss) (get_or ss i d ∷ [])
+
+pub loop-segment-preserved : goal.loop-segment-preserved
+loop-segment-preserved c =
+    next_put c.args.runs.now.items [] _ _ _ _ _ c.in_ok-push.ensures.items c.loop-segment.invariant
+    (more_runs c.args.segments.now c.loop-segment.segment-index _ c.loop-segment-test.true)

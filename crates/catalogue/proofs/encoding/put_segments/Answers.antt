@@ -1,0 +1,18 @@
+use Rattle.std.proofs.Common.{◌≡◌, ◌<◌, ◌+◌, ◌++◌, ◌∙◌, ℕ, List, length, get_or, take, ap}
+use Rattle.std.specs.List.{flat_map}
+use Rattle.std.proofs.lemmas.List.{take_more}
+use Rattle.byteorder.specs.Endian.{little_bytes}
+use Rattle.facts.specs.laws.Lists.{flat_map-push}
+use Rattle.catalogue.specs.declared.entry.Segment.{Segment}
+use Rattle.catalogue.specs.Text.{segment_text}
+use Rattle.catalogue.proofs.Rows.{next_put}
+use Rattle.catalogue.proofs.encoding.put_segments.Goals as goal
+
+-- the texts so far, and that of the next segment
+more_texts : (ss : List Segment) (i : ℕ) (d : Segment) → i < length ss → flat_map segment_text (take (i + 1) ss) ≡ flat_map segment_text (take i ss) ++ segment_text (get_or ss i d)
+more_texts ss i d lt = ap (flat_map segment_text) (take_more ss i d lt) ∙ flat_map-push segment_text (take i ss) (get_or ss i d)
+
+pub loop-segment-preserved : goal.loop-segment-preserved
+loop-segment-preserved c =
+    next_put c.args.out.now.items (little_bytes 4 (length c.args.segments.now)) _ _ _ _ _ c.in_ok-put_segment.ensures c.loop-segment.invariant
+    (more_texts c.args.segments.now c.loop-segment.segment-index _ c.loop-segment-test.true)
