@@ -1,15 +1,16 @@
 -- A slot of the code is absent, a number, or a reference; and how many slots and nodes a vector holds.
-use Rattle.std.proofs.Common.{◌≡◌, ◌≤◌, ◌<◌, ◌+◌, ℕ, suc, get_or, drop, List, [], ◌∷◌, map, length, refl, sym, ap, subst, ◌∙◌}
+use Rattle.std.proofs.Common.{◌≡◌, ◌≤◌, ◌<◌, ◌+◌, ℕ, suc, get_or, drop, List, [], ◌∷◌, map, length, refl, sym, ap, subst, ◌∙◌, arith}
 use Rattle.facts.specs.laws.Lists.{drop-item}
 use Rattle.flatbuf.specs.declared.nodes.Slot.{Slot}
 use Rattle.flatbuf.specs.declared.nodes.Node.{Node}
 use Rattle.flatbuf.specs.declared.nodes.Node.TheOpen.{Slot-F, Absent, Byte, Short, Word, Long, Refers}
 use Rattle.flatbuf.specs.declared.nodes.Node.TheFolds.{fold_out-Slot}
 use Rattle.flatbuf.specs.Tree.{Tree, Slots, absent, scalar, refers, no_slot}
-use Rattle.flatbuf.specs.Laid.{count_of, slots_of}
+use Rattle.flatbuf.specs.Laid.{gap, count_of, slots_of, inline_end}
 use Rattle.flatbuf.specs.Ends.{end_at, ends_at, below_ends_at}
 use Rattle.flatbuf.specs.Held.{FitsSlots}
 use Rattle.flatbuf.proofs.Ends.{below_le, ends_le}
+use Rattle.flatbuf.proofs.ReadBack.{inline_le_end}
 use Rattle.flatbuf.specs.View.{node_of, nodes_of, slot_before, slots_in, slot_step, node_step}
 
 of_layer : (P : (Slots → Slots) → Type 0) → P (λ rest. absent rest) → ((w n : ℕ) → P (λ rest. scalar w n rest)) → ((t : Tree) → P (λ rest. refers t rest)) → (l : Slot-F Tree (Slots → Slots)) → P (slot_step l)
@@ -58,3 +59,16 @@ slot_fits ss i s cursor lt e = rw (drop-item ss i s lt e) (below_one s (slots_in
 pub node_ends : (ns : List Node) (i : ℕ) (n : Node) (cursor next whole : ℕ) → i < length ns → n ≡ get_or ns i n → next ≡ end_at cursor (node_of n) → ends_at cursor (nodes_of (map node_of (drop i ns))) ≡ whole
     → ends_at next (nodes_of (map node_of (drop (i + 1) ns))) ≡ whole
 node_ends ns i n cursor next whole lt is e h = rw e (rw (drop-item ns i n lt is) at h)
+
+-- the inline content of the slots before ends before that of all
+pub offset_fits : (ss : List Slot) (i offset whole : ℕ) → inline_end offset (slots_in (map slot_before (drop i ss))) ≡ whole → offset ≤ whole
+offset_fits ss i offset whole end = omega (arith, inline_le_end offset (slots_in (map slot_before (drop i ss))))
+
+-- and so does that of the next one
+pub field_fits : (ss : List Slot) (i : ℕ) (s : Slot) (offset w whole : ℕ) → i < length ss → s ≡ get_or ss i s
+    → ((rest : Slots) → inline_end offset (slot_before s rest) ≡ inline_end (offset + gap w offset + w) rest) → inline_end offset (slots_in (map slot_before (drop i ss))) ≡ whole
+    → offset + gap w offset + w ≤ whole
+field_fits ss i s offset w whole lt is one end =
+    let rest = slots_in (map slot_before (drop (i + 1) ss)) in
+    let here : inline_end offset (slot_before s rest) ≡ whole = rw (drop-item ss i s lt is) at end in
+    omega (arith, here, one rest, inline_le_end (offset + gap w offset + w) rest)

@@ -30,6 +30,10 @@ unfolding inline
 scalar_put old new field at offset end w n positions rest is e f =
     rw (f, e, is, length-bytes_low_first 0 w n) (append_assoc old _ _ ∙ ap (λ (t : List ℕ). old ++ t) (append_assoc (replicate (gap w offset) 0) (little_bytes w n) _))
 
+-- where a number of so many bytes ends
+pub field_end : (field : List ℕ) (offset end w n : ℕ) → field ≡ little_bytes w n → end ≡ offset + gap (length field) offset + length field → end ≡ offset + gap w offset + w
+field_end field offset end w n is e = rw (e, is, length-bytes_low_first 0 w n) refl
+
 pub refers_put : (old new field : List ℕ) (at offset end d cursor next : ℕ) (t : Tree) (rest : Slots) → field ≡ little_bytes 4 d → new ≡ old ++ (replicate (gap (length field) offset) 0 ++ field) → end ≡ offset + gap (length field) offset + length field
     → d ≡ start cursor t - (at + offset + gap 4 offset) → next ≡ end_at cursor t
     → new ++ inline at end (slot_starts next rest) rest ≡ old ++ inline at offset (slot_starts cursor (refers t rest)) (refers t rest)

@@ -1,9 +1,9 @@
 use Rattle.std.proofs.Common.{◌≡◌, ◌<◌, ◌+◌, ◌++◌, ℕ, List, map, drop, length, get_or, sym, ◌∙◌, arith}
 use Rattle.flatbuf.specs.declared.nodes.Slot.{Slot}
-use Rattle.flatbuf.specs.Laid.{gap, distances}
+use Rattle.flatbuf.specs.Laid.{distances}
 use Rattle.flatbuf.specs.View.{slot_before, slots_in}
 use Rattle.facts.specs.laws.Lists.{drop-item}
-use Rattle.flatbuf.proofs.ReadBack.{inline_le_end}
+use Rattle.flatbuf.proofs.Cases.{offset_fits, field_fits}
 use Rattle.flatbuf.proofs.Puts.{next_part}
 use Rattle.flatbuf.proofs.emit.put_distances.Goals as goal
 use Rattle.flatbuf.proofs.emit.put_distances.Goals.{in-None+in_ok-extend_from_slice-in-None, in-Some+in_ok-extend_from_slice-in-Some}
@@ -15,13 +15,19 @@ distance_put : (old new field whole : List ℕ) (from to i : ℕ) (slots : List 
 distance_put old new field whole from to i slots slot lt is e f h =
     next_part old new field _ whole e (rw f (rw (drop-item slots i slot lt is) at h))
 
+pub aligned-field-requires : goal.aligned-field-requires
+aligned-field-requires c = record {
+  positive = c.in-Some.ensures.low;
+  small = omega (arith, offset_fits c.args.slots.now c.loop-slot.slot-index c.loop-slot.offset _ c.loop-slot.invariant.end);
+}
+
 pub overflow_cast-field : goal.overflow_cast-field
 overflow_cast-field c =
-    let slots = c.args.slots.now in
-    let offset = c.loop-slot.offset in
-    let rest = slots_in (map slot_before (drop (c.loop-slot.slot-index + 1) slots)) in
-    let whole = rw (drop-item slots c.loop-slot.slot-index c.slot-item.result (omega arith) c.slot-item.is) at c.loop-slot.invariant.end in
-    omega (arith, c.aligned-field.ensures, whole, c.in-Some.ensures.inline offset rest, inline_le_end (offset + gap c.in-Some.width offset + c.in-Some.width) rest)
+    omega (arith, c.aligned-field.ensures, field_fits c.args.slots.now c.loop-slot.slot-index c.slot-item.result c.loop-slot.offset c.in-Some.width _ (omega arith) c.slot-item.is (c.in-Some.ensures.inline c.loop-slot.offset) c.loop-slot.invariant.end)
+
+pub overflow_add-offset : goal.overflow_add-offset
+overflow_add-offset c =
+    omega (arith, c.aligned-field.ensures, field_fits c.args.slots.now c.loop-slot.slot-index c.slot-item.result c.loop-slot.offset c.in-Some.width _ (omega arith) c.slot-item.is (c.in-Some.ensures.inline c.loop-slot.offset) c.loop-slot.invariant.end)
 
 pub loop-slot-preserved : goal.loop-slot-preserved
 loop-slot-preserved c =

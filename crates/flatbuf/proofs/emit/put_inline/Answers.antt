@@ -4,6 +4,7 @@ use Rattle.flatbuf.specs.Laid.{inline, inline_end, slot_starts}
 use Rattle.flatbuf.specs.Tree.{Slots}
 use Rattle.flatbuf.specs.View.{slot_before, slots_in}
 use Rattle.facts.specs.laws.Lists.{drop-item}
+use Rattle.flatbuf.proofs.Cases.{offset_fits, slot_fits}
 use Rattle.flatbuf.proofs.Ends.{below_le}
 use Rattle.flatbuf.proofs.Puts.{inline_len}
 use Rattle.flatbuf.proofs.ReadBack.{inline_le_end}
@@ -15,6 +16,13 @@ written_small : (old new : List ℕ) (at offset cursor below : ℕ) (rest all : 
 written_small old new at offset cursor below rest all bytes end here room small =
     omega (arith, inline_len old new at offset cursor below rest all bytes end, inline_le_end offset rest, end, here, room, small, below_le below all)
 
+pub put_slot-requires-clause-near : goal.put_slot-requires-clause-near
+put_slot-requires-clause-near c = omega (arith, offset_fits c.args.slots.now c.loop-slot.slot-index c.loop-slot.reached.offset _ c.loop-slot.invariant.end)
+
+pub put_slot-requires-clause-low : goal.put_slot-requires-clause-low
+put_slot-requires-clause-low c =
+    omega (arith, slot_fits c.args.slots.now c.loop-slot.slot-index c.slot-item.result c.loop-slot.reached.cursor (omega arith) c.slot-item.is, c.loop-slot.invariant.below)
+
 pub put_slot-requires-clause-small : goal.put_slot-requires-clause-small
 put_slot-requires-clause-small c =
     written_small c.args.out.now.items c.loop-slot.out.items c.args.at c.loop-slot.reached.offset c.loop-slot.reached.cursor c.args.below _ _ c.loop-slot.invariant.bytes c.loop-slot.invariant.end c.requires.here c.requires.room c.requires.small
@@ -24,6 +32,9 @@ put_slot-requires-clause-room c =
     let slots = c.args.slots.now in
     let end = rw (drop-item slots c.loop-slot.slot-index c.slot-item.result (omega arith) c.slot-item.is) at c.loop-slot.invariant.end in
     (slots_in (map slot_before (drop (c.loop-slot.slot-index + 1) slots)), omega (arith, end, c.loop-slot.invariant.low))
+
+pub pad-requires-clause-near : goal.pad-requires-clause-near
+pad-requires-clause-near c = omega (arith, offset_fits c.args.slots.now c.loop-slot.slot-index c.loop-slot.reached.offset _ c.loop-slot.invariant.end)
 
 pub pad-requires-clause-small : goal.pad-requires-clause-small
 pad-requires-clause-small c =

@@ -1,13 +1,13 @@
-use Rattle.std.proofs.Common.{◌≡◌, ◌<◌, ◌≤◌, ◌^◌, ◌+◌, rules, arith, refl}
+use Rattle.std.proofs.Common.{◌≡◌, ◌<◌, ◌≤◌, ◌^◌, ◌+◌, rules, arith, refl, ap}
 use Rattle.byteorder.specs.Endian.{little_bytes}
 use Rattle.flatbuf.specs.declared.nodes.Node.{the_lemmas}
 use Rattle.flatbuf.specs.Tree.{Slots, scalar, refers}
 use Rattle.flatbuf.specs.Laid.{slot_starts, inline_end, gap}
-use Rattle.flatbuf.specs.Ends.{end_at}
+use Rattle.flatbuf.specs.Ends.{end_at, below_ends_at}
 use Rattle.flatbuf.specs.View.{slot_before, node_of}
 use Rattle.flatbuf.proofs.Ends.{start_le, end_le}
 use Rattle.flatbuf.proofs.ReadBack.{inline_le_end, start_ge}
-use Rattle.flatbuf.proofs.Puts.{scalar_put, refers_put}
+use Rattle.flatbuf.proofs.Puts.{scalar_put, refers_put, field_end}
 use Rattle.flatbuf.proofs.emit.put_slot.Goals as goal
 
 pub start_of-requires : goal.start_of-requires
@@ -65,3 +65,73 @@ pub returns-in_ok-offset-in-Refers-clause-bytes : goal.returns-in_ok-offset-in-R
 returns-in_ok-offset-in-Refers-clause-bytes c = λ rest.
     let seen : slot_before c.args.slot.now ≡ (λ (others : Slots). refers (node_of c.in-Refers.node) others) = search (rules, the_lemmas) in
     rw seen (refers_put c.args.out.now.items _ c.to_le_bytes-in-Refers.result c.args.at c.args.reached.offset _ _ c.args.reached.cursor _ (node_of c.in-Refers.node) rest c.to_le_bytes-in-Refers.ensures c.in_ok-offset-in-Refers.ensures.bytes c.in_ok-offset-in-Refers.ensures.end (omega arith) c.end_of.ensures)
+
+pub returns-in_ok-offset-in-Byte-clause-inline : goal.returns-in_ok-offset-in-Byte-clause-inline
+returns-in_ok-offset-in-Byte-clause-inline c = λ rest.
+    let seen : slot_before c.args.slot.now ≡ (λ (others : Slots). scalar 1 c.in-Byte.n others) = search (rules, the_lemmas) in
+    rw seen (ap (λ e. inline_end e rest) (c.in_ok-offset-in-Byte.ensures.end))
+
+pub returns-in_ok-offset-in-Byte-clause-below : goal.returns-in_ok-offset-in-Byte-clause-below
+returns-in_ok-offset-in-Byte-clause-below c = λ rest.
+    let seen : slot_before c.args.slot.now ≡ (λ (others : Slots). scalar 1 c.in-Byte.n others) = search (rules, the_lemmas) in
+    rw seen refl
+
+pub returns-in_ok-offset-in-Byte-clause-up : goal.returns-in_ok-offset-in-Byte-clause-up
+returns-in_ok-offset-in-Byte-clause-up c = omega arith
+
+pub returns-in_ok-offset-in-Short-clause-inline : goal.returns-in_ok-offset-in-Short-clause-inline
+returns-in_ok-offset-in-Short-clause-inline c = λ rest.
+    let seen : slot_before c.args.slot.now ≡ (λ (others : Slots). scalar 2 c.in-Short.n others) = search (rules, the_lemmas) in
+    rw seen (ap (λ e. inline_end e rest) (field_end c.to_le_bytes.result c.args.reached.offset _ 2 c.in-Short.n c.to_le_bytes.ensures c.in_ok-offset-in-Short.ensures.end))
+
+pub returns-in_ok-offset-in-Short-clause-below : goal.returns-in_ok-offset-in-Short-clause-below
+returns-in_ok-offset-in-Short-clause-below c = λ rest.
+    let seen : slot_before c.args.slot.now ≡ (λ (others : Slots). scalar 2 c.in-Short.n others) = search (rules, the_lemmas) in
+    rw seen refl
+
+pub returns-in_ok-offset-in-Short-clause-up : goal.returns-in_ok-offset-in-Short-clause-up
+returns-in_ok-offset-in-Short-clause-up c = omega arith
+
+pub returns-in_ok-offset-in-Word-clause-inline : goal.returns-in_ok-offset-in-Word-clause-inline
+returns-in_ok-offset-in-Word-clause-inline c = λ rest.
+    let seen : slot_before c.args.slot.now ≡ (λ (others : Slots). scalar 4 c.in-Word.n others) = search (rules, the_lemmas) in
+    rw seen (ap (λ e. inline_end e rest) (field_end c.to_le_bytes-in-Word.result c.args.reached.offset _ 4 c.in-Word.n c.to_le_bytes-in-Word.ensures c.in_ok-offset-in-Word.ensures.end))
+
+pub returns-in_ok-offset-in-Word-clause-below : goal.returns-in_ok-offset-in-Word-clause-below
+returns-in_ok-offset-in-Word-clause-below c = λ rest.
+    let seen : slot_before c.args.slot.now ≡ (λ (others : Slots). scalar 4 c.in-Word.n others) = search (rules, the_lemmas) in
+    rw seen refl
+
+pub returns-in_ok-offset-in-Word-clause-up : goal.returns-in_ok-offset-in-Word-clause-up
+returns-in_ok-offset-in-Word-clause-up c = omega arith
+
+pub returns-in_ok-offset-in-Long-clause-inline : goal.returns-in_ok-offset-in-Long-clause-inline
+returns-in_ok-offset-in-Long-clause-inline c = λ rest.
+    let seen : slot_before c.args.slot.now ≡ (λ (others : Slots). scalar 8 c.in-Long.n others) = search (rules, the_lemmas) in
+    rw seen (ap (λ e. inline_end e rest) (field_end c.to_le_bytes-in-Long.result c.args.reached.offset _ 8 c.in-Long.n c.to_le_bytes-in-Long.ensures c.in_ok-offset-in-Long.ensures.end))
+
+pub returns-in_ok-offset-in-Long-clause-below : goal.returns-in_ok-offset-in-Long-clause-below
+returns-in_ok-offset-in-Long-clause-below c = λ rest.
+    let seen : slot_before c.args.slot.now ≡ (λ (others : Slots). scalar 8 c.in-Long.n others) = search (rules, the_lemmas) in
+    rw seen refl
+
+pub returns-in_ok-offset-in-Long-clause-up : goal.returns-in_ok-offset-in-Long-clause-up
+returns-in_ok-offset-in-Long-clause-up c = omega arith
+
+pub returns-in_ok-offset-in-Refers-clause-inline : goal.returns-in_ok-offset-in-Refers-clause-inline
+returns-in_ok-offset-in-Refers-clause-inline c = λ rest.
+    let seen : slot_before c.args.slot.now ≡ (λ (others : Slots). refers (node_of c.in-Refers.node) others) = search (rules, the_lemmas) in
+    rw seen (ap (λ e. inline_end e rest) (field_end c.to_le_bytes-in-Refers.result c.args.reached.offset _ 4 _ c.to_le_bytes-in-Refers.ensures c.in_ok-offset-in-Refers.ensures.end))
+
+pub returns-in_ok-offset-in-Refers-clause-below : goal.returns-in_ok-offset-in-Refers-clause-below
+returns-in_ok-offset-in-Refers-clause-below c = λ rest.
+    let seen : slot_before c.args.slot.now ≡ (λ (others : Slots). refers (node_of c.in-Refers.node) others) = search (rules, the_lemmas) in
+    rw seen (ap (λ e. below_ends_at e rest) c.end_of.ensures)
+
+pub returns-in_ok-offset-in-Refers-clause-up : goal.returns-in_ok-offset-in-Refers-clause-up
+returns-in_ok-offset-in-Refers-clause-up c = omega (arith, c.end_of.ensures, end_le c.args.reached.cursor (node_of c.in-Refers.node))
+
+pub end_of-requires : goal.end_of-requires
+end_of-requires c =
+    let seen : slot_before c.args.slot.now ≡ (λ (others : Slots). refers (node_of c.in-Refers.node) others) = search (rules, the_lemmas) in
+    record { small = rw seen at c.requires.low }
