@@ -76,6 +76,12 @@ next_put out front so_far all part old new e h more =
 pub map-item : {X Y : Type 0} (f : X → Y) (xs : List X) (i : ℕ) (x : X) → i < length xs → x ≡ get_or xs i x → map f (take (i + 1) xs) ≡ map f (take i xs) ++ f x ∷ []
 map-item f xs i x lt is = ap (map f) (take-item xs i x lt is) ∙ map-append f (take i xs) (x ∷ [])
 
+-- what was made so far is what the items so far are, and one more is
+pub next_made : {X Y Z : Type 0} (f : X → Z) (g : Y → Z) (xs : List X) (i : ℕ) (x : X) (old new : List Y) (y : Y) → i < length xs → x ≡ get_or xs i x → new ≡ old ++ y ∷ [] → g y ≡ f x
+    → map g old ≡ map f (take i xs) → map g new ≡ map f (take (i + 1) xs)
+next_made f g xs i x old new y lt is e same h =
+    ap (map g) e ∙ map-append g old (y ∷ []) ∙ ap (λ made. made ++ g y ∷ []) h ∙ ap (λ z. map f (take i xs) ++ z ∷ []) same ∙ sym (map-item f xs i x lt is)
+
 -- what is known of an entry of a catalogue
 pub record StandsAt (x : TableEntry) : Type 0 where
   pub sound : is_entry (plain_entry x) ≡ true

@@ -130,7 +130,7 @@ fn table_at(alloc: Global, name: String, bytes: &[u8]) -> Result<(TableEntry, &[
     Ok((entry, rest))
 }
 
-#[tactic(auto, using(crate::proofs::Again::name_is_utf8), unfolding(crate::specs::Reading::entry_at))]
+#[tactic(auto, unfolding(crate::specs::Reading::entry_at))]
 fn entry_at(alloc: Global, bytes: &[u8]) -> Result<(TableEntry, &[u8]), DecodeError>
     ensures { Gives (λ x. (plain_entry x.0, x.1.now)) result (entry_at bytes.now) }
 {
