@@ -1,8 +1,9 @@
 -- A slot of the code is absent, a number, or a reference; and how many slots and nodes a vector holds.
-use Rattle.std.proofs.Common.{◌≡◌, ◌≤◌, ◌<◌, ◌+◌, ℕ, suc, get_or, drop, List, [], ◌∷◌, map, length, refl, sym, ap, subst, ◌∙◌, arith}
+use Rattle.std.proofs.Common.{◌≡◌, ◌≤◌, ◌<◌, ◌+◌, ℕ, suc, get_or, drop, List, [], ◌∷◌, map, length, refl, sym, ap, subst, ◌∙◌, arith, rules}
 use Rattle.facts.specs.laws.Lists.{drop-item}
 use Rattle.flatbuf.specs.declared.nodes.Slot.{Slot}
-use Rattle.flatbuf.specs.declared.nodes.Node.{Node}
+use Rattle.flatbuf.specs.declared.nodes.Slot.TheVariants as slots
+use Rattle.flatbuf.specs.declared.nodes.Node.{Node, the_lemmas}
 use Rattle.flatbuf.specs.declared.nodes.Node.TheOpen.{Slot-F, Absent, Byte, Short, Word, Long, Refers}
 use Rattle.flatbuf.specs.declared.nodes.Node.TheFolds.{fold_out-Slot}
 use Rattle.flatbuf.specs.Tree.{Tree, Slots, absent, scalar, refers, no_slot}
@@ -23,6 +24,22 @@ of_layer P a b c (Refers t) = c t
 
 pub slot_cases : (P : (Slots → Slots) → Type 0) → P (λ rest. absent rest) → ((w n : ℕ) → P (λ rest. scalar w n rest)) → ((t : Tree) → P (λ rest. refers t rest)) → (s : Slot) → P (slot_before s)
 slot_cases P a b c s = subst P (sym (fold_out-Slot Tree (Slots → Slots) node_step slot_step s)) (of_layer P a b c _)
+
+-- a slot of the code as one of a tree
+pub byte_is : (s : Slot) (n : ℕ) → s ≡ slots.Byte n → slot_before s ≡ (λ (rest : Slots). scalar 1 n rest)
+byte_is s n is = rw is (search (rules, the_lemmas))
+
+pub short_is : (s : Slot) (n : ℕ) → s ≡ slots.Short n → slot_before s ≡ (λ (rest : Slots). scalar 2 n rest)
+short_is s n is = rw is (search (rules, the_lemmas))
+
+pub word_is : (s : Slot) (n : ℕ) → s ≡ slots.Word n → slot_before s ≡ (λ (rest : Slots). scalar 4 n rest)
+word_is s n is = rw is (search (rules, the_lemmas))
+
+pub long_is : (s : Slot) (n : ℕ) → s ≡ slots.Long n → slot_before s ≡ (λ (rest : Slots). scalar 8 n rest)
+long_is s n is = rw is (search (rules, the_lemmas))
+
+pub refers_is : (s : Slot) (n : Node) → s ≡ slots.Refers n → slot_before s ≡ (λ (rest : Slots). refers (node_of n) rest)
+refers_is s n is = rw is (search (rules, the_lemmas))
 
 pub one_slot : (s : Slot) (rest : Slots) → slots_of (slot_before s rest) ≡ suc (slots_of rest)
 one_slot s = slot_cases (λ f. (rest : Slots) → slots_of (f rest) ≡ suc (slots_of rest)) (λ rest. refl) (λ w n rest. refl) (λ t rest. refl) s

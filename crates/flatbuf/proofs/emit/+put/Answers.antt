@@ -1,10 +1,29 @@
-use Rattle.std.proofs.Common.{◌+◌, map, drop, length, arith, rules}
+use Rattle.std.proofs.Common.{◌≡◌, ◌+◌, ◌≤◌, ◌++◌, ◌∙◌, ℕ, List, map, drop, length, append-nil, sym, arith, rules}
+use Rattle.std.proofs.lemmas.List.{drop_all}
+use Rattle.flatbuf.specs.declared.nodes.Node.{Node}
+use Rattle.flatbuf.specs.declared.nodes.Slot.{Slot}
+use Rattle.flatbuf.specs.Laid.{laid_all, laid_slots}
 use Rattle.flatbuf.specs.declared.nodes.Node.{the_lemmas}
 use Rattle.flatbuf.specs.View.{node_of, nodes_of, slot_before, slots_in}
 use Rattle.facts.specs.laws.Lists.{drop-item}
 use Rattle.flatbuf.proofs.Cases.{node_fits, slot_fits, fits_split}
 use Rattle.flatbuf.proofs.Puts.{below_kept, ends_kept, slot_put, node_put}
 use Rattle.flatbuf.proofs.emit.+put.Goals as goal
+
+-- nothing is left behind the last node or slot
+all_nodes_put : (out whole : List ℕ) (ns : List Node) (i : ℕ) → length ns ≤ i → out ++ laid_all (length out) (nodes_of (map node_of (drop i ns))) ≡ whole → out ≡ whole
+unfolding laid_all
+all_nodes_put out whole ns i past kept = sym (append-nil out) ∙ (rw (drop_all i ns past) at kept)
+
+all_slots_put : (out whole : List ℕ) (ss : List Slot) (i : ℕ) → length ss ≤ i → out ++ laid_slots (length out) (slots_in (map slot_before (drop i ss))) ≡ whole → out ≡ whole
+unfolding laid_slots
+all_slots_put out whole ss i past kept = sym (append-nil out) ∙ (rw (drop_all i ss past) at kept)
+
+pub put_references-returns : goal.put_references-returns
+put_references-returns t c = all_nodes_put c.loop-node.out.items _ c.args.nodes.now c.loop-node.node-index (omega arith) c.loop-node.invariant.bytes
+
+pub put_table-returns : goal.put_table-returns
+put_table-returns t c = all_slots_put c.loop-slot.out.items _ c.args.slots.now c.loop-slot.slot-index (omega arith) c.loop-slot.invariant.bytes
 
 pub put_references-put-requires : goal.put_references-put-requires
 put_references-put-requires t c =
