@@ -1,4 +1,5 @@
-use Rattle.std.proofs.Common.{◌≡◌, ◌<◌, ◌+◌, ◌++◌, ℕ, List, map, drop, length, get_or, sym, ◌∙◌, arith}
+use Rattle.std.proofs.Common.{◌≡◌, ◌<◌, ◌+◌, ◌++◌, ℕ, List, map, drop, length, get_or, append-nil, sym, ap, ◌∙◌, arith}
+use Rattle.std.proofs.lemmas.List.{at_drop_all}
 use Rattle.flatbuf.specs.declared.nodes.Slot.{Slot}
 use Rattle.flatbuf.specs.Laid.{distances}
 use Rattle.flatbuf.specs.View.{slot_before, slots_in}
@@ -56,3 +57,8 @@ loop-slot-preserved c =
         end = rw (w.offset-is, w.aligned-field.ensures) (sym (w.in-Some.ensures.inline from rest) ∙ end);
       }
     ]
+
+pub returns : goal.returns
+returns c =
+    let left = at_drop_all (λ (ss : List Slot). distances c.loop-slot.offset (slots_in (map slot_before ss))) c.args.slots.now c.loop-slot.slot-index (omega arith) in
+    sym (append-nil c.loop-slot.out.items) ∙ ap (λ (t : List ℕ). c.loop-slot.out.items ++ t) (sym left) ∙ c.loop-slot.invariant.bytes

@@ -1,4 +1,7 @@
-use Rattle.std.proofs.Common.{◌≡◌, ◌<◌, ◌+◌, ◌^◌, ◌++◌, ℕ, List, length, map, drop, ◌∙◌, arith}
+use Rattle.std.proofs.Common.{◌≡◌, ◌<◌, ◌+◌, ◌^◌, ◌++◌, ℕ, List, length, map, drop, sym, ap, ◌∙◌, arith}
+use Rattle.std.proofs.lemmas.List.{at_drop_all}
+use Rattle.std.proofs.lemmas.Result.{on_ok_weaker}
+use Rattle.flatbuf.specs.declared.nodes.Slot.{Slot}
 use Rattle.flatbuf.specs.Ends.{below_ends_at}
 use Rattle.flatbuf.specs.Laid.{inline, inline_end, slot_starts}
 use Rattle.flatbuf.specs.Tree.{Slots}
@@ -52,3 +55,10 @@ loop-slot-preserved c =
       low = omega (arith, c.in_ok-reached.ensures.up, c.loop-slot.invariant.low);
       below = c.in_ok-reached.ensures.below rest ∙ (rw next at c.loop-slot.invariant.below);
     }
+
+pub returns : goal.returns
+unfolding inline slot_starts
+returns c =
+    let out = c.loop-slot.out.items in
+    let left = at_drop_all (λ (ss : List Slot). inline c.args.at c.loop-slot.reached.offset (slot_starts c.loop-slot.reached.cursor (slots_in (map slot_before ss))) (slots_in (map slot_before ss))) c.args.slots.now c.loop-slot.slot-index (omega arith) in
+    on_ok_weaker c.pad.result (λ h. h ∙ ap (λ (t : List ℕ). out ++ t) (sym left) ∙ c.loop-slot.invariant.bytes) c.pad.ensures
