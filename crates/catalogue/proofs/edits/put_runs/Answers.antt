@@ -1,5 +1,5 @@
-use Rattle.std.proofs.Common.{◌≡◌, ◌<◌, ◌+◌, ◌++◌, ◌∙◌, ℕ, List, [], ◌∷◌, length, get_or, take, map, ap}
-use Rattle.std.proofs.lemmas.List.{map-append, take_more}
+use Rattle.std.proofs.Common.{◌≡◌, ◌<◌, ◌+◌, ◌++◌, ◌∙◌, ℕ, List, [], ◌∷◌, length, get_or, take, map, ap, arith}
+use Rattle.std.proofs.lemmas.List.{map-append, take_more, take_all}
 use Rattle.catalogue.specs.declared.entry.Segment.{Segment}
 use Rattle.catalogue.proofs.Rows.{next_put}
 use Rattle.catalogue.proofs.edits.put_runs.Goals as goal
@@ -13,3 +13,8 @@ pub loop-segment-preserved : goal.loop-segment-preserved
 loop-segment-preserved c =
     next_put c.args.runs.now.items [] _ _ _ _ _ c.in_ok-push.ensures.items c.loop-segment.invariant
     (more_runs c.args.segments.now c.loop-segment.segment-index _ c.loop-segment-test.true)
+
+pub returns : goal.returns
+returns c =
+    c.loop-segment.invariant
+    ∙ ap (λ (ss : List Segment). c.args.runs.now.items ++ map (λ (s : Segment). s.place.run) ss) (take_all c.loop-segment.segment-index c.args.segments.now (omega arith))

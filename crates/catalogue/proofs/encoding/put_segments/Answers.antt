@@ -1,6 +1,6 @@
-use Rattle.std.proofs.Common.{◌≡◌, ◌<◌, ◌+◌, ◌++◌, ◌∙◌, ℕ, List, length, get_or, take, ap}
+use Rattle.std.proofs.Common.{◌≡◌, ◌<◌, ◌+◌, ◌++◌, ◌∙◌, ℕ, List, length, get_or, take, ap, arith}
 use Rattle.std.specs.List.{flat_map}
-use Rattle.std.proofs.lemmas.List.{take_more}
+use Rattle.std.proofs.lemmas.List.{take_more, take_all}
 use Rattle.byteorder.specs.Endian.{little_bytes}
 use Rattle.facts.specs.laws.Lists.{flat_map-push}
 use Rattle.catalogue.specs.declared.entry.Segment.{Segment}
@@ -16,3 +16,9 @@ pub loop-segment-preserved : goal.loop-segment-preserved
 loop-segment-preserved c =
     next_put c.args.out.now.items (little_bytes 4 (length c.args.segments.now)) _ _ _ _ _ c.in_ok-put_segment.ensures c.loop-segment.invariant
     (more_texts c.args.segments.now c.loop-segment.segment-index _ c.loop-segment-test.true)
+
+pub returns : goal.returns
+returns c =
+    let ss = c.args.segments.now in
+    c.loop-segment.invariant
+    ∙ ap (λ (seen : List Segment). c.args.out.now.items ++ (little_bytes 4 (length ss) ++ flat_map segment_text seen)) (take_all c.loop-segment.segment-index ss (omega arith))

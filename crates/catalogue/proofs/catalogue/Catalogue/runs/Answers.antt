@@ -1,6 +1,8 @@
-use Rattle.std.proofs.Common.{◌≡◌, ◌<◌, ◌++◌, ◌∙◌, List, length, get_or, subst, map}
+use Rattle.std.proofs.Common.{◌≡◌, ◌≤◌, ◌<◌, ◌++◌, ◌∙◌, List, length, get_or, subst, map, ap, arith}
+use Rattle.std.proofs.lemmas.List.{take_all}
 use Rattle.catalogue.specs.declared.entry.TableEntry.{TableEntry}
 use Rattle.catalogue.specs.declared.entry.Segment.{Segment}
+use Rattle.catalogue.specs.Entries.{plain_entry, runs_of}
 use Rattle.catalogue.proofs.Rows.{more_runs}
 use Rattle.catalogue.proofs.catalogue.Catalogue.runs.Goals as goal
 
@@ -13,3 +15,8 @@ loop-entry-preserved c =
     c.in_ok-put_runs.ensures
     ∙ (λ i. c.loop-entry.invariant i ++ map (λ (s : Segment). s.place.run) (c.deref.ensures.value i))
     ∙ more_runs es c.loop-entry.entry-index c.entry-item.result lt is
+
+pub returns : goal.returns
+returns c =
+    let past = subst (λ (xs : List TableEntry). length xs ≤ c.loop-entry.entry-index) c.deref-entry-items.ensures.value (omega arith) in
+    c.loop-entry.invariant ∙ ap (λ (es : List TableEntry). runs_of (map plain_entry es)) (take_all c.loop-entry.entry-index c.args.self.now.entries.items past)

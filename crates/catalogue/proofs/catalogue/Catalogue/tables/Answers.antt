@@ -1,7 +1,9 @@
-use Rattle.std.proofs.Common.{◌≡◌, ◌<◌, ◌+◌, ◌∙◌, ℕ, List, length, get_or, take, sym, subst}
+use Rattle.std.proofs.Common.{◌≡◌, ◌≤◌, ◌<◌, ◌+◌, ◌∙◌, ℕ, List, length, get_or, take, map, sym, ap, subst, arith}
+use Rattle.std.proofs.lemmas.List.{take_all}
 use Rattle.std.specs.Prelude.{string_bytes}
 use Rattle.facts.specs.laws.Lists.{map_map}
 use Rattle.catalogue.specs.declared.entry.TableEntry.{TableEntry}
+use Rattle.catalogue.specs.Edits.{tables_of}
 use Rattle.catalogue.specs.Entries.{PlainEntry, plain_entry, row_count}
 use Rattle.catalogue.proofs.Rows.{rows_fit, next_made}
 use Rattle.catalogue.proofs.catalogue.Catalogue.tables.Goals as goal
@@ -26,3 +28,8 @@ loop-entry-preserved c =
     let made : (string_bytes c.in_ok-clone.field-0, c.rows.result) ≡ row (plain_entry x) = λ k. (c.in_ok-clone.ensures.cases k, c.rows.ensures k) in
     next_made (λ (e : TableEntry). row (plain_entry e)) _ es i x _ _ (c.in_ok-clone.field-0, c.rows.result) lt is c.in_ok-push.ensures.items made (c.loop-entry.invariant ∙ map_map row plain_entry (take i es))
     ∙ sym (map_map row plain_entry (take (i + 1) es))
+
+pub returns : goal.returns
+returns c =
+    let past = subst (λ (xs : List TableEntry). length xs ≤ c.loop-entry.entry-index) c.deref-entry-items.ensures.value (omega arith) in
+    c.loop-entry.invariant ∙ ap (λ (es : List TableEntry). tables_of (map plain_entry es)) (take_all c.loop-entry.entry-index c.args.self.now.entries.items past)
