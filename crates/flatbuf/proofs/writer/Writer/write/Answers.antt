@@ -3,9 +3,31 @@ use Rattle.byteorder.specs.Endian.{little_bytes}
 use Rattle.byteorder.specs.Numbers.{length-bytes_low_first}
 use Rattle.flatbuf.specs.Laid.{start, laid}
 use Rattle.flatbuf.specs.View.{node_of}
-use Rattle.flatbuf.proofs.Ends.{end_is, metadata_len}
+use Rattle.flatbuf.proofs.Ends.{end_is, start_le, metadata_len}
 use Rattle.flatbuf.proofs.Puts.{metadata_put, length_more}
 use Rattle.flatbuf.proofs.writer.Writer.write.Goals as goal
+
+pub end_of-end-requires : goal.end_of-end-requires
+end_of-end-requires c = record { small = omega (arith, metadata_len (node_of c.args.root.now), c.requires.small) }
+
+pub aligned-requires : goal.aligned-requires
+aligned-requires c = record {
+  positive = omega arith;
+  small = omega (arith, c.end_of-end.ensures, metadata_len (node_of c.args.root.now), c.requires.small);
+}
+
+pub start_of-requires : goal.start_of-requires
+start_of-requires c =
+    let n = node_of c.args.root.now in
+    record { small = omega (arith, start_le 4 n, metadata_len n, c.requires.small) }
+
+pub overflow_cast-start_of : goal.overflow_cast-start_of
+overflow_cast-start_of c =
+    let n = node_of c.args.root.now in
+    omega (arith, c.start_of.ensures, start_le 4 n, metadata_len n, c.requires.small)
+
+pub pad-requires-clause-near : goal.pad-requires-clause-near
+pad-requires-clause-near c = omega (arith, c.end_of-end.ensures, metadata_len (node_of c.args.root.now), c.requires.small)
 
 pub pad-requires-clause-small : goal.pad-requires-clause-small
 pad-requires-clause-small c =
