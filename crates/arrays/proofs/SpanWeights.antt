@@ -1,21 +1,24 @@
 -- Sums over spans of slots.
-use Rattle.std.specs.Prelude.{ℤ, nat_le, negsuc, pos, Some, get_or}
+use Rattle.std.specs.Prelude.{ℤ, nat_le, negsuc, pos, Some, None, get_or, not, option_map, ◌/◌}
 use Rattle.std.proofs.Common.{◌≡◌, ℕ, zero, suc, ◌+◌, ◌-◌, ◌*◌, ◌≤◌, ◌<◌, true, false, List, ◌∷◌, length, map, drop, refl, sym, ap, subst, arith, ◌∙◌}
-use Rattle.std.specs.List.{range_with_len}
-use Rattle.std.proofs.lemmas.Bool.{and_parts, leb-true}
+use Rattle.std.specs.List.{range_with_len, list_all}
+use Rattle.std.proofs.lemmas.Bool.{and_parts, leb-true, not-true}
 use Rattle.std.proofs.lemmas.List.{drop_all}
 use Rattle.std.proofs.lemmas.List.Sums.{sum_by-cons}
 use Rattle.arrow_schema.specs.declared.types.Field.{Field}
-use Rattle.arrow_schema.specs.View.{column_of}
+use Rattle.arrow_schema.specs.declared.types.DictSpec.{DictSpec}
+use Rattle.arrow_schema.specs.View.{column_of, kind_of, index_of}
 use Rattle.arrow_schema.specs.Column.{Index, Kind, Column, Columns, nulls, booleans, integers, dates, timestamps, texts, large_texts, binaries, large_binaries, fixed_binaries, lists, large_lists, fixed_lists, structs, column, and_column, columns_of}
-use Rattle.arrow_schema.specs.Parts.{kind_of_column}
+use Rattle.arrow_schema.specs.Parts.{kind_of_column, index_of_column}
+use Rattle.arrow_schema.specs.laws.Parts.{kind_of_field, index_of_field}
 use Rattle.cells.specs.Cell.{Cell, null}
 use Rattle.cells.specs.Weight.{weight, kind_weight, capped_weight}
 use Rattle.columns.specs.declared.array.PlacedArray.{PlacedArray}
 use Rattle.columns.specs.declared.array.Dictionary.{Dictionary}
-use Rattle.columns.specs.Array.{Array, Arrays, dictionary_in, slots_in, first_array}
-use Rattle.columns.specs.CellAt.{entries_of_kind, entry_at, index_at, indexed_cell, is_valid, named_number, unless_null, kind_cell}
-use Rattle.columns.specs.Sound.{is_sound, are_sound}
+use Rattle.columns.specs.Array.{Array, Arrays, array_list, dictionary_in, indices_in, slots_in, first_array}
+use Rattle.columns.specs.CellAt.{cell_at, entries_of_kind, entry_at, index_at, indexed_cell, is_valid, named_number, unless_null, kind_cell}
+use Rattle.columns.specs.Sound.{is_sound, is_kind_sound, are_sound}
+use Rattle.columns.specs.Tests.{are_few, has_short_validity}
 use Rattle.columns.specs.View.{placed_arrays}
 use Rattle.columns.specs.laws.Rows.{other_placed}
 use Rattle.arrays.specs.inner.Weights.{AreEntryWeights, sum_from, span_weight, plain_weight, valid_weight, parts_span_weight, has_one_weight}
@@ -201,3 +204,53 @@ known_weight kind index a i n known valid named weights lt =
 pub valid_weighs : (kind : Kind) (index : Index) (a : Array) (i : ℕ) (c : Cell) → is_valid a i ≡ true → c ≡ indexed_cell index kind a i
     → capped_weight (kind_weight kind c) ≡ capped_weight (kind_weight kind (unless_null (indexed_cell index kind) a i))
 valid_weighs kind index a i c valid is = ap (λ (d : Cell). capped_weight (kind_weight kind d)) is ∙ rw valid refl
+
+-- ---- fields with a dictionary, and without
+
+column_sound : (c : Column) (a : Array) → index_of_column c ≡ None → is_sound c a ≡ true → is_kind_sound (kind_of_column c) a ≡ true
+unfolding is_sound
+column_sound (column name nullable kind None pairs) a is h = h
+column_sound (column name nullable kind (Some index) pairs) a is h = absurd cc
+
+pub plain_sound : (field : Field) (a : Array) → field.dictionary ≡ None → is_sound (column_of field) a ≡ true → is_kind_sound (kind_of field.data_type) a ≡ true
+plain_sound field a is h =
+    ap (λ (k : Kind). is_kind_sound k a) (sym (kind_of_field field)) ∙ column_sound (column_of field) a (index_of_field field ∙ ap (option_map index_of) is) h
+
+column_plain : (c : Column) (a : Array) (start n : ℕ) → index_of_column c ≡ None → plain_weight (kind_of_column c) a start n ≡ span_weight c a start n
+unfolding weight cell_at
+column_plain (column name nullable kind None pairs) a start n is = refl
+column_plain (column name nullable kind (Some index) pairs) a start n is = absurd cc
+
+pub plain_spanned : (field : Field) (a : Array) (start n : ℕ) → field.dictionary ≡ None → plain_weight (kind_of field.data_type) a start n ≡ span_weight (column_of field) a start n
+plain_spanned field a start n is =
+    ap (λ (k : Kind). plain_weight k a start n) (sym (kind_of_field field)) ∙ column_plain (column_of field) a start n (index_of_field field ∙ ap (option_map index_of) is)
+
+column_coded_sound : (c : Column) (index : Index) (a : Array) → index_of_column c ≡ Some index → is_sound c a ≡ true
+    → (has_short_validity a ≡ false) × (are_few (index.bits / 8) a (indices_in a) ≡ false) × (list_all (is_kind_sound (kind_of_column c)) (array_list (dictionary_in a)) ≡ true)
+unfolding is_sound
+column_coded_sound (column name nullable kind None pairs) index a is h = absurd cc
+column_coded_sound (column name nullable kind (Some own) pairs) index a is h =
+    let same : own ≡ index = cc in
+    let first = and_parts (not (has_short_validity a)) _ h in
+    let second = and_parts (not (are_few (own.bits / 8) a (indices_in a))) _ first.1 in
+    (not-true _ first.0, sym (ap (λ (x : Index). are_few (x.bits / 8) a (indices_in a)) same) ∙ not-true _ second.0, second.1)
+
+pub coded_sound : (field : Field) (spec : DictSpec) (a : Array) → field.dictionary ≡ Some spec → is_sound (column_of field) a ≡ true
+    → (has_short_validity a ≡ false) × (are_few ((index_of spec).bits / 8) a (indices_in a) ≡ false) × (list_all (is_kind_sound (kind_of field.data_type)) (array_list (dictionary_in a)) ≡ true)
+coded_sound field spec a is h =
+    let parts = column_coded_sound (column_of field) (index_of spec) a (index_of_field field ∙ ap (option_map index_of) is) h in
+    (parts.0, parts.1, ap (λ (k : Kind). list_all (is_kind_sound k) (array_list (dictionary_in a))) (sym (kind_of_field field)) ∙ parts.2)
+
+column_coded : (c : Column) (index : Index) (a : Array) (start n : ℕ) → index_of_column c ≡ Some index
+    → sum_from (kind_weight (kind_of_column c)) (unless_null (indexed_cell index (kind_of_column c)) a) start n ≡ span_weight c a start n
+unfolding weight cell_at
+column_coded (column name nullable kind None pairs) index a start n is = absurd cc
+column_coded (column name nullable kind (Some own) pairs) index a start n is =
+    let same : index ≡ own = cc in
+    ap (λ (x : Index). sum_from (kind_weight kind) (unless_null (indexed_cell x kind) a) start n) same
+
+pub coded_spanned : (field : Field) (spec : DictSpec) (a : Array) (start n : ℕ) → field.dictionary ≡ Some spec
+    → sum_from (kind_weight (kind_of field.data_type)) (unless_null (indexed_cell (index_of spec) (kind_of field.data_type)) a) start n ≡ span_weight (column_of field) a start n
+coded_spanned field spec a start n is =
+    ap (λ (k : Kind). sum_from (kind_weight k) (unless_null (indexed_cell (index_of spec) k) a) start n) (sym (kind_of_field field))
+    ∙ column_coded (column_of field) (index_of spec) a start n (index_of_field field ∙ ap (option_map index_of) is)

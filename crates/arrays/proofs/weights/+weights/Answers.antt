@@ -1,6 +1,6 @@
 use Rattle.std.specs.Prelude.{Option, Some, nat_le}
 use Rattle.std.specs.List.{list_all}
-use Rattle.std.proofs.Common.{◌≡◌, ◌+◌, ◌*◌, ℕ, ◌<◌, List, get_or, inl, inr, length, set, subst, take, true, map, drop, refl, sym, ap, arith, rules, ◌∙◌}
+use Rattle.std.proofs.Common.{◌≡◌, ◌+◌, ◌-◌, ◌*◌, ℕ, ◌<◌, ◌≤◌, List, get_or, inl, inr, length, set, subst, take, true, map, drop, refl, sym, ap, arith, rules, ◌∙◌}
 use Rattle.arrow_schema.specs.declared.types.Field.{the_lemmas as field_lemmas}
 use Rattle.arrow_schema.specs.Column.{Kind, columns_of, texts, large_texts, binaries, large_binaries, lists, large_lists, fixed_lists, structs}
 use Rattle.arrow_schema.specs.View.{kind_of, column_of, index_of}
@@ -16,13 +16,14 @@ use Rattle.columns.specs.Located.{IsSoundPlace, located_cell}
 use Rattle.columns.specs.Sound.{is_sound, has_sound_children, is_kind_sound}
 use Rattle.columns.specs.View.{array_in, no_dictionary, view_array, placed_arrays}
 use Rattle.columns.specs.declared.entry.EntryPlace.{EntryPlace}
+use Rattle.columns.specs.declared.view.ArrayView.{ArrayView}
 use Rattle.columns.specs.laws.Places.{listed}
 use Rattle.columns.specs.laws.Offsets.{spans_fit}
 use Rattle.columns.specs.laws.Rows.{fewer_sound}
 use Rattle.facts.specs.laws.Lists.{drop-item}
-use Rattle.arrays.specs.inner.Weights.{has_one_weight, valid_weight}
-use Rattle.arrays.proofs.SpanWeights.{known_weight, one_slot, valid_weighs, column_one_weight, valid_run, null_run, run_more, slot_more, next_total, parts_next, parts_end, sound_next}
-use Rattle.columns.specs.laws.SoundParts.{sound_parts}
+use Rattle.arrays.specs.inner.Weights.{has_one_weight, sum_from, valid_weight}
+use Rattle.arrays.proofs.SpanWeights.{plain_sound, plain_spanned, coded_sound, coded_spanned, known_weight, one_slot, valid_weighs, column_one_weight, valid_run, null_run, run_more, slot_more, next_total, parts_next, parts_end, sound_next}
+use Rattle.columns.specs.laws.SoundParts.{sound_parts, sound_validity}
 use Rattle.arrays.proofs.KindWeights.{items_total, fixed_total, fields_total, fixed_within}
 use Rattle.arrays.proofs.weights.+weights.Goals as goal
 
@@ -34,11 +35,68 @@ span_weight-returns-then-has_one_weight t c =
     let all = column_one_weight (column_of c.args.field.now) (cell_at (column_of c.args.field.now) (view_array c.args.view)) c.args.from c.args.count one in
     c.nulls_weight.ensures ∙ sym (ap capped_weight (all ∙ ap (λ (k : Kind). c.args.count * kind_weight k null) own))
 
+pub span_weight-plain_weight-requires : goal.span_weight-plain_weight-requires
+span_weight-plain_weight-requires t c = (
+  search (rules, field_lemmas),
+  (
+    c.requires.empty,
+    (sym c.if-has_one_weight.ensures, (plain_sound c.args.field.now (view_array c.args.view) c.in-None.is c.requires.sound, c.requires.within)),
+  ),
+)
+
+pub span_weight-returns-in-None : goal.span_weight-returns-in-None
+span_weight-returns-in-None t c =
+    c.plain_weight.ensures ∙ ap capped_weight (plain_spanned c.args.field.now (view_array c.args.view) c.args.from c.args.count c.in-None.is)
+
+pub span_weight-entries_weight-requires : goal.span_weight-entries_weight-requires
+span_weight-entries_weight-requires t c =
+    let parts = coded_sound c.args.field.now c.in-Some.spec (view_array c.args.view) c.in-Some.is c.requires.sound in (
+      search (rules, field_lemmas),
+      (c.requires.empty, (sym c.if-has_one_weight.ensures, (parts.0, (parts.1, (parts.2, c.requires.within))))),
+    )
+
+pub span_weight-returns-in-Some : goal.span_weight-returns-in-Some
+span_weight-returns-in-Some t c =
+    c.entries_weight.ensures ∙ ap capped_weight (coded_spanned c.args.field.now c.in-Some.spec (view_array c.args.view) c.args.from c.args.count c.in-Some.is)
+
+pub plain_weight-run_to-next-requires-clause-long : goal.plain_weight-run_to-next-requires-clause-long
+plain_weight-run_to-next-requires-clause-long t c = sound_validity (kind_of c.args.field.now.data_type) (view_array c.args.view) c.requires.sound
+
+pub plain_weight-run_weight-run-requires : goal.plain_weight-run_weight-run-requires
+plain_weight-run_weight-run-requires t c = (
+  search (rules, field_lemmas),
+  (
+    c.requires.empty,
+    (
+      c.requires.varied,
+      (
+        c.requires.sound,
+        (
+          omega (arith, c.run_to-next.ensures.begins),
+          (omega (arith, c.run_to-next.ensures.begins, c.run_to-next.ensures.ends, c.requires.within), λ i from to. c.run_to-next.ensures.alike i from (omega arith)),
+        ),
+      ),
+    ),
+  ),
+)
+
 pub plain_weight-loop-start-preserved : goal.plain_weight-loop-start-preserved
 plain_weight-loop-start-preserved t c =
     let more = run_more (kind_of c.args.field.now.data_type) (view_array c.args.view) c.loop-start.start c.run_to-next.result (c.args.from + c.args.count) (omega arith) c.run_to-next.ensures.ends in
     let total = next_total _ _ _ _ _ _ _ c.loop-start.invariant.sums more c.run_weight-run.ensures c.add_weights-total.ensures in
     record { within = c.run_to-next.ensures.ends; sums = total.0; capped = total.1 }
+
+pub plain_weight-returns : goal.plain_weight-returns
+plain_weight-returns t c =
+    let none : c.args.from + c.args.count - c.loop-start.start ≡ 0 = omega (arith, c.loop-start-test.false) in
+    omega (arith, rw none at c.loop-start.invariant.sums, c.loop-start.invariant.capped)
+
+pub run_weight-is_valid-requires-clause-long : goal.run_weight-is_valid-requires-clause-long
+run_weight-is_valid-requires-clause-long t c = sound_validity (kind_of c.args.field.now.data_type) (view_array c.args.view) c.requires.sound
+
+pub run_weight-valid_weight-requires : goal.run_weight-valid_weight-requires
+run_weight-valid_weight-requires t c =
+    (search (rules, field_lemmas), (c.requires.empty, (c.requires.varied, (c.requires.sound, (c.requires.some, c.requires.within)))))
 
 pub run_weight-returns-then-is_valid : goal.run_weight-returns-then-is_valid
 run_weight-returns-then-is_valid t c =
@@ -238,6 +296,50 @@ pub parts_weight-returns : goal.parts_weight-returns
 parts_weight-returns t c =
     let none = parts_end c.args.fields.now c.loop-i.i (placed_arrays c.args.bytes.now c.args.dictionaries.now (drop c.loop-i.i c.args.arrays.now)) c.args.from c.args.count c.loop-i-test.false in
     omega (arith, none, c.loop-i.invariant.sums, c.loop-i.invariant.capped)
+
+pub entries_weight-slots_weight-requires : goal.entries_weight-slots_weight-requires
+entries_weight-slots_weight-requires t c =
+    let kind : Kind = kind_of c.args.field.now.data_type in
+    let same = sym c.new-slots.ensures.view in (
+      search (rules, field_lemmas),
+      (
+        c.requires.empty,
+        (
+          c.requires.varied,
+          (
+            subst (λ (v : ArrayView). list_all (is_kind_sound kind) (array_list (dictionary_in (view_array v))) ≡ true) same c.requires.sound,
+            (subst (λ (v : ArrayView). c.args.from + c.args.count ≤ slots_in (view_array v)) same c.requires.within, λ n lt. absurd (omega (arith, lt))),
+          ),
+        ),
+      ),
+    )
+
+pub entries_weight-returns-then-count-few : goal.entries_weight-returns-then-count-few
+entries_weight-returns-then-count-few t c =
+    let kind : Kind = kind_of c.args.field.now.data_type in
+    c.slots_weight.ensures
+    ∙ λ j. capped_weight (sum_from (kind_weight kind) (unless_null (indexed_cell (index_of (c.new-slots.ensures.spec j)) kind) (view_array (c.new-slots.ensures.view j))) c.args.from c.args.count)
+
+pub entries_weight-first_weights-first-requires : goal.entries_weight-first_weights-first-requires
+entries_weight-first_weights-first-requires t c =
+    (search (rules, field_lemmas), (c.first_count-few.ensures, (c.requires.empty, (c.requires.varied, c.requires.sound))))
+
+pub entries_weight-returns : goal.entries_weight-returns
+entries_weight-returns t c =
+    let kind : Kind = kind_of c.args.field.now.data_type in
+    c.slots_weight-2.ensures
+    ∙ λ j. capped_weight (sum_from (kind_weight kind) (unless_null (indexed_cell (index_of (c.new-slots.ensures.spec j)) kind) (view_array (c.new-slots.ensures.view j))) c.args.from c.args.count)
+
+pub slots_weight-slot_weight-entry-requires : goal.slots_weight-slot_weight-entry-requires
+slots_weight-slot_weight-entry-requires t c = (
+  search (rules, field_lemmas),
+  (c.requires.empty, (c.requires.varied, (c.requires.sound, (omega (arith, c.loop-i-test.true, c.requires.within), c.requires.known)))),
+)
+
+pub slots_weight-returns : goal.slots_weight-returns
+slots_weight-returns t c =
+    let none : c.args.from + c.args.count - c.loop-i.i ≡ 0 = omega (arith, c.loop-i-test.false) in
+    omega (arith, rw none at c.loop-i.invariant.sums, c.loop-i.invariant.capped)
 
 pub slots_weight-returns-in-Some : goal.slots_weight-returns-in-Some
 slots_weight-returns-in-Some t c =
