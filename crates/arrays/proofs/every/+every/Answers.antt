@@ -1,13 +1,22 @@
-use Rattle.std.proofs.Common.{◌≡◌, ◌++◌, IfOk, map, rules, subst, sym}
+use Rattle.std.proofs.Common.{◌≡◌, ◌++◌, List, IfOk, map, drop, rules, subst, sym}
 use Rattle.arrow_schema.specs.declared.types.Field.{the_lemmas as field_lemmas}
 use Rattle.arrow_schema.specs.Column.{Kind, columns_of, lists, large_lists, fixed_lists, structs}
 use Rattle.arrow_schema.specs.View.{kind_of, column_of}
-use Rattle.columns.specs.Tests.{arrays_below}
-use Rattle.columns.specs.View.{view_array}
+use Rattle.columns.specs.Tests.{Typed, arrays_below}
+use Rattle.columns.specs.View.{view_array, placed_arrays}
 use Rattle.arrays.specs.inner.Every.{all_of}
 use Rattle.facts.specs.laws.Lists.{drop-item}
-use Rattle.arrays.proofs.Everys.{listed_more}
+use Rattle.arrays.proofs.Everys.{listed_more, listed_all, coded_listed, plain_listed}
 use Rattle.arrays.proofs.every.+every.Goals as goal
+
+pub add_array-returns-in-Some : goal.add_array-returns-in-Some
+add_array-returns-in-Some t c =
+    coded_listed c.args.every.items _ (record { field = c.args.field; view = c.args.view }) c.in-Some.field-0 c.in_ok-push.ensures.items c.in-Some.is
+
+pub add_array-returns-in-None : goal.add_array-returns-in-None
+add_array-returns-in-None t c =
+    subst (λ (ts : List Typed). IfOk c.add_below.result (λ v. all_of v.items ≡ ts))
+    (plain_listed c.args.every.items _ (record { field = c.args.field; view = c.args.view }) c.in_ok-push.ensures.items c.in-None.is) c.add_below.ensures
 
 pub add_all-loop-i-preserved : goal.add_all-loop-i-preserved
 add_all-loop-i-preserved t c =
@@ -42,3 +51,7 @@ add_below-returns-in-Struct t c =
     let kind : kind_of c.args.data_type.now ≡ structs (columns_of (map column_of c.in-Struct.fields.items)) = rw c.in-Struct.is (search (rules, field_lemmas)) in
     subst (λ (k : Kind). IfOk c.add_all.result (λ v. all_of v.items ≡ all_of c.args.every.items ++ arrays_below k (view_array c.args.view))) (sym kind)
     (rw (c.deref-in-Struct.ensures.value, c.children.ensures) at c.add_all.ensures)
+
+pub add_all-returns : goal.add_all-returns
+add_all-returns t c =
+    listed_all c.args.fields.now c.loop-i.i (placed_arrays c.args.bytes.now c.args.dictionaries.now (drop c.loop-i.i c.args.arrays.now)) _ _ c.loop-i-test.false c.loop-i.invariant
