@@ -5,31 +5,20 @@ ghost use Rattle.arrow_schema.specs.View.{kind_of, column_of};
 ghost use Rattle.arrays.specs.inner.Rest.{IsPlaced, IsLaidOut, IsValidity, ArePlaced, IsPlacedBelow, ArePlacedBelow, IsInBody, LayoutEnds, ArrayEnds, ArraysEnd};
 
 use crate::counts::column_counts;
+use crate::null_type::is_of_nulls;
 use crate::rest::Rest;
 use arrow_schema::{DataType, Field};
 use columns::{PlacedArray, PlacedLayout, Span};
 use std::alloc::{AllocError, Global};
 
-#[tactic(auto, unfolding(columns::specs::FromBuffers::kind_array_from))]
 fn own_validity(data_type: &DataType, rest: Rest<'_>) -> Span
     ensures validity { IsValidity (kind_of data_type.now) rest.entry result }
     ensures ends { IsInBody rest.entry result }
 {
-    match data_type {
-        DataType::Null => Span { start: 0, len: 0 },
-        DataType::Bool => rest.buffer(0),
-        DataType::Int(_) => rest.buffer(0),
-        DataType::Date(_) => rest.buffer(0),
-        DataType::Timestamp(_, _) => rest.buffer(0),
-        DataType::Utf8 => rest.buffer(0),
-        DataType::LargeUtf8 => rest.buffer(0),
-        DataType::Binary => rest.buffer(0),
-        DataType::LargeBinary => rest.buffer(0),
-        DataType::FixedSizeBinary(_) => rest.buffer(0),
-        DataType::List(_) => rest.buffer(0),
-        DataType::LargeList(_) => rest.buffer(0),
-        DataType::FixedSizeList(_, _) => rest.buffer(0),
-        DataType::Struct(_) => rest.buffer(0),
+    if is_of_nulls(data_type) {
+        Span { start: 0, len: 0 }
+    } else {
+        rest.buffer(0)
     }
 }
 

@@ -1,7 +1,6 @@
 // Nulls in columns that take none.
 ghost use Rattle.std.specs.Prelude.{◌≡◌, ◌≤◌, ◌<◌, ◌+◌, ◌/◌, not, true, false};
 ghost use Rattle.std.specs.List.{list_all, list_any, range_with_len};
-ghost use Rattle.arrow_schema.specs.Parts.{is_nulls};
 ghost use Rattle.arrow_schema.specs.View.{column_of, index_of, kind_of};
 ghost use Rattle.columns.specs.Array.{slots_in, indices_in, dictionary_in, array_list};
 ghost use Rattle.columns.specs.CellAt.{is_valid, kind_cell, unless_null};
@@ -11,14 +10,9 @@ ghost use Rattle.columns.specs.View.{view_array};
 ghost use Rattle.columns.specs.Visible.{is_forbidden, is_null};
 ghost use Rattle.arrays.specs.inner.VisibleSpans.{any_slot, has_no_value};
 
+use crate::null_type::is_of_nulls;
 use arrow_schema::{DataType, DictSpec, Field};
 use columns::{ArrayView, indexed_entry};
-
-fn is_of_nulls(data_type: &DataType) -> bool
-    ensures { result ≡ is_nulls (kind_of data_type.now) }
-{
-    matches!(data_type, DataType::Null)
-}
 
 // A slot of a span is not valid.
 fn any_unset(view: ArrayView<'_>, from: usize, count: usize) -> bool
