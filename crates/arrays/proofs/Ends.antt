@@ -35,12 +35,18 @@ pub record IsBehind (r left : Rest) : Type 0 where
   pub body : left.body.start + left.body.len ≡ r.body.start + r.body.len
   pub parts : (size : ℕ) → list_all (stands_within size r.dictionaries.now) r.parts.now ≡ true → list_all (stands_within size left.dictionaries.now) left.parts.now ≡ true
 
+pub behind_itself : (r : Rest) → IsBehind r r
+behind_itself r = record { dictionaries = refl; body = refl; parts = λ size known. known }
+
 pub behind_more : (r left after : Rest) (n b d : ℕ) → IsBehind r left → IsLeft left after n b d → IsBehind r after
 behind_more r left after n b d h rest = record {
   dictionaries = rest.same_dictionaries ∙ h.dictionaries;
   body = ap (λ (s : Span). s.start + s.len) rest.same_body ∙ h.body;
   parts = λ size known. parts_left left after n b d size rest (h.parts size known);
 }
+
+pub none_ends : (r : Rest) (arrays : List PlacedArray) → arrays ≡ [] → ArraysEnd r arrays
+none_ends r arrays none size le known = ap (list_all (is_placed_within size r.dictionaries.now)) none
 
 pub end_more : (r left : Rest) (arrays more : List PlacedArray) (a : PlacedArray) → IsBehind r left → more ≡ arrays ++ a ∷ [] → ArrayEnds left a → ArraysEnd r arrays → ArraysEnd r more
 end_more r left arrays more a h pushed ends end size le known =
@@ -59,3 +65,14 @@ first_of_all p (y ∷ items) x some is h = ap p is ∙ (and_parts (p y) (list_al
 pub first_ends : (body : Span) (items : List PlacedArray) (x : PlacedArray) → 0 < length items → x ≡ get_or items 0 x → ArraysEndWithin body [] [] items → ArrayEndsWithin body x
 first_ends body items x some is end size le =
     within_more size size (omega arith) (stands_within size []) (λ p. true) (λ p h. refl) x (first_of_all (is_placed_within size []) items x some is (end size le refl))
+
+-- what ends within what is left ends within the whole
+pub ends_left : (r left : Rest) (n b d : ℕ) (a : PlacedArray) → IsLeft r left n b d → ArrayEnds left a → ArrayEnds r a
+ends_left r left n b d a rest ends size le known =
+    let h : IsBehind r left = behind_more r r left n b d (behind_itself r) rest in
+    subst (λ (ds : List Dictionary). is_placed_within size ds a ≡ true) h.dictionaries (ends size (omega (arith, h.body, le)) (h.parts size known))
+
+pub all_end_left : (r left : Rest) (n b d : ℕ) (arrays : List PlacedArray) → IsLeft r left n b d → ArraysEnd left arrays → ArraysEnd r arrays
+all_end_left r left n b d arrays rest ends size le known =
+    let h : IsBehind r left = behind_more r r left n b d (behind_itself r) rest in
+    subst (λ (ds : List Dictionary). list_all (is_placed_within size ds) arrays ≡ true) h.dictionaries (ends size (omega (arith, h.body, le)) (h.parts size known))

@@ -1,12 +1,15 @@
 -- An array by its slots, its validity bitmap and its layout.
+use Rattle.std.specs.Prelude.{Some, None, get_or, option_map}
 use Rattle.std.proofs.Common.{◌≡◌, true, false, ℕ, ◌+◌, ◌≤◌, List, [], ◌∷◌, ◌++◌, length, map, drop, refl, sym, ap, ◌∙◌}
 use Rattle.std.proofs.lemmas.List.{append-nil, drop_all}
 use Rattle.arrow_schema.specs.declared.types.Field.{Field}
-use Rattle.arrow_schema.specs.Parts.{is_nulls}
-use Rattle.arrow_schema.specs.View.{column_of}
-use Rattle.arrow_schema.specs.Column.{Column, Columns, columns_of, Kind, nulls, booleans, integers, dates, timestamps, texts, large_texts, binaries, large_binaries, fixed_binaries, lists, large_lists, fixed_lists, structs}
+use Rattle.arrow_schema.specs.declared.types.DictSpec.{DictSpec}
+use Rattle.arrow_schema.specs.Parts.{is_nulls, kind_of_column, index_of_column}
+use Rattle.arrow_schema.specs.View.{column_of, kind_of, index_of}
+use Rattle.arrow_schema.specs.laws.Parts.{kind_of_field, index_of_field}
+use Rattle.arrow_schema.specs.Column.{Index, Column, Columns, column, columns_of, Kind, nulls, booleans, integers, dates, timestamps, texts, large_texts, binaries, large_binaries, fixed_binaries, lists, large_lists, fixed_lists, structs}
 use Rattle.columns.specs.declared.array.PlacedArray.{PlacedArray}
-use Rattle.columns.specs.Array.{Array, Arrays, Layout, array, no_array, and_array, arrays_of, array_list, slots_in, validity_in, layout_in}
+use Rattle.columns.specs.Array.{Array, Arrays, Layout, array, dictionary_layout, no_array, and_array, arrays_of, array_list, slots_in, validity_in, layout_in}
 use Rattle.columns.specs.Buffers.{Node}
 use Rattle.columns.specs.FromBuffers.{array_from, kind_array_from, arrays_from, buffer_at, first_slots, node_count, buffer_count, dictionary_count}
 use Rattle.columns.specs.View.{array_in, arrays_in, placed_arrays}
@@ -75,6 +78,28 @@ pub own_array : (k : Kind) (nodes : List Node) (buffers : List (List ℕ)) (dict
 own_array k nodes buffers dictionaries slots validity layout s e f =
     whole (kind_array_from k nodes buffers dictionaries) slots validity layout (s ∙ sym (slots_from k nodes buffers dictionaries)) e f
 
+-- a field without a dictionary, and one with a dictionary
+plain_column : (c : Column) (r : Rest) → index_of_column c ≡ None → kind_placed (kind_of_column c) r ≡ array_from c (rest_nodes r) (rest_buffers r) (rest_dictionaries r)
+unfolding array_from
+plain_column (column name nullable kind None pairs) r is = refl
+plain_column (column name nullable kind (Some index) pairs) r is = absurd cc
+
+pub plain_from : (field : Field) (r : Rest) → field.dictionary ≡ None → kind_placed (kind_of field.data_type) r ≡ array_from (column_of field) (rest_nodes r) (rest_buffers r) (rest_dictionaries r)
+plain_from field r is =
+    ap (λ (k : Kind). kind_placed k r) (sym (kind_of_field field)) ∙ plain_column (column_of field) r (index_of_field field ∙ ap (option_map index_of) is)
+
+-- of which the indices are the second buffer
+abbrev pub coded_placed : Rest → Array
+coded_placed r = array (first_slots (rest_nodes r)) (buffer_at (rest_buffers r) 0) (dictionary_layout (buffer_at (rest_buffers r) 1) (arrays_of (get_or (rest_dictionaries r) 0 [])))
+
+coded_column : (c : Column) (index : Index) (r : Rest) → index_of_column c ≡ Some index → coded_placed r ≡ array_from c (rest_nodes r) (rest_buffers r) (rest_dictionaries r)
+unfolding array_from
+coded_column (column name nullable kind None pairs) index r is = absurd cc
+coded_column (column name nullable kind (Some own) pairs) index r is = refl
+
+pub coded_from : (field : Field) (spec : DictSpec) (r : Rest) → field.dictionary ≡ Some spec → coded_placed r ≡ array_from (column_of field) (rest_nodes r) (rest_buffers r) (rest_dictionaries r)
+coded_from field spec r is = coded_column (column_of field) (index_of spec) r (index_of_field field ∙ ap (option_map index_of) is)
+
 -- ---- the arrays of columns, one after another
 
 more_after : (y : Array) (xs ys all : List Array) → xs ≡ ys → y ∷ ys ≡ all → y ∷ xs ≡ all
@@ -98,6 +123,13 @@ pub record IsDone (r left : Rest) (fs others : List Field) (arrays : List Placed
   pub bytes : left.bytes.now ≡ r.bytes.now
   pub dictionaries : left.dictionaries.now ≡ r.dictionaries.now
   pub done : map (array_in r.bytes.now (rest_known r)) arrays ++ array_list (placed_from left others) ≡ array_list (placed_from r fs)
+
+pub none_placed : (r : Rest) (fs : List Field) (arrays : List PlacedArray) → arrays ≡ [] → IsDone r r fs fs arrays
+none_placed r fs arrays none = record {
+  bytes = refl;
+  dictionaries = refl;
+  done = ap (λ (xs : List PlacedArray). map (array_in r.bytes.now (rest_known r)) xs ++ array_list (placed_from r fs)) none;
+}
 
 pub next_placed : (r left after : Rest) (fs : List Field) (i : ℕ) (f : Field) (arrays more : List PlacedArray) (a : PlacedArray) → drop i fs ≡ f ∷ drop (i + 1) fs
     → IsPlaced (column_of f) left a → IsLeft left after (node_count (column_of f)) (buffer_count (column_of f)) (dictionary_count (column_of f)) → more ≡ arrays ++ a ∷ []

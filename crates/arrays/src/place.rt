@@ -123,7 +123,7 @@ pub(crate) fn place_all(
     let mut left = rest;
     for field in fields {
         let array = place(alloc, field, left)?;
-        arrays.push(array)?;
+        arrays.push_reserved(array);
         left = left.after(column_counts(field));
     }
     Ok(arrays)

@@ -1,25 +1,36 @@
 use Rattle.std.specs.Prelude.{◌&&◌}
 use Rattle.std.specs.List.{list_all}
-use Rattle.std.proofs.Common.{◌≡◌, Bool, map, rules, ap, sym, string_bytes, ◌∙◌}
+use Rattle.std.proofs.Common.{◌≡◌, Bool, map, arith, rules, ap, sym, string_bytes, ◌∙◌}
 use Rattle.std.proofs.lemmas.Bool.{and_from}
+use Rattle.std.proofs.lemmas.Result.{IfOk-weaker}
 use Rattle.arrow_schema.specs.declared.types.Field.{the_lemmas as field_lemmas}
 use Rattle.arrow_schema.specs.Column.{Kind, columns_of, nulls, booleans, integers, dates, timestamps, texts, large_texts, binaries, large_binaries, fixed_binaries, lists, large_lists, fixed_lists, structs}
 use Rattle.columns.specs.declared.array.DictionaryPart.{DictionaryPart}
 use Rattle.columns.specs.declared.array.PlacedLayout.{the_lemmas}
-use Rattle.columns.specs.declared.array.PlacedLayout.TheVariants.{List, FixedList, Struct}
+use Rattle.columns.specs.declared.array.PlacedArray.{roll-PlacedArray}
+use Rattle.columns.specs.declared.array.PlacedLayout.TheVariants.{List, FixedList, Struct, Dictionary}
 use Rattle.columns.specs.declared.array.PlacedLayout.TheFolds.{fold-PlacedLayout}
 use Rattle.columns.specs.Within.{layout_within, array_within, ends_within, is_within_by, is_placed_within, stands_within}
-use Rattle.columns.specs.Array.{list_layout, fixed_list_layout, struct_layout}
+use Rattle.columns.specs.Array.{array, arrays_of, list_layout, fixed_list_layout, struct_layout, dictionary_layout}
 use Rattle.columns.specs.Places.{within}
 use Rattle.columns.specs.View.{array_in, placed_arrays}
 use Rattle.facts.specs.laws.Lists.{drop-item}
 use Rattle.arrow_schema.specs.View.{kind_of, column_of, bits_of, date_kind, time_kind}
 use Rattle.columns.specs.FromBuffers.{kind_array_from, node_count, buffer_count, dictionary_count}
-use Rattle.arrays.specs.inner.Rest.{rest_known, IsPlacedBelow, ArePlacedBelow}
+use Rattle.arrays.specs.inner.Rest.{rest_known, rest_nodes, rest_buffers, rest_dictionaries, IsPlacedBelow, ArePlacedBelow}
 use Rattle.arrays.proofs.LaidOut.{layout_of, kind_layout, null_laid, bits_laid, fixed_laid, binary_laid, ends_of, span_ends, null_ends, bits_end, fixed_ends, binary_ends}
-use Rattle.arrays.proofs.Placed.{next_placed, finished}
-use Rattle.arrays.proofs.Ends.{behind_more, end_more, children_end}
+use Rattle.arrays.proofs.Placed.{own_array, plain_from, coded_from, none_placed, next_placed, finished, below_placed, all_placed_below}
+use Rattle.arrays.proofs.Ends.{behind_itself, behind_more, none_ends, end_more, ends_left, all_end_left, children_end}
 use Rattle.arrays.proofs.place.+place.Goals as goal
+
+pub place_all-loop-field-init : goal.place_all-loop-field-init
+place_all-loop-field-init t c = record {
+  done = none_placed c.args.rest c.args.fields.now _ c.in_ok-arrays.ensures.items;
+  behind = behind_itself c.args.rest;
+  end = none_ends c.args.rest _ c.in_ok-arrays.ensures.items;
+  len = c.in_ok-arrays.ensures.len;
+  room = omega (arith, c.in_ok-arrays.ensures.exact);
+}
 
 pub place_all-loop-field-preserved : goal.place_all-loop-field-preserved
 place_all-loop-field-preserved t c =
@@ -27,9 +38,11 @@ place_all-loop-field-preserved t c =
     let left = c.after-left.ensures (node_count (column_of f)) (buffer_count (column_of f)) (dictionary_count (column_of f)) c.column_counts.ensures.nodes c.column_counts.ensures.buffers c.column_counts.ensures.dictionaries in
     record {
       done = next_placed c.args.rest c.loop-field.left _ c.args.fields.now c.loop-field.field-index f c.loop-field.arrays.items _ c.in_ok-array.array
-          (drop-item c.args.fields.now c.loop-field.field-index f c.loop-field-test.true c.field-item.is) c.in_ok-array.ensures.placed left c.in_ok-push.ensures.items c.loop-field.invariant.done;
+          (drop-item c.args.fields.now c.loop-field.field-index f c.loop-field-test.true c.field-item.is) c.in_ok-array.ensures.placed left c.push_reserved.ensures.items c.loop-field.invariant.done;
       behind = behind_more c.args.rest c.loop-field.left _ _ _ _ c.loop-field.invariant.behind left;
-      end = end_more c.args.rest c.loop-field.left c.loop-field.arrays.items _ c.in_ok-array.array c.loop-field.invariant.behind c.in_ok-push.ensures.items c.in_ok-array.ensures.ends c.loop-field.invariant.end;
+      end = end_more c.args.rest c.loop-field.left c.loop-field.arrays.items _ c.in_ok-array.array c.loop-field.invariant.behind c.push_reserved.ensures.items c.in_ok-array.ensures.ends c.loop-field.invariant.end;
+      len = omega (arith, c.push_reserved.ensures.len, c.loop-field.invariant.len);
+      room = omega (arith, c.push_reserved.ensures.capacity, c.loop-field.invariant.room);
     }
 
 pub place_all-returns-clause-placed : goal.place_all-returns-clause-placed
@@ -197,3 +210,41 @@ place_layout-returns-in_ok-place_children-in-Struct-clause-laid_out t c =
     let seen : layout_of r (Struct children) ≡ struct_layout (placed_arrays r.bytes.now r.dictionaries.now children.items) = search (rules, the_lemmas) in
     let below : ArePlacedBelow fields r children.items = rw c.deref-in-Struct.ensures.value at c.in_ok-place_children-in-Struct.ensures.placed in
     seen ∙ ap struct_layout below ∙ sym (ap (λ (k : Kind). kind_layout k c.args.rest) kind)
+
+pub place-returns-in-Some-clause-placed : goal.place-returns-in-Some-clause-placed
+place-returns-in-Some-clause-placed t c =
+    let r = c.args.rest in
+    let seen : array_in r.bytes.now (rest_known r) (roll-PlacedArray (record { slots = c.slots.result; validity = c.buffer.result; layout = Dictionary c.buffer-in-Some.result c.part.result }))
+    ≡ array c.slots.result (within r.bytes.now c.buffer.result) (dictionary_layout (within r.bytes.now c.buffer-in-Some.result) (arrays_of (rest_known r c.part.result))) = search (rules, the_lemmas) in
+    seen
+    ∙ (λ j. array (c.slots.ensures j) (c.buffer.ensures.bytes j) (dictionary_layout (c.buffer-in-Some.ensures.bytes j) (arrays_of (c.part.ensures.first j))))
+    ∙ coded_from c.args.field.now c.in-Some.field-0 r c.in-Some.is
+
+pub place-returns-in_ok-place_layout-in-None-clause-placed : goal.place-returns-in_ok-place_layout-in-None-clause-placed
+place-returns-in_ok-place_layout-in-None-clause-placed t c =
+    let r = c.args.rest in
+    let layout = c.in_ok-place_layout-in-None.field-0 in
+    let seen : array_in r.bytes.now (rest_known r) (roll-PlacedArray (record { slots = c.slots-in-None.result; validity = c.own_validity.result; layout = layout }))
+    ≡ array c.slots-in-None.result (within r.bytes.now c.own_validity.result) (layout_of r layout) = search (rules, the_lemmas) in
+    seen
+    ∙ own_array (kind_of c.args.field.now.data_type) (rest_nodes r) (rest_buffers r) (rest_dictionaries r) _ _ _ c.slots-in-None.ensures c.own_validity.ensures.validity c.in_ok-place_layout-in-None.ensures.laid_out
+    ∙ plain_from c.args.field.now r c.in-None.is
+
+pub place_items-returns-clause-placed : goal.place_items-returns-clause-placed
+place_items-returns-clause-placed t c =
+    rw c.in_ok-new.ensures.ok (below_placed c.args.rest c.below.result (column_of c.args.item.now) c.args.buffers c.in_ok-array.array c.below.ensures c.in_ok-array.ensures.placed)
+
+pub place_items-returns-clause-ends : goal.place_items-returns-clause-ends
+place_items-returns-clause-ends t c =
+    rw c.in_ok-new.ensures.ok (ends_left c.args.rest c.below.result 1 c.args.buffers 0 c.in_ok-array.array c.below.ensures c.in_ok-array.ensures.ends)
+
+pub place_children-returns-clause-placed : goal.place_children-returns-clause-placed
+place_children-returns-clause-placed t c =
+    IfOk-weaker c.place_all.result _ _ (λ v h. all_placed_below c.args.rest c.below.result (columns_of (map column_of c.args.fields.now)) v.items c.below.ensures h) c.place_all.ensures.placed
+
+pub place_children-returns-clause-end : goal.place_children-returns-clause-end
+place_children-returns-clause-end t c =
+    IfOk-weaker c.place_all.result _ _ (λ v h. all_end_left c.args.rest c.below.result 1 1 0 v.items c.below.ensures h) c.place_all.ensures.end
+
+pub place_all-returns-clause-end : goal.place_all-returns-clause-end
+place_all-returns-clause-end t c = c.loop-field.invariant.end
