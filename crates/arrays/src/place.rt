@@ -23,7 +23,6 @@ fn own_validity(data_type: &DataType, rest: Rest<'_>) -> Span
 }
 
 /// The array of a field.
-#[tactic(auto, using(crate::proofs::Placed::own_array), unfolding(columns::specs::FromBuffers::array_from))]
 #[cycle(place)]
 fn place(alloc: Global, field: &Field, rest: Rest<'_>) -> Result<PlacedArray, AllocError>
     ensures placed { IfOk result (λ a. IsPlaced (column_of field.now) rest.entry a) }
@@ -44,7 +43,6 @@ fn place(alloc: Global, field: &Field, rest: Rest<'_>) -> Result<PlacedArray, Al
 }
 
 // The array of the items of lists, which have so many buffers of their own.
-#[tactic(auto, using(crate::proofs::Placed::below_placed))]
 #[cycle(place)]
 fn place_items(
     alloc: Global,
@@ -60,7 +58,6 @@ fn place_items(
 }
 
 // The arrays of the fields of structs.
-#[tactic(auto, using(crate::proofs::Placed::all_placed_below))]
 #[cycle(place)]
 fn place_children(
     alloc: Global,
