@@ -21,7 +21,7 @@ use Rattle.columns.specs.laws.Places.{listed}
 use Rattle.columns.specs.laws.Offsets.{spans_fit}
 use Rattle.columns.specs.laws.Rows.{fewer_sound}
 use Rattle.facts.specs.laws.Lists.{drop-item}
-use Rattle.arrays.specs.inner.Weights.{has_one_weight, sum_from, valid_weight}
+use Rattle.arrays.specs.inner.Weights.{AreEntryWeights, has_one_weight, sum_from, valid_weight}
 use Rattle.arrays.proofs.SpanWeights.{plain_sound, plain_spanned, coded_sound, coded_spanned, known_weight, one_slot, valid_weighs, column_one_weight, valid_run, null_run, run_more, slot_more, next_total, parts_next, parts_end, sound_next}
 use Rattle.columns.specs.laws.SoundParts.{sound_parts, sound_validity}
 use Rattle.arrays.proofs.KindWeights.{items_total, fixed_total, fields_total, fixed_within}
@@ -323,6 +323,27 @@ entries_weight-returns-then-count-few t c =
 pub entries_weight-first_weights-first-requires : goal.entries_weight-first_weights-first-requires
 entries_weight-first_weights-first-requires t c =
     (search (rules, field_lemmas), (c.first_count-few.ensures, (c.requires.empty, (c.requires.varied, c.requires.sound))))
+
+pub entries_weight-slots_weight-requires-2 : goal.entries_weight-slots_weight-requires-2
+entries_weight-slots_weight-requires-2 t c =
+    let kind : Kind = kind_of c.args.field.now.data_type in
+    let known : List ℕ = take c.first_count-few.result c.first_weights-first.result in
+    let same = sym c.new-slots.ensures.view in (
+      search (rules, field_lemmas),
+      (
+        c.requires.empty,
+        (
+          c.requires.varied,
+          (
+            subst (λ (v : ArrayView). list_all (is_kind_sound kind) (array_list (dictionary_in (view_array v))) ≡ true) same c.requires.sound,
+            (
+              subst (λ (v : ArrayView). c.args.from + c.args.count ≤ slots_in (view_array v)) same c.requires.within,
+              subst (λ (v : ArrayView). AreEntryWeights kind (dictionary_in (view_array v)) known) same c.first_weights-first.ensures,
+            ),
+          ),
+        ),
+      ),
+    )
 
 pub entries_weight-returns : goal.entries_weight-returns
 entries_weight-returns t c =
