@@ -1,7 +1,7 @@
 -- What is answered of a dictionary batch.
 use Rattle.std.specs.Prelude.{option_map}
 use Rattle.std.specs.List.{list_any}
-use Rattle.std.proofs.Common.{◌≡◌, ℕ, Bool, true, false, List, [], ◌∷◌, length, Option, Some, None, Result, Ok, Err, refl, sym, ap, ◌∙◌, subst}
+use Rattle.std.proofs.Common.{◌≡◌, ℕ, Bool, true, false, List, [], ◌∷◌, Option, Some, None, Result, Ok, Err, refl, sym, ap, ◌∙◌, subst}
 use Rattle.facts.specs.Checks.{when, first_some, unless}
 use Rattle.facts.specs.laws.Checks.{unless_passed, first_some-after, first_some-before}
 use Rattle.arrow_schema.specs.Column.{Column, columns_of}

@@ -1,16 +1,15 @@
 -- What valid slots weigh, type by type.
-use Rattle.std.specs.Prelude.{nat_le, not}
-use Rattle.std.proofs.Common.{◌≡◌, ℕ, ◌+◌, ◌-◌, ◌*◌, ◌≤◌, ◌<◌, true, false, List, [], ◌∷◌, length, take, drop, sum_by, refl, sym, ap, subst, arith, ◌∙◌, length-take, length-drop}
+use Rattle.std.specs.Prelude.{nat_le}
+use Rattle.std.proofs.Common.{◌≡◌, ℕ, ◌+◌, ◌-◌, ◌*◌, ◌≤◌, ◌<◌, true, false, List, [], ◌∷◌, length, take, drop, sum_by, refl, sym, ap, arith, ◌∙◌, length-take, length-drop}
 use Rattle.std.proofs.Math.Nat.{mul-le-mul_left}
-use Rattle.std.proofs.lemmas.Bool.{and_parts, leb-true, not-true}
+use Rattle.std.proofs.lemmas.Bool.{leb-true}
 use Rattle.std.proofs.lemmas.List.Sums.{sum_by-cons}
-use Rattle.arrow_schema.specs.Column.{Kind, Column, Columns, texts, large_texts, binaries, large_binaries, lists, large_lists, fixed_lists, structs, no_column, and_column}
+use Rattle.arrow_schema.specs.Column.{Column, Columns, texts, large_texts, binaries, large_binaries, lists, large_lists, fixed_lists, structs, no_column, and_column}
 use Rattle.cells.specs.Cell.{Cell, cells_of}
 use Rattle.cells.specs.Weight.{weight, kind_weight, parts_weight, sum_of, capped_weight}
 use Rattle.columns.specs.Array.{Array, Arrays, slots_in, offsets_in, contents_in, items_in, children_in, first_array, other_arrays}
 use Rattle.columns.specs.CellAt.{number_at, span_start, span_size, contents_at, span_cells, cells_from, cell_at, kind_cell, part_cells}
-use Rattle.columns.specs.Sound.{has_sound_children, is_kind_sound}
-use Rattle.columns.specs.Tests.{are_unordered, has_short_validity, has_short_buffer, has_bad_offsets}
+use Rattle.columns.specs.Tests.{are_unordered}
 use Rattle.columns.specs.laws.Offsets.{offsets_ascend, spans_fit}
 use Rattle.arrays.specs.inner.Weights.{sum_from, span_weight, valid_weight, parts_span_weight}
 use Rattle.arrays.proofs.SpanWeights.{each_same, each_both, each_more, each_spanned}

@@ -1,7 +1,7 @@
 -- Where no visible slot is a text that is not UTF-8, all texts of a row are UTF-8, at every level.
 use Rattle.std.specs.Prelude.{not, ◌&&◌, ℤ, pos, negsuc, if◌then◌else◌}
 use Rattle.std.specs.List.{list_any, list_all, flat_map, range_with_len}
-use Rattle.std.proofs.Common.{inl, inr, ◌≡◌, ℕ, zero, suc, ◌+◌, ◌≤◌, ◌<◌, ◌*◌, Bool, true, false, List, [], ◌∷◌, map, length, get_or, Some, None, Ok, refl, sym, subst, arith, ◌∙◌}
+use Rattle.std.proofs.Common.{inl, inr, ◌≡◌, ℕ, zero, suc, ◌+◌, ◌≤◌, ◌<◌, ◌*◌, Bool, true, false, List, [], ◌∷◌, map, get_or, Some, None, Ok, refl, sym, subst, arith, ◌∙◌}
 use Rattle.std.proofs.lemmas.Bool.{and_parts, or_parts, cases_lt, not-false}
 use Rattle.std.proofs.lemmas.List.Folds.{list_all-append, list_any-append}
 use Rattle.facts.specs.Checks.{first_some}

@@ -1,4 +1,4 @@
-use Rattle.std.proofs.Common.{◌≡◌, true, false, sym, arith, ◌∙◌}
+use Rattle.std.proofs.Common.{◌≡◌, true, false, sym, ◌∙◌}
 use Rattle.arrow_schema.specs.View.{index_of}
 use Rattle.columns.specs.CellAt.{is_valid}
 use Rattle.columns.specs.View.{view_array}

@@ -1,5 +1,5 @@
 use Rattle.std.specs.Prelude.{ℤ, pos, negsuc, Some, None, nat_le}
-use Rattle.std.proofs.Common.{◌≡◌, ℕ, true, List, length, refl, ap, sym, ◌∙◌}
+use Rattle.std.proofs.Common.{◌≡◌, ℕ, true, List, length, refl, sym, ◌∙◌}
 use Rattle.cells.specs.Cell.{Cell}
 use Rattle.columns.specs.CellAt.{named_number}
 use Rattle.columns.specs.Visible.{is_past}
