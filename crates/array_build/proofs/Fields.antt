@@ -50,3 +50,11 @@ dictionary_field p f d cells is = plain_is p f (Some d) cells is
 -- the type of a timestamp, as a kind
 pub timestamp_kind : (unit : TimeUnit) (timezone : String Global) → kind_of (Timestamp unit timezone) ≡ timestamps (time_kind unit) (string_bytes timezone)
 timestamp_kind unit timezone = ap kind_of (sym (rolls-Timestamp unit timezone)) ∙ fold-roll-DataType Kind Column kind_step column_step (types.Timestamp unit timezone)
+
+-- ---- a type that is of a kind
+
+pub kind_can : {j k : Kind} (cells : List Cell) → j ≡ k → can_build (plain_column j None) cells ≡ true → can_build (plain_column k None) cells ≡ true
+kind_can cells same can = ap (λ (i : Kind). can_build (plain_column i None) cells) (sym same) ∙ can
+
+pub kind_arrays : {j k : Kind} (p : PlainBatch) (cells : List Cell) → j ≡ k → with_arrays p (built_at (plain_column k None) cells) ≡ with_arrays p (built_at (plain_column j None) cells)
+kind_arrays p cells same = ap (λ (i : Kind). with_arrays p (built_at (plain_column i None) cells)) (sym same)

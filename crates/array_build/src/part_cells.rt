@@ -82,7 +82,7 @@ pub(crate) fn parts<'a>(
 {
     let mut parts = Vec::with_capacity(alloc, cells.len())?;
     for cell in cells {
-        parts.push(part_at(*cell, place))?;
+        parts.push_reserved(part_at(*cell, place));
     }
     Ok(parts)
 }
