@@ -2,8 +2,11 @@
 use super::{LONG_WORK, ProgressLine, Stage};
 use sector_dev::LockFile;
 use std::alloc::{Allocator, Global};
-use std::fs::{Metadata, OpenFile, OpenOptions};
-use std::io::{self, Read, Seek, SeekFrom, Write};
+use std::fs::{Metadata, OpenFile, OpenOptions, Permissions};
+use std::io::{self, PipeReader, PipeWriter, Read, Seek, SeekFrom, Write};
+use std::os::fd::BorrowedFd;
+use std::os::unix::net::SocketAddr;
+use std::path::PathBuf;
 use std::rt::Files;
 use std::time::Clock;
 
@@ -31,6 +34,7 @@ impl<C: Clock, T, H: Alloc<A = Global>> Alloc for ProgressFiles<'_, C, T, H> {
     }
 }
 
+// Each method hands on, also those that an impl may leave out: what the trait has in their place costs more to prove than a call.
 impl<'a, C: Clock, T: Write + Copy, H: Files> Files for ProgressFiles<'a, C, T, H> {
     type File = ProgressFile<'a, C, T, H::File>;
 
@@ -79,6 +83,46 @@ impl<'a, C: Clock, T: Write + Copy, H: Files> Files for ProgressFiles<'a, C, T, 
 
     fn remove_dir_all<B: Allocator>(&self, alloc: B, path: &str) -> io::Result<()> {
         self.files.remove_dir_all(alloc, path)
+    }
+
+    fn canonicalize<B: Allocator>(&self, alloc: B, path: &str) -> io::Result<PathBuf<B>> {
+        self.files.canonicalize(alloc, path)
+    }
+
+    fn read_link<B: Allocator>(&self, alloc: B, path: &str) -> io::Result<PathBuf<B>> {
+        self.files.read_link(alloc, path)
+    }
+
+    fn hard_link(&self, original: &str, link: &str) -> io::Result<()> {
+        self.files.hard_link(original, link)
+    }
+
+    fn set_permissions(&self, path: &str, perm: Permissions) -> io::Result<()> {
+        self.files.set_permissions(path, perm)
+    }
+
+    fn symlink(&self, original: &str, link: &str) -> io::Result<()> {
+        self.files.symlink(original, link)
+    }
+
+    fn pipe(&self) -> io::Result<(PipeReader, PipeWriter)> {
+        self.files.pipe()
+    }
+
+    fn chown(&self, path: &str, uid: Option<u32>, gid: Option<u32>) -> io::Result<()> {
+        self.files.chown(path, uid, gid)
+    }
+
+    fn lchown(&self, path: &str, uid: Option<u32>, gid: Option<u32>) -> io::Result<()> {
+        self.files.lchown(path, uid, gid)
+    }
+
+    fn create_dir_with_mode(&self, path: &str, mode: u32) -> io::Result<()> {
+        self.files.create_dir_with_mode(path, mode)
+    }
+
+    fn bind_unix(&self, socket: BorrowedFd<'_>, addr: &SocketAddr) -> io::Result<()> {
+        self.files.bind_unix(socket, addr)
     }
 }
 
