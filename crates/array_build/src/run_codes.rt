@@ -188,7 +188,34 @@ fn put_sized_codes<'a, const SIZE: usize, const SIGNED: bool>(
     Ok(())
 }
 
-// The same, by a loop for each kind of index.
+// The same, by a loop for indices with a sign and one for those without.
+fn put_codes_of_size<'a, const SIZE: usize>(
+    entries: &mut IndexSet<Entry<'a>>,
+    known: &mut [Option<usize>],
+    indices: &mut [u8],
+    valid: &mut [bool],
+    field: &'a Field,
+    slots: CodedSlots<'a>,
+    from: usize,
+    to: usize,
+) -> Result<(), AllocError>
+    requires small { SIZE ≤ 8 }
+    requires size { SIZE ≡ (index_of slots.spec).bits / 8 }
+    requires slots { AreCodedSlots field.now slots from to }
+    requires known { AreKnown (map entry_cell entries.old.keys) (own_entries field.now slots.view) known.old }
+    requires room { length indices.old ≡ SIZE * (to - from) }
+    requires places { length valid.old ≡ to - from }
+    ensures { OnOk result (IsWritten SIZE (map entry_cell entries.old.keys) (map entry_cell entries.new.keys)
+        indices.new valid.new (cells_from (coded_cell field.now slots.entry) from (to - from))) }
+{
+    if slots.spec.index.signed {
+        put_sized_codes::<SIZE, true>(entries, known, indices, valid, field, slots, from, to)
+    } else {
+        put_sized_codes::<SIZE, false>(entries, known, indices, valid, field, slots, from, to)
+    }
+}
+
+// The same, by loops for each size of an index.
 fn put_slot_codes<'a>(
     entries: &mut IndexSet<Entry<'a>>,
     known: &mut [Option<usize>],
@@ -206,31 +233,19 @@ fn put_slot_codes<'a>(
     ensures { OnOk result (IsWritten (bits_of slots.entry.spec.index.width / 8) (map entry_cell entries.old.keys) (map entry_cell entries.new.keys)
         indices.new valid.new (cells_from (coded_cell field.now slots.entry) from (to - from))) }
 {
-    match (slots.spec.index.width, slots.spec.index.signed) {
-        (BitWidth::Eight, true) => put_sized_codes::<1, true>(
-            entries, known, indices, valid, field, slots, from, to,
-        ),
-        (BitWidth::Eight, false) => put_sized_codes::<1, false>(
-            entries, known, indices, valid, field, slots, from, to,
-        ),
-        (BitWidth::Sixteen, true) => put_sized_codes::<2, true>(
-            entries, known, indices, valid, field, slots, from, to,
-        ),
-        (BitWidth::Sixteen, false) => put_sized_codes::<2, false>(
-            entries, known, indices, valid, field, slots, from, to,
-        ),
-        (BitWidth::ThirtyTwo, true) => put_sized_codes::<4, true>(
-            entries, known, indices, valid, field, slots, from, to,
-        ),
-        (BitWidth::ThirtyTwo, false) => put_sized_codes::<4, false>(
-            entries, known, indices, valid, field, slots, from, to,
-        ),
-        (BitWidth::SixtyFour, true) => put_sized_codes::<8, true>(
-            entries, known, indices, valid, field, slots, from, to,
-        ),
-        (BitWidth::SixtyFour, false) => put_sized_codes::<8, false>(
-            entries, known, indices, valid, field, slots, from, to,
-        ),
+    match slots.spec.index.width {
+        BitWidth::Eight => {
+            put_codes_of_size::<1>(entries, known, indices, valid, field, slots, from, to)
+        }
+        BitWidth::Sixteen => {
+            put_codes_of_size::<2>(entries, known, indices, valid, field, slots, from, to)
+        }
+        BitWidth::ThirtyTwo => {
+            put_codes_of_size::<4>(entries, known, indices, valid, field, slots, from, to)
+        }
+        BitWidth::SixtyFour => {
+            put_codes_of_size::<8>(entries, known, indices, valid, field, slots, from, to)
+        }
     }
 }
 
