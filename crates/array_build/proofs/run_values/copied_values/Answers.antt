@@ -1,0 +1,52 @@
+use Rattle.std.specs.Prelude.{None}
+use Rattle.std.specs.List.{flat_map}
+use Rattle.std.proofs.Common.{◌+◌, ◌++◌, ◌∙◌, ℕ, List, ap, drop, refl, sym}
+use Rattle.std.proofs.lemmas.Bool.{and_parts}
+use Rattle.std.proofs.lemmas.List.Concat.{flat_map-append}
+use Rattle.array_build.proofs.Ended.{ended}
+use Rattle.array_build.proofs.Turns.{turned}
+use Rattle.array_build.proofs.run_values.copied_values.Goals as goal
+use Rattle.array_build.specs.Batch.{plain_column}
+use Rattle.array_build.specs.inner.Runs.{are_runs_as_written, fixed_value, is_run_as_written, kind_cells}
+use Rattle.array_runs.specs.Runs.{are_runs_sound, is_run_sound, run_cells, runs_cells}
+use Rattle.array_runs.specs.declared.run.SlotRun.{SlotRun}
+use Rattle.arrow_schema.specs.Column.{Column, Kind}
+use Rattle.arrow_schema.specs.View.{kind_of}
+use Rattle.facts.specs.laws.Lists.{drop-item}
+
+pub push_run-requires-clause-sound : goal.push_run-requires-clause-sound
+push_run-requires-clause-sound c =
+    let col : Column = plain_column (kind_of c.args.data_type.now) None in
+    let item = drop-item c.args.runs.now c.loop-run.run-index c.run-item.result c.loop-run-test.true c.run-item.is in
+    let others : List SlotRun = drop (c.loop-run.run-index + 1) c.args.runs.now in
+    (and_parts (is_run_sound col c.run-item.result) (are_runs_sound col others) (sym (ap (are_runs_sound col) item) ∙ c.loop-run.invariant.sound)).0
+
+pub push_run-requires-clause-written : goal.push_run-requires-clause-written
+push_run-requires-clause-written c =
+    let kind : Kind = kind_of c.args.data_type.now in
+    let item = drop-item c.args.runs.now c.loop-run.run-index c.run-item.result c.loop-run-test.true c.run-item.is in
+    let others : List SlotRun = drop (c.loop-run.run-index + 1) c.args.runs.now in
+    (and_parts (is_run_as_written kind c.run-item.result) (are_runs_as_written kind others) (sym (ap (are_runs_as_written kind) item) ∙ c.loop-run.invariant.written)).0
+
+pub loop-run-preserved : goal.loop-run-preserved
+loop-run-preserved c =
+    let kind : Kind = kind_of c.args.data_type.now in
+    let col : Column = plain_column kind None in
+    let run : SlotRun = c.run-item.result in
+    let others : List SlotRun = drop (c.loop-run.run-index + 1) c.args.runs.now in
+    let made : List ℕ = c.loop-run.values.items in
+    let item = drop-item c.args.runs.now c.loop-run.run-index run c.loop-run-test.true c.run-item.is in
+    let parts = flat_map-append (fixed_value kind) (run_cells col run) (runs_cells col others) in
+    let kept = ap (λ (xs : List ℕ). made ++ xs) (sym parts)
+    ∙ sym (ap (λ (runs : List SlotRun). made ++ flat_map (fixed_value kind) (kind_cells kind runs)) item) ∙ c.loop-run.invariant.values in
+    record {
+      sound = (and_parts (is_run_sound col run) (are_runs_sound col others) (sym (ap (are_runs_sound col) item) ∙ c.loop-run.invariant.sound)).1;
+      written = (and_parts (is_run_as_written kind run) (are_runs_as_written kind others) (sym (ap (are_runs_as_written kind) item) ∙ c.loop-run.invariant.written)).1;
+      values = turned made (flat_map (fixed_value kind) (run_cells col run)) (flat_map (fixed_value kind) (runs_cells col others)) _ _ c.in_ok-push_run.ensures kept;
+    }
+
+pub returns : goal.returns
+returns c =
+    let kind : Kind = kind_of c.args.data_type.now in
+    ended (λ (runs : List SlotRun). flat_map (fixed_value kind) (kind_cells kind runs)) c.loop-run.values.items _ c.args.runs.now c.loop-run.run-index refl c.loop-run-test.false
+    c.loop-run.invariant.values
