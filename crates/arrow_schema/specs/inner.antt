@@ -6,3 +6,4 @@ pub mod OpeningView
 pub mod Build
 pub mod Standing
 pub mod Tested
+pub mod Printed

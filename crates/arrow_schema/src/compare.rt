@@ -4,7 +4,7 @@ ghost use Rattle.arrow_schema.specs.Column.{columns_of, date_unit_of, time_unit_
 ghost use Rattle.arrow_schema.specs.View.{schema_of, kind_of, column_of, pair_of, index_of, bits_of, date_kind, time_kind};
 ghost use Rattle.arrow_schema.specs.Shape.{seen_dictionary, seen_pairs, HaveOneShape};
 ghost use Rattle.std.specs.Bool.{beq};
-ghost use Rattle.arrow_schema.specs.inner.Alike.{dictionary_eq, pairs_eq, alike, alike_kind, alike_all};
+ghost use Rattle.arrow_schema.specs.inner.Alike.{dictionary_eq, pairs_eq, alike_plain, alike_flat, alike, alike_kind, alike_all};
 
 use crate::types::{DataType, DateUnit, DictSpec, Field, IntegerType, Schema, TimeUnit};
 
@@ -61,6 +61,38 @@ fn same_field_pairs(detail: Detail, a: &[(String, String)], b: &[(String, String
     }
 }
 
+// Types without parameters.
+fn same_plain_type(a: &DataType, b: &DataType) -> bool
+    ensures { result ≡ alike_plain (kind_of a.now) (kind_of b.now) }
+{
+    match a {
+        DataType::Null => matches!(b, DataType::Null),
+        DataType::Bool => matches!(b, DataType::Bool),
+        DataType::Utf8 => matches!(b, DataType::Utf8),
+        DataType::LargeUtf8 => matches!(b, DataType::LargeUtf8),
+        DataType::Binary => matches!(b, DataType::Binary),
+        DataType::LargeBinary => matches!(b, DataType::LargeBinary),
+        _ => false,
+    }
+}
+
+// Types without children.
+fn same_flat_type(a: &DataType, b: &DataType) -> bool
+    ensures { result ≡ alike_flat (kind_of a.now) (kind_of b.now) }
+{
+    match a {
+        DataType::Int(x) => matches!(b, DataType::Int(y) if same_integer(*x, *y)),
+        DataType::Date(x) => matches!(b, DataType::Date(y) if same_date(*x, *y)),
+        DataType::Timestamp(x, timezone) => match b {
+            DataType::Timestamp(y, other_timezone) => same_time(*x, *y)
+                && timezone == other_timezone,
+            _ => false,
+        },
+        DataType::FixedSizeBinary(x) => matches!(b, DataType::FixedSizeBinary(y) if x == y),
+        _ => same_plain_type(a, b),
+    }
+}
+
 #[tactic(auto, unfolding(crate::specs::inner::Alike::alike))]
 #[cycle(same)]
 fn same_field(detail: Detail, a: &Field, b: &Field) -> bool
@@ -79,20 +111,6 @@ fn same_type(detail: Detail, a: &DataType, b: &DataType) -> bool
     ensures { result ≡ alike_kind detail (kind_of a.now) (kind_of b.now) }
 {
     match a {
-        DataType::Null => matches!(b, DataType::Null),
-        DataType::Bool => matches!(b, DataType::Bool),
-        DataType::Int(x) => matches!(b, DataType::Int(y) if same_integer(*x, *y)),
-        DataType::Date(x) => matches!(b, DataType::Date(y) if same_date(*x, *y)),
-        DataType::Timestamp(x, timezone) => match b {
-            DataType::Timestamp(y, other_timezone) => same_time(*x, *y)
-                && timezone == other_timezone,
-            _ => false,
-        },
-        DataType::Utf8 => matches!(b, DataType::Utf8),
-        DataType::LargeUtf8 => matches!(b, DataType::LargeUtf8),
-        DataType::Binary => matches!(b, DataType::Binary),
-        DataType::LargeBinary => matches!(b, DataType::LargeBinary),
-        DataType::FixedSizeBinary(x) => matches!(b, DataType::FixedSizeBinary(y) if x == y),
         DataType::List(x) => matches!(b, DataType::List(y) if same_field(detail, x, y)),
         DataType::LargeList(x) => matches!(b, DataType::LargeList(y) if same_field(detail, x, y)),
         DataType::FixedSizeList(size, x) => match b {
@@ -101,6 +119,7 @@ fn same_type(detail: Detail, a: &DataType, b: &DataType) -> bool
             _ => false,
         },
         DataType::Struct(xs) => matches!(b, DataType::Struct(ys) if same_fields(detail, xs, ys)),
+        _ => same_flat_type(a, b),
     }
 }
 

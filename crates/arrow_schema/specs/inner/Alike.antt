@@ -85,6 +85,24 @@ abbrev pub is_no_column : Columns → Bool
 is_no_column no_column = true
 is_no_column (and_column c cs) = false
 
+-- types without parameters: no other type is alike
+abbrev pub alike_plain : Kind → Kind → Bool
+alike_plain nulls = is_nulls
+alike_plain booleans = is_booleans
+alike_plain texts = is_texts
+alike_plain large_texts = is_large_texts
+alike_plain binaries = is_binaries
+alike_plain large_binaries = is_large_binaries
+alike_plain _ = λ _. false
+
+-- types without children: no other type is alike
+abbrev pub alike_flat : Kind → Kind → Bool
+alike_flat (integers bits signed) = integers_where (λ b s. bits == b && beq signed s)
+alike_flat (dates unit) = dates_where (λ u. date_unit_of unit == date_unit_of u)
+alike_flat (timestamps unit timezone) = timestamps_where (λ u z. time_unit_of unit == time_unit_of u && bytes_eq timezone z)
+alike_flat (fixed_binaries width) = fixed_binaries_where (λ w. width == w)
+alike_flat kind = alike_plain kind
+
 unfoldable mutual
   pub alike : Detail → Column → Column → Bool
   alike detail (column name nullable kind dictionary pairs) =

@@ -5,6 +5,7 @@ ghost use Rattle.arrow_schema.specs.Column.{columns_of};
 ghost use Rattle.arrow_schema.specs.View.{kind_of, column_of, index_of};
 ghost use Rattle.arrow_schema.specs.declared.types.Field.{out-Field};
 ghost use Rattle.arrow_schema.specs.Keywords.{number_text, keyword_text};
+ghost use Rattle.arrow_schema.specs.inner.Printed.{front_text, rest_text};
 ghost use Rattle.arrow_schema.specs.FieldText.{printed, timezone_text, dictionary_text, with_dictionary, type_text, field_text, fields_text};
 
 use super::keyword::Keyword;
@@ -37,15 +38,27 @@ fn push_number(text: &mut String, number: u32) -> Result<(), AllocError>
     write!(text, "{number}")
 }
 
-fn push_keyword_and_number(
-    text: &mut String,
-    keyword: Keyword,
-    number: u32,
-) -> Result<(), AllocError>
-    ensures { OnOk result (string_bytes text.new ≡ string_bytes text.old ++ (keyword_text keyword ++ number_text number)) }
+// The keyword that begins a type.
+#[tactic(auto, unfolding(crate::specs::Keywords::keyword_text))]
+fn keyword_of(data_type: &DataType) -> Keyword
+    ensures { keyword_text result ≡ front_text (kind_of data_type.now) }
 {
-    text.push_str(keyword.text())?;
-    push_number(text, number)
+    match data_type {
+        DataType::Null => Keyword::Null,
+        DataType::Bool => Keyword::Bool,
+        DataType::Int(integer) => Keyword::Int(*integer),
+        DataType::Date(unit) => Keyword::Date(*unit),
+        DataType::Timestamp(unit, _) => Keyword::Timestamp(*unit),
+        DataType::Utf8 => Keyword::Utf8,
+        DataType::LargeUtf8 => Keyword::LargeUtf8,
+        DataType::Binary => Keyword::Binary,
+        DataType::LargeBinary => Keyword::LargeBinary,
+        DataType::FixedSizeBinary(_) => Keyword::FixedBinary,
+        DataType::List(_) => Keyword::List,
+        DataType::LargeList(_) => Keyword::LargeList,
+        DataType::FixedSizeList(_, _) => Keyword::FixedList,
+        DataType::Struct(_) => Keyword::Struct,
+    }
 }
 
 // What stands before the type of a dictionary's values.
@@ -100,54 +113,46 @@ fn push_with_dictionary(alloc: Global, text: &mut String, field: &Field) -> Resu
     }
 }
 
-#[tactic(auto, using(crate::proofs::Printing::item_printed), unfolding(crate::specs::FieldText::type_text, crate::specs::Keywords::keyword_text))]
 #[cycle(print)]
 fn push_type(alloc: Global, text: &mut String, data_type: &DataType) -> Result<(), AllocError>
     ensures { OnOk result (string_bytes text.new ≡ string_bytes text.old ++ type_text printed (kind_of data_type.now)) }
 {
+    text.push_str(keyword_of(data_type).text())?;
+    push_rest(alloc, text, data_type)
+}
+
+// What stands behind the keyword of a type.
+#[cycle(print)]
+fn push_rest(alloc: Global, text: &mut String, data_type: &DataType) -> Result<(), AllocError>
+    ensures { OnOk result (string_bytes text.new ≡ string_bytes text.old ++ rest_text (kind_of data_type.now)) }
+{
     match data_type {
-        DataType::Null => text.push_str(Keyword::Null.text()),
-        DataType::Bool => text.push_str(Keyword::Bool.text()),
-        DataType::Int(integer) => text.push_str(Keyword::Int(*integer).text()),
-        DataType::Date(unit) => text.push_str(Keyword::Date(*unit).text()),
-        DataType::Timestamp(unit, timezone) => {
-            text.push_str(Keyword::Timestamp(*unit).text())?;
-            push_timezone(alloc, text, timezone.as_str())
-        }
-        DataType::Utf8 => text.push_str(Keyword::Utf8.text()),
-        DataType::LargeUtf8 => text.push_str(Keyword::LargeUtf8.text()),
-        DataType::Binary => text.push_str(Keyword::Binary.text()),
-        DataType::LargeBinary => text.push_str(Keyword::LargeBinary.text()),
+        DataType::Timestamp(_, timezone) => push_timezone(alloc, text, timezone.as_str()),
         DataType::FixedSizeBinary(width) => {
-            push_keyword_and_number(text, Keyword::FixedBinary, *width)?;
+            push_number(text, *width)?;
             text.push_str(")")
         }
-        DataType::List(item) => push_item(alloc, text, Keyword::List, item),
-        DataType::LargeList(item) => push_item(alloc, text, Keyword::LargeList, item),
+        DataType::List(item) => push_item(alloc, text, item),
+        DataType::LargeList(item) => push_item(alloc, text, item),
         DataType::FixedSizeList(size, item) => {
-            push_keyword_and_number(text, Keyword::FixedList, *size)?;
+            push_number(text, *size)?;
             text.push_str(",")?;
             push_field(alloc, text, item)?;
             text.push_str(")")
         }
         DataType::Struct(fields) => {
-            text.push_str(Keyword::Struct.text())?;
             push_fields(alloc, text, fields)?;
             text.push_str(">")
         }
+        _ => Ok(()),
     }
 }
 
+// The item of a list.
 #[cycle(print)]
-fn push_item(
-    alloc: Global,
-    text: &mut String,
-    list: Keyword,
-    item: &Field,
-) -> Result<(), AllocError>
-    ensures { OnOk result (string_bytes text.new ≡ string_bytes text.old ++ (keyword_text list ++ field_text printed (column_of item.now) ++ codes ">")) }
+fn push_item(alloc: Global, text: &mut String, item: &Field) -> Result<(), AllocError>
+    ensures { OnOk result (string_bytes text.new ≡ string_bytes text.old ++ (field_text printed (column_of item.now) ++ codes ">")) }
 {
-    text.push_str(list.text())?;
     push_field(alloc, text, item)?;
     text.push_str(">")
 }
