@@ -1,4 +1,5 @@
 mod Alone
+mod BufferLemmas
 mod Meant
 mod PartLemmas
 mod RunSteps

@@ -1,0 +1,17 @@
+use Rattle.std.proofs.Common.{◌≡◌, ◌+◌, List, ℕ, [], ◌∷◌, ◌++◌, ◌∙◌, map, length, take, take_all, ap, sym}
+use Rattle.array_build.specs.Batch.{buffers_in}
+use Rattle.array_build.specs.declared.batch.Buffer.{Buffer}
+use Rattle.canonical_write.proofs.BufferLemmas.{lengths_more}
+use Rattle.canonical_write.proofs.front.lengths_of.Goals as goal
+
+pub loop-buffer-preserved : goal.loop-buffer-preserved
+loop-buffer-preserved c =
+    let bs = c.args.buffers.now in
+    let i = c.loop-buffer.buffer-index in
+    let len = length c.bytes.result.now in
+    let before : List ℕ = map length (buffers_in (take i bs)) in
+    let more : map length (buffers_in (take (i + 1) bs)) ≡ before ++ len ∷ [] = lengths_more bs i c.buffer-item.result c.bytes.result.now c.loop-buffer-test.true c.buffer-item.is c.bytes.ensures in
+    c.in_ok-push.ensures.items ∙ ap (λ (ns : List ℕ). ns ++ len ∷ []) c.loop-buffer.invariant ∙ sym more
+
+pub returns : goal.returns
+returns c = c.loop-buffer.invariant ∙ ap (λ (bs : List Buffer). map length (buffers_in bs)) (take_all c.loop-buffer.buffer-index c.args.buffers.now c.loop-buffer-test.false)
