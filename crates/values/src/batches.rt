@@ -8,7 +8,7 @@ ghost use Rattle.values.specs.inner.Starts.{starts_from, batch_lengths, batch_le
 ghost use Rattle.values.specs.Parts.{parts_rows, are_parts_sound};
 
 use crate::part::Part;
-use crate::starts::{run_near, starts_of, total};
+use crate::starts::{run_near, starts_of};
 use arrow_schema::Field;
 use std::alloc::{AllocError, Global};
 
@@ -35,6 +35,13 @@ fn batch_lengths(alloc: Global, part: &Part) -> Result<Vec<usize>, AllocError>
     part.batches.iter().map(|batch| batch.rows).collect(alloc)
 }
 
+fn rows_in(part: &Part) -> usize
+    requires { sum (batch_lengths part.now) < 2 ^ 64 }
+    ensures { result ≡ sum (batch_lengths part.now) }
+{
+    part.batches.iter().map(|batch| batch.rows).sum()
+}
+
 // How many rows each part has.
 pub(crate) fn part_lengths(alloc: Global, parts: &[Part]) -> Result<Vec<usize>, AllocError>
     requires { sum (part_lengths parts.now) < 2 ^ 64 }
@@ -42,10 +49,17 @@ pub(crate) fn part_lengths(alloc: Global, parts: &[Part]) -> Result<Vec<usize>, 
 {
     let mut lengths = Vec::with_capacity(alloc, parts.len())?;
     for part in parts {
-        let own = batch_lengths(alloc, part)?;
-        lengths.push(total(&own))?;
+        lengths.push(rows_in(part))?;
     }
     Ok(lengths)
+}
+
+fn starts_in_part(alloc: Global, part: &Part) -> Result<Vec<usize>, AllocError>
+    requires { sum (batch_lengths part.now) < 2 ^ 64 }
+    ensures { IfOk result (λ v. v.items ≡ starts_from 0 (batch_lengths part.now)) }
+{
+    let lengths = batch_lengths(alloc, part)?;
+    starts_of(alloc, &lengths)
 }
 
 fn batch_starts(alloc: Global, parts: &[Part]) -> Result<Vec<Vec<usize>>, AllocError>
@@ -54,8 +68,7 @@ fn batch_starts(alloc: Global, parts: &[Part]) -> Result<Vec<Vec<usize>>, AllocE
 {
     let mut starts = Vec::with_capacity(alloc, parts.len())?;
     for part in parts {
-        let own = batch_lengths(alloc, part)?;
-        starts.push(starts_of(alloc, &own)?)?;
+        starts.push(starts_in_part(alloc, part)?)?;
     }
     Ok(starts)
 }

@@ -1,6 +1,6 @@
 use Rattle.std.specs.Prelude.{Vec}
 use Rattle.std.specs.Global.{Global}
-use Rattle.std.proofs.Common.{◌≡◌, ◌∙◌, ◌+◌, ◌++◌, ◌∷◌, [], ℕ, List, map, take, ap, sym, arith}
+use Rattle.std.proofs.Common.{◌≡◌, ◌∙◌, ◌+◌, ◌++◌, ◌∷◌, [], ℕ, List, map, take, take_all, ap, sym, arith}
 use Rattle.std.proofs.lemmas.List.{map-append}
 use Rattle.facts.specs.laws.Lists.{take-item}
 use Rattle.values.specs.declared.part.Part.{Part}
@@ -8,10 +8,8 @@ use Rattle.values.specs.inner.Starts.{starts_from, batch_lengths}
 use Rattle.values.proofs.PartLemmas.{part_le}
 use Rattle.values.proofs.batches.batch_starts.Goals as goal
 
-pub starts_of-requires : goal.starts_of-requires
-starts_of-requires c =
-    let own : c.deref.result.now ≡ batch_lengths c.part-item.result = c.deref.ensures.value ∙ c.in_ok-own.ensures in
-    rw own (omega (arith, c.requires, part_le c.args.parts.now c.loop-part.part-index c.part-item.result c.loop-part-test.true c.part-item.is))
+pub starts_in_part-requires : goal.starts_in_part-requires
+starts_in_part-requires c = omega (arith, c.requires, part_le c.args.parts.now c.loop-part.part-index c.part-item.result c.loop-part-test.true c.part-item.is)
 
 pub loop-part-preserved : goal.loop-part-preserved
 loop-part-preserved c =
@@ -19,9 +17,12 @@ loop-part-preserved c =
     let i = c.loop-part.part-index in
     let part = c.part-item.result in
     let f : Part → List ℕ = λ p. starts_from 0 (batch_lengths p) in
-    let own : c.in_ok-starts_of.field-0.items ≡ f part = c.in_ok-starts_of.ensures ∙ ap (starts_from 0) (c.deref.ensures.value ∙ c.in_ok-own.ensures) in
     let more : map f (take (i + 1) parts) ≡ map f (take i parts) ++ f part ∷ [] =
     ap (map f) (take-item parts i part c.loop-part-test.true c.part-item.is) ∙ map-append f (take i parts) (part ∷ []) in
     ap (map (λ (v : Vec ℕ Global). v.items)) c.in_ok-push.ensures.items
-    ∙ map-append (λ (v : Vec ℕ Global). v.items) c.loop-part.starts.items (c.in_ok-starts_of.field-0 ∷ [])
-    ∙ (λ j. c.loop-part.invariant j ++ own j ∷ []) ∙ sym more
+    ∙ map-append (λ (v : Vec ℕ Global). v.items) c.loop-part.starts.items (c.in_ok-starts_in_part.field-0 ∷ [])
+    ∙ (λ j. c.loop-part.invariant j ++ c.in_ok-starts_in_part.ensures j ∷ []) ∙ sym more
+
+pub returns : goal.returns
+returns c =
+    c.loop-part.invariant ∙ ap (map (λ (p : Part). starts_from 0 (batch_lengths p))) (take_all c.loop-part.part-index c.args.parts.now c.loop-part-test.false)

@@ -1,5 +1,5 @@
 use Rattle.std.specs.Prelude.{sum}
-use Rattle.std.proofs.Common.{◌≡◌, ◌∙◌, ◌+◌, ◌++◌, ◌∷◌, [], ℕ, take, ap, sym, arith}
+use Rattle.std.proofs.Common.{◌≡◌, ◌∙◌, ◌+◌, ◌++◌, ◌∷◌, [], ℕ, take, take_all, ap, sym, arith}
 use Rattle.std.proofs.lemmas.List.{map-append}
 use Rattle.facts.specs.laws.Lists.{take-item}
 use Rattle.values.specs.declared.part.Part.{Part}
@@ -7,10 +7,8 @@ use Rattle.values.specs.inner.Starts.{batch_lengths, part_lengths}
 use Rattle.values.proofs.PartLemmas.{part_le}
 use Rattle.values.proofs.batches.part_lengths.Goals as goal
 
-pub total-requires : goal.total-requires
-total-requires c =
-    let own : c.deref.result.now ≡ batch_lengths c.part-item.result = c.deref.ensures.value ∙ c.in_ok-own.ensures in
-    rw own (omega (arith, c.requires, part_le c.args.parts.now c.loop-part.part-index c.part-item.result c.loop-part-test.true c.part-item.is))
+pub rows_in-requires : goal.rows_in-requires
+rows_in-requires c = omega (arith, c.requires, part_le c.args.parts.now c.loop-part.part-index c.part-item.result c.loop-part-test.true c.part-item.is)
 
 pub loop-part-preserved : goal.loop-part-preserved
 loop-part-preserved c =
@@ -18,7 +16,9 @@ loop-part-preserved c =
     let i = c.loop-part.part-index in
     let part = c.part-item.result in
     let f : Part → ℕ = λ p. sum (batch_lengths p) in
-    let own : c.total.result ≡ f part = c.total.ensures ∙ ap sum (c.deref.ensures.value ∙ c.in_ok-own.ensures) in
     let more : part_lengths (take (i + 1) parts) ≡ part_lengths (take i parts) ++ f part ∷ [] =
     ap part_lengths (take-item parts i part c.loop-part-test.true c.part-item.is) ∙ map-append f (take i parts) (part ∷ []) in
-    c.in_ok-push.ensures.items ∙ (λ j. c.loop-part.invariant j ++ own j ∷ []) ∙ sym more
+    c.in_ok-push.ensures.items ∙ (λ j. c.loop-part.invariant j ++ c.rows_in.ensures j ∷ []) ∙ sym more
+
+pub returns : goal.returns
+returns c = c.loop-part.invariant ∙ ap part_lengths (take_all c.loop-part.part-index c.args.parts.now c.loop-part-test.false)

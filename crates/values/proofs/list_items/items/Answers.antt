@@ -1,5 +1,6 @@
 use Rattle.std.specs.List.{flat_map}
-use Rattle.std.proofs.Common.{◌∙◌, ◌+◌, ◌++◌, List, map, drop, ap, append_assoc}
+use Rattle.std.proofs.Common.{◌∙◌, ◌+◌, ◌++◌, List, map, drop, ap, sym, append_assoc, append-nil}
+use Rattle.std.proofs.lemmas.List.{drop_all}
 use Rattle.facts.specs.laws.Lists.{drop-item}
 use Rattle.cells.specs.Cell.{Cell}
 use Rattle.cells.specs.Dictionary.{item_list}
@@ -15,3 +16,8 @@ loop-cell-preserved c =
     ap (λ (xs : List Cell). xs ++ rest) c.in_ok-push_items.ensures
     ∙ append_assoc (map borrowed_cell c.loop-cell.items.items) (item_list (borrowed_cell cell)) rest
     ∙ (rw (drop-item cells i cell c.loop-cell-test.true c.cell-item.is) at c.loop-cell.invariant)
+
+pub returns : goal.returns
+returns c =
+    let items = rw (drop_all c.loop-cell.cell-index c.args.cells.now c.loop-cell-test.false) at c.loop-cell.invariant in
+    sym (append-nil (map borrowed_cell c.loop-cell.items.items)) ∙ items

@@ -1,5 +1,5 @@
-use Rattle.std.proofs.Common.{ℕ, ◌+◌, ◌∷◌, [], ◌∙◌, drop, get_or, append_assoc, arith}
-use Rattle.std.proofs.lemmas.List.{drop_more}
+use Rattle.std.proofs.Common.{ℕ, ◌+◌, ◌∷◌, [], ◌∙◌, drop, get_or, sym, append_assoc, append-nil, arith}
+use Rattle.std.proofs.lemmas.List.{drop_more, drop_all}
 use Rattle.std.proofs.lemmas.List.Sums.{sum_by-cons}
 use Rattle.values.specs.inner.Starts.{starts_from}
 use Rattle.values.proofs.starts.starts_of.Goals as goal
@@ -24,3 +24,8 @@ loop-count-preserved c =
       starts = rw c.in_ok-push.ensures.items (append_assoc c.loop-count.starts.items (c.loop-count.start ∷ []) (starts_from (c.loop-count.start + n) rest) ∙ starts);
       whole = omega (arith, whole, sum_by-cons (λ (m : ℕ). m) n rest);
     }
+
+pub returns : goal.returns
+returns c =
+    let starts = rw (drop_all c.loop-count.count-index c.args.lengths.now c.loop-count-test.false) at c.loop-count.invariant.starts in
+    sym (append-nil c.loop-count.starts.items) ∙ starts
