@@ -11,7 +11,8 @@ loop-buffer-preserved c =
     let len = length c.bytes.result.now in
     let before : List ℕ = map length (buffers_in (take i bs)) in
     let more : map length (buffers_in (take (i + 1) bs)) ≡ before ++ len ∷ [] = lengths_more bs i c.buffer-item.result c.bytes.result.now c.loop-buffer-test.true c.buffer-item.is c.bytes.ensures in
-    c.in_ok-push.ensures.items ∙ ap (λ (ns : List ℕ). ns ++ len ∷ []) c.loop-buffer.invariant ∙ sym more
+    let pushed : c.push.new.self.items ≡ c.loop-buffer.lengths.items ++ len ∷ [] = c.in_ok-push.ensures.items in
+    pushed ∙ ap (λ (ns : List ℕ). ns ++ len ∷ []) c.loop-buffer.invariant ∙ sym more
 
 pub returns : goal.returns
 returns c = c.loop-buffer.invariant ∙ ap (λ (bs : List Buffer). map length (buffers_in bs)) (take_all c.loop-buffer.buffer-index c.args.buffers.now c.loop-buffer-test.false)
