@@ -1,12 +1,13 @@
 // Whether a row's values leave each dictionary within its index type.
-ghost use Rattle.std.specs.Prelude.{◌≡◌, ◌++◌, [], ◌∷◌, IfOk, map, length, nat_le, slice_get, option_to_list, option_map};
+ghost use Rattle.std.specs.Prelude.{◌≡◌, ◌≤◌, ◌++◌, [], ◌∷◌, IfOk, map, length, nat_le, slice_get, option_to_list, option_map};
 ghost use Rattle.std.specs.List.{flat_map, list_all};
 ghost use Rattle.arrow_schema.specs.Column.{columns_of};
 ghost use Rattle.arrow_schema.specs.View.{kind_of, column_of, bits_of, index_of};
 ghost use Rattle.cells.specs.View.{cell, cell_behind, row_behind};
-ghost use Rattle.cells.specs.Dictionary.{entry_limit, has_few_entries, entries_of, item_list, part_list, cells_at, own_holding, holdings, holdings_below, holdings_from};
+ghost use Rattle.cells.specs.Entry.{entry_cell};
+ghost use Rattle.cells.specs.Dictionary.{entry_limit, has_few_entries, with_entries, entries_of, item_list, part_list, cells_at, own_holding, holdings, holdings_below, holdings_from};
 
-use crate::entry::{entry_of, note};
+use crate::entry::{Entry, entry_of, note};
 use crate::value::Value;
 use crate::weigh::{items_in, parts_in};
 use arrow_schema::{BitWidth, DataType, DictSpec, Field, IntegerType};
@@ -25,19 +26,31 @@ pub fn entry_limit(index: IntegerType) -> Option<usize>
     }
 }
 
-// Whether cells have at most so many entries.
+// Whether entries, which are at most so many, stay so with those of cells.
 #[tactic(auto, using(crate::proofs::HoldingLemmas::entries_rules), unfolding(crate::specs::Dictionary::with_entries))]
-fn are_few(most: usize, cells: &[&Value], alloc: Global) -> Result<bool, AllocError>
-    ensures { IfOk result (λ b. b ≡ nat_le (length (entries_of (map cell_behind cells.now))) most) }
+fn stay_few<'a>(
+    most: usize,
+    entries: &mut IndexSet<Entry<'a>>,
+    cells: &[&'a Value],
+) -> Result<bool, AllocError>
+    requires { length entries.old.keys ≤ most }
+    ensures { IfOk result (λ b. b ≡ nat_le (length (with_entries (map entry_cell entries.old.keys) (map cell_behind cells.now))) most) }
 {
-    let mut entries = IndexSet::new(alloc);
     for value in cells {
-        note(&mut entries, entry_of(value))?;
+        note(entries, entry_of(value))?;
         if entries.len() > most {
             return Ok(false);
         }
     }
     Ok(true)
+}
+
+// Whether cells have at most so many entries.
+fn are_few(most: usize, cells: &[&Value], alloc: Global) -> Result<bool, AllocError>
+    ensures { IfOk result (λ b. b ≡ nat_le (length (entries_of (map cell_behind cells.now))) most) }
+{
+    let mut entries = IndexSet::new(alloc);
+    stay_few(most, &mut entries, cells)
 }
 
 #[tactic(auto, using(crate::proofs::HoldingLemmas::entries_rules))]
@@ -179,6 +192,20 @@ fn item_entries_fit(item: &Field, cells: &[&Value], alloc: Global) -> Result<boo
     field_entries_fit(item, &items, alloc)
 }
 
+// The same of the cells at a place of rows.
+#[cycle(holdings)]
+fn place_entries_fit(
+    field: &Field,
+    i: usize,
+    rows: &[&[Value]],
+    alloc: Global,
+) -> Result<bool, AllocError>
+    ensures { IfOk result (λ b. b ≡ list_all has_few_entries (holdings (column_of field.now) (cells_at i (map row_behind rows.now)))) }
+{
+    let cells = cells_at(i, rows, alloc)?;
+    field_entries_fit(field, &cells, alloc)
+}
+
 #[tactic(auto, using(crate::proofs::HoldingLemmas::holding_rules), unfolding(crate::specs::Dictionary::holdings_from))]
 #[cycle(holdings)]
 fn column_entries_fit(
@@ -189,8 +216,7 @@ fn column_entries_fit(
     ensures { IfOk result (λ b. b ≡ list_all has_few_entries (holdings_from 0 (columns_of (map column_of fields.now)) (map row_behind rows.now))) }
 {
     for (i, field) in fields.iter().enumerate() {
-        let cells = cells_at(i, rows, alloc)?;
-        if !field_entries_fit(field, &cells, alloc)? {
+        if !place_entries_fit(field, i, rows, alloc)? {
             return Ok(false);
         }
     }

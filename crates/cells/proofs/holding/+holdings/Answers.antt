@@ -3,11 +3,9 @@ use Rattle.std.specs.List.{list_all}
 use Rattle.std.proofs.Common.{◌≡◌, ◌+◌, ◌&&◌, Bool, true, false, List, map, drop, ap, sym, subst, rules, ◌∙◌}
 use Rattle.std.proofs.lemmas.Bool.{eqb-true}
 use Rattle.std.proofs.lemmas.List.{nil_from_length}
-use Rattle.std.specs.Borrow.{Bor}
 use Rattle.arrow_schema.specs.declared.types.Field.{the_lemmas as field_lemmas}
 use Rattle.arrow_schema.specs.Column.{Kind, columns_of, lists, large_lists, fixed_lists, structs}
 use Rattle.arrow_schema.specs.View.{kind_of, column_of}
-use Rattle.cells.specs.declared.value.Value.{Value}
 use Rattle.cells.specs.Cell.{Cell}
 use Rattle.cells.specs.View.{cell_behind, row_behind}
 use Rattle.cells.specs.Dictionary.{has_few_entries, holdings, holdings_below, holdings_from, cells_at}
@@ -52,9 +50,7 @@ column_entries_fit-loop-i-preserved t c =
     let i = c.loop-i.i in
     let rows : List (List Cell) = map row_behind c.args.rows.now in
     let rest : Bool = list_all has_few_entries (holdings_from (i + 1) (columns_of (map column_of (drop (i + 1) c.args.fields.now))) rows) in
-    let there : map cell_behind c.deref.result.now ≡ cells_at i rows = ap (λ (xs : List (Bor Value)). map cell_behind xs) c.deref.ensures.value ∙ c.in_ok-cells.ensures in
-    let fit : list_all has_few_entries (holdings (column_of c.index-fields-i.result) (cells_at i rows)) ≡ true =
-    sym (c.in_ok-field_entries_fit.ensures ∙ ap (λ (cs : List Cell). list_all has_few_entries (holdings (column_of c.index-fields-i.result) cs)) there) ∙ c.if-not-branch.false in
+    let fit : list_all has_few_entries (holdings (column_of c.index-fields-i.result) (cells_at i rows)) ≡ true = sym c.in_ok-place_entries_fit.ensures ∙ c.if-not-branch.false in
     sym (next_column c.args.fields.now i c.index-fields-i.result rows c.loop-i-test.true c.index-fields-i.is ∙ ap (λ (b : Bool). b && rest) fit) ∙ c.loop-i.invariant
 
 pub column_entries_fit-returns-then-not-branch : goal.column_entries_fit-returns-then-not-branch
@@ -62,7 +58,5 @@ column_entries_fit-returns-then-not-branch t c =
     let i = c.loop-i.i in
     let rows : List (List Cell) = map row_behind c.args.rows.now in
     let rest : Bool = list_all has_few_entries (holdings_from (i + 1) (columns_of (map column_of (drop (i + 1) c.args.fields.now))) rows) in
-    let there : map cell_behind c.deref.result.now ≡ cells_at i rows = ap (λ (xs : List (Bor Value)). map cell_behind xs) c.deref.ensures.value ∙ c.in_ok-cells.ensures in
-    let unfit : list_all has_few_entries (holdings (column_of c.index-fields-i.result) (cells_at i rows)) ≡ false =
-    sym (c.in_ok-field_entries_fit.ensures ∙ ap (λ (cs : List Cell). list_all has_few_entries (holdings (column_of c.index-fields-i.result) cs)) there) ∙ c.if-not-branch.true in
+    let unfit : list_all has_few_entries (holdings (column_of c.index-fields-i.result) (cells_at i rows)) ≡ false = sym c.in_ok-place_entries_fit.ensures ∙ c.if-not-branch.true in
     sym (next_column c.args.fields.now i c.index-fields-i.result rows c.loop-i-test.true c.index-fields-i.is ∙ ap (λ (b : Bool). b && rest) unfit) ∙ c.loop-i.invariant

@@ -1,4 +1,4 @@
-use Rattle.std.proofs.Common.{List, [], ◌∷◌, ◌++◌, map, take, ap, sym, ◌∙◌}
+use Rattle.std.proofs.Common.{List, [], ◌∷◌, ◌++◌, map, take, take_all, ap, sym, ◌∙◌}
 use Rattle.std.specs.Borrow.{Bor}
 use Rattle.std.proofs.lemmas.List.{map_push}
 use Rattle.cells.specs.declared.value.Value.{Value}
@@ -17,3 +17,7 @@ loop-cell-preserved c =
     ∙ ap (λ (xs : List Cell). map part_list xs) (map_push cell_behind (take i cells) x) ∙ map_push part_list (map cell_behind (take i cells)) (cell x.now) in
     ap (λ (xs : List (Bor (List Value))). map row_behind xs) c.in_ok-push.ensures.items ∙ map_push row_behind c.loop-cell.rows.items _
     ∙ (λ j. c.loop-cell.invariant j ++ c.part_list.ensures j ∷ []) ∙ sym seen
+
+pub returns : goal.returns
+returns c =
+    c.loop-cell.invariant ∙ ap (λ (xs : List (Bor Value)). map part_list (map cell_behind xs)) (take_all c.loop-cell.cell-index c.args.cells.now c.loop-cell-test.false)

@@ -7,7 +7,7 @@ use Rattle.cells.specs.Entry.{entry_cell}
 use Rattle.cells.specs.Dictionary.{with_option, with_entry}
 use Rattle.cells.specs.laws.Entries.{entries_grow}
 use Rattle.cells.proofs.HoldingLemmas.{next_value}
-use Rattle.cells.proofs.holding.are_few.Goals as goal
+use Rattle.cells.proofs.holding.stay_few.Goals as goal
 
 pub returns-then-len-most : goal.returns-then-len-most
 returns-then-len-most c =
