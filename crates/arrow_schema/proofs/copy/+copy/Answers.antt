@@ -1,8 +1,10 @@
-use Rattle.std.proofs.Common.{◌≡◌, ◌∙◌, ◌++◌, ℕ, Bool, Option, List, [], ◌∷◌, map, take, take_all, sym, ap, rules}
+use Rattle.std.proofs.Common.{◌≡◌, ◌∙◌, ◌++◌, ℕ, Bool, Option, List, [], ◌∷◌, map, take, take_all, sym, ap, string_bytes, rules}
 use Rattle.std.proofs.lemmas.List.{map_push}
 use Rattle.facts.specs.laws.Lists.{take-item}
-use Rattle.arrow_schema.specs.Column.{Column, Kind, Index, Pair, column}
-use Rattle.arrow_schema.specs.View.{kind_of, column_of, kind_step, column_step}
+use Rattle.arrow_schema.specs.Column.{Column, Kind, Index, Pair, column, columns_of, timestamps, lists, large_lists, fixed_lists, structs}
+use Rattle.arrow_schema.specs.View.{time_kind, kind_of, column_of, kind_step, column_step}
+use Rattle.arrow_schema.specs.declared.types.DataType as types
+use Rattle.arrow_schema.specs.declared.types.Field.{the_lemmas}
 use Rattle.arrow_schema.specs.declared.types.DataType.TheFolds.{fold_out-Field, fold-roll-Field}
 use Rattle.arrow_schema.proofs.copy.+copy.Goals as goal
 
@@ -56,3 +58,41 @@ copy_type-returns-in-LargeBinary t c = ap kind_of (sym c.in-LargeBinary.is)
 
 pub copy_type-returns-in-FixedSizeBinary : goal.copy_type-returns-in-FixedSizeBinary
 copy_type-returns-in-FixedSizeBinary t c = ap kind_of (sym c.in-FixedSizeBinary.is)
+
+pub copy_type-returns-in_ok-clone-in-Timestamp : goal.copy_type-returns-in_ok-clone-in-Timestamp
+copy_type-returns-in_ok-clone-in-Timestamp t c =
+    let unit = time_kind c.in-Timestamp.unit in
+    let copy = c.in_ok-clone-in-Timestamp.field-0 in
+    let made : kind_of (types.Timestamp c.in-Timestamp.unit copy) ≡ timestamps unit (string_bytes copy) = search (rules, the_lemmas) in
+    let read : kind_of c.args.data_type.now ≡ timestamps unit (string_bytes c.in-Timestamp.timezone) = rw c.in-Timestamp.is (search (rules, the_lemmas)) in
+    let same : string_bytes copy ≡ string_bytes c.in-Timestamp.timezone = search rules in
+    made ∙ ap (timestamps unit) same ∙ sym read
+
+pub copy_type-returns-in_ok-copy_boxed-in-List : goal.copy_type-returns-in_ok-copy_boxed-in-List
+copy_type-returns-in_ok-copy_boxed-in-List t c =
+    let copy = c.in_ok-copy_boxed-in-List.field-0 in
+    let made : kind_of (types.List copy) ≡ lists (column_of copy.value) = search (rules, the_lemmas) in
+    let read : kind_of c.args.data_type.now ≡ lists (column_of c.in-List.item.value) = rw c.in-List.is (search (rules, the_lemmas)) in
+    made ∙ ap lists (rw c.deref.ensures at c.in_ok-copy_boxed-in-List.ensures) ∙ sym read
+
+pub copy_type-returns-in_ok-copy_boxed-in-LargeList : goal.copy_type-returns-in_ok-copy_boxed-in-LargeList
+copy_type-returns-in_ok-copy_boxed-in-LargeList t c =
+    let copy = c.in_ok-copy_boxed-in-LargeList.field-0 in
+    let made : kind_of (types.LargeList copy) ≡ large_lists (column_of copy.value) = search (rules, the_lemmas) in
+    let read : kind_of c.args.data_type.now ≡ large_lists (column_of c.in-LargeList.item.value) = rw c.in-LargeList.is (search (rules, the_lemmas)) in
+    made ∙ ap large_lists (rw c.deref-in-LargeList.ensures at c.in_ok-copy_boxed-in-LargeList.ensures) ∙ sym read
+
+pub copy_type-returns-in_ok-copy_boxed-in-FixedSizeList : goal.copy_type-returns-in_ok-copy_boxed-in-FixedSizeList
+copy_type-returns-in_ok-copy_boxed-in-FixedSizeList t c =
+    let size = c.in-FixedSizeList.size in
+    let copy = c.in_ok-copy_boxed-in-FixedSizeList.field-0 in
+    let made : kind_of (types.FixedSizeList size copy) ≡ fixed_lists size (column_of copy.value) = search (rules, the_lemmas) in
+    let read : kind_of c.args.data_type.now ≡ fixed_lists size (column_of c.in-FixedSizeList.item.value) = rw c.in-FixedSizeList.is (search (rules, the_lemmas)) in
+    made ∙ ap (fixed_lists size) (rw c.deref-in-FixedSizeList.ensures at c.in_ok-copy_boxed-in-FixedSizeList.ensures) ∙ sym read
+
+pub copy_type-returns-in_ok-copy_fields-in-Struct : goal.copy_type-returns-in_ok-copy_fields-in-Struct
+copy_type-returns-in_ok-copy_fields-in-Struct t c =
+    let copy = c.in_ok-copy_fields-in-Struct.field-0 in
+    let made : kind_of (types.Struct copy) ≡ structs (columns_of (map column_of copy.items)) = search (rules, the_lemmas) in
+    let read : kind_of c.args.data_type.now ≡ structs (columns_of (map column_of c.in-Struct.fields.items)) = rw c.in-Struct.is (search (rules, the_lemmas)) in
+    made ∙ ap (λ (cs : List Column). structs (columns_of cs)) (rw c.deref-in-Struct.ensures.value at c.in_ok-copy_fields-in-Struct.ensures) ∙ sym read
