@@ -10,7 +10,7 @@ use Rattle.ipc_write.specs.Written.{framed, padded, body, placed, batch_of, batc
 use Rattle.ipc_write.proofs.BatchNode.{batch_is}
 use Rattle.ipc_write.proofs.Fronts.{front_and}
 
-length-padded : (b : List ℕ) → length (padded b) ≡ length b + (8 - length b % 8) % 8
+pub length-padded : (b : List ℕ) → length (padded b) ≡ length b + (8 - length b % 8) % 8
 length-padded b = length-append b (replicate ((8 - length b % 8) % 8) 0) ∙ ap (λ (n : ℕ). length b + n) (length-replicate {A = ℕ} ((8 - length b % 8) % 8) 0)
 
 same_padded : (b c : List ℕ) → length b ≡ length c → length (padded b) ≡ length (padded c)
