@@ -1,5 +1,5 @@
 use Rattle.std.specs.List.{AllByRecursion}
-use Rattle.std.proofs.Common.{◌≡◌, ◌+◌, ◌++◌, ◌∷◌, List, ℕ, length, map, drop, ap, subst, ◌∙◌, arith}
+use Rattle.std.proofs.Common.{◌≡◌, ◌+◌, ◌++◌, ◌∷◌, List, ℕ, length, map, drop, ap, subst, ◌∙◌, arith, rules}
 use Rattle.arrow_schema.specs.Column.{PlainSchema}
 use Rattle.arrow_schema.specs.View.{schema_of}
 use Rattle.canonical_stream.specs.Canonical.{canonical, piece_messages}
@@ -12,6 +12,7 @@ use Rattle.ipc_write.specs.Written.{end_of_stream}
 use Rattle.table_cut.specs.Cut.{pieces}
 use Rattle.table_cut.specs.Piece.{within_piece}
 use Rattle.values.specs.Borrowed.{borrowed_cells}
+use Rattle.values.specs.declared.borrowed.Values.{Values}
 use Rattle.values.specs.TableView.{table_of}
 use Rattle.canonical_write.proofs.encoder.encode_rows.Goals as goal
 
@@ -25,6 +26,9 @@ loop-from-init c =
       written = first_written s t (stream_in c.begin_stream-stream.result) (c.begin_stream-stream.ensures ∙ c.in_ok-first.ensures);
     }
 
+written_rows : {A : Type 0} (f : List A → List ℕ) (old new : List ℕ) (given rows : List A) → new ≡ old ++ f given → given ≡ rows → new ≡ old ++ f rows
+written_rows f old new given rows written same = written ∙ ap (λ xs. old ++ f xs) same
+
 pub loop-from-preserved : goal.loop-from-preserved
 loop-from-preserved c =
     let s : PlainSchema = schema_of c.args.schema.now in
@@ -37,7 +41,8 @@ loop-from-preserved c =
     let rest : List (List (List Cell)) = pieces (within_piece s) (drop next t.rows) in
     let count : from + length c.in_ok-piece.piece.items ≡ next = omega arith in
     let cut : old ≡ piece ∷ rest = c.in_ok-piece.ensures.piece ∙ ap (λ (n : ℕ). piece ∷ pieces (within_piece s) (drop n t.rows)) count in
-    let pushed : stream_in c.write_piece.new.stream ≡ stream_in c.loop-from.stream ++ piece_messages s piece = rw c.deref.ensures.value at c.in_ok-write_piece.ensures in
+    let pushed : stream_in c.write_piece.new.stream ≡ stream_in c.loop-from.stream ++ piece_messages s piece =
+    written_rows (λ (rows : List Values). piece_messages s (map borrowed_cells rows)) (stream_in c.loop-from.stream) (stream_in c.write_piece.new.stream) _ c.in_ok-piece.piece.items c.in_ok-write_piece.ensures (search rules) in
     record {
       within = omega (arith, c.in_ok-piece.ensures.within);
       each = (subst (AllByRecursion (IsPieceOf s)) cut is.each).1;

@@ -1,6 +1,6 @@
 use Rattle.std.specs.Global.{Vec}
 use Rattle.std.specs.List.{AllByRecursion}
-use Rattle.std.proofs.Common.{◌≡◌, ◌<◌, ◌^◌, ◌+◌, ◌++◌, List, ℕ, [], ◌∷◌, length, map, drop, ap, sym, subst, ◌∙◌, arith}
+use Rattle.std.proofs.Common.{◌≡◌, ◌<◌, ◌^◌, ◌+◌, ◌++◌, List, ℕ, [], ◌∷◌, length, map, drop, refl, ap, sym, subst, ◌∙◌, arith}
 use Rattle.std.proofs.lemmas.List.{length-map, map-append}
 use Rattle.array_build.specs.declared.batch.Buffer.{Buffer}
 use Rattle.arrow_schema.specs.Column.{PlainSchema}
@@ -32,6 +32,9 @@ loop-from-init c =
       short = rw c.new-streams.ensures.items tt;
     }
 
+pushed_number : (old new : List ℕ) (n m : ℕ) → new ≡ old ++ n ∷ [] → n ≡ m → new ≡ old ++ m ∷ []
+pushed_number old new n m pushed same = pushed ∙ ap (λ (k : ℕ). old ++ k ∷ []) same
+
 pub loop-from-preserved : goal.loop-from-preserved
 loop-from-preserved c =
     let s : PlainSchema = schema_of c.args.schema.now in
@@ -51,13 +54,14 @@ loop-from-preserved c =
     let is_stream : stream ≡ piece_stream s piece = rw c.deref.ensures.value at c.in_ok-stream.ensures.stream in
     let pushed : streams_behind front c.push.new.self.items ≡ made ++ stream ∷ [] =
     ap (streams_behind front) c.in_ok-push.ensures.items ∙ map-append (λ (parts : Vec Buffer). front ++ joined_parts parts.items) c.loop-from.streams.items (c.in_ok-stream.stream ∷ []) in
-    let count : c.len-in-loop-from.result ≡ length piece = omega (arith, length-map items borrowed_cells) in
+    let counted : c.push-in-loop-from.new.self.items ≡ c.loop-from.counts.items ++ length piece ∷ [] =
+    pushed_number c.loop-from.counts.items c.push-in-loop-from.new.self.items _ (length piece) c.in_ok-push-2.ensures.items (omega (arith, length-map items borrowed_cells)) in
     record {
       within = omega (arith, c.in_ok-piece.ensures.within);
       each = (subst (AllByRecursion (IsPieceOf s)) cut is.each).1;
       alone = (subst (AllByRecursion (IsAlone (within_piece s))) cut is.alone).1;
       streams = next_made (piece_stream s) made (streams_behind front c.push.new.self.items) (piece_streams (with_schema s t)) stream piece old rest cut pushed is_stream is.streams;
-      counts = next_made length c.loop-from.counts.items c.push-in-loop-from.new.self.items (piece_counts (with_schema s t)) c.len-in-loop-from.result piece old rest
-          cut c.in_ok-push-2.ensures.items count is.counts;
+      counts = next_made length c.loop-from.counts.items c.push-in-loop-from.new.self.items (piece_counts (with_schema s t)) (length piece) piece old rest
+          cut counted refl is.counts;
       short = subst (AllByRecursion (λ (x : List ℕ). length x < 2 ^ 64)) (sym pushed) (all_more (λ (x : List ℕ). length x < 2 ^ 64) made stream is.short c.in_ok-stream.ensures.short);
     }
