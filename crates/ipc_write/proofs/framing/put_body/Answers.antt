@@ -1,6 +1,6 @@
-use Rattle.std.proofs.Common.{◌≡◌, ◌+◌, ◌++◌, ◌<◌, ◌∙◌, ℕ, List, Bor, map, length, get_or, drop, take, sym, ap, append_assoc, arith}
+use Rattle.std.proofs.Common.{◌≡◌, ◌+◌, ◌++◌, ◌<◌, ◌∙◌, ℕ, List, Bor, map, length, get_or, drop, take, sym, ap, append_assoc, append-nil, arith}
 use Rattle.std.proofs.lemmas.Grind.{common_steps}
-use Rattle.std.proofs.lemmas.List.{drop_more}
+use Rattle.std.proofs.lemmas.List.{drop_more, drop_all}
 use Rattle.ipc_write.specs.Written.{body, padded}
 use Rattle.ipc_write.proofs.framing.put_body.Goals as goal
 
@@ -22,3 +22,8 @@ loop-buffer-preserved c = (
   put_more c.loop-buffer.out.items c.put_padded.new.out.items _ c.args.buffers.now c.loop-buffer.buffer-index _ c.loop-buffer-test.true c.in_ok-put_padded.ensures.appended c.loop-buffer.invariant.0,
   begins_more _ c.loop-buffer.out.items c.put_padded.new.out.items c.loop-buffer.invariant.1 c.put_padded.ensures.begins,
 )
+
+pub returns-clause-appended : goal.returns-clause-appended
+returns-clause-appended c =
+    let written = rw (drop_all c.loop-buffer.buffer-index c.args.buffers.now c.loop-buffer-test.false) at c.loop-buffer.invariant.0 in
+    sym (append-nil c.loop-buffer.out.items) ∙ written
