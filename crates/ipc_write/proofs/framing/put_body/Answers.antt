@@ -27,3 +27,6 @@ pub returns-clause-appended : goal.returns-clause-appended
 returns-clause-appended c =
     let written = rw (drop_all c.loop-buffer.buffer-index c.args.buffers.now c.loop-buffer-test.false) at c.loop-buffer.invariant.0 in
     sym (append-nil c.loop-buffer.out.items) ∙ written
+
+pub returns-in_err-put_padded-clause-begins : goal.returns-in_err-put_padded-clause-begins
+returns-in_err-put_padded-clause-begins c = begins_more _ c.loop-buffer.out.items c.put_padded.new.out.items c.loop-buffer.invariant.1 c.put_padded.ensures.begins
