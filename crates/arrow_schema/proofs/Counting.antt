@@ -12,12 +12,13 @@ use Rattle.arrow_schema.specs.declared.limits.SchemaError.{SchemaError}
 use Rattle.arrow_schema.specs.declared.limits.SchemaError.TheVariants.{Depth, Fields, Pairs, Bytes, Number, Dictionary}
 use Rattle.arrow_schema.specs.Column.{Column, columns_of, PlainSchema}
 use Rattle.arrow_schema.specs.View.{column_of}
-use Rattle.arrow_schema.specs.Preorder.{preorder, preorder_all, depth_all, every_column}
+use Rattle.arrow_schema.specs.Preorder.{preorder, preorder_all, depth, depth_all, every_column}
 use Rattle.arrow_schema.specs.Limits.{IsWithinLimits, first_exceeded, count_of_pairs, count_of_bytes, pairs_in, bytes_in, has_number_in_range, has_flat_dictionary}
 use Rattle.arrow_schema.specs.inner.Tally.{saturated, tallied, tallied_one}
 use Rattle.arrow_schema.proofs.Sound.{IsSound}
 use Rattle.std.proofs.lemmas.List.Sums.{sum_by-cons, AllPass-from_list_all, list_all-from_AllPass}
 use Rattle.facts.specs.laws.Levels.{nat_le_max}
+use Rattle.facts.specs.laws.Lists.{drop-item}
 
 -- after two lists in turn
 pub tallied-append : (t : Tally) (xs ys : List Column) → tallied t (xs ++ ys) ≡ tallied (tallied t xs) ys
@@ -52,6 +53,16 @@ tallied_dictionaries t [] = sym (and-true t.dictionaries_fit)
 tallied_dictionaries t (c ∷ cs) = tallied_dictionaries (tallied_one t c) cs ∙ and_assoc t.dictionaries_fit (has_flat_dictionary c) (list_all has_flat_dictionary cs)
 
 pub ruleset depth_rules = nat_le_max
+
+-- a field, before those behind it, is within so many levels or not
+pub next_depth : (fs : List Field) (i : ℕ) (f : Field) (levels : ℕ) (b : Bool) → i < length fs → f ≡ get_or fs i f → b ≡ nat_le (depth (column_of f)) levels
+    → nat_le (depth_all (columns_of (map column_of (drop i fs)))) levels ≡ (b && nat_le (depth_all (columns_of (map column_of (drop (i + 1) fs)))) levels)
+unfolding depth_all
+next_depth fs i f levels b lt is found =
+    let rest : ℕ = depth_all (columns_of (map column_of (drop (i + 1) fs))) in
+    ap (λ (xs : List Field). nat_le (depth_all (columns_of (map column_of xs))) levels) (drop-item fs i f lt is)
+    ∙ nat_le_max (depth (column_of f)) rest levels
+    ∙ ap (λ (x : Bool). x && nat_le rest levels) (sym found)
 
 pub ruleset tally_rules = tallied-append
 
