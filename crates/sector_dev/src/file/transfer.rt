@@ -9,6 +9,7 @@ use crate::DevError;
 use crate::buffer::MOST;
 use std::fs::OpenFile;
 use std::io::{self, Read, Seek, SeekFrom, Write};
+use std::slice;
 
 // how many sectors a read that follows no other takes from the file
 const FIRST_READ: usize = 8;
@@ -80,14 +81,12 @@ impl<F: Read + Write + Seek + OpenFile + Drop> FileDevice<F> {
             self.read_ahead(n);
         }
         match self.writes.get(n).or(self.ahead.get(n)) {
-            Some(content) => *to = *content,
-            None => {
-                let mut contents = [[0; 512]];
-                read_at(&mut self.file, n, &mut contents)?;
-                *to = contents[0];
+            Some(content) => {
+                *to = *content;
+                Ok(())
             }
+            None => read_at(&mut self.file, n, slice::from_mut(to)),
         }
-        Ok(())
     }
 
     // Reads this sector and some after it, if there is memory for them and the file gives them.

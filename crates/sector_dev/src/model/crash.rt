@@ -55,9 +55,7 @@ fn left_in_all(
     let mut below = 0;
     for sector in stored {
         contents.push(left(choice, below, sector))?;
-        if sector.newest.is_some() {
-            below += 1;
-        }
+        below += usize::from(sector.newest.is_some());
     }
     Ok(contents)
 }
