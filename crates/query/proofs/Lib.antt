@@ -13,6 +13,7 @@ pub mod Numbers
 pub mod SlotFlags
 pub mod IntegerRows
 pub mod Cuts
+pub mod SlotNumbers
 pub mod Lanes
 pub mod Masked
 pub mod BlockFlags
