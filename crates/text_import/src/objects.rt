@@ -1,15 +1,17 @@
 // Cells and rows of JSON values.
-ghost use Rattle.std.specs.Prelude.{◌≡◌, [], ◌∷◌, ◌++◌, true, false, not, map, length, option_map, IfOk};
+ghost use Rattle.std.specs.Prelude.{◌≡◌, [], ◌∷◌, ◌++◌, true, false, not, map, length, option_map, IfOk, Result};
 ghost use Rattle.serde_json.specs.Find.{get_member};
 ghost use Rattle.serde_json.specs.View.{view, items_view, members_view};
 ghost use Rattle.arrow_schema.specs.Column.{columns_of};
 ghost use Rattle.arrow_schema.specs.Parts.{is_nullable_column, kind_of_column};
 ghost use Rattle.arrow_schema.specs.View.{column_of, schema_of};
-ghost use Rattle.cells.specs.Cell.{cells_of};
+ghost use Rattle.cells.specs.Cell as plain;
+ghost use Rattle.cells.specs.Cell.{Cells, cells_of};
 ghost use Rattle.cells.specs.View.{cell};
 ghost use Rattle.cells.specs.Row.{row_of};
 ghost use Rattle.cells.specs.Dictionary.{is_any_limited};
-ghost use Rattle.text_import.specs.Refusals.{refusal_of};
+ghost use Rattle.text_import.specs.declared.refusal.Refusal.{Refusal};
+ghost use Rattle.text_import.specs.Refusals.{given, refusal_of};
 ghost use Rattle.facts.specs.Outcomes.{Gives};
 ghost use Rattle.text_import.specs.Objects.{boolean_in, number_in, text_in, bytes_in, list_in, each_item, fixed_list_in, cell_in, kind_in, cells_by_place, cells_by_name, cells_in, absent, sized, column_count, has_name, names_of, keys_of, repeats, has_unknown, value_row};
 ghost use Rattle.facts.specs.Texts.{text_list};
@@ -202,6 +204,26 @@ fn absent(field: &Field) -> Result<Value, CellError>
     }
 }
 
+// The list of cells that were read.
+fn list_cell(cells: Result<Vec<Value>, CellError>) -> Result<Value, CellError>
+    ensures { (R : Result Cells Refusal) → Gives refusal_of (λ v. cells_of (map cell v.items)) cells R → Gives refusal_of cell result (given plain.items R) }
+{
+    match cells {
+        Ok(cells) => Ok(Value::List(cells)),
+        Err(error) => Err(error),
+    }
+}
+
+// The same of a struct.
+fn struct_cell(cells: Result<Vec<Value>, CellError>) -> Result<Value, CellError>
+    ensures { (R : Result Cells Refusal) → Gives refusal_of (λ v. cells_of (map cell v.items)) cells R → Gives refusal_of cell result (given plain.parts R) }
+{
+    match cells {
+        Ok(cells) => Ok(Value::Struct(cells)),
+        Err(error) => Err(error),
+    }
+}
+
 #[tactic(auto, unfolding(crate::specs::Objects::cell_in))]
 #[cycle(cells)]
 pub(crate) fn cell_in(alloc: Global, field: &Field, value: &Json) -> Result<Value, CellError>
@@ -238,7 +260,7 @@ fn typed_in(alloc: Global, field: &Field, value: &Json) -> Result<Value, CellErr
         DataType::List(item) => list_in(alloc, item, value),
         DataType::LargeList(item) => list_in(alloc, item, value),
         DataType::FixedSizeList(size, item) => fixed_list_in(alloc, *size, item, value),
-        DataType::Struct(fields) => Ok(Value::Struct(cells_in(alloc, fields, value)?)),
+        DataType::Struct(fields) => struct_cell(cells_in(alloc, fields, value)),
     }
 }
 
@@ -247,7 +269,7 @@ fn list_in(alloc: Global, item: &Field, value: &Json) -> Result<Value, CellError
     ensures { Gives refusal_of cell result (list_in (cell_in (column_of item.now)) (view value.now)) }
 {
     match value {
-        Json::Array(values) => Ok(Value::List(each_item(alloc, item, values)?)),
+        Json::Array(values) => list_cell(each_item(alloc, item, values)),
         _ => Err(CellError::Refused(Refusal::WrongKind)),
     }
 }
@@ -257,7 +279,7 @@ fn fixed_list_in(alloc: Global, size: u32, item: &Field, value: &Json) -> Result
     ensures { Gives refusal_of cell result (fixed_list_in size (cell_in (column_of item.now)) (view value.now)) }
 {
     match value {
-        Json::Array(values) => Ok(Value::List(sized_items(alloc, size, item, values)?)),
+        Json::Array(values) => list_cell(sized_items(alloc, size, item, values)),
         _ => Err(CellError::Refused(Refusal::WrongKind)),
     }
 }

@@ -3,9 +3,11 @@ use Rattle.std.proofs.Common.{◌≡◌, ◌∙◌, ◌+◌, refl, sym, [], ◌�
 use Rattle.std.proofs.lemmas.List.{drop_all, map-append}
 use Rattle.std.proofs.lemmas.Result.{err_from_is_err_and}
 use Rattle.facts.specs.laws.Lists.{drop-item}
+use Rattle.serde_json.specs.Data.{array}
 use Rattle.serde_json.specs.View.{view, items_view, members_view}
+use Rattle.serde_json.specs.declared.value.Value.{the_lemmas as json_lemmas}
 use Rattle.arrow_schema.specs.declared.types.Field.{the_lemmas as field_lemmas}
-use Rattle.arrow_schema.specs.Column.{nulls, booleans, integers, dates, timestamps, texts, large_texts, binaries, large_binaries, fixed_binaries, lists, large_lists, fixed_lists, columns_of}
+use Rattle.arrow_schema.specs.Column.{nulls, booleans, integers, dates, timestamps, texts, large_texts, binaries, large_binaries, fixed_binaries, lists, large_lists, fixed_lists, structs, columns_of}
 use Rattle.arrow_schema.specs.Parts.{kind_of_column}
 use Rattle.arrow_schema.specs.View.{column_of, kind_of, bits_of, date_kind, time_kind}
 use Rattle.cells.specs.View.{cell}
@@ -228,3 +230,20 @@ typed_in-returns-in-FixedSizeList t c =
     let own : kind_of_column (column_of c.args.field.now) ≡ kind_of c.args.field.now.data_type = search (rules, field_lemmas) in
     let kind : kind_of_column (column_of c.args.field.now) ≡ fixed_lists c.in-FixedSizeList.size (column_of c.in-FixedSizeList.item.value) = own ∙ rw c.in-FixedSizeList.is (search (rules, field_lemmas)) in
     rw kind (rw c.deref-in-FixedSizeList.ensures at c.fixed_list_in.ensures)
+
+pub typed_in-returns-in-Struct : goal.typed_in-returns-in-Struct
+unfolding kind_in
+typed_in-returns-in-Struct t c =
+    let own : kind_of_column (column_of c.args.field.now) ≡ kind_of c.args.field.now.data_type = search (rules, field_lemmas) in
+    let kind : kind_of_column (column_of c.args.field.now) ≡ structs (columns_of (map column_of c.in-Struct.fields.items)) = own ∙ rw c.in-Struct.is (search (rules, field_lemmas)) in
+    rw kind (c.struct_cell.ensures _ (rw c.deref-in-Struct.ensures.value at c.cells_in.ensures))
+
+pub list_in-returns-in-Array : goal.list_in-returns-in-Array
+list_in-returns-in-Array t c =
+    let whole : view c.args.value.now ≡ array (items_view c.in-Array.values.items) = rw c.in-Array.is (search (rules, json_lemmas)) in
+    rw whole (c.list_cell.ensures _ (rw c.deref.ensures.value at c.each_item.ensures))
+
+pub fixed_list_in-returns-in-Array : goal.fixed_list_in-returns-in-Array
+fixed_list_in-returns-in-Array t c =
+    let whole : view c.args.value.now ≡ array (items_view c.in-Array.values.items) = rw c.in-Array.is (search (rules, json_lemmas)) in
+    rw whole (c.list_cell.ensures _ (rw c.deref.ensures.value at c.sized_items.ensures))
