@@ -2,3 +2,4 @@ mod GivenLemmas
 mod ChangingLemmas
 mod ReadingLemmas
 mod TextLemmas
+mod RefusedInputs

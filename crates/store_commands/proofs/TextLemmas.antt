@@ -82,7 +82,7 @@ reported_of f r None e = tt
 reported_of f (Ok a) (Some x) e = absurd (cc)
 reported_of f (Err y) (Some x) e = cc
 
-there_is : (found : Option PlainEntry) (s : PlainSchema) → option_map (λ e. e.schema) found ≡ Some s → IsSome found
+pub there_is : (found : Option PlainEntry) (s : PlainSchema) → option_map (λ e. e.schema) found ≡ Some s → IsSome found
 there_is None s is = absurd cc
 there_is (Some e) s is = refl
 

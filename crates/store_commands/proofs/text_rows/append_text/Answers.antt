@@ -1,8 +1,10 @@
-use Rattle.std.proofs.Common.{inl, inr, refl}
+use Rattle.std.specs.Global.{Vec}
+use Rattle.std.proofs.Common.{ℕ, inl, inr, refl}
 use Rattle.std.proofs.lemmas.Result.{err_from_is_err_and}
 use Rattle.arrow_schema.specs.View.{schema_of}
 use Rattle.store_commands.proofs.GivenLemmas.{whole_input}
-use Rattle.store_commands.proofs.TextLemmas.{made_of, reported_of, input_gives, input_refused, input_hints, refuses_text}
+use Rattle.store_commands.proofs.TextLemmas.{made_of, reported_of, input_gives, input_refused, input_hints, refuses_text, there_is}
+use Rattle.store_commands.proofs.RefusedInputs.{refuses_rows}
 use Rattle.store_commands.proofs.text_rows.append_text.Goals as goal
 
 pub returns-clause-goes : goal.returns-clause-goes
@@ -47,3 +49,12 @@ returns-in_err-command-clause-told g c =
       refl,
       refl,
     ))
+
+pub returns-in_err-text-clause-told : goal.returns-in_err-text-clause-told
+returns-in_err-text-clause-told g c =
+    let p = err_from_is_err_and c.from_residual-in_err-text.result c.from_residual-in_err-text.ensures.1 in
+    let e = c.in_err-text.ensures in
+    let found = c.in_ok-schema.ensures.found in
+    let there = there_is _ (schema_of c.in_ok-schema.schema) found.1 in
+    rw (p.1, p.2)
+    (inl (refuses_rows (Vec ℕ) g.R.Read.remaining _ _ _ c.args.input.now c.read_at_most.new.reader c.in_err-text.field-0.0 found.0 there e.told e.too_many e.few, refl, refl))
