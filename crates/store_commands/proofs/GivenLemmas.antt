@@ -1,6 +1,7 @@
 -- What a reader gives in two goes.
-use Rattle.std.proofs.Common.{◌≡◌, ◌∙◌, ℕ, ◌+◌, ◌-◌, ◌≤◌, List, ◌++◌, length, Option, Some, None, ap, sym, append_assoc, length-append, arith}
-use Rattle.std.specs.Io.KnownBytes.{Consumes}
+use Rattle.std.proofs.Common.{◌≡◌, ◌∙◌, ℕ, ◌+◌, ◌-◌, ◌≤◌, List, [], ◌++◌, length, take, Option, Some, None, refl, ap, sym, append_assoc, length-append, arith}
+use Rattle.std.proofs.lemmas.List.{length-take}
+use Rattle.std.specs.Io.KnownBytes.{Consumes, Keeps}
 use Rattle.std.specs.Prelude.{Result, Ok, Err, IsErrOf, IfSome, vec_len}
 use Rattle.std.specs.Global.{Vec}
 use Rattle.command_refusals.specs.declared.refusal.Refusal.{Refusal}
@@ -51,3 +52,17 @@ same_error A B e f h = ap (λ x. Err x) (ap (error_in A) h)
 -- bytes that were read to the end
 pub whole_input : (input : Option (List ℕ)) (bytes : Vec ℕ) → IfSome input (λ all. bytes.items ≡ all) → vec_len bytes ≤ LARGEST_INPUT → IsWholeInput input bytes.items
 whole_input input bytes all within = (all, omega (arith, within, bytes.ok.0))
+
+-- nothing was given yet
+pub given_none : (a : Option (List ℕ)) (most : ℕ) → HasGivenAtMost a a most
+given_none None most = ([], tt, omega arith)
+given_none (Some a) most = ([], refl, omega arith)
+
+pub given_kept : (a b : Option (List ℕ)) (most : ℕ) → Keeps a b → HasGivenAtMost a b most
+given_kept None b most kept = ([], tt, omega arith)
+given_kept (Some a) None most kept = absurd kept
+given_kept (Some a) (Some b) most kept = ([], sym kept, omega arith)
+
+-- the bytes of one read
+pub given_taken : (a b : Option (List ℕ)) (count most : ℕ) (bytes : List ℕ) → Consumes a b (take count bytes) → count ≤ most → HasGivenAtMost a b most
+given_taken a b count most bytes given within = (take count bytes, given, omega (arith, length-take count bytes, within))

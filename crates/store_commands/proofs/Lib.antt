@@ -3,3 +3,4 @@ mod ChangingLemmas
 mod ReadingLemmas
 mod TextLemmas
 mod RefusedInputs
+mod ConditionLemmas

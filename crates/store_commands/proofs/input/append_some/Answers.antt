@@ -1,0 +1,16 @@
+use Rattle.std.proofs.lemmas.Result.{err_from_is_err_and}
+use Rattle.store_commands.proofs.GivenLemmas.{given_kept, given_taken}
+use Rattle.store_commands.proofs.input.append_some.Goals as goal
+
+pub returns-clause-few : goal.returns-clause-few
+returns-clause-few g c = given_taken _ _ c.in_ok-count.count c.args.room _ c.in_ok-count.ensures.some c.if-count-room.false
+
+pub returns-in_err-count-clause-few : goal.returns-in_err-count-clause-few
+returns-in_err-count-clause-few g c =
+    let p = err_from_is_err_and c.from_residual.result c.from_residual.ensures.1 in
+    rw (p.1, p.2, c.in_err-count.ensures.io) (given_kept _ _ c.args.room c.in_err-count.ensures.kept)
+
+pub returns-in_err-extend_from_slice-clause-few : goal.returns-in_err-extend_from_slice-clause-few
+returns-in_err-extend_from_slice-clause-few g c =
+    let p = err_from_is_err_and c.from_residual-in_err-extend_from_slice.result c.from_residual-in_err-extend_from_slice.ensures.1 in
+    rw (p.1, p.2) (given_taken _ _ c.in_ok-count.count c.args.room _ c.in_ok-count.ensures.some c.if-count-room.false)
