@@ -1,5 +1,6 @@
 mod ArgumentLemmas
 mod CommandLemmas
+mod EndLemmas
 mod FileLemmas
 mod ServingLemmas
 mod WordLemmas

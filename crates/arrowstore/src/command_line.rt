@@ -29,7 +29,7 @@ What each refusal means, and what to do: arrowstore help refusals
 The version: arrowstore --version";
 
 /// What a command line asks for.
-#[derive(Clone, Copy, Debug, PartialEq, Eq)]
+#[derive(Clone, Copy)]
 pub(crate) enum Action {
     /// A stream from standard input, in its canonical form to standard output.
     Recode,

@@ -1,5 +1,7 @@
-use Rattle.std.proofs.Common.{inl, inr}
+use Rattle.std.proofs.Common.{◌∙◌, inl, inr, sym, true≢false}
 use Rattle.arrowstore.proofs.CommandLemmas.{not_done}
+use Rattle.arrowstore.proofs.EndLemmas.{own_given, own_reported, memory_recodes}
+use Rattle.arrowstore.proofs.WordLemmas.{recode_is_not_own}
 use Rattle.arrowstore.proofs.running.run.Goals as goal
 
 pub returns-in-Err-clause-done : goal.returns-in-Err-clause-done
@@ -11,3 +13,25 @@ returns-in-Err-clause-wrong_arguments g c = elim c.report_arguments.ensures.requ
   | inl asked ↦ inl (inr (inl (c.in-Err.ensures.request asked)))
   | inr other ↦ inr other
 ]
+
+pub returns-then-is_own-clause-done : goal.returns-then-is_own-clause-done
+returns-then-is_own-clause-done g c = λ _. inr (inr (sym c.is_own.ensures ∙ c.if-is_own.true))
+
+pub returns-then-is_own-clause-recodes : goal.returns-then-is_own-clause-recodes
+returns-then-is_own-clause-recodes g c = λ are. absurd (true≢false (sym (sym c.is_own.ensures ∙ c.if-is_own.true) ∙ recode_is_not_own _ are))
+
+pub returns-then-is_own-clause-own : goal.returns-then-is_own-clause-own
+returns-then-is_own-clause-own g c = λ _.
+    own_given c.write_own_text.result c.end.result.status _ _ c.end.ensures.done c.end.ensures.refused c.write_own_text.ensures.written c.write_own_text.ensures.refused
+
+pub returns-then-is_own-clause-reports : goal.returns-then-is_own-clause-reports
+returns-then-is_own-clause-reports g c =
+    own_reported g.E.Write.contents _ _ _ _ _ c.write_own_text.result c.end.result c.end.ensures.done c.end.ensures.refused c.write_own_text.ensures.silent c.end.ensures.line
+
+pub returns-in-Err-clause-recodes : goal.returns-in-Err-clause-recodes
+returns-in-Err-clause-recodes g c = λ are.
+    let memory = c.report_arguments.ensures.memory (c.in-Err.ensures.understood are) in
+    memory_recodes g.W.Write.contents (g.R.Read.remaining c.args.input.now) _ _ _ memory.0 memory.1
+
+pub returns-in-Err-clause-own : goal.returns-in-Err-clause-own
+returns-in-Err-clause-own g c = λ own. absurd (true≢false (sym own ∙ (sym c.is_own.ensures ∙ c.if-is_own.false)))
