@@ -188,21 +188,110 @@ fn requested<'a>(
     Ok(StoreRequest::Command { path, command })
 }
 
-fn required<'a>(alloc: Global, id: &'a str, help: &'a str) -> Arg<'a> {
-    Arg::new(alloc, id).required(true).help(help)
+// What a command takes behind the file of the store.
+enum Behind {
+    Nothing,
+    Sectors,
+    Table,
+    TableAndFields,
+    TableAndRows,
+    TableAndNewName,
+    TableAndQuery,
 }
 
-// A command of a store, which names the store's file first.
-fn command<'a>(
-    alloc: Global,
-    name: &'a str,
-    about: &'a str,
-    example: &'a str,
-) -> Result<Command<'a>, AllocError> {
-    Command::new(alloc, name)
-        .about(about)
-        .after_help(example)
-        .arg(required(alloc, "STORE", "The file of the store"))
+// A command as its help tells it.
+struct Usage {
+    name: &'static str,
+    about: &'static str,
+    example: &'static str,
+    behind: Behind,
+}
+
+// In the order of the help.
+const COMMANDS: [Usage; 11] = [
+    Usage {
+        name: "format",
+        about: "Makes a file of so many sectors, and an empty store in it",
+        example: "Example: arrowstore format store 4096",
+        behind: Behind::Sectors,
+    },
+    Usage {
+        name: "create",
+        about: "Makes a table without rows",
+        example: "Example: arrowstore create store measurements id:uint64 'value:int32?' 'tags:list<utf8>'
+
+A TYPE is null, bool, int8 to int64, uint8 to uint64, utf8, large_utf8, binary,
+large_binary, date_day, date_ms, timestamp_s, timestamp_ms, timestamp_us or
+timestamp_ns, each of these four also with a zone, as timestamp_ms(UTC),
+fixed_binary(N), list<ITEM>, large_list<ITEM>, fixed_list(N,ITEM), struct<FIELD,..>
+or dict<INDEX,TYPE>, as dict<int8,utf8>. An ITEM is a TYPE, with a ? where nulls
+are allowed.",
+        behind: Behind::TableAndFields,
+    },
+    Usage {
+        name: "import",
+        about: "Reads a stream from standard input, and makes its table, in place of one of this name",
+        example: "Example: arrowstore import store measurements < readings.arrows",
+        behind: Behind::Table,
+    },
+    Usage {
+        name: "append",
+        about: "Reads rows from standard input, and appends them to a table",
+        example: "Example: arrowstore append store measurements --as csv --null NA < readings.csv
+where readings.csv begins with the line id,value",
+        behind: Behind::TableAndRows,
+    },
+    Usage {
+        name: "rename",
+        about: "Gives a table another name",
+        example: "Example: arrowstore rename store measurements readings",
+        behind: Behind::TableAndNewName,
+    },
+    Usage {
+        name: "drop",
+        about: "Removes a table with all its rows",
+        example: "Example: arrowstore drop store measurements",
+        behind: Behind::Table,
+    },
+    Usage {
+        name: "tables",
+        about: "Prints a line for each table: its name, and how many rows it has",
+        example: "Example: arrowstore tables store",
+        behind: Behind::Nothing,
+    },
+    Usage {
+        name: "schema",
+        about: "Prints a line for each field of a table",
+        example: "Example: arrowstore schema store measurements",
+        behind: Behind::Table,
+    },
+    Usage {
+        name: "export",
+        about: "Writes the stream of a table to standard output",
+        example: "Example: arrowstore export store measurements > readings.arrows",
+        behind: Behind::Table,
+    },
+    Usage {
+        name: "query",
+        about: "Prints the rows of a table that meet all conditions, each as a line of JSON",
+        example: "Example: arrowstore query store measurements 'value >= 7' --columns id,value --limit 10
+
+A LITERAL stands without quotation marks, as in 'city = New York': all that is behind
+the operator and one space is the text. Bytes are pairs of hexadecimal digits, bools
+true or false, dates and timestamps the integers that are stored: how many days,
+seconds, .. they are behind 1970-01-01.",
+        behind: Behind::TableAndQuery,
+    },
+    Usage {
+        name: "check",
+        about: "Reads all tables, and prints ok where each can be read",
+        example: "Example: arrowstore check store",
+        behind: Behind::Nothing,
+    },
+];
+
+fn required<'a>(alloc: Global, id: &'a str, help: &'a str) -> Arg<'a> {
+    Arg::new(alloc, id).required(true).help(help)
 }
 
 // It takes the command over, so that no caller owns one where memory was refused.
@@ -213,193 +302,119 @@ fn with_arg<'a>(
     command?.arg(arg)
 }
 
-// A command of a table, which names it after the store's file.
-fn table_command<'a>(
-    alloc: Global,
-    name: &'a str,
-    about: &'a str,
-    example: &'a str,
-) -> Result<Command<'a>, AllocError> {
-    let table = required(alloc, "NAME", "The name of the table");
-    with_arg(command(alloc, name, about, example), table)
+// A word that may stand any number of times.
+fn repeated<'a>(alloc: Global, id: &'a str, help: &'a str) -> Arg<'a> {
+    Arg::new(alloc, id).num_args(0..).help(help)
 }
 
-fn format<'a>(alloc: Global) -> Result<Command<'a>, AllocError> {
-    let sectors = required(
+// An option with a value.
+fn option<'a>(alloc: Global, id: &'a str, value: &'a str, help: &'a str) -> Arg<'a> {
+    Arg::new(alloc, id).long(id).value_name(value).help(help)
+}
+
+fn sectors<'a>(alloc: Global) -> Arg<'a> {
+    required(
         alloc,
         "SECTORS",
         "How many sectors of 512 bytes, 16 to 4194304",
     )
-    .value_parser(ValueParser::unsigned(0, u64::MAX));
-    let format = command(
-        alloc,
-        "format",
-        "Makes a file of so many sectors, and an empty store in it",
-        "Example: arrowstore format store 4096",
-    );
-    with_arg(format, sectors)
-}
-
-fn create<'a>(alloc: Global) -> Result<Command<'a>, AllocError> {
-    let fields = Arg::new(alloc, "FIELD").num_args(0..).help(
-        "The fields, each as NAME:TYPE, with a ? behind it where nulls are allowed",
-    );
-    let create = table_command(
-        alloc,
-        "create",
-        "Makes a table without rows",
-        "Example: arrowstore create store measurements id:uint64 'value:int32?' 'tags:list<utf8>'
-
-A TYPE is null, bool, int8 to int64, uint8 to uint64, utf8, large_utf8, binary,
-large_binary, date_day, date_ms, timestamp_s, timestamp_ms, timestamp_us or
-timestamp_ns, each of these four also with a zone, as timestamp_ms(UTC),
-fixed_binary(N), list<ITEM>, large_list<ITEM>, fixed_list(N,ITEM), struct<FIELD,..>
-or dict<INDEX,TYPE>, as dict<int8,utf8>. An ITEM is a TYPE, with a ? where nulls
-are allowed.",
-    );
-    with_arg(create, fields)
-}
-
-fn import<'a>(alloc: Global) -> Result<Command<'a>, AllocError> {
-    table_command(
-        alloc,
-        "import",
-        "Reads a stream from standard input, and makes its table, in place of one of this name",
-        "Example: arrowstore import store measurements < readings.arrows",
-    )
+    .value_parser(ValueParser::unsigned(0, u64::MAX))
 }
 
 fn form<'a>(alloc: Global) -> Arg<'a> {
-    Arg::new(alloc, "as")
-        .long("as")
-        .value_name("FORM")
-        .value_parser(ValueParser::Names(&FORMS))
-        .default_value("stream")
-        .help(
-            "What the input is: CSV begins with the names of the columns, JSON Lines has a row on each line",
-        )
+    option(
+        alloc,
+        "as",
+        "FORM",
+        "What the input is: CSV begins with the names of the columns, JSON Lines has a row on each line",
+    )
+    .value_parser(ValueParser::Names(&FORMS))
+    .default_value("stream")
 }
 
 fn null_text<'a>(alloc: Global) -> Arg<'a> {
-    Arg::new(alloc, "null")
-        .long("null")
-        .value_name("TEXT")
-        .default_value("")
-        .hide_default_value(true)
-        .help(
-            "In CSV, the text that stands for null where nulls are allowed; without this option the empty one",
-        )
-}
-
-fn append<'a>(alloc: Global) -> Result<Command<'a>, AllocError> {
-    let append = table_command(
+    option(
         alloc,
-        "append",
-        "Reads rows from standard input, and appends them to a table",
-        "Example: arrowstore append store measurements --as csv --null NA < readings.csv
-where readings.csv begins with the line id,value",
-    );
-    with_arg(with_arg(append, form(alloc)), null_text(alloc))
-}
-
-fn conditions<'a>(alloc: Global) -> Arg<'a> {
-    Arg::new(alloc, "CONDITION").num_args(0..).help(
-        "What each row must meet: 'NAME OP LITERAL' with OP one of = != < <= > >=, 'NAME is null' or 'NAME is not null', split by single spaces",
+        "null",
+        "TEXT",
+        "In CSV, the text that stands for null where nulls are allowed; without this option the empty one",
     )
-}
-
-fn columns<'a>(alloc: Global) -> Arg<'a> {
-    Arg::new(alloc, "columns")
-        .long("columns")
-        .value_name("A,B")
-        .help("The columns, in this order; without this option all of them")
+    .default_value("")
+    .hide_default_value(true)
 }
 
 fn limit<'a>(alloc: Global) -> Arg<'a> {
-    Arg::new(alloc, "limit")
-        .long("limit")
-        .value_name("N")
-        .value_parser(ValueParser::unsigned(0, u64::MAX))
-        .help("How many rows at most")
+    option(alloc, "limit", "N", "How many rows at most").value_parser(ValueParser::unsigned(
+        0,
+        u64::MAX,
+    ))
 }
 
-fn save<'a>(alloc: Global) -> Arg<'a> {
-    Arg::new(alloc, "save")
-        .long("save")
-        .value_name("NEW")
-        .help("Makes a table of this name of them, in place of printing")
-}
-
-fn query<'a>(alloc: Global) -> Result<Command<'a>, AllocError> {
-    let query = table_command(
+// The conditions, columns and rows of a query, and the name to save it under.
+fn with_query<'a>(
+    alloc: Global,
+    command: Result<Command<'a>, AllocError>,
+) -> Result<Command<'a>, AllocError> {
+    let conditions = repeated(
         alloc,
-        "query",
-        "Prints the rows of a table that meet all conditions, each as a line of JSON",
-        "Example: arrowstore query store measurements 'value >= 7' --columns id,value --limit 10
-
-A LITERAL stands without quotation marks, as in 'city = New York': all that is behind
-the operator and one space is the text. Bytes are pairs of hexadecimal digits, bools
-true or false, dates and timestamps the integers that are stored: how many days,
-seconds, .. they are behind 1970-01-01.",
+        "CONDITION",
+        "What each row must meet: 'NAME OP LITERAL' with OP one of = != < <= > >=, 'NAME is null' or 'NAME is not null', split by single spaces",
     );
-    let query = with_arg(with_arg(query, conditions(alloc)), columns(alloc));
-    with_arg(with_arg(query, limit(alloc)), save(alloc))
-}
-
-fn rename<'a>(alloc: Global) -> Result<Command<'a>, AllocError> {
-    let new = required(alloc, "NEW", "Its new name");
-    let rename = table_command(
+    let columns = option(
         alloc,
-        "rename",
-        "Gives a table another name",
-        "Example: arrowstore rename store measurements readings",
+        "columns",
+        "A,B",
+        "The columns, in this order; without this option all of them",
     );
-    with_arg(rename, new)
+    let save = option(
+        alloc,
+        "save",
+        "NEW",
+        "Makes a table of this name of them, in place of printing",
+    );
+    let command = with_arg(with_arg(command, conditions), columns);
+    with_arg(with_arg(command, limit(alloc)), save)
 }
 
-fn drop<'a>(alloc: Global) -> Result<Command<'a>, AllocError> {
-    table_command(
+fn with_fields<'a>(
+    alloc: Global,
+    command: Result<Command<'a>, AllocError>,
+) -> Result<Command<'a>, AllocError> {
+    let fields = repeated(
         alloc,
-        "drop",
-        "Removes a table with all its rows",
-        "Example: arrowstore drop store measurements",
-    )
+        "FIELD",
+        "The fields, each as NAME:TYPE, with a ? behind it where nulls are allowed",
+    );
+    with_arg(command, fields)
 }
 
-fn tables<'a>(alloc: Global) -> Result<Command<'a>, AllocError> {
-    command(
-        alloc,
-        "tables",
-        "Prints a line for each table: its name, and how many rows it has",
-        "Example: arrowstore tables store",
-    )
+// What stands behind the name of a table.
+fn with_table<'a>(
+    alloc: Global,
+    command: Result<Command<'a>, AllocError>,
+    behind: &Behind,
+) -> Result<Command<'a>, AllocError> {
+    let command = with_arg(command, required(alloc, "NAME", "The name of the table"));
+    match behind {
+        Behind::TableAndFields => with_fields(alloc, command),
+        Behind::TableAndRows => with_arg(with_arg(command, form(alloc)), null_text(alloc)),
+        Behind::TableAndNewName => with_arg(command, required(alloc, "NEW", "Its new name")),
+        Behind::TableAndQuery => with_query(alloc, command),
+        _ => command,
+    }
 }
 
-fn schema<'a>(alloc: Global) -> Result<Command<'a>, AllocError> {
-    table_command(
-        alloc,
-        "schema",
-        "Prints a line for each field of a table",
-        "Example: arrowstore schema store measurements",
-    )
-}
-
-fn export<'a>(alloc: Global) -> Result<Command<'a>, AllocError> {
-    table_command(
-        alloc,
-        "export",
-        "Writes the stream of a table to standard output",
-        "Example: arrowstore export store measurements > readings.arrows",
-    )
-}
-
-fn check<'a>(alloc: Global) -> Result<Command<'a>, AllocError> {
-    command(
-        alloc,
-        "check",
-        "Reads all tables, and prints ok where each can be read",
-        "Example: arrowstore check store",
-    )
+// A command of a store, which names the store's file first.
+fn command<'a>(alloc: Global, usage: &Usage) -> Result<Command<'a>, AllocError> {
+    let command = Command::new(alloc, usage.name)
+        .about(usage.about)
+        .after_help(usage.example)
+        .arg(required(alloc, "STORE", "The file of the store"));
+    match usage.behind {
+        Behind::Nothing => command,
+        Behind::Sectors => with_arg(command, sectors(alloc)),
+        _ => with_table(alloc, command, &usage.behind),
+    }
 }
 
 // It takes both over, so that no caller owns one where memory was refused.
@@ -410,34 +425,14 @@ fn with_command<'a>(
     program?.subcommand(command?)
 }
 
-// Those that change the tables.
-fn with_changes<'a>(
-    alloc: Global,
-    program: Result<Command<'a>, AllocError>,
-) -> Result<Command<'a>, AllocError> {
-    let program = with_command(program, create(alloc));
-    let program = with_command(program, import(alloc));
-    let program = with_command(program, append(alloc));
-    let program = with_command(program, rename(alloc));
-    with_command(program, drop(alloc))
-}
-
-// Those that read them.
-fn with_reads<'a>(
-    alloc: Global,
-    program: Result<Command<'a>, AllocError>,
-) -> Result<Command<'a>, AllocError> {
-    let program = with_command(program, tables(alloc));
-    let program = with_command(program, schema(alloc));
-    let program = with_command(program, export(alloc));
-    let program = with_command(program, query(alloc));
-    with_command(program, check(alloc))
-}
-
 fn commands<'a>(alloc: Global) -> Result<Command<'a>, AllocError> {
-    let program = Command::new(alloc, "arrowstore")
-        .about("A crash-safe store of named tables in the Apache Arrow format")
-        .subcommand_required(true);
-    let program = with_command(Ok(program), format(alloc));
-    with_reads(alloc, with_changes(alloc, program))
+    let mut program = Ok(
+        Command::new(alloc, "arrowstore")
+            .about("A crash-safe store of named tables in the Apache Arrow format")
+            .subcommand_required(true),
+    );
+    for usage in &COMMANDS {
+        program = with_command(program, command(alloc, usage));
+    }
+    program
 }
