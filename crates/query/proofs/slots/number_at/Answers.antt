@@ -1,7 +1,7 @@
 use mir.Val.{SFits}
 use Rattle.std.specs.Int.{w128}
 use Rattle.std.specs.Prelude.{pos}
-use Rattle.std.proofs.Common.{◌∙◌, ◌*◌, ◌-◌, ◌/◌, Bool, length, take, drop, sym, ap, arith, rules}
+use Rattle.std.proofs.Common.{◌∙◌, ◌*◌, ◌-◌, ◌/◌, Bool, length, drop, sym, ap, arith, rules}
 use Rattle.std.proofs.lemmas.Int.{to_z-of_z}
 use Rattle.std.proofs.lemmas.List.{length-take, length-drop}
 use Rattle.byteorder.specs.Endian.{twos_complement}
