@@ -30,7 +30,7 @@ const ONE_NULL: Wanted = Ok(&[&["1"], &["null"]]);
 const NO_ROWS: Wanted = Ok(&[]);
 
 // Of `NULL_LAST`, whose schema ends at 152, and its record batch at 320.
-const CHANGED: &[Row] = &[
+const SCHEMA_CHANGED: &[Row] = &[
     (ALL, &[], ONE_NULL),
     (ALL, &[(0, 0x00)], Err((NoContinuation, 0, 0))),
     (ALL, &[(6, 0x01)], Err((Truncated, 0, 0))),
@@ -41,6 +41,9 @@ const CHANGED: &[Row] = &[
     (ALL, &[(30, 0x04)], Err((HeaderKind, 0, 0))),
     (ALL, &[(47, 0x80)], Err((BodyLength, 0, 0))),
     (ALL, &[(60, 0x01)], Err((BigEndian, 0, 0))),
+];
+
+const TYPE_CHANGED: &[Row] = &[
     (
         ALL,
         &[(105, 0x03)],
@@ -55,6 +58,9 @@ const CHANGED: &[Row] = &[
     (ALL, &[(105, 0x0c)], Err((BadParameter, 0, 0))),
     (ALL, &[(140, 0x21)], Err((BadParameter, 0, 0))),
     (ALL, &[(120, 0xff)], Err((NotUtf8, 0, 0))),
+];
+
+const BATCH_CHANGED: &[Row] = &[
     (ALL, &[(206, 0x0c)], Err((Compressed, 1, 152))),
     (ALL, &[(105, 0x05)], Err((LayoutCount, 1, 152))),
     (ALL, &[(288, 0x09)], Err((BufferRange, 1, 152))),
@@ -63,6 +69,9 @@ const CHANGED: &[Row] = &[
     (ALL, &[(256, 0x00)], Err((NullCount, 1, 152))),
     (ALL, &[(304, 0x03)], Err((NullCount, 1, 152))),
     (ALL, &[(104, 0x00)], Err((NullForbidden, 1, 152))),
+];
+
+const CUT: &[Row] = &[
     // without bytes at the end, or at the front
     (&[], &[], Err((NoSchema, 0, 0))),
     (&[(0, 151, 1)], &[], Err((Truncated, 0, 0))),
@@ -73,6 +82,9 @@ const CHANGED: &[Row] = &[
     (&[(0, 327, 1)], &[], Err((Truncated, 2, 320))),
     (&[(152, 328, 1)], &[], Err((NoSchema, 0, 0))),
     (&[(320, 328, 1)], &[], Err((NoSchema, 0, 0))),
+];
+
+const REPEATED: &[Row] = &[
     // with more
     (
         &[(0, 152, 2), (152, 328, 1)],
@@ -137,12 +149,18 @@ const DICTIONARY_CHANGED: &[Row] = &[
         &[(595, 0xff)],
         Ok(&[&["'b"], &["'a"], &["'b"], &["null"]]),
     ),
+];
+
+const DICTIONARY_LEFT_OUT: &[Row] = &[
     (WITHOUT_DICTIONARY, &[], Err((DictionaryIndex, 1, 200))),
     (
         WITHOUT_DICTIONARY,
         &[(304, 0x04), (352, 0x00)],
         Ok(&[&["null"], &["null"], &["null"], &["null"]]),
     ),
+];
+
+const DICTIONARY_TWICE: &[Row] = &[
     // the texts of another dictionary, in place of the first one and behind it
     (
         TWICE,
@@ -259,63 +277,121 @@ const TOO_HEAVY: &[(usize, u8)] = &[
 ];
 
 // A list of 16,777,216 nulls; structs of 21 levels, each of which names the next one twice; 2,048 fields, and 2,049; long texts, cut seven times within
-// their dictionary and once within the record batch. Each takes a while. Behind each stream stands how many bytes a piece has.
-const LARGE: &[(&[u8], usize, Row)] = &[
+// their dictionary and once within the record batch. Each takes a while.
+const MANY_NULLS: &[Row] = &[(
+    ALL,
+    &[(280, 0x01), (304, 0x01), (368, 0x08)],
+    Err((TooHeavy, 1, 208)),
+)];
+
+const DEEPEST: &[Row] = &[
     (
-        &LIST_OF_NULLS,
-        1,
-        (
-            ALL,
-            &[(280, 0x01), (304, 0x01), (368, 0x08)],
-            Err((TooHeavy, 1, 208)),
-        ),
+        &[(0, 104, 1), (140, 180, 20), (180, 204, 1)],
+        &[(4, 0x98), (5, 0x03)],
+        Err((FlatBudget, 0, 0)),
     ),
     (
-        &DEEP,
-        1,
-        (
-            &[(0, 104, 1), (140, 180, 20), (180, 204, 1)],
-            &[(4, 0x98), (5, 0x03)],
-            Err((FlatBudget, 0, 0)),
-        ),
+        &[(0, 104, 1), (140, 180, 10), (180, 204, 1)],
+        &[(4, 0x08), (5, 0x02), (64, 0x02)],
+        NO_ROWS,
     ),
     (
-        &DEEP,
-        1,
-        (
-            &[(0, 104, 1), (140, 180, 10), (180, 204, 1)],
-            &[(4, 0x08), (5, 0x02), (64, 0x02)],
-            NO_ROWS,
-        ),
+        &[(0, 104, 1), (140, 180, 10), (180, 204, 1)],
+        &[(4, 0x08), (5, 0x02), (64, 0x03)],
+        Err((SchemaLimit, 0, 0)),
     ),
+];
+
+const HEAVIEST: &[Row] = &[
     (
-        &DEEP,
-        1,
-        (
-            &[(0, 104, 1), (140, 180, 10), (180, 204, 1)],
-            &[(4, 0x08), (5, 0x02), (64, 0x03)],
-            Err((SchemaLimit, 0, 0)),
-        ),
+        IN_TWO_COLUMNS,
+        HEAVY,
+        Ok(&[
+            &["#8388606", "#8388606"],
+            &["'", "'"],
+            &["#8388606", "#8388606"],
+            &["null", "null"],
+        ]),
     ),
-    (
-        &DICTIONARY,
-        1_048_640,
-        (
-            IN_TWO_COLUMNS,
-            HEAVY,
-            Ok(&[
-                &["#8388606", "#8388606"],
-                &["'", "'"],
-                &["#8388606", "#8388606"],
-                &["null", "null"],
-            ]),
-        ),
-    ),
-    (
-        &DICTIONARY,
-        1_048_640,
-        (IN_TWO_COLUMNS, TOO_HEAVY, Err((TooHeavy, 2, 8_389_032))),
-    ),
+    (IN_TWO_COLUMNS, TOO_HEAVY, Err((TooHeavy, 2, 8_389_032))),
+];
+
+// What is read. Each part has rows of its own: what a constant costs to prove grows faster than its length.
+#[derive(Clone, Copy)]
+enum Part {
+    Schema,
+    Type,
+    Batch,
+    Cut,
+    Repeated,
+    ShortIntegers,
+    Texts,
+    Dictionary,
+    DictionaryLeftOut,
+    DictionaryTwice,
+    Lists,
+    Structs,
+    ManyNulls,
+    Deepest,
+    Heaviest,
+}
+
+fn stream_of(part: Part) -> &'static [u8] {
+    match part {
+        Part::Schema | Part::Type | Part::Batch | Part::Cut | Part::Repeated => &NULL_LAST,
+        Part::ShortIntegers => &SHORT_NULL_LAST,
+        Part::Texts => &TEXTS,
+        Part::Dictionary | Part::DictionaryLeftOut | Part::DictionaryTwice | Part::Heaviest => {
+            &DICTIONARY
+        }
+        Part::Lists | Part::ManyNulls => &LIST_OF_NULLS,
+        Part::Structs | Part::Deepest => &DEEP,
+    }
+}
+
+fn rows_of(part: Part) -> &'static [Row] {
+    match part {
+        Part::Schema => SCHEMA_CHANGED,
+        Part::Type => TYPE_CHANGED,
+        Part::Batch => BATCH_CHANGED,
+        Part::Cut => CUT,
+        Part::Repeated => REPEATED,
+        Part::ShortIntegers => SHORT_CHANGED,
+        Part::Texts => TEXTS_CHANGED,
+        Part::Dictionary => DICTIONARY_CHANGED,
+        Part::DictionaryLeftOut => DICTIONARY_LEFT_OUT,
+        Part::DictionaryTwice => DICTIONARY_TWICE,
+        Part::Lists => LISTS_CHANGED,
+        Part::Structs => DEEP_CHANGED,
+        Part::ManyNulls => MANY_NULLS,
+        Part::Deepest => DEEPEST,
+        Part::Heaviest => HEAVIEST,
+    }
+}
+
+const INTEGERS: &[Part] = &[
+    Part::Schema,
+    Part::Type,
+    Part::Batch,
+    Part::Cut,
+    Part::Repeated,
+    Part::ShortIntegers,
+];
+
+const TEXTS_AND_DICTIONARIES: &[Part] = &[
+    Part::Texts,
+    Part::Dictionary,
+    Part::DictionaryLeftOut,
+    Part::DictionaryTwice,
+];
+
+const LISTS_AND_STRUCTS: &[Part] = &[Part::Lists, Part::Structs];
+
+// How many bytes a piece has.
+const LARGE: &[(Part, usize)] = &[
+    (Part::ManyNulls, 1),
+    (Part::Deepest, 1),
+    (Part::Heaviest, 1_048_640),
 ];
 
 // The bytes of a row.
@@ -452,10 +528,35 @@ fn wrongly_read(alloc: Global, stream: &[u8], rows: &[Row]) -> Result<Option<usi
     Ok(None)
 }
 
-fn wrongly_read_of_large(alloc: Global) -> Result<Option<usize>, NotMade> {
-    for (place, (stream, size, row)) in LARGE.iter().enumerate() {
-        if !is_row_read(alloc, stream, *size, row)? {
+// The place of the first wrong row, a hundred for each part.
+fn wrong_part(alloc: Global, parts: &[Part]) -> Result<Option<usize>, NotMade> {
+    for (number, part) in parts.iter().enumerate() {
+        if let Some(place) = wrongly_read(alloc, stream_of(*part), rows_of(*part))? {
+            return Ok(Some(number.wrapping_mul(100).wrapping_add(place)));
+        }
+    }
+    Ok(None)
+}
+
+fn wrongly_read_of_large(
+    alloc: Global,
+    stream: &[u8],
+    size: usize,
+    rows: &[Row],
+) -> Result<Option<usize>, NotMade> {
+    for (place, row) in rows.iter().enumerate() {
+        if !is_row_read(alloc, stream, size, row)? {
             return Ok(Some(place));
+        }
+    }
+    Ok(None)
+}
+
+fn wrong_large(alloc: Global) -> Result<Option<usize>, NotMade> {
+    for (number, (part, size)) in LARGE.iter().enumerate() {
+        let found = wrongly_read_of_large(alloc, stream_of(*part), *size, rows_of(*part))?;
+        if let Some(place) = found {
+            return Ok(Some(number.wrapping_mul(100).wrapping_add(place)));
         }
     }
     Ok(None)
@@ -463,27 +564,18 @@ fn wrongly_read_of_large(alloc: Global) -> Result<Option<usize>, NotMade> {
 
 #[test]
 fn integers_are_read_or_have_their_fault(rt: HostRuntime) {
-    assert_no_row(&rt, wrongly_read(rt.alloc(), &NULL_LAST, CHANGED));
-    assert_no_row(
-        &rt,
-        wrongly_read(rt.alloc(), &SHORT_NULL_LAST, SHORT_CHANGED),
-    );
+    assert_no_row(&rt, wrong_part(rt.alloc(), INTEGERS));
 }
 
 #[test]
 fn texts_and_dictionaries_are_read_or_have_their_fault(rt: HostRuntime) {
-    assert_no_row(&rt, wrongly_read(rt.alloc(), &TEXTS, TEXTS_CHANGED));
-    assert_no_row(
-        &rt,
-        wrongly_read(rt.alloc(), &DICTIONARY, DICTIONARY_CHANGED),
-    );
+    assert_no_row(&rt, wrong_part(rt.alloc(), TEXTS_AND_DICTIONARIES));
 }
 
 #[test]
 fn lists_and_structs_are_read_or_have_their_fault(rt: HostRuntime) {
-    assert_no_row(&rt, wrongly_read(rt.alloc(), &LIST_OF_NULLS, LISTS_CHANGED));
-    assert_no_row(&rt, wrongly_read(rt.alloc(), &DEEP, DEEP_CHANGED));
-    assert_no_row(&rt, wrongly_read_of_large(rt.alloc()));
+    assert_no_row(&rt, wrong_part(rt.alloc(), LISTS_AND_STRUCTS));
+    assert_no_row(&rt, wrong_large(rt.alloc()));
 }
 
 // Bytes of `NULL_LAST`, from one up to another, and how many of them wait for the rest of their message where they were fed one by one.
