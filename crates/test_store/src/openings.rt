@@ -109,12 +109,12 @@ fn changed(device: &ModelDevice, changes: &[Change]) -> Result<ModelDevice, NotM
     Ok(left)
 }
 
-// What is changed, and what is answered then.
+// What is changed, and what is answered then. A table of them stands in parts (see `commands`).
 type Row = (&'static [Change], Steps);
 
 // In a commit its epoch stands at byte 8, the catalogue's first sector at 16 and the sectors of the device at 40; in the text
 // the first sector of the segment at 169.
-const CAUSES: &[Row] = &[
+const EITHER_EPOCH: &[Row] = &[
     (
         &[(3, 0, 1)],
         &[(Open, "ok"), (Read("t"), "\"a\":int32?: 1 2 3")],
@@ -123,6 +123,9 @@ const CAUSES: &[Row] = &[
         &[(1, 0, 1)],
         &[(Open, "ok"), (Read("t"), "\"a\":int32?: 7 -1")],
     ),
+];
+
+const CHANGED_SEGMENT: &[Row] = &[
     // The store is open, and what stands in the segment is not the table.
     (
         &[(2, 0, 1)],
@@ -144,6 +147,9 @@ const CAUSES: &[Row] = &[
             (Tables, "t 3"),
         ],
     ),
+];
+
+const CHANGED_COMMITS: &[Row] = &[
     (&[(0, 0, 1)], &[(Open, "ok"), (Tables, "t 3")]),
     (
         &[(0, 0, 1), (1, 0, 1)],
@@ -161,6 +167,9 @@ const CAUSES: &[Row] = &[
             (Format, "C2 AlreadyAStore"),
         ],
     ),
+];
+
+const CHANGED_CATALOGUE: &[Row] = &[
     (
         &[(1, 16, 4), (5, 0, 1)],
         &[
@@ -177,6 +186,16 @@ const CAUSES: &[Row] = &[
     (&[(5, 170, 1)], &[(Open, "C3 Damaged RunRange")]),
     (&[(5, 169, 7)], &[(Open, "C3 Damaged RunOverlap")]),
 ];
+
+fn causes(part: usize) -> Option<&'static [Row]> {
+    Some(match part {
+        0 => EITHER_EPOCH,
+        1 => CHANGED_SEGMENT,
+        2 => CHANGED_COMMITS,
+        3 => CHANGED_CATALOGUE,
+        _ => return None,
+    })
+}
 
 /// The table t has two segments of a sector each, in 3 and 2, and u one of two, in 6 and 7: 312 bytes and 8 for each of 26 values. Epoch 5 in
 /// sector 1 has its catalogue in 8 and 9, and epoch 4 in sector 0, before v was made, in 4.
@@ -219,17 +238,23 @@ const WITHOUT_U: Steps = &[
 ];
 
 // Which sectors of it were written and not yet synced when a stop came, and can't be read then, and what is answered.
-const LOST: &[Row] = &[
+const LOST_COMMITS: &[Row] = &[
     (&[(0, 0, 1)], WHOLE),
     (&[(1, 0, 1)], OF_EPOCH_4),
     (
         &[(0, 0, 1), (1, 0, 1)],
         &[(Open, "C1 NotAStore"), (Format, "ok"), (Tables, "")],
     ),
+];
+
+const LOST_CATALOGUE: &[Row] = &[
     (&[(4, 0, 1)], WHOLE),
     (&[(8, 0, 1)], UNREADABLE),
     (&[(9, 0, 1)], UNREADABLE),
     (&[(1, 0, 1), (4, 0, 1)], UNREADABLE),
+];
+
+const LOST_SEGMENT: &[Row] = &[
     // The other tables are read as ever.
     (
         &[(3, 0, 1)],
@@ -247,6 +272,9 @@ const LOST: &[Row] = &[
             (Tables, "t 3, u 26, v 1"),
         ],
     ),
+];
+
+const LOST_SECOND_SEGMENT: &[Row] = &[
     // A table in place of one that can't be read.
     (
         &[(2, 0, 1)],
@@ -264,9 +292,20 @@ const LOST: &[Row] = &[
         &[(2, 0, 1), (3, 0, 1)],
         &[(Open, "ok"), (Read("t"), "S13 SegmentUnread 0")],
     ),
-    (&[(6, 0, 1)], WITHOUT_U),
-    (&[(7, 0, 1)], WITHOUT_U),
 ];
+
+const LOST_U: &[Row] = &[(&[(6, 0, 1)], WITHOUT_U), (&[(7, 0, 1)], WITHOUT_U)];
+
+fn lost(part: usize) -> Option<&'static [Row]> {
+    Some(match part {
+        0 => LOST_COMMITS,
+        1 => LOST_CATALOGUE,
+        2 => LOST_SEGMENT,
+        3 => LOST_SECOND_SEGMENT,
+        4 => LOST_U,
+        _ => return None,
+    })
+}
 
 fn is_told(alloc: Global, device: ModelDevice, steps: Steps) -> Result<bool, NotMade> {
     is_played(alloc, &mut Some(Place::Shut(device)), steps)
@@ -281,7 +320,31 @@ fn stopped(
     Ok(changed(device, changes)?.crash(choice)?)
 }
 
-fn wrong_cause(
+// What stands in the way of a store.
+#[derive(Clone, Copy)]
+enum Cause {
+    // a byte that was changed
+    Changed,
+    // a sector that can't be read
+    Lost,
+}
+
+fn rows_of(cause: Cause, part: usize) -> Option<&'static [Row]> {
+    match cause {
+        Cause::Changed => causes(part),
+        Cause::Lost => lost(part),
+    }
+}
+
+// What a stop leaves of the sectors that were changed and not yet synced.
+fn choice_of(cause: Cause) -> Choice {
+    match cause {
+        Cause::Changed => Choice::New,
+        Cause::Lost => Choice::Lost(u64::MAX),
+    }
+}
+
+fn wrong_row(
     alloc: Global,
     device: &ModelDevice,
     choice: Choice,
@@ -295,22 +358,27 @@ fn wrong_cause(
     Ok(None)
 }
 
-fn wrongly_told(
-    alloc: Global,
-    before: Steps,
-    choice: Choice,
-    rows: &[Row],
-) -> Result<Option<usize>, NotMade> {
-    wrong_cause(alloc, &device_after(alloc, before)?, choice, rows)
+// The place of the first wrong row, a hundred for each part of the table.
+fn wrong_part(alloc: Global, device: &ModelDevice, cause: Cause) -> Result<Option<usize>, NotMade> {
+    for part in 0..usize::MAX {
+        let Some(rows) = rows_of(cause, part) else {
+            return Ok(None);
+        };
+        if let Some(place) = wrong_row(alloc, device, choice_of(cause), rows)? {
+            return Ok(Some(part.wrapping_mul(100).wrapping_add(place)));
+        }
+    }
+    Ok(None)
+}
+
+fn wrongly_told(alloc: Global, before: Steps, cause: Cause) -> Result<Option<usize>, NotMade> {
+    wrong_part(alloc, &device_after(alloc, before)?, cause)
 }
 
 #[test]
 fn the_first_cause_is_told(rt: HostRuntime) {
-    assert_no_row(&rt, wrongly_told(rt.alloc(), TWICE, Choice::New, CAUSES));
-    assert_no_row(
-        &rt,
-        wrongly_told(rt.alloc(), STORED, Choice::Lost(u64::MAX), LOST),
-    );
+    assert_no_row(&rt, wrongly_told(rt.alloc(), TWICE, Cause::Changed));
+    assert_no_row(&rt, wrongly_told(rt.alloc(), STORED, Cause::Lost));
 }
 
 // The only byte whose change gives another table: the name `t`.
