@@ -5,7 +5,7 @@ use crate::made::{NotMade, assert_no_row};
 use crate::openings::{STORED, T, U, device_after};
 use crate::playing::{Slot, Way, is_played, replies_of, shut, wrong_reply};
 use crate::steps::{Step, Steps};
-use crate::stops::{are_refused, count_below};
+use crate::stops::{OPENING, are_refused, count_below};
 use Input::Column;
 use Step::{Append, Export, Give, Open, Read, Remove, Save, Tables};
 use sector_dev::ModelDevice;
@@ -81,23 +81,16 @@ fn each_read_of_the_device_fails_in_turn(rt: HostRuntime) {
     assert_no_row(&rt, wrong_read(rt.alloc(), Way::OneRun));
 }
 
-fn opened(alloc: Global, device: ModelDevice) -> Result<Store<ModelDevice>, NotMade> {
-    Store::open(alloc, device).map_err(|_| NotMade)
-}
-
-// Whether the export to a writer is refused twice, and writes nothing.
-fn is_nothing_written(alloc: Global, device: ModelDevice) -> Result<bool, NotMade> {
-    let mut store = opened(alloc, device)?;
-    let mut written = Vec::new(alloc);
-    let first = store.export(alloc, "t", &mut written);
-    let second = store.export(alloc, "t", &mut written);
-    Ok(first == Err(Refusal::Device) && second == Err(Refusal::Halted) && written.is_empty())
-}
+const EXPORTING: Steps = &[
+    (Open, "ok"),
+    (Export("t"), "S9 Device"),
+    (Export("t"), "S10 Halted"),
+];
 
 // The first read of a segment that fails and lets something be written.
 fn wrong_export(alloc: Global) -> Result<Option<usize>, NotMade> {
     for k in 5..=6u64 {
-        if !is_nothing_written(alloc, failing(alloc, k)?)? {
+        if !is_played(alloc, &mut Some(Place::Shut(failing(alloc, k)?)), EXPORTING)? {
             return Ok(Some(k as usize));
         }
     }
@@ -114,23 +107,47 @@ const ROOMS: &[(usize, Result<(), Refusal>)] = &[
 
 const STILL_THERE: Steps = &[(Read("t"), T)];
 
-fn is_written(
+fn is_exported(
     alloc: Global,
-    device: ModelDevice,
+    store: &mut Store<ModelDevice>,
     room: usize,
     want: Result<(), Refusal>,
 ) -> Result<bool, NotMade> {
-    let mut store = opened(alloc, device)?;
     let mut bytes = [0; 328];
     let mut writer = bytes.get_mut(..room).ok_or(NotMade)?;
-    let answer = store.export(alloc, "t", &mut writer);
-    Ok(answer == want && is_played(alloc, &mut Some(Place::Open(store)), STILL_THERE)?)
+    Ok(store.export(alloc, "t", &mut writer) == want)
+}
+
+fn is_written(
+    alloc: Global,
+    slot: &mut Slot,
+    room: usize,
+    want: Result<(), Refusal>,
+) -> Result<bool, NotMade> {
+    let Some(Place::Open(store)) = slot else {
+        return Err(NotMade);
+    };
+    Ok(is_exported(alloc, store, room, want)? && is_played(alloc, slot, STILL_THERE)?)
+}
+
+fn is_opened_and_written(
+    alloc: Global,
+    slot: &mut Slot,
+    room: usize,
+    want: Result<(), Refusal>,
+) -> Result<bool, NotMade> {
+    if is_played(alloc, slot, OPENING)? {
+        is_written(alloc, slot, room, want)
+    } else {
+        Err(NotMade)
+    }
 }
 
 // The first writer of which something else is answered, or after which the table can't be read.
 fn wrong_writer(alloc: Global) -> Result<Option<usize>, NotMade> {
     for (place, (room, want)) in ROOMS.iter().enumerate() {
-        if !is_written(alloc, device_after(alloc, STORED)?, *room, *want)? {
+        let device = device_after(alloc, STORED)?;
+        if !is_opened_and_written(alloc, &mut Some(Place::Shut(device)), *room, *want)? {
             return Ok(Some(place));
         }
     }

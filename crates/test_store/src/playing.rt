@@ -66,11 +66,14 @@ fn read_at(alloc: Global, store: &mut Store<ModelDevice>, name: &str) -> Reply {
     }
 }
 
+// An export that is refused writes nothing, unless the writer failed: else the reply is what was written.
 fn exported(alloc: Global, store: &mut Store<ModelDevice>, name: &str) -> Reply {
     let mut bytes = Vec::new(alloc);
     match store.export(alloc, name, &mut bytes) {
-        Ok(()) => Reply::Bytes(bytes),
-        Err(refusal) => Reply::Refused(refusal),
+        Err(refusal) if bytes.is_empty() || matches!(refusal, Refusal::Write) => {
+            Reply::Refused(refusal)
+        }
+        _ => Reply::Bytes(bytes),
     }
 }
 
