@@ -2,7 +2,7 @@
 // then; opened again it has all that it had.
 use crate::inputs::Input;
 use crate::made::{NotMade, assert_no_row};
-use crate::openings::{STORED, T, U, device_after};
+use crate::openings::{T, U, device_after, stored};
 use crate::playing::{Slot, Way, is_played, replies_of, shut, wrong_reply};
 use crate::steps::{Step, Steps};
 use crate::stops::{OPENING, are_refused, count_below};
@@ -26,31 +26,35 @@ const READING: Steps = &[
     (Tables, "t 3, u 27, v 0"),
 ];
 
+fn reading() -> Steps {
+    READING
+}
+
 // How many sectors were read after each step: both commits and two of the catalogue, and those of the table's segments.
 const READS: &[u64] = &[4, 6, 6, 8, 10, 12, 14, 14, 16, 16];
 
 // Whether just so many steps are answered as they are to, and the others refused.
 fn are_answered(alloc: Global, replies: &[Reply], done: usize) -> Result<bool, NotMade> {
     let (first, rest) = replies.split_at_checked(done).ok_or(NotMade)?;
-    let steps = READING.get(..done).unwrap_or_default();
+    let steps = reading().get(..done).unwrap_or_default();
     Ok(are_refused(alloc, rest)? && wrong_reply(alloc, first, steps)?.is_none())
 }
 
 // A device that holds these tables, of which a read fails, from 1 on.
 fn failing(alloc: Global, k: u64) -> Result<ModelDevice, NotMade> {
-    let mut device = device_after(alloc, STORED)?;
+    let mut device = device_after(alloc, stored())?;
     device.fail_read_at(k);
     Ok(device)
 }
 
 // Whether each step is answered as it is to, where so many are done before the read fails.
 fn is_halted(alloc: Global, slot: &mut Slot, done: usize, way: Way) -> Result<bool, NotMade> {
-    are_answered(alloc, &replies_of(alloc, slot, READING, way)?, done)
+    are_answered(alloc, &replies_of(alloc, slot, reading(), way)?, done)
 }
 
 // Whether the same device has lost nothing, if a step was refused.
 fn is_read_again(alloc: Global, slot: &mut Slot, done: usize) -> Result<bool, NotMade> {
-    Ok(done == READING.len() || is_played(alloc, slot, READING)?)
+    Ok(done == reading().len() || is_played(alloc, slot, reading())?)
 }
 
 fn survives_on(alloc: Global, slot: &mut Slot, done: usize, way: Way) -> Result<bool, NotMade> {
@@ -146,7 +150,7 @@ fn is_opened_and_written(
 // The first writer of which something else is answered, or after which the table can't be read.
 fn wrong_writer(alloc: Global) -> Result<Option<usize>, NotMade> {
     for (place, (room, want)) in ROOMS.iter().enumerate() {
-        let device = device_after(alloc, STORED)?;
+        let device = device_after(alloc, stored())?;
         if !is_opened_and_written(alloc, &mut Some(Place::Shut(device)), *room, *want)? {
             return Ok(Some(place));
         }

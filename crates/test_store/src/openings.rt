@@ -11,43 +11,38 @@ use sector_dev::{Choice, ModelDevice, SectorDevice};
 use std::alloc::Global;
 use store::Place;
 
-// How many sectors a device has, and what is answered.
-const SIZES: &[(u64, Steps)] = &[
-    (
-        0,
-        &[
-            (Format, "C3 Damaged DeviceSize"),
-            (Open, "C3 Damaged DeviceSize"),
-        ],
-    ),
-    (
-        15,
-        &[
-            (Format, "C3 Damaged DeviceSize"),
-            (Open, "C3 Damaged DeviceSize"),
-        ],
-    ),
-    (16, &[(Open, "C1 NotAStore"), (Format, "ok"), (Open, "ok")]),
-    (
-        4_194_304,
-        &[
-            (Open, "C1 NotAStore"),
-            (Format, "ok"),
-            (Import("t", Ints(&[7])), "ok"),
-        ],
-    ),
-    (
-        4_194_305,
-        &[
-            (Format, "C3 Damaged DeviceSize"),
-            (Open, "C3 Damaged DeviceSize"),
-        ],
-    ),
+// How many sectors a device has.
+const SIZES: &[u64] = &[0, 15, 16, 4_194_304, 4_194_305];
+
+const OF_THE_SMALLEST: Steps = &[(Open, "C1 NotAStore"), (Format, "ok"), (Open, "ok")];
+
+const OF_THE_LARGEST: Steps = &[
+    (Open, "C1 NotAStore"),
+    (Format, "ok"),
+    (Import("t", Ints(&[7])), "ok"),
 ];
 
+const OF_ANOTHER_SIZE: Steps = &[
+    (Format, "C3 Damaged DeviceSize"),
+    (Open, "C3 Damaged DeviceSize"),
+];
+
+// What is asked of a device of so many sectors, and what is answered.
+fn steps_of_size(sectors: u64) -> Steps {
+    match sectors {
+        16 => OF_THE_SMALLEST,
+        4_194_304 => OF_THE_LARGEST,
+        _ => OF_ANOTHER_SIZE,
+    }
+}
+
 fn wrong_size(alloc: Global) -> Result<Option<usize>, NotMade> {
-    for (place, (sectors, steps)) in SIZES.iter().enumerate() {
-        if !is_played(alloc, &mut new_slot(alloc, *sectors)?, steps)? {
+    for (place, sectors) in SIZES.iter().enumerate() {
+        if !is_played(
+            alloc,
+            &mut new_slot(alloc, *sectors)?,
+            steps_of_size(*sectors),
+        )? {
             return Ok(Some(place));
         }
     }
@@ -197,15 +192,20 @@ fn causes(part: usize) -> Option<&'static [Row]> {
     })
 }
 
-/// The table t has two segments of a sector each, in 3 and 2, and u one of two, in 6 and 7: 312 bytes and 8 for each of 26 values. Epoch 5 in
-/// sector 1 has its catalogue in 8 and 9, and epoch 4 in sector 0, before v was made, in 4.
-pub const STORED: Steps = &[
+// The table t has two segments of a sector each, in 3 and 2, and u one of two, in 6 and 7: 312 bytes and 8 for each of 26 values. Epoch 5 in
+// sector 1 has its catalogue in 8 and 9, and epoch 4 in sector 0, before v was made, in 4.
+const STORED: Steps = &[
     (Format, "ok"),
     (Import("t", Ints(&[7, -1])), "ok"),
     (Append("t", Ints(&[5])), "ok"),
     (Import("u", Column("b:int64", &[1; 26])), "ok"),
     (Create("v", INT), "ok"),
 ];
+
+/// The tables t, u and v.
+pub fn stored() -> Steps {
+    STORED
+}
 
 /// The table t of it.
 pub const T: &str = "\"a\":int32?: 7 -1 5";
@@ -336,6 +336,14 @@ fn rows_of(cause: Cause, part: usize) -> Option<&'static [Row]> {
     }
 }
 
+// What was done before.
+fn steps_before(cause: Cause) -> Steps {
+    match cause {
+        Cause::Changed => TWICE,
+        Cause::Lost => stored(),
+    }
+}
+
 // What a stop leaves of the sectors that were changed and not yet synced.
 fn choice_of(cause: Cause) -> Choice {
     match cause {
@@ -371,14 +379,14 @@ fn wrong_part(alloc: Global, device: &ModelDevice, cause: Cause) -> Result<Optio
     Ok(None)
 }
 
-fn wrongly_told(alloc: Global, before: Steps, cause: Cause) -> Result<Option<usize>, NotMade> {
-    wrong_part(alloc, &device_after(alloc, before)?, cause)
+fn wrongly_told(alloc: Global, cause: Cause) -> Result<Option<usize>, NotMade> {
+    wrong_part(alloc, &device_after(alloc, steps_before(cause))?, cause)
 }
 
 #[test]
 fn the_first_cause_is_told(rt: HostRuntime) {
-    assert_no_row(&rt, wrongly_told(rt.alloc(), TWICE, Cause::Changed));
-    assert_no_row(&rt, wrongly_told(rt.alloc(), STORED, Cause::Lost));
+    assert_no_row(&rt, wrongly_told(rt.alloc(), Cause::Changed));
+    assert_no_row(&rt, wrongly_told(rt.alloc(), Cause::Lost));
 }
 
 // The only byte whose change gives another table: the name `t`.
@@ -422,7 +430,11 @@ fn wrong_byte(alloc: Global, device: &ModelDevice, n: u64) -> Result<Option<usiz
 }
 
 fn wrong_byte_of(alloc: Global, n: u64) -> Result<Option<usize>, NotMade> {
-    wrong_byte(alloc, &device_after(alloc, TWICE)?, n)
+    wrong_byte(
+        alloc,
+        &device_after(alloc, steps_before(Cause::Changed))?,
+        n,
+    )
 }
 
 // The commits and the catalogue of the newer one.

@@ -112,26 +112,37 @@ fn renaming(alloc: Global, from: &str, to: &str) -> Result<Command, NotMade> {
     Ok(Command::Rename { from, to })
 }
 
+fn removal(alloc: Global, name: &str) -> Result<Command, NotMade> {
+    let name = String::from_str(alloc, name)?;
+    Ok(Command::Drop { name })
+}
+
+fn command_of(alloc: Global, step: Step) -> Result<Command, NotMade> {
+    match step {
+        Step::Create(name, columns) => creation(alloc, name, columns),
+        Step::Import(name, input) => import(alloc, name, input),
+        Step::Append(name, input) => append(alloc, name, input),
+        Step::Give(name, given) => gift(alloc, name, given),
+        Step::GiveTable(name, input) => table_gift(alloc, name, input),
+        Step::Save(from, to, asked) => saving(alloc, from, to, asked),
+        Step::Rename(from, to) => renaming(alloc, from, to),
+        Step::Remove(name) => removal(alloc, name),
+        // the others are no commands
+        _ => Err(NotMade),
+    }
+}
+
 /// The call of a step.
 pub fn call_of(alloc: Global, step: Step) -> Result<Call, NotMade> {
     Ok(match step {
         Step::Format => Call::Format,
         Step::Open => Call::Open,
         Step::Close => Call::Close,
-        Step::Create(name, columns) => Call::Apply(creation(alloc, name, columns)?),
-        Step::Import(name, input) => Call::Apply(import(alloc, name, input)?),
-        Step::Append(name, input) => Call::Apply(append(alloc, name, input)?),
-        Step::Give(name, given) => Call::Apply(gift(alloc, name, given)?),
-        Step::GiveTable(name, input) => Call::Apply(table_gift(alloc, name, input)?),
-        Step::Save(from, to, asked) => Call::Apply(saving(alloc, from, to, asked)?),
-        Step::Rename(from, to) => Call::Apply(renaming(alloc, from, to)?),
-        Step::Remove(name) => Call::Apply(Command::Drop {
-            name: String::from_str(alloc, name)?,
-        }),
         Step::Tables => Call::Tables,
         Step::Schema(name) => Call::Schema(String::from_str(alloc, name)?),
         Step::Read(name) => Call::Read(String::from_str(alloc, name)?),
         Step::Export(name) => Call::Export(String::from_str(alloc, name)?),
+        command => Call::Apply(command_of(alloc, command)?),
     })
 }
 

@@ -4,7 +4,7 @@ use crate::made::NotMade;
 use crate::playing::{Slot, Way, new_slot, replies_of, reply_to, shut, wrong_reply};
 use crate::shown::is_laid_out;
 use crate::steps::{Step, Steps, says};
-use crate::stops::{SCRIPT, is_whole};
+use crate::stops::{is_whole, script};
 use Step::{Close, Export, Format, Import, Open, Read, Schema, Tables};
 use sector_dev::{ModelDevice, SectorDevice};
 use std::alloc::Global;
@@ -66,8 +66,8 @@ fn is_all_left(alloc: Global, device: &mut ModelDevice) -> Result<bool, NotMade>
 }
 
 fn are_done_on(alloc: Global, slot: &mut Slot) -> Result<bool, NotMade> {
-    let done = steps_done(alloc, slot, SCRIPT)?;
-    if done < SCRIPT.len() {
+    let done = steps_done(alloc, slot, script())?;
+    if done < script().len() {
         is_left_whole(alloc, shut(slot)?, done)
     } else {
         is_all_left(alloc, &mut shut(slot)?)
@@ -107,6 +107,10 @@ const LISTED: Steps = &[
     (Export("t"), "stream of \"a\":int32?: 7 -1"),
 ];
 
+fn listed() -> Steps {
+    LISTED
+}
+
 // Whether a reply tells that memory was refused, to the store or to the device.
 fn is_disturbed(reply: &Reply) -> bool {
     match reply {
@@ -128,11 +132,11 @@ fn are_listed_well(alloc: Global, replies: &[Reply]) -> Result<bool, NotMade> {
     if are_disturbed(replies) {
         return Err(NotMade);
     }
-    Ok(wrong_reply(alloc, replies, LISTED)?.is_none())
+    Ok(wrong_reply(alloc, replies, listed())?.is_none())
 }
 
 fn is_run_on(alloc: Global, slot: &mut Slot) -> Result<bool, NotMade> {
-    are_listed_well(alloc, &replies_of(alloc, slot, LISTED, Way::OneRun)?)
+    are_listed_well(alloc, &replies_of(alloc, slot, listed(), Way::OneRun)?)
 }
 
 fn is_run(alloc: Global) -> Result<bool, NotMade> {
@@ -140,8 +144,8 @@ fn is_run(alloc: Global) -> Result<bool, NotMade> {
 }
 
 fn are_listed_on(alloc: Global, slot: &mut Slot) -> Result<bool, NotMade> {
-    let done = steps_done(alloc, slot, LISTED)?;
-    Ok(shut(slot)?.failures() == u64::from(done < LISTED.len()))
+    let done = steps_done(alloc, slot, listed())?;
+    Ok(shut(slot)?.failures() == u64::from(done < listed().len()))
 }
 
 // A step that was refused for want of memory is done when it is asked again, unless the device failed.
