@@ -17,7 +17,7 @@ use std::mem;
 const LEAST_PART: usize = 4096;
 
 /// The parts so far, and the bytes behind them.
-#[derive(Debug, Drop)]
+#[derive(Drop)]
 pub(crate) struct Stream<'a> {
     pub(crate) parts: Vec<Buffer<'a>>,
     pub(crate) last: Vec<u8>,

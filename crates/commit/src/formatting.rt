@@ -166,14 +166,3 @@ pub fn format<D: SectorDevice>(
         Err(_) => Err(FormatError::Device),
     }
 }
-
-impl From<DevError> for FormatError {
-    ghost use Rattle.std.specs.Prelude.{◌≡◌};
-    ghost use Rattle.commit.specs.declared.formatting.FormatError.TheVariants.{Device};
-
-    ghost from_gives = { λ _ e. e ≡ Device };
-
-    fn from(_: DevError) -> Self {
-        FormatError::Device
-    }
-}
