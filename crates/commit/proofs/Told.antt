@@ -1,14 +1,19 @@
 -- The answers of an opening.
-use Rattle.std.proofs.Common.{◌≡◌, ◌≤◌, ℕ, inl, inr, arith, nat_le, true, false, List, Result, Ok, Err, IfOk, IfErr, Option, Some, refl, sym, ap, ◌∙◌, subst}
+use Rattle.std.specs.Prelude.{◌≢◌, ◌&&◌, ◌==◌, min}
+use Rattle.std.proofs.Common.{◌≡◌, ◌≤◌, ◌+◌, ◌-◌, ◌^◌, ℕ, inl, inr, arith, nat_le, true, false, List, Result, Ok, Err, IfOk, IfErr, Option, Some, refl, sym, ap, ◌∙◌, subst}
 use Rattle.std.proofs.lemmas.Bool.Decides.{leb_tells}
 use Rattle.std.proofs.lemmas.Bool.{and_from, and_parts, false_from_ne_true, leb-true}
-use Rattle.sector_dev.specs.Disk.{Disk, shown_image, flushed}
+use Rattle.sector_dev.specs.Disk.{Disk, Image, Counts, shown_image, flushed}
+use Rattle.sector_dev.specs.declared.device.DevError.{DevError}
+use Rattle.sector_dev.specs.declared.device.DevError.TheVariants.{Failed}
+use Rattle.segments.specs.Sectors.{sector_count}
+use Rattle.segments.specs.declared.extent.Extent.{Extent}
 use Rattle.commit.specs.declared.sector.Commit.{Commit}
 use Rattle.commit.specs.declared.cause.Cause.{Cause}
 use Rattle.commit.specs.declared.reading.OpenError.{OpenError}
 use Rattle.commit.specs.declared.reading.OpenError.TheVariants.{NotAStore, Damaged, Device, OutOfMemory}
-use Rattle.commit.specs.Standing.{Reading, Standing, Stands, is_size, text_at, spelled_by, named_by, damaged, rules, standing}
-use Rattle.commit.specs.Opening.{TellsCause, TellsStanding}
+use Rattle.commit.specs.Standing.{Reading, Standing, Stands, is_size, is_extent, is_on_device, text_at, spelled_by, named_by, damaged, rules, standing}
+use Rattle.commit.specs.Opening.{CountsOpen, TellsCause, TellsStanding}
 
 -- a text that was read, and then its catalogue from the same disk
 pub named_then : {C : Type 0} (reading : Reading C) (size later : ℕ) (d e : Disk) (k : Commit) (text bytes : List ℕ) → later ≡ size → e ≡ d → bytes ≡ text → text_at size (shown_image d) k ≡ Ok text
@@ -61,3 +66,39 @@ sized size n is low high = rw (← is) (and_from _ _ (leb_is 16 n low) (leb_is n
 
 pub within : (size : ℕ) → is_size size ≡ true → (16 ≤ size) × (size ≤ 4194304)
 within size is = let parts = and_parts (nat_le 16 size) (nat_le size 4194304) is in (leb-true _ _ parts.0, leb-true _ _ parts.1)
+
+-- no text, and so no catalogue
+pub named_nowhere : {C : Type 0} (reading : Reading C) (size : ℕ) (image : Image) (k : Commit) (e : OpenError) → TellsCause e (text_at size image k) → TellsCause e (named_by reading size image k)
+named_nowhere reading size image k NotAStore told = tt
+named_nowhere reading size image k (Damaged cause) told = ap (spelled_by reading size image k) told
+named_nowhere reading size image k Device told = tt
+named_nowhere reading size image k OutOfMemory told = tt
+
+-- an extent on a device lies in a run on it
+pub extent_placed : (size : ℕ) (e : Extent) → is_extent size 4 e ≡ true → is_on_device size e.run ≡ true
+extent_placed size e is =
+    (and_parts (e.run.count == sector_count e.bytes) (is_on_device size e.run) (and_parts (nat_le 4 e.bytes) ((e.run.count == sector_count e.bytes) && is_on_device size e.run) is).1).1
+
+-- what is so whatever a call answers
+pub if_ok : {T E P : Type 0} (r : Result T E) → P → IfOk r (λ _. P)
+if_ok (Ok x) p = p
+if_ok (Err e) p = tt
+
+-- ---- failures that are counted
+
+pub failed_count : (e : DevError) (before after : ℕ) → e ≡ Failed → Counts {T = Unit {0}} before after (Err e) → after ≡ min (before + 1) (2 ^ 64 - 1)
+failed_count e before after is counts = subst (λ (x : DevError). Counts {T = Unit {0}} before after (Err x)) is counts
+
+-- an error is counted from where no call had failed
+pub recounted : (e : OpenError) (before later after : ℕ) → later ≡ before → CountsOpen {T = Unit {0}} later after (Err e) → CountsOpen {T = Unit {0}} before after (Err e)
+recounted NotAStore before later after same counts = counts ∙ same
+recounted (Damaged cause) before later after same counts = counts ∙ same
+recounted Device before later after same counts = counts ∙ ap (λ (n : ℕ). min (n + 1) (2 ^ 64 - 1)) same
+recounted OutOfMemory before later after same counts = counts ∙ same
+
+-- and one that is not of the device is none
+pub uncounted : (e : OpenError) (before after : ℕ) → e ≢ Device → after ≡ before → CountsOpen {T = Unit {0}} before after (Err e)
+uncounted NotAStore before after other same = same
+uncounted (Damaged cause) before after other same = same
+uncounted Device before after other same = absurd (other refl)
+uncounted OutOfMemory before after other same = same

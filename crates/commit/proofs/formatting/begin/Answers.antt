@@ -1,5 +1,6 @@
-use Rattle.std.proofs.Common.{◌∙◌, ap, sym, refl, subst, arith}
-use Rattle.sector_dev.specs.Disk.{now}
+use Rattle.std.proofs.lemmas.Result.{err_from_is_err_and}
+use Rattle.std.proofs.Common.{◌∙◌, ap, sym, refl, subst, arith, ℕ, Err}
+use Rattle.sector_dev.specs.Disk.{now, Counts}
 use Rattle.sector_dev.specs.Time.{LeavesOnly}
 use Rattle.sector_dev.specs.laws.Time.{goes_on, now_has, passed, two}
 use Rattle.commit.specs.Sector.{commit_text}
@@ -42,3 +43,28 @@ returns-clause-first g c = λ told.
     let D = g.D.SectorDevice in
     let text = c.commit_sector-sector.ensures ∙ ap commit_text (c.first_commit-first.ensures ∙ ap first_commit c.sectors.ensures) in
     has_first (D.size c.args.device.now) (D.story c.args.device.now) (D.story c.write.new.self) (D.story c.sync.new.self) _ text (c.in_ok-write.ensures.ok told) (c.in_ok-sync.ensures.ok told)
+
+-- ---- the device, whatever it tells
+
+pub returns-in_err-write-clause-count : goal.returns-in_err-write-clause-count
+returns-in_err-write-clause-count g c = let p = err_from_is_err_and c.from_residual.result c.from_residual.ensures.1 in rw (p.1, p.2) c.in_err-write.ensures.count
+
+pub returns-in_err-write-clause-error : goal.returns-in_err-write-clause-error
+returns-in_err-write-clause-error g c = let p = err_from_is_err_and c.from_residual.result c.from_residual.ensures.1 in rw (p.1, p.2) c.in_err-write.ensures.error
+
+pub returns-in_err-sync-clause-size : goal.returns-in_err-sync-clause-size
+returns-in_err-sync-clause-size g c = c.sync.ensures.size ∙ c.write.ensures.size
+
+pub returns-in_err-sync-clause-count : goal.returns-in_err-sync-clause-count
+returns-in_err-sync-clause-count g c =
+    let p = err_from_is_err_and c.from_residual-in_err-sync.result c.from_residual-in_err-sync.ensures.1 in
+    rw (p.1, p.2) (subst (λ (n : ℕ). Counts {T = Unit {0}} n (g.D.SectorDevice.failed c.sync.new.self) (Err c.in_err-sync.field-0.0)) (c.in_ok-write.ensures.count) c.in_err-sync.ensures.count)
+
+pub returns-in_err-sync-clause-error : goal.returns-in_err-sync-clause-error
+returns-in_err-sync-clause-error g c = let p = err_from_is_err_and c.from_residual-in_err-sync.result c.from_residual-in_err-sync.ensures.1 in rw (p.1, p.2) c.in_err-sync.ensures.error
+
+pub returns-clause-size : goal.returns-clause-size
+returns-clause-size g c = c.sync.ensures.size ∙ c.write.ensures.size
+
+pub returns-clause-count : goal.returns-clause-count
+returns-clause-count g c = c.in_ok-sync.ensures.count ∙ c.in_ok-write.ensures.count

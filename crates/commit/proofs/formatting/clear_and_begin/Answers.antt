@@ -1,5 +1,6 @@
-use Rattle.std.proofs.Common.{◌∙◌, refl, inl, subst, ℕ, arith}
-use Rattle.sector_dev.specs.Disk.{now, shown_image}
+use Rattle.std.proofs.lemmas.Result.{err_from_is_err_and}
+use Rattle.std.proofs.Common.{◌∙◌, refl, inl, subst, ℕ, arith, Err}
+use Rattle.sector_dev.specs.Disk.{now, shown_image, Counts}
 use Rattle.sector_dev.specs.laws.Time.{passed}
 use Rattle.commit.specs.Formatting.{IsFormatting, IsFormatted}
 use Rattle.commit.specs.inner.Prepared.{HasFirst}
@@ -49,3 +50,39 @@ returns-clause-made g c = λ told.
     let s3 = D.story c.begin.new.device in
     let begun = subst (λ (n : ℕ). HasFirst n (shown_image (now s2)) (shown_image (now s3))) (c.prepare.ensures.size ∙ c.sync.ensures.size) (c.in_ok-begin.ensures.first told) in
     made_empty (D.size c.args.device.now) (D.story c.args.device.now) (D.story c.sync.new.self) s2 s3 (c.in_ok-sync.ensures.ok told) (c.in_ok-prepare.ensures.zeros told) begun
+
+-- ---- the device, whatever it tells
+
+pub returns-in_err-sync-clause-count : goal.returns-in_err-sync-clause-count
+returns-in_err-sync-clause-count g c = let p = err_from_is_err_and c.from_residual.result c.from_residual.ensures.1 in rw (p.1, p.2) c.in_err-sync.ensures.count
+
+pub returns-in_err-sync-clause-error : goal.returns-in_err-sync-clause-error
+returns-in_err-sync-clause-error g c = let p = err_from_is_err_and c.from_residual.result c.from_residual.ensures.1 in rw (p.1, p.2) c.in_err-sync.ensures.error
+
+pub returns-in_err-prepare-clause-size : goal.returns-in_err-prepare-clause-size
+returns-in_err-prepare-clause-size g c = c.prepare.ensures.size ∙ c.sync.ensures.size
+
+pub returns-in_err-prepare-clause-count : goal.returns-in_err-prepare-clause-count
+returns-in_err-prepare-clause-count g c =
+    let p = err_from_is_err_and c.from_residual-in_err-prepare.result c.from_residual-in_err-prepare.ensures.1 in
+    rw (p.1, p.2) (subst (λ (n : ℕ). Counts {T = Unit {0}} n (g.D.SectorDevice.failed c.prepare.new.device) (Err c.in_err-prepare.field-0.0)) (c.in_ok-sync.ensures.count) c.in_err-prepare.ensures.count)
+
+pub returns-in_err-prepare-clause-error : goal.returns-in_err-prepare-clause-error
+returns-in_err-prepare-clause-error g c = let p = err_from_is_err_and c.from_residual-in_err-prepare.result c.from_residual-in_err-prepare.ensures.1 in rw (p.1, p.2) c.in_err-prepare.ensures.error
+
+pub returns-in_err-begin-clause-size : goal.returns-in_err-begin-clause-size
+returns-in_err-begin-clause-size g c = c.begin.ensures.size ∙ c.prepare.ensures.size ∙ c.sync.ensures.size
+
+pub returns-in_err-begin-clause-count : goal.returns-in_err-begin-clause-count
+returns-in_err-begin-clause-count g c =
+    let p = err_from_is_err_and c.from_residual-in_err-begin.result c.from_residual-in_err-begin.ensures.1 in
+    rw (p.1, p.2) (subst (λ (n : ℕ). Counts {T = Unit {0}} n (g.D.SectorDevice.failed c.begin.new.device) (Err c.in_err-begin.field-0.0)) (c.in_ok-prepare.ensures.count ∙ c.in_ok-sync.ensures.count) c.in_err-begin.ensures.count)
+
+pub returns-in_err-begin-clause-error : goal.returns-in_err-begin-clause-error
+returns-in_err-begin-clause-error g c = let p = err_from_is_err_and c.from_residual-in_err-begin.result c.from_residual-in_err-begin.ensures.1 in rw (p.1, p.2) c.in_err-begin.ensures.error
+
+pub returns-clause-size : goal.returns-clause-size
+returns-clause-size g c = c.begin.ensures.size ∙ c.prepare.ensures.size ∙ c.sync.ensures.size
+
+pub returns-clause-count : goal.returns-clause-count
+returns-clause-count g c = c.in_ok-begin.ensures.count ∙ c.in_ok-prepare.ensures.count ∙ c.in_ok-sync.ensures.count

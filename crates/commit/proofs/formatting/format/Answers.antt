@@ -1,11 +1,13 @@
-use Rattle.std.proofs.Common.{◌≡◌, ◌≢◌, ◌∙◌, inl, sym, subst, arith, ℕ, Bool, true, false, Option, Some, None, is_some}
+use Rattle.std.specs.Prelude.{min}
+use Rattle.std.proofs.Common.{◌≡◌, ◌≢◌, ◌+◌, ◌-◌, ◌^◌, ◌∷◌, [], ◌∙◌, inl, inr, sym, ap, subst, arith, ℕ, Bool, true, false, Option, Some, None, is_some}
 use Rattle.std.proofs.lemmas.Bool.{false≢true}
 use Rattle.sector_dev.specs.Disk.{Disk, now, shown_image}
 use Rattle.sector_dev.specs.laws.Time.{weaken, now_read}
 use Rattle.commit.specs.declared.sector.Commit.{Commit}
-use Rattle.commit.specs.Formatting.{IsFormatted, IsMadeEmpty}
+use Rattle.commit.specs.Formatting.{IsFormatted, IsMadeEmpty, first_commit}
+use Rattle.commit.specs.Placing.{Uses}
 use Rattle.commit.proofs.Formatted.{read_first, still_none}
-use Rattle.commit.proofs.Told.{sized}
+use Rattle.commit.proofs.Told.{sized, no_size, within, failed_count}
 use Rattle.commit.proofs.formatting.format.Goals as goal
 
 -- what ruled before is what was found
@@ -102,3 +104,48 @@ returns-in-Err-clause-limits g c = λ other. absurd (false≢true (sym other ∙
 
 pub returns-in-Ok-clear_and_begin-clause-limits : goal.returns-in-Ok-clear_and_begin-clause-limits
 returns-in-Ok-clear_and_begin-clause-limits g c = λ other. absurd (false≢true (sym other ∙ sized (g.D.SectorDevice.size c.args.device.now) c.sectors-sectors.result c.sectors-sectors.ensures (omega arith) (omega arith)))
+
+-- ---- the device, whatever it tells
+
+pub returns-in_default-clause-count : goal.returns-in_default-clause-count
+returns-in_default-clause-count g c = failed_count _ _ _ c.in_default.ensures.error c.in_default.ensures.count
+
+pub returns-then-is_some-clause-count : goal.returns-then-is_some-clause-count
+returns-then-is_some-clause-count g c = c.in-Ok.ensures.count
+
+pub returns-in_default-first_map-clause-count : goal.returns-in_default-first_map-clause-count
+returns-in_default-first_map-clause-count g c = c.in-Ok.ensures.count
+
+pub clear_and_begin-requires-clause-room : goal.clear_and_begin-requires-clause-room
+clear_and_begin-requires-clause-room g c = omega (arith, c.sectors-sectors.ensures, c.read_ruling.ensures.size)
+
+pub clear_and_begin-requires-clause-most : goal.clear_and_begin-requires-clause-most
+clear_and_begin-requires-clause-most g c = omega (arith, c.sectors-sectors.ensures, c.read_ruling.ensures.size)
+
+pub returns-in-Ok-clear_and_begin-clause-size : goal.returns-in-Ok-clear_and_begin-clause-size
+returns-in-Ok-clear_and_begin-clause-size g c = c.clear_and_begin.ensures.size ∙ c.read_ruling.ensures.size
+
+pub returns-in-Ok-clear_and_begin-clause-count : goal.returns-in-Ok-clear_and_begin-clause-count
+returns-in-Ok-clear_and_begin-clause-count g c = c.in-Ok-clear_and_begin.ensures.count ∙ c.in-Ok.ensures.count
+
+pub returns-in-Ok-clear_and_begin-clause-commit : goal.returns-in-Ok-clear_and_begin-clause-commit
+returns-in-Ok-clear_and_begin-clause-commit g c = c.first_commit.ensures ∙ ap first_commit c.sectors-sectors.ensures
+
+pub returns-in-Ok-clear_and_begin-clause-map_size : goal.returns-in-Ok-clear_and_begin-clause-map_size
+returns-in-Ok-clear_and_begin-clause-map_size g c = c.in-Ok-first_map.ensures.size ∙ c.sectors-sectors.ensures
+
+pub returns-in-Ok-clear_and_begin-clause-uses : goal.returns-in-Ok-clear_and_begin-clause-uses
+returns-in-Ok-clear_and_begin-clause-uses g c =
+    subst (λ (k : Commit). Uses c.in-Ok-first_map.map.entries (k.catalogue.run ∷ []) []) (sym c.first_commit.ensures) c.in-Ok-first_map.ensures.uses
+
+pub returns-in-Err-clause-size : goal.returns-in-Err-clause-size
+returns-in-Err-clause-size g c = c.clear_and_begin.ensures.size ∙ c.read_ruling.ensures.size
+
+pub returns-in-Err-clause-count : goal.returns-in-Err-clause-count
+returns-in-Err-clause-count g c = failed_count _ _ _ c.in-Err.ensures.error c.in-Err.ensures.count ∙ ap (λ (n : ℕ). min (n + 1) (2 ^ 64 - 1)) c.in-Ok.ensures.count
+
+pub returns-then-sectors-lt-LEAST_SECTORS-clause-damaged : goal.returns-then-sectors-lt-LEAST_SECTORS-clause-damaged
+returns-then-sectors-lt-LEAST_SECTORS-clause-damaged g c = λ cause told.
+    no_size (g.D.SectorDevice.size c.args.device.now) (λ is.
+    let limits = within (g.D.SectorDevice.size c.args.device.now) is in
+    elim c.then-sectors-lt-LEAST_SECTORS.either as (λ _. ⊥) [ inl low ↦ omega (arith, limits.0, c.sectors-sectors.ensures) | inr high ↦ omega (arith, limits.1, c.sectors-sectors.ensures) ])

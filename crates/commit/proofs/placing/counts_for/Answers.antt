@@ -1,8 +1,10 @@
 use Rattle.std.specs.Prelude.{IfSome}
-use Rattle.std.proofs.Common.{◌≡◌, ◌<◌, ◌^◌, ◌+◌, ◌++◌, ◌∷◌, ◌∙◌, [], ℕ, List, Option, length, map, take, sym, ap, subst, arith, rules}
+use Rattle.std.proofs.Common.{◌≡◌, ◌<◌, ◌^◌, ◌+◌, ◌++◌, ◌∷◌, ◌∙◌, [], ℕ, List, Option, length, map, take, take_all, sym, ap, subst, arith, rules}
+use Rattle.std.specs.Global.{Vec}
 use Rattle.std.proofs.lemmas.List.{map_push}
 use Rattle.segments.specs.declared.piece.Part.{Part}
 use Rattle.segments.specs.Pieces.{bytes_of_parts}
+use Rattle.segments.specs.Sectors.{sector_count}
 use Rattle.commit.specs.Placing.{AreShort, plain_contents, sectors_of}
 use Rattle.commit.proofs.Counted.{contents_more, all_more}
 use Rattle.commit.proofs.placing.counts_for.Goals as goal
@@ -25,3 +27,19 @@ loop-parts-preserved c =
       counts = pushed ∙ sym joined;
       short = subst (λ (vs : List (List ℕ)). AreShort vs) (sym more) (all_more (λ (own : List ℕ). length own < 2 ^ 64) (plain_contents (take i contents)) bytes c.loop-parts.invariant.short (subst (λ (n : ℕ). n < 2 ^ 64) same fits));
     }
+
+pub loop-parts-init : goal.loop-parts-init
+loop-parts-init c = record { counts = c.new-counts.ensures.items; short = tt }
+
+pub returns-clause-counts : goal.returns-clause-counts
+returns-clause-counts c =
+    let contents = c.args.contents.now in
+    let all : take c.loop-parts.parts-index contents ≡ contents = take_all c.loop-parts.parts-index contents c.loop-parts-test.false in
+    let counts : c.loop-parts.counts.items ≡ map sectors_of (plain_contents contents) = c.loop-parts.invariant.counts ∙ ap (λ (vs : List (Vec Part)). map sectors_of (plain_contents vs)) all in
+    let sectors : c.div_ceil-2.result ≡ sector_count c.args.text_bytes = omega (arith, c.div_ceil-2.ensures) in
+    c.in_ok-push-2.ensures.items ∙ (λ i. counts i ++ sectors i ∷ [])
+
+pub returns-clause-short : goal.returns-clause-short
+returns-clause-short c =
+    let all : take c.loop-parts.parts-index c.args.contents.now ≡ c.args.contents.now = take_all c.loop-parts.parts-index c.args.contents.now c.loop-parts-test.false in
+    subst (λ (vs : List (Vec Part)). AreShort (plain_contents vs)) all c.loop-parts.invariant.short

@@ -1,10 +1,12 @@
-use Rattle.std.proofs.Common.{refl, inl}
-use Rattle.sector_dev.specs.Disk.{now}
+use Rattle.std.proofs.Common.{◌∙◌, ℕ, Err, refl, inl, subst, arith}
+use Rattle.std.proofs.lemmas.Result.{err_from_is_err_and}
+use Rattle.sector_dev.specs.Disk.{now, Counts}
 use Rattle.sector_dev.specs.laws.Time.{goes_on, now_has, weaken, passed}
 use Rattle.segments.specs.Pieces.{plain_pieces}
 use Rattle.segments.specs.Writing.{WritesOnly, runs_of}
 use Rattle.commit.proofs.Texts.{found_in}
 use Rattle.commit.proofs.Moments.{while_written, run_done, put_done, put_failed, sync_done}
+use Rattle.commit.proofs.Told.{within}
 use Rattle.commit.proofs.publishing.write_and_commit.Goals as goal
 
 pub returns-in_err-write_runs-clause-moments : goal.returns-in_err-write_runs-clause-moments
@@ -61,3 +63,64 @@ returns-clause-published g c = λ told r.
     let run = run_done c.args.old c.args.new (plain_pieces c.args.pieces.now) d0 c.requires.above c.requires.next r (D.story c.write_runs.new.device) (D.story c.sync.new.self) w (c.in_ok-write_runs.ensures.holds told) (c.in_ok-sync.ensures.ok told) in
     let text = found_in c.args.new c.commit_sector-sector.result c.requires.writable c.commit_sector-sector.ensures in
     (sync_done c.args.old c.args.new (plain_pieces c.args.pieces.now) d0 c.requires.above c.requires.next r _ text (D.story c.sync.new.self) (D.story c.write.new.self) (D.story c.sync-2.new.self) run.1 (c.in_ok-write.ensures.ok told) (c.in_ok-sync-2.ensures.ok told)).1
+
+-- ---- the sizes of a store
+
+pub write_runs-requires-clause-countable : goal.write_runs-requires-clause-countable
+write_runs-requires-clause-countable g c = omega (arith, (within (g.D.SectorDevice.size c.args.device.now) c.requires.limits).1)
+
+pub write-requires : goal.write-requires
+write-requires g c = omega (arith, (within (g.D.SectorDevice.size c.args.device.now) c.requires.limits).0, c.write_runs.ensures.size, c.sync.ensures.size)
+
+-- ---- the device, whatever it tells
+
+pub returns-in_err-write_runs-clause-count : goal.returns-in_err-write_runs-clause-count
+returns-in_err-write_runs-clause-count g c = let p = err_from_is_err_and c.from_residual.result c.from_residual.ensures.1 in rw (p.1, p.2) c.in_err-write_runs.ensures.count
+
+pub returns-in_err-write_runs-clause-error : goal.returns-in_err-write_runs-clause-error
+returns-in_err-write_runs-clause-error g c = let p = err_from_is_err_and c.from_residual.result c.from_residual.ensures.1 in rw (p.1, p.2) c.in_err-write_runs.ensures.error
+
+pub returns-in_err-sync-clause-size : goal.returns-in_err-sync-clause-size
+returns-in_err-sync-clause-size g c = c.sync.ensures.size ∙ c.write_runs.ensures.size
+
+pub returns-in_err-sync-clause-count : goal.returns-in_err-sync-clause-count
+returns-in_err-sync-clause-count g c =
+    let D = g.D.SectorDevice in
+    let p = err_from_is_err_and c.from_residual-in_err-sync.result c.from_residual-in_err-sync.ensures.1 in
+    rw (p.1, p.2) (subst (λ (n : ℕ). Counts {T = Unit {0}} n (D.failed c.sync.new.self) (Err c.in_err-sync.field-0.0)) c.in_ok-write_runs.ensures.count c.in_err-sync.ensures.count)
+
+pub returns-in_err-sync-clause-error : goal.returns-in_err-sync-clause-error
+returns-in_err-sync-clause-error g c = let p = err_from_is_err_and c.from_residual-in_err-sync.result c.from_residual-in_err-sync.ensures.1 in rw (p.1, p.2) c.in_err-sync.ensures.error
+
+pub returns-in_err-write-clause-size : goal.returns-in_err-write-clause-size
+returns-in_err-write-clause-size g c = c.write.ensures.size ∙ c.sync.ensures.size ∙ c.write_runs.ensures.size
+
+pub returns-in_err-write-clause-count : goal.returns-in_err-write-clause-count
+returns-in_err-write-clause-count g c =
+    let D = g.D.SectorDevice in
+    let p = err_from_is_err_and c.from_residual-in_err-write.result c.from_residual-in_err-write.ensures.1 in
+    rw (p.1, p.2)
+    (subst (λ (n : ℕ). Counts {T = Unit {0}} n (D.failed c.write.new.self) (Err c.in_err-write.field-0.0)) (c.in_ok-sync.ensures.count ∙ c.in_ok-write_runs.ensures.count) c.in_err-write.ensures.count)
+
+pub returns-in_err-write-clause-error : goal.returns-in_err-write-clause-error
+returns-in_err-write-clause-error g c = let p = err_from_is_err_and c.from_residual-in_err-write.result c.from_residual-in_err-write.ensures.1 in rw (p.1, p.2) c.in_err-write.ensures.error
+
+pub returns-in_err-sync-2-clause-size : goal.returns-in_err-sync-2-clause-size
+returns-in_err-sync-2-clause-size g c = c.sync-2.ensures.size ∙ c.write.ensures.size ∙ c.sync.ensures.size ∙ c.write_runs.ensures.size
+
+pub returns-in_err-sync-2-clause-count : goal.returns-in_err-sync-2-clause-count
+returns-in_err-sync-2-clause-count g c =
+    let D = g.D.SectorDevice in
+    let p = err_from_is_err_and c.from_residual-in_err-sync-2.result c.from_residual-in_err-sync-2.ensures.1 in
+    rw (p.1, p.2)
+    (subst (λ (n : ℕ). Counts {T = Unit {0}} n (D.failed c.sync-2.new.self) (Err c.in_err-sync-2.field-0.0)) (c.in_ok-write.ensures.count ∙ c.in_ok-sync.ensures.count ∙ c.in_ok-write_runs.ensures.count)
+    c.in_err-sync-2.ensures.count)
+
+pub returns-in_err-sync-2-clause-error : goal.returns-in_err-sync-2-clause-error
+returns-in_err-sync-2-clause-error g c = let p = err_from_is_err_and c.from_residual-in_err-sync-2.result c.from_residual-in_err-sync-2.ensures.1 in rw (p.1, p.2) c.in_err-sync-2.ensures.error
+
+pub returns-clause-size : goal.returns-clause-size
+returns-clause-size g c = c.sync-2.ensures.size ∙ c.write.ensures.size ∙ c.sync.ensures.size ∙ c.write_runs.ensures.size
+
+pub returns-clause-count : goal.returns-clause-count
+returns-clause-count g c = c.in_ok-sync-2.ensures.count ∙ c.in_ok-write.ensures.count ∙ c.in_ok-sync.ensures.count ∙ c.in_ok-write_runs.ensures.count

@@ -1,7 +1,10 @@
 use Rattle.std.specs.Prelude.{◌&&◌, ◌==◌, nat_le}
-use Rattle.std.proofs.Common.{◌≡◌, ◌≤◌, ◌+◌, ◌∙◌, ℕ, true, ap, sym, Err, arith}
+use Rattle.std.specs.Global.{Vec}
+use Rattle.std.proofs.Common.{◌≡◌, ◌≤◌, ◌+◌, ◌∙◌, ℕ, true, ap, sym, subst, Err, arith}
 use Rattle.std.proofs.lemmas.Bool.{and_parts, leb-true, eqb-true}
 use Rattle.segments.specs.Sectors.{sector_count}
+use Rattle.segments.specs.Reading.{CountsRead}
+use Rattle.segments.specs.declared.reading.ReadError.{ReadError}
 use Rattle.segments.specs.declared.extent.Extent.{Extent}
 use Rattle.sector_dev.specs.Disk.{now, shown_image}
 use Rattle.commit.specs.Standing.{is_extent, is_on_device}
@@ -46,3 +49,45 @@ returns-in-Err-Unreadable-clause-damaged g c = λ told.
     let D = g.D.SectorDevice in
     let extent = ap (λ (n : ℕ). is_extent n 4 c.args.commit.catalogue) (sym c.sectors-sectors.ensures) ∙ sym c.is_extent.ensures ∙ c.if-not-is_extent.false in
     text_lost (D.size c.args.device.now) (shown_image (now (D.story c.args.device.now))) c.args.commit (c.if-commit-sectors.false ∙ c.sectors-sectors.ensures) extent (c.in-Err-Unreadable.ensures.unreadable (ap Err c.in-Err-Unreadable.field-0-is) told)
+
+pub read_run-requires-clause-countable : goal.read_run-requires-clause-countable
+read_run-requires-clause-countable g c = omega (arith, c.requires)
+
+pub returns-in-Ok-clause-device : goal.returns-in-Ok-clause-device
+returns-in-Ok-clause-device g c = c.if-commit-sectors.false ∙ c.sectors-sectors.ensures
+
+pub returns-in-Ok-clause-extent : goal.returns-in-Ok-clause-extent
+returns-in-Ok-clause-extent g c = ap (λ (n : ℕ). is_extent n 4 c.args.commit.catalogue) (sym c.sectors-sectors.ensures) ∙ sym c.is_extent.ensures ∙ c.if-not-is_extent.false
+
+pub returns-in-Ok-clause-count : goal.returns-in-Ok-clause-count
+returns-in-Ok-clause-count g c = c.in-Ok.ensures.count
+
+pub returns-in-Err-Unreadable-clause-count : goal.returns-in-Err-Unreadable-clause-count
+returns-in-Err-Unreadable-clause-count g c =
+    let D = g.D.SectorDevice in
+    subst (λ (e : ReadError). CountsRead {T = Vec ℕ} (D.failed c.args.device.now) (D.failed c.read_run.new.device) (Err e)) c.in-Err-Unreadable.field-0-is c.in-Err-Unreadable.ensures.count
+
+pub returns-in-Err-Unreadable-clause-a_store : goal.returns-in-Err-Unreadable-clause-a_store
+returns-in-Err-Unreadable-clause-a_store g c = λ is. cc is
+
+pub returns-in-Err-Failed-clause-count : goal.returns-in-Err-Failed-clause-count
+returns-in-Err-Failed-clause-count g c =
+    let D = g.D.SectorDevice in
+    subst (λ (e : ReadError). CountsRead {T = Vec ℕ} (D.failed c.args.device.now) (D.failed c.read_run.new.device) (Err e)) c.in-Err-Failed.field-0-is c.in-Err-Failed.ensures.count
+
+pub returns-in-Err-Failed-clause-damaged : goal.returns-in-Err-Failed-clause-damaged
+returns-in-Err-Failed-clause-damaged g c = λ told. tt
+
+pub returns-in-Err-Failed-clause-a_store : goal.returns-in-Err-Failed-clause-a_store
+returns-in-Err-Failed-clause-a_store g c = λ is. cc is
+
+pub returns-in-Err-OutOfMemory-clause-count : goal.returns-in-Err-OutOfMemory-clause-count
+returns-in-Err-OutOfMemory-clause-count g c =
+    let D = g.D.SectorDevice in
+    subst (λ (e : ReadError). CountsRead {T = Vec ℕ} (D.failed c.args.device.now) (D.failed c.read_run.new.device) (Err e)) c.in-Err-OutOfMemory.field-0-is c.in-Err-OutOfMemory.ensures.count
+
+pub returns-in-Err-OutOfMemory-clause-damaged : goal.returns-in-Err-OutOfMemory-clause-damaged
+returns-in-Err-OutOfMemory-clause-damaged g c = λ told. tt
+
+pub returns-in-Err-OutOfMemory-clause-a_store : goal.returns-in-Err-OutOfMemory-clause-a_store
+returns-in-Err-OutOfMemory-clause-a_store g c = λ is. cc is

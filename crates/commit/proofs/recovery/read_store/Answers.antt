@@ -1,12 +1,12 @@
-use Rattle.std.proofs.Common.{◌≡◌, ◌∙◌, ap, sym, subst, ℕ, true, IfErr}
+use Rattle.std.proofs.Common.{◌≡◌, ◌∙◌, ap, sym, subst, ℕ, true, IfErr, arith}
 use Rattle.std.proofs.lemmas.Result.{err_from_is_err_and}
 use Rattle.sector_dev.specs.Disk.{now, shown_image}
 use Rattle.sector_dev.specs.laws.Time.{read_on, now_read}
 use Rattle.commit.specs.declared.reading.OpenError.{OpenError}
 use Rattle.commit.specs.Opening.{standing_shown, TellsStanding}
-use Rattle.commit.specs.Standing.{runs_fault}
+use Rattle.commit.specs.Standing.{is_size, is_on_device, runs_fault}
 use Rattle.commit.specs.laws.Frame.{stands_nowhere, stands_as, stands_misnamed, stands_unfit}
-use Rattle.commit.proofs.Told.{same_named, told_of, told_by}
+use Rattle.commit.proofs.Told.{within, same_named, told_of, told_by, failed_count, recounted, uncounted}
 use Rattle.commit.proofs.recovery.read_store.Goals as goal
 
 pub returns-in_default-clause-refused : goal.returns-in_default-clause-refused
@@ -63,3 +63,64 @@ returns-clause-found g c = λ told.
     stands_as R.reading size (shown_image (now (D.story c.args.device.now))) c.in-Some.commit (R.plain_of c.in_ok-catalogue.catalogue) c.requires (c.in_ok-commit.ensures.found told ∙ c.in-Some.is)
     (same_named R.reading size _ (now (D.story c.args.device.now)) _ c.in-Some.commit c.read_ruling.ensures.size (now_read _ _ (c.read_ruling.ensures.moments told)) ∙ c.in_ok-catalogue.ensures.found told)
     (ap (λ (n : ℕ). runs_fault n c.in-Some.commit.catalogue.run runs) (sym sectors) ∙ c.in_ok-map.ensures.fit)
+
+-- ---- what is asked of the calls
+
+pub read_ruling-requires : goal.read_ruling-requires
+read_ruling-requires g c = omega (arith, (within (g.D.SectorDevice.size c.args.device.now) c.requires).0)
+
+pub read_catalogue-requires : goal.read_catalogue-requires
+read_catalogue-requires g c = ap is_size c.read_ruling.ensures.size ∙ c.requires
+
+pub map_of-requires : goal.map_of-requires
+map_of-requires g c =
+    ap (λ (n : ℕ). is_on_device n c.in-Some.commit.catalogue.run) (c.sectors.ensures ∙ c.read_catalogue.ensures.size) ∙ c.in_ok-catalogue.ensures.placed
+
+-- ---- the device, whatever it tells
+
+pub returns-in_err-commit-clause-count : goal.returns-in_err-commit-clause-count
+returns-in_err-commit-clause-count g c =
+    let p = err_from_is_err_and c.from_residual.result c.from_residual.ensures.1 in
+    rw (p.1, p.2) (failed_count c.in_err-commit.field-0.0 _ _ c.in_err-commit.ensures.error c.in_err-commit.ensures.count)
+
+pub returns-in_default-clause-count : goal.returns-in_default-clause-count
+returns-in_default-clause-count g c = c.in_ok-commit.ensures.count
+
+pub returns-in_err-catalogue-clause-size : goal.returns-in_err-catalogue-clause-size
+returns-in_err-catalogue-clause-size g c = c.read_catalogue.ensures.size ∙ c.read_ruling.ensures.size
+
+pub returns-in_err-catalogue-clause-count : goal.returns-in_err-catalogue-clause-count
+returns-in_err-catalogue-clause-count g c =
+    let p = err_from_is_err_and c.from_residual-in_err-catalogue.result c.from_residual-in_err-catalogue.ensures.1 in
+    rw (p.1, p.2) (recounted c.in_err-catalogue.field-0.0 _ _ _ c.in_ok-commit.ensures.count c.in_err-catalogue.ensures.count)
+
+pub returns-in_err-map-clause-size : goal.returns-in_err-map-clause-size
+returns-in_err-map-clause-size g c = c.read_catalogue.ensures.size ∙ c.read_ruling.ensures.size
+
+pub returns-in_err-map-clause-count : goal.returns-in_err-map-clause-count
+returns-in_err-map-clause-count g c =
+    let p = err_from_is_err_and c.from_residual-in_err-map.result c.from_residual-in_err-map.ensures.1 in
+    rw (p.1, p.2) (uncounted c.in_err-map.field-0.0 _ _ c.in_err-map.ensures.errors.1 (c.in_ok-catalogue.ensures.count ∙ c.in_ok-commit.ensures.count))
+
+pub returns-clause-size : goal.returns-clause-size
+returns-clause-size g c = c.read_catalogue.ensures.size ∙ c.read_ruling.ensures.size
+
+pub returns-clause-count : goal.returns-clause-count
+returns-clause-count g c = c.in_ok-catalogue.ensures.count ∙ c.in_ok-commit.ensures.count
+
+pub returns-clause-device : goal.returns-clause-device
+returns-clause-device g c = c.in_ok-catalogue.ensures.device ∙ c.read_ruling.ensures.size
+
+pub returns-clause-placed : goal.returns-clause-placed
+returns-clause-placed g c = ap (λ (n : ℕ). is_on_device n c.in-Some.commit.catalogue.run) (sym c.read_ruling.ensures.size) ∙ c.in_ok-catalogue.ensures.placed
+
+pub returns-clause-fit : goal.returns-clause-fit
+returns-clause-fit g c =
+    let R = g.C.ReadCatalogue in
+    ap (λ (n : ℕ). runs_fault n c.in-Some.commit.catalogue.run (R.reading.runs (R.plain_of c.in_ok-catalogue.catalogue))) (sym (c.sectors.ensures ∙ c.read_catalogue.ensures.size ∙ c.read_ruling.ensures.size)) ∙ c.in_ok-map.ensures.fit
+
+pub returns-clause-map_size : goal.returns-clause-map_size
+returns-clause-map_size g c = c.in_ok-map.ensures.size ∙ c.sectors.ensures ∙ c.read_catalogue.ensures.size ∙ c.read_ruling.ensures.size
+
+pub returns-clause-uses : goal.returns-clause-uses
+returns-clause-uses g c = c.in_ok-map.ensures.uses

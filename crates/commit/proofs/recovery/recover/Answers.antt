@@ -1,12 +1,14 @@
-use Rattle.std.proofs.Common.{◌≢◌, ◌∙◌, sym, ap, inl, inr, IfErr, Result, Ok, Err, arith}
+use Rattle.std.specs.Prelude.{min}
+use Rattle.std.proofs.Common.{◌≢◌, ◌∙◌, ◌+◌, ◌-◌, ◌^◌, ℕ, refl, sym, ap, inl, inr, IfErr, Result, Ok, Err, arith}
 use Rattle.std.proofs.lemmas.Bool.{false≢true}
+use Rattle.std.proofs.lemmas.Result.{err_from_is_err_and}
 use Rattle.sector_dev.specs.Disk.{now, shown_image, flushed}
 use Rattle.sector_dev.specs.laws.Time.{weaken, goes_on, passed, two, now_read}
 use Rattle.commit.specs.Opening.{IsOpening}
 use Rattle.commit.specs.declared.reading.OpenError.{OpenError}
 use Rattle.commit.specs.declared.reading.OpenError.TheVariants.{Device}
 use Rattle.commit.specs.laws.Frame.{stands_on_no_device}
-use Rattle.commit.proofs.Told.{flushed_stands, no_size, sized, within}
+use Rattle.commit.proofs.Told.{flushed_stands, no_size, sized, within, failed_count, recounted}
 use Rattle.commit.proofs.recovery.recover.Goals as goal
 
 if_err : {T P Q : Type 0} (r : Result T OpenError) → (P → Q) → IfErr r (λ e. e ≢ Device → P → Q)
@@ -56,3 +58,88 @@ returns-clause-limits g c = λ other. absurd (false≢true (sym other ∙ sized 
 
 pub returns-clause-in_limits : goal.returns-clause-in_limits
 returns-clause-in_limits g c = sized (g.D.SectorDevice.size c.args.device.now) c.sectors-sectors.result c.sectors-sectors.ensures (omega arith) (omega arith)
+
+pub read_store-requires : goal.read_store-requires
+read_store-requires g c = sized (g.D.SectorDevice.size c.args.device.now) c.sectors-sectors.result c.sectors-sectors.ensures (omega arith) (omega arith)
+
+pub returns-in_err-store-clause-count : goal.returns-in_err-store-clause-count
+returns-in_err-store-clause-count g c =
+    let p = err_from_is_err_and c.from_residual.result c.from_residual.ensures.1 in
+    rw (p.1, p.2) (recounted c.in_err-store.field-0.0 _ _ _ refl c.in_err-store.ensures.count)
+
+pub returns-in_err-store-clause-refused : goal.returns-in_err-store-clause-refused
+returns-in_err-store-clause-refused g c = let p = err_from_is_err_and c.from_residual.result c.from_residual.ensures.1 in rw (p.1, p.2) c.in_err-store.ensures.refused
+
+pub returns-in_err-sync-clause-size : goal.returns-in_err-sync-clause-size
+returns-in_err-sync-clause-size g c = c.sync.ensures.size ∙ c.read_store.ensures.size
+
+pub returns-in_err-sync-clause-count : goal.returns-in_err-sync-clause-count
+returns-in_err-sync-clause-count g c =
+    let p = err_from_is_err_and c.from_residual-in_err-sync.result c.from_residual-in_err-sync.ensures.1 in
+    rw (p.1, p.2) (failed_count c.in_err-sync.field-0.0 _ _ c.in_err-sync.ensures.error c.in_err-sync.ensures.count ∙ ap (λ (n : ℕ). min (n + 1) (2 ^ 64 - 1)) c.in_ok-store.ensures.count)
+
+pub returns-in_err-sync-clause-refused : goal.returns-in_err-sync-clause-refused
+returns-in_err-sync-clause-refused g c = let p = err_from_is_err_and c.from_residual-in_err-sync.result c.from_residual-in_err-sync.ensures.1 in rw (p.1, p.2) (λ told. tt)
+
+pub returns-in_err-sync-clause-quiet : goal.returns-in_err-sync-clause-quiet
+returns-in_err-sync-clause-quiet g c = let p = err_from_is_err_and c.from_residual-in_err-sync.result c.from_residual-in_err-sync.ensures.1 in rw (p.1, p.2) (λ other. absurd (other refl))
+
+pub returns-clause-size : goal.returns-clause-size
+returns-clause-size g c = c.sync.ensures.size ∙ c.read_store.ensures.size
+
+pub returns-clause-count : goal.returns-clause-count
+returns-clause-count g c = c.in_ok-sync.ensures.count ∙ c.in_ok-store.ensures.count
+
+pub returns-in_err-store-clause-found : goal.returns-in_err-store-clause-found
+returns-in_err-store-clause-found g c = rw (err_from_is_err_and c.from_residual.result c.from_residual.ensures.1).1 tt
+
+pub returns-in_err-store-clause-synced : goal.returns-in_err-store-clause-synced
+returns-in_err-store-clause-synced g c = rw (err_from_is_err_and c.from_residual.result c.from_residual.ensures.1).1 tt
+
+pub returns-in_err-store-clause-stands : goal.returns-in_err-store-clause-stands
+returns-in_err-store-clause-stands g c = rw (err_from_is_err_and c.from_residual.result c.from_residual.ensures.1).1 tt
+
+pub returns-in_err-store-clause-in_limits : goal.returns-in_err-store-clause-in_limits
+returns-in_err-store-clause-in_limits g c = rw (err_from_is_err_and c.from_residual.result c.from_residual.ensures.1).1 tt
+
+pub returns-in_err-store-clause-device : goal.returns-in_err-store-clause-device
+returns-in_err-store-clause-device g c = rw (err_from_is_err_and c.from_residual.result c.from_residual.ensures.1).1 tt
+
+pub returns-in_err-store-clause-placed : goal.returns-in_err-store-clause-placed
+returns-in_err-store-clause-placed g c = rw (err_from_is_err_and c.from_residual.result c.from_residual.ensures.1).1 tt
+
+pub returns-in_err-store-clause-fit : goal.returns-in_err-store-clause-fit
+returns-in_err-store-clause-fit g c = rw (err_from_is_err_and c.from_residual.result c.from_residual.ensures.1).1 tt
+
+pub returns-in_err-store-clause-map_size : goal.returns-in_err-store-clause-map_size
+returns-in_err-store-clause-map_size g c = rw (err_from_is_err_and c.from_residual.result c.from_residual.ensures.1).1 tt
+
+pub returns-in_err-store-clause-uses : goal.returns-in_err-store-clause-uses
+returns-in_err-store-clause-uses g c = rw (err_from_is_err_and c.from_residual.result c.from_residual.ensures.1).1 tt
+
+pub returns-in_err-sync-clause-found : goal.returns-in_err-sync-clause-found
+returns-in_err-sync-clause-found g c = rw (err_from_is_err_and c.from_residual-in_err-sync.result c.from_residual-in_err-sync.ensures.1).1 tt
+
+pub returns-in_err-sync-clause-synced : goal.returns-in_err-sync-clause-synced
+returns-in_err-sync-clause-synced g c = rw (err_from_is_err_and c.from_residual-in_err-sync.result c.from_residual-in_err-sync.ensures.1).1 tt
+
+pub returns-in_err-sync-clause-stands : goal.returns-in_err-sync-clause-stands
+returns-in_err-sync-clause-stands g c = rw (err_from_is_err_and c.from_residual-in_err-sync.result c.from_residual-in_err-sync.ensures.1).1 tt
+
+pub returns-in_err-sync-clause-in_limits : goal.returns-in_err-sync-clause-in_limits
+returns-in_err-sync-clause-in_limits g c = rw (err_from_is_err_and c.from_residual-in_err-sync.result c.from_residual-in_err-sync.ensures.1).1 tt
+
+pub returns-in_err-sync-clause-device : goal.returns-in_err-sync-clause-device
+returns-in_err-sync-clause-device g c = rw (err_from_is_err_and c.from_residual-in_err-sync.result c.from_residual-in_err-sync.ensures.1).1 tt
+
+pub returns-in_err-sync-clause-placed : goal.returns-in_err-sync-clause-placed
+returns-in_err-sync-clause-placed g c = rw (err_from_is_err_and c.from_residual-in_err-sync.result c.from_residual-in_err-sync.ensures.1).1 tt
+
+pub returns-in_err-sync-clause-fit : goal.returns-in_err-sync-clause-fit
+returns-in_err-sync-clause-fit g c = rw (err_from_is_err_and c.from_residual-in_err-sync.result c.from_residual-in_err-sync.ensures.1).1 tt
+
+pub returns-in_err-sync-clause-map_size : goal.returns-in_err-sync-clause-map_size
+returns-in_err-sync-clause-map_size g c = rw (err_from_is_err_and c.from_residual-in_err-sync.result c.from_residual-in_err-sync.ensures.1).1 tt
+
+pub returns-in_err-sync-clause-uses : goal.returns-in_err-sync-clause-uses
+returns-in_err-sync-clause-uses g c = rw (err_from_is_err_and c.from_residual-in_err-sync.result c.from_residual-in_err-sync.ensures.1).1 tt
