@@ -1,14 +1,15 @@
 -- A run is read sector by sector.
-use Rattle.std.proofs.Common.{◌≡◌, ◌≤◌, ◌<◌, ◌+◌, ◌*◌, ◌++◌, ◌∙◌, inl, inr, ℕ, List, length, Some, None, Result, Err, option_map, take, refl, sym, ap, subst, arith, add-one}
+use Rattle.std.specs.Prelude.{min}
+use Rattle.std.proofs.Common.{◌≡◌, ◌≤◌, ◌<◌, ◌+◌, ◌-◌, ◌*◌, ◌^◌, ◌++◌, ◌∙◌, inl, inr, ℕ, List, length, Some, None, Result, Err, option_map, take, refl, sym, ap, subst, arith, add-one}
 use Rattle.std.proofs.lemmas.Option.{none-some}
 use Rattle.std.specs.Int.{div_ceil}
 use Rattle.std.specs.Result.{IfErr}
-use Rattle.sector_dev.specs.Disk.{Image, Story, Passes, Watches}
+use Rattle.sector_dev.specs.Disk.{Image, Story, Counts, Passes, Watches}
 use Rattle.sector_dev.specs.declared.device.DevError.{DevError}
 use Rattle.sector_dev.specs.declared.device.DevError.TheVariants.{Failed as DeviceFailed, Unreadable as SectorUnreadable}
-use Rattle.segments.specs.declared.reading.ReadError.TheVariants.{Unreadable}
+use Rattle.segments.specs.declared.reading.ReadError.TheVariants.{Unreadable, OutOfMemory}
 use Rattle.segments.specs.declared.reading.ReadError.{ReadError}
-use Rattle.segments.specs.Reading.{read_error, EndsAtSector}
+use Rattle.segments.specs.Reading.{read_error, CountsRead, EndsAtSector}
 use Rattle.segments.specs.laws.ReadBack.{none_joined}
 use Rattle.segments.specs.Sectors.{sector_count, joined, bytes_at, appended}
 
@@ -51,3 +52,13 @@ ends_at error told image start count i front old mid new lt found is unreadable 
   unreadable = λ e. unreadable (told_unreadable told (sym is ∙ e));
   begun = let more = passed_length mid new passes in omega (arith, so_far, more);
 }
+
+-- an error of the device is no want of memory
+pub never_memory : (e : DevError) → read_error e ≡ OutOfMemory → ⊥
+never_memory DeviceFailed is = cc is
+never_memory SectorUnreadable is = cc is
+
+-- it is counted from where no read had failed
+pub read_counted : (e : DevError) (before later after : ℕ) → later ≡ before → Counts {T = Unit {0}} later after (Err e) → CountsRead {T = Unit {0}} before after (Err (read_error e))
+read_counted DeviceFailed before later after same counts = counts ∙ ap (λ (n : ℕ). min (n + 1) (2 ^ 64 - 1)) same
+read_counted SectorUnreadable before later after same counts = counts ∙ same

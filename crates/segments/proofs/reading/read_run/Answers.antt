@@ -1,12 +1,12 @@
-use Rattle.std.proofs.Common.{◌≡◌, ◌+◌, ◌∙◌, ℕ, List, length, Some, Err, sym, ap, arith, true, is_ok}
+use Rattle.std.proofs.Common.{◌≡◌, ◌+◌, ◌∙◌, ℕ, List, length, Some, Err, refl, sym, ap, arith, true, is_ok}
 use Rattle.std.proofs.lemmas.Bool.{cond-true}
 use Rattle.std.proofs.lemmas.Result.{err_from_is_err_and}
-use Rattle.segments.specs.declared.reading.ReadError.TheVariants.{Unreadable}
+use Rattle.segments.specs.declared.reading.ReadError.TheVariants.{Unreadable, OutOfMemory}
 use Rattle.sector_dev.specs.Disk.{Disk, now, shown_image}
-use Rattle.sector_dev.specs.laws.Time.{only_read, read_on, now_read}
+use Rattle.sector_dev.specs.laws.Time.{stays, only_read, read_on, now_read}
 use Rattle.segments.specs.laws.ReadBack.{none_at}
 use Rattle.segments.specs.Sectors.{sector_count}
-use Rattle.segments.proofs.Gathered.{counted, joined_more, gathered, told_unreadable, same_error, told_of, watched_length, ends_at}
+use Rattle.segments.proofs.Gathered.{counted, joined_more, gathered, told_unreadable, never_memory, read_counted, same_error, told_of, watched_length, ends_at}
 use Rattle.segments.proofs.reading.read_run.Goals as goal
 
 pub overflow_mul-count : goal.overflow_mul-count
@@ -60,3 +60,68 @@ pub returns-clause-found : goal.returns-clause-found
 returns-clause-found g c = λ told.
     let count = counted c.args.byte_count in
     gathered _ c.args.start c.args.byte_count c.loop-i.i _ _ (omega (arith, count)) (c.loop-i.invariant.found told) c.truncate.ensures.items
+
+-- ---- the sectors lie on the device, and the bytes have room
+
+pub overflow_add-start : goal.overflow_add-start
+overflow_add-start g c = let count = counted c.args.byte_count in omega (arith, count)
+
+pub read-requires : goal.read-requires
+read-requires g c = let count = counted c.args.byte_count in omega (arith, count, c.loop-i.invariant.size)
+
+pub unwrap-requires : goal.unwrap-requires
+unwrap-requires g c = c.extend_from_slice.ensures.succeeds (omega (arith, c.loop-i.invariant.len, c.loop-i.invariant.room, c.loop-i-test.true, c.read.array_long))
+
+pub loop-i-init : goal.loop-i-init
+loop-i-init g c =
+    let D = g.D.SectorDevice in
+    let story = D.story c.args.device.now in
+    record {
+      size = refl;
+      failed = refl;
+      moments = λ told. stays (λ (d : Disk). d ≡ now story) story;
+      begun = λ told. omega arith;
+      len = c.in_ok-bytes.ensures.len;
+      room = c.in_ok-bytes.ensures.capacity;
+      found = λ told. ap {A = List ℕ} Some (sym c.in_ok-bytes.ensures.items);
+    }
+
+pub returns-clause-length : goal.returns-clause-length
+returns-clause-length g c = let count = counted c.args.byte_count in omega (arith, count, c.loop-i.invariant.len, c.truncate.ensures.len)
+
+-- ---- without memory nothing is read
+
+pub returns-in_err-bytes-clause-count : goal.returns-in_err-bytes-clause-count
+returns-in_err-bytes-clause-count g c = let p = err_from_is_err_and c.from_residual.result c.from_residual.ensures.1 in rw (p.1, p.2) refl
+
+pub returns-in_err-bytes-clause-unreadable : goal.returns-in_err-bytes-clause-unreadable
+returns-in_err-bytes-clause-unreadable g c = let p = err_from_is_err_and c.from_residual.result c.from_residual.ensures.1 in rw (p.1, p.2) (λ is. absurd (cc is))
+
+pub returns-in_err-bytes-clause-first : goal.returns-in_err-bytes-clause-first
+returns-in_err-bytes-clause-first g c = let p = err_from_is_err_and c.from_residual.result c.from_residual.ensures.1 in rw (p.1, p.2) (λ other. absurd (other refl))
+
+pub returns-in_err-bytes-clause-memory : goal.returns-in_err-bytes-clause-memory
+returns-in_err-bytes-clause-memory g c = λ is told. refl
+
+-- ---- a sector is not read
+
+pub returns-in_err-read-clause-size : goal.returns-in_err-read-clause-size
+returns-in_err-read-clause-size g c = c.read.ensures.size ∙ c.loop-i.invariant.size
+
+pub returns-in_err-read-clause-count : goal.returns-in_err-read-clause-count
+returns-in_err-read-clause-count g c =
+    let p = err_from_is_err_and c.from_residual-in_err-read.result c.from_residual-in_err-read.ensures.1 in
+    rw (p.1, p.2) (read_counted c.in_err-read.field-0.0 _ _ _ c.loop-i.invariant.failed c.in_err-read.ensures.count)
+
+pub returns-in_err-read-clause-memory : goal.returns-in_err-read-clause-memory
+returns-in_err-read-clause-memory g c = λ is.
+    let p = err_from_is_err_and c.from_residual-in_err-read.result c.from_residual-in_err-read.ensures.1 in
+    absurd (never_memory c.in_err-read.field-0.0 (sym p.2 ∙ same_error c.from_residual-in_err-read.result p.0 OutOfMemory p.1 is))
+
+-- ---- all are read
+
+pub returns-clause-unreadable : goal.returns-clause-unreadable
+returns-clause-unreadable g c = λ is. absurd (cc is)
+
+pub returns-clause-memory : goal.returns-clause-memory
+returns-clause-memory g c = λ is. absurd (cc is)
