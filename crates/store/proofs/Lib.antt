@@ -20,3 +20,5 @@ mod ReadsStore
 mod Roomed
 mod Applied
 mod Replied
+mod Streamed
+mod Selected

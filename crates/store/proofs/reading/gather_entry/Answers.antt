@@ -1,13 +1,20 @@
 use Rattle.std.specs.Prelude.{sum_by}
-use Rattle.std.proofs.Common.{◌≡◌, sym, ap, ◌∙◌, subst}
+use Rattle.std.proofs.Common.{◌≡◌, true, List, refl, sym, ap, ◌∙◌, subst}
 use Rattle.sector_dev.specs.Disk.{now, shown_image}
+use Rattle.arrow_schema.specs.Limits.{IsWithinLimits}
 use Rattle.cells.specs.Cell.{PlainTable}
 use Rattle.catalogue.specs.Entries.{PlainEntry, plain_entry}
 use Rattle.catalogue.specs.laws.Kept.{entry_is}
+use Rattle.catalogue.specs.declared.entry.Segment.{Segment}
+use Rattle.commit.specs.Standing.{all_on_device}
+use Rattle.ipc_write.specs.Written.{schema_message}
+use Rattle.tables.specs.declared.refusal.Refusal.TheVariants.{OutOfMemory}
+use Rattle.store.specs.Calls.{refused}
 use Rattle.store.specs.inner.Gathered.{gathered_table}
+use Rattle.store.specs.inner.Reading.{runs_in}
 use Rattle.store.specs.Held.{rows_held}
 use Rattle.store.specs.Reading.{Unreads}
-use Rattle.store.proofs.ReadTables.{rows_of, read_is_held}
+use Rattle.store.proofs.ReadTables.{rows_of, read_is_held, reads_quiet}
 use Rattle.store.proofs.reading.gather_entry.Goals as goal
 
 pub start_table-requires : goal.start_table-requires
@@ -38,3 +45,23 @@ returns-in-Ok-clause-unread g c =
     let segments : c.deref-in-Ok.result.now ≡ e.segments = c.deref-in-Ok.ensures.value in
     let same : record { name = e.name; schema = (gathered_table c.in-Ok.empty).schema; segments = c.deref-in-Ok.result.now } ≡ e = λ i. record { name = e.name; schema = start i; segments = segments i } in
     subst (λ (x : PlainEntry). Unreads D.tells image x c.in-Err-read_segments.refusal) same (c.in-Err-read_segments.ensures.unread e.name)
+
+-- ---- what is asked of the reading of its segments
+
+pub read_segments-requires-clause-placed : goal.read_segments-requires-clause-placed
+read_segments-requires-clause-placed g c =
+    let size = g.D.SectorDevice.size c.args.device.now in subst (λ (gs : List Segment). all_on_device size (runs_in gs) ≡ true) (sym c.deref-in-Ok.ensures.value) c.requires.placed
+
+pub read_segments-requires-clause-limits : goal.read_segments-requires-clause-limits
+read_segments-requires-clause-limits g c = subst IsWithinLimits (sym (ap (λ (t : PlainTable). t.schema) c.in-Ok.ensures.empty)) (entry_is (plain_entry c.args.entry.now) c.requires.sound).schema
+
+pub read_segments-requires-clause-message : goal.read_segments-requires-clause-message
+read_segments-requires-clause-message g c = c.deref.ensures.value ∙ c.in-Ok.ensures.message ∙ ap schema_message (sym (ap (λ (t : PlainTable). t.schema) c.in-Ok.ensures.empty))
+
+pub read_segments-requires-clause-none : goal.read_segments-requires-clause-none
+read_segments-requires-clause-none g c = ap (λ (t : PlainTable). t.rows) c.in-Ok.ensures.empty
+
+-- ---- without memory no call of the device is made
+
+pub returns-clause-reads : goal.returns-clause-reads
+returns-clause-reads g c = let D = g.D.SectorDevice in reads_quiet D.size D.story D.failed D.tells (refused OutOfMemory) c.args.device.now refl

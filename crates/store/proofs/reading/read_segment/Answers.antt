@@ -1,13 +1,19 @@
 use Rattle.std.specs.Prelude.{◌&&◌, ◌==◌, nat_le, nat_lt, Err}
-use Rattle.std.proofs.Common.{◌≡◌, ◌≤◌, ◌+◌, ◌^◌, ℕ, true, sym, ap, ◌∙◌, arith}
+use Rattle.std.proofs.Common.{◌≡◌, ◌≤◌, ◌+◌, ◌^◌, ℕ, true, false, sym, ap, ◌∙◌, subst, arith}
 use Rattle.std.proofs.lemmas.Bool.{and_parts, leb-true, eqb-true}
-use Rattle.std.proofs.lemmas.Result.{IfOk-weaker}
+use Rattle.std.proofs.lemmas.Result.{IfOk-weaker, IfErr-weaker}
+use Rattle.segments.specs.Reading.{CountsRead}
 use Rattle.segments.specs.Sectors.{sector_count}
+use Rattle.segments.specs.declared.reading.ReadError.{ReadError}
 use Rattle.catalogue.specs.Entries.{is_segment, is_between}
 use Rattle.catalogue.specs.declared.entry.Segment.{Segment}
 use Rattle.catalogue.specs.declared.limits.TheConstants.{MAX_SEGMENT_ROWS}
 use Rattle.commit.specs.Standing.{is_on_device}
+use Rattle.tables.specs.declared.refusal.Refusal.TheVariants.{OutOfMemory}
+use Rattle.store.specs.Calls.{is_failure}
 use Rattle.store.specs.Held.{rows_in_bytes, segment_rows}
+use Rattle.store.specs.inner.Reading.{FailsReading}
+use Rattle.store.proofs.ReadTables.{reads_ended}
 use Rattle.store.proofs.reading.read_segment.Goals as goal
 
 -- the bytes of a segment that lies on a device lie there
@@ -39,3 +45,33 @@ returns-in-Ok-clause-rows g c =
 pub returns-in-Err-Unreadable-clause-rows : goal.returns-in-Err-Unreadable-clause-rows
 unfolding segment_rows
 returns-in-Err-Unreadable-clause-rows g c = λ told s is. sym (ap (rows_in_bytes s c.args.segment.rows) (c.in-Err-Unreadable.ensures.unreadable (ap Err c.in-Err-Unreadable.field-0-is) told))
+
+-- ---- the device, whatever it tells
+
+pub returns-in-Ok-clause-reads : goal.returns-in-Ok-clause-reads
+returns-in-Ok-clause-reads g c =
+    let D = g.D.SectorDevice in
+    reads_ended D.size D.story D.failed D.tells c.table_in_bytes.result c.args.device.now c.read_run.new.device
+    (IfErr-weaker c.table_in_bytes.result (λ e. e ≡ OutOfMemory) (λ e. is_failure e ≡ false) (λ e is. ap is_failure is) c.table_in_bytes.ensures.memory)
+    (record { same = c.read_run.ensures.size; moments = c.read_run.ensures.moments; count = c.in-Ok.ensures.count })
+
+pub returns-in-Ok-clause-fails : goal.returns-in-Ok-clause-fails
+returns-in-Ok-clause-fails g c = IfErr-weaker c.table_in_bytes.result (λ e. e ≡ OutOfMemory) FailsReading (λ e is. subst FailsReading (sym is) tt) c.table_in_bytes.ensures.memory
+
+pub returns-in-Err-Unreadable-clause-reads : goal.returns-in-Err-Unreadable-clause-reads
+returns-in-Err-Unreadable-clause-reads g c =
+    let D = g.D.SectorDevice in
+    let count = subst (λ (e : ReadError). CountsRead {T = Unit {0}} (D.failed c.args.device.now) (D.failed c.read_run.new.device) (Err e)) c.in-Err-Unreadable.field-0-is c.in-Err-Unreadable.ensures.count in
+    record { same = c.read_run.ensures.size; moments = c.read_run.ensures.moments; count = count }
+
+pub returns-in-Err-Failed-clause-reads : goal.returns-in-Err-Failed-clause-reads
+returns-in-Err-Failed-clause-reads g c =
+    let D = g.D.SectorDevice in
+    let count = subst (λ (e : ReadError). CountsRead {T = Unit {0}} (D.failed c.args.device.now) (D.failed c.read_run.new.device) (Err e)) c.in-Err-Failed.field-0-is c.in-Err-Failed.ensures.count in
+    record { same = c.read_run.ensures.size; moments = c.read_run.ensures.moments; count = count }
+
+pub returns-in-Err-OutOfMemory-clause-reads : goal.returns-in-Err-OutOfMemory-clause-reads
+returns-in-Err-OutOfMemory-clause-reads g c =
+    let D = g.D.SectorDevice in
+    let count = subst (λ (e : ReadError). CountsRead {T = Unit {0}} (D.failed c.args.device.now) (D.failed c.read_run.new.device) (Err e)) c.in-Err-OutOfMemory.field-0-is c.in-Err-OutOfMemory.ensures.count in
+    record { same = c.read_run.ensures.size; moments = c.read_run.ensures.moments; count = count }

@@ -1,9 +1,16 @@
 use Rattle.std.specs.Prelude.{get_or, sum_by}
-use Rattle.std.proofs.Common.{◌≡◌, ◌<◌, true, ℕ, List, Some, length, refl, sym, ap, ◌∙◌, subst, arith, take_all}
+use Rattle.std.specs.List.{list_all}
+use Rattle.std.proofs.Common.{◌≡◌, ◌<◌, Bool, true, false, ℕ, List, Some, length, refl, sym, ap, ◌∙◌, subst, arith, take_all}
+use Rattle.std.proofs.lemmas.Bool.{true≢false}
 use Rattle.std.proofs.lemmas.List.{get_or_default}
+use Rattle.std.proofs.lemmas.List.Folds.{list_all_at}
 use Rattle.sector_dev.specs.Disk.{now, shown_image}
 use Rattle.catalogue.specs.declared.entry.Segment.{Segment}
-use Rattle.commit.specs.Standing.{is_on_device}
+use Rattle.arrow_schema.specs.Limits.{IsWithinLimits}
+use Rattle.catalogue.specs.Entries.{is_segment}
+use Rattle.ipc_write.specs.Written.{schema_message}
+use Rattle.commit.specs.Standing.{is_size, is_on_device}
+use Rattle.store.specs.Held.{rows_held}
 use Rattle.store.specs.inner.Gathered.{gathered_table}
 use Rattle.store.specs.Calls.{done, refused}
 use Rattle.store.proofs.ReadTables.{run_at, rows_step, rows_of, count_step, rows_of_none, unreads_step, reads_more, reads_none, image_then, light_none}
@@ -74,3 +81,35 @@ loop-place-preserved g c =
 
 pub returns-clause-count : goal.returns-clause-count
 returns-clause-count g c = c.loop-place.invariant.count ∙ ap (sum_by rows_of) (take_all c.loop-place.place c.args.segments.now (omega (arith, c.loop-place-test.false)))
+
+-- ---- what is asked of the segment at a place
+
+sound_at : (here all : Bool) → all ≡ true → (here ≡ false → all ≡ false) → here ≡ true
+sound_at true all is other = refl
+sound_at false all is other = absurd (true≢false (sym is ∙ other refl))
+
+pub append_segment-requires-clause-size : goal.append_segment-requires-clause-size
+append_segment-requires-clause-size g c = ap is_size c.loop-place.invariant.reads.same ∙ c.requires.size
+
+pub append_segment-requires-clause-sound : goal.append_segment-requires-clause-sound
+append_segment-requires-clause-sound g c =
+    let segments = c.args.segments.now in
+    let place = c.loop-place.place in
+    sound_at (is_segment (get_or segments place no_segment)) (list_all is_segment segments) c.requires.sound (list_all_at is_segment segments place no_segment c.loop-place-test.true)
+
+pub append_segment-requires-clause-limits : goal.append_segment-requires-clause-limits
+append_segment-requires-clause-limits g c = subst IsWithinLimits (sym c.loop-place.invariant.schema) c.requires.limits
+
+pub append_segment-requires-clause-message : goal.append_segment-requires-clause-message
+append_segment-requires-clause-message g c = c.requires.message ∙ ap schema_message (sym c.loop-place.invariant.schema)
+
+-- ---- all were read
+
+pub returns-clause-reads : goal.returns-clause-reads
+returns-clause-reads g c = c.loop-place.invariant.reads
+
+pub returns-clause-rows : goal.returns-clause-rows
+returns-clause-rows g c = λ told.
+    let D = g.D.SectorDevice in
+    ap (λ (gs : List Segment). rows_held (gathered_table c.args.empty).schema gs (shown_image (now (D.story c.args.device.now)))) (sym (take_all c.loop-place.place c.args.segments.now (omega (arith, c.loop-place-test.false))))
+    ∙ c.loop-place.invariant.rows told

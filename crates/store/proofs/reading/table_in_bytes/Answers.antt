@@ -1,6 +1,8 @@
 use Rattle.std.specs.Prelude.{nat_eq}
 use Rattle.std.specs.List.{starts_with}
-use Rattle.std.proofs.Common.{◌≡◌, ◌++◌, true, length, drop, Ok, refl, sym, ap, ◌∙◌, subst}
+use Rattle.std.specs.Prelude.{◌==◌}
+use Rattle.std.proofs.Common.{◌≡◌, ◌++◌, Bool, true, false, if◌then◌else◌, length, drop, Some, None, Ok, refl, sym, ap, ◌∙◌, subst}
+use Rattle.std.proofs.lemmas.Bool.{eq-eqb, ne_eqb}
 use Rattle.std.proofs.lemmas.Slice.Eq.{starts_is}
 use Rattle.std.proofs.lemmas.Bool.Decides.{Decides-eqb}
 use Rattle.facts.specs.laws.Checks.{unless_passed}
@@ -9,10 +11,12 @@ use Rattle.ipc_message.specs.Convert.{plain_schema_of}
 use Rattle.ipc_message.specs.Framing.{Envelope, next_message, message, first_some}
 use Rattle.ipc_message.specs.Header.{header, supported_codes}
 use Rattle.ipc_message.specs.Raw.{schema_header}
+use Rattle.ipc_stream.specs.Meaning.{meaning}
 use Rattle.ipc_stream.specs.laws.First.{means_begins}
 use Rattle.ipc_write.specs.Decoded.{raw_schema}
 use Rattle.ipc_write.specs.Written.{schema_message, schema_envelope}
 use Rattle.values.specs.TableView.{table_of}
+use Rattle.store.specs.Held.{rows_where}
 use Rattle.store.proofs.reading.table_in_bytes.Goals as goal
 
 -- the first message is that of the schema, and a stream means a table of the schema of its first message
@@ -33,3 +37,30 @@ returns-then-len-rows-clause-schema c = λ s within front.
     let passed = unless_passed (first_some (schema_checks supported_codes first.schema)) (Ok (plain_schema_of first.schema)) t.schema first.checked in
     let plain : plain_schema_of first.schema ≡ t.schema = let both = passed.1 in cc in
     sym plain ∙ ap plain_schema_of same ∙ law.decoded s within
+
+-- ---- the rows, where the bytes begin with the message and mean so many
+
+pub returns-then-not-starts_with-clause-rows : goal.returns-then-not-starts_with-clause-rows
+returns-then-not-starts_with-clause-rows c = λ s front.
+    let bytes = c.args.bytes.items in
+    let begins : starts_with nat_eq bytes (schema_message s) ≡ false = (λ i. starts_with nat_eq (sym c.deref.ensures.value i) (sym front i)) ∙ sym c.starts_with.ensures.value ∙ c.if-not-starts_with.true in
+    sym (ap (λ (b : Bool). if b then rows_where c.args.rows (meaning supported_codes bytes) else None) begins)
+
+pub returns-then-len-rows-clause-rows : goal.returns-then-len-rows-clause-rows
+returns-then-len-rows-clause-rows c = λ s front.
+    let bytes = c.args.bytes.items in
+    let begins : starts_with nat_eq bytes (schema_message s) ≡ true = (λ i. starts_with nat_eq (sym c.deref.ensures.value i) (sym front i)) ∙ sym c.starts_with.ensures.value ∙ c.if-not-starts_with.false in
+    let t = table_of c.in-Ok.weighed.table in
+    let many : (length t.rows == c.args.rows) ≡ true = eq-eqb (length t.rows) c.args.rows (sym c.len.ensures ∙ c.if-len-rows.true) in
+    sym ((λ i. if begins i then rows_where c.args.rows (c.in-Ok.ensures.exact i) else None) ∙ ap (λ (b : Bool). if b then Some t.rows else None) many)
+
+pub returns-then-len-rows-clause-count : goal.returns-then-len-rows-clause-count
+returns-then-len-rows-clause-count c = sym c.len.ensures ∙ c.if-len-rows.true
+
+pub returns-else-len-rows-clause-rows : goal.returns-else-len-rows-clause-rows
+returns-else-len-rows-clause-rows c = λ s front.
+    let bytes = c.args.bytes.items in
+    let begins : starts_with nat_eq bytes (schema_message s) ≡ true = (λ i. starts_with nat_eq (sym c.deref.ensures.value i) (sym front i)) ∙ sym c.starts_with.ensures.value ∙ c.if-not-starts_with.false in
+    let t = table_of c.in-Ok.weighed.table in
+    let other : (length t.rows == c.args.rows) ≡ false = ne_eqb (length t.rows) c.args.rows (λ same. c.if-len-rows.false (c.len.ensures ∙ same)) in
+    sym ((λ i. if begins i then rows_where c.args.rows (c.in-Ok.ensures.exact i) else None) ∙ ap (λ (b : Bool). if b then Some t.rows else None) other)

@@ -1,16 +1,22 @@
-use Rattle.std.proofs.Common.{◌≡◌, ◌∷◌, [], ℕ, List, None, sym, ◌∙◌, subst, string_bytes}
+use Rattle.std.proofs.Common.{◌≡◌, ◌∷◌, [], ℕ, List, None, Err, inl, inr, sym, ap, ◌∙◌, subst, string_bytes}
 use Rattle.std.proofs.lemmas.Result.{IfOk-weaker}
 use Rattle.facts.specs.Checks.{first_some}
+use Rattle.sector_dev.specs.Disk.{now, shown_image}
 use Rattle.arrow_schema.specs.View.{schema_of}
-use Rattle.catalogue.specs.Entries.{PlainCatalogue, plain_entry}
+use Rattle.catalogue.specs.Entries.{PlainCatalogue, PlainEntry, plain_entry}
 use Rattle.catalogue.specs.View.{catalogue_of}
 use Rattle.catalogue.specs.laws.Kept.{entry_is}
 use Rattle.commit.specs.Placing.{AreShort}
 use Rattle.ipc_message.specs.laws.Accepted.{first_none}
 use Rattle.query.specs.View.{query_in}
 use Rattle.store.specs.Changes.{PlainChange, change_of, CanChange, IsChange}
+use Rattle.values.specs.TableView.{table_of}
+use Rattle.tables.specs.declared.refusal.Refusal.{Refusal}
 use Rattle.store.specs.Deciding.{create_tests, unselected}
-use Rattle.store.proofs.ReadTables.{reads_quiet}
+use Rattle.store.specs.Reading.{Unreads}
+use Rattle.store.specs.inner.Tests.{decision_of}
+use Rattle.store.proofs.ReadTables.{reads_quiet, reads_ended}
+use Rattle.store.proofs.Selected.{tested_on, refused_first, not_read, selected}
 use Rattle.store.proofs.Tested.{Counts, create_names, table_is_change}
 use Rattle.store.proofs.saving.save_from_entry.Goals as goal
 
@@ -36,3 +42,58 @@ returns-in-Ok-read_entry-clause-ok g c =
     subst (IsChange listed) (sym put.2)
     (table_is_change listed to put.0 counts c.in-Ok.ensures.kept names.named names.room put.1.schema (c.pieces_are_tables.ensures.each put.0 put.1)
     (subst (λ (x : PlainChange). AreShort x.streams) put.2 short))) c.put_selection.ensures.put
+
+pub returns-in-Ok-read_entry-clause-reads : goal.returns-in-Ok-read_entry-clause-reads
+returns-in-Ok-read_entry-clause-reads g c =
+    let D = g.D.SectorDevice in
+    reads_ended D.size D.story D.failed D.tells c.put_selection.result c.args.device.now c.read_entry.new.device c.put_selection.ensures.no_device c.in-Ok-read_entry.ensures.reads
+
+pub returns-in-Ok-read_entry-clause-answers : goal.returns-in-Ok-read_entry-clause-answers
+returns-in-Ok-read_entry-clause-answers g c =
+    let D = g.D.SectorDevice in
+    let listed : PlainCatalogue = catalogue_of c.args.catalogue.now in
+    let to : List ℕ = string_bytes c.args.to in
+    let e : PlainEntry = plain_entry c.args.entry.now in
+    let query = query_in c.args.query.now in
+    let tested : first_some (unselected e.schema query ∷ create_tests listed to ∷ []) ≡ None = sym (λ i. first_some (unselected e.schema query ∷ create_tests listed (c.deref.ensures i) ∷ [])) ∙ c.in-Ok.ensures.ok in
+    selected listed to query e D.tells (shown_image (now (D.story c.args.device.now))) (table_of c.in-Ok-read_entry.standing) (decision_of c.put_selection.result) tested c.in-Ok-read_entry.ensures.table c.put_selection.ensures.answers
+
+pub returns-in-Ok-read_entry-clause-not_halted : goal.returns-in-Ok-read_entry-clause-not_halted
+returns-in-Ok-read_entry-clause-not_halted g c = c.put_selection.ensures.not_halted
+
+pub returns-in-Err-read_entry-clause-reads : goal.returns-in-Err-read_entry-clause-reads
+returns-in-Err-read_entry-clause-reads g c = c.in-Err-read_entry.ensures.reads
+
+pub returns-in-Err-read_entry-clause-answers : goal.returns-in-Err-read_entry-clause-answers
+returns-in-Err-read_entry-clause-answers g c =
+    let D = g.D.SectorDevice in
+    let listed : PlainCatalogue = catalogue_of c.args.catalogue.now in
+    let to : List ℕ = string_bytes c.args.to in
+    let e : PlainEntry = plain_entry c.args.entry.now in
+    let query = query_in c.args.query.now in
+    let tested : first_some (unselected e.schema query ∷ create_tests listed to ∷ []) ≡ None = sym (λ i. first_some (unselected e.schema query ∷ create_tests listed (c.deref.ensures i) ∷ [])) ∙ c.in-Ok.ensures.ok in
+    not_read listed to query e D.tells (shown_image (now (D.story c.args.device.now))) c.in-Err-read_entry.refusal tested c.in-Err-read_entry.ensures.unread
+
+pub returns-in-Err-read_entry-clause-not_halted : goal.returns-in-Err-read_entry-clause-not_halted
+returns-in-Err-read_entry-clause-not_halted g c = λ is.
+    let D = g.D.SectorDevice in
+    subst (λ (r : Refusal). Unreads D.tells (shown_image (now (D.story c.args.device.now))) (plain_entry c.args.entry.now) r) is c.in-Err-read_entry.ensures.unread
+
+pub returns-in-Err-clause-answers : goal.returns-in-Err-clause-answers
+returns-in-Err-clause-answers g c =
+    let D = g.D.SectorDevice in
+    let listed : PlainCatalogue = catalogue_of c.args.catalogue.now in
+    let to : List ℕ = string_bytes c.args.to in
+    let e : PlainEntry = plain_entry c.args.entry.now in
+    let query = query_in c.args.query.now in
+    let same : first_some (unselected e.schema query ∷ create_tests listed to ∷ []) ≡ first_some (unselected e.schema query ∷ create_tests listed c.deref.result.now ∷ []) = sym (λ i. first_some (unselected e.schema query ∷ create_tests listed (c.deref.ensures i) ∷ [])) in
+    elim c.in-Err.ensures.err [ inl memory ↦ inl (ap Err memory) | inr told ↦ refused_first listed to query e D.tells (shown_image (now (D.story c.args.device.now))) c.in-Err.refusal (same ∙ told) ]
+
+pub returns-in-Err-clause-not_halted : goal.returns-in-Err-clause-not_halted
+returns-in-Err-clause-not_halted g c = λ is.
+    let listed : PlainCatalogue = catalogue_of c.args.catalogue.now in
+    let to : List ℕ = string_bytes c.args.to in
+    let e : PlainEntry = plain_entry c.args.entry.now in
+    let query = query_in c.args.query.now in
+    let same : first_some (unselected e.schema query ∷ create_tests listed to ∷ []) ≡ first_some (unselected e.schema query ∷ create_tests listed c.deref.result.now ∷ []) = sym (λ i. first_some (unselected e.schema query ∷ create_tests listed (c.deref.ensures i) ∷ [])) in
+    elim c.in-Err.ensures.err as (λ _. ⊥) [ inl memory ↦ cc (memory, is) | inr told ↦ tested_on listed to query e c.in-Err.refusal (same ∙ told) is ]
