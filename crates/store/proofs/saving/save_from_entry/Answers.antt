@@ -1,4 +1,6 @@
+use Rattle.std.specs.Prelude.{◌≢◌}
 use Rattle.std.proofs.Common.{◌≡◌, ◌∷◌, [], ℕ, List, None, Err, inl, inr, sym, ap, ◌∙◌, subst, string_bytes}
+use Rattle.tables.specs.declared.refusal.Refusal.TheVariants.{Halted, OutOfMemory}
 use Rattle.std.proofs.lemmas.Result.{IfOk-weaker}
 use Rattle.facts.specs.Checks.{first_some}
 use Rattle.sector_dev.specs.Disk.{now, shown_image}
@@ -19,6 +21,9 @@ use Rattle.store.proofs.ReadTables.{reads_quiet, reads_ended}
 use Rattle.store.proofs.Selected.{tested_on, refused_first, not_read, selected}
 use Rattle.store.proofs.Tested.{Counts, create_names, table_is_change}
 use Rattle.store.proofs.saving.save_from_entry.Goals as goal
+
+memory_on : OutOfMemory ≢ Halted
+memory_on is = cc is
 
 pub test_save-requires : goal.test_save-requires
 test_save-requires g c = (entry_is (plain_entry c.args.entry.now) c.requires.sound).schema
@@ -96,4 +101,4 @@ returns-in-Err-clause-not_halted g c = λ is.
     let e : PlainEntry = plain_entry c.args.entry.now in
     let query = query_in c.args.query.now in
     let same : first_some (unselected e.schema query ∷ create_tests listed to ∷ []) ≡ first_some (unselected e.schema query ∷ create_tests listed c.deref.result.now ∷ []) = sym (λ i. first_some (unselected e.schema query ∷ create_tests listed (c.deref.ensures i) ∷ [])) in
-    elim c.in-Err.ensures.err as (λ _. ⊥) [ inl memory ↦ cc (memory, is) | inr told ↦ tested_on listed to query e c.in-Err.refusal (same ∙ told) is ]
+    elim c.in-Err.ensures.err as (λ _. ⊥) [ inl memory ↦ memory_on (sym memory ∙ is) | inr told ↦ tested_on listed to query e c.in-Err.refusal (same ∙ told) is ]

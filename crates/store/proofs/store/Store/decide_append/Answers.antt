@@ -1,5 +1,5 @@
 use Rattle.std.specs.Prelude.{◌||◌}
-use Rattle.std.proofs.Common.{◌≡◌, Bool, Some, None, Ok, Err, refl, sym, ap, ◌∙◌, string_bytes}
+use Rattle.std.proofs.Common.{◌≡◌, Bool, Some, None, Ok, Err, refl, sym, ap, ◌∙◌, string_bytes, ℕ, true, subst}
 use Rattle.sector_dev.specs.Disk.{now, shown_image}
 use Rattle.segments.specs.laws.Usages.{or_false}
 use Rattle.catalogue.specs.Edits.{entry_of}
@@ -10,6 +10,7 @@ use Rattle.tables.specs.declared.refusal.Refusal.TheVariants.{NoTable}
 use Rattle.store.specs.Calls.{is_failure, refused}
 use Rattle.store.specs.Changes.{change_of}
 use Rattle.store.specs.Fits.{listed_in}
+use Rattle.commit.specs.Standing.{is_size, is_on_device, runs_fault}
 use Rattle.store.proofs.AtNames.{append_at, append_nowhere}
 use Rattle.store.proofs.ReadTables.{runs_on_device, reads_quiet}
 use Rattle.store.proofs.store.Store.decide_append.Goals as goal
@@ -64,3 +65,31 @@ returns-in-None-clause-answers g c =
     let image = shown_image (now (D.story store.device)) in
     let none : entry_of (listed_in store) (string_bytes c.args.name) ≡ None = ap (entry_of (listed_in store)) (sym c.deref.ensures) ∙ sym c.in-None.ensures.entry in
     append_nowhere D.tells image (listed_in store) (string_bytes c.args.name) c.args.new none
+
+-- ---- the device keeps its size
+
+pub invariant_of-self : goal.invariant_of-self
+invariant_of-self g c =
+    let s = c.args.self.now in
+    let sized = c.in-Ok.ensures.reads.same in
+    record {
+      in_limits = subst (λ (n : ℕ). is_size n ≡ true) (sym sized) s.in_limits;
+      same = s.same ∙ sym sized;
+      own = s.own ∙ sym sized;
+      fit = subst (λ (n : ℕ). runs_fault n s.opened.commit.catalogue.run (runs_of (listed_in s)) ≡ None) (sym sized) s.fit;
+      placed = subst (λ (n : ℕ). is_on_device n s.opened.commit.catalogue.run ≡ true) (sym sized) s.placed;
+      uses = s.uses;
+    }
+
+pub invariant_of-self-in-Err : goal.invariant_of-self-in-Err
+invariant_of-self-in-Err g c =
+    let s = c.args.self.now in
+    let sized = c.in-Err.ensures.reads.same in
+    record {
+      in_limits = subst (λ (n : ℕ). is_size n ≡ true) (sym sized) s.in_limits;
+      same = s.same ∙ sym sized;
+      own = s.own ∙ sym sized;
+      fit = subst (λ (n : ℕ). runs_fault n s.opened.commit.catalogue.run (runs_of (listed_in s)) ≡ None) (sym sized) s.fit;
+      placed = subst (λ (n : ℕ). is_on_device n s.opened.commit.catalogue.run ≡ true) (sym sized) s.placed;
+      uses = s.uses;
+    }

@@ -1,4 +1,5 @@
 use Rattle.std.proofs.Common.{◌≡◌, ◌≢◌, ◌∙◌, ℕ, true, [], ◌∷◌, Err, refl, ap, sym, subst}
+use Rattle.std.proofs.lemmas.Bool.{true≢false}
 use Rattle.sector_dev.specs.Disk.{now, shown_image, synced_image}
 use Rattle.sector_dev.specs.Time.{LeavesOnly}
 use Rattle.commit.specs.declared.cause.Cause.{Cause}
@@ -61,7 +62,7 @@ returns-in-Ok-clause-opened g c = λ told base m fits.
         device = record {
           in_limits = subst (λ (n : ℕ). is_size n ≡ true) (sym same) fits.in_limits;
           allows = subst (λ (n : ℕ). LeavesOnly (Allows (setting_of n base) (opened [])) (now s1)) (sym same) goes.settles;
-          fresh = λ no. absurd (cc no);
+          fresh = λ no. absurd (true≢false no);
         };
         sound = λ on. record {
           stands = subst (λ (n : ℕ). Stands whole_reading n (now s1) commit listed) (sym same)
@@ -118,7 +119,7 @@ returns-in-Err-clause-refused g c = λ told base m fits.
     let spelled = c.empty_text_has_no_tables.ensures in
     let moments = early_moments size fits.in_limits spelled base m s0 s1 shows fits.allows (c.format.ensures.untouched told) (c.format.ensures.moments told) in
     let within = fits.in_limits in
-    let sound : (cause : Cause) → c.in-Err.error ≢ errors.Damaged cause = λ cause is. let no = c.in-Err.ensures.damaged cause is in cc (within, no) in
+    let sound : (cause : Cause) → c.in-Err.error ≢ errors.Damaged cause = λ cause is. true≢false (sym within ∙ c.in-Err.ensures.damaged cause is) in
     let goes = format_refused size fits.in_limits spelled base m c.in-Err.error s0 s1 before after fits.fresh fits.allows moments sound (λ other. c.in-Err.ensures.quiet other told) (formatting_counts c.format.result c.in-Err.error before after c.in-Err.is c.format.ensures.count)
     (λ is. c.format.ensures.already (c.in-Err.is ∙ ap Err is) told) in
     record {

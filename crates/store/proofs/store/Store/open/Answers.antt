@@ -1,4 +1,5 @@
 use Rattle.std.proofs.Common.{◌≡◌, ℕ, true, ◌∙◌, refl, ap, sym, subst}
+use Rattle.std.proofs.lemmas.Bool.{true≢false}
 use Rattle.sector_dev.specs.Disk.{now}
 use Rattle.sector_dev.specs.Time.{LeavesOnly}
 use Rattle.commit.specs.Standing.{is_size, Stands}
@@ -60,7 +61,7 @@ returns-in-Ok-clause-opened g c = λ told base m fits.
         device = record {
           in_limits = subst (λ (n : ℕ). is_size n ≡ true) (sym same) fits.in_limits;
           allows = subst (λ (n : ℕ). LeavesOnly (Allows (setting_of n base) found.next) (now s1)) (sym same) goes.settles;
-          fresh = λ no. let on = after.1 in absurd (cc (on, no));
+          fresh = λ no. absurd (true≢false (sym after.1 ∙ no));
         };
         sound = λ on. record {
           stands = subst (λ (n : ℕ). Stands whole_reading n (now s1) commit catalogue) (sym same) (c.in-Ok.ensures.stands told);

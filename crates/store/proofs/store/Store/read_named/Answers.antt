@@ -1,4 +1,4 @@
-use Rattle.std.proofs.Common.{◌≡◌, Some, refl, sym}
+use Rattle.std.proofs.Common.{◌≡◌, Some, refl, sym, ℕ, true, None, subst, ◌∙◌}
 use Rattle.sector_dev.specs.Disk.{now, shown_image}
 use Rattle.segments.specs.laws.Usages.{or_false}
 use Rattle.values.specs.TableView.{table_of}
@@ -9,6 +9,7 @@ use Rattle.commit.specs.laws.Frame.{fault_none}
 use Rattle.tables.specs.declared.refusal.Refusal.TheVariants.{Halted, NoTable}
 use Rattle.store.specs.Calls.{refused}
 use Rattle.store.specs.Fits.{listed_in}
+use Rattle.commit.specs.Standing.{is_size, is_on_device, runs_fault}
 use Rattle.store.proofs.AtNames.{read_at, read_nowhere, read_halted}
 use Rattle.store.proofs.ReadTables.{runs_on_device, reads_quiet}
 use Rattle.store.proofs.store.Store.read_named.Goals as goal
@@ -60,3 +61,18 @@ returns-in-None-clause-told g c =
     let store = c.args.self.now in
     let image = shown_image (now (D.story store.device)) in
     read_nowhere store.halted D.tells image (entry_of (listed_in store) c.args.name.now) c.if-self.false (sym c.in-None.ensures.entry)
+
+-- ---- the device keeps its size
+
+pub invariant_of-self : goal.invariant_of-self
+invariant_of-self g c =
+    let s = c.args.self.now in
+    let sized = c.in-Ok.ensures.reads.same in
+    record {
+      in_limits = subst (λ (n : ℕ). is_size n ≡ true) (sym sized) s.in_limits;
+      same = s.same ∙ sym sized;
+      own = s.own ∙ sym sized;
+      fit = subst (λ (n : ℕ). runs_fault n s.opened.commit.catalogue.run (runs_of (listed_in s)) ≡ None) (sym sized) s.fit;
+      placed = subst (λ (n : ℕ). is_on_device n s.opened.commit.catalogue.run ≡ true) (sym sized) s.placed;
+      uses = s.uses;
+    }
