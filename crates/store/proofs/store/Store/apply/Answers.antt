@@ -1,11 +1,19 @@
-use Rattle.std.proofs.Common.{◌≡◌, ◌≢◌, Bool, true, false, Some, Ok, Err, refl, sym, ap, ◌∙◌, subst}
-use Rattle.sector_dev.specs.Disk.{Story, now, shown_image}
+use Rattle.std.proofs.Common.{◌≡◌, ◌≢◌, Bool, true, false, Some, Result, Ok, Err, refl, sym, ap, ◌∙◌, subst}
+use Rattle.std.specs.Prelude.{IfErr}
+use Rattle.std.proofs.lemmas.Bool.{true≢false}
+use Rattle.sector_dev.specs.Disk.{Disk, Story, now, shown_image}
+use Rattle.sector_dev.specs.laws.Time.{stays}
 use Rattle.sector_dev.specs.Time.{OnlyReads}
 use Rattle.catalogue.specs.laws.Kept.{catalogue_is}
+use Rattle.tables.specs.declared.refusal.Refusal.{Refusal}
 use Rattle.tables.specs.declared.refusal.Refusal.TheVariants as refusals
 use Rattle.tables.specs.View.{command_of}
-use Rattle.store.specs.Calls.{done, refused}
-use Rattle.store.specs.Changes.{change_of}
+use Rattle.store.specs.Calls.{done, refused, counted}
+use Rattle.catalogue.specs.View.{catalogue_of}
+use Rattle.commit.specs.declared.recovery.Opened.{Opened}
+use Rattle.segments.specs.laws.Usages.{or_false}
+use Rattle.store.specs.declared.stored.StoredCatalogue.{StoredCatalogue}
+use Rattle.store.specs.Changes.{change_of, CanChange}
 use Rattle.store.specs.Held.{tables_held}
 use Rattle.store.specs.Machine.{tables_now}
 use Rattle.store.specs.Fits.{setting_of, listed_in}
@@ -123,3 +131,79 @@ returns-in-Ok-clause-written g c =
 pub returns-in-Err-clause-writes : goal.returns-in-Err-clause-writes
 returns-in-Err-clause-writes g c = λ off told on.
     let D = g.D.SectorDevice in stood D.size D.story D.failed D.tells c.args.self.now c.decide.new.self (refused c.in-Err.refusal) c.in-Err.ensures.reads told (command_of c.args.command) on
+
+-- ---- a store that is halted
+
+pub returns-then-self-clause-applied : goal.returns-then-self-clause-applied
+returns-then-self-clause-applied g c = λ on. absurd (true≢false (sym c.if-self.true ∙ on))
+
+pub returns-then-self-clause-refused : goal.returns-then-self-clause-refused
+returns-then-self-clause-refused g c = (refl, refl, λ run. refl)
+
+pub returns-then-self-clause-quiet : goal.returns-then-self-clause-quiet
+returns-then-self-clause-quiet g c = λ other plain. refl
+
+pub returns-then-self-clause-reads : goal.returns-then-self-clause-reads
+returns-then-self-clause-reads g c = λ other told.
+    let story = g.D.SectorDevice.story c.args.self.now.device in stays (λ (d : Disk). d ≡ now story) story
+
+pub returns-then-self-clause-halted : goal.returns-then-self-clause-halted
+returns-then-self-clause-halted g c = (λ is. c.if-self.true, λ off. refl)
+
+pub returns-then-self-clause-still : goal.returns-then-self-clause-still
+returns-then-self-clause-still g c = λ off. refl
+
+pub returns-then-self-clause-halts : goal.returns-then-self-clause-halts
+returns-then-self-clause-halts g c = λ on. absurd (true≢false (sym c.if-self.true ∙ on))
+
+pub returns-then-self-clause-writes : goal.returns-then-self-clause-writes
+returns-then-self-clause-writes g c = λ on. absurd (true≢false (sym c.if-self.true ∙ on))
+
+-- ---- one that is not
+
+never_halted : {T : Type 0} (r : Result T Refusal) → IfErr r (λ e. e ≢ refusals.Halted) → r ≢ Err refusals.Halted
+never_halted (Ok x) other is = cc is
+never_halted (Err e) other is = other (cc is)
+
+pub returns-in-Ok-clause-halted : goal.returns-in-Ok-clause-halted
+returns-in-Ok-clause-halted g c = (λ is. absurd (never_halted c.carry_out.result c.carry_out.ensures.not_halted is), λ off. absurd (true≢false (sym off ∙ c.if-self.false)))
+
+pub returns-in-Ok-clause-still : goal.returns-in-Ok-clause-still
+returns-in-Ok-clause-still g c = λ off. absurd (true≢false (sym off ∙ c.if-self.false))
+
+pub returns-in-Ok-clause-halts : goal.returns-in-Ok-clause-halts
+returns-in-Ok-clause-halts g c = λ on. c.carry_out.ensures.halts
+
+pub returns-in-Ok-clause-size : goal.returns-in-Ok-clause-size
+returns-in-Ok-clause-size g c = c.carry_out.ensures.size ∙ c.in-Ok.ensures.reads.device.same
+
+pub returns-in-Ok-clause-count : goal.returns-in-Ok-clause-count
+returns-in-Ok-clause-count g c = c.carry_out.ensures.count ∙ ap (counted (ended c.carry_out.result)) c.in-Ok.ensures.reads.device.count
+
+pub returns-in-Err-clause-applied : goal.returns-in-Err-clause-applied
+returns-in-Err-clause-applied g c = λ on. record { decision = Err c.in-Err.refusal; decides = c.in-Err.ensures.answers; ends = refl }
+
+pub returns-in-Err-clause-quiet : goal.returns-in-Err-clause-quiet
+returns-in-Err-clause-quiet g c = λ other plain. ap (λ s. g.D.SectorDevice.story s.device) (c.in-Err.ensures.still plain)
+
+pub returns-in-Err-clause-reads : goal.returns-in-Err-clause-reads
+returns-in-Err-clause-reads g c = λ other told. c.in-Err.ensures.reads.device.moments told
+
+pub returns-in-Err-clause-halted : goal.returns-in-Err-clause-halted
+returns-in-Err-clause-halted g c = (λ is. absurd (never_halted (Err c.in-Err.refusal) c.in-Err.ensures.not_halted is), λ off. absurd (true≢false (sym off ∙ c.if-self.false)))
+
+pub returns-in-Err-clause-still : goal.returns-in-Err-clause-still
+returns-in-Err-clause-still g c = λ off. absurd (true≢false (sym off ∙ c.if-self.false))
+
+pub returns-in-Err-clause-size : goal.returns-in-Err-clause-size
+returns-in-Err-clause-size g c = c.in-Err.ensures.reads.device.same
+
+pub returns-in-Err-clause-count : goal.returns-in-Err-clause-count
+returns-in-Err-clause-count g c = c.in-Err.ensures.reads.device.count
+
+pub carry_out-requires-clause-sound : goal.carry_out-requires-clause-sound
+carry_out-requires-clause-sound g c =
+    subst (λ (opened : Opened StoredCatalogue). CanChange (catalogue_of opened.catalogue.list) (change_of c.in-Ok.change)) (sym c.in-Ok.ensures.reads.kept) c.in-Ok.ensures.ok
+
+pub carry_out-requires-clause-on : goal.carry_out-requires-clause-on
+carry_out-requires-clause-on g c = c.in-Ok.ensures.reads.halts ∙ or_false c.args.self.now.halted ∙ c.if-self.false

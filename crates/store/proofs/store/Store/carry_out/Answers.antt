@@ -1,5 +1,6 @@
-use Rattle.std.proofs.Common.{◌≡◌, ◌∷◌, ◌++◌, [], ℕ, List, true, Bool, if◌then◌else◌, refl, sym, ap, ◌∙◌, subst}
-use Rattle.std.specs.Prelude.{Some, None, Ok, Err}
+use Rattle.std.proofs.Common.{◌≡◌, ◌≢◌, ◌∷◌, ◌++◌, ◌+◌, ◌-◌, ◌^◌, [], ℕ, List, true, false, Bool, if◌then◌else◌, refl, sym, ap, ◌∙◌, subst}
+use Rattle.std.specs.Prelude.{Some, None, Result, Ok, Err, min}
+use Rattle.std.proofs.lemmas.Bool.{true≢false}
 use Rattle.std.proofs.lemmas.Result.{err_from_is_err_and}
 use Rattle.sector_dev.specs.declared.device.DevError.{DevError}
 use Rattle.sector_dev.specs.Disk.{now, synced_image, Counts}
@@ -18,20 +19,28 @@ use Rattle.commit.specs.Replacing.{StandsAs}
 use Rattle.commit.specs.Standing.{is_size, is_on_device, runs_fault, standing}
 use Rattle.commit.specs.laws.Taking.{took_takes}
 use Rattle.store.specs.declared.stored.StoredCatalogue.{StoredCatalogue}
-use Rattle.store.specs.Calls.{apply_call}
+use Rattle.store.specs.Calls.{apply_call, is_failure, is_device_reply}
 use Rattle.store.specs.Machine.{halted, running, has_written, settle, halt, Allows}
 use Rattle.store.specs.Held.{whole_reading, tables_held}
 use Rattle.store.specs.Fits.{listed_in, setting_of}
 use Rattle.store.specs.Changes.{PlainChange, change_of}
 use Rattle.store.specs.Applying.{IsApplying}
 use Rattle.store.specs.Carrying.{IsCarried, asked_sizes}
+use Rattle.store.specs.Reading.{ended}
 use Rattle.store.proofs.ReadsStore.{shown_is_synced}
 use Rattle.store.proofs.Roomed.{carried_out, refused_out}
 use Rattle.store.proofs.Prepared.{failed_usages, placed_then, fit_then, uses_then}
+use Rattle.tables.specs.declared.refusal.Refusal.{Refusal}
 use Rattle.tables.specs.declared.refusal.Refusal.TheVariants as refusals
 use Rattle.canonical_write.specs.View.{streams_in}
 use Rattle.store.proofs.Carried.{made_change, refused_goes, failed_goes, done_goes, new_after, synced_outside, stands_then, can_publish, images, has_done, writes}
 use Rattle.store.proofs.store.Store.carry_out.Goals as goal
+
+memory_works : refusals.OutOfMemory ≢ refusals.Device
+memory_works is = cc is
+
+off_is_on : halted ≢ running
+off_is_on is = cc is
 
 pub returns-in_err-pieces-clause-goes : goal.returns-in_err-pieces-clause-goes
 returns-in_err-pieces-clause-goes g c = λ told base m cmd new fits on makes mk decided.
@@ -43,7 +52,7 @@ returns-in_err-pieces-clause-goes g c = λ told base m cmd new fits on makes mk 
       next = m;
       same = refl;
       goes = refused_goes (D.size s.device) base m cmd new on makes s.opened.commit (listed_in s) (IsUsedIn s.opened.map.entries) change (D.story s.device) (D.failed s.device) refusals.OutOfMemory fits.device.allows tt
-          (λ no. cc no) (refused_out D.size D.story base m s (fits.sound on) cmd change refusals.OutOfMemory decided tt);
+          memory_works (refused_out D.size D.story base m s (fits.sound on) cmd change refusals.OutOfMemory decided tt);
       fits = fits;
     })
 
@@ -193,7 +202,7 @@ returns-in-Ok-clause-goes g c = λ told base m cmd new fits run makes mk decided
         device = record {
           in_limits = subst (λ (n : ℕ). is_size n ≡ true) (sym sized) s.in_limits;
           allows = subst (λ (n : ℕ). LeavesOnly (Allows (setting_of n base) (settle cmd m)) (now s1)) (sym sized) goes.settles;
-          fresh = λ no. absurd (cc no);
+          fresh = λ no. absurd (true≢false no);
         };
         sound = λ again. record {
           stands = record {
@@ -242,9 +251,9 @@ returns-clause-goes g c = λ told base m cmd new fits run makes mk decided.
         device = record {
           in_limits = subst (λ (n : ℕ). is_size n ≡ true) (sym sized) s.in_limits;
           allows = subst (λ (n : ℕ). LeavesOnly (Allows (setting_of n base) next) (now s1)) (sym sized) goes.settles;
-          fresh = λ no. let yes' = fits.started in absurd (cc (yes', no));
+          fresh = λ no. absurd (true≢false (sym fits.started ∙ no));
         };
-        sound = λ again. absurd (cc again);
+        sound = λ again. absurd (off_is_on again);
       };
     }
 
@@ -294,3 +303,106 @@ returns-in-Ok-clause-written g c = λ told cmd on decided.
       };
       holds = has_done s.opened.map c.prepare.new.map s.opened.commit (listed_in s) change plan back prep (D.size s.device) s.same sound (now (D.story s.device)) cmd decided (synced_image (now s1)) p.stands p.holds;
     }
+
+-- ---- no device failed
+
+not_failed : (r : Refusal) → r ≢ refusals.Device → is_failure r ≡ false
+not_failed refusals.Device other = absurd (other refl)
+not_failed _ other = refl
+
+other_end : (ends : Result (Unit {0}) Refusal) → is_device_reply (ended ends) ≡ false → ends ≡ Err refusals.Device → ⊥
+other_end ends quiet is = true≢false (sym (ap (λ (x : Result (Unit {0}) Refusal). is_device_reply (ended x)) is) ∙ quiet)
+
+memory_on : refusals.OutOfMemory ≢ refusals.Halted
+memory_on is = cc is
+
+device_on : refusals.Device ≢ refusals.Halted
+device_on is = cc is
+
+pub returns-in_err-pieces-clause-count : goal.returns-in_err-pieces-clause-count
+returns-in_err-pieces-clause-count g c =
+    let p = err_from_is_err_and c.from_residual.result c.from_residual.ensures.1 in rw (p.1, p.2) refl
+
+pub returns-in_err-pieces-clause-carried : goal.returns-in_err-pieces-clause-carried
+returns-in_err-pieces-clause-carried g c =
+    let p = err_from_is_err_and c.from_residual.result c.from_residual.ensures.1 in rw (p.1, p.2) tt
+
+pub returns-in_err-pieces-clause-halts : goal.returns-in_err-pieces-clause-halts
+returns-in_err-pieces-clause-halts g c =
+    let p = err_from_is_err_and c.from_residual.result c.from_residual.ensures.1 in rw (p.1, p.2) (λ is. absurd (true≢false (sym is ∙ c.requires.on)), λ is. absurd (other_end (Err refusals.OutOfMemory) refl is))
+
+pub returns-in_err-pieces-clause-not_halted : goal.returns-in_err-pieces-clause-not_halted
+returns-in_err-pieces-clause-not_halted g c =
+    let p = err_from_is_err_and c.from_residual.result c.from_residual.ensures.1 in rw (p.1, p.2) memory_on
+
+pub returns-in_err-pieces-clause-kept : goal.returns-in_err-pieces-clause-kept
+returns-in_err-pieces-clause-kept g c =
+    let p = err_from_is_err_and c.from_residual.result c.from_residual.ensures.1 in rw p.1 (refl, refl, λ run. refl)
+
+pub returns-in_err-pieces-clause-quiet : goal.returns-in_err-pieces-clause-quiet
+returns-in_err-pieces-clause-quiet g c =
+    let p = err_from_is_err_and c.from_residual.result c.from_residual.ensures.1 in rw (p.1, p.2) (λ other. refl)
+
+pub returns-in_err-prepared-clause-count : goal.returns-in_err-prepared-clause-count
+returns-in_err-prepared-clause-count g c =
+    let failed = g.D.SectorDevice.failed c.args.self.now.device in
+    let p = err_from_is_err_and c.from_residual-in_err-prepared.result c.from_residual-in_err-prepared.ensures.1 in
+    rw (p.1, p.2) (sym (ap (λ (b : Bool). if b then min (failed + 1) (2 ^ 64 - 1) else failed) (not_failed c.in_err-prepared.field-0.0 c.in_err-prepared.ensures.device)))
+
+pub returns-in_err-prepared-clause-carried : goal.returns-in_err-prepared-clause-carried
+returns-in_err-prepared-clause-carried g c =
+    let s = c.args.self.now in
+    let change : PlainChange = change_of c.args.change.now in
+    let p = err_from_is_err_and c.from_residual-in_err-prepared.result c.from_residual-in_err-prepared.ensures.1 in
+    rw (p.1, p.2) (subst (λ (n : ℕ). IsCarried n (IsUsedIn s.opened.map.entries) s.opened.commit (listed_in s) change (Err c.in_err-prepared.field-0.0) s.opened.commit (listed_in s)) s.same c.in_err-prepared.ensures.why)
+
+pub returns-in_err-prepared-clause-halts : goal.returns-in_err-prepared-clause-halts
+returns-in_err-prepared-clause-halts g c =
+    let p = err_from_is_err_and c.from_residual-in_err-prepared.result c.from_residual-in_err-prepared.ensures.1 in rw (p.1, p.2) (λ is. absurd (true≢false (sym is ∙ c.requires.on)), λ is. absurd (other_end (Err c.in_err-prepared.field-0.0) (not_failed c.in_err-prepared.field-0.0 c.in_err-prepared.ensures.device) is))
+
+pub returns-in_err-prepared-clause-not_halted : goal.returns-in_err-prepared-clause-not_halted
+returns-in_err-prepared-clause-not_halted g c =
+    let p = err_from_is_err_and c.from_residual-in_err-prepared.result c.from_residual-in_err-prepared.ensures.1 in rw (p.1, p.2) c.in_err-prepared.ensures.not_halted
+
+pub returns-in_err-prepared-clause-kept : goal.returns-in_err-prepared-clause-kept
+returns-in_err-prepared-clause-kept g c =
+    let p = err_from_is_err_and c.from_residual-in_err-prepared.result c.from_residual-in_err-prepared.ensures.1 in rw p.1 (refl, refl, c.in_err-prepared.ensures.err)
+
+pub returns-in_err-prepared-clause-quiet : goal.returns-in_err-prepared-clause-quiet
+returns-in_err-prepared-clause-quiet g c =
+    let p = err_from_is_err_and c.from_residual-in_err-prepared.result c.from_residual-in_err-prepared.ensures.1 in rw (p.1, p.2) (λ other. refl)
+
+-- ---- it was called
+
+pub returns-in-Ok-clause-size : goal.returns-in-Ok-clause-size
+returns-in-Ok-clause-size g c = c.publish.ensures.size
+
+pub returns-in-Ok-clause-count : goal.returns-in-Ok-clause-count
+returns-in-Ok-clause-count g c = c.in-Ok.ensures.count
+
+pub returns-in-Ok-clause-halts : goal.returns-in-Ok-clause-halts
+returns-in-Ok-clause-halts g c = (λ is. absurd (true≢false (sym is ∙ c.requires.on)), λ is. absurd (other_end (Ok tt) refl is))
+
+pub returns-clause-size : goal.returns-clause-size
+returns-clause-size g c = c.publish.ensures.size
+
+pub returns-clause-count : goal.returns-clause-count
+returns-clause-count g c =
+    let D = g.D.SectorDevice in
+    subst (λ (e : DevError). Counts {T = Unit {0}} (D.failed c.args.self.now.device) (D.failed c.publish.new.device) (Err e)) c.in-Err.ensures.error c.in-Err.ensures.count
+
+pub returns-clause-halts : goal.returns-clause-halts
+returns-clause-halts g c = (λ is. refl, λ is. refl)
+
+pub returns-clause-not_halted : goal.returns-clause-not_halted
+returns-clause-not_halted g c = device_on
+
+pub returns-clause-kept : goal.returns-clause-kept
+returns-clause-kept g c =
+    let s = c.args.self.now in
+    let change : PlainChange = change_of c.args.change.now in
+    let gives = subst (λ (rs : List Run). GivesAll c.prepare.new.map c.give_each.new.self rs) c.deref.ensures.value c.give_each.ensures in
+    (refl, refl, failed_usages s.opened.map c.prepare.new.map s.opened.commit (listed_in s) change c.in_ok-prepared.prepared.plan c.in_ok-prepared.prepared.back.items c.in_ok-prepared.ensures.ok c.give_each.new.self gives)
+
+pub returns-clause-quiet : goal.returns-clause-quiet
+returns-clause-quiet g c = λ other. absurd (other refl)

@@ -1,4 +1,5 @@
 use Rattle.std.proofs.Common.{◌≡◌, true, false, sym, ap, ◌∙◌, subst}
+use Rattle.std.proofs.lemmas.Bool.{true≢false}
 use Rattle.sector_dev.specs.Disk.{now, shown_image}
 use Rattle.tables.specs.declared.command.Command.{Command}
 use Rattle.tables.specs.View.{command_of}
@@ -51,7 +52,7 @@ returns-in-Drop-clause-answers g c =
 
 pub returns-in-AppendStream-clause-still : goal.returns-in-AppendStream-clause-still
 returns-in-AppendStream-clause-still g c = λ plain.
-    let both : true ≡ false = ap (λ (k : Command). reads_device (command_of k)) (sym c.in-AppendStream.is) ∙ plain in absurd (cc both)
+    let both : true ≡ false = ap (λ (k : Command). reads_device (command_of k)) (sym c.in-AppendStream.is) ∙ plain in absurd (true≢false both)
 
 pub returns-in-AppendStream-clause-answers : goal.returns-in-AppendStream-clause-answers
 returns-in-AppendStream-clause-answers g c =
@@ -61,7 +62,7 @@ returns-in-AppendStream-clause-answers g c =
 
 pub returns-in-AppendRows-clause-still : goal.returns-in-AppendRows-clause-still
 returns-in-AppendRows-clause-still g c = λ plain.
-    let both : true ≡ false = ap (λ (k : Command). reads_device (command_of k)) (sym c.in-AppendRows.is) ∙ plain in absurd (cc both)
+    let both : true ≡ false = ap (λ (k : Command). reads_device (command_of k)) (sym c.in-AppendRows.is) ∙ plain in absurd (true≢false both)
 
 pub returns-in-AppendRows-clause-answers : goal.returns-in-AppendRows-clause-answers
 returns-in-AppendRows-clause-answers g c =
@@ -71,7 +72,7 @@ returns-in-AppendRows-clause-answers g c =
 
 pub returns-in-AppendTable-clause-still : goal.returns-in-AppendTable-clause-still
 returns-in-AppendTable-clause-still g c = λ plain.
-    let both : true ≡ false = ap (λ (k : Command). reads_device (command_of k)) (sym c.in-AppendTable.is) ∙ plain in absurd (cc both)
+    let both : true ≡ false = ap (λ (k : Command). reads_device (command_of k)) (sym c.in-AppendTable.is) ∙ plain in absurd (true≢false both)
 
 pub returns-in-AppendTable-clause-answers : goal.returns-in-AppendTable-clause-answers
 returns-in-AppendTable-clause-answers g c =
@@ -81,10 +82,72 @@ returns-in-AppendTable-clause-answers g c =
 
 pub returns-in-SaveAs-clause-still : goal.returns-in-SaveAs-clause-still
 returns-in-SaveAs-clause-still g c = λ plain.
-    let both : true ≡ false = ap (λ (k : Command). reads_device (command_of k)) (sym c.in-SaveAs.is) ∙ plain in absurd (cc both)
+    let both : true ≡ false = ap (λ (k : Command). reads_device (command_of k)) (sym c.in-SaveAs.is) ∙ plain in absurd (true≢false both)
 
 pub returns-in-SaveAs-clause-answers : goal.returns-in-SaveAs-clause-answers
 returns-in-SaveAs-clause-answers g c =
     let D = g.D.SectorDevice in
     let image = shown_image (now (D.story c.args.self.now.device)) in
     subst (λ (k : Command). IsAnswered D.tells image (listed_in c.args.self.now) (command_of k) (decision_of c.decide_save.result)) (sym c.in-SaveAs.is) c.decide_save.ensures.answers
+
+-- ---- what each of them promises
+
+pub returns-in-Create-clause-ok : goal.returns-in-Create-clause-ok
+returns-in-Create-clause-ok g c = c.decide_create.ensures.ok
+
+pub returns-in-Create-clause-not_halted : goal.returns-in-Create-clause-not_halted
+returns-in-Create-clause-not_halted g c = c.decide_create.ensures.not_halted
+
+pub returns-in-ImportStream-clause-ok : goal.returns-in-ImportStream-clause-ok
+returns-in-ImportStream-clause-ok g c = c.decide_import.ensures.ok
+
+pub returns-in-ImportStream-clause-not_halted : goal.returns-in-ImportStream-clause-not_halted
+returns-in-ImportStream-clause-not_halted g c = c.decide_import.ensures.not_halted
+
+pub returns-in-Rename-clause-ok : goal.returns-in-Rename-clause-ok
+returns-in-Rename-clause-ok g c = c.decide_rename.ensures.ok
+
+pub returns-in-Rename-clause-not_halted : goal.returns-in-Rename-clause-not_halted
+returns-in-Rename-clause-not_halted g c = c.decide_rename.ensures.not_halted
+
+pub returns-in-Drop-clause-ok : goal.returns-in-Drop-clause-ok
+returns-in-Drop-clause-ok g c = c.decide_drop.ensures.ok
+
+pub returns-in-Drop-clause-not_halted : goal.returns-in-Drop-clause-not_halted
+returns-in-Drop-clause-not_halted g c = c.decide_drop.ensures.not_halted
+
+pub returns-in-AppendStream-clause-reads : goal.returns-in-AppendStream-clause-reads
+returns-in-AppendStream-clause-reads g c = c.decide_append.ensures.reads
+
+pub returns-in-AppendStream-clause-ok : goal.returns-in-AppendStream-clause-ok
+returns-in-AppendStream-clause-ok g c = c.decide_append.ensures.ok
+
+pub returns-in-AppendStream-clause-not_halted : goal.returns-in-AppendStream-clause-not_halted
+returns-in-AppendStream-clause-not_halted g c = c.decide_append.ensures.not_halted
+
+pub returns-in-AppendRows-clause-reads : goal.returns-in-AppendRows-clause-reads
+returns-in-AppendRows-clause-reads g c = c.decide_append-in-AppendRows.ensures.reads
+
+pub returns-in-AppendRows-clause-ok : goal.returns-in-AppendRows-clause-ok
+returns-in-AppendRows-clause-ok g c = c.decide_append-in-AppendRows.ensures.ok
+
+pub returns-in-AppendRows-clause-not_halted : goal.returns-in-AppendRows-clause-not_halted
+returns-in-AppendRows-clause-not_halted g c = c.decide_append-in-AppendRows.ensures.not_halted
+
+pub returns-in-AppendTable-clause-reads : goal.returns-in-AppendTable-clause-reads
+returns-in-AppendTable-clause-reads g c = c.decide_append-in-AppendTable.ensures.reads
+
+pub returns-in-AppendTable-clause-ok : goal.returns-in-AppendTable-clause-ok
+returns-in-AppendTable-clause-ok g c = c.decide_append-in-AppendTable.ensures.ok
+
+pub returns-in-AppendTable-clause-not_halted : goal.returns-in-AppendTable-clause-not_halted
+returns-in-AppendTable-clause-not_halted g c = c.decide_append-in-AppendTable.ensures.not_halted
+
+pub returns-in-SaveAs-clause-reads : goal.returns-in-SaveAs-clause-reads
+returns-in-SaveAs-clause-reads g c = c.decide_save.ensures.reads
+
+pub returns-in-SaveAs-clause-ok : goal.returns-in-SaveAs-clause-ok
+returns-in-SaveAs-clause-ok g c = c.decide_save.ensures.ok
+
+pub returns-in-SaveAs-clause-not_halted : goal.returns-in-SaveAs-clause-not_halted
+returns-in-SaveAs-clause-not_halted g c = c.decide_save.ensures.not_halted
