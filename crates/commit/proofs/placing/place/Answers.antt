@@ -3,6 +3,7 @@ use Rattle.std.specs.Global.{Vec}
 use Rattle.std.proofs.lemmas.List.{take_more}
 use Rattle.std.proofs.lemmas.Result.{err_from_is_err_and}
 use Rattle.segments.specs.Usages.{IsUsedIn}
+use Rattle.segments.specs.declared.errors.TakeError.TheVariants.{NoRoom, OutOfMemory}
 use Rattle.segments.specs.declared.run.Run.{Run}
 use Rattle.segments.specs.declared.piece.Part.{Part}
 use Rattle.commit.specs.Placing.{Takes, AreShort, counts_of, plain_contents}
@@ -16,16 +17,20 @@ take_runs-requires c =
     let counts = c.deref-2.ensures.value ∙ c.in_ok-counts.ensures.counts ∙ ap (λ (vs : List (Vec Part)). counts_of (plain_contents vs) c.args.text_bytes) c.deref.ensures.value in
     record { some = subst (λ (ns : List ℕ). (i : ℕ) → i < length ns → 1 ≤ get_or ns i 0) (sym counts) (counts_some (plain_contents c.args.contents.items) c.args.text_bytes c.requires.some c.requires.text) }
 
+-- want of memory names no number of sectors
+no_number : (n : ℕ) → OutOfMemory ≡ NoRoom n → ⊥
+no_number n is = cc is
+
 pub returns-in_err-counts-clause-no_room : goal.returns-in_err-counts-clause-no_room
-returns-in_err-counts-clause-no_room c = let p = err_from_is_err_and c.from_residual.result c.from_residual.ensures.1 in rw (p.1, p.2) (λ n is. absurd (cc is))
+returns-in_err-counts-clause-no_room c = let p = err_from_is_err_and c.from_residual.result c.from_residual.ensures.1 in rw (p.1, p.2) (λ n is. absurd (no_number n is))
 
 pub returns-in_err-pieces-clause-no_room : goal.returns-in_err-pieces-clause-no_room
 returns-in_err-pieces-clause-no_room c =
-    let p = err_from_is_err_and c.from_residual-in_err-pieces.result c.from_residual-in_err-pieces.ensures.1 in rw (p.1, p.2) (λ n is. absurd (cc is))
+    let p = err_from_is_err_and c.from_residual-in_err-pieces.result c.from_residual-in_err-pieces.ensures.1 in rw (p.1, p.2) (λ n is. absurd (no_number n is))
 
 pub returns-in_err-room-clause-no_room : goal.returns-in_err-room-clause-no_room
 returns-in_err-room-clause-no_room c =
-    let p = err_from_is_err_and c.from_residual-in_err-room.result c.from_residual-in_err-room.ensures.1 in rw (p.1, p.2) (λ n is. absurd (cc is))
+    let p = err_from_is_err_and c.from_residual-in_err-room.result c.from_residual-in_err-room.ensures.1 in rw (p.1, p.2) (λ n is. absurd (no_number n is))
 
 pub returns-in_err-runs-clause-no_room : goal.returns-in_err-runs-clause-no_room
 returns-in_err-runs-clause-no_room c =

@@ -67,9 +67,6 @@ returns-in-Err-Unreadable-clause-count g c =
     let D = g.D.SectorDevice in
     subst (λ (e : ReadError). CountsRead {T = Vec ℕ} (D.failed c.args.device.now) (D.failed c.read_run.new.device) (Err e)) c.in-Err-Unreadable.field-0-is c.in-Err-Unreadable.ensures.count
 
-pub returns-in-Err-Unreadable-clause-a_store : goal.returns-in-Err-Unreadable-clause-a_store
-returns-in-Err-Unreadable-clause-a_store g c = λ is. cc is
-
 pub returns-in-Err-Failed-clause-count : goal.returns-in-Err-Failed-clause-count
 returns-in-Err-Failed-clause-count g c =
     let D = g.D.SectorDevice in
@@ -78,9 +75,6 @@ returns-in-Err-Failed-clause-count g c =
 pub returns-in-Err-Failed-clause-damaged : goal.returns-in-Err-Failed-clause-damaged
 returns-in-Err-Failed-clause-damaged g c = λ told. tt
 
-pub returns-in-Err-Failed-clause-a_store : goal.returns-in-Err-Failed-clause-a_store
-returns-in-Err-Failed-clause-a_store g c = λ is. cc is
-
 pub returns-in-Err-OutOfMemory-clause-count : goal.returns-in-Err-OutOfMemory-clause-count
 returns-in-Err-OutOfMemory-clause-count g c =
     let D = g.D.SectorDevice in
@@ -88,6 +82,3 @@ returns-in-Err-OutOfMemory-clause-count g c =
 
 pub returns-in-Err-OutOfMemory-clause-damaged : goal.returns-in-Err-OutOfMemory-clause-damaged
 returns-in-Err-OutOfMemory-clause-damaged g c = λ told. tt
-
-pub returns-in-Err-OutOfMemory-clause-a_store : goal.returns-in-Err-OutOfMemory-clause-a_store
-returns-in-Err-OutOfMemory-clause-a_store g c = λ is. cc is

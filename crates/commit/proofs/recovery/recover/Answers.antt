@@ -3,7 +3,7 @@ use Rattle.std.proofs.Common.{◌≢◌, ◌∙◌, ◌+◌, ◌-◌, ◌^◌, �
 use Rattle.std.proofs.lemmas.Bool.{false≢true}
 use Rattle.std.proofs.lemmas.Result.{err_from_is_err_and}
 use Rattle.sector_dev.specs.Disk.{now, shown_image, flushed}
-use Rattle.sector_dev.specs.laws.Time.{weaken, goes_on, passed, two, now_read}
+use Rattle.sector_dev.specs.laws.Time.{stays, weaken, goes_on, passed, two, now_read}
 use Rattle.commit.specs.Opening.{IsOpening}
 use Rattle.commit.specs.declared.reading.OpenError.{OpenError}
 use Rattle.commit.specs.declared.reading.OpenError.TheVariants.{Device}
@@ -143,3 +143,12 @@ returns-in_err-sync-clause-map_size g c = rw (err_from_is_err_and c.from_residua
 
 pub returns-in_err-sync-clause-uses : goal.returns-in_err-sync-clause-uses
 returns-in_err-sync-clause-uses g c = rw (err_from_is_err_and c.from_residual-in_err-sync.result c.from_residual-in_err-sync.ensures.1).1 tt
+
+pub returns-then-sectors-lt-LEAST_SECTORS-clause-limits : goal.returns-then-sectors-lt-LEAST_SECTORS-clause-limits
+returns-then-sectors-lt-LEAST_SECTORS-clause-limits g c = λ other. (refl, refl)
+
+pub returns-then-sectors-lt-LEAST_SECTORS-clause-moments : goal.returns-then-sectors-lt-LEAST_SECTORS-clause-moments
+returns-then-sectors-lt-LEAST_SECTORS-clause-moments g c = λ told. let story = g.D.SectorDevice.story c.args.device.now in stays (IsOpening (now story)) story
+
+pub returns-then-sectors-lt-LEAST_SECTORS-clause-quiet : goal.returns-then-sectors-lt-LEAST_SECTORS-clause-quiet
+returns-then-sectors-lt-LEAST_SECTORS-clause-quiet g c = λ other told. refl
