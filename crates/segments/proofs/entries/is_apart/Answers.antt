@@ -1,4 +1,5 @@
 use Rattle.std.proofs.Common.{◌≡◌, ◌≤◌, ◌<◌, ◌+◌, ◌-◌, ℕ, suc, length, get_or, false, refl, sym, ap, ◌∙◌, subst, arith}
+use Rattle.std.proofs.lemmas.Bool.{false≢true}
 use Rattle.segments.specs.declared.entries.UsageEntry.{UsageEntry}
 use Rattle.segments.specs.Runs.{IsApart}
 use Rattle.segments.specs.laws.Runs.{swapped}
@@ -17,7 +18,7 @@ pub returns-then-contains : goal.returns-then-contains
 returns-then-contains c =
     let within : c.place_of_start-place.result - 1 < length c.args.entries.now = omega arith in
     let starts = c.contains.ensures.0 c.if-contains.true in (
-      λ is. absurd (cc),
+      λ is. absurd (false≢true is),
       λ apart.
           absurd (meets c.get.result.run c.args.run c.args.run.start (λ i. c.args.run.start) starts.0 starts.1 c.requires.some
           (subst (λ (e : UsageEntry). IsApart c.args.run e.run) (sym (c.get.ensures none)) (apart_at c.args.run c.args.entries.now (c.place_of_start-place.result - 1) none apart within))),
@@ -31,7 +32,7 @@ returns-then-contains-2 c =
     let is = sym (c.get-then-place-len.ensures none) in
     let within : place < length es = omega arith in
     let starts = c.contains-then-place-len.ensures.0 c.if-contains-2.true in (
-      λ is'. absurd (cc),
+      λ is'. absurd (false≢true is'),
       λ apart.
           absurd (meets c.args.run at.run at.run.start (λ i. at.run.start) starts.0 starts.1 (subst (λ (e : UsageEntry). 1 ≤ e.run.count) is (some_at 2 es place none c.requires.ordered within))
           (swapped c.args.run at.run (subst (λ (e : UsageEntry). IsApart c.args.run e.run) is (apart_at c.args.run es place none apart within)))),

@@ -1,6 +1,7 @@
-use Rattle.std.proofs.Common.{◌≡◌, ◌+◌, ◌∙◌, ℕ, List, length, Some, Err, refl, sym, ap, arith, true, is_ok}
+use Rattle.std.proofs.Common.{◌≡◌, ◌+◌, ◌∙◌, ℕ, List, length, Some, Ok, Err, refl, sym, ap, arith, true, is_ok}
 use Rattle.std.proofs.lemmas.Bool.{cond-true}
 use Rattle.std.proofs.lemmas.Result.{err_from_is_err_and}
+use Rattle.segments.specs.declared.reading.ReadError.{ReadError}
 use Rattle.segments.specs.declared.reading.ReadError.TheVariants.{Unreadable, OutOfMemory}
 use Rattle.sector_dev.specs.Disk.{Disk, now, shown_image}
 use Rattle.sector_dev.specs.laws.Time.{stays, only_read, read_on, now_read}
@@ -8,6 +9,12 @@ use Rattle.segments.specs.laws.ReadBack.{none_at}
 use Rattle.segments.specs.Sectors.{sector_count}
 use Rattle.segments.proofs.Gathered.{counted, joined_more, gathered, told_unreadable, never_memory, read_counted, same_error, told_of, watched_length, ends_at}
 use Rattle.segments.proofs.reading.read_run.Goals as goal
+
+memory_other : OutOfMemory ≡ Unreadable → ⊥
+memory_other is = cc is
+
+no_error : {T : Type 0} (x : T) (e : ReadError) → Ok x ≡ Err e → ⊥
+no_error x e is = cc is
 
 pub overflow_mul-count : goal.overflow_mul-count
 overflow_mul-count g c = let count = counted c.args.byte_count in omega (arith, count)
@@ -95,7 +102,8 @@ pub returns-in_err-bytes-clause-count : goal.returns-in_err-bytes-clause-count
 returns-in_err-bytes-clause-count g c = let p = err_from_is_err_and c.from_residual.result c.from_residual.ensures.1 in rw (p.1, p.2) refl
 
 pub returns-in_err-bytes-clause-unreadable : goal.returns-in_err-bytes-clause-unreadable
-returns-in_err-bytes-clause-unreadable g c = let p = err_from_is_err_and c.from_residual.result c.from_residual.ensures.1 in rw (p.1, p.2) (λ is. absurd (cc is))
+returns-in_err-bytes-clause-unreadable g c = λ is.
+    let p = err_from_is_err_and c.from_residual.result c.from_residual.ensures.1 in absurd (memory_other (sym p.2 ∙ same_error c.from_residual.result p.0 Unreadable p.1 is))
 
 pub returns-in_err-bytes-clause-first : goal.returns-in_err-bytes-clause-first
 returns-in_err-bytes-clause-first g c = let p = err_from_is_err_and c.from_residual.result c.from_residual.ensures.1 in rw (p.1, p.2) (λ other. absurd (other refl))
@@ -121,7 +129,7 @@ returns-in_err-read-clause-memory g c = λ is.
 -- ---- all are read
 
 pub returns-clause-unreadable : goal.returns-clause-unreadable
-returns-clause-unreadable g c = λ is. absurd (cc is)
+returns-clause-unreadable g c = λ is. absurd (no_error _ _ is)
 
 pub returns-clause-memory : goal.returns-clause-memory
-returns-clause-memory g c = λ is. absurd (cc is)
+returns-clause-memory g c = λ is. absurd (no_error _ _ is)
