@@ -1,5 +1,5 @@
 -- A query that is saved: what is answered of it, where its tests are made before the table is read.
-use Rattle.std.specs.Prelude.{◌≢◌, ◌⊎◌, ◌&&◌, nat_le, not, length, IfSome}
+use Rattle.std.specs.Prelude.{◌≢◌, ◌⊎◌, ◌&&◌, nat_le, not, length, IfSome, IfErr, OnOk}
 use Rattle.std.proofs.Common.{◌≡◌, ℕ, Bool, true, false, List, [], ◌∷◌, Option, Some, None, Result, Ok, Err, inl, inr, refl, sym, ap, subst}
 use Rattle.facts.specs.Checks.{when, first_some, unless}
 use Rattle.sector_dev.specs.Disk.{Image}
@@ -22,11 +22,12 @@ use Rattle.store.specs.Changes.{PlainChange}
 use Rattle.store.specs.Deciding.{has_entry, taken_in, full_in, create_tests, unselected, selected_entry, decided_selection, entry_selected, IsSaved}
 use Rattle.store.specs.Reading.{IsRead, Unreads}
 use Rattle.store.specs.inner.Saving.{IsSelected}
+use Rattle.store.specs.inner.Tests.{Tests}
 
--- ---- no test tells that the store is halted
+-- ---- no test tells that the store is halted, or that its device failed
 
 abbrev IsOn : Refusal → Type 0
-IsOn r = r ≢ refusals.Halted
+IsOn r = (r ≢ refusals.Halted) × (is_failure r ≡ false)
 
 by_first : (o : Option Refusal) (os : List (Option Refusal)) (r : Refusal) → IfSome o IsOn → (first_some os ≡ Some r → IsOn r) → first_some (o ∷ os) ≡ Some r → IsOn r
 by_first (Some q) os r own rest is = let same : q ≡ r = cc is in subst IsOn same own
@@ -38,14 +39,14 @@ by_when false r on = tt
 
 create_on : (c : PlainCatalogue) (name : List ℕ) (r : Refusal) → create_tests c name ≡ Some r → IsOn r
 create_on c name r is =
-    by_first (bad_name name) (taken_in c name ∷ full_in c name ∷ []) r (by_when (not (is_name name)) refusals.BadName (λ is. cc is))
-    (by_first (taken_in c name) (full_in c name ∷ []) r (by_when (has_entry c name) refusals.NameTaken (λ is. cc is))
-    (by_first (full_in c name) [] r (by_when (not (has_entry c name) && nat_le MAX_TABLES (length c)) (refusals.TooMany limits.Tables) (λ is. cc is)) (λ none. absurd (cc none)))) is
+    by_first (bad_name name) (taken_in c name ∷ full_in c name ∷ []) r (by_when (not (is_name name)) refusals.BadName (λ is. cc is, refl))
+    (by_first (taken_in c name) (full_in c name ∷ []) r (by_when (has_entry c name) refusals.NameTaken (λ is. cc is, refl))
+    (by_first (full_in c name) [] r (by_when (not (has_entry c name) && nat_le MAX_TABLES (length c)) (refusals.TooMany limits.Tables) (λ is. cc is, refl)) (λ none. absurd (cc none)))) is
 
 query_on : (r : queries.Refusal) → IsOn (query_refusal r)
-query_on queries.unknown_column is = cc is
-query_on queries.bad_condition is = cc is
-query_on queries.not_comparable is = cc is
+query_on queries.unknown_column = (λ is. cc is, refl)
+query_on queries.bad_condition = (λ is. cc is, refl)
+query_on queries.not_comparable = (λ is. cc is, refl)
 
 abbrev pub test_of : Result PlainTable queries.Refusal → Option Refusal
 test_of s = elim s [ Ok table ↦ None | Err r ↦ Some (query_refusal r) ]
@@ -60,7 +61,7 @@ module _ (c : PlainCatalogue) (to : List ℕ) (query : PlainQuery) (e : PlainEnt
 
   pub tested_on : (r : Refusal) → tests ≡ Some r → r ≢ refusals.Halted
   tested_on r is =
-      by_first (unselected e.schema query) (create_tests c to ∷ []) r (unselected_on (selection (empty_table e.schema) query)) (λ later. create_on c to r (by_last (create_tests c to) r later)) is
+      (by_first (unselected e.schema query) (create_tests c to ∷ []) r (unselected_on (selection (empty_table e.schema) query)) (λ later. create_on c to r (by_last (create_tests c to) r later)) is).0
     where
       by_last : (o : Option Refusal) (r : Refusal) → first_some (o ∷ []) ≡ Some r → o ≡ Some r
       by_last (Some q) r is = is
@@ -102,3 +103,18 @@ select_untold s errors.UnknownColumn told = inr (ap test_of told)
 select_untold s errors.BadCondition told = inr (ap test_of told)
 select_untold s errors.NotComparable told = inr (ap test_of told)
 select_untold s errors.OutOfMemory told = inl refl
+
+-- ---- the tests of the query, and then those of the name
+
+pub create_quiet : (c : PlainCatalogue) (name : List ℕ) (r : Result (Unit {0}) Refusal) → Tests r (create_tests c name) → IfErr r (λ e. is_failure e ≡ false)
+create_quiet c name (Ok unit) test = tt
+create_quiet c name (Err e) test = (create_on c name e test).1
+
+module _ (u t : Option Refusal) (none : u ≡ None) where
+  pub both_pass : (r : Result (Unit {0}) Refusal) → Tests r t → OnOk r (first_some (u ∷ t ∷ []) ≡ None)
+  both_pass (Ok unit) test = λ i. first_some (none i ∷ test i ∷ [])
+  both_pass (Err e) test = tt
+
+  pub later_tells : (r : Result (Unit {0}) Refusal) → Tests r t → IfErr r (λ e. (e ≡ refusals.OutOfMemory) ⊎ (first_some (u ∷ t ∷ []) ≡ Some e))
+  later_tells (Ok unit) test = tt
+  later_tells (Err e) test = inr (λ i. first_some (none i ∷ test i ∷ []))

@@ -1,7 +1,7 @@
 use Rattle.std.specs.Prelude.{nat_eq}
 use Rattle.std.specs.List.{starts_with}
 use Rattle.std.specs.Prelude.{◌==◌}
-use Rattle.std.proofs.Common.{◌≡◌, ◌++◌, Bool, true, false, if◌then◌else◌, length, drop, Some, None, Ok, refl, sym, ap, ◌∙◌, subst}
+use Rattle.std.proofs.Common.{◌≡◌, ◌++◌, Bool, true, false, if◌then◌else◌, length, drop, Some, None, Result, Ok, refl, sym, ap, ◌∙◌, subst}
 use Rattle.std.proofs.lemmas.Bool.{eq-eqb, ne_eqb}
 use Rattle.std.proofs.lemmas.Slice.Eq.{starts_is}
 use Rattle.std.proofs.lemmas.Bool.Decides.{Decides-eqb}
@@ -10,7 +10,7 @@ use Rattle.ipc_message.specs.Checks.{schema_checks, checked_schema}
 use Rattle.ipc_message.specs.Convert.{plain_schema_of}
 use Rattle.ipc_message.specs.Framing.{Envelope, next_message, message, first_some}
 use Rattle.ipc_message.specs.Header.{header, supported_codes}
-use Rattle.ipc_message.specs.Raw.{schema_header}
+use Rattle.ipc_message.specs.Raw.{RawSchema, schema_header}
 use Rattle.ipc_stream.specs.Meaning.{meaning}
 use Rattle.ipc_stream.specs.laws.First.{means_begins}
 use Rattle.ipc_write.specs.Decoded.{raw_schema}
@@ -18,6 +18,15 @@ use Rattle.ipc_write.specs.Written.{schema_message, schema_envelope}
 use Rattle.values.specs.TableView.{table_of}
 use Rattle.store.specs.Held.{rows_where}
 use Rattle.store.proofs.reading.table_in_bytes.Goals as goal
+
+same_ok : {T E : Type 0} (a b : T) (r : Result T E) → r ≡ Ok a → r ≡ Ok b → a ≡ b
+same_ok a b r is other = cc (is, other)
+
+message_is : (a b : Envelope) → message a ≡ message b → a ≡ b
+message_is a b is = cc is
+
+header_is : (a b : RawSchema) → schema_header a ≡ schema_header b → a ≡ b
+header_is a b is = cc is
 
 -- the first message is that of the schema, and a stream means a table of the schema of its first message
 pub returns-then-len-rows-clause-schema : goal.returns-then-len-rows-clause-schema
@@ -30,12 +39,13 @@ returns-then-len-rows-clause-schema c = λ s within front.
     let first = means_begins supported_codes bytes t c.in-Ok.ensures.exact in
     let parts : bytes ≡ schema_message s ++ drop (length (schema_message s)) bytes = (starts_is Decides-eqb bytes (schema_message s) (starts_with nat_eq bytes (schema_message s)) refl).0 begins in
     let found : next_message bytes ≡ Ok (message (schema_envelope s)) = ap next_message parts ∙ law.next_message s (drop (length (schema_message s)) bytes) within in
-    let one : first.first ≡ schema_envelope s = let both : Ok (message first.first) ≡ Ok (message (schema_envelope s)) = sym first.found ∙ found in cc in
+    let one : first.first ≡ schema_envelope s =
+    message_is first.first (schema_envelope s) (same_ok (message first.first) (message (schema_envelope s)) (next_message bytes) first.found found) in
     let own : header supported_codes (schema_envelope s).metadata ≡ Ok (schema_header first.schema) = subst (λ (m : Envelope). header supported_codes m.metadata ≡ Ok (schema_header first.schema)) one first.decoded in
-    let written : Ok (schema_header first.schema) ≡ Ok (schema_header (raw_schema s)) = sym own ∙ law.header supported_codes s (refl, refl) within in
-    let same : first.schema ≡ raw_schema s = cc in
+    let same : first.schema ≡ raw_schema s =
+    header_is first.schema (raw_schema s) (same_ok (schema_header first.schema) (schema_header (raw_schema s)) (header supported_codes (schema_envelope s).metadata) own (law.header supported_codes s (refl, refl) within)) in
     let passed = unless_passed (first_some (schema_checks supported_codes first.schema)) (Ok (plain_schema_of first.schema)) t.schema first.checked in
-    let plain : plain_schema_of first.schema ≡ t.schema = let both = passed.1 in cc in
+    let plain : plain_schema_of first.schema ≡ t.schema = same_ok (plain_schema_of first.schema) t.schema (Ok (plain_schema_of first.schema)) refl passed.1 in
     sym plain ∙ ap plain_schema_of same ∙ law.decoded s within
 
 -- ---- the rows, where the bytes begin with the message and mean so many
