@@ -5,6 +5,7 @@ mod AtNames
 mod EditedCounts
 mod Tested
 mod Decided
+mod Turns
 mod Prepared
 mod Carried
 mod GivenRows

@@ -58,10 +58,10 @@ fn borrowed_parts<'a>(
 ) -> Result<Vec<Part<'a>>, AllocError>
     ensures { IfOk result (λ borrowed. bytes_of_parts borrowed.items ≡ first.now ++ joined_parts parts.now) }
 {
-    let mut borrowed = Vec::new(alloc);
-    borrowed.push(Part::Borrowed(first))?;
+    let mut borrowed = Vec::with_capacity(alloc, parts.len() + 1)?;
+    borrowed.push_reserved(Part::Borrowed(first));
     for part in parts {
-        borrowed.push(Part::Borrowed(part.bytes()))?;
+        borrowed.push_reserved(Part::Borrowed(part.bytes()));
     }
     Ok(borrowed)
 }
@@ -75,7 +75,7 @@ fn borrowed_streams<'a>(
 {
     let mut borrowed = Vec::with_capacity(alloc, pieces.parts.len())?;
     for parts in &pieces.parts {
-        borrowed.push(borrowed_parts(alloc, &pieces.schema_message, parts)?)?;
+        borrowed.push_reserved(borrowed_parts(alloc, &pieces.schema_message, parts)?);
     }
     Ok(borrowed)
 }

@@ -131,10 +131,10 @@ pub(crate) fn segments_of(
     for (place, piece) in pieces.iter().enumerate() {
         let bytes = byte_count(&piece.parts).ok_or(AllocError)?;
         let run = piece.run;
-        segments.push(Segment {
+        segments.push_reserved(Segment {
             place: Extent { run, bytes },
             rows: rows[place],
-        })?;
+        });
     }
     Ok(segments)
 }
@@ -155,10 +155,10 @@ pub(crate) fn unplaced(
             start: 0,
             count: bytes.div_ceil(SECTOR_BYTES as u64),
         };
-        segments.push(Segment {
+        segments.push_reserved(Segment {
             place: Extent { run, bytes },
             rows: rows[place],
-        })?;
+        });
     }
     Ok(segments)
 }
