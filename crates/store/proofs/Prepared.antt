@@ -12,7 +12,8 @@ use Rattle.canonical_write.specs.declared.encoder.EncodedPieces.{EncodedPieces}
 use Rattle.segments.specs.declared.errors.TakeError.{TakeError}
 use Rattle.segments.specs.declared.errors.TakeError.TheVariants as takings
 use Rattle.segments.specs.declared.run.Run.{Run}
-use Rattle.segments.specs.Pieces.{PlainPiece, plain_pieces}
+use Rattle.segments.specs.declared.piece.Piece.{Piece}
+use Rattle.segments.specs.Pieces.{PlainPiece, plain_piece, plain_pieces}
 use Rattle.segments.specs.Runs.{OutOf}
 use Rattle.segments.specs.Sectors.{sector_count}
 use Rattle.segments.specs.declared.extent.Extent.{Extent}
@@ -39,6 +40,7 @@ use Rattle.commit.specs.laws.Apart.{on_device_is}
 use Rattle.commit.specs.laws.Frame.{fault_none}
 use Rattle.commit.specs.laws.Placed.{plan_follows, placed_extent, taken_free, uses_used, taken_uses, given_uses}
 use Rattle.commit.specs.laws.Fit.{fit_again, times_both, times_some, some_times, once, all_on}
+use Rattle.tables.specs.declared.refusal.Refusal.TheVariants as refusals
 use Rattle.store.specs.declared.stored.StoredCatalogue.{StoredCatalogue}
 use Rattle.store.specs.Held.{whole_reading, catalogue_or_cause}
 use Rattle.store.specs.Changes.{PlainChange, PlainEdit, IsChange, edited, given_up, placed_segments, HoldsStreams}
@@ -56,6 +58,15 @@ unplaced_count pieces change n count same each =
     let whole = pieces.parts.ok in
     let streams = length-map pieces.parts.items (λ (v : Vec Buffer). pieces.schema_message.items ++ joined_parts v.items) in
     omega (arith, unplaced_number change.streams change.counts each, streams, ap (λ (xs : List (List ℕ)). length xs) same, count, whole)
+
+-- as many numbers of rows as pieces
+pub as_many_rows : (pieces : List Piece) (rows : List ℕ) (change : PlainChange) → contents_of (plain_pieces pieces) ≡ change.streams → rows ≡ change.counts → length change.streams ≡ length change.counts → length pieces ≡ length rows
+as_many_rows pieces rows change contents counts each =
+    sym (length-map pieces plain_piece) ∙ sym (length-map (plain_pieces pieces) (λ (p : PlainPiece). p.bytes)) ∙ ap (λ (xs : List (List ℕ)). length xs) contents ∙ each ∙ ap (λ (ns : List ℕ). length ns) (sym counts)
+
+-- the text of a catalogue is not empty
+pub some_bytes : (c : PlainCatalogue) (bytes : ℕ) → bytes ≡ list_size c → 1 ≤ bytes
+some_bytes c bytes is = omega (arith, is)
 
 module _ (c : PlainCatalogue) (change : PlainChange) (sound : IsChange c change) where
   -- its outline may stand, where it has few enough segments
@@ -252,6 +263,15 @@ module _ (old new : Space) (k : Commit) (c : PlainCatalogue) (change : PlainChan
       (subst (λ (ps : List PlainPiece). HoldsEach image ps) p.whole holds))
 
 -- ---- how it is prepared
+
+-- where no run was taken the device did not fail, and the store is not halted
+pub taking_other : (e : TakeError) → (taking_refusal e ≢ refusals.Device) × (taking_refusal e ≢ refusals.Halted)
+taking_other (takings.NoRoom n) = (λ is. cc is, λ is. cc is)
+taking_other takings.OutOfMemory = (λ is. cc is, λ is. cc is)
+
+-- where memory was refused, room was not
+pub memory_alone : (n : ℕ) → takings.OutOfMemory ≢ takings.NoRoom n
+memory_alone n is = cc is
 
 -- why no run was taken
 pub taking_carried : (size : ℕ) (used : Run → Type 0) (k : Commit) (c : PlainCatalogue) (change : PlainChange) (e : TakeError) → HasNext k → segment_count (outline c change) ≤ MAX_SEGMENTS

@@ -1,13 +1,14 @@
-use Rattle.std.proofs.Common.{◌≤◌, sym, subst, arith}
+use Rattle.std.proofs.Common.{◌≤◌, ◌≢◌, sym, subst, arith}
 use Rattle.std.specs.Prelude.{Err}
 use Rattle.segments.specs.Usages.{IsUsedIn}
 use Rattle.catalogue.specs.declared.limits.TheConstants.{MAX_SEGMENTS}
 use Rattle.catalogue.specs.Entries.{segment_count}
 use Rattle.catalogue.specs.View.{catalogue_of}
 use Rattle.tables.specs.declared.refusal.Refusal.{Refusal}
+use Rattle.tables.specs.declared.refusal.Refusal.TheVariants as refusals
 use Rattle.store.specs.Changes.{PlainChange, change_of}
 use Rattle.store.specs.Carrying.{HasNext, IsCarried, outline, unplaced}
-use Rattle.store.proofs.Prepared.{taking_carried, unplaced_count}
+use Rattle.store.proofs.Prepared.{taking_other, taking_carried, unplaced_count}
 use Rattle.store.proofs.carrying.prepare.Goals as goal
 
 pub returns-then-segments_after-gt-MAX_SEGMENTS-clause-why : goal.returns-then-segments_after-gt-MAX_SEGMENTS-clause-why
@@ -40,3 +41,9 @@ returns-in-Err-clause-why c =
 
 pub segments_after-requires-clause-edit : goal.segments_after-requires-clause-edit
 segments_after-requires-clause-edit c = let change : PlainChange = change_of c.args.change.now in (change.streams, c.requires.sound.edit)
+
+pub returns-in-Err-clause-device : goal.returns-in-Err-clause-device
+returns-in-Err-clause-device c = subst (λ (r : Refusal). r ≢ refusals.Device) (sym c.taking_refusal.ensures) (taking_other c.in-Err.error).0
+
+pub returns-in-Err-clause-not_halted : goal.returns-in-Err-clause-not_halted
+returns-in-Err-clause-not_halted c = subst (λ (r : Refusal). r ≢ refusals.Halted) (sym c.taking_refusal.ensures) (taking_other c.in-Err.error).1
