@@ -260,3 +260,9 @@ module _ (tells : Bool) (image : Image) (name : List ℕ) (e : PlainEntry) (test
       → IsAppended tells image name tested d
   appended_behind d weight weighs (inl none) = inl none
   appended_behind d weight weighs (inr decided) = inr (inr (added d (decided standing.rows weighs)))
+
+-- what is decided of an addition, by the test of what it and the rows that stand weigh
+pub behind_by : (name : List ℕ) (a : Addition) (standing : List (List Cell)) (weight : ℕ) (o : Option Refusal) → weight ≡ table_weight a.entry.schema (standing ++ a.rows)
+    → when (not (nat_le weight MAX_TABLE_WEIGHT)) (TooMany limits.Weight) ≡ o → decided_behind name a standing ≡ unless o (Ok (pieces_put (extend name) (rows_under a.entry.schema a.rows)))
+behind_by name a standing weight o is tested =
+    ap (λ (x : Option Refusal). unless x (Ok (pieces_put (extend name) (rows_under a.entry.schema a.rows)))) (ap (λ (n : ℕ). when (not (nat_le n MAX_TABLE_WEIGHT)) (TooMany limits.Weight)) (sym is) ∙ tested)

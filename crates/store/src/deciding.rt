@@ -1,12 +1,11 @@
 // What a command changes, as the catalogue decides it: its tests in their order, and then the change.
-ghost use Rattle.std.specs.Prelude.{◌≡◌, ◌≢◌, [], Bool, IfOk, IfErr, false, string_bytes};
+ghost use Rattle.std.specs.Prelude.{◌≡◌, [], Bool, IfOk, string_bytes};
 ghost use Rattle.sector_dev.specs.Disk.{Image};
 ghost use Rattle.arrow_schema.specs.View.{schema_of};
 ghost use Rattle.catalogue.specs.Entries.{IsCatalogue};
 ghost use Rattle.catalogue.specs.View.{catalogue_of};
 ghost use Rattle.tables.specs.Commands.{create, import_stream, rename, drop_table};
 ghost use Rattle.tables.specs.Verdict.{bad_name, too_many_bytes, other_shape, import_tests};
-ghost use Rattle.store.specs.Calls.{is_failure};
 ghost use Rattle.store.specs.Changes.{change_of, edit_of, CanChange};
 ghost use Rattle.store.specs.Deciding.{IsAnswered, has_entry, missing_in, taken_in, full_in, create_tests, rename_tests};
 ghost use Rattle.values.specs.TableView.{table_of};
@@ -146,8 +145,6 @@ pub(crate) fn put_table(alloc: Global, name: String, table: Table) -> Result<Cha
 // A table without rows.
 pub(crate) fn decide_create(catalogue: &Catalogue, new: NewTable) -> Result<Change, Refusal>
     ensures ok { IfOk result (λ change. CanChange (catalogue_of catalogue.now) (change_of change)) }
-    ensures no_device { IfErr result (λ e. is_failure e ≡ false) }
-    ensures not_halted { IfErr result (λ e. e ≢ Refusal.Halted) }
     ensures answers { (tells : Bool) (image : Image) → IsAnswered tells image (catalogue_of catalogue.now)
         (create (string_bytes new.name) (schema_of new.schema)) (decision_of result) }
 {
@@ -165,8 +162,6 @@ pub(crate) fn decide_import(
     bytes: Vec<u8>,
 ) -> Result<Change, Refusal>
     ensures ok { IfOk result (λ change. CanChange (catalogue_of catalogue.now) (change_of change)) }
-    ensures no_device { IfErr result (λ e. is_failure e ≡ false) }
-    ensures not_halted { IfErr result (λ e. e ≢ Refusal.Halted) }
     ensures answers { (tells : Bool) (image : Image) → IsAnswered tells image (catalogue_of catalogue.now)
         (import_stream (string_bytes name) bytes.items) (decision_of result) }
 {
@@ -185,8 +180,6 @@ pub(crate) fn decide_rename(
     to: String,
 ) -> Result<Change, Refusal>
     ensures ok { IfOk result (λ change. CanChange (catalogue_of catalogue.now) (change_of change)) }
-    ensures no_device { IfErr result (λ e. is_failure e ≡ false) }
-    ensures not_halted { IfErr result (λ e. e ≢ Refusal.Halted) }
     ensures answers { (tells : Bool) (image : Image) → IsAnswered tells image (catalogue_of catalogue.now)
         (rename (string_bytes from) (string_bytes to)) (decision_of result) }
 {
@@ -197,8 +190,6 @@ pub(crate) fn decide_rename(
 // No table of the name any more.
 pub(crate) fn decide_drop(catalogue: &Catalogue, name: String) -> Result<Change, Refusal>
     ensures ok { IfOk result (λ change. CanChange (catalogue_of catalogue.now) (change_of change)) }
-    ensures no_device { IfErr result (λ e. is_failure e ≡ false) }
-    ensures not_halted { IfErr result (λ e. e ≢ Refusal.Halted) }
     ensures answers { (tells : Bool) (image : Image) → IsAnswered tells image (catalogue_of catalogue.now)
         (drop_table (string_bytes name)) (decision_of result) }
 {

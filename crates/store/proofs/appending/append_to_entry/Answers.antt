@@ -1,4 +1,4 @@
-use Rattle.std.proofs.Common.{◌+◌, inr, string_bytes}
+use Rattle.std.proofs.Common.{◌+◌, inr, subst, string_bytes}
 use Rattle.sector_dev.specs.Disk.{now, shown_image}
 use Rattle.catalogue.specs.Entries.{plain_entry}
 use Rattle.catalogue.specs.laws.Kept.{entry_is}
@@ -8,7 +8,9 @@ use Rattle.store.specs.inner.Gathered.{gathered_table}
 use Rattle.store.specs.inner.Tests.{decision_of}
 use Rattle.store.proofs.Appended.{weighed_both, heavy_alone, appended_behind}
 use Rattle.store.specs.Calls.{refused}
-use Rattle.store.proofs.Quiet.{passes_quiet, passes_told}
+use Rattle.tables.specs.declared.refusal.Refusal.{Refusal}
+use Rattle.store.specs.Reading.{Unreads}
+use Rattle.store.proofs.Quiet.{passes_quiet, passes_told, unread_told}
 use Rattle.store.proofs.ReadTables.{reads_ended, reads_quiet}
 use Rattle.store.proofs.appending.append_to_entry.Goals as goal
 
@@ -54,3 +56,27 @@ returns-in-Err-clause-answers g c =
 
 pub returns-in-Err-clause-not_halted : goal.returns-in-Err-clause-not_halted
 returns-in-Err-clause-not_halted g c = (passes_quiet c.args.new (plain_entry c.args.entry.now) c.in-Err.refusal c.in-Err.ensures.refused).halted
+
+pub returns-in-Some-clause-ok : goal.returns-in-Some-clause-ok
+returns-in-Some-clause-ok g c = c.decide_behind.ensures.ok
+
+pub returns-in-Some-clause-not_halted : goal.returns-in-Some-clause-not_halted
+returns-in-Some-clause-not_halted g c = c.decide_behind.ensures.not_halted
+
+pub returns-in-None-clause-reads : goal.returns-in-None-clause-reads
+returns-in-None-clause-reads g c =
+    let reads = c.in-Ok-gather_entry.ensures.reads in record { same = reads.same; moments = reads.moments; count = reads.count }
+
+pub returns-in-Err-gather_entry-clause-reads : goal.returns-in-Err-gather_entry-clause-reads
+returns-in-Err-gather_entry-clause-reads g c = c.in-Err-gather_entry.ensures.reads
+
+pub returns-in-Err-gather_entry-clause-answers : goal.returns-in-Err-gather_entry-clause-answers
+returns-in-Err-gather_entry-clause-answers g c =
+    let D = g.D.SectorDevice in
+    let e = plain_entry c.args.entry.now in
+    unread_told D.tells (shown_image (now (D.story c.args.device.now))) (string_bytes c.args.name) e (added_to c.args.new e) c.in-Ok.passed c.in-Err-gather_entry.refusal c.in-Ok.ensures.passed c.in-Err-gather_entry.ensures.unread
+
+pub returns-in-Err-gather_entry-clause-not_halted : goal.returns-in-Err-gather_entry-clause-not_halted
+returns-in-Err-gather_entry-clause-not_halted g c = λ is.
+    let D = g.D.SectorDevice in
+    subst (λ (r : Refusal). Unreads D.tells (shown_image (now (D.story c.args.device.now))) (plain_entry c.args.entry.now) r) is c.in-Err-gather_entry.ensures.unread

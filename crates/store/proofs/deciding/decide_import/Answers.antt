@@ -1,4 +1,4 @@
-use Rattle.std.proofs.Common.{◌≡◌, None, Ok, refl, ap, sym, ◌∙◌, subst, string_bytes}
+use Rattle.std.proofs.Common.{◌≡◌, None, Ok, inl, refl, ap, sym, ◌∙◌, subst, string_bytes}
 use Rattle.cells.specs.Cell.{PlainTable}
 use Rattle.values.specs.Table.{IsTable}
 use Rattle.values.specs.TableView.{table_of}
@@ -58,3 +58,8 @@ returns-clause-answers c = λ tells image.
     let put : IsPut (string_bytes c.args.name) table (change_of c.in_ok-put_table.field-0) = c.in_ok-put_table.ensures in
     subst (λ (x : PlainChange). IsAnswered tells image listed (import_stream (string_bytes c.args.name) c.args.bytes.items) (Ok x)) (sym put)
     (table_answers tells image listed (string_bytes c.args.name) c.args.bytes.items table _ tested c.in_ok-table.ensures.exact room)
+
+pub returns-in_err-put_table-clause-answers : goal.returns-in_err-put_table-clause-answers
+returns-in_err-put_table-clause-answers c = λ tells image.
+    let p = err_from_is_err_and c.from_residual-in_err-put_table.result c.from_residual-in_err-put_table.ensures.1 in
+    rw (p.1, p.2) (inl refl)

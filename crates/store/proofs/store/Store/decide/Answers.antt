@@ -1,18 +1,39 @@
-use Rattle.std.proofs.Common.{◌≡◌, true, false, sym, ap, ◌∙◌, subst}
+use Rattle.std.proofs.Common.{◌≡◌, ◌≢◌, true, false, refl, sym, ap, ◌∙◌, subst, string_bytes}
 use Rattle.std.proofs.lemmas.Bool.{true≢false}
+use Rattle.std.proofs.lemmas.Result.{IfErr-weaker}
 use Rattle.sector_dev.specs.Disk.{now, shown_image}
+use Rattle.arrow_schema.specs.View.{schema_of}
 use Rattle.tables.specs.declared.command.Command.{Command}
+use Rattle.tables.specs.declared.refusal.Refusal.TheVariants as refusals
+use Rattle.tables.specs.Commands.{create, import_stream, rename, drop_table}
 use Rattle.tables.specs.View.{command_of}
+use Rattle.store.specs.Calls.{is_failure}
 use Rattle.store.specs.Deciding.{IsAnswered, reads_device}
 use Rattle.store.specs.Fits.{listed_in}
 use Rattle.store.specs.Reading.{ended}
 use Rattle.store.specs.inner.Tests.{decision_of}
 use Rattle.store.proofs.Applied.{ended_quiet, reads_nothing}
+use Rattle.store.proofs.Quiet.{IsQuiet, answers_quiet}
 use Rattle.store.proofs.store.Store.decide.Goals as goal
 
 pub returns-in-Create-clause-reads : goal.returns-in-Create-clause-reads
 returns-in-Create-clause-reads g c =
-    let D = g.D.SectorDevice in reads_nothing D.size D.story D.failed D.tells (ended c.decide_create.result) c.args.self.now (ended_quiet c.decide_create.result c.decide_create.ensures.no_device)
+    let D = g.D.SectorDevice in
+    let s = c.args.self.now in
+    let image = shown_image (now (D.story s.device)) in
+    let quiet = answers_quiet D.tells image (listed_in s) (create (string_bytes c.in-Create.new.name) (schema_of c.in-Create.new.schema)) c.decide_create.result refl (c.decide_create.ensures.answers D.tells image) in
+    reads_nothing D.size D.story D.failed D.tells (ended c.decide_create.result) s (ended_quiet c.decide_create.result (IfErr-weaker c.decide_create.result IsQuiet (λ e. is_failure e ≡ false) (λ e q. q.device) quiet))
+
+pub returns-in-Create-clause-ok : goal.returns-in-Create-clause-ok
+returns-in-Create-clause-ok g c = c.decide_create.ensures.ok
+
+pub returns-in-Create-clause-not_halted : goal.returns-in-Create-clause-not_halted
+returns-in-Create-clause-not_halted g c =
+    let D = g.D.SectorDevice in
+    let s = c.args.self.now in
+    let image = shown_image (now (D.story s.device)) in
+    IfErr-weaker c.decide_create.result IsQuiet (λ e. e ≢ refusals.Halted) (λ e q. q.halted)
+    (answers_quiet D.tells image (listed_in s) (create (string_bytes c.in-Create.new.name) (schema_of c.in-Create.new.schema)) c.decide_create.result refl (c.decide_create.ensures.answers D.tells image))
 
 pub returns-in-Create-clause-answers : goal.returns-in-Create-clause-answers
 returns-in-Create-clause-answers g c =
@@ -22,7 +43,22 @@ returns-in-Create-clause-answers g c =
 
 pub returns-in-ImportStream-clause-reads : goal.returns-in-ImportStream-clause-reads
 returns-in-ImportStream-clause-reads g c =
-    let D = g.D.SectorDevice in reads_nothing D.size D.story D.failed D.tells (ended c.decide_import.result) c.args.self.now (ended_quiet c.decide_import.result c.decide_import.ensures.no_device)
+    let D = g.D.SectorDevice in
+    let s = c.args.self.now in
+    let image = shown_image (now (D.story s.device)) in
+    let quiet = answers_quiet D.tells image (listed_in s) (import_stream (string_bytes c.in-ImportStream.name) c.in-ImportStream.bytes.items) c.decide_import.result refl (c.decide_import.ensures.answers D.tells image) in
+    reads_nothing D.size D.story D.failed D.tells (ended c.decide_import.result) s (ended_quiet c.decide_import.result (IfErr-weaker c.decide_import.result IsQuiet (λ e. is_failure e ≡ false) (λ e q. q.device) quiet))
+
+pub returns-in-ImportStream-clause-ok : goal.returns-in-ImportStream-clause-ok
+returns-in-ImportStream-clause-ok g c = c.decide_import.ensures.ok
+
+pub returns-in-ImportStream-clause-not_halted : goal.returns-in-ImportStream-clause-not_halted
+returns-in-ImportStream-clause-not_halted g c =
+    let D = g.D.SectorDevice in
+    let s = c.args.self.now in
+    let image = shown_image (now (D.story s.device)) in
+    IfErr-weaker c.decide_import.result IsQuiet (λ e. e ≢ refusals.Halted) (λ e q. q.halted)
+    (answers_quiet D.tells image (listed_in s) (import_stream (string_bytes c.in-ImportStream.name) c.in-ImportStream.bytes.items) c.decide_import.result refl (c.decide_import.ensures.answers D.tells image))
 
 pub returns-in-ImportStream-clause-answers : goal.returns-in-ImportStream-clause-answers
 returns-in-ImportStream-clause-answers g c =
@@ -32,7 +68,22 @@ returns-in-ImportStream-clause-answers g c =
 
 pub returns-in-Rename-clause-reads : goal.returns-in-Rename-clause-reads
 returns-in-Rename-clause-reads g c =
-    let D = g.D.SectorDevice in reads_nothing D.size D.story D.failed D.tells (ended c.decide_rename.result) c.args.self.now (ended_quiet c.decide_rename.result c.decide_rename.ensures.no_device)
+    let D = g.D.SectorDevice in
+    let s = c.args.self.now in
+    let image = shown_image (now (D.story s.device)) in
+    let quiet = answers_quiet D.tells image (listed_in s) (rename (string_bytes c.in-Rename.from) (string_bytes c.in-Rename.to)) c.decide_rename.result refl (c.decide_rename.ensures.answers D.tells image) in
+    reads_nothing D.size D.story D.failed D.tells (ended c.decide_rename.result) s (ended_quiet c.decide_rename.result (IfErr-weaker c.decide_rename.result IsQuiet (λ e. is_failure e ≡ false) (λ e q. q.device) quiet))
+
+pub returns-in-Rename-clause-ok : goal.returns-in-Rename-clause-ok
+returns-in-Rename-clause-ok g c = c.decide_rename.ensures.ok
+
+pub returns-in-Rename-clause-not_halted : goal.returns-in-Rename-clause-not_halted
+returns-in-Rename-clause-not_halted g c =
+    let D = g.D.SectorDevice in
+    let s = c.args.self.now in
+    let image = shown_image (now (D.story s.device)) in
+    IfErr-weaker c.decide_rename.result IsQuiet (λ e. e ≢ refusals.Halted) (λ e q. q.halted)
+    (answers_quiet D.tells image (listed_in s) (rename (string_bytes c.in-Rename.from) (string_bytes c.in-Rename.to)) c.decide_rename.result refl (c.decide_rename.ensures.answers D.tells image))
 
 pub returns-in-Rename-clause-answers : goal.returns-in-Rename-clause-answers
 returns-in-Rename-clause-answers g c =
@@ -42,13 +93,37 @@ returns-in-Rename-clause-answers g c =
 
 pub returns-in-Drop-clause-reads : goal.returns-in-Drop-clause-reads
 returns-in-Drop-clause-reads g c =
-    let D = g.D.SectorDevice in reads_nothing D.size D.story D.failed D.tells (ended c.decide_drop.result) c.args.self.now (ended_quiet c.decide_drop.result c.decide_drop.ensures.no_device)
+    let D = g.D.SectorDevice in
+    let s = c.args.self.now in
+    let image = shown_image (now (D.story s.device)) in
+    let quiet = answers_quiet D.tells image (listed_in s) (drop_table (string_bytes c.in-Drop.name)) c.decide_drop.result refl (c.decide_drop.ensures.answers D.tells image) in
+    reads_nothing D.size D.story D.failed D.tells (ended c.decide_drop.result) s (ended_quiet c.decide_drop.result (IfErr-weaker c.decide_drop.result IsQuiet (λ e. is_failure e ≡ false) (λ e q. q.device) quiet))
+
+pub returns-in-Drop-clause-ok : goal.returns-in-Drop-clause-ok
+returns-in-Drop-clause-ok g c = c.decide_drop.ensures.ok
+
+pub returns-in-Drop-clause-not_halted : goal.returns-in-Drop-clause-not_halted
+returns-in-Drop-clause-not_halted g c =
+    let D = g.D.SectorDevice in
+    let s = c.args.self.now in
+    let image = shown_image (now (D.story s.device)) in
+    IfErr-weaker c.decide_drop.result IsQuiet (λ e. e ≢ refusals.Halted) (λ e q. q.halted)
+    (answers_quiet D.tells image (listed_in s) (drop_table (string_bytes c.in-Drop.name)) c.decide_drop.result refl (c.decide_drop.ensures.answers D.tells image))
 
 pub returns-in-Drop-clause-answers : goal.returns-in-Drop-clause-answers
 returns-in-Drop-clause-answers g c =
     let D = g.D.SectorDevice in
     let image = shown_image (now (D.story c.args.self.now.device)) in
     subst (λ (k : Command). IsAnswered D.tells image (listed_in c.args.self.now) (command_of k) (decision_of c.decide_drop.result)) (sym c.in-Drop.is) (c.decide_drop.ensures.answers D.tells image)
+
+pub returns-in-AppendStream-clause-reads : goal.returns-in-AppendStream-clause-reads
+returns-in-AppendStream-clause-reads g c = c.decide_append.ensures.reads
+
+pub returns-in-AppendStream-clause-ok : goal.returns-in-AppendStream-clause-ok
+returns-in-AppendStream-clause-ok g c = c.decide_append.ensures.ok
+
+pub returns-in-AppendStream-clause-not_halted : goal.returns-in-AppendStream-clause-not_halted
+returns-in-AppendStream-clause-not_halted g c = c.decide_append.ensures.not_halted
 
 pub returns-in-AppendStream-clause-still : goal.returns-in-AppendStream-clause-still
 returns-in-AppendStream-clause-still g c = λ plain.
@@ -60,6 +135,15 @@ returns-in-AppendStream-clause-answers g c =
     let image = shown_image (now (D.story c.args.self.now.device)) in
     subst (λ (k : Command). IsAnswered D.tells image (listed_in c.args.self.now) (command_of k) (decision_of c.decide_append.result)) (sym c.in-AppendStream.is) c.decide_append.ensures.answers
 
+pub returns-in-AppendRows-clause-reads : goal.returns-in-AppendRows-clause-reads
+returns-in-AppendRows-clause-reads g c = c.decide_append-in-AppendRows.ensures.reads
+
+pub returns-in-AppendRows-clause-ok : goal.returns-in-AppendRows-clause-ok
+returns-in-AppendRows-clause-ok g c = c.decide_append-in-AppendRows.ensures.ok
+
+pub returns-in-AppendRows-clause-not_halted : goal.returns-in-AppendRows-clause-not_halted
+returns-in-AppendRows-clause-not_halted g c = c.decide_append-in-AppendRows.ensures.not_halted
+
 pub returns-in-AppendRows-clause-still : goal.returns-in-AppendRows-clause-still
 returns-in-AppendRows-clause-still g c = λ plain.
     let both : true ≡ false = ap (λ (k : Command). reads_device (command_of k)) (sym c.in-AppendRows.is) ∙ plain in absurd (true≢false both)
@@ -69,6 +153,15 @@ returns-in-AppendRows-clause-answers g c =
     let D = g.D.SectorDevice in
     let image = shown_image (now (D.story c.args.self.now.device)) in
     subst (λ (k : Command). IsAnswered D.tells image (listed_in c.args.self.now) (command_of k) (decision_of c.decide_append-in-AppendRows.result)) (sym c.in-AppendRows.is) c.decide_append-in-AppendRows.ensures.answers
+
+pub returns-in-AppendTable-clause-reads : goal.returns-in-AppendTable-clause-reads
+returns-in-AppendTable-clause-reads g c = c.decide_append-in-AppendTable.ensures.reads
+
+pub returns-in-AppendTable-clause-ok : goal.returns-in-AppendTable-clause-ok
+returns-in-AppendTable-clause-ok g c = c.decide_append-in-AppendTable.ensures.ok
+
+pub returns-in-AppendTable-clause-not_halted : goal.returns-in-AppendTable-clause-not_halted
+returns-in-AppendTable-clause-not_halted g c = c.decide_append-in-AppendTable.ensures.not_halted
 
 pub returns-in-AppendTable-clause-still : goal.returns-in-AppendTable-clause-still
 returns-in-AppendTable-clause-still g c = λ plain.
@@ -80,6 +173,15 @@ returns-in-AppendTable-clause-answers g c =
     let image = shown_image (now (D.story c.args.self.now.device)) in
     subst (λ (k : Command). IsAnswered D.tells image (listed_in c.args.self.now) (command_of k) (decision_of c.decide_append-in-AppendTable.result)) (sym c.in-AppendTable.is) c.decide_append-in-AppendTable.ensures.answers
 
+pub returns-in-SaveAs-clause-reads : goal.returns-in-SaveAs-clause-reads
+returns-in-SaveAs-clause-reads g c = c.decide_save.ensures.reads
+
+pub returns-in-SaveAs-clause-ok : goal.returns-in-SaveAs-clause-ok
+returns-in-SaveAs-clause-ok g c = c.decide_save.ensures.ok
+
+pub returns-in-SaveAs-clause-not_halted : goal.returns-in-SaveAs-clause-not_halted
+returns-in-SaveAs-clause-not_halted g c = c.decide_save.ensures.not_halted
+
 pub returns-in-SaveAs-clause-still : goal.returns-in-SaveAs-clause-still
 returns-in-SaveAs-clause-still g c = λ plain.
     let both : true ≡ false = ap (λ (k : Command). reads_device (command_of k)) (sym c.in-SaveAs.is) ∙ plain in absurd (true≢false both)
@@ -89,65 +191,3 @@ returns-in-SaveAs-clause-answers g c =
     let D = g.D.SectorDevice in
     let image = shown_image (now (D.story c.args.self.now.device)) in
     subst (λ (k : Command). IsAnswered D.tells image (listed_in c.args.self.now) (command_of k) (decision_of c.decide_save.result)) (sym c.in-SaveAs.is) c.decide_save.ensures.answers
-
--- ---- what each of them promises
-
-pub returns-in-Create-clause-ok : goal.returns-in-Create-clause-ok
-returns-in-Create-clause-ok g c = c.decide_create.ensures.ok
-
-pub returns-in-Create-clause-not_halted : goal.returns-in-Create-clause-not_halted
-returns-in-Create-clause-not_halted g c = c.decide_create.ensures.not_halted
-
-pub returns-in-ImportStream-clause-ok : goal.returns-in-ImportStream-clause-ok
-returns-in-ImportStream-clause-ok g c = c.decide_import.ensures.ok
-
-pub returns-in-ImportStream-clause-not_halted : goal.returns-in-ImportStream-clause-not_halted
-returns-in-ImportStream-clause-not_halted g c = c.decide_import.ensures.not_halted
-
-pub returns-in-Rename-clause-ok : goal.returns-in-Rename-clause-ok
-returns-in-Rename-clause-ok g c = c.decide_rename.ensures.ok
-
-pub returns-in-Rename-clause-not_halted : goal.returns-in-Rename-clause-not_halted
-returns-in-Rename-clause-not_halted g c = c.decide_rename.ensures.not_halted
-
-pub returns-in-Drop-clause-ok : goal.returns-in-Drop-clause-ok
-returns-in-Drop-clause-ok g c = c.decide_drop.ensures.ok
-
-pub returns-in-Drop-clause-not_halted : goal.returns-in-Drop-clause-not_halted
-returns-in-Drop-clause-not_halted g c = c.decide_drop.ensures.not_halted
-
-pub returns-in-AppendStream-clause-reads : goal.returns-in-AppendStream-clause-reads
-returns-in-AppendStream-clause-reads g c = c.decide_append.ensures.reads
-
-pub returns-in-AppendStream-clause-ok : goal.returns-in-AppendStream-clause-ok
-returns-in-AppendStream-clause-ok g c = c.decide_append.ensures.ok
-
-pub returns-in-AppendStream-clause-not_halted : goal.returns-in-AppendStream-clause-not_halted
-returns-in-AppendStream-clause-not_halted g c = c.decide_append.ensures.not_halted
-
-pub returns-in-AppendRows-clause-reads : goal.returns-in-AppendRows-clause-reads
-returns-in-AppendRows-clause-reads g c = c.decide_append-in-AppendRows.ensures.reads
-
-pub returns-in-AppendRows-clause-ok : goal.returns-in-AppendRows-clause-ok
-returns-in-AppendRows-clause-ok g c = c.decide_append-in-AppendRows.ensures.ok
-
-pub returns-in-AppendRows-clause-not_halted : goal.returns-in-AppendRows-clause-not_halted
-returns-in-AppendRows-clause-not_halted g c = c.decide_append-in-AppendRows.ensures.not_halted
-
-pub returns-in-AppendTable-clause-reads : goal.returns-in-AppendTable-clause-reads
-returns-in-AppendTable-clause-reads g c = c.decide_append-in-AppendTable.ensures.reads
-
-pub returns-in-AppendTable-clause-ok : goal.returns-in-AppendTable-clause-ok
-returns-in-AppendTable-clause-ok g c = c.decide_append-in-AppendTable.ensures.ok
-
-pub returns-in-AppendTable-clause-not_halted : goal.returns-in-AppendTable-clause-not_halted
-returns-in-AppendTable-clause-not_halted g c = c.decide_append-in-AppendTable.ensures.not_halted
-
-pub returns-in-SaveAs-clause-reads : goal.returns-in-SaveAs-clause-reads
-returns-in-SaveAs-clause-reads g c = c.decide_save.ensures.reads
-
-pub returns-in-SaveAs-clause-ok : goal.returns-in-SaveAs-clause-ok
-returns-in-SaveAs-clause-ok g c = c.decide_save.ensures.ok
-
-pub returns-in-SaveAs-clause-not_halted : goal.returns-in-SaveAs-clause-not_halted
-returns-in-SaveAs-clause-not_halted g c = c.decide_save.ensures.not_halted
