@@ -27,6 +27,21 @@ plan_change-requires-clause-few c =
     let within = c.if-segments_after-gt-MAX_SEGMENTS.false in
     omega (arith, after, within)
 
+pub returns-in-Ok-clause-ok : goal.returns-in-Ok-clause-ok
+returns-in-Ok-clause-ok c = c.in-Ok.ensures.ok
+
+pub returns-in-Ok-clause-why : goal.returns-in-Ok-clause-why
+returns-in-Ok-clause-why c = tt
+
+pub returns-in-Ok-clause-device : goal.returns-in-Ok-clause-device
+returns-in-Ok-clause-device c = tt
+
+pub returns-in-Ok-clause-not_halted : goal.returns-in-Ok-clause-not_halted
+returns-in-Ok-clause-not_halted c = tt
+
+pub returns-in-Ok-clause-err : goal.returns-in-Ok-clause-err
+returns-in-Ok-clause-err c = tt
+
 pub returns-in-Err-clause-why : goal.returns-in-Err-clause-why
 returns-in-Err-clause-why c =
     let listed = catalogue_of c.args.stored.now.list in
