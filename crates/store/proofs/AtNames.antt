@@ -13,7 +13,7 @@ use Rattle.tables.specs.declared.refusal.Refusal.{Refusal}
 use Rattle.tables.specs.declared.refusal.Refusal.TheVariants.{Halted, NoTable, OutOfMemory, Write}
 use Rattle.store.specs.Changes.{PlainChange}
 use Rattle.store.specs.Deciding.{of_entry, streamed_rows, given_rows, selected_entry, IsAdded, IsSaved, IsAnswered}
-use Rattle.store.specs.Reading.{IsRead, ReadsTable, RefusesRead}
+use Rattle.store.specs.Reading.{IsRead, Unreads, ReadsTable, RefusesRead}
 use Rattle.store.specs.declared.new_rows.NewRows.{NewRows}
 use Rattle.store.specs.declared.new_rows.NewRows.TheVariants.{Stream, Given, OfTable}
 use Rattle.store.specs.inner.Appending.{append_of, added_to, IsAppended}
@@ -25,6 +25,10 @@ module _ (halted tells : Bool) (image : Image) (found : Option PlainEntry) where
   pub read_at : (e : PlainEntry) (table : PlainTable) → halted ≡ false → found ≡ Some e → IsRead tells image e table → ReadsTable halted tells image found table
   read_at e table on there read =
       subst (λ (b : Bool). ReadsTable b tells image found table) (sym on) (subst (λ (o : Option PlainEntry). ReadsTable false tells image o table) (sym there) read)
+
+  pub unread_at : (e : PlainEntry) (r : Refusal) → halted ≡ false → found ≡ Some e → Unreads tells image e r → RefusesRead halted tells image found r
+  unread_at e r on there unread =
+      subst (λ (b : Bool). RefusesRead b tells image found r) (sym on) (subst (λ (o : Option PlainEntry). RefusesRead false tells image o r) (sym there) unread)
 
   pub read_nowhere : halted ≡ false → found ≡ None → RefusesRead halted tells image found NoTable
   read_nowhere on none = subst (λ (b : Bool). RefusesRead b tells image found NoTable) (sym on) (subst (λ (o : Option PlainEntry). RefusesRead false tells image o NoTable) (sym none) refl)

@@ -169,3 +169,23 @@ returns-in-Err-clause-count_back g c =
     let before = D.failed c.args.device in
     let after = D.failed c.format.new.device in
     subst (λ (r : OpeningRefusal). after ≡ counted (shut_by r) before) (sym c.formatting_refusal.ensures) (formatting_counts c.format.result c.in-Err.error before after c.in-Err.is c.format.ensures.count)
+
+-- ---- no store was made
+
+pub returns-in-Err-clause-opened : goal.returns-in-Err-clause-opened
+returns-in-Err-clause-opened g c = tt
+
+pub returns-in-Err-clause-formatted : goal.returns-in-Err-clause-formatted
+returns-in-Err-clause-formatted g c = tt
+
+pub returns-in-Err-clause-empty : goal.returns-in-Err-clause-empty
+returns-in-Err-clause-empty g c = tt
+
+pub returns-in-Err-clause-in_limits : goal.returns-in-Err-clause-in_limits
+returns-in-Err-clause-in_limits g c = tt
+
+pub returns-in-Err-clause-size : goal.returns-in-Err-clause-size
+returns-in-Err-clause-size g c = tt
+
+pub returns-in-Err-clause-count : goal.returns-in-Err-clause-count
+returns-in-Err-clause-count g c = tt

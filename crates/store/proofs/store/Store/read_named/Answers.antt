@@ -1,4 +1,5 @@
-use Rattle.std.proofs.Common.{◌≡◌, Some, refl, sym, ℕ, true, None, subst, ◌∙◌}
+use Rattle.std.specs.Prelude.{◌||◌}
+use Rattle.std.proofs.Common.{◌≡◌, Bool, Some, refl, sym, ap, ℕ, true, None, subst, ◌∙◌}
 use Rattle.sector_dev.specs.Disk.{now, shown_image}
 use Rattle.segments.specs.laws.Usages.{or_false}
 use Rattle.values.specs.TableView.{table_of}
@@ -7,10 +8,10 @@ use Rattle.catalogue.specs.Edits.{entry_of}
 use Rattle.catalogue.specs.laws.Changed.{found_passes}
 use Rattle.commit.specs.laws.Frame.{fault_none}
 use Rattle.tables.specs.declared.refusal.Refusal.TheVariants.{Halted, NoTable}
-use Rattle.store.specs.Calls.{refused}
+use Rattle.store.specs.Calls.{is_failure, refused}
 use Rattle.store.specs.Fits.{listed_in}
 use Rattle.commit.specs.Standing.{is_size, is_on_device, runs_fault}
-use Rattle.store.proofs.AtNames.{read_at, read_nowhere, read_halted}
+use Rattle.store.proofs.AtNames.{read_at, read_nowhere, read_halted, unread_at}
 use Rattle.store.proofs.ReadTables.{runs_on_device, reads_quiet}
 use Rattle.store.proofs.store.Store.read_named.Goals as goal
 
@@ -49,6 +50,17 @@ returns-in-Ok-clause-found g c =
     let store = c.args.self.now in
     let image = shown_image (now (D.story store.device)) in
     read_at store.halted D.tells image (entry_of (listed_in store) c.args.name.now) (plain_entry c.in-Some.entry.now) (table_of c.in-Ok.table) c.if-self.false (sym c.in-Some.ensures.entry) c.in-Ok.ensures.table
+
+pub returns-in-Err-clause-reads : goal.returns-in-Err-clause-reads
+returns-in-Err-clause-reads g c =
+    record { device = c.in-Err.ensures.reads; kept = refl; halts = c.is_failure-self.ensures ∙ sym (ap (λ (b : Bool). b || is_failure c.in-Err.refusal) c.if-self.false) }
+
+pub returns-in-Err-clause-told : goal.returns-in-Err-clause-told
+returns-in-Err-clause-told g c =
+    let D = g.D.SectorDevice in
+    let store = c.args.self.now in
+    let image = shown_image (now (D.story store.device)) in
+    unread_at store.halted D.tells image (entry_of (listed_in store) c.args.name.now) (plain_entry c.in-Some.entry.now) c.in-Err.refusal c.if-self.false (sym c.in-Some.ensures.entry) c.in-Err.ensures.unread
 
 pub returns-in-None-clause-reads : goal.returns-in-None-clause-reads
 returns-in-None-clause-reads g c =
