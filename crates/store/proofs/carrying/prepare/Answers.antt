@@ -54,6 +54,9 @@ returns-in-Err-clause-why c =
     subst (λ (r : Refusal). IsCarried c.args.map.now.size (IsUsedIn c.args.map.now.entries) c.args.commit listed change (Err r) c.args.commit listed) (sym c.taking_refusal.ensures)
     (taking_carried c.args.map.now.size (IsUsedIn c.args.map.now.entries) c.args.commit listed change c.in-Err.error next few c.in-Err.ensures.no_room)
 
+pub returns-in-Err-clause-err : goal.returns-in-Err-clause-err
+returns-in-Err-clause-err c = c.in-Err.ensures.err
+
 pub segments_after-requires-clause-edit : goal.segments_after-requires-clause-edit
 segments_after-requires-clause-edit c = let change : PlainChange = change_of c.args.change.now in (change.streams, c.requires.sound.edit)
 
