@@ -1,13 +1,21 @@
 // A device that is a file: written and read sector by sector, and written by rows of sectors.
-use anyhow::{Context, Error, Result, anyhow, bail};
-use sector_dev::{DevError, FileDevice, SectorDevice};
+use anyhow::{Context, Result, bail};
+use sector_dev::{DevError, FileDevice, FileError, SectorDevice};
+use std::fs::{self, File};
 use std::time::Instant;
-use std::{fmt, fs};
 
 const SECTORS_IN_A_MEBIBYTE: u64 = 2048;
 
 // those of 4,096 values of 4 bytes
 const ROW: usize = 32;
+
+// What is measured of a device.
+#[derive(Clone, Copy)]
+enum Step {
+    Write,
+    Read,
+    Rows,
+}
 
 // The content of a sector: its number, again and again.
 fn content(n: u64) -> [u8; 512] {
@@ -48,42 +56,65 @@ fn reads_all<D: SectorDevice>(device: &mut D) -> Result<bool, DevError> {
     Ok(well)
 }
 
-fn told<E: fmt::Debug + Drop>(error: E) -> Error {
-    anyhow!("{error:?}")
+// Whether it was done, and no other bytes were read.
+fn is_done<D: SectorDevice>(device: &mut D, step: Step) -> Result<bool, DevError> {
+    match step {
+        Step::Write => write_all(device)?,
+        Step::Rows => write_rows(device)?,
+        Step::Read => return reads_all(device),
+    }
+    Ok(true)
 }
 
-fn report(rt: &HostRuntime, step: &str, start: Instant) -> Result<()> {
+// The device that a step is done on: a new one, unless it is read.
+fn device_of(
+    rt: &HostRuntime,
+    path: &str,
+    sectors: u64,
+    step: Step,
+) -> Result<FileDevice<File>, FileError> {
+    match step {
+        Step::Read => FileDevice::open(rt, path),
+        Step::Write | Step::Rows => FileDevice::create(rt, path, sectors),
+    }
+}
+
+fn report(rt: &HostRuntime, step: Step, start: Instant) -> Result<()> {
     let microseconds = start.elapsed(rt)?.as_micros();
-    eprintln!(rt; "device {step} {microseconds}")?;
+    let name = match step {
+        Step::Write => "write",
+        Step::Read => "read",
+        Step::Rows => "rows",
+    };
+    eprintln!(rt; "device {name} {microseconds}")?;
     Ok(())
 }
 
-fn measure_writes(rt: &HostRuntime, path: &str, sectors: u64) -> Result<()> {
-    let start = Instant::now(rt)?;
-    let mut device = FileDevice::create(rt, path, sectors).map_err(told)?;
-    write_all(&mut device).map_err(told)?;
-    report(rt, "write", start)
-}
-
-fn measure_reads(rt: &HostRuntime, path: &str) -> Result<()> {
-    let start = Instant::now(rt)?;
-    let mut device = FileDevice::open(rt, path).map_err(told)?;
-    if !reads_all(&mut device).map_err(told)? {
-        bail!("other bytes were read");
+fn measure_on(
+    rt: &HostRuntime,
+    device: FileDevice<File>,
+    step: Step,
+    start: Instant,
+) -> Result<()> {
+    let mut device = device;
+    match is_done(&mut device, step) {
+        Ok(true) => report(rt, step, start),
+        Ok(false) => bail!("other bytes were read"),
+        Err(error) => bail!("{error:?}"),
     }
-    report(rt, "read", start)
 }
 
-fn measure_rows(rt: &HostRuntime, path: &str, sectors: u64) -> Result<()> {
+fn measure_step(rt: &HostRuntime, path: &str, sectors: u64, step: Step) -> Result<()> {
     let start = Instant::now(rt)?;
-    let mut device = FileDevice::create(rt, path, sectors).map_err(told)?;
-    write_rows(&mut device).map_err(told)?;
-    report(rt, "rows", start)
+    match device_of(rt, path, sectors, step) {
+        Ok(device) => measure_on(rt, device, step, start),
+        Err(error) => bail!("{error:?}"),
+    }
 }
 
 fn measure_sectors(rt: &HostRuntime, path: &str, sectors: u64) -> Result<()> {
-    measure_writes(rt, path, sectors)?;
-    measure_reads(rt, path)
+    measure_step(rt, path, sectors, Step::Write)?;
+    measure_step(rt, path, sectors, Step::Read)
 }
 
 /// Measures devices of so many mebibytes, each in a new file at the path.
@@ -93,7 +124,7 @@ pub fn measure(rt: &HostRuntime, path: &str, mebibytes: &str) -> Result<()> {
     let measured = measure_sectors(rt, path, sectors);
     let _removed = fs::remove_file(rt, path);
     measured?;
-    let measured = measure_rows(rt, path, sectors);
+    let measured = measure_step(rt, path, sectors, Step::Rows);
     let _removed = fs::remove_file(rt, path);
     measured
 }
