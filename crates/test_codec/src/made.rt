@@ -89,23 +89,37 @@ fn is_value(value: ValueRef<'_>, want: &str) -> bool {
     }
 }
 
+fn is_next(found: Option<ValueRef<'_>>, want: &str) -> bool {
+    match found {
+        Some(value) => is_value(value, want),
+        None => false,
+    }
+}
+
 fn are_values(found: Values<'_>, want: &[&str]) -> bool {
     let mut well = found.len() == want.len() && found.get(want.len()).is_none();
-    for (value, text) in found.iter().zip(want) {
-        well = well && is_value(value, text);
+    let mut values = found.iter();
+    for text in want {
+        well = well && is_next(values.next(), text);
     }
     well
+}
+
+fn is_row(found: Option<Values<'_>>, want: &[&str]) -> bool {
+    match found {
+        Some(values) => are_values(values, want),
+        None => false,
+    }
 }
 
 /// Whether the table has these rows, by each way to a row.
 pub fn has_rows(made: &Table, want: &[&[&str]]) -> bool {
     let mut well = made.len() == want.len() && made.is_empty() == want.is_empty();
     let mut given = made.rows();
-    for (place, row) in want.iter().enumerate() {
-        let (Some(next), Some(same)) = (given.next(), made.row(place)) else {
-            return false;
-        };
-        well = well && are_values(next, row) && are_values(same, row);
+    let mut place = 0usize;
+    for row in want {
+        well = well && is_row(given.next(), row) && is_row(made.row(place), row);
+        place = place.wrapping_add(1);
     }
     well && given.next().is_none() && made.row(want.len()).is_none()
 }

@@ -369,30 +369,30 @@ fn rows_of(part: Part) -> &'static [Row] {
     }
 }
 
-const INTEGERS: &[Part] = &[
+const SHORT: &[Part] = &[
     Part::Schema,
     Part::Type,
     Part::Batch,
     Part::Cut,
     Part::Repeated,
     Part::ShortIntegers,
-];
-
-const TEXTS_AND_DICTIONARIES: &[Part] = &[
     Part::Texts,
     Part::Dictionary,
     Part::DictionaryLeftOut,
     Part::DictionaryTwice,
+    Part::Lists,
+    Part::Structs,
 ];
 
-const LISTS_AND_STRUCTS: &[Part] = &[Part::Lists, Part::Structs];
+const LARGE: &[Part] = &[Part::ManyNulls, Part::Deepest, Part::Heaviest];
 
 // How many bytes a piece has.
-const LARGE: &[(Part, usize)] = &[
-    (Part::ManyNulls, 1),
-    (Part::Deepest, 1),
-    (Part::Heaviest, 1_048_640),
-];
+fn piece_of(part: Part) -> usize {
+    match part {
+        Part::Heaviest => 1_048_640,
+        _ => 1,
+    }
+}
 
 // The bytes of a row.
 fn bytes_of(alloc: Global, stream: &[u8], row: &Row) -> Result<Vec<u8>, NotMade> {
@@ -426,12 +426,17 @@ fn is_told(fault: Fault, wanted: &Wanted) -> bool {
     }
 }
 
-fn is_decoded(alloc: Global, bytes: &[u8], wanted: &Wanted) -> Result<bool, NotMade> {
-    match decode(alloc, Vec::from_slice(alloc, bytes)?) {
+// Whether the table or the fault is the one that is wanted.
+fn is_wanted(found: Result<Table, ImportError>, wanted: &Wanted) -> Result<bool, NotMade> {
+    match found {
         Ok(table) => Ok(is_meant(&table, wanted)),
         Err(ImportError::Fault(fault)) => Ok(is_told(fault, wanted)),
         Err(ImportError::OutOfMemory) => Err(NotMade),
     }
+}
+
+fn is_decoded(alloc: Global, bytes: &[u8], wanted: &Wanted) -> Result<bool, NotMade> {
+    is_wanted(decode(alloc, Vec::from_slice(alloc, bytes)?), wanted)
 }
 
 fn is_placed(alloc: Global, bytes: &[u8], wanted: &Wanted) -> Result<bool, NotMade> {
@@ -442,6 +447,14 @@ fn is_placed(alloc: Global, bytes: &[u8], wanted: &Wanted) -> Result<bool, NotMa
     }
 }
 
+// Fed a piece, and again where it was refused for want of memory.
+fn feed(alloc: Global, decoder: &mut Decoder, piece: &[u8]) -> Result<(), ImportError> {
+    match decoder.feed(alloc, piece) {
+        Err(ImportError::OutOfMemory) => decoder.feed(alloc, piece),
+        fed => fed,
+    }
+}
+
 // Whether a decoder that is fed a piece may go on, or tells what is wanted.
 fn is_fed(
     alloc: Global,
@@ -449,18 +462,21 @@ fn is_fed(
     piece: &[u8],
     wanted: &Wanted,
 ) -> Result<bool, NotMade> {
-    match decoder.feed(alloc, piece) {
+    match feed(alloc, decoder, piece) {
         Ok(()) => Ok(true),
         Err(ImportError::Fault(fault)) => Ok(is_told(fault, wanted)),
         Err(ImportError::OutOfMemory) => Err(NotMade),
     }
 }
 
-fn is_finished(alloc: Global, decoder: Decoder, wanted: &Wanted) -> Result<bool, NotMade> {
+// Finished, and again where that was refused for want of memory.
+fn finish(alloc: Global, decoder: Decoder) -> Result<Table, ImportError> {
     match decoder.finish(alloc) {
-        Ok(table) => Ok(is_meant(&table, wanted)),
-        Err(FinishError::Fault(fault)) => Ok(is_told(fault, wanted)),
-        Err(FinishError::OutOfMemory(_)) => Err(NotMade),
+        Ok(table) => Ok(table),
+        Err(FinishError::Fault(fault)) => Err(ImportError::Fault(fault)),
+        Err(FinishError::OutOfMemory(decoder)) => {
+            decoder.finish(alloc).ok().ok_or(ImportError::OutOfMemory)
+        }
     }
 }
 
@@ -490,7 +506,7 @@ fn is_read_in_pieces(
 ) -> Result<bool, NotMade> {
     let mut decoder = Decoder::new(alloc);
     let well = are_pieces_fed(alloc, &mut decoder, first, size, bytes, wanted)?;
-    Ok(is_finished(alloc, decoder, wanted)? && well)
+    Ok(is_wanted(finish(alloc, decoder), wanted)? && well)
 }
 
 // Read whole, for its place, and in pieces of this size.
@@ -511,17 +527,29 @@ fn is_read_in_two(alloc: Global, bytes: &[u8], wanted: &Wanted) -> Result<bool, 
     Ok(well)
 }
 
-fn is_row_read(alloc: Global, stream: &[u8], size: usize, row: &Row) -> Result<bool, NotMade> {
-    is_read(alloc, &bytes_of(alloc, stream, row)?, size, &row.2)
+// Read in each way, and a short stream cut in two.
+fn is_read_each_way(
+    alloc: Global,
+    bytes: &[u8],
+    size: usize,
+    is_short: bool,
+    wanted: &Wanted,
+) -> Result<bool, NotMade> {
+    let well = is_read(alloc, bytes, size, wanted)?;
+    if is_short {
+        return Ok(well && is_read_in_two(alloc, bytes, wanted)?);
+    }
+    Ok(well)
 }
 
-fn is_row_read_in_two(alloc: Global, stream: &[u8], row: &Row) -> Result<bool, NotMade> {
-    is_read_in_two(alloc, &bytes_of(alloc, stream, row)?, &row.2)
+fn is_row_read(alloc: Global, part: Part, row: &Row, is_short: bool) -> Result<bool, NotMade> {
+    let bytes = &bytes_of(alloc, stream_of(part), row)?;
+    is_read_each_way(alloc, bytes, piece_of(part), is_short, &row.2)
 }
 
-fn wrongly_read(alloc: Global, stream: &[u8], rows: &[Row]) -> Result<Option<usize>, NotMade> {
-    for (place, row) in rows.iter().enumerate() {
-        if !is_row_read(alloc, stream, 1, row)? || !is_row_read_in_two(alloc, stream, row)? {
+fn wrongly_read(alloc: Global, part: Part, is_short: bool) -> Result<Option<usize>, NotMade> {
+    for (place, row) in rows_of(part).iter().enumerate() {
+        if !is_row_read(alloc, part, row, is_short)? {
             return Ok(Some(place));
         }
     }
@@ -529,33 +557,9 @@ fn wrongly_read(alloc: Global, stream: &[u8], rows: &[Row]) -> Result<Option<usi
 }
 
 // The place of the first wrong row, a hundred for each part.
-fn wrong_part(alloc: Global, parts: &[Part]) -> Result<Option<usize>, NotMade> {
+fn wrong_part(alloc: Global, parts: &[Part], is_short: bool) -> Result<Option<usize>, NotMade> {
     for (number, part) in parts.iter().enumerate() {
-        if let Some(place) = wrongly_read(alloc, stream_of(*part), rows_of(*part))? {
-            return Ok(Some(number.wrapping_mul(100).wrapping_add(place)));
-        }
-    }
-    Ok(None)
-}
-
-fn wrongly_read_of_large(
-    alloc: Global,
-    stream: &[u8],
-    size: usize,
-    rows: &[Row],
-) -> Result<Option<usize>, NotMade> {
-    for (place, row) in rows.iter().enumerate() {
-        if !is_row_read(alloc, stream, size, row)? {
-            return Ok(Some(place));
-        }
-    }
-    Ok(None)
-}
-
-fn wrong_large(alloc: Global) -> Result<Option<usize>, NotMade> {
-    for (number, (part, size)) in LARGE.iter().enumerate() {
-        let found = wrongly_read_of_large(alloc, stream_of(*part), *size, rows_of(*part))?;
-        if let Some(place) = found {
+        if let Some(place) = wrongly_read(alloc, *part, is_short)? {
             return Ok(Some(number.wrapping_mul(100).wrapping_add(place)));
         }
     }
@@ -563,19 +567,13 @@ fn wrong_large(alloc: Global) -> Result<Option<usize>, NotMade> {
 }
 
 #[test]
-fn integers_are_read_or_have_their_fault(rt: HostRuntime) {
-    assert_no_row(&rt, wrong_part(rt.alloc(), INTEGERS));
+fn short_streams_are_read_or_have_their_fault(rt: HostRuntime) {
+    assert_no_row(&rt, wrong_part(rt.alloc(), SHORT, true));
 }
 
 #[test]
-fn texts_and_dictionaries_are_read_or_have_their_fault(rt: HostRuntime) {
-    assert_no_row(&rt, wrong_part(rt.alloc(), TEXTS_AND_DICTIONARIES));
-}
-
-#[test]
-fn lists_and_structs_are_read_or_have_their_fault(rt: HostRuntime) {
-    assert_no_row(&rt, wrong_part(rt.alloc(), LISTS_AND_STRUCTS));
-    assert_no_row(&rt, wrong_large(rt.alloc()));
+fn large_streams_are_read_or_have_their_fault(rt: HostRuntime) {
+    assert_no_row(&rt, wrong_part(rt.alloc(), LARGE, false));
 }
 
 // Bytes of `NULL_LAST`, from one up to another, and how many of them wait for the rest of their message where they were fed one by one.
@@ -625,45 +623,19 @@ fn a_stream_with_nulls_is_read_also_without_memory(rt: HostRuntime) {
     assert!(rt; is_one_well(is_null_read(rt.alloc()), is_null_read(rt.alloc())));
 }
 
-// Fed a piece, and again where it was refused.
-fn is_fed_again(alloc: Global, decoder: &mut Decoder, piece: &[u8]) -> bool {
-    decoder.feed(alloc, piece).is_ok() || decoder.feed(alloc, piece).is_ok()
-}
-
-fn finished_again(alloc: Global, decoder: Decoder) -> Option<Table> {
-    match decoder.finish(alloc) {
-        Ok(table) => Some(table),
-        Err(FinishError::OutOfMemory(decoder)) => decoder.finish(alloc).ok(),
-        Err(FinishError::Fault(_)) => None,
-    }
-}
-
 // In pieces that end within messages.
-fn read_again(alloc: Global, bytes: &[u8]) -> Option<Table> {
-    let mut decoder = Decoder::new(alloc);
-    for piece in bytes.chunks(100) {
-        if !is_fed_again(alloc, &mut decoder, piece) {
-            return None;
-        }
-    }
-    finished_again(alloc, decoder)
+fn is_read_on(alloc: Global) -> Result<bool, NotMade> {
+    is_read_in_pieces(
+        alloc,
+        0,
+        100,
+        &DICTIONARY,
+        &Ok(&[&["'b"], &["'a"], &["'b"], &["null"]]),
+    )
 }
 
 // tests/refused_memory_in_crates refuses one allocation at the most: a decoder goes on behind it.
-fn is_read_again(alloc: Global, bytes: &[u8], wanted: &Wanted) -> bool {
-    match read_again(alloc, bytes) {
-        Some(table) => is_meant(&table, wanted),
-        None => false,
-    }
-}
-
 #[test]
 fn a_decoder_that_was_refused_goes_on_also_without_memory(rt: HostRuntime) {
-    assert!(rt;
-        is_read_again(
-            rt.alloc(),
-            &DICTIONARY,
-            &Ok(&[&["'b"], &["'a"], &["'b"], &["null"]])
-        )
-    );
+    assert!(rt; matches!(is_read_on(rt.alloc()), Ok(true)));
 }
