@@ -206,22 +206,45 @@ fn batch_of_row(alloc: Global, table: &Table) -> Result<BuiltBatch<'_>, NotMade>
     }
 }
 
+fn is_buffer(built: Option<&Buffer<'_>>, want: &[u8]) -> bool {
+    match built {
+        Some(built) => built.bytes() == want,
+        None => false,
+    }
+}
+
 fn are_buffers(built: &[Buffer<'_>], want: Buffers) -> bool {
     let mut well = built.len() == want.len();
-    for (built, want) in built.iter().zip(want) {
-        well = well && built.bytes() == *want;
+    let mut place = 0usize;
+    for bytes in want {
+        well = well && is_buffer(built.get(place), bytes);
+        place = place.wrapping_add(1);
     }
     well
 }
 
-fn is_dictionary(built: &BuiltDictionary<'_>, slots: u64, nodes: Nodes, buffers: Buffers) -> bool {
-    built.slots == slots && built.nodes.as_slice() == nodes && are_buffers(&built.buffers, buffers)
+fn is_dictionary(
+    built: Option<&BuiltDictionary<'_>>,
+    slots: u64,
+    nodes: Nodes,
+    buffers: Buffers,
+) -> bool {
+    match built {
+        Some(built) => {
+            built.slots == slots
+                && built.nodes.as_slice() == nodes
+                && are_buffers(&built.buffers, buffers)
+        }
+        None => false,
+    }
 }
 
 fn are_dictionaries(built: &[BuiltDictionary<'_>], want: Dictionaries) -> bool {
     let mut well = built.len() == want.len();
-    for (built, (slots, nodes, buffers)) in built.iter().zip(want) {
-        well = well && is_dictionary(built, *slots, *nodes, *buffers);
+    let mut place = 0usize;
+    for (slots, nodes, buffers) in want {
+        well = well && is_dictionary(built.get(place), *slots, *nodes, *buffers);
+        place = place.wrapping_add(1);
     }
     well
 }
