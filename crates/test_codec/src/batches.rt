@@ -255,12 +255,15 @@ fn is_meant(built: &BuiltBatch<'_>, case: &Case) -> bool {
         && are_dictionaries(&built.dictionaries, case.4)
 }
 
-fn is_built(alloc: Global, case: &Case) -> Result<bool, NotMade> {
-    let table = table_of(alloc, case.0, case.1)?;
-    match batch_of_row(alloc, &table) {
+fn is_built_of(alloc: Global, table: &Table, case: &Case) -> Result<bool, NotMade> {
+    match batch_of_row(alloc, table) {
         Ok(batch) => Ok(is_meant(&batch, case)),
         Err(error) => Err(error),
     }
+}
+
+fn is_built(alloc: Global, case: &Case) -> Result<bool, NotMade> {
+    is_built_of(alloc, &table_of(alloc, case.0, case.1)?, case)
 }
 
 fn wrongly_built(alloc: Global, cases: &[Case]) -> Result<Option<usize>, NotMade> {
