@@ -27,7 +27,6 @@ fn read_commit<D: SectorDevice>(device: &mut D, n: u64) -> Result<Option<Commit>
 }
 
 // The one of the greater epoch.
-#[tactic(auto, unfolding(crate::specs::Ruling::newer))]
 fn newer(zeroth: Option<Commit>, first: Option<Commit>) -> Option<Commit>
     ensures { result ≡ newer zeroth first }
 {

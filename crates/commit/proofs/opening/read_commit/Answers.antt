@@ -1,4 +1,6 @@
-use Rattle.std.proofs.Common.{◌∙◌, ap, sym, Err}
+use Rattle.std.proofs.Common.{◌∙◌, ap, sym, subst, Err}
+use Rattle.sector_dev.specs.Disk.{Counts}
+use Rattle.sector_dev.specs.declared.device.DevError.{DevError}
 use Rattle.sector_dev.specs.laws.Time.{only_read}
 use Rattle.commit.specs.Sector.{commit_at}
 use Rattle.commit.specs.laws.Sectors.{none_unreadable}
@@ -18,3 +20,11 @@ returns-in-Err-Unreadable-clause-found g c = λ told. none_unreadable c.args.n _
 
 pub returns-in-Err-Failed-clause-moments : goal.returns-in-Err-Failed-clause-moments
 returns-in-Err-Failed-clause-moments g c = λ told. only_read _ _ (c.in-Err-Failed.ensures.story told)
+
+pub returns-in-Err-Failed-clause-count : goal.returns-in-Err-Failed-clause-count
+returns-in-Err-Failed-clause-count g c =
+    let D = g.D.SectorDevice in
+    subst (λ (e : DevError). Counts {T = Unit {0}} (D.failed c.args.device.now) (D.failed c.read.new.self) (Err e)) c.in-Err-Failed.field-0-is c.in-Err-Failed.ensures.count
+
+pub returns-in-Err-Failed-clause-found : goal.returns-in-Err-Failed-clause-found
+returns-in-Err-Failed-clause-found g c = tt
