@@ -1,5 +1,5 @@
 -- Sectors that are not buffered are written alone, after the buffered writes.
-use Rattle.std.proofs.Common.{◌≡◌, ◌⊎◌, ◌*◌, ◌-◌, ◌∙◌, ℕ, Bool, true, false, if◌then◌else◌, List, [], None, refl, ap, sym, subst, inl, inr, arith, length}
+use Rattle.std.proofs.Common.{◌≡◌, ◌⊎◌, ◌*◌, ◌-◌, ◌∙◌, ℕ, Bool, true, false, if◌then◌else◌, List, [], Option, Some, None, refl, ap, sym, subst, inl, inr, arith, length}
 use Rattle.std.specs.Prelude.{Result, Ok, Err, OnOk, nat_lt, slice_get}
 use Rattle.std.specs.Option.{option_or}
 use Rattle.std.proofs.lemmas.Option.{slice_get_past}
@@ -14,11 +14,11 @@ none_at : (b : Bool) (xs : List (List ℕ)) (i : ℕ) → xs ≡ [] → (if b th
 none_at true xs i none = refl
 none_at false xs i none = slice_get_past xs i (omega (arith, ap length none))
 
-empty_buffer : (buffer : Buffer) → buffer.contents.items ≡ [] → IsEmptyBuffer buffer
+pub empty_buffer : (buffer : Buffer) → buffer.contents.items ≡ [] → IsEmptyBuffer buffer
 empty_buffer buffer none k = none_at (nat_lt k buffer.start) buffer.contents.items (k - buffer.start) none
 
 -- a buffer that only an empty one's start tells apart
-same_buffer : {F : Type 0} (w : WriteGhosts F) (s : SeekGhosts F) (old mid : Buffer) (before between : F) → mid.contents.items ≡ old.contents.items → (mid.start ≡ old.start) ⊎ (old.contents.items ≡ []) → WritesBuffer w s mid before between → WritesBuffer w s old before between
+pub same_buffer : {F : Type 0} (w : WriteGhosts F) (s : SeekGhosts F) (old mid : Buffer) (before between : F) → mid.contents.items ≡ old.contents.items → (mid.start ≡ old.start) ⊎ (old.contents.items ≡ []) → WritesBuffer w s mid before between → WritesBuffer w s old before between
 same_buffer w s old mid before between same place (inl (none, still)) = inl (sym same ∙ none, still)
 same_buffer w s old mid before between same (inr none) (inr (some, written)) = absurd (some (same ∙ none))
 same_buffer w s old mid before between same (inl place) (inr (some, written)) =
@@ -34,3 +34,17 @@ pub written_alone : {F E : Type 0} (w : WriteGhosts F) (s : SeekGhosts F) (old m
 written_alone w s old mid new start contents (Ok x) before between after same place flushed none written =
     inr (between, same_buffer w s old mid before between same place flushed, inr (empty_buffer new none, written))
 written_alone w s old mid new start contents (Err e) before between after same place flushed none written = tt
+
+or_none : (x y : Option (List ℕ)) → y ≡ None → option_or x y ≡ x
+or_none None y none = none
+or_none (Some c) y none = refl
+
+-- or they are buffered alone
+pub buffered_alone : {F : Type 0} (w : WriteGhosts F) (s : SeekGhosts F) (old mid empty new : Buffer) (start : ℕ) (contents : List (List ℕ)) (before between : F) → mid.contents.items ≡ old.contents.items → (mid.start ≡ old.start) ⊎ (old.contents.items ≡ []) → WritesBuffer w s mid before between → IsEmptyBuffer empty → ((n : ℕ) → content_in new n ≡ option_or (content_from start contents n) (content_in empty n)) → Taken w s old start contents new before between
+buffered_alone w s old mid empty new start contents before between same place flushed none appended =
+    inr (between, same_buffer w s old mid before between same place flushed, inl (refl, λ n. appended n ∙ or_none (content_from start contents n) (content_in empty n) (none n)))
+
+-- a buffer that only an empty one's start tells apart has the same contents
+pub same_contents : (old mid : Buffer) → mid.contents.items ≡ old.contents.items → (mid.start ≡ old.start) ⊎ (old.contents.items ≡ []) → (n : ℕ) → content_in mid n ≡ content_in old n
+same_contents old mid same (inl place) n = (λ i. content_from (place i) (same i) n)
+same_contents old mid same (inr none) n = empty_buffer mid (same ∙ none) n ∙ sym (empty_buffer old none n)
