@@ -1,12 +1,14 @@
 // What a device that is a file reads and writes.
 ghost use Rattle.std.specs.Prelude.{◌≡◌, ◌<◌, ◌≤◌, ◌+◌, ◌⊎◌, ◌*◌, [], length, IfErr, OnOk, OnErr, IfSome, is_ok, true};
+ghost use Rattle.std.specs.Option.{option_copied, option_or};
+ghost use Rattle.sector_dev.specs.Buffer.{content_in};
 ghost use Rattle.sector_dev.specs.Disk.{Counts};
 ghost use Rattle.sector_dev.specs.declared.file.TheConstants.{MOST_SECTORS};
 ghost use Rattle.sector_dev.specs.Written.{Writes, buffered, IsEmpty, Empties, Buffers, BuffersAnew, LosesNone};
 
 use super::FileDevice;
 use crate::DevError;
-use crate::buffer::MOST;
+use crate::buffer::{Buffer, MOST};
 use std::fs::OpenFile;
 use std::io::{self, Read, Seek, SeekFrom, Write};
 use std::slice;
@@ -29,6 +31,13 @@ fn write_at<F: Write + Seek>(file: &mut F, start: u64, contents: &[[u8; 512]]) -
 {
     file.seek(SeekFrom::Start(start * 512))?;
     file.write_all(contents.as_flattened())
+}
+
+// The content of a sector that was written or read ahead, if it is in memory.
+fn in_memory<'a>(writes: &'a Buffer, ahead: &'a Buffer, n: u64) -> Option<&'a [u8; 512]>
+    ensures { option_copied result ≡ option_or (content_in writes.now n) (content_in ahead.now n) }
+{
+    writes.get(n).or(ahead.get(n))
 }
 
 impl<F: Read + Write + Seek + OpenFile + Drop> FileDevice<F> {
@@ -77,10 +86,10 @@ impl<F: Read + Write + Seek + OpenFile + Drop> FileDevice<F> {
         ensures writes { self.new.writes ≡ self.old.writes }
         ensures buffered { IfSome (buffered self.old n) (λ c. (is_ok result ≡ true) × (to.new ≡ c) × (self.new.file ≡ self.old.file)) }
     {
-        if self.writes.get(n).is_none() && self.ahead.get(n).is_none() {
+        if in_memory(&self.writes, &self.ahead, n).is_none() {
             self.read_ahead(n);
         }
-        match self.writes.get(n).or(self.ahead.get(n)) {
+        match in_memory(&self.writes, &self.ahead, n) {
             Some(content) => {
                 *to = *content;
                 Ok(())
