@@ -5,6 +5,7 @@ mod Levels
 mod ElementLemmas
 mod FieldLemmas
 mod HeaderLemmas
+mod HeaderTable
 mod TableLemmas
 mod NextMessageLemmas
 mod FramedLemmas

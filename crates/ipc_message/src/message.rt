@@ -6,7 +6,7 @@ ghost use Rattle.flatbuf.specs.Seen.{tables_in, bytes_of, place_of, levels_of};
 ghost use Rattle.ipc_message.specs.Framing.{message_table, header_type, type_of};
 
 use crate::header_type::header_type;
-use crate::read_header::{header_by_type, needed};
+use crate::read_header::{header_by_type, header_table};
 use crate::walk_error::WalkError;
 use crate::{Fault, Header, HeaderType, ImportError};
 use flatbuf::{Budget, Buf, FlatError, MAX_BUFFER_BYTES, MAX_LEVELS, Table};
@@ -117,7 +117,7 @@ impl<'a> Message<'a> {
         ensures { Decodes result (header supported_codes (bytes_of self.now.table)) }
     {
         let mut budget = self.budget;
-        let table = needed(&self.table, 2, &mut budget)?;
+        let table = header_table(&self.table, &mut budget)?;
         header_by_type(alloc, self.kind, &table, &mut budget)
     }
 }

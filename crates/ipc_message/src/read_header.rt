@@ -1,7 +1,7 @@
 // What the header of a message decodes to.
 
-ghost use Rattle.std.specs.Prelude.{◌≡◌, ◌-◌, IfOk, Some};
-ghost use Rattle.flatbuf.specs.Lookup.{table_behind};
+ghost use Rattle.std.specs.Prelude.{◌≡◌, ◌<◌, ◌-◌, IfOk, Some};
+ghost use Rattle.flatbuf.specs.Lookup.{table_behind, scalar_of};
 ghost use Rattle.flatbuf.specs.Seen.{tables_in, bytes_of, place_of, levels_of, slot_of};
 ghost use Rattle.ipc_message.specs.Header.{supported_codes, needed_things, schema_things, schema_in, batch_things, batch_in, dictionary_things, dictionary_in, things_by_type, header_by_type};
 ghost use Rattle.ipc_message.specs.View.{raw_schema_of, raw_batch_of, raw_dictionary_of, raw_header_of};
@@ -15,13 +15,27 @@ use crate::{Header, HeaderType, RawBatch, RawDictionaryBatch, RawSchema};
 use flatbuf::{Budget, FlatError, Table};
 use std::alloc::Global;
 
-/// The table behind slot `k`, which must be there.
-#[tactic(auto, unfolding(flatbuf::specs::Walk::run))]
-pub(crate) fn needed<'a>(
+/// The table of a message's header, which must be there: its kind stands in slot 1 and is not 0, its reference in slot 2.
+pub(crate) fn header_table<'a>(
     table: &Table<'a>,
-    k: u16,
     budget: &mut Budget,
 ) -> Result<Table<'a>, FlatError>
+    requires { 0 < scalar_of 1 0 (bytes_of table.now) (slot_of table.now 1) }
+    ensures walked { Walks (bytes_of table.now) (in_slot needed_things table.now 2) budget.old budget.new result }
+    ensures same { IfOk result (λ t. bytes_of t ≡ bytes_of table.now) }
+    ensures here { IfOk result (λ t. table_behind (bytes_of table.now) (slot_of table.now 2) ≡ Some (place_of t)) }
+    ensures levels { IfOk result (λ t. levels_of t ≡ levels_of table.now - 1) }
+{
+    let header = table.union(1, budget)?;
+    match header.table {
+        None => Err(FlatError::Bounds),
+        Some(found) => Ok(found),
+    }
+}
+
+/// The table behind slot `k`, which must be there.
+#[tactic(auto, unfolding(flatbuf::specs::Walk::run))]
+fn needed<'a>(table: &Table<'a>, k: u16, budget: &mut Budget) -> Result<Table<'a>, FlatError>
     ensures walked { Walks (bytes_of table.now) (in_slot needed_things table.now k) budget.old budget.new result }
     ensures same { IfOk result (λ t. bytes_of t ≡ bytes_of table.now) }
     ensures here { IfOk result (λ t. table_behind (bytes_of table.now) (slot_of table.now k) ≡ Some (place_of t)) }
