@@ -28,7 +28,7 @@ pub returns-in-Some-clause-err : goal.returns-in-Some-clause-err
 returns-in-Some-clause-err c =
     let x = c.index_mut.result.now in
     let new : TableEntry = record { name = x.name; schema = x.schema; segments = c.extend_from_slice.new.self } in
-    unchanged_at c.extend_from_slice.result c.args.entries.now.items c.in-Some.place x new c.args.more.now c.index_mut.ensures.value
+    unchanged_at c.extend_from_slice.result c.args.entries.now.items c.in-Some.place x new _ c.index_mut.ensures.value
     (λ i. record { name = string_bytes x.name; schema = schema_of x.schema; segments = c.extend_from_slice.ensures.items i })
 
 pub returns-in-None-clause-appended : goal.returns-in-None-clause-appended

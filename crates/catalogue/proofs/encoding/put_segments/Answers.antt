@@ -1,6 +1,6 @@
-use Rattle.std.proofs.Common.{◌≡◌, ◌<◌, ◌+◌, ◌++◌, ◌∙◌, ℕ, List, length, get_or, take, ap, arith}
+use Rattle.std.proofs.Common.{◌≡◌, ◌<◌, ◌+◌, ◌++◌, ◌∙◌, ℕ, List, length, get_or, take, sym, ap, arith}
 use Rattle.std.specs.List.{flat_map}
-use Rattle.std.proofs.lemmas.List.{take_more, take_all}
+use Rattle.std.proofs.lemmas.List.{append-nil, take_more, take_all}
 use Rattle.byteorder.specs.Endian.{little_bytes}
 use Rattle.facts.specs.laws.Lists.{flat_map-push}
 use Rattle.catalogue.specs.declared.entry.Segment.{Segment}
@@ -11,6 +11,10 @@ use Rattle.catalogue.proofs.encoding.put_segments.Goals as goal
 -- the texts so far, and that of the next segment
 more_texts : (ss : List Segment) (i : ℕ) (d : Segment) → i < length ss → flat_map segment_text (take (i + 1) ss) ≡ flat_map segment_text (take i ss) ++ segment_text (get_or ss i d)
 more_texts ss i d lt = ap (flat_map segment_text) (take_more ss i d lt) ∙ flat_map-push segment_text (take i ss) (get_or ss i d)
+
+pub loop-segment-init : goal.loop-segment-init
+loop-segment-init c =
+    c.in_ok-put_count.ensures ∙ ap (λ (text : List ℕ). c.args.out.now.items ++ text) (sym (append-nil (little_bytes 4 (length c.args.segments.now))))
 
 pub loop-segment-preserved : goal.loop-segment-preserved
 loop-segment-preserved c =
