@@ -398,6 +398,9 @@ unbegun_place bytes r rests h none = sym (placed bytes r.number r.start r.front 
 pub no_place : (bytes : List ℕ) (r : Reading) (f : Front) → Rests bytes r → r.held ≤ 0 → r.front ≡ Some f → None ≡ place_of supported_codes bytes
 no_place bytes r f rests h is = let given = ends_whole bytes r f rests h is in sym (nowhere bytes given.0 given.1)
 
+pub fault_place : (bytes : List ℕ) (e : ImportError) (number start : ℕ) (fault : Fault) → e ≡ errors.Fault fault → StoppedBy bytes e number start → Some (number, start) ≡ place_of supported_codes bytes
+fault_place bytes e number start fault is stopped = sym (subst (λ (x : ImportError). StoppedBy bytes x number start) is stopped).1
+
 -- a message takes bytes, so that there are no more messages than bytes
 pub few_messages : (messages : List Envelope) → length messages ≤ bytes_taken messages
 few_messages [] = omega arith

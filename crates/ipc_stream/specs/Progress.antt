@@ -63,6 +63,11 @@ abbrev pub GivesFront : List ℕ → Result Front ImportError → Result Known F
 GivesFront bytes (Ok f) exact = (k : Known) × (exact ≡ Ok k) × IsFront bytes f k
 GivesFront bytes (Err e) exact = Fails e exact
 
+-- what a call gives that adds to what is known where it stands
+abbrev pub GivesGrown : List ℕ → Front → Result (Unit {0}) ImportError → Result Known Fault → Type 0
+GivesGrown bytes f (Ok u) exact = (k : Known) × (exact ≡ Ok k) × IsFront bytes f k
+GivesGrown bytes f (Err e) exact = Fails e exact
+
 -- the same where there may be no message yet
 abbrev pub IsBefore : List ℕ → Option Front → Option Known → Type 0
 IsBefore bytes None None = Unit {0}

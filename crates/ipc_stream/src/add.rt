@@ -12,7 +12,7 @@ ghost use Rattle.ipc_message.specs.Messages.{envelope_of};
 ghost use Rattle.ipc_message.specs.View.{raw_batch_of, raw_dictionary_of, raw_schema_of};
 ghost use Rattle.ipc_message.specs.Raw.{schema_header, dictionary_header, batch_header};
 ghost use Rattle.ipc_stream.specs.Meaning.{Known, read_header, read_next, read_after};
-ghost use Rattle.ipc_stream.specs.Progress.{IsFront, IsBefore, GivesFront, GivesArrays};
+ghost use Rattle.ipc_stream.specs.Progress.{IsFront, IsBefore, GivesFront, GivesGrown, GivesArrays};
 
 use crate::front::Front;
 use arrays::{
@@ -103,31 +103,30 @@ fn read_arrays(
     )
 }
 
-/// What is known after a record batch.
+// Adds a record batch to what is known.
 fn add_batch(
     alloc: Global,
-    front: Front,
+    front: &mut Front,
     raw: &RawBatch,
     body: Span,
     bytes: &[u8],
-) -> Result<Front, ImportError>
-    requires front { (k : Known) × IsFront bytes.now front k }
+) -> Result<(), ImportError>
+    requires front { (k : Known) × IsFront bytes.now front.old k }
     requires fits { body.start + body.len ≤ length bytes.now }
-    ensures { (k : Known) → IsFront bytes.now front k
-        → GivesFront bytes.now result (read_after k (within bytes.now body) (batch_header (raw_batch_of raw.now))) }
+    ensures { (k : Known) → IsFront bytes.now front.old k
+        → GivesGrown bytes.now front.new result (read_after k (within bytes.now body) (batch_header (raw_batch_of raw.now))) }
 {
-    let placed = read_arrays(alloc, &front, raw, body, bytes)?;
+    let placed = read_arrays(alloc, front, raw, body, bytes)?;
     read_rows_are_rows();
     read_dictionaries_are_readable();
     read_dictionaries_have_bytes();
     bytes_are_small(bytes);
-    let mut front = front;
     front.batches.push(Batch {
         arrays: placed.arrays,
         rows: raw.length as usize,
     })?;
     front.weight += placed.weight;
-    Ok(front)
+    Ok(())
 }
 
 // Keeps the array of a dictionary batch: a delta is appended, and any other begins its dictionary anew.
@@ -157,32 +156,55 @@ fn lists_are_kept(dictionaries: &Dictionaries)
     let _lists = dictionaries.lists();
 }
 
-/// What is known after a dictionary batch.
+// Adds a dictionary batch to what is known.
 fn add_dictionary(
     alloc: Global,
-    front: Front,
+    front: &mut Front,
     raw: &RawDictionaryBatch,
     body: Span,
     bytes: &[u8],
-) -> Result<Front, ImportError>
+) -> Result<(), ImportError>
     requires fits { body.start + body.len ≤ length bytes.now }
-    ensures { (k : Known) → IsFront bytes.now front k
-        → GivesFront bytes.now result (read_after k (within bytes.now body) (dictionary_header (raw_dictionary_of raw.now))) }
+    ensures { (k : Known) → IsFront bytes.now front.old k
+        → GivesGrown bytes.now front.new result (read_after k (within bytes.now body) (dictionary_header (raw_dictionary_of raw.now))) }
 {
     read_dictionaries_are_readable();
     read_dictionaries_have_bytes();
     bytes_are_small(bytes);
     let array = read_dictionary(alloc, &front.columns, &front.dictionaries, raw, body, bytes)?;
-    let mut front = front;
     lists_are_kept(&front.dictionaries);
     keep_array(alloc, &mut front.dictionaries, raw.id, raw.is_delta, array)?;
-    Ok(front)
+    Ok(())
 }
 
 // A byte is below 256: a contract knows it of a slice that it is given.
 fn bytes_are_small(bytes: &[u8])
     ensures { (i : ℕ) → slice_index bytes.now i < 256 }
 {}
+
+// Adds a message that is no schema to what is known.
+fn grow(
+    alloc: Global,
+    front: &mut Front,
+    message: &Message,
+    body: Span,
+    bytes: &[u8],
+) -> Result<(), ImportError>
+    requires front { (k : Known) × IsFront bytes.now front.old k }
+    requires fits { body.start + body.len ≤ length bytes.now }
+    requires body { within bytes.now body ≡ (envelope_of message.now).body }
+    ensures { (k : Known) → IsFront bytes.now front.old k
+        → GivesGrown bytes.now front.new result (read_next supported_codes (Some k) (envelope_of message.now)) }
+{
+    if let HeaderType::Schema = message.header_type() {
+        return Err(ImportError::Fault(Fault::SecondSchema));
+    }
+    match message.header(alloc)? {
+        Header::RecordBatch(raw) => add_batch(alloc, front, &raw, body, bytes),
+        Header::DictionaryBatch(raw) => add_dictionary(alloc, front, &raw, body, bytes),
+        Header::Schema(_) => unreachable!(),
+    }
+}
 
 // What is known after a message that is no schema.
 fn add_after(
@@ -197,13 +219,10 @@ fn add_after(
     requires body { within bytes.now body ≡ (envelope_of message.now).body }
     ensures { (k : Known) → IsFront bytes.now front k → GivesFront bytes.now result (read_next supported_codes (Some k) (envelope_of message.now)) }
 {
-    if let HeaderType::Schema = message.header_type() {
-        return Err(ImportError::Fault(Fault::SecondSchema));
-    }
-    match message.header(alloc)? {
-        Header::RecordBatch(raw) => add_batch(alloc, front, &raw, body, bytes),
-        Header::DictionaryBatch(raw) => add_dictionary(alloc, front, &raw, body, bytes),
-        Header::Schema(_) => unreachable!(),
+    let mut front = front;
+    match grow(alloc, &mut front, message, body, bytes) {
+        Ok(()) => Ok(front),
+        Err(error) => Err(error),
     }
 }
 
