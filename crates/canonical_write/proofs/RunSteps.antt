@@ -1,6 +1,6 @@
 -- What the columns of a piece's rows are, whatever the fields stand in, and the rows that are left behind some pieces.
 use Rattle.std.specs.List.{AllByRecursion, list_all}
-use Rattle.std.proofs.Common.{◌≡◌, ◌≢◌, ◌+◌, ◌<◌, ◌≤◌, ℕ, true, List, [], ◌∷◌, ◌++◌, length, sym, ap, subst, ◌∙◌, arith, length-append}
+use Rattle.std.proofs.Common.{◌≡◌, ◌≢◌, ◌+◌, ◌<◌, ◌≤◌, ℕ, true, List, [], ◌∷◌, ◌++◌, length, refl, sym, ap, subst, ◌∙◌, arith, length-append}
 use Rattle.std.proofs.lemmas.Bool.{and_parts}
 use Rattle.std.proofs.lemmas.List.Folds.{list_all-append}
 use Rattle.std.proofs.lemmas.List.Sums.{list_all-from_AllPass}
@@ -68,6 +68,13 @@ not_empty (row ∷ rows) some = λ h. cc
 
 pub some_left : {s : PlainSchema} {left : RowsLeft} {from rows : ℕ} → AreLeft s left from rows → from < rows → rows_left (columns_of s.columns) left ≢ []
 some_left {s = s} {left = left} is more = not_empty (rows_left (columns_of s.columns) left) (omega (arith, is.within, more))
+
+no_rows : (rows : List (List Cell)) → length rows ≤ 0 → rows ≡ []
+no_rows [] none = refl
+no_rows (row ∷ rows) none = absurd (omega (arith, none))
+
+pub none_left : {s : PlainSchema} {left : RowsLeft} {from rows : ℕ} → AreLeft s left from rows → rows ≤ from → rows_left (columns_of s.columns) left ≡ []
+none_left {s = s} {left = left} is past = no_rows (rows_left (columns_of s.columns) left) (omega (arith, is.within, past))
 
 pub first_piece : {s : PlainSchema} {left : RowsLeft} {from rows : ℕ} {piece : List (List Cell)} {rest : List (List (List Cell))} → AreLeft s left from rows
     → pieces (within_piece s) (rows_left (columns_of s.columns) left) ≡ piece ∷ rest → IsPieceOf s piece

@@ -203,3 +203,14 @@ first_streams s t made none = ap (λ (x : List (List ℕ)). x ++ map (piece_stre
 pub first_counts : (s : PlainSchema) (t : PlainTable) (made : List ℕ) → made ≡ [] → made ++ map length (pieces (within_piece s) t.rows) ≡ piece_counts (with_schema s t)
 unfolding piece_counts
 first_counts s t made none = ap (λ (x : List ℕ). x ++ map length (pieces (within_piece s) t.rows)) none
+
+-- behind the last piece
+pub last_written : (s : PlainSchema) (out new whole : List ℕ) (left : List (List Cell)) → left ≡ []
+    → out ++ (flat_map (piece_messages s) (pieces (within_piece s) left) ++ end_of_stream) ≡ whole → new ≡ out ++ end_of_stream → new ≡ whole
+last_written s out new whole left none is written =
+    written ∙ sym (ap (λ (rows : List (List Cell)). out ++ (flat_map (piece_messages s) (pieces (within_piece s) rows) ++ end_of_stream)) none) ∙ is
+
+pub last_made : {B : Type 0} (s : PlainSchema) (f : List (List Cell) → B) (made whole : List B) (left : List (List Cell)) → left ≡ []
+    → made ++ map f (pieces (within_piece s) left) ≡ whole → made ≡ whole
+last_made s f made whole left none is =
+    sym (append-nil made) ∙ sym (ap (λ (rows : List (List Cell)). made ++ map f (pieces (within_piece s) rows)) none) ∙ is

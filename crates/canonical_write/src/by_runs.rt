@@ -1,12 +1,12 @@
 // The streams of rows that are kept in record batches, and of the pieces of a table of such rows, by runs of slots.
-ghost use Rattle.std.specs.Prelude.{◌≡◌, ◌<◌, ◌^◌, ◌∷◌, ◌++◌, [], true, length, IfOk};
+ghost use Rattle.std.specs.Prelude.{◌≡◌, ◌<◌, ◌^◌, ◌∷◌, ◌++◌, [], true, length, IfOk, OnOk};
 ghost use Rattle.std.specs.List.{AllByRecursion};
 ghost use Rattle.arrow_schema.specs.Column.{columns_of};
 ghost use Rattle.arrow_schema.specs.View.{schema_of};
 ghost use Rattle.canonical_stream.specs.Canonical.{canonical};
 ghost use Rattle.canonical_stream.specs.Pieces.{IsPieceOf};
 ghost use Rattle.canonical_write.specs.Pieces.{piece_stream, piece_streams, piece_counts};
-ghost use Rattle.canonical_write.specs.View.{joined_parts, streams_in};
+ghost use Rattle.canonical_write.specs.View.{joined_parts, streams_behind, streams_in};
 ghost use Rattle.canonical_write.specs.inner.Stream.{stream_in};
 ghost use Rattle.ipc_write.specs.Written.{schema_message};
 ghost use Rattle.run_pieces.specs.Left.{runs_left, rows_left};
@@ -16,7 +16,7 @@ ghost use Rattle.table_cut.specs.Piece.{within_piece};
 ghost use Rattle.values.specs.Parts.{are_parts_sound, parts_rows, parts_table};
 ghost use Rattle.values.specs.Table.{IsTable};
 
-use crate::encoder::EncodedPieces;
+use crate::encoder::{EncodedPieces, push_stream};
 use crate::front::BatchFront;
 use crate::messages::write_run_piece;
 use crate::stream::{Stream, begin_stream, end_stream, into_bytes, into_parts, schema_bytes};
@@ -26,6 +26,31 @@ use canonical_stream::pieces_can_be_built;
 use run_pieces::{RowRun, RowsLeft, RunPiece};
 use std::alloc::{AllocError, Global};
 use values::Part;
+
+// Writes the pieces of the rows that are left, of which there are so many, behind the message of the schema, and the end of stream.
+fn write_left<'a>(
+    alloc: Global,
+    schema: &Schema,
+    stream: &mut Stream<'a>,
+    left: &mut RowsLeft<'a>,
+    rows: usize,
+) -> Result<(), AllocError>
+    requires first { stream_in stream.old ≡ schema_message (schema_of schema.now) }
+    requires table { IsTable (runs_table (schema_of schema.now) (runs_left left.old)) }
+    requires sound { are_runs_sound (columns_of (schema_of schema.now).columns) (runs_left left.old) ≡ true }
+    requires count { rows ≡ length (rows_left (columns_of (schema_of schema.now).columns) left.old) }
+    ensures { OnOk result (stream_in stream.new ≡ canonical (runs_table (schema_of schema.now) (runs_left left.old))) }
+{
+    pieces_can_be_built();
+    let mut kept = None;
+    let mut from = 0;
+    while from < rows {
+        let piece = left.next_piece(alloc, schema)?;
+        write_run_piece(alloc, stream, &mut kept, schema, &piece)?;
+        from += piece.rows;
+    }
+    end_stream(stream)
+}
 
 // The one stream of the rows that are left, of which there are so many.
 fn encode_left<'a>(
@@ -39,18 +64,10 @@ fn encode_left<'a>(
     requires count { rows ≡ length (rows_left (columns_of (schema_of schema.now).columns) all) }
     ensures { IfOk result (λ stream. stream_in stream ≡ canonical (runs_table (schema_of schema.now) (runs_left all.entry))) }
 {
-    pieces_can_be_built();
     let mut left = all;
     let first = schema_bytes(alloc, schema)?;
     let mut stream = begin_stream(alloc, first);
-    let mut kept = None;
-    let mut from = 0;
-    while from < rows {
-        let piece = left.next_piece(alloc, schema)?;
-        write_run_piece(alloc, &mut stream, &mut kept, schema, &piece)?;
-        from += piece.rows;
-    }
-    end_stream(&mut stream)?;
+    write_left(alloc, schema, &mut stream, &mut left, rows)?;
     Ok(stream)
 }
 
@@ -114,6 +131,40 @@ fn encode_run_piece<'a>(
     into_parts(before, stream)
 }
 
+// Adds the streams of the pieces of the rows that are left, of which there are so many, and counts the rows of each. Nothing was added before.
+fn push_left<'a>(
+    alloc: Global,
+    schema: &Schema,
+    before: usize,
+    left: &mut RowsLeft<'a>,
+    rows: usize,
+    streams: &mut Vec<Vec<Buffer<'a>>>,
+    counts: &mut Vec<u64>,
+) -> Result<(), AllocError>
+    requires before { before ≡ length (schema_message (schema_of schema.now)) }
+    requires table { IsTable (runs_table (schema_of schema.now) (runs_left left.old)) }
+    requires sound { are_runs_sound (columns_of (schema_of schema.now).columns) (runs_left left.old) ≡ true }
+    requires count { rows ≡ length (rows_left (columns_of (schema_of schema.now).columns) left.old) }
+    requires none { streams.old.items ≡ [] }
+    requires uncounted { counts.old.items ≡ [] }
+    ensures streams { OnOk result (streams_behind (schema_message (schema_of schema.now)) streams.new.items
+        ≡ piece_streams (runs_table (schema_of schema.now) (runs_left left.old))) }
+    ensures rows { OnOk result (counts.new.items ≡ piece_counts (runs_table (schema_of schema.now) (runs_left left.old))) }
+    ensures short { OnOk result (AllByRecursion (λ stream. length stream < 2 ^ 64)
+        (streams_behind (schema_message (schema_of schema.now)) streams.new.items)) }
+{
+    pieces_can_be_built();
+    let mut kept = None;
+    let mut from = 0;
+    while from < rows {
+        let piece = left.next_piece(alloc, schema)?;
+        let stream = encode_run_piece(alloc, schema, before, &mut kept, &piece)?;
+        push_stream(streams, counts, stream, piece.rows)?;
+        from += piece.rows;
+    }
+    Ok(())
+}
+
 /// The streams of their pieces.
 pub(crate) fn encode_parts_pieces<'a>(
     alloc: Global,
@@ -128,21 +179,20 @@ pub(crate) fn encode_parts_pieces<'a>(
     ensures rows { IfOk result (λ pieces. pieces.rows.items ≡ piece_counts (parts_table (schema_of schema.now) parts.now)) }
     ensures short { IfOk result (λ pieces. AllByRecursion (λ stream. length stream < 2 ^ 64) (streams_in pieces)) }
 {
-    pieces_can_be_built();
     let schema_message = schema_bytes(alloc, schema)?;
     let before = schema_message.len();
     let mut left = RowsLeft::new(alloc, parts)?;
     let mut streams = Vec::new(alloc);
     let mut counts = Vec::new(alloc);
-    let mut kept = None;
-    let mut from = 0;
-    while from < rows {
-        let piece = left.next_piece(alloc, schema)?;
-        let stream = encode_run_piece(alloc, schema, before, &mut kept, &piece)?;
-        streams.push(stream)?;
-        counts.push(piece.rows as u64)?;
-        from += piece.rows;
-    }
+    push_left(
+        alloc,
+        schema,
+        before,
+        &mut left,
+        rows,
+        &mut streams,
+        &mut counts,
+    )?;
     Ok(EncodedPieces {
         schema_message,
         parts: streams,

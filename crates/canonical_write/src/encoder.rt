@@ -1,11 +1,11 @@
 // The stream of a table, and the streams of its pieces.
-ghost use Rattle.std.specs.Prelude.{◌≡◌, ◌<◌, ◌^◌, ◌∷◌, ◌++◌, [], true, IfOk, length, map};
+ghost use Rattle.std.specs.Prelude.{◌≡◌, ◌<◌, ◌^◌, ◌∷◌, ◌++◌, [], true, IfOk, OnOk, length, map};
 ghost use Rattle.std.specs.List.{AllByRecursion};
 ghost use Rattle.arrow_schema.specs.View.{column_of, schema_of};
 ghost use Rattle.canonical_stream.specs.Canonical.{canonical};
 ghost use Rattle.canonical_stream.specs.Pieces.{IsPieceOf};
 ghost use Rattle.canonical_write.specs.Pieces.{piece_stream, piece_streams, piece_counts};
-ghost use Rattle.canonical_write.specs.View.{joined_parts, streams_in, with_schema};
+ghost use Rattle.canonical_write.specs.View.{joined_parts, streams_behind, streams_in, with_schema};
 ghost use Rattle.canonical_write.specs.inner.Stream.{stream_in};
 ghost use Rattle.ipc_write.specs.Written.{schema_message};
 ghost use Rattle.table_cut.specs.Cut.{pieces};
@@ -34,22 +34,36 @@ pub struct EncodedPieces<'a> {
     pub rows: Vec<u64>,
 }
 
+// Writes the pieces of the rows of a table, under a schema, behind the message of the schema, and the end of stream.
+fn write_table(
+    alloc: Global,
+    schema: &Schema,
+    table: &Table,
+    stream: &mut Stream<'_>,
+) -> Result<(), AllocError>
+    requires first { stream_in stream.old ≡ schema_message (schema_of schema.now) }
+    requires table { IsTable (with_schema (schema_of schema.now) (table_of table.now)) }
+    ensures { OnOk result (stream_in stream.new ≡ canonical (with_schema (schema_of schema.now) (table_of table.now))) }
+{
+    pieces_can_be_built();
+    let mut kept = None;
+    let mut from = 0;
+    while from < table.len() {
+        let piece = next_piece(alloc, schema, table, from)?;
+        write_piece(alloc, stream, &mut kept, schema, &piece)?;
+        from += piece.len();
+    }
+    end_stream(stream)
+}
+
 // The one stream of the rows of a table, under a schema.
 fn encode_rows<'a>(alloc: Global, schema: &Schema, table: &Table) -> Result<Stream<'a>, AllocError>
     requires { IsTable (with_schema (schema_of schema.now) (table_of table.now)) }
     ensures { IfOk result (λ stream. stream_in stream ≡ canonical (with_schema (schema_of schema.now) (table_of table.now))) }
 {
-    pieces_can_be_built();
     let first = schema_bytes(alloc, schema)?;
     let mut stream = begin_stream(alloc, first);
-    let mut kept = None;
-    let mut from = 0;
-    while from < table.len() {
-        let piece = next_piece(alloc, schema, table, from)?;
-        write_piece(alloc, &mut stream, &mut kept, schema, &piece)?;
-        from += piece.len();
-    }
-    end_stream(&mut stream)?;
+    write_table(alloc, schema, table, &mut stream)?;
     Ok(stream)
 }
 
@@ -112,6 +126,52 @@ fn are_same_fields(fields: &[Field], others: &[Field]) -> bool
     true
 }
 
+/// Adds the stream of a piece, and counts its rows.
+pub(crate) fn push_stream<'a>(
+    streams: &mut Vec<Vec<Buffer<'a>>>,
+    counts: &mut Vec<u64>,
+    stream: Vec<Buffer<'a>>,
+    rows: usize,
+) -> Result<(), AllocError>
+    ensures streams { OnOk result (streams.new.items ≡ streams.old.items ++ stream.entry ∷ []) }
+    ensures counts { OnOk result (counts.new.items ≡ counts.old.items ++ rows ∷ []) }
+{
+    streams.push(stream)?;
+    counts.push(rows as u64)?;
+    Ok(())
+}
+
+// Adds the streams of the pieces of rows that are borrowed one by one, and counts the rows of each. Nothing was added before.
+fn push_table<'a>(
+    alloc: Global,
+    schema: &Schema,
+    before: usize,
+    table: &Table,
+    streams: &mut Vec<Vec<Buffer<'a>>>,
+    counts: &mut Vec<u64>,
+) -> Result<(), AllocError>
+    requires before { before ≡ length (schema_message (schema_of schema.now)) }
+    requires table { IsTable (with_schema (schema_of schema.now) (table_of table.now)) }
+    requires none { streams.old.items ≡ [] }
+    requires uncounted { counts.old.items ≡ [] }
+    ensures streams { OnOk result (streams_behind (schema_message (schema_of schema.now)) streams.new.items
+        ≡ piece_streams (with_schema (schema_of schema.now) (table_of table.now))) }
+    ensures rows { OnOk result (counts.new.items ≡ piece_counts (with_schema (schema_of schema.now) (table_of table.now))) }
+    ensures short { OnOk result (AllByRecursion (λ stream. length stream < 2 ^ 64)
+        (streams_behind (schema_message (schema_of schema.now)) streams.new.items)) }
+{
+    pieces_can_be_built();
+    let mut kept = None;
+    let mut from = 0;
+    while from < table.len() {
+        let piece = next_piece(alloc, schema, table, from)?;
+        let stream = encode_piece(alloc, schema, before, &mut kept, &piece)?;
+        push_stream(streams, counts, stream, piece.len())?;
+        from += piece.len();
+    }
+    Ok(())
+}
+
 // The pieces of rows that are borrowed one by one.
 fn encode_rows_pieces<'a>(
     alloc: Global,
@@ -123,20 +183,11 @@ fn encode_rows_pieces<'a>(
     ensures rows { IfOk result (λ pieces. pieces.rows.items ≡ piece_counts (with_schema (schema_of schema.now) (table_of table.now))) }
     ensures short { IfOk result (λ pieces. AllByRecursion (λ stream. length stream < 2 ^ 64) (streams_in pieces)) }
 {
-    pieces_can_be_built();
     let schema_message = schema_bytes(alloc, schema)?;
     let before = schema_message.len();
     let mut streams = Vec::new(alloc);
     let mut counts = Vec::new(alloc);
-    let mut kept = None;
-    let mut from = 0;
-    while from < table.len() {
-        let piece = next_piece(alloc, schema, table, from)?;
-        let stream = encode_piece(alloc, schema, before, &mut kept, &piece)?;
-        streams.push(stream)?;
-        counts.push(piece.len() as u64)?;
-        from += piece.len();
-    }
+    push_table(alloc, schema, before, table, &mut streams, &mut counts)?;
     Ok(EncodedPieces {
         schema_message,
         parts: streams,

@@ -17,7 +17,7 @@ pub(crate) fn borrowed<'a>(
 {
     let mut slices: Vec<&[u8]> = Vec::with_capacity(alloc, buffers.len())?;
     for buffer in buffers {
-        slices.push(buffer.bytes())?;
+        slices.push_reserved(buffer.bytes());
     }
     Ok(slices)
 }
@@ -28,7 +28,7 @@ fn lengths_of(alloc: Global, buffers: &[Buffer<'_>]) -> Result<Vec<usize>, Alloc
 {
     let mut lengths = Vec::with_capacity(alloc, buffers.len())?;
     for buffer in buffers {
-        lengths.push(buffer.bytes().len())?;
+        lengths.push_reserved(buffer.bytes().len());
     }
     Ok(lengths)
 }

@@ -1,84 +1,46 @@
-use Rattle.std.specs.Global.{Vec}
 use Rattle.std.specs.List.{AllByRecursion}
-use Rattle.std.proofs.Common.{◌≡◌, ◌<◌, ◌^◌, ◌++◌, List, ℕ, [], ◌∷◌, length, map, ap, sym, subst, ◌∙◌, arith}
-use Rattle.std.proofs.lemmas.List.{map-append}
-use Rattle.array_build.specs.declared.batch.Buffer.{Buffer}
-use Rattle.arrow_schema.specs.Column.{PlainSchema, Columns, columns_of}
+use Rattle.std.proofs.Common.{◌<◌, ◌^◌, List, ℕ, length, ap, sym, subst, ◌∙◌, arith}
+use Rattle.arrow_schema.specs.Column.{PlainSchema, columns_of}
 use Rattle.arrow_schema.specs.View.{schema_of}
-use Rattle.canonical_write.proofs.Alone.{IsAlone, each_alone}
-use Rattle.canonical_write.proofs.RunSteps.{all_left, some_left, first_piece, next_left}
-use Rattle.canonical_write.proofs.Steps.{first_streams, first_counts, next_made}
-use Rattle.canonical_write.specs.Pieces.{piece_stream, piece_streams, piece_counts}
-use Rattle.canonical_write.specs.View.{joined_parts, streams_behind}
-use Rattle.cells.specs.Cell.{Cell, PlainTable}
-use Rattle.facts.specs.laws.Lists.{all_more}
-use Rattle.ipc_write.specs.Written.{schema_message}
-use Rattle.run_pieces.specs.Left.{rows_left}
-use Rattle.run_pieces.specs.Rows.{runs_rows}
-use Rattle.table_cut.specs.Cut.{pieces}
-use Rattle.table_cut.specs.Piece.{within_piece}
-use Rattle.values.specs.Parts.{parts_rows, parts_table}
+use Rattle.canonical_write.specs.Pieces.{piece_streams, piece_counts}
+use Rattle.canonical_write.specs.View.{streams_behind}
+use Rattle.cells.specs.Cell.{Cell}
+use Rattle.values.specs.PlainTables.{plain_table}
+use Rattle.values.specs.Table.{IsTable}
 use Rattle.canonical_write.proofs.by_runs.encode_parts_pieces.Goals as goal
 
-pub loop-from-init : goal.loop-from-init
-loop-from-init c =
+pub push_left-requires-clause-table : goal.push_left-requires-clause-table
+push_left-requires-clause-table c =
     let s : PlainSchema = schema_of c.args.schema.now in
-    let cs : Columns = columns_of s.columns in
-    let t : PlainTable = parts_table s c.args.parts.now in
-    let all : rows_left cs c.in_ok-left.left ≡ parts_rows cs c.args.parts.now = c.in_ok-left.ensures.rows cs in
-    let made : List (List ℕ) = streams_behind (schema_message s) c.new-streams.result.items in
-    let none : made ≡ [] = ap (streams_behind (schema_message s)) c.new-streams.ensures.items in
-    record {
-      left = all_left c.pieces_can_be_built.ensures s c.in_ok-left.left c.args.rows t.rows all c.requires.table (c.in_ok-left.ensures.sound cs c.requires.sound) c.requires.count;
-      alone = each_alone (within_piece s) (rows_left cs c.in_ok-left.left);
-      streams = ap (λ (rows : List (List Cell)). made ++ map (piece_stream s) (pieces (within_piece s) rows)) all ∙ first_streams s t made none;
-      counts = ap (λ (rows : List (List Cell)). c.new-counts.result.items ++ map length (pieces (within_piece s) rows)) all
-          ∙ first_counts s t c.new-counts.result.items c.new-counts.ensures.items;
-      short = rw c.new-streams.ensures.items tt;
-    }
+    subst (λ (rows : List (List Cell)). IsTable (plain_table s rows)) (sym (c.in_ok-left.ensures.rows (columns_of s.columns))) c.requires.table
 
-pub next_piece-requires-clause-some : goal.next_piece-requires-clause-some
-next_piece-requires-clause-some c = some_left c.loop-from.invariant.left c.loop-from-test.true
+pub push_left-requires-clause-sound : goal.push_left-requires-clause-sound
+push_left-requires-clause-sound c = c.in_ok-left.ensures.sound (columns_of (schema_of c.args.schema.now).columns) c.requires.sound
 
-pub encode_run_piece-requires-clause-piece : goal.encode_run_piece-requires-clause-piece
-encode_run_piece-requires-clause-piece c = first_piece c.loop-from.invariant.left c.in_ok-piece.ensures.piece
+pub push_left-requires-clause-count : goal.push_left-requires-clause-count
+push_left-requires-clause-count c =
+    omega (arith, c.requires.count, ap length (c.in_ok-left.ensures.rows (columns_of (schema_of c.args.schema.now).columns)))
 
-pub encode_run_piece-requires-clause-alone : goal.encode_run_piece-requires-clause-alone
-encode_run_piece-requires-clause-alone c =
+pub push_left-requires-clause-none : goal.push_left-requires-clause-none
+push_left-requires-clause-none c = c.new-streams.ensures.items
+
+pub push_left-requires-clause-uncounted : goal.push_left-requires-clause-uncounted
+push_left-requires-clause-uncounted c = c.new-counts.ensures.items
+
+pub returns-clause-streams : goal.returns-clause-streams
+returns-clause-streams c =
     let s : PlainSchema = schema_of c.args.schema.now in
-    (subst (AllByRecursion (IsAlone (within_piece s))) c.in_ok-piece.ensures.piece c.loop-from.invariant.alone).0
+    ap (λ (front : List ℕ). streams_behind front c.push_left.new.streams.items) c.in_ok-schema_message.ensures
+    ∙ c.in_ok-push_left.ensures.streams
+    ∙ ap (λ (rows : List (List Cell)). piece_streams (plain_table s rows)) (c.in_ok-left.ensures.rows (columns_of s.columns))
 
-pub overflow_add-from : goal.overflow_add-from
-overflow_add-from c =
-    let piece : List (List Cell) = runs_rows (columns_of (schema_of c.args.schema.now).columns) c.in_ok-piece.piece.runs.items in
-    let next = next_left c.next_piece.new.self c.in_ok-piece.piece.rows piece c.loop-from.invariant.left c.in_ok-piece.ensures.piece c.in_ok-piece.ensures.front c.in_ok-piece.ensures.left c.in_ok-piece.ensures.count in
-    omega (arith, next.within)
-
-pub loop-from-preserved : goal.loop-from-preserved
-loop-from-preserved c =
+pub returns-clause-rows : goal.returns-clause-rows
+returns-clause-rows c =
     let s : PlainSchema = schema_of c.args.schema.now in
-    let cs : Columns = columns_of s.columns in
-    let t : PlainTable = parts_table s c.args.parts.now in
-    let is = c.loop-from.invariant in
-    let piece : List (List Cell) = runs_rows cs c.in_ok-piece.piece.runs.items in
-    let cut : List (List (List Cell)) = pieces (within_piece s) (rows_left cs c.loop-from.left) in
-    let rest : List (List (List Cell)) = pieces (within_piece s) (rows_left cs c.next_piece.new.self) in
-    let front : List ℕ = schema_message s in
-    let made : List (List ℕ) = streams_behind front c.loop-from.streams.items in
-    let stream : List ℕ = front ++ joined_parts c.in_ok-stream.stream.items in
-    let pushed : streams_behind front c.push.new.self.items ≡ made ++ stream ∷ [] =
-    ap (streams_behind front) c.in_ok-push.ensures.items ∙ map-append (λ (parts : Vec Buffer). front ++ joined_parts parts.items) c.loop-from.streams.items (c.in_ok-stream.stream ∷ []) in
-    record {
-      left = next_left c.next_piece.new.self c.in_ok-piece.piece.rows piece is.left c.in_ok-piece.ensures.piece c.in_ok-piece.ensures.front c.in_ok-piece.ensures.left c.in_ok-piece.ensures.count;
-      alone = (subst (AllByRecursion (IsAlone (within_piece s))) c.in_ok-piece.ensures.piece is.alone).1;
-      streams = next_made (piece_stream s) made (streams_behind front c.push.new.self.items) (piece_streams t) stream piece cut rest
-          c.in_ok-piece.ensures.piece pushed c.in_ok-stream.ensures.stream is.streams;
-      counts = next_made length c.loop-from.counts.items c.push-in-loop-from.new.self.items (piece_counts t) c.in_ok-piece.piece.rows piece cut rest
-          c.in_ok-piece.ensures.piece c.in_ok-push-2.ensures.items c.in_ok-piece.ensures.count is.counts;
-      short = subst (AllByRecursion (λ (x : List ℕ). length x < 2 ^ 64)) (sym pushed) (all_more (λ (x : List ℕ). length x < 2 ^ 64) made stream is.short c.in_ok-stream.ensures.short);
-    }
+    c.in_ok-push_left.ensures.rows
+    ∙ ap (λ (rows : List (List Cell)). piece_counts (plain_table s rows)) (c.in_ok-left.ensures.rows (columns_of s.columns))
 
-pub loop-from-smaller : goal.loop-from-smaller
-loop-from-smaller c =
-    let first = first_piece c.loop-from.invariant.left c.in_ok-piece.ensures.piece in
-    omega (arith, first.some, c.in_ok-piece.ensures.count, c.loop-from-test.true)
+pub returns-clause-short : goal.returns-clause-short
+returns-clause-short c =
+    subst (λ (front : List ℕ). AllByRecursion (λ (stream : List ℕ). length stream < 2 ^ 64) (streams_behind front c.push_left.new.streams.items))
+    (sym c.in_ok-schema_message.ensures) c.in_ok-push_left.ensures.short

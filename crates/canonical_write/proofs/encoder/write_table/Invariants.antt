@@ -9,7 +9,7 @@ use Rattle.table_cut.specs.Cut.{pieces}
 use Rattle.ipc_write.specs.Written.{end_of_stream}
 use Rattle.table_cut.specs.Piece.{within_piece}
 use Rattle.values.specs.TableView.{table_of}
-use Rattle.canonical_write.proofs.encoder.encode_rows.Given as goal
+use Rattle.canonical_write.proofs.encoder.write_table.Given as goal
 
 -- what is written, and the pieces that are left, are the stream
 abbrev pub invariant-loop-from : goal.invariant-loop-from

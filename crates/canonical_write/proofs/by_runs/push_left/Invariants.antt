@@ -5,13 +5,13 @@ use Rattle.arrow_schema.specs.View.{schema_of}
 use Rattle.canonical_write.proofs.Alone.{IsAlone}
 use Rattle.canonical_write.specs.Pieces.{piece_stream, piece_streams, piece_counts}
 use Rattle.canonical_write.specs.View.{streams_behind}
-use Rattle.run_pieces.specs.Left.{rows_left}
+use Rattle.run_pieces.specs.Left.{runs_left, rows_left}
 use Rattle.ipc_write.specs.Written.{schema_message}
 use Rattle.table_cut.specs.Cut.{pieces}
 use Rattle.table_cut.specs.Piece.{within_piece}
-use Rattle.values.specs.Parts.{parts_table}
+use Rattle.run_pieces.specs.Rows.{runs_table}
 use Rattle.canonical_write.proofs.RunSteps.{AreLeft}
-use Rattle.canonical_write.proofs.by_runs.encode_parts_pieces.Given as goal
+use Rattle.canonical_write.proofs.by_runs.push_left.Given as goal
 
 -- the streams so far, and those of the pieces that are left, are those of all
 abbrev pub invariant-loop-from : goal.invariant-loop-from
@@ -21,8 +21,8 @@ invariant-loop-from l =
     record {
       left : AreLeft s l.left l.from l.rows;
       alone : AllByRecursion (IsAlone (within_piece s)) cut;
-      streams : streams_behind (schema_message s) l.streams.items ++ map (piece_stream s) cut ≡ piece_streams (parts_table s l.parts);
-      counts : l.counts.items ++ map length cut ≡ piece_counts (parts_table s l.parts);
+      streams : streams_behind (schema_message s) l.streams.items ++ map (piece_stream s) cut ≡ piece_streams (runs_table s (runs_left l.fn.left));
+      counts : l.counts.items ++ map length cut ≡ piece_counts (runs_table s (runs_left l.fn.left));
       short : AllByRecursion (λ stream. length stream < 2 ^ 64) (streams_behind (schema_message s) l.streams.items);
     }
 

@@ -9,7 +9,7 @@ use Rattle.table_cut.specs.Cut.{pieces}
 use Rattle.table_cut.specs.Piece.{within_piece}
 use Rattle.values.specs.TableView.{table_of}
 use Rattle.canonical_write.proofs.Alone.{IsAlone}
-use Rattle.canonical_write.proofs.encoder.encode_rows_pieces.Given as goal
+use Rattle.canonical_write.proofs.encoder.push_table.Given as goal
 
 -- the streams so far, and those of the pieces that are left, are those of all
 abbrev pub invariant-loop-from : goal.invariant-loop-from

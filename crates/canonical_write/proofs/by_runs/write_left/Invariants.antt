@@ -10,7 +10,7 @@ use Rattle.run_pieces.specs.Rows.{runs_table}
 use Rattle.table_cut.specs.Cut.{pieces}
 use Rattle.table_cut.specs.Piece.{within_piece}
 use Rattle.canonical_write.proofs.RunSteps.{AreLeft}
-use Rattle.canonical_write.proofs.by_runs.encode_left.Given as goal
+use Rattle.canonical_write.proofs.by_runs.write_left.Given as goal
 
 -- what is written, and the pieces that are left, are the stream
 abbrev pub invariant-loop-from : goal.invariant-loop-from
@@ -19,7 +19,7 @@ invariant-loop-from l =
     let cut = pieces (within_piece s) (rows_left (columns_of s.columns) l.left) in
     record {
       left : AreLeft s l.left l.from l.rows;
-      written : stream_in l.stream ++ (flat_map (piece_messages s) cut ++ end_of_stream) ≡ canonical (runs_table s (runs_left l.fn.all));
+      written : stream_in l.stream ++ (flat_map (piece_messages s) cut ++ end_of_stream) ≡ canonical (runs_table s (runs_left l.fn.left));
     }
 
 abbrev pub decreases-loop-from : goal.decreases-loop-from
