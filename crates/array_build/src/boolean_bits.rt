@@ -23,7 +23,7 @@ pub(crate) fn bits(alloc: Global, cells: &[ValueRef<'_>]) -> Result<Vec<u8>, All
 {
     let mut bits = Vec::with_capacity(alloc, cells.len())?;
     for cell in cells {
-        bits.push(is_set(cell))?;
+        bits.push_reserved(is_set(cell));
     }
     pack(alloc, &bits)
 }

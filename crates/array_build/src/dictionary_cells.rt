@@ -67,7 +67,7 @@ pub(crate) fn entry_cells<'a>(
 {
     let mut cells = Vec::with_capacity(alloc, entries.len())?;
     for entry in entries {
-        cells.push(cell_of(entry))?;
+        cells.push_reserved(cell_of(entry));
     }
     Ok(cells)
 }

@@ -53,7 +53,7 @@ pub(crate) fn fixed_item_runs<'a>(
 {
     let mut items = Vec::with_capacity(alloc, runs.len())?;
     for run in runs {
-        items.push(fixed_item_run(item, size, run)?)?;
+        items.push_reserved(fixed_item_run(item, size, run)?);
     }
     Ok(items)
 }

@@ -113,7 +113,7 @@ pub(crate) fn item_runs<'a>(
 {
     let mut items = Vec::with_capacity(alloc, runs.len())?;
     for run in runs {
-        items.push(item_run(item, width, run))?;
+        items.push_reserved(item_run(item, width, run));
     }
     Ok(items)
 }

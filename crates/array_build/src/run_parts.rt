@@ -37,7 +37,7 @@ pub(crate) fn runs_at<'a>(
 {
     let mut parts = Vec::with_capacity(alloc, runs.len())?;
     for run in runs {
-        parts.push(part_run(run, place))?;
+        parts.push_reserved(part_run(run, place));
     }
     Ok(parts)
 }

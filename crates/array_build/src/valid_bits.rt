@@ -41,7 +41,7 @@ pub(crate) fn validity(alloc: Global, cells: &[ValueRef<'_>]) -> Result<Vec<u8>,
     }
     let mut bits = Vec::with_capacity(alloc, cells.len())?;
     for cell in cells {
-        bits.push(is_there(cell))?;
+        bits.push_reserved(is_there(cell));
     }
     pack(alloc, &bits)
 }
