@@ -1,5 +1,5 @@
 use Rattle.std.specs.List.{AllByRecursion}
-use Rattle.std.proofs.Common.{◌≡◌, ◌+◌, ◌++◌, ◌∷◌, List, ℕ, length, map, drop, ap, subst, ◌∙◌, arith, rules}
+use Rattle.std.proofs.Common.{◌≡◌, ◌+◌, ◌++◌, ◌∷◌, List, ℕ, length, map, drop, ap, subst, sym, ◌∙◌, arith, rules}
 use Rattle.std.proofs.lemmas.List.{drop_all}
 use Rattle.std.proofs.lemmas.Result.{on_ok_weaker}
 use Rattle.arrow_schema.specs.Column.{PlainSchema}
@@ -30,6 +30,15 @@ loop-from-init c =
 
 written_rows : {A : Type 0} (f : List A → List ℕ) (old new : List ℕ) (given rows : List A) → new ≡ old ++ f given → given ≡ rows → new ≡ old ++ f rows
 written_rows f old new given rows written same = written ∙ ap (λ xs. old ++ f xs) same
+
+piece_given : (s : PlainSchema) (given rows : List Values) → IsPieceOf s (map borrowed_cells rows) → given ≡ rows → IsPieceOf s (map borrowed_cells given)
+piece_given s given rows piece same = subst (λ (xs : List Values). IsPieceOf s (map borrowed_cells xs)) (sym same) piece
+
+pub write_piece-requires : goal.write_piece-requires
+write_piece-requires c =
+    let s : PlainSchema = schema_of c.args.schema.now in
+    let first = (subst (AllByRecursion (IsPieceOf s)) c.in_ok-piece.ensures.piece c.loop-from.invariant.each).0 in
+    piece_given s _ c.in_ok-piece.piece.items first (search rules)
 
 pub loop-from-preserved : goal.loop-from-preserved
 loop-from-preserved c =
