@@ -26,7 +26,7 @@ use ipc_message::{Fault, ImportError, RawBatch};
 use std::alloc::{AllocError, Global};
 
 /// Arrays with their fields and the bytes that they stand in.
-#[derive(Clone, Copy, Debug)]
+#[derive(Clone, Copy)]
 pub(crate) struct Placed<'a> {
     pub(crate) fields: &'a [Field],
     pub(crate) arrays: &'a [PlacedArray],

@@ -11,7 +11,7 @@ ghost use Rattle.arrays.specs.inner.Counted.{capped, buffers_among, dictionaries
 use arrow_schema::{DataType, Field};
 
 /// As far as a number of 64 bits counts: no slice is longer.
-#[derive(Clone, Copy, Debug)]
+#[derive(Clone, Copy)]
 pub(crate) struct Counts {
     pub(crate) nodes: usize,
     pub(crate) buffers: usize,

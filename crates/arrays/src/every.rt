@@ -11,7 +11,7 @@ use columns::{ArrayView, Dictionary, PlacedArray, array_or};
 use std::alloc::AllocError;
 
 /// An array with its field.
-#[derive(Clone, Copy, Debug)]
+#[derive(Clone, Copy)]
 pub(crate) struct TypedView<'a> {
     pub(crate) field: &'a Field,
     pub(crate) view: ArrayView<'a>,

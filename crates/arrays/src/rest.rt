@@ -7,7 +7,7 @@ use crate::raw::{after, count_of, pair_at, span_in};
 use columns::{Dictionary, DictionaryPart, Span};
 
 /// The nodes, buffers and dictionaries that are left, and the bytes that the body stands in.
-#[derive(Clone, Copy, Debug)]
+#[derive(Clone, Copy)]
 pub(crate) struct Rest<'a> {
     pub(crate) nodes: &'a [u8],
     pub(crate) buffers: &'a [u8],

@@ -1,7 +1,7 @@
 // What is asked of each visible slot.
 
 /// A test of a slot, by what it finds.
-#[derive(Clone, Copy, Debug)]
+#[derive(Clone, Copy)]
 pub(crate) enum SlotTest {
     // F26: it is valid, and its index names no entry
     NoEntry,

@@ -10,7 +10,7 @@ use arrayvec::ArrayVec;
 use columns::{ArrayView, OffsetWidth};
 
 /// Slots in a row: from one on, so many.
-#[derive(Clone, Copy, Debug, Default)]
+#[derive(Clone, Copy, Default)]
 pub(crate) struct SlotSpan {
     pub(crate) from: usize,
     pub(crate) count: usize,
