@@ -49,7 +49,6 @@ pub(crate) fn may_find_below(test: SlotTest, data_type: &DataType) -> bool
     }
 }
 
-#[tactic(auto, using(crate::proofs::MayFind::field_found, crate::proofs::MayFind::field_not_found, crate::proofs::MayFind::no_field_left))]
 #[cycle(may_find)]
 fn any_may_find(test: SlotTest, fields: &[Field]) -> bool
     ensures { result ≡ any_may_find test (fields_of fields.now) }
