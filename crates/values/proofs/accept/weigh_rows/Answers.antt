@@ -9,6 +9,9 @@ use Rattle.cells.specs.Row.{row_of}
 use Rattle.values.proofs.AcceptLemmas.{reported_from, goes_on, stops, ends, next_of, no_unfit, reported_all, is_unfit}
 use Rattle.values.proofs.accept.weigh_rows.Goals as goal
 
+pub accepted_weight-requires : goal.accepted_weight-requires
+accepted_weight-requires c = c.has_limits-limited.ensures
+
 pub returns-in-None-clause-refused : goal.returns-in-None-clause-refused
 returns-in-None-clause-refused c =
     let s = schema_of c.args.schema.now in
