@@ -417,22 +417,19 @@ fn command<'a>(alloc: Global, usage: &Usage) -> Result<Command<'a>, AllocError> 
     }
 }
 
-// It takes both over, so that no caller owns one where memory was refused.
-fn with_command<'a>(
-    program: Result<Command<'a>, AllocError>,
-    command: Result<Command<'a>, AllocError>,
-) -> Result<Command<'a>, AllocError> {
-    program?.subcommand(command?)
+// In the order of the help.
+fn commands_of_stores<'a>(alloc: Global) -> Result<Vec<Command<'a>>, AllocError> {
+    let mut commands = Vec::new(alloc);
+    for usage in &COMMANDS {
+        commands.push(command(alloc, usage)?)?;
+    }
+    Ok(commands)
 }
 
 fn commands<'a>(alloc: Global) -> Result<Command<'a>, AllocError> {
-    let mut program = Ok(
-        Command::new(alloc, "arrowstore")
-            .about("A crash-safe store of named tables in the Apache Arrow format")
-            .subcommand_required(true),
-    );
-    for usage in &COMMANDS {
-        program = with_command(program, command(alloc, usage));
-    }
-    program
+    let commands = commands_of_stores(alloc)?;
+    Command::new(alloc, "arrowstore")
+        .about("A crash-safe store of named tables in the Apache Arrow format")
+        .subcommand_required(true)
+        .subcommands(commands)
 }
