@@ -1,0 +1,6 @@
+use Rattle.std.proofs.Common.{◌∙◌, sym}
+use Rattle.program_texts.proofs.TextLemmas.{where_ok}
+use Rattle.program_texts.proofs.reports.end.Goals as goal
+
+pub returns-in-Err-clause-line : goal.returns-in-Err-clause-line
+returns-in-Err-clause-line g c = λ reported. where_ok c.tell.result _ c.tell.ensures (sym c.is_ok.ensures.value ∙ reported)
