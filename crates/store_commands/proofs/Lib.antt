@@ -4,3 +4,4 @@ mod ReadingLemmas
 mod TextLemmas
 mod RefusedInputs
 mod ConditionLemmas
+mod SelectingLemmas

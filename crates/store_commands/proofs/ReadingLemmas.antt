@@ -1,5 +1,5 @@
 -- Tables of a store that are read one after another.
-use Rattle.std.specs.Prelude.{get_or, slice_get, Result, Ok, Err, IfErr, ◌||◌}
+use Rattle.std.specs.Prelude.{get_or, slice_get, Result, Ok, Err, IfErr, OnOk, ◌||◌}
 use Rattle.std.specs.List.{AllByRecursion}
 use Rattle.std.proofs.Common.{◌≡◌, ◌<◌, ◌+◌, ◌∙◌, ℕ, Bool, true, List, Some, take, map, length, refl, ap, sym, subst}
 use Rattle.std.proofs.Math.Bool.{or-false}
@@ -120,3 +120,8 @@ module _ {D : Type 0} {g : Ghosts D} (story : D → Story) where
 pub output_failed : (P : tables.Refusal → Type 0) (there : Type 0) (r : Result (Unit {0}) Refusal) → IfErr r (λ e. e ≡ Io) → there → IfErr r (OfStore P there)
 output_failed P there (Ok unit) io h = tt
 output_failed P there (Err e) io h = subst (OfStore P there) (sym io) h
+
+-- what holds whether all was written or not
+pub where_done : {A E : Type 0} (r : Result A E) (P : Type 0) → P → OnOk r P
+where_done (Ok x) P h = h
+where_done (Err e) P h = tt

@@ -38,6 +38,10 @@ abbrev pub rows_text : List (List Cell) → List ℕ
 rows_text [] = []
 rows_text (row ∷ rows) = line row ++ codes "\n" ++ rows_text rows
 
+-- these are the lines of what a query selects from a table
+abbrev pub AreLines : PlainTable → PlainQuery → List ℕ → Type 0
+AreLines table q text = (selected : PlainTable) × (selection table q ≡ Ok selected) × (text ≡ rows_text selected.rows)
+
 -- a query of the table that reads show has this answer
 pub record QueryAnswers (halted tells : Bool) (image : Image) (found : Option PlainEntry) (q : PlainQuery)
     (answer : Result PlainTable query.Refusal) : Type 0 where
@@ -49,6 +53,12 @@ abbrev pub plain_reason : QueryRefusal → query.Refusal
 plain_reason UnknownColumn = query.unknown_column
 plain_reason BadCondition = query.bad_condition
 plain_reason NotComparable = query.not_comparable
+
+-- why no lines are made of what a query selects from a table: it is refused, or memory was
+abbrev pub RefusesLines : PlainTable → PlainQuery → Refusal → Type 0
+RefusesLines table q (Query refusal) = selection table q ≡ Err (plain_reason refusal)
+RefusesLines table q OutOfMemory = Unit {0}
+RefusesLines table q _ = ⊥
 
 -- why nothing is printed of a query: the table is not read; or it is, and the query is refused or memory was; or there is a selection, and the output failed
 abbrev pub RefusesQuery : (halted tells : Bool) → Image → Option PlainEntry → PlainQuery → Refusal → Type 0

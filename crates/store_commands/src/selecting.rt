@@ -12,7 +12,7 @@ ghost use Rattle.query.specs.View.{query_in, condition_in};
 ghost use Rattle.store.specs.Fits.{device_of, is_halted, listed_in};
 ghost use Rattle.store.specs.Reading.{OnlyReadsStore};
 ghost use Rattle.store_commands.specs.Reading.{store_ended};
-ghost use Rattle.store_commands.specs.Selecting.{named_columns, conditions_of, stated_query, RefusesWords, rows_text, QueryAnswers, RefusesQuery};
+ghost use Rattle.store_commands.specs.Selecting.{named_columns, conditions_of, stated_query, RefusesWords, rows_text, AreLines, RefusesLines, QueryAnswers, RefusesQuery};
 
 use command_refusals::{Refusal, write_whole};
 use query::{Condition, Query, json_line};
@@ -99,6 +99,15 @@ fn lines_of_rows(alloc: Global, table: &Table) -> Result<Vec<u8>, AllocError>
     Ok(text)
 }
 
+// The lines of what a query selects from a table.
+fn lines_of_selection(alloc: Global, table: &Table, query: &Query) -> Result<Vec<u8>, Refusal>
+    ensures lines { IfOk result (λ v. AreLines (table_of table.now) (query_in query.now) v.items) }
+    ensures refused { IfErr result (RefusesLines (table_of table.now) (query_in query.now)) }
+{
+    let selected = select(alloc, table, query)?;
+    Ok(lines_of_rows(alloc, &selected)?)
+}
+
 /// Prints each row that a query selects from a table, as a line of JSON. All lines are made before the first is written.
 ///
 /// # Errors
@@ -122,7 +131,6 @@ pub fn print_selection<D: SectorDevice, W: Write>(
     ensures silent { IfErr result (λ refusal. refusal ≢ Refusal.Io → output.new ≡ output.old) }
 {
     let table = store.read(alloc, name)?;
-    let selected = select(alloc, &table, query)?;
-    let text = lines_of_rows(alloc, &selected)?;
+    let text = lines_of_selection(alloc, &table, query)?;
     write_whole(output, &text)
 }
