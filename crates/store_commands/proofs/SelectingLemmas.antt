@@ -1,6 +1,6 @@
 -- Why no lines are printed of a query.
-use Rattle.std.specs.Prelude.{Option, Result, Ok, Err}
-use Rattle.std.proofs.Common.{◌≡◌, ℕ, Bool}
+use Rattle.std.specs.Prelude.{Option, Err}
+use Rattle.std.proofs.Common.{ℕ, Bool}
 use Rattle.sector_dev.specs.Disk.{Image, Story}
 use Rattle.sector_dev.specs.declared.device.SectorDevice.{Ghosts}
 use Rattle.cells.specs.Cell.{PlainTable}
@@ -17,7 +17,7 @@ use Rattle.command_refusals.specs.declared.refusal.Refusal.{Refusal}
 use Rattle.command_refusals.specs.declared.refusal.Refusal.TheVariants.{Fault, TooManyBytes, Io, BadSize, Fields, Text, Query, Opening, Store as OfStore, OutOfMemory}
 use Rattle.command_refusals.specs.Refusals.{query_refusal}
 use Rattle.store_commands.specs.Reading.{store_ended}
-use Rattle.store_commands.specs.Selecting.{RefusesLines, QueryAnswers, RefusesQuery}
+use Rattle.store_commands.specs.Selecting.{RefusesLines, RefusesQuery}
 
 pub query_refused : (table : PlainTable) (q : PlainQuery) (e : QueryError) → Reports e (selection table q) → RefusesLines table q (query_refusal e)
 query_refused table q queries.UnknownColumn given = given
