@@ -1,4 +1,4 @@
-use Rattle.std.proofs.Common.{refl}
+use Rattle.std.proofs.Common.{inr, refl}
 use Rattle.arrowstore.specs.Serving.{channels}
 use Rattle.arrowstore.proofs.ServingLemmas.{serves_import, serves_append, serves_text}
 use Rattle.arrowstore.proofs.serving_open.serve_open.Goals as goal
@@ -23,3 +23,6 @@ returns-in-AppendText-clause-serves g c =
     let new = c.append_text.new in
     serves_text g.R.Read.remaining g.W.Write.contents c.args.command c.in-AppendText.name c.args.store.now new.store (channels c.args.input.now c.args.output.now c.args.hint.now)
     (channels new.input new.output new.hint) c.append_text.result c.in-AppendText.form c.in-AppendText.is (record { goes = e.goes; told = e.told; refused = e.refused; hinted = e.hint; written = e.written })
+
+pub returns-in-Tables-clause-unread : goal.returns-in-Tables-clause-unread
+returns-in-Tables-clause-unread g c = inr refl
