@@ -1,6 +1,6 @@
 -- Sectors that are not buffered are written alone, after the buffered writes.
-use Rattle.std.proofs.Common.{◌≡◌, ◌⊎◌, ◌*◌, ◌-◌, ◌∙◌, ℕ, Bool, true, false, if◌then◌else◌, List, [], Option, Some, None, refl, ap, sym, subst, inl, inr, arith, length}
-use Rattle.std.specs.Prelude.{Result, Ok, Err, OnOk, nat_lt, slice_get}
+use Rattle.std.proofs.Common.{◌≡◌, ◌⊎◌, ◌*◌, ◌-◌, ◌∙◌, ℕ, Bool, true, false, if◌then◌else◌, List, [], ◌∷◌, Option, Some, None, refl, ap, sym, subst, inl, inr, arith, length}
+use Rattle.std.specs.Prelude.{Result, Ok, Err, OnOk, is_ok, nat_lt, slice_get, vec_len}
 use Rattle.std.specs.Option.{option_or}
 use Rattle.std.proofs.lemmas.Option.{slice_get_past}
 use Rattle.std.specs.declared.io.traits.Write.{Ghosts as WriteGhosts}
@@ -13,6 +13,22 @@ use Rattle.sector_dev.specs.declared.buffer.Buffer.{Buffer}
 none_at : (b : Bool) (xs : List (List ℕ)) (i : ℕ) → xs ≡ [] → (if b then None else slice_get xs i) ≡ None
 none_at true xs i none = refl
 none_at false xs i none = slice_get_past xs i (omega (arith, ap length none))
+
+no_items : (xs : List (List ℕ)) → length xs ≡ 0 → xs ≡ []
+no_items [] none = refl
+no_items (x ∷ xs) none = absurd (omega arith)
+
+-- a buffer of no length has no contents, and the other way round
+pub no_contents : (buffer : Buffer) → vec_len buffer.contents ≡ 0 → buffer.contents.items ≡ []
+no_contents buffer none = no_items buffer.contents.items (omega (arith, buffer.contents.ok.0))
+
+pub no_length : (buffer : Buffer) → buffer.contents.items ≡ [] → vec_len buffer.contents ≡ 0
+no_length buffer none = let none : length buffer.contents.items ≡ 0 = ap length none in omega (arith, buffer.contents.ok.0)
+
+-- what follows where a call did its work
+pub then_so : {T E P Q : Type 0} (r : Result T E) → OnOk r P → (P → Q) → OnOk r Q
+then_so (Ok x) p f = f p
+then_so (Err e) p f = tt
 
 pub empty_buffer : (buffer : Buffer) → buffer.contents.items ≡ [] → IsEmptyBuffer buffer
 empty_buffer buffer none k = none_at (nat_lt k buffer.start) buffer.contents.items (k - buffer.start) none
@@ -48,3 +64,11 @@ buffered_alone w s old mid empty new start contents before between same place fl
 pub same_contents : (old mid : Buffer) → mid.contents.items ≡ old.contents.items → (mid.start ≡ old.start) ⊎ (old.contents.items ≡ []) → (n : ℕ) → content_in mid n ≡ content_in old n
 same_contents old mid same (inl place) n = (λ i. content_from (place i) (same i) n)
 same_contents old mid same (inr none) n = empty_buffer mid (same ∙ none) n ∙ sym (empty_buffer old none n)
+
+-- what was put is so after the call was counted
+pub counted_taken : {F T U E D : Type 0} (w : WriteGhosts F) (s : SeekGhosts F) (old : Buffer) (start : ℕ) (contents : List (List ℕ)) (done : Result T E) (r : Result U D) (mid new : Buffer) (before between after : F) → is_ok r ≡ is_ok done → new ≡ mid → after ≡ between → OnOk done (Taken w s old start contents mid before between) → OnOk r (Taken w s old start contents new before after)
+counted_taken w s old start contents (Ok x) (Ok y) mid new before between after ok same still taken =
+    subst (λ (b : Buffer). Taken w s old start contents b before after) (sym same) (subst (λ (f : _). Taken w s old start contents mid before f) (sym still) taken)
+counted_taken w s old start contents (Err e) (Ok y) mid new before between after ok same still taken = absurd (cc ok)
+counted_taken w s old start contents (Ok x) (Err d) mid new before between after ok same still taken = tt
+counted_taken w s old start contents (Err e) (Err d) mid new before between after ok same still taken = tt

@@ -15,7 +15,10 @@ pub(crate) struct Buffer {
 }
 
 // 256 KiB: a longer run was not faster to write or to read
-pub(crate) const MOST: usize = 512;
+const MOST: usize = 512;
+
+// how many sectors a read that follows no other takes from the file
+const FIRST_READ: usize = 8;
 
 // to copy more than so many takes longer than a call of the system that writes them from where they stand
 const LONGEST_ADDED: usize = 128;
@@ -47,6 +50,15 @@ impl Buffer {
         ensures { IsTrue result ↔ (n ≡ self.now.start + length self.now.contents.items) }
     {
         n >= self.start && (n - self.start) as usize == self.contents.len()
+    }
+
+    // How many are to be read from this sector on: twice as many as they are where it is the one after them.
+    pub(crate) fn count_from(&self, n: u64) -> usize {
+        if self.ends_before(n) {
+            (2 * self.contents.len()).clamp(FIRST_READ, MOST)
+        } else {
+            FIRST_READ
+        }
     }
 
     // Forgets them.

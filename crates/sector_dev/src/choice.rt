@@ -2,7 +2,7 @@
 
 /// What a crash leaves in the sectors that are not yet synced. They are counted from 0, ascending; the i-th has bit
 /// `i mod 64` of the number.
-#[derive(Clone, Copy, Debug, PartialEq, Eq)]
+#[derive(Clone, Copy)]
 pub enum Choice {
     /// Each keeps its synced content.
     Old,

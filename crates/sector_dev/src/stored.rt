@@ -34,12 +34,19 @@ pub(crate) fn reach(stored: &mut Vec<StoredSector>, count: usize) -> bool
     true
 }
 
+// What a sector holds.
+fn sector_at(stored: &[StoredSector], n: usize) -> StoredSector
+    ensures { result ≡ stored_at stored.now n }
+{
+    stored.get(n).copied().unwrap_or(fresh())
+}
+
 // Reads a sector. `false`: it can't be read.
 pub(crate) fn read_stored(stored: &[StoredSector], n: usize, to: &mut [u8; 512]) -> bool
     ensures read { OnTrue result (shown_in (stored_at stored.now n) ≡ Some to.new) }
     ensures unreadable { OnFalse result (shown_in (stored_at stored.now n) ≡ None) }
 {
-    let sector = stored.get(n).copied().unwrap_or(fresh());
+    let sector = sector_at(stored, n);
     match sector.newest.or(sector.synced) {
         Some(content) => {
             *to = content;

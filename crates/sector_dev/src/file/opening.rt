@@ -1,6 +1,6 @@
 // A file is opened or made as a device.
 ghost use Rattle.std.specs.Prelude.{◌≡◌, ◌≤◌, ◌↔◌, length, IfOk, IfSome, IsErrOf, IsTrue};
-ghost use Rattle.sector_dev.specs.View.{sectors_of, failures_of, HasOtherLength, IsOver};
+ghost use Rattle.sector_dev.specs.View.{sectors_of, failures_of, IsDeviceLength, HasOtherLength, IsOver};
 ghost use Rattle.sector_dev.specs.Written.{IsEmpty};
 
 use super::{FileDevice, FileError, LEAST_SECTORS, LockFile, MOST_SECTORS};
@@ -18,18 +18,34 @@ fn is_size(sectors: u64) -> bool
     (LEAST_SECTORS..=MOST_SECTORS).contains(&sectors)
 }
 
-// Has the system bring a new file's name to the disk, where a directory can be opened and synced.
-fn sync_name<R: Files>(rt: &R, path: &str) -> io::Result<()> {
-    let parent = match Path::new(path).parent() {
+// Whether a file of so many bytes is a device.
+fn is_length(bytes: u64) -> bool
+    ensures { IsTrue result ↔ IsDeviceLength bytes }
+{
+    bytes % 512 == 0 && is_size(bytes / 512)
+}
+
+// The directory that a path lies in.
+fn parent_of(path: &str) -> Path<'_> {
+    match Path::new(path).parent() {
         Some(parent) if !parent.as_str().is_empty() => parent,
         _ => Path::new("."),
-    };
-    let Ok(directory) = File::open(rt, parent) else {
-        return Ok(());
-    };
+    }
+}
+
+// Has the system bring a directory to the disk, where one can be synced.
+fn sync_directory<F: OpenFile>(directory: &F) -> io::Result<()> {
     match directory.sync_all() {
         Err(e) if e.kind() != ErrorKind::InvalidInput => Err(e),
         _ => Ok(()),
+    }
+}
+
+// Has the system bring a new file's name to the disk, where a directory can be opened and synced.
+fn sync_name<R: Files>(rt: &R, path: &str) -> io::Result<()> {
+    match File::open(rt, parent_of(path)) {
+        Ok(directory) => sync_directory(&directory),
+        Err(_) => Ok(()),
     }
 }
 
@@ -48,6 +64,24 @@ fn prepare<F: OpenFile + LockFile, R: Files<File = F>>(
     sync_name(rt, path)
 }
 
+// A new file of so many sectors, which nobody else has open meanwhile. Where the system refuses, none is left, unless it
+// refuses to remove it too.
+fn new_file<F: OpenFile + LockFile + Drop, R: Files<File = F>>(
+    rt: &R,
+    path: &str,
+    sectors: u64,
+) -> Option<F>
+    requires { sectors ≤ MOST_SECTORS }
+{
+    let file = File::create_new(rt, path).ok()?;
+    if prepare(rt, path, &file, sectors).is_err() {
+        drop(file);
+        let _removed = fs::remove_file(rt, path);
+        return None;
+    }
+    Some(file)
+}
+
 impl<F: Read + Write + Seek + OpenFile + LockFile + Drop> FileDevice<F> {
     /// Opens a file as a device, which nobody else has open meanwhile.
     ///
@@ -63,8 +97,12 @@ impl<F: Read + Write + Seek + OpenFile + LockFile + Drop> FileDevice<F> {
         ensures failed { IfOk result (λ d. failures_of d ≡ 0) }
         ensures empty { IfOk result (λ d. IsEmpty d) }
     {
-        let file = OpenOptions::new().read(true).write(true).open(rt, path)?;
-        file.lock_to_write()?;
+        let Ok(file) = OpenOptions::new().read(true).write(true).open(rt, path) else {
+            return Err(FileError::Io);
+        };
+        if file.lock_to_write().is_err() {
+            return Err(FileError::Io);
+        }
         FileDevice::from_file(rt.alloc(), file)
     }
 
@@ -82,8 +120,12 @@ impl<F: Read + Write + Seek + OpenFile + LockFile + Drop> FileDevice<F> {
         ensures failed { IfOk result (λ d. failures_of d ≡ 0) }
         ensures empty { IfOk result (λ d. IsEmpty d) }
     {
-        let file = OpenOptions::new().read(true).open(rt, path)?;
-        file.lock_to_read()?;
+        let Ok(file) = OpenOptions::new().read(true).open(rt, path) else {
+            return Err(FileError::Io);
+        };
+        if file.lock_to_read().is_err() {
+            return Err(FileError::Io);
+        }
         FileDevice::from_file(rt.alloc(), file)
     }
 
@@ -105,12 +147,9 @@ impl<F: Read + Write + Seek + OpenFile + LockFile + Drop> FileDevice<F> {
         if !is_size(sectors) {
             return Err(FileError::BadSize);
         }
-        let file = File::create_new(rt, path)?;
-        if prepare(rt, path, &file, sectors).is_err() {
-            drop(file);
-            let _removed = fs::remove_file(rt, path);
+        let Some(file) = new_file(rt, path, sectors) else {
             return Err(FileError::Io);
-        }
+        };
         Ok(FileDevice::over(rt.alloc(), file, sectors))
     }
 }
@@ -128,12 +167,13 @@ impl<F: Read + Write + Seek + OpenFile + Drop> FileDevice<F> {
         ensures failed { IfOk result (λ d. failures_of d ≡ 0) }
         ensures empty { IfOk result (λ d. IsEmpty d) }
     {
-        let bytes = file.seek(SeekFrom::End(0))?;
-        let sectors = bytes / 512;
-        if bytes % 512 != 0 || !is_size(sectors) {
+        let Ok(bytes) = file.seek(SeekFrom::End(0)) else {
+            return Err(FileError::Io);
+        };
+        if !is_length(bytes) {
             return Err(FileError::BadSize);
         }
-        Ok(FileDevice::over(alloc, file, sectors))
+        Ok(FileDevice::over(alloc, file, bytes / 512))
     }
 
     // A device over a file of this many sectors.

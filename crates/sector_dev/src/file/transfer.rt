@@ -1,5 +1,6 @@
 // What a device that is a file reads and writes.
-ghost use Rattle.std.specs.Prelude.{◌≡◌, ◌<◌, ◌≤◌, ◌+◌, ◌⊎◌, ◌*◌, [], length, IfErr, OnOk, OnErr, IfSome, is_ok, true};
+ghost use Rattle.std.specs.Prelude.{◌≡◌, ◌<◌, ◌≤◌, ◌+◌, ◌⊎◌, ◌*◌, [], length, IfErr, OnOk, OnErr, Some, None, IfSome, is_ok, true};
+ghost use Rattle.std.specs.Bool.{OnTrue, OnFalse};
 ghost use Rattle.std.specs.Option.{option_copied, option_or};
 ghost use Rattle.sector_dev.specs.Buffer.{content_in};
 ghost use Rattle.sector_dev.specs.Disk.{Counts};
@@ -8,13 +9,10 @@ ghost use Rattle.sector_dev.specs.Written.{Writes, buffered, IsEmpty, Empties, B
 
 use super::FileDevice;
 use crate::DevError;
-use crate::buffer::{Buffer, MOST};
+use crate::buffer::Buffer;
 use std::fs::OpenFile;
 use std::io::{self, Read, Seek, SeekFrom, Write};
 use std::slice;
-
-// how many sectors a read that follows no other takes from the file
-const FIRST_READ: usize = 8;
 
 // Reads sectors from the file.
 fn read_at<F: Read + Seek>(file: &mut F, start: u64, contents: &mut [[u8; 512]]) -> io::Result<()>
@@ -33,11 +31,55 @@ fn write_at<F: Write + Seek>(file: &mut F, start: u64, contents: &[[u8; 512]]) -
     file.write_all(contents.as_flattened())
 }
 
+// Writes a buffer to the file, and forgets it. On an error it stays.
+fn write_buffer<F: Write + Seek>(file: &mut F, buffer: &mut Buffer) -> io::Result<()>
+    requires { buffer.old.start ≤ MOST_SECTORS }
+    ensures start { buffer.new.start ≡ buffer.old.start }
+    ensures stays { OnErr result (buffer.new ≡ buffer.old) }
+    ensures written { OnOk result (Writes ⟦<F as Write>⟧ ⟦<F as Seek>⟧ (buffer.old.start * 512) buffer.old.contents.items file.old file.new) }
+    ensures none { OnOk result (buffer.new.contents.items ≡ []) }
+{
+    match write_at(file, buffer.start, &buffer.contents) {
+        Ok(()) => {
+            buffer.clear();
+            Ok(())
+        }
+        Err(e) => Err(e),
+    }
+}
+
+// Reads this sector and some after it, at most so many, if there is memory for them and the file gives them.
+fn read_ahead<F: Read + Seek>(file: &mut F, ahead: &mut Buffer, n: u64, most: u64)
+    requires { n < MOST_SECTORS }
+{
+    let count = ahead.count_from(n).min(most as usize);
+    ahead.start = n;
+    if ahead.contents.resize(count, [0; 512]).is_err()
+        || read_at(file, n, &mut ahead.contents).is_err()
+    {
+        ahead.clear();
+    }
+}
+
 // The content of a sector that was written or read ahead, if it is in memory.
 fn in_memory<'a>(writes: &'a Buffer, ahead: &'a Buffer, n: u64) -> Option<&'a [u8; 512]>
     ensures { option_copied result ≡ option_or (content_in writes.now n) (content_in ahead.now n) }
 {
     writes.get(n).or(ahead.get(n))
+}
+
+// Copies the content of such a sector. `false`: it is not in memory.
+fn copy_from_memory(writes: &Buffer, ahead: &Buffer, n: u64, to: &mut [u8; 512]) -> bool
+    ensures there { OnTrue result (option_or (content_in writes.now n) (content_in ahead.now n) ≡ Some to.new) }
+    ensures absent { OnFalse result (option_or (content_in writes.now n) (content_in ahead.now n) ≡ None) }
+{
+    match in_memory(writes, ahead, n) {
+        Some(content) => {
+            *to = *content;
+            true
+        }
+        None => false,
+    }
 }
 
 impl<F: Read + Write + Seek + OpenFile + Drop> FileDevice<F> {
@@ -54,9 +96,7 @@ impl<F: Read + Write + Seek + OpenFile + Drop> FileDevice<F> {
             return Ok(());
         }
         self.ahead.clear();
-        write_at(&mut self.file, self.writes.start, &self.writes.contents)?;
-        self.writes.clear();
-        Ok(())
+        write_buffer(&mut self.file, &mut self.writes)
     }
 
     // Buffers these sectors, or writes them behind what is buffered.
@@ -86,37 +126,14 @@ impl<F: Read + Write + Seek + OpenFile + Drop> FileDevice<F> {
         ensures writes { self.new.writes ≡ self.old.writes }
         ensures buffered { IfSome (buffered self.old n) (λ c. (is_ok result ≡ true) × (to.new ≡ c) × (self.new.file ≡ self.old.file)) }
     {
-        if in_memory(&self.writes, &self.ahead, n).is_none() {
-            self.read_ahead(n);
+        if copy_from_memory(&self.writes, &self.ahead, n, to) {
+            return Ok(());
         }
-        match in_memory(&self.writes, &self.ahead, n) {
-            Some(content) => {
-                *to = *content;
-                Ok(())
-            }
-            None => read_at(&mut self.file, n, slice::from_mut(to)),
+        read_ahead(&mut self.file, &mut self.ahead, n, self.sectors - n);
+        if copy_from_memory(&self.writes, &self.ahead, n, to) {
+            return Ok(());
         }
-    }
-
-    // Reads this sector and some after it, if there is memory for them and the file gives them.
-    fn read_ahead(&mut self, n: u64)
-        requires { n < self.old.sectors }
-        ensures sectors { self.new.sectors ≡ self.old.sectors }
-        ensures failed { self.new.failed ≡ self.old.failed }
-        ensures writes { self.new.writes ≡ self.old.writes }
-    {
-        let count = if self.ahead.ends_before(n) {
-            (2 * self.ahead.contents.len()).clamp(FIRST_READ, MOST)
-        } else {
-            FIRST_READ
-        };
-        let count = count.min((self.sectors - n) as usize);
-        self.ahead.start = n;
-        if self.ahead.contents.resize(count, [0; 512]).is_err()
-            || read_at(&mut self.file, n, &mut self.ahead.contents).is_err()
-        {
-            self.ahead.clear();
-        }
+        read_at(&mut self.file, n, slice::from_mut(to))
     }
 
     // Has the system bring all that was written to the disk.
