@@ -1,6 +1,6 @@
 // A store is opened.
-ghost use Rattle.std.specs.Prelude.{◌≡◌, ◌≢◌, ◌∷◌, [], true, false, None, Some, Ok, Err, OnOk, IfOk, IfErr};
-ghost use Rattle.sector_dev.specs.Disk.{now, flushed};
+ghost use Rattle.std.specs.Prelude.{◌≡◌, ◌≢◌, ◌∷◌, [], true, false, None, Some, Ok, Err, OnOk, OnErr, IfOk, IfErr};
+ghost use Rattle.sector_dev.specs.Disk.{now, flushed, Flushes, Passes};
 ghost use Rattle.sector_dev.specs.Time.{Grows, OnlyReads};
 ghost use Rattle.commit.specs.Placing.{Uses};
 ghost use Rattle.commit.specs.Standing.{is_size, is_on_device, used_runs, runs_fault, rules, Stands};
@@ -92,6 +92,22 @@ fn read_store<C: ReadCatalogue, D: SectorDevice>(
     })
 }
 
+// Makes safe what was read of a store.
+fn make_safe<C: ReadCatalogue, D: SectorDevice>(
+    device: &mut D,
+    store: Opened<C>,
+) -> Result<Opened<C>, OpenError>
+    ensures size { D.size device.new ≡ D.size device.old }
+    ensures count { CountsOpen (D.failed device.old) (D.failed device.new) result }
+    ensures error { IfErr result (λ e. e ≡ OpenError.Device) }
+    ensures kept { IfOk result (λ s. s ≡ store) }
+    ensures synced { OnOk result (D.tells ≡ true → Flushes (D.story device.old) (D.story device.new)) }
+    ensures err { OnErr result (D.tells ≡ true → Passes (D.story device.old) (D.story device.new)) }
+{
+    device.sync()?;
+    Ok(store)
+}
+
 /// Opens a store: reads both commit sectors, the catalogue that the ruling one names, and makes safe what was read.
 ///
 /// # Errors
@@ -126,6 +142,5 @@ pub fn recover<C: ReadCatalogue, D: SectorDevice>(
         return Err(OpenError::Damaged(Cause::DeviceSize));
     }
     let store = read_store::<C, D>(alloc, device)?;
-    device.sync()?;
-    Ok(store)
+    make_safe(device, store)
 }
