@@ -8,14 +8,14 @@ use crate::gap_buffer::GapBuffer;
 use crate::{Run, Searched};
 
 /// What a run is used for: the catalogue that rules (`taken`), and so many snapshots (`pins`).
-#[derive(Clone, Copy, Debug, PartialEq, Eq)]
+#[derive(Clone, Copy, PartialEq, Eq)]
 pub struct Usage {
     pub taken: bool,
     pub pins: u32,
 }
 
 /// A run in use.
-#[derive(Clone, Copy, Debug, PartialEq, Eq)]
+#[derive(Clone, Copy)]
 pub struct UsageEntry {
     pub run: Run,
     pub usage: Usage,

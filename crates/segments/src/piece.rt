@@ -5,7 +5,7 @@ ghost use Rattle.segments.specs.Pieces.{part_bytes, bytes_of_parts};
 use crate::Run;
 
 /// Some of a piece's bytes, made for it or borrowed.
-#[derive(Debug, Drop)]
+#[derive(Drop)]
 pub enum Part<'a> {
     Made(Vec<u8>),
     Borrowed(&'a [u8]),
@@ -23,7 +23,7 @@ impl Part<'_> {
 }
 
 /// Bytes to be written into a run: those of its parts behind one another.
-#[derive(Debug, Drop)]
+#[derive(Drop)]
 pub struct Piece<'a> {
     pub run: Run,
     pub parts: Vec<Part<'a>>,

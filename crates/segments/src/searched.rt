@@ -3,7 +3,7 @@ ghost use Rattle.std.specs.Prelude.{◌≡◌};
 ghost use Rattle.segments.specs.Usages.{Space, IsSearched};
 
 /// How far a device was searched for free runs: each that starts before the sector `start` has at most `widest` sectors.
-#[derive(Clone, Copy, Debug, PartialEq, Eq)]
+#[derive(Clone, Copy)]
 pub struct Searched {
     pub start: u64,
     pub widest: u64,
