@@ -12,7 +12,7 @@ use cells::Row;
 use std::alloc::Global;
 
 /// What a text of rows is.
-#[derive(Clone, Copy, Debug)]
+#[derive(Clone, Copy)]
 pub enum TextForm<'a> {
     /// CSV, in which this text stands for a null where nulls are allowed.
     Csv { null_text: &'a str },

@@ -306,7 +306,7 @@ fn each_item(alloc: Global, item: &Field, values: &[Json]) -> Result<Vec<Value>,
 {
     let mut cells = Vec::with_capacity(alloc, values.len())?;
     for value in values {
-        cells.push(cell_in(alloc, item, value)?)?;
+        cells.push_reserved(cell_in(alloc, item, value)?);
     }
     Ok(cells)
 }
@@ -346,7 +346,7 @@ fn cells_by_place(alloc: Global, fields: &[Field], values: &[Json]) -> Result<Ve
 {
     let mut cells = Vec::with_capacity(alloc, fields.len())?;
     for (i, field) in fields.iter().enumerate() {
-        cells.push(cell_in(alloc, field, &values[i])?)?;
+        cells.push_reserved(cell_in(alloc, field, &values[i])?);
     }
     Ok(cells)
 }
@@ -363,7 +363,7 @@ fn cells_by_name(
 {
     let mut cells = Vec::with_capacity(alloc, fields.len())?;
     for field in fields {
-        cells.push(member_in(alloc, field, members)?)?;
+        cells.push_reserved(member_in(alloc, field, members)?);
     }
     Ok(cells)
 }

@@ -53,7 +53,7 @@ pub struct Refused {
 }
 
 /// Why a text was not read: it is refused, or memory was.
-#[derive(Clone, Copy, Debug, PartialEq, Eq)]
+#[derive(Clone, Copy)]
 pub enum TextError {
     Refused(Refused),
     OutOfMemory,

@@ -23,15 +23,19 @@ pub each_item-loop-value-preserved : goal.each_item-loop-value-preserved
 each_item-loop-value-preserved t c =
     let i = c.loop-value.value-index in
     let item = drop-item c.args.values.now i c.value-item.result c.loop-value-test.true c.value-item.is in
-    let kept = rw item at c.loop-value.invariant in
+    let kept = rw item at c.loop-value.invariant.cells in
     let more =
     item_more (cell_in (column_of c.args.item.now)) (map cell c.loop-value.cells.items) c.value-item.result (drop (i + 1) c.args.values.now) (cell c.in_ok-cell_in.field-0) c.in_ok-cell_in.ensures in
-    rw (c.in_ok-push.ensures.items, map-append cell c.loop-value.cells.items (c.in_ok-cell_in.field-0 ∷ [])) (sym more ∙ kept)
+    record {
+      cells = rw (c.push_reserved.ensures.items, map-append cell c.loop-value.cells.items (c.in_ok-cell_in.field-0 ∷ [])) (sym more ∙ kept);
+      len = omega (arith, c.push_reserved.ensures.len, c.loop-value.invariant.len);
+      room = omega (arith, c.push_reserved.ensures.capacity, c.loop-value.invariant.room);
+    }
 
 pub each_item-returns : goal.each_item-returns
 each_item-returns t c =
     let none : drop c.loop-value.value-index c.args.values.now ≡ [] = drop_all c.loop-value.value-index c.args.values.now (omega arith) in
-    sym (rw none at c.loop-value.invariant) ∙ cells_behind_end (map cell c.loop-value.cells.items)
+    sym (rw none at c.loop-value.invariant.cells) ∙ cells_behind_end (map cell c.loop-value.cells.items)
 
 pub cells_by_place-loop-i-preserved : goal.cells_by_place-loop-i-preserved
 cells_by_place-loop-i-preserved t c =
@@ -39,7 +43,7 @@ cells_by_place-loop-i-preserved t c =
     let f = c.index-fields-i.result in
     let item = drop-item c.args.fields.now i f c.loop-i-test.true c.index-fields-i.is in
     let value = drop-item c.args.values.now i c.index-values-i.result (omega arith) c.index-values-i.is in
-    let kept = rw (item, value) at c.loop-i.invariant in
+    let kept = rw (item, value) at c.loop-i.invariant.cells in
     let more =
     place_more
     (map cell c.loop-i.cells.items)
@@ -49,18 +53,22 @@ cells_by_place-loop-i-preserved t c =
     (drop (i + 1) c.args.values.now)
     (cell c.in_ok-cell_in.field-0)
     c.in_ok-cell_in.ensures in
-    rw (c.in_ok-push.ensures.items, map-append cell c.loop-i.cells.items (c.in_ok-cell_in.field-0 ∷ [])) (sym more ∙ kept)
+    record {
+      cells = rw (c.push_reserved.ensures.items, map-append cell c.loop-i.cells.items (c.in_ok-cell_in.field-0 ∷ [])) (sym more ∙ kept);
+      len = omega (arith, c.push_reserved.ensures.len, c.loop-i.invariant.len);
+      room = omega (arith, c.push_reserved.ensures.capacity, c.loop-i.invariant.room);
+    }
 
 pub cells_by_place-returns : goal.cells_by_place-returns
 cells_by_place-returns t c =
     let none : drop c.loop-i.i c.args.fields.now ≡ [] = drop_all c.loop-i.i c.args.fields.now (omega arith) in
-    sym (rw none at c.loop-i.invariant) ∙ places_end (map cell c.loop-i.cells.items) (items_view (drop c.loop-i.i c.args.values.now))
+    sym (rw none at c.loop-i.invariant.cells) ∙ places_end (map cell c.loop-i.cells.items) (items_view (drop c.loop-i.i c.args.values.now))
 
 pub cells_by_name-loop-field-preserved : goal.cells_by_name-loop-field-preserved
 cells_by_name-loop-field-preserved t c =
     let i = c.loop-field.field-index in
     let item = drop-item c.args.fields.now i c.field-item.result c.loop-field-test.true c.field-item.is in
-    let kept = rw item at c.loop-field.invariant in
+    let kept = rw item at c.loop-field.invariant.cells in
     let more =
     name_more
     (map cell c.loop-field.cells.items)
@@ -69,12 +77,16 @@ cells_by_name-loop-field-preserved t c =
     (members_view c.args.members.now.entries)
     (cell c.in_ok-member_in.field-0)
     c.in_ok-member_in.ensures in
-    rw (c.in_ok-push.ensures.items, map-append cell c.loop-field.cells.items (c.in_ok-member_in.field-0 ∷ [])) (sym more ∙ kept)
+    record {
+      cells = rw (c.push_reserved.ensures.items, map-append cell c.loop-field.cells.items (c.in_ok-member_in.field-0 ∷ [])) (sym more ∙ kept);
+      len = omega (arith, c.push_reserved.ensures.len, c.loop-field.invariant.len);
+      room = omega (arith, c.push_reserved.ensures.capacity, c.loop-field.invariant.room);
+    }
 
 pub cells_by_name-returns : goal.cells_by_name-returns
 cells_by_name-returns t c =
     let none : drop c.loop-field.field-index c.args.fields.now ≡ [] = drop_all c.loop-field.field-index c.args.fields.now (omega arith) in
-    sym (rw none at c.loop-field.invariant) ∙ names_end (map cell c.loop-field.cells.items) (members_view c.args.members.now.entries)
+    sym (rw none at c.loop-field.invariant.cells) ∙ names_end (map cell c.loop-field.cells.items) (members_view c.args.members.now.entries)
 
 pub sized_items-returns-then-values-size : goal.sized_items-returns-then-values-size
 sized_items-returns-then-values-size t c = sized_no c.args.size (each_item (cell_in (column_of c.args.item.now))) c.args.values.now c.if-values-size.true
@@ -87,7 +99,7 @@ each_item-returns-in_err-cell_in t c =
     let f = cell_in (column_of c.args.item.now) in
     let i = c.loop-value.value-index in
     let item = drop-item c.args.values.now i c.value-item.result c.loop-value-test.true c.value-item.is in
-    let kept = rw item at c.loop-value.invariant in
+    let kept = rw item at c.loop-value.invariant.cells in
     let p = err_from_is_err_and c.from_residual-in_err-cell_in.result c.from_residual-in_err-cell_in.ensures.1 in
     rw (p.1, p.2) (
     told
@@ -104,7 +116,7 @@ cells_by_place-returns-in_err-cell_in t c =
     let f = c.index-fields-i.result in
     let item = drop-item c.args.fields.now i f c.loop-i-test.true c.index-fields-i.is in
     let value = drop-item c.args.values.now i c.index-values-i.result (omega arith) c.index-values-i.is in
-    let kept = rw (item, value) at c.loop-i.invariant in
+    let kept = rw (item, value) at c.loop-i.invariant.cells in
     let p = err_from_is_err_and c.from_residual-in_err-cell_in.result c.from_residual-in_err-cell_in.ensures.1 in
     rw (p.1, p.2) (
     told
@@ -129,7 +141,7 @@ cells_by_name-returns-in_err-member_in t c =
     let f = c.field-item.result in
     let ms = members_view c.args.members.now.entries in
     let item = drop-item c.args.fields.now i f c.loop-field-test.true c.field-item.is in
-    let kept = rw item at c.loop-field.invariant in
+    let kept = rw item at c.loop-field.invariant.cells in
     let p = err_from_is_err_and c.from_residual-in_err-member_in.result c.from_residual-in_err-member_in.ensures.1 in
     rw (p.1, p.2) (
     told
