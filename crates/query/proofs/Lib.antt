@@ -1,8 +1,10 @@
 pub mod Nodes
 pub mod PickedSchemas
+pub mod PickedPlaces
 pub mod PickedRows
 pub mod SelectedTables
 pub mod Splitting
+pub mod Pushed
 pub mod Naming
 pub mod Joining
 pub mod Keeping
@@ -11,6 +13,7 @@ pub mod Binding
 pub mod MadeTables
 pub mod Numbers
 pub mod SlotFlags
+pub mod IntegerKinds
 pub mod IntegerRows
 pub mod Cuts
 pub mod SlotNumbers

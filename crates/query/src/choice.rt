@@ -1,7 +1,7 @@
 // Which columns and rows of a table a query selects.
 
 /// Which columns and rows of a table a query selects: of the rows whose bit is set the first ones.
-#[derive(Debug, Drop)]
+#[derive(Drop)]
 pub struct Choice {
     /// The places of the columns asked for.
     pub columns: Vec<usize>,

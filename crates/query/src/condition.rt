@@ -4,7 +4,7 @@ use crate::operator::{Operator, operator_of};
 use std::alloc::{AllocError, Global};
 
 /// What a condition asks of a value: a literal is the text as it was typed, which `select` reads by the column's type.
-#[derive(Debug, Drop)]
+#[derive(Drop)]
 pub enum Test {
     IsNull,
     IsNotNull,
@@ -12,7 +12,7 @@ pub enum Test {
 }
 
 /// A condition on the column of this name.
-#[derive(Debug, Drop)]
+#[derive(Drop)]
 pub struct Condition {
     pub column: String,
     pub test: Test,

@@ -1,5 +1,7 @@
 // Copies of values that are borrowed.
-ghost use Rattle.std.specs.Prelude.{◌≡◌, IfOk, map};
+ghost use Rattle.std.specs.Prelude.{◌≡◌, List, IfOk, map};
+ghost use Rattle.cells.specs.Cell as plain;
+ghost use Rattle.cells.specs.Cell.{Cell, cells_of};
 ghost use Rattle.cells.specs.Row.{row_of};
 ghost use Rattle.cells.specs.View.{cell};
 ghost use Rattle.values.specs.Borrowed.{borrowed_cell, borrowed_cells};
@@ -7,6 +9,38 @@ ghost use Rattle.values.specs.Borrowed.{borrowed_cell, borrowed_cells};
 use cells::{Row, Value};
 use std::alloc::{AllocError, Global};
 use values::{ValueRef, Values};
+
+fn copy_text(alloc: Global, text: &str) -> Result<Value, AllocError>
+    ensures { IfOk result (λ v. cell v ≡ plain.text text.now) }
+{
+    Ok(Value::Text(String::from_str(alloc, text)?))
+}
+
+fn copy_bytes(alloc: Global, bytes: &[u8]) -> Result<Value, AllocError>
+    ensures { IfOk result (λ v. cell v ≡ plain.bytes bytes.now) }
+{
+    Ok(Value::Bytes(Vec::from_slice(alloc, bytes)?))
+}
+
+// The list of values that were copied.
+fn list_of(copies: Result<Vec<Value>, AllocError>) -> Result<Value, AllocError>
+    ensures { (cells : List Cell) → IfOk copies (λ v. map cell v.items ≡ cells) → IfOk result (λ v. cell v ≡ plain.items (cells_of cells)) }
+{
+    match copies {
+        Ok(copies) => Ok(Value::List(copies)),
+        Err(error) => Err(error),
+    }
+}
+
+// The same of a struct.
+fn struct_of(copies: Result<Vec<Value>, AllocError>) -> Result<Value, AllocError>
+    ensures { (cells : List Cell) → IfOk copies (λ v. map cell v.items ≡ cells) → IfOk result (λ v. cell v ≡ plain.parts (cells_of cells)) }
+{
+    match copies {
+        Ok(copies) => Ok(Value::Struct(copies)),
+        Err(error) => Err(error),
+    }
+}
 
 /// The value in memory of its own.
 #[cycle(copy)]
@@ -17,10 +51,10 @@ pub(crate) fn copy_value(alloc: Global, value: ValueRef<'_>) -> Result<Value, Al
         ValueRef::Null => Ok(Value::Null),
         ValueRef::Bool(boolean) => Ok(Value::Bool(boolean)),
         ValueRef::Int(number) => Ok(Value::Int(number)),
-        ValueRef::Text(text) => Ok(Value::Text(String::from_str(alloc, text)?)),
-        ValueRef::Bytes(bytes) => Ok(Value::Bytes(Vec::from_slice(alloc, bytes)?)),
-        ValueRef::List(items) => Ok(Value::List(copy_values(alloc, items)?)),
-        ValueRef::Struct(parts) => Ok(Value::Struct(copy_values(alloc, parts)?)),
+        ValueRef::Text(text) => copy_text(alloc, text),
+        ValueRef::Bytes(bytes) => copy_bytes(alloc, bytes),
+        ValueRef::List(items) => list_of(copy_values(alloc, items)),
+        ValueRef::Struct(parts) => struct_of(copy_values(alloc, parts)),
     }
 }
 
@@ -30,7 +64,7 @@ fn copy_values(alloc: Global, values: Values<'_>) -> Result<Vec<Value>, AllocErr
 {
     let mut copies = Vec::with_capacity(alloc, values.len())?;
     for value in values.iter() {
-        copies.push(copy_value(alloc, value)?)?;
+        copies.push_reserved(copy_value(alloc, value)?);
     }
     Ok(copies)
 }

@@ -64,6 +64,15 @@ fn push_hex(out: &mut Vec<u8>, bytes: &[u8]) -> Result<(), AllocError>
     Ok(())
 }
 
+// The text of hexadecimal digits that bytes are.
+fn push_quoted_hex(out: &mut Vec<u8>, bytes: &[u8]) -> Result<(), AllocError>
+    ensures { OnOk result (out.new.items ≡ out.old.items ++ (codes "\"" ++ encode_lower bytes.now ++ codes "\"")) }
+{
+    push_bytes(out, b"\"")?;
+    push_hex(out, bytes)?;
+    push_bytes(out, b"\"")
+}
+
 #[tactic(auto, unfolding(crate::specs::Line::json_of))]
 #[cycle(line)]
 fn push_value(alloc: Global, out: &mut Vec<u8>, value: ValueRef<'_>) -> Result<(), AllocError>
@@ -75,11 +84,7 @@ fn push_value(alloc: Global, out: &mut Vec<u8>, value: ValueRef<'_>) -> Result<(
         ValueRef::Bool(false) => push_bytes(out, b"false"),
         ValueRef::Int(number) => push_number(out, number),
         ValueRef::Text(text) => push_text(alloc, out, text),
-        ValueRef::Bytes(bytes) => {
-            push_bytes(out, b"\"")?;
-            push_hex(out, bytes)?;
-            push_bytes(out, b"\"")
-        }
+        ValueRef::Bytes(bytes) => push_quoted_hex(out, bytes),
         ValueRef::List(items) => push_array(alloc, out, items),
         ValueRef::Struct(parts) => push_array(alloc, out, parts),
     }

@@ -6,7 +6,7 @@ ghost use Rattle.query.specs.Bound.{accepts};
 use std::cmp::Ordering;
 
 /// How a value is compared with a literal.
-#[derive(Clone, Copy, Debug, PartialEq, Eq)]
+#[derive(Clone, Copy)]
 pub enum Operator {
     Equal,
     NotEqual,

@@ -41,7 +41,7 @@ fn places_of(alloc: Global, fields: &[Field], names: &[String]) -> Result<Vec<us
     if names.is_empty() {
         return Ok(all_places(alloc, fields.len())?);
     }
-    let mut places = Vec::with_capacity(alloc, fields.len())?;
+    let mut places = Vec::with_capacity(alloc, names.len())?;
     for name in names {
         let Some(place) = place_of(fields, name.as_str()) else {
             return Err(QueryError::UnknownColumn);
@@ -49,7 +49,7 @@ fn places_of(alloc: Global, fields: &[Field], names: &[String]) -> Result<Vec<us
         if places.contains(&place) {
             return Err(QueryError::UnknownColumn);
         }
-        places.push(place).map_err(AllocError::from)?;
+        places.push_reserved(place);
     }
     Ok(places)
 }
@@ -87,7 +87,7 @@ fn mask_of_rows(alloc: Global, table: &Table, bound: &Bound) -> Result<Vec<u8>, 
 {
     let mut flags = Vec::with_capacity(alloc, table.len())?;
     for row in table.rows() {
-        flags.push(holds(bound, row))?;
+        flags.push_reserved(holds(bound, row));
     }
     bitmap::pack(alloc, &flags)
 }
@@ -137,10 +137,12 @@ fn push_row(
 ) -> Result<(), AllocError>
     ensures { OnOk result (map cell cells.new.items ≡ map cell cells.old.items ++ pick places.now (borrowed_cells row.entry)) }
 {
+    cells.reserve(places.len())?;
     for place in places {
-        if let Some(value) = row.get(*place) {
-            cells.push(copy_value(alloc, value)?)?;
-        }
+        let Some(value) = row.get(*place) else {
+            continue;
+        };
+        cells.push_reserved(copy_value(alloc, value)?);
     }
     Ok(())
 }
@@ -209,9 +211,10 @@ fn pick_fields(alloc: Global, fields: &[Field], places: &[usize]) -> Result<Vec<
 {
     let mut picked = Vec::with_capacity(alloc, places.len())?;
     for place in places {
-        if let Some(field) = field_at(fields, *place) {
-            picked.push(field.copy(alloc)?)?;
-        }
+        let Some(field) = field_at(fields, *place) else {
+            continue;
+        };
+        picked.push_reserved(field.copy(alloc)?);
     }
     Ok(picked)
 }

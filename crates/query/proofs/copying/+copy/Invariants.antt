@@ -1,4 +1,4 @@
-use Rattle.std.proofs.Common.{◌≡◌, ◌≤◌, ◌++◌, map}
+use Rattle.std.proofs.Common.{◌≡◌, ◌≤◌, ◌+◌, ◌++◌, length, map, vec_len, vec_capacity}
 use Rattle.cells.specs.Cell.{cells_of}
 use Rattle.cells.specs.View.{cell}
 use Rattle.values.specs.Borrowed.{borrowed_cells, values_left}
@@ -14,5 +14,6 @@ decreases-copy_values l = values_depth l.values
 abbrev pub invariant-copy_values-loop-value : goal.invariant-copy_values-loop-value
 invariant-copy_values-loop-value l = record {
   cells : map cell l.copies.items ++ values_left l.value-iterator ≡ borrowed_cells l.fn.values;
+  room : vec_len l.copies + length (values_left l.value-iterator) ≤ vec_capacity l.copies;
   below : nodes_all (cells_of (values_left l.value-iterator)) ≤ nodes_all (cells_of (borrowed_cells l.fn.values));
 }

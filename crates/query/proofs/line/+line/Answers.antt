@@ -1,9 +1,9 @@
 use mir.Val.{SFits}
 use Rattle.std.specs.Int.{w128}
-use Rattle.std.specs.Prelude.{Result, Ok, Err, OnOk}
-use Rattle.std.proofs.Common.{◌≡◌, ◌∙◌, ◌++◌, ℕ, List, [], ◌∷◌, ap, append_assoc, arith, rules}
+use Rattle.std.proofs.Common.{◌≡◌, ◌∙◌, ◌++◌, ℕ, List, ap, append_assoc, arith, rules}
 use Rattle.std.proofs.lemmas.Int.{to_z-of_z}
 use Rattle.query.specs.Line.{json_of, json_of_others}
+use Rattle.query.proofs.Pushed.{between}
 use Rattle.query.proofs.line.+line.Goals as goal
 
 -- two texts more
@@ -20,14 +20,8 @@ push_values-loop-value-preserved t c =
       below = omega (arith, below);
     }
 
--- a text between brackets
-array_pushed : {E : Type 0} (r : Result (Unit {0}) E) (old one two new text : List ℕ) → one ≡ old ++ 91 ∷ [] → two ≡ one ++ text → OnOk r (new ≡ two ++ 93 ∷ []) → OnOk r (new ≡ old ++ 91 ∷ (text ++ 93 ∷ []))
-array_pushed (Ok x) old one two new text first second third =
-    third ∙ ap (λ (xs : List ℕ). xs ++ 93 ∷ []) (second ∙ ap (λ (xs : List ℕ). xs ++ text) first) ∙ append_assoc (old ++ 91 ∷ []) text (93 ∷ []) ∙ append_assoc old (91 ∷ []) (text ++ 93 ∷ [])
-array_pushed (Err e) old one two new text first second third = tt
-
 pub push_array-returns : goal.push_array-returns
-push_array-returns t c = array_pushed c.push_bytes-2.result _ _ _ _ _ c.in_ok-push_bytes.ensures c.in_ok-push_values.ensures c.push_bytes-2.ensures
+push_array-returns t c = between c.push_bytes-2.result 91 93 _ _ _ _ _ c.in_ok-push_bytes.ensures c.in_ok-push_values.ensures c.push_bytes-2.ensures
 
 pub push_value-returns-in-Null : goal.push_value-returns-in-Null
 unfolding json_of
@@ -38,6 +32,10 @@ unfolding json_of
 push_value-returns-in-Int t c =
     let fits : SFits w128 c.in-Int.number = search rules in
     rw c.in-Int.is (rw (to_z-of_z w128 c.in-Int.number fits) at c.push_number.ensures)
+
+pub push_value-returns-in-Bytes : goal.push_value-returns-in-Bytes
+unfolding json_of
+push_value-returns-in-Bytes t c = rw c.in-Bytes.is c.push_quoted_hex.ensures
 
 pub push_value-returns-in-List : goal.push_value-returns-in-List
 unfolding json_of

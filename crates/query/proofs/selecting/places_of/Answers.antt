@@ -1,4 +1,4 @@
-use Rattle.std.proofs.Common.{◌≡◌, ℕ, [], ◌∷◌, ◌++◌, map, sym, ap, rules, ◌∙◌, arith, string_bytes}
+use Rattle.std.proofs.Common.{◌≡◌, ℕ, [], ◌∷◌, ◌++◌, map, sym, ap, ◌∙◌, arith, string_bytes}
 use Rattle.std.specs.Prelude.{Some}
 use Rattle.std.proofs.lemmas.List.{map-append}
 use Rattle.std.proofs.lemmas.Bool.{eqb-false}
@@ -23,13 +23,15 @@ pub loop-name-preserved : goal.loop-name-preserved
 loop-name-preserved c =
     let p = c.in-Some.place in
     let places = c.loop-name.places.items in
-    let items : c.push.new.self.items ≡ places ++ p ∷ [] = search rules in
+    let items : c.push_reserved.new.self.items ≡ places ++ p ∷ [] = c.push_reserved.ensures.items in
     let some = rw c.as_str.ensures.value at (sym c.place_of.ensures ∙ c.in-Some.is) in
     let other = rw c.deref.ensures.value at (sym c.contains.ensures.value ∙ c.if-contains.false) in
     record {
       found = one_more_name (place_of (map column_of c.args.fields.now)) (λ s. string_bytes s) c.args.names.now c.loop-name.name-index c.name-item.result c.loop-name-test.true c.name-item.is
           ∙ ((λ k. c.loop-name.invariant.found k ++ some k ∷ []) ∙ (sym (map-append (λ (x : ℕ). Some x) places (p ∷ [])) ∙ ap (map (λ (x : ℕ). Some x)) (sym items)));
       distinct = ap is_distinct items ∙ still_distinct places p c.loop-name.invariant.distinct other;
+      len = omega (arith, c.push_reserved.ensures.len, c.loop-name.invariant.len);
+      room = omega (arith, c.push_reserved.ensures.capacity, c.loop-name.invariant.room);
     }
 
 pub returns-clause-ok : goal.returns-clause-ok
