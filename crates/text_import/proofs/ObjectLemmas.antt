@@ -12,27 +12,27 @@ use Rattle.serde_json.specs.declared.value.Value.{Value}
 use Rattle.arrow_schema.specs.Column.{Column, Columns, no_column, and_column, columns_of, PlainSchema}
 use Rattle.arrow_schema.specs.View.{column_of}
 use Rattle.arrow_schema.specs.declared.types.Field.{Field}
-use Rattle.std.specs.Prelude.{not, filter, ◌+◌, ◌<◌, get_or, drop, Option}
+use Rattle.std.specs.Prelude.{not, filter, ◌+◌, ◌<◌, get_or, drop, Option, if◌then◌else◌}
 use Rattle.std.proofs.lemmas.List.{drop_more}
 use Rattle.cells.specs.declared.row.Row.{Row}
 use Rattle.cells.specs.Row.{row_of}
 use Rattle.text_import.specs.declared.refusal.Refused.{Refused}
 use Rattle.text_import.specs.declared.refusal.CellError.{CellError}
-use Rattle.text_import.specs.Refusals.{refusal_of, numbered}
+use Rattle.text_import.specs.Refusals.{refusal_of, numbered, and_then}
 use Rattle.facts.specs.Outcomes.{Gives, Reports}
 use Rattle.facts.specs.Texts.{text_list}
 use Rattle.text_import.specs.Rows.{rows_from}
-use Rattle.cells.specs.Cell.{Cell, cells_of}
+use Rattle.cells.specs.Cell.{Cell, Cells, cells_of}
 use Rattle.text_import.specs.declared.refusal.Refusal.{Refusal}
-use Rattle.text_import.specs.declared.refusal.Refusal.TheVariants.{Width}
-use Rattle.text_import.specs.inner.Names.{member_of}
+use Rattle.text_import.specs.declared.refusal.Refusal.TheVariants.{Width, AmbiguousNames, UnknownName}
+use Rattle.text_import.specs.inner.Names.{member_of, tested}
 use Rattle.text_import.proofs.RowLemmas.{cells_behind, cells_behind_more, cells_behind_end}
 use Rattle.text_import.specs.laws.Behind.{behind, told, row_more, row_refused, rows_end}
 use Rattle.std.specs.List.{list_any}
 use Rattle.std.proofs.lemmas.Bool.{false≢true}
 use Rattle.std.proofs.lemmas.Bool.Decides.{same_from_decides, Decides-like}
 use Rattle.std.proofs.lemmas.Slice.Eq.{bytes_eq-Decides}
-use Rattle.text_import.specs.Objects.{has_name, repeats, keys_of, item_count, column_count, sized, each_item, cell_in, cells_by_place, cells_by_name, is_blank, line_row}
+use Rattle.text_import.specs.Objects.{has_name, has_unknown, named_parts, repeats, keys_of, item_count, column_count, sized, each_item, cell_in, cells_by_place, cells_by_name, is_blank, line_row}
 
 pub bytes_eq_sym : (a b : List ℕ) → bytes_eq a b ≡ bytes_eq b a
 bytes_eq_sym a b = same_from_decides (bytes_eq a b) (bytes_eq b a) (bytes_eq-Decides a b) (Decides-like (bytes_eq b a) sym sym (bytes_eq-Decides b a))
@@ -96,6 +96,15 @@ pub sized_yes : {A : Type 0} (size : ℕ) (f : Items → Result A Refusal) (vs :
 sized_yes size f vs h = rw (item_count_is vs, eq-eqb (length vs) size h) refl
 
 pub ruleset sized_rules = (sized_no, sized_yes, column_count_is)
+
+-- the names are asked first
+pub named_first : (names : List (List ℕ)) (f : Members → Result Cells Refusal) (ms : Members) → named_parts names f ms ≡ and_then (tested names ms) f
+named_first names f ms = by (repeats names) (has_unknown names (keys_of ms))
+  where
+    by : (twice other : Bool) → (if twice then Err AmbiguousNames else if other then Err UnknownName else f ms) ≡ and_then (if twice then Err AmbiguousNames else if other then Err UnknownName else Ok ms) f
+    by true other = refl
+    by false true = refl
+    by false false = refl
 
 -- one more item, or part, and the end
 pub item_more : (f : Data → Result Cell Refusal) (so : List Cell) (v : Value) (vs : List Value) (x : Cell) → f (view v) ≡ Ok x

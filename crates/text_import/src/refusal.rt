@@ -2,6 +2,7 @@
 ghost use Rattle.std.specs.Prelude.{◌≡◌};
 ghost use Rattle.text_import.specs.declared.refusal.TextError.TheVariants.{OutOfMemory};
 ghost use Rattle.text_import.specs.declared.refusal.CellError.TheVariants as cell_errors;
+ghost use Rattle.text_import.specs.RefusalText.{refusal_text};
 
 use std::alloc::{AllocError, AllocFailed};
 use std::fmt;
@@ -98,33 +99,39 @@ impl<T: Drop> From<AllocFailed<T>> for CellError {
     }
 }
 
+// Code and name.
+fn refusal_text(refusal: Refusal) -> &'static str
+    ensures { result.now ≡ refusal_text refusal }
+{
+    match refusal {
+        Refusal::Header => "X1 Header",
+        Refusal::Width => "X2 Width",
+        Refusal::NotUtf8 => "X3 NotUtf8",
+        Refusal::NotANumber => "X4 NotANumber",
+        Refusal::OutOfRange => "X5 OutOfRange",
+        Refusal::NotABool => "X6 NotABool",
+        Refusal::NotHex => "X7 NotHex",
+        Refusal::NullMismatch => "X8 NullMismatch",
+        Refusal::Nested => "X9 Nested",
+        Refusal::Json => "X10 Json",
+        Refusal::UnknownName => "X11 UnknownName",
+        Refusal::MissingName => "X12 MissingName",
+        Refusal::AmbiguousNames => "X13 AmbiguousNames",
+        Refusal::FixedWidth => "X14 FixedWidth",
+        Refusal::TooHeavy => "X15 TooHeavy",
+        Refusal::DictionaryFull => "X16 DictionaryFull",
+        Refusal::WrongKind => "X17 WrongKind",
+    }
+}
+
 /// Code and name, as `X4 NotANumber`.
 impl fmt::Display for Refusal {
     ghost use Rattle.std.specs.Prelude.{Some};
-    ghost use Rattle.text_import.specs.RefusalText.{refusal_text};
 
     ghost output = { λ refusal. Some (refusal_text refusal) };
 
     fn fmt<W: fmt::Write>(&self, f: &mut fmt::Formatter<W>) -> fmt::Result {
-        f.write_str(match self {
-            Refusal::Header => "X1 Header",
-            Refusal::Width => "X2 Width",
-            Refusal::NotUtf8 => "X3 NotUtf8",
-            Refusal::NotANumber => "X4 NotANumber",
-            Refusal::OutOfRange => "X5 OutOfRange",
-            Refusal::NotABool => "X6 NotABool",
-            Refusal::NotHex => "X7 NotHex",
-            Refusal::NullMismatch => "X8 NullMismatch",
-            Refusal::Nested => "X9 Nested",
-            Refusal::Json => "X10 Json",
-            Refusal::UnknownName => "X11 UnknownName",
-            Refusal::MissingName => "X12 MissingName",
-            Refusal::AmbiguousNames => "X13 AmbiguousNames",
-            Refusal::FixedWidth => "X14 FixedWidth",
-            Refusal::TooHeavy => "X15 TooHeavy",
-            Refusal::DictionaryFull => "X16 DictionaryFull",
-            Refusal::WrongKind => "X17 WrongKind",
-        })
+        f.write_str(refusal_text(*self))
     }
 }
 

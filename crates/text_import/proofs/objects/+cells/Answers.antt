@@ -1,9 +1,9 @@
-use Rattle.std.specs.Prelude.{string_bytes}
-use Rattle.std.proofs.Common.{◌≡◌, ◌∙◌, ◌+◌, refl, sym, [], ◌∷◌, map, drop, arith, rules}
+use Rattle.std.specs.Prelude.{Result, string_bytes}
+use Rattle.std.proofs.Common.{◌≡◌, ◌∙◌, ◌+◌, refl, sym, ap, [], ◌∷◌, map, drop, arith, rules}
 use Rattle.std.proofs.lemmas.List.{drop_all, map-append}
 use Rattle.std.proofs.lemmas.Result.{err_from_is_err_and}
 use Rattle.facts.specs.laws.Lists.{drop-item}
-use Rattle.serde_json.specs.Data.{array}
+use Rattle.serde_json.specs.Data.{Members, array, object}
 use Rattle.serde_json.specs.View.{view, items_view, members_view}
 use Rattle.serde_json.specs.declared.value.Value.{the_lemmas as json_lemmas}
 use Rattle.arrow_schema.specs.declared.types.Field.{the_lemmas as field_lemmas}
@@ -11,11 +11,12 @@ use Rattle.arrow_schema.specs.Column.{nulls, booleans, integers, dates, timestam
 use Rattle.arrow_schema.specs.Parts.{kind_of_column}
 use Rattle.arrow_schema.specs.View.{column_of, kind_of, bits_of, date_kind, time_kind}
 use Rattle.cells.specs.View.{cell}
-use Rattle.text_import.specs.Objects.{cell_in, kind_in, each_item, cells_by_place, cells_by_name}
-use Rattle.text_import.specs.Refusals.{refusal_of}
-use Rattle.text_import.specs.inner.Names.{member_of}
+use Rattle.text_import.specs.Objects.{cell_in, kind_in, each_item, cells_by_place, cells_by_name, column_count, named_parts, names_of}
+use Rattle.text_import.specs.Refusals.{and_then, refusal_of}
+use Rattle.text_import.specs.declared.refusal.Refusal.{Refusal}
+use Rattle.text_import.specs.inner.Names.{member_of, tested}
 use Rattle.text_import.specs.laws.Behind.{told}
-use Rattle.text_import.proofs.ObjectLemmas.{sized_no, sized_yes, item_more, item_refused, place_more, place_refused, places_end, name_more, name_refused, names_end}
+use Rattle.text_import.proofs.ObjectLemmas.{sized_no, sized_yes, column_count_is, named_first, item_more, item_refused, place_more, place_refused, places_end, name_more, name_refused, names_end}
 use Rattle.text_import.proofs.RowLemmas.{cells_behind_end}
 use Rattle.text_import.proofs.objects.+cells.Goals as goal
 
@@ -93,6 +94,46 @@ sized_items-returns-then-values-size t c = sized_no c.args.size (each_item (cell
 
 pub sized_items-returns : goal.sized_items-returns
 sized_items-returns t c = rw (sized_yes c.args.size (each_item (cell_in (column_of c.args.item.now))) c.args.values.now c.if-values-size.false) c.each_item.ensures
+
+pub sized_cells-returns-then-values-fields : goal.sized_cells-returns-then-values-fields
+sized_cells-returns-then-values-fields t c =
+    let columns = columns_of (map column_of c.args.fields.now) in
+    sized_no (column_count columns) (cells_by_place columns) c.args.values.now (λ e. c.if-values-fields.true (e ∙ column_count_is c.args.fields.now))
+
+pub sized_cells-returns : goal.sized_cells-returns
+sized_cells-returns t c =
+    let columns = columns_of (map column_of c.args.fields.now) in
+    rw (sized_yes (column_count columns) (cells_by_place columns) c.args.values.now (c.if-values-fields.false ∙ sym (column_count_is c.args.fields.now))) c.cells_by_place.ensures
+
+pub cells_in-returns-in-Array : goal.cells_in-returns-in-Array
+cells_in-returns-in-Array t c =
+    let whole : view c.args.value.now ≡ array (items_view c.in-Array.values.items) = rw c.in-Array.is (search (rules, json_lemmas)) in
+    rw whole (rw c.deref.ensures.value at c.sized_cells.ensures)
+
+pub cells_in-returns-in_ok-test_names-in-Object : goal.cells_in-returns-in_ok-test_names-in-Object
+cells_in-returns-in_ok-test_names-in-Object t c =
+    let columns = columns_of (map column_of c.args.fields.now) in
+    let members = members_view c.in-Object.members.entries in
+    let whole : view c.args.value.now ≡ object members = rw c.in-Object.is (search (rules, json_lemmas)) in
+    let f = cells_by_name columns in
+    let first : named_parts (names_of columns) f members ≡ f members = named_first (names_of columns) f members ∙ ap (λ (r : Result Members Refusal). and_then r f) c.in_ok-test_names-in-Object.ensures in
+    rw whole (rw first c.cells_by_name.ensures)
+
+pub cells_in-returns-in_err-test_names-in-Object : goal.cells_in-returns-in_err-test_names-in-Object
+cells_in-returns-in_err-test_names-in-Object t c =
+    let columns = columns_of (map column_of c.args.fields.now) in
+    let members = members_view c.in-Object.members.entries in
+    let whole : view c.args.value.now ≡ object members = rw c.in-Object.is (search (rules, json_lemmas)) in
+    let f = cells_by_name columns in
+    let p = err_from_is_err_and c.from_residual.result c.from_residual.ensures.1 in
+    rw (p.1, p.2) (rw whole (
+    told
+    (refusal_of c.in_err-test_names-in-Object.field-0.0)
+    (tested (names_of columns) members)
+    (named_parts (names_of columns) f members)
+    c.in_err-test_names-in-Object.ensures
+    (λ r e. named_first (names_of columns) f members ∙ ap (λ (x : Result Members Refusal). and_then x f) e)
+    ))
 
 pub each_item-returns-in_err-cell_in : goal.each_item-returns-in_err-cell_in
 each_item-returns-in_err-cell_in t c =
