@@ -15,8 +15,9 @@ use Rattle.columns.specs.Offsets.{width_of}
 use Rattle.columns.specs.Places.{within}
 use Rattle.columns.specs.View.{array_in, array_step, layout_step, no_dictionary}
 use Rattle.columns.specs.Within.{array_within, ends_within, is_within_by, layout_within}
-use Rattle.columns.specs.declared.array.PlacedArray.{PlacedArray}
-use Rattle.columns.specs.declared.array.PlacedLayout.TheFolds.{fold-roll-PlacedLayout}
+use Rattle.columns.specs.declared.array.PlacedArray.{PlacedArray, roll-PlacedArray}
+use Rattle.columns.specs.declared.array.PlacedLayout.{PlacedLayout}
+use Rattle.columns.specs.declared.array.PlacedLayout.TheFolds.{fold-roll-PlacedLayout, fold-roll-PlacedArray}
 use Rattle.columns.specs.declared.array.PlacedLayout.TheOpen as placed
 use Rattle.columns.specs.declared.array.PlacedLayout.TheVariants as layouts
 use Rattle.columns.specs.declared.span.Span.{Span}
@@ -75,6 +76,22 @@ texts_laid width offsets contents old mid new first second a b =
       whole = b.whole ∙ ap (λ (xs : List ℕ). xs ++ contents.items) a.whole ∙ append_assoc old offsets.items contents.items;
       laid = texts_are new first second ∙ (λ j. binary_layout (front j) (stands_last mid _ new second b j));
       ends = texts_within (length new) first second ∙ and_from _ _ inner (ends_last mid _ new second b);
+    }
+
+-- the buffers of a column
+pub column_placed : (b : ColumnBuilder) (slots : ℕ) (old mid new : List ℕ) (span : Span) (layout : PlacedLayout) → slots ≡ length b.valid.items
+    → IsAppended old (validity_of_bits b.valid.items) mid span → IsLaid b.values mid new layout → IsPlaced b old new (roll-PlacedArray (record { slots = slots; validity = span; layout = layout }))
+column_placed b slots old mid new span layout count a l =
+    let valid = validity_of_bits b.valid.items in
+    let front : within new span ≡ valid = ap (λ (xs : List ℕ). within xs span) l.whole ∙ a.stands l.more in
+    let inner : ends_within (length new) span ≡ true = ap (λ (xs : List ℕ). ends_within (length xs) span) l.whole ∙ a.ends l.more in
+    record {
+      more = valid ++ l.more;
+      whole = l.whole ∙ ap (λ (xs : List ℕ). xs ++ l.more) a.whole ∙ append_assoc old valid l.more;
+      placed = fold-roll-PlacedArray Layout Array (layout_step new no_dictionary) (array_step new) (record { slots = slots; validity = span; layout = layout })
+          ∙ (λ j. array (count j) (front j) (l.laid j));
+      ends = fold-roll-PlacedArray Bool Bool (layout_within (length new) (λ part. true)) (array_within (length new)) (record { slots = slots; validity = span; layout = layout })
+          ∙ and_from _ _ inner l.ends;
     }
 
 -- ---- arrays, one behind another

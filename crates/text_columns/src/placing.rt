@@ -1,6 +1,7 @@
 // The arrays of columns, one behind another in the same bytes.
 ghost use Rattle.std.specs.Prelude.{◌≡◌, ◌≤◌, ◌++◌, true, [], ◌∷◌, List, length, IfOk};
 ghost use Rattle.std.specs.List.{list_all};
+ghost use Rattle.bitmap.specs.Bits.{packed};
 ghost use Rattle.text_columns.specs.inner.Placed.{ArePlaced, IsAppended, IsLaid, IsPlaced, validity_of_bits};
 
 use crate::builder::ColumnBuilder;
@@ -32,14 +33,23 @@ fn are_set(bits: &[bool]) -> bool
     true
 }
 
-// The validity bitmap of slots: no byte where each is valid.
-fn validity(alloc: Global, valid: &[bool]) -> Result<Vec<u8>, AllocError>
-    ensures { IfOk result (λ bytes. bytes.items ≡ validity_of_bits valid.now) }
+// Appends bits, packed, and says where they stand.
+fn append_bits(alloc: Global, bytes: &mut Vec<u8>, bits: &[bool]) -> Result<Span, AllocError>
+    ensures { IfOk result (λ span. IsAppended bytes.old.items (packed bits.now) bytes.new.items span) }
+{
+    let buffer = bitmap::pack(alloc, bits)?;
+    append(bytes, &buffer)
+}
+
+// Appends the validity bitmap of slots, and says where it stands: no byte where each is valid.
+fn append_validity(alloc: Global, bytes: &mut Vec<u8>, valid: &[bool]) -> Result<Span, AllocError>
+    ensures { IfOk result (λ span. IsAppended bytes.old.items (validity_of_bits valid.now) bytes.new.items span) }
 {
     if are_set(valid) {
-        return Ok(Vec::new(alloc));
+        append(bytes, &[])
+    } else {
+        append_bits(alloc, bytes, valid)
     }
-    bitmap::pack(alloc, valid)
 }
 
 // Appends the buffers of values, and says where they stand.
@@ -51,10 +61,7 @@ fn place_values(
     ensures { IfOk result (λ layout. IsLaid values.now bytes.old.items bytes.new.items layout) }
 {
     match values {
-        Values::Booleans(bits) => {
-            let packed = bitmap::pack(alloc, bits)?;
-            Ok(PlacedLayout::Bits(append(bytes, &packed)?))
-        }
+        Values::Booleans(bits) => Ok(PlacedLayout::Bits(append_bits(alloc, bytes, bits)?)),
         Values::Integers(_, values) => Ok(PlacedLayout::Fixed(append(bytes, values)?)),
         Values::Texts(_, offsets, contents) => {
             let offsets = append(bytes, offsets)?;
@@ -72,7 +79,7 @@ fn place(
 ) -> Result<PlacedArray, AllocError>
     ensures { IfOk result (λ array. IsPlaced column.now bytes.old.items bytes.new.items array) }
 {
-    let validity = append(bytes, &validity(alloc, &column.valid)?)?;
+    let validity = append_validity(alloc, bytes, &column.valid)?;
     let layout = place_values(alloc, bytes, &column.values)?;
     Ok(PlacedArray {
         slots: column.valid.len(),

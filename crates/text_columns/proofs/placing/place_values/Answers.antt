@@ -1,16 +1,15 @@
 use Rattle.text_columns.proofs.PlacedBuffers.{bits_laid, texts_laid, values_laid}
 use Rattle.text_columns.proofs.placing.place_values.Goals as goal
 
-pub returns-in_ok-append-in-Booleans : goal.returns-in_ok-append-in-Booleans
-returns-in_ok-append-in-Booleans c =
+pub returns-in_ok-append_bits-in-Booleans : goal.returns-in_ok-append_bits-in-Booleans
+returns-in_ok-append_bits-in-Booleans c =
     rw c.in-Booleans.is
-    (bits_laid c.in-Booleans.bits c.args.bytes.now.items c.append.new.bytes.items c.in_ok-append-in-Booleans.field-0
-    (rw (c.deref-in-Booleans.ensures.value, c.in_ok-packed-in-Booleans.ensures.exact, c.deref.ensures.value) at c.in_ok-append-in-Booleans.ensures))
+    (bits_laid c.in-Booleans.bits c.args.bytes.now.items c.append_bits.new.bytes.items c.in_ok-append_bits-in-Booleans.field-0 (rw c.deref.ensures.value at c.in_ok-append_bits-in-Booleans.ensures))
 
 pub returns-in_ok-append-in-Integers : goal.returns-in_ok-append-in-Integers
 returns-in_ok-append-in-Integers c =
     rw c.in-Integers.is
-    (values_laid c.in-Integers.field-0 c.in-Integers.values c.args.bytes.now.items c.append-in-Integers.new.bytes.items c.in_ok-append-in-Integers.field-0
+    (values_laid c.in-Integers.field-0 c.in-Integers.values c.args.bytes.now.items c.append.new.bytes.items c.in_ok-append-in-Integers.field-0
     (rw c.deref-in-Integers.ensures.value at c.in_ok-append-in-Integers.ensures))
 
 pub returns-in_ok-contents-in-Texts : goal.returns-in_ok-contents-in-Texts

@@ -1,0 +1,8 @@
+use Rattle.std.proofs.Common.{arith}
+use Rattle.text_columns.proofs.PlacedBuffers.{column_placed}
+use Rattle.text_columns.proofs.placing.place.Goals as goal
+
+pub returns : goal.returns
+returns c =
+    column_placed c.args.column.now c.len.result c.args.bytes.now.items c.append_validity.new.bytes.items c.place_values.new.bytes.items c.in_ok-validity.validity c.in_ok-layout.layout
+    (omega (arith, c.len.ensures, c.args.column.now.valid.ok.0)) (rw c.deref.ensures.value at c.in_ok-validity.ensures) c.in_ok-layout.ensures
