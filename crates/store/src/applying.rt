@@ -86,13 +86,19 @@ impl<D: SectorDevice> Store<D> {
         ensures size { D.size (device_of self.new) ≡ D.size (device_of self.old) }
         ensures count { D.failed (device_of self.new) ≡ counted (ended result) (D.failed (device_of self.old)) }
     {
+        // What is owned goes by a call: its drop written out would be most of the function.
         if self.halted {
+            drop(command);
             return Err(Refusal::Halted);
         }
         commands_bring_tables(&command);
         decisions_are_verdicts();
         match self.decide(alloc, command) {
-            Ok(change) => self.carry_out(alloc, &change),
+            Ok(change) => {
+                let ended = self.carry_out(alloc, &change);
+                drop(change);
+                ended
+            }
             Err(refusal) => Err(refusal),
         }
     }

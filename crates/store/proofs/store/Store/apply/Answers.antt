@@ -46,8 +46,8 @@ returns-in-Ok-clause-goes g c = λ told base m fits.
     let decided = change_verdict t cmd (change_of c.in-Ok.change)
     (c.decisions_are_verdicts.ensures.answered image (listed_in old) t cmd (Ok (change_of c.in-Ok.change)) (catalogue_is (listed_in old) old.opened.catalogue.list.kept) held c.commands_bring_tables.ensures answers) in
     let there = fits_reading D.size D.story D.failed base m D.tells told old mid fits done refl c.in-Ok.ensures.reads in
-    goes_after D.size D.story D.failed base m cmd D.tells told old mid c.carry_out.new.self done (ended c.carry_out.result) refl fits c.in-Ok.ensures.reads
-    (tells_command (setting_of (D.size old.device) base) (now (D.story old.device)) c.carry_out.result) (c.carry_out.ensures.goes told base m cmd decided.0 there runs decided.1 decided.2
+    goes_after D.size D.story D.failed base m cmd D.tells told old mid c.carry_out-ended.new.self done (ended c.carry_out-ended.result) refl fits c.in-Ok.ensures.reads
+    (tells_command (setting_of (D.size old.device) base) (now (D.story old.device)) c.carry_out-ended.result) (c.carry_out-ended.ensures.goes told base m cmd decided.0 there runs decided.1 decided.2
     (decided_after D.size D.story D.failed D.tells old mid done c.in-Ok.ensures.reads told cmd (change_of c.in-Ok.change)
     (is_change D.tells (shown_image (now (D.story old.device))) (listed_in old) cmd (change_of c.in-Ok.change) told c.in-Ok.ensures.answers)))
 
@@ -72,14 +72,14 @@ returns-in-Ok-clause-applied g c = λ on.
     record {
       decision = Ok (change_of c.in-Ok.change);
       decides = c.in-Ok.ensures.answers;
-      ends = ends_after D.size D.story D.failed D.tells c.args.self.now c.decide.new.self done c.in-Ok.ensures.reads (Ok (change_of c.in-Ok.change)) c.carry_out.result c.carry_out.new.self c.carry_out.ensures.carried;
+      ends = ends_after D.size D.story D.failed D.tells c.args.self.now c.decide.new.self done c.in-Ok.ensures.reads (Ok (change_of c.in-Ok.change)) c.carry_out-ended.result c.carry_out-ended.new.self c.carry_out-ended.ensures.carried;
     }
 
 pub returns-in-Ok-clause-refused : goal.returns-in-Ok-clause-refused
 returns-in-Ok-clause-refused g c =
     let D = g.D.SectorDevice in
-    err_weaker c.carry_out.result (λ e. IsKept c.decide.new.self c.carry_out.new.self) (λ e. IsKept c.args.self.now c.carry_out.new.self)
-    (λ e kept. kept_after D.size D.story D.failed D.tells c.args.self.now c.decide.new.self done c.in-Ok.ensures.reads c.carry_out.new.self kept) c.carry_out.ensures.kept
+    err_weaker c.carry_out-ended.result (λ e. IsKept c.decide.new.self c.carry_out-ended.new.self) (λ e. IsKept c.args.self.now c.carry_out-ended.new.self)
+    (λ e kept. kept_after D.size D.story D.failed D.tells c.args.self.now c.decide.new.self done c.in-Ok.ensures.reads c.carry_out-ended.new.self kept) c.carry_out-ended.ensures.kept
 
 pub returns-in-Err-clause-refused : goal.returns-in-Err-clause-refused
 returns-in-Err-clause-refused g c =
@@ -88,16 +88,16 @@ returns-in-Err-clause-refused g c =
 pub returns-in-Ok-clause-quiet : goal.returns-in-Ok-clause-quiet
 returns-in-Ok-clause-quiet g c =
     let D = g.D.SectorDevice in
-    err_weaker c.carry_out.result (λ e. e ≢ refusals.Device → D.story c.carry_out.new.self.device ≡ D.story c.decide.new.self.device)
-    (λ e. e ≢ refusals.Device → reads_device (command_of c.args.command) ≡ false → D.story c.carry_out.new.self.device ≡ D.story c.args.self.now.device)
-    (λ e quiet other plain. quiet other ∙ ap (λ s. D.story s.device) (c.in-Ok.ensures.still plain)) c.carry_out.ensures.quiet
+    err_weaker c.carry_out-ended.result (λ e. e ≢ refusals.Device → D.story c.carry_out-ended.new.self.device ≡ D.story c.decide.new.self.device)
+    (λ e. e ≢ refusals.Device → reads_device (command_of c.args.command) ≡ false → D.story c.carry_out-ended.new.self.device ≡ D.story c.args.self.now.device)
+    (λ e quiet other plain. quiet other ∙ ap (λ s. D.story s.device) (c.in-Ok.ensures.still plain)) c.carry_out-ended.ensures.quiet
 
 pub returns-in-Ok-clause-reads : goal.returns-in-Ok-clause-reads
 returns-in-Ok-clause-reads g c =
     let D = g.D.SectorDevice in
-    err_weaker c.carry_out.result (λ e. e ≢ refusals.Device → D.story c.carry_out.new.self.device ≡ D.story c.decide.new.self.device)
-    (λ e. e ≢ refusals.Device → D.tells ≡ true → OnlyReads (D.story c.args.self.now.device) (D.story c.carry_out.new.self.device))
-    (λ e quiet other told. subst (λ (s : Story). OnlyReads (D.story c.args.self.now.device) s) (sym (quiet other)) (c.in-Ok.ensures.reads.device.moments told)) c.carry_out.ensures.quiet
+    err_weaker c.carry_out-ended.result (λ e. e ≢ refusals.Device → D.story c.carry_out-ended.new.self.device ≡ D.story c.decide.new.self.device)
+    (λ e. e ≢ refusals.Device → D.tells ≡ true → OnlyReads (D.story c.args.self.now.device) (D.story c.carry_out-ended.new.self.device))
+    (λ e quiet other told. subst (λ (s : Story). OnlyReads (D.story c.args.self.now.device) s) (sym (quiet other)) (c.in-Ok.ensures.reads.device.moments told)) c.carry_out-ended.ensures.quiet
 
 pub returns-in-Err-clause-halts : goal.returns-in-Err-clause-halts
 returns-in-Err-clause-halts g c = λ on.
@@ -111,13 +111,13 @@ returns-in-Ok-clause-writes g c = λ off told on.
     let cmd = command_of c.args.command in
     let reads = c.in-Ok.ensures.reads in
     let decided = is_change D.tells (shown_image (now (D.story old.device))) (listed_in old) cmd (change_of c.in-Ok.change) told c.in-Ok.ensures.answers in
-    writes_after D.size D.story D.failed D.tells old mid done reads told cmd c.carry_out.new.self on
-    (c.carry_out.ensures.writes told cmd (on_disk_after D.size D.story D.failed D.tells old mid done reads told cmd on)
+    writes_after D.size D.story D.failed D.tells old mid done reads told cmd c.carry_out-ended.new.self on
+    (c.carry_out-ended.ensures.writes told cmd (on_disk_after D.size D.story D.failed D.tells old mid done reads told cmd on)
     (decided_after D.size D.story D.failed D.tells old mid done reads told cmd (change_of c.in-Ok.change) decided))
 
 pub returns-in-Ok-clause-written : goal.returns-in-Ok-clause-written
 returns-in-Ok-clause-written g c =
-    with_ok c.carry_out.result c.carry_out.ensures.written
+    with_ok c.carry_out-ended.result c.carry_out-ended.ensures.written
     (λ written told on.
     let D = g.D.SectorDevice in
     let old = c.args.self.now in
@@ -125,7 +125,7 @@ returns-in-Ok-clause-written g c =
     let cmd = command_of c.args.command in
     let reads = c.in-Ok.ensures.reads in
     let decided = is_change D.tells (shown_image (now (D.story old.device))) (listed_in old) cmd (change_of c.in-Ok.change) told c.in-Ok.ensures.answers in
-    written_after D.size D.story D.failed D.tells old mid done reads told cmd c.carry_out.new.self
+    written_after D.size D.story D.failed D.tells old mid done reads told cmd c.carry_out-ended.new.self
     (written told cmd (on_disk_after D.size D.story D.failed D.tells old mid done reads told cmd on) (decided_after D.size D.story D.failed D.tells old mid done reads told cmd (change_of c.in-Ok.change) decided)))
 
 pub returns-in-Err-clause-writes : goal.returns-in-Err-clause-writes
@@ -166,19 +166,19 @@ never_halted (Ok x) other is = cc is
 never_halted (Err e) other is = other (cc is)
 
 pub returns-in-Ok-clause-halted : goal.returns-in-Ok-clause-halted
-returns-in-Ok-clause-halted g c = (λ is. absurd (never_halted c.carry_out.result c.carry_out.ensures.not_halted is), λ off. absurd (true≢false (sym off ∙ c.if-self.false)))
+returns-in-Ok-clause-halted g c = (λ is. absurd (never_halted c.carry_out-ended.result c.carry_out-ended.ensures.not_halted is), λ off. absurd (true≢false (sym off ∙ c.if-self.false)))
 
 pub returns-in-Ok-clause-still : goal.returns-in-Ok-clause-still
 returns-in-Ok-clause-still g c = λ off. absurd (true≢false (sym off ∙ c.if-self.false))
 
 pub returns-in-Ok-clause-halts : goal.returns-in-Ok-clause-halts
-returns-in-Ok-clause-halts g c = λ on. c.carry_out.ensures.halts
+returns-in-Ok-clause-halts g c = λ on. c.carry_out-ended.ensures.halts
 
 pub returns-in-Ok-clause-size : goal.returns-in-Ok-clause-size
-returns-in-Ok-clause-size g c = c.carry_out.ensures.size ∙ c.in-Ok.ensures.reads.device.same
+returns-in-Ok-clause-size g c = c.carry_out-ended.ensures.size ∙ c.in-Ok.ensures.reads.device.same
 
 pub returns-in-Ok-clause-count : goal.returns-in-Ok-clause-count
-returns-in-Ok-clause-count g c = c.carry_out.ensures.count ∙ ap (counted (ended c.carry_out.result)) c.in-Ok.ensures.reads.device.count
+returns-in-Ok-clause-count g c = c.carry_out-ended.ensures.count ∙ ap (counted (ended c.carry_out-ended.result)) c.in-Ok.ensures.reads.device.count
 
 pub returns-in-Err-clause-applied : goal.returns-in-Err-clause-applied
 returns-in-Err-clause-applied g c = λ on. record { decision = Err c.in-Err.refusal; decides = c.in-Err.ensures.answers; ends = refl }
@@ -201,9 +201,9 @@ returns-in-Err-clause-size g c = c.in-Err.ensures.reads.device.same
 pub returns-in-Err-clause-count : goal.returns-in-Err-clause-count
 returns-in-Err-clause-count g c = c.in-Err.ensures.reads.device.count
 
-pub carry_out-requires-clause-sound : goal.carry_out-requires-clause-sound
-carry_out-requires-clause-sound g c =
+pub carry_out-ended-requires-clause-sound : goal.carry_out-ended-requires-clause-sound
+carry_out-ended-requires-clause-sound g c =
     subst (λ (opened : Opened StoredCatalogue). CanChange (catalogue_of opened.catalogue.list) (change_of c.in-Ok.change)) (sym c.in-Ok.ensures.reads.kept) c.in-Ok.ensures.ok
 
-pub carry_out-requires-clause-on : goal.carry_out-requires-clause-on
-carry_out-requires-clause-on g c = c.in-Ok.ensures.reads.halts ∙ or_false c.args.self.now.halted ∙ c.if-self.false
+pub carry_out-ended-requires-clause-on : goal.carry_out-ended-requires-clause-on
+carry_out-ended-requires-clause-on g c = c.in-Ok.ensures.reads.halts ∙ or_false c.args.self.now.halted ∙ c.if-self.false
