@@ -94,7 +94,11 @@ fn append_to_entry<D: SectorDevice>(
     };
     let standing = match gather_entry(alloc, device, entry) {
         Ok(standing) => standing,
-        Err(refusal) => return Err(refusal),
+        Err(refusal) => {
+            // By a call: its drop written out is long.
+            drop(passed);
+            return Err(refusal);
+        }
     };
     match passed {
         Some(Weighed { table, weight }) => {
@@ -132,7 +136,11 @@ impl<D: SectorDevice> Store<D> {
                     Err(refusal)
                 }
             },
-            None => Err(Refusal::NoTable),
+            None => {
+                // By a call: the drop of each kind, written out, is long.
+                drop(new);
+                Err(Refusal::NoTable)
+            }
         }
     }
 }
