@@ -2,7 +2,7 @@
 use columns::ArrayView;
 
 /// Slots of an array one after another, or so many nulls.
-#[derive(Clone, Copy, Debug)]
+#[derive(Clone, Copy)]
 pub enum SlotRun<'a> {
     Slots {
         array: ArrayView<'a>,
