@@ -16,7 +16,7 @@ ghost use Rattle.table_cut.specs.Piece.{within_piece};
 ghost use Rattle.values.specs.Parts.{are_parts_sound, parts_rows, parts_table};
 ghost use Rattle.values.specs.Table.{IsTable};
 
-use crate::encoder::{EncodedPieces, push_stream};
+use crate::encoder::{EncodedPieces, no_pieces, push_stream};
 use crate::front::BatchFront;
 use crate::messages::write_run_piece;
 use crate::stream::{Stream, begin_stream, end_stream, into_bytes, into_parts, schema_bytes};
@@ -27,11 +27,13 @@ use run_pieces::{RowRun, RowsLeft, RunPiece};
 use std::alloc::{AllocError, Global};
 use values::Part;
 
-// Writes the pieces of the rows that are left, of which there are so many, behind the message of the schema, and the end of stream.
+// Writes the pieces of the rows that are left, of which there are so many, behind the message of the schema, and the end of stream. The front that is kept for
+// the next piece is the caller's, so that no turn of the loop owns it.
 fn write_left<'a>(
     alloc: Global,
     schema: &Schema,
     stream: &mut Stream<'a>,
+    kept: &mut Option<BatchFront>,
     left: &mut RowsLeft<'a>,
     rows: usize,
 ) -> Result<(), AllocError>
@@ -42,11 +44,10 @@ fn write_left<'a>(
     ensures { OnOk result (stream_in stream.new ≡ canonical (runs_table (schema_of schema.now) (runs_left left.old))) }
 {
     pieces_can_be_built();
-    let mut kept = None;
     let mut from = 0;
     while from < rows {
         let piece = left.next_piece(alloc, schema)?;
-        write_run_piece(alloc, stream, &mut kept, schema, &piece)?;
+        write_run_piece(alloc, stream, kept, schema, &piece)?;
         from += piece.rows;
     }
     end_stream(stream)
@@ -67,7 +68,7 @@ fn encode_left<'a>(
     let mut left = all;
     let first = schema_bytes(alloc, schema)?;
     let mut stream = begin_stream(alloc, first);
-    write_left(alloc, schema, &mut stream, &mut left, rows)?;
+    write_left(alloc, schema, &mut stream, &mut None, &mut left, rows)?;
     Ok(stream)
 }
 
@@ -131,35 +132,36 @@ fn encode_run_piece<'a>(
     into_parts(before, stream)
 }
 
-// Adds the streams of the pieces of the rows that are left, of which there are so many, and counts the rows of each. Nothing was added before.
+// Adds the streams of the pieces of the rows that are left, of which there are so many, and counts the rows of each. Nothing was added before. The front that
+// is kept for the next piece is the caller's here too.
 fn push_left<'a>(
     alloc: Global,
     schema: &Schema,
     before: usize,
+    kept: &mut Option<BatchFront>,
     left: &mut RowsLeft<'a>,
     rows: usize,
-    streams: &mut Vec<Vec<Buffer<'a>>>,
-    counts: &mut Vec<u64>,
+    pieces: &mut EncodedPieces<'a>,
 ) -> Result<(), AllocError>
     requires before { before ≡ length (schema_message (schema_of schema.now)) }
     requires table { IsTable (runs_table (schema_of schema.now) (runs_left left.old)) }
     requires sound { are_runs_sound (columns_of (schema_of schema.now).columns) (runs_left left.old) ≡ true }
     requires count { rows ≡ length (rows_left (columns_of (schema_of schema.now).columns) left.old) }
-    requires none { streams.old.items ≡ [] }
-    requires uncounted { counts.old.items ≡ [] }
-    ensures streams { OnOk result (streams_behind (schema_message (schema_of schema.now)) streams.new.items
+    requires none { pieces.old.parts.items ≡ [] }
+    requires uncounted { pieces.old.rows.items ≡ [] }
+    ensures message { OnOk result (pieces.new.schema_message.items ≡ pieces.old.schema_message.items) }
+    ensures streams { OnOk result (streams_behind (schema_message (schema_of schema.now)) pieces.new.parts.items
         ≡ piece_streams (runs_table (schema_of schema.now) (runs_left left.old))) }
-    ensures rows { OnOk result (counts.new.items ≡ piece_counts (runs_table (schema_of schema.now) (runs_left left.old))) }
+    ensures rows { OnOk result (pieces.new.rows.items ≡ piece_counts (runs_table (schema_of schema.now) (runs_left left.old))) }
     ensures short { OnOk result (AllByRecursion (λ stream. length stream < 2 ^ 64)
-        (streams_behind (schema_message (schema_of schema.now)) streams.new.items)) }
+        (streams_behind (schema_message (schema_of schema.now)) pieces.new.parts.items)) }
 {
     pieces_can_be_built();
-    let mut kept = None;
     let mut from = 0;
     while from < rows {
         let piece = left.next_piece(alloc, schema)?;
-        let stream = encode_run_piece(alloc, schema, before, &mut kept, &piece)?;
-        push_stream(streams, counts, stream, piece.rows)?;
+        let stream = encode_run_piece(alloc, schema, before, kept, &piece)?;
+        push_stream(pieces, stream, piece.rows)?;
         from += piece.rows;
     }
     Ok(())
@@ -179,23 +181,17 @@ pub(crate) fn encode_parts_pieces<'a>(
     ensures rows { IfOk result (λ pieces. pieces.rows.items ≡ piece_counts (parts_table (schema_of schema.now) parts.now)) }
     ensures short { IfOk result (λ pieces. AllByRecursion (λ stream. length stream < 2 ^ 64) (streams_in pieces)) }
 {
-    let schema_message = schema_bytes(alloc, schema)?;
-    let before = schema_message.len();
+    let mut pieces = no_pieces(alloc, schema)?;
+    let before = pieces.schema_message.len();
     let mut left = RowsLeft::new(alloc, parts)?;
-    let mut streams = Vec::new(alloc);
-    let mut counts = Vec::new(alloc);
     push_left(
         alloc,
         schema,
         before,
+        &mut None,
         &mut left,
         rows,
-        &mut streams,
-        &mut counts,
+        &mut pieces,
     )?;
-    Ok(EncodedPieces {
-        schema_message,
-        parts: streams,
-        rows: counts,
-    })
+    Ok(pieces)
 }

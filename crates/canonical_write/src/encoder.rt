@@ -1,6 +1,7 @@
 // The stream of a table, and the streams of its pieces.
 ghost use Rattle.std.specs.Prelude.{◌≡◌, ◌<◌, ◌^◌, ◌∷◌, ◌++◌, [], true, IfOk, OnOk, length, map};
 ghost use Rattle.std.specs.List.{AllByRecursion};
+ghost use Rattle.arrow_schema.specs.Limits.{IsWithinLimits};
 ghost use Rattle.arrow_schema.specs.View.{column_of, schema_of};
 ghost use Rattle.canonical_stream.specs.Canonical.{canonical};
 ghost use Rattle.canonical_stream.specs.Pieces.{IsPieceOf};
@@ -27,18 +28,34 @@ use values::{Table, Values};
 
 /// The streams of a table's pieces, in order, and how many rows each has. All begin with the message of the schema, which is kept once; what comes behind it
 /// is parts one after another, made for the stream or where they stand in the table.
-#[derive(Debug, Drop)]
+#[derive(Drop)]
 pub struct EncodedPieces<'a> {
     pub schema_message: Vec<u8>,
     pub parts: Vec<Vec<Buffer<'a>>>,
     pub rows: Vec<u64>,
 }
 
-// Writes the pieces of the rows of a table, under a schema, behind the message of the schema, and the end of stream.
+/// No piece yet.
+pub(crate) fn no_pieces<'a>(alloc: Global, schema: &Schema) -> Result<EncodedPieces<'a>, AllocError>
+    requires { IsWithinLimits (schema_of schema.now) }
+    ensures message { IfOk result (λ pieces. pieces.schema_message.items ≡ schema_message (schema_of schema.now)) }
+    ensures none { IfOk result (λ pieces. pieces.parts.items ≡ []) }
+    ensures uncounted { IfOk result (λ pieces. pieces.rows.items ≡ []) }
+{
+    Ok(EncodedPieces {
+        schema_message: schema_bytes(alloc, schema)?,
+        parts: Vec::new(alloc),
+        rows: Vec::new(alloc),
+    })
+}
+
+// Writes the pieces of the rows of a table, under a schema, behind the message of the schema, and the end of stream. The front that is kept for the next piece
+// is the caller's, so that no turn of the loop owns it.
 fn write_table(
     alloc: Global,
     schema: &Schema,
     table: &Table,
+    kept: &mut Option<BatchFront>,
     stream: &mut Stream<'_>,
 ) -> Result<(), AllocError>
     requires first { stream_in stream.old ≡ schema_message (schema_of schema.now) }
@@ -46,11 +63,10 @@ fn write_table(
     ensures { OnOk result (stream_in stream.new ≡ canonical (with_schema (schema_of schema.now) (table_of table.now))) }
 {
     pieces_can_be_built();
-    let mut kept = None;
     let mut from = 0;
     while from < table.len() {
         let piece = next_piece(alloc, schema, table, from)?;
-        write_piece(alloc, stream, &mut kept, schema, &piece)?;
+        write_piece(alloc, stream, kept, schema, &piece)?;
         from += piece.len();
     }
     end_stream(stream)
@@ -63,7 +79,7 @@ fn encode_rows<'a>(alloc: Global, schema: &Schema, table: &Table) -> Result<Stre
 {
     let first = schema_bytes(alloc, schema)?;
     let mut stream = begin_stream(alloc, first);
-    write_table(alloc, schema, table, &mut stream)?;
+    write_table(alloc, schema, table, &mut None, &mut stream)?;
     Ok(stream)
 }
 
@@ -128,45 +144,46 @@ fn are_same_fields(fields: &[Field], others: &[Field]) -> bool
 
 /// Adds the stream of a piece, and counts its rows.
 pub(crate) fn push_stream<'a>(
-    streams: &mut Vec<Vec<Buffer<'a>>>,
-    counts: &mut Vec<u64>,
+    pieces: &mut EncodedPieces<'a>,
     stream: Vec<Buffer<'a>>,
     rows: usize,
 ) -> Result<(), AllocError>
-    ensures streams { OnOk result (streams.new.items ≡ streams.old.items ++ stream.entry ∷ []) }
-    ensures counts { OnOk result (counts.new.items ≡ counts.old.items ++ rows ∷ []) }
+    ensures message { OnOk result (pieces.new.schema_message.items ≡ pieces.old.schema_message.items) }
+    ensures streams { OnOk result (pieces.new.parts.items ≡ pieces.old.parts.items ++ stream.entry ∷ []) }
+    ensures counts { OnOk result (pieces.new.rows.items ≡ pieces.old.rows.items ++ rows ∷ []) }
 {
-    streams.push(stream)?;
-    counts.push(rows as u64)?;
+    pieces.parts.push(stream)?;
+    pieces.rows.push(rows as u64)?;
     Ok(())
 }
 
-// Adds the streams of the pieces of rows that are borrowed one by one, and counts the rows of each. Nothing was added before.
+// Adds the streams of the pieces of rows that are borrowed one by one, and counts the rows of each. Nothing was added before. The front that is kept for the
+// next piece is the caller's here too.
 fn push_table<'a>(
     alloc: Global,
     schema: &Schema,
     before: usize,
     table: &Table,
-    streams: &mut Vec<Vec<Buffer<'a>>>,
-    counts: &mut Vec<u64>,
+    kept: &mut Option<BatchFront>,
+    pieces: &mut EncodedPieces<'a>,
 ) -> Result<(), AllocError>
     requires before { before ≡ length (schema_message (schema_of schema.now)) }
     requires table { IsTable (with_schema (schema_of schema.now) (table_of table.now)) }
-    requires none { streams.old.items ≡ [] }
-    requires uncounted { counts.old.items ≡ [] }
-    ensures streams { OnOk result (streams_behind (schema_message (schema_of schema.now)) streams.new.items
+    requires none { pieces.old.parts.items ≡ [] }
+    requires uncounted { pieces.old.rows.items ≡ [] }
+    ensures message { OnOk result (pieces.new.schema_message.items ≡ pieces.old.schema_message.items) }
+    ensures streams { OnOk result (streams_behind (schema_message (schema_of schema.now)) pieces.new.parts.items
         ≡ piece_streams (with_schema (schema_of schema.now) (table_of table.now))) }
-    ensures rows { OnOk result (counts.new.items ≡ piece_counts (with_schema (schema_of schema.now) (table_of table.now))) }
+    ensures rows { OnOk result (pieces.new.rows.items ≡ piece_counts (with_schema (schema_of schema.now) (table_of table.now))) }
     ensures short { OnOk result (AllByRecursion (λ stream. length stream < 2 ^ 64)
-        (streams_behind (schema_message (schema_of schema.now)) streams.new.items)) }
+        (streams_behind (schema_message (schema_of schema.now)) pieces.new.parts.items)) }
 {
     pieces_can_be_built();
-    let mut kept = None;
     let mut from = 0;
     while from < table.len() {
         let piece = next_piece(alloc, schema, table, from)?;
-        let stream = encode_piece(alloc, schema, before, &mut kept, &piece)?;
-        push_stream(streams, counts, stream, piece.len())?;
+        let stream = encode_piece(alloc, schema, before, kept, &piece)?;
+        push_stream(pieces, stream, piece.len())?;
         from += piece.len();
     }
     Ok(())
@@ -183,16 +200,10 @@ fn encode_rows_pieces<'a>(
     ensures rows { IfOk result (λ pieces. pieces.rows.items ≡ piece_counts (with_schema (schema_of schema.now) (table_of table.now))) }
     ensures short { IfOk result (λ pieces. AllByRecursion (λ stream. length stream < 2 ^ 64) (streams_in pieces)) }
 {
-    let schema_message = schema_bytes(alloc, schema)?;
-    let before = schema_message.len();
-    let mut streams = Vec::new(alloc);
-    let mut counts = Vec::new(alloc);
-    push_table(alloc, schema, before, table, &mut streams, &mut counts)?;
-    Ok(EncodedPieces {
-        schema_message,
-        parts: streams,
-        rows: counts,
-    })
+    let mut pieces = no_pieces(alloc, schema)?;
+    let before = pieces.schema_message.len();
+    push_table(alloc, schema, before, table, &mut None, &mut pieces)?;
+    Ok(pieces)
 }
 
 /// The pieces of the rows of a table of any types, under a schema, each as a stream of its own. Under the table's own schema they are cut where [`encode`]

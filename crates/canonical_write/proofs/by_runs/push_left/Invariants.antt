@@ -21,9 +21,10 @@ invariant-loop-from l =
     record {
       left : AreLeft s l.left l.from l.rows;
       alone : AllByRecursion (IsAlone (within_piece s)) cut;
-      streams : streams_behind (schema_message s) l.streams.items ++ map (piece_stream s) cut ≡ piece_streams (runs_table s (runs_left l.fn.left));
-      counts : l.counts.items ++ map length cut ≡ piece_counts (runs_table s (runs_left l.fn.left));
-      short : AllByRecursion (λ stream. length stream < 2 ^ 64) (streams_behind (schema_message s) l.streams.items);
+      streams : streams_behind (schema_message s) l.pieces.parts.items ++ map (piece_stream s) cut ≡ piece_streams (runs_table s (runs_left l.fn.left));
+      counts : l.pieces.rows.items ++ map length cut ≡ piece_counts (runs_table s (runs_left l.fn.left));
+      message : l.pieces.schema_message.items ≡ l.fn.pieces.schema_message.items;
+      short : AllByRecursion (λ stream. length stream < 2 ^ 64) (streams_behind (schema_message s) l.pieces.parts.items);
     }
 
 abbrev pub decreases-loop-from : goal.decreases-loop-from

@@ -27,8 +27,9 @@ loop-from-init c =
       within = omega arith;
       each = c.pieces_can_be_built.ensures (with_schema s t) c.requires.table;
       alone = each_alone (within_piece s) t.rows;
-      streams = first_streams s t (streams_behind (schema_message s) c.args.streams.now.items) (ap (streams_behind (schema_message s)) c.requires.none);
-      counts = first_counts s t c.args.counts.now.items c.requires.uncounted;
+      streams = first_streams s t (streams_behind (schema_message s) c.args.pieces.now.parts.items) (ap (streams_behind (schema_message s)) c.requires.none);
+      counts = first_counts s t c.args.pieces.now.rows.items c.requires.uncounted;
+      message = refl;
       short = rw c.requires.none tt;
     }
 
@@ -49,35 +50,39 @@ loop-from-preserved c =
     let ends : from + length items ≡ next = omega arith in
     let cut : old ≡ piece ∷ rest = c.in_ok-piece.ensures.piece ∙ ap (λ (n : ℕ). piece ∷ pieces (within_piece s) (drop n t.rows)) ends in
     let front : List ℕ = schema_message s in
-    let made : List (List ℕ) = streams_behind front c.loop-from.streams.items in
+    let made : List (List ℕ) = streams_behind front c.loop-from.pieces.parts.items in
     let stream : List ℕ = front ++ joined_parts c.in_ok-stream.stream.items in
     let is_stream : stream ≡ piece_stream s piece = rw c.deref.ensures.value at c.in_ok-stream.ensures.stream in
-    let pushed : streams_behind front c.push_stream.new.streams.items ≡ made ++ stream ∷ [] =
-    ap (streams_behind front) c.in_ok-push_stream.ensures.streams ∙ map-append (λ (parts : Vec Buffer). front ++ joined_parts parts.items) c.loop-from.streams.items (c.in_ok-stream.stream ∷ []) in
-    let counted : c.push_stream.new.counts.items ≡ c.loop-from.counts.items ++ length piece ∷ [] =
-    pushed_number c.loop-from.counts.items c.push_stream.new.counts.items _ (length piece) c.in_ok-push_stream.ensures.counts (omega (arith, length-map items borrowed_cells)) in
+    let pushed : streams_behind front c.push_stream.new.pieces.parts.items ≡ made ++ stream ∷ [] =
+    ap (streams_behind front) c.in_ok-push_stream.ensures.streams ∙ map-append (λ (parts : Vec Buffer). front ++ joined_parts parts.items) c.loop-from.pieces.parts.items (c.in_ok-stream.stream ∷ []) in
+    let counted : c.push_stream.new.pieces.rows.items ≡ c.loop-from.pieces.rows.items ++ length piece ∷ [] =
+    pushed_number c.loop-from.pieces.rows.items c.push_stream.new.pieces.rows.items _ (length piece) c.in_ok-push_stream.ensures.counts (omega (arith, length-map items borrowed_cells)) in
     record {
       within = omega (arith, c.in_ok-piece.ensures.within);
       each = (subst (AllByRecursion (IsPieceOf s)) cut is.each).1;
       alone = (subst (AllByRecursion (IsAlone (within_piece s))) cut is.alone).1;
-      streams = next_made (piece_stream s) made (streams_behind front c.push_stream.new.streams.items) (piece_streams (with_schema s t)) stream piece old rest cut pushed is_stream is.streams;
-      counts = next_made length c.loop-from.counts.items c.push_stream.new.counts.items (piece_counts (with_schema s t)) (length piece) piece old rest
+      streams = next_made (piece_stream s) made (streams_behind front c.push_stream.new.pieces.parts.items) (piece_streams (with_schema s t)) stream piece old rest cut pushed is_stream is.streams;
+      counts = next_made length c.loop-from.pieces.rows.items c.push_stream.new.pieces.rows.items (piece_counts (with_schema s t)) (length piece) piece old rest
           cut counted refl is.counts;
+      message = c.in_ok-push_stream.ensures.message ∙ is.message;
       short = subst (AllByRecursion (λ (x : List ℕ). length x < 2 ^ 64)) (sym pushed) (all_more (λ (x : List ℕ). length x < 2 ^ 64) made stream is.short c.in_ok-stream.ensures.short);
     }
+
+pub returns-clause-message : goal.returns-clause-message
+returns-clause-message c = c.loop-from.invariant.message
 
 pub returns-clause-streams : goal.returns-clause-streams
 returns-clause-streams c =
     let s : PlainSchema = schema_of c.args.schema.now in
     let rows : List (List Cell) = (table_of c.args.table.now).rows in
-    last_made s (piece_stream s) (streams_behind (schema_message s) c.loop-from.streams.items) _ (drop c.loop-from.from rows)
+    last_made s (piece_stream s) (streams_behind (schema_message s) c.loop-from.pieces.parts.items) _ (drop c.loop-from.from rows)
     (drop_all c.loop-from.from rows (omega (arith, c.loop-from-test.false))) c.loop-from.invariant.streams
 
 pub returns-clause-rows : goal.returns-clause-rows
 returns-clause-rows c =
     let s : PlainSchema = schema_of c.args.schema.now in
     let rows : List (List Cell) = (table_of c.args.table.now).rows in
-    last_made s length c.loop-from.counts.items _ (drop c.loop-from.from rows) (drop_all c.loop-from.from rows (omega (arith, c.loop-from-test.false)))
+    last_made s length c.loop-from.pieces.rows.items _ (drop c.loop-from.from rows) (drop_all c.loop-from.from rows (omega (arith, c.loop-from-test.false)))
     c.loop-from.invariant.counts
 
 pub returns-clause-short : goal.returns-clause-short

@@ -20,9 +20,10 @@ invariant-loop-from l =
       within : l.from ≤ length (table_of l.table).rows;
       each : AllByRecursion (IsPieceOf s) left;
       alone : AllByRecursion (IsAlone (within_piece s)) left;
-      streams : streams_behind (schema_message s) l.streams.items ++ map (piece_stream s) left ≡ piece_streams (with_schema s (table_of l.table));
-      counts : l.counts.items ++ map length left ≡ piece_counts (with_schema s (table_of l.table));
-      short : AllByRecursion (λ stream. length stream < 2 ^ 64) (streams_behind (schema_message s) l.streams.items);
+      streams : streams_behind (schema_message s) l.pieces.parts.items ++ map (piece_stream s) left ≡ piece_streams (with_schema s (table_of l.table));
+      counts : l.pieces.rows.items ++ map length left ≡ piece_counts (with_schema s (table_of l.table));
+      message : l.pieces.schema_message.items ≡ l.fn.pieces.schema_message.items;
+      short : AllByRecursion (λ stream. length stream < 2 ^ 64) (streams_behind (schema_message s) l.pieces.parts.items);
     }
 
 abbrev pub decreases-loop-from : goal.decreases-loop-from
