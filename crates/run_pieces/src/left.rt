@@ -25,14 +25,14 @@ use table_cut::longest_fronts_are_pieces;
 use values::Part;
 
 /// The rows of a table that is kept in record batches, of which the first are in pieces already.
-#[derive(Debug, Drop)]
+#[derive(Drop)]
 pub struct RowsLeft<'a> {
     pub(crate) runs: Vec<RowRun<'a>>,
     pub(crate) next: usize,
 }
 
 /// The rows of a piece, as runs, and how many they are.
-#[derive(Debug, Drop)]
+#[derive(Drop)]
 pub struct RunPiece<'a> {
     pub runs: Vec<RowRun<'a>>,
     pub rows: usize,

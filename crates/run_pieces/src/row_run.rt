@@ -4,7 +4,7 @@ ghost use Rattle.std.specs.Prelude.{◌+◌, ◌<◌, ◌^◌};
 use columns::{Dictionary, PlacedArray};
 
 /// So many rows of a record batch, from one on: its arrays, the bytes in which they stand, and its dictionaries.
-#[derive(Clone, Copy, Debug)]
+#[derive(Clone, Copy)]
 pub struct RowRun<'a> {
     pub arrays: &'a [PlacedArray],
     pub bytes: &'a [u8],
