@@ -40,7 +40,7 @@ fn column_at<'a>(
 {
     let mut slots = Vec::with_capacity(alloc, runs.len())?;
     for run in runs {
-        slots.push(slots_at(*run, place))?;
+        slots.push_reserved(slots_at(*run, place));
     }
     Ok(slots)
 }
@@ -57,7 +57,7 @@ pub fn column_runs<'a>(
 {
     let mut columns = Vec::with_capacity(alloc, fields.len())?;
     for place in 0..fields.len() {
-        columns.push(column_at(alloc, runs, place)?)?;
+        columns.push_reserved(column_at(alloc, runs, place)?);
     }
     Ok(columns)
 }

@@ -1,4 +1,4 @@
-use Rattle.std.proofs.Common.{◌≡◌, length, map}
+use Rattle.std.proofs.Common.{◌≡◌, ◌≤◌, length, map, vec_len, vec_capacity}
 use Rattle.run_pieces.specs.inner.Columns.{AreColumns}
 use Rattle.run_pieces.proofs.columns_of_runs.column_runs.Given as goal
 
@@ -6,4 +6,6 @@ abbrev pub invariant-loop-place : goal.invariant-loop-place
 invariant-loop-place l = record {
   are : AreColumns 0 l.runs (map (λ v. v.items) l.columns.items);
   count : length l.columns.items ≡ l.place;
+  len : vec_len l.columns ≡ l.place;
+  room : length l.fields ≤ vec_capacity l.columns;
 }
