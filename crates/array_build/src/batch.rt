@@ -10,7 +10,7 @@ use std::alloc::{AllocError, Global};
 use values::ValueRef;
 
 /// The bytes of a buffer: made for it, or those that stand in an array already.
-#[derive(Debug, Drop)]
+#[derive(Drop)]
 pub enum Buffer<'a> {
     Made(Vec<u8>),
     Borrowed(&'a [u8]),
@@ -28,7 +28,7 @@ impl Buffer<'_> {
 }
 
 /// The batch of a dictionary's values: how many there are, a node of each array (its slots and its null count), and all buffers.
-#[derive(Debug, Drop)]
+#[derive(Drop)]
 pub struct BuiltDictionary<'a> {
     pub slots: u64,
     pub nodes: Vec<(u64, u64)>,
@@ -37,7 +37,7 @@ pub struct BuiltDictionary<'a> {
 
 /// A batch: a node of each array (its slots and its null count), all buffers, and the dictionaries of its columns, in the order of their columns
 /// (Arrow columnar format, "RecordBatch message").
-#[derive(Debug, Drop)]
+#[derive(Drop)]
 pub struct BuiltBatch<'a> {
     pub nodes: Vec<(u64, u64)>,
     pub buffers: Vec<Buffer<'a>>,
