@@ -14,7 +14,7 @@ use std::alloc::{AllocError, Global};
 use values::Values;
 
 /// The entries that the dictionaries of a schema have in some rows.
-#[derive(Debug, Drop)]
+#[derive(Drop)]
 pub struct SeenRows<'a> {
     pub(crate) sets: Option<Vec<IndexSet<Entry<'a>>>>,
 }
