@@ -8,14 +8,14 @@ use crate::numbers::u32_at;
 use crate::{FlatError, Table};
 
 /// The bytes of a FlatBuffers buffer, whatever they are.
-#[derive(Clone, Copy, Debug)]
+#[derive(Clone, Copy)]
 pub struct Buf<'a> {
     bytes: &'a [u8],
     ghost small: { length bytes.now ≤ MAX_BUFFER_BYTES },
 }
 
 /// How many tables were entered.
-#[derive(Clone, Copy, Debug)]
+#[derive(Clone, Copy)]
 pub struct Budget {
     entered: u32,
     ghost within: { entered ≤ MAX_BUFFER_TABLES },

@@ -20,7 +20,7 @@ ghost use Rattle.flatbuf.specs.Held.{Has, Fits};
 ghost use Rattle.flatbuf.specs.Stands.{At};
 
 /// The first bad thing that a reader met.
-#[derive(Clone, Copy, Debug, PartialEq, Eq)]
+#[derive(Clone, Copy, Debug)]
 pub enum FlatError {
     /// Something lies out of the bytes.
     Bounds,

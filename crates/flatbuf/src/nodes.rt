@@ -1,7 +1,7 @@
 // A tree of tables, texts and vectors, as it is to be written (FlatBuffers internals).
 
 /// A table by its slots from 0 on, a text, a vector of references, or a vector of structs of two numbers of 64 bits each.
-#[derive(Debug, Drop)]
+#[derive(Drop)]
 #[cycle(tree)]
 pub enum Node {
     Table(Vec<Slot>),
@@ -11,7 +11,7 @@ pub enum Node {
 }
 
 /// What stands in a slot of a table: nothing, a number of 8, 16, 32 or 64 bits, or a reference.
-#[derive(Debug, Drop)]
+#[derive(Drop)]
 #[cycle(tree)]
 pub enum Slot {
     Absent,

@@ -8,7 +8,7 @@ use crate::numbers::{target_of, vector_from};
 use crate::{Budget, FlatError, Table};
 
 /// A vector of references to tables, all of which lies within the bytes.
-#[derive(Clone, Copy, Debug)]
+#[derive(Clone, Copy)]
 pub struct References<'a> {
     bytes: &'a [u8],
     first: usize,

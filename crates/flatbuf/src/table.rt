@@ -9,7 +9,7 @@ use crate::{Budget, FlatError, References};
 use byteorder::{ByteOrder, LittleEndian};
 
 /// A table in the bytes, whose vtable lies within them.
-#[derive(Clone, Copy, Debug)]
+#[derive(Clone, Copy)]
 pub struct Table<'a> {
     bytes: &'a [u8],
     at: usize,
@@ -23,7 +23,7 @@ pub struct Table<'a> {
 }
 
 /// What stands in the two slots of a union: its kind, 0 for none, and the table that its reference leads to.
-#[derive(Clone, Copy, Debug)]
+#[derive(Clone, Copy)]
 pub struct Union<'a> {
     pub kind: u8,
     pub table: Option<Table<'a>>,
