@@ -2,7 +2,7 @@
 use arrow_schema::DataType;
 
 /// The dictionary of a field: its id, and the type of its values.
-#[derive(Debug, Drop)]
+#[derive(Drop)]
 pub struct DictionaryType {
     pub id: u64,
     pub data_type: DataType,

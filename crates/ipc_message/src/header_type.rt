@@ -13,7 +13,7 @@ pub const DICTIONARY_BATCH: u8 = 2;
 pub const RECORD_BATCH: u8 = 3;
 
 /// What the header of a message is (Message.fbs, the union `MessageHeader`).
-#[derive(Clone, Copy, Debug, PartialEq, Eq)]
+#[derive(Clone, Copy)]
 pub enum HeaderType {
     Schema,
     DictionaryBatch,

@@ -16,7 +16,7 @@ use std::alloc::Global;
 pub const V5: u16 = 4;
 
 /// A message whose Message table was read: its header is not, and its body is as many bytes as it says.
-#[derive(Clone, Copy, Debug)]
+#[derive(Clone, Copy)]
 pub struct Message<'a> {
     kind: HeaderType,
     table: Table<'a>,
@@ -29,7 +29,7 @@ pub struct Message<'a> {
 }
 
 /// What stands at the front of a stream.
-#[derive(Clone, Copy, Debug)]
+#[derive(Clone, Copy)]
 pub enum NextMessage<'a> {
     Message(Message<'a>),
     /// The end of stream: a continuation marker, and a size of 0.

@@ -1,7 +1,7 @@
 // The header of a message as its metadata decodes to it, before any test. Texts are borrowed; numbers are unsigned.
 
 /// What stands in the table of a field's type.
-#[derive(Clone, Copy, Debug)]
+#[derive(Clone, Copy)]
 pub enum Parameters<'a> {
     Nothing,
     /// The bits of an integer, and whether it is signed.
@@ -14,7 +14,7 @@ pub enum Parameters<'a> {
 }
 
 /// A dictionary encoding: the width and sign of its index type.
-#[derive(Clone, Copy, Debug)]
+#[derive(Clone, Copy)]
 pub struct Encoding {
     pub id: u64,
     pub width: u32,
@@ -23,14 +23,14 @@ pub struct Encoding {
 }
 
 /// A key/value pair.
-#[derive(Clone, Copy, Debug)]
+#[derive(Clone, Copy)]
 pub struct KeyValue<'a> {
     pub key: &'a [u8],
     pub value: &'a [u8],
 }
 
 /// A field.
-#[derive(Debug, Drop)]
+#[derive(Drop)]
 pub struct RawField<'a> {
     pub name: &'a [u8],
     pub nullable: bool,
@@ -42,7 +42,7 @@ pub struct RawField<'a> {
 }
 
 /// A schema.
-#[derive(Debug, Drop)]
+#[derive(Drop)]
 pub struct RawSchema<'a> {
     pub endianness: u16,
     pub fields: Vec<RawField<'a>>,
@@ -50,7 +50,7 @@ pub struct RawSchema<'a> {
 }
 
 /// A record batch: its nodes and buffers as they stand, sixteen bytes each.
-#[derive(Clone, Copy, Debug)]
+#[derive(Clone, Copy)]
 pub struct RawBatch<'a> {
     pub length: u64,
     pub nodes: &'a [u8],
@@ -59,7 +59,7 @@ pub struct RawBatch<'a> {
 }
 
 /// A dictionary batch.
-#[derive(Clone, Copy, Debug)]
+#[derive(Clone, Copy)]
 pub struct RawDictionaryBatch<'a> {
     pub id: u64,
     pub batch: RawBatch<'a>,
@@ -67,7 +67,7 @@ pub struct RawDictionaryBatch<'a> {
 }
 
 /// The header of a message.
-#[derive(Debug, Drop)]
+#[derive(Drop)]
 pub enum Header<'a> {
     Schema(RawSchema<'a>),
     DictionaryBatch(RawDictionaryBatch<'a>),
