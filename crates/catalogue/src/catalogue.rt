@@ -11,7 +11,7 @@ use segments::Run;
 use std::alloc::{AllocError, Global};
 
 /// The tables of a store, in order of their names, byte by byte.
-#[derive(Debug, Drop)]
+#[derive(Drop)]
 pub struct Catalogue {
     entries: Vec<TableEntry>,
     ghost kept: { is_catalogue (map plain_entry entries.items) ≡ true },

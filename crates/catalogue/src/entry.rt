@@ -13,14 +13,14 @@ use segments::{Extent, Run};
 use std::alloc::{AllocError, Global};
 
 /// A run that holds one stream of a table, and how many rows it has.
-#[derive(Clone, Copy, Debug, PartialEq, Eq)]
+#[derive(Clone, Copy)]
 pub struct Segment {
     pub place: Extent,
     pub rows: u64,
 }
 
 /// A table: its name, its schema, and its rows in segments, in order.
-#[derive(Debug, Drop)]
+#[derive(Drop)]
 pub struct TableEntry {
     pub name: String,
     pub schema: Schema,
