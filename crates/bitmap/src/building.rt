@@ -10,7 +10,7 @@ use std::alloc::{AllocError, Global};
 use std::marker::Model;
 
 /// Bits to which more are added, packed as they come. Contracts see the list of them.
-#[derive(Debug, Drop)]
+#[derive(Drop)]
 pub struct MaskBuilder {
     bytes: Vec<u8>,
     // How many bits of the last byte are still free.
