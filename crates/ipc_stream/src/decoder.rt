@@ -18,7 +18,7 @@ use values::Table;
 
 /// Reads a stream that comes in pieces, cut wherever they are. It keeps the bytes so far, in which the arrays of the table will stand; after a fault it keeps
 /// that alone. Each message is read once, unless memory was refused.
-#[derive(Debug, Drop)]
+#[derive(Drop)]
 pub struct Decoder {
     bytes: Vec<u8>,
     reading: Reading,
@@ -38,7 +38,7 @@ impl Model for Decoder {
 }
 
 /// Why a decoder gives no table: its stream has a fault, or memory was refused, and then the decoder is given back as it was.
-#[derive(Debug, Drop)]
+#[derive(Drop)]
 pub enum FinishError {
     Fault(Fault),
     OutOfMemory(Decoder),

@@ -7,7 +7,7 @@ use values::Batch;
 
 /// What is known after some messages of a stream: the schema, its columns with dictionaries, the dictionaries and the record batches
 /// so far, and what their rows weigh.
-#[derive(Debug, Drop)]
+#[derive(Drop)]
 pub struct Front {
     pub(crate) schema: Schema,
     pub(crate) columns: DictionaryColumns,

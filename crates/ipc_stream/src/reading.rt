@@ -15,7 +15,7 @@ use ipc_message::{Fault, ImportError, Message, NextMessage, next_message_is_fram
 use std::alloc::Global;
 
 /// How far a stream was read: what is known after its first messages, how many they are, where they end, and how many bytes wait for the rest of their message.
-#[derive(Debug, Drop)]
+#[derive(Drop)]
 pub(crate) struct Reading {
     pub(crate) front: Option<Front>,
     pub(crate) number: usize,
