@@ -21,7 +21,7 @@ use Rattle.cells.specs.Cell.{Cell, cells_of, PlainTable}
 use Rattle.cells.specs.Row.{is_row, row_fits, row_of}
 use Rattle.columns.specs.Texts.{have_utf8_texts}
 use Rattle.columns.specs.laws.FitTexts.{row_texts}
-use Rattle.values.specs.Content.{rows_of, is_filled}
+use Rattle.values.specs.Content.{rows_of, table_with, is_filled}
 use Rattle.values.specs.Parts.{are_parts_sound, parts_rows, parts_table}
 use Rattle.values.specs.Table.{IsTable}
 use Rattle.values.specs.inner.Starts.{part_lengths}
@@ -77,6 +77,9 @@ parts_filled s n content batches is filled =
 
 pub rows_of_parts : (s : Schema) (n : ℕ) (content : Content) (batches : Batches) → content ≡ InBatches batches → rows_of s n content ≡ parts_rows (own_columns s) batches.parts.items
 rows_of_parts s n content batches is = rw is refl
+
+pub table_of_parts : (s : Schema) (n : ℕ) (content : Content) (batches : Batches) → content ≡ InBatches batches → table_with s n content ≡ parts_table (schema_of s) batches.parts.items
+table_of_parts s n content batches is = rw is refl
 
 -- the texts of a row that a table has
 texts_in_row : (s : PlainSchema) (row : List Cell) → is_row s row ≡ true → have_utf8_texts (cells_of row) ≡ true
