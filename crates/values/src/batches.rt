@@ -13,7 +13,7 @@ use arrow_schema::Field;
 use std::alloc::{AllocError, Global};
 
 /// Record batches, and where the rows of each start: those of a part in the table, and those of a batch in its part.
-#[derive(Debug, Drop)]
+#[derive(Drop)]
 pub(crate) struct Batches {
     pub(crate) parts: Vec<Part>,
     pub(crate) part_starts: Vec<usize>,
@@ -23,7 +23,7 @@ pub(crate) struct Batches {
 }
 
 /// A batch, by its part and its place there.
-#[derive(Clone, Copy, Debug)]
+#[derive(Clone, Copy)]
 pub(crate) struct BatchPlace {
     pub(crate) part: usize,
     pub(crate) batch: usize,

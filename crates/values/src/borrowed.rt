@@ -8,7 +8,7 @@ use cells::{Entry, Value};
 
 /// A value that is borrowed. Integers, dates and timestamps are `Int`; texts and binaries of either width are `Text` and
 /// `Bytes`; a null of any type is `Null`.
-#[derive(Clone, Copy, Debug)]
+#[derive(Clone, Copy)]
 pub enum ValueRef<'a> {
     Null,
     Bool(bool),
@@ -40,14 +40,14 @@ impl<'a> ValueRef<'a> {
 }
 
 /// How the values that are borrowed are kept: as they stand, or in arrays.
-#[derive(Clone, Copy, Debug)]
+#[derive(Clone, Copy)]
 pub(crate) enum Form<'a> {
     Cells(&'a [Value]),
     Arrays(columns::Values<'a>),
 }
 
 /// Values that are borrowed, in order: the cells of a row, the items of a list or the parts of a struct.
-#[derive(Clone, Copy, Debug)]
+#[derive(Clone, Copy)]
 pub struct Values<'a> {
     pub(crate) form: Form<'a>,
 }
@@ -114,7 +114,7 @@ impl<'a> Values<'a> {
 }
 
 /// Gives values in order.
-#[derive(Debug, Drop)]
+#[derive(Drop)]
 pub struct ValuesIter<'a> {
     pub(crate) values: Values<'a>,
     pub(crate) next: usize,

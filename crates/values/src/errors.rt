@@ -3,7 +3,7 @@ use std::alloc::AllocError;
 use thiserror::Error;
 
 /// Why rows are no table.
-#[derive(Clone, Copy, Debug, PartialEq, Eq, Error)]
+#[derive(Clone, Copy, Debug, Error)]
 pub enum TableError {
     /// This row, counted from 0, is the first that does not fit, weighs more than a row may, or fills a dictionary.
     #[error("row {0} does not fit the schema, is too heavy or fills a dictionary")]

@@ -2,14 +2,14 @@
 use columns::{Dictionary, PlacedArray};
 
 /// The arrays of a record batch, one for each column, and how many rows it has.
-#[derive(Debug, Drop)]
+#[derive(Drop)]
 pub struct Batch {
     pub arrays: Vec<PlacedArray>,
     pub rows: usize,
 }
 
 /// Record batches whose arrays are places in the same bytes.
-#[derive(Debug, Drop)]
+#[derive(Drop)]
 pub struct Part {
     pub bytes: Vec<u8>,
     pub dictionaries: Vec<Dictionary>,

@@ -9,7 +9,7 @@ use crate::table::Table;
 use cells::{Row, Value};
 
 /// Gives the rows of a table in order.
-#[derive(Debug, Drop)]
+#[derive(Drop)]
 pub struct Rows<'a> {
     pub(crate) table: &'a Table,
     pub(crate) next: usize,

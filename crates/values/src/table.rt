@@ -17,7 +17,7 @@ use std::alloc::{AllocError, Global};
 
 /// A table: its schema, and its rows in order. Contracts see nothing else of it. Rows that were given one by one stay as
 /// they are; else the cells stand in one vector, row after row, or in record batches, so that a row takes no memory of its own.
-#[derive(Debug, Drop)]
+#[derive(Drop)]
 pub struct Table {
     schema: Schema,
     content: Content,

@@ -6,7 +6,7 @@ ghost use Rattle.values.specs.TableView.{table_of};
 use crate::Table;
 
 /// A table, and what its rows weigh.
-#[derive(Debug, Drop)]
+#[derive(Drop)]
 pub struct Weighed {
     pub table: Table,
     pub weight: u64,
