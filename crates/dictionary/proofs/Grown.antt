@@ -9,7 +9,7 @@ use Rattle.dictionary.specs.Kept.{lists_of}
 use Rattle.dictionary.specs.inner.Lists.{with_array}
 
 -- the list that stands at a place
-there : (lists : List Dictionary) (n : ℕ) (old : Dictionary) → n < length lists → old ≡ get_or lists n old → old.arrays.items ≡ get_or (lists_of lists) n []
+pub there : (lists : List Dictionary) (n : ℕ) (old : Dictionary) → n < length lists → old ≡ get_or lists n old → old.arrays.items ≡ get_or (lists_of lists) n []
 there lists n old within is = ap (λ (d : Dictionary). d.arrays.items) is ∙ sym (get_or-map (λ (d : Dictionary). d.arrays.items) lists n old [] within)
 
 longer : (lists : List Dictionary) (n : ℕ) (old new : Dictionary) (more : List PlacedArray) → n < length lists → old ≡ get_or lists n old → new.arrays.items ≡ old.arrays.items ++ more

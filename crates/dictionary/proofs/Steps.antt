@@ -14,7 +14,7 @@ use Rattle.dictionary.specs.Kept.{Kept, lists_of, number_in, list_at, arrays_for
 use Rattle.dictionary.specs.inner.Numbers.{with_number}
 use Rattle.dictionary.proofs.Lists.{begun_is, begun_apart, grown_is, grown_keeps, effect_more}
 
-abbrev kept : List Dictionary → List CurrentList → Kept
+abbrev pub kept : List Dictionary → List CurrentList → Kept
 kept lists numbers = record { lists = lists_of lists; numbers = numbers }
 
 -- the effect of a batch on all dictionaries
