@@ -4,7 +4,7 @@ ghost use Rattle.dictionary.specs.Kept.{number_in};
 ghost use Rattle.dictionary.specs.inner.Numbers.{with_number, IsPlace};
 
 /// The number of the list that is in effect for an id.
-#[derive(Clone, Copy, Debug)]
+#[derive(Clone, Copy)]
 pub(crate) struct CurrentList {
     pub(crate) id: u64,
     pub(crate) number: usize,

@@ -19,7 +19,7 @@ use std::alloc::{AllocError, Global};
 use std::marker::Model;
 
 /// The arrays of all dictionaries of a stream, by the places of their buffers, and those that are in effect for each id.
-#[derive(Debug, Drop)]
+#[derive(Drop)]
 pub struct Dictionaries {
     lists: Vec<Dictionary>,
     numbers: Vec<CurrentList>,
