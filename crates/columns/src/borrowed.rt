@@ -10,7 +10,7 @@ use arrow_schema::Field;
 use cells::Value;
 
 /// Slots of an array that follow one another, as values of a field.
-#[derive(Clone, Copy, Debug)]
+#[derive(Clone, Copy)]
 pub(crate) struct SlotRun<'a> {
     pub(crate) field: &'a Field,
     pub(crate) view: ArrayView<'a>,
@@ -20,7 +20,7 @@ pub(crate) struct SlotRun<'a> {
 }
 
 /// A slot of each of some arrays, as values of some fields.
-#[derive(Clone, Copy, Debug)]
+#[derive(Clone, Copy)]
 pub(crate) struct PartsAt<'a> {
     pub(crate) fields: &'a [Field],
     pub(crate) arrays: &'a [PlacedArray],
@@ -32,7 +32,7 @@ pub(crate) struct PartsAt<'a> {
 }
 
 /// How values that are borrowed are kept: as they stand, or in arrays.
-#[derive(Clone, Copy, Debug)]
+#[derive(Clone, Copy)]
 pub(crate) enum Form<'a> {
     Cells(&'a [Value]),
     Slots(SlotRun<'a>),
@@ -40,14 +40,14 @@ pub(crate) enum Form<'a> {
 }
 
 /// Values that are borrowed, in order: the cells of a row, the items of a list or the parts of a struct.
-#[derive(Clone, Copy, Debug)]
+#[derive(Clone, Copy)]
 pub struct Values<'a> {
     pub(crate) form: Form<'a>,
 }
 
 /// A value that is borrowed. Integers, dates and timestamps are `Int`; texts and binaries of either width are `Text` and
 /// `Bytes`; a null of any type is `Null`.
-#[derive(Clone, Copy, Debug)]
+#[derive(Clone, Copy)]
 pub enum ValueRef<'a> {
     Null,
     Bool(bool),
@@ -59,7 +59,7 @@ pub enum ValueRef<'a> {
 }
 
 /// Gives values in order.
-#[derive(Debug, Drop)]
+#[derive(Drop)]
 pub struct ValuesIter<'a> {
     pub(crate) values: Values<'a>,
     pub(crate) next: usize,

@@ -11,7 +11,7 @@ use crate::view::ArrayView;
 use arrow_schema::{DictSpec, IntegerType};
 
 /// The slots of an array that has indices. Its validity bitmap and its indices are found once, and not again for each slot.
-#[derive(Clone, Copy, Debug)]
+#[derive(Clone, Copy)]
 pub struct CodedSlots<'a> {
     pub view: ArrayView<'a>,
     pub spec: DictSpec,

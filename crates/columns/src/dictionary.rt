@@ -6,7 +6,7 @@ use crate::array::{Dictionary, PlacedArray};
 use std::alloc::{AllocError, Global};
 
 /// The first arrays of a dictionary: those that were there when an array was read.
-#[derive(Clone, Copy, Debug)]
+#[derive(Clone, Copy)]
 pub struct KnownArrays<'a> {
     pub arrays: &'a [PlacedArray],
     pub(crate) ends: &'a [u128],

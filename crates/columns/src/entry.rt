@@ -21,7 +21,7 @@ use crate::view::ArrayView;
 use arrow_schema::DictSpec;
 
 /// The slot of an entry: its array, and its place there.
-#[derive(Clone, Copy, Debug)]
+#[derive(Clone, Copy)]
 pub struct EntryPlace<'a> {
     pub view: ArrayView<'a>,
     pub place: usize,

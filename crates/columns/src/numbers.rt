@@ -13,7 +13,7 @@ use byteorder::{ByteOrder, LittleEndian};
 use std::alloc::AllocError;
 
 /// How wide offsets are: the large types have offsets of 64 bits.
-#[derive(Clone, Copy, Debug)]
+#[derive(Clone, Copy)]
 pub enum OffsetWidth {
     Four,
     Eight,
