@@ -25,7 +25,7 @@ use ipc_message::{Fault, ImportError, RawBatch};
 use std::alloc::Global;
 
 /// What is read of a record batch: its arrays, and what its rows weigh.
-#[derive(Debug, Drop)]
+#[derive(Drop)]
 pub struct PlacedBatch {
     pub arrays: Vec<PlacedArray>,
     pub weight: u64,
