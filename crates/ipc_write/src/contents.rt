@@ -8,7 +8,7 @@ pub const MAX_BATCH_BUFFERS: usize = 65_536;
 /// What a record batch or the batch of a dictionary is written from: how many rows it has, a node for each array (its length and null count), and its buffers.
 ///
 /// A message has room for at most [`MAX_BATCH_NODES`] nodes and [`MAX_BATCH_BUFFERS`] buffers, and for a body below 2^62 bytes: who has one written sees to it.
-#[derive(Debug, Drop)]
+#[derive(Drop)]
 pub struct BatchContents<'a> {
     pub rows: u64,
     pub nodes: Vec<(u64, u64)>,
