@@ -15,7 +15,7 @@ use tables::QueryRefusal;
 use text_import::{Refused, TextError};
 
 /// Why a command was refused.
-#[derive(Clone, Copy, Debug, PartialEq, Eq)]
+#[derive(Clone, Copy, Debug)]
 pub enum Refusal {
     /// F: the input has no meaning as a stream.
     Fault(Fault),

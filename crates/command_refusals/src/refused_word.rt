@@ -2,7 +2,7 @@
 use std::fmt;
 
 /// What a word of the command line names.
-#[derive(Clone, Copy, Debug, PartialEq, Eq)]
+#[derive(Clone, Copy)]
 pub enum Role {
     /// The file of a store.
     File,
@@ -34,7 +34,7 @@ impl fmt::Display for Role {
 }
 
 /// A word of the command line that is refused.
-#[derive(Clone, Copy, Debug)]
+#[derive(Clone, Copy)]
 pub struct Word<'a> {
     pub role: Role,
     pub text: &'a str,

@@ -1,9 +1,14 @@
 -- What is told or written of a run.
-use Rattle.std.proofs.Common.{◌≡◌, List, true, refl, sym, true≢false}
-use Rattle.std.specs.Prelude.{Result, Ok, Err, OnOk, is_ok}
+use Rattle.std.proofs.Common.{◌≡◌, ℕ, List, true, inl, inr, refl, subst, sym, true≢false}
+use Rattle.std.specs.Prelude.{◌≢◌, Option, Result, Ok, Err, OnOk, is_ok}
 use Rattle.clap.specs.Words.{Text}
+use Rattle.command_refusals.specs.declared.refusal.Refusal.{Refusal}
+use Rattle.command_refusals.specs.declared.refusal.Refusal.TheVariants.{Io}
 use Rattle.program_texts.specs.declared.own_texts.TheConstants.{VERSION}
+use Rattle.program_texts.specs.declared.status.Ended.{Ended}
+use Rattle.program_texts.specs.Ending.{HasReported, TellsRefusal}
 use Rattle.program_texts.specs.OwnTexts.{asks_version, own_text}
+use Rattle.program_texts.specs.Reported.{IfRefused, IsWrong}
 
 -- what holds of a call that succeeded
 pub where_ok : {A E : Type 0} (r : Result A E) (P : Type 0) → OnOk r P → is_ok r ≡ true → P
@@ -13,3 +18,19 @@ where_ok (Err e) P holds is = absurd (true≢false (sym is))
 pub own_version : (arguments : List Text) → asks_version arguments ≡ true → VERSION.now ≡ own_text arguments
 unfolding own_text
 own_version arguments asks = rw asks refl
+
+-- arguments that are told to be wrong leave the output
+pub wrong_reported : {W E : Type 0} (contents : E → Option (List ℕ)) (tells : Refusal → List ℕ) (output : W) (errors errors' : E) (ended : Ended) → IsWrong ended.status → TellsRefusal tells ended (contents errors) (contents errors')
+    → HasReported contents tells output output errors errors' ended
+wrong_reported contents tells output errors errors' ended (inl wrong) line = record {
+  silent = λ done. absurd (cc (wrong, done));
+  nothing_written = λ _. refl;
+  quiet = subst (λ s. IfRefused s (λ refusal. refusal ≢ Io → output ≡ output)) (sym wrong) tt;
+  line = line;
+}
+wrong_reported contents tells output errors errors' ended (inr memory) line = record {
+  silent = λ done. absurd (cc (memory, done));
+  nothing_written = λ _. refl;
+  quiet = subst (λ s. IfRefused s (λ refusal. refusal ≢ Io → output ≡ output)) (sym memory) (λ _. refl);
+  line = line;
+}

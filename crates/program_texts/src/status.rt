@@ -5,7 +5,7 @@ ghost use Rattle.program_texts.specs.Reported.{status_code};
 use command_refusals::Refusal;
 
 /// How a run ended.
-#[derive(Clone, Copy, Debug, PartialEq, Eq)]
+#[derive(Clone, Copy)]
 pub enum Status {
     /// What the arguments ask for is done.
     Done,
@@ -29,7 +29,7 @@ impl Status {
 }
 
 /// How a run ended, and whether all that is reported of it on standard error was taken there.
-#[derive(Clone, Copy, Debug, PartialEq, Eq)]
+#[derive(Clone, Copy)]
 pub struct Ended {
     pub status: Status,
     pub is_reported: bool,

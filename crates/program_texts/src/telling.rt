@@ -7,7 +7,7 @@ use command_refusals::{Hint, Refusal};
 use std::io::{self, IsTerminal, Write};
 
 /// Who reads what is told of a refusal.
-#[derive(Clone, Copy, Debug, PartialEq, Eq)]
+#[derive(Clone, Copy, PartialEq, Eq)]
 pub enum Audience {
     /// A program or a file: the line of the refusal alone.
     Program,
