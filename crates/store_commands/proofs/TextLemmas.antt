@@ -9,6 +9,7 @@ use Rattle.catalogue.specs.Entries.{PlainEntry}
 use Rattle.query.specs.Query.{PlainQuery}
 use Rattle.query.specs.Selection.{selection}
 use Rattle.text_import.specs.declared.refusal.Refused.{Refused}
+use Rattle.tables.specs.declared.refusal.Refusal as tables
 use Rattle.store.specs.Reading.{ReadsTable}
 use Rattle.command_refusals.specs.declared.refusal.Refusal.{Refusal}
 use Rattle.command_refusals.specs.declared.refusal.Refusal.TheVariants.{Io}
@@ -23,6 +24,7 @@ use Rattle.text_import.specs.declared.refusal.TextError.{TextError}
 use Rattle.text_import.specs.declared.refusal.TextError.TheVariants as texts
 use Rattle.facts.specs.Outcomes.{Reports}
 use Rattle.command_refusals.specs.Refusals.{text_refusal}
+use Rattle.store_commands.specs.Printed.{schema_text, RefusesPrinting}
 use Rattle.store_commands.specs.TextRows.{InputGives, IfOfText, HintsAt, IfHinted, RefusesText}
 use Rattle.store_commands.specs.Selecting.{rows_text, QueryAnswers, RefusesQuery}
 
@@ -108,3 +110,18 @@ pub selection_told : (halted tells : Bool) (image : Image) (found : Option Plain
 selection_told halted tells image found q table selected (Ok done) io reads answers = tt
 selection_told halted tells image found q table selected (Err e) io reads answers =
     subst (RefusesQuery halted tells image found q) (sym io) (selected, record { table = table; reads = reads; answers = answers })
+
+-- where all is written, the lines of the schema of a table are
+pub schema_written : (found : Option PlainEntry) (s : PlainSchema) (text : List ℕ) (old new : Option (List ℕ)) (r : Result (Unit {0}) Refusal)
+    → option_map (λ e. e.schema) found ≡ Some s → text ≡ schema_text s.columns → OnOk r (Appends old new text)
+    → OnOk r ((e : PlainEntry) × (found ≡ Some e) × Appends old new (schema_text e.schema.columns))
+schema_written None s text old new r is lines appends = absurd cc
+schema_written (Some e) s text old new (Ok done) is lines appends =
+    let schema : e.schema ≡ s = ap (λ o. unwrap_or o s) is in
+    (e, refl, subst (λ b. Appends old new b) (lines ∙ ap (λ (t : PlainSchema). schema_text t.columns) (sym schema)) appends)
+schema_written (Some e) s text old new (Err refusal) is lines appends = tt
+
+-- where the output failed there was something to print
+pub printing_failed : (P : tables.Refusal → Type 0) (there : Type 0) (r : Result (Unit {0}) Refusal) → IfErr r (λ e. e ≡ Io) → there → IfErr r (RefusesPrinting P there)
+printing_failed P there (Ok done) io h = tt
+printing_failed P there (Err e) io h = subst (RefusesPrinting P there) (sym io) h
