@@ -1,6 +1,6 @@
--- Commands of an open store that take the input.
+-- What commands of an open store do.
 use Rattle.std.proofs.Common.{◌≡◌, ℕ, List, sym, subst}
-use Rattle.std.specs.Prelude.{Option, Result}
+use Rattle.std.specs.Prelude.{Option, Result, Ok, Err, OnOk}
 use Rattle.std.specs.Borrow.{Bor}
 use Rattle.sector_dev.specs.declared.device.SectorDevice.{Ghosts}
 use Rattle.text_import.specs.declared.form.TextForm.{TextForm}
@@ -34,3 +34,13 @@ module _ {D : Type 0} {g : Ghosts D} {R W : Type 0} (remaining : R → Option (L
       → Serves remaining contents command old new before after result
   unfolding Serves
   serves_text form is carries = subst (λ (c : OpenCommand). Serves remaining contents c old new before after result) (sym is) carries
+
+-- what is served of one command is served of the same one
+pub serves_as : {D : Type 0} {g : Ghosts D} {R W : Type 0} (remaining : R → Option (List ℕ)) (contents : W → Option (List ℕ)) (command same : OpenCommand) (old new : Store D g)
+    (before after : Channels R W) (result : Result (Unit {0}) Refusal) → command ≡ same → Serves remaining contents same old new before after result → Serves remaining contents command old new before after result
+serves_as remaining contents command same old new before after result is serves = subst (λ (c : OpenCommand). Serves remaining contents c old new before after result) (sym is) serves
+
+-- what holds of a result by two clauses
+pub both_written : {A E : Type 0} (r : Result A E) (P Q : Type 0) → OnOk r P → OnOk r Q → OnOk r (P × Q)
+both_written (Ok x) P Q p q = (p, q)
+both_written (Err e) P Q p q = tt

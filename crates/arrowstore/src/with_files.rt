@@ -128,7 +128,6 @@ fn run_on_store<
 
 /// Does what the arguments ask for, of which the first is the program's name, also on the files of stores, and reports
 /// on `errors` why not.
-#[tactic(auto, using(crate::proofs::WordLemmas::recode_of_no_store, crate::proofs::WordLemmas::own_of_no_store))]
 pub fn run_with_files<
     F: Read + Write + Seek + OpenFile + LockFile + Drop,
     H: Files<File = F> + AllocGlobal,

@@ -1,6 +1,7 @@
 use Rattle.std.proofs.Common.{inr, refl}
-use Rattle.arrowstore.specs.Serving.{channels}
-use Rattle.arrowstore.proofs.ServingLemmas.{serves_import, serves_append, serves_text}
+use Rattle.arrowstore.specs.declared.open_command.OpenCommand.TheVariants as opened
+use Rattle.arrowstore.specs.Serving.{channels, Serves}
+use Rattle.arrowstore.proofs.ServingLemmas.{serves_import, serves_append, serves_text, serves_as, both_written}
 use Rattle.arrowstore.proofs.serving_open.serve_open.Goals as goal
 
 pub returns-in-Import-clause-serves : goal.returns-in-Import-clause-serves
@@ -26,3 +27,51 @@ returns-in-AppendText-clause-serves g c =
 
 pub returns-in-Tables-clause-unread : goal.returns-in-Tables-clause-unread
 returns-in-Tables-clause-unread g c = inr refl
+
+pub returns-in-Change-clause-serves : goal.returns-in-Change-clause-serves
+unfolding Serves
+returns-in-Change-clause-serves g c =
+    let e = c.apply_command.ensures in
+    let new = c.apply_command.new in
+    serves_as g.R.Read.remaining g.W.Write.contents c.args.command (opened.Change c.in-Change.command) c.args.store.now new.store (channels c.args.input.now c.args.output.now c.args.hint.now)
+    (channels c.args.input.now new.output c.args.hint.now) c.apply_command.result c.in-Change.is (record { goes = e.goes; told = e.told; written = e.written; unhinted = refl })
+
+pub returns-in-Select-clause-serves : goal.returns-in-Select-clause-serves
+unfolding Serves
+returns-in-Select-clause-serves g c =
+    let e = c.print_selection.ensures in
+    let new = c.print_selection.new in
+    serves_as g.R.Read.remaining g.W.Write.contents c.args.command (opened.Select c.in-Select.name c.in-Select.query) c.args.store.now new.store (channels c.args.input.now c.args.output.now c.args.hint.now)
+    (channels c.args.input.now new.output c.args.hint.now) c.print_selection.result c.in-Select.is (record { written = e.written; told = e.told; leaves = e.reads; unhinted = refl })
+
+pub returns-in-Tables-clause-serves : goal.returns-in-Tables-clause-serves
+unfolding Serves
+returns-in-Tables-clause-serves g c =
+    let e = c.print_tables.ensures in
+    let new = c.print_tables.new in
+    serves_as g.R.Read.remaining g.W.Write.contents c.args.command opened.Tables c.args.store.now c.args.store.now (channels c.args.input.now c.args.output.now c.args.hint.now)
+    (channels c.args.input.now new.output c.args.hint.now) c.print_tables.result c.in-Tables.is (record { written = e.written; told = e.told; leaves = refl; unhinted = refl })
+
+pub returns-in-Schema-clause-serves : goal.returns-in-Schema-clause-serves
+unfolding Serves
+returns-in-Schema-clause-serves g c =
+    let e = c.print_schema.ensures in
+    let new = c.print_schema.new in
+    serves_as g.R.Read.remaining g.W.Write.contents c.args.command (opened.Schema c.in-Schema.name) c.args.store.now c.args.store.now (channels c.args.input.now c.args.output.now c.args.hint.now)
+    (channels c.args.input.now new.output c.args.hint.now) c.print_schema.result c.in-Schema.is (record { written = e.written; told = e.told; leaves = refl; unhinted = refl })
+
+pub returns-in-Export-clause-serves : goal.returns-in-Export-clause-serves
+unfolding Serves
+returns-in-Export-clause-serves g c =
+    let e = c.export_table.ensures in
+    let new = c.export_table.new in
+    serves_as g.R.Read.remaining g.W.Write.contents c.args.command (opened.Export c.in-Export.name) c.args.store.now new.store (channels c.args.input.now c.args.output.now c.args.hint.now)
+    (channels c.args.input.now new.output c.args.hint.now) c.export_table.result c.in-Export.is (record { written = e.written; told = e.told; leaves = e.reads; unhinted = refl })
+
+pub returns-in-Check-clause-serves : goal.returns-in-Check-clause-serves
+unfolding Serves
+returns-in-Check-clause-serves g c =
+    let e = c.check_tables.ensures in
+    let new = c.check_tables.new in
+    serves_as g.R.Read.remaining g.W.Write.contents c.args.command opened.Check c.args.store.now new.store (channels c.args.input.now c.args.output.now c.args.hint.now)
+    (channels c.args.input.now new.output c.args.hint.now) c.check_tables.result c.in-Check.is (record { written = both_written c.check_tables.result _ _ e.written e.read; told = e.told; leaves = e.reads; unhinted = refl })

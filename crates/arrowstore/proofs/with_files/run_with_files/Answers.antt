@@ -1,11 +1,50 @@
-use Rattle.std.proofs.Common.{inl, inr}
+use Rattle.std.proofs.Common.{◌∙◌, None, inl, inr, refl, sym, true≢false}
+use Rattle.arrowstore.proofs.WordLemmas.{recode_of_no_store, own_of_no_store}
 use Rattle.arrowstore.proofs.with_files.run_with_files.Goals as goal
+
+pub run_on_store-requires : goal.run_on_store-requires
+run_on_store-requires g c = sym c.is_of_store.ensures ∙ c.if-is_of_store.true
+
+pub returns-then-is_of_store-clause-done : goal.returns-then-is_of_store-clause-done
+returns-then-is_of_store-clause-done g c = λ _. inr (sym c.is_of_store.ensures ∙ c.if-is_of_store.true)
+
+pub returns-then-is_of_store-clause-recodes : goal.returns-then-is_of_store-clause-recodes
+returns-then-is_of_store-clause-recodes g c = λ are. absurd (true≢false (sym (sym c.is_of_store.ensures ∙ c.if-is_of_store.true) ∙ recode_of_no_store _ are))
+
+pub returns-then-is_of_store-clause-own : goal.returns-then-is_of_store-clause-own
+returns-then-is_of_store-clause-own g c = λ own. absurd (true≢false (sym (sym c.is_of_store.ensures ∙ c.if-is_of_store.true) ∙ own_of_no_store _ own))
+
+pub returns-then-is_of_store-clause-wrong_arguments : goal.returns-then-is_of_store-clause-wrong_arguments
+returns-then-is_of_store-clause-wrong_arguments g c = inr (inl (sym c.is_of_store.ensures ∙ c.if-is_of_store.true))
+
+pub returns-then-is_of_store-clause-others_leave_input : goal.returns-then-is_of_store-clause-others_leave_input
+returns-then-is_of_store-clause-others_leave_input g c = inr c.run_on_store.ensures.input
+
+pub returns-then-is_of_store-clause-serves : goal.returns-then-is_of_store-clause-serves
+returns-then-is_of_store-clause-serves g c = λ _. c.run_on_store.ensures.serves
+
+pub returns-then-is_of_store-clause-reports : goal.returns-then-is_of_store-clause-reports
+returns-then-is_of_store-clause-reports g c =
+    let is = sym c.is_of_store.ensures ∙ c.if-is_of_store.true in
+    elim c.run_on_store.ensures.serves [ inl none ↦ (None, inl is, none.2) | inr served ↦ (served.hint, inl is, served.told) ]
 
 pub returns-clause-done : goal.returns-clause-done
 returns-clause-done g c = λ done. inl (c.run.ensures.done done)
+
+pub returns-clause-recodes : goal.returns-clause-recodes
+returns-clause-recodes g c = c.run.ensures.recodes
+
+pub returns-clause-own : goal.returns-clause-own
+returns-clause-own g c = c.run.ensures.own
 
 pub returns-clause-wrong_arguments : goal.returns-clause-wrong_arguments
 returns-clause-wrong_arguments g c = elim c.run.ensures.wrong_arguments [ inl right ↦ inl right | inr wrong ↦ inr (inr wrong) ]
 
 pub returns-clause-others_leave_input : goal.returns-clause-others_leave_input
 returns-clause-others_leave_input g c = elim c.run.ensures.only_recode_reads [ inl recode ↦ inl recode | inr same ↦ inr (inr same) ]
+
+pub returns-clause-serves : goal.returns-clause-serves
+returns-clause-serves g c = λ is. absurd (true≢false (sym is ∙ (sym c.is_of_store.ensures ∙ c.if-is_of_store.false)))
+
+pub returns-clause-reports : goal.returns-clause-reports
+returns-clause-reports g c = (None, inr refl, c.run.ensures.reports)

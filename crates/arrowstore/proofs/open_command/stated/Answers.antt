@@ -1,0 +1,84 @@
+use Rattle.std.proofs.Common.{refl}
+use Rattle.arrowstore.specs.OpenCommands.{States}
+use Rattle.store_requests.specs.StoreWords.{takes_input_word}
+use Rattle.arrowstore.proofs.open_command.stated.Goals as goal
+
+-- which of them read the input
+
+pub returns-in_ok-create-in-Create-clause-reads : goal.returns-in_ok-create-in-Create-clause-reads
+unfolding takes_input_word
+returns-in_ok-create-in-Create-clause-reads c = rw c.in-Create.is refl
+
+pub returns-in-Import-clause-reads : goal.returns-in-Import-clause-reads
+unfolding takes_input_word
+returns-in-Import-clause-reads c = rw c.in-Import.is refl
+
+pub returns-in-Append-clause-reads : goal.returns-in-Append-clause-reads
+unfolding takes_input_word
+returns-in-Append-clause-reads c = rw c.in-Append.is refl
+
+pub returns-in-AppendText-clause-reads : goal.returns-in-AppendText-clause-reads
+unfolding takes_input_word
+returns-in-AppendText-clause-reads c = rw c.in-AppendText.is refl
+
+pub returns-in_ok-query-in-Query-clause-reads : goal.returns-in_ok-query-in-Query-clause-reads
+unfolding takes_input_word
+returns-in_ok-query-in-Query-clause-reads c = rw c.in-Query.is refl
+
+pub returns-in_ok-save_as-in-SaveAs-clause-reads : goal.returns-in_ok-save_as-in-SaveAs-clause-reads
+unfolding takes_input_word
+returns-in_ok-save_as-in-SaveAs-clause-reads c = rw c.in-SaveAs.is refl
+
+pub returns-in_ok-rename-in-Rename-clause-reads : goal.returns-in_ok-rename-in-Rename-clause-reads
+unfolding takes_input_word
+returns-in_ok-rename-in-Rename-clause-reads c = rw c.in-Rename.is refl
+
+pub returns-in_ok-drop_table-in-Drop-clause-reads : goal.returns-in_ok-drop_table-in-Drop-clause-reads
+unfolding takes_input_word
+returns-in_ok-drop_table-in-Drop-clause-reads c = rw c.in-Drop.is refl
+
+pub returns-in-Tables-clause-reads : goal.returns-in-Tables-clause-reads
+unfolding takes_input_word
+returns-in-Tables-clause-reads c = rw c.in-Tables.is refl
+
+pub returns-in-Schema-clause-reads : goal.returns-in-Schema-clause-reads
+unfolding takes_input_word
+returns-in-Schema-clause-reads c = rw c.in-Schema.is refl
+
+pub returns-in-Export-clause-reads : goal.returns-in-Export-clause-reads
+unfolding takes_input_word
+returns-in-Export-clause-reads c = rw c.in-Export.is refl
+
+pub returns-in-Check-clause-reads : goal.returns-in-Check-clause-reads
+unfolding takes_input_word
+returns-in-Check-clause-reads c = rw c.in-Check.is refl
+
+-- what those state that own nothing
+
+pub returns-in-Import-clause-stated : goal.returns-in-Import-clause-stated
+unfolding States
+returns-in-Import-clause-stated c = rw c.in-Import.is refl
+
+pub returns-in-Append-clause-stated : goal.returns-in-Append-clause-stated
+unfolding States
+returns-in-Append-clause-stated c = rw c.in-Append.is refl
+
+pub returns-in-AppendText-clause-stated : goal.returns-in-AppendText-clause-stated
+unfolding States
+returns-in-AppendText-clause-stated c = rw c.in-AppendText.is (refl, refl)
+
+pub returns-in-Tables-clause-stated : goal.returns-in-Tables-clause-stated
+unfolding States
+returns-in-Tables-clause-stated c = rw c.in-Tables.is tt
+
+pub returns-in-Schema-clause-stated : goal.returns-in-Schema-clause-stated
+unfolding States
+returns-in-Schema-clause-stated c = rw c.in-Schema.is refl
+
+pub returns-in-Export-clause-stated : goal.returns-in-Export-clause-stated
+unfolding States
+returns-in-Export-clause-stated c = rw c.in-Export.is refl
+
+pub returns-in-Check-clause-stated : goal.returns-in-Check-clause-stated
+unfolding States
+returns-in-Check-clause-stated c = rw c.in-Check.is tt
