@@ -6,6 +6,7 @@ ghost use Rattle.commit.specs.Placing.{AreSome, plain_contents};
 ghost use Rattle.commit.specs.Publishing.{IsPlan};
 ghost use Rattle.test_device.specs.Few.{IsOn};
 
+use crate::calls::are_same;
 use crate::few::Few;
 use commit::{OpenError, Opened, Plan, format, place, plan_next, publish, recover};
 use sector_dev::{Choice, ModelDevice, SectorDevice};
@@ -143,7 +144,7 @@ fn is_filled(alloc: Global, device: &mut ModelDevice, start: u64, byte: u8) -> b
         return false;
     }
     match read_run(alloc, device, start, 600) {
-        Ok(bytes) => bytes.as_slice() == [byte; 600].as_slice(),
+        Ok(bytes) => are_same(&bytes, &[byte; 600]),
         Err(_) => false,
     }
 }
@@ -273,11 +274,29 @@ fn acknowledged_with(fault: Fault) -> u64 {
     }
 }
 
-// Runs the script with this fault. After a stop, and after a failed call, what a crash leaves goes on.
+// Whether a crash that leaves the old content leaves a store of this epoch.
+fn is_safe(alloc: Global, device: &ModelDevice, epoch: u64) -> bool {
+    match device.crash(Choice::Old) {
+        Ok(mut left) => epoch_left(alloc, &mut left, epoch) == Some(epoch),
+        Err(_) => false,
+    }
+}
+
+// What an opening shows after a failed call stays.
+fn stays(alloc: Global, device: &mut ModelDevice, acknowledged: u64) -> bool {
+    match epoch_left(alloc, device, acknowledged) {
+        Some(shown) => is_safe(alloc, device, shown),
+        None => false,
+    }
+}
+
+// Runs the script with this fault. After a stop, and after a failed call, what a crash leaves goes on. After a write or a sync that failed the device itself is opened too.
 fn survives_on(alloc: Global, device: &mut ModelDevice, fault: Fault) -> bool {
     set_fault(device, fault);
     let acknowledged = run_script(alloc, device);
-    acknowledged == acknowledged_with(fault) && all_go_on(alloc, device, acknowledged)
+    acknowledged == acknowledged_with(fault)
+        && all_go_on(alloc, device, acknowledged)
+        && (!matches!(fault, Fault::Fail(_)) || stays(alloc, device, acknowledged))
 }
 
 fn survives(alloc: Global, fault: Fault) -> bool {
@@ -287,38 +306,12 @@ fn survives(alloc: Global, fault: Fault) -> bool {
     }
 }
 
-// Whether a crash that leaves the old content leaves a store of this epoch.
-fn is_safe(alloc: Global, device: &ModelDevice, epoch: u64) -> bool {
-    match device.crash(Choice::Old) {
-        Ok(mut left) => epoch_left(alloc, &mut left, epoch) == Some(epoch),
-        Err(_) => false,
-    }
-}
-
-fn stays_on(alloc: Global, device: &mut ModelDevice, k: u64) -> bool {
-    device.fail_at(k);
-    let acknowledged = run_script(alloc, device);
-    match epoch_left(alloc, device, acknowledged) {
-        Some(shown) => is_safe(alloc, device, shown),
-        None => false,
-    }
-}
-
-// What an opening has shown after a failed call stays.
-fn stays(alloc: Global, k: u64) -> bool {
-    match ModelDevice::new(alloc, 16) {
-        Ok(mut device) => stays_on(alloc, &mut device, k),
-        Err(_) => false,
-    }
-}
-
 // The first call after whose failure something is wrong. The last one syncs the third segment. Reads past the second do not fail.
 fn wrong_call(alloc: Global) -> Option<u64> {
     for k in 1..=24 {
         let well = survives(alloc, Fault::Fail(k))
             && survives(alloc, Fault::Stop(k))
-            && survives(alloc, Fault::FailRead(k))
-            && stays(alloc, k);
+            && survives(alloc, Fault::FailRead(k));
         if !well {
             return Some(k);
         }

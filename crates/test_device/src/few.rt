@@ -53,16 +53,11 @@ impl ReadCatalogue for Few {
     }
 
     fn runs(&self, alloc: Global) -> Result<Vec<Run>, AllocError> {
-        let mut runs = Vec::new(alloc);
         match *self {
-            Few::Nothing => {}
-            Few::One(run) => runs.push(run)?,
-            Few::Two(first, second) => {
-                runs.push(first)?;
-                runs.push(second)?;
-            }
+            Few::Nothing => Ok(Vec::new(alloc)),
+            Few::One(run) => Vec::from_slice(alloc, &[run]),
+            Few::Two(first, second) => Vec::from_slice(alloc, &[first, second]),
         }
-        Ok(runs)
     }
 
     ghost local = { λ size a b k text c is same. is };

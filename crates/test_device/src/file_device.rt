@@ -1,5 +1,5 @@
 // A device that is a file of the system. Its sizes are tested by the commands of a store (tests/stores).
-use crate::calls::{filling, read_sector, write_row, write_sector};
+use crate::calls::{are_same, filling, read_sector, write_row, write_sector};
 use sector_dev::{FileDevice, FileError, SectorDevice};
 use std::env;
 use std::fs::{self, File};
@@ -28,7 +28,7 @@ fn is_written<D: SectorDevice>(device: &mut D, n: u64, times: u8) -> bool {
 
 fn is_read<D: SectorDevice>(device: &mut D, n: u64, times: u8) -> bool {
     let mut sector = [255; 512];
-    read_sector(device, n, &mut sector).is_ok() && sector == content(n, times)
+    read_sector(device, n, &mut sector).is_ok() && are_same(&sector, &content(n, times))
 }
 
 // Writes 20 sectors from one on.

@@ -216,12 +216,18 @@ impl<D: SectorDevice + Drop> SectorDevice for Counting<D> {
     }
 }
 
-// Writes, syncs and reads a sector.
-fn use_once<D: SectorDevice>(device: &mut D) -> [Result<(), DevError>; 3] {
-    let written = fill_sector(device, 3, 1);
-    let synced = device.sync();
-    [written, synced, read_sector(device, 3, &mut [0; 512])]
+// Whether a sector is written and synced with this answer, and read with that one.
+fn answers<D: SectorDevice>(
+    device: &mut D,
+    written: Result<(), DevError>,
+    read: Result<(), DevError>,
+) -> bool {
+    fill_sector(device, 3, 1) == written
+        && device.sync() == written
+        && read_sector(device, 3, &mut [0; 512]) == read
 }
+
+const FAILED: Result<(), DevError> = Err(DevError::Failed);
 
 // Whether a fresh device that can be written once and read once answers as it is to.
 fn is_brief() -> bool {
@@ -231,7 +237,7 @@ fn is_brief() -> bool {
     };
     fill_sector(&mut brief, 5, 7).is_ok()
         && filling(&mut brief, 5) == Some(Ok(7))
-        && use_once(&mut brief) == [Err(DevError::Failed); 3]
+        && answers(&mut brief, FAILED, FAILED)
         && brief.failures() == 3
 }
 
@@ -240,16 +246,16 @@ fn is_broken() -> bool {
     let mut broken = Broken {
         failed: u64::MAX - 1,
     };
-    use_once(&mut broken) == [Err(DevError::Failed); 3] && broken.failures() == u64::MAX
+    answers(&mut broken, FAILED, FAILED) && broken.failures() == u64::MAX
 }
 
 fn is_silent() -> bool {
-    use_once(&mut Silent) == [Ok(()), Ok(()), Err(DevError::Unreadable)]
+    answers(&mut Silent, Ok(()), Err(DevError::Unreadable))
 }
 
 // Whether each call is counted and made, also those of a row.
 fn is_counted(counting: &mut Counting<ModelDevice>) -> bool {
-    use_once(counting) == [Ok(()); 3]
+    answers(counting, Ok(()), Ok(()))
         && counting.calls == 3
         && write_row(counting, 4, &[[2; 512], [3; 512]]).is_ok()
         && counting.calls == 5

@@ -1,4 +1,5 @@
 // Runs of a device in memory.
+use crate::calls::are_same;
 use sector_dev::{ModelDevice, SectorDevice};
 use segments::{Part, Piece, Run, byte_count, read_run, write_run, write_runs};
 use std::alloc::{AllocError, Global};
@@ -11,7 +12,7 @@ fn are_read(alloc: Global, device: &mut ModelDevice, start: u64) -> bool {
         return false;
     }
     match read_run(alloc, device, start, 1100) {
-        Ok(bytes) => bytes.as_slice() == BYTES.as_slice(),
+        Ok(bytes) => are_same(&bytes, &BYTES),
         Err(_) => false,
     }
 }
