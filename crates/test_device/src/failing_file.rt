@@ -1,97 +1,18 @@
 // A device over a file of which one call fails.
 use crate::calls::{fill_sector, filling};
+use crate::faulty_file::{Fault, FaultyFile};
 use sector_dev::{DevError, FileDevice, FileError, SectorDevice};
 use std::alloc::Global;
-use std::cell::Cell;
-use std::fs::{Metadata, OpenFile};
-use std::io::{self, Cursor, ErrorKind, Read, Seek, SeekFrom, Write};
 
+// How many sectors the file has.
 const SMALL: usize = 16;
 
-// A file in memory of which one call fails.
-#[derive(Drop)]
-struct Flaky {
-    bytes: Cursor<[u8; SMALL * 512]>,
-    calls: Cell<u64>,
-    fails_at: u64,
-    refuses_sync: bool,
-}
+const BYTES: usize = SMALL * 512;
 
-impl Flaky {
-    fn begin(&self) -> io::Result<()> {
-        let call = self.calls.get().wrapping_add(1);
-        self.calls.set(call);
-        if call == self.fails_at {
-            return Err(io::Error::from(ErrorKind::Other));
-        }
-        Ok(())
-    }
-}
-
-impl Read for Flaky {
-    fn read(&mut self, buf: &mut [u8]) -> io::Result<usize> {
-        self.begin()?;
-        self.bytes.read(buf)
-    }
-}
-
-impl Write for Flaky {
-    fn write(&mut self, buf: &[u8]) -> io::Result<usize> {
-        self.begin()?;
-        self.bytes.write(buf)
-    }
-
-    fn flush(&mut self) -> io::Result<()> {
-        Ok(())
-    }
-}
-
-impl Seek for Flaky {
-    fn seek(&mut self, to: SeekFrom) -> io::Result<u64> {
-        self.begin()?;
-        self.bytes.seek(to)
-    }
-}
-
-impl OpenFile for Flaky {
-    fn metadata(&self) -> io::Result<Metadata> {
-        Err(io::Error::from(ErrorKind::Unsupported))
-    }
-
-    fn set_len(&self, _size: u64) -> io::Result<()> {
-        Err(io::Error::from(ErrorKind::Unsupported))
-    }
-
-    fn sync_all(&self) -> io::Result<()> {
-        self.begin()
-    }
-
-    fn sync_data(&self) -> io::Result<()> {
-        if self.refuses_sync {
-            return Err(io::Error::from(ErrorKind::Other));
-        }
-        self.begin()
-    }
-}
-
-fn device_over(
-    alloc: Global,
-    fails_at: u64,
-    refuses_sync: bool,
-) -> Result<FileDevice<Flaky>, FileError> {
-    let bytes = Cursor::new([0; SMALL * 512]);
-    let calls = Cell::new(0);
-    let file = Flaky {
-        bytes,
-        calls,
-        fails_at,
-        refuses_sync,
-    };
-    FileDevice::from_file(alloc, file)
-}
+type Device = FileDevice<FaultyFile<BYTES>>;
 
 // Writes this sector, and each fourth time syncs: how many calls failed, and what the sector is to hold.
-fn write_and_sync(device: &mut FileDevice<Flaky>, i: usize, n: u64, had: u8) -> (u64, u8) {
+fn write_and_sync(device: &mut Device, i: usize, n: u64, had: u8) -> (u64, u8) {
     let byte = (i % 100) as u8 + 1;
     let written = fill_sector(device, n, byte).is_ok();
     let synced = i % 4 != 3 || device.sync().is_ok();
@@ -100,7 +21,7 @@ fn write_and_sync(device: &mut FileDevice<Flaky>, i: usize, n: u64, had: u8) -> 
 }
 
 // Whether a sector is read as this byte, or its read fails.
-fn is_read_or_fails(device: &mut FileDevice<Flaky>, n: u64, byte: u8) -> bool {
+fn is_read_or_fails(device: &mut Device, n: u64, byte: u8) -> bool {
     match filling(device, n) {
         Some(Ok(found)) => found == byte,
         Some(Err(_)) => true,
@@ -109,7 +30,7 @@ fn is_read_or_fails(device: &mut FileDevice<Flaky>, n: u64, byte: u8) -> bool {
 }
 
 // Writes this sector: what it is to hold; `None`: a failed call is not counted, or it holds something else.
-fn written(device: &mut FileDevice<Flaky>, i: usize, n: u64, had: u8) -> Option<u8> {
+fn written(device: &mut Device, i: usize, n: u64, had: u8) -> Option<u8> {
     let before = device.failures();
     let (failures, byte) = write_and_sync(device, i, n, had);
     let counted = device.failures() == before.wrapping_add(failures);
@@ -124,7 +45,7 @@ fn written(device: &mut FileDevice<Flaky>, i: usize, n: u64, had: u8) -> Option<
 const WRITES: [usize; 13] = [3, 4, 5, 4, 9, 10, 3, 11, 12, 0, 15, 14, 13];
 
 // Makes the writes, with some syncs, of which one call of the file fails: what each sector is to hold.
-fn run_flaky(device: &mut FileDevice<Flaky>) -> Option<[u8; SMALL]> {
+fn run_flaky(device: &mut Device) -> Option<[u8; SMALL]> {
     let mut want = [0u8; SMALL];
     for (i, n) in WRITES.iter().enumerate() {
         want[*n] = written(device, i, *n as u64, want[*n])?;
@@ -133,7 +54,7 @@ fn run_flaky(device: &mut FileDevice<Flaky>) -> Option<[u8; SMALL]> {
 }
 
 // Whether each sector holds what it is to.
-fn holds(device: &mut FileDevice<Flaky>, want: &[u8; SMALL]) -> bool {
+fn holds(device: &mut Device, want: &[u8; SMALL]) -> bool {
     let mut well = true;
     for (n, byte) in want.iter().enumerate() {
         well = well && filling(device, n as u64) == Some(Ok(*byte));
@@ -142,7 +63,7 @@ fn holds(device: &mut FileDevice<Flaky>, want: &[u8; SMALL]) -> bool {
 }
 
 // Whether what was written is read, though one call of the file fails at the most.
-fn loses_nothing(device: &mut FileDevice<Flaky>) -> bool {
+fn loses_nothing(device: &mut Device) -> bool {
     let Some(want) = run_flaky(device) else {
         return false;
     };
@@ -152,7 +73,7 @@ fn loses_nothing(device: &mut FileDevice<Flaky>) -> bool {
 
 // The call of this number fails, counted from the opening, which makes one.
 fn survives(alloc: Global, fails_at: u64) -> bool {
-    match device_over(alloc, fails_at, false) {
+    match FileDevice::from_file(alloc, FaultyFile::<BYTES>::new(Fault::Call(fails_at))) {
         Ok(mut device) => loses_nothing(&mut device),
         Err(error) => error == FileError::Io && fails_at == 1,
     }
@@ -175,7 +96,7 @@ fn a_delayed_write_that_fails_is_not_lost(rt: HostRuntime) {
 }
 
 // Whether the sync fails and is counted, and what was written is still read.
-fn is_refused(device: &mut FileDevice<Flaky>) -> bool {
+fn is_refused(device: &mut Device) -> bool {
     fill_sector(device, 3, 7).is_ok()
         && device.sync() == Err(DevError::Failed)
         && device.failures() == 1
@@ -183,7 +104,7 @@ fn is_refused(device: &mut FileDevice<Flaky>) -> bool {
 }
 
 fn is_sync_refused(alloc: Global) -> bool {
-    match device_over(alloc, 0, true) {
+    match FileDevice::from_file(alloc, FaultyFile::<BYTES>::new(Fault::Syncs)) {
         Ok(mut device) => is_refused(&mut device),
         Err(_) => false,
     }

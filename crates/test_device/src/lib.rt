@@ -13,6 +13,8 @@ mod damaged_stores;
 mod failing_file;
 #[cfg(test)]
 mod failing_row;
+#[cfg(test)]
+mod faulty_file;
 mod few;
 #[cfg(test)]
 mod file_device;
