@@ -23,3 +23,4 @@ mod Applied
 mod Replied
 mod Streamed
 mod Selected
+mod Goings

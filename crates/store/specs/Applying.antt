@@ -1,5 +1,5 @@
 -- How commands are decided and carried out, and what each call of an open store leaves.
-use Rattle.std.specs.Prelude.{◌≡◌, ◌≢◌, ◌⊎◌, ◌+◌, ◌%◌, ◌++◌, ℕ, Bool, true, List, [], ◌∷◌, Result, Ok, Err}
+use Rattle.std.specs.Prelude.{◌≡◌, ◌≢◌, ◌⊎◌, ◌<◌, ◌+◌, ◌%◌, ◌++◌, ℕ, Bool, true, List, [], ◌∷◌, Result, Ok, Err}
 use Rattle.sector_dev.specs.Disk.{Disk, Image, Story, now, shown_image, synced_image}
 use Rattle.sector_dev.specs.Time.{Grows, LeavesOnly}
 use Rattle.sector_dev.specs.declared.device.SectorDevice.{Ghosts}
@@ -42,6 +42,47 @@ abbrev pub IsKept : {D : Type 0} {g : Ghosts D} → (old new : Store D g) → Ty
 IsKept old new = (commit_of new ≡ commit_of old) × (listed_in new ≡ listed_in old) × SameUsages old.opened.map.entries new.opened.map.entries
 
 -- ---- what lies on the disk
+
+-- on an image a change was carried out: beside the runs that were in use the lowest that are free were taken, the next commit rules with the
+-- edited catalogue, and its new segments hold their streams
+pub record HasCarried (size : ℕ) (used : Run → Type 0) (k : Commit) (c : PlainCatalogue) (change : PlainChange) (image : Image) : Type 0 where
+  pub places : List Run
+  pub text : Run
+  pub takes : Takes size used (asked_sizes c change) (Ok (places ++ text ∷ []))
+  pub stands : standing whole_reading size image
+      ≡ rules (next_commit k text (list_size (outline c change))) (edited c change.edit (placed_segments places change.streams change.counts))
+  pub holds : HoldsStreams image (placed_segments places change.streams change.counts) change.streams change.counts
+
+-- what a stop in it leaves: the commit and the catalogue that stood, or the change carried out; and what lay in the runs of that catalogue lies
+-- there still
+pub record IsOldOrCarried (size : ℕ) (used : Run → Type 0) (k : Commit) (c : PlainCatalogue) (before : Disk) (change : PlainChange) (image : Image) : Type 0 where
+  pub which : (standing whole_reading size image ≡ rules k c) ⊎ HasCarried size used k c change image
+  pub kept : (n : ℕ) → InSome (used_runs whole_reading k c) n → image n ≡ (before.at n).synced
+
+-- runs were taken for it, and outside them no sector was touched but the one of the next commit
+pub record IsTaking (size : ℕ) (used : Run → Type 0) (k : Commit) (c : PlainCatalogue) (before : Disk) (change : PlainChange) (d : Disk) : Type 0 where
+  pub runs : List Run
+  pub takes : Takes size used (asked_sizes c change) (Ok runs)
+  pub outside : (n : ℕ) → OutOf runs n → n ≢ (k.epoch + 1) % 2 → d.at n ≡ before.at n
+
+-- at a moment of it: the disk is as it was, or a write has begun
+pub record IsCarrying (size : ℕ) (used : Run → Type 0) (k : Commit) (c : PlainCatalogue) (before : Disk) (change : PlainChange) (d : Disk) : Type 0 where
+  pub touches : (d ≡ before) ⊎ IsTaking size used k c before change d
+  pub begun : (d ≡ before) ⊎ (before.writes < d.writes)
+  pub leaves : LeavesOnly (IsOldOrCarried size used k c before change) d
+
+-- at each moment of a change of a store that lies on its disk
+abbrev pub IsCarryingAtEachMoment : {D : Type 0} {g : Ghosts D} → (size : D → ℕ) → (story : D → Story) → (old : Store D g) → PlainChange → (new : Store D g) → Type 0
+IsCarryingAtEachMoment size story old change new =
+    Grows (IsCarrying (size (device_of old)) (IsUsedIn old.opened.map.entries) (commit_of old) (listed_in old) (now (story (device_of old))) change)
+    (story (device_of old)) (story (device_of new))
+
+-- and after one that was done
+pub record IsCarriedOnDisk {D : Type 0} {g : Ghosts D} (size : D → ℕ) (story : D → Story) (old : Store D g) (change : PlainChange) (new : Store D g) : Type 0 where
+  pub stands : IsOnDisk size story new
+  pub begun : (now (story (device_of old))).writes < (now (story (device_of new))).writes
+  pub takes : IsTaking (size (device_of old)) (IsUsedIn old.opened.map.entries) (commit_of old) (listed_in old) (now (story (device_of old))) change (now (story (device_of new)))
+  pub holds : HasCarried (size (device_of old)) (IsUsedIn old.opened.map.entries) (commit_of old) (listed_in old) change (synced_image (now (story (device_of new))))
 
 -- on an image a command was carried out: beside the runs that were in use the lowest that are free were taken, the next commit rules with the
 -- catalogue that was decided, and its new segments hold their streams

@@ -12,3 +12,8 @@ pub mod Changed
 pub mod Edited
 pub mod Segments
 pub mod Pieces
+pub mod Exchanged
+pub mod Shrinking
+pub mod ExchangedRuns
+pub mod Spared
+pub mod Same

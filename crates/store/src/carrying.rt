@@ -233,17 +233,10 @@ fn settle(opened: &mut Opened<StoredCatalogue>, prepared: Prepared<'_>)
 
 impl<D: SectorDevice> Store<D> {
     ghost use Rattle.std.specs.Prelude.{false, ◌↔◌, OnOk};
-    ghost use Rattle.sector_dev.specs.Disk.{now, shown_image};
-    ghost use Rattle.tables.specs.Tables.{Tables};
-    ghost use Rattle.tables.specs.Commands.{PlainCommand};
-    ghost use Rattle.tables.specs.Verdict.{verdict};
-    ghost use Rattle.store.specs.Calls.{apply_call, counted};
-    ghost use Rattle.store.specs.Machine.{Machine, running, tables_now};
-    ghost use Rattle.store.specs.Fits.{StoreFits, device_of, listed_in, setting_of, IsOnDisk};
-    ghost use Rattle.store.specs.Changes.{MakesOf};
-    ghost use Rattle.store.specs.Deciding.{IsDecided};
+    ghost use Rattle.store.specs.Calls.{counted};
+    ghost use Rattle.store.specs.Fits.{device_of, listed_in, IsOnDisk};
     ghost use Rattle.store.specs.Reading.{ended};
-    ghost use Rattle.store.specs.Applying.{GoesOn, EndsAs, IsKept, IsApplyingAtEachMoment, IsDoneOnDisk};
+    ghost use Rattle.store.specs.Applying.{EndsAs, IsKept, IsCarryingAtEachMoment, IsCarriedOnDisk};
 
     /// Carries out a change of the catalogue: makes the streams of the new segments, takes runs, writes these and the new catalogue, and publishes them.
     ///
@@ -259,20 +252,12 @@ impl<D: SectorDevice> Store<D> {
         ensures not_halted { IfErr result (λ e. e ≢ Refusal.Halted) }
         ensures kept { IfErr result (λ e. IsKept self.old self.new) }
         ensures quiet { IfErr result (λ e. e ≢ Refusal.Device → D.story (device_of self.new) ≡ D.story (device_of self.old)) }
-        // On a store that lies on its disk, where a command asks for the change.
-        ensures writes { D.tells ≡ true → (c : PlainCommand) → IsOnDisk D.size D.story self.old
-            → IsDecided true (shown_image (now (D.story (device_of self.old)))) (listed_in self.old) c (Ok (change_of change.now))
-            → IsApplyingAtEachMoment D.size D.story self.old c self.new }
-        ensures written { OnOk result (D.tells ≡ true → (c : PlainCommand) → IsOnDisk D.size D.story self.old
-            → IsDecided true (shown_image (now (D.story (device_of self.old)))) (listed_in self.old) c (Ok (change_of change.now))
-            → IsDoneOnDisk D.size D.story self.old c self.new) }
-        // On a store whose tables the machine knows, where the change makes what a command makes: the machine goes on by the command.
-        ensures goes { D.tells ≡ true → (base : Tables) (m : Machine) (c : PlainCommand) (new : Tables)
-            → StoreFits D.size D.story base m self.old → m.phase ≡ running
-            → verdict (tables_now (setting_of (D.size (device_of self.old)) base) m) c ≡ Ok new
-            → MakesOf (tables_now (setting_of (D.size (device_of self.old)) base) m) (change_of change.now) new
-            → IsDecided true (shown_image (now (D.story (device_of self.old)))) (listed_in self.old) c (Ok (change_of change.now))
-            → GoesOn D.size D.story D.failed base m (apply_call c) (ended result) self.old self.new }
+        // On a store that lies on its disk, whatever asks for the change: at each moment a stop leaves what stood, or the change carried out, and no sector
+        // was touched outside the runs that it takes, but the one of the next commit.
+        ensures carries { D.tells ≡ true → IsOnDisk D.size D.story self.old
+            → IsCarryingAtEachMoment D.size D.story self.old (change_of change.now) self.new }
+        ensures done { OnOk result (D.tells ≡ true → IsOnDisk D.size D.story self.old
+            → IsCarriedOnDisk D.size D.story self.old (change_of change.now) self.new) }
     {
         let pieces = change.pieces(alloc)?;
         let prepared = prepare(

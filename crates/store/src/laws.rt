@@ -1,11 +1,13 @@
 // Laws of runs. The functions do nothing: their contracts are the laws.
-ghost use Rattle.std.specs.Prelude.{◌≡◌, ◌≢◌, ◌⊎◌, ◌<◌, ◌-◌, ◌^◌, ◌||◌, ℕ, Bool, true, false, Some, None, List, [], ◌∷◌, ◌++◌, take, drop, Result};
+ghost use Rattle.std.specs.Prelude.{◌≡◌, ◌≢◌, ◌⊎◌, ◌<◌, ◌-◌, ◌^◌, ◌≤◌, ◌+◌, ◌*◌, ◌||◌, ℕ, Bool, true, false, Some, None, List, [], ◌∷◌, ◌++◌, length, take, drop, Result};
 ghost use Rattle.std.specs.List.{list_any};
 ghost use Rattle.sector_dev.specs.Disk.{Disk, Story, Image, now, moment, synced_image, LeftSince};
 ghost use Rattle.sector_dev.specs.Time.{LeavesOnly};
 ghost use Rattle.segments.specs.declared.entries.UsageEntry.{UsageEntry};
 ghost use Rattle.segments.specs.Usages.{IsUsedIn};
-ghost use Rattle.catalogue.specs.Entries.{PlainCatalogue, IsCatalogue};
+ghost use Rattle.catalogue.specs.Entries.{PlainCatalogue, IsCatalogue, segment_count};
+ghost use Rattle.catalogue.specs.declared.entry.Segment.{Segment};
+ghost use Rattle.store.specs.Exchanging.{HoldsSame, with_exchanged, AreOnDevice, ShrinkInTurn};
 ghost use Rattle.commit.specs.declared.sector.Commit.{Commit};
 ghost use Rattle.commit.specs.Standing.{used_runs, rules, standing, Stands, InSome};
 ghost use Rattle.tables.specs.Tables.{Tables};
@@ -37,6 +39,15 @@ pub fn each_stop_is_allowed()
         (m' : Machine) (new : Story) (failed' : ℕ) (run : Run s calls replies m old failed m' new failed') (i : ℕ) (image : Image)
         → LeavesOnly (Allows s m) (now old) → LeftSince new (moment (story_at s calls replies m old failed m' new failed' run i)) image
         → IsLeftFrom s calls replies m old failed m' new failed' run i image }
+{}
+
+/// Segments that are exchanged for others with the same rows leave the tables as they are; and catalogues that shrink in turn, by a segment or by the sum of
+/// their starts, are no more than the square of the segments times the sectors, and the segments.
+pub fn compactions_end()
+    ensures tables { (image : Image) (c : PlainCatalogue) (name : List ℕ) (place count : ℕ) (others : List Segment) → HoldsSame image c name place count others
+        → tables_held image (with_exchanged c name place count others) ≡ tables_held image c }
+    ensures few { (size : ℕ) (c : PlainCatalogue) (cs : List PlainCatalogue) → AreOnDevice size (c ∷ cs) → ShrinkInTurn c cs
+        → length cs ≤ segment_count c * (segment_count c * size + 1) }
 {}
 
 /// A call by itself is a run, and a run goes on with another one.

@@ -28,7 +28,7 @@ use Rattle.store.specs.laws.Listed.{count_held}
 -- ---- the rows of new segments
 
 -- the rows that new segments hold are those of their streams
-streams_held : (image : Image) (schema : PlainSchema) (segments : List Segment) (streams : List (List ℕ)) (counts : List ℕ) → HoldsStreams image segments streams counts
+pub streams_held : (image : Image) (schema : PlainSchema) (segments : List Segment) (streams : List (List ℕ)) (counts : List ℕ) → HoldsStreams image segments streams counts
     → rows_held schema segments image ≡ stream_rows schema streams counts
 unfolding rows_held segment_rows stream_rows
 streams_held image schema [] streams counts holds = ap (λ (xs : List (List ℕ)). stream_rows schema xs counts) (sym holds)

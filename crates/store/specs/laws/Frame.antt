@@ -35,7 +35,7 @@ sectors_of segment sound =
     eqb-true e.run.count (sector_count e.bytes) (and_parts (e.run.count == sector_count e.bytes) rows more.1).0
 
 module _ (a b : Image) where
-  same_segment : (schema : PlainSchema) (segment : Segment) → is_segment segment ≡ true
+  pub same_segment : (schema : PlainSchema) (segment : Segment) → is_segment segment ≡ true
       → ((n : ℕ) → segment.place.run.start ≤ n → n < segment.place.run.start + segment.place.run.count → b n ≡ a n) → segment_rows schema segment b ≡ segment_rows schema segment a
   unfolding segment_rows
   same_segment schema segment sound same =

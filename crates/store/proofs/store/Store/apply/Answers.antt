@@ -1,5 +1,5 @@
 use Rattle.std.proofs.Common.{◌≡◌, ◌≢◌, Bool, true, false, Some, Result, Ok, Err, refl, sym, ap, ◌∙◌, subst}
-use Rattle.std.specs.Prelude.{IfErr}
+use Rattle.std.specs.Prelude.{IfErr, OnOk, ℕ}
 use Rattle.std.proofs.lemmas.Bool.{true≢false}
 use Rattle.sector_dev.specs.Disk.{Disk, Story, now, shown_image}
 use Rattle.sector_dev.specs.laws.Time.{stays}
@@ -8,6 +8,7 @@ use Rattle.catalogue.specs.laws.Kept.{catalogue_is}
 use Rattle.tables.specs.declared.refusal.Refusal.{Refusal}
 use Rattle.tables.specs.declared.refusal.Refusal.TheVariants as refusals
 use Rattle.tables.specs.View.{command_of}
+use Rattle.tables.specs.Verdict.{verdict}
 use Rattle.store.specs.Calls.{done, refused, counted}
 use Rattle.catalogue.specs.View.{catalogue_of}
 use Rattle.commit.specs.declared.recovery.Opened.{Opened}
@@ -24,7 +25,13 @@ use Rattle.store.proofs.Decided.{is_change, with_ok}
 use Rattle.store.proofs.Asked.{is_running}
 use Rattle.store.proofs.ReadsStore.{shown, fits_reading}
 use Rattle.store.proofs.Applied.{change_verdict, refuses_first, refuses_halted, goes_after, tells_command, err_weaker, ends_after, kept_after, on_disk_after, decided_after, stood, writes_after, written_after, read_kept, read_halts}
+use Rattle.store.proofs.Goings.{carried_goes, command_writes, command_written}
 use Rattle.store.proofs.store.Store.apply.Goals as goal
+
+-- where it was done
+told_done : (A B : Type 0) (tells : Bool) (result : Result (Unit {0}) Refusal) → tells ≡ true → A → OnOk result (tells ≡ true → A → B) → OnOk result B
+told_done A B tells (Ok unit) told on does = does told on
+told_done A B tells (Err e) told on does = tt
 
 pub returns-then-self-clause-goes : goal.returns-then-self-clause-goes
 returns-then-self-clause-goes g c = λ told base m fits.
@@ -47,9 +54,13 @@ returns-in-Ok-clause-goes g c = λ told base m fits.
     (c.decisions_are_verdicts.ensures.answered image (listed_in old) t cmd (Ok (change_of c.in-Ok.change)) (catalogue_is (listed_in old) old.opened.catalogue.list.kept) held c.commands_bring_tables.ensures answers) in
     let there = fits_reading D.size D.story D.failed base m D.tells told old mid fits done refl c.in-Ok.ensures.reads in
     goes_after D.size D.story D.failed base m cmd D.tells told old mid c.carry_out-ended.new.self done (ended c.carry_out-ended.result) refl fits c.in-Ok.ensures.reads
-    (tells_command (setting_of (D.size old.device) base) (now (D.story old.device)) c.carry_out-ended.result) (c.carry_out-ended.ensures.goes told base m cmd decided.0 there runs decided.1 decided.2
+    (tells_command (setting_of (D.size old.device) base) (now (D.story old.device)) c.carry_out-ended.result) (
+    let ends = c.carry_out-ended.ensures in
+    carried_goes D.size D.story D.failed base m mid c.carry_out-ended.new.self there runs ends.size (change_of c.in-Ok.change) cmd decided.0
+    (subst (λ (n : ℕ). verdict (tables_now (setting_of n base) m) cmd ≡ Ok decided.0) (sym c.in-Ok.ensures.reads.device.same) decided.1) decided.2
     (decided_after D.size D.story D.failed D.tells old mid done c.in-Ok.ensures.reads told cmd (change_of c.in-Ok.change)
-    (is_change D.tells (shown_image (now (D.story old.device))) (listed_in old) cmd (change_of c.in-Ok.change) told c.in-Ok.ensures.answers)))
+    (is_change D.tells (shown_image (now (D.story old.device))) (listed_in old) cmd (change_of c.in-Ok.change) told c.in-Ok.ensures.answers))
+    c.carry_out-ended.result ends.count ends.carried ends.halts ends.kept ends.quiet (ends.carries told (there.sound runs).stands) (told_done _ _ D.tells c.carry_out-ended.result told (there.sound runs).stands ends.done))
 
 pub returns-in-Err-clause-goes : goal.returns-in-Err-clause-goes
 returns-in-Err-clause-goes g c = λ told base m fits.
@@ -112,12 +123,13 @@ returns-in-Ok-clause-writes g c = λ off told on.
     let reads = c.in-Ok.ensures.reads in
     let decided = is_change D.tells (shown_image (now (D.story old.device))) (listed_in old) cmd (change_of c.in-Ok.change) told c.in-Ok.ensures.answers in
     writes_after D.size D.story D.failed D.tells old mid done reads told cmd c.carry_out-ended.new.self on
-    (c.carry_out-ended.ensures.writes told cmd (on_disk_after D.size D.story D.failed D.tells old mid done reads told cmd on)
-    (decided_after D.size D.story D.failed D.tells old mid done reads told cmd (change_of c.in-Ok.change) decided))
+    (command_writes D.size D.story mid c.carry_out-ended.new.self (change_of c.in-Ok.change) cmd
+    (decided_after D.size D.story D.failed D.tells old mid done reads told cmd (change_of c.in-Ok.change) decided)
+    (c.carry_out-ended.ensures.carries told (on_disk_after D.size D.story D.failed D.tells old mid done reads told cmd on)))
 
 pub returns-in-Ok-clause-written : goal.returns-in-Ok-clause-written
 returns-in-Ok-clause-written g c =
-    with_ok c.carry_out-ended.result c.carry_out-ended.ensures.written
+    with_ok c.carry_out-ended.result c.carry_out-ended.ensures.done
     (λ written told on.
     let D = g.D.SectorDevice in
     let old = c.args.self.now in
@@ -126,7 +138,9 @@ returns-in-Ok-clause-written g c =
     let reads = c.in-Ok.ensures.reads in
     let decided = is_change D.tells (shown_image (now (D.story old.device))) (listed_in old) cmd (change_of c.in-Ok.change) told c.in-Ok.ensures.answers in
     written_after D.size D.story D.failed D.tells old mid done reads told cmd c.carry_out-ended.new.self
-    (written told cmd (on_disk_after D.size D.story D.failed D.tells old mid done reads told cmd on) (decided_after D.size D.story D.failed D.tells old mid done reads told cmd (change_of c.in-Ok.change) decided)))
+    (command_written D.size D.story mid c.carry_out-ended.new.self (change_of c.in-Ok.change) cmd
+    (decided_after D.size D.story D.failed D.tells old mid done reads told cmd (change_of c.in-Ok.change) decided)
+    (written told (on_disk_after D.size D.story D.failed D.tells old mid done reads told cmd on))))
 
 pub returns-in-Err-clause-writes : goal.returns-in-Err-clause-writes
 returns-in-Err-clause-writes g c = λ off told on.

@@ -24,7 +24,7 @@ use Rattle.store.specs.Machine.{halted, running, has_written, settle, halt, Allo
 use Rattle.store.specs.Held.{whole_reading, tables_held}
 use Rattle.store.specs.Fits.{listed_in, setting_of}
 use Rattle.store.specs.Changes.{PlainChange, change_of}
-use Rattle.store.specs.Applying.{IsApplying}
+use Rattle.store.specs.Applying.{IsCarrying}
 use Rattle.store.specs.Carrying.{IsCarried, asked_sizes}
 use Rattle.store.specs.Reading.{ended}
 use Rattle.store.proofs.ReadsStore.{shown_is_synced}
@@ -33,7 +33,7 @@ use Rattle.store.proofs.Prepared.{failed_usages, placed_then, fit_then, uses_the
 use Rattle.tables.specs.declared.refusal.Refusal.{Refusal}
 use Rattle.tables.specs.declared.refusal.Refusal.TheVariants as refusals
 use Rattle.canonical_write.specs.View.{streams_in}
-use Rattle.store.proofs.Carried.{made_change, refused_goes, failed_goes, done_goes, new_after, synced_outside, stands_then, can_publish, images, has_done, writes}
+use Rattle.store.proofs.Carried.{made_change, stands_then, can_publish, taking, has_carried, carries}
 use Rattle.store.proofs.store.Store.carry_out.Goals as goal
 
 memory_works : refusals.OutOfMemory ≢ refusals.Device
@@ -42,44 +42,9 @@ memory_works is = cc is
 off_is_on : halted ≢ running
 off_is_on is = cc is
 
-pub returns-in_err-pieces-clause-goes : goal.returns-in_err-pieces-clause-goes
-returns-in_err-pieces-clause-goes g c = λ told base m cmd new fits on makes mk decided.
-    let D = g.D.SectorDevice in
-    let s = c.args.self.now in
-    let change : PlainChange = change_of c.args.change.now in
-    let p = err_from_is_err_and c.from_residual.result c.from_residual.ensures.1 in
-    rw (p.1, p.2) (record {
-      next = m;
-      same = refl;
-      goes = refused_goes (D.size s.device) base m cmd new on makes s.opened.commit (listed_in s) (IsUsedIn s.opened.map.entries) change (D.story s.device) (D.failed s.device) refusals.OutOfMemory fits.device.allows tt
-          memory_works (refused_out D.size D.story base m s (fits.sound on) cmd change refusals.OutOfMemory decided tt);
-      fits = fits;
-    })
-
 pub prepare-requires-clause-sound : goal.prepare-requires-clause-sound
 prepare-requires-clause-sound g c =
     made_change (listed_in c.args.self.now) (change_of c.args.change.now) (streams_in c.in_ok-pieces.pieces) c.requires.sound c.in_ok-pieces.ensures.streams c.in_ok-pieces.ensures.short
-
-pub returns-in_err-prepared-clause-goes : goal.returns-in_err-prepared-clause-goes
-returns-in_err-prepared-clause-goes g c = λ told base m cmd new fits on makes mk decided.
-    let D = g.D.SectorDevice in
-    let s = c.args.self.now in
-    let change : PlainChange = change_of c.args.change.now in
-    let p = err_from_is_err_and c.from_residual-in_err-prepared.result c.from_residual-in_err-prepared.ensures.1 in
-    let r = c.in_err-prepared.field-0.0 in
-    let carried = subst (λ (n : ℕ). IsCarried n (IsUsedIn s.opened.map.entries) s.opened.commit (listed_in s) change (Err r) s.opened.commit (listed_in s)) s.same c.in_err-prepared.ensures.why in
-    rw (p.1, p.2) (record {
-      next = m;
-      same = refl;
-      goes = refused_goes (D.size s.device) base m cmd new on makes s.opened.commit (listed_in s) (IsUsedIn s.opened.map.entries) change (D.story s.device) (D.failed s.device) r fits.device.allows carried c.in_err-prepared.ensures.device
-          (refused_out D.size D.story base m s (fits.sound on) cmd change r decided carried);
-      fits = record {
-        phase = fits.phase;
-        started = fits.started;
-        device = fits.device;
-        sound = λ run. let t = fits.sound run in record { stands = t.stands; tables = t.tables; uses = λ x. c.in_err-prepared.ensures.err x ∙ t.uses x; none = t.none };
-      };
-    })
 
 pub invariant_of-self-in-Ok : goal.invariant_of-self-in-Ok
 invariant_of-self-in-Ok g c =
@@ -157,151 +122,54 @@ returns-clause-carried g c =
     let takes = took_takes s.opened.map.size (IsUsedIn s.opened.map.entries) sizes runs prep.took.took in
     (prep.next, prep.few, (runs, subst (λ (n : ℕ). Takes n (IsUsedIn s.opened.map.entries) sizes (Ok runs)) s.same takes))
 
-pub returns-in-Ok-clause-goes : goal.returns-in-Ok-clause-goes
-returns-in-Ok-clause-goes g c = λ told base m cmd new fits run makes mk decided.
-    let sound = made_change (listed_in c.args.self.now) (change_of c.args.change.now) (streams_in c.in_ok-pieces.pieces) c.requires.sound c.in_ok-pieces.ensures.streams c.in_ok-pieces.ensures.short in
-    let D = g.D.SectorDevice in
-    let s = c.args.self.now in
-    let s0 = D.story s.device in
-    let s1 = D.story c.publish.new.device in
-    let size = D.size s.device in
-    let sized = c.publish.ensures.size in
-    let listed = listed_in s in
-    let stands = catalogue_is listed s.opened.catalogue.list.kept in
-    let change : PlainChange = change_of c.args.change.now in
-    let plan = c.in_ok-prepared.prepared.plan in
-    let back = c.in_ok-prepared.prepared.back.items in
-    let old = s.opened.map in
-    let mid = c.prepare.new.map in
-    let k = s.opened.commit in
-    let will = catalogue_of plan.catalogue.list in
-    let prep = c.in_ok-prepared.ensures.ok in
-    let on = subst (λ (n : ℕ). is_on_device n k.catalogue.run ≡ true) (sym s.same) s.placed in
-    let fit = subst (λ (n : ℕ). runs_fault n k.catalogue.run (entries.runs_of listed) ≡ None) (sym s.same) s.fit in
-    let commit_is = c.settle.ensures.commit in
-    let catalogue_is' = c.settle.ensures.catalogue in
-    let im = images base m s mid change plan back new prep sound (fits.sound run) mk in
-    let p = c.in-Ok.ensures.published told im.can in
-    let outside = synced_outside plan.commit (plain_pieces plan.pieces.items) (now s0) (now s1) p.touches in
-    let sizes = asked_sizes listed change in
-    let takes = took_takes old.size (IsUsedIn old.entries) sizes (runs_of prep.pieces ++ prep.run ∷ []) prep.took.took in
-    let taken = subst (λ (n : ℕ). Takes n (IsUsedIn old.entries) sizes (Ok (runs_of prep.pieces ++ prep.run ∷ []))) s.same takes in
-    let ended = carried_out D.size D.story base m s (fits.sound run) cmd change (Ok tt) plan.commit will (now s1) decided
-    (ap (standing whole_reading size) (shown_is_synced (now s1) p.quiet.shown) ∙ p.stands)
-    (prep.next, prep.few, (runs_of prep.pieces, prep.run, taken, prep.catalogue, prep.commit)) in
-    let goes = done_goes size base m cmd new run makes s0 s1 plan.commit (plain_pieces plan.pieces.items) (StandsAs whole_reading size k listed) (StandsAs whole_reading size plan.commit will) fits.device.allows
-    im.olds (λ image is. im.news image is.outside) (c.publish.ensures.moments told im.can)
-    (D.failed s.device) (D.failed c.publish.new.device) c.in-Ok.ensures.count p (im.news (synced_image (now s1)) outside p.stands p.holds) ended in
-    record {
-      next = settle cmd m;
-      same = sized;
-      goes = goes;
-      fits = record {
-        phase = sym (ap (λ (b : Bool). if b then halted else running) c.requires.on);
-        started = refl;
-        device = record {
-          in_limits = subst (λ (n : ℕ). is_size n ≡ true) (sym sized) s.in_limits;
-          allows = subst (λ (n : ℕ). LeavesOnly (Allows (setting_of n base) (settle cmd m)) (now s1)) (sym sized) goes.settles;
-          fresh = λ no. absurd (true≢false no);
-        };
-        sound = λ again. record {
-          stands = record {
-            quiet = p.quiet;
-            found = stands_then size (D.size c.publish.new.device) (synced_image (now s1)) plan.commit c.settle.new.opened.commit plan.catalogue c.settle.new.opened.catalogue sized commit_is catalogue_is' p.stands;
-          };
-          tables = ap (λ (x : StoredCatalogue). tables_held (synced_image (now s1)) (catalogue_of x.list)) catalogue_is' ∙ im.tables (synced_image (now s1)) outside p.holds ∙ ap Some (new_after size base m cmd new run makes);
-          uses = subst (λ (x : StoredCatalogue). Uses c.settle.new.opened.map.entries (c.settle.new.opened.commit.catalogue.run ∷ entries.runs_of (catalogue_of x.list)) []) (sym catalogue_is')
-              (subst (λ (x : Commit). Uses c.settle.new.opened.map.entries (x.catalogue.run ∷ entries.runs_of will) []) (sym commit_is)
-              (uses_then old mid k listed change plan back prep on fit s.uses sound c.settle.new.opened.map stands c.settle.ensures.map));
-          none = refl;
-        };
-      };
-    }
-
-pub returns-clause-goes : goal.returns-clause-goes
-returns-clause-goes g c = λ told base m cmd new fits run makes mk decided.
-    let sound = made_change (listed_in c.args.self.now) (change_of c.args.change.now) (streams_in c.in_ok-pieces.pieces) c.requires.sound c.in_ok-pieces.ensures.streams c.in_ok-pieces.ensures.short in
-    let D = g.D.SectorDevice in
-    let s = c.args.self.now in
-    let s0 = D.story s.device in
-    let s1 = D.story c.publish.new.device in
-    let size = D.size s.device in
-    let sized = c.publish.ensures.size in
-    let listed = listed_in s in
-    let change : PlainChange = change_of c.args.change.now in
-    let plan = c.in_ok-prepared.prepared.plan in
-    let back = c.in_ok-prepared.prepared.back.items in
-    let mid = c.prepare.new.map in
-    let k = s.opened.commit in
-    let will = catalogue_of plan.catalogue.list in
-    let prep = c.in_ok-prepared.ensures.ok in
-    let im = images base m s mid change plan back new prep sound (fits.sound run) mk in
-    let counts = subst (λ (e : DevError). Counts {T = Unit {0}} (D.failed s.device) (D.failed c.publish.new.device) (Err e)) c.in-Err.ensures.error c.in-Err.ensures.count in
-    let goes = failed_goes size base m cmd new run makes s0 s1 plan.commit (plain_pieces plan.pieces.items) (StandsAs whole_reading size k listed) (StandsAs whole_reading size plan.commit will) fits.device.allows
-    im.olds (λ image is. im.news image is.outside) (c.publish.ensures.moments told im.can)
-    (D.failed s.device) (D.failed c.publish.new.device) counts in
-    let next = halt (apply_call cmd) (has_written (now s0) (now s1)) m in
-    record {
-      next = next;
-      same = sized;
-      goes = goes;
-      fits = record {
-        phase = refl;
-        started = fits.started;
-        device = record {
-          in_limits = subst (λ (n : ℕ). is_size n ≡ true) (sym sized) s.in_limits;
-          allows = subst (λ (n : ℕ). LeavesOnly (Allows (setting_of n base) next) (now s1)) (sym sized) goes.settles;
-          fresh = λ no. absurd (true≢false (sym fits.started ∙ no));
-        };
-        sound = λ again. absurd (off_is_on again);
-      };
-    }
-
 -- ---- what the disk holds
 
-pub returns-in_err-pieces-clause-writes : goal.returns-in_err-pieces-clause-writes
-returns-in_err-pieces-clause-writes g c = λ told cmd on decided.
+pub returns-in_err-pieces-clause-carries : goal.returns-in_err-pieces-clause-carries
+returns-in_err-pieces-clause-carries g c = λ told on.
     let D = g.D.SectorDevice in
     let s = c.args.self.now in
-    stays (IsApplying (D.size s.device) (IsUsedIn s.opened.map.entries) s.opened.commit (listed_in s) (now (D.story s.device)) cmd) (D.story s.device)
+    stays (IsCarrying (D.size s.device) (IsUsedIn s.opened.map.entries) s.opened.commit (listed_in s) (now (D.story s.device)) (change_of c.args.change.now)) (D.story s.device)
 
-pub returns-in_err-prepared-clause-writes : goal.returns-in_err-prepared-clause-writes
-returns-in_err-prepared-clause-writes g c = λ told cmd on decided.
+pub returns-in_err-prepared-clause-carries : goal.returns-in_err-prepared-clause-carries
+returns-in_err-prepared-clause-carries g c = λ told on.
     let D = g.D.SectorDevice in
     let s = c.args.self.now in
-    stays (IsApplying (D.size s.device) (IsUsedIn s.opened.map.entries) s.opened.commit (listed_in s) (now (D.story s.device)) cmd) (D.story s.device)
+    stays (IsCarrying (D.size s.device) (IsUsedIn s.opened.map.entries) s.opened.commit (listed_in s) (now (D.story s.device)) (change_of c.args.change.now)) (D.story s.device)
 
-pub returns-in-Ok-clause-writes : goal.returns-in-Ok-clause-writes
-returns-in-Ok-clause-writes g c = λ told cmd on decided.
+pub returns-in-Ok-clause-carries : goal.returns-in-Ok-clause-carries
+returns-in-Ok-clause-carries g c = λ told on.
     let sound = made_change (listed_in c.args.self.now) (change_of c.args.change.now) (streams_in c.in_ok-pieces.pieces) c.requires.sound c.in_ok-pieces.ensures.streams c.in_ok-pieces.ensures.short in
-    writes c.args.self.now c.prepare.new.map (change_of c.args.change.now) c.in_ok-prepared.prepared.plan c.in_ok-prepared.prepared.back.items c.in_ok-prepared.ensures.ok sound cmd decided
+    carries c.args.self.now c.prepare.new.map (change_of c.args.change.now) c.in_ok-prepared.prepared.plan c.in_ok-prepared.prepared.back.items c.in_ok-prepared.ensures.ok sound
     (g.D.SectorDevice.story c.publish.new.device) on (c.publish.ensures.moments told)
 
-pub returns-clause-writes : goal.returns-clause-writes
-returns-clause-writes g c = λ told cmd on decided.
+pub returns-clause-carries : goal.returns-clause-carries
+returns-clause-carries g c = λ told on.
     let sound = made_change (listed_in c.args.self.now) (change_of c.args.change.now) (streams_in c.in_ok-pieces.pieces) c.requires.sound c.in_ok-pieces.ensures.streams c.in_ok-pieces.ensures.short in
-    writes c.args.self.now c.prepare.new.map (change_of c.args.change.now) c.in_ok-prepared.prepared.plan c.in_ok-prepared.prepared.back.items c.in_ok-prepared.ensures.ok sound cmd decided
+    carries c.args.self.now c.prepare.new.map (change_of c.args.change.now) c.in_ok-prepared.prepared.plan c.in_ok-prepared.prepared.back.items c.in_ok-prepared.ensures.ok sound
     (g.D.SectorDevice.story c.publish.new.device) on (c.publish.ensures.moments told)
 
-pub returns-in-Ok-clause-written : goal.returns-in-Ok-clause-written
-returns-in-Ok-clause-written g c = λ told cmd on decided.
+pub returns-in-Ok-clause-done : goal.returns-in-Ok-clause-done
+returns-in-Ok-clause-done g c = λ told on.
     let sound = made_change (listed_in c.args.self.now) (change_of c.args.change.now) (streams_in c.in_ok-pieces.pieces) c.requires.sound c.in_ok-pieces.ensures.streams c.in_ok-pieces.ensures.short in
     let D = g.D.SectorDevice in
     let s = c.args.self.now in
-    let s1 = D.story c.publish.new.device in
+    let s0 = now (D.story s.device) in
+    let s1 = now (D.story c.publish.new.device) in
     let change : PlainChange = change_of c.args.change.now in
     let plan = c.in_ok-prepared.prepared.plan in
     let back = c.in_ok-prepared.prepared.back.items in
     let prep = c.in_ok-prepared.ensures.ok in
-    let can = can_publish s c.prepare.new.map change plan back prep sound (now (D.story s.device)) on in
+    let can = can_publish s c.prepare.new.map change plan back prep sound s0 on in
     let p = c.in-Ok.ensures.published told can in
     record {
       stands = record {
         quiet = p.quiet;
-        found = stands_then (D.size s.device) (D.size c.publish.new.device) (synced_image (now s1)) plan.commit c.settle.new.opened.commit plan.catalogue c.settle.new.opened.catalogue c.publish.ensures.size
+        found = stands_then (D.size s.device) (D.size c.publish.new.device) (synced_image s1) plan.commit c.settle.new.opened.commit plan.catalogue c.settle.new.opened.catalogue c.publish.ensures.size
             c.settle.ensures.commit c.settle.ensures.catalogue p.stands;
       };
-      holds = has_done s.opened.map c.prepare.new.map s.opened.commit (listed_in s) change plan back prep (D.size s.device) s.same sound (now (D.story s.device)) cmd decided (synced_image (now s1)) p.stands p.holds;
+      begun = p.begun;
+      takes = taking s.opened.map c.prepare.new.map s.opened.commit (listed_in s) change plan back prep (D.size s.device) s.same sound s0 s1 p.touches;
+      holds = has_carried s.opened.map c.prepare.new.map s.opened.commit (listed_in s) change plan back prep (D.size s.device) s.same sound s0 (synced_image s1) p.stands p.holds;
     }
 
 -- ---- no device failed

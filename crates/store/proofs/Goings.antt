@@ -1,0 +1,291 @@
+-- A change that was carried out, in the words of the machine.
+use Rattle.std.specs.Prelude.{◌≡◌, ◌≢◌, ◌⊎◌, ◌↔◌, ◌<◌, ◌+◌, ◌-◌, ◌^◌, ◌&&◌, ℕ, min, Bool, true, false, List, [], ◌∷◌, ◌++◌, Some, Result, Ok, Err, IfErr, OnOk, refl, if◌then◌else◌}
+use Rattle.std.proofs.Common.{inl, inr, ⊎_elim, sym, ap, ◌∙◌, subst, arith}
+use Rattle.std.proofs.lemmas.Bool.{lt-ltb, true≢false, false_from_ne_true}
+use Rattle.sector_dev.specs.Disk.{Disk, Story, Image, now, synced_image, shown_image, MayLeave}
+use Rattle.sector_dev.specs.declared.device.SectorDevice.{Ghosts}
+use Rattle.sector_dev.specs.Time.{Grows, LeavesOnly}
+use Rattle.sector_dev.specs.laws.Time.{weaken, now_has, stays}
+use Rattle.sector_dev.specs.laws.Crash.{only_image}
+use Rattle.segments.specs.declared.run.Run.{Run}
+use Rattle.segments.specs.Usages.{IsUsedIn}
+use Rattle.catalogue.specs.Entries.{PlainCatalogue, IsCatalogue}
+use Rattle.catalogue.specs.laws.Kept.{catalogue_is}
+use Rattle.commit.specs.Standing.{is_size, rules, standing, used_runs, InSome, Stands}
+use Rattle.commit.specs.Publishing.{next_commit}
+use Rattle.commit.specs.declared.sector.Commit.{Commit}
+use Rattle.catalogue.specs.Text.{list_size}
+use Rattle.tables.specs.declared.refusal.Refusal.{Refusal}
+use Rattle.tables.specs.declared.refusal.Refusal.TheVariants as refusals
+use Rattle.tables.specs.declared.refusal.Limit.TheVariants as limits
+use Rattle.tables.specs.Tables.{Tables}
+use Rattle.tables.specs.Commands.{PlainCommand}
+use Rattle.tables.specs.Verdict.{verdict, after}
+use Rattle.store.specs.declared.store.Store.{Store}
+use Rattle.store.specs.Calls.{apply_call, done, refused, counted, is_device_reply}
+use Rattle.store.specs.Machine.{holds, Setting, Machine, running, halted, tables_now, Allows, AllowsEach, meanwhile, has_written, settle, halt}
+use Rattle.store.specs.Steps.{Step}
+use Rattle.store.specs.Runs.{Goes}
+use Rattle.store.specs.Held.{whole_reading, tables_held, held_tables, held_by}
+use Rattle.store.specs.Fits.{setting_of, listed_in, device_of, commit_of, StoreFits, IsSound, IsOnDisk}
+use Rattle.store.specs.Changes.{PlainChange, MakesOf, edited, placed_segments}
+use Rattle.store.specs.Deciding.{IsDecided}
+use Rattle.store.specs.Carrying.{IsCarried, IsCarriedOut, outline}
+use Rattle.store.specs.Reading.{ended}
+use Rattle.store.specs.Applying.{GoesOn, EndsAs, IsKept, HasCarried, IsOldOrCarried, IsTaking, IsCarrying, IsCarryingAtEachMoment, IsCarriedOnDisk, HasDone, IsOldOrDone, IsApplying, IsApplyingAtEachMoment, IsDoneOnDisk}
+use Rattle.store.specs.laws.Frame.{held_is, same_tables}
+use Rattle.store.specs.laws.Changed.{edited_held}
+use Rattle.store.proofs.Asked.{not_less}
+use Rattle.store.proofs.ReadsStore.{shown_is_synced}
+use Rattle.store.proofs.Roomed.{carried_out, refused_out}
+use Rattle.store.proofs.Carried.{new_after, is_accepted, refused_goes}
+
+-- ---- a command that asks for the change
+
+module _ (size : ℕ) (used : Run → Type 0) (k : Commit) (c : PlainCatalogue) (before : Disk) (change : PlainChange) (command : PlainCommand) (decided : IsDecided true (shown_image before) c command (Ok change)) where
+  has_done : (image : Image) → HasCarried size used k c change image → HasDone size used k c before command image
+  has_done image is = record { change = change; decides = decided; places = is.places; text = is.text; takes = is.takes; stands = is.stands; holds = is.holds }
+
+  applying : (d : Disk) → IsCarrying size used k c before change d → IsApplying size used k c before command d
+  applying d is = record {
+    touches = ⊎_elim (λ (same : d ≡ before). inl same)
+        (λ (t : IsTaking size used k c before change d). inr (record { change = change; decides = decided; runs = t.runs; takes = t.takes; outside = t.outside })) is.touches;
+    leaves = λ image may.
+        let either = is.leaves image may in
+        record {
+          which = ⊎_elim (λ (stood : standing whole_reading size image ≡ rules k c). inl stood) (λ (does : HasCarried size used k c change image). inr (has_done image does)) either.which;
+          kept = either.kept;
+        };
+  }
+
+module _ {D : Type 0} {g : Ghosts D} (size : D → ℕ) (story : D → Story) (old new : Store D g) (change : PlainChange) (command : PlainCommand)
+    (decided : IsDecided true (shown_image (now (story old.device))) (listed_in old) command (Ok change)) where
+  pub command_writes : IsCarryingAtEachMoment size story old change new → IsApplyingAtEachMoment size story old command new
+  command_writes moments = weaken (applying (size old.device) (IsUsedIn old.opened.map.entries) old.opened.commit (listed_in old) (now (story old.device)) change command decided) moments
+
+  pub command_written : IsCarriedOnDisk size story old change new → IsDoneOnDisk size story old command new
+  command_written is = record {
+    stands = is.stands;
+    holds = has_done (size old.device) (IsUsedIn old.opened.map.entries) old.opened.commit (listed_in old) (now (story old.device)) change command decided (synced_image (now (story new.device))) is.holds;
+  }
+
+-- ---- what its images hold
+
+module _ (size : ℕ) (used : Run → Type 0) (k : Commit) (c : PlainCatalogue) (before : Disk) (change : PlainChange) (t u : Tables)
+    (catalogue : IsCatalogue c) (held : tables_held (synced_image before) c ≡ Some t) (makes : MakesOf t change u) (image : Image) where
+  still_held : ((n : ℕ) → InSome (used_runs whole_reading k c) n → image n ≡ (before.at n).synced) → tables_held image c ≡ Some t
+  still_held kept = same_tables (synced_image before) image c catalogue.entries (λ n within. kept n (inr within)) ∙ held
+
+  pub made_held : ((n : ℕ) → InSome (used_runs whole_reading k c) n → image n ≡ (before.at n).synced) → (is : HasCarried size used k c change image)
+      → tables_held image (edited c change.edit (placed_segments is.places change.streams change.counts)) ≡ Some u
+  made_held kept is = edited_held image c change t u (placed_segments is.places change.streams change.counts) catalogue (still_held kept) makes is.holds
+
+  pub either_held : IsOldOrCarried size used k c before change image → (held_by size image ≡ holds t) ⊎ (held_by size image ≡ holds u)
+  either_held is = by_which is.which
+    where
+      by_which : (standing whole_reading size image ≡ rules k c) ⊎ HasCarried size used k c change image → (held_by size image ≡ holds t) ⊎ (held_by size image ≡ holds u)
+      by_which (inl stood) = inl (held_is size image k c stood ∙ ap held_tables (still_held is.kept))
+      by_which (inr does) =
+          inr (held_is size image (next_commit k does.text (list_size (outline c change))) (edited c change.edit (placed_segments does.places change.streams change.counts)) does.stands ∙ ap held_tables (made_held is.kept does))
+
+-- ---- the machine goes on
+
+-- what is synced is what a stop may leave
+own_image : (d : Disk) → MayLeave d (synced_image d)
+unfolding MayLeave
+own_image d n = inl refl
+
+off_is_on : halted ≢ running
+off_is_on is = cc is
+
+memory_works : refusals.OutOfMemory ≢ refusals.Device
+memory_works is = cc is
+
+epochs_work : refusals.TooMany limits.Epochs ≢ refusals.Device
+epochs_work is = cc is
+
+segments_work : refusals.TooMany limits.Segments ≢ refusals.Device
+segments_work is = cc is
+
+room_works : (n : ℕ) → refusals.NoRoom n ≢ refusals.Device
+room_works n is = cc is
+
+module _ {D : Type 0} {g : Ghosts D} (size : D → ℕ) (story : D → Story) (failed : D → ℕ) (base : Tables) (m : Machine) (old new : Store D g) (fits : StoreFits size story base m old) (on : m.phase ≡ running)
+    (sized : size new.device ≡ size old.device) (change : PlainChange) (c : PlainCommand) (u : Tables)
+    (makes : verdict (tables_now (setting_of (size old.device) base) m) c ≡ Ok u) (mk : MakesOf (tables_now (setting_of (size old.device) base) m) change u)
+    (decided : IsDecided true (shown_image (now (story old.device))) (listed_in old) c (Ok change)) where
+  abbrev s : Setting
+  s = setting_of (size old.device) base
+
+  sound : IsSound size story base m old
+  sound = fits.sound on
+
+  catalogue : IsCatalogue (listed_in old)
+  catalogue = catalogue_is (listed_in old) old.opened.catalogue.list.kept
+
+  each : (image : Image) → IsOldOrCarried (size old.device) (IsUsedIn old.opened.map.entries) old.opened.commit (listed_in old) (now (story old.device)) change image → Allows s (meanwhile (apply_call c) m true) image
+  unfolding Allows held_by
+  each image is =
+      ⊎_elim (λ (was : held_by (size old.device) image ≡ holds (after base m.settled)). inl was)
+      (λ (will : held_by (size old.device) image ≡ holds u). inr (inl (will ∙ ap holds (new_after (size old.device) base m c u on makes))))
+      (either_held (size old.device) (IsUsedIn old.opened.map.entries) old.opened.commit (listed_in old) (now (story old.device)) change (after base m.settled) u catalogue sound.tables mk image is)
+
+  at_moment : (d : Disk) → IsCarrying (size old.device) (IsUsedIn old.opened.map.entries) old.opened.commit (listed_in old) (now (story old.device)) change d
+      → LeavesOnly (Allows s (meanwhile (apply_call c) m (has_written (now (story old.device)) d))) d
+  at_moment d p = by_writes (has_written (now (story old.device)) d) refl
+    where
+      by_writes : (wrote : Bool) → has_written (now (story old.device)) d ≡ wrote → LeavesOnly (Allows s (meanwhile (apply_call c) m wrote)) d
+      by_writes true is = λ image may. each image (p.leaves image may)
+      by_writes false is =
+          ⊎_elim (λ (same : d ≡ now (story old.device)). subst (λ (x : Disk). LeavesOnly (Allows s m) x) (sym same) fits.device.allows)
+          (λ (begun : (now (story old.device)).writes < d.writes). let yes' = lt-ltb (now (story old.device)).writes d.writes begun in absurd (cc (yes', is))) p.begun
+
+  halted_allows : (wrote : Bool) (d : Disk) → LeavesOnly (Allows s (meanwhile (apply_call c) m wrote)) d → LeavesOnly (Allows s (halt (apply_call c) wrote m)) d
+  unfolding Allows
+  halted_allows true d leaves = leaves
+  halted_allows false d leaves = leaves
+
+  moments_in : IsCarryingAtEachMoment size story old change new → Grows (λ d. LeavesOnly (Allows s (meanwhile (apply_call c) m (has_written (now (story old.device)) d))) d) (story old.device) (story new.device)
+  moments_in carries = weaken at_moment carries
+
+  -- at the beginning, and so at the end
+  first_moment : IsCarrying (size old.device) (IsUsedIn old.opened.map.entries) old.opened.commit (listed_in old) (now (story old.device)) change (now (story old.device))
+  first_moment = record {
+    touches = inl refl;
+    begun = inl refl;
+    leaves = λ image may.
+        let one : image ≡ synced_image (now (story old.device)) = only_image (now (story old.device)) image sound.stands.quiet.pending may in
+        record { which = inl (ap (standing whole_reading (size old.device)) one ∙ sound.stands.found); kept = λ n within. ap (λ (i : Image). i n) one };
+  }
+
+  last_moment : IsCarryingAtEachMoment size story old change new → IsCarrying (size old.device) (IsUsedIn old.opened.map.entries) old.opened.commit (listed_in old) (now (story old.device)) change (now (story new.device))
+  last_moment carries = now_has {P = λ d. IsCarrying (size old.device) (IsUsedIn old.opened.map.entries) old.opened.commit (listed_in old) (now (story old.device)) change d} first_moment carries
+
+  -- it was done
+  done_on : EndsAs size old (Ok change) (Ok tt) new → failed new.device ≡ failed old.device → new.halted ≡ false → IsCarryingAtEachMoment size story old change new → IsCarriedOnDisk size story old change new
+      → GoesOn size story failed base m (apply_call c) done old new
+  unfolding Step Allows held_by
+  done_on carried count quiet carries does =
+      let s1 = now (story new.device) in
+      let image = synced_image s1 in
+      let is = (last_moment carries).leaves image (own_image s1) in
+      let tables : tables_held image (listed_in new) ≡ Some u =
+      ap (tables_held image) listed ∙ made_held (size old.device) (IsUsedIn old.opened.map.entries) old.opened.commit (listed_in old) (now (story old.device)) change (after base m.settled) u catalogue sound.tables mk image is.kept does.holds in
+      let becomes = new_after (size old.device) base m c u on makes in
+      let held : held_by (size old.device) image ≡ holds u =
+      held_is (size old.device) image new.opened.commit (listed_in new) stands ∙ ap held_tables tables in
+      let settles : LeavesOnly (Allows s (settle c m)) s1 = λ i may. inl (ap (held_by (size old.device)) (only_image s1 i does.stands.quiet.pending may) ∙ held ∙ ap holds becomes) in
+      record {
+        next = settle c m;
+        same = sized;
+        goes = record {
+          step = (on, is_accepted (size old.device) base m c u on makes, lt-ltb (now (story old.device)).writes s1.writes does.begun, refl);
+          moments = moments_in carries;
+          settles = settles;
+          quiet = λ no device. absurd (cc no);
+          counts = count;
+          tells = tt;
+          room = carried_out size story base m old sound c change (Ok tt) new.opened.commit (listed_in new) s1 decided
+              (ap (standing whole_reading (size old.device)) (shown_is_synced s1 does.stands.quiet.shown) ∙ stands) carried;
+        };
+        fits = record {
+          phase = sym (ap (λ (b : Bool). if b then halted else running) quiet);
+          started = refl;
+          device = record {
+            in_limits = subst (λ (n : ℕ). is_size n ≡ true) (sym sized) fits.device.in_limits;
+            allows = subst (λ (n : ℕ). LeavesOnly (Allows (setting_of n base) (settle c m)) s1) (sym sized) settles;
+            fresh = λ no. absurd (true≢false no);
+          };
+          sound = λ again. record { stands = does.stands; tables = tables ∙ ap Some becomes; uses = new.uses; none = refl };
+        };
+      }
+    where
+      stands : standing whole_reading (size old.device) (synced_image (now (story new.device))) ≡ rules new.opened.commit (listed_in new)
+      stands = ap (λ (n : ℕ). standing whole_reading n (synced_image (now (story new.device)))) (sym sized) ∙ does.stands.found
+
+      same_rules : rules new.opened.commit (listed_in new) ≡ rules (next_commit old.opened.commit does.holds.text (list_size (outline (listed_in old) change))) (edited (listed_in old) change.edit (placed_segments does.holds.places change.streams change.counts))
+      same_rules = sym stands ∙ does.holds.stands
+
+      listed : listed_in new ≡ edited (listed_in old) change.edit (placed_segments does.holds.places change.streams change.counts)
+      listed = let is = same_rules in cc is
+
+  -- the device failed
+  failed_on : failed new.device ≡ min (failed old.device + 1) (2 ^ 64 - 1) → new.halted ≡ true → IsCarryingAtEachMoment size story old change new → GoesOn size story failed base m (apply_call c) (refused refusals.Device) old new
+  unfolding Step
+  failed_on count stopped carries =
+      let s0 = now (story old.device) in
+      let s1 = now (story new.device) in
+      let wrote = has_written s0 s1 in
+      let next = halt (apply_call c) wrote m in
+      let start : LeavesOnly (Allows s (meanwhile (apply_call c) m (has_written s0 s0))) s0 =
+      subst (λ (b : Bool). LeavesOnly (Allows s (meanwhile (apply_call c) m b)) s0) (sym (not_less s0.writes)) fits.device.allows in
+      let settles : LeavesOnly (Allows s next) s1 =
+      halted_allows wrote s1 (now_has {P = λ d. LeavesOnly (Allows s (meanwhile (apply_call c) m (has_written s0 d))) d} start (moments_in carries)) in
+      record {
+        next = next;
+        same = sized;
+        goes = record {
+          step = (on, refl);
+          moments = moments_in carries;
+          settles = settles;
+          quiet = λ no device. absurd (cc device);
+          counts = count;
+          tells = tt;
+          room = tt;
+        };
+        fits = record {
+          phase = ap (λ (b : Bool). if b then halted else running) (sym stopped);
+          started = fits.started;
+          device = record {
+            in_limits = subst (λ (n : ℕ). is_size n ≡ true) (sym sized) fits.device.in_limits;
+            allows = subst (λ (n : ℕ). LeavesOnly (Allows (setting_of n base) next) s1) (sym sized) settles;
+            fresh = λ no. absurd (true≢false (sym fits.started ∙ no));
+          };
+          sound = λ again. absurd (off_is_on again);
+        };
+      }
+
+  -- it was refused before anything was written
+  refused_on : (r : Refusal) → IsCarried (size old.device) (IsUsedIn old.opened.map.entries) old.opened.commit (listed_in old) change (Err r) old.opened.commit (listed_in old) → r ≢ refusals.Device
+      → failed new.device ≡ failed old.device → new.halted ≡ false → IsKept old new → story new.device ≡ story old.device → GoesOn size story failed base m (apply_call c) (refused r) old new
+  refused_on r carried other count quiet kept same =
+      let stood = refused_goes (size old.device) base m c u on makes old.opened.commit (listed_in old) (IsUsedIn old.opened.map.entries) change (story old.device) (failed old.device) r fits.device.allows carried other
+      (refused_out size story base m old sound c change r decided carried) in
+      let disk : now (story new.device) ≡ now (story old.device) = ap now same in
+      record {
+        next = m;
+        same = sized;
+        goes = subst (λ (t : Story). Goes s m (apply_call c) (refused r) (story old.device) t (failed old.device) (failed new.device) m) (sym same)
+            (subst (λ (n : ℕ). Goes s m (apply_call c) (refused r) (story old.device) (story old.device) (failed old.device) n m) (sym count) stood);
+        fits = record {
+          phase = on ∙ sym (ap (λ (b : Bool). if b then halted else running) quiet);
+          started = fits.started;
+          device = record {
+            in_limits = subst (λ (n : ℕ). is_size n ≡ true) (sym sized) fits.device.in_limits;
+            allows = λ image may. subst (λ (n : ℕ). Allows (setting_of n base) m image) (sym sized) (fits.device.allows image (subst (λ (d : Disk). MayLeave d image) disk may));
+            fresh = λ no. absurd (true≢false (sym fits.started ∙ no));
+          };
+          sound = λ again. record {
+            stands =
+                subst (λ (n : ℕ). Stands whole_reading n (now (story new.device)) new.opened.commit (listed_in new)) (sym sized)
+                (subst (λ (d : Disk). Stands whole_reading (size old.device) d new.opened.commit (listed_in new)) (sym disk)
+                (subst (λ (k : Commit). Stands whole_reading (size old.device) (now (story old.device)) k (listed_in new)) (sym kept.0)
+                (subst (λ (x : PlainCatalogue). Stands whole_reading (size old.device) (now (story old.device)) old.opened.commit x) (sym kept.1) sound.stands)));
+            tables = (λ i. tables_held (synced_image (disk i)) (kept.1 i)) ∙ sound.tables;
+            uses = new.uses;
+            none = sound.none;
+          };
+        };
+      }
+
+  -- however it ended
+  pub carried_goes : (result : Result (Unit {0}) Refusal) → failed new.device ≡ counted (ended result) (failed old.device) → EndsAs size old (Ok change) result new → (new.halted ≡ true) ↔ (result ≡ Err refusals.Device)
+      → IfErr result (λ e. IsKept old new) → IfErr result (λ e. e ≢ refusals.Device → story new.device ≡ story old.device) → IsCarryingAtEachMoment size story old change new → OnOk result (IsCarriedOnDisk size story old change new)
+      → GoesOn size story failed base m (apply_call c) (ended result) old new
+  carried_goes (Ok unit) count carried halts kept quiet carries does = done_on carried count (false_from_ne_true new.halted (λ is. cc (halts.0 is))) carries does
+  carried_goes (Err refusals.Device) count carried halts kept quiet carries does = failed_on count (halts.1 refl) carries
+  carried_goes (Err (refusals.TooMany limits.Epochs)) count carried halts kept quiet carries does = refused_on (refusals.TooMany limits.Epochs) carried epochs_work count (false_from_ne_true new.halted (λ is. cc (halts.0 is))) kept (quiet epochs_work)
+  carried_goes (Err (refusals.TooMany limits.Segments)) count carried halts kept quiet carries does = refused_on (refusals.TooMany limits.Segments) carried segments_work count (false_from_ne_true new.halted (λ is. cc (halts.0 is))) kept (quiet segments_work)
+  carried_goes (Err (refusals.NoRoom n)) count carried halts kept quiet carries does = refused_on (refusals.NoRoom n) carried (room_works n) count (false_from_ne_true new.halted (λ is. cc (halts.0 is))) kept (quiet (room_works n))
+  carried_goes (Err refusals.OutOfMemory) count carried halts kept quiet carries does = refused_on refusals.OutOfMemory carried memory_works count (false_from_ne_true new.halted (λ is. cc (halts.0 is))) kept (quiet memory_works)
+  carried_goes (Err _) count carried halts kept quiet carries does = absurd carried

@@ -1,0 +1,52 @@
+-- Segments that are exchanged for others with the same rows leave the tables as they are.
+use Rattle.std.specs.Prelude.{◌≡◌, ◌++◌, ℕ, Bool, true, false, List, [], ◌∷◌, take, drop, Option, Some, None, if◌then◌else◌, refl}
+use Rattle.std.proofs.Common.{sym, ap, ◌∙◌, take-append-drop}
+use Rattle.std.specs.Str.{bytes_eq}
+use Rattle.sector_dev.specs.Disk.{Image}
+use Rattle.arrow_schema.specs.Column.{PlainSchema}
+use Rattle.cells.specs.Cell.{Cell}
+use Rattle.catalogue.specs.declared.entry.Segment.{Segment}
+use Rattle.catalogue.specs.Entries.{PlainEntry, PlainCatalogue}
+use Rattle.catalogue.specs.Edits.{entry_of, with_segments}
+use Rattle.store.specs.Held.{joined_rows, rows_held, table_of_rows, table_held, with_held, tables_held}
+use Rattle.store.specs.Changes.{new_entry}
+use Rattle.store.specs.Exchanging.{from_place, with_others, with_exchanged, HoldsSame}
+use Rattle.store.specs.laws.Changed.{rows_behind}
+
+module _ (image : Image) where
+  -- the rows of all
+  same_rows : (schema : PlainSchema) (segments others : List Segment) (place count : ℕ) → rows_held schema others image ≡ rows_held schema (from_place segments place count) image
+      → rows_held schema (with_others segments place count others) image ≡ rows_held schema segments image
+  same_rows schema segments others place count same =
+      let front = take place segments in
+      let rest = drop count (drop place segments) in
+      let parted : from_place segments place count ++ rest ≡ drop place segments = take-append-drop count (drop place segments) in
+      rows_behind schema front (others ++ rest) image
+      ∙ ap (joined_rows (rows_held schema front image))
+      (rows_behind schema others rest image ∙ ap (λ (o : Option (List (List Cell))). joined_rows o (rows_held schema rest image)) same
+      ∙ sym (rows_behind schema (from_place segments place count) rest image) ∙ ap (λ (ss : List Segment). rows_held schema ss image) parted)
+      ∙ sym (rows_behind schema front (drop place segments) image)
+      ∙ ap (λ (ss : List Segment). rows_held schema ss image) (take-append-drop place segments)
+
+  -- the tables of a catalogue
+  same_with : (c : PlainCatalogue) (name : List ℕ) (e : PlainEntry) (segments : List Segment) → entry_of c name ≡ Some e → rows_held e.schema segments image ≡ rows_held e.schema e.segments image
+      → tables_held image (with_segments c name segments) ≡ tables_held image c
+  unfolding tables_held
+  same_with [] name e segments found same = refl
+  same_with (x ∷ xs) name e segments found same = by_name (bytes_eq x.name name) found (λ h. same_with xs name e segments h same)
+    where
+      by_name : (b : Bool) → (if b then Some x else entry_of xs name) ≡ Some e → (entry_of xs name ≡ Some e → tables_held image (with_segments xs name segments) ≡ tables_held image xs)
+          → tables_held image (if b then record { name = x.name; schema = x.schema; segments = segments } ∷ xs else x ∷ with_segments xs name segments) ≡ tables_held image (x ∷ xs)
+      by_name true h later =
+          let is : x ≡ e = cc h in
+          let rows : rows_held x.schema segments image ≡ rows_held x.schema x.segments image =
+          ap (λ (y : PlainEntry). rows_held y.schema segments image) is ∙ same ∙ ap (λ (y : PlainEntry). rows_held y.schema y.segments image) (sym is) in
+          ap (λ (o : Option (List (List Cell))). with_held x.name (table_of_rows x.schema o) (tables_held image xs)) rows
+      by_name false h later = ap (with_held x.name (table_held image x)) (later h)
+
+  pub exchanged_held : (c : PlainCatalogue) (name : List ℕ) (place count : ℕ) (others : List Segment) → HoldsSame image c name place count others
+      → tables_held image (with_exchanged c name place count others) ≡ tables_held image c
+  exchanged_held c name place count others has =
+      let e = has.entry in
+      ap (λ (o : Option PlainEntry). tables_held image (elim o [ None ↦ c | Some x ↦ with_segments c name (with_others x.segments place count others) ])) has.found
+      ∙ same_with c name e (with_others e.segments place count others) has.found (same_rows e.schema e.segments others place count has.same)
