@@ -3,3 +3,4 @@ pub mod Values
 pub mod Written
 pub mod Entries
 pub mod Pieces
+mod Joined

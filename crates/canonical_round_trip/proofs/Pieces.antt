@@ -176,16 +176,20 @@ pieces_read law s batches before (p ∷ ps) passes each table =
     subst (λ (rows : List (List Cell)). Reads supported_codes (Some (known_with s batches before)) (known_with s last rows) (piece_messages s p ++ flat_map (piece_messages s) ps)) same
     (both_read supported_codes (Some (known_with s batches before)) (known_with s now (before ++ p)) (known_with s last ((before ++ p) ++ joined ps)) (piece_messages s p) (flat_map (piece_messages s) ps) first others)
 
+-- pieces one after another, however they were cut, mean their rows
+pub pieces_mean : Laws → (s : PlainSchema) (ps : List (List (List Cell))) → AllByRecursion (IsPieceOf s) ps → IsTable (plain_table s (joined ps))
+    → meaning supported_codes (schema_message s ++ (flat_map (piece_messages s) ps ++ end_of_stream)) ≡ Ok (plain_table s (joined ps))
+pieces_mean law s ps each table =
+    let passes : Passes s = schema_passes s (law.schema.checked s table.schema) in
+    let pieces : List ℕ = flat_map (piece_messages s) ps in
+    let last : Known = known_with s (batches_after s [] ps) (joined ps) in
+    let all = both_read supported_codes None (known_with s [] []) last (schema_message s) pieces (schema_reads law.schema s table.schema passes) (pieces_read law s [] [] ps passes each table) in
+    ap (meaning supported_codes) (sym (append_assoc (schema_message s) pieces end_of_stream))
+    ∙ whole_means supported_codes (schema_message s ++ pieces) last all
+
 pub table_means : Laws → (t : PlainTable) → AllByRecursion (IsPieceOf t.schema) (pieces_of t) → IsTable t → meaning supported_codes (canonical t) ≡ Ok t
 unfolding canonical
 table_means law t each table =
-    let s : PlainSchema = t.schema in
-    let passes : Passes s = schema_passes s (law.schema.checked s table.schema) in
-    let whole : joined (pieces_of t) ≡ t.rows = pieces_joined (within_piece s) t.rows in
-    let joined_table : IsTable (plain_table s (joined (pieces_of t))) = subst (λ (rows : List (List Cell)). IsTable (plain_table s rows)) (sym whole) table in
-    let pieces : List ℕ = flat_map (piece_messages s) (pieces_of t) in
-    let last : Known = known_with s (batches_after s [] (pieces_of t)) (joined (pieces_of t)) in
-    let all = both_read supported_codes None (known_with s [] []) last (schema_message s) pieces (schema_reads law.schema s table.schema passes) (pieces_read law s [] [] (pieces_of t) passes each joined_table) in
-    ap (meaning supported_codes) (sym (append_assoc (schema_message s) pieces end_of_stream))
-    ∙ whole_means supported_codes (schema_message s ++ pieces) last all
-    ∙ ap (λ (rows : List (List Cell)). Ok (plain_table s rows)) whole
+    let whole : joined (pieces_of t) ≡ t.rows = pieces_joined (within_piece t.schema) t.rows in
+    let joined_table : IsTable (plain_table t.schema (joined (pieces_of t))) = subst (λ (rows : List (List Cell)). IsTable (plain_table t.schema rows)) (sym whole) table in
+    pieces_mean law t.schema (pieces_of t) each joined_table ∙ ap (λ (rows : List (List Cell)). Ok (plain_table t.schema rows)) whole

@@ -3,4 +3,4 @@
 
 mod laws;
 
-pub use laws::canonical_means_its_table;
+pub use laws::{canonical_means_its_table, joined_parts_mean_their_table};

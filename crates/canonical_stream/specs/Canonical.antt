@@ -1,6 +1,6 @@
 -- The one stream that a table of any types is written as: its schema; for each piece of its rows its dictionaries and then its record batch; and the end
 -- of stream.
-use Rattle.std.specs.Prelude.{ℕ, ◌+◌, false, List, [], ◌∷◌, ◌++◌, length}
+use Rattle.std.specs.Prelude.{ℕ, ◌+◌, false, List, [], ◌∷◌, ◌++◌, length, map}
 use Rattle.std.specs.List.{flat_map}
 use Rattle.arrow_schema.specs.Column.{Columns, columns_of, PlainSchema}
 use Rattle.cells.specs.Cell.{Cell, PlainTable}
@@ -34,3 +34,11 @@ piece_messages s rows = arrays_messages (columns_of s.columns) (built_parts (col
 
 unfoldable pub canonical : PlainTable → List ℕ
 canonical t = schema_message t.schema ++ (flat_map (piece_messages t.schema) (pieces_of t) ++ end_of_stream)
+
+-- the messages of some rows: those of the pieces that they make by themselves
+unfoldable pub rows_messages : PlainSchema → List (List Cell) → List ℕ
+rows_messages s rows = flat_map (piece_messages s) (pieces_of (record { schema = s; rows = rows }))
+
+-- the parts of a stream whose rows come one list after another: the message of the schema, the messages of each list, and the end of stream
+abbrev pub stream_parts : PlainSchema → List (List (List Cell)) → List (List ℕ)
+stream_parts s lists = schema_message s ∷ (map (rows_messages s) lists ++ end_of_stream ∷ [])
