@@ -13,8 +13,8 @@ use Rattle.store.specs.declared.call.Place.{Place}
 use Rattle.store.specs.declared.call.Place.TheVariants as places
 use Rattle.store.specs.declared.store.Store.{Store}
 use Rattle.commit.specs.declared.opening_refusal.OpeningRefusal.{OpeningRefusal}
-use Rattle.store.specs.Calls.{PlainCall, needs_store, apply_call, format_call, open_call, close_call, tables_call, schema_call, read_call, export_call, PlainReply, done, refused, shut_by}
-use Rattle.store.specs.Machine.{Setting, Machine, Phase, shut, running, halted, shut_down, Allows, AllowsEach}
+use Rattle.store.specs.Calls.{PlainCall, needs_store, apply_call, format_call, open_call, close_call, tables_call, schema_call, read_call, export_call, stream_call, open_export_call, export_next_call, close_export_call, compact_call, PlainReply, done, refused, shut_by}
+use Rattle.store.specs.Machine.{pinned_by, Setting, Machine, Phase, shut, running, halted, shut_down, Allows, AllowsEach}
 use Rattle.store.specs.Steps.{Step}
 use Rattle.store.specs.Runs.{Goes}
 use Rattle.store.specs.Fits.{setting_of, StoreFits, Opens, Shuts}
@@ -44,6 +44,11 @@ halted_step s m tables_call n needs is = (not_running m.phase is, (not_less n, r
 halted_step s m (schema_call name) n needs is = (not_running m.phase is, (not_less n, refl))
 halted_step s m (read_call name) n needs is = (not_running m.phase is, (not_less n, refl))
 halted_step s m (export_call name) n needs is = (not_running m.phase is, (not_less n, refl))
+halted_step s m (stream_call c) n needs is = (not_running m.phase is, (not_less n, refl))
+halted_step s m (open_export_call name) n needs is = (not_running m.phase is, (not_less n, refl))
+halted_step s m (export_next_call id) n needs is = (not_running m.phase is, (not_less n, refl))
+halted_step s m (close_export_call id) n needs is = (not_running m.phase is, (not_less n, refl))
+halted_step s m compact_call n needs is = (not_running m.phase is, (not_less n, refl))
 
 -- where no store is open such a call is refused, and nothing happens
 pub refused_shut : (s : Setting) (m : Machine) (call : PlainCall) (story : Story) (failed : ℕ) → needs_store call ≡ true → m.phase ≡ shut → LeavesOnly (Allows s m) (now story)
@@ -56,7 +61,7 @@ refused_shut s m call story failed needs is allows =
       quiet = λ no quiet. refl;
       counts = refl;
       tells = tt;
-      room = refused_elsewhere s call refusals.Halted (now story) (now story) (λ is. cc is);
+      room = refused_elsewhere s (pinned_by m) call refusals.Halted (now story) (now story) (λ is. cc is);
     }
 
 -- a closing

@@ -25,7 +25,7 @@ use Rattle.store.specs.Calls.{apply_call, PlainReply, refused, is_failure, is_de
 use Rattle.store.specs.Changes.{PlainChange}
 use Rattle.store.specs.Deciding.{IsDecided}
 use Rattle.store.specs.Held.{whole_reading}
-use Rattle.store.specs.Machine.{Setting, Machine, running, halted, tables_now, has_written, AllowsEach}
+use Rattle.store.specs.Machine.{pinned_by, Setting, Machine, running, halted, tables_now, has_written, AllowsEach}
 use Rattle.store.specs.Reading.{OnlyReadsStore, ended}
 use Rattle.store.specs.Runs.{Goes, TellsFound, TellsRoom}
 use Rattle.store.specs.Steps.{Step, RefusesFrom}
@@ -140,7 +140,7 @@ module _ {D : Type 0} {g : Ghosts D} (size : D → ℕ) (story : D → Story) (f
       stays_by o is none other step =
           let quiet : is_failure r ≡ false = failure_origin r ∙ ap is_by_device is ∙ none in
           stays_reading size story failed base m tells told old new fits (apply_call c) (refused r) (refused r) quiet quiet tt
-          (refused_elsewhere s (apply_call c) r (now (story old.device)) (now (story new.device)) (λ room. other (sym is ∙ room))) (subst (λ (x : Origin). RefusesFrom x s m c r false m) (sym is) step) reads
+          (refused_elsewhere s (pinned_by m) (apply_call c) r (now (story old.device)) (now (story new.device)) (λ room. other (sym is ∙ room))) (subst (λ (x : Origin). RefusesFrom x s m c r false m) (sym is) step) reads
 
       by_origin : (o : Origin) → origin_of r ≡ o → GoesOn size story failed base m (apply_call c) (refused r) old new
       by_origin by_tables is = stays_by by_tables is refl (λ room. cc room) (running_is, moved by_tables is, (refl, refl))
@@ -173,7 +173,7 @@ module _ {D : Type 0} {g : Ghosts D} (size : D → ℕ) (story : D → Story) (f
           quiet = λ no device. own.quiet no device ∙ later;
           counts = own.counts ∙ ap (counted reply) (reads.device.count ∙ ap (λ (b : Bool). if b then min (failed old.device + 1) (2 ^ 64 - 1) else failed old.device) quiet);
           tells = found;
-          room = subst (λ (d : Disk). TellsRoom s (apply_call c) reply d (now (story new.device))) later own.room;
+          room = subst (λ (d : Disk). TellsRoom s (pinned_by m) (apply_call c) reply d (now (story new.device))) later own.room;
         };
         fits = goes.fits;
       }

@@ -1,17 +1,18 @@
 -- A call that asks the catalogue in memory is a call of the machine that changes nothing.
-use Rattle.std.specs.Prelude.{◌≡◌, ◌≢◌, ◌+◌, ◌-◌, ◌^◌, ℕ, min, Bool, true, false, nat_lt, Result, Err, IfErr, if◌then◌else◌, refl}
+use Rattle.std.specs.Prelude.{◌≡◌, ◌≢◌, ◌+◌, ◌-◌, ◌^◌, ℕ, min, Bool, true, false, nat_lt, List, Result, Err, IfErr, if◌then◌else◌, refl}
 use Rattle.std.proofs.Common.{ap, sym, ◌∙◌, subst, arith}
 use Rattle.std.proofs.lemmas.Bool.Decides.{nat_tests}
 use Rattle.sector_dev.specs.Disk.{Disk, Story, now}
 use Rattle.sector_dev.specs.laws.Time.{stays}
 use Rattle.sector_dev.specs.declared.device.SectorDevice.{Ghosts}
+use Rattle.segments.specs.declared.run.Run.{Run}
 use Rattle.tables.specs.Tables.{Tables}
 use Rattle.tables.specs.declared.refusal.Refusal.{Refusal}
 use Rattle.tables.specs.Refusals.{Origin, by_tables, by_room, by_memory, by_device, by_halt, elsewhere, origin_of}
 use Rattle.tables.specs.Commands.{PlainCommand}
 use Rattle.store.specs.declared.store.Store.{Store}
-use Rattle.store.specs.Calls.{PlainCall, apply_call, format_call, open_call, close_call, tables_call, schema_call, read_call, export_call, PlainReply, refused, is_device_reply}
-use Rattle.store.specs.Machine.{Setting, Phase, running, halted, Machine, AllowsEach}
+use Rattle.store.specs.Calls.{PlainCall, apply_call, format_call, open_call, close_call, tables_call, schema_call, read_call, export_call, stream_call, open_export_call, export_next_call, close_export_call, compact_call, PlainReply, refused, is_device_reply}
+use Rattle.store.specs.Machine.{Setting, Phase, running, halted, Machine, AllowsEach, pinned_by}
 use Rattle.store.specs.Steps.{Step}
 use Rattle.store.specs.Runs.{TellsFound, RoomFrom, TellsRoom}
 use Rattle.store.specs.Fits.{setting_of, StoreFits}
@@ -32,28 +33,33 @@ pub told_of : {T : Type 0} (r : Result T Refusal) (e : Refusal) (P : Refusal →
 told_of r e P is p = subst (λ x. IfErr x P) (sym is) p
 
 -- a call that is refused for another reason than room
-no_room_asked : (o : Origin) (size : ℕ) (before after : Disk) (c : PlainCommand) (r : Refusal) → o ≢ by_room → RoomFrom o size before after c r
-no_room_asked by_tables size before after c r other = tt
-no_room_asked by_room size before after c r other = absurd (other refl)
-no_room_asked by_memory size before after c r other = tt
-no_room_asked by_device size before after c r other = tt
-no_room_asked by_halt size before after c r other = tt
-no_room_asked elsewhere size before after c r other = tt
+no_room_asked : (o : Origin) (size : ℕ) (pinned : List Run) (before after : Disk) (c : PlainCommand) (r : Refusal) → o ≢ by_room → RoomFrom o size pinned before after c r
+no_room_asked by_tables size pinned before after c r other = tt
+no_room_asked by_room size pinned before after c r other = absurd (other refl)
+no_room_asked by_memory size pinned before after c r other = tt
+no_room_asked by_device size pinned before after c r other = tt
+no_room_asked by_halt size pinned before after c r other = tt
+no_room_asked elsewhere size pinned before after c r other = tt
 
-pub refused_elsewhere : (s : Setting) (call : PlainCall) (r : Refusal) (before after : Disk) → origin_of r ≢ by_room → TellsRoom s call (refused r) before after
-refused_elsewhere s (apply_call c) r before after other = no_room_asked (origin_of r) s.size before after c r other
-refused_elsewhere s format_call r before after other = tt
-refused_elsewhere s open_call r before after other = tt
-refused_elsewhere s close_call r before after other = tt
-refused_elsewhere s tables_call r before after other = tt
-refused_elsewhere s (schema_call name) r before after other = tt
-refused_elsewhere s (read_call name) r before after other = tt
-refused_elsewhere s (export_call name) r before after other = tt
+pub refused_elsewhere : (s : Setting) (pinned : List Run) (call : PlainCall) (r : Refusal) (before after : Disk) → origin_of r ≢ by_room → TellsRoom s pinned call (refused r) before after
+refused_elsewhere s pinned (apply_call c) r before after other = no_room_asked (origin_of r) s.size pinned before after c r other
+refused_elsewhere s pinned format_call r before after other = tt
+refused_elsewhere s pinned open_call r before after other = tt
+refused_elsewhere s pinned close_call r before after other = tt
+refused_elsewhere s pinned tables_call r before after other = tt
+refused_elsewhere s pinned (schema_call name) r before after other = tt
+refused_elsewhere s pinned (read_call name) r before after other = tt
+refused_elsewhere s pinned (export_call name) r before after other = tt
+refused_elsewhere s pinned (stream_call c) r before after other = no_room_asked (origin_of r) s.size pinned before after c r other
+refused_elsewhere s pinned (open_export_call name) r before after other = tt
+refused_elsewhere s pinned (export_next_call id) r before after other = tt
+refused_elsewhere s pinned (close_export_call id) r before after other = tt
+refused_elsewhere s pinned compact_call r before after other = tt
 
 -- a step that writes nothing, of a store that stays as it is
 pub still : {D : Type 0} {g : Ghosts D} (size : D → ℕ) (story : D → Story) (failed : D → ℕ) (base : Tables) (m : Machine) (call : PlainCall) (reply : PlainReply) (store : Store D g)
     → Step (setting_of (size store.device) base) m call reply false m → is_device_reply reply ≡ false → StoreFits size story base m store
-    → TellsFound (setting_of (size store.device) base) reply (now (story store.device)) → TellsRoom (setting_of (size store.device) base) call reply (now (story store.device)) (now (story store.device))
+    → TellsFound (setting_of (size store.device) base) reply (now (story store.device)) → TellsRoom (setting_of (size store.device) base) (pinned_by m) call reply (now (story store.device)) (now (story store.device))
     → GoesOn size story failed base m call reply store store
 still size story failed base m call reply store step answered fits tells room =
     let s = setting_of (size store.device) base in

@@ -34,7 +34,7 @@ use Rattle.tables.specs.Verdict.{verdict, after}
 use Rattle.tables.specs.laws.Steps.{accepted, after_one_more}
 use Rattle.store.specs.declared.stored.StoredCatalogue.{StoredCatalogue}
 use Rattle.store.specs.Calls.{apply_call, done, refused, counted}
-use Rattle.store.specs.Machine.{holds, Machine, running, tables_now, Allows, AllowsEach, meanwhile, has_written, settle, halt}
+use Rattle.store.specs.Machine.{pinned_by, holds, Machine, running, tables_now, Allows, AllowsEach, meanwhile, has_written, settle, halt}
 use Rattle.store.specs.Steps.{Step, RefusesFrom}
 use Rattle.store.specs.Runs.{Goes}
 use Rattle.store.specs.Held.{whole_reading, tables_held, held_tables, held_by}
@@ -75,7 +75,7 @@ module _ (size : ℕ) (base : Tables) (m : Machine) (c : PlainCommand) (new : Ta
     refused_step s0 _ carried other = absurd carried
 
     pub refused_goes : (s0 : Story) (failed : ℕ) (r : Refusal) → LeavesOnly (Allows (setting_of size base) m) (now s0) → IsCarried size used k was change (Err r) k was → r ≢ refusals.Device
-        → IsCarriedOut size (now s0) (now s0) c (Err r) → Goes (setting_of size base) m (apply_call c) (refused r) s0 s0 failed failed m
+        → IsCarriedOut size (pinned_by m) (now s0) (now s0) c (Err r) → Goes (setting_of size base) m (apply_call c) (refused r) s0 s0 failed failed m
     unfolding Step
     refused_goes s0 failed r allows carried other ended = record {
       step = refused_step s0 r carried other;
@@ -84,7 +84,7 @@ module _ (size : ℕ) (base : Tables) (m : Machine) (c : PlainCommand) (new : Ta
       quiet = λ no device. refl;
       counts = uncounted r failed other;
       tells = tt;
-      room = room_by (origin_of r) size (now s0) (now s0) c r ended;
+      room = room_by (origin_of r) size (pinned_by m) (now s0) (now s0) c r ended;
     }
 
 -- what the disk holds of a change

@@ -196,7 +196,7 @@ module _ {D : Type 0} {g : Ghosts D} (size : D → ℕ) (story : D → Story) (f
             allows = subst (λ (n : ℕ). LeavesOnly (Allows (setting_of n base) (settle c m)) s1) (sym sized) settles;
             fresh = λ no. absurd (true≢false no);
           };
-          sound = λ again. record { stands = does.stands; tables = tables ∙ ap Some becomes; uses = new.uses; none = refl };
+          sound = λ again. record { stands = does.stands; tables = tables ∙ ap Some becomes; uses = new.uses; none = refl; none_open = sound.none_open };
         };
       }
     where
@@ -274,6 +274,7 @@ module _ {D : Type 0} {g : Ghosts D} (size : D → ℕ) (story : D → Story) (f
             tables = (λ i. tables_held (synced_image (disk i)) (kept.1 i)) ∙ sound.tables;
             uses = new.uses;
             none = sound.none;
+            none_open = sound.none_open;
           };
         };
       }

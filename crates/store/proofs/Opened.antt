@@ -1,6 +1,6 @@
 -- What an opening finds is what the machine allows.
 use Rattle.std.proofs.Common.{◌≡◌, ◌⊎◌, inl, inr, ℕ, Bool, true, false, ◌&&◌, ◌≢◌, Option, Some, None, refl, sym, ap, ◌∙◌, subst}
-use Rattle.std.specs.Prelude.{Result, Ok, Err}
+use Rattle.std.specs.Prelude.{[], Result, Ok, Err}
 use Rattle.sector_dev.specs.Disk.{Disk, Story, Image, now, MayLeave, ShowsImage, shown_image, synced_image, flushed}
 use Rattle.sector_dev.specs.Time.{Grows, LeavesOnly}
 use Rattle.sector_dev.specs.laws.Time.{weaken, now_has}
@@ -68,12 +68,12 @@ pub synced_then : (s0 s1 : Story) (c : PlainCatalogue) (t : Option Tables) → n
 unfolding flushed
 synced_then s0 s1 c t synced is = ap (λ (d : Disk). tables_held (synced_image d) c) synced ∙ is
 
-pub runs_then : (base : Tables) (m : Machine) (found : Option Tables) (f : Finds base m found) → (f.next.phase ≡ running) × (f.next.started ≡ true) × (f.next.doubt ≡ None)
+pub runs_then : (base : Tables) (m : Machine) (found : Option Tables) (f : Finds base m found) → (f.next.phase ≡ running) × (f.next.started ≡ true) × (f.next.doubt ≡ None) × (f.next.exports ≡ [])
 runs_then base m found f = by_choice f.is
   where
-    by_choice : (f.next ≡ opened m.settled) ⊎ (f.next ≡ opened (with_doubt m.settled m.doubt)) → (f.next.phase ≡ running) × (f.next.started ≡ true) × (f.next.doubt ≡ None)
-    by_choice (inl is) = (ap (λ (k : Machine). k.phase) is, ap (λ (k : Machine). k.started) is, ap (λ (k : Machine). k.doubt) is)
-    by_choice (inr is) = (ap (λ (k : Machine). k.phase) is, ap (λ (k : Machine). k.started) is, ap (λ (k : Machine). k.doubt) is)
+    by_choice : (f.next ≡ opened m.settled) ⊎ (f.next ≡ opened (with_doubt m.settled m.doubt)) → (f.next.phase ≡ running) × (f.next.started ≡ true) × (f.next.doubt ≡ None) × (f.next.exports ≡ [])
+    by_choice (inl is) = (ap (λ (k : Machine). k.phase) is, ap (λ (k : Machine). k.started) is, ap (λ (k : Machine). k.doubt) is, ap (λ (k : Machine). k.exports) is)
+    by_choice (inr is) = (ap (λ (k : Machine). k.phase) is, ap (λ (k : Machine). k.started) is, ap (λ (k : Machine). k.doubt) is, ap (λ (k : Machine). k.exports) is)
 
 module _ (size : ℕ) (base : Tables) (m : Machine) where
   pub found_tables : (image : Image) (k : Commit) (c : PlainCatalogue) → Allows (setting_of size base) m image → standing whole_reading size image ≡ rules k c → Finds base m (tables_held image c)

@@ -24,7 +24,7 @@ use Rattle.tables.specs.Tables.{Tables, table_at}
 use Rattle.tables.specs.Verdict.{after}
 use Rattle.store.specs.declared.store.Store.{Store}
 use Rattle.store.specs.Calls.{PlainCall, read_call, export_call, PlainReply, refused, is_device_reply, may_be_done}
-use Rattle.store.specs.Machine.{Setting, Machine, running, halted, halt, meanwhile, has_written, tables_now, Allows, AllowsEach}
+use Rattle.store.specs.Machine.{pinned_by, Setting, Machine, running, halted, halt, meanwhile, has_written, tables_now, Allows, AllowsEach}
 use Rattle.store.specs.Steps.{Step, Stays, RefusesReading}
 use Rattle.store.specs.Runs.{TellsFound, TellsRoom}
 use Rattle.store.specs.Held.{whole_reading, tables_held, table_held}
@@ -80,6 +80,7 @@ module _ {D : Type 0} {g : Ghosts D} (size : D → ℕ) (story : D → Story) (f
         tables = (λ i. tables_held (synced_image (later i)) (catalogue_of (reads.kept i).catalogue.list)) ∙ sound.tables;
         uses = subst (λ (o : Opened StoredCatalogue). Uses o.map.entries (used_runs whole_reading o.commit (catalogue_of o.catalogue.list)) []) (sym reads.kept) sound.uses;
         none = sound.none;
+        none_open = sound.none_open;
       }
 
   device_after : (next : Machine) (ends : PlainReply) → OnlyReadsStore size story failed tells ends old new → (next.started ≡ m.started) × (next.settled ≡ m.settled) × (next.doubt ≡ m.doubt) → LeavesOnly (Allows own next) (now (story new.device))
@@ -105,7 +106,7 @@ module _ {D : Type 0} {g : Ghosts D} (size : D → ℕ) (story : D → Story) (f
 
   -- where the device does not fail
   pub stays_reading : (call : PlainCall) (reply ends : PlainReply) → is_device_reply ends ≡ false → is_device_reply reply ≡ false → TellsFound own reply (now (story old.device))
-      → TellsRoom own call reply (now (story old.device)) (now (story new.device)) → Step own m call reply false m → OnlyReadsStore size story failed tells ends old new → GoesOn size story failed base m call reply old new
+      → TellsRoom own (pinned_by m) call reply (now (story old.device)) (now (story new.device)) → Step own m call reply false m → OnlyReadsStore size story failed tells ends old new → GoesOn size story failed base m call reply old new
   stays_reading call reply ends quiet answered found room step reads =
       let moments = reads.device.moments told in
       let later : now (story new.device) ≡ now (story old.device) = now_read (story old.device) (story new.device) moments in
@@ -145,7 +146,7 @@ module _ {D : Type 0} {g : Ghosts D} (size : D → ℕ) (story : D → Story) (f
           quiet = λ no device. later;
           counts = reads.device.count;
           tells = tt;
-          room = refused_elsewhere own call refusals.Device (now (story old.device)) (now (story new.device)) (λ is. cc is);
+          room = refused_elsewhere own (pinned_by m) call refusals.Device (now (story old.device)) (now (story new.device)) (λ is. cc is);
         };
         fits = record {
           phase = ap (λ (b : Bool). if b then halted else running) (sym halts);
@@ -181,8 +182,8 @@ module _ {D : Type 0} {g : Ghosts D} (size : D → ℕ) (story : D → Story) (f
       → RefusesRead old.halted tells (shown_image (now (story old.device))) (entry_of (listed_in old) name) r → OnlyReadsStore size story failed tells (refused r) old new → GoesOn size story failed base m call (refused r) old new
   refused_reading laws catalogue call name step r refuses reads = by_state old.halted (entry_of (listed_in old) name) refl refl refuses
     where
-      elsewhere_told : (q : Refusal) → origin_of q ≢ by_room → TellsRoom own call (refused q) (now (story old.device)) (now (story new.device))
-      elsewhere_told q other = refused_elsewhere own call q (now (story old.device)) (now (story new.device)) other
+      elsewhere_told : (q : Refusal) → origin_of q ≢ by_room → TellsRoom own (pinned_by m) call (refused q) (now (story old.device)) (now (story new.device))
+      elsewhere_told q other = refused_elsewhere own (pinned_by m) call q (now (story old.device)) (now (story new.device)) other
 
       on : old.halted ≡ false → m.phase ≡ running
       on h = is_running m.phase old.halted fits.phase h

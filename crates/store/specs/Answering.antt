@@ -132,6 +132,8 @@ AnswersOpen size story failed tells old (read_call name) reply new =
 AnswersOpen size story failed tells old (export_call name) reply new =
     AnswersExport (is_halted old) tells (shown_image (now (story (device_of old)))) (entry_of (listed_in old) name) reply
     × IsOpenWith (λ store. OnlyReadsStore size story failed tells reply old store) new
+-- the others are not asked of a place yet
+AnswersOpen size story failed tells old _ reply new = ⊥
 
 -- ---- calls of a place
 

@@ -17,6 +17,13 @@ pub data PlainCall : Type 0 where
   schema_call : (name : List ℕ) → PlainCall
   read_call : (name : List ℕ) → PlainCall
   export_call : (name : List ℕ) → PlainCall
+  -- a command whose bytes come from a reader
+  stream_call : PlainCommand → PlainCall
+  open_export_call : (name : List ℕ) → PlainCall
+  export_next_call : (id : ℕ) → PlainCall
+  close_export_call : (id : ℕ) → PlainCall
+  -- one step of a compaction
+  compact_call : PlainCall
 
 pub data PlainReply : Type 0 where
   -- a command, a formatting, an opening or a closing that was done
@@ -27,6 +34,14 @@ pub data PlainReply : Type 0 where
   table_is : PlainTable → PlainReply
   -- the bytes of a stream
   bytes_are : List ℕ → PlainReply
+  -- the id of an export
+  export_is : ℕ → PlainReply
+  -- its next piece, none behind the last one
+  piece_is : Option (List ℕ) → PlainReply
+  -- two segments became one, one lies elsewhere, and there is nothing to do
+  merged : PlainReply
+  moved : PlainReply
+  nothing : PlainReply
   refused : Refusal → PlainReply
   -- a formatting or an opening that was refused: the place is shut
   shut_by : OpeningRefusal → PlainReply
@@ -34,6 +49,7 @@ pub data PlainReply : Type 0 where
 -- the command that a call carries out
 abbrev pub command_in : PlainCall → Option PlainCommand
 command_in (apply_call c) = Some c
+command_in (stream_call c) = Some c
 command_in _ = None
 
 -- the device failed: no other answer counts a failure
@@ -59,6 +75,7 @@ may_be_done _ = false
 -- a call that may write or sync where it is done
 abbrev pub may_change : PlainCall → Bool
 may_change (apply_call c) = true
+may_change (stream_call c) = true
 may_change format_call = true
 may_change open_call = true
 may_change _ = false
@@ -72,6 +89,8 @@ needs_store _ = true
 -- whether a call was done that may write or sync
 abbrev pub is_change : PlainCall → PlainReply → Bool
 is_change call done = may_change call
+is_change call merged = true
+is_change call moved = true
 is_change call _ = false
 
 -- a call that failed by its device counts one failure more, up to the greatest number; no other call counts one

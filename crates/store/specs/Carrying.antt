@@ -1,5 +1,5 @@
 -- How a change of a catalogue is carried out: which runs it asks for, and how it ends.
-use Rattle.std.specs.Prelude.{◌≡◌, ◌<◌, ◌≤◌, ◌-◌, ◌^◌, ◌++◌, ℕ, true, List, [], ◌∷◌, length, map, Result, Ok, Err}
+use Rattle.std.specs.Prelude.{◌≡◌, ◌<◌, ◌≤◌, ◌-◌, ◌^◌, ◌++◌, ◌||◌, ℕ, true, List, [], ◌∷◌, length, map, Result, Ok, Err}
 use Rattle.sector_dev.specs.Disk.{Disk, shown_image}
 use Rattle.segments.specs.Sectors.{sector_count}
 use Rattle.segments.specs.declared.run.Run.{Run}
@@ -55,12 +55,12 @@ IsCarried size used k c change (Err refusals.Device) k' c' =
 IsCarried size used k c change (Err refusals.OutOfMemory) k' c' = Unit {0}
 IsCarried size used k c change (Err _) k' c' = ⊥
 
--- a run is that of the catalogue's text, or one that the catalogue names
-abbrev pub IsRuling : Commit → PlainCatalogue → Run → Type 0
-IsRuling k c run = is_among (used_runs whole_reading k c) run ≡ true
+-- a run is that of the catalogue's text, one that the catalogue names, or pinned by an open export
+abbrev pub IsInUse : Commit → PlainCatalogue → (pinned : List Run) → Run → Type 0
+IsInUse k c pinned run = (is_among (used_runs whole_reading k c) run || is_among pinned run) ≡ true
 
 -- how a command ended that is decided as a change, by what reads showed when it was called, and what they show after it
-pub record IsCarriedOut (size : ℕ) (before after : Disk) (command : PlainCommand) (result : Result (Unit {0}) Refusal) : Type 0 where
+pub record IsCarriedOut (size : ℕ) (pinned : List Run) (before after : Disk) (command : PlainCommand) (result : Result (Unit {0}) Refusal) : Type 0 where
   pub commit : Commit
   pub catalogue : PlainCatalogue
   pub stood : standing whole_reading size (shown_image before) ≡ rules commit catalogue
@@ -69,4 +69,4 @@ pub record IsCarriedOut (size : ℕ) (before after : Disk) (command : PlainComma
   pub new_commit : Commit
   pub new_catalogue : PlainCatalogue
   pub stands : standing whole_reading size (shown_image after) ≡ rules new_commit new_catalogue
-  pub carried : IsCarried size (IsRuling commit catalogue) commit catalogue change result new_commit new_catalogue
+  pub carried : IsCarried size (IsInUse commit catalogue pinned) commit catalogue change result new_commit new_catalogue

@@ -63,6 +63,7 @@ pub record IsSound {D : Type 0} {g : Ghosts D} (size : D → ℕ) (story : D →
   pub tables : tables_held (synced_image (now (story store.device))) (listed_in store) ≡ Some (after base m.settled)
   pub uses : Uses store.opened.map.entries (used_runs whole_reading store.opened.commit (listed_in store)) []
   pub none : m.doubt ≡ None
+  pub none_open : m.exports ≡ []
 
 pub record StoreFits {D : Type 0} {g : Ghosts D} (size : D → ℕ) (story : D → Story) (base : Tables) (m : Machine) (store : Store D g) : Type 0 where
   pub phase : m.phase ≡ (if store.halted then halted else running)
@@ -111,14 +112,14 @@ pub record Shuts {D : Type 0} (size : D → ℕ) (story : D → Story) (failed :
 
 -- a run that begins with a device without a store, and one that begins with a store on it
 abbrev pub fresh : Machine
-fresh = record { started = false; phase = shut; settled = []; doubt = None }
+fresh = record { started = false; phase = shut; settled = []; doubt = None; exports = []; next_id = 0 }
 
 abbrev pub resumed : Machine
-resumed = record { started = true; phase = shut; settled = []; doubt = None }
+resumed = record { started = true; phase = shut; settled = []; doubt = None; exports = []; next_id = 0 }
 
 -- one that begins after a command had begun to write and its device failed: it may be done
 abbrev pub doubting : PlainCommand → Machine
-doubting c = record { started = true; phase = shut; settled = []; doubt = Some c }
+doubting c = record { started = true; phase = shut; settled = []; doubt = Some c; exports = []; next_id = 0 }
 
 -- what a stop leaves after a formatting that failed: no store, or one without tables
 abbrev pub HoldsNoneOrEmpty : ℕ → Image → Type 0

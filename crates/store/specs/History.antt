@@ -4,7 +4,7 @@ use Rattle.sector_dev.specs.Disk.{Image}
 use Rattle.tables.specs.Commands.{PlainCommand}
 use Rattle.tables.specs.Verdict.{after}
 use Rattle.commit.specs.declared.opening_refusal.OpeningRefusal.TheVariants as openings
-use Rattle.store.specs.Calls.{PlainCall, apply_call, PlainReply, done, shut_by, may_be_done, is_change}
+use Rattle.store.specs.Calls.{PlainCall, apply_call, stream_call, PlainReply, done, shut_by, may_be_done, is_change}
 use Rattle.store.specs.Machine.{no_store, holds, Setting, Machine, halted}
 
 -- these stand among those, in their order
@@ -20,6 +20,7 @@ in_doubt (Some c) = c ∷ []
 -- the command of a call, if it has one
 abbrev pub called_by : PlainCall → List PlainCommand
 called_by (apply_call c) = c ∷ []
+called_by (stream_call c) = c ∷ []
 called_by _ = []
 
 -- the command of a call that was acknowledged or in which the device failed: one that is refused for another reason is none

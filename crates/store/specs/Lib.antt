@@ -6,6 +6,7 @@ pub mod Runs
 pub mod Since
 pub mod History
 pub mod Halting
+pub mod Snapshots
 pub mod Exchanging
 pub mod Held
 pub mod Fits

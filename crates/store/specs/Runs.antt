@@ -6,9 +6,10 @@ use Rattle.tables.specs.declared.refusal.Refusal.{Refusal}
 use Rattle.tables.specs.Refusals.{Origin, by_room, origin_of}
 use Rattle.tables.specs.Commands.{PlainCommand}
 use Rattle.commit.specs.declared.opening_refusal.OpeningRefusal.TheVariants as openings
-use Rattle.store.specs.Calls.{PlainCall, apply_call, PlainReply, done, refused, shut_by, is_device_reply, is_change, counted}
+use Rattle.segments.specs.declared.run.Run.{Run as Sectors}
+use Rattle.store.specs.Calls.{PlainCall, apply_call, stream_call, PlainReply, done, refused, shut_by, is_device_reply, is_change, counted}
 use Rattle.store.specs.Carrying.{IsCarriedOut}
-use Rattle.store.specs.Machine.{no_store, Setting, Machine, Allows, AllowsEach, has_written}
+use Rattle.store.specs.Machine.{no_store, Setting, Machine, Allows, AllowsEach, has_written, pinned_by}
 use Rattle.store.specs.Steps.{Step}
 
 -- what is told of a store that was there already, or of none, is what reads showed when the call began
@@ -18,15 +19,20 @@ TellsFound s (shut_by openings.NotAStore) d = s.held (shown_image d) ≡ no_stor
 TellsFound s _ d = Unit {0}
 
 -- why there is no room for a command is so of what stood when the call began
-abbrev pub RoomFrom : Origin → ℕ → (before after : Disk) → PlainCommand → Refusal → Type 0
-RoomFrom by_room size before after c r = IsCarriedOut size before after c (Err r)
-RoomFrom _ size before after c r = Unit {0}
+abbrev pub RoomFrom : Origin → ℕ → (pinned : List Sectors) → (before after : Disk) → PlainCommand → Refusal → Type 0
+RoomFrom by_room size pinned before after c r = IsCarriedOut size pinned before after c (Err r)
+RoomFrom _ size pinned before after c r = Unit {0}
 
 -- a command was done, or found no room, by what stood when the call began: its epoch, how many segments there would be, and the runs in use
-abbrev pub TellsRoom : Setting → PlainCall → PlainReply → (before after : Disk) → Type 0
-TellsRoom s (apply_call c) done before after = IsCarriedOut s.size before after c (Ok tt)
-TellsRoom s (apply_call c) (refused r) before after = RoomFrom (origin_of r) s.size before after c r
-TellsRoom s _ _ before after = Unit {0}
+abbrev pub TellsRoomOf : ℕ → (pinned : List Sectors) → PlainCommand → PlainReply → (before after : Disk) → Type 0
+TellsRoomOf size pinned c done before after = IsCarriedOut size pinned before after c (Ok tt)
+TellsRoomOf size pinned c (refused r) before after = RoomFrom (origin_of r) size pinned before after c r
+TellsRoomOf size pinned c _ before after = Unit {0}
+
+abbrev pub TellsRoom : Setting → (pinned : List Sectors) → PlainCall → PlainReply → (before after : Disk) → Type 0
+TellsRoom s pinned (apply_call c) reply before after = TellsRoomOf s.size pinned c reply before after
+TellsRoom s pinned (stream_call c) reply before after = TellsRoomOf s.size pinned c reply before after
+TellsRoom s pinned _ reply before after = Unit {0}
 
 -- one call: what it answers and how the machine goes on, what each stop meanwhile may leave and what one after it. A call that
 -- was not done, or only reads, changes nothing, unless its device failed.
@@ -37,7 +43,7 @@ pub record Goes (s : Setting) (m : Machine) (call : PlainCall) (reply : PlainRep
   pub quiet : is_change call reply ≡ false → is_device_reply reply ≡ false → now new ≡ now old
   pub counts : failed' ≡ counted reply failed
   pub tells : TellsFound s reply (now old)
-  pub room : TellsRoom s call reply (now old) (now new)
+  pub room : TellsRoom s (pinned_by m) call reply (now old) (now new)
 
 -- a call, and then what P says of the machine, the story and the failures after it
 pub record Then (s : Setting) (m : Machine) (call : PlainCall) (reply : PlainReply) (old : Story) (failed : ℕ) (P : Machine → Story → ℕ → Type 0) : Type 0 where

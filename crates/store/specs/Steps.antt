@@ -1,8 +1,10 @@
 -- What may be answered, by a call that began a write or none, and how the machine goes on. What never comes is impossible here.
-use Rattle.std.specs.Prelude.{◌≡◌, ◌≢◌, ◌⊎◌, ℕ, Bool, true, false, List, [], Some, None, Ok, Err, IsOk}
+use Rattle.std.specs.Prelude.{◌≡◌, ◌≢◌, ◌⊎◌, ◌≤◌, ◌<◌, ◌+◌, ◌^◌, ℕ, Bool, true, false, List, [], length, slice_get, Option, Some, None, Ok, Err, IsOk, IsSome}
 use Rattle.cells.specs.Cell.{PlainTable}
 use Rattle.ipc_message.specs.Header.{supported_codes}
 use Rattle.ipc_stream.specs.Meaning.{meaning}
+use Rattle.table_cut.specs.CutRows.{joined}
+use Rattle.tables.specs.declared.refusal.Limit.TheVariants as limits
 use Rattle.tables.specs.declared.refusal.Refusal.{Refusal}
 use Rattle.tables.specs.declared.refusal.Refusal.TheVariants as refusals
 use Rattle.tables.specs.Refusals.{Origin, by_tables, by_room, by_memory, by_device, by_halt, elsewhere, origin_of}
@@ -10,8 +12,8 @@ use Rattle.tables.specs.Tables.{table_at, row_counts}
 use Rattle.tables.specs.Commands.{PlainCommand}
 use Rattle.tables.specs.Verdict.{verdict}
 use Rattle.commit.specs.declared.opening_refusal.OpeningRefusal.TheVariants as openings
-use Rattle.store.specs.Calls.{PlainCall, apply_call, format_call, open_call, close_call, tables_call, schema_call, read_call, export_call, PlainReply, done, counts, schema_is, table_is, bytes_are, refused, shut_by}
-use Rattle.store.specs.Machine.{Setting, shut, running, Machine, with_doubt, tables_now, settle, opened, shut_down, halt}
+use Rattle.store.specs.Calls.{PlainCall, apply_call, format_call, open_call, close_call, tables_call, schema_call, read_call, export_call, stream_call, open_export_call, export_next_call, close_export_call, compact_call, PlainReply, done, counts, schema_is, table_is, bytes_are, export_is, piece_is, merged, moved, nothing, refused, shut_by}
+use Rattle.store.specs.Machine.{Setting, shut, running, Export, Machine, with_doubt, tables_now, settle, opened, shut_down, halt, export_at, with_export, after_piece, without_export}
 
 -- nothing was written, and the machine stays as it is
 abbrev pub Stays : Machine → Bool → Machine → Type 0
@@ -89,6 +91,59 @@ StepExport s m name (refused refusals.NoTable) wrote new = (m.phase ≡ running)
 StepExport s m name (refused r) wrote new = RefusesReading m (export_call name) r wrote new
 StepExport s m name _ wrote new = ⊥
 
+-- a command whose bytes come from a reader: it is answered as that command, or the reader failed
+abbrev pub StepStream : Setting → Machine → PlainCommand → PlainReply → Bool → Machine → Type 0
+StepStream s m c (refused refusals.Read) wrote new = (m.phase ≡ running) × Stays m wrote new
+StepStream s m c done wrote new = StepApply s m c done wrote new
+StepStream s m c (refused r) wrote new = StepApply s m c (refused r) wrote new
+StepStream s m c _ wrote new = ⊥
+
+-- so many exports may be open
+abbrev pub MOST_EXPORTS : ℕ
+MOST_EXPORTS = 64
+
+-- an export of a table of which nothing was given yet: its pieces, joined, are a stream that means the table. They are one for each segment, and two
+abbrev pub IsExportOf : Option PlainTable → Export → Type 0
+IsExportOf None e = ⊥
+IsExportOf (Some table) e = (meaning supported_codes (joined e.pieces) ≡ Ok table) × (e.given ≡ 0) × (length e.pieces ≡ length e.runs + 2)
+
+abbrev pub StepOpenExport : Setting → Machine → List ℕ → PlainReply → Bool → Machine → Type 0
+StepOpenExport s m name (export_is id) wrote new =
+    (m.phase ≡ running) × (id ≡ m.next_id) × (id < 2 ^ 64) × (export_at m.exports id ≡ None) × (length m.exports < MOST_EXPORTS)
+    × ((e : Export) × (e.id ≡ id) × IsExportOf (table_at (tables_now s m) name) e × (new ≡ with_export e m)) × (wrote ≡ false)
+StepOpenExport s m name (refused refusals.NoTable) wrote new = (m.phase ≡ running) × (table_at (tables_now s m) name ≡ None) × Stays m wrote new
+StepOpenExport s m name (refused (refusals.TooMany limits.Exports)) wrote new =
+    (m.phase ≡ running) × IsSome (table_at (tables_now s m) name) × ((MOST_EXPORTS ≤ length m.exports) ⊎ (2 ^ 64 ≤ m.next_id)) × Stays m wrote new
+StepOpenExport s m name (refused refusals.Halted) wrote new = (m.phase ≢ running) × Stays m wrote new
+StepOpenExport s m name (refused refusals.OutOfMemory) wrote new = (m.phase ≡ running) × Stays m wrote new
+StepOpenExport s m name _ wrote new = ⊥
+
+-- the piece behind those that were given, and none behind the last one
+abbrev pub StepExportNext : Machine → ℕ → PlainReply → Bool → Machine → Type 0
+StepExportNext m id (piece_is piece) wrote new =
+    (m.phase ≡ running) × ((e : Export) × (export_at m.exports id ≡ Some e) × (piece ≡ slice_get e.pieces e.given)) × (wrote ≡ false) × (new ≡ after_piece piece id m)
+StepExportNext m id (refused refusals.NoExport) wrote new = (m.phase ≡ running) × (export_at m.exports id ≡ None) × Stays m wrote new
+StepExportNext m id (refused r) wrote new = RefusesReading m (export_next_call id) r wrote new
+StepExportNext m id _ wrote new = ⊥
+
+abbrev pub StepCloseExport : Machine → ℕ → PlainReply → Bool → Machine → Type 0
+StepCloseExport m id done wrote new = (m.phase ≡ running) × IsSome (export_at m.exports id) × (wrote ≡ false) × (new ≡ without_export id m)
+StepCloseExport m id (refused refusals.NoExport) wrote new = (m.phase ≡ running) × (export_at m.exports id ≡ None) × Stays m wrote new
+StepCloseExport m id (refused refusals.Halted) wrote new = (m.phase ≢ running) × Stays m wrote new
+StepCloseExport m id _ wrote new = ⊥
+
+-- a step of a compaction changes no table: the machine stays as it is, but that the device may fail
+abbrev pub StepCompact : Machine → PlainReply → Bool → Machine → Type 0
+StepCompact m merged wrote new = (m.phase ≡ running) × (m.started ≡ true) × (wrote ≡ true) × (new ≡ m)
+StepCompact m moved wrote new = (m.phase ≡ running) × (m.started ≡ true) × (wrote ≡ true) × (new ≡ m)
+StepCompact m nothing wrote new = (m.phase ≡ running) × Stays m wrote new
+StepCompact m (refused (refusals.TooMany limits.Epochs)) wrote new = (m.phase ≡ running) × Stays m wrote new
+StepCompact m (refused (refusals.NoRoom count)) wrote new = (m.phase ≡ running) × Stays m wrote new
+StepCompact m (refused refusals.OutOfMemory) wrote new = (m.phase ≡ running) × Stays m wrote new
+StepCompact m (refused refusals.Halted) wrote new = (m.phase ≢ running) × Stays m wrote new
+StepCompact m (refused refusals.Device) wrote new = (m.phase ≡ running) × (new ≡ halt compact_call wrote m)
+StepCompact m _ wrote new = ⊥
+
 unfoldable pub Step : Setting → Machine → PlainCall → PlainReply → Bool → Machine → Type 0
 Step s m (apply_call c) reply wrote new = StepApply s m c reply wrote new
 Step s m format_call reply wrote new = StepFormat s m reply wrote new
@@ -98,3 +153,8 @@ Step s m tables_call reply wrote new = StepTables s m reply wrote new
 Step s m (schema_call name) reply wrote new = StepSchema s m name reply wrote new
 Step s m (read_call name) reply wrote new = StepRead s m name reply wrote new
 Step s m (export_call name) reply wrote new = StepExport s m name reply wrote new
+Step s m (stream_call c) reply wrote new = StepStream s m c reply wrote new
+Step s m (open_export_call name) reply wrote new = StepOpenExport s m name reply wrote new
+Step s m (export_next_call id) reply wrote new = StepExportNext m id reply wrote new
+Step s m (close_export_call id) reply wrote new = StepCloseExport m id reply wrote new
+Step s m compact_call reply wrote new = StepCompact m reply wrote new

@@ -12,6 +12,7 @@ pub mod Changed
 pub mod Edited
 pub mod Segments
 pub mod Pieces
+pub mod Snapshots
 pub mod Exchanged
 pub mod Shrinking
 pub mod ExchangedRuns

@@ -13,7 +13,8 @@ ghost use Rattle.commit.specs.Standing.{used_runs, rules, standing, Stands, InSo
 ghost use Rattle.tables.specs.Tables.{Tables};
 ghost use Rattle.tables.specs.declared.refusal.Refusal.{Refusal};
 ghost use Rattle.tables.specs.Commands.{PlainCommand, BringsTables};
-ghost use Rattle.store.specs.Calls.{PlainCall, PlainReply, is_device_reply};
+ghost use Rattle.store.specs.Calls.{PlainCall, open_export_call, PlainReply, export_is, is_device_reply};
+ghost use Rattle.store.specs.Snapshots.{given, has_ended, stays_open, GivesTable};
 ghost use Rattle.store.specs.Machine.{Setting, Machine, halted, Allows, holds};
 ghost use Rattle.store.specs.Held.{whole_reading, tables_held, held_by};
 ghost use Rattle.store.specs.Changes.{PlainChange};
@@ -39,6 +40,14 @@ pub fn each_stop_is_allowed()
         (m' : Machine) (new : Story) (failed' : ℕ) (run : Run s calls replies m old failed m' new failed') (i : ℕ) (image : Image)
         → LeavesOnly (Allows s m) (now old) → LeftSince new (moment (story_at s calls replies m old failed m' new failed' run i)) image
         → IsLeftFrom s calls replies m old failed m' new failed' run i image }
+{}
+
+/// An export that is opened in a run, and then comes to its end while it stays open, has given the table that it found: its pieces, joined, are a stream that
+/// means it, whatever was done to the table meanwhile.
+pub fn snapshots_give_their_table()
+    ensures { (s : Setting) (name : List ℕ) (id : ℕ) (calls : List PlainCall) (replies : List PlainReply) (m : Machine) (old : Story) (failed : ℕ)
+        (m' : Machine) (new : Story) (failed' : ℕ) → Run s (open_export_call name ∷ calls) (export_is id ∷ replies) m old failed m' new failed'
+        → stays_open id calls replies ≡ true → has_ended id calls replies ≡ true → GivesTable s m name (given id calls replies) }
 {}
 
 /// Segments that are exchanged for others with the same rows leave the tables as they are; and catalogues that shrink in turn, by a segment or by the sum of

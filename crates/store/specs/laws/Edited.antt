@@ -132,7 +132,7 @@ given_up_times c (move from to) run = omega arith
 given_up_times c (remove name) run = at_times c name run
 
 -- whether a run is listed, by how often it is
-none_listed : (xs : List Run) (run : Run) → is_among xs run ≡ false → times_among xs run ≡ 0
+pub none_listed : (xs : List Run) (run : Run) → is_among xs run ≡ false → times_among xs run ≡ 0
 none_listed xs run is = by_number (times_among xs run) refl
   where
     by_number : (n : ℕ) → times_among xs run ≡ n → n ≡ 0

@@ -4,7 +4,7 @@ use Rattle.std.proofs.Common.{inl, inr, ap, ◌∙◌}
 use Rattle.sector_dev.specs.Disk.{Disk, Story, Image, now, moment, Somewhere, LeftSince}
 use Rattle.sector_dev.specs.Time.{LeavesOnly}
 use Rattle.tables.specs.Commands.{PlainCommand}
-use Rattle.store.specs.Calls.{PlainCall, apply_call, PlainReply, may_be_done, is_change}
+use Rattle.store.specs.Calls.{PlainCall, apply_call, stream_call, PlainReply, may_be_done, is_change}
 use Rattle.store.specs.Machine.{Setting, Machine, with_doubt, Allows, meanwhile, has_written}
 use Rattle.store.specs.Runs.{Run}
 use Rattle.store.specs.Since.{IsWithin, IsLeftIn, story_at, IsLeftFrom}
@@ -26,6 +26,9 @@ module _ (s : Setting) (image : Image) where
   allowed_begun m calls (apply_call c) (inl is) = inl (record { settled = m.settled; held = is; settles = dropped_list m.settled m.doubt (c ∷ calls) })
   allowed_begun m calls (apply_call c) (inr (inl is)) = inl (record { settled = m.settled ++ c ∷ []; held = is; settles = begun_list m.settled m.doubt c calls })
   allowed_begun m calls (apply_call c) (inr (inr none)) = inr (record { none = none.1; fresh = none.0; unchanged = refl; silent = refl })
+  allowed_begun m calls (stream_call c) (inl is) = inl (record { settled = m.settled; held = is; settles = dropped_list m.settled m.doubt (c ∷ calls) })
+  allowed_begun m calls (stream_call c) (inr (inl is)) = inl (record { settled = m.settled ++ c ∷ []; held = is; settles = begun_list m.settled m.doubt c calls })
+  allowed_begun m calls (stream_call c) (inr (inr none)) = inr (record { none = none.1; fresh = none.0; unchanged = refl; silent = refl })
   allowed_begun m calls _ allowed = allowed_between m calls allowed
 
   allowed_in : (m : Machine) (calls : List PlainCommand) (call : PlainCall) (may wrote : Bool) → Allows s (meanwhile call m (may && wrote)) image

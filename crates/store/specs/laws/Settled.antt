@@ -11,8 +11,8 @@ use Rattle.tables.specs.declared.refusal.Refusal.TheVariants as refusals
 use Rattle.tables.specs.Refusals.{Origin, by_tables, by_room, by_memory, by_device, by_halt, elsewhere, origin_of_limit, origin_of}
 use Rattle.tables.specs.Commands.{PlainCommand}
 use Rattle.commit.specs.declared.opening_refusal.OpeningRefusal.TheVariants as openings
-use Rattle.store.specs.Calls.{PlainCall, apply_call, format_call, open_call, close_call, tables_call, schema_call, read_call, export_call, PlainReply, done, counts, schema_is, table_is, bytes_are, refused, shut_by, is_failure, is_device_reply, is_change}
-use Rattle.store.specs.Machine.{Setting, Machine, shut, halted, with_doubt, settle, opened, shut_down, halt}
+use Rattle.store.specs.Calls.{PlainCall, apply_call, format_call, open_call, close_call, tables_call, schema_call, read_call, export_call, stream_call, open_export_call, export_next_call, close_export_call, compact_call, PlainReply, done, counts, schema_is, table_is, bytes_are, export_is, piece_is, merged, moved as is_moved, nothing, refused, shut_by, is_failure, is_device_reply, is_change}
+use Rattle.store.specs.Machine.{Setting, Machine, shut, running, halted, with_doubt, settle, opened, shut_down, halt}
 use Rattle.store.specs.Steps.{RefusesFrom, Step}
 use Rattle.store.specs.Runs.{Run}
 use Rattle.store.specs.History.{InOrder, in_doubt, begun_by, begun, acknowledged_by, acknowledged, Settles, SettlesAll}
@@ -169,6 +169,24 @@ module _ (m : Machine) (new : Machine) where
   is_same : (call : PlainCall) (reply : PlainReply) → is_change call reply ≡ false → acknowledged_by call reply ≡ [] → new ≡ m → Moves m call reply new
   is_same call reply plain silent is = as_it_was call reply plain silent (ap (λ (k : Machine). k.settled) is) (ap (λ (k : Machine). k.doubt) is) (ap (λ (k : Machine). k.started) is) (λ quiet on halts. on (sym (ap (λ (k : Machine). k.phase) is) ∙ halts))
 
+  -- a change of the device that no command asked for
+  changed : (call : PlainCall) (reply : PlainReply) → acknowledged_by call reply ≡ [] → m.phase ≡ running → m.started ≡ true → new ≡ m → Moves m call reply new
+  changed call reply silent runs started is =
+      record {
+        settles = record {
+          more = [];
+          grew = ap (λ (k : Machine). k.settled) is ∙ sym (append-nil m.settled);
+          kept = subst (λ (xs : List PlainCommand). InOrder xs []) (sym silent) tt;
+          only = subst (λ (k : Machine). InOrder (in_doubt k.doubt) (in_doubt m.doubt ++ begun_by call reply)) (sym is) (own_front (in_doubt m.doubt) (begun_by call reply));
+        };
+        undisturbed = λ quiet none on. record {
+          settled = subst (λ (xs : List PlainCommand). new.settled ≡ m.settled ++ xs) (sym silent) (ap (λ (k : Machine). k.settled) is ∙ sym (append-nil m.settled));
+          none = ap (λ (k : Machine). k.doubt) is ∙ none;
+          on = λ halts. on (sym (ap (λ (k : Machine). k.phase) is) ∙ halts);
+        };
+        starts = λ no. let both : true ≡ false = sym started ∙ sym (ap (λ (k : Machine). k.started) is) ∙ no in absurd (cc both);
+      }
+
   is_shut : (call : PlainCall) (reply : PlainReply) → is_change call reply ≡ false → acknowledged_by call reply ≡ [] → new ≡ shut_down m → Moves m call reply new
   is_shut call reply plain silent is =
       as_it_was call reply plain silent (ap (λ (k : Machine). k.settled) is) (ap (λ (k : Machine). k.doubt) is) (ap (λ (k : Machine). k.started) is) (λ quiet on halts. let no : shut ≡ halted = sym (ap (λ (k : Machine). k.phase) is) ∙ halts in cc no)
@@ -228,6 +246,43 @@ one_step s m (export_call name) (refused refusals.Halted) wrote new step = is_sa
 one_step s m (export_call name) (refused refusals.OutOfMemory) wrote new step = is_same m new (export_call name) (refused refusals.OutOfMemory) refl refl step.1.1
 one_step s m (export_call name) (refused refusals.Device) wrote new step = is_halted m new (export_call name) (refused refusals.Device) refl refl refl step.2
 one_step s m (export_call name) _ wrote new step = absurd step
+one_step s m (stream_call c) (refused refusals.Read) wrote new step = is_same m new (stream_call c) (refused refusals.Read) refl refl step.1.1
+one_step s m (stream_call c) done wrote new step = let one = moved m (apply_call c) done new (settle c m) step.3 (done_one m c) in record { settles = one.settles; undisturbed = one.undisturbed; starts = one.starts }
+one_step s m (stream_call c) (refused r) wrote new step = let one = by_origin (origin_of r) s m c r wrote new refl step in record { settles = one.settles; undisturbed = one.undisturbed; starts = one.starts }
+one_step s m (stream_call c) _ wrote new step = absurd step
+one_step s m (open_export_call name) (export_is id) wrote new step =
+    let is = step.5.3 in as_it_was m new (open_export_call name) (export_is id) refl refl (ap (λ (k : Machine). k.settled) is) (ap (λ (k : Machine). k.doubt) is) (ap (λ (k : Machine). k.started) is) (λ quiet on halts. on (sym (ap (λ (k : Machine). k.phase) is) ∙ halts))
+one_step s m (open_export_call name) (refused refusals.NoTable) wrote new step = is_same m new (open_export_call name) (refused refusals.NoTable) refl refl step.2.1
+one_step s m (open_export_call name) (refused (refusals.TooMany limits.Exports)) wrote new step = is_same m new (open_export_call name) (refused (refusals.TooMany limits.Exports)) refl refl step.3.1
+one_step s m (open_export_call name) (refused refusals.Halted) wrote new step = is_same m new (open_export_call name) (refused refusals.Halted) refl refl step.1.1
+one_step s m (open_export_call name) (refused refusals.OutOfMemory) wrote new step = is_same m new (open_export_call name) (refused refusals.OutOfMemory) refl refl step.1.1
+one_step s m (open_export_call name) _ wrote new step = absurd step
+one_step s m (export_next_call id) (piece_is (Some piece)) wrote new step =
+    let is = step.3 in as_it_was m new (export_next_call id) (piece_is (Some piece)) refl refl (ap (λ (k : Machine). k.settled) is) (ap (λ (k : Machine). k.doubt) is) (ap (λ (k : Machine). k.started) is) (λ quiet on halts. on (sym (ap (λ (k : Machine). k.phase) is) ∙ halts))
+one_step s m (export_next_call id) (piece_is None) wrote new step = is_same m new (export_next_call id) (piece_is None) refl refl step.3
+one_step s m (export_next_call id) (refused refusals.NoExport) wrote new step = is_same m new (export_next_call id) (refused refusals.NoExport) refl refl step.2.1
+one_step s m (export_next_call id) (refused refusals.Halted) wrote new step = is_same m new (export_next_call id) (refused refusals.Halted) refl refl step.1.1
+one_step s m (export_next_call id) (refused refusals.OutOfMemory) wrote new step = is_same m new (export_next_call id) (refused refusals.OutOfMemory) refl refl step.1.1
+one_step s m (export_next_call id) (refused refusals.Device) wrote new step = is_halted m new (export_next_call id) (refused refusals.Device) refl refl refl step.2
+one_step s m (export_next_call id) _ wrote new step = absurd step
+one_step s m (close_export_call id) done wrote new step =
+    let is = step.3 in as_it_was m new (close_export_call id) done refl refl (ap (λ (k : Machine). k.settled) is) (ap (λ (k : Machine). k.doubt) is) (ap (λ (k : Machine). k.started) is) (λ quiet on halts. on (sym (ap (λ (k : Machine). k.phase) is) ∙ halts))
+one_step s m (close_export_call id) (refused refusals.NoExport) wrote new step = is_same m new (close_export_call id) (refused refusals.NoExport) refl refl step.2.1
+one_step s m (close_export_call id) (refused refusals.Halted) wrote new step = is_same m new (close_export_call id) (refused refusals.Halted) refl refl step.1.1
+one_step s m (close_export_call id) _ wrote new step = absurd step
+one_step s m compact_call merged wrote new step = changed m new compact_call merged refl step.0 step.1 step.3
+one_step s m compact_call is_moved wrote new step = changed m new compact_call is_moved refl step.0 step.1 step.3
+one_step s m compact_call nothing wrote new step = is_same m new compact_call nothing refl refl step.1.1
+one_step s m compact_call (refused (refusals.TooMany limits.Epochs)) wrote new step = is_same m new compact_call (refused (refusals.TooMany limits.Epochs)) refl refl step.1.1
+one_step s m compact_call (refused (refusals.NoRoom count)) wrote new step = is_same m new compact_call (refused (refusals.NoRoom count)) refl refl step.1.1
+one_step s m compact_call (refused refusals.OutOfMemory) wrote new step = is_same m new compact_call (refused refusals.OutOfMemory) refl refl step.1.1
+one_step s m compact_call (refused refusals.Halted) wrote new step = is_same m new compact_call (refused refusals.Halted) refl refl step.1.1
+one_step s m compact_call (refused refusals.Device) wrote new step = by_wrote wrote step.1
+  where
+    by_wrote : (w : Bool) → new ≡ halt compact_call w m → Moves m compact_call (refused refusals.Device) new
+    by_wrote true is = is_halted m new compact_call (refused refusals.Device) refl refl refl is
+    by_wrote false is = is_halted m new compact_call (refused refusals.Device) refl refl refl is
+one_step s m compact_call _ wrote new step = absurd step
 
 -- ---- a run
 

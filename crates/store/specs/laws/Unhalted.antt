@@ -1,15 +1,16 @@
 -- Where no reply says that a device failed, none is refused as halted while a store is open.
-use Rattle.std.specs.Prelude.{◌≡◌, ◌≢◌, ◌⊎◌, Bool, true, false, ℕ, List, [], ◌∷◌, refl}
+use Rattle.std.specs.Prelude.{◌≡◌, ◌≢◌, ◌⊎◌, Bool, true, false, ℕ, List, [], ◌∷◌, Some, None, refl}
 use Rattle.std.specs.List.{list_any}
 use Rattle.std.proofs.Common.{inl, inr, ap, sym, ◌∙◌}
 use Rattle.std.proofs.lemmas.Bool.{or_from, or_parts}
 use Rattle.sector_dev.specs.Disk.{Story}
 use Rattle.tables.specs.declared.refusal.Refusal.{Refusal}
 use Rattle.tables.specs.declared.refusal.Refusal.TheVariants as refusals
+use Rattle.tables.specs.declared.refusal.Limit.TheVariants as limits
 use Rattle.tables.specs.Refusals.{Origin, by_tables, by_room, by_memory, by_device, by_halt, elsewhere, origin_of}
 use Rattle.tables.specs.Commands.{PlainCommand}
 use Rattle.commit.specs.declared.opening_refusal.OpeningRefusal.TheVariants as openings
-use Rattle.store.specs.Calls.{PlainCall, apply_call, format_call, open_call, close_call, tables_call, schema_call, read_call, export_call, PlainReply, done, counts, schema_is, table_is, bytes_are, refused, shut_by, is_failure, is_device_reply}
+use Rattle.store.specs.Calls.{PlainCall, apply_call, format_call, open_call, close_call, tables_call, schema_call, read_call, export_call, stream_call, open_export_call, export_next_call, close_export_call, compact_call, PlainReply, done, counts, schema_is, table_is, bytes_are, export_is, piece_is, merged, moved, nothing, refused, shut_by, is_failure, is_device_reply}
 use Rattle.store.specs.Machine.{Setting, Machine, Phase, running, shut, with_doubt, opened}
 use Rattle.store.specs.Steps.{RefusesFrom, Step}
 use Rattle.store.specs.Runs.{Run}
@@ -49,19 +50,19 @@ module _ (m new : Machine) (is_open : Bool) (at : m.phase ≡ phase_where is_ope
   shuts : (call : PlainCall) (reply : PlainReply) → is_open_after call reply is_open ≡ false → new.phase ≡ shut → tells_halt is_open reply ≡ false → Turns call reply new is_open
   shuts call reply closes is on = record { phase = is ∙ ap phase_where (sym closes); on = on }
 
-  by_origin : (o : Origin) (s : Setting) (c : PlainCommand) (r : Refusal) (wrote : Bool) → origin_of r ≡ o → is_failure r ≡ false → RefusesFrom o s m c r wrote new → Turns (apply_call c) (refused r) new is_open
-  by_origin by_tables s c r wrote is quiet step = same (apply_call c) (refused r) refl step.2.1 (on_of r is_open (λ h. cc (is, h)))
-  by_origin by_room s c r wrote is quiet step = same (apply_call c) (refused r) refl step.2.1 (on_of r is_open (λ h. cc (is, h)))
-  by_origin by_memory s c r wrote is quiet step = same (apply_call c) (refused r) refl step.1.1 (on_of r is_open (λ h. cc (is, h)))
-  by_origin by_device s c r wrote is quiet step = failing (sym (device_fails r is) ∙ quiet)
-  by_origin by_halt s c r wrote is quiet step = same (apply_call c) (refused r) refl step.1.1 (halts_shut r is_open (not_halted is_open m.phase at step.0))
-  by_origin elsewhere s c r wrote is quiet step = absurd step
+  by_origin : (o : Origin) (s : Setting) (c : PlainCommand) (call : PlainCall) (r : Refusal) (wrote : Bool) → is_open_after call (refused r) is_open ≡ is_open → origin_of r ≡ o → is_failure r ≡ false → RefusesFrom o s m c r wrote new → Turns call (refused r) new is_open
+  by_origin by_tables s c call r wrote keeps is quiet step = same call (refused r) keeps step.2.1 (on_of r is_open (λ h. cc (is, h)))
+  by_origin by_room s c call r wrote keeps is quiet step = same call (refused r) keeps step.2.1 (on_of r is_open (λ h. cc (is, h)))
+  by_origin by_memory s c call r wrote keeps is quiet step = same call (refused r) keeps step.1.1 (on_of r is_open (λ h. cc (is, h)))
+  by_origin by_device s c call r wrote keeps is quiet step = failing (sym (device_fails r is) ∙ quiet)
+  by_origin by_halt s c call r wrote keeps is quiet step = same call (refused r) keeps step.1.1 (halts_shut r is_open (not_halted is_open m.phase at step.0))
+  by_origin elsewhere s c call r wrote keeps is quiet step = absurd step
 
 turns : (s : Setting) (m : Machine) (call : PlainCall) (reply : PlainReply) (wrote : Bool) (new : Machine) (is_open : Bool) → Step s m call reply wrote new → m.phase ≡ phase_where is_open → is_device_reply reply ≡ false
     → Turns call reply new is_open
 unfolding Step
 turns s m (apply_call c) done wrote new is_open step at quiet = record { phase = ap (λ (k : Machine). k.phase) step.3 ∙ sym step.0 ∙ at; on = refl }
-turns s m (apply_call c) (refused r) wrote new is_open step at quiet = by_origin m new is_open at (origin_of r) s c r wrote refl quiet step
+turns s m (apply_call c) (refused r) wrote new is_open step at quiet = by_origin m new is_open at (origin_of r) s c (apply_call c) r wrote refl refl quiet step
 turns s m (apply_call c) _ wrote new is_open step at quiet = absurd step
 turns s m format_call done wrote new is_open step at quiet = record { phase = ap (λ (k : Machine). k.phase) step.3; on = refl }
 turns s m format_call (shut_by openings.AlreadyAStore) wrote new is_open step at quiet = shuts m new is_open at format_call (shut_by openings.AlreadyAStore) refl (ap (λ (k : Machine). k.phase) step.1) refl
@@ -102,6 +103,36 @@ turns s m (export_call name) (refused refusals.Halted) wrote new is_open step at
 turns s m (export_call name) (refused refusals.OutOfMemory) wrote new is_open step at quiet = same m new is_open at (export_call name) (refused refusals.OutOfMemory) refl step.1.1 refl
 turns s m (export_call name) (refused refusals.Device) wrote new is_open step at quiet = failing quiet
 turns s m (export_call name) _ wrote new is_open step at quiet = absurd step
+turns s m (stream_call c) (refused refusals.Read) wrote new is_open step at quiet = same m new is_open at (stream_call c) (refused refusals.Read) refl step.1.1 refl
+turns s m (stream_call c) done wrote new is_open step at quiet = record { phase = ap (λ (k : Machine). k.phase) step.3 ∙ sym step.0 ∙ at; on = refl }
+turns s m (stream_call c) (refused r) wrote new is_open step at quiet = by_origin m new is_open at (origin_of r) s c (stream_call c) r wrote refl refl quiet step
+turns s m (stream_call c) _ wrote new is_open step at quiet = absurd step
+turns s m (open_export_call name) (export_is id) wrote new is_open step at quiet = record { phase = ap (λ (k : Machine). k.phase) step.5.3 ∙ at; on = refl }
+turns s m (open_export_call name) (refused refusals.NoTable) wrote new is_open step at quiet = same m new is_open at (open_export_call name) (refused refusals.NoTable) refl step.2.1 refl
+turns s m (open_export_call name) (refused (refusals.TooMany limits.Exports)) wrote new is_open step at quiet = same m new is_open at (open_export_call name) (refused (refusals.TooMany limits.Exports)) refl step.3.1 refl
+turns s m (open_export_call name) (refused refusals.Halted) wrote new is_open step at quiet = halts m new is_open at (open_export_call name) refl step.0 step.1.1
+turns s m (open_export_call name) (refused refusals.OutOfMemory) wrote new is_open step at quiet = same m new is_open at (open_export_call name) (refused refusals.OutOfMemory) refl step.1.1 refl
+turns s m (open_export_call name) _ wrote new is_open step at quiet = absurd step
+turns s m (export_next_call id) (piece_is (Some piece)) wrote new is_open step at quiet = record { phase = ap (λ (k : Machine). k.phase) step.3 ∙ at; on = refl }
+turns s m (export_next_call id) (piece_is None) wrote new is_open step at quiet = record { phase = ap (λ (k : Machine). k.phase) step.3 ∙ at; on = refl }
+turns s m (export_next_call id) (refused refusals.NoExport) wrote new is_open step at quiet = same m new is_open at (export_next_call id) (refused refusals.NoExport) refl step.2.1 refl
+turns s m (export_next_call id) (refused refusals.Halted) wrote new is_open step at quiet = halts m new is_open at (export_next_call id) refl step.0 step.1.1
+turns s m (export_next_call id) (refused refusals.OutOfMemory) wrote new is_open step at quiet = same m new is_open at (export_next_call id) (refused refusals.OutOfMemory) refl step.1.1 refl
+turns s m (export_next_call id) (refused refusals.Device) wrote new is_open step at quiet = failing quiet
+turns s m (export_next_call id) _ wrote new is_open step at quiet = absurd step
+turns s m (close_export_call id) done wrote new is_open step at quiet = record { phase = ap (λ (k : Machine). k.phase) step.3 ∙ at; on = refl }
+turns s m (close_export_call id) (refused refusals.NoExport) wrote new is_open step at quiet = same m new is_open at (close_export_call id) (refused refusals.NoExport) refl step.2.1 refl
+turns s m (close_export_call id) (refused refusals.Halted) wrote new is_open step at quiet = halts m new is_open at (close_export_call id) refl step.0 step.1.1
+turns s m (close_export_call id) _ wrote new is_open step at quiet = absurd step
+turns s m compact_call merged wrote new is_open step at quiet = same m new is_open at compact_call merged refl step.3 refl
+turns s m compact_call moved wrote new is_open step at quiet = same m new is_open at compact_call moved refl step.3 refl
+turns s m compact_call nothing wrote new is_open step at quiet = same m new is_open at compact_call nothing refl step.1.1 refl
+turns s m compact_call (refused (refusals.TooMany limits.Epochs)) wrote new is_open step at quiet = same m new is_open at compact_call (refused (refusals.TooMany limits.Epochs)) refl step.1.1 refl
+turns s m compact_call (refused (refusals.NoRoom count)) wrote new is_open step at quiet = same m new is_open at compact_call (refused (refusals.NoRoom count)) refl step.1.1 refl
+turns s m compact_call (refused refusals.OutOfMemory) wrote new is_open step at quiet = same m new is_open at compact_call (refused refusals.OutOfMemory) refl step.1.1 refl
+turns s m compact_call (refused refusals.Halted) wrote new is_open step at quiet = halts m new is_open at compact_call refl step.0 step.1.1
+turns s m compact_call (refused refusals.Device) wrote new is_open step at quiet = failing quiet
+turns s m compact_call _ wrote new is_open step at quiet = absurd step
 
 pub tells_no_halt : (s : Setting) (calls : List PlainCall) (replies : List PlainReply) (m : Machine) (old : Story) (failed : ℕ) (m' : Machine) (new : Story) (failed' : ℕ)
     → Run s calls replies m old failed m' new failed' → (is_open : Bool) → m.phase ≡ phase_where is_open → list_any is_device_reply replies ≡ false → tells_halt_while_open is_open calls replies ≡ false

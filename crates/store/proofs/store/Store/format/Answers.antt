@@ -70,6 +70,7 @@ returns-in-Ok-clause-opened g c = λ told base m fits.
           tables = ap (tables_held (synced_image (now s1))) c.empty.ensures ∙ new_tables size fits.in_limits spelled base m (fits.fresh early) (synced_image (now s1));
           uses = subst (λ (d : PlainCatalogue). Uses c.in-Ok.map.entries (commit.catalogue.run ∷ runs_of d) []) (sym c.empty.ensures) c.in-Ok.ensures.uses;
           none = refl;
+          none_open = refl;
         };
       };
     }

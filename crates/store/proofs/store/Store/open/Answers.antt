@@ -68,6 +68,7 @@ returns-in-Ok-clause-opened g c = λ told base m fits.
           tables = synced_then s0 s1 catalogue _ synced found.tables;
           uses = c.in-Ok.ensures.uses;
           none = after.2;
+          none_open = after.3;
         };
       };
     }
