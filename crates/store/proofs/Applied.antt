@@ -94,6 +94,7 @@ reads_nothing size story failed tells reply store quiet = record {
     count = sym (ap (λ (b : Bool). if b then min (failed store.device + 1) (2 ^ 64 - 1) else failed store.device) quiet);
   };
   kept = refl;
+  pins = refl;
   halts = sym (ap (λ (b : Bool). store.halted || b) quiet ∙ or_false store.halted);
 }
 

@@ -161,7 +161,7 @@ can_publish {g = g} s mid change plan back prep sound d stands =
     let on = subst (λ (n : ℕ). is_on_device n k.catalogue.run ≡ true) (sym s.same) s.placed in
     let fit = subst (λ (n : ℕ). runs_fault n k.catalogue.run (runs_in was) ≡ None) (sym s.same) s.fit in
     subst (λ (n : ℕ). CanReplace whole_reading n d (record { old = k; was = was; new = plan.commit; will = catalogue_of plan.catalogue.list; pieces = plain_pieces plan.pieces.items })) s.same
-    (can_replace old mid k was change plan back prep on fit s.uses sound d (catalogue_is was s.opened.catalogue.list.kept) (s.own ∙ sym s.same) (subst (λ (n : ℕ). Stands whole_reading n d k was) (sym s.same) stands))
+    (can_replace old mid k was change plan back prep on fit s.pins.items s.uses sound d (catalogue_is was s.opened.catalogue.list.kept) (s.own ∙ sym s.same) (subst (λ (n : ℕ). Stands whole_reading n d k was) (sym s.same) stands))
 
 -- each moment of a publishing
 pub carries : {D : Type 0} {g : Ghosts D} (s : Store D g) (mid : Space) (change : PlainChange) (plan : Plan StoredCatalogue) (back : List Run)

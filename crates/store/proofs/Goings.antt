@@ -1,4 +1,5 @@
 -- A change that was carried out, in the words of the machine.
+use Rattle.std.specs.Global.{Vec}
 use Rattle.std.specs.Prelude.{◌≡◌, ◌≢◌, ◌⊎◌, ◌↔◌, ◌<◌, ◌+◌, ◌-◌, ◌^◌, ◌&&◌, ℕ, min, Bool, true, false, List, [], ◌∷◌, ◌++◌, Some, Result, Ok, Err, IfErr, OnOk, refl, if◌then◌else◌}
 use Rattle.std.proofs.Common.{inl, inr, ⊎_elim, sym, ap, ◌∙◌, subst, arith}
 use Rattle.std.proofs.lemmas.Bool.{lt-ltb, true≢false, false_from_ne_true}
@@ -111,7 +112,7 @@ room_works : (n : ℕ) → refusals.NoRoom n ≢ refusals.Device
 room_works n is = cc is
 
 module _ {D : Type 0} {g : Ghosts D} (size : D → ℕ) (story : D → Story) (failed : D → ℕ) (base : Tables) (m : Machine) (old new : Store D g) (fits : StoreFits size story base m old) (on : m.phase ≡ running)
-    (sized : size new.device ≡ size old.device) (change : PlainChange) (c : PlainCommand) (u : Tables)
+    (sized : size new.device ≡ size old.device) (pins : new.pins ≡ old.pins) (change : PlainChange) (c : PlainCommand) (u : Tables)
     (makes : verdict (tables_now (setting_of (size old.device) base) m) c ≡ Ok u) (mk : MakesOf (tables_now (setting_of (size old.device) base) m) change u)
     (decided : IsDecided true (shown_image (now (story old.device))) (listed_in old) c (Ok change)) where
   abbrev s : Setting
@@ -196,7 +197,7 @@ module _ {D : Type 0} {g : Ghosts D} (size : D → ℕ) (story : D → Story) (f
             allows = subst (λ (n : ℕ). LeavesOnly (Allows (setting_of n base) (settle c m)) s1) (sym sized) settles;
             fresh = λ no. absurd (true≢false no);
           };
-          sound = λ again. record { stands = does.stands; tables = tables ∙ ap Some becomes; uses = new.uses; none = refl; none_open = sound.none_open };
+          sound = λ again. record { stands = does.stands; tables = tables ∙ ap Some becomes; uses = new.uses; none = refl; pins = ap (λ (v : Vec Run). v.items) pins ∙ sound.pins };
         };
       }
     where
@@ -274,7 +275,7 @@ module _ {D : Type 0} {g : Ghosts D} (size : D → ℕ) (story : D → Story) (f
             tables = (λ i. tables_held (synced_image (disk i)) (kept.1 i)) ∙ sound.tables;
             uses = new.uses;
             none = sound.none;
-            none_open = sound.none_open;
+            pins = ap (λ (v : Vec Run). v.items) pins ∙ sound.pins;
           };
         };
       }

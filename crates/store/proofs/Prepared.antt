@@ -174,11 +174,11 @@ module _ (old new : Space) (k : Commit) (c : PlainCatalogue) (change : PlainChan
       let parts = and_parts (nat_le 4 e.bytes) ((e.run.count == sector_count e.bytes) && is_on_device old.size e.run) extent in
       subst (λ (x : Commit). is_on_device old.size x.catalogue.run ≡ true) (sym p.commit) (and_parts (e.run.count == sector_count e.bytes) (is_on_device old.size e.run) parts.1).1
 
-  module _ (on : is_on_device old.size k.catalogue.run ≡ true) (fit : runs_fault old.size k.catalogue.run (entries.runs_of c) ≡ None) (uses : Uses old.entries (k.catalogue.run ∷ entries.runs_of c) []) (sound : IsChange c change) where
+  module _ (on : is_on_device old.size k.catalogue.run ≡ true) (fit : runs_fault old.size k.catalogue.run (entries.runs_of c) ≡ None) (pinned : List Run) (uses : Uses old.entries (k.catalogue.run ∷ entries.runs_of c) pinned) (sound : IsChange c change) where
     pub fit_then : IsCatalogue c → runs_fault old.size plan.commit.catalogue.run (entries.runs_of (catalogue_of plan.catalogue.list)) ≡ None
     fit_then stands =
         (λ i. runs_fault old.size (p.commit i).catalogue.run (entries.runs_of (p.catalogue i)))
-        ∙ fit_again old new (asked_sizes c change) taken k.catalogue.run (entries.runs_of c) p.run (entries.runs_of (placed c change (runs_of p.pieces))) [] on fit uses p.took (some_sizes change.streams (sector_count (list_size (outline c change))) sound.some (omega arith))
+        ∙ fit_again old new (asked_sizes c change) taken k.catalogue.run (entries.runs_of c) p.run (entries.runs_of (placed c change (runs_of p.pieces))) pinned on fit uses p.took (some_sizes change.streams (sector_count (list_size (outline c change))) sound.some (omega arith))
         (λ run.
         let t = placed_times c change sound (runs_of p.pieces) many run stands in
         let one = times_both (k.catalogue.run ∷ entries.runs_of c) taken run in
@@ -186,12 +186,12 @@ module _ (old new : Space) (k : Commit) (c : PlainCatalogue) (change : PlainChan
         omega (arith, t, one, two))
 
     -- published and given back, the runs in use are those of the new catalogue
-    pub uses_then : (last : Space) → IsCatalogue c → GivesAll new last back → Uses last.entries (plan.commit.catalogue.run ∷ entries.runs_of (catalogue_of plan.catalogue.list)) []
+    pub uses_then : (last : Space) → IsCatalogue c → GivesAll new last back → Uses last.entries (plan.commit.catalogue.run ∷ entries.runs_of (catalogue_of plan.catalogue.list)) pinned
     uses_then last stands gives =
-        subst (λ (x : PlainCatalogue). Uses last.entries (plan.commit.catalogue.run ∷ entries.runs_of x) []) (sym p.catalogue)
-        (subst (λ (x : Commit). Uses last.entries (x.catalogue.run ∷ entries.runs_of (placed c change (runs_of p.pieces))) []) (sym p.commit)
-        (given_uses new last (given_up c change.edit ++ k.catalogue.run ∷ []) ((k.catalogue.run ∷ entries.runs_of c) ++ taken) (p.run ∷ entries.runs_of (placed c change (runs_of p.pieces))) []
-        (subst (λ (rs : List Run). GivesAll new last rs) p.gives gives) (taken_uses old new (asked_sizes c change) taken (k.catalogue.run ∷ entries.runs_of c) [] p.took uses) others))
+        subst (λ (x : PlainCatalogue). Uses last.entries (plan.commit.catalogue.run ∷ entries.runs_of x) pinned) (sym p.catalogue)
+        (subst (λ (x : Commit). Uses last.entries (x.catalogue.run ∷ entries.runs_of (placed c change (runs_of p.pieces))) pinned) (sym p.commit)
+        (given_uses new last (given_up c change.edit ++ k.catalogue.run ∷ []) ((k.catalogue.run ∷ entries.runs_of c) ++ taken) (p.run ∷ entries.runs_of (placed c change (runs_of p.pieces))) pinned
+        (subst (λ (rs : List Run). GivesAll new last rs) p.gives gives) (taken_uses old new (asked_sizes c change) taken (k.catalogue.run ∷ entries.runs_of c) pinned p.took uses) others))
       where
         apart : are_apart (k.catalogue.run ∷ entries.runs_of c) ≡ true
         apart = (fault_none old.size k.catalogue.run (entries.runs_of c) fit).1
@@ -241,7 +241,7 @@ module _ (old new : Space) (k : Commit) (c : PlainCatalogue) (change : PlainChan
     pub can_replace : (d : Disk) → IsCatalogue c → k.device_sectors ≡ old.size → Stands whole_reading old.size d k c → CanReplace whole_reading old.size d replacement
     can_replace d listed own stands = record {
       stands = stands;
-      free = λ n within. subst (λ (rs : List Run). OutOf rs n) (sym runs_are) (taken_free old new (asked_sizes c change) taken (k.catalogue.run ∷ entries.runs_of c) p.took (uses_used old.entries (k.catalogue.run ∷ entries.runs_of c) [] uses) n within);
+      free = λ n within. subst (λ (rs : List Run). OutOf rs n) (sym runs_are) (taken_free old new (asked_sizes c change) taken (k.catalogue.run ∷ entries.runs_of c) p.took (uses_used old.entries (k.catalogue.run ∷ entries.runs_of c) pinned uses) n within);
       made = record {
         device = ap (λ (x : Commit). x.device_sectors) p.commit ∙ own;
         extent = subst (λ (x : Commit). is_extent old.size 4 x.catalogue ≡ true) (sym p.commit) extent;

@@ -1,4 +1,6 @@
 -- A call that reads a table is a call of the machine: it changes nothing, unless its device fails.
+use Rattle.segments.specs.declared.run.Run.{Run}
+use Rattle.std.specs.Global.{Vec}
 use Rattle.std.specs.Prelude.{◌≢◌, ◌||◌, ◌&&◌, min, if◌then◌else◌}
 use Rattle.std.proofs.Common.{◌≡◌, ◌+◌, ◌-◌, ◌^◌, ℕ, Bool, true, false, List, [], Option, Some, None, refl, sym, ap, ◌∙◌, subst}
 use Rattle.std.proofs.lemmas.Bool.{and_right}
@@ -78,9 +80,9 @@ module _ {D : Type 0} {g : Ghosts D} (size : D → ℕ) (story : D → Story) (f
       record {
         stands = subst (λ (o : Opened StoredCatalogue). Stands whole_reading (size new.device) (now (story new.device)) o.commit (catalogue_of o.catalogue.list)) (sym reads.kept) at;
         tables = (λ i. tables_held (synced_image (later i)) (catalogue_of (reads.kept i).catalogue.list)) ∙ sound.tables;
-        uses = subst (λ (o : Opened StoredCatalogue). Uses o.map.entries (used_runs whole_reading o.commit (catalogue_of o.catalogue.list)) []) (sym reads.kept) sound.uses;
+        uses = new.uses;
         none = sound.none;
-        none_open = sound.none_open;
+        pins = ap (λ (v : Vec Run). v.items) reads.pins ∙ sound.pins;
       }
 
   device_after : (next : Machine) (ends : PlainReply) → OnlyReadsStore size story failed tells ends old new → (next.started ≡ m.started) × (next.settled ≡ m.settled) × (next.doubt ≡ m.doubt) → LeavesOnly (Allows own next) (now (story new.device))

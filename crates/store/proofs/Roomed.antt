@@ -43,9 +43,9 @@ pins_are pinned run = by_case (is_among pinned run) refl
     by_case false is = ap (nat_lt 0) (none_listed pinned run is)
 
 module _ {D : Type 0} {g : Ghosts D} (size : D → ℕ) (story : D → Story) (base : Tables) (m : Machine) (store : Store D g) (sound : IsSound size story base m store) where
-  -- no export is open
+  -- those that the store keeps for exports are those of the machine
   pins : Uses store.opened.map.entries (used_runs whole_reading store.opened.commit (listed_in store)) (pinned_by m)
-  pins = subst (λ (es : List Export). Uses store.opened.map.entries (used_runs whole_reading store.opened.commit (listed_in store)) (flat_map (λ (e : Export). e.runs) es)) (sym sound.none_open) sound.uses
+  pins = subst (λ (rs : List Run). Uses store.opened.map.entries (used_runs whole_reading store.opened.commit (listed_in store)) rs) sound.pins sound.uses
 
   -- the runs in use are those of the commit and its catalogue, and those that exports keep
   same_used : (run : Run) → is_used (usage_of store.opened.map.entries run) ≡ (is_among (used_runs whole_reading store.opened.commit (listed_in store)) run || is_among (pinned_by m) run)

@@ -17,7 +17,7 @@ use Rattle.tables.specs.Verdict.{after}
 use Rattle.store.specs.declared.store.Store.{Store}
 use Rattle.commit.specs.declared.opening_refusal.OpeningRefusal.{OpeningRefusal}
 use Rattle.store.specs.Calls.{PlainCall, done, shut_by}
-use Rattle.store.specs.Machine.{no_store, holds, Setting, Machine, shut, running, halted, shut_down, Allows}
+use Rattle.store.specs.Machine.{pinned_by, no_store, holds, Setting, Machine, shut, running, halted, shut_down, Allows}
 use Rattle.store.specs.Runs.{Goes}
 use Rattle.store.specs.Held.{whole_reading, tables_held, held_by}
 
@@ -61,9 +61,9 @@ is_halted store = store.halted
 pub record IsSound {D : Type 0} {g : Ghosts D} (size : D → ℕ) (story : D → Story) (base : Tables) (m : Machine) (store : Store D g) : Type 0 where
   pub stands : IsOnDisk size story store
   pub tables : tables_held (synced_image (now (story store.device))) (listed_in store) ≡ Some (after base m.settled)
-  pub uses : Uses store.opened.map.entries (used_runs whole_reading store.opened.commit (listed_in store)) []
+  pub uses : Uses store.opened.map.entries (used_runs whole_reading store.opened.commit (listed_in store)) store.pins.items
   pub none : m.doubt ≡ None
-  pub none_open : m.exports ≡ []
+  pub pins : store.pins.items ≡ pinned_by m
 
 pub record StoreFits {D : Type 0} {g : Ghosts D} (size : D → ℕ) (story : D → Story) (base : Tables) (m : Machine) (store : Store D g) : Type 0 where
   pub phase : m.phase ≡ (if store.halted then halted else running)
@@ -79,6 +79,7 @@ pub record FindsStore {D : Type 0} {g : Ghosts D} (size : D → ℕ) (story : D 
   pub synced : now (story (device_of store)) ≡ flushed (now (story device))
   pub stands : IsOnDisk size story store
   pub uses : Uses store.opened.map.entries (used_runs whole_reading store.opened.commit (listed_in store)) []
+  pub none_kept : store.pins.items ≡ []
   pub on : store.halted ≡ false
 
 -- a formatting of any device that was done: reads showed no store there; the empty store is synced, and no stop during it left anything
@@ -95,6 +96,7 @@ pub record IsNewStore {D : Type 0} {g : Ghosts D} (size : ℕ) (store : Store D 
   pub empty : listed_in store ≡ []
   pub commit : commit_of store ≡ first_commit size
   pub uses : Uses store.opened.map.entries (used_runs whole_reading (commit_of store) (listed_in store)) []
+  pub none_kept : store.pins.items ≡ []
   pub on : store.halted ≡ false
 
 -- an opening or a formatting of a device that was done: some machine goes on, and the store stands for it

@@ -72,4 +72,5 @@ pub record OnlyReadsDevice {D : Type 0} (size : D → ℕ) (story : D → Story)
 pub record OnlyReadsStore {D : Type 0} {g : Ghosts D} (size : D → ℕ) (story : D → Story) (failed : D → ℕ) (tells : Bool) (reply : PlainReply) (old new : Store D g) : Type 0 where
   pub device : OnlyReadsDevice size story failed tells reply old.device new.device
   pub kept : new.opened ≡ old.opened
+  pub pins : new.pins ≡ old.pins
   pub halts : new.halted ≡ (old.halted || is_device_reply reply)

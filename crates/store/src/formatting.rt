@@ -89,6 +89,7 @@ impl<D: SectorDevice> Store<D> {
                         map,
                     },
                     halted: false,
+                    pins: Vec::new(alloc),
                 })
             }
             Err(error) => Err((formatting_refusal(error), device)),

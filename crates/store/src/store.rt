@@ -10,6 +10,7 @@ use crate::opening_refusal::opening_refusal;
 use crate::stored::StoredCatalogue;
 use commit::{Opened, recover};
 use sector_dev::SectorDevice;
+use segments::Run;
 use std::alloc::Global;
 
 /// Named tables on a device. After a failure of the device it is halted: it has to be closed and opened again.
@@ -18,12 +19,13 @@ pub struct Store<D: SectorDevice> {
     pub(crate) device: D,
     pub(crate) opened: Opened<StoredCatalogue>,
     pub(crate) halted: bool,
+    pub(crate) pins: Vec<Run>,
     ghost in_limits: { is_size (D.size device) ≡ true },
     ghost same: { opened.map.size ≡ D.size device },
     ghost own: { opened.commit.device_sectors ≡ D.size device },
     ghost fit: { runs_fault (D.size device) opened.commit.catalogue.run (runs_of (catalogue_of opened.catalogue.list)) ≡ None },
     ghost placed: { is_on_device (D.size device) opened.commit.catalogue.run ≡ true },
-    ghost uses: { Uses opened.map.entries (opened.commit.catalogue.run ∷ runs_of (catalogue_of opened.catalogue.list)) [] },
+    ghost uses: { Uses opened.map.entries (opened.commit.catalogue.run ∷ runs_of (catalogue_of opened.catalogue.list)) pins.items },
 }
 
 impl<D: SectorDevice> Store<D> {
@@ -73,6 +75,7 @@ impl<D: SectorDevice> Store<D> {
                 device,
                 opened,
                 halted: false,
+                pins: Vec::new(alloc),
             }),
             Err(error) => Err((opening_refusal(error), device)),
         }
@@ -86,6 +89,7 @@ impl<D: SectorDevice> Store<D> {
             device,
             opened: _opened,
             halted: _halted,
+            pins: _pins,
         } = self;
         device
     }

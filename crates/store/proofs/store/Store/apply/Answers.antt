@@ -56,7 +56,7 @@ returns-in-Ok-clause-goes g c = λ told base m fits.
     goes_after D.size D.story D.failed base m cmd D.tells told old mid c.carry_out-ended.new.self done (ended c.carry_out-ended.result) refl fits c.in-Ok.ensures.reads
     (tells_command (setting_of (D.size old.device) base) (now (D.story old.device)) c.carry_out-ended.result) (
     let ends = c.carry_out-ended.ensures in
-    carried_goes D.size D.story D.failed base m mid c.carry_out-ended.new.self there runs ends.size (change_of c.in-Ok.change) cmd decided.0
+    carried_goes D.size D.story D.failed base m mid c.carry_out-ended.new.self there runs ends.size ends.pins (change_of c.in-Ok.change) cmd decided.0
     (subst (λ (n : ℕ). verdict (tables_now (setting_of n base) m) cmd ≡ Ok decided.0) (sym c.in-Ok.ensures.reads.device.same) decided.1) decided.2
     (decided_after D.size D.story D.failed D.tells old mid done c.in-Ok.ensures.reads told cmd (change_of c.in-Ok.change)
     (is_change D.tells (shown_image (now (D.story old.device))) (listed_in old) cmd (change_of c.in-Ok.change) told c.in-Ok.ensures.answers))

@@ -68,11 +68,11 @@ invariant_of-self-in-Ok g c =
       in_limits = subst (λ (n : ℕ). is_size n ≡ true) (sym sized) s.in_limits;
       same = c.settle.ensures.map.size ∙ c.in_ok-prepared.ensures.size ∙ s.same ∙ sym sized;
       own = ap (λ (k : Commit). k.device_sectors) (commit_is ∙ prep.commit) ∙ s.own ∙ sym sized;
-      fit = (λ i. runs_fault ((sized ∙ sym s.same) i) (commit_is i).catalogue.run (entries.runs_of (catalogue_of (catalogue_is' i).list))) ∙ fit_then old mid s.opened.commit listed change plan back prep on fit s.uses sound stands;
+      fit = (λ i. runs_fault ((sized ∙ sym s.same) i) (commit_is i).catalogue.run (entries.runs_of (catalogue_of (catalogue_is' i).list))) ∙ fit_then old mid s.opened.commit listed change plan back prep on fit s.pins.items s.uses sound stands;
       placed = (λ i. is_on_device ((sized ∙ sym s.same) i) (commit_is i).catalogue.run) ∙ placed_then old mid s.opened.commit listed change plan back prep;
-      uses = subst (λ (x : StoredCatalogue). Uses c.settle.new.opened.map.entries (c.settle.new.opened.commit.catalogue.run ∷ entries.runs_of (catalogue_of x.list)) []) (sym catalogue_is')
-          (subst (λ (k : Commit). Uses c.settle.new.opened.map.entries (k.catalogue.run ∷ entries.runs_of (catalogue_of plan.catalogue.list)) []) (sym commit_is)
-          (uses_then old mid s.opened.commit listed change plan back prep on fit s.uses sound c.settle.new.opened.map stands c.settle.ensures.map));
+      uses = subst (λ (x : StoredCatalogue). Uses c.settle.new.opened.map.entries (c.settle.new.opened.commit.catalogue.run ∷ entries.runs_of (catalogue_of x.list)) s.pins.items) (sym catalogue_is')
+          (subst (λ (k : Commit). Uses c.settle.new.opened.map.entries (k.catalogue.run ∷ entries.runs_of (catalogue_of plan.catalogue.list)) s.pins.items) (sym commit_is)
+          (uses_then old mid s.opened.commit listed change plan back prep on fit s.pins.items s.uses sound c.settle.new.opened.map stands c.settle.ensures.map));
     }
 
 pub invariant_of-self-in-Err : goal.invariant_of-self-in-Err

@@ -31,7 +31,7 @@ append_to_entry-requires-clause-sound g c =
 
 pub returns-in-Ok-clause-reads : goal.returns-in-Ok-clause-reads
 returns-in-Ok-clause-reads g c =
-    record { device = c.in-Ok.ensures.reads; kept = refl; halts = sym (or_false c.args.self.now.halted) }
+    record { device = c.in-Ok.ensures.reads; kept = refl; pins = refl; halts = sym (or_false c.args.self.now.halted) }
 
 pub returns-in-Ok-clause-answers : goal.returns-in-Ok-clause-answers
 returns-in-Ok-clause-answers g c =
@@ -43,7 +43,7 @@ returns-in-Ok-clause-answers g c =
 
 pub returns-in-Err-clause-reads : goal.returns-in-Err-clause-reads
 returns-in-Err-clause-reads g c =
-    record { device = c.in-Err.ensures.reads; kept = refl; halts = c.is_failure-self.ensures ∙ sym (ap (λ (b : Bool). b || is_failure c.in-Err.refusal) c.requires.on) }
+    record { device = c.in-Err.ensures.reads; kept = refl; pins = refl; halts = c.is_failure-self.ensures ∙ sym (ap (λ (b : Bool). b || is_failure c.in-Err.refusal) c.requires.on) }
 
 pub returns-in-Err-clause-answers : goal.returns-in-Err-clause-answers
 returns-in-Err-clause-answers g c =
@@ -56,7 +56,7 @@ returns-in-Err-clause-answers g c =
 pub returns-in-None-clause-reads : goal.returns-in-None-clause-reads
 returns-in-None-clause-reads g c =
     let D = g.D.SectorDevice in
-    record { device = reads_quiet D.size D.story D.failed D.tells (refused NoTable) c.args.self.now.device refl; kept = refl; halts = sym (or_false c.args.self.now.halted) }
+    record { device = reads_quiet D.size D.story D.failed D.tells (refused NoTable) c.args.self.now.device refl; kept = refl; pins = refl; halts = sym (or_false c.args.self.now.halted) }
 
 pub returns-in-None-clause-answers : goal.returns-in-None-clause-answers
 returns-in-None-clause-answers g c =

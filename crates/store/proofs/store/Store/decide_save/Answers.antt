@@ -32,7 +32,7 @@ save_from_entry-requires-clause-sound g c =
 
 pub returns-in-Ok-clause-reads : goal.returns-in-Ok-clause-reads
 returns-in-Ok-clause-reads g c =
-    record { device = c.in-Ok.ensures.reads; kept = refl; halts = sym (or_false c.args.self.now.halted) }
+    record { device = c.in-Ok.ensures.reads; kept = refl; pins = refl; halts = sym (or_false c.args.self.now.halted) }
 
 pub returns-in-Ok-clause-answers : goal.returns-in-Ok-clause-answers
 returns-in-Ok-clause-answers g c =
@@ -44,7 +44,7 @@ returns-in-Ok-clause-answers g c =
 
 pub returns-in-Some-clause-reads : goal.returns-in-Some-clause-reads
 returns-in-Some-clause-reads g c =
-    record { device = c.in-Err.ensures.reads; kept = refl; halts = c.is_failure-self.ensures ∙ sym (ap (λ (b : Bool). b || is_failure c.in-Err.refusal) c.requires.on) }
+    record { device = c.in-Err.ensures.reads; kept = refl; pins = refl; halts = c.is_failure-self.ensures ∙ sym (ap (λ (b : Bool). b || is_failure c.in-Err.refusal) c.requires.on) }
 
 pub returns-in-Some-clause-answers : goal.returns-in-Some-clause-answers
 returns-in-Some-clause-answers g c =
@@ -57,7 +57,7 @@ returns-in-Some-clause-answers g c =
 pub returns-clause-reads : goal.returns-clause-reads
 returns-clause-reads g c =
     let D = g.D.SectorDevice in
-    record { device = reads_quiet D.size D.story D.failed D.tells (refused NoTable) c.args.self.now.device refl; kept = refl; halts = sym (or_false c.args.self.now.halted) }
+    record { device = reads_quiet D.size D.story D.failed D.tells (refused NoTable) c.args.self.now.device refl; kept = refl; pins = refl; halts = sym (or_false c.args.self.now.halted) }
 
 pub returns-clause-answers : goal.returns-clause-answers
 returns-clause-answers g c =

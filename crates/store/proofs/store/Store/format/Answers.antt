@@ -1,4 +1,5 @@
-use Rattle.std.proofs.Common.{◌≡◌, ◌≢◌, ◌∙◌, ℕ, true, [], ◌∷◌, Err, refl, ap, sym, subst}
+use Rattle.segments.specs.declared.run.Run.{Run}
+use Rattle.std.proofs.Common.{List, ◌≡◌, ◌≢◌, ◌∙◌, ℕ, true, [], ◌∷◌, Err, refl, ap, sym, subst}
 use Rattle.std.proofs.lemmas.Bool.{true≢false}
 use Rattle.sector_dev.specs.Disk.{now, shown_image, synced_image}
 use Rattle.sector_dev.specs.Time.{LeavesOnly}
@@ -33,7 +34,8 @@ invariant_of-result g c =
       own = ap (λ (k : Commit). k.device_sectors) c.in-Ok.ensures.commit ∙ sym c.format.ensures.size;
       fit = no_runs (D.size c.format.new.device) c.in-Ok.commit.catalogue.run (catalogue_of c.empty.result) c.empty.ensures;
       placed = (λ i. is_on_device (c.format.ensures.size i) (c.in-Ok.ensures.commit i).catalogue.run) ∙ first_placed size limits;
-      uses = subst (λ (x : PlainCatalogue). Uses c.in-Ok.map.entries (c.in-Ok.commit.catalogue.run ∷ runs_of x) []) (sym c.empty.ensures) c.in-Ok.ensures.uses;
+      uses = subst (λ (rs : List Run). Uses c.in-Ok.map.entries (c.in-Ok.commit.catalogue.run ∷ runs_of (catalogue_of c.empty.result)) rs) (sym c.new.ensures.items)
+          (subst (λ (x : PlainCatalogue). Uses c.in-Ok.map.entries (c.in-Ok.commit.catalogue.run ∷ runs_of x) []) (sym c.empty.ensures) c.in-Ok.ensures.uses);
     }
 
 pub returns-in-Ok-clause-opened : goal.returns-in-Ok-clause-opened
@@ -68,9 +70,10 @@ returns-in-Ok-clause-opened g c = λ told base m fits.
           stands = subst (λ (n : ℕ). Stands whole_reading n (now s1) commit listed) (sym same)
               (subst (λ (k : Commit). Stands whole_reading size (now s1) k listed) (sym c.in-Ok.ensures.commit) (subst (λ (d : PlainCatalogue). Stands whole_reading size (now s1) (first_commit size) d) (sym c.empty.ensures) stands));
           tables = ap (tables_held (synced_image (now s1))) c.empty.ensures ∙ new_tables size fits.in_limits spelled base m (fits.fresh early) (synced_image (now s1));
-          uses = subst (λ (d : PlainCatalogue). Uses c.in-Ok.map.entries (commit.catalogue.run ∷ runs_of d) []) (sym c.empty.ensures) c.in-Ok.ensures.uses;
+          uses = subst (λ (rs : List Run). Uses c.in-Ok.map.entries (commit.catalogue.run ∷ runs_of (catalogue_of c.empty.result)) rs) (sym c.new.ensures.items)
+              (subst (λ (d : PlainCatalogue). Uses c.in-Ok.map.entries (commit.catalogue.run ∷ runs_of d) []) (sym c.empty.ensures) c.in-Ok.ensures.uses);
           none = refl;
-          none_open = refl;
+          pins = c.new.ensures.items;
         };
       };
     }
@@ -101,6 +104,7 @@ returns-in-Ok-clause-empty g c =
       empty = c.empty.ensures;
       commit = c.in-Ok.ensures.commit;
       uses = subst (λ (d : PlainCatalogue). Uses c.in-Ok.map.entries (c.in-Ok.commit.catalogue.run ∷ runs_of d) []) (sym c.empty.ensures) c.in-Ok.ensures.uses;
+      none_kept = c.new.ensures.items;
       on = refl;
     }
 

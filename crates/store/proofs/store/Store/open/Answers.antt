@@ -1,4 +1,8 @@
-use Rattle.std.proofs.Common.{◌≡◌, ℕ, true, ◌∙◌, refl, ap, sym, subst}
+use Rattle.segments.specs.declared.run.Run.{Run}
+use Rattle.std.specs.List.{flat_map}
+use Rattle.commit.specs.Placing.{Uses}
+use Rattle.catalogue.specs.Entries.{runs_of}
+use Rattle.std.proofs.Common.{List, ◌∷◌, ◌≡◌, ℕ, true, ◌∙◌, refl, ap, sym, subst}
 use Rattle.std.proofs.lemmas.Bool.{true≢false}
 use Rattle.sector_dev.specs.Disk.{now}
 use Rattle.sector_dev.specs.Time.{LeavesOnly}
@@ -7,7 +11,7 @@ use Rattle.commit.specs.Opening.{standing_shown}
 use Rattle.catalogue.specs.View.{catalogue_of}
 use Rattle.commit.specs.declared.opening_refusal.OpeningRefusal.{OpeningRefusal}
 use Rattle.store.specs.Calls.{open_call, shut_by, counted}
-use Rattle.store.specs.Machine.{shut_down, Allows}
+use Rattle.store.specs.Machine.{Export, shut_down, Allows}
 use Rattle.store.specs.Runs.{Goes}
 use Rattle.store.specs.Held.{whole_reading}
 use Rattle.store.specs.Fits.{setting_of}
@@ -66,9 +70,9 @@ returns-in-Ok-clause-opened g c = λ told base m fits.
         sound = λ on. record {
           stands = subst (λ (n : ℕ). Stands whole_reading n (now s1) commit catalogue) (sym same) (c.in-Ok.ensures.stands told);
           tables = synced_then s0 s1 catalogue _ synced found.tables;
-          uses = c.in-Ok.ensures.uses;
+          uses = subst (λ (rs : List Run). Uses c.in-Ok.opened.map.entries (commit.catalogue.run ∷ runs_of catalogue) rs) (sym c.new.ensures.items) c.in-Ok.ensures.uses;
           none = after.2;
-          none_open = after.3;
+          pins = c.new.ensures.items ∙ sym (ap (λ (es : List Export). flat_map (λ (e : Export). e.runs) es) after.3);
         };
       };
     }
@@ -82,6 +86,7 @@ returns-in-Ok-clause-found g c = λ told.
       synced = c.in-Ok.ensures.synced told;
       stands = subst (λ (n : ℕ). Stands whole_reading n (now (D.story c.recover.new.device)) c.in-Ok.opened.commit (catalogue_of c.in-Ok.opened.catalogue.list)) (sym c.recover.ensures.size) (c.in-Ok.ensures.stands told);
       uses = c.in-Ok.ensures.uses;
+      none_kept = c.new.ensures.items;
       on = refl;
     }
 

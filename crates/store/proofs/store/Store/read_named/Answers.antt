@@ -31,7 +31,7 @@ read_entry-requires-clause-sound g c =
 pub returns-then-self-clause-reads : goal.returns-then-self-clause-reads
 returns-then-self-clause-reads g c =
     let D = g.D.SectorDevice in
-    record { device = reads_quiet D.size D.story D.failed D.tells (refused Halted) c.args.self.now.device refl; kept = refl; halts = sym (or_false c.args.self.now.halted) }
+    record { device = reads_quiet D.size D.story D.failed D.tells (refused Halted) c.args.self.now.device refl; kept = refl; pins = refl; halts = sym (or_false c.args.self.now.halted) }
 
 pub returns-then-self-clause-told : goal.returns-then-self-clause-told
 returns-then-self-clause-told g c =
@@ -42,7 +42,7 @@ returns-then-self-clause-told g c =
 
 pub returns-in-Ok-clause-reads : goal.returns-in-Ok-clause-reads
 returns-in-Ok-clause-reads g c =
-    record { device = c.in-Ok.ensures.reads; kept = refl; halts = sym (or_false c.args.self.now.halted) }
+    record { device = c.in-Ok.ensures.reads; kept = refl; pins = refl; halts = sym (or_false c.args.self.now.halted) }
 
 pub returns-in-Ok-clause-found : goal.returns-in-Ok-clause-found
 returns-in-Ok-clause-found g c =
@@ -53,7 +53,7 @@ returns-in-Ok-clause-found g c =
 
 pub returns-in-Err-clause-reads : goal.returns-in-Err-clause-reads
 returns-in-Err-clause-reads g c =
-    record { device = c.in-Err.ensures.reads; kept = refl; halts = c.is_failure-self.ensures ∙ sym (ap (λ (b : Bool). b || is_failure c.in-Err.refusal) c.if-self.false) }
+    record { device = c.in-Err.ensures.reads; kept = refl; pins = refl; halts = c.is_failure-self.ensures ∙ sym (ap (λ (b : Bool). b || is_failure c.in-Err.refusal) c.if-self.false) }
 
 pub returns-in-Err-clause-told : goal.returns-in-Err-clause-told
 returns-in-Err-clause-told g c =
@@ -65,7 +65,7 @@ returns-in-Err-clause-told g c =
 pub returns-in-None-clause-reads : goal.returns-in-None-clause-reads
 returns-in-None-clause-reads g c =
     let D = g.D.SectorDevice in
-    record { device = reads_quiet D.size D.story D.failed D.tells (refused NoTable) c.args.self.now.device refl; kept = refl; halts = sym (or_false c.args.self.now.halted) }
+    record { device = reads_quiet D.size D.story D.failed D.tells (refused NoTable) c.args.self.now.device refl; kept = refl; pins = refl; halts = sym (or_false c.args.self.now.halted) }
 
 pub returns-in-None-clause-told : goal.returns-in-None-clause-told
 returns-in-None-clause-told g c =
