@@ -1,27 +1,47 @@
-# The gate, and the built program with its tests. Needs rt (the Rattle toolchain), gcc and python3.
+# The program, the gate, and the tests of both. `make` and `make install` need sh, make, gzip and sha256sum alone where dist/ holds the program of
+# the sources that stand here; all else needs rt (the Rattle toolchain), gcc and python3.
 SOURCES := $(shell find crates.txt crates -name out -prune -o -type f -print)
 
 # The crates with calls that are refused memory in turn, and their tests as they are built.
-REFUSING := $(sort $(shell grep -rl _also_without_memory crates/*/src | cut -d/ -f2))
+REFUSING := $(sort $(shell find crates/*/src -type f -exec awk '/_also_without_memory/ { print FILENAME }' {} + | cut -d/ -f2))
 TESTS := $(foreach crate,$(REFUSING),crates/$(crate)/out/$(crate)_tests)
 
-.PHONY: all test gate-cost gate edit-reasons memory vectors bench bench-recode bench-texts bench-store bench-device bench-bitmap
+PREFIX ?= /usr/local
+
+.PHONY: all proved dist install uninstall test gate-cost gate wrong-bodies memory vectors bench bench-recode bench-texts bench-store bench-device bench-bitmap
 .DELETE_ON_ERROR:
 
-# Builds the program and runs it once, on the stream of examples/.
+# Puts the program into bin/ and runs it once, on the stream of examples/.
 all: bin/arrowstore
 	@examples/run bin/arrowstore
 
-# What the gate has built is taken, and built here only where a source is newer.
-crates/program/out/program: $(SOURCES)
-	@echo "Proving and building arrowstore. The first build proves every crate, which takes two to three hours of processor"
-	@echo "time. A line comes for each crate and function; later builds prove only what changed."
-	cd crates/program && rt run -- recode < stdin > /dev/null
-	@touch $@
+# What the sources are is looked at each time, not when they were written.
+bin/arrowstore: FORCE
+	@tools/put_program
 
-bin/arrowstore: crates/program/out/program
-	@mkdir -p bin
-	@cp $< $@
+FORCE:
+
+# Proves and builds the program from nothing, whatever dist/ holds, and compares it with dist/.
+proved:
+	@tools/prove_program "This is a proof from nothing" --anew
+	@tools/put_program
+	@tools/compare_dist bin/arrowstore
+	@examples/run bin/arrowstore
+
+# Makes dist/ anew of what the gate has built.
+dist:
+	@tools/is_built_here || { echo "A source is newer than crates/program/out/program: run 'make test' or 'make proved' first." >&2; exit 1; }
+	@rm -rf bin/dist
+	@tools/make_dist crates/program/out/program bin/dist
+	@rm -rf dist
+	@mv bin/dist dist
+	@cat dist/manifest
+
+install: bin/arrowstore
+	@tools/install_program $(DESTDIR)$(PREFIX)
+
+uninstall:
+	@tools/install_program --remove $(DESTDIR)$(PREFIX)
 
 $(TESTS): crates/%_tests: $(SOURCES)
 	@echo "Proving, building and running the tests of $(notdir $*)."
@@ -30,17 +50,19 @@ $(TESTS): crates/%_tests: $(SOURCES)
 
 # All that must pass, and then what it cost crate by crate (docs/gate.md).
 test gate-cost:
-	@echo "The gate proves every crate from nothing, twice where it has tests or edits: that takes one to two hours."
-	tests/gate_cost $(MAKE) --no-print-directory gate
+	@echo "The gate proves every crate from nothing, twice where it has tests or edits: that takes about an hour on four processors."
+	tools/gate_cost $(MAKE) --no-print-directory gate
 
 # The gate proves every crate from nothing and builds the program and the tests, which then run with refused memory.
 gate:
-	RT_JOBS=$${RT_JOBS:-$$(tests/proofs_at_once)} rt ci
+	tools/wrong_bodies --texts
+	RT_JOBS=$${RT_JOBS:-$$(tools/proofs_at_once)} rt ci
 	@$(MAKE) --no-print-directory memory vectors
+	@tools/compare_dist crates/program/out/program
 
-# Why each must-fail edit is refused (docs/gate.md).
-edit-reasons:
-	tests/edit_reasons
+# Tries the wrong bodies of all crates, or of those in CRATES, and says why each is refused (docs/testing.md).
+wrong-bodies:
+	RT_JOBS=$${RT_JOBS:-$$(tools/proofs_at_once)} tools/wrong_bodies $(CRATES)
 
 # Calls of single crates with each allocation refused.
 memory: $(TESTS)
@@ -53,7 +75,7 @@ vectors: bin/arrowstore
 	tests/stores bin/arrowstore
 	tests/queries bin/arrowstore
 	tests/sessions bin/arrowstore tests/vectors/sessions_store tests/vectors/sessions_texts
-	examples/killed bin/arrowstore
+	tests/killed bin/arrowstore
 	tests/types bin/arrowstore
 	tests/metadata bin/arrowstore
 	tests/refused_memory bin/arrowstore
@@ -61,6 +83,7 @@ vectors: bin/arrowstore
 	tests/failing_writes bin/arrowstore
 	tests/run_vectors bin/arrowstore tests/vectors/ints tests/vectors/streams tests/vectors/traps
 	tests/texts bin/arrowstore tests/vectors/texts.jsonl tests/vectors/texts_worked.jsonl
+	tests/dist bin/arrowstore
 
 bench: bench-recode bench-texts bench-store bench-device bench-bitmap
 
