@@ -1,13 +1,16 @@
 -- Calls of a place, one after another.
 use Rattle.std.proofs.Common.{◌≡◌, ◌≢◌, ◌++◌, ◌∷◌, [], ℕ, Bool, true, false, List, refl, sym, ap, ◌∙◌, subst, if◌then◌else◌}
-use Rattle.std.specs.Prelude.{nat_lt}
+use Rattle.std.specs.Prelude.{nat_lt, string_bytes, Option}
 use Rattle.sector_dev.specs.Disk.{Story, now}
 use Rattle.sector_dev.specs.Time.{LeavesOnly}
 use Rattle.sector_dev.specs.laws.Time.{stays}
 use Rattle.sector_dev.specs.declared.device.SectorDevice.{Ghosts}
 use Rattle.tables.specs.declared.refusal.Refusal.TheVariants as refusals
 use Rattle.tables.specs.Tables.{Tables}
+use Rattle.tables.specs.Commands.{import_stream, append_stream}
+use Rattle.tables.specs.View.{command_of}
 use Rattle.store.specs.declared.call.Call.{Call}
+use Rattle.store.specs.declared.call.Call.TheVariants as calls_in
 use Rattle.store.specs.declared.call.Reply.{Reply}
 use Rattle.store.specs.declared.call.Place.{Place}
 use Rattle.store.specs.declared.call.Place.TheVariants as places
@@ -19,11 +22,13 @@ use Rattle.store.specs.Steps.{Step}
 use Rattle.store.specs.Runs.{Goes}
 use Rattle.store.specs.Fits.{setting_of, StoreFits, Opens, Shuts}
 use Rattle.store.specs.Applying.{GoesOn}
-use Rattle.store.specs.Places.{call_of, reply_in, calls_of, replies_of, device_in, ShutFits, PlaceFits, PlaceGoes, PlaceRuns, PlaceLives}
+use Rattle.store.specs.Places.{IsCallOf, AreCallsOf, asks_store, reply_in, replies_of, device_in, ShutFits, PlaceFits, PlaceGoes, PlaceRuns, PlaceLives}
+use Rattle.store.proofs.Taken.{some_bytes}
 use Rattle.store.proofs.Asked.{not_less, refused_elsewhere}
 use Rattle.store.specs.laws.Going.{no_run, run_of_one, runs_joined}
 use Rattle.store.specs.laws.Left.{left_from}
 use Rattle.store.specs.laws.Kept.{stops_keep}
+use Rattle.store.specs.laws.Cut.{replied_at, snapshot_at}
 use Rattle.store.specs.laws.Settled.{run_settles, run_settles_all}
 use Rattle.store.specs.laws.Counted.{undisturbed}
 use Rattle.store.specs.laws.Never.{tells_none_damaged, tells_a_store_since}
@@ -125,10 +130,6 @@ runs_more size story failed base m calls replies call reply first old new runs g
       fits = goes.fits;
     }
 
-pub calls_more : (calls : List Call) (call : Call) → calls_of (calls ++ call ∷ []) ≡ calls_of calls ++ call_of call ∷ []
-calls_more [] call = refl
-calls_more (c ∷ calls) call = ap (λ (cs : List PlainCall). call_of c ∷ cs) (calls_more calls call)
-
 pub replies_more : (replies : List Reply) (reply : Reply) → replies_of (replies ++ reply ∷ []) ≡ replies_of replies ++ reply_in reply ∷ []
 replies_more [] reply = refl
 replies_more (r ∷ replies) reply = ap (λ (rs : List PlainReply). reply_in r ∷ rs) (replies_more replies reply)
@@ -157,6 +158,8 @@ lives size story failed base m calls replies old new fits runs =
         left_from s calls replies m before f runs.next after f' runs.run i image (place_allows size story base m old fits) left,
         stops_keep s calls replies m before f runs.next after f' runs.run i image (place_allows size story base m old fits) left,
       );
+      replied = replied_at s calls replies m before f runs.next after f' runs.run;
+      snapshots = snapshot_at s calls replies m before f runs.next after f' runs.run;
       undamaged = tells_none_damaged s calls replies m before f runs.next after f' runs.run;
       there = λ i was. tells_a_store_since s calls replies m before f runs.next after f' runs.run i was;
       settles = run_settles s calls replies m before f runs.next after f' runs.run;
@@ -164,3 +167,25 @@ lives size story failed base m calls replies old new fits runs =
       all_settled = λ none on no_failure. run_settles_all s calls replies m before f runs.next after f' runs.run none on no_failure;
       unhalted = λ is_open at no_failure. tells_no_halt s calls replies m before f runs.next after f' runs.run is_open at no_failure;
     }
+
+-- ---- calls as plain data
+
+-- one that needs an open store
+pub plain_of : {R : Type 0} (remaining : R → Option (List ℕ)) (call : Call R) → asks_store call ≡ true → (plain : PlainCall) × IsCallOf remaining call plain × (needs_store plain ≡ true)
+plain_of remaining (calls_in.Apply command) asks = (apply_call (command_of command), refl, refl)
+plain_of remaining (calls_in.ImportFrom name reader) asks = let some = some_bytes (remaining reader) in (stream_call (import_stream (string_bytes name) some.0), (some.0, some.1, refl), refl)
+plain_of remaining (calls_in.AppendFrom name reader) asks = let some = some_bytes (remaining reader) in (stream_call (append_stream (string_bytes name) some.0), (some.0, some.1, refl), refl)
+plain_of remaining calls_in.Format asks = absurd (cc asks)
+plain_of remaining calls_in.Open asks = absurd (cc asks)
+plain_of remaining calls_in.Close asks = (close_call, refl, refl)
+plain_of remaining calls_in.Tables asks = (tables_call, refl, refl)
+plain_of remaining (calls_in.Schema name) asks = (schema_call (string_bytes name), refl, refl)
+plain_of remaining (calls_in.Read name) asks = (read_call (string_bytes name), refl, refl)
+plain_of remaining (calls_in.Export name) asks = (export_call (string_bytes name), refl, refl)
+
+pub are_more : {R : Type 0} (remaining : R → Option (List ℕ)) (calls : List (Call R)) (plains : List PlainCall) (call : Call R) (plain : PlainCall) → AreCallsOf remaining calls plains → IsCallOf remaining call plain
+    → AreCallsOf remaining (calls ++ call ∷ []) (plains ++ plain ∷ [])
+are_more remaining [] [] call plain are is = (is, refl)
+are_more remaining [] (p ∷ ps) call plain are is = absurd (cc are)
+are_more remaining (x ∷ xs) [] call plain are is = absurd are
+are_more remaining (x ∷ xs) (p ∷ ps) call plain are is = (are.0, are_more remaining xs ps call plain are.1 is)

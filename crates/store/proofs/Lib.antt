@@ -1,6 +1,8 @@
 mod Opened
 mod Formatted
 mod Asked
+mod Inputs
+mod Taken
 mod AtNames
 mod EditedCounts
 mod Tested

@@ -1,18 +1,22 @@
 -- What each call answers of any place, from what the calls of a store promise.
-use Rattle.std.proofs.Common.{◌≡◌, ◌++◌, ◌∷◌, [], ℕ, Bool, true, List, refl, subst}
+use Rattle.std.proofs.Common.{◌≡◌, ◌++◌, ◌∷◌, [], ℕ, Bool, true, List, Result, Ok, Err, refl, subst}
 use Rattle.std.specs.Prelude.{Option}
 use Rattle.sector_dev.specs.Disk.{Story}
 use Rattle.sector_dev.specs.declared.device.SectorDevice.{Ghosts}
 use Rattle.catalogue.specs.Entries.{PlainEntry}
+use Rattle.tables.specs.Commands.{PlainCommand}
 use Rattle.tables.specs.declared.refusal.Refusal.{Refusal}
 use Rattle.tables.specs.declared.refusal.Refusal.TheVariants as refusals
 use Rattle.store.specs.declared.store.Store.{Store}
+use Rattle.store.specs.declared.call.Call.{Call}
 use Rattle.store.specs.declared.call.Place.{Place}
 use Rattle.store.specs.declared.call.Place.TheVariants as places
 use Rattle.store.specs.Calls.{PlainCall, needs_store, apply_call, format_call, open_call, close_call, tables_call, schema_call, read_call, export_call, stream_call, open_export_call, export_next_call, close_export_call, compact_call, PlainReply, done, refused, is_device_reply, counted}
 use Rattle.store.specs.Listing.{RefusesTables, RefusesSchema}
-use Rattle.store.specs.Reading.{OnlyReadsStore}
-use Rattle.store.specs.Answering.{Answers, AnswersEach}
+use Rattle.store.specs.Reading.{OnlyReadsStore, ended}
+use Rattle.store.specs.Places.{IsStreamOf, device_in}
+use Rattle.store.specs.Answering.{Answers, AnswersEach, TakesInput, AnswersAs, AnswersCall, AnswersCalls}
+use Rattle.store.proofs.Answered.{are_more, runs_more, runs_none, stays_open}
 
 pub list_counts : (halted : Bool) (r : Refusal) (failed : ℕ) → RefusesTables halted r → failed ≡ counted (refused r) failed
 list_counts halted refusals.Halted failed told = refl
@@ -67,3 +71,37 @@ module _ {D : Type 0} {g : Ghosts D} (size : D → ℕ) (story : D → Story) (f
   pub answers_none : (first : Place D g) → AnswersEach size story failed tells first [] [] first
   unfolding AnswersEach
   answers_none first = refl
+
+  -- ---- calls of the code
+
+  -- a command whose bytes come from a reader
+  pub stream_answers : (input : Option (List ℕ)) (command : List ℕ → PlainCommand) (old new : Store D g) (result : Result (Unit {0}) Refusal) → TakesInput size story failed tells input command old result new
+      → size new.device ≡ size old.device → failed new.device ≡ counted (ended result) (failed old.device)
+      → AnswersAs size story failed tells (IsStreamOf input command) (places.Open old) (ended result) (places.Open new)
+  stream_answers input command old new (Ok unit) takes same count = record {
+    plain = stream_call (command takes.bytes);
+    is = (takes.bytes, takes.all, refl);
+    goes = λ told base m fits. stays_open size story failed base m (stream_call (command takes.bytes)) done old new (takes.goes told base m fits);
+    answers = record { answers = takes.takes; same = same; count = count };
+  }
+  stream_answers input command old new (Err r) takes same count = record {
+    plain = stream_call (command takes.bytes);
+    is = (takes.bytes, takes.all, refl);
+    goes = λ told base m fits. stays_open size story failed base m (stream_call (command takes.bytes)) (refused r) old new (takes.goes told base m fits);
+    answers = record { answers = takes.takes; same = same; count = count };
+  }
+
+  pub calls_none : {R : Type 0} (remaining : R → Option (List ℕ)) (place : Place D g) → AnswersCalls size story failed tells remaining place [] [] place
+  calls_none remaining place = record { plains = []; are = refl; answers = answers_none place; runs = λ told base m fits. runs_none size story failed base m place fits }
+
+  pub calls_more : {R : Type 0} (remaining : R → Option (List ℕ)) (calls : List (Call R)) (replies : List PlainReply) (call : Call R) (reply : PlainReply) (first old new : Place D g)
+      → AnswersCalls size story failed tells remaining first calls replies old → AnswersCall size story failed tells remaining old call reply new
+      → AnswersCalls size story failed tells remaining first (calls ++ call ∷ []) (replies ++ reply ∷ []) new
+  calls_more remaining calls replies call reply first old new all one = record {
+    plains = all.plains ++ one.plain ∷ [];
+    are = are_more remaining calls all.plains call one.plain all.are one.is;
+    answers = answers_more all.plains replies one.plain reply first old new all.answers one.answers;
+    runs = λ told base m fits.
+        let so_far = all.runs told base m fits in
+        runs_more size story failed base m all.plains replies one.plain reply (device_in first) old new so_far (one.goes told base so_far.next so_far.fits);
+  }

@@ -1,5 +1,5 @@
 -- What each call of a place answers and leaves, on any device and any place: also where it stands for no machine, as one whose store is damaged.
-use Rattle.std.specs.Prelude.{◌≡◌, ◌≢◌, ◌↔◌, ℕ, Bool, true, false, List, [], ◌∷◌, Option, Some, None, option_map, Result, Ok, Err, IfErr, OnOk}
+use Rattle.std.specs.Prelude.{◌≡◌, ◌≢◌, ◌⊎◌, ◌↔◌, ℕ, Bool, true, false, List, [], ◌∷◌, Option, Some, None, option_map, Result, Ok, Err, IfSome, IfErr, OnOk}
 use Rattle.sector_dev.specs.Disk.{Story, Image, now, shown_image}
 use Rattle.sector_dev.specs.Time.{Grows, OnlyReads}
 use Rattle.sector_dev.specs.declared.device.SectorDevice.{Ghosts}
@@ -14,22 +14,25 @@ use Rattle.commit.specs.Formatting.{IsFormatting}
 use Rattle.commit.specs.declared.cause.Cause.TheVariants.{DeviceSize}
 use Rattle.tables.specs.declared.refusal.Refusal.{Refusal}
 use Rattle.tables.specs.declared.refusal.Refusal.TheVariants as refusals
+use Rattle.tables.specs.Tables.{Tables}
 use Rattle.tables.specs.Commands.{PlainCommand}
 use Rattle.store.specs.declared.store.Store.{Store}
+use Rattle.store.specs.declared.call.Call.{Call}
 use Rattle.store.specs.declared.call.Place.{Place}
 use Rattle.store.specs.declared.call.Place.TheVariants as places
 use Rattle.commit.specs.declared.opening_refusal.OpeningRefusal.{OpeningRefusal}
 use Rattle.commit.specs.declared.opening_refusal.OpeningRefusal.TheVariants as openings
-use Rattle.store.specs.Calls.{PlainCall, apply_call, format_call, open_call, close_call, tables_call, schema_call, read_call, export_call}
+use Rattle.store.specs.Calls.{PlainCall, apply_call, format_call, open_call, close_call, tables_call, schema_call, read_call, export_call, stream_call}
 use Rattle.store.specs.Calls.{PlainReply, done, counts, schema_is, table_is, bytes_are, refused, shut_by, counted}
 use Rattle.store.specs.Opening.{TellsOpening, TellsFormatting, IsOfFormatting}
 use Rattle.store.specs.Held.{whole_reading}
-use Rattle.store.specs.Fits.{device_of, listed_in, is_halted, IsOnDisk, FindsStore, FormatsStore, IsNewStore}
+use Rattle.store.specs.Machine.{Machine}
+use Rattle.store.specs.Fits.{StoreFits, device_of, listed_in, is_halted, IsOnDisk, FindsStore, FormatsStore, IsNewStore}
 use Rattle.store.specs.Deciding.{reads_device}
-use Rattle.store.specs.Applying.{IsApplied, IsKept, IsApplyingAtEachMoment, IsDoneOnDisk}
+use Rattle.store.specs.Applying.{GoesOn, IsApplied, IsKept, IsApplyingAtEachMoment, IsDoneOnDisk}
 use Rattle.store.specs.Listing.{RefusesTables, RefusesSchema}
-use Rattle.store.specs.Reading.{RefusesRead, ReadsTable, OnlyReadsStore}
-use Rattle.store.specs.Places.{device_in}
+use Rattle.store.specs.Reading.{RefusesRead, ReadsTable, OnlyReadsStore, ended}
+use Rattle.store.specs.Places.{IsCallOf, AreCallsOf, device_in, PlaceFits, PlaceGoes, PlaceRuns}
 
 -- ---- where a call leaves the place
 
@@ -95,6 +98,24 @@ AnswersCommand size story tells old command done new = Applies size story tells 
 AnswersCommand size story tells old command (refused r) new = Applies size story tells old command (Err r) new
 AnswersCommand size story tells old command _ new = ⊥
 
+-- a command whose bytes come from a reader: it is answered as that command, or a read failed, and nothing is changed
+abbrev pub TakesStream : {D : Type 0} {g : Ghosts D} → (size : D → ℕ) → (story : D → Story) → (tells : Bool) → Store D g → PlainCommand → Result (Unit {0}) Refusal → Store D g → Type 0
+TakesStream size story tells old command result new = Applies size story tells old command result new ⊎ ((result ≡ Err refusals.Read) × (is_halted old ≡ false) × (new ≡ old))
+
+abbrev pub AnswersStream : {D : Type 0} {g : Ghosts D} → (size : D → ℕ) → (story : D → Story) → (tells : Bool) → Store D g → PlainCommand → PlainReply → Store D g → Type 0
+AnswersStream size story tells old command done new = TakesStream size story tells old command (Ok tt) new
+AnswersStream size story tells old command (refused r) new = TakesStream size story tells old command (Err r) new
+AnswersStream size story tells old command _ new = ⊥
+
+-- one that has all that a reader had left, where that is told: what it does on a store that stands for a machine, and on any store
+pub record TakesInput {D : Type 0} {g : Ghosts D} (size : D → ℕ) (story : D → Story) (failed : D → ℕ) (tells : Bool) (input : Option (List ℕ)) (command : List ℕ → PlainCommand) (old : Store D g)
+    (result : Result (Unit {0}) Refusal) (new : Store D g) : Type 0 where
+  pub bytes : List ℕ
+  pub all : IfSome input (λ all. bytes ≡ all)
+  pub goes : tells ≡ true → (base : Tables) (m : Machine) → StoreFits size story base m old
+      → GoesOn size story failed base m (stream_call (command bytes)) (ended result) old new
+  pub takes : TakesStream size story tells old (command bytes) result new
+
 -- the names of the tables: those of the catalogue
 abbrev pub AnswersTables : {D : Type 0} {g : Ghosts D} → Store D g → PlainReply → Type 0
 AnswersTables old (counts ns) = (is_halted old ≡ false) × (ns ≡ tables_of (listed_in old))
@@ -132,6 +153,7 @@ AnswersOpen size story failed tells old (read_call name) reply new =
 AnswersOpen size story failed tells old (export_call name) reply new =
     AnswersExport (is_halted old) tells (shown_image (now (story (device_of old)))) (entry_of (listed_in old) name) reply
     × IsOpenWith (λ store. OnlyReadsStore size story failed tells reply old store) new
+AnswersOpen size story failed tells old (stream_call c) reply new = IsOpenWith (λ store. AnswersStream size story tells old c reply store) new
 -- the others are not asked of a place yet
 AnswersOpen size story failed tells old _ reply new = ⊥
 
@@ -166,3 +188,24 @@ AnswersEach size story failed tells old (call ∷ calls) (reply ∷ replies) new
     AnswersThen size story failed tells old call reply (λ next. AnswersEach size story failed tells next calls replies new)
 AnswersEach size story failed tells old [] (reply ∷ replies) new = ⊥
 AnswersEach size story failed tells old (call ∷ calls) [] new = ⊥
+
+-- ---- calls of the code
+
+-- one call, of which this holds as plain data: what it does to a place that stands for a machine, and to any place
+pub record AnswersAs {D : Type 0} {g : Ghosts D} (size : D → ℕ) (story : D → Story) (failed : D → ℕ) (tells : Bool) (Is : PlainCall → Type 0) (old : Place D g) (reply : PlainReply) (new : Place D g) : Type 0 where
+  pub plain : PlainCall
+  pub is : Is plain
+  pub goes : tells ≡ true → (base : Tables) (m : Machine) → PlaceFits size story base m old → PlaceGoes size story failed base m plain reply (device_in old) new
+  pub answers : Answers size story failed tells old plain reply new
+
+abbrev pub AnswersCall : {D : Type 0} {g : Ghosts D} {R : Type 0} → (size : D → ℕ) → (story : D → Story) → (failed : D → ℕ) → (tells : Bool) → (remaining : R → Option (List ℕ)) → Place D g → Call R → PlainReply → Place D g
+    → Type 0
+AnswersCall size story failed tells remaining old call reply new = AnswersAs size story failed tells (IsCallOf remaining call) old reply new
+
+-- and calls one after another
+pub record AnswersCalls {D : Type 0} {g : Ghosts D} {R : Type 0} (size : D → ℕ) (story : D → Story) (failed : D → ℕ) (tells : Bool) (remaining : R → Option (List ℕ)) (old : Place D g) (calls : List (Call R)) (replies : List PlainReply)
+    (new : Place D g) : Type 0 where
+  pub plains : List PlainCall
+  pub are : AreCallsOf remaining calls plains
+  pub answers : AnswersEach size story failed tells old plains replies new
+  pub runs : tells ≡ true → (base : Tables) (m : Machine) → PlaceFits size story base m old → PlaceRuns size story failed base m plains replies (device_in old) new

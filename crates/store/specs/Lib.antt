@@ -7,6 +7,7 @@ pub mod Since
 pub mod History
 pub mod Halting
 pub mod Snapshots
+pub mod Reached
 pub mod Exchanging
 pub mod Held
 pub mod Fits
@@ -19,6 +20,7 @@ pub mod Applying
 pub mod Verdicts
 pub mod Listing
 pub mod Reading
+pub mod Input
 pub mod Places
 pub mod Answering
 pub mod laws

@@ -1,11 +1,12 @@
 -- Calls of a place, which is an open store or a shut device, and what a run of them leaves.
-use Rattle.std.specs.Prelude.{◌≡◌, ◌≢◌, ◌<◌, ◌-◌, ◌^◌, ◌||◌, ℕ, Bool, true, false, List, map, take, drop, string_bytes, None}
+use Rattle.std.specs.Prelude.{◌≡◌, ◌≢◌, ◌<◌, ◌-◌, ◌^◌, ◌||◌, ℕ, Bool, true, false, List, [], ◌∷◌, map, take, drop, string_bytes, Option, None, IfSome}
 use Rattle.std.specs.List.{list_any}
 use Rattle.sector_dev.specs.Disk.{Story, Image, moment, LeftSince}
 use Rattle.sector_dev.specs.declared.device.SectorDevice.{Ghosts}
 use Rattle.arrow_schema.specs.View.{schema_of}
 use Rattle.values.specs.TableView.{table_of}
 use Rattle.tables.specs.Tables.{Tables}
+use Rattle.tables.specs.Commands.{PlainCommand, import_stream, append_stream}
 use Rattle.tables.specs.View.{command_of}
 use Rattle.store.specs.declared.call.Call.{Call}
 use Rattle.store.specs.declared.call.Call.TheVariants as calls
@@ -13,23 +14,44 @@ use Rattle.store.specs.declared.call.Reply.{Reply}
 use Rattle.store.specs.declared.call.Reply.TheVariants as replies
 use Rattle.store.specs.declared.call.Place.{Place}
 use Rattle.store.specs.declared.call.Place.TheVariants as places
-use Rattle.store.specs.Calls.{PlainCall, apply_call, format_call, open_call, close_call, tables_call, schema_call, read_call, export_call, PlainReply, done, counts, schema_is, table_is, bytes_are, refused, shut_by, is_device_reply}
+use Rattle.store.specs.Calls.{PlainCall, apply_call, format_call, open_call, close_call, tables_call, schema_call, read_call, export_call, stream_call, open_export_call, PlainReply, done, counts, schema_is, table_is, bytes_are, export_is, refused, shut_by, is_device_reply}
 use Rattle.store.specs.Machine.{Machine, shut, halted}
 use Rattle.store.specs.Runs.{Goes, Run}
 use Rattle.store.specs.Since.{story_at, IsLeftFrom}
 use Rattle.store.specs.History.{any_change, begun, acknowledged, Settles, SettlesAll, Keeps, tells_damage, tells_no_store}
+use Rattle.store.specs.Snapshots.{given, has_ended, stays_open}
+use Rattle.store.specs.Reached.{IsReplied, GivesSnapshot}
 use Rattle.store.specs.Halting.{phase_where, tells_halt_while_open}
 use Rattle.store.specs.Fits.{setting_of, DeviceFits, StoreFits}
 
-abbrev pub call_of : Call → PlainCall
-call_of (calls.Apply command) = apply_call (command_of command)
-call_of calls.Format = format_call
-call_of calls.Open = open_call
-call_of calls.Close = close_call
-call_of calls.Tables = tables_call
-call_of (calls.Schema name) = schema_call (string_bytes name)
-call_of (calls.Read name) = read_call (string_bytes name)
-call_of (calls.Export name) = export_call (string_bytes name)
+-- a command with all the bytes that a reader had left, where that is told
+abbrev pub IsStreamOf : Option (List ℕ) → (List ℕ → PlainCommand) → PlainCall → Type 0
+IsStreamOf input command plain = (bytes : List ℕ) × IfSome input (λ all. bytes ≡ all) × (plain ≡ stream_call (command bytes))
+
+-- a call as plain data, by what is told of its reader
+abbrev pub IsCallOf : {R : Type 0} → (remaining : R → Option (List ℕ)) → Call R → PlainCall → Type 0
+IsCallOf remaining (calls.Apply command) plain = plain ≡ apply_call (command_of command)
+IsCallOf remaining (calls.ImportFrom name reader) plain = IsStreamOf (remaining reader) (import_stream (string_bytes name)) plain
+IsCallOf remaining (calls.AppendFrom name reader) plain = IsStreamOf (remaining reader) (append_stream (string_bytes name)) plain
+IsCallOf remaining calls.Format plain = plain ≡ format_call
+IsCallOf remaining calls.Open plain = plain ≡ open_call
+IsCallOf remaining calls.Close plain = plain ≡ close_call
+IsCallOf remaining calls.Tables plain = plain ≡ tables_call
+IsCallOf remaining (calls.Schema name) plain = plain ≡ schema_call (string_bytes name)
+IsCallOf remaining (calls.Read name) plain = plain ≡ read_call (string_bytes name)
+IsCallOf remaining (calls.Export name) plain = plain ≡ export_call (string_bytes name)
+
+-- one by one
+abbrev pub AreCallsOf : {R : Type 0} → (remaining : R → Option (List ℕ)) → List (Call R) → List PlainCall → Type 0
+AreCallsOf remaining [] plains = plains ≡ []
+AreCallsOf remaining (call ∷ calls) [] = ⊥
+AreCallsOf remaining (call ∷ calls) (plain ∷ plains) = IsCallOf remaining call plain × AreCallsOf remaining calls plains
+
+-- a call that needs an open store
+abbrev pub asks_store : {R : Type 0} → Call R → Bool
+asks_store calls.Format = false
+asks_store calls.Open = false
+asks_store _ = true
 
 abbrev pub reply_in : Reply → PlainReply
 reply_in replies.Done = done
@@ -68,13 +90,10 @@ pub record PlaceRuns {D : Type 0} {g : Ghosts D} (size : D → ℕ) (story : D �
   pub run : Run (setting_of (size old) base) calls replies m (story old) (failed old) next (story (device_in new)) (failed (device_in new))
   pub fits : PlaceFits size story base next new
 
-abbrev pub calls_of : List Call → List PlainCall
-calls_of calls = map call_of calls
-
 abbrev pub replies_of : List Reply → List PlainReply
 replies_of replies = map reply_in replies
 
--- what follows of calls one after another: what each stop leaves, and what is so where no device call failed
+-- what follows of calls one after another: what each stop leaves, what each reply follows from, and what is so where no device call failed
 pub record PlaceLives {D : Type 0} {g : Ghosts D} (size : D → ℕ) (story : D → Story) (failed : D → ℕ) (base : Tables) (m : Machine) (calls : List PlainCall) (replies : List PlainReply) (old : D) (new : Place D g) : Type 0 where
   pub runs : PlaceRuns size story failed base m calls replies old new
   -- an image that a stop may have left since the call of this number began is what the machine of that moment allows, and has the tables of what was acknowledged before the call
@@ -82,6 +101,13 @@ pub record PlaceLives {D : Type 0} {g : Ghosts D} (size : D → ℕ) (story : D 
       → LeftSince (story (device_in new)) (moment (story_at (setting_of (size old) base) calls replies m (story old) (failed old) runs.next (story (device_in new)) (failed (device_in new)) runs.run i)) image
       → IsLeftFrom (setting_of (size old) base) calls replies m (story old) (failed old) runs.next (story (device_in new)) (failed (device_in new)) runs.run i image
       × Keeps (setting_of (size old) base) m (any_change (take i calls) (take i replies)) (acknowledged (take i calls) (take i replies)) (begun calls replies) image
+  -- the reply to the call behind i others is that of a machine that settled what was acknowledged by those
+  pub replied : (i : ℕ) (call : PlainCall) (more : List PlainCall) (reply : PlainReply) (others : List PlainReply) → drop i calls ≡ call ∷ more → drop i replies ≡ reply ∷ others
+      → IsReplied (setting_of (size old) base) m (take i calls) (take i replies) call reply
+  -- an export that is opened there, and comes to its end within k calls while it stays open, gives the table that it found
+  pub snapshots : (i k : ℕ) (name : List ℕ) (id : ℕ) (more : List PlainCall) (others : List PlainReply) → drop i calls ≡ open_export_call name ∷ more → drop i replies ≡ export_is id ∷ others
+      → stays_open id (take k more) (take k others) ≡ true → has_ended id (take k more) (take k others) ≡ true
+      → GivesSnapshot (setting_of (size old) base) m (take i calls) (take i replies) name (given id (take k more) (take k others))
   pub undamaged : list_any tells_damage replies ≡ false
   pub there : (i : ℕ) → (m.started || any_change (take i calls) (take i replies)) ≡ true → list_any tells_no_store (drop i replies) ≡ false
   pub settles : Settles m.settled runs.next.settled m.doubt runs.next.doubt (acknowledged calls replies) (begun calls replies)

@@ -13,6 +13,7 @@ pub mod Edited
 pub mod Segments
 pub mod Pieces
 pub mod Snapshots
+pub mod Cut
 pub mod Exchanged
 pub mod Shrinking
 pub mod ExchangedRuns

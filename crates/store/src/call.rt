@@ -2,13 +2,18 @@
 use crate::{OpeningRefusal, Store};
 use arrow_schema::Schema;
 use sector_dev::SectorDevice;
+use std::io::Empty;
 use tables::{Command, Refusal};
 use values::Table;
 
-/// What is asked of a place.
+/// What is asked of a place. `R` is the reader of the commands whose bytes come from one; a list without such commands is of `Call`.
 #[derive(Drop)]
-pub enum Call {
+pub enum Call<R = Empty> {
     Apply(Command),
+    /// The table that all of a reader's bytes mean as a stream, at this name.
+    ImportFrom { name: String, reader: R },
+    /// The rows that they mean, behind those of this table.
+    AppendFrom { name: String, reader: R },
     Format,
     Open,
     Close,

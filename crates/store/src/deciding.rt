@@ -21,7 +21,7 @@ use std::alloc::{AllocError, Global};
 use tables::{Limit, MAX_IMPORT_BYTES, NewTable, Refusal};
 use values::Table;
 
-fn has_table(catalogue: &Catalogue, name: &str) -> bool
+pub(crate) fn has_table(catalogue: &Catalogue, name: &str) -> bool
     ensures has { result ≡ has_entry (catalogue_of catalogue.now) name.now }
     ensures kept { IsCatalogue (catalogue_of catalogue.now) }
 {

@@ -23,6 +23,8 @@ mod editing;
 mod exporting;
 mod formatting;
 mod gathered;
+mod importing;
+mod input;
 mod laws;
 mod listing;
 mod new_rows;
@@ -36,6 +38,7 @@ mod stored;
 pub use beginning::{crashed_devices_are_left, devices_fit, left_devices_fit, new_devices_fit};
 pub use call::{Call, Place, Reply};
 pub use commit::{Cause, OpeningRefusal};
+pub use input::read_at_most;
 pub use laws::{
     a_stop_keeps_what_was_acknowledged, acknowledged_commands_are_settled, compactions_end,
     decisions_are_verdicts, each_stop_is_allowed, runs_go_on, runs_tell_no_damage,

@@ -1,16 +1,18 @@
 // Calls of a place are answered in order.
-ghost use Rattle.std.specs.Prelude.{◌≡◌, true, length, IfOk, IfErr};
+ghost use Rattle.std.specs.Prelude.{◌≡◌, true, List, length, IfOk, IfErr};
 ghost use Rattle.tables.specs.Tables.{Tables};
 ghost use Rattle.tables.specs.View.{command_of};
-ghost use Rattle.store.specs.Calls.{needs_store, apply_call, format_call, open_call, tables_call, schema_call, read_call, export_call, counted};
+ghost use Rattle.tables.specs.Commands.{import_stream, append_stream};
+ghost use Rattle.store.specs.Calls.{PlainCall, apply_call, format_call, open_call, tables_call, schema_call, read_call, export_call, counted};
 ghost use Rattle.store.specs.Machine.{Machine};
-ghost use Rattle.store.specs.Answering.{AnswersOpening, AnswersFormatting, Answers, AnswersEach};
+ghost use Rattle.store.specs.Answering.{AnswersOpening, AnswersFormatting, Answers, AnswersEach, AnswersAs, AnswersCall, AnswersCalls};
 ghost use Rattle.store.specs.Fits.{DeviceFits, StoreFits, device_of};
-ghost use Rattle.store.specs.Places.{call_of, reply_in, calls_of, replies_of, device_in, ShutFits, PlaceFits, PlaceGoes, PlaceRuns, PlaceLives};
+ghost use Rattle.store.specs.Places.{IsStreamOf, AreCallsOf, asks_store, reply_in, replies_of, device_in, PlaceFits, PlaceGoes, PlaceLives};
 
 use crate::{Call, Place, Reply, Store};
 use sector_dev::SectorDevice;
 use std::alloc::Global;
+use std::io::Read;
 use tables::{Command, Refusal};
 
 // Opens the store of a device.
@@ -42,11 +44,9 @@ fn format_place<D: SectorDevice>(alloc: Global, device: D) -> (Place<D>, Reply)
 }
 
 // A call that needs an open store, where none is open.
-fn refuse<D: SectorDevice>(device: D, call: Call) -> (Place<D>, Reply)
-    requires { needs_store (call_of call) ≡ true }
-    ensures goes { D.tells ≡ true → (base : Tables) (m : Machine) → ShutFits D.size D.story base m device
-        → PlaceGoes D.size D.story D.failed base m (call_of call) (reply_in result.1) device result.0 }
-    ensures answers { Answers D.size D.story D.failed D.tells (Place.Shut device) (call_of call) (reply_in result.1) result.0 }
+fn refuse<D: SectorDevice, R: Read + Drop>(device: D, call: Call<R>) -> (Place<D>, Reply)
+    requires { asks_store call ≡ true }
+    ensures { AnswersCall D.size D.story D.failed D.tells R.remaining (Place.Shut device) call (reply_in result.1) result.0 }
 {
     // By a call: the drop of each kind of command, written out, would be most of the function.
     drop(call);
@@ -54,10 +54,12 @@ fn refuse<D: SectorDevice>(device: D, call: Call) -> (Place<D>, Reply)
 }
 
 // A call of a device on which no store is open.
-fn answer_shut<D: SectorDevice>(alloc: Global, device: D, call: Call) -> (Place<D>, Reply)
-    ensures goes { D.tells ≡ true → (base : Tables) (m : Machine) → ShutFits D.size D.story base m device
-        → PlaceGoes D.size D.story D.failed base m (call_of call) (reply_in result.1) device result.0 }
-    ensures answers { Answers D.size D.story D.failed D.tells (Place.Shut device) (call_of call) (reply_in result.1) result.0 }
+fn answer_shut<D: SectorDevice, R: Read + Drop>(
+    alloc: Global,
+    device: D,
+    call: Call<R>,
+) -> (Place<D>, Reply)
+    ensures { AnswersCall D.size D.story D.failed D.tells R.remaining (Place.Shut device) call (reply_in result.1) result.0 }
 {
     match call {
         Call::Format => format_place(alloc, device),
@@ -74,6 +76,42 @@ fn apply_in<D: SectorDevice>(alloc: Global, store: Store<D>, command: Command) -
 {
     let mut store = store;
     match store.apply(alloc, command) {
+        Ok(()) => (Place::Open(store), Reply::Done),
+        Err(refusal) => (Place::Open(store), Reply::Refused(refusal)),
+    }
+}
+
+// A table that a reader gives.
+fn import_in<D: SectorDevice, R: Read + Drop>(
+    alloc: Global,
+    store: Store<D>,
+    name: &str,
+    reader: R,
+) -> (Place<D>, Reply)
+    ensures { AnswersAs D.size D.story D.failed D.tells (IsStreamOf (R.remaining reader) (import_stream name.now)) (Place.Open store)
+        (reply_in result.1) result.0 }
+{
+    let mut store = store;
+    let mut reader = reader;
+    match store.import_from(alloc, name, &mut reader) {
+        Ok(()) => (Place::Open(store), Reply::Done),
+        Err(refusal) => (Place::Open(store), Reply::Refused(refusal)),
+    }
+}
+
+// Rows that a reader gives.
+fn append_in<D: SectorDevice, R: Read + Drop>(
+    alloc: Global,
+    store: Store<D>,
+    name: &str,
+    reader: R,
+) -> (Place<D>, Reply)
+    ensures { AnswersAs D.size D.story D.failed D.tells (IsStreamOf (R.remaining reader) (append_stream name.now)) (Place.Open store)
+        (reply_in result.1) result.0 }
+{
+    let mut store = store;
+    let mut reader = reader;
+    match store.append_from(alloc, name, &mut reader) {
         Ok(()) => (Place::Open(store), Reply::Done),
         Err(refusal) => (Place::Open(store), Reply::Refused(refusal)),
     }
@@ -131,13 +169,17 @@ fn export_in<D: SectorDevice>(alloc: Global, store: Store<D>, name: &str) -> (Pl
 }
 
 // A call of an open store.
-fn answer_open<D: SectorDevice>(alloc: Global, store: Store<D>, call: Call) -> (Place<D>, Reply)
-    ensures goes { D.tells ≡ true → (base : Tables) (m : Machine) → StoreFits D.size D.story base m store
-        → PlaceGoes D.size D.story D.failed base m (call_of call) (reply_in result.1) (device_of store) result.0 }
-    ensures answers { Answers D.size D.story D.failed D.tells (Place.Open store) (call_of call) (reply_in result.1) result.0 }
+fn answer_open<D: SectorDevice, R: Read + Drop>(
+    alloc: Global,
+    store: Store<D>,
+    call: Call<R>,
+) -> (Place<D>, Reply)
+    ensures { AnswersCall D.size D.story D.failed D.tells R.remaining (Place.Open store) call (reply_in result.1) result.0 }
 {
     match call {
         Call::Apply(command) => apply_in(alloc, store, command),
+        Call::ImportFrom { name, reader } => import_in(alloc, store, &name, reader),
+        Call::AppendFrom { name, reader } => append_in(alloc, store, &name, reader),
         Call::Format => format_place(alloc, store.close()),
         Call::Open => open_place(alloc, store.close()),
         Call::Close => (Place::Shut(store.close()), Reply::Done),
@@ -149,10 +191,12 @@ fn answer_open<D: SectorDevice>(alloc: Global, store: Store<D>, call: Call) -> (
 }
 
 // One call.
-fn answer<D: SectorDevice>(alloc: Global, place: Place<D>, call: Call) -> (Place<D>, Reply)
-    ensures goes { D.tells ≡ true → (base : Tables) (m : Machine) → PlaceFits D.size D.story base m place
-        → PlaceGoes D.size D.story D.failed base m (call_of call) (reply_in result.1) (device_in place) result.0 }
-    ensures answers { Answers D.size D.story D.failed D.tells place (call_of call) (reply_in result.1) result.0 }
+fn answer<D: SectorDevice, R: Read + Drop>(
+    alloc: Global,
+    place: Place<D>,
+    call: Call<R>,
+) -> (Place<D>, Reply)
+    ensures { AnswersCall D.size D.story D.failed D.tells R.remaining place call (reply_in result.1) result.0 }
 {
     match place {
         Place::Open(store) => answer_open(alloc, store, call),
@@ -161,14 +205,12 @@ fn answer<D: SectorDevice>(alloc: Global, place: Place<D>, call: Call) -> (Place
 }
 
 // All of them in order.
-fn answer_all<D: SectorDevice>(
+fn answer_all<D: SectorDevice, R: Read + Drop>(
     alloc: Global,
     place: Place<D>,
-    calls: Vec<Call>,
-) -> Result<(Place<D>, Vec<Reply>), (Place<D>, Vec<Call>)>
-    ensures ok { IfOk result (λ r. D.tells ≡ true → (base : Tables) (m : Machine) → PlaceFits D.size D.story base m place
-        → PlaceRuns D.size D.story D.failed base m (calls_of calls.items) (replies_of r.1.items) (device_in place) r.0) }
-    ensures answers { IfOk result (λ r. AnswersEach D.size D.story D.failed D.tells place (calls_of calls.items) (replies_of r.1.items) r.0) }
+    calls: Vec<Call<R>>,
+) -> Result<(Place<D>, Vec<Reply>), (Place<D>, Vec<Call<R>>)>
+    ensures ok { IfOk result (λ r. AnswersCalls D.size D.story D.failed D.tells R.remaining place calls.items (replies_of r.1.items) r.0) }
     ensures each { IfOk result (λ r. length r.1.items ≡ length calls.items) }
     ensures err { IfErr result (λ e. (e.0 ≡ place) × (e.1 ≡ calls)) }
 {
@@ -186,18 +228,20 @@ fn answer_all<D: SectorDevice>(
 
 /// Answers calls in order: commands, formattings, openings, closings and readings. Where there is no memory for the replies all is given back.
 ///
-/// What is promised of them is [`PlaceLives`] of `specs/Places.antt`, for a place that stands for a machine with some tables: how each
-/// reply follows from the tables (`specs/Steps.antt`), and that each image that a stop may leave at any moment has the tables of what was
-/// settled: all that was acknowledged before, in order, and the command in flight whole or not at all. Only where no store is open, or its device
-/// failed, is a call refused as halted.
-pub fn run<D: SectorDevice>(
+/// What is promised of them is [`PlaceLives`] of `specs/Places.antt`, for a place that stands for a machine with some tables. Each reply follows
+/// from the tables of the commands that were acknowledged before its call, in order (`replied`, `specs/Steps.antt`). Each image that a stop may leave
+/// at any moment has the tables of what was settled: all that was acknowledged before, in order, and the command in flight whole or not at all
+/// (`stops`). Only where no store is open, or its device failed, is a call refused as halted. A command whose bytes come from a reader has all
+/// that its reader had left, where that is told (`AreCallsOf`).
+pub fn run<D: SectorDevice, R: Read + Drop>(
     alloc: Global,
     place: Place<D>,
-    calls: Vec<Call>,
-) -> Result<(Place<D>, Vec<Reply>), (Place<D>, Vec<Call>)>
-    ensures lives { IfOk result (λ r. D.tells ≡ true → (base : Tables) (m : Machine) → PlaceFits D.size D.story base m place
-        → PlaceLives D.size D.story D.failed base m (calls_of calls.items) (replies_of r.1.items) (device_in place) r.0) }
-    ensures answers { IfOk result (λ r. AnswersEach D.size D.story D.failed D.tells place (calls_of calls.items) (replies_of r.1.items) r.0) }
+    calls: Vec<Call<R>>,
+) -> Result<(Place<D>, Vec<Reply>), (Place<D>, Vec<Call<R>>)>
+    ensures lives { IfOk result (λ r. (plain : List PlainCall) × AreCallsOf R.remaining calls.items plain
+        × AnswersEach D.size D.story D.failed D.tells place plain (replies_of r.1.items) r.0
+        × (D.tells ≡ true → (base : Tables) (m : Machine) → PlaceFits D.size D.story base m place
+        → PlaceLives D.size D.story D.failed base m plain (replies_of r.1.items) (device_in place) r.0)) }
     ensures each { IfOk result (λ r. length r.1.items ≡ length calls.items) }
     ensures err { IfErr result (λ e. (e.0 ≡ place) × (e.1 ≡ calls)) }
 {

@@ -1,8 +1,6 @@
-use Rattle.std.proofs.Common.{◌≡◌, true, ◌≤◌, length, vec_capacity, vec_len}
-use Rattle.tables.specs.Tables.{Tables}
-use Rattle.store.specs.Machine.{Machine}
-use Rattle.store.specs.Places.{calls_of, replies_of, device_in, PlaceFits, PlaceRuns}
-use Rattle.store.specs.Answering.{AnswersEach}
+use Rattle.std.proofs.Common.{◌≡◌, ◌≤◌, length, vec_capacity, vec_len}
+use Rattle.store.specs.Places.{replies_of}
+use Rattle.store.specs.Answering.{AnswersCalls}
 use Rattle.store.proofs.running.answer_all.Given as goal
 
 abbrev pub invariant-loop-call : goal.invariant-loop-call
@@ -11,7 +9,5 @@ invariant-loop-call g l = let D = g.D.SectorDevice in record {
   ends : (goal.iterator-loop-call g).is_finite l.call-iterator;
   room : length l.fn.calls.items ≤ vec_capacity l.replies;
   count : vec_len l.replies ≡ length l.yielded;
-  runs : D.tells ≡ true → (base : Tables) (m : Machine) → PlaceFits D.size D.story base m l.fn.place
-      → PlaceRuns D.size D.story D.failed base m (calls_of l.yielded) (replies_of l.replies.items) (device_in l.fn.place) l.place;
-  answers : AnswersEach D.size D.story D.failed D.tells l.fn.place (calls_of l.yielded) (replies_of l.replies.items) l.place;
+  calls : AnswersCalls D.size D.story D.failed D.tells g.R.Read.remaining l.fn.place l.yielded (replies_of l.replies.items) l.place;
 }

@@ -1,0 +1,79 @@
+// Commands whose bytes come from a reader.
+use crate::Store;
+use crate::deciding::has_table;
+use crate::input::named_input;
+use catalogue::is_name;
+use sector_dev::SectorDevice;
+use std::alloc::Global;
+use std::io::Read;
+use tables::{Command, Refusal};
+
+impl<D: SectorDevice> Store<D> {
+    ghost use Rattle.std.specs.Prelude.{◌≡◌};
+    ghost use Rattle.catalogue.specs.Entries.{is_name};
+    ghost use Rattle.tables.specs.Commands.{import_stream, append_stream};
+    ghost use Rattle.store.specs.Calls.{counted};
+    ghost use Rattle.store.specs.Fits.{device_of, is_halted, listed_in};
+    ghost use Rattle.store.specs.Reading.{ended};
+    ghost use Rattle.store.specs.Deciding.{has_entry};
+    ghost use Rattle.store.specs.Input.{ReadsFrom};
+    ghost use Rattle.store.specs.Answering.{TakesInput};
+
+    /// Makes the table that all a reader has left means as a stream, in place of one of this name: `apply` of `ImportStream` with these bytes.
+    ///
+    /// # Errors
+    /// `Halted` and then `BadName`, and nothing is read; `Read` where a read fails, `TooMany(Bytes)` once a byte too many was read, and nothing has
+    /// changed; and else those of the command.
+    pub fn import_from<R: Read>(
+        &mut self,
+        alloc: Global,
+        name: &str,
+        reader: &mut R,
+    ) -> Result<(), Refusal>
+        ensures takes { TakesInput D.size D.story D.failed D.tells (R.remaining reader.old) (import_stream name.now) self.old result self.new }
+        ensures reads { ReadsFrom R.remaining (is_halted self.old) (is_name name.now) Refusal.BadName reader.old reader.new (self.new ≡ self.old)
+            result }
+        ensures size { D.size (device_of self.new) ≡ D.size (device_of self.old) }
+        ensures count { D.failed (device_of self.new) ≡ counted (ended result) (D.failed (device_of self.old)) }
+    {
+        if self.halted {
+            return Err(Refusal::Halted);
+        }
+        if !is_name(name) {
+            return Err(Refusal::BadName);
+        }
+        match named_input(alloc, name, reader) {
+            Ok((name, bytes)) => self.apply(alloc, Command::ImportStream { name, bytes }),
+            Err(refusal) => Err(refusal),
+        }
+    }
+
+    /// Appends the rows that all a reader has left means as a stream to a table: `apply` of `AppendStream` with these bytes.
+    ///
+    /// # Errors
+    /// `Halted` and then `NoTable`, and nothing is read; `Read` where a read fails, `TooMany(Bytes)` once a byte too many was read, and nothing has
+    /// changed; and else those of the command.
+    pub fn append_from<R: Read>(
+        &mut self,
+        alloc: Global,
+        name: &str,
+        reader: &mut R,
+    ) -> Result<(), Refusal>
+        ensures takes { TakesInput D.size D.story D.failed D.tells (R.remaining reader.old) (append_stream name.now) self.old result self.new }
+        ensures reads { ReadsFrom R.remaining (is_halted self.old) (has_entry (listed_in self.old) name.now) Refusal.NoTable reader.old reader.new
+            (self.new ≡ self.old) result }
+        ensures size { D.size (device_of self.new) ≡ D.size (device_of self.old) }
+        ensures count { D.failed (device_of self.new) ≡ counted (ended result) (D.failed (device_of self.old)) }
+    {
+        if self.halted {
+            return Err(Refusal::Halted);
+        }
+        if !has_table(&self.opened.catalogue.list, name) {
+            return Err(Refusal::NoTable);
+        }
+        match named_input(alloc, name, reader) {
+            Ok((name, bytes)) => self.apply(alloc, Command::AppendStream { name, bytes }),
+            Err(refusal) => Err(refusal),
+        }
+    }
+}
