@@ -9,11 +9,11 @@ use Rattle.catalogue.specs.declared.entry.TableEntry.{TableEntry}
 use Rattle.catalogue.specs.Entries.{PlainEntry, PlainCatalogue, plain_entry, is_name, is_segment, segment_count, is_catalogue}
 use Rattle.catalogue.specs.declared.entry.Segment.{Segment}
 use Rattle.catalogue.specs.declared.limits.TheConstants.{MAX_SEGMENTS}
-use Rattle.catalogue.specs.Edits.{entry_of, with_entry, without, named, renamed, with_segments, with_more}
+use Rattle.catalogue.specs.Edits.{entry_of, with_entry, without, named, renamed, with_segments, with_more, with_others, with_exchanged}
 use Rattle.catalogue.specs.inner.Places.{place_of, seat_of}
 use Rattle.catalogue.proofs.Standing.{seated, gap, placed, set_segments, map_insert, map_remove, map_at}
 use Rattle.catalogue.proofs.Rows.{counted_within}
-use Rattle.catalogue.specs.laws.Changed.{renamed_stands, more_stands}
+use Rattle.catalogue.specs.laws.Changed.{renamed_stands, more_is, more_stands, exchanged_is}
 
 pub record Seated (es : List TableEntry) (e : TableEntry) (place : ℕ) : Type 0 where
   pub within : place < length es
@@ -69,9 +69,9 @@ too_many es i left most x lt is so_far more = lt-leb (segment_count (map plain_e
 
 -- ---- results of changes
 
-pub put_kept : {A B : Type 0} (r : Result A B) (old new : PlainCatalogue) (e : PlainEntry) → OnOk r (new ≡ with_entry old e) → OnErr r (new ≡ old) → is_catalogue old ≡ true → is_catalogue (with_entry old e) ≡ true → is_catalogue new ≡ true
-put_kept (Ok x) old new e put err kept stands = ap is_catalogue put ∙ stands
-put_kept (Err x) old new e put err kept stands = ap is_catalogue err ∙ kept
+pub changed_kept : {A B : Type 0} (r : Result A B) (old new changed : PlainCatalogue) → OnOk r (new ≡ changed) → OnErr r (new ≡ old) → is_catalogue old ≡ true → is_catalogue changed ≡ true → is_catalogue new ≡ true
+changed_kept (Ok x) old new changed put err kept stands = ap is_catalogue put ∙ stands
+changed_kept (Err x) old new changed put err kept stands = ap is_catalogue err ∙ kept
 
 pub renamed_kept : (c : PlainCatalogue) (from to : List ℕ) → is_catalogue c ≡ true → is_name to ≡ true → is_catalogue (renamed c from to) ≡ true
 renamed_kept c from to kept name = by_entry (entry_of c from) refl
@@ -89,20 +89,41 @@ more_kept (Ok x) old new name more put err kept each most = ap is_catalogue put 
     by_entry (Some e) h = more_stands old name e more kept h each most
 more_kept (Err x) old new name more put err kept each most = ap is_catalogue err ∙ kept
 
--- the entry at its place has more segments
-pub more_at : (es : List TableEntry) (name : List ℕ) (place : ℕ) (x new : TableEntry) (more : List Segment) → place_of name 0 (map plain_entry es) ≡ Some place → x ≡ get_or es place x
-    → plain_entry new ≡ record { name = string_bytes x.name; schema = (plain_entry x).schema; segments = x.segments.items ++ more } → map plain_entry (set es place new) ≡ with_more (map plain_entry es) name more
-more_at es name place x new more h is new_is =
+-- the entry at its place has other segments
+refilled_at : (es : List TableEntry) (name : List ℕ) (place : ℕ) (x new : TableEntry) (segments : List Segment) → place_of name 0 (map plain_entry es) ≡ Some place → x ≡ get_or es place x
+    → plain_entry new ≡ record { name = string_bytes x.name; schema = (plain_entry x).schema; segments = segments } → map plain_entry (set es place new) ≡ with_segments (map plain_entry es) name segments
+refilled_at es name place x new segments h is new_is =
     let c = map plain_entry es in
-    let p = place_in es name place h in
     let at : get_or c place (plain_entry x) ≡ plain_entry x = map_at plain_entry es place x ∙ ap plain_entry (sym is) in
-    let stood : entry_of c name ≡ Some (plain_entry x) = p.stood x ∙ ap (λ (e : TableEntry). Some (plain_entry e)) (sym is) in
-    let segments = x.segments.items ++ more in
     map-set plain_entry es place new
     ∙ ap (set c place) new_is
     ∙ ap (λ (e : PlainEntry). set c place (record { name = e.name; schema = e.schema; segments = segments })) (sym at)
     ∙ set_segments c name 0 place place (plain_entry x) segments h (omega arith)
-    ∙ sym (ap (λ (o : Option PlainEntry). elim o [ None ↦ c | Some y ↦ with_segments c name (y.segments ++ more) ]) stood)
+
+stood_at : (es : List TableEntry) (name : List ℕ) (place : ℕ) (x : TableEntry) → place_of name 0 (map plain_entry es) ≡ Some place → x ≡ get_or es place x → entry_of (map plain_entry es) name ≡ Some (plain_entry x)
+stood_at es name place x h is = (place_in es name place h).stood x ∙ ap (λ (e : TableEntry). Some (plain_entry e)) (sym is)
+
+-- it has more
+more_at : (es : List TableEntry) (name : List ℕ) (place : ℕ) (x new : TableEntry) (more : List Segment) → place_of name 0 (map plain_entry es) ≡ Some place → x ≡ get_or es place x
+    → plain_entry new ≡ record { name = string_bytes x.name; schema = (plain_entry x).schema; segments = x.segments.items ++ more } → map plain_entry (set es place new) ≡ with_more (map plain_entry es) name more
+more_at es name place x new more h is new_is =
+    refilled_at es name place x new (x.segments.items ++ more) h is new_is ∙ sym (more_is (map plain_entry es) name (plain_entry x) more (stood_at es name place x h is))
+
+-- some of them were exchanged, or all are as they were
+pub exchanged_at : {A B : Type 0} (r : Result A B) (es : List TableEntry) (name : List ℕ) (at : ℕ) (x new : TableEntry) (place count : ℕ) (others : List Segment) → place_of name 0 (map plain_entry es) ≡ Some at → x ≡ get_or es at x
+    → plain_entry new ≡ record { name = string_bytes x.name; schema = (plain_entry x).schema; segments = new.segments.items } → OnOk r (new.segments.items ≡ with_others x.segments.items place count others)
+    → OnOk r (map plain_entry (set es at new) ≡ with_exchanged (map plain_entry es) name place count others)
+exchanged_at (Ok y) es name at x new place count others h is new_is filled =
+    refilled_at es name at x new (with_others x.segments.items place count others) h is (new_is ∙ (λ i. record { name = string_bytes x.name; schema = (plain_entry x).schema; segments = filled i }))
+    ∙ sym (exchanged_is (map plain_entry es) name (plain_entry x) (stood_at es name at x h is) place count others)
+exchanged_at (Err y) es name at x new place count others h is new_is filled = tt
+
+pub kept_at : {A B : Type 0} (r : Result A B) (es : List TableEntry) (at : ℕ) (x new : TableEntry) → x ≡ get_or es at x
+    → plain_entry new ≡ record { name = string_bytes x.name; schema = (plain_entry x).schema; segments = new.segments.items } → OnErr r (new.segments.items ≡ x.segments.items)
+    → OnErr r (map plain_entry (set es at new) ≡ map plain_entry es)
+kept_at (Ok y) es at x new is new_is same = tt
+kept_at (Err y) es at x new is new_is same =
+    map-set_same plain_entry es at new x (new_is ∙ (λ i. record { name = string_bytes x.name; schema = (plain_entry x).schema; segments = same i }) ∙ ap plain_entry is)
 
 -- after `extend_from_slice`: the entry at its place has more segments, or all are as they were
 pub appended_at : {A B : Type 0} (r : Result A B) (es : List TableEntry) (name : List ℕ) (place : ℕ) (x new : TableEntry) (more : List Segment) → place_of name 0 (map plain_entry es) ≡ Some place → x ≡ get_or es place x

@@ -1,5 +1,5 @@
 -- Changes of a catalogue.
-use Rattle.std.specs.Prelude.{ℕ, if◌then◌else◌, List, [], ◌∷◌, ◌++◌, map, find, Option, Some, None}
+use Rattle.std.specs.Prelude.{ℕ, if◌then◌else◌, List, [], ◌∷◌, ◌++◌, map, take, drop, find, Option, Some, None}
 use Rattle.std.specs.Str.{bytes_eq}
 use Rattle.std.specs.Cmp.Lexicographic.{slice_cmp}
 use Rattle.std.specs.Ordering.{nat_cmp, match_ordering}
@@ -36,6 +36,17 @@ with_segments (x ∷ xs) name segments =
 
 abbrev pub with_more : PlainCatalogue → List ℕ → List Segment → PlainCatalogue
 with_more c name more = elim (entry_of c name) [ None ↦ c | Some e ↦ with_segments c name (e.segments ++ more) ]
+
+-- so many segments from a place on, and with others in place of them
+abbrev pub from_place : List Segment → (place count : ℕ) → List Segment
+from_place segments place count = take count (drop place segments)
+
+abbrev pub with_others : List Segment → (place count : ℕ) → List Segment → List Segment
+with_others segments place count others = take place segments ++ (others ++ drop count (drop place segments))
+
+-- the same of the table of a name
+abbrev pub with_exchanged : PlainCatalogue → List ℕ → (place count : ℕ) → List Segment → PlainCatalogue
+with_exchanged c name place count others = elim (entry_of c name) [ None ↦ c | Some e ↦ with_segments c name (with_others e.segments place count others) ]
 
 -- the name of each table and its rows
 abbrev pub tables_of : PlainCatalogue → List (List ℕ × ℕ)

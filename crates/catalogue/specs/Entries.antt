@@ -68,9 +68,13 @@ row_count e = sum_by (λ (s : Segment). s.rows) e.segments
 abbrev pub segment_count : PlainCatalogue → ℕ
 segment_count c = sum_by (λ e. length e.segments) c
 
+-- the runs of some segments
+abbrev pub runs_in_segments : List Segment → List Run
+runs_in_segments segments = map (λ (s : Segment). s.place.run) segments
+
 -- the runs that it names, table after table
 abbrev pub runs_in : PlainEntry → List Run
-runs_in e = map (λ (s : Segment). s.place.run) e.segments
+runs_in e = runs_in_segments e.segments
 
 abbrev pub runs_of : PlainCatalogue → List Run
 runs_of c = flat_map runs_in c

@@ -2,7 +2,9 @@
 ghost use Rattle.std.specs.Prelude.{◌≡◌, true, map};
 ghost use Rattle.catalogue.specs.Entries.{plain_entry, is_catalogue};
 
-use crate::edits::{append_to, copy_entries, put_entry, put_runs, rename_entry, take_entry};
+use crate::edits::{
+    append_to, copy_entries, exchange_in, put_entry, put_runs, rename_entry, take_entry,
+};
 use crate::limits::MAX_TABLES;
 use crate::places::place_of;
 use crate::testing::{are_in_order, are_sound, have_few_segments};
@@ -22,7 +24,7 @@ impl Catalogue {
     ghost use Rattle.std.specs.List.{list_all};
     ghost use Rattle.catalogue.specs.declared.limits.TheConstants.{MAX_TABLES, MAX_SEGMENTS};
     ghost use Rattle.catalogue.specs.Entries.{is_name, is_segment, is_entry, IsCatalogue, segment_count, runs_of};
-    ghost use Rattle.catalogue.specs.Edits.{entry_of, with_entry, without, renamed, with_more, tables_of};
+    ghost use Rattle.catalogue.specs.Edits.{entry_of, with_entry, without, renamed, with_more, with_exchanged, tables_of};
     ghost use Rattle.catalogue.specs.View.{catalogue_of};
 
     /// Without tables.
@@ -113,6 +115,22 @@ impl Catalogue {
         ensures err { OnErr result (catalogue_of self.new ≡ catalogue_of self.old) }
     {
         append_to(&mut self.entries, name, more)
+    }
+
+    /// Exchanges so many segments of a table, from a place on, for others. Where there is no table of the name, nothing
+    /// changes.
+    pub fn exchange_segments(
+        &mut self,
+        name: &str,
+        place: usize,
+        count: usize,
+        others: &[Segment],
+    ) -> Result<(), AllocError>
+        requires { IsCatalogue (with_exchanged (catalogue_of self.old) name.now place count others.now) }
+        ensures exchanged { OnOk result (catalogue_of self.new ≡ with_exchanged (catalogue_of self.old) name.now place count others.now) }
+        ensures err { OnErr result (catalogue_of self.new ≡ catalogue_of self.old) }
+    {
+        exchange_in(&mut self.entries, name, place, count, others)
     }
 
     /// All segments of all tables.

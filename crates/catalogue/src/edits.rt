@@ -2,7 +2,7 @@
 ghost use Rattle.std.specs.Prelude.{◌≡◌, ◌<◌, ◌++◌, true, map, option_map, string_bytes, vec_len, OnOk, OnErr, IfOk, IsOk, IsSome};
 ghost use Rattle.std.specs.Vec.{vec_capacity};
 ghost use Rattle.catalogue.specs.Entries.{plain_entry, names_of, ascends};
-ghost use Rattle.catalogue.specs.Edits.{entry_of, with_entry, without, renamed, with_more};
+ghost use Rattle.catalogue.specs.Edits.{entry_of, with_entry, without, renamed, with_more, with_others, with_exchanged};
 ghost use Rattle.catalogue.specs.declared.entry.Segment.{Segment};
 
 use crate::places::{place_of, seat_of};
@@ -71,6 +71,57 @@ pub(crate) fn append_to(
 {
     match place_of(entries, name) {
         Some(place) => entries[place].segments.extend_from_slice(more),
+        None => Ok(()),
+    }
+}
+
+// These segments, with others in place of so many of them from a place on.
+fn exchanged(
+    alloc: Global,
+    segments: &[Segment],
+    place: usize,
+    count: usize,
+    others: &[Segment],
+) -> Result<Vec<Segment>, AllocError>
+    ensures { IfOk result (λ all. all.items ≡ with_others segments.now place count others.now) }
+{
+    let rest = segments.iter().skip(place).skip(count);
+    segments
+        .iter()
+        .take(place)
+        .chain(others.iter().chain(rest))
+        .copied()
+        .collect(alloc)
+}
+
+// Exchanges so many segments from a place on for others.
+fn exchange(
+    segments: &mut Vec<Segment>,
+    place: usize,
+    count: usize,
+    others: &[Segment],
+) -> Result<(), AllocError>
+    ensures exchanged { OnOk result (segments.new.items ≡ with_others segments.old.items place count others.now) }
+    ensures err { OnErr result (segments.new.items ≡ segments.old.items) }
+{
+    let alloc = *segments.allocator();
+    *segments = exchanged(alloc, segments, place, count, others)?;
+    Ok(())
+}
+
+// Exchanges segments of the entry of a name for others.
+pub(crate) fn exchange_in(
+    entries: &mut Vec<TableEntry>,
+    name: &str,
+    place: usize,
+    count: usize,
+    others: &[Segment],
+) -> Result<(), AllocError>
+    ensures exchanged { OnOk result (map plain_entry entries.new.items ≡ with_exchanged (map plain_entry entries.old.items) name.now place count others.now) }
+    ensures err { OnErr result (map plain_entry entries.new.items ≡ map plain_entry entries.old.items) }
+{
+    match place_of(entries, name) {
+        Some(at) => exchange(&mut entries[at].segments, place, count, others),
         None => Ok(()),
     }
 }

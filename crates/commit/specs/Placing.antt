@@ -1,5 +1,5 @@
 -- Runs are taken for what is to be written, each the lowest that is free.
-use Rattle.std.specs.Prelude.{◌≡◌, ◌⊎◌, ◌≤◌, ◌<◌, ◌+◌, ◌^◌, ℕ, if◌then◌else◌, List, [], ◌∷◌, ◌++◌, length, map, Some, None, Result, Ok, Err, vec_len, vec_capacity}
+use Rattle.std.specs.Prelude.{◌≡◌, ◌⊎◌, ◌≤◌, ◌<◌, ◌^◌, ℕ, List, [], ◌∷◌, ◌++◌, length, map, Some, None, Result, Ok, Err, vec_len, vec_capacity}
 use Rattle.std.specs.Global.{Vec}
 use Rattle.std.specs.List.{AllByRecursion}
 use Rattle.segments.specs.declared.run.Run.{Run}
@@ -9,14 +9,9 @@ use Rattle.segments.specs.declared.piece.Part.{Part}
 use Rattle.segments.specs.Pieces.{PlainPiece, bytes_of_parts}
 use Rattle.segments.specs.Runs.{IsLowest}
 use Rattle.segments.specs.Sectors.{sector_count}
-use Rattle.segments.specs.Usages.{same_run, usage_of}
-pub use Rattle.segments.specs.Usages.{is_among}
+use Rattle.segments.specs.Usages.{usage_of}
+pub use Rattle.segments.specs.Usages.{is_among, times_among}
 use Rattle.commit.specs.declared.placing.Places.{Places}
-
--- how often it is
-abbrev pub times_among : List Run → Run → ℕ
-times_among [] run = 0
-times_among (r ∷ rs) run = (if same_run r run then 1 else 0) + times_among rs run
 
 -- what a run is used for where these runs are the ruling catalogue's, and those are pinned, each as often as it is listed
 abbrev pub usage_by : List Run → List Run → Run → Usage

@@ -1,7 +1,8 @@
 pub mod Placed
 pub mod Used
 pub mod Changed
-pub mod GivenBack
+pub mod LetGo
+pub mod Pinned
 pub mod Lowest
 pub mod Touched
 pub mod Contents

@@ -96,6 +96,11 @@ abbrev pub is_among : List Run → Run → Bool
 is_among [] run = false
 is_among (r ∷ rs) run = same_run r run || is_among rs run
 
+-- how often it is
+abbrev pub times_among : List Run → Run → ℕ
+times_among [] run = 0
+times_among (r ∷ rs) run = (if same_run r run then 1 else 0) + times_among rs run
+
 -- the usage of a run after these were given back
 abbrev pub usage_after : List Run → Run → Usage → Usage
 usage_after back run usage = if is_among back run then given usage else usage
@@ -104,3 +109,20 @@ usage_after back run usage = if is_among back run then given usage else usage
 pub record GivesAll (old new : Space) (runs : List Run) : Type 0 where
   pub size : new.size ≡ old.size
   pub usages : (run : Run) → usage_of new.entries run ≡ usage_after runs run (usage_of old.entries run)
+
+-- pinned so many times more, and so many times less
+abbrev pub pinned_times : ℕ → Usage → Usage
+pinned_times times usage = record { taken = usage.taken; pins = usage.pins + times }
+
+abbrev pub unpinned_times : ℕ → Usage → Usage
+unpinned_times times usage = record { taken = usage.taken; pins = usage.pins - times }
+
+-- each of these runs is pinned once more, one that is listed twice two times; no other run changes
+pub record PinsAll (old new : Space) (runs : List Run) : Type 0 where
+  pub size : new.size ≡ old.size
+  pub usages : (run : Run) → usage_of new.entries run ≡ pinned_times (times_among runs run) (usage_of old.entries run)
+
+-- each of these runs has one pin less
+pub record UnpinsAll (old new : Space) (runs : List Run) : Type 0 where
+  pub size : new.size ≡ old.size
+  pub usages : (run : Run) → usage_of new.entries run ≡ unpinned_times (times_among runs run) (usage_of old.entries run)

@@ -1,8 +1,8 @@
 // The runs in use, as a list in order.
 ghost use Rattle.std.specs.Prelude.{◌≡◌, ◌≤◌, ◌↔◌, ℕ, IsTrue, IfNone, IfSome, length};
 ghost use Rattle.segments.specs.Runs.{IsLowest};
-ghost use Rattle.segments.specs.Usages.{is_used, usage_of, usage_after, with_usage, UNUSED, Ordered, EndBy, IsUsedIn, IsSearched};
-ghost use Rattle.segments.specs.inner.Places.{place_of, end_before, ApartEach, Ascending, GivenAmong, HasEntryAt};
+ghost use Rattle.segments.specs.Usages.{is_used, usage_of, with_usage, UNUSED, Ordered, EndBy, IsUsedIn, IsSearched};
+ghost use Rattle.segments.specs.inner.Places.{place_of, end_before, without, without_each, ApartEach, Ascending, HasEntryAt, LetGoAmong};
 
 use crate::gap_buffer::GapBuffer;
 use crate::{Run, Searched};
@@ -21,11 +21,32 @@ pub struct UsageEntry {
     pub usage: Usage,
 }
 
+// Who lets a run go: the catalogue that rules, or one of its snapshots.
+#[derive(Clone, Copy)]
+pub(crate) enum Holder {
+    Catalogue,
+    Snapshot,
+}
+
 impl Usage {
     pub(crate) fn is_used(self) -> bool
         ensures { result ≡ is_used self }
     {
         self.taken || self.pins > 0
+    }
+
+    // What is left of it where this holder lets go.
+    fn without(self, holder: Holder) -> Usage
+        ensures { result ≡ without holder self }
+    {
+        let Usage { taken, pins } = self;
+        match holder {
+            Holder::Catalogue => Usage { taken: false, pins },
+            Holder::Snapshot => Usage {
+                taken,
+                pins: pins.saturating_sub(1),
+            },
+        }
     }
 }
 
@@ -143,30 +164,28 @@ pub(crate) fn change(entries: &mut GapBuffer, run: Run, place: usize, usage: Usa
     }
 }
 
-// Each of these runs that has an entry is given back. An entry that is not used any more stays where it is.
-fn give_among(entries: &mut GapBuffer, runs: &[Run])
+// Each of these runs that has an entry is let go. An entry that is not used any more stays where it is.
+fn let_go_among(entries: &mut GapBuffer, runs: &[Run], holder: Holder)
     requires { Ascending 2 entries.old }
-    ensures { GivenAmong entries.old entries.new runs.now }
+    ensures { LetGoAmong holder entries.old entries.new runs.now }
 {
     for run in runs {
         if let Some(place) = place_of_run(entries, *run) {
             let run = *run;
-            let taken = false;
             let entry = entries.get(place);
-            let pins = entry.usage.pins;
-            let usage = Usage { taken, pins };
+            let usage = entry.usage.without(holder);
             entries.set(place, UsageEntry { run, usage });
         }
     }
 }
 
-// Gives these runs back. What stays is moved twice at the most, however many they are.
-pub(crate) fn give_each(entries: &mut GapBuffer, runs: &[Run])
+// Lets these runs go. What stays is moved twice at the most, however many they are.
+pub(crate) fn let_go_each(entries: &mut GapBuffer, runs: &[Run], holder: Holder)
     requires { Ordered 2 entries.old }
     ensures ordered { Ordered 2 entries.new }
     ensures within { (size : ℕ) → EndBy size entries.old → EndBy size entries.new }
-    ensures usages { (run : Run) → usage_of entries.new run ≡ usage_after runs.now run (usage_of entries.old run) }
+    ensures usages { (run : Run) → usage_of entries.new run ≡ without_each holder runs.now run (usage_of entries.old run) }
 {
-    give_among(entries, runs);
+    let_go_among(entries, runs, holder);
     entries.keep_used();
 }

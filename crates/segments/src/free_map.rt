@@ -1,10 +1,11 @@
 // The runs of a device that are in use, and the lowest free one.
-ghost use Rattle.std.specs.Prelude.{◌≡◌, ◌≤◌, ◌↔◌, ◌⊎◌, [], Err, None, Some, IfOk, IfErr, OnOk, OnErr, IsErrOf, IsTrue, true};
+ghost use Rattle.std.specs.Prelude.{◌≡◌, ◌≤◌, ◌+◌, ◌↔◌, ◌⊎◌, [], Err, None, Some, IfOk, IfErr, OnOk, OnErr, IsErrOf, IsTrue, true};
 ghost use Rattle.segments.specs.Runs.{IsOnDevice, IsFree, IsLowest};
 ghost use Rattle.segments.specs.Usages.{UNUSED, TAKEN, given, pinned, unpinned, is_used, usage_of, with_run, IsUsedIn, IsSearched};
-ghost use Rattle.segments.specs.Usages.{Overlaps, IsUnused, Changes, GivesAll};
+ghost use Rattle.segments.specs.Usages.{is_among, times_among, Overlaps, IsUnused, Changes, GivesAll, PinsAll, UnpinsAll};
+ghost use Rattle.segments.specs.declared.run.Run.{Run};
 
-use crate::entries::{change, give_each, is_apart, lowest, place_of_run, place_of_start};
+use crate::entries::{Holder, change, is_apart, let_go_each, lowest, place_of_run, place_of_start};
 use crate::gap_buffer::GapBuffer;
 use crate::{EnterError, Run, Searched, TakeError, Usage, UsageEntry};
 use std::alloc::{AllocError, Global};
@@ -133,7 +134,7 @@ impl FreeMap {
     pub fn give_each(&mut self, runs: &[Run])
         ensures { GivesAll self.old self.new runs.now }
     {
-        give_each(&mut self.entries, runs);
+        let_go_each(&mut self.entries, runs, Holder::Catalogue);
     }
 
     /// Pins the run once more. It stays in use until it is unpinned as often.
@@ -169,6 +170,30 @@ impl FreeMap {
         let taken = usage.taken;
         let pins = usage.pins.saturating_sub(1);
         self.set_usage(run, Usage { taken, pins });
+    }
+
+    /// Pins each of these runs once more, all of which are in use. It takes no memory, and however many runs there are,
+    /// each entry of the map is moved once at the most.
+    pub fn pin_each(&mut self, runs: &[Run])
+        requires used { (run : Run) → is_among runs.now run ≡ true → IsUsedIn self.old.entries run }
+        requires few { (run : Run) → (usage_of self.old.entries run).pins + times_among runs.now run ≤ u32.MAX }
+        ensures { PinsAll self.old self.new runs.now }
+    {
+        for run in runs {
+            let run = *run;
+            let usage = self.usage(run);
+            let taken = usage.taken;
+            let pins = usage.pins + 1;
+            self.set_usage(run, Usage { taken, pins });
+        }
+    }
+
+    /// Takes one pin from each of these runs. It takes no memory, and however many runs there are, each entry of the map is
+    /// moved twice at the most.
+    pub fn unpin_each(&mut self, runs: &[Run])
+        ensures { UnpinsAll self.old self.new runs.now }
+    {
+        let_go_each(&mut self.entries, runs, Holder::Snapshot);
     }
 
     // Gives a run in use another usage; one that isn't stays so.

@@ -1,24 +1,13 @@
 -- Segments of a table that are exchanged for others, and how catalogues shrink.
-use Rattle.std.specs.Prelude.{◌≡◌, ◌⊎◌, ◌<◌, ◌+◌, ◌++◌, ℕ, true, List, [], ◌∷◌, take, drop, sum_by, Option, Some, None}
+use Rattle.std.specs.Prelude.{◌≡◌, ◌⊎◌, ◌<◌, ◌+◌, ℕ, true, List, [], ◌∷◌, sum_by, Some}
 use Rattle.std.specs.List.{AllByRecursion}
 use Rattle.sector_dev.specs.Disk.{Image}
 use Rattle.segments.specs.declared.run.Run.{Run}
 use Rattle.catalogue.specs.declared.entry.Segment.{Segment}
 use Rattle.catalogue.specs.Entries.{PlainEntry, PlainCatalogue, runs_of, segment_count}
-use Rattle.catalogue.specs.Edits.{entry_of, with_segments}
+use Rattle.catalogue.specs.Edits.{entry_of, from_place}
 use Rattle.commit.specs.Standing.{all_on_device}
 use Rattle.store.specs.Held.{rows_held}
-
--- so many segments from a place on, and with others in place of them
-abbrev pub from_place : List Segment → (place count : ℕ) → List Segment
-from_place segments place count = take count (drop place segments)
-
-abbrev pub with_others : List Segment → (place count : ℕ) → List Segment → List Segment
-with_others segments place count others = take place segments ++ (others ++ drop count (drop place segments))
-
--- the same of the table of a name
-abbrev pub with_exchanged : PlainCatalogue → List ℕ → (place count : ℕ) → List Segment → PlainCatalogue
-with_exchanged c name place count others = elim (entry_of c name) [ None ↦ c | Some e ↦ with_segments c name (with_others e.segments place count others) ]
 
 -- an image holds in the new segments the rows that it holds in the old ones
 pub record HoldsSame (image : Image) (c : PlainCatalogue) (name : List ℕ) (place count : ℕ) (others : List Segment) : Type 0 where

@@ -1,5 +1,5 @@
 -- A catalogue that is changed is a catalogue.
-use Rattle.std.proofs.Common.{◌≡◌, ◌≤◌, ◌+◌, ◌++◌, ℕ, Bool, true, List, [], ◌∷◌, length, Option, Some, None, refl, sym, ap, subst, ◌∙◌, arith}
+use Rattle.std.proofs.Common.{◌≡◌, ◌≤◌, ◌+◌, ◌++◌, ℕ, Bool, true, List, [], ◌∷◌, length, take, drop, take-append-drop, Option, Some, None, refl, sym, ap, subst, ◌∙◌, arith}
 use Rattle.std.specs.List.{list_all}
 use Rattle.std.specs.Str.{bytes_eq}
 use Rattle.std.proofs.lemmas.Bool.{cond-false, cond_both, and_parts, and_from}
@@ -7,8 +7,8 @@ use Rattle.std.proofs.lemmas.List.{length-append, length-map}
 use Rattle.std.proofs.lemmas.List.Folds.{list_all-append}
 use Rattle.catalogue.specs.declared.limits.TheConstants.{MAX_TABLES, MAX_SEGMENTS}
 use Rattle.catalogue.specs.declared.entry.Segment.{Segment}
-use Rattle.catalogue.specs.Entries.{PlainEntry, PlainCatalogue, is_name, is_segment, is_entry, names_of, ascends, segment_count, is_catalogue}
-use Rattle.catalogue.specs.Edits.{entry_of, with_entry, without, named, renamed, with_segments, with_more}
+use Rattle.catalogue.specs.Entries.{PlainEntry, PlainCatalogue, is_name, is_segment, is_entry, names_of, ascends, segment_count, is_catalogue, IsCatalogue}
+use Rattle.catalogue.specs.Edits.{entry_of, with_entry, without, named, renamed, with_segments, with_more, from_place, with_others, with_exchanged}
 use Rattle.catalogue.specs.laws.Kept.{entry_is, entry_stands, passes_catalogue, catalogue_is}
 use Rattle.catalogue.specs.laws.Order.{by_found, none_found, with_rises, with_all, without_rises, without_all}
 use Rattle.catalogue.specs.laws.Sums.{refilled, put_most, taken_out, without_least, refilled_sum, one, number, segments_in}
@@ -101,20 +101,63 @@ more_is c name e more h = ap (λ (o : Option PlainEntry). elim o [ None ↦ c | 
 pub more_none : (c : PlainCatalogue) (name : List ℕ) (more : List Segment) → entry_of c name ≡ None → with_more c name more ≡ c
 more_none c name more h = ap (λ (o : Option PlainEntry). elim o [ None ↦ c | Some x ↦ with_segments c name (x.segments ++ more) ]) h
 
+-- any new segments of a table
+pub refilled_stands : (c : PlainCatalogue) (name : List ℕ) (e : PlainEntry) (segments : List Segment) → is_catalogue c ≡ true → entry_of c name ≡ Some e → list_all is_segment segments ≡ true
+    → segment_count (with_segments c name segments) ≤ MAX_SEGMENTS → is_catalogue (with_segments c name segments) ≡ true
+refilled_stands c name e segments kept found all most =
+    let k = catalogue_is c kept in
+    let d = with_segments c name segments in
+    let size : length d ≡ length c = sym (length-map d (λ (x : PlainEntry). x.name)) ∙ ap (λ (ns : List (List ℕ)). length ns) (same_names c name segments) ∙ length-map c (λ (x : PlainEntry). x.name) in
+    let tables = k.tables in
+    passes_catalogue d (record {
+      entries = refilled_all is_entry c name segments (λ x is. let s = entry_is x is in entry_stands (refilled x segments) s.name s.schema all) k.entries;
+      order = ap ascends (same_names c name segments) ∙ k.order;
+      tables = omega (arith, size, tables);
+      segments = most;
+    })
+
 pub more_stands : (c : PlainCatalogue) (name : List ℕ) (e : PlainEntry) (more : List Segment) → is_catalogue c ≡ true → entry_of c name ≡ Some e → list_all is_segment more ≡ true → segment_count c + length more ≤ MAX_SEGMENTS
     → is_catalogue (with_segments c name (e.segments ++ more)) ≡ true
 more_stands c name e more kept found each most =
     let k = catalogue_is c kept in
-    let d = with_segments c name (e.segments ++ more) in
     let sum = refilled_sum segments_in c name e (e.segments ++ more) found in
     let len = length-append e.segments more in
-    let size : length d ≡ length c = sym (length-map d (λ (x : PlainEntry). x.name)) ∙ ap (λ (ns : List (List ℕ)). length ns) (same_names c name (e.segments ++ more)) ∙ length-map c (λ (x : PlainEntry). x.name) in
-    let tables = k.tables in
     let stood = entry_is e (found_passes is_entry c name e k.entries found) in
     let all : list_all is_segment (e.segments ++ more) ≡ true = list_all-append is_segment e.segments more ∙ and_from (list_all is_segment e.segments) (list_all is_segment more) stood.segments each in
-    passes_catalogue d (record {
-      entries = refilled_all is_entry c name (e.segments ++ more) (λ x is. let s = entry_is x is in entry_stands (refilled x (e.segments ++ more)) s.name s.schema all) k.entries;
-      order = ap ascends (same_names c name (e.segments ++ more)) ∙ k.order;
-      tables = omega (arith, size, tables);
-      segments = omega (arith, sum, len, most);
-    })
+    refilled_stands c name e (e.segments ++ more) kept found all (omega (arith, sum, len, most))
+
+-- ---- exchange
+
+-- segments in three parts
+pub parted : (segments : List Segment) (place count : ℕ) → segments ≡ take place segments ++ (from_place segments place count ++ drop count (drop place segments))
+parted segments place count = sym (ap (λ (ss : List Segment). take place segments ++ ss) (take-append-drop count (drop place segments)) ∙ take-append-drop place segments)
+
+-- each passes, also with others that do
+others_pass : (segments : List Segment) (place count : ℕ) (others : List Segment) → list_all is_segment segments ≡ true → list_all is_segment others ≡ true → list_all is_segment (with_others segments place count others) ≡ true
+others_pass segments place count others all each =
+    let front = take place segments in
+    let gone = from_place segments place count in
+    let rest = drop count (drop place segments) in
+    let whole = sym (list_all-append is_segment front (gone ++ rest)) ∙ ap (list_all is_segment) (sym (parted segments place count)) ∙ all in
+    let first = and_parts (list_all is_segment front) (list_all is_segment (gone ++ rest)) whole in
+    let last = and_parts (list_all is_segment gone) (list_all is_segment rest) (sym (list_all-append is_segment gone rest) ∙ first.1) in
+    list_all-append is_segment front (others ++ rest)
+    ∙ and_from (list_all is_segment front) (list_all is_segment (others ++ rest)) first.0
+    (list_all-append is_segment others rest ∙ and_from (list_all is_segment others) (list_all is_segment rest) each last.1)
+
+pub exchanged_none : (c : PlainCatalogue) (name : List ℕ) (place count : ℕ) (others : List Segment) → entry_of c name ≡ None → with_exchanged c name place count others ≡ c
+exchanged_none c name place count others h = ap (λ (o : Option PlainEntry). elim o [ None ↦ c | Some x ↦ with_segments c name (with_others x.segments place count others) ]) h
+
+module _ (c : PlainCatalogue) (name : List ℕ) (e : PlainEntry) (found : entry_of c name ≡ Some e) (place count : ℕ) where
+  -- what an exchange makes of the entry that was found
+  pub exchanged_is : (others : List Segment) → with_exchanged c name place count others ≡ with_segments c name (with_others e.segments place count others)
+  exchanged_is others = ap (λ (o : Option PlainEntry). elim o [ None ↦ c | Some x ↦ with_segments c name (with_others x.segments place count others) ]) found
+
+  pub exchanged_stands : (others : List Segment) → IsCatalogue c → list_all is_segment others ≡ true → segment_count (with_exchanged c name place count others) ≤ MAX_SEGMENTS
+      → IsCatalogue (with_exchanged c name place count others)
+  exchanged_stands others k each most =
+      let stood = entry_is e (found_passes is_entry c name e k.entries found) in
+      subst IsCatalogue (sym (exchanged_is others))
+      (catalogue_is (with_segments c name (with_others e.segments place count others))
+      (refilled_stands c name e (with_others e.segments place count others) (passes_catalogue c k) found (others_pass e.segments place count others stood.segments each)
+      (subst (λ (d : PlainCatalogue). segment_count d ≤ MAX_SEGMENTS) (exchanged_is others) most)))

@@ -8,6 +8,7 @@ use Rattle.segments.specs.Runs.{IsApart, ApartFrom, AreApart}
 use Rattle.segments.specs.Usages.{Space, same_run, IsUsedIn}
 use Rattle.segments.specs.laws.Runs.{swapped}
 use Rattle.segments.specs.laws.Usages.{same_run_is, same_itself, same_or_not, among_both}
+pub use Rattle.segments.specs.laws.Usages.{times_both}
 use Rattle.commit.specs.Placing.{is_among, times_among, Uses}
 use Rattle.commit.specs.Standing.{is_on_device, all_on_device, is_apart, are_apart, runs_fault}
 use Rattle.commit.specs.laws.Apart.{pair_apart, apart_pair, among_first, same_first, fits}
@@ -24,10 +25,6 @@ among_cases x xs run is = by_first (same_run x run) refl is
     by_first false same is = inr is
 
 -- ---- how often a run is listed
-
-pub times_both : (xs ys : List Run) (run : Run) → times_among (xs ++ ys) run ≡ times_among xs run + times_among ys run
-times_both [] ys run = omega arith
-times_both (x ∷ xs) ys run = let more = times_both xs ys run in omega (arith, more)
 
 pub times_some : (xs : List Run) (run : Run) → is_among xs run ≡ true → 1 ≤ times_among xs run
 times_some [] run is = absurd (cc is)

@@ -3,7 +3,10 @@ use Rattle.std.specs.Prelude.{◌≡◌, ◌≤◌, ◌<◌, ◌+◌, ℕ, zero,
 use Rattle.segments.specs.declared.run.Run.{Run}
 use Rattle.segments.specs.declared.entries.UsageEntry.{UsageEntry}
 use Rattle.segments.specs.Runs.{IsApart}
-use Rattle.segments.specs.Usages.{UNUSED, usage_of, usage_after, EndBy}
+use Rattle.segments.specs.declared.entries.Usage.{Usage}
+use Rattle.segments.specs.declared.entries.Holder.{Holder}
+use Rattle.segments.specs.declared.entries.Holder.TheVariants.{Catalogue, Snapshot}
+use Rattle.segments.specs.Usages.{UNUSED, usage_of, usage_after, given, unpinned, unpinned_times, times_among, EndBy}
 
 -- how many entries stand before one that starts here
 abbrev pub place_of : ℕ → List UsageEntry → ℕ
@@ -32,9 +35,19 @@ abbrev pub Ascending : ℕ → List UsageEntry → Type 0
 Ascending from [] = Unit {0}
 Ascending from (e ∷ es) = (from ≤ e.run.start) × (1 ≤ e.run.count) × Ascending (e.run.start + e.run.count) es
 
--- these runs were given back where they have entries; an entry that is not used any more may still stand there
-pub record GivenAmong (old new : List UsageEntry) (runs : List Run) : Type 0 where
+-- what is left of the usage of a run that one of its holders lets go
+abbrev pub without : Holder → Usage → Usage
+without Catalogue usage = given usage
+without Snapshot usage = unpinned usage
+
+-- and after the holder let these go
+abbrev pub without_each : Holder → List Run → Run → Usage → Usage
+without_each Catalogue runs run usage = usage_after runs run usage
+without_each Snapshot runs run usage = unpinned_times (times_among runs run) usage
+
+-- these runs were let go where they have entries; an entry that is not used any more may still stand there
+pub record LetGoAmong (holder : Holder) (old new : List UsageEntry) (runs : List Run) : Type 0 where
   pub len : length new ≡ length old
   pub ascending : Ascending 2 new
   pub within : (size : ℕ) → EndBy size old → EndBy size new
-  pub usages : (run : Run) → usage_of new run ≡ usage_after runs run (usage_of old run)
+  pub usages : (run : Run) → usage_of new run ≡ without_each holder runs run (usage_of old run)

@@ -3,7 +3,7 @@ use Rattle.std.proofs.Common.{◌≡◌, ◌≢◌, ◌⊎◌, ◌↔◌, inl, i
 use Rattle.std.proofs.lemmas.Bool.{cases_eq, and_parts, and_from, eqb-true, eq-eqb}
 use Rattle.std.proofs.lemmas.Bool.Decides.{nat_tests}
 use Rattle.segments.specs.Runs.{IsFree, IsLowest}
-use Rattle.segments.specs.Usages.{Space, UNUSED, TAKEN, is_used, given, usage_of, same_run, is_among, SameUsages, IsUsedIn, Changes}
+use Rattle.segments.specs.Usages.{Space, UNUSED, TAKEN, is_used, given, usage_of, same_run, is_among, times_among, SameUsages, IsUsedIn, Changes}
 use Rattle.segments.specs.declared.run.Run.{Run}
 use Rattle.segments.specs.declared.entries.Usage.{Usage}
 use Rattle.segments.specs.declared.entries.UsageEntry.{UsageEntry}
@@ -42,6 +42,11 @@ among_both (x ∷ xs) ys run = ap (λ (t : Bool). same_run x run || t) (among_bo
 -- one of some runs, or one more
 pub among_more : (runs : List Run) (r run : Run) → is_among (runs ++ r ∷ []) run ≡ (is_among runs run || same_run r run)
 among_more runs r run = among_both runs (r ∷ []) run ∙ ap (λ (t : Bool). is_among runs run || t) (or_false (same_run r run))
+
+-- how often a run is among some runs and others
+pub times_both : (xs ys : List Run) (run : Run) → times_among (xs ++ ys) run ≡ times_among xs run + times_among ys run
+times_both [] ys run = omega arith
+times_both (x ∷ xs) ys run = let more = times_both xs ys run in omega (arith, more)
 
 -- what is not used is unused
 pub unused : (usage : Usage) → (is_used usage ≡ true → ⊥) → usage ≡ UNUSED

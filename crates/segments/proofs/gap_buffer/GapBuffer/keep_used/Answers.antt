@@ -1,6 +1,6 @@
 use Rattle.std.proofs.Common.{◌∙◌, ap}
 use Rattle.segments.proofs.Gaps.{settled, settled_room}
-use Rattle.segments.proofs.GivenBack.{used_entries}
+use Rattle.segments.proofs.LetGo.{used_entries}
 use Rattle.segments.proofs.gap_buffer.GapBuffer.keep_used.Goals as goal
 
 pub invariant_of-self : goal.invariant_of-self

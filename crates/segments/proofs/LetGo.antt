@@ -1,12 +1,14 @@
--- What changes as runs are given back: first in their entries, and then those that are not used go.
-use Rattle.std.proofs.Common.{◌≡◌, ⊎_elim, ◌≤◌, ◌<◌, ◌+◌, ◌++◌, ◌||◌, ℕ, zero, suc, Bool, true, false, cond, List, [], ◌∷◌, filter, length, get_or, set, length-set, refl, sym, ap, ◌∙◌, subst, arith}
+-- What changes as runs are let go: first in their entries, and then those that are not used go.
+use Rattle.std.proofs.Common.{◌≡◌, ⊎_elim, ◌≤◌, ◌<◌, ◌+◌, ◌-◌, ◌++◌, ◌||◌, ℕ, zero, suc, Bool, true, false, cond, List, [], ◌∷◌, filter, length, get_or, set, length-set, refl, sym, ap, ◌∙◌, subst, arith}
 use Rattle.std.proofs.lemmas.Bool.{cond_both, cond-true, cond-false, cases_Bool, true≢false}
 use Rattle.segments.specs.declared.run.Run.{Run}
 use Rattle.segments.specs.declared.entries.Usage.{Usage}
 use Rattle.segments.specs.declared.entries.UsageEntry.{UsageEntry}
-use Rattle.segments.specs.Usages.{UNUSED, is_used, given, usage_of, usage_after, is_among, same_run, Ordered, EndBy}
-use Rattle.segments.specs.laws.Usages.{same_run_is, among_more, unused}
-use Rattle.segments.specs.inner.Places.{Ascending, GivenAmong, HasEntryAt}
+use Rattle.segments.specs.declared.entries.Holder.{Holder}
+use Rattle.segments.specs.declared.entries.Holder.TheVariants.{Catalogue, Snapshot}
+use Rattle.segments.specs.Usages.{UNUSED, is_used, given, unpinned, unpinned_times, usage_of, is_among, times_among, same_run, Ordered, EndBy}
+use Rattle.segments.specs.laws.Usages.{same_run_is, among_more, times_both, unused}
+use Rattle.segments.specs.inner.Places.{Ascending, HasEntryAt, LetGoAmong, without, without_each}
 use Rattle.segments.proofs.Placed.{starts_differ, ordered_from, ascending_at}
 use Rattle.segments.proofs.Used.{unused_before}
 
@@ -50,29 +52,60 @@ usage_set from (e ∷ es) (suc k) run u d other a lt is =
     ∙ later ∙ ap (cond (same_run run other) u) (sym (cond-false (same_run e.run other) e.usage (usage_of es other) f)))
     (cases_Bool (same_run e.run other))
 
--- one more run is given back
-after_last : (was mid next : Usage) (among same : Bool) → mid ≡ cond among (given was) was → (same ≡ true → next ≡ given mid) → (same ≡ false → next ≡ mid) → next ≡ cond (among || same) (given was) was
-after_last was mid next true true before gives keeps = gives refl ∙ ap given before
-after_last was mid next true false before gives keeps = keeps refl ∙ before
-after_last was mid next false true before gives keeps = gives refl ∙ ap given before
-after_last was mid next false false before gives keeps = keeps refl ∙ before
+-- an unused run stays so
+without_unused : (holder : Holder) → without holder UNUSED ≡ UNUSED
+without_unused Catalogue = refl
+without_unused Snapshot = refl
 
-usages_last : (old new next : List UsageEntry) (runs : List Run) (run : Run) → ((other : Run) → usage_of new other ≡ usage_after runs other (usage_of old other)) → ((other : Run) → same_run run other ≡ true → usage_of next other ≡ given (usage_of new other)) → ((other : Run) → same_run run other ≡ false → usage_of next other ≡ usage_of new other) → (other : Run) → usage_of next other ≡ usage_after (runs ++ run ∷ []) other (usage_of old other)
-usages_last old new next runs run before gives keeps other =
-    after_last (usage_of old other) (usage_of new other) (usage_of next other) (is_among runs other) (same_run run other) (before other) (gives other) (keeps other)
-    ∙ ap (λ (t : Bool). cond t (given (usage_of old other)) (usage_of old other)) (sym (among_more runs run other))
+-- none is let go
+pub without_none : (holder : Holder) (run : Run) (usage : Usage) → usage ≡ without_each holder [] run usage
+without_none Catalogue run usage = refl
+without_none Snapshot run usage = let same : usage.pins ≡ usage.pins - 0 = omega arith in λ i. record { taken = usage.taken; pins = same i }
+
+-- one more run is let go
+given_more : (among same : Bool) (was : Usage) → cond (among || same) (given was) was ≡ cond same (given (cond among (given was) was)) (cond among (given was) was)
+given_more true true was = refl
+given_more true false was = refl
+given_more false true was = refl
+given_more false false was = refl
+
+unpinned_more : (times : ℕ) (same : Bool) (was : Usage) → unpinned_times (times + (cond same 1 0 + 0)) was ≡ cond same (unpinned (unpinned_times times was)) (unpinned_times times was)
+unpinned_more times true was = let less : was.pins - (times + (1 + 0)) ≡ was.pins - times - 1 = omega arith in λ i. record { taken = was.taken; pins = less i }
+unpinned_more times false was = let less : was.pins - (times + (0 + 0)) ≡ was.pins - times = omega arith in λ i. record { taken = was.taken; pins = less i }
+
+without_more : (holder : Holder) (runs : List Run) (run other : Run) (was : Usage)
+    → without_each holder (runs ++ run ∷ []) other was ≡ cond (same_run run other) (without holder (without_each holder runs other was)) (without_each holder runs other was)
+without_more Catalogue runs run other was = ap (λ (t : Bool). cond t (given was) was) (among_more runs run other) ∙ given_more (is_among runs other) (same_run run other) was
+without_more Snapshot runs run other was =
+    ap (λ (n : ℕ). unpinned_times n was) (times_both runs (run ∷ []) other) ∙ unpinned_more (times_among runs other) (same_run run other) was
+
+after_last : (holder : Holder) (so_far mid next : Usage) (same : Bool) → mid ≡ so_far → (same ≡ true → next ≡ without holder mid) → (same ≡ false → next ≡ mid) → next ≡ cond same (without holder so_far) so_far
+after_last holder so_far mid next true before goes keeps = goes refl ∙ ap (without holder) before
+after_last holder so_far mid next false before goes keeps = keeps refl ∙ before
+
+usages_last : (holder : Holder) (old new next : List UsageEntry) (runs : List Run) (run : Run) → ((other : Run) → usage_of new other ≡ without_each holder runs other (usage_of old other))
+    → ((other : Run) → same_run run other ≡ true → usage_of next other ≡ without holder (usage_of new other)) → ((other : Run) → same_run run other ≡ false → usage_of next other ≡ usage_of new other)
+    → (other : Run) → usage_of next other ≡ without_each holder (runs ++ run ∷ []) other (usage_of old other)
+usages_last holder old new next runs run before goes keeps other =
+    after_last holder (without_each holder runs other (usage_of old other)) (usage_of new other) (usage_of next other) (same_run run other) (before other) (goes other) (keeps other)
+    ∙ sym (without_more holder runs run other (usage_of old other))
+
+-- at first
+pub none_let_go : (holder : Holder) (es : List UsageEntry) → Ascending 2 es → LetGoAmong holder es es []
+none_let_go holder es ascends = record { len = refl; ascending = ascends; within = λ size ends. ends; usages = λ run. without_none holder run (usage_of es run) }
 
 -- one that has an entry
-pub given_at : (old new next : List UsageEntry) (runs : List Run) (run : Run) (k : ℕ) (u : Usage) → GivenAmong old new runs → HasEntryAt new run k → u ≡ given (usage_of new run) → next ≡ with_entry new k run u → GivenAmong old next (runs ++ run ∷ [])
-given_at old new next runs run k u all has gives is = subst (λ (es : List UsageEntry). GivenAmong old es (runs ++ run ∷ [])) (sym is) (record {
+pub let_go_at : (holder : Holder) (old new next : List UsageEntry) (runs : List Run) (run : Run) (k : ℕ) (u : Usage) → LetGoAmong holder old new runs → HasEntryAt new run k → u ≡ without holder (usage_of new run)
+    → next ≡ with_entry new k run u → LetGoAmong holder old next (runs ++ run ∷ [])
+let_go_at holder old new next runs run k u all has goes is = subst (λ (es : List UsageEntry). LetGoAmong holder old es (runs ++ run ∷ [])) (sym is) (record {
   len = length-set new k (record { run = run; usage = u }) ∙ all.len;
   ascending = ascending_set 2 new k run u own all.ascending has.within has.is;
   within = λ size ends. ends_set size new k run u own (all.within size ends) has.within has.is;
   usages =
-      usages_last old new (with_entry new k run u) runs run all.usages
+      usages_last holder old new (with_entry new k run u) runs run all.usages
       (λ other same.
       usage_set 2 new k run u own other all.ascending has.within has.is ∙ cond-true (same_run run other) u (usage_of new other) same
-      ∙ gives ∙ ap (λ (r : Run). given (usage_of new r)) (same_run_is run other same))
+      ∙ goes ∙ ap (λ (r : Run). without holder (usage_of new r)) (same_run_is run other same))
       (λ other differs. usage_set 2 new k run u own other all.ascending has.within has.is ∙ cond-false (same_run run other) u (usage_of new other) differs);
 })
   where
@@ -80,16 +113,16 @@ given_at old new next runs run k u all has gives is = subst (λ (es : List Usage
     own = record { run = run; usage = UNUSED }
 
 -- one that has none
-pub given_unused : (old new : List UsageEntry) (runs : List Run) (run : Run) → GivenAmong old new runs → usage_of new run ≡ UNUSED → GivenAmong old new (runs ++ run ∷ [])
-given_unused old new runs run all none = record {
+pub let_go_unused : (holder : Holder) (old new : List UsageEntry) (runs : List Run) (run : Run) → LetGoAmong holder old new runs → usage_of new run ≡ UNUSED → LetGoAmong holder old new (runs ++ run ∷ [])
+let_go_unused holder old new runs run all none = record {
   len = all.len;
   ascending = all.ascending;
   within = all.within;
   usages =
-      usages_last old new new runs run all.usages
+      usages_last holder old new new runs run all.usages
       (λ other same.
       let here : usage_of new other ≡ UNUSED = ap (usage_of new) (sym (same_run_is run other same)) ∙ none in
-      here ∙ ap given (sym here))
+      here ∙ sym (without_unused holder) ∙ ap (without holder) (sym here))
       (λ other differs. refl);
 }
 
@@ -124,12 +157,12 @@ usage_kept from (e ∷ es) run a =
     (λ (f : same_run e.run run ≡ false). sym (cond-false (same_run e.run run) e.usage (usage_of es run) f))
     (cases_Bool (same_run e.run run)))
 
--- runs were given back, and only the used entries stay
-pub kept_ordered : (old mid new : List UsageEntry) (runs : List Run) → GivenAmong old mid runs → new ≡ used_entries mid → Ordered 2 new
-kept_ordered old mid new runs all is = subst (Ordered 2) (sym is) (ordered_kept 2 mid all.ascending)
+-- runs were let go, and only the used entries stay
+pub kept_ordered : (holder : Holder) (old mid new : List UsageEntry) (runs : List Run) → LetGoAmong holder old mid runs → new ≡ used_entries mid → Ordered 2 new
+kept_ordered holder old mid new runs all is = subst (Ordered 2) (sym is) (ordered_kept 2 mid all.ascending)
 
-pub kept_ends : (old mid new : List UsageEntry) (runs : List Run) → GivenAmong old mid runs → new ≡ used_entries mid → (size : ℕ) → EndBy size old → EndBy size new
-kept_ends old mid new runs all is size ends = subst (EndBy size) (sym is) (ends_kept size mid (all.within size ends))
+pub kept_ends : (holder : Holder) (old mid new : List UsageEntry) (runs : List Run) → LetGoAmong holder old mid runs → new ≡ used_entries mid → (size : ℕ) → EndBy size old → EndBy size new
+kept_ends holder old mid new runs all is size ends = subst (EndBy size) (sym is) (ends_kept size mid (all.within size ends))
 
-pub kept_usages : (old mid new : List UsageEntry) (runs : List Run) → GivenAmong old mid runs → new ≡ used_entries mid → (run : Run) → usage_of new run ≡ usage_after runs run (usage_of old run)
-kept_usages old mid new runs all is run = ap (λ (es : List UsageEntry). usage_of es run) is ∙ usage_kept 2 mid run all.ascending ∙ all.usages run
+pub kept_usages : (holder : Holder) (old mid new : List UsageEntry) (runs : List Run) → LetGoAmong holder old mid runs → new ≡ used_entries mid → (run : Run) → usage_of new run ≡ without_each holder runs run (usage_of old run)
+kept_usages holder old mid new runs all is run = ap (λ (es : List UsageEntry). usage_of es run) is ∙ usage_kept 2 mid run all.ascending ∙ all.usages run

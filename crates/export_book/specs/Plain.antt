@@ -1,0 +1,21 @@
+-- What the parts of a book of the code are.
+use Rattle.std.specs.Prelude.{◌^◌, ℕ, Bool, true, nat_lt, List, map, Option, Some, None}
+use Rattle.arrow_schema.specs.View.{schema_of}
+use Rattle.export_book.specs.declared.export.OpenExport.{OpenExport}
+use Rattle.export_book.specs.Book.{PlainExport, PlainBook}
+
+abbrev pub plain_export : OpenExport → PlainExport
+plain_export e = record { id = e.id; schema = schema_of e.schema; segments = e.segments.items; given = e.given }
+
+-- the id of the next export
+abbrev pub next_id : Option ℕ → ℕ
+next_id None = 2 ^ 64
+next_id (Some id) = id
+
+-- it has 64 bits
+abbrev pub is_counted : Option ℕ → Bool
+is_counted None = true
+is_counted (Some id) = nat_lt id (2 ^ 64)
+
+abbrev pub book_in : List OpenExport → Option ℕ → PlainBook
+book_in exports next = record { exports = map plain_export exports; next = next_id next }

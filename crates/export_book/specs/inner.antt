@@ -1,0 +1,2 @@
+-- What only the code's own steps need.
+pub mod Props

@@ -1,0 +1,3 @@
+-- Laws that the crates above use.
+pub mod Ids
+pub mod Kept

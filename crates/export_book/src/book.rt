@@ -1,0 +1,117 @@
+// The exports that are open.
+ghost use Rattle.std.specs.Prelude.{◌≡◌, ◌≤◌, ◌==◌, true, false, length};
+ghost use Rattle.std.specs.List.{position};
+ghost use Rattle.segments.specs.declared.run.Run.{Run};
+ghost use Rattle.segments.specs.Usages.{times_among};
+ghost use Rattle.arrow_schema.specs.View.{schema_of};
+ghost use Rattle.catalogue.specs.Entries.{runs_in_segments};
+ghost use Rattle.export_book.specs.Book.{IsBook, MayGive, no_exports, is_full, open_at, with_open, with_given, without};
+ghost use Rattle.export_book.specs.Plain.{book_in, is_counted, plain_export};
+ghost use Rattle.export_book.specs.inner.Props.{book_prop};
+
+use crate::OpenExport;
+use arrow_schema::Schema;
+use catalogue::Segment;
+use std::alloc::{AllocError, Global};
+
+/// How many exports may be open at once.
+pub const MAX_EXPORTS: usize = 64;
+
+/// The exports that are open, in the order in which they were opened, and the id of the next one.
+#[derive(Drop)]
+pub struct ExportBook {
+    exports: Vec<OpenExport>,
+    // none: the last id was given
+    next: Option<u64>,
+    ghost counted: { is_counted next ≡ true },
+    ghost sound: { IsBook (book_in exports.items next) } by { book_prop (book_in exports.items next) },
+}
+
+// Where the export of an id stands, if it is open.
+fn place_of(exports: &[OpenExport], id: u64) -> Option<usize>
+    ensures { result ≡ position (λ e. e.id == id) exports.now }
+{
+    exports.iter().position(|export| export.id == id)
+}
+
+impl ExportBook {
+    ghost use Rattle.std.specs.Prelude.{option_map, IfOk, OnOk, OnErr};
+    ghost use Rattle.catalogue.specs.declared.limits.TheConstants.{MAX_SEGMENTS};
+    ghost use Rattle.export_book.specs.View.{book_of};
+
+    /// No export is open, and the first id is 0.
+    pub fn new(alloc: Global) -> Self
+        ensures { book_of result ≡ no_exports }
+    {
+        ExportBook {
+            exports: Vec::new(alloc),
+            next: Some(0),
+        }
+    }
+
+    /// Whether no other export can be opened: 64 are open, or the last id was given.
+    pub fn is_full(&self) -> bool
+        ensures full { result ≡ is_full (book_of self.now) }
+        ensures sound { IsBook (book_of self.now) }
+    {
+        self.exports.len() >= MAX_EXPORTS || self.next.is_none()
+    }
+
+    /// The export of an id, if it is open.
+    pub fn get(&self, id: u64) -> Option<&OpenExport>
+        ensures export { option_map (λ e. plain_export e.now) result ≡ open_at (book_of self.now) id }
+        ensures sound { IsBook (book_of self.now) }
+    {
+        match place_of(&self.exports, id) {
+            Some(place) => Some(&self.exports[place]),
+            None => None,
+        }
+    }
+
+    /// Opens an export of these segments, which are of this schema, and gives its id.
+    pub fn open(&mut self, schema: Schema, segments: Vec<Segment>) -> Result<u64, AllocError>
+        requires room { is_full (book_of self.old) ≡ false }
+        requires short { length segments.items ≤ MAX_SEGMENTS }
+        requires once { (run : Run) → times_among (runs_in_segments segments.items) run ≤ 1 }
+        ensures id { IfOk result (λ id. id ≡ (book_of self.old).next) }
+        ensures opened { OnOk result (book_of self.new ≡ with_open (schema_of schema) segments.items (book_of self.old)) }
+        ensures err { OnErr result (book_of self.new ≡ book_of self.old) }
+    {
+        let id = self.next.unwrap();
+        let export = OpenExport {
+            id,
+            schema,
+            segments,
+            given: 0,
+        };
+        self.exports.push(export)?;
+        let next = id.checked_add(1);
+        self.next = next;
+        Ok(id)
+    }
+
+    /// One more piece of the export of this id was given. Where it isn't open nothing changes.
+    pub fn give(&mut self, id: u64)
+        requires { MayGive (open_at (book_of self.old) id) }
+        ensures { book_of self.new ≡ with_given id (book_of self.old) }
+    {
+        match place_of(&self.exports, id) {
+            Some(place) => {
+                let export = &mut self.exports[place];
+                export.given += 1;
+            }
+            None => {}
+        }
+    }
+
+    /// Closes the export of an id, and hands back what it had. It takes no memory.
+    pub fn close(&mut self, id: u64) -> Option<OpenExport>
+        ensures closed { book_of self.new ≡ without id (book_of self.old) }
+        ensures export { option_map plain_export result ≡ open_at (book_of self.old) id }
+    {
+        match place_of(&self.exports, id) {
+            Some(place) => Some(self.exports.remove(place)),
+            None => None,
+        }
+    }
+}

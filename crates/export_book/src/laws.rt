@@ -1,0 +1,21 @@
+// Laws of books. The functions do nothing: their contracts are the laws.
+ghost use Rattle.std.specs.Prelude.{◌≡◌, ◌≤◌, ◌<◌, ℕ, List, None};
+ghost use Rattle.std.specs.List.{AllByRecursion};
+ghost use Rattle.segments.specs.declared.run.Run.{Run};
+ghost use Rattle.segments.specs.Usages.{times_among};
+ghost use Rattle.export_book.specs.declared.book.TheConstants.{MAX_EXPORTS};
+ghost use Rattle.export_book.specs.Book.{PlainBook, IsBook, runs_kept, open_at};
+ghost use Rattle.export_book.specs.Steps.{AreSteps};
+
+/// A run is kept by each export once at the most, so pins of it can be counted.
+pub fn runs_are_kept_few_times()
+    ensures { (b : PlainBook) (run : Run) → IsBook b → times_among (runs_kept b.exports) run ≤ MAX_EXPORTS }
+{}
+
+/// The next id is that of no open export, it never goes down, and an export that was closed is never open again.
+pub fn ids_are_given_once()
+    ensures new { (b : PlainBook) → IsBook b → open_at b b.next ≡ None }
+    ensures up { (b : PlainBook) (later : List PlainBook) → AreSteps b later → AllByRecursion (λ c. b.next ≤ c.next) later }
+    ensures once { (b : PlainBook) (later : List PlainBook) (id : ℕ) → AreSteps b later → id < b.next → open_at b id ≡ None
+        → AllByRecursion (λ c. open_at c id ≡ None) later }
+{}
