@@ -8,7 +8,7 @@ TESTS := $(foreach crate,$(REFUSING),crates/$(crate)/out/$(crate)_tests)
 
 PREFIX ?= /usr/local
 
-.PHONY: all proved dist install uninstall test gate-cost gate wrong-bodies memory vectors bench bench-recode bench-texts bench-store bench-device bench-bitmap
+.PHONY: all proved dist install uninstall test gate-cost gate wrong-bodies memory vectors bench bench-recode bench-shapes bench-texts bench-store bench-device bench-bitmap
 .DELETE_ON_ERROR:
 
 # Puts the program into bin/ and runs it once, on the stream of examples/.
@@ -85,10 +85,13 @@ vectors: bin/arrowstore
 	tests/texts bin/arrowstore tests/vectors/texts.jsonl tests/vectors/texts_worked.jsonl
 	tests/dist bin/arrowstore
 
-bench: bench-recode bench-texts bench-store bench-device bench-bitmap
+bench: bench-recode bench-shapes bench-texts bench-store bench-device bench-bitmap
 
 bench-recode: bin/arrowstore
 	bench/recode bin/arrowstore
+
+bench-shapes: bin/arrowstore
+	bench/shapes bin/arrowstore
 
 bench-texts: bin/arrowstore
 	bench/texts bin/arrowstore

@@ -20,6 +20,7 @@ pub mod VisibleSlots
 pub mod VisibleTexts
 pub mod VisibleUtf8
 pub mod MayFind
+pub mod SameWeights
 pub mod Ranges
 pub mod BatchRead
 pub mod KnownRead

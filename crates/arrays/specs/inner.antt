@@ -6,4 +6,5 @@ pub mod Weights
 pub mod VisibleSpans
 pub mod SpanLists
 pub mod MayFind
+pub mod Varying
 pub mod SchemaDictionaries

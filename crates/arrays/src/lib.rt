@@ -29,6 +29,7 @@ mod raw;
 mod rest;
 mod runs;
 mod schema_dictionaries;
+mod varying;
 mod visible;
 mod weights;
 

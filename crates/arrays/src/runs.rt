@@ -1,5 +1,5 @@
 // Runs of slots that are all valid, or all not.
-ghost use Rattle.std.specs.Prelude.{◌≡◌, ℕ, ◌<◌, ◌≤◌, false};
+ghost use Rattle.std.specs.Prelude.{◌≡◌, ℕ, ◌<◌, ◌≤◌, true, false};
 ghost use Rattle.columns.specs.Array.{slots_in};
 ghost use Rattle.columns.specs.CellAt.{is_valid};
 ghost use Rattle.columns.specs.Tests.{has_short_validity};
@@ -21,4 +21,13 @@ pub(crate) fn run_to(view: ArrayView<'_>, from: usize, to: usize) -> usize
         return to;
     }
     bitmap::run_end(validity, from, to)
+}
+
+/// Whether slots from one on up to another have more than one run.
+pub(crate) fn are_split(view: ArrayView<'_>, from: usize, to: usize) -> bool
+    requires long { has_short_validity (view_array view) ≡ false }
+    requires within { to ≤ slots_in (view_array view) }
+    ensures { result ≡ true → from < to }
+{
+    from < to && run_to(view, from, to) < to
 }

@@ -14,7 +14,8 @@ ghost use Rattle.columns.specs.Tests.{are_few, are_few_offsets, are_unordered, h
 ghost use Rattle.columns.specs.View.{view_array, placed_arrays, IsNoArray};
 ghost use Rattle.arrays.specs.inner.Weights.{AreEntryWeights, IsKnownTotal, IsKnownWeight, sum_from, span_weight, plain_weight, valid_weight, parts_span_weight, has_one_weight};
 
-use crate::runs::run_to;
+use crate::runs::{are_split, run_to};
+use crate::varying::may_vary;
 use arrow_schema::{BitWidth, DataType, DictSpec, Field};
 use cells::{TOO_HEAVY, Value, add_weights, multiply_weight, weight};
 use columns::{
@@ -92,7 +93,7 @@ fn span_weight(
     }
 }
 
-// Without a dictionary: run by run.
+// Without a dictionary: run by run, unless all cells weigh the same. That is asked only where there are more runs than one, so that it costs no more than they do.
 #[cycle(weights)]
 fn plain_weight(
     field: &Field,
@@ -110,6 +111,9 @@ fn plain_weight(
     // a number of the code is below 2^64, so that the sum is too
     let _slots = view.slots();
     let end = from + count;
+    if are_split(view, from, end) && !may_vary(&field.data_type) {
+        return nulls_weight(field, count);
+    }
     let mut total = 0;
     let mut start = from;
     while start < end {

@@ -1,6 +1,6 @@
 use Rattle.std.specs.Prelude.{Option, Some, nat_le}
 use Rattle.std.specs.List.{list_all}
-use Rattle.std.proofs.Common.{◌≡◌, ◌+◌, ◌-◌, ◌*◌, ℕ, ◌<◌, ◌≤◌, List, get_or, inl, inr, length, set, subst, take, true, map, drop, refl, sym, ap, arith, rules, ◌∙◌}
+use Rattle.std.proofs.Common.{◌≡◌, ◌+◌, ◌-◌, ◌*◌, ℕ, ◌<◌, ◌≤◌, List, get_or, inl, inr, length, set, subst, take, true, false, map, drop, refl, sym, ap, arith, rules, ◌∙◌}
 use Rattle.arrow_schema.specs.declared.types.Field.{the_lemmas as field_lemmas}
 use Rattle.arrow_schema.specs.Column.{Kind, columns_of, texts, large_texts, binaries, large_binaries, lists, large_lists, fixed_lists, structs}
 use Rattle.arrow_schema.specs.View.{kind_of, column_of, index_of}
@@ -21,8 +21,10 @@ use Rattle.columns.specs.laws.Places.{listed}
 use Rattle.columns.specs.laws.Offsets.{spans_fit}
 use Rattle.columns.specs.laws.Rows.{fewer_sound}
 use Rattle.facts.specs.laws.Lists.{drop-item}
+use Rattle.arrays.specs.inner.Varying.{may_vary}
 use Rattle.arrays.specs.inner.Weights.{AreEntryWeights, has_one_weight, sum_from, valid_weight}
 use Rattle.arrays.proofs.SpanWeights.{plain_sound, plain_spanned, coded_sound, coded_spanned, known_weight, one_slot, valid_weighs, column_one_weight, valid_run, null_run, run_more, slot_more, next_total, parts_next, parts_end, sound_next}
+use Rattle.arrays.proofs.SameWeights.{alike_weigh}
 use Rattle.columns.specs.laws.SoundParts.{sound_parts, sound_validity}
 use Rattle.arrays.proofs.KindWeights.{items_total, fixed_total, fields_total, fixed_within}
 use Rattle.arrays.proofs.weights.+weights.Goals as goal
@@ -58,6 +60,14 @@ span_weight-entries_weight-requires t c =
 pub span_weight-returns-in-Some : goal.span_weight-returns-in-Some
 span_weight-returns-in-Some t c =
     c.entries_weight.ensures ∙ ap capped_weight (coded_spanned c.args.field.now c.in-Some.spec (view_array c.args.view) c.args.from c.args.count c.in-Some.is)
+
+pub plain_weight-are_split-requires-clause-long : goal.plain_weight-are_split-requires-clause-long
+plain_weight-are_split-requires-clause-long t c = sound_validity (kind_of c.args.field.now.data_type) (view_array c.args.view) c.requires.sound
+
+pub plain_weight-returns-then-not-may_vary : goal.plain_weight-returns-then-not-may_vary
+plain_weight-returns-then-not-may_vary t c =
+    let same : may_vary (kind_of c.args.field.now.data_type) ≡ false = sym c.may_vary.ensures ∙ c.if-not-may_vary.true in
+    c.nulls_weight.ensures ∙ ap capped_weight (sym (alike_weigh (kind_of c.args.field.now.data_type) (view_array c.args.view) c.args.from c.args.count same))
 
 pub plain_weight-run_to-next-requires-clause-long : goal.plain_weight-run_to-next-requires-clause-long
 plain_weight-run_to-next-requires-clause-long t c = sound_validity (kind_of c.args.field.now.data_type) (view_array c.args.view) c.requires.sound
