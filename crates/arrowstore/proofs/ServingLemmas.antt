@@ -4,12 +4,14 @@ use Rattle.std.specs.Prelude.{Option, Result, Ok, Err, OnOk}
 use Rattle.std.specs.Borrow.{Bor}
 use Rattle.sector_dev.specs.declared.device.SectorDevice.{Ghosts}
 use Rattle.text_import.specs.declared.form.TextForm.{TextForm}
+use Rattle.catalogue.specs.Entries.{is_name}
 use Rattle.catalogue.specs.Edits.{entry_of}
+use Rattle.tables.specs.declared.refusal.Refusal.TheVariants.{BadName, NoTable}
 use Rattle.tables.specs.Commands.{import_stream, append_stream}
 use Rattle.store.specs.declared.store.Store.{Store}
+use Rattle.store.specs.Deciding.{has_entry}
 use Rattle.store.specs.Fits.{is_halted, listed_in}
 use Rattle.command_refusals.specs.declared.refusal.Refusal.{Refusal}
-use Rattle.store_commands.specs.Changing.{RefusesImport, RefusesAppend}
 use Rattle.store_commands.specs.TextRows.{RefusesText}
 use Rattle.arrowstore.specs.declared.open_command.OpenCommand.{OpenCommand}
 use Rattle.arrowstore.specs.declared.open_command.OpenCommand.TheVariants as opened
@@ -18,13 +20,13 @@ use Rattle.arrowstore.specs.Serving.{Channels, CarriesInput, CarriesText, Serves
 module _ {D : Type 0} {g : Ghosts D} {R W : Type 0} (remaining : R → Option (List ℕ)) (contents : W → Option (List ℕ)) (command : OpenCommand) (name : Bor (List ℕ))
     (old new : Store D g) (before after : Channels R W) (result : Result (Unit {0}) Refusal) where
   pub serves_import : command ≡ opened.Import name
-      → CarriesInput contents (remaining before.input) (import_stream name.now) (RefusesImport remaining name.now before.input after.input) old new before after result
+      → CarriesInput remaining contents (import_stream name.now) (is_name name.now) BadName old new before after result
       → Serves remaining contents command old new before after result
   unfolding Serves
   serves_import is carries = subst (λ (c : OpenCommand). Serves remaining contents c old new before after result) (sym is) carries
 
   pub serves_append : command ≡ opened.Append name
-      → CarriesInput contents (remaining before.input) (append_stream name.now) (RefusesAppend remaining (is_halted old) (entry_of (listed_in old) name.now) before.input after.input) old new before after result
+      → CarriesInput remaining contents (append_stream name.now) (has_entry (listed_in old) name.now) NoTable old new before after result
       → Serves remaining contents command old new before after result
   unfolding Serves
   serves_append is carries = subst (λ (c : OpenCommand). Serves remaining contents c old new before after result) (sym is) carries

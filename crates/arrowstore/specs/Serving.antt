@@ -1,5 +1,5 @@
 -- What a command of an open store takes, gives and leaves: for each command the words of its own function, in one definition.
-use Rattle.std.specs.Prelude.{◌≡◌, ℕ, true, false, List, codes, Option, Some, IsSome, Result, Ok, IfErr, OnOk}
+use Rattle.std.specs.Prelude.{◌≡◌, ◌≢◌, ℕ, Bool, true, false, List, codes, Option, Some, IsSome, Result, Ok, IfErr, OnOk}
 use Rattle.std.specs.Io.KnownBytes.{Appends}
 use Rattle.std.specs.List.{AllByRecursion}
 use Rattle.sector_dev.specs.Disk.{Image, now, shown_image}
@@ -8,21 +8,25 @@ use Rattle.cells.specs.Cell.{PlainTable}
 use Rattle.query.specs.View.{query_in}
 use Rattle.text_import.specs.declared.form.TextForm.{TextForm}
 use Rattle.text_import.specs.declared.part.RefusedPart.{RefusedPart}
-use Rattle.catalogue.specs.Entries.{PlainEntry}
+use Rattle.catalogue.specs.Entries.{PlainEntry, is_name}
 use Rattle.catalogue.specs.Edits.{entry_of, tables_of}
 use Rattle.canonical_stream.specs.Canonical.{canonical}
 use Rattle.tables.specs.Tables.{Tables}
 use Rattle.tables.specs.Commands.{PlainCommand, import_stream, append_stream, append_rows}
 use Rattle.tables.specs.View.{command_of}
+use Rattle.tables.specs.declared.refusal.Refusal as tables
+use Rattle.tables.specs.declared.refusal.Refusal.TheVariants.{BadName, NoTable}
 use Rattle.store.specs.declared.store.Store.{Store}
 use Rattle.store.specs.Applying.{GoesOn}
 use Rattle.store.specs.Calls.{apply_call}
+use Rattle.store.specs.Deciding.{has_entry}
 use Rattle.store.specs.Fits.{StoreFits, device_of, is_halted, listed_in}
 use Rattle.store.specs.Listing.{RefusesTables, RefusesSchema}
 use Rattle.store.specs.Machine.{Machine}
 use Rattle.store.specs.Reading.{ReadsTable, RefusesRead, OnlyReadsStore, ended}
 use Rattle.command_refusals.specs.declared.refusal.Refusal.{Refusal}
-use Rattle.store_commands.specs.Changing.{Answered, AnswersCommand, Hands, RefusesImport, RefusesAppend}
+use Rattle.command_refusals.specs.declared.refusal.Refusal.TheVariants.{Io}
+use Rattle.store_commands.specs.Changing.{Answered, AnswersCommand, AnswersInput}
 use Rattle.store_commands.specs.Printed.{tables_text, schema_text, RefusesPrinting}
 use Rattle.store_commands.specs.Reading.{OfStore, store_ended, IsReadable, RefusesCheck}
 use Rattle.store_commands.specs.Selecting.{rows_text, QueryAnswers, RefusesQuery}
@@ -48,15 +52,13 @@ pub record Carries {D : Type 0} {g : Ghosts D} {R W : Type 0} (contents : W → 
   pub written : OnOk result (Appends (contents before.output) (contents after.output) (codes "ok\n"))
   pub unhinted : after.hint ≡ before.hint
 
--- so is the command that all of an input is, or it is refused before, for a reason of which this holds (`import_input`, `append_input`)
-pub record CarriesInput {D : Type 0} {g : Ghosts D} {R W : Type 0} (contents : W → Option (List ℕ)) (input : Option (List ℕ))
-    (command : List ℕ → PlainCommand) (refuses : Refusal → Type 0) (old new : Store D g) (before after : Channels R W)
+-- so is the command that all of an input is, unless the store is halted or the first test fails (`import_input`, `append_input`)
+pub record CarriesInput {D : Type 0} {g : Ghosts D} {R W : Type 0} (remaining : R → Option (List ℕ)) (contents : W → Option (List ℕ))
+    (command : List ℕ → PlainCommand) (passes : Bool) (why : tables.Refusal) (old new : Store D g) (before after : Channels R W)
     (result : Result (Unit {0}) Refusal) : Type 0 where
-  pub goes : g.tells ≡ true → (base : Tables) (m : Machine) → StoreFits g.size g.story base m old
-      → Hands input (λ bytes answer. GoesOn g.size g.story g.failed base m (apply_call (command bytes)) (ended answer) old new) (λ refusal. new ≡ old) result
-  pub told : Hands input (λ bytes answer. AnswersCommand g.size g.story g.tells (command bytes) answer old new)
-      (λ refusal. refuses refusal × (new ≡ old) × (after.output ≡ before.output)) result
+  pub told : Answered (λ answer. AnswersInput g.size g.story g.failed g.tells remaining command passes why before.input after.input answer old new) result
   pub written : OnOk result (Appends (contents before.output) (contents after.output) (codes "ok\n"))
+  pub silent : IfErr result (λ refusal. refusal ≢ Io → after.output ≡ before.output)
   pub unhinted : after.hint ≡ before.hint
 
 -- so are the rows that all of an input has as a text (`append_text`)
@@ -101,11 +103,9 @@ unfoldable pub Serves : {D : Type 0} {g : Ghosts D} {R W : Type 0} → (remainin
     → (old new : Store D g) → (before after : Channels R W) → Result (Unit {0}) Refusal → Type 0
 Serves remaining contents (opened.Change c) old new before after result = Carries contents (command_of c) old new before after result
 Serves remaining contents (opened.Import name) old new before after result =
-    CarriesInput contents (remaining before.input) (import_stream name.now)
-    (RefusesImport remaining name.now before.input after.input) old new before after result
+    CarriesInput remaining contents (import_stream name.now) (is_name name.now) BadName old new before after result
 Serves remaining contents (opened.Append name) old new before after result =
-    CarriesInput contents (remaining before.input) (append_stream name.now)
-    (RefusesAppend remaining (is_halted old) (entry_of (listed_in old) name.now) before.input after.input) old new before after result
+    CarriesInput remaining contents (append_stream name.now) (has_entry (listed_in old) name.now) NoTable old new before after result
 Serves remaining contents (opened.AppendText name form) old new before after result =
     CarriesText contents (remaining before.input) form name.now
     (RefusesText remaining form (is_halted old) (entry_of (listed_in old) name.now) before.input after.input) old new before after result

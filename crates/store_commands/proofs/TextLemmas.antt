@@ -14,7 +14,8 @@ use Rattle.store.specs.Reading.{ReadsTable}
 use Rattle.command_refusals.specs.declared.refusal.Refusal.{Refusal}
 use Rattle.command_refusals.specs.declared.refusal.Refusal.TheVariants.{Io}
 use Rattle.text_import.specs.declared.form.TextForm.{TextForm}
-use Rattle.store_commands.specs.Given.{IsWholeInput, HasGivenAtMost}
+use Rattle.store.specs.Input.{HasGivenAtMost}
+use Rattle.store_commands.specs.Given.{IsWholeInput}
 use Rattle.store_commands.specs.declared.input.TheConstants.{LARGEST_INPUT}
 use Rattle.text_import.specs.Form.{rows_of_text}
 use Rattle.text_import.specs.Part.{part_of, refused_part}

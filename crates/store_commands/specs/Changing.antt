@@ -1,21 +1,23 @@
 -- What the program answers of commands that change the tables of a store.
-use Rattle.std.specs.Prelude.{◌≡◌, ◌≢◌, ◌⊎◌, ◌↔◌, ℕ, Bool, true, false, List, [], Option, IsSome, Result, Ok, Err, IsErrAnd, IfErr, OnOk}
+use Rattle.std.specs.Prelude.{◌≡◌, ◌≢◌, ◌↔◌, ℕ, Bool, true, false, List, [], Option, IsSome, Result, Ok, Err, IfErr, OnOk}
 use Rattle.sector_dev.specs.Disk.{Story}
 use Rattle.sector_dev.specs.Time.{OnlyReads}
 use Rattle.sector_dev.specs.declared.device.SectorDevice.{Ghosts}
 use Rattle.arrow_schema.specs.Column.{PlainSchema}
 use Rattle.arrow_schema.specs.Reported.{IsReported}
-use Rattle.catalogue.specs.Entries.{PlainEntry, is_name}
+use Rattle.catalogue.specs.Entries.{PlainEntry}
 use Rattle.tables.specs.declared.refusal.Refusal as tables
 use Rattle.tables.specs.declared.refusal.Refusal.TheVariants as refusals
 use Rattle.tables.specs.Commands.{PlainCommand}
 use Rattle.store.specs.declared.store.Store as stores
 use Rattle.store.specs.Applying.{IsApplied, IsKept, IsApplyingAtEachMoment, IsDoneOnDisk}
+use Rattle.store.specs.Answering.{TakesInput}
 use Rattle.store.specs.Fits.{device_of, is_halted, IsOnDisk}
+use Rattle.store.specs.Input.{ReadsFrom}
 use Rattle.store.specs.Listing.{RefusesSchema}
 use Rattle.command_refusals.specs.declared.refusal.Refusal.{Refusal}
 use Rattle.command_refusals.specs.declared.refusal.Refusal.TheVariants.{Io, Fields, Store, OutOfMemory}
-use Rattle.store_commands.specs.Given.{IsWholeInput, RefusesInput}
+use Rattle.store_commands.specs.Given.{RefusesInput}
 
 -- the program's answer follows that of the store: what is done is reported as done, unless the output fails, and a refusal is the store's
 abbrev pub Follows : Result (Unit {0}) tables.Refusal → Result (Unit {0}) Refusal → Type 0
@@ -44,14 +46,12 @@ pub record AnswersCommand {D : Type 0} {g : Ghosts D} (size : D → ℕ) (story 
   pub writes : is_halted old ≡ false → tells ≡ true → IsOnDisk size story old → IsApplyingAtEachMoment size story old command new
   pub written : OnOk answer (tells ≡ true → IsOnDisk size story old → IsDoneOnDisk size story old command new)
 
--- all of an input was handed to the store, which gave an answer, and the program's follows it; or it was refused before, for a reason of which this holds
-abbrev pub Hands : Option (List ℕ) → (List ℕ → Result (Unit {0}) tables.Refusal → Type 0) → (before : Refusal → Type 0) → Result (Unit {0}) Refusal → Type 0
-Hands input P before result = IsErrAnd result before ⊎ ((bytes : List ℕ) × IsWholeInput input bytes × Answered (P bytes) result)
-
--- why nothing is handed to the store, and what was read then: the name is bad, and nothing was; or the input is refused
-abbrev pub RefusesImport : {R : Type 0} → (remaining : R → Option (List ℕ)) → (name : List ℕ) → (old new : R) → Refusal → Type 0
-RefusesImport remaining name old new (Store refusals.BadName) = (is_name name ≡ false) × (new ≡ old)
-RefusesImport remaining name old new refusal = (is_name name ≡ true) × RefusesInput (remaining old) (remaining new) refusal
+-- a store answers a command that has all of an input so: what `Store::import_from` and `Store::append_from` promise of every store and every device,
+-- where `passes` is the test that comes before anything is read, and `why` is told where it fails
+pub record AnswersInput {D : Type 0} {g : Ghosts D} {R : Type 0} (size : D → ℕ) (story : D → Story) (failed : D → ℕ) (tells : Bool) (remaining : R → Option (List ℕ))
+    (command : List ℕ → PlainCommand) (passes : Bool) (why : tables.Refusal) (input left : R) (answer : Result (Unit {0}) tables.Refusal) (old new : stores.Store D g) : Type 0 where
+  pub takes : TakesInput size story failed tells (remaining input) command old answer new
+  pub reads : ReadsFrom remaining (is_halted old) passes why input left (new ≡ old) answer
 
 -- the store does not tell the schema of a table of this name, with this entry if there is one, and nothing was read; or the input is refused
 abbrev pub RefusesAppend : {R : Type 0} → (remaining : R → Option (List ℕ)) → (halted : Bool) → (found : Option PlainEntry) → (old new : R) → Refusal → Type 0

@@ -1,17 +1,9 @@
--- What a reader has given.
+-- Why an input is not read whole, as the program tells it.
 use Rattle.std.specs.Prelude.{ℕ, List, ◌≡◌, ◌+◌, ◌≤◌, length, Option, IfSome, Result, Ok, Err}
-use Rattle.std.specs.Io.KnownBytes.{Consumes}
+use Rattle.store.specs.Input.{HasGiven, HasGivenAtMost}
 use Rattle.store_commands.specs.declared.input.TheConstants.{LARGEST_INPUT}
 use Rattle.command_refusals.specs.declared.refusal.Refusal.{Refusal}
 use Rattle.command_refusals.specs.declared.refusal.Refusal.TheVariants.{Fault, TooManyBytes, Io, BadSize, Fields, Text, Query, Opening, Store, OutOfMemory}
-
--- the reader has given its next n bytes
-abbrev pub HasGiven : Option (List ℕ) → Option (List ℕ) → ℕ → Type 0
-HasGiven old new n = (bytes : List ℕ) × Consumes old new bytes × (length bytes ≡ n)
-
--- it has given no more than n bytes
-abbrev pub HasGivenAtMost : Option (List ℕ) → Option (List ℕ) → ℕ → Type 0
-HasGivenAtMost old new n = (bytes : List ℕ) × Consumes old new bytes × (length bytes ≤ n)
 
 -- of every answer but the refusal of too many bytes
 abbrev pub UnlessTooManyBytes : {A : Type 0} → Result A Refusal → Type 0 → Type 0

@@ -1,19 +1,19 @@
 // What changes the tables of an open store.
 ghost use Rattle.std.specs.Prelude.{◌≡◌, ◌≢◌, true, codes, IfErr, OnOk};
 ghost use Rattle.std.specs.Io.KnownBytes.{Appends};
-ghost use Rattle.catalogue.specs.Edits.{entry_of};
+ghost use Rattle.catalogue.specs.Entries.{is_name};
 ghost use Rattle.tables.specs.Commands.{import_stream, append_stream};
 ghost use Rattle.tables.specs.Tables.{Tables};
+ghost use Rattle.tables.specs.declared.refusal.Refusal.TheVariants.{BadName, NoTable};
 ghost use Rattle.tables.specs.View.{command_of};
 ghost use Rattle.store.specs.Applying.{GoesOn};
 ghost use Rattle.store.specs.Calls.{apply_call};
-ghost use Rattle.store.specs.Fits.{StoreFits, is_halted, listed_in};
+ghost use Rattle.store.specs.Deciding.{has_entry};
+ghost use Rattle.store.specs.Fits.{StoreFits, listed_in};
 ghost use Rattle.store.specs.Machine.{Machine};
 ghost use Rattle.store.specs.Reading.{ended};
-ghost use Rattle.store_commands.specs.Changing.{Answered, AnswersCommand, Hands, RefusesImport, RefusesAppend};
+ghost use Rattle.store_commands.specs.Changing.{Answered, AnswersCommand, AnswersInput};
 
-use crate::{LARGEST_INPUT, read_at_most};
-use catalogue::is_name;
 use command_refusals::{Refusal, write_whole};
 use sector_dev::SectorDevice;
 use std::alloc::Global;
@@ -42,7 +42,7 @@ pub fn apply_command<D: SectorDevice, W: Write>(
 
 /// Makes the table that all of the input means as a stream, in place of one of this name, and writes `ok`.
 ///
-/// A bad name is told before anything is read.
+/// That the store is halted, and then a bad name, is told before anything is read.
 pub fn import_input<D: SectorDevice, R: Read, W: Write>(
     alloc: Global,
     store: &mut Store<D>,
@@ -50,28 +50,19 @@ pub fn import_input<D: SectorDevice, R: Read, W: Write>(
     input: &mut R,
     output: &mut W,
 ) -> Result<(), Refusal>
-    ensures goes { D.tells ≡ true → (base : Tables) (m : Machine) → StoreFits D.size D.story base m store.old
-        → Hands (R.remaining input.old)
-        (λ bytes answer. GoesOn D.size D.story D.failed base m (apply_call (import_stream name.now bytes)) (ended answer) store.old store.new)
-        (λ refusal. store.new ≡ store.old) result }
-    // On any store: it was given all of the input, and what it answered is told; or there was a reason before, and nothing is changed or written.
-    ensures told { Hands (R.remaining input.old)
-        (λ bytes answer. AnswersCommand D.size D.story D.tells (import_stream name.now bytes) answer store.old store.new)
-        (λ refusal. RefusesImport R.remaining name.now input.old input.new refusal × (store.new ≡ store.old) × (output.new ≡ output.old)) result }
+    // The answer is the store's: it was given all of the input, or there was a reason before, and nothing is changed.
+    ensures told { Answered (λ answer. AnswersInput D.size D.story D.failed D.tells R.remaining (import_stream name.now) (is_name name.now) BadName
+        input.old input.new answer store.old store.new) result }
     ensures written { OnOk result (Appends (W.contents output.old) (W.contents output.new) (codes "ok\n")) }
     ensures silent { IfErr result (λ refusal. refusal ≢ Refusal.Io → output.new ≡ output.old) }
 {
-    if !is_name(name) {
-        return Err(Refusal::Store(tables::Refusal::BadName));
-    }
-    let bytes = read_at_most(alloc, input, LARGEST_INPUT)?;
-    let name = String::from_str(alloc, name)?;
-    apply_command(alloc, store, Command::ImportStream { name, bytes }, output)
+    store.import_from(alloc, name, input)?;
+    write_whole(output, b"ok\n")
 }
 
 /// Appends the rows that all of the input means as a stream to a table, and writes `ok`.
 ///
-/// That there is no such table is told before anything is read.
+/// That the store is halted, and then that there is no such table, is told before anything is read.
 pub fn append_input<D: SectorDevice, R: Read, W: Write>(
     alloc: Global,
     store: &mut Store<D>,
@@ -79,19 +70,11 @@ pub fn append_input<D: SectorDevice, R: Read, W: Write>(
     input: &mut R,
     output: &mut W,
 ) -> Result<(), Refusal>
-    ensures goes { D.tells ≡ true → (base : Tables) (m : Machine) → StoreFits D.size D.story base m store.old
-        → Hands (R.remaining input.old)
-        (λ bytes answer. GoesOn D.size D.story D.failed base m (apply_call (append_stream name.now bytes)) (ended answer) store.old store.new)
-        (λ refusal. store.new ≡ store.old) result }
-    ensures told { Hands (R.remaining input.old)
-        (λ bytes answer. AnswersCommand D.size D.story D.tells (append_stream name.now bytes) answer store.old store.new)
-        (λ refusal. RefusesAppend R.remaining (is_halted store.old) (entry_of (listed_in store.old) name.now) input.old input.new refusal
-        × (store.new ≡ store.old) × (output.new ≡ output.old)) result }
+    ensures told { Answered (λ answer. AnswersInput D.size D.story D.failed D.tells R.remaining (append_stream name.now)
+        (has_entry (listed_in store.old) name.now) NoTable input.old input.new answer store.old store.new) result }
     ensures written { OnOk result (Appends (W.contents output.old) (W.contents output.new) (codes "ok\n")) }
     ensures silent { IfErr result (λ refusal. refusal ≢ Refusal.Io → output.new ≡ output.old) }
 {
-    store.schema(alloc, name)?;
-    let bytes = read_at_most(alloc, input, LARGEST_INPUT)?;
-    let name = String::from_str(alloc, name)?;
-    apply_command(alloc, store, Command::AppendStream { name, bytes }, output)
+    store.append_from(alloc, name, input)?;
+    write_whole(output, b"ok\n")
 }

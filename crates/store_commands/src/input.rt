@@ -1,96 +1,33 @@
-// Reading all of an input, which may be too long.
-ghost use Rattle.std.specs.Prelude.{◌≡◌, ℕ, List, ◌+◌, ◌++◌, ◌≤◌, ◌<◌, length, take, IfSome, IfOk, IfErr, OnErr, OnOk, IsErrOf, vec_len};
-ghost use Rattle.std.specs.Io.KnownBytes.{Consumes, IsAtEnd, Keeps};
-ghost use Rattle.store_commands.specs.Given.{HasGiven, HasGivenAtMost, UnlessTooManyBytes, IsOfInput};
+// Reading all of an input, which may be too long, as the program tells it.
+ghost use Rattle.std.specs.Prelude.{◌≡◌, ◌+◌, ◌≤◌, IfSome, IfOk, IfErr, OnOk, IsErrOf, vec_len};
+ghost use Rattle.std.specs.Io.KnownBytes.{IsAtEnd};
+ghost use Rattle.store.specs.Input.{HasGiven, HasGivenAtMost};
+ghost use Rattle.store_commands.specs.Given.{UnlessTooManyBytes, IsOfInput};
 
 use command_refusals::Refusal;
-use std::alloc::{AllocError, Global};
-use std::io::{ErrorKind, Read};
-use tables::MAX_IMPORT_BYTES;
+use std::alloc::Global;
+use std::io::Read;
+use store::read_at_most;
+use tables::{Limit, MAX_IMPORT_BYTES};
 
 /// The most bytes that an input may have: as many as a stream that is imported.
 pub const LARGEST_INPUT: usize = MAX_IMPORT_BYTES;
 
-// How many bytes one read asks for: what a pipe of Linux holds.
-const CHUNK: usize = 64 * 1024;
-
-/// Reads to the end, at most `largest` bytes and one more.
-///
-/// `TooManyBytes` where there is that one, `Io` where a read fails, `OutOfMemory` where a growth was refused.
-pub fn read_at_most<R: Read>(
-    alloc: Global,
-    reader: &mut R,
-    largest: usize,
-) -> Result<Vec<u8>, Refusal>
-    requires { largest < usize.MAX }
+// Reads to the end, at most as many bytes as an input may have and one more.
+pub(crate) fn read_input<R: Read>(alloc: Global, reader: &mut R) -> Result<Vec<u8>, Refusal>
     ensures all { IfOk result (λ bytes. IfSome (R.remaining reader.old) (λ input. bytes.items ≡ input)) }
     ensures end { OnOk result (IsAtEnd (R.remaining reader.new)) }
-    ensures within { IfOk result (λ bytes. vec_len bytes ≤ largest) }
+    ensures within { IfOk result (λ bytes. vec_len bytes ≤ LARGEST_INPUT) }
     ensures too_many { IsErrOf result Refusal.TooManyBytes
-        → HasGiven (R.remaining reader.old) (R.remaining reader.new) (largest + 1) }
+        → HasGiven (R.remaining reader.old) (R.remaining reader.new) (LARGEST_INPUT + 1) }
     // Every other refusal comes before the byte that is one too many.
-    ensures few { UnlessTooManyBytes result (HasGivenAtMost (R.remaining reader.old) (R.remaining reader.new) largest) }
+    ensures few { UnlessTooManyBytes result (HasGivenAtMost (R.remaining reader.old) (R.remaining reader.new) LARGEST_INPUT) }
     ensures told { IfErr result IsOfInput }
 {
-    let mut chunk = zeros(alloc, CHUNK)?;
-    let mut bytes = Vec::new(alloc);
-    loop {
-        let room = largest - bytes.len();
-        if append_some(reader, chunk.as_mut_slice(), room, &mut bytes)? == 0 {
-            return Ok(bytes);
-        }
+    match read_at_most(alloc, reader, LARGEST_INPUT) {
+        Ok(bytes) => Ok(bytes),
+        Err(tables::Refusal::TooMany(Limit::Bytes)) => Err(Refusal::TooManyBytes),
+        Err(tables::Refusal::OutOfMemory) => Err(Refusal::OutOfMemory),
+        Err(_) => Err(Refusal::Io),
     }
-}
-
-fn zeros(alloc: Global, count: usize) -> Result<Vec<u8>, AllocError>
-    ensures { IfOk result (λ zeros. vec_len zeros ≡ count) }
-{
-    vec![in alloc; 0u8; count]
-}
-
-// One read into the chunk, and from there to the end of `bytes`, which has room for `room` more. Returns how many.
-fn append_some<R: Read>(
-    reader: &mut R,
-    chunk: &mut [u8],
-    room: usize,
-    bytes: &mut Vec<u8>,
-) -> Result<usize, Refusal>
-    requires chunk { 0 < length chunk.old }
-    requires room { room < usize.MAX }
-    ensures appended { IfOk result (λ n. (read : List ℕ) × Consumes (R.remaining reader.old) (R.remaining reader.new) read
-        × (bytes.new.items ≡ bytes.old.items ++ read) × (length read ≡ n)) }
-    ensures within { IfOk result (λ n. n ≤ room) }
-    ensures end { IfOk result (λ n. n ≡ 0 → IsAtEnd (R.remaining reader.new)) }
-    ensures too_many { IsErrOf result Refusal.TooManyBytes → HasGiven (R.remaining reader.old) (R.remaining reader.new) (room + 1) }
-    ensures few { UnlessTooManyBytes result (HasGivenAtMost (R.remaining reader.old) (R.remaining reader.new) room) }
-    ensures told { IfErr result IsOfInput }
-{
-    let most = chunk.len().min(room + 1);
-    let count = read_some(reader, &mut chunk[..most])?;
-    if count > room {
-        return Err(Refusal::TooManyBytes);
-    }
-    bytes.extend_from_slice(&chunk[..count])?;
-    Ok(count)
-}
-
-// One read, again where a signal interrupted it. None only at the end, if there is room.
-fn read_some<R: Read>(reader: &mut R, buf: &mut [u8]) -> Result<usize, Refusal>
-    ensures bound { IfOk result (λ n. n ≤ length buf.new) }
-    ensures some { IfOk result (λ n. Consumes (R.remaining reader.old) (R.remaining reader.new) (take n buf.new)) }
-    ensures end { IfOk result (λ n. n ≡ 0 → 0 < length buf.old → IsAtEnd (R.remaining reader.new)) }
-    ensures io { IfErr result (λ e. e ≡ Refusal.Io) }
-    ensures kept { OnErr result (Keeps (R.remaining reader.old) (R.remaining reader.new)) }
-{
-    for _ in 0..u64::MAX {
-        match reader.read(buf) {
-            Ok(count) => return Ok(count),
-            Err(error) => {
-                if error.kind() != ErrorKind::Interrupted {
-                    return Err(Refusal::Io);
-                }
-            }
-        }
-    }
-    Err(Refusal::Io)
 }

@@ -21,7 +21,7 @@ mod text_rows;
 
 pub use changing::{append_input, apply_command, import_input};
 pub use creating::new_table;
-pub use input::{LARGEST_INPUT, read_at_most};
+pub use input::LARGEST_INPUT;
 pub use printing::{print_schema, print_tables};
 pub use reading::{check_tables, export_table};
 pub use selecting::{print_selection, query_of};

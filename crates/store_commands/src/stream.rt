@@ -4,10 +4,12 @@ ghost use Rattle.std.specs.Io.KnownBytes.{Appends, IsAtEnd};
 ghost use Rattle.ipc_message.specs.Header.{supported_codes};
 ghost use Rattle.ipc_stream.specs.Meaning.{meaning};
 ghost use Rattle.values.specs.TableView.{table_of};
-ghost use Rattle.store_commands.specs.Given.{HasGiven, HasGivenAtMost, UnlessTooManyBytes};
+ghost use Rattle.store.specs.Input.{HasGiven, HasGivenAtMost};
+ghost use Rattle.store_commands.specs.Given.{UnlessTooManyBytes};
 ghost use Rattle.store_commands.specs.Recode.{IsVerdict, AppendsCanonical, IsTrueFault};
 
-use crate::{LARGEST_INPUT, read_at_most};
+use crate::LARGEST_INPUT;
+use crate::input::read_input;
 use canonical_write::{WriteError, encode_to};
 use command_refusals::Refusal;
 use ipc_stream::decode;
@@ -61,6 +63,6 @@ fn read_table<R: Read>(alloc: Global, reader: &mut R) -> Result<Table, Refusal>
         → HasGiven (R.remaining reader.old) (R.remaining reader.new) (LARGEST_INPUT + 1) }
     ensures few { UnlessTooManyBytes result (HasGivenAtMost (R.remaining reader.old) (R.remaining reader.new) LARGEST_INPUT) }
 {
-    let input = read_at_most(alloc, reader, LARGEST_INPUT)?;
+    let input = read_input(alloc, reader)?;
     Ok(decode(alloc, input)?)
 }

@@ -18,7 +18,8 @@ ghost use Rattle.text_import.specs.Form.{rows_of_text};
 ghost use Rattle.text_import.specs.Refusals.{given, refused_by};
 ghost use Rattle.store_commands.specs.TextRows.{HandsRows, RefusesText, IfOfText, HintsAt, IfHinted};
 
-use crate::{LARGEST_INPUT, apply_command, read_at_most};
+use crate::apply_command;
+use crate::input::read_input;
 use arrow_schema::Schema;
 use command_refusals::Refusal;
 use sector_dev::SectorDevice;
@@ -131,7 +132,7 @@ pub fn append_text<D: SectorDevice, R: Read, W: Write>(
 {
     *hint = None;
     let schema = store.schema(alloc, name)?;
-    let text = read_at_most(alloc, input, LARGEST_INPUT)?;
+    let text = read_input(alloc, input)?;
     let name = String::from_str(alloc, name)?;
     let command = take_command(alloc, form, &schema, text, name, hint)?;
     apply_command(alloc, store, command, output)

@@ -1,14 +1,16 @@
 // Commands, one after another: what is answered, and what the device holds then.
 use crate::inputs::{Cell, INT, Input};
 use crate::made::{NotMade, assert_no_row};
+use crate::pieces::Pieces;
 use crate::playing::{Slot, WAYS, Way, new_slot, play, shut};
 use crate::shown::is_laid_out;
 use crate::steps::{Step, Steps};
 use Cell::{Null, Number, Text};
 use Input::{Changed, Column, First, Front, Ints, Texts};
+use Pieces::{Failing, Single, Whole};
 use Step::{
-    Append, Close, Create, Export, Format, Give, GiveTable, Import, Open, Read, Remove, Rename,
-    Save, Schema, Tables,
+    Append, AppendFrom, Close, Create, Export, Format, Give, GiveTable, Import, ImportFrom, Open,
+    Read, Remove, Rename, Save, Schema, Tables,
 };
 use std::alloc::Global;
 
@@ -469,6 +471,28 @@ const HALTED: &[Row] = &[
     ),
 ];
 
+// What is told before anything is read, and what of the bytes.
+const FROM_REFUSED: &[Row] = &[(
+    16,
+    &[
+        (ImportFrom("t", TWO, Failing(0)), "S10 Halted"),
+        (AppendFrom("t", TWO, Failing(0)), "S10 Halted"),
+        (Format, "ok"),
+        (ImportFrom("", TWO, Failing(0)), "S3 BadName"),
+        (AppendFrom("t", TWO, Failing(0)), "S1 NoTable"),
+        (
+            ImportFrom("t", Front(319), Single),
+            "S5 Import F1 Truncated",
+        ),
+        (ImportFrom("t", TWO, Whole), "ok"),
+        (
+            AppendFrom("t", Column("b:int32?", &[1]), Whole),
+            "S4 SchemaMismatch",
+        ),
+    ],
+    "epoch 2, 201 in 4, t: 3+1",
+)];
+
 fn refused(part: usize) -> Option<&'static [Row]> {
     Some(match part {
         0 => FORMATTED,
@@ -479,6 +503,7 @@ fn refused(part: usize) -> Option<&'static [Row]> {
         5 => TEXTS_APPENDED,
         6 => WITHOUT_CHANGE,
         7 => HALTED,
+        8 => FROM_REFUSED,
         _ => return None,
     })
 }
@@ -596,6 +621,34 @@ const SELECTED: &[Row] = &[(
     "epoch 8, 4 in 4",
 )];
 
+// Of a reader that fails midway nothing is taken, and the same bytes are taken afterwards.
+const FROM_READERS: &[Row] = &[
+    (
+        16,
+        &[
+            (Format, "ok"),
+            (ImportFrom("t", TWO, Whole), "ok"),
+            (AppendFrom("t", TWO, Single), "ok"),
+            (Tables, "t 4"),
+            (Export("t"), "stream of \"a\":int32?: 7 -1 7 -1"),
+        ],
+        "epoch 3, 233 in 5, t: 3+1 2+1",
+    ),
+    (
+        16,
+        &[
+            (Format, "ok"),
+            (ImportFrom("t", TWO, Failing(0)), "G1 Io"),
+            (ImportFrom("t", TWO, Failing(200)), "G1 Io"),
+            (Tables, ""),
+            (ImportFrom("t", TWO, Failing(321)), "ok"),
+            (AppendFrom("t", TWO, Failing(319)), "G1 Io"),
+            (Read("t"), "\"a\":int32?: 7 -1"),
+        ],
+        "epoch 2, 201 in 4, t: 3+1",
+    ),
+];
+
 fn read(part: usize) -> Option<&'static [Row]> {
     Some(match part {
         0 => READ_BACK,
@@ -603,6 +656,7 @@ fn read(part: usize) -> Option<&'static [Row]> {
         2 => GIVEN,
         3 => SAVED,
         4 => SELECTED,
+        5 => FROM_READERS,
         _ => return None,
     })
 }

@@ -17,6 +17,8 @@ mod made;
 #[cfg(test)]
 mod openings;
 #[cfg(test)]
+mod pieces;
+#[cfg(test)]
 mod playing;
 #[cfg(test)]
 mod selections;

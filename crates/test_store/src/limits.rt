@@ -2,11 +2,10 @@
 use crate::inputs::{INT, Input};
 use crate::made::{NotMade, assert_no_row};
 use crate::playing::{Slot, Way, answer, is_played, new_slot, play};
-use crate::steps::{Step, Steps, creation, says};
+use crate::steps::{Call, Step, Steps, creation, says};
 use Input::{Front, Ints, NoColumns};
 use Step::{Append, Create, Format, Give, Import, Remove, Rename, Save, Tables};
 use std::alloc::Global;
-use store::Call;
 
 // Makes the table `t0`, `t1` or so on.
 fn is_made(alloc: Global, slot: &mut Slot, number: u32) -> Result<bool, NotMade> {

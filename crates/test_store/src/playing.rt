@@ -1,9 +1,10 @@
 // Steps are taken on a device in memory: each by itself, or all of them by `run`.
 use crate::made::NotMade;
-use crate::steps::{Step, Steps, call_of, says};
+use crate::pieces::PieceReader;
+use crate::steps::{Call, Step, Steps, call_of, says};
 use sector_dev::ModelDevice;
 use std::alloc::Global;
-use store::{Call, OpeningRefusal, Place, Reply, Store, run};
+use store::{OpeningRefusal, Place, Reply, Store, run};
 use tables::{Command, Refusal};
 
 /// Where steps are taken; empty only between two of them.
@@ -45,6 +46,32 @@ fn applied(alloc: Global, store: &mut Store<ModelDevice>, command: Command) -> R
     }
 }
 
+fn imported(
+    alloc: Global,
+    store: &mut Store<ModelDevice>,
+    name: &str,
+    reader: PieceReader,
+) -> Reply {
+    let mut reader = reader;
+    match store.import_from(alloc, name, &mut reader) {
+        Ok(()) => Reply::Done,
+        Err(refusal) => Reply::Refused(refusal),
+    }
+}
+
+fn appended(
+    alloc: Global,
+    store: &mut Store<ModelDevice>,
+    name: &str,
+    reader: PieceReader,
+) -> Reply {
+    let mut reader = reader;
+    match store.append_from(alloc, name, &mut reader) {
+        Ok(()) => Reply::Done,
+        Err(refusal) => Reply::Refused(refusal),
+    }
+}
+
 fn listed(alloc: Global, store: &Store<ModelDevice>) -> Reply {
     match store.tables(alloc) {
         Ok(tables) => Reply::Tables(tables),
@@ -81,6 +108,8 @@ fn exported(alloc: Global, store: &mut Store<ModelDevice>, name: &str) -> Reply 
 fn reply_of(alloc: Global, store: &mut Store<ModelDevice>, call: Call) -> Reply {
     match call {
         Call::Apply(command) => applied(alloc, store, command),
+        Call::ImportFrom { name, reader } => imported(alloc, store, &name, reader),
+        Call::AppendFrom { name, reader } => appended(alloc, store, &name, reader),
         Call::Tables => listed(alloc, store),
         Call::Schema(name) => schema_at(alloc, store, &name),
         Call::Read(name) => read_at(alloc, store, &name),

@@ -1,14 +1,18 @@
 // Calls of a place as data, and replies as texts.
 use crate::inputs::{Given, Input, bytes_of, new_schema, rows_of};
 use crate::made::NotMade;
+use crate::pieces::{PieceReader, Pieces};
 use arrow_schema::{Schema, field_text};
 use canonical_write::encode;
 use ipc_stream::{decode, decode_weighed};
 use query::{Condition, Query};
 use std::alloc::Global;
-use store::{Call, Reply};
+use store::Reply;
 use tables::{Command, NewTable};
 use values::{Table, ValueRef, Values};
+
+/// What is asked of a place, with such readers.
+pub type Call = store::Call<PieceReader>;
 
 /// A call.
 #[derive(Clone, Copy)]
@@ -19,6 +23,8 @@ pub enum Step {
     Create(&'static str, &'static [&'static str]),
     Import(&'static str, Input),
     Append(&'static str, Input),
+    ImportFrom(&'static str, Input, Pieces),
+    AppendFrom(&'static str, Input, Pieces),
     Give(&'static str, Given),
     GiveTable(&'static str, Input),
     Save(&'static str, &'static str, Asked),
@@ -132,6 +138,10 @@ fn command_of(alloc: Global, step: Step) -> Result<Command, NotMade> {
     }
 }
 
+fn reader(alloc: Global, input: Input, pieces: Pieces) -> Result<PieceReader, NotMade> {
+    Ok(PieceReader::new(bytes_of(alloc, input)?, pieces))
+}
+
 /// The call of a step.
 pub fn call_of(alloc: Global, step: Step) -> Result<Call, NotMade> {
     Ok(match step {
@@ -142,6 +152,14 @@ pub fn call_of(alloc: Global, step: Step) -> Result<Call, NotMade> {
         Step::Schema(name) => Call::Schema(String::from_str(alloc, name)?),
         Step::Read(name) => Call::Read(String::from_str(alloc, name)?),
         Step::Export(name) => Call::Export(String::from_str(alloc, name)?),
+        Step::ImportFrom(name, input, pieces) => Call::ImportFrom {
+            name: String::from_str(alloc, name)?,
+            reader: reader(alloc, input, pieces)?,
+        },
+        Step::AppendFrom(name, input, pieces) => Call::AppendFrom {
+            name: String::from_str(alloc, name)?,
+            reader: reader(alloc, input, pieces)?,
+        },
         command => Call::Apply(command_of(alloc, command)?),
     })
 }

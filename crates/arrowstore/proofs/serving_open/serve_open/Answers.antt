@@ -9,14 +9,14 @@ returns-in-Import-clause-serves g c =
     let e = c.import_input.ensures in
     let new = c.import_input.new in
     serves_import g.R.Read.remaining g.W.Write.contents c.args.command c.in-Import.name c.args.store.now new.store (channels c.args.input.now c.args.output.now c.args.hint.now)
-    (channels new.input new.output c.args.hint.now) c.import_input.result c.in-Import.is (record { goes = e.goes; told = e.told; written = e.written; unhinted = refl })
+    (channels new.input new.output c.args.hint.now) c.import_input.result c.in-Import.is (record { told = e.told; written = e.written; silent = e.silent; unhinted = refl })
 
 pub returns-in-Append-clause-serves : goal.returns-in-Append-clause-serves
 returns-in-Append-clause-serves g c =
     let e = c.append_input.ensures in
     let new = c.append_input.new in
     serves_append g.R.Read.remaining g.W.Write.contents c.args.command c.in-Append.name c.args.store.now new.store (channels c.args.input.now c.args.output.now c.args.hint.now)
-    (channels new.input new.output c.args.hint.now) c.append_input.result c.in-Append.is (record { goes = e.goes; told = e.told; written = e.written; unhinted = refl })
+    (channels new.input new.output c.args.hint.now) c.append_input.result c.in-Append.is (record { told = e.told; written = e.written; silent = e.silent; unhinted = refl })
 
 pub returns-in-AppendText-clause-serves : goal.returns-in-AppendText-clause-serves
 returns-in-AppendText-clause-serves g c =

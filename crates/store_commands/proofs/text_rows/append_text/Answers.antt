@@ -44,7 +44,7 @@ returns-in_err-command-clause-told g c =
     let p = err_from_is_err_and c.from_residual-in_err-command.result c.from_residual-in_err-command.ensures.1 in
     rw (p.1, p.2)
     (inl (
-      refuses_text g.R.Read.remaining _ _ _ c.args.input.now c.read_at_most.new.reader (schema_of c.in_ok-schema.schema) c.in_ok-text.text.items c.in_err-command.field-0.0 c.in_ok-schema.ensures.found.0 c.in_ok-schema.ensures.found.1
+      refuses_text g.R.Read.remaining _ _ _ c.args.input.now c.read_input.new.reader (schema_of c.in_ok-schema.schema) c.in_ok-text.text.items c.in_err-command.field-0.0 c.in_ok-schema.ensures.found.0 c.in_ok-schema.ensures.found.1
           (whole_input _ c.in_ok-text.text c.in_ok-text.ensures.all c.in_ok-text.ensures.within) (reported_of _ _ _ c.in_err-command.ensures.command) c.in_ok-text.ensures.end c.in_ok-text.ensures.few,
       refl,
       refl,
@@ -57,4 +57,4 @@ returns-in_err-text-clause-told g c =
     let found = c.in_ok-schema.ensures.found in
     let there = there_is _ (schema_of c.in_ok-schema.schema) found.1 in
     rw (p.1, p.2)
-    (inl (refuses_rows (Vec ℕ) g.R.Read.remaining _ _ _ c.args.input.now c.read_at_most.new.reader c.in_err-text.field-0.0 found.0 there e.told e.too_many e.few, refl, refl))
+    (inl (refuses_rows (Vec ℕ) g.R.Read.remaining _ _ _ c.args.input.now c.read_input.new.reader c.in_err-text.field-0.0 found.0 there e.told e.too_many e.few, refl, refl))
