@@ -29,5 +29,5 @@ pub(crate) fn are_split(view: ArrayView<'_>, from: usize, to: usize) -> bool
     requires within { to ≤ slots_in (view_array view) }
     ensures { result ≡ true → from < to }
 {
-    from < to && run_to(view, from, to) < to
+    from < to && from + 1 < to && run_to(view, from, to) < to
 }

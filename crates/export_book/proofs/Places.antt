@@ -1,16 +1,12 @@
 -- Where the export of an id stands.
-use Rattle.std.proofs.Common.{◌≡◌, ◌⊎◌, ⊎_elim, ◌<◌, ◌+◌, ◌==◌, ℕ, suc, Bool, true, false, not, map, get_or, set, remove, length, List, [], ◌∷◌, Some, None, refl, sym, ap, subst, ◌∙◌, arith}
-use Rattle.std.specs.List.{filter, find, position, position_from, AllByRecursion}
+use Rattle.std.proofs.Common.{◌≡◌, ⊎_elim, ◌<◌, ◌+◌, ◌==◌, ℕ, suc, Bool, true, false, not, map, get_or, set, remove, length, List, [], ◌∷◌, Some, None, refl, sym, ap, subst, ◌∙◌, arith}
+use Rattle.std.specs.List.{find, position, position_from, AllByRecursion}
 use Rattle.std.proofs.lemmas.Bool.{cond-true, cond-false, cases_Bool, eqb-true}
 use Rattle.std.proofs.lemmas.Iterator.Adapters.{position_from-zero}
 use Rattle.export_book.specs.declared.export.OpenExport.{OpenExport}
-use Rattle.export_book.specs.Book.{PlainExport, AreRising, is_of, gave}
+use Rattle.export_book.specs.Book.{PlainExport, AreRising, is_of, others_of, gave}
 use Rattle.export_book.specs.Plain.{plain_export}
 use Rattle.export_book.specs.laws.Ids.{other_id}
-
--- the exports of other ids, and what they are once a piece of this one was given
-abbrev pub others_of : ℕ → List PlainExport → List PlainExport
-others_of id es = filter (λ (e : PlainExport). not (is_of id e)) es
 
 abbrev pub has_id : ℕ → OpenExport → Bool
 has_id id e = e.id == id

@@ -69,6 +69,10 @@ gave id e = if is_of id e then record e { given = e.given + 1 } else e
 abbrev pub with_given : ℕ → PlainBook → PlainBook
 with_given id b = record { exports = map (gave id) b.exports; next = b.next }
 
+-- those of other ids
+abbrev pub others_of : ℕ → List PlainExport → List PlainExport
+others_of id exports = filter (λ (e : PlainExport). not (is_of id e)) exports
+
 -- without the export of an id
 abbrev pub without : ℕ → PlainBook → PlainBook
-without id b = record { exports = filter (λ (e : PlainExport). not (is_of id e)) b.exports; next = b.next }
+without id b = record { exports = others_of id b.exports; next = b.next }

@@ -4,36 +4,24 @@
 
 use anyhow::{Error, Result, bail};
 use sector_dev::{FileDevice, ModelDevice, SectorDevice};
-use std::alloc::{AllocError, Global};
 use std::env;
 use std::io::Read;
 use store::Store;
-use tables::{Command, Refusal};
 
-fn named(alloc: Global, stream: &[u8]) -> Result<(String, Vec<u8>), AllocError> {
-    let bytes = Vec::from_slice(alloc, stream)?;
-    Ok((String::from_str(alloc, "readings")?, bytes))
-}
-
-// Each change is safe once `apply` has answered Ok.
-fn fill<D: SectorDevice>(
-    alloc: Global,
-    store: &mut Store<D>,
-    stream: &[u8],
-) -> Result<(), Refusal> {
-    let (name, bytes) = named(alloc, stream)?;
-    store.apply(alloc, Command::ImportStream { name, bytes })?;
-    let (name, bytes) = named(alloc, stream)?;
-    store.apply(alloc, Command::AppendStream { name, bytes })
-}
-
+// Each change is safe once its call has answered Ok.
 fn keep<D: SectorDevice + Drop>(rt: &HostRuntime, device: D, stream: &[u8]) -> Result<()> {
     let alloc = rt.alloc();
     let mut store = match Store::format(alloc, device) {
         Ok(store) => store,
         Err((refusal, _device)) => bail!("{refusal}"),
     };
-    fill(alloc, &mut store, stream).map_err(Error::msg)?;
+    let (mut first, mut again) = (stream, stream);
+    store
+        .import_from(alloc, "readings", &mut first)
+        .map_err(Error::msg)?;
+    store
+        .append_from(alloc, "readings", &mut again)
+        .map_err(Error::msg)?;
     let rows = store.read(alloc, "readings").map_err(Error::msg)?.len();
     let exported = store.export_bytes(alloc, "readings").map_err(Error::msg)?;
     println!(rt; "{rows} rows, exported as {} bytes", exported.len())?;
