@@ -1,24 +1,27 @@
 -- Runs of structs, field by field: the runs of a field, and what they build.
-use Rattle.std.specs.Prelude.{None, nat_le}
+use Rattle.std.specs.Prelude.{None, nat_le, option_map, replicate, if◌then◌else◌}
 use Rattle.std.specs.List.{flat_map, list_all, range_with_len}
-use Rattle.std.proofs.Common.{◌≡◌, ℕ, zero, suc, ◌+◌, ◌<◌, ◌≤◌, Bool, true, List, [], ◌∷◌, ◌++◌, map, length, drop, get_or, refl, sym, ap, ap₂, subst, ◌∙◌, arith, append_assoc, append-nil}
+use Rattle.std.proofs.Common.{◌≡◌, ℕ, zero, suc, ◌+◌, ◌<◌, ◌≤◌, Bool, true, false, List, [], ◌∷◌, ◌++◌, map, length, length-append, drop, get_or, refl, sym, ap, ap₂, subst, ◌∙◌, arith, append_assoc, append-nil}
 use Rattle.std.proofs.lemmas.Bool.{and_parts, and_from, leb-true}
-use Rattle.std.proofs.lemmas.List.{drop_all, map-append}
+use Rattle.std.proofs.lemmas.List.{drop_all, length-replicate, map-append}
+use Rattle.std.proofs.lemmas.List.FromFn.{length-map-range_with_len}
 use Rattle.std.proofs.lemmas.List.Folds.{list_all-append}
 use Rattle.facts.specs.laws.Lists.{flat_map-push}
 use Rattle.array_build.proofs.Arrays.{structs_are}
 use Rattle.array_build.proofs.Premises.{parts_can_be_built}
-use Rattle.array_build.proofs.Repeated.{repeated_map}
+use Rattle.array_build.proofs.Repeated.{repeated_map, repeated_more}
 use Rattle.array_build.proofs.RunArrays.{kind_slots}
 use Rattle.array_build.specs.Batch.{PlainBatch, built_at, built_below, plain_column, with_arrays}
-use Rattle.array_build.specs.inner.RunParts.{arrays_from, children_behind, child_at, parts_behind, part_cells_behind, has_sound_part, IsPartOf, IsPart}
-use Rattle.array_build.specs.inner.Runs.{AreReady, kind_cells, runs_bits, with_run_slots}
+use Rattle.array_build.specs.inner.RunParts.{arrays_from, children_behind, child_at, parts_behind, part_cells_behind, has_sound_part, IsPartOf, IsPart, IsPartIn}
+use Rattle.array_build.specs.inner.Runs.{AreReady, kind_cells, run_bits, runs_bits, with_run_slots}
 use Rattle.array_build.specs.laws.Joined.{no_arrays, more_arrays}
 use Rattle.array_runs.specs.Runs.{run_cells, runs_cells, is_run_sound, are_runs_sound, is_run_valid, are_runs_valid}
 use Rattle.array_runs.specs.declared.run.SlotRun.{SlotRun}
 use Rattle.array_runs.specs.declared.run.SlotRun.TheVariants.{Slots, Nulls}
-use Rattle.arrow_schema.specs.Column.{Column, Columns, and_column, columns_of, structs}
-use Rattle.arrow_schema.specs.View.{column_of}
+use Rattle.arrow_schema.specs.Column.{Column, Columns, column, nulls, and_column, columns_of, structs}
+use Rattle.arrow_schema.specs.Parts.{kind_of_column, index_of_column}
+use Rattle.arrow_schema.specs.laws.Parts.{kind_of_field, index_of_field}
+use Rattle.arrow_schema.specs.View.{column_of, kind_of, index_of}
 use Rattle.arrow_schema.specs.declared.types.Field.{Field}
 use Rattle.cells.specs.Cell.{Cell, null}
 use Rattle.cells.specs.Dictionary.{part_list}
@@ -108,6 +111,43 @@ is_part j all left parts none was = λ c h.
     let end : runs_cells c parts ++ flat_map (part_cells_behind j c) left ≡ runs_cells c parts =
     ap (λ (rs : List SlotRun). runs_cells c parts ++ flat_map (part_cells_behind j c) rs) none ∙ append-nil (runs_cells c parts) in
     (sym end ∙ before.0, before.1.0)
+
+-- ---- nulls, whatever stands in their array
+
+no_value : (b : Bool) → (if b then null else null) ≡ null
+no_value true = refl
+no_value false = refl
+
+null_slots : (c : Column) (a : Array) (from n : ℕ) → kind_of_column c ≡ nulls → index_of_column c ≡ None → cells_from (cell_at c a) from n ≡ replicate n null
+unfolding cell_at kind_cell
+null_slots c a from zero kind plain = refl
+null_slots (column name nullable nulls None pairs) a from (suc n) kind plain =
+    ap₂ (λ (x : Cell) (xs : List Cell). x ∷ xs) (no_value (is_valid a from)) (null_slots (column name nullable nulls None pairs) a (from + 1) n kind plain)
+null_slots c a from (suc n) kind plain = cc
+
+null_part : (j : ℕ) (c : Column) (run : SlotRun) → kind_of_column c ≡ nulls → index_of_column c ≡ None → part_cells_behind j c run ≡ replicate (length (run_bits run)) null
+null_part j c (Slots v from n) kind plain =
+    null_slots c (child_at j v) from n kind plain ∙ ap (λ (k : ℕ). replicate k null) (sym (length-map-range_with_len (is_valid (view_array v)) from n))
+null_part j c (Nulls n) kind plain = ap (λ (k : ℕ). replicate k null) (sym (length-replicate n false))
+
+null_parts : (j : ℕ) (c : Column) (runs : List SlotRun) → kind_of_column c ≡ nulls → index_of_column c ≡ None
+    → flat_map (part_cells_behind j c) runs ≡ replicate (length (runs_bits runs)) null
+null_parts j c [] kind plain = refl
+null_parts j c (run ∷ runs) kind plain =
+    ap₂ (λ (xs ys : List Cell). xs ++ ys) (null_part j c run kind plain) (null_parts j c runs kind plain)
+    ∙ sym (repeated_more (length (run_bits run)) (length (runs_bits runs)) null)
+    ∙ ap (λ (k : ℕ). replicate k null) (sym (length-append (run_bits run) (runs_bits runs)))
+
+column_nulls : (j : ℕ) (c : Column) (runs parts : List SlotRun) → kind_of_column c ≡ nulls → index_of_column c ≡ None → parts ≡ Nulls (length (runs_bits runs)) ∷ [] → IsPartIn c j runs parts
+column_nulls j c runs parts kind plain is = λ h. (
+  ap (runs_cells c) is ∙ append-nil (replicate (length (runs_bits runs)) null) ∙ sym (null_parts j c runs kind plain),
+  ap (are_runs_sound c) is,
+)
+
+-- all slots of a field of nulls are one run
+pub nulls_are_part : (j : ℕ) (f : Field) (runs parts : List SlotRun) → kind_of f.data_type ≡ nulls → f.dictionary ≡ None → parts ≡ Nulls (length (runs_bits runs)) ∷ []
+    → IsPartIn (column_of f) j runs parts
+nulls_are_part j f runs parts kind plain is = column_nulls j (column_of f) runs parts (kind_of_field f ∙ kind) (index_of_field f ∙ ap (option_map index_of) plain) is
 
 -- ---- the rows of parts, field by field
 
@@ -218,11 +258,11 @@ pub record IsNext (j : ℕ) (c : Column) (cs : Columns) (runs part : List SlotRu
   pub fits : can_build c (runs_cells c part) ≡ true
   pub behind : AreBehind (j + 1) cs runs
 
-next_part : (j : ℕ) (c : Column) (cs : Columns) (runs part : List SlotRun) → IsPart j runs part → AreBehind j (and_column c cs) runs → IsNext j c cs runs part
+next_part : (j : ℕ) (c : Column) (cs : Columns) (runs part : List SlotRun) → IsPartIn c j runs part → AreBehind j (and_column c cs) runs → IsNext j c cs runs part
 unfolding can_build
 next_part j c cs runs part is behind =
     let parts = own_parts j c cs runs behind.sound in
-    let own = is c parts.0 in
+    let own = is parts.0 in
     let rows : List (List Cell) = rows_behind j (and_column c cs) runs in
     let can = and_parts (can_build c (map first_cell rows)) (can_build_parts cs (map other_cells rows)) behind.fit in
     record {
@@ -231,24 +271,24 @@ next_part j c cs runs part is behind =
       behind = record { sound = parts.1; fit = ap (can_build_parts cs) (sym (rows_others j c cs runs)) ∙ can.1 };
     }
 
-next_built : (j : ℕ) (c : Column) (cs : Columns) (runs part : List SlotRun) → IsPart j runs part → AreBehind j (and_column c cs) runs
+next_built : (j : ℕ) (c : Column) (cs : Columns) (runs part : List SlotRun) → IsPartIn c j runs part → AreBehind j (and_column c cs) runs
     → built_below (and_column c cs) (rows_behind j (and_column c cs) runs) ≡ built_at c (runs_cells c part) ++ built_below cs (rows_behind (j + 1) cs runs)
 unfolding built every_array
 next_built j c cs runs part is behind =
     let parts = own_parts j c cs runs behind.sound in
-    let own = is c parts.0 in
+    let own = is parts.0 in
     ap₂ (λ (cells : List Cell) (rows : List (List Cell)). built_at c cells ++ built_below cs rows) (rows_first j c cs runs ∙ sym own.0) (rows_others j c cs runs)
 
 abbrev pub columns_behind : ℕ → List Field → Columns
 columns_behind j fields = columns_of (map column_of (drop j fields))
 
-pub place_next : (fields : List Field) (j : ℕ) (f : Field) (runs part : List SlotRun) → drop j fields ≡ f ∷ drop (j + 1) fields → IsPart j runs part
+pub place_next : (fields : List Field) (j : ℕ) (f : Field) (runs part : List SlotRun) → drop j fields ≡ f ∷ drop (j + 1) fields → IsPartIn (column_of f) j runs part
     → AreBehind j (columns_behind j fields) runs → IsNext j (column_of f) (columns_behind (j + 1) fields) runs part
 place_next fields j f runs part item is behind =
     next_part j (column_of f) (columns_behind (j + 1) fields) runs part is (subst (λ (fs : List Field). AreBehind j (columns_of (map column_of fs)) runs) item behind)
 
 -- the arrays of this field, and then those of the others
-pub place_built : (fields : List Field) (j : ℕ) (f : Field) (runs part : List SlotRun) (p q : PlainBatch) → drop j fields ≡ f ∷ drop (j + 1) fields → IsPart j runs part
+pub place_built : (fields : List Field) (j : ℕ) (f : Field) (runs part : List SlotRun) (p q : PlainBatch) → drop j fields ≡ f ∷ drop (j + 1) fields → IsPartIn (column_of f) j runs part
     → AreBehind j (columns_behind j fields) runs → q ≡ with_arrays p (built_at (column_of f) (runs_cells (column_of f) part))
     → with_arrays q (built_below (columns_behind (j + 1) fields) (rows_behind (j + 1) (columns_behind (j + 1) fields) runs))
     ≡ with_arrays p (built_below (columns_behind j fields) (rows_behind j (columns_behind j fields) runs))

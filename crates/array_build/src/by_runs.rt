@@ -17,7 +17,7 @@ use crate::coded_cells::{push_dictionary, push_run_indices};
 use crate::flat_runs::{build_run_bits, build_run_contents, build_run_nulls, build_run_values};
 use crate::run_fixed_items::fixed_item_runs;
 use crate::run_items::{item_runs, run_list_offsets};
-use crate::run_parts::runs_at;
+use crate::run_parts::field_runs;
 use crate::run_slots::push_run_slots;
 use crate::widths::{contents_width, value_width};
 use array_runs::{SlotRun, valid_runs};
@@ -151,7 +151,7 @@ fn build_struct_parts<'a>(
         (map part_list (kind_cells (structs (columns_of (map column_of fields.now))) runs.now)))) }
 {
     for (place, field) in fields.iter().enumerate() {
-        let part = runs_at(alloc, runs, place)?;
+        let part = field_runs(alloc, field, runs, place)?;
         build_run_column(alloc, batch, field, &part)?;
     }
     Ok(())

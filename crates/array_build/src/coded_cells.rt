@@ -57,18 +57,13 @@ pub(crate) fn push_indices<'a>(
     push_entries(alloc, batch, index, &entries, cells)
 }
 
-// For how many entries there is room at once: those of the first run's dictionary, unless these are more than the slots of all runs.
+// For how many entries there is room at once: those of the first run's dictionary, or as many as the slots of all runs, if these are fewer.
 fn likely_entries(slots: usize, runs: &[SlotRun<'_>]) -> usize
     ensures few { result ≤ slots }
 {
     match runs.first() {
         Some(SlotRun::Slots { array, .. }) => {
-            let entries = entry_count(array.dictionary());
-            if entries <= slots as u128 {
-                entries as usize
-            } else {
-                0
-            }
+            entry_count(array.dictionary()).min(slots as u128) as usize
         }
         _ => 0,
     }

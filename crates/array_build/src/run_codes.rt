@@ -24,7 +24,10 @@ use columns::{ArrayView, CodedSlots, entry_count};
 use indexmap::IndexSet;
 use std::alloc::{AllocError, Global};
 
-// Room for what will be known of each entry of an array's dictionary: none where it has more entries than there are slots to be gone through.
+// How many entries a slot pays for: room for these is made at once, and costs less than to look up again one that was named before.
+const ENTRIES_PER_SLOT: usize = 4;
+
+// Room for what will be known of each entry of an array's dictionary: none where it has many more entries than there are slots to be gone through.
 fn unknown(
     alloc: Global,
     array: ArrayView<'_>,
@@ -34,7 +37,8 @@ fn unknown(
 {
     let mut known = Vec::new(alloc);
     let entries = entry_count(array.dictionary());
-    if entries <= slots as u128 {
+    let most = slots.saturating_mul(ENTRIES_PER_SLOT);
+    if entries <= most as u128 {
         known.resize(entries as usize, None)?;
     }
     Ok(known)

@@ -1,8 +1,14 @@
 // The runs of a field of structs.
-ghost use Rattle.std.specs.Prelude.{IfOk};
-ghost use Rattle.array_build.specs.inner.RunParts.{IsPart, IsPartOf};
+ghost use Rattle.std.specs.Prelude.{◌≡◌, true, [], ◌∷◌, IfOk, None, length};
+ghost use Rattle.array_build.specs.inner.RunParts.{IsPart, IsPartIn, IsPartOf};
+ghost use Rattle.array_build.specs.inner.Runs.{runs_bits};
+ghost use Rattle.array_runs.specs.declared.run.SlotRun.TheVariants.{Nulls};
+ghost use Rattle.arrow_schema.specs.Column.{nulls};
+ghost use Rattle.arrow_schema.specs.View.{column_of, kind_of};
 
+use crate::run_slots::count_slots;
 use array_runs::SlotRun;
+use arrow_schema::{DataType, Field};
 use columns::ArrayView;
 use std::alloc::{AllocError, Global};
 
@@ -27,8 +33,8 @@ fn part_run<'a>(run: &SlotRun<'a>, place: usize) -> SlotRun<'a>
     }
 }
 
-/// The runs of the slots that the field at a place has below structs.
-pub(crate) fn runs_at<'a>(
+// The runs of the slots that the field at a place has below structs, whatever its type.
+fn runs_at<'a>(
     alloc: Global,
     runs: &[SlotRun<'a>],
     place: usize,
@@ -40,4 +46,36 @@ pub(crate) fn runs_at<'a>(
         parts.push_reserved(part_run(run, place));
     }
     Ok(parts)
+}
+
+fn has_nulls_alone(field: &Field) -> bool
+    ensures kind { result ≡ true → kind_of field.now.data_type ≡ nulls }
+    ensures plain { result ≡ true → field.now.dictionary ≡ None }
+{
+    matches!(field.data_type, DataType::Null) && field.dictionary.is_none()
+}
+
+// As many nulls as runs have slots.
+fn as_nulls<'a>(alloc: Global, runs: &[SlotRun<'_>]) -> Result<Vec<SlotRun<'a>>, AllocError>
+    ensures { IfOk result (λ parts. parts.items ≡ Nulls (length (runs_bits runs.now)) ∷ []) }
+{
+    let count = count_slots(runs)?;
+    let mut parts = Vec::new(alloc);
+    parts.push(SlotRun::Nulls(count))?;
+    Ok(parts)
+}
+
+/// The runs of the slots that a field, which stands at a place, has below structs. Nulls have no bytes: all of them are one run.
+pub(crate) fn field_runs<'a>(
+    alloc: Global,
+    field: &Field,
+    runs: &[SlotRun<'a>],
+    place: usize,
+) -> Result<Vec<SlotRun<'a>>, AllocError>
+    ensures { IfOk result (λ parts. IsPartIn (column_of field.now) place runs.now parts.items) }
+{
+    if has_nulls_alone(field) {
+        return as_nulls(alloc, runs);
+    }
+    runs_at(alloc, runs, place)
 }
