@@ -73,6 +73,7 @@ vectors: bin/arrowstore
 	tests/readme bin/arrowstore
 	tests/program bin/arrowstore
 	tests/stores bin/arrowstore
+	tests/images_open bin/arrowstore
 	tests/queries bin/arrowstore
 	tests/sessions bin/arrowstore tests/vectors/sessions_store tests/vectors/sessions_texts
 	tests/killed bin/arrowstore

@@ -3,10 +3,11 @@ use Rattle.std.specs.Prelude.{◌≡◌, ◌⊎◌, ◌+◌, ◌-◌, ◌^◌, �
 use Rattle.sector_dev.specs.Disk.{Disk, Story, now, shown_image, flushed}
 use Rattle.segments.specs.declared.errors.EnterError.{EnterError}
 use Rattle.segments.specs.declared.errors.EnterError.TheVariants.{Range as RangeError, Overlap as OverlapError, TooManyPins as PinsError, OutOfMemory as MemoryError}
+use Rattle.segments.specs.declared.extent.Extent.{Extent}
 use Rattle.commit.specs.declared.cause.Cause.{Cause}
 use Rattle.commit.specs.declared.cause.Cause.TheVariants.{RunRange, RunOverlap}
 use Rattle.commit.specs.declared.sector.Commit.{Commit}
-use Rattle.commit.specs.Standing.{Reading, Standing, no_store, damaged, text_at, named_by, standing}
+use Rattle.commit.specs.Standing.{Reading, Standing, no_store, damaged, extent_at, text_at, named_by, standing}
 use Rattle.commit.specs.declared.reading.OpenError.{OpenError}
 use Rattle.commit.specs.declared.reading.OpenError.TheVariants.{NotAStore, Damaged, Device, OutOfMemory}
 
@@ -24,6 +25,10 @@ open_error RangeError = Damaged RunRange
 open_error OverlapError = Damaged RunOverlap
 open_error PinsError = Damaged RunOverlap
 open_error MemoryError = OutOfMemory
+
+-- the bytes of an extent with at least so many, as reads give them
+abbrev pub extent_shown : ℕ → Story → (least : ℕ) → Extent → Result (List ℕ) Cause
+extent_shown size story least e = extent_at size (shown_image (now story)) least e
 
 -- the text of the catalogue that this commit names, as reads give it
 abbrev pub text_shown : ℕ → Story → Commit → Result (List ℕ) Cause

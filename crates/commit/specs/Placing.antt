@@ -1,12 +1,13 @@
 -- Runs are taken for what is to be written, each the lowest that is free.
-use Rattle.std.specs.Prelude.{◌≡◌, ◌⊎◌, ◌≤◌, ◌<◌, ◌^◌, ℕ, List, [], ◌∷◌, ◌++◌, length, map, Some, None, Result, Ok, Err, vec_len, vec_capacity}
+use Rattle.std.specs.Prelude.{◌≡◌, ◌⊎◌, ◌≤◌, ◌<◌, ◌+◌, ◌^◌, ℕ, List, [], ◌∷◌, ◌++◌, length, take, map, Some, None, Result, Ok, Err, vec_len, vec_capacity}
 use Rattle.std.specs.Global.{Vec}
 use Rattle.std.specs.List.{AllByRecursion}
 use Rattle.segments.specs.declared.run.Run.{Run}
 use Rattle.segments.specs.declared.entries.Usage.{Usage}
 use Rattle.segments.specs.declared.entries.UsageEntry.{UsageEntry}
 use Rattle.segments.specs.declared.piece.Part.{Part}
-use Rattle.segments.specs.Pieces.{PlainPiece, bytes_of_parts}
+use Rattle.segments.specs.Pieces.{PlainPiece, bytes_of_parts, plain_pieces}
+use Rattle.segments.specs.Writing.{runs_of}
 use Rattle.segments.specs.Runs.{IsLowest}
 use Rattle.segments.specs.Sectors.{sector_count}
 use Rattle.segments.specs.Usages.{usage_of}
@@ -45,9 +46,13 @@ plain_contents contents = map (λ (parts : Vec Part). bytes_of_parts parts.items
 abbrev pub sectors_of : List ℕ → ℕ
 sectors_of bytes = sector_count (length bytes)
 
--- how many sectors these contents take, and then a text of so many bytes
-abbrev pub counts_of : List (List ℕ) → ℕ → List ℕ
-counts_of contents bytes = map sectors_of contents ++ sector_count bytes ∷ []
+-- how many sectors these contents take, then pages of so many bytes, and then a text of so many
+abbrev pub counts_of : List (List ℕ) → (pages : List ℕ) → ℕ → List ℕ
+counts_of contents pages bytes = (map sectors_of contents ++ map sector_count pages) ++ sector_count bytes ∷ []
+
+-- each page has some bytes
+abbrev pub AreWritten : List ℕ → Type 0
+AreWritten pages = AllByRecursion (λ (bytes : ℕ). 1 ≤ bytes) pages
 
 -- none of them is empty
 abbrev pub AreSome : List (List ℕ) → Type 0
@@ -57,8 +62,9 @@ AreSome contents = AllByRecursion (λ (bytes : List ℕ). 1 ≤ length bytes) co
 abbrev pub AreShort : List (List ℕ) → Type 0
 AreShort contents = AllByRecursion (λ (bytes : List ℕ). length bytes < 2 ^ 64) contents
 
--- room for one more piece, and for its one part
-pub record HasRoom (places : Places) : Type 0 where
-  pub piece : vec_len places.pieces < vec_capacity places.pieces
-  pub part : 1 ≤ vec_capacity places.room
-  pub empty : places.room.items ≡ []
+-- the contents lie in the first of the runs; behind them is one for each of so many pages, and one for the text, with room for their pieces
+pub record HasRoom (pages : ℕ) (places : Places) : Type 0 where
+  pub piece : vec_len places.pieces + pages < vec_capacity places.pieces
+  pub count : vec_len places.runs ≡ vec_len places.pieces + pages + 1
+  pub front : runs_of (plain_pieces places.pieces.items) ≡ take (vec_len places.pieces) places.runs.items
+  pub last : places.runs.items ≡ take (vec_len places.pieces + pages) places.runs.items ++ places.text ∷ []

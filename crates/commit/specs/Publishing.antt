@@ -6,19 +6,21 @@ use Rattle.segments.specs.Runs.{OutOf, AreApart, StartFrom}
 use Rattle.segments.specs.Writing.{AllFit, runs_of, HoldsEach}
 use Rattle.segments.specs.declared.run.Run.{Run}
 use Rattle.segments.specs.Pieces.{PlainPiece}
+use Rattle.commit.specs.declared.sector.CatalogueKind.{CatalogueKind}
+use Rattle.commit.specs.declared.sector.FormatVersion.{FormatVersion}
 use Rattle.commit.specs.declared.sector.Commit.{Commit}
 use Rattle.commit.specs.Sector.{IsCommit}
 use Rattle.commit.specs.Ruling.{ruling, IsQuiet, Rests}
 use Rattle.commit.specs.Standing.{is_size}
 
--- the commit behind this one, with its catalogue's text of so many bytes in this run
-abbrev pub next_commit : Commit → Run → ℕ → Commit
-next_commit k run bytes = record {
+-- the commit behind this one, of this version and kind, with its catalogue's text of so many bytes in this run
+abbrev pub next_commit : Commit → FormatVersion → CatalogueKind → Run → ℕ → Commit
+next_commit k version kind run bytes = record {
   epoch = k.epoch + 1;
   catalogue = record { run = run; bytes = bytes };
   device_sectors = k.device_sectors;
-  version = k.version;
-  kind = k.kind;
+  version = version;
+  kind = kind;
 }
 
 -- what can be published on a device of this size: pieces that fit into their runs, behind the commit sectors and apart from one

@@ -57,11 +57,15 @@ abbrev pub readable : Option (List ℕ) → Result (List ℕ) Cause
 readable None = Err CatalogueUnreadable
 readable (Some text) = Ok text
 
+-- the bytes of an extent with at least so many, or why there are none
+abbrev pub extent_at : ℕ → Image → (least : ℕ) → Extent → Result (List ℕ) Cause
+extent_at size image least e = if is_extent size least e then readable (bytes_at image e.run.start e.bytes) else Err CatalogueRange
+
 -- the text of the catalogue that a commit names, or why there is none
 unfoldable pub text_at : ℕ → Image → Commit → Result (List ℕ) Cause
 text_at size image k =
     if k.device_sectors == size
-    then (if is_extent size 4 k.catalogue then readable (bytes_at image k.catalogue.run.start k.catalogue.bytes) else Err CatalogueRange)
+    then extent_at size image 4 k.catalogue
     else Err DeviceSize
 
 -- why the runs that a catalogue names can't be in use beside that of its text, if they can't

@@ -5,9 +5,9 @@
 //!
 //! ```
 //! let mut store = recover::<Tables, _>(alloc, &mut device)?;
-//! let places = place(alloc, &mut store.map, contents, text_bytes)?;
+//! let places = place(alloc, &mut store.map, contents, &[], text_bytes)?;
 //! let (tables, text) = with_segment(&store.catalogue, &places)?;
-//! let plan = plan_next(store.commit, tables, places, text);
+//! let plan = plan_next(store.commit, version, kind, tables, places, texts, text_bytes);
 //! publish(&mut device, &store, &plan)?;
 //! store.map.give_each(&given_up);
 //! ```
@@ -33,6 +33,6 @@ pub use opening::read_ruling;
 pub use opening_refusal::OpeningRefusal;
 pub use placing::{Places, place, take_runs};
 pub use publishing::{Plan, plan_next, publish};
-pub use reading::{OpenError, read_text};
+pub use reading::{OpenError, read_extent, read_text};
 pub use recovery::{Opened, recover};
 pub use sector::{CatalogueKind, Commit, FormatVersion, one_text_each};

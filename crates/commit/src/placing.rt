@@ -3,7 +3,7 @@ ghost use Rattle.std.specs.Prelude.{◌≡◌, ◌≤◌, ◌<◌, ◌+◌, ◌+
 ghost use Rattle.segments.specs.Pieces.{plain_pieces};
 ghost use Rattle.segments.specs.Usages.{IsUsedIn, SameUsages};
 ghost use Rattle.segments.specs.Writing.{runs_of};
-ghost use Rattle.commit.specs.Placing.{Takes, AreSome, AreShort, HasRoom, contents_of, counts_of, plain_contents};
+ghost use Rattle.commit.specs.Placing.{Takes, AreSome, AreShort, AreWritten, HasRoom, contents_of, counts_of, plain_contents};
 ghost use Rattle.commit.specs.laws.Taking.{TookAll};
 
 use sector_dev::SECTOR_BYTES;
@@ -15,10 +15,8 @@ use std::alloc::{AllocError, Global};
 pub struct Places<'a> {
     pub pieces: Vec<Piece<'a>>,
     pub text: Run,
-    /// All that were taken, in order: those of the pieces, and the text's.
+    /// All that were taken, in order: those of the pieces, of the pages, and the text's.
     pub runs: Vec<Run>,
-    /// Room for the text's one part.
-    pub room: Vec<Part<'a>>,
 }
 
 /// Takes runs of these numbers of sectors in order, each the lowest one that is free then.
@@ -48,13 +46,14 @@ pub fn take_runs(alloc: Global, map: &mut FreeMap, counts: &[u64]) -> Result<Vec
     Ok(runs)
 }
 
-// How many sectors each of these contents takes, and then a text of so many bytes.
+// How many sectors each of these contents takes, each of these pages, and then a text of so many bytes.
 fn counts_for(
     alloc: Global,
     contents: &[Vec<Part<'_>>],
+    pages: &[u64],
     text_bytes: usize,
 ) -> Result<Vec<u64>, AllocError>
-    ensures counts { IfOk result (λ counts. counts.items ≡ counts_of (plain_contents contents.now) text_bytes) }
+    ensures counts { IfOk result (λ counts. counts.items ≡ counts_of (plain_contents contents.now) pages.now text_bytes) }
     ensures short { OnOk result (AreShort (plain_contents contents.now)) }
 {
     let mut counts = Vec::new(alloc);
@@ -62,22 +61,26 @@ fn counts_for(
         let bytes = byte_count(parts).ok_or(AllocError)?;
         counts.push(bytes.div_ceil(SECTOR_BYTES as u64))?;
     }
+    for bytes in pages {
+        counts.push(bytes.div_ceil(SECTOR_BYTES as u64))?;
+    }
     counts.push(text_bytes.div_ceil(SECTOR_BYTES) as u64)?;
     Ok(counts)
 }
 
-// Each of these contents goes into the run in its place.
-fn pieces_of<'a>(
+// Each of these contents goes into the run in its place, behind those of the pieces so far.
+pub(crate) fn pieces_of<'a>(
     contents: Vec<Vec<Part<'a>>>,
     runs: &[Run],
     pieces: Vec<Piece<'a>>,
 ) -> Vec<Piece<'a>>
-    requires runs { vec_len contents ≤ length runs.now }
-    requires room { vec_len contents + 1 ≤ vec_capacity pieces }
-    requires empty { pieces.items ≡ [] }
-    ensures contents { contents_of (plain_pieces result.items) ≡ plain_contents contents.entry.items }
-    ensures runs { runs_of (plain_pieces result.items) ≡ take (vec_len contents.entry) runs.now }
-    ensures room { vec_len result < vec_capacity result }
+    requires runs { vec_len pieces + vec_len contents ≤ length runs.now }
+    requires room { vec_len pieces + vec_len contents ≤ vec_capacity pieces }
+    requires front { runs_of (plain_pieces pieces.items) ≡ take (vec_len pieces) runs.now }
+    ensures contents { contents_of (plain_pieces result.items) ≡ contents_of (plain_pieces pieces.entry.items) ++ plain_contents contents.entry.items }
+    ensures runs { runs_of (plain_pieces result.items) ≡ take (vec_len result) runs.now }
+    ensures count { vec_len result ≡ vec_len pieces.entry + vec_len contents.entry }
+    ensures room { vec_capacity pieces.entry ≤ vec_capacity result }
 {
     let mut pieces = pieces;
     for parts in contents {
@@ -87,8 +90,8 @@ fn pieces_of<'a>(
     pieces
 }
 
-/// Takes a run for each of these contents in order, and then one for a text of so many bytes, each the lowest one that is
-/// free then. The contents are given as their parts.
+/// Takes a run for each of these contents in order, then one for each page of so many bytes, and then one for a text of so many,
+/// each the lowest one that is free then. The contents are given as their parts.
 ///
 /// # Errors
 /// `NoRoom(n)` where n sectors in a row are nowhere free when they are asked for; `OutOfMemory` also where a content has
@@ -97,33 +100,28 @@ pub fn place<'a>(
     alloc: Global,
     map: &mut FreeMap,
     contents: Vec<Vec<Part<'a>>>,
+    pages: &[u64],
     text_bytes: usize,
 ) -> Result<Places<'a>, TakeError>
     requires some { AreSome (plain_contents contents.items) }
+    requires pages { AreWritten pages.now }
     requires text { 1 ≤ text_bytes }
     ensures ok { IfOk result
-        (λ places. Takes map.old.size (IsUsedIn map.old.entries) (counts_of (plain_contents contents.entry.items) text_bytes) (Ok places.runs.items)) }
-    ensures taken { IfOk result (λ places. TookAll map.old map.new (counts_of (plain_contents contents.entry.items) text_bytes) places.runs.items) }
-    ensures runs { IfOk result (λ places. places.runs.items ≡ runs_of (plain_pieces places.pieces.items) ++ places.text ∷ []) }
+        (λ places. Takes map.old.size (IsUsedIn map.old.entries) (counts_of (plain_contents contents.entry.items) pages.now text_bytes) (Ok places.runs.items)) }
+    ensures taken { IfOk result (λ places. TookAll map.old map.new (counts_of (plain_contents contents.entry.items) pages.now text_bytes) places.runs.items) }
     ensures contents { IfOk result (λ places. contents_of (plain_pieces places.pieces.items) ≡ plain_contents contents.entry.items) }
     ensures short { OnOk result (AreShort (plain_contents contents.entry.items)) }
-    ensures room { IfOk result (λ places. HasRoom places) }
+    ensures room { IfOk result (λ places. HasRoom (length pages.now) places) }
     ensures no_room { IfErr result
         (λ e. (n : ℕ) → e ≡ TakeError.NoRoom n
-        → Takes map.old.size (IsUsedIn map.old.entries) (counts_of (plain_contents contents.entry.items) text_bytes) (Err n)) }
+        → Takes map.old.size (IsUsedIn map.old.entries) (counts_of (plain_contents contents.entry.items) pages.now text_bytes) (Err n)) }
     ensures size { map.new.size ≡ map.old.size }
     ensures err { OnErr result (SameUsages map.old.entries map.new.entries) }
 {
-    let counts = counts_for(alloc, &contents, text_bytes)?;
+    let counts = counts_for(alloc, &contents, pages, text_bytes)?;
     let pieces = Vec::with_capacity(alloc, counts.len())?;
-    let room = Vec::with_capacity(alloc, 1)?;
     let runs = take_runs(alloc, map, &counts)?;
-    let text = runs[contents.len()];
+    let text = runs[contents.len() + pages.len()];
     let pieces = pieces_of(contents, &runs, pieces);
-    Ok(Places {
-        pieces,
-        text,
-        runs,
-        room,
-    })
+    Ok(Places { pieces, text, runs })
 }

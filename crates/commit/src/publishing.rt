@@ -1,13 +1,15 @@
 // A new commit takes the place of the one that rules.
-ghost use Rattle.std.specs.Prelude.{◌≡◌, ◌<◌, ◌+◌, ◌^◌, ◌++◌, ◌∷◌, [], true, OnOk, IfErr, length};
+ghost use Rattle.std.specs.Prelude.{◌≡◌, ◌<◌, ◌+◌, ◌^◌, ◌++◌, ℕ, true, OnOk, IfErr, vec_len};
 ghost use Rattle.sector_dev.specs.Disk.{Counts};
 ghost use Rattle.segments.specs.Pieces.{plain_pieces};
-ghost use Rattle.commit.specs.Placing.{HasRoom};
+ghost use Rattle.segments.specs.Writing.{runs_of};
+ghost use Rattle.commit.specs.Placing.{HasRoom, contents_of, plain_contents};
 ghost use Rattle.commit.specs.Publishing.{IsPlan, next_commit, Publishes, EndsPublished};
 ghost use Rattle.commit.specs.Replacing.{change_of, Replaces, LeavesEither, EndsReplaced};
 
+use crate::placing::pieces_of;
 use crate::sector::commit_sector;
-use crate::{Commit, Opened, Places, ReadCatalogue};
+use crate::{CatalogueKind, Commit, FormatVersion, Opened, Places, ReadCatalogue};
 use sector_dev::{DevError, SectorDevice};
 use segments::{Extent, Part, Piece, Run, write_runs};
 
@@ -21,39 +23,42 @@ pub struct Plan<'a, C> {
     pub runs: Vec<Run>,
 }
 
-/// The plan of the next commit: what was placed, and behind it the text of its catalogue. It takes no memory.
-pub fn plan_next<'a, C>(old: Commit, catalogue: C, places: Places<'a>, text: Vec<u8>) -> Plan<'a, C>
+/// The plan of the next commit: what was placed, behind it the texts of pages, and then the one of its catalogue, which has so many
+/// bytes. It takes no memory.
+pub fn plan_next<'a, C>(
+    old: Commit,
+    version: FormatVersion,
+    kind: CatalogueKind,
+    catalogue: C,
+    places: Places<'a>,
+    texts: Vec<Vec<Part<'a>>>,
+    text_bytes: u64,
+) -> Plan<'a, C>
     requires epoch { old.epoch + 1 < 2 ^ 64 }
-    requires room { HasRoom places }
-    ensures commit { result.commit ≡ next_commit old places.entry.text (length text.items) }
+    requires room { (pages : ℕ) × (vec_len texts ≡ pages + 1) × HasRoom pages places }
+    ensures commit { result.commit ≡ next_commit old version kind places.entry.text text_bytes }
     ensures catalogue { result.catalogue ≡ catalogue }
-    ensures pieces { plain_pieces result.pieces.items
-        ≡ plain_pieces places.entry.pieces.items ++ record { run = places.entry.text; bytes = text.items } ∷ [] }
+    ensures contents { contents_of (plain_pieces result.pieces.items) ≡ contents_of (plain_pieces places.entry.pieces.items) ++ plain_contents texts.entry.items }
+    ensures placed { runs_of (plain_pieces result.pieces.items) ≡ places.entry.runs.items }
     ensures runs { result.runs ≡ places.entry.runs }
 {
-    let extent = Extent {
-        run: places.text,
-        bytes: text.len() as u64,
-    };
-    let mut pieces = places.pieces;
-    let mut parts = places.room;
-    parts.push(Part::Made(text)).unwrap();
-    pieces
-        .push(Piece {
-            run: extent.run,
-            parts,
-        })
-        .unwrap();
+    let Places { pieces, text, runs } = places;
+    let pieces = pieces_of(texts, &runs, pieces);
     let commit = Commit {
         epoch: old.epoch + 1,
-        catalogue: extent,
-        ..old
+        catalogue: Extent {
+            run: text,
+            bytes: text_bytes,
+        },
+        device_sectors: old.device_sectors,
+        version,
+        kind,
     };
     Plan {
         commit,
         catalogue,
         pieces,
-        runs: places.runs,
+        runs,
     }
 }
 

@@ -3,7 +3,7 @@ ghost use Rattle.std.specs.Prelude.{◌≡◌, ◌≢◌, ◌≤◌, ◌+◌, �
 ghost use Rattle.sector_dev.specs.Time.{OnlyReads};
 ghost use Rattle.sector_dev.specs.declared.file.TheConstants.{MOST_SECTORS};
 ghost use Rattle.commit.specs.Standing.{is_on_device, is_extent};
-ghost use Rattle.commit.specs.Opening.{CountsOpen, text_shown, TellsCause};
+ghost use Rattle.commit.specs.Opening.{CountsOpen, extent_shown, text_shown, TellsCause};
 
 use crate::{Cause, Commit};
 use sector_dev::{DevError, SECTOR_BYTES, SectorDevice};
@@ -44,6 +44,37 @@ fn is_extent(size: u64, least: u64, extent: Extent) -> bool
         && is_on_device(size, extent.run)
 }
 
+/// The bytes of an extent with at least so many. Nothing changes.
+///
+/// # Errors
+/// `Damaged` where no text can lie there, or a sector of it can't be read.
+pub fn read_extent<D: SectorDevice>(
+    alloc: Global,
+    device: &mut D,
+    least: u64,
+    extent: Extent,
+) -> Result<Vec<u8>, OpenError>
+    requires { D.size device.old ≤ MOST_SECTORS }
+    ensures size { D.size device.new ≡ D.size device.old }
+    ensures count { CountsOpen (D.failed device.old) (D.failed device.new) result }
+    ensures moments { D.tells ≡ true → OnlyReads (D.story device.old) (D.story device.new) }
+    ensures found { IfOk result (λ bytes. D.tells ≡ true → extent_shown (D.size device.old) (D.story device.old) least extent ≡ Ok bytes.items) }
+    ensures damaged { IfErr result (λ e. D.tells ≡ true → TellsCause e (extent_shown (D.size device.old) (D.story device.old) least extent)) }
+    ensures a_store { IfErr result (λ e. e ≢ OpenError.NotAStore) }
+    // Also of a device that doesn't tell its story.
+    ensures extent { OnOk result (is_extent (D.size device.old) least extent ≡ true) }
+{
+    if !is_extent(device.sectors(), least, extent) {
+        return Err(OpenError::Damaged(Cause::CatalogueRange));
+    }
+    match read_run(alloc, device, extent.run.start, extent.bytes as usize) {
+        Ok(bytes) => Ok(bytes),
+        Err(ReadError::Unreadable) => Err(OpenError::Damaged(Cause::CatalogueUnreadable)),
+        Err(ReadError::Failed) => Err(OpenError::Device),
+        Err(ReadError::OutOfMemory) => Err(OpenError::OutOfMemory),
+    }
+}
+
 /// The text of the catalogue that a commit names. Nothing changes.
 ///
 /// # Errors
@@ -64,23 +95,12 @@ pub fn read_text<D: SectorDevice>(
     ensures device { OnOk result (commit.device_sectors ≡ D.size device.old) }
     ensures extent { OnOk result (is_extent (D.size device.old) 4 commit.catalogue ≡ true) }
 {
-    let sectors = device.sectors();
-    if commit.device_sectors != sectors {
+    if commit.device_sectors != device.sectors() {
         return Err(OpenError::Damaged(Cause::DeviceSize));
     }
-    if !is_extent(sectors, 4, commit.catalogue) {
-        return Err(OpenError::Damaged(Cause::CatalogueRange));
-    }
-    match read_run(
-        alloc,
-        device,
-        commit.catalogue.run.start,
-        commit.catalogue.bytes as usize,
-    ) {
+    match read_extent(alloc, device, 4, commit.catalogue) {
         Ok(text) => Ok(text),
-        Err(ReadError::Unreadable) => Err(OpenError::Damaged(Cause::CatalogueUnreadable)),
-        Err(ReadError::Failed) => Err(OpenError::Device),
-        Err(ReadError::OutOfMemory) => Err(OpenError::OutOfMemory),
+        Err(error) => Err(error),
     }
 }
 

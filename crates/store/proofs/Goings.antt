@@ -87,7 +87,7 @@ module _ (size : ℕ) (used : Run → Type 0) (k : Commit) (c : PlainCatalogue) 
       by_which : (standing whole_reading size image ≡ rules k c) ⊎ HasCarried size used k c change image → (held_by size image ≡ holds t) ⊎ (held_by size image ≡ holds u)
       by_which (inl stood) = inl (held_is size image k c stood ∙ ap held_tables (still_held is.kept))
       by_which (inr does) =
-          inr (held_is size image (next_commit k does.text (list_size (outline c change))) (edited c change.edit (placed_segments does.places change.streams change.counts)) does.stands ∙ ap held_tables (made_held is.kept does))
+          inr (held_is size image (next_commit k k.version k.kind does.text (list_size (outline c change))) (edited c change.edit (placed_segments does.places change.streams change.counts)) does.stands ∙ ap held_tables (made_held is.kept does))
 
 -- ---- the machine goes on
 
@@ -204,7 +204,7 @@ module _ {D : Type 0} {g : Ghosts D} (size : D → ℕ) (story : D → Story) (f
       stands : standing whole_reading (size old.device) (synced_image (now (story new.device))) ≡ rules new.opened.commit (listed_in new)
       stands = ap (λ (n : ℕ). standing whole_reading n (synced_image (now (story new.device)))) (sym sized) ∙ does.stands.found
 
-      same_rules : rules new.opened.commit (listed_in new) ≡ rules (next_commit old.opened.commit does.holds.text (list_size (outline (listed_in old) change))) (edited (listed_in old) change.edit (placed_segments does.holds.places change.streams change.counts))
+      same_rules : rules new.opened.commit (listed_in new) ≡ rules (next_commit old.opened.commit old.opened.commit.version old.opened.commit.kind does.holds.text (list_size (outline (listed_in old) change))) (edited (listed_in old) change.edit (placed_segments does.holds.places change.streams change.counts))
       same_rules = sym stands ∙ does.holds.stands
 
       listed : listed_in new ≡ edited (listed_in old) change.edit (placed_segments does.holds.places change.streams change.counts)

@@ -2,7 +2,7 @@
 use Rattle.std.specs.Prelude.{◌≡◌, ◌≤◌, ◌<◌, ◌+◌, ◌^◌, ◌==◌, ◌&&◌, ◌||◌, ℕ, Bool, true, false, not, nat_le, List, [], ◌∷◌, ◌++◌, length, map, if◌then◌else◌, Some, None, Err, refl, vec_len}
 use Rattle.std.specs.Global.{Vec}
 use Rattle.std.specs.List.{list_all, AllByRecursion}
-use Rattle.std.proofs.Common.{inl, inr, ⊎_elim, ◌≢◌, sym, ap, ◌∙◌, subst, arith}
+use Rattle.std.proofs.Common.{inl, inr, ⊎_elim, ◌≢◌, sym, ap, ◌∙◌, subst, arith, append-nil}
 use Rattle.std.proofs.lemmas.Bool.{and_parts, or_parts, false_from_ne_true, leb-true, cases_eq}
 use Rattle.std.proofs.lemmas.List.{length-map}
 use Rattle.sector_dev.specs.Disk.{Disk, Image}
@@ -38,7 +38,7 @@ use Rattle.commit.specs.Standing.{is_size, is_extent, is_on_device, is_apart, ar
 use Rattle.commit.specs.laws.Taking.{TookAll, all_given_back}
 use Rattle.commit.specs.laws.Apart.{on_device_is}
 use Rattle.commit.specs.laws.Frame.{fault_none}
-use Rattle.commit.specs.laws.Placed.{plan_follows, placed_extent, taken_free, uses_used, taken_uses, given_uses}
+use Rattle.commit.specs.laws.Placed.{text_last, plan_follows, placed_extent, taken_free, uses_used, taken_uses, given_uses}
 use Rattle.commit.specs.laws.Fit.{fit_again, times_both, times_some, some_times, once, all_on}
 use Rattle.tables.specs.declared.refusal.Refusal.TheVariants as refusals
 use Rattle.store.specs.declared.stored.StoredCatalogue.{StoredCatalogue}
@@ -280,16 +280,16 @@ taking_carried size used k c change (takings.NoRoom n) next few takes = (next, f
 taking_carried size used k c change takings.OutOfMemory next few takes = tt
 
 module _ (c : PlainCatalogue) (change : PlainChange) (sound : IsChange c change) (contents : List (List ℕ)) (plain_is : contents ≡ change.streams) (bytes : ℕ) (bytes_is : bytes ≡ list_size (outline c change)) where
-  pub asked : counts_of contents bytes ≡ asked_sizes c change
-  asked = λ i. map sectors_of (plain_is i) ++ sector_count (bytes_is i) ∷ []
+  pub asked : counts_of contents [] bytes ≡ asked_sizes c change
+  asked = λ i. append-nil (map sectors_of (plain_is i)) i ++ sector_count (bytes_is i) ∷ []
 
   module _ (old new : Space) (limits : is_size old.size ≡ true) (few : segment_count (outline c change) ≤ MAX_SEGMENTS) (pieces ps : List PlainPiece) (run : Run) (runs : List Run) (counts : List ℕ)
-      (all : TookAll old new (counts_of contents bytes) runs) (runs_is : runs ≡ runs_of pieces ++ run ∷ []) (contents_is : contents_of pieces ≡ contents) (ps_is : ps ≡ pieces) (counts_is : counts ≡ change.counts) where
+      (all : TookAll old new (counts_of contents [] bytes) runs) (runs_is : runs ≡ runs_of pieces ++ run ∷ []) (contents_is : contents_of pieces ≡ contents) (ps_is : ps ≡ pieces) (counts_is : counts ≡ change.counts) where
     streams_is : contents_of pieces ≡ change.streams
     streams_is = contents_is ∙ plain_is
 
     took : TookAll old new (asked_sizes c change) (runs_of pieces ++ run ∷ [])
-    took = subst (λ (ns : List ℕ). TookAll old new ns (runs_of pieces ++ run ∷ [])) asked (subst (λ (rs : List Run). TookAll old new (counts_of contents bytes) rs) runs_is all)
+    took = subst (λ (ns : List ℕ). TookAll old new ns (runs_of pieces ++ run ∷ [])) asked (subst (λ (rs : List Run). TookAll old new (counts_of contents [] bytes) rs) runs_is all)
 
     as_many : length (runs_of pieces) ≡ length change.streams
     as_many = length-map pieces (λ (x : PlainPiece). x.run) ∙ sym (length-map pieces (λ (x : PlainPiece). x.bytes)) ∙ ap (λ (xs : List (List ℕ)). length xs) streams_is
@@ -316,9 +316,10 @@ module _ (c : PlainCatalogue) (change : PlainChange) (sound : IsChange c change)
 
     pub prepared : (k : Commit) (text : List ℕ) (next : StoredCatalogue) (plan : Plan StoredCatalogue) (back : List Run) → k.device_sectors ≡ old.size → HasNext k
         → catalogue_of next.list ≡ edited c change.edit (placed_segments (runs_of ps) (contents_of ps) counts) → catalogue_at text ≡ Some (catalogue_of next.list) → length text ≡ list_size (catalogue_of next.list)
-        → plan.commit ≡ next_commit k run (length text) → plan.catalogue ≡ next → plain_pieces plan.pieces.items ≡ pieces ++ record { run = run; bytes = text } ∷ [] → plan.runs.items ≡ runs → back ≡ given_up c change.edit ++ k.catalogue.run ∷ []
+        → plan.commit ≡ next_commit k k.version k.kind run bytes → plan.catalogue ≡ next → runs_of (plain_pieces plan.pieces.items) ≡ runs → contents_of (plain_pieces plan.pieces.items) ≡ contents_of pieces ++ text ∷ []
+        → plan.runs.items ≡ runs → back ≡ given_up c change.edit ++ k.catalogue.run ∷ []
         → IsPrepared old new k c change plan back
-    prepared k text next plan back own epoch list_is text_is size_is commit_is catalogue_is pieces_is taken_is back_is =
+    prepared k text next plan back own epoch list_is text_is size_is commit_is catalogue_is placed_is written_is taken_is back_is =
         let long : length text ≡ list_size (outline c change) = size_is ∙ ap list_size (list_is ∙ given_is) ∙ placed_size c change sound (runs_of pieces) as_many in
         record {
           next = epoch;
@@ -328,12 +329,12 @@ module _ (c : PlainCatalogue) (change : PlainChange) (sound : IsChange c change)
           text = text;
           took = took;
           streams = streams_is;
-          whole = pieces_is;
+          whole = text_last pieces (plain_pieces plan.pieces.items) runs run text placed_is runs_is written_is;
           runs = taken_is ∙ runs_is;
           catalogue = ap (λ (s : StoredCatalogue). catalogue_of s.list) catalogue_is ∙ list_is ∙ given_is;
           found = text_is ∙ ap (λ (s : StoredCatalogue). Some (catalogue_of s.list)) (sym catalogue_is);
           size = long;
-          commit = commit_is ∙ ap (next_commit k run) long;
+          commit = commit_is ∙ ap (next_commit k k.version k.kind run) bytes_is;
           gives = back_is;
-          publishes = plan_follows old new contents bytes pieces (plain_pieces plan.pieces.items) runs run text k plan.commit limits own (omega (arith, epoch)) all runs_is contents_is (ap sector_count (bytes_is ∙ sym long)) commit_is pieces_is;
+          publishes = plan_follows old new contents bytes pieces (plain_pieces plan.pieces.items) runs run text k plan.commit k.version k.kind limits own (omega (arith, epoch)) all runs_is contents_is (bytes_is ∙ sym long) commit_is placed_is written_is;
         }

@@ -203,7 +203,7 @@ module _ (laws : LawsBelow) (size : ℕ) (entries : List UsageEntry) (k : Commit
       let says = decided laws (shown_image before) c t command (Ok done.change) (are_listed (shown_image before) c t catalogue shown) brings done.decides in
       let segments = placed_segments done.places done.change.streams done.change.counts in
       let made = edited_held image c done.change t says.0 segments catalogue still_held says.2 done.holds in
-      (says.0, says.1, held_is size image (next_commit k done.text (list_size (outline c done.change))) (edited c done.change.edit segments) done.stands ∙ ap held_tables made)
+      (says.0, says.1, held_is size image (next_commit k k.version k.kind done.text (list_size (outline c done.change))) (edited c done.change.edit segments) done.stands ∙ ap held_tables made)
 
   pub left_verdict : (which : (standing whole_reading size image ≡ rules k c) ⊎ HasDone size (IsUsedIn entries) k c before command image)
       → (held_by size image ≡ holds t) ⊎ HoldsVerdict size image t command

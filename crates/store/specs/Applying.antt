@@ -50,7 +50,7 @@ pub record HasCarried (size : ℕ) (used : Run → Type 0) (k : Commit) (c : Pla
   pub text : Run
   pub takes : Takes size used (asked_sizes c change) (Ok (places ++ text ∷ []))
   pub stands : standing whole_reading size image
-      ≡ rules (next_commit k text (list_size (outline c change))) (edited c change.edit (placed_segments places change.streams change.counts))
+      ≡ rules (next_commit k k.version k.kind text (list_size (outline c change))) (edited c change.edit (placed_segments places change.streams change.counts))
   pub holds : HoldsStreams image (placed_segments places change.streams change.counts) change.streams change.counts
 
 -- what a stop in it leaves: the commit and the catalogue that stood, or the change carried out; and what lay in the runs of that catalogue lies
@@ -93,7 +93,7 @@ pub record HasDone (size : ℕ) (used : Run → Type 0) (k : Commit) (c : PlainC
   pub text : Run
   pub takes : Takes size used (asked_sizes c change) (Ok (places ++ text ∷ []))
   pub stands : standing whole_reading size image
-      ≡ rules (next_commit k text (list_size (outline c change))) (edited c change.edit (placed_segments places change.streams change.counts))
+      ≡ rules (next_commit k k.version k.kind text (list_size (outline c change))) (edited c change.edit (placed_segments places change.streams change.counts))
   pub holds : HoldsStreams image (placed_segments places change.streams change.counts) change.streams change.counts
 
 -- what a stop in a command leaves: the commit and the catalogue that stood, or a command that was carried out; and what lay in the runs of

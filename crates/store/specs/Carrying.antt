@@ -45,7 +45,7 @@ IsCarried size used k c change (Ok unit) k' c' =
     HasNext k × (segment_count (outline c change) ≤ MAX_SEGMENTS)
     × ((places : List Run) × (text : Run) × Takes size used (asked_sizes c change) (Ok (places ++ text ∷ []))
     × (c' ≡ edited c change.edit (placed_segments places change.streams change.counts))
-    × (k' ≡ next_commit k text (list_size (outline c change))))
+    × (k' ≡ next_commit k k.version k.kind text (list_size (outline c change))))
 IsCarried size used k c change (Err (refusals.TooMany limits.Epochs)) k' c' = k.epoch ≡ 2 ^ 64 - 1
 IsCarried size used k c change (Err (refusals.TooMany limits.Segments)) k' c' = HasNext k × (MAX_SEGMENTS < segment_count (outline c change))
 IsCarried size used k c change (Err (refusals.NoRoom count)) k' c' =

@@ -7,7 +7,7 @@ ghost use Rattle.segments.specs.Writing.{runs_of};
 ghost use Rattle.canonical_write.specs.View.{joined_parts, streams_in};
 ghost use Rattle.catalogue.specs.declared.limits.TheConstants.{MAX_SEGMENTS};
 ghost use Rattle.catalogue.specs.Entries.{is_segment, IsCatalogue, segment_count};
-ghost use Rattle.catalogue.specs.Text.{list_size};
+ghost use Rattle.catalogue.specs.Text.{list_size, list_text};
 ghost use Rattle.catalogue.specs.Reading.{catalogue_at};
 ghost use Rattle.catalogue.specs.View.{catalogue_of};
 ghost use Rattle.commit.specs.Placing.{Takes, contents_of, plain_contents};
@@ -101,14 +101,25 @@ fn text_size(
     Ok(text.len())
 }
 
+// A text, as what is written of its own.
+fn text_alone<'a>(alloc: Global, text: Vec<u8>) -> Result<Vec<Vec<Part<'a>>>, AllocError>
+    ensures { IfOk result (λ texts. plain_contents texts.items ≡ text.items ∷ []) }
+{
+    let mut parts = Vec::new(alloc);
+    parts.push(Part::Made(text))?;
+    let mut texts = Vec::new(alloc);
+    texts.push(parts)?;
+    Ok(texts)
+}
+
 // The new catalogue, its new segments in these pieces, and its text.
-fn next_catalogue(
+fn next_catalogue<'a>(
     alloc: Global,
     stored: &StoredCatalogue,
     edit: &Edit,
     pieces: &[Piece<'_>],
     rows: &[u64],
-) -> Result<(StoredCatalogue, Vec<u8>), AllocError>
+) -> Result<(StoredCatalogue, Vec<Vec<Part<'a>>>), AllocError>
     requires rows { length pieces.now ≡ length rows.now }
     requires sound { list_all is_segment
         (placed_segments (runs_of (plain_pieces pieces.now)) (contents_of (plain_pieces pieces.now)) rows.now) ≡ true }
@@ -119,15 +130,17 @@ fn next_catalogue(
     ensures catalogue { IfOk result (λ next. catalogue_of next.0.list
         ≡ edited (catalogue_of stored.now.list) (edit_of edit.now)
         (placed_segments (runs_of (plain_pieces pieces.now)) (contents_of (plain_pieces pieces.now)) rows.now)) }
-    ensures found { IfOk result (λ next. catalogue_at next.1.items ≡ Some (catalogue_of next.0.list)) }
-    ensures size { IfOk result (λ next. length next.1.items ≡ list_size (catalogue_of next.0.list)) }
+    ensures text { IfOk result (λ next. plain_contents next.1.items ≡ list_text (catalogue_of next.0.list) ∷ []) }
+    ensures found { IfOk result (λ next. catalogue_at (list_text (catalogue_of next.0.list)) ≡ Some (catalogue_of next.0.list)) }
+    ensures size { IfOk result (λ next. length (list_text (catalogue_of next.0.list)) ≡ list_size (catalogue_of next.0.list)) }
 {
     one_text_each();
     texts_have_these_sizes();
     let segments = segments_of(alloc, pieces, rows)?;
     let list = edited(alloc, &stored.list, edit, &segments)?;
     let text = encode(alloc, &list)?;
-    Ok((StoredCatalogue { list }, text))
+    let texts = text_alone(alloc, text)?;
+    Ok((StoredCatalogue { list }, texts))
 }
 
 // Why no run is taken, as it is told of a command.
@@ -165,10 +178,18 @@ fn plan_change<'a>(
     let back = back_after(alloc, commit, stored, &change.edit)?;
     let streams = borrowed_streams(alloc, pieces)?;
     let text_bytes = text_size(alloc, stored, change, &streams, &pieces.rows)?;
-    let places = place(alloc, map, streams, text_bytes)?;
+    let places = place(alloc, map, streams, &[], text_bytes)?;
     match next_catalogue(alloc, stored, &change.edit, &places.pieces, &pieces.rows) {
-        Ok((next, text)) => Ok(Prepared {
-            plan: plan_next(commit, next, places, text),
+        Ok((next, texts)) => Ok(Prepared {
+            plan: plan_next(
+                commit,
+                commit.version,
+                commit.kind,
+                next,
+                places,
+                texts,
+                text_bytes as u64,
+            ),
             back,
         }),
         Err(error) => {

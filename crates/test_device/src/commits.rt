@@ -1,5 +1,5 @@
 // A store on a device in memory that names one segment: each call fails or stops, and what a stop leaves is opened again.
-ghost use Rattle.std.specs.Prelude.{◌≡◌, IfOk, IfSome, length};
+ghost use Rattle.std.specs.Prelude.{◌≡◌, ℕ, List, ◌∷◌, [], IfOk, IfSome, length};
 ghost use Rattle.sector_dev.specs.View.{size_of};
 ghost use Rattle.segments.specs.Pieces.{plain_pieces};
 ghost use Rattle.commit.specs.Placing.{AreSome, plain_contents};
@@ -28,11 +28,10 @@ pub(crate) fn formatted(alloc: Global, device: &mut ModelDevice) -> Option<Opene
     }
 }
 
-// A segment that this byte fills.
-fn segment_of<'a>(alloc: Global, byte: u8) -> Result<Vec<Vec<Part<'a>>>, AllocError>
-    ensures { IfOk result (λ contents. AreSome (plain_contents contents.items)) }
+// Bytes as the only content.
+fn content_of<'a>(alloc: Global, bytes: Vec<u8>) -> Result<Vec<Vec<Part<'a>>>, AllocError>
+    ensures { IfOk result (λ contents. plain_contents contents.items ≡ bytes.items ∷ []) }
 {
-    let bytes = Vec::from_slice(alloc, &[byte; 600])?;
     let mut parts = Vec::new(alloc);
     parts.push(Part::Made(bytes))?;
     let mut contents = Vec::new(alloc);
@@ -40,13 +39,22 @@ fn segment_of<'a>(alloc: Global, byte: u8) -> Result<Vec<Vec<Part<'a>>>, AllocEr
     Ok(contents)
 }
 
+// A segment that this byte fills.
+fn segment_of<'a>(alloc: Global, byte: u8) -> Result<Vec<Vec<Part<'a>>>, AllocError>
+    ensures { IfOk result (λ contents. AreSome (plain_contents contents.items)) }
+{
+    let bytes = Vec::from_slice(alloc, &[byte; 600])?;
+    content_of(alloc, bytes)
+}
+
 // The text of a catalogue that names this run.
-fn text_of(alloc: Global, run: Run) -> Result<Vec<u8>, AllocError>
-    ensures { IfOk result (λ text. length text.items ≡ 6) }
+fn text_of<'a>(alloc: Global, run: Run) -> Result<Vec<Vec<Part<'a>>>, AllocError>
+    ensures { IfOk result (λ texts. (text : List ℕ) × (plain_contents texts.items ≡ text ∷ []) × (length text ≡ 6)) }
 {
     let start = u8::try_from(run.start).unwrap_or(0);
     let count = u8::try_from(run.count).unwrap_or(0);
-    Vec::from_slice(alloc, &[1, 0, 0, 0, start, count])
+    let text = Vec::from_slice(alloc, &[1, 0, 0, 0, start, count])?;
+    content_of(alloc, text)
 }
 
 // The plan of a store in which a segment that this byte fills stands alone.
@@ -63,14 +71,15 @@ fn plan_one<'a>(alloc: Global, store: &mut Opened<Few>, byte: u8) -> Option<Plan
     let Ok(contents) = segment_of(alloc, byte) else {
         return None;
     };
-    let Ok(places) = place(alloc, &mut store.map, contents, 6) else {
+    let Ok(places) = place(alloc, &mut store.map, contents, &[], 6) else {
         return None;
     };
     let run = places.runs.first().copied().unwrap_or(places.text);
-    let Ok(text) = text_of(alloc, run) else {
+    let Ok(texts) = text_of(alloc, run) else {
         return None;
     };
-    Some(plan_next(store.commit, Few::One(run), places, text))
+    let old = store.commit;
+    Some(plan_next(old, old.version, old.kind, Few::One(run), places, texts, 6))
 }
 
 // Publishes a plan: whether that was acknowledged. Then what it leaves out is free.

@@ -17,7 +17,7 @@ use Rattle.commit.specs.Ruling.{newer, ruling, Rests}
 use Rattle.commit.specs.Formatting.{HoldsNoCommit, IsEmptyStore, first_commit, empty_text}
 use Rattle.commit.specs.Publishing.{IsOldOrNew, IsPublishing, IsPublished, IsRuledBy}
 use Rattle.commit.specs.Replacing.{Change, IsPieceOf, IsMade, CanReplace, StandsAs, StandsAsEither}
-use Rattle.commit.specs.Standing.{Reading, no_store, damaged, rules, is_size, is_on_device, is_extent, all_on_device, are_apart, used_runs, readable, text_at, runs_fault, by_runs, by_catalogue, spelled_by, named_by, by_commit, standing, Stands, InSome, IsLocal}
+use Rattle.commit.specs.Standing.{Reading, no_store, damaged, rules, is_size, is_on_device, is_extent, all_on_device, are_apart, used_runs, readable, extent_at, text_at, runs_fault, by_runs, by_catalogue, spelled_by, named_by, by_commit, standing, Stands, InSome, IsLocal}
 
 -- a text that is found: the tests before it passed
 pub record HasText (size : ℕ) (image : Image) (k : Commit) (text : List ℕ) : Type 0 where
@@ -51,6 +51,11 @@ text_lost size image k device extent read = λ i. if eq-eqb k.device_sectors siz
 pub text_outside : (size : ℕ) (image : Image) (k : Commit) → k.device_sectors ≡ size → is_extent size 4 k.catalogue ≡ false → text_at size image k ≡ Err CatalogueRange
 unfolding text_at
 text_outside size image k device extent = λ i. if eq-eqb k.device_sectors size device i then (if extent i then readable (bytes_at image k.catalogue.run.start k.catalogue.bytes) else Err CatalogueRange) else Err DeviceSize
+
+-- where the device has the commit's size it is what lies in the extent
+pub text_there : (size : ℕ) (image : Image) (k : Commit) → k.device_sectors ≡ size → text_at size image k ≡ extent_at size image 4 k.catalogue
+unfolding text_at
+text_there size image k device = λ i. if eq-eqb k.device_sectors size device i then extent_at size image 4 k.catalogue else Err DeviceSize
 
 pub text_elsewhere : (size : ℕ) (image : Image) (k : Commit) → (k.device_sectors ≡ size → ⊥) → text_at size image k ≡ Err DeviceSize
 unfolding text_at

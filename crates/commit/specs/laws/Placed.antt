@@ -1,9 +1,12 @@
 -- Laws of runs that were taken for a plan: they are apart from one another and from those in use.
-use Rattle.std.specs.Prelude.{◌≡◌, ◌⊎◌, ◌≤◌, ◌<◌, ◌+◌, ◌^◌, ◌&&◌, ◌||◌, ℕ, Bool, nat_le, true, false, not, List, [], ◌∷◌, ◌++◌, length, map, refl}
-use Rattle.std.proofs.Common.{inl, inr, sym, ap, ◌∙◌, subst, arith}
+use Rattle.std.specs.Prelude.{◌≡◌, ◌⊎◌, ◌≤◌, ◌<◌, ◌+◌, ◌^◌, ◌&&◌, ◌||◌, ℕ, Bool, nat_le, true, false, not, List, [], ◌∷◌, ◌++◌, length, take, map, vec_len, refl}
+use Rattle.std.specs.Global.{Vec}
+use Rattle.std.proofs.Common.{inl, inr, sym, ap, ◌∙◌, subst, arith, append-nil}
 use Rattle.std.proofs.lemmas.Bool.{and_parts, and_from, and_right, or_right, leb-true, le-leb, eq-eqb}
+use Rattle.std.proofs.lemmas.List.{length-map, map-append}
 use Rattle.segments.specs.declared.run.Run.{Run}
-use Rattle.segments.specs.Pieces.{PlainPiece}
+use Rattle.segments.specs.declared.piece.Part.{Part}
+use Rattle.segments.specs.Pieces.{PlainPiece, bytes_of_parts, plain_pieces}
 use Rattle.segments.specs.declared.entries.Usage.{Usage}
 use Rattle.segments.specs.declared.entries.UsageEntry.{UsageEntry}
 use Rattle.segments.specs.Runs.{OutOf, ApartFrom, AreApart, StartFrom}
@@ -12,8 +15,11 @@ use Rattle.segments.specs.Usages.{Space, TAKEN, is_used, given, usage_of, same_r
 use Rattle.segments.specs.Writing.{AllFit, runs_of}
 use Rattle.segments.specs.laws.Runs.{swapped, out_of_apart}
 use Rattle.segments.specs.laws.Usages.{same_itself, or_false, among_both}
+use Rattle.commit.specs.declared.sector.CatalogueKind.{CatalogueKind}
+use Rattle.commit.specs.declared.sector.FormatVersion.{FormatVersion}
 use Rattle.commit.specs.declared.sector.Commit.{Commit}
-use Rattle.commit.specs.Placing.{is_among, times_among, Uses, sectors_of, counts_of, contents_of}
+use Rattle.commit.specs.declared.placing.Places.{Places}
+use Rattle.commit.specs.Placing.{is_among, times_among, Uses, sectors_of, counts_of, contents_of, plain_contents, HasRoom}
 use Rattle.commit.specs.Standing.{is_size, is_extent, InSome}
 use Rattle.commit.specs.Publishing.{IsPlan, next_commit}
 use Rattle.commit.specs.laws.Taking.{Took, TookAll, by_among}
@@ -48,37 +54,24 @@ pub took_fit : (size : ℕ) (used : Run → Type 0) (pieces : List PlainPiece) �
 took_fit size used [] took = tt
 took_fit size used (p ∷ ps) took = (took.0.1.within, omega (arith, took.0.0), took_fit size (λ other. used other ⊎ (other ≡ p.run)) ps took.1)
 
-counts_more : (pieces : List PlainPiece) (run : Run) (text : List ℕ) (bytes : ℕ) → sector_count bytes ≡ sectors_of text → map sectors_of (contents_of (pieces ++ record { run = run; bytes = text } ∷ [])) ≡ counts_of (contents_of pieces) bytes
-counts_more [] run text bytes is = ap (λ (n : ℕ). n ∷ []) (sym is)
-counts_more (p ∷ ps) run text bytes is = ap (λ (ns : List ℕ). sectors_of p.bytes ∷ ns) (counts_more ps run text bytes is)
-
-runs_more : (pieces : List PlainPiece) (run : Run) (text : List ℕ) → runs_of (pieces ++ record { run = run; bytes = text } ∷ []) ≡ runs_of pieces ++ run ∷ []
-runs_more [] run text = refl
-runs_more (p ∷ ps) run text = ap (λ (rs : List Run). p.run ∷ rs) (runs_more ps run text)
-
 fit_last : (size : ℕ) (pieces : List PlainPiece) (p : PlainPiece) → AllFit size (pieces ++ p ∷ []) → (p.run.start + p.run.count ≤ size) × (sectors_of p.bytes ≤ p.run.count)
 fit_last size [] p fit = (fit.0, fit.1)
 fit_last size (x ∷ xs) p fit = fit_last size xs p fit.2
 
--- what was placed, with the text behind it, can be published as the next commit
-pub placed_plan : (old new : Space) (pieces : List PlainPiece) (run : Run) (text : List ℕ) (bytes : ℕ) (k : Commit) → is_size old.size ≡ true → k.device_sectors ≡ old.size → k.epoch + 1 < 2 ^ 64
-    → TookAll old new (counts_of (contents_of pieces) bytes) (runs_of pieces ++ run ∷ []) → sector_count bytes ≡ sectors_of text
-    → IsPlan old.size k (next_commit k run (length text)) (pieces ++ record { run = run; bytes = text } ∷ [])
-placed_plan old new pieces run text bytes k limits device epoch all sectors =
-    let whole : List PlainPiece = pieces ++ record { run = run; bytes = text } ∷ [] in
-    let runs : runs_of whole ≡ runs_of pieces ++ run ∷ [] = runs_more pieces run text in
-    let counts : map sectors_of (contents_of whole) ≡ counts_of (contents_of pieces) bytes = counts_more pieces run text bytes sectors in
-    let took : Took old.size (IsUsedIn old.entries) (map sectors_of (contents_of whole)) (runs_of whole) =
-    subst (λ (ns : List ℕ). Took old.size (IsUsedIn old.entries) ns (runs_of whole)) (sym counts)
-    (subst (λ (rs : List Run). Took old.size (IsUsedIn old.entries) (counts_of (contents_of pieces) bytes) rs) (sym runs) all.took) in
-    let fit : AllFit old.size whole = took_fit old.size (IsUsedIn old.entries) whole took in
-    let last = fit_last old.size pieces (record { run = run; bytes = text }) fit in
+-- pieces that lie in runs that were taken for them, the last one a text, can be published as the next commit
+pub plan_of : (old new : Space) (counts : List ℕ) (front : List PlainPiece) (run : Run) (text : List ℕ) (pieces : List PlainPiece) (k : Commit) (version : FormatVersion) (kind : CatalogueKind)
+    → is_size old.size ≡ true → k.device_sectors ≡ old.size → k.epoch + 1 < 2 ^ 64 → TookAll old new counts (runs_of pieces) → counts ≡ map sectors_of (contents_of pieces)
+    → pieces ≡ front ++ record { run = run; bytes = text } ∷ [] → IsPlan old.size k (next_commit k version kind run (length text)) pieces
+plan_of old new counts front run text pieces k version kind limits device epoch all counted is =
+    let took : Took old.size (IsUsedIn old.entries) (map sectors_of (contents_of pieces)) (runs_of pieces) = subst (λ (ns : List ℕ). Took old.size (IsUsedIn old.entries) ns (runs_of pieces)) counted all.took in
+    let fit : AllFit old.size pieces = took_fit old.size (IsUsedIn old.entries) pieces took in
+    let last = fit_last old.size front (record { run = run; bytes = text }) (subst (λ (ps : List PlainPiece). AllFit old.size ps) is fit) in
     let most : old.size ≤ 4194304 = leb-true _ _ (and_parts (nat_le 16 old.size) (nat_le old.size 4194304) limits).1 in
     record {
       limits = limits;
       fit = fit;
-      apart = took_apart old.size (IsUsedIn old.entries) (map sectors_of (contents_of whole)) (runs_of whole) took;
-      above = took_above old.size (IsUsedIn old.entries) (map sectors_of (contents_of whole)) (runs_of whole) took;
+      apart = took_apart old.size (IsUsedIn old.entries) (map sectors_of (contents_of pieces)) (runs_of pieces) took;
+      above = took_above old.size (IsUsedIn old.entries) (map sectors_of (contents_of pieces)) (runs_of pieces) took;
       next = refl;
       writable = record {
         epoch = omega arith;
@@ -90,16 +83,59 @@ placed_plan old new pieces run text bytes k limits device epoch all sectors =
       };
     }
 
--- the same in the words of `place` and `plan_next`
-pub plan_follows : (old new : Space) (contents : List (List ℕ)) (bytes : ℕ) (pieces plan : List PlainPiece) (runs : List Run) (run : Run) (text : List ℕ) (k next : Commit)
+-- what is asked for is what contents, the texts of pages and a text take
+pub counts_are : (contents : List (List ℕ)) (pages : List ℕ) (texts : List (List ℕ)) (bytes : ℕ) (text : List ℕ) → map sector_count pages ≡ map sectors_of texts → sector_count bytes ≡ sectors_of text
+    → counts_of contents pages bytes ≡ map sectors_of ((contents ++ texts) ++ text ∷ [])
+counts_are contents pages texts bytes text each last =
+    (λ i. (map sectors_of contents ++ each i) ++ last i ∷ []) ∙ ap (λ (ns : List ℕ). ns ++ sectors_of text ∷ []) (sym (map-append sectors_of contents texts)) ∙ sym (map-append sectors_of (contents ++ texts) (text ∷ []))
+
+-- ---- where no page is written
+
+-- the runs are those of the pieces, and then that of the text
+pub placed_alone : (places : Places) → HasRoom 0 places → places.runs.items ≡ runs_of (plain_pieces places.pieces.items) ++ places.text ∷ []
+placed_alone places room =
+    let same : vec_len places.pieces + 0 ≡ vec_len places.pieces = omega arith in
+    room.last ∙ (λ i. take (same i) places.runs.items ++ places.text ∷ []) ∙ ap (λ (rs : List Run). rs ++ places.text ∷ []) (sym room.front)
+
+-- one text is written
+pub one_text : (texts : Vec (Vec Part)) (text : List ℕ) → plain_contents texts.items ≡ text ∷ [] → vec_len texts ≡ 0 + 1
+one_text texts text is =
+    let whole = texts.ok in
+    let own = length-map texts.items (λ (parts : Vec Part). bytes_of_parts parts.items) in
+    omega (arith, own, ap (λ (vs : List (List ℕ)). length vs) is, whole)
+
+-- pieces are known by their runs and their bytes
+same_pieces : (xs ys : List PlainPiece) → runs_of xs ≡ runs_of ys → contents_of xs ≡ contents_of ys → xs ≡ ys
+same_pieces [] [] runs contents = refl
+same_pieces [] (y ∷ ys) runs contents = absurd (cc runs)
+same_pieces (x ∷ xs) [] runs contents = absurd (cc runs)
+same_pieces (x ∷ xs) (y ∷ ys) runs contents =
+    let run : x.run ≡ y.run = cc runs in
+    let bytes : x.bytes ≡ y.bytes = cc contents in
+    let places : runs_of xs ≡ runs_of ys = cc runs in
+    let others : contents_of xs ≡ contents_of ys = cc contents in
+    λ i. record { run = run i; bytes = bytes i } ∷ same_pieces xs ys places others i
+
+-- a text that was put behind pieces is the last one
+pub text_last : (pieces plan : List PlainPiece) (runs : List Run) (run : Run) (text : List ℕ) → runs_of plan ≡ runs → runs ≡ runs_of pieces ++ run ∷ []
+    → contents_of plan ≡ contents_of pieces ++ text ∷ [] → plan ≡ pieces ++ record { run = run; bytes = text } ∷ []
+text_last pieces plan runs run text placed last written =
+    let piece : PlainPiece = record { run = run; bytes = text } in
+    same_pieces plan (pieces ++ piece ∷ [])
+    (placed ∙ last ∙ sym (map-append (λ (p : PlainPiece). p.run) pieces (piece ∷ [])))
+    (written ∙ sym (map-append (λ (p : PlainPiece). p.bytes) pieces (piece ∷ [])))
+
+-- what was placed, with the text behind it, can be published as the next commit
+pub plan_follows : (old new : Space) (contents : List (List ℕ)) (bytes : ℕ) (pieces plan : List PlainPiece) (runs : List Run) (run : Run) (text : List ℕ) (k next : Commit) (version : FormatVersion) (kind : CatalogueKind)
     → is_size old.size ≡ true → k.device_sectors ≡ old.size → k.epoch + 1 < 2 ^ 64
-    → TookAll old new (counts_of contents bytes) runs → runs ≡ runs_of pieces ++ run ∷ [] → contents_of pieces ≡ contents → sector_count bytes ≡ sectors_of text
-    → next ≡ next_commit k run (length text) → plan ≡ pieces ++ record { run = run; bytes = text } ∷ [] → IsPlan old.size k next plan
-plan_follows old new contents bytes pieces plan runs run text k next limits device epoch all runs_are contents_are sectors next_is plan_is =
-    let took : TookAll old new (counts_of (contents_of pieces) bytes) (runs_of pieces ++ run ∷ []) =
-    subst (λ (vs : List (List ℕ)). TookAll old new (counts_of vs bytes) (runs_of pieces ++ run ∷ [])) (sym contents_are) (subst (λ (rs : List Run). TookAll old new (counts_of contents bytes) rs) runs_are all) in
-    subst (λ (ps : List PlainPiece). IsPlan old.size k next ps) (sym plan_is)
-    (subst (λ (c : Commit). IsPlan old.size k c (pieces ++ record { run = run; bytes = text } ∷ [])) (sym next_is) (placed_plan old new pieces run text bytes k limits device epoch took sectors))
+    → TookAll old new (counts_of contents [] bytes) runs → runs ≡ runs_of pieces ++ run ∷ [] → contents_of pieces ≡ contents → bytes ≡ length text
+    → next ≡ next_commit k version kind run bytes → runs_of plan ≡ runs → contents_of plan ≡ contents_of pieces ++ text ∷ [] → IsPlan old.size k next plan
+plan_follows old new contents bytes pieces plan runs run text k next version kind limits device epoch all last contents_are bytes_are next_is placed written =
+    let took : TookAll old new (counts_of contents [] bytes) (runs_of plan) = subst (λ (rs : List Run). TookAll old new (counts_of contents [] bytes) rs) (sym placed) all in
+    let whole : (contents ++ []) ++ text ∷ [] ≡ contents_of plan = (λ i. append-nil contents i ++ text ∷ []) ∙ (λ i. sym contents_are i ++ text ∷ []) ∙ sym written in
+    let counted : counts_of contents [] bytes ≡ map sectors_of (contents_of plan) = counts_are contents [] [] bytes text refl (ap sector_count bytes_are) ∙ ap (λ (vs : List (List ℕ)). map sectors_of vs) whole in
+    subst (λ (c : Commit). IsPlan old.size k c plan) (sym (next_is ∙ ap (next_commit k version kind run) bytes_are))
+    (plan_of old new (counts_of contents [] bytes) pieces run text plan k version kind limits device epoch took counted (text_last pieces plan runs run text placed last written))
 
 -- the last run that was taken
 took_last : (size : ℕ) (used : Run → Type 0) (ns : List ℕ) (rs : List Run) (n : ℕ) (r : Run) → Took size used (ns ++ n ∷ []) (rs ++ r ∷ []) → (r.count ≡ n) × (2 ≤ r.start) × (r.start + r.count ≤ size)

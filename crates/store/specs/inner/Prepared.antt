@@ -45,6 +45,6 @@ pub record IsPrepared (old new : Space) (k : Commit) (c : PlainCatalogue) (chang
   pub catalogue : catalogue_of plan.catalogue.list ≡ placed c change (runs_of pieces)
   pub found : catalogue_at text ≡ Some (catalogue_of plan.catalogue.list)
   pub size : length text ≡ list_size (outline c change)
-  pub commit : plan.commit ≡ next_commit k run (list_size (outline c change))
+  pub commit : plan.commit ≡ next_commit k k.version k.kind run (list_size (outline c change))
   pub gives : back ≡ given_up c change.edit ++ k.catalogue.run ∷ []
   pub publishes : IsPlan old.size k plan.commit (plain_pieces plan.pieces.items)

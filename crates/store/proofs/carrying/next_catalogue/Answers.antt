@@ -1,9 +1,8 @@
-use Rattle.std.proofs.Common.{◌≡◌, ◌∙◌, true, List, length, ap, sym, subst}
+use Rattle.std.proofs.Common.{◌≡◌, ◌∙◌, true, ℕ, List, ◌∷◌, [], ap, sym, subst}
 use Rattle.std.specs.List.{list_all}
 use Rattle.segments.specs.Pieces.{plain_pieces}
 use Rattle.catalogue.specs.declared.entry.Segment.{Segment}
 use Rattle.catalogue.specs.Entries.{is_segment, IsCatalogue}
-use Rattle.catalogue.specs.Reading.{catalogue_at}
 use Rattle.catalogue.specs.View.{catalogue_of}
 use Rattle.catalogue.specs.laws.Kept.{catalogue_is}
 use Rattle.commit.specs.Placing.{contents_of}
@@ -26,7 +25,10 @@ returns-clause-catalogue c = c.in_ok-list.ensures ∙ ap (edited (catalogue_of c
 pub returns-clause-found : goal.returns-clause-found
 returns-clause-found c =
     let next = c.in_ok-list.list in
-    ap catalogue_at c.in_ok-text.ensures.text ∙ c.one_text_each.ensures.again (catalogue_of next) (catalogue_is (catalogue_of next) next.kept)
+    c.one_text_each.ensures.again (catalogue_of next) (catalogue_is (catalogue_of next) next.kept)
 
 pub returns-clause-size : goal.returns-clause-size
-returns-clause-size c = ap length c.in_ok-text.ensures.text ∙ c.texts_have_these_sizes.ensures (catalogue_of c.in_ok-list.list)
+returns-clause-size c = c.texts_have_these_sizes.ensures (catalogue_of c.in_ok-list.list)
+
+pub returns-clause-text : goal.returns-clause-text
+returns-clause-text c = c.in_ok-texts.ensures ∙ ap (λ (text : List ℕ). text ∷ []) c.in_ok-text.ensures.text

@@ -1,4 +1,4 @@
-use Rattle.std.proofs.Common.{◌≡◌, ◌∙◌, ℕ, List, refl, ap, sym, subst}
+use Rattle.std.proofs.Common.{◌≡◌, ◌∙◌, ◌++◌, ℕ, List, [], refl, ap, sym, subst}
 use Rattle.std.specs.Prelude.{Err}
 use Rattle.std.proofs.lemmas.Result.{err_from_is_err_and}
 use Rattle.std.specs.Global.{Vec}
@@ -6,9 +6,11 @@ use Rattle.segments.specs.declared.piece.Piece.{Piece}
 use Rattle.segments.specs.declared.run.Run.{Run}
 use Rattle.segments.specs.Pieces.{plain_pieces}
 use Rattle.segments.specs.Usages.{IsUsedIn, GivesAll}
+use Rattle.catalogue.specs.Text.{list_text}
 use Rattle.catalogue.specs.View.{catalogue_of}
 use Rattle.catalogue.specs.laws.Kept.{catalogue_is}
 use Rattle.commit.specs.Placing.{Takes, AreSome, plain_contents, contents_of, counts_of}
+use Rattle.commit.specs.laws.Placed.{placed_alone, one_text}
 use Rattle.commit.specs.laws.Taking.{all_given_back}
 use Rattle.store.specs.Carrying.{outline}
 use Rattle.store.specs.Changes.{PlainChange, change_of}
@@ -76,7 +78,7 @@ next_catalogue-requires-clause-stands c =
     let made : plain_contents c.in_ok-streams.streams.items ≡ (change_of c.args.change.now).streams = c.in_ok-streams.ensures ∙ c.requires.streams in
     given_stands listed (change_of c.args.change.now) c.requires.sound (plain_contents c.in_ok-streams.streams.items) made c.in_ok-text_bytes.text_bytes c.in_ok-text_bytes.ensures
     c.args.map.now c.place.new.map c.requires.limits c.requires.few (plain_pieces c.in_ok-places.places.pieces.items) (plain_pieces c.deref-3.result.now) c.in_ok-places.places.text c.in_ok-places.places.runs.items c.deref-4.result.now
-    c.in_ok-places.ensures.taken c.in_ok-places.ensures.runs c.in_ok-places.ensures.contents (ap plain_pieces c.deref-3.ensures.value) (c.deref-4.ensures.value ∙ c.requires.counts) (catalogue_is listed c.args.stored.now.list.kept)
+    c.in_ok-places.ensures.taken (placed_alone c.in_ok-places.places c.in_ok-places.ensures.room) c.in_ok-places.ensures.contents (ap plain_pieces c.deref-3.ensures.value) (c.deref-4.ensures.value ∙ c.requires.counts) (catalogue_is listed c.args.stored.now.list.kept)
 
 pub next_catalogue-requires-clause-sound : goal.next_catalogue-requires-clause-sound
 next_catalogue-requires-clause-sound c =
@@ -84,7 +86,7 @@ next_catalogue-requires-clause-sound c =
     let made : plain_contents c.in_ok-streams.streams.items ≡ (change_of c.args.change.now).streams = c.in_ok-streams.ensures ∙ c.requires.streams in
     given_sound listed (change_of c.args.change.now) c.requires.sound (plain_contents c.in_ok-streams.streams.items) made c.in_ok-text_bytes.text_bytes c.in_ok-text_bytes.ensures
     c.args.map.now c.place.new.map c.requires.limits c.requires.few (plain_pieces c.in_ok-places.places.pieces.items) (plain_pieces c.deref-3.result.now) c.in_ok-places.places.text c.in_ok-places.places.runs.items c.deref-4.result.now
-    c.in_ok-places.ensures.taken c.in_ok-places.ensures.runs c.in_ok-places.ensures.contents (ap plain_pieces c.deref-3.ensures.value) (c.deref-4.ensures.value ∙ c.requires.counts)
+    c.in_ok-places.ensures.taken (placed_alone c.in_ok-places.places c.in_ok-places.ensures.room) c.in_ok-places.ensures.contents (ap plain_pieces c.deref-3.ensures.value) (c.deref-4.ensures.value ∙ c.requires.counts)
 
 pub next_catalogue-requires-clause-change : goal.next_catalogue-requires-clause-change
 next_catalogue-requires-clause-change c =
@@ -92,12 +94,15 @@ next_catalogue-requires-clause-change c =
     let made : plain_contents c.in_ok-streams.streams.items ≡ (change_of c.args.change.now).streams = c.in_ok-streams.ensures ∙ c.requires.streams in
     given_change listed (change_of c.args.change.now) c.requires.sound (plain_contents c.in_ok-streams.streams.items) made c.in_ok-text_bytes.text_bytes c.in_ok-text_bytes.ensures
     c.args.map.now c.place.new.map c.requires.limits c.requires.few (plain_pieces c.in_ok-places.places.pieces.items) (plain_pieces c.deref-3.result.now) c.in_ok-places.places.text c.in_ok-places.places.runs.items c.deref-4.result.now
-    c.in_ok-places.ensures.taken c.in_ok-places.ensures.runs c.in_ok-places.ensures.contents (ap plain_pieces c.deref-3.ensures.value) (c.deref-4.ensures.value ∙ c.requires.counts)
+    c.in_ok-places.ensures.taken (placed_alone c.in_ok-places.places c.in_ok-places.ensures.room) c.in_ok-places.ensures.contents (ap plain_pieces c.deref-3.ensures.value) (c.deref-4.ensures.value ∙ c.requires.counts)
+
+pub plan_next-requires-clause-room : goal.plan_next-requires-clause-room
+plan_next-requires-clause-room c = (0, one_text c.in-Ok.texts (list_text (catalogue_of c.in-Ok.next.list)) c.in-Ok.ensures.text, c.in_ok-places.ensures.room)
 
 pub returns-clause-err : goal.returns-clause-err
 returns-clause-err c =
     let runs : List Run = c.in_ok-places.places.runs.items in
-    let sizes = counts_of (plain_contents c.in_ok-streams.streams.items) c.in_ok-text_bytes.text_bytes in
+    let sizes = counts_of (plain_contents c.in_ok-streams.streams.items) [] c.in_ok-text_bytes.text_bytes in
     all_given_back c.args.map.now c.place.new.map c.give_each.new.self sizes runs c.in_ok-places.ensures.taken
     (subst (GivesAll c.place.new.map c.give_each.new.self) c.deref-in-Err.ensures.value c.give_each.ensures)
 
@@ -107,6 +112,7 @@ returns-in-Ok-clause-ok c =
     let made : plain_contents c.in_ok-streams.streams.items ≡ (change_of c.args.change.now).streams = c.in_ok-streams.ensures ∙ c.requires.streams in
     prepared listed (change_of c.args.change.now) c.requires.sound (plain_contents c.in_ok-streams.streams.items) made c.in_ok-text_bytes.text_bytes c.in_ok-text_bytes.ensures
     c.args.map.now c.place.new.map c.requires.limits c.requires.few (plain_pieces c.in_ok-places.places.pieces.items) (plain_pieces c.deref-3.result.now) c.in_ok-places.places.text c.in_ok-places.places.runs.items c.deref-4.result.now
-    c.in_ok-places.ensures.taken c.in_ok-places.ensures.runs c.in_ok-places.ensures.contents (ap plain_pieces c.deref-3.ensures.value) (c.deref-4.ensures.value ∙ c.requires.counts)
-    c.args.commit c.in-Ok.text.items c.in-Ok.next c.plan_next.result c.in_ok-back.back.items c.requires.own c.requires.next c.in-Ok.ensures.catalogue c.in-Ok.ensures.found c.in-Ok.ensures.size
-    c.plan_next.ensures.commit c.plan_next.ensures.catalogue c.plan_next.ensures.pieces (ap (λ (v : Vec Run). v.items) c.plan_next.ensures.runs) c.in_ok-back.ensures
+    c.in_ok-places.ensures.taken (placed_alone c.in_ok-places.places c.in_ok-places.ensures.room) c.in_ok-places.ensures.contents (ap plain_pieces c.deref-3.ensures.value) (c.deref-4.ensures.value ∙ c.requires.counts)
+    c.args.commit (list_text (catalogue_of c.in-Ok.next.list)) c.in-Ok.next c.plan_next.result c.in_ok-back.back.items c.requires.own c.requires.next c.in-Ok.ensures.catalogue c.in-Ok.ensures.found c.in-Ok.ensures.size
+    c.plan_next.ensures.commit c.plan_next.ensures.catalogue c.plan_next.ensures.placed (c.plan_next.ensures.contents ∙ ap (λ (vs : List (List ℕ)). contents_of (plain_pieces c.in_ok-places.places.pieces.items) ++ vs) c.in-Ok.ensures.text)
+    (ap (λ (v : Vec Run). v.items) c.plan_next.ensures.runs) c.in_ok-back.ensures
