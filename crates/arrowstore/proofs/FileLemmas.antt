@@ -1,13 +1,18 @@
 -- What requests of a store come to.
-use Rattle.std.proofs.Common.{◌≡◌, ◌≢◌, ◌↔◌, ◌≤◌, ℕ, Bool, true, false, List, [], ◌∷◌, inl, refl, sym, subst, ap, ◌∙◌, true≢false}
+use Rattle.std.proofs.Common.{◌≡◌, ◌≢◌, ◌↔◌, ◌≤◌, ℕ, Bool, true, false, List, [], ◌∷◌, refl, sym, subst, ap, ◌∙◌, true≢false}
 use Rattle.std.specs.Prelude.{Option, Result, Ok, Err, IfOk, IfErr, IsOk, IsErrOf}
 use Rattle.std.proofs.lemmas.Bool.{and_from, le-leb}
 use Rattle.sector_dev.specs.declared.device.SectorDevice.{Ghosts}
+use Rattle.std.specs.declared.io.traits.Read.{Ghosts as ReadGhosts}
+use Rattle.std.specs.declared.io.traits.Write.{Ghosts as WriteGhosts}
+use Rattle.std.specs.declared.io.traits.Seek.{Ghosts as SeekGhosts}
+use Rattle.sector_dev.specs.View.{failures_of, IsOver}
+use Rattle.sector_dev.specs.Written.{IsEmpty}
+use Rattle.sector_dev.specs.declared.file.FileDevice.{FileDevice}
 use Rattle.sector_dev.specs.declared.file.FileError.{FileError}
 use Rattle.sector_dev.specs.declared.file.TheConstants.{LEAST_SECTORS, MOST_SECTORS}
 use Rattle.sector_dev.specs.declared.file.FileError.TheVariants as files
 use Rattle.commit.specs.Standing.{is_size}
-use Rattle.store.specs.declared.store.Store.{Store}
 use Rattle.command_refusals.specs.declared.refusal.Refusal.{Refusal}
 use Rattle.command_refusals.specs.declared.refusal.Refusal.TheVariants.{Io, Opening}
 use Rattle.command_refusals.specs.Refusals.{file_refusal}
@@ -17,17 +22,27 @@ use Rattle.program_texts.specs.declared.status.Ended.{Ended}
 use Rattle.program_texts.specs.Ending.{HasReported, TellsRefusal}
 use Rattle.program_texts.specs.Reported.{IfRefused}
 use Rattle.program_texts.specs.declared.telling.Audience.{Audience}
-use Rattle.store_requests.specs.declared.store_words.StoreRequest.{StoreRequest}
-use Rattle.store_requests.specs.declared.store_words.StoreRequest.TheVariants as requests
 use Rattle.clap.specs.Words.{Text}
 use Rattle.store_requests.specs.StoreWords.{takes_input, takes_input_word, first_word}
-use Rattle.arrowstore.specs.OnFiles.{Ends, IsOpened, IsOfOpening, FailsToFormat, RefusesFormat, ServesRequest, ServesWord, status_of}
-use Rattle.arrowstore.specs.Serving.{Channels}
+use Rattle.arrowstore.specs.OnFiles.{Ends, IsOpenedFile, IsOfFile, FailsToFormat, RefusesFormat, ServesWord, status_of}
 
-pub of_file : {D : Type 0} (g : Ghosts D) (e : FileError) → IsOfOpening g (file_refusal e)
-unfolding IsOfOpening
-of_file g files.Io = tt
-of_file g files.BadSize = tt
+-- a file was not opened
+pub of_file : (e : FileError) → IsOfFile (file_refusal e)
+unfolding IsOfFile
+of_file files.Io = tt
+of_file files.BadSize = tt
+
+-- a device that was opened over a file, by what its opening says
+pub opened_file : {F : Type 0} {r : ReadGhosts F} {w : WriteGhosts F} {s : SeekGhosts F} (result : Result (FileDevice F r w s) FileError)
+    → IfOk result (λ d. (file : F) × IsOver file d) → IfOk result (λ d. failures_of d ≡ 0) → IfOk result (λ d. IsEmpty d) → IfOk result (λ d. IsOpenedFile d)
+opened_file (Ok device) over none_failed none_buffered = record { over = over; none_failed = none_failed; none_buffered = none_buffered }
+opened_file (Err e) over none_failed none_buffered = tt
+
+-- no file was made since the places of the streams were not taken
+pub of_places : {D : Type 0} (g : Ghosts D) (sectors : ℕ) (e : FileError) → e ≡ files.Io → RefusesFormat g sectors (file_refusal e)
+unfolding RefusesFormat
+of_places g sectors files.Io is = tt
+of_places g sectors files.BadSize is = absurd (cc is)
 
 pub of_making : {D T : Type 0} (g : Ghosts D) (sectors : ℕ) (e : FileError) → (IsErrOf {T = T} (Err e) files.BadSize ↔ ¬ ((LEAST_SECTORS ≤ sectors) × (sectors ≤ MOST_SECTORS))) → RefusesFormat g sectors (file_refusal e)
 unfolding RefusesFormat
@@ -49,18 +64,6 @@ pub of_formatting : {D : Type 0} (g : Ghosts D) (size sectors : ℕ) (refusal : 
 unfolding FailsToFormat RefusesFormat
 of_formatting g size sectors (Opening r) same limits why = (limits, subst (λ (n : ℕ). FailsToFormat g n (Opening r)) same why)
 of_formatting g size sectors _ same limits why = absurd why
-
--- a store that was opened on a device is one that was opened on some device
-pub opened_on_some : {D : Type 0} {g : Ghosts D} (device : D) (r : Result (Store D g) Refusal) → IfOk r (IsOpened device) → IfOk r (λ store. (d : D) × IsOpened d store)
-opened_on_some device (Ok store) opened = (device, opened)
-opened_on_some device (Err e) opened = tt
-
--- a request that was refused before anything was done
-pub refused_before : {D : Type 0} (g : Ghosts D) {R W : Type 0} (remaining : R → Option (List ℕ)) (contents : W → Option (List ℕ)) (request : StoreRequest) (all : Channels R W)
-    → ServesRequest g remaining contents request all all (Err Io)
-unfolding RefusesFormat
-refused_before g remaining contents (requests.Format path sectors) all = (inl (tt, refl), refl)
-refused_before g remaining contents (requests.Command path command) all = inl (inl refl, refl)
 
 -- how a run ends whose request was done or refused
 pub ends_as : (done : Result (Unit {0}) Refusal) (status : Status) (kept : Type 0) → (IsOk done → (status ≡ Done) × kept) → IfErr done (λ refusal. status ≡ Refused refusal) → status ≡ status_of done
@@ -87,11 +90,11 @@ has_reported contents tells output output' errors errors' (Err e) ended silent i
 }
 
 -- what was served of a word was served of the same one
-pub served_as : {D : Type 0} (g : Ghosts D) {R W E : Type 0} (remaining : R → Option (List ℕ)) (contents : W → Option (List ℕ)) (reported : E → Option (List ℕ)) (audience : Audience)
+pub served_as : {D : Type 0} (g : Ghosts D) (is_opened : D → Type 0) {R W E : Type 0} (remaining : R → Option (List ℕ)) (contents : W → Option (List ℕ)) (reported : E → Option (List ℕ)) (audience : Audience)
     (word other : List ℕ) (before after : Ends R W E) (ended : Ended) → word ≡ other
-    → ServesWord g remaining contents reported audience word before after ended → ServesWord g remaining contents reported audience other before after ended
-served_as g remaining contents reported audience word other before after ended same served =
-    subst (λ (w : List ℕ). ServesWord g remaining contents reported audience w before after ended) same served
+    → ServesWord g is_opened remaining contents reported audience word before after ended → ServesWord g is_opened remaining contents reported audience other before after ended
+served_as g is_opened remaining contents reported audience word other before after ended same served =
+    subst (λ (w : List ℕ). ServesWord g is_opened remaining contents reported audience w before after ended) same served
 
 -- a command whose word says that it reads the input
 pub takes_input_by : (arguments : List Text) (word : Text) → word ≡ first_word arguments → takes_input_word word ≡ true → takes_input arguments ≡ true

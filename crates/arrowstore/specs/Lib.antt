@@ -1,4 +1,5 @@
 pub mod Arguments
+pub mod OnDevice
 pub mod OnFiles
 pub mod OpenCommands
 pub mod Running

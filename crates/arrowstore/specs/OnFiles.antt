@@ -1,13 +1,19 @@
 -- What a request of a store comes to, on devices of one kind.
-use Rattle.std.specs.Prelude.{◌≡◌, ◌⊎◌, ◌≤◌, ℕ, Bool, true, false, List, codes, Option, Some, None, Result, Ok, Err, IfErr, OnOk, IsErrAnd}
+use Rattle.std.specs.Prelude.{◌≡◌, ◌⊎◌, ◌≤◌, ℕ, Bool, true, List, codes, Option, Some, None, Result, Ok, Err, IfErr, OnOk, IsErrAnd}
 use Rattle.std.specs.Io.KnownBytes.{Appends}
+use Rattle.std.specs.declared.io.traits.Read.{Ghosts as ReadGhosts}
+use Rattle.std.specs.declared.io.traits.Write.{Ghosts as WriteGhosts}
+use Rattle.std.specs.declared.io.traits.Seek.{Ghosts as SeekGhosts}
 use Rattle.sector_dev.specs.declared.device.SectorDevice.{Ghosts}
+use Rattle.sector_dev.specs.View.{failures_of, IsOver}
+use Rattle.sector_dev.specs.Written.{IsEmpty}
+use Rattle.sector_dev.specs.declared.file.FileDevice.{FileDevice}
 use Rattle.sector_dev.specs.declared.file.TheConstants.{LEAST_SECTORS, MOST_SECTORS}
 use Rattle.commit.specs.Standing.{is_size}
 use Rattle.text_import.specs.declared.part.RefusedPart.{RefusedPart}
 use Rattle.store.specs.declared.store.Store.{Store}
-use Rattle.store.specs.Fits.{device_of, is_halted, FindsStore, IsNewStore}
-use Rattle.store.specs.Answering.{LeavesUnopened, LeavesUnformatted}
+use Rattle.store.specs.Fits.{device_of, IsNewStore}
+use Rattle.store.specs.Answering.{LeavesUnformatted}
 use Rattle.command_refusals.specs.declared.refusal.Refusal.{Refusal}
 use Rattle.command_refusals.specs.declared.refusal.Refusal.TheVariants as refusals
 use Rattle.command_refusals.specs.declared.hint.Hint.{Hint}
@@ -26,44 +32,41 @@ use Rattle.store_requests.specs.declared.store_words.StoreRequest.{StoreRequest}
 use Rattle.store_requests.specs.declared.store_words.StoreRequest.TheVariants as requests
 use Rattle.arrowstore.specs.declared.open_command.OpenCommand.{OpenCommand}
 use Rattle.arrowstore.specs.OpenCommands.{States, RefusesStating}
-use Rattle.arrowstore.specs.Serving.{Channels, channels, Serves}
+use Rattle.arrowstore.specs.OnDevice.{ServesDevice}
+use Rattle.arrowstore.specs.Serving.{Channels, channels}
 
--- a store that was opened on this device
-pub record IsOpened {D : Type 0} {g : Ghosts D} (device : D) (store : Store D g) : Type 0 where
-  pub in_limits : is_size (g.size device) ≡ true
-  pub size : g.size (device_of store) ≡ g.size device
-  pub count : g.failed (device_of store) ≡ g.failed device
-  pub on : is_halted store ≡ false
-  pub found : g.tells ≡ true → FindsStore g.size g.story device store
+-- a device that was opened over a file: all of the file, of which no write is held back
+pub record IsOpenedFile {F : Type 0} {r : ReadGhosts F} {w : WriteGhosts F} {s : SeekGhosts F} (device : FileDevice F r w s) : Type 0 where
+  pub over : (file : F) × IsOver file device
+  pub none_failed : failures_of device ≡ 0
+  pub none_buffered : IsEmpty device
 
--- why no store is opened: the system refuses its file, the file has no size of a store, or some device was not opened
-unfoldable pub IsOfOpening : {D : Type 0} → (g : Ghosts D) → Refusal → Type 0
-IsOfOpening g refusals.Io = Unit {0}
-IsOfOpening g refusals.BadSize = Unit {0}
-IsOfOpening {D} g (refusals.Opening r) = (device : D) × (back : D) × LeavesUnopened g.size g.story g.tells device r back
-IsOfOpening g _ = ⊥
+-- why no file is opened: the system refuses it, or it has no size of a store
+unfoldable pub IsOfFile : Refusal → Type 0
+IsOfFile refusals.Io = Unit {0}
+IsOfFile refusals.BadSize = Unit {0}
+IsOfFile _ = ⊥
 
--- why a command is not served: the system refuses, its words state none, or they state one and no store is opened for it
-abbrev pub RefusesCommand : {D : Type 0} → (g : Ghosts D) → StoreCommand → Refusal → Type 0
-RefusesCommand g command refusal =
-    (refusal ≡ refusals.Io) ⊎ RefusesStating command refusal ⊎ ((stated : OpenCommand) × States command stated × IsOfOpening g refusal)
+-- why a command is not served: its words state none, or they state one and its file is not opened
+abbrev pub RefusesCommand : StoreCommand → Refusal → Type 0
+RefusesCommand command refusal = RefusesStating command refusal ⊎ ((stated : OpenCommand) × States command stated × IsOfFile refusal)
 
--- what the words of a command state was carried out on a store that was opened
-pub record ServesOpened {D : Type 0} (g : Ghosts D) {R W : Type 0} (remaining : R → Option (List ℕ)) (contents : W → Option (List ℕ)) (command : StoreCommand)
-    (before after : Channels R W) (result : Result (Unit {0}) Refusal) : Type 0 where
+-- what the words of a command state was served on a device that was opened for it
+pub record ServesStated {D : Type 0} (g : Ghosts D) (is_opened : D → Type 0) {R W : Type 0} (remaining : R → Option (List ℕ)) (contents : W → Option (List ℕ))
+    (command : StoreCommand) (before after : Channels R W) (result : Result (Unit {0}) Refusal) : Type 0 where
   pub stated : OpenCommand
   pub states : States command stated
   pub device : D
-  pub old : Store D g
-  pub opened : IsOpened device old
-  pub new : Store D g
-  pub serves : Serves remaining contents stated old new before after result
+  pub opened : is_opened device
+  pub back : D
+  pub serves : ServesDevice g remaining contents stated device back before after result
 
--- or it was refused before a store was open, and all is as it was
-abbrev pub ServesCommand : {D : Type 0} → (g : Ghosts D) → {R W : Type 0} → (remaining : R → Option (List ℕ)) → (contents : W → Option (List ℕ))
-    → StoreCommand → (before after : Channels R W) → Result (Unit {0}) Refusal → Type 0
-ServesCommand g remaining contents command before after result =
-    IsErrAnd result (λ refusal. RefusesCommand g command refusal × (after ≡ before)) ⊎ ServesOpened g remaining contents command before after result
+-- or it was refused before a device was opened, and all is as it was
+abbrev pub ServesCommand : {D : Type 0} → (g : Ghosts D) → (is_opened : D → Type 0) → {R W : Type 0} → (remaining : R → Option (List ℕ))
+    → (contents : W → Option (List ℕ)) → StoreCommand → (before after : Channels R W) → Result (Unit {0}) Refusal → Type 0
+ServesCommand g is_opened remaining contents command before after result =
+    IsErrAnd result (λ refusal. RefusesCommand command refusal × (after ≡ before))
+    ⊎ ServesStated g is_opened remaining contents command before after result
 
 -- why no store is made on a device of so many sectors
 unfoldable pub FailsToFormat : {D : Type 0} → (g : Ghosts D) → (sectors : ℕ) → Refusal → Type 0
@@ -94,11 +97,12 @@ Formats g contents sectors output output' result =
     IsErrAnd result (λ refusal. RefusesFormat g sectors refusal × (output' ≡ output)) ⊎ MakesStore g contents sectors output output' result
 
 -- what a request comes to
-abbrev pub ServesRequest : {D : Type 0} → (g : Ghosts D) → {R W : Type 0} → (remaining : R → Option (List ℕ)) → (contents : W → Option (List ℕ))
-    → StoreRequest → (before after : Channels R W) → Result (Unit {0}) Refusal → Type 0
-ServesRequest g remaining contents (requests.Format path sectors) before after result =
+abbrev pub ServesRequest : {D : Type 0} → (g : Ghosts D) → (is_opened : D → Type 0) → {R W : Type 0} → (remaining : R → Option (List ℕ))
+    → (contents : W → Option (List ℕ)) → StoreRequest → (before after : Channels R W) → Result (Unit {0}) Refusal → Type 0
+ServesRequest g is_opened remaining contents (requests.Format path sectors) before after result =
     Formats g contents sectors before.output after.output result × (after.hint ≡ before.hint)
-ServesRequest g remaining contents (requests.Command path command) before after result = ServesCommand g remaining contents command before after result
+ServesRequest g is_opened remaining contents (requests.Command path command) before after result =
+    ServesCommand g is_opened remaining contents command before after result
 
 -- how a run ends
 abbrev pub status_of : Result (Unit {0}) Refusal → Status
@@ -124,13 +128,13 @@ abbrev pub HasTold : {W E : Type 0} → (reported : E → Option (List ℕ)) →
 HasTold reported audience output output' errors errors' ended hint = HasReported reported (told audience hint) output output' errors errors' ended
 
 -- a request of this word was served, and what is hinted is told
-pub record ServesWord {D : Type 0} (g : Ghosts D) {R W E : Type 0} (remaining : R → Option (List ℕ)) (contents : W → Option (List ℕ))
+pub record ServesWord {D : Type 0} (g : Ghosts D) (is_opened : D → Type 0) {R W E : Type 0} (remaining : R → Option (List ℕ)) (contents : W → Option (List ℕ))
     (reported : E → Option (List ℕ)) (audience : Audience) (word : List ℕ) (before after : Ends R W E) (ended : Ended) : Type 0 where
   pub request : StoreRequest
   pub asks : request_word request ≡ word
   pub part : Option RefusedPart
   pub result : Result (Unit {0}) Refusal
-  pub serves : ServesRequest g remaining contents request (channels before.input before.output None) (channels after.input after.output part) result
+  pub serves : ServesRequest g is_opened remaining contents request (channels before.input before.output None) (channels after.input after.output part) result
   pub ends : ended.status ≡ status_of result
   pub hint : Option Hint
   -- what is told of the input is the part that is refused, and else none is told
@@ -142,9 +146,9 @@ abbrev pub AsksForNone : {W : Type 0} → (asks_for_help : Bool) → (output out
 AsksForNone asks_for_help output output' status = (asks_for_help ≡ true) ⊎ (IsWrong status × (output' ≡ output))
 
 -- arguments for a store: they ask for no command, and nothing is read; or the command of their first word was served
-abbrev pub RunsOnStore : {D : Type 0} → (g : Ghosts D) → {R W E : Type 0} → (remaining : R → Option (List ℕ)) → (contents : W → Option (List ℕ))
-    → (reported : E → Option (List ℕ)) → Audience → (arguments : List (List ℕ)) → (before after : Ends R W E) → Ended → Type 0
-RunsOnStore g remaining contents reported audience arguments before after ended =
+abbrev pub RunsOnStore : {D : Type 0} → (g : Ghosts D) → (is_opened : D → Type 0) → {R W E : Type 0} → (remaining : R → Option (List ℕ))
+    → (contents : W → Option (List ℕ)) → (reported : E → Option (List ℕ)) → Audience → (arguments : List (List ℕ)) → (before after : Ends R W E) → Ended → Type 0
+RunsOnStore g is_opened remaining contents reported audience arguments before after ended =
     (AsksForNone (ask_for_help arguments) before.output after.output ended.status × (after.input ≡ before.input)
     × HasTold reported audience before.output after.output before.errors after.errors ended None)
-    ⊎ ServesWord g remaining contents reported audience (first_word arguments) before after ended
+    ⊎ ServesWord g is_opened remaining contents reported audience (first_word arguments) before after ended

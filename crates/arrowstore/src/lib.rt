@@ -15,6 +15,7 @@ mod command_line;
 mod open_command;
 mod running;
 mod serving;
+mod serving_device;
 mod serving_open;
 mod with_files;
 
@@ -22,6 +23,7 @@ pub use command_refusals::{Hint, REFUSALS, Refusal, Role, Word};
 pub use open_command::{OpenCommand, stated};
 pub use program_texts::{Audience, Ended, Status, VERSION, report_unreadable_arguments};
 pub use running::run;
+pub use serving_device::serve_device;
 pub use serving_open::serve_open;
 pub use store_commands::{
     LARGEST_INPUT, append_input, append_text, apply_command, check_tables, export_table,

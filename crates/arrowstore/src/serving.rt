@@ -3,31 +3,20 @@ ghost use Rattle.std.specs.Prelude.{◌≡◌, ◌≢◌, ◌⊎◌, true, IfOk,
 ghost use Rattle.store.specs.Fits.{device_of, IsNewStore};
 ghost use Rattle.store_requests.specs.Asked.{command_word, request_word};
 ghost use Rattle.store_requests.specs.StoreWords.{takes_input_word};
-ghost use Rattle.arrowstore.specs.OnFiles.{IsOpened, IsOfOpening, FailsToFormat, RefusesFormat, Formats, ServesCommand, ServesRequest};
+ghost use Rattle.arrowstore.specs.OnFiles.{IsOpenedFile, FailsToFormat, RefusesFormat, Formats, ServesCommand, ServesRequest};
 ghost use Rattle.arrowstore.specs.Serving.{channels};
 
 use crate::open_command::{OpenCommand, stated};
-use crate::serving_open::serve_open;
+use crate::serving_device::serve_device;
 use command_refusals::{Refusal, write_whole};
 use sector_dev::{FileDevice, FileError, LockFile, SectorDevice};
 use std::alloc::Global;
 use std::fs::{self, OpenFile};
-use std::io::{self, Read, Seek, Write};
+use std::io::{Read, Seek, Write};
 use std::rt::Files;
 use store::Store;
 use store_requests::{StoreCommand, StoreRequest};
 use text_import::RefusedPart;
-
-// The store that stands on a device.
-fn open_on<D: SectorDevice + Drop>(alloc: Global, device: D) -> Result<Store<D>, Refusal>
-    ensures opened { IfOk result (IsOpened device) }
-    ensures refused { IfErr result (IsOfOpening ⟦<D as SectorDevice>⟧) }
-{
-    match Store::open(alloc, device) {
-        Ok(store) => Ok(store),
-        Err((refusal, _back)) => Err(Refusal::Opening(refusal)),
-    }
-}
 
 // An empty store on a device, or why not, with the device.
 fn format_on<D: SectorDevice + Drop>(alloc: Global, device: D) -> Result<Store<D>, (Refusal, D)>
@@ -41,28 +30,30 @@ fn format_on<D: SectorDevice + Drop>(alloc: Global, device: D) -> Result<Store<D
     }
 }
 
-// A file that is only read is not opened for writing.
+// A program may be started without its standard streams, and the next file that it opens then stands in the place of one: what is printed
+// would go into the store. Folders, which can be neither read nor written, take these places before.
+fn take_places_of_streams<
+    F: Read + Write + Seek + OpenFile + LockFile + Drop,
+    H: Files<File = F> + AllocGlobal,
+>(rt: &H) -> Result<(F, F, F), FileError>
+    ensures { IfErr result (λ e. e ≡ FileError.Io) }
+{
+    Ok((fs::open(rt, "/")?, fs::open(rt, "/")?, fs::open(rt, "/")?))
+}
+
+// The device that a file is. One that is only read is not opened for writing.
 fn device_of<F: Read + Write + Seek + OpenFile + LockFile + Drop, H: Files<File = F> + AllocGlobal>(
     rt: &H,
     path: &str,
     command: &OpenCommand<'_>,
-) -> Result<FileDevice<F>, FileError> {
+) -> Result<FileDevice<F>, FileError>
+    ensures opened { IfOk result (λ device. IsOpenedFile device) }
+{
     if command.only_reads() {
         FileDevice::open_to_read(rt, path)
     } else {
         FileDevice::open(rt, path)
     }
-}
-
-fn open_for<F: Read + Write + Seek + OpenFile + LockFile + Drop, H: Files<File = F> + AllocGlobal>(
-    rt: &H,
-    path: &str,
-    command: &OpenCommand<'_>,
-) -> Result<Store<FileDevice<F>>, Refusal>
-    ensures opened { IfOk result (λ store. (device : _) × IsOpened device store) }
-    ensures refused { IfErr result (IsOfOpening ⟦<FileDevice<F> as SectorDevice>⟧) }
-{
-    open_on(rt.alloc(), device_of(rt, path, command)?)
 }
 
 // A store in a new file. Where it is not made, no file is left, unless the system refuses to remove it too.
@@ -93,11 +84,12 @@ fn serve_format<
     ensures formats { Formats ⟦<FileDevice<F> as SectorDevice>⟧ W.contents sectors output.old output.new result }
     ensures silent { IfErr result (λ refusal. refusal ≢ Refusal.Io → output.new ≡ output.old) }
 {
+    let _places = take_places_of_streams(rt)?;
     let _store = format_file(rt, path, sectors)?;
     write_whole(output, b"ok\n")
 }
 
-// A command on the store of a file. Its texts are read before the file is opened.
+// A command on the store of a file. Its texts are read before anything is asked of the system.
 fn serve_command<
     F: Read + Write + Seek + OpenFile + LockFile + Drop,
     H: Files<File = F> + AllocGlobal,
@@ -111,23 +103,16 @@ fn serve_command<
     output: &mut W,
     hint: &mut Option<RefusedPart>,
 ) -> Result<(), Refusal>
-    ensures serves { ServesCommand ⟦<FileDevice<F> as SectorDevice>⟧ R.remaining W.contents command.now
+    ensures serves { ServesCommand ⟦<FileDevice<F> as SectorDevice>⟧ IsOpenedFile R.remaining W.contents command.now
         (channels input.old output.old hint.old) (channels input.new output.new hint.new) result }
     ensures unread { (takes_input_word (command_word command.now) ≡ true) ⊎ (input.new ≡ input.old) }
     ensures silent { IfErr result (λ refusal. refusal ≢ Refusal.Io → output.new ≡ output.old) }
 {
     let command = stated(rt.alloc(), command)?;
-    let mut store = open_for(rt, path, &command)?;
-    serve_open(rt.alloc(), &mut store, command, input, output, hint)
-}
-
-// A program may be started without its standard streams, and the next file that it opens then stands in the place of one: what is printed
-// would go into the store. Folders, which can be neither read nor written, take these places before.
-fn take_places_of_streams<
-    F: Read + Write + Seek + OpenFile + LockFile + Drop,
-    H: Files<File = F> + AllocGlobal,
->(rt: &H) -> io::Result<(F, F, F)> {
-    Ok((fs::open(rt, "/")?, fs::open(rt, "/")?, fs::open(rt, "/")?))
+    let _places = take_places_of_streams(rt)?;
+    let device = device_of(rt, path, &command)?;
+    let (done, _device) = serve_device(rt.alloc(), device, command, input, output, hint);
+    done
 }
 
 /// Does what is asked of a store. Where a text is refused, `hint` is left with the part of it that is.
@@ -143,15 +128,12 @@ pub(crate) fn serve<
     output: &mut W,
     hint: &mut Option<RefusedPart>,
 ) -> Result<(), Refusal>
-    ensures serves { ServesRequest ⟦<FileDevice<F> as SectorDevice>⟧ R.remaining W.contents request.now
+    ensures serves { ServesRequest ⟦<FileDevice<F> as SectorDevice>⟧ IsOpenedFile R.remaining W.contents request.now
         (channels input.old output.old hint.old) (channels input.new output.new hint.new) result }
     ensures unread { (takes_input_word (request_word request.now) ≡ true) ⊎ (input.new ≡ input.old) }
     // Where it is refused, nothing is written, unless a read or a write failed.
     ensures silent { IfErr result (λ refusal. refusal ≢ Refusal.Io → output.new ≡ output.old) }
 {
-    let Ok(_places) = take_places_of_streams(rt) else {
-        return Err(Refusal::Io);
-    };
     match request {
         StoreRequest::Format { path, sectors } => serve_format(rt, path, *sectors, output),
         StoreRequest::Command { path, command } => {

@@ -2,7 +2,7 @@
 ghost use Rattle.std.specs.Prelude.{◌≡◌, ◌⊎◌, true, map, Option, None};
 ghost use Rattle.std.specs.Io.KnownBytes.{Appends};
 ghost use Rattle.arrowstore.specs.Arguments.{AreRecode, AreRight};
-ghost use Rattle.arrowstore.specs.OnFiles.{AsksForNone, HasTold, RunsOnStore, ServesWord, ends_of, hinted_part};
+ghost use Rattle.arrowstore.specs.OnFiles.{AsksForNone, HasTold, IsOpenedFile, RunsOnStore, ServesWord, ends_of, hinted_part};
 ghost use Rattle.arrowstore.specs.Running.{Recodes};
 ghost use Rattle.program_texts.specs.Ending.{GivesText};
 ghost use Rattle.program_texts.specs.OwnTexts.{is_own, own_text};
@@ -66,7 +66,7 @@ fn serve_and_tell<
     errors: &mut E,
     audience: Audience,
 ) -> Ended
-    ensures serves { ServesWord ⟦<FileDevice<F> as SectorDevice>⟧ R.remaining W.contents E.contents audience (request_word request.now)
+    ensures serves { ServesWord ⟦<FileDevice<F> as SectorDevice>⟧ IsOpenedFile R.remaining W.contents E.contents audience (request_word request.now)
         (ends_of input.old output.old errors.old) (ends_of input.new output.new errors.new) result }
     ensures unread { (takes_input_word (request_word request.now) ≡ true) ⊎ (input.new ≡ input.old) }
 {
@@ -113,7 +113,7 @@ fn run_on_store<
     audience: Audience,
 ) -> Ended
     requires { is_of_store (map S.text arguments.now) ≡ true }
-    ensures serves { RunsOnStore ⟦<FileDevice<F> as SectorDevice>⟧ R.remaining W.contents E.contents audience (map S.text arguments.now)
+    ensures serves { RunsOnStore ⟦<FileDevice<F> as SectorDevice>⟧ IsOpenedFile R.remaining W.contents E.contents audience (map S.text arguments.now)
         (ends_of input.old output.old errors.old) (ends_of input.new output.new errors.new) result }
     ensures input { (takes_input (map S.text arguments.now) ≡ true) ⊎ (input.new ≡ input.old) }
 {
@@ -158,7 +158,7 @@ pub fn run_with_files<
     // A store's words lead to the command of the first one: it was refused before a store was open, or what the words state was carried out on one.
     // But where a word asks for help that may be given, and wrong words are reported.
     ensures serves { is_of_store (map S.text arguments.now) ≡ true
-        → RunsOnStore ⟦<FileDevice<F> as SectorDevice>⟧ R.remaining W.contents E.contents audience (map S.text arguments.now)
+        → RunsOnStore ⟦<FileDevice<F> as SectorDevice>⟧ IsOpenedFile R.remaining W.contents E.contents audience (map S.text arguments.now)
         (ends_of input.old output.old errors.old) (ends_of input.new output.new errors.new) result }
     // What is on `errors`: what is told of a refusal to such an audience, and nothing where all is done. Only of commands of a store more is hinted.
     ensures reports { (hint : Option Hint) × ((is_of_store (map S.text arguments.now) ≡ true) ⊎ (hint ≡ None))

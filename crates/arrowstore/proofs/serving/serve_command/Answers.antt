@@ -1,27 +1,33 @@
 use Rattle.std.proofs.Common.{◌≡◌, inl, inr, refl}
 use Rattle.std.proofs.lemmas.Result.{err_from_is_err_and}
 use Rattle.arrowstore.specs.Serving.{channels}
+use Rattle.arrowstore.proofs.FileLemmas.{of_file}
 use Rattle.arrowstore.proofs.serving.serve_command.Goals as goal
 
 pub returns-in_err-command-clause-serves : goal.returns-in_err-command-clause-serves
 returns-in_err-command-clause-serves g c =
     let p = err_from_is_err_and c.from_residual.result c.from_residual.ensures.1 in
     let kept : channels c.args.input.now c.args.output.now c.args.hint.now ≡ channels c.args.input.now c.args.output.now c.args.hint.now = refl in
-    rw (p.1, p.2) (inl (inr (inl c.in_err-command.ensures.refused), kept))
+    rw (p.1, p.2) (inl (inl c.in_err-command.ensures.refused, kept))
 
-pub returns-in_err-store-clause-serves : goal.returns-in_err-store-clause-serves
-returns-in_err-store-clause-serves g c =
-    let p = err_from_is_err_and c.from_residual-in_err-store.result c.from_residual-in_err-store.ensures.1 in
+pub returns-in_err-_places-clause-serves : goal.returns-in_err-_places-clause-serves
+returns-in_err-_places-clause-serves g c =
+    let p = err_from_is_err_and c.from_residual-in_err-_places.result c.from_residual-in_err-_places.ensures.1 in
     let kept : channels c.args.input.now c.args.output.now c.args.hint.now ≡ channels c.args.input.now c.args.output.now c.args.hint.now = refl in
-    rw (p.1, p.2) (inl (inr (inr (c.in_ok-command.command, c.in_ok-command.ensures.stated, c.in_err-store.ensures.refused)), kept))
+    rw (p.1, p.2) (inl (inr (c.in_ok-command.command, c.in_ok-command.ensures.stated, of_file c.in_err-_places.field-0.0), kept))
+
+pub returns-in_err-device-clause-serves : goal.returns-in_err-device-clause-serves
+returns-in_err-device-clause-serves g c =
+    let p = err_from_is_err_and c.from_residual-in_err-device.result c.from_residual-in_err-device.ensures.1 in
+    let kept : channels c.args.input.now c.args.output.now c.args.hint.now ≡ channels c.args.input.now c.args.output.now c.args.hint.now = refl in
+    rw (p.1, p.2) (inl (inr (c.in_ok-command.command, c.in_ok-command.ensures.stated, of_file c.in_err-device.field-0.0), kept))
 
 pub returns-clause-serves : goal.returns-clause-serves
 returns-clause-serves g c = inr (record {
   stated = c.in_ok-command.command;
   states = c.in_ok-command.ensures.stated;
-  device = c.in_ok-store.ensures.opened.0;
-  old = c.in_ok-store.store;
-  opened = c.in_ok-store.ensures.opened.1;
-  new = c.serve_open.new.store;
-  serves = c.serve_open.ensures.serves;
+  device = c.in_ok-device.device;
+  opened = c.in_ok-device.ensures.opened;
+  back = c.serve_device-done.result.1;
+  serves = c.serve_device-done.ensures.serves;
 })

@@ -1,0 +1,52 @@
+-- What a command of a store comes to on a device: on the store that stands there, or refused where none is opened.
+use Rattle.std.specs.Prelude.{◌≡◌, ◌⊎◌, ℕ, true, false, List, Option, Result, IsErrAnd}
+use Rattle.sector_dev.specs.declared.device.SectorDevice.{Ghosts}
+use Rattle.commit.specs.Standing.{is_size}
+use Rattle.commit.specs.declared.opening_refusal.OpeningRefusal.{OpeningRefusal}
+use Rattle.tables.specs.Tables.{Tables}
+use Rattle.store.specs.declared.store.Store.{Store}
+use Rattle.store.specs.Answering.{LeavesUnopened}
+use Rattle.store.specs.Calls.{open_call, shut_by, counted}
+use Rattle.store.specs.Fits.{device_of, is_halted, DeviceFits, FindsStore, Opens, Shuts}
+use Rattle.store.specs.Machine.{Machine}
+use Rattle.command_refusals.specs.declared.refusal.Refusal.{Refusal}
+use Rattle.command_refusals.specs.declared.refusal.Refusal.TheVariants as refusals
+use Rattle.arrowstore.specs.declared.open_command.OpenCommand.{OpenCommand}
+use Rattle.arrowstore.specs.Serving.{Channels, Serves}
+
+-- a store that was opened on this device
+pub record IsOpened {D : Type 0} {g : Ghosts D} (device : D) (store : Store D g) : Type 0 where
+  pub in_limits : is_size (g.size device) ≡ true
+  pub size : g.size (device_of store) ≡ g.size device
+  pub count : g.failed (device_of store) ≡ g.failed device
+  pub on : is_halted store ≡ false
+  pub found : g.tells ≡ true → FindsStore g.size g.story device store
+  -- it stands for a machine that allows what the device has
+  pub opens : g.tells ≡ true → (base : Tables) (m : Machine) → DeviceFits g.size g.story base m device → Opens g.size g.story g.failed base m open_call device store
+
+-- a device that was not opened, for this reason: nothing was written to it
+pub record StaysShut {D : Type 0} (g : Ghosts D) (device : D) (refusal : OpeningRefusal) (back : D) : Type 0 where
+  pub leaves : LeavesUnopened g.size g.story g.tells device refusal back
+  pub size : g.size back ≡ g.size device
+  pub count : g.failed back ≡ counted (shut_by refusal) (g.failed device)
+  pub shuts : g.tells ≡ true → (base : Tables) (m : Machine) → DeviceFits g.size g.story base m device → Shuts g.size g.story g.failed base m open_call device refusal back
+
+-- why no store is opened on a device, and as what it is given back
+unfoldable pub RefusesOpening : {D : Type 0} → (g : Ghosts D) → (device back : D) → Refusal → Type 0
+RefusesOpening g device back (refusals.Opening r) = StaysShut g device r back
+RefusesOpening g device back _ = ⊥
+
+-- a command was carried out on the store that was opened on a device, which is given back as that store left it
+pub record ServesOpened {D : Type 0} (g : Ghosts D) {R W : Type 0} (remaining : R → Option (List ℕ)) (contents : W → Option (List ℕ)) (command : OpenCommand)
+    (device back : D) (before after : Channels R W) (result : Result (Unit {0}) Refusal) : Type 0 where
+  pub old : Store D g
+  pub opened : IsOpened device old
+  pub new : Store D g
+  pub serves : Serves remaining contents command old new before after result
+  pub gives_back : back ≡ device_of new
+
+-- or it was refused since no store was opened there, and nothing was read or written
+abbrev pub ServesDevice : {D : Type 0} → (g : Ghosts D) → {R W : Type 0} → (remaining : R → Option (List ℕ)) → (contents : W → Option (List ℕ)) → OpenCommand
+    → (device back : D) → (before after : Channels R W) → Result (Unit {0}) Refusal → Type 0
+ServesDevice g remaining contents command device back before after result =
+    IsErrAnd result (λ refusal. RefusesOpening g device back refusal × (after ≡ before)) ⊎ ServesOpened g remaining contents command device back before after result
