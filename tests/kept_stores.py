@@ -15,7 +15,8 @@ class Table(NamedTuple):
 
 
 class Store(NamedTuple):
-    """So many of the first steps, all of them creations, were laid by the format's page, and the program did the others. A step that was stopped wrote all but its commit sector."""
+    """So many of the first steps, all of them creations, were laid by the format's page, and the program did the others. A step that was stopped wrote all but
+    its commit sector."""
     name: str
     sectors: int
     steps: list
@@ -140,5 +141,6 @@ STORES = [
     Store("list_of_513_bytes", 32, five_segments("temperature", "humidity10")),
     Store("list_of_thousands", 256, list(many(60))),
     Store("1000_tables", 2048, list(thousand()), laid=999),
-    Store("stopped_publish", 32, [*five_segments("temperature", "humidity10"), ("rename", "temperature", "t")], stopped=("import", "humidity10", PAIR, [[1, 2], [None, -40000]])),
+    Store("stopped_publish", 32, [*five_segments("temperature", "humidity10"), ("rename", "temperature", "t")],
+          stopped=("import", "humidity10", PAIR, [[1, 2], [None, -40000]])),
 ]

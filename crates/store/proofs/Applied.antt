@@ -66,7 +66,7 @@ failure_origin refusals.Write = refl
 failure_origin refusals.OutOfMemory = refl
 
 -- no other refusal is a failure
-is_device : (r : Refusal) → is_failure r ≡ true → r ≡ refusals.Device
+pub is_device : (r : Refusal) → is_failure r ≡ true → r ≡ refusals.Device
 is_device refusals.Device h = refl
 is_device refusals.NoTable h = absurd (cc h)
 is_device refusals.NameTaken h = absurd (cc h)
@@ -255,7 +255,7 @@ pub read_kept : {D : Type 0} {g : Ghosts D} (size : D → ℕ) (story : D → St
 read_kept size story failed tells old new ends reads =
     kept_after size story failed tells old new ends reads new (refl, refl, λ run. refl)
 
-abbrev refused_by : Refusal → Result (Unit {0}) Refusal
+abbrev pub refused_by : Refusal → Result (Unit {0}) Refusal
 refused_by r = Err r
 
 -- the store is halted just where the device failed

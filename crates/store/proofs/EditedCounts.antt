@@ -12,7 +12,7 @@ use Rattle.catalogue.specs.laws.Kept.{entry_stands}
 use Rattle.store.specs.declared.change.Edit.{Edit}
 use Rattle.store.specs.declared.change.Edit.TheVariants as edits
 use Rattle.store.specs.Changes.{edit_of, new_entry, edited, IsEdit}
-use Rattle.store.specs.laws.Edited.{segments_at, put_count, more_count, moved_count, removed_count, segments_within}
+use Rattle.store.specs.laws.Edited.{segments_at, put_count, more_count, moved_count, removed_count, exchange_count, at_found, segments_within}
 
 abbrev pub CanEdit : PlainCatalogue → Edit → Type 0
 CanEdit c edit = (streams : List (List ℕ)) × IsEdit c (edit_of edit) streams
@@ -43,6 +43,20 @@ after_remove c edit name is can segments =
     let after = ap (λ (x : Edit). count_after c x segments) is in
     let has = (subst (λ (x : Edit). CanEdit c x) is can).1.0 in
     omega (arith, after, removed_count c (string_bytes name) has.0 has.1)
+
+-- of the table there are as many segments as are exchanged
+pub exchange_fits : (c : PlainCatalogue) (edit : Edit) (name : String Global) (place count : ℕ) → edit ≡ edits.Exchange name place count → CanEdit c edit → count ≤ segment_count c
+exchange_fits c edit name place count is can =
+    let has = (subst (λ (x : Edit). CanEdit c x) is can).1 in
+    let within = has.2 in
+    omega (arith, within, at_found c (string_bytes name) has.0 has.1, segments_within c (string_bytes name))
+
+pub after_exchange : (c : PlainCatalogue) (edit : Edit) (name : String Global) (place count new : ℕ) → edit ≡ edits.Exchange name place count → CanEdit c edit → (segments : List Segment) → length segments ≡ new
+    → segment_count c - count + new ≡ count_after c edit segments
+after_exchange c edit name place count new is can segments len =
+    let after = ap (λ (x : Edit). count_after c x segments) is in
+    let has = (subst (λ (x : Edit). CanEdit c x) is can).1 in
+    omega (arith, after, len, exchange_count c (string_bytes name) place count has.0 segments has.1 has.2, exchange_fits c edit name place count is can)
 
 -- ---- what the catalogue's own calls ask for
 

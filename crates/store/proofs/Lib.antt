@@ -26,3 +26,8 @@ mod Replied
 mod Streamed
 mod Selected
 mod Goings
+mod StepParts
+mod StepChanges
+mod StepReads
+mod StepFound
+mod Stepped

@@ -64,7 +64,7 @@ some_made s rows table (Ok t) made is = let same : t ≡ table = cc is in made �
 some_made s rows table (Err refusal) made is = absurd (cc is)
 
 -- the rows that an entry's table has are one
-held_is_table : TableLaws → (image : Image) (e : PlainEntry) (table : PlainTable) → IsWithinLimits e.schema → table_held image e ≡ Some table
+pub held_is_table : TableLaws → (image : Image) (e : PlainEntry) (table : PlainTable) → IsWithinLimits e.schema → table_held image e ≡ Some table
     → (rows : List (List Cell)) × (rows_held e.schema e.segments image ≡ Some rows) × IsTable (record { schema = e.schema; rows = rows })
 held_is_table laws image e table within is =
     let has = held_has image e table is in
@@ -73,7 +73,7 @@ held_is_table laws image e table within is =
     (has.0, has.1, subst IsTable own.0 own.1)
 
 -- the rows of the first segments, and those of the others
-parts_of : (o p : Option (List (List Cell))) (rows : List (List Cell)) → joined_rows o p ≡ Some rows → (a b : List (List Cell)) × (o ≡ Some a) × (p ≡ Some b) × (rows ≡ a ++ b)
+pub parts_of : (o p : Option (List (List Cell))) (rows : List (List Cell)) → joined_rows o p ≡ Some rows → (a b : List (List Cell)) × (o ≡ Some a) × (p ≡ Some b) × (rows ≡ a ++ b)
 parts_of None p rows is = absurd (cc is)
 parts_of (Some a) None rows is = absurd (cc is)
 parts_of (Some a) (Some b) rows is = let same : a ++ b ≡ rows = cc is in (a, b, refl, refl, sym same)

@@ -1,5 +1,5 @@
 -- What a command changes: the catalogue, by an edit, and the segments that are new in it. They have no places yet.
-use Rattle.std.specs.Prelude.{◌≡◌, ◌≤◌, ◌<◌, ◌^◌, ℕ, true, List, [], ◌∷◌, ◌++◌, length, Option, Some, None, Ok, string_bytes}
+use Rattle.std.specs.Prelude.{◌≡◌, ◌≤◌, ◌<◌, ◌+◌, ◌^◌, ℕ, true, List, [], ◌∷◌, ◌++◌, length, map, Option, Some, None, Ok, string_bytes}
 use Rattle.std.specs.List.{list_all, AllByRecursion}
 use Rattle.sector_dev.specs.Disk.{Image}
 use Rattle.segments.specs.Sectors.{bytes_at}
@@ -14,12 +14,14 @@ use Rattle.commit.specs.Placing.{AreShort}
 use Rattle.catalogue.specs.declared.limits.TheConstants.{MAX_TABLES, MAX_SEGMENT_ROWS}
 use Rattle.catalogue.specs.declared.entry.Segment.{Segment}
 use Rattle.catalogue.specs.Entries.{PlainEntry, PlainCatalogue, is_name, is_between, runs_in}
-use Rattle.catalogue.specs.Edits.{entry_of, with_entry, without, renamed, with_more}
+use Rattle.catalogue.specs.Edits.{entry_of, with_entry, without, renamed, with_more, from_place, with_exchanged}
 use Rattle.tables.specs.Tables.{Tables, table_at, with_table, without_table}
 use Rattle.tables.specs.Verdict.{joined}
 use Rattle.store.specs.declared.change.Edit.{Edit}
 use Rattle.store.specs.declared.change.Edit.TheVariants as edits
 use Rattle.store.specs.declared.change.SegmentRows.{SegmentRows}
+use Rattle.store.specs.declared.change.NewSegments.{NewSegments}
+use Rattle.store.specs.declared.change.NewSegments.TheVariants as news
 use Rattle.store.specs.declared.change.Change.{Change}
 use Rattle.store.specs.Under.{table_under}
 use Rattle.store.specs.Held.{rows_in_bytes, joined_rows}
@@ -29,12 +31,14 @@ pub data PlainEdit : Type 0 where
   extend : (name : List ℕ) → PlainEdit
   move : (from to : List ℕ) → PlainEdit
   remove : (name : List ℕ) → PlainEdit
+  exchange : (name : List ℕ) → (place count : ℕ) → PlainEdit
 
 abbrev pub edit_of : Edit → PlainEdit
 edit_of (edits.Put name schema) = put (string_bytes name) (schema_of schema)
 edit_of (edits.Extend name) = extend (string_bytes name)
 edit_of (edits.Move from to) = move (string_bytes from) (string_bytes to)
 edit_of (edits.Remove name) = remove (string_bytes name)
+edit_of (edits.Exchange name place count) = exchange (string_bytes name) place count
 
 -- an edit, the streams of the new segments and how many rows each has
 pub record PlainChange : Type 0 where
@@ -46,14 +50,16 @@ pub record PlainChange : Type 0 where
 abbrev pub rows_table : SegmentRows → PlainTable
 rows_table new = table_under new.schema new.table
 
--- the new segments are the streams of its pieces, with the number of rows of each
-abbrev pub new_streams : Option SegmentRows → List (List ℕ)
+-- the new segments are the streams of its pieces, with the number of rows of each, or one whose bytes are given
+abbrev pub new_streams : Option NewSegments → List (List ℕ)
 new_streams None = []
-new_streams (Some new) = piece_streams (rows_table new)
+new_streams (Some (news.Rows new)) = piece_streams (rows_table new)
+new_streams (Some (news.Copied bytes rows)) = bytes.items ∷ []
 
-abbrev pub new_counts : Option SegmentRows → List ℕ
+abbrev pub new_counts : Option NewSegments → List ℕ
 new_counts None = []
-new_counts (Some new) = piece_counts (rows_table new)
+new_counts (Some (news.Rows new)) = piece_counts (rows_table new)
+new_counts (Some (news.Copied bytes rows)) = rows ∷ []
 
 abbrev pub change_of : Change → PlainChange
 change_of change = record { edit = edit_of change.edit; streams = new_streams change.new; counts = new_counts change.new }
@@ -70,16 +76,22 @@ edited c (put name schema) segments = with_entry c (new_entry name schema segmen
 edited c (extend name) segments = with_more c name segments
 edited c (move from to) segments = renamed c from to
 edited c (remove name) segments = without c name
+edited c (exchange name place count) segments = with_exchanged c name place count segments
 
 -- the runs of the segments that an edit takes out
 abbrev pub runs_at : PlainCatalogue → List ℕ → List Run
 runs_at c name = elim (entry_of c name) [ None ↦ [] | Some e ↦ runs_in e ]
+
+-- and of so many segments from a place on
+abbrev pub runs_from : PlainCatalogue → List ℕ → (place count : ℕ) → List Run
+runs_from c name place count = elim (entry_of c name) [ None ↦ [] | Some e ↦ map (λ (s : Segment). s.place.run) (from_place e.segments place count) ]
 
 abbrev pub given_up : PlainCatalogue → PlainEdit → List Run
 given_up c (put name schema) = runs_at c name
 given_up c (extend name) = []
 given_up c (move from to) = []
 given_up c (remove name) = runs_at c name
+given_up c (exchange name place count) = runs_from c name place count
 
 -- the catalogue can be edited so: with these numbers of new segments only their number is still to be tested
 abbrev pub HasEntry : PlainCatalogue → List ℕ → Type 0
@@ -91,6 +103,7 @@ IsEdit c (put name schema) streams =
 IsEdit c (extend name) streams = HasEntry c name
 IsEdit c (move from to) streams = (is_name to ≡ true) × (entry_of c to ≡ None) × HasEntry c from × (streams ≡ [])
 IsEdit c (remove name) streams = HasEntry c name × (streams ≡ [])
+IsEdit c (exchange name place count) streams = (e : PlainEntry) × (entry_of c name ≡ Some e) × (place + count ≤ length e.segments)
 
 -- a change of this catalogue: each new segment has a stream of some bytes, and as many rows as a segment may have
 pub record IsChange (c : PlainCatalogue) (change : PlainChange) : Type 0 where
@@ -127,6 +140,8 @@ Makes t (extend name) streams counts new =
     × (new ≡ with_table t name (joined table rows)))
 Makes t (move from to) streams counts new = (table : PlainTable) × (table_at t from ≡ Some table) × (new ≡ with_table (without_table t from) to table)
 Makes t (remove name) streams counts new = new ≡ without_table t name
+-- no command asks for it: the tables stay as they are, where the new segments hold the same rows
+Makes t (exchange name place count) streams counts new = ⊥
 
 abbrev pub MakesOf : Tables → PlainChange → Tables → Type 0
 MakesOf t change new = Makes t change.edit change.streams change.counts new

@@ -17,6 +17,7 @@ pub mod Under
 pub mod Deciding
 pub mod Carrying
 pub mod Applying
+pub mod Compacting
 pub mod Verdicts
 pub mod Listing
 pub mod Reading

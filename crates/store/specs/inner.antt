@@ -5,3 +5,4 @@ pub mod Prepared
 pub mod Gathered
 pub mod Reading
 pub mod LawsBelow
+pub mod Compacting

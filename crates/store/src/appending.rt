@@ -18,7 +18,7 @@ ghost use Rattle.store.specs.inner.Reading.{runs_in};
 ghost use Rattle.store.specs.inner.Tests.{Tests, decision_of};
 
 use crate::Store;
-use crate::change::{Change, Edit, SegmentRows};
+use crate::change::{Change, Edit, NewSegments, SegmentRows};
 use crate::new_rows::{NewRows, pass_new};
 use crate::reading::{gather_entry, is_failure};
 use canonical_write::pieces_are_tables;
@@ -66,7 +66,7 @@ fn decide_behind(
     };
     Ok(Change {
         edit: Edit::Extend { name },
-        new: Some(rows),
+        new: Some(NewSegments::Rows(rows)),
     })
 }
 

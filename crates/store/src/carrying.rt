@@ -1,5 +1,5 @@
 // A change is carried out: the one place where a command writes.
-ghost use Rattle.std.specs.Prelude.{◌≡◌, ◌≢◌, ◌≤◌, ◌++◌, ◌∷◌, [], ℕ, Ok, Err, Some, OnErr, IfOk, IfErr, length, true};
+ghost use Rattle.std.specs.Prelude.{◌≡◌, ◌≢◌, ◌≤◌, ◌++◌, ◌∷◌, [], ℕ, List, Ok, Err, Some, OnErr, IfOk, IfErr, length, true};
 ghost use Rattle.std.specs.List.{list_all};
 ghost use Rattle.segments.specs.Usages.{IsUsedIn, SameUsages, GivesAll};
 ghost use Rattle.segments.specs.Pieces.{bytes_of_parts, plain_pieces};
@@ -12,7 +12,7 @@ ghost use Rattle.catalogue.specs.Reading.{catalogue_at};
 ghost use Rattle.catalogue.specs.View.{catalogue_of};
 ghost use Rattle.commit.specs.Placing.{Takes, contents_of, plain_contents};
 ghost use Rattle.commit.specs.Standing.{is_size};
-ghost use Rattle.store.specs.Changes.{change_of, edit_of, CanChange, IsChange, edited, given_up, placed_segments};
+ghost use Rattle.store.specs.Changes.{change_of, edit_of, CanChange, IsChange, IsEdit, edited, given_up, placed_segments};
 ghost use Rattle.store.specs.Carrying.{HasNext, asked_sizes, IsCarried, outline};
 ghost use Rattle.store.specs.inner.Prepared.{taking_refusal, IsPrepared};
 
@@ -43,6 +43,7 @@ fn back_after(
     stored: &StoredCatalogue,
     edit: &Edit,
 ) -> Result<Vec<Run>, AllocError>
+    requires edit { (streams : List (List ℕ)) × IsEdit (catalogue_of stored.now.list) (edit_of edit.now) streams }
     ensures { IfOk result (λ back. back.items ≡ given_up (catalogue_of stored.now.list) (edit_of edit.now) ++ commit.catalogue.run ∷ []) }
 {
     let mut back = given_up(alloc, &stored.list, edit)?;

@@ -1,10 +1,11 @@
 // What a command changes, before its new segments have places.
-ghost use Rattle.std.specs.Prelude.{◌≡◌, IfOk};
+ghost use Rattle.std.specs.Prelude.{◌≡◌, ◌∷◌, [], IfOk};
 ghost use Rattle.canonical_write.specs.View.{streams_in};
 ghost use Rattle.commit.specs.Placing.{AreShort};
 ghost use Rattle.store.specs.Under.{table_under};
 ghost use Rattle.values.specs.Table.{IsTable};
 
+use array_build::Buffer;
 use arrow_schema::Schema;
 use canonical_write::{EncodedPieces, encode_own_pieces, encode_pieces};
 use std::alloc::{AllocError, Global};
@@ -14,13 +15,29 @@ use values::Table;
 #[derive(Drop)]
 pub enum Edit {
     /// A table of this name whose segments are the new ones, in place of one that stands there.
-    Put { name: String, schema: Schema },
+    Put {
+        name: String,
+        schema: Schema,
+    },
     /// The new segments stand behind those of the table.
-    Extend { name: String },
+    Extend {
+        name: String,
+    },
     /// The table gets another name.
-    Move { from: String, to: String },
+    Move {
+        from: String,
+        to: String,
+    },
     /// The table goes.
-    Remove { name: String },
+    Remove {
+        name: String,
+    },
+    /// The new segments stand in place of so many of the table's, from a place on.
+    Exchange {
+        name: String,
+        place: usize,
+        count: usize,
+    },
 }
 
 /// The rows of new segments: those of a table, under another schema in place of its own where there is one.
@@ -31,11 +48,20 @@ pub struct SegmentRows {
     ghost kept: { IsTable (table_under schema table) },
 }
 
-/// An edit, and the rows of its new segments.
+/// What new segments hold.
+#[derive(Drop)]
+pub enum NewSegments {
+    /// The pieces of these rows.
+    Rows(SegmentRows),
+    /// These bytes, which are a stream of so many rows.
+    Copied { bytes: Vec<u8>, rows: u64 },
+}
+
+/// An edit, and what its new segments hold.
 #[derive(Drop)]
 pub struct Change {
     pub edit: Edit,
-    pub new: Option<SegmentRows>,
+    pub new: Option<NewSegments>,
 }
 
 impl SegmentRows {
@@ -55,6 +81,25 @@ impl SegmentRows {
     }
 }
 
+// One stream of these bytes, where they stand.
+fn copied_piece(alloc: Global, bytes: &[u8], rows: u64) -> Result<EncodedPieces<'_>, AllocError>
+    ensures streams { IfOk result (λ pieces. streams_in pieces ≡ bytes.now ∷ []) }
+    ensures counts { IfOk result (λ pieces. pieces.rows.items ≡ rows ∷ []) }
+    ensures short { IfOk result (λ pieces. AreShort (streams_in pieces)) }
+{
+    let mut stream = Vec::with_capacity(alloc, 1)?;
+    stream.push_reserved(Buffer::Borrowed(bytes));
+    let mut parts = Vec::with_capacity(alloc, 1)?;
+    parts.push_reserved(stream);
+    let mut counts = Vec::with_capacity(alloc, 1)?;
+    counts.push_reserved(rows);
+    Ok(EncodedPieces {
+        schema_message: Vec::new(alloc),
+        parts,
+        rows: counts,
+    })
+}
+
 impl Change {
     ghost use Rattle.store.specs.Changes.{change_of};
 
@@ -65,7 +110,8 @@ impl Change {
         ensures short { IfOk result (λ pieces. AreShort (streams_in pieces)) }
     {
         match &self.new {
-            Some(rows) => rows.pieces(alloc),
+            Some(NewSegments::Rows(rows)) => rows.pieces(alloc),
+            Some(NewSegments::Copied { bytes, rows }) => copied_piece(alloc, bytes, *rows),
             None => Ok(EncodedPieces {
                 schema_message: Vec::new(alloc),
                 parts: Vec::new(alloc),

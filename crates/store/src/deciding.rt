@@ -12,7 +12,7 @@ ghost use Rattle.values.specs.TableView.{table_of};
 ghost use Rattle.store.specs.inner.Saving.{IsPut};
 ghost use Rattle.store.specs.inner.Tests.{Tests, decision_of};
 
-use crate::change::{Change, Edit, SegmentRows};
+use crate::change::{Change, Edit, NewSegments, SegmentRows};
 use arrow_schema::{Schema, one_shape_is_decided, same_shape};
 use canonical_write::pieces_are_tables;
 use catalogue::{Catalogue, MAX_TABLES, counts_after_changes, is_name};
@@ -138,7 +138,7 @@ pub(crate) fn put_table(alloc: Global, name: String, table: Table) -> Result<Cha
     };
     Ok(Change {
         edit: Edit::Put { name, schema },
-        new: Some(rows),
+        new: Some(NewSegments::Rows(rows)),
     })
 }
 

@@ -1,16 +1,18 @@
 // Edits of a catalogue, and the segments that are new in it.
-ghost use Rattle.std.specs.Prelude.{◌≡◌, ◌<◌, ◌^◌, ℕ, true, List, map, length, string_bytes, IfOk};
+ghost use Rattle.std.specs.Prelude.{◌≡◌, ◌<◌, ◌≤◌, ◌+◌, ◌^◌, ◌++◌, ℕ, true, List, Some, map, length, string_bytes, IfOk, OnOk};
 ghost use Rattle.std.specs.List.{list_all};
 ghost use Rattle.arrow_schema.specs.View.{schema_of};
 ghost use Rattle.segments.specs.Pieces.{plain_pieces};
 ghost use Rattle.segments.specs.Writing.{runs_of};
 ghost use Rattle.commit.specs.Placing.{contents_of, plain_contents};
 ghost use Rattle.catalogue.specs.declared.entry.Segment.{Segment};
-ghost use Rattle.catalogue.specs.Entries.{plain_entry, is_segment, segment_count, IsCatalogue};
+ghost use Rattle.catalogue.specs.Edits.{entry_of, from_place};
+ghost use Rattle.catalogue.specs.Entries.{PlainEntry, plain_entry, is_segment, segment_count, IsCatalogue};
 ghost use Rattle.catalogue.specs.View.{catalogue_of};
-ghost use Rattle.store.specs.Changes.{edit_of, new_entry, edited, runs_at, given_up, placed_segments, IsEdit};
+ghost use Rattle.store.specs.Changes.{edit_of, new_entry, edited, runs_at, runs_from, given_up, placed_segments, IsEdit};
 ghost use Rattle.store.specs.Carrying.{unplaced};
 ghost use Rattle.store.specs.laws.Edited.{segments_at};
+ghost use Rattle.store.specs.laws.ExchangedRuns.{run_of};
 
 use crate::change::Edit;
 use arrow_schema::Schema;
@@ -60,6 +62,9 @@ pub(crate) fn edited(
         Edit::Remove { name } => {
             changed.remove(name);
         }
+        Edit::Exchange { name, place, count } => {
+            changed.exchange_segments(name, *place, *count, segments)?;
+        }
     }
     Ok(changed)
 }
@@ -74,12 +79,49 @@ fn runs_at(alloc: Global, catalogue: &Catalogue, name: &str) -> Result<Vec<Run>,
     }
 }
 
+fn put_runs(runs: &mut Vec<Run>, segments: &[Segment]) -> Result<(), AllocError>
+    ensures { OnOk result (runs.new.items ≡ runs.old.items ++ map run_of segments.now) }
+{
+    for segment in segments {
+        runs.push(segment.place.run)?;
+    }
+    Ok(())
+}
+
+// So many segments of a table, from a place on.
+fn segments_from(entry: &TableEntry, place: usize, count: usize) -> &[Segment]
+    requires { place + count ≤ length (plain_entry entry.now).segments }
+    ensures { result.now ≡ from_place (plain_entry entry.now).segments place count }
+{
+    &entry.segments[place..place + count]
+}
+
+// The runs of so many segments of a table, from a place on.
+fn runs_from(
+    alloc: Global,
+    catalogue: &Catalogue,
+    name: &str,
+    place: usize,
+    count: usize,
+) -> Result<Vec<Run>, AllocError>
+    requires there { (e : PlainEntry) → entry_of (catalogue_of catalogue.now) name.now ≡ Some e → place + count ≤ length e.segments }
+    ensures { IfOk result (λ runs. runs.items ≡ runs_from (catalogue_of catalogue.now) name.now place count) }
+{
+    let mut runs = Vec::new(alloc);
+    match catalogue.get(name) {
+        Some(entry) => put_runs(&mut runs, segments_from(entry, place, count))?,
+        None => {}
+    }
+    Ok(runs)
+}
+
 // The runs of the segments that an edit takes out.
 pub(crate) fn given_up(
     alloc: Global,
     catalogue: &Catalogue,
     edit: &Edit,
 ) -> Result<Vec<Run>, AllocError>
+    requires edit { (streams : List (List ℕ)) × IsEdit (catalogue_of catalogue.now) (edit_of edit.now) streams }
     ensures { IfOk result (λ runs. runs.items ≡ given_up (catalogue_of catalogue.now) (edit_of edit.now)) }
 {
     match edit {
@@ -87,6 +129,9 @@ pub(crate) fn given_up(
         Edit::Extend { name: _ } => Ok(Vec::new(alloc)),
         Edit::Move { from: _, to: _ } => Ok(Vec::new(alloc)),
         Edit::Remove { name } => runs_at(alloc, catalogue, name),
+        Edit::Exchange { name, place, count } => {
+            runs_from(alloc, catalogue, name, *place, *count)
+        }
     }
 }
 
@@ -114,6 +159,11 @@ pub(crate) fn segments_after(catalogue: &Catalogue, edit: &Edit, new: u64) -> u6
         Edit::Extend { name: _ } => count + new,
         Edit::Move { from: _, to: _ } => count,
         Edit::Remove { name } => count - segments_at(catalogue, name),
+        Edit::Exchange {
+            name: _name,
+            place: _place,
+            count: exchanged,
+        } => count - *exchanged as u64 + new,
     }
 }
 

@@ -132,7 +132,7 @@ pub(crate) fn table_laws()
 }
 
 // What all laws below the store say.
-fn laws_below()
+pub(crate) fn laws_below()
     ensures { LawsBelow }
 {
     table_laws();

@@ -18,6 +18,7 @@ mod beginning;
 mod call;
 mod carrying;
 mod change;
+mod compacting;
 mod deciding;
 mod editing;
 mod exporting;
@@ -27,8 +28,10 @@ mod importing;
 mod input;
 mod laws;
 mod listing;
+mod moving;
 mod new_rows;
 mod opening_refusal;
+mod pairs;
 mod reading;
 mod running;
 mod saving;
@@ -38,6 +41,7 @@ mod stored;
 pub use beginning::{crashed_devices_are_left, devices_fit, left_devices_fit, new_devices_fit};
 pub use call::{Call, Place, Reply};
 pub use commit::{Cause, OpeningRefusal};
+pub use compacting::Compaction;
 pub use input::read_at_most;
 pub use laws::{
     a_stop_keeps_what_was_acknowledged, acknowledged_commands_are_settled, compactions_end,

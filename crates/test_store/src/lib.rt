@@ -7,6 +7,8 @@
 #[cfg(test)]
 mod commands;
 #[cfg(test)]
+mod compactions;
+#[cfg(test)]
 mod failing_reads;
 #[cfg(test)]
 mod inputs;

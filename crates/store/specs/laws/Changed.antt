@@ -21,7 +21,7 @@ use Rattle.tables.specs.Tables.{Tables, no_tables, table_at, with_table, without
 use Rattle.tables.specs.Verdict.{joined}
 use Rattle.tables.specs.laws.Maps.{put_apart, put_over, put_and_taken, put_not_taken, none_taken}
 use Rattle.store.specs.Held.{rows_in_bytes, segment_rows, joined_rows, rows_held, table_where, table_of_rows, table_held, with_held, tables_held}
-use Rattle.store.specs.Changes.{PlainEdit, put, extend, move, remove, PlainChange, new_entry, edited, HasEntry, stream_rows, rows_under, Makes, MakesOf, HoldsStreams}
+use Rattle.store.specs.Changes.{PlainEdit, put, extend, move, remove, exchange, PlainChange, new_entry, edited, HasEntry, stream_rows, rows_under, Makes, MakesOf, HoldsStreams}
 use Rattle.store.specs.laws.Named.{entry_has, entry_lacks, held_has}
 use Rattle.store.specs.laws.Listed.{count_held}
 
@@ -217,3 +217,4 @@ module _ (image : Image) where
       by_edit (extend name) made = held_extended c t new name segments change.streams change.counts is (has_entry name made.0 (entry_of c name) refl made.1) made holds
       by_edit (move from to) made = held_moved c t new from to catalogue.order is (has_entry from made.0 (entry_of c from) refl made.1) made
       by_edit (remove name) made = held_without c t name catalogue.order is ∙ ap Some (sym made)
+      by_edit (exchange name place count) made = absurd made

@@ -1,7 +1,7 @@
 -- Laws of an edited catalogue: it stands, where its runs come from, and what doesn't depend on the places of its new segments.
 use Rattle.std.specs.Prelude.{◌≡◌, ◌≤◌, ◌+◌, ◌++◌, ◌&&◌, ◌||◌, ℕ, zero, suc, Bool, true, false, not, List, [], ◌∷◌, length, map, sum_by, Option, Some, None}
 use Rattle.std.specs.List.{list_all}
-use Rattle.std.proofs.Common.{refl, sym, ap, ◌∙◌, subst, arith}
+use Rattle.std.proofs.Common.{refl, sym, ap, ◌∙◌, subst, arith, drop, length-take-le, length-drop}
 use Rattle.std.proofs.lemmas.List.{length-append, map-append}
 use Rattle.std.proofs.lemmas.List.Sums.{sum_by-cons}
 use Rattle.segments.specs.declared.run.Run.{Run}
@@ -9,20 +9,17 @@ use Rattle.arrow_schema.specs.Column.{PlainSchema}
 use Rattle.catalogue.specs.declared.limits.TheConstants.{MAX_SEGMENTS}
 use Rattle.catalogue.specs.declared.entry.Segment.{Segment}
 use Rattle.catalogue.specs.Entries.{PlainEntry, PlainCatalogue, is_segment, runs_in, runs_of, segment_count, IsCatalogue}
-use Rattle.catalogue.specs.Edits.{entry_of, with_entry, without, named, renamed, with_segments, with_more}
+use Rattle.catalogue.specs.Edits.{entry_of, with_entry, without, named, renamed, with_segments, with_more, from_place, with_exchanged}
 use Rattle.catalogue.specs.Text.{entry_size, list_size}
 use Rattle.catalogue.specs.laws.Kept.{entry_stands, passes_catalogue, catalogue_is}
-use Rattle.catalogue.specs.laws.Sums.{refilled, put_new, put_over, put_alike, taken_out, refilled_sum, one, number, segments_in}
-use Rattle.catalogue.specs.laws.Changed.{put_stands, removed_stands, none_without, renamed_is, renamed_stands, more_is, more_none, more_stands}
+use Rattle.catalogue.specs.laws.Sums.{put_new, put_over, put_alike, taken_out, refilled_sum, one, number, segments_in}
+use Rattle.catalogue.specs.laws.Changed.{put_stands, removed_stands, none_without, renamed_is, renamed_stands, more_is, more_none, more_stands, exchanged_none, exchanged_stands}
 use Rattle.commit.specs.Placing.{is_among, times_among}
 use Rattle.commit.specs.laws.Fit.{times_both, times_some, some_times}
-use Rattle.store.specs.Changes.{PlainEdit, PlainChange, put, extend, move, remove, new_entry, edited, runs_at, given_up, IsEdit, IsChange}
+use Rattle.store.specs.Changes.{PlainEdit, PlainChange, put, extend, move, remove, exchange, new_entry, edited, runs_at, runs_from, given_up, IsEdit, IsChange}
+use Rattle.store.specs.laws.ExchangedRuns.{IsByNumber, run_of, exchanged_times, exchanged_given, exchanged_alike, exchanged_count}
 
 -- ---- what doesn't depend on the places of the new segments
-
--- what has a value by the number of its segments
-abbrev pub IsByNumber : (PlainEntry → ℕ) → Type 0
-IsByNumber f = (e : PlainEntry) (a b : List Segment) → length a ≡ length b → f (refilled e a) ≡ f (refilled e b)
 
 more_alike : (f : PlainEntry → ℕ) → IsByNumber f → (c : PlainCatalogue) (name : List ℕ) (a b : List Segment) → length a ≡ length b → sum_by f (with_more c name a) ≡ sum_by f (with_more c name b)
 more_alike f by_number c name a b same = by_entry (entry_of c name) refl
@@ -35,11 +32,20 @@ more_alike f by_number c name a b same = by_entry (entry_of c name) refl
         let alike = by_number e (e.segments ++ a) (e.segments ++ b) (omega (arith, same, length-append e.segments a, length-append e.segments b)) in
         ap (sum_by f) (more_is c name e a h) ∙ omega (arith, one_sum, other_sum, alike) ∙ sym (ap (sum_by f) (more_is c name e b h))
 
+exchange_alike : (f : PlainEntry → ℕ) → IsByNumber f → (c : PlainCatalogue) (name : List ℕ) (place count : ℕ) (a b : List Segment) → length a ≡ length b
+    → sum_by f (with_exchanged c name place count a) ≡ sum_by f (with_exchanged c name place count b)
+exchange_alike f by_number c name place count a b same = by_entry (entry_of c name) refl
+  where
+    by_entry : (o : Option PlainEntry) → entry_of c name ≡ o → sum_by f (with_exchanged c name place count a) ≡ sum_by f (with_exchanged c name place count b)
+    by_entry None h = ap (sum_by f) (exchanged_none c name place count a h ∙ sym (exchanged_none c name place count b h))
+    by_entry (Some e) h = exchanged_alike c name e h place count f by_number a b same
+
 edited_alike : (f : PlainEntry → ℕ) → IsByNumber f → (c : PlainCatalogue) (edit : PlainEdit) (a b : List Segment) → length a ≡ length b → sum_by f (edited c edit a) ≡ sum_by f (edited c edit b)
 edited_alike f by_number c (put name schema) a b same = put_alike f c (new_entry name schema b) a (by_number (new_entry name schema b) a b same)
 edited_alike f by_number c (extend name) a b same = more_alike f by_number c name a b same
 edited_alike f by_number c (move from to) a b same = refl
 edited_alike f by_number c (remove name) a b same = refl
+edited_alike f by_number c (exchange name place count) a b same = exchange_alike f by_number c name place count a b same
 
 pub edited_size : (c : PlainCatalogue) (edit : PlainEdit) (a b : List Segment) → length a ≡ length b → list_size (edited c edit a) ≡ list_size (edited c edit b)
 edited_size c edit a b same = ap (λ (n : ℕ). 4 + n) (edited_alike entry_size (λ e x y is. omega (arith, is)) c edit a b same)
@@ -48,9 +54,6 @@ pub edited_count : (c : PlainCatalogue) (edit : PlainEdit) (a b : List Segment) 
 edited_count c edit a b same = edited_alike segments_in (λ e x y is. is) c edit a b same
 
 -- ---- where its runs come from
-
-abbrev pub run_of : Segment → Run
-run_of s = s.place.run
 
 -- where an edit takes no segments there are none
 no_segments : (streams : List (List ℕ)) (segments : List Segment) → streams ≡ [] → length segments ≡ length streams → segments ≡ []
@@ -72,6 +75,22 @@ runs_found c name e h = ap (λ (o : Option PlainEntry). elim o [ None ↦ [] | S
 
 no_runs : (c : PlainCatalogue) (name : List ℕ) → entry_of c name ≡ None → runs_at c name ≡ []
 no_runs c name h = ap (λ (o : Option PlainEntry). elim o [ None ↦ [] | Some x ↦ runs_in x ]) h
+
+-- those from a place on
+runs_from_found : (c : PlainCatalogue) (name : List ℕ) (place count : ℕ) (e : PlainEntry) → entry_of c name ≡ Some e → runs_from c name place count ≡ map run_of (from_place e.segments place count)
+runs_from_found c name place count e h = ap (λ (o : Option PlainEntry). elim o [ None ↦ [] | Some x ↦ map run_of (from_place x.segments place count) ]) h
+
+no_runs_from : (c : PlainCatalogue) (name : List ℕ) (place count : ℕ) → entry_of c name ≡ None → runs_from c name place count ≡ []
+no_runs_from c name place count h = ap (λ (o : Option PlainEntry). elim o [ None ↦ [] | Some x ↦ map run_of (from_place x.segments place count) ]) h
+
+from_times : (c : PlainCatalogue) (name : List ℕ) (place count : ℕ) (run : Run) → times_among (runs_from c name place count) run ≤ times_among (runs_of c) run
+from_times c name place count run = by_entry (entry_of c name) refl
+  where
+    by_entry : (o : Option PlainEntry) → entry_of c name ≡ o → times_among (runs_from c name place count) run ≤ times_among (runs_of c) run
+    by_entry None h = let none : times_among (runs_from c name place count) run ≡ 0 = ap (λ (rs : List Run). times_among rs run) (no_runs_from c name place count h) in omega (arith, none)
+    by_entry (Some e) h =
+        let stood : times_among (runs_from c name place count) run ≡ times_among (map run_of (from_place e.segments place count)) run = ap (λ (rs : List Run). times_among rs run) (runs_from_found c name place count e h) in
+        omega (arith, stood, exchanged_given c name e h place count run)
 
 -- they are among those of the catalogue
 at_times : (c : PlainCatalogue) (name : List ℕ) (run : Run) → times_among (runs_at c name) run ≤ times_among (runs_of c) run
@@ -119,6 +138,11 @@ edited_times_are c (remove name) streams segments run k can same =
     let none : times_among (map run_of segments) run ≡ 0 = ap (λ (ss : List Segment). times_among (map run_of ss) run) (no_segments streams segments can.1 same) in
     let stood : times_among (runs_at c name) run ≡ times_among (runs_in e) run = ap (λ (rs : List Run). times_among rs run) (runs_found c name e h) in
     omega (arith, none, stood, times_of run c, times_of run (without c name), taken_out (times_in run) c name e h)
+edited_times_are c (exchange name place count) streams segments run k can same =
+    let e : PlainEntry = can.0 in
+    let h : entry_of c name ≡ Some e = can.1 in
+    let stood : times_among (runs_from c name place count) run ≡ times_among (map run_of (from_place e.segments place count)) run = ap (λ (rs : List Run). times_among rs run) (runs_from_found c name place count e h) in
+    omega (arith, stood, exchanged_times c name e h place count run segments)
 
 pub edited_times : (c : PlainCatalogue) (change : PlainChange) (segments : List Segment) (run : Run) → IsCatalogue c → IsChange c change → length segments ≡ length change.streams
     → times_among (runs_of (edited c change.edit segments)) run ≤ times_among (runs_of c) run + times_among (map run_of segments) run
@@ -130,6 +154,7 @@ given_up_times c (put name schema) run = at_times c name run
 given_up_times c (extend name) run = omega arith
 given_up_times c (move from to) run = omega arith
 given_up_times c (remove name) run = at_times c name run
+given_up_times c (exchange name place count) run = from_times c name place count run
 
 -- whether a run is listed, by how often it is
 pub none_listed : (xs : List Run) (run : Run) → is_among xs run ≡ false → times_among xs run ≡ 0
@@ -180,11 +205,17 @@ more_count c name e segments h =
 abbrev pub segments_at : PlainCatalogue → List ℕ → ℕ
 segments_at c name = elim (entry_of c name) [ None ↦ 0 | Some e ↦ length e.segments ]
 
-at_found : (c : PlainCatalogue) (name : List ℕ) (e : PlainEntry) → entry_of c name ≡ Some e → segments_at c name ≡ length e.segments
+pub at_found : (c : PlainCatalogue) (name : List ℕ) (e : PlainEntry) → entry_of c name ≡ Some e → segments_at c name ≡ length e.segments
 at_found c name e h = ap (λ (o : Option PlainEntry). elim o [ None ↦ 0 | Some x ↦ length x.segments ]) h
 
 at_none : (c : PlainCatalogue) (name : List ℕ) → entry_of c name ≡ None → segments_at c name ≡ 0
 at_none c name h = ap (λ (o : Option PlainEntry). elim o [ None ↦ 0 | Some x ↦ length x.segments ]) h
+
+-- as many as are asked for, where the table has them
+pub length_from : (segments : List Segment) (place count : ℕ) → place + count ≤ length segments → length (from_place segments place count) ≡ count
+length_from segments place count within =
+    let rest = length-drop place segments in
+    length-take-le count (drop place segments) (omega (arith, rest, within))
 
 pub put_count : (c : PlainCatalogue) (e : PlainEntry) → IsCatalogue c → segment_count (with_entry c e) + segments_at c e.name ≡ segment_count c + length e.segments
 put_count c e k = by_entry (entry_of c e.name) refl
@@ -199,6 +230,10 @@ removed_count c name e h = omega (arith, at_found c name e h, taken_out segments
 pub moved_count : (c : PlainCatalogue) (from to : List ℕ) (e : PlainEntry) → entry_of c from ≡ Some e → entry_of c to ≡ None → segment_count (renamed c from to) ≡ segment_count c
 moved_count c from to e h none =
     ap segment_count (renamed_is c from to e h) ∙ omega (arith, taken_out segments_in c from e h, put_new segments_in (without c from) (named to e) (none_without c from to none))
+
+pub exchange_count : (c : PlainCatalogue) (name : List ℕ) (place count : ℕ) (e : PlainEntry) (segments : List Segment) → entry_of c name ≡ Some e → place + count ≤ length e.segments
+    → segment_count (with_exchanged c name place count segments) + count ≡ segment_count c + length segments
+exchange_count c name place count e segments h within = omega (arith, exchanged_count c name e h place count segments, length_from e.segments place count within)
 
 pub segments_within : (c : PlainCatalogue) (name : List ℕ) → segments_at c name ≤ segment_count c
 segments_within c name = by_entry (entry_of c name) refl
@@ -221,6 +256,7 @@ edit_stands c (extend name) streams segments k can each most =
 edit_stands c (move from to) streams segments k can each most =
     subst IsCatalogue (sym (renamed_is c from to can.2.0 can.2.1)) (catalogue_is (with_entry (without c from) (named to can.2.0)) (renamed_stands c from to can.2.0 (passes_catalogue c k) can.0 can.2.1))
 edit_stands c (remove name) streams segments k can each most = catalogue_is (without c name) (removed_stands c name (passes_catalogue c k))
+edit_stands c (exchange name place count) streams segments k can each most = exchanged_stands c name can.0 can.1 place count segments k each most
 
 pub edited_stands : (c : PlainCatalogue) (change : PlainChange) (segments : List Segment) → IsCatalogue c → IsChange c change → list_all is_segment segments ≡ true
     → segment_count (edited c change.edit segments) ≤ MAX_SEGMENTS → IsCatalogue (edited c change.edit segments)

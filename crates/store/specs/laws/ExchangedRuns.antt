@@ -4,15 +4,21 @@ use Rattle.std.proofs.Common.{inl, sym, ap, ◌∙◌, arith}
 use Rattle.std.proofs.lemmas.List.{length-append, map-append}
 use Rattle.std.proofs.lemmas.List.Sums.{sum_by-cons}
 use Rattle.segments.specs.declared.run.Run.{Run}
-use Rattle.segments.specs.laws.Usages.{times_both}
 use Rattle.catalogue.specs.declared.entry.Segment.{Segment}
 use Rattle.catalogue.specs.Entries.{PlainEntry, PlainCatalogue, runs_in, runs_of, segment_count}
 use Rattle.catalogue.specs.Edits.{entry_of, with_segments, from_place, with_others, with_exchanged}
-use Rattle.catalogue.specs.laws.Sums.{taken_out, refilled_sum, segments_in}
+use Rattle.catalogue.specs.laws.Sums.{refilled, taken_out, refilled_sum, segments_in}
 use Rattle.catalogue.specs.laws.Changed.{parted, exchanged_is}
 use Rattle.commit.specs.Placing.{times_among}
-use Rattle.store.specs.laws.Edited.{IsByNumber, run_of}
+use Rattle.commit.specs.laws.Fit.{times_both}
 use Rattle.store.specs.Exchanging.{Shrinks}
+
+-- what has a value by the number of its segments
+abbrev pub IsByNumber : (PlainEntry → ℕ) → Type 0
+IsByNumber f = (e : PlainEntry) (a b : List Segment) → length a ≡ length b → f (refilled e a) ≡ f (refilled e b)
+
+abbrev pub run_of : Segment → Run
+run_of s = s.place.run
 
 module _ (c : PlainCatalogue) (name : List ℕ) (e : PlainEntry) (found : entry_of c name ≡ Some e) (place count : ℕ) where
   -- as many runs, but for those that are given up

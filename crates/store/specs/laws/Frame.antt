@@ -16,17 +16,17 @@ use Rattle.commit.specs.declared.sector.Commit.{Commit}
 use Rattle.commit.specs.Standing.{rules, standing, InSome}
 use Rattle.store.specs.Held.{rows_in_bytes, segment_rows, joined_rows, rows_held, table_of_rows, table_held, with_held, tables_held, whole_reading, held_of, held_by}
 
-in_left : (rs ss : List Run) (n : ℕ) → InSome rs n → InSome (rs ++ ss) n
+pub in_left : (rs ss : List Run) (n : ℕ) → InSome rs n → InSome (rs ++ ss) n
 in_left [] ss n none = absurd none
 in_left (r ∷ rs) ss n (inl here) = inl here
 in_left (r ∷ rs) ss n (inr later) = inr (in_left rs ss n later)
 
-in_right : (rs ss : List Run) (n : ℕ) → InSome ss n → InSome (rs ++ ss) n
+pub in_right : (rs ss : List Run) (n : ℕ) → InSome ss n → InSome (rs ++ ss) n
 in_right [] ss n some = some
 in_right (r ∷ rs) ss n some = inr (in_right rs ss n some)
 
 -- the sectors of a segment are those that its bytes need
-sectors_of : (segment : Segment) → is_segment segment ≡ true → segment.place.run.count ≡ sector_count segment.place.bytes
+pub sectors_of : (segment : Segment) → is_segment segment ≡ true → segment.place.run.count ≡ sector_count segment.place.bytes
 sectors_of segment sound =
     let e = segment.place in
     let rows = is_between 1 MAX_SEGMENT_ROWS segment.rows in
@@ -42,7 +42,7 @@ module _ (a b : Image) where
       let count = sectors_of segment sound in
       ap (rows_in_bytes schema segment.rows) (same_bytes b a segment.place.run.start segment.place.bytes (λ j lt. same (segment.place.run.start + j) (omega arith) (omega (arith, count, lt))))
 
-  same_rows : (schema : PlainSchema) (segments : List Segment) → list_all is_segment segments ≡ true
+  pub same_rows : (schema : PlainSchema) (segments : List Segment) → list_all is_segment segments ≡ true
       → ((n : ℕ) → InSome (map (λ (s : Segment). s.place.run) segments) n → b n ≡ a n) → rows_held schema segments b ≡ rows_held schema segments a
   unfolding rows_held
   same_rows schema [] sound same = refl

@@ -1,17 +1,16 @@
 -- A merge and a move leave the rows as they are.
-use Rattle.std.specs.Prelude.{◌≡◌, ℕ, List, [], ◌∷◌, Option, Some, None, refl}
+use Rattle.std.specs.Prelude.{◌≡◌, ℕ, List, [], ◌∷◌, Option, Some}
 use Rattle.std.proofs.Common.{sym, ap, ◌∙◌}
 use Rattle.sector_dev.specs.Disk.{Image}
 use Rattle.segments.specs.Sectors.{bytes_at}
-use Rattle.arrow_schema.specs.Column.{PlainSchema}
-use Rattle.cells.specs.Cell.{Cell, PlainTable}
+use Rattle.cells.specs.Cell.{Cell}
 use Rattle.canonical_write.specs.Pieces.{piece_streams, piece_counts}
 use Rattle.catalogue.specs.declared.entry.Segment.{Segment}
 use Rattle.catalogue.specs.Entries.{PlainEntry, PlainCatalogue}
-use Rattle.catalogue.specs.Edits.{entry_of}
+use Rattle.catalogue.specs.Edits.{entry_of, from_place}
 use Rattle.store.specs.Held.{segment_rows, rows_in_bytes, joined_rows, rows_held}
 use Rattle.store.specs.Changes.{stream_rows, rows_under, HoldsStreams}
-use Rattle.store.specs.Exchanging.{from_place, HoldsSame}
+use Rattle.store.specs.Exchanging.{HoldsSame}
 use Rattle.store.specs.laws.Changed.{streams_held}
 
 module _ (image : Image) (c : PlainCatalogue) (name : List ℕ) (e : PlainEntry) (found : entry_of c name ≡ Some e) (place : ℕ) (others : List Segment) where

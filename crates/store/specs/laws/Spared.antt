@@ -29,7 +29,7 @@ in_front_of : (run : Run) (rest : Result (List Run) ℕ) (rs : List Run) → Ok 
 in_front_of run (Ok more) rs is = (more, refl, cc is)
 in_front_of run (Err n) rs is = absurd (cc is)
 
-takes_took : (size : ℕ) (used : Run → Type 0) (ns : List ℕ) (rs : List Run) → Takes size used ns (Ok rs) → Took size used ns rs
+pub takes_took : (size : ℕ) (used : Run → Type 0) (ns : List ℕ) (rs : List Run) → Takes size used ns (Ok rs) → Took size used ns rs
 takes_took size used [] [] takes = tt
 takes_took size used [] (r ∷ rs) takes = absurd (cc takes)
 takes_took size used (n ∷ ns) rs (inl none) = absurd (cc none.1)

@@ -1,7 +1,10 @@
-use Rattle.std.proofs.Common.{◌≤◌, ◌+◌, ◌∙◌, length, sym, ap, subst}
+use Rattle.std.proofs.Common.{◌≤◌, ◌+◌, ◌∙◌, ℕ, List, length, string_bytes, sym, ap, subst}
+use Rattle.catalogue.specs.Edits.{with_exchanged}
 use Rattle.catalogue.specs.View.{catalogue_of}
-use Rattle.catalogue.specs.Entries.{PlainCatalogue, is_entry, segment_count}
+use Rattle.catalogue.specs.Entries.{PlainCatalogue, IsCatalogue, is_entry, segment_count}
 use Rattle.catalogue.specs.declared.limits.TheConstants.{MAX_SEGMENTS}
+use Rattle.store.specs.declared.change.Edit.{Edit}
+use Rattle.store.specs.Changes.{edit_of, edited}
 use Rattle.store.proofs.EditedCounts.{put_is_entry, extend_is_few}
 use Rattle.store.proofs.editing.edited.Goals as goal
 
@@ -14,3 +17,13 @@ pub append_segments-requires-clause-most : goal.append_segments-requires-clause-
 append_segments-requires-clause-most c =
     subst (λ (d : PlainCatalogue). segment_count d + length c.args.segments.now ≤ MAX_SEGMENTS) (sym c.in_ok-changed.ensures)
     (extend_is_few (catalogue_of c.args.catalogue.now) c.args.edit.now c.in-Extend.name c.args.segments.now c.in-Extend.is c.requires.edit c.requires.stands)
+
+pub exchange_segments-requires : goal.exchange_segments-requires
+exchange_segments-requires c =
+    let listed = catalogue_of c.args.catalogue.now in
+    let name = c.in-Exchange.name in
+    let place = c.in-Exchange.place in
+    let count = c.in-Exchange.count in
+    let stands = subst (λ (x : Edit). IsCatalogue (edited listed (edit_of x) c.args.segments.now)) c.in-Exchange.is c.requires.stands in
+    subst (λ (n : List ℕ). IsCatalogue (with_exchanged (catalogue_of c.in_ok-changed.changed) n place count c.args.segments.now)) (sym c.deref-in-Exchange.ensures)
+    (subst (λ (d : PlainCatalogue). IsCatalogue (with_exchanged d (string_bytes name) place count c.args.segments.now)) (sym c.in_ok-changed.ensures) stands)

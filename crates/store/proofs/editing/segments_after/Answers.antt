@@ -1,7 +1,7 @@
 use Rattle.std.proofs.Common.{ap, ◌∙◌, arith}
 use Rattle.catalogue.specs.View.{catalogue_of}
 use Rattle.store.specs.laws.Edited.{segments_at, segments_within}
-use Rattle.store.proofs.EditedCounts.{after_put, after_extend, after_move, after_remove}
+use Rattle.store.proofs.EditedCounts.{after_put, after_extend, after_move, after_remove, exchange_fits, after_exchange}
 use Rattle.store.proofs.editing.segments_after.Goals as goal
 
 pub overflow_sub-result : goal.overflow_sub-result
@@ -31,3 +31,13 @@ returns-in-Remove c segments len =
     let listed = catalogue_of c.args.catalogue.now in
     let at = c.segments_at-in-Remove.ensures.number ∙ ap (segments_at listed) c.deref-in-Remove.ensures in
     omega (arith, c.segment_count-count.ensures, at, after_remove listed c.args.edit.now c.in-Remove.name c.in-Remove.is c.requires.edit segments)
+
+pub overflow_sub-result-in-Exchange : goal.overflow_sub-result-in-Exchange
+overflow_sub-result-in-Exchange c =
+    let listed = catalogue_of c.args.catalogue.now in
+    omega (arith, c.segment_count-count.ensures, exchange_fits listed c.args.edit.now c.in-Exchange._name c.in-Exchange._place c.in-Exchange.exchanged c.in-Exchange.is c.requires.edit)
+
+pub returns-in-Exchange : goal.returns-in-Exchange
+returns-in-Exchange c segments len =
+    let listed = catalogue_of c.args.catalogue.now in
+    omega (arith, c.segment_count-count.ensures, after_exchange listed c.args.edit.now c.in-Exchange._name c.in-Exchange._place c.in-Exchange.exchanged c.args.new c.in-Exchange.is c.requires.edit segments len)

@@ -1,0 +1,190 @@
+use Rattle.std.specs.Prelude.{◌≢◌}
+use Rattle.std.proofs.Common.{◌≡◌, Bool, true, false, Some, None, Result, Ok, Err, refl, sym, ◌∙◌, subst}
+use Rattle.std.proofs.lemmas.Bool.{true≢false, false_from_ne_true}
+use Rattle.sector_dev.specs.Disk.{Disk, Story, now, shown_image}
+use Rattle.sector_dev.specs.Time.{OnlyReads}
+use Rattle.sector_dev.specs.laws.Time.{stays}
+use Rattle.segments.specs.Usages.{IsUsedIn}
+use Rattle.segments.specs.laws.Usages.{or_false}
+use Rattle.catalogue.specs.View.{catalogue_of}
+use Rattle.catalogue.specs.laws.Kept.{catalogue_is}
+use Rattle.commit.specs.declared.recovery.Opened.{Opened}
+use Rattle.tables.specs.declared.refusal.Refusal.{Refusal}
+use Rattle.tables.specs.declared.refusal.Refusal.TheVariants as refusals
+use Rattle.store.specs.declared.compacting.Compaction.{Compaction}
+use Rattle.store.specs.declared.stored.StoredCatalogue.{StoredCatalogue}
+use Rattle.store.specs.Calls.{done}
+use Rattle.store.specs.Changes.{change_of, CanChange}
+use Rattle.store.specs.Fits.{listed_in}
+use Rattle.store.specs.Compacting.{RefusesStep}
+use Rattle.store.proofs.Asked.{is_running}
+use Rattle.store.proofs.ReadsStore.{fits_reading}
+use Rattle.store.proofs.Applied.{ends_after}
+use Rattle.store.proofs.StepChanges.{can_step, carried_shrinks}
+use Rattle.store.proofs.Stepped.{done_counts, never_nothing, nothing_read, made_goes, refused_goes, off_goes, none_goes, unread_goes}
+use Rattle.store.proofs.store.Store.compact_step.Goals as goal
+
+-- an answer of a step
+abbrev failed_by : Refusal → Result Compaction Refusal
+failed_by r = Err r
+
+-- ---- what is asked of the change
+
+pub carry_out-requires-clause-sound : goal.carry_out-requires-clause-sound
+carry_out-requires-clause-sound g c =
+    let D = g.D.SectorDevice in
+    let s = c.args.self.now in
+    let step = c.in-Ok-Some.step in
+    subst (λ (opened : Opened StoredCatalogue). CanChange (catalogue_of opened.catalogue.list) (change_of step.change)) (sym c.in-Ok-Some.ensures.reads.kept)
+    (can_step (listed_in s) (catalogue_is (listed_in s) s.opened.catalogue.list.kept) D.tells (shown_image (now (D.story s.device))) c.pieces_are_tables.ensures.each (D.size s.device) (IsUsedIn s.opened.map.entries)
+    step.done (change_of step.change) (rw c.in-Ok-Some.field-0-is at c.in-Ok-Some.ensures.found))
+
+pub carry_out-requires-clause-on : goal.carry_out-requires-clause-on
+carry_out-requires-clause-on g c = c.in-Ok-Some.ensures.reads.halts ∙ or_false c.args.self.now.halted ∙ c.if-self.false
+
+-- ---- a step that was made
+
+pub returns-in-Ok-clause-goes : goal.returns-in-Ok-clause-goes
+returns-in-Ok-clause-goes g c = λ told base m fits.
+    let D = g.D.SectorDevice in
+    let old = c.args.self.now in
+    let mid = c.find_step.new.self in
+    let reads = c.in-Ok-Some.ensures.reads in
+    let runs = is_running m.phase old.halted fits.phase c.if-self.false in
+    let there = fits_reading D.size D.story D.failed base m D.tells told old mid fits done refl reads in
+    let ends = c.in-Ok.ensures in
+    made_goes D.size D.story D.failed base m D.tells told c.laws_below.ensures old mid c.carry_out.new.self fits runs there reads c.in-Ok-Some.step.done (change_of c.in-Ok-Some.step.change)
+    (rw c.in-Ok-Some.field-0-is at c.in-Ok-Some.ensures.found) ends.size ends.pins (ends.carries told (there.sound runs).stands) ends.count (false_from_ne_true c.carry_out.new.self.halted (λ is. cc (ends.halts.0 is)))
+    (ends.done told (there.sound runs).stands)
+
+pub returns-in-Ok-clause-step : goal.returns-in-Ok-clause-step
+returns-in-Ok-clause-step g c =
+    let D = g.D.SectorDevice in
+    record {
+      change = Some (change_of c.in-Ok-Some.step.change);
+      step = rw c.in-Ok-Some.field-0-is at c.in-Ok-Some.ensures.found;
+      ends = ends_after D.size D.story D.failed D.tells c.args.self.now c.find_step.new.self done c.in-Ok-Some.ensures.reads (Ok (change_of c.in-Ok-Some.step.change)) (Ok tt) c.carry_out.new.self c.in-Ok.ensures.carried;
+    }
+
+pub returns-in-Ok-clause-shrinks : goal.returns-in-Ok-clause-shrinks
+returns-in-Ok-clause-shrinks g c = λ other.
+    let D = g.D.SectorDevice in
+    let old = c.args.self.now in
+    let new = c.carry_out.new.self in
+    carried_shrinks (listed_in old) (catalogue_is (listed_in old) old.opened.catalogue.list.kept) D.tells (shown_image (now (D.story old.device))) (D.size old.device) (IsUsedIn old.opened.map.entries) c.in-Ok-Some.step.done
+    (change_of c.in-Ok-Some.step.change) (rw c.in-Ok-Some.field-0-is at c.in-Ok-Some.ensures.found) old.opened.commit new.opened.commit (listed_in new)
+    (ends_after D.size D.story D.failed D.tells old c.find_step.new.self done c.in-Ok-Some.ensures.reads (Ok (change_of c.in-Ok-Some.step.change)) (Ok tt) new c.in-Ok.ensures.carried)
+
+pub returns-in-Ok-clause-halted : goal.returns-in-Ok-clause-halted
+returns-in-Ok-clause-halted g c = (λ is. absurd (cc is), λ off. absurd (true≢false (sym off ∙ c.if-self.false)))
+
+pub returns-in-Ok-clause-same : goal.returns-in-Ok-clause-same
+returns-in-Ok-clause-same g c = λ off. absurd (true≢false (sym off ∙ c.if-self.false))
+
+pub returns-in-Ok-clause-halts : goal.returns-in-Ok-clause-halts
+returns-in-Ok-clause-halts g c = λ on. (λ is. absurd (let e = c.in-Ok.ensures.halts.0 is in cc e), λ is. absurd (cc is))
+
+pub returns-in-Ok-clause-size : goal.returns-in-Ok-clause-size
+returns-in-Ok-clause-size g c = c.in-Ok.ensures.size ∙ c.in-Ok-Some.ensures.reads.device.same
+
+pub returns-in-Ok-clause-count : goal.returns-in-Ok-clause-count
+returns-in-Ok-clause-count g c =
+    let D = g.D.SectorDevice in
+    done_counts c.in-Ok-Some.step.done (D.failed c.args.self.now.device) (D.failed c.carry_out.new.self.device) (c.in-Ok.ensures.count ∙ c.in-Ok-Some.ensures.reads.device.count)
+
+pub returns-in-Ok-clause-pins : goal.returns-in-Ok-clause-pins
+returns-in-Ok-clause-pins g c = c.in-Ok.ensures.pins ∙ c.in-Ok-Some.ensures.reads.pins
+
+pub returns-in-Ok-clause-still : goal.returns-in-Ok-clause-still
+returns-in-Ok-clause-still g c = λ is.
+    let D = g.D.SectorDevice in
+    let old = c.args.self.now in
+    absurd (never_nothing D.tells (shown_image (now (D.story old.device))) (D.size old.device) (IsUsedIn old.opened.map.entries) (listed_in old) c.in-Ok-Some.step.done (change_of c.in-Ok-Some.step.change)
+    (rw c.in-Ok-Some.field-0-is at c.in-Ok-Some.ensures.found) (cc is))
+
+-- ---- one that was refused
+
+pub returns-in-Ok-Some-clause-refused : goal.returns-in-Ok-Some-clause-refused
+returns-in-Ok-Some-clause-refused g c = λ told base m fits.
+    let D = g.D.SectorDevice in
+    let old = c.args.self.now in
+    let mid = c.find_step.new.self in
+    let reads = c.in-Ok-Some.ensures.reads in
+    let runs = is_running m.phase old.halted fits.phase c.if-self.false in
+    let there = fits_reading D.size D.story D.failed base m D.tells told old mid fits done refl reads in
+    let ends = c.in-Err-carry_out.ensures in
+    refused_goes D.size D.story D.failed base m D.tells told c.laws_below.ensures old mid c.carry_out.new.self fits runs there reads c.in-Ok-Some.step.done (change_of c.in-Ok-Some.step.change)
+    (rw c.in-Ok-Some.field-0-is at c.in-Ok-Some.ensures.found) ends.size ends.pins (ends.carries told (there.sound runs).stands) c.in-Err-carry_out.refusal ends.count ends.carried ends.halts ends.kept ends.quiet
+
+pub returns-in-Ok-Some-clause-reads : goal.returns-in-Ok-Some-clause-reads
+returns-in-Ok-Some-clause-reads g c = λ other told.
+    let D = g.D.SectorDevice in
+    subst (λ (s : Story). OnlyReads (D.story c.args.self.now.device) s) (sym (c.in-Err-carry_out.ensures.quiet other)) (c.in-Ok-Some.ensures.reads.device.moments told)
+
+pub returns-clause-refused : goal.returns-clause-refused
+returns-clause-refused g c = λ told base m fits.
+    let D = g.D.SectorDevice in
+    let old = c.args.self.now in
+    unread_goes D.size D.story D.failed base m D.tells told old c.find_step.new.self fits c.laws_below.ensures.tables (is_running m.phase old.halted fits.phase c.if-self.false) c.in-Err.refusal c.in-Err.ensures.unread c.in-Err.ensures.reads
+
+-- ---- nothing to do
+
+pub returns-in-Ok-None-clause-goes : goal.returns-in-Ok-None-clause-goes
+returns-in-Ok-None-clause-goes g c = λ told base m fits.
+    let D = g.D.SectorDevice in
+    let old = c.args.self.now in
+    none_goes D.size D.story D.failed base m D.tells told old c.find_step.new.self fits (is_running m.phase old.halted fits.phase c.if-self.false) c.in-Ok-None.ensures.reads
+
+pub returns-in-Ok-None-clause-step : goal.returns-in-Ok-None-clause-step
+returns-in-Ok-None-clause-step g c = record { change = None; step = rw c.in-Ok-None.field-0-is at c.in-Ok-None.ensures.found; ends = c.in-Ok-None.ensures.reads.kept }
+
+pub returns-in-Ok-None-clause-still : goal.returns-in-Ok-None-clause-still
+returns-in-Ok-None-clause-still g c = λ is. nothing_read c.in-Ok-None.ensures.reads
+
+pub returns-in-Ok-None-clause-shrinks : goal.returns-in-Ok-None-clause-shrinks
+returns-in-Ok-None-clause-shrinks g c = λ other. absurd (other refl)
+
+pub returns-in-Ok-None-clause-halted : goal.returns-in-Ok-None-clause-halted
+returns-in-Ok-None-clause-halted g c = (λ is. absurd (cc is), λ off. absurd (true≢false (sym off ∙ c.if-self.false)))
+
+pub returns-in-Ok-None-clause-same : goal.returns-in-Ok-None-clause-same
+returns-in-Ok-None-clause-same g c = λ off. absurd (true≢false (sym off ∙ c.if-self.false))
+
+pub returns-in-Ok-None-clause-halts : goal.returns-in-Ok-None-clause-halts
+returns-in-Ok-None-clause-halts g c = λ on. (λ is. absurd (true≢false (sym is ∙ (c.in-Ok-None.ensures.reads.halts ∙ or_false c.args.self.now.halted ∙ on))), λ is. absurd (cc is))
+
+pub returns-in-Ok-None-clause-size : goal.returns-in-Ok-None-clause-size
+returns-in-Ok-None-clause-size g c = c.in-Ok-None.ensures.reads.device.same
+
+pub returns-in-Ok-None-clause-count : goal.returns-in-Ok-None-clause-count
+returns-in-Ok-None-clause-count g c = c.in-Ok-None.ensures.reads.device.count
+
+pub returns-in-Ok-None-clause-pins : goal.returns-in-Ok-None-clause-pins
+returns-in-Ok-None-clause-pins g c = c.in-Ok-None.ensures.reads.pins
+
+-- ---- a store that is halted
+
+pub returns-then-self-clause-refused : goal.returns-then-self-clause-refused
+returns-then-self-clause-refused g c = λ told base m fits.
+    let D = g.D.SectorDevice in off_goes D.size D.story D.failed base m D.tells told c.args.self.now c.args.self.now fits c.if-self.true
+
+pub returns-then-self-clause-told : goal.returns-then-self-clause-told
+returns-then-self-clause-told g c =
+    let D = g.D.SectorDevice in
+    subst (λ (b : Bool). RefusesStep D.size D.story D.tells b c.args.self.now refusals.Halted c.args.self.now) (sym c.if-self.true) refl
+
+pub returns-then-self-clause-kept : goal.returns-then-self-clause-kept
+returns-then-self-clause-kept g c = (refl, refl, λ run. refl)
+
+pub returns-then-self-clause-reads : goal.returns-then-self-clause-reads
+returns-then-self-clause-reads g c = λ other told.
+    let story = g.D.SectorDevice.story c.args.self.now.device in stays (λ (d : Disk). d ≡ now story) story
+
+pub returns-then-self-clause-halted : goal.returns-then-self-clause-halted
+returns-then-self-clause-halted g c = (λ is. c.if-self.true, λ off. refl)
+
+pub returns-then-self-clause-same : goal.returns-then-self-clause-same
+returns-then-self-clause-same g c = λ off. refl
+
+pub returns-then-self-clause-halts : goal.returns-then-self-clause-halts
+returns-then-self-clause-halts g c = λ on. absurd (true≢false (sym c.if-self.true ∙ on))

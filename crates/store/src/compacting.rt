@@ -1,0 +1,147 @@
+// A compaction, step by step: two neighbouring segments become one, or the last segment moves forward.
+ghost use Rattle.std.specs.Prelude.{◌≡◌, ◌≢◌, ◌↔◌, true, false, map, Ok, Err, IfOk, IfErr};
+ghost use Rattle.sector_dev.specs.Disk.{now, shown_image};
+ghost use Rattle.sector_dev.specs.Time.{OnlyReads};
+ghost use Rattle.segments.specs.Usages.{IsUsedIn};
+ghost use Rattle.catalogue.specs.Entries.{plain_entry, runs_of, IsCatalogue};
+ghost use Rattle.commit.specs.Standing.{is_size, all_on_device};
+ghost use Rattle.store.specs.Reading.{OnlyReadsDevice, ended};
+ghost use Rattle.store.specs.Compacting.{UnreadsStep};
+ghost use Rattle.store.specs.inner.Compacting.{FindsStep};
+
+use crate::Store;
+use crate::change::Change;
+use crate::laws::laws_below;
+use crate::moving::decide_move;
+use crate::pairs::first_pair;
+use crate::reading::is_failure;
+use canonical_write::pieces_are_tables;
+use catalogue::TableEntry;
+use sector_dev::SectorDevice;
+use segments::FreeMap;
+use std::alloc::Global;
+use tables::Refusal;
+
+/// What a step of a compaction did.
+#[derive(Clone, Copy, Debug, PartialEq, Eq)]
+pub enum Compaction {
+    /// Two neighbouring segments of a table became one.
+    Merged,
+    /// The segment that started last lies elsewhere, further in front.
+    Moved,
+    /// There is nothing to do.
+    Nothing,
+}
+
+/// What is to be done, and the change that does it.
+#[derive(Drop)]
+pub(crate) struct Step {
+    pub(crate) done: Compaction,
+    pub(crate) change: Change,
+}
+
+// What a step does to these tables, beside the runs that are free.
+fn decide_step<D: SectorDevice>(
+    alloc: Global,
+    device: &mut D,
+    free: &FreeMap,
+    entries: &[TableEntry],
+) -> Result<Option<Step>, Refusal>
+    requires size { is_size (D.size device.old) ≡ true }
+    requires placed { all_on_device (D.size device.old) (runs_of (map plain_entry entries.now)) ≡ true }
+    requires stands { IsCatalogue (map plain_entry entries.now) }
+    ensures reads { OnlyReadsDevice D.size D.story D.failed D.tells (ended result) device.old device.new }
+    ensures found { IfOk result (FindsStep D.tells (shown_image (now (D.story device.old))) free.now.size (IsUsedIn free.now.entries)
+        (map plain_entry entries.now)) }
+    ensures unread { IfErr result (UnreadsStep D.tells (shown_image (now (D.story device.old))) (map plain_entry entries.now)) }
+{
+    match first_pair(alloc, device, entries) {
+        Ok(Some(change)) => Ok(Some(Step {
+            done: Compaction::Merged,
+            change,
+        })),
+        Ok(None) => match decide_move(alloc, device, free, entries) {
+            Ok(Some(change)) => Ok(Some(Step {
+                done: Compaction::Moved,
+                change,
+            })),
+            Ok(None) => Ok(None),
+            Err(refusal) => Err(refusal),
+        },
+        Err(refusal) => Err(refusal),
+    }
+}
+
+impl<D: SectorDevice> Store<D> {
+    ghost use Rattle.tables.specs.Tables.{Tables};
+    ghost use Rattle.store.specs.Calls.{compact_call, refused, nothing, counted};
+    ghost use Rattle.store.specs.Machine.{Machine};
+    ghost use Rattle.store.specs.Exchanging.{Shrinks};
+    ghost use Rattle.store.specs.Fits.{StoreFits, device_of, listed_in, is_halted};
+    ghost use Rattle.store.specs.Reading.{OnlyReadsStore};
+    ghost use Rattle.store.specs.Applying.{GoesOn, IsKept};
+    ghost use Rattle.store.specs.Compacting.{reply_of, step_reply, HasStepped, RefusesStep};
+
+    // What a step does. It only reads.
+    fn find_step(&mut self, alloc: Global) -> Result<Option<Step>, Refusal>
+        requires on { self.old.halted ≡ false }
+        ensures reads { OnlyReadsStore D.size D.story D.failed D.tells (ended result) self.old self.new }
+        ensures found { IfOk result (FindsStep D.tells (shown_image (now (D.story (device_of self.old)))) (D.size (device_of self.old))
+            (IsUsedIn self.old.opened.map.entries) (listed_in self.old)) }
+        ensures unread { IfErr result (UnreadsStep D.tells (shown_image (now (D.story (device_of self.old)))) (listed_in self.old)) }
+    {
+        let opened = &self.opened;
+        let entries = opened.catalogue.list.entries();
+        match decide_step(alloc, &mut self.device, &opened.map, entries) {
+            Ok(step) => Ok(step),
+            Err(refusal) => {
+                self.halted = is_failure(refusal);
+                Err(refusal)
+            }
+        }
+    }
+
+    /// One step of a compaction. The first two neighbouring segments, tables in byte order of their names, whose rows the cut keeps in one piece become one
+    /// segment. Where there are none, the segment of greatest start moves to the lowest free run that fits it, if this one starts in front of it. Else there
+    /// is nothing to do. The tables stay as they are, at each moment. After some steps there is nothing more to do ([`crate::compactions_end`]).
+    ///
+    /// # Errors
+    /// `Halted` after a failure of the device; `SegmentUnread`, as [`Store::read`], of a pair that is read, or of the segment that is to move where one of
+    /// its sectors can't be read; `Device`, after which the store is halted; `TooMany(Epochs)`; `NoRoom` where the new segment or the catalogue finds no
+    /// free run, and then nothing is moved in its stead; `OutOfMemory`. After any but `Device` nothing has changed.
+    pub fn compact_step(&mut self, alloc: Global) -> Result<Compaction, Refusal>
+        // On a store that stands for a machine: the tables stay those of the settled commands, at each moment.
+        ensures goes { IfOk result (λ done. D.tells ≡ true → (base : Tables) (m : Machine) → StoreFits D.size D.story base m self.old
+            → GoesOn D.size D.story D.failed base m compact_call (reply_of done) self.old self.new) }
+        ensures refused { IfErr result (λ e. D.tells ≡ true → (base : Tables) (m : Machine) → StoreFits D.size D.story base m self.old
+            → GoesOn D.size D.story D.failed base m compact_call (refused e) self.old self.new) }
+        // On any store and any device: what is merged or moved is so by its catalogue, its free runs and what reads show; each refusal has its one reason.
+        ensures step { IfOk result (λ done. HasStepped D.size D.story D.tells self.old done self.new) }
+        ensures told { IfErr result (λ e. RefusesStep D.size D.story D.tells (is_halted self.old) self.old e self.new) }
+        ensures shrinks { IfOk result (λ done. done ≢ Compaction.Nothing → Shrinks (listed_in self.old) (listed_in self.new)) }
+        ensures still { result ≡ Ok Compaction.Nothing → OnlyReadsStore D.size D.story D.failed D.tells nothing self.old self.new }
+        ensures kept { IfErr result (λ e. IsKept self.old self.new) }
+        ensures reads { IfErr result (λ e. e ≢ Refusal.Device → D.tells ≡ true
+            → OnlyReads (D.story (device_of self.old)) (D.story (device_of self.new))) }
+        ensures halted { (result ≡ Err Refusal.Halted) ↔ (is_halted self.old ≡ true) }
+        ensures same { is_halted self.old ≡ true → self.new ≡ self.old }
+        ensures halts { is_halted self.old ≡ false → (is_halted self.new ≡ true) ↔ (result ≡ Err Refusal.Device) }
+        ensures size { D.size (device_of self.new) ≡ D.size (device_of self.old) }
+        ensures count { D.failed (device_of self.new) ≡ counted (step_reply result) (D.failed (device_of self.old)) }
+        ensures pins { self.new.pins ≡ self.old.pins }
+    {
+        if self.halted {
+            return Err(Refusal::Halted);
+        }
+        laws_below();
+        pieces_are_tables();
+        match self.find_step(alloc) {
+            Ok(Some(step)) => match self.carry_out(alloc, &step.change) {
+                Ok(()) => Ok(step.done),
+                Err(refusal) => Err(refusal),
+            },
+            Ok(None) => Ok(Compaction::Nothing),
+            Err(refusal) => Err(refusal),
+        }
+    }
+}
