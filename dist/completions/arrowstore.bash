@@ -1,0 +1,35 @@
+# Completions of arrowstore for bash, made of its help.
+_arrowstore() {
+    local word=${COMP_WORDS[COMP_CWORD]} before=${COMP_WORDS[COMP_CWORD-1]} flags=
+    COMPREPLY=()
+    if [ $COMP_CWORD -eq 1 ]; then
+        COMPREPLY=($(compgen -W 'recode help format create import append query export rename drop tables schema check -h --help --version' -- "$word"))
+        return
+    fi
+    case "${COMP_WORDS[1]} $before" in
+    'append --as') COMPREPLY=($(compgen -W 'stream csv jsonl' -- "$word")); return ;;
+    'append --null') return ;;
+    'query --columns') return ;;
+    'query --limit') return ;;
+    'query --save') return ;;
+    esac
+    case "${COMP_WORDS[1]}" in
+    recode) flags='-h --help' ;;
+    format) flags='-h --help' ;;
+    create) flags='-h --help' ;;
+    import) flags='-h --help' ;;
+    append) flags='--as --null -h --help' ;;
+    query) flags='--columns --limit --save -h --help' ;;
+    export) flags='-h --help' ;;
+    rename) flags='-h --help' ;;
+    drop) flags='-h --help' ;;
+    tables) flags='-h --help' ;;
+    schema) flags='-h --help' ;;
+    check) flags='-h --help' ;;
+    help) [ $COMP_CWORD -eq 2 ] && COMPREPLY=($(compgen -W 'recode format create import append query export rename drop tables schema check refusals' -- "$word")); return ;;
+    esac
+    if [ "${word#-}" != "$word" ]; then
+        COMPREPLY=($(compgen -W "$flags" -- "$word"))
+    fi
+}
+complete -o default -F _arrowstore arrowstore

@@ -1,0 +1,46 @@
+# Completions of arrowstore for fish, made of its help.
+complete -c arrowstore -f
+complete -c arrowstore -n __fish_use_subcommand -s h -l help -d 'Print help'
+complete -c arrowstore -n __fish_use_subcommand -l version -d 'The version'
+complete -c arrowstore -n __fish_use_subcommand -a recode -d 'Reads a stream from standard input, and writes its canonical form to standard output'
+complete -c arrowstore -n __fish_use_subcommand -a help -d 'Print this message or the help of the given subcommand(s)'
+complete -c arrowstore -n __fish_use_subcommand -a format -d 'Makes a file of so many sectors, and an empty store in it'
+complete -c arrowstore -n __fish_use_subcommand -a create -d 'Makes a table without rows'
+complete -c arrowstore -n __fish_use_subcommand -a import -d 'Reads a stream from standard input, and makes its table, in place of one of this name'
+complete -c arrowstore -n __fish_use_subcommand -a append -d 'Reads rows from standard input, and appends them to a table'
+complete -c arrowstore -n __fish_use_subcommand -a query -d 'Prints the rows of a table that meet all conditions, each as a line of JSON'
+complete -c arrowstore -n __fish_use_subcommand -a export -d 'Writes the stream of a table to standard output'
+complete -c arrowstore -n __fish_use_subcommand -a rename -d 'Gives a table another name'
+complete -c arrowstore -n __fish_use_subcommand -a drop -d 'Removes a table with all its rows'
+complete -c arrowstore -n __fish_use_subcommand -a tables -d 'Prints a line for each table: its name, and how many rows it has'
+complete -c arrowstore -n __fish_use_subcommand -a schema -d 'Prints a line for each field of a table'
+complete -c arrowstore -n __fish_use_subcommand -a check -d 'Reads all tables, and prints ok where each can be read'
+complete -c arrowstore -n '__fish_seen_subcommand_from recode' -s h -l help -d 'Print help'
+complete -c arrowstore -n '__fish_seen_subcommand_from format; and test (count (commandline -opc)) -eq 2' -F
+complete -c arrowstore -n '__fish_seen_subcommand_from format' -s h -l help -d 'Print help'
+complete -c arrowstore -n '__fish_seen_subcommand_from create; and test (count (commandline -opc)) -eq 2' -F
+complete -c arrowstore -n '__fish_seen_subcommand_from create' -s h -l help -d 'Print help'
+complete -c arrowstore -n '__fish_seen_subcommand_from import; and test (count (commandline -opc)) -eq 2' -F
+complete -c arrowstore -n '__fish_seen_subcommand_from import' -s h -l help -d 'Print help'
+complete -c arrowstore -n '__fish_seen_subcommand_from append; and test (count (commandline -opc)) -eq 2' -F
+complete -c arrowstore -n '__fish_seen_subcommand_from append' -l as -x -a 'stream csv jsonl' -d 'What the input is: CSV begins with the names of the columns, JSON Lines has a row on each line'
+complete -c arrowstore -n '__fish_seen_subcommand_from append' -l null -x -d 'In CSV, the text that stands for null where nulls are allowed; without this option the empty one'
+complete -c arrowstore -n '__fish_seen_subcommand_from append' -s h -l help -d 'Print help'
+complete -c arrowstore -n '__fish_seen_subcommand_from query; and test (count (commandline -opc)) -eq 2' -F
+complete -c arrowstore -n '__fish_seen_subcommand_from query' -l columns -x -d 'The columns, in this order; without this option all of them'
+complete -c arrowstore -n '__fish_seen_subcommand_from query' -l limit -x -d 'How many rows at most'
+complete -c arrowstore -n '__fish_seen_subcommand_from query' -l save -x -d 'Makes a table of this name of them, in place of printing'
+complete -c arrowstore -n '__fish_seen_subcommand_from query' -s h -l help -d 'Print help'
+complete -c arrowstore -n '__fish_seen_subcommand_from export; and test (count (commandline -opc)) -eq 2' -F
+complete -c arrowstore -n '__fish_seen_subcommand_from export' -s h -l help -d 'Print help'
+complete -c arrowstore -n '__fish_seen_subcommand_from rename; and test (count (commandline -opc)) -eq 2' -F
+complete -c arrowstore -n '__fish_seen_subcommand_from rename' -s h -l help -d 'Print help'
+complete -c arrowstore -n '__fish_seen_subcommand_from drop; and test (count (commandline -opc)) -eq 2' -F
+complete -c arrowstore -n '__fish_seen_subcommand_from drop' -s h -l help -d 'Print help'
+complete -c arrowstore -n '__fish_seen_subcommand_from tables; and test (count (commandline -opc)) -eq 2' -F
+complete -c arrowstore -n '__fish_seen_subcommand_from tables' -s h -l help -d 'Print help'
+complete -c arrowstore -n '__fish_seen_subcommand_from schema; and test (count (commandline -opc)) -eq 2' -F
+complete -c arrowstore -n '__fish_seen_subcommand_from schema' -s h -l help -d 'Print help'
+complete -c arrowstore -n '__fish_seen_subcommand_from check; and test (count (commandline -opc)) -eq 2' -F
+complete -c arrowstore -n '__fish_seen_subcommand_from check' -s h -l help -d 'Print help'
+complete -c arrowstore -n '__fish_seen_subcommand_from help' -a 'recode format create import append query export rename drop tables schema check refusals'
