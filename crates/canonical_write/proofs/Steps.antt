@@ -7,7 +7,7 @@ use Rattle.std.proofs.lemmas.List.{length-map, append-nil}
 use Rattle.std.proofs.lemmas.List.Concat.{flat_map-cons}
 use Rattle.arrow_schema.specs.Column.{Columns, PlainSchema, columns_of}
 use Rattle.arrow_schema.specs.Preorder.{preorder_all}
-use Rattle.canonical_stream.specs.Canonical.{canonical, entries_message, entries_messages, piece_messages}
+use Rattle.canonical_stream.specs.Canonical.{canonical, entries_message, entries_messages, piece_messages, rows_messages}
 use Rattle.canonical_stream.specs.Pieces.{IsPieceOf}
 use Rattle.canonical_stream.specs.laws.FewColumns.{dictionaries_have_few}
 use Rattle.array_build.specs.Batch.{PlainBatch, buffers_in, dictionary_of, node_in, dictionary_in, batch_in, with_arrays, batch_of, built_below}
@@ -191,10 +191,9 @@ one_stream s rows alone =
     ∙ ap (λ (x : List ℕ). schema_message s ++ (x ++ end_of_stream)) (flat_map-cons (piece_messages s) rows [] ∙ append-nil (piece_messages s rows))
 
 -- before the first piece
-pub first_written : (s : PlainSchema) (t : PlainTable) (out : List ℕ) → out ≡ schema_message s
-    → out ++ (flat_map (piece_messages s) (pieces (within_piece s) t.rows) ++ end_of_stream) ≡ canonical (with_schema s t)
-unfolding canonical
-first_written s t out is = ap (λ (x : List ℕ). x ++ (flat_map (piece_messages s) (pieces (within_piece s) t.rows) ++ end_of_stream)) is
+pub first_written : (s : PlainSchema) (rows : List (List Cell)) (out : List ℕ) → out ++ (flat_map (piece_messages s) (pieces (within_piece s) rows) ++ []) ≡ out ++ rows_messages s rows
+unfolding rows_messages
+first_written s rows out = ap (λ (x : List ℕ). out ++ x) (append-nil (flat_map (piece_messages s) (pieces (within_piece s) rows)))
 
 pub first_streams : (s : PlainSchema) (t : PlainTable) (made : List (List ℕ)) → made ≡ [] → made ++ map (piece_stream s) (pieces (within_piece s) t.rows) ≡ piece_streams (with_schema s t)
 unfolding piece_streams
@@ -205,10 +204,15 @@ unfolding piece_counts
 first_counts s t made none = ap (λ (x : List ℕ). x ++ map length (pieces (within_piece s) t.rows)) none
 
 -- behind the last piece
-pub last_written : (s : PlainSchema) (out new whole : List ℕ) (left : List (List Cell)) → left ≡ []
-    → out ++ (flat_map (piece_messages s) (pieces (within_piece s) left) ++ end_of_stream) ≡ whole → new ≡ out ++ end_of_stream → new ≡ whole
-last_written s out new whole left none is written =
-    written ∙ sym (ap (λ (rows : List (List Cell)). out ++ (flat_map (piece_messages s) (pieces (within_piece s) rows) ++ end_of_stream)) none) ∙ is
+pub last_written : (s : PlainSchema) (out whole : List ℕ) (left : List (List Cell)) → left ≡ [] → out ++ (flat_map (piece_messages s) (pieces (within_piece s) left) ++ []) ≡ whole → out ≡ whole
+last_written s out whole left none is = sym (append-nil out) ∙ sym (ap (λ (rows : List (List Cell)). out ++ (flat_map (piece_messages s) (pieces (within_piece s) rows) ++ [])) none) ∙ is
+
+-- the message of the schema, the messages of the rows and the end of stream
+pub whole_written : (s : PlainSchema) (rows : List (List Cell)) (first messages new : List ℕ) → first ≡ schema_message s → messages ≡ first ++ rows_messages s rows → new ≡ messages ++ end_of_stream
+    → new ≡ canonical (record { schema = s; rows = rows })
+unfolding canonical rows_messages
+whole_written s rows first messages new begun written ended =
+    ended ∙ ap (λ (x : List ℕ). x ++ end_of_stream) (written ∙ ap (λ (x : List ℕ). x ++ rows_messages s rows) begun) ∙ append_assoc (schema_message s) (rows_messages s rows) end_of_stream
 
 pub last_made : {B : Type 0} (s : PlainSchema) (f : List (List Cell) → B) (made whole : List B) (left : List (List Cell)) → left ≡ []
     → made ++ map f (pieces (within_piece s) left) ≡ whole → made ≡ whole

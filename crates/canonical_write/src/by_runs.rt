@@ -3,7 +3,7 @@ ghost use Rattle.std.specs.Prelude.{◌≡◌, ◌<◌, ◌^◌, ◌∷◌, ◌+
 ghost use Rattle.std.specs.List.{AllByRecursion};
 ghost use Rattle.arrow_schema.specs.Column.{columns_of};
 ghost use Rattle.arrow_schema.specs.View.{schema_of};
-ghost use Rattle.canonical_stream.specs.Canonical.{canonical};
+ghost use Rattle.canonical_stream.specs.Canonical.{canonical, rows_messages};
 ghost use Rattle.canonical_stream.specs.Pieces.{IsPieceOf};
 ghost use Rattle.canonical_write.specs.Pieces.{piece_stream, piece_streams, piece_counts};
 ghost use Rattle.canonical_write.specs.View.{joined_parts, streams_behind, streams_in};
@@ -27,9 +27,9 @@ use run_pieces::{RowRun, RowsLeft, RunPiece};
 use std::alloc::{AllocError, Global};
 use values::Part;
 
-// Writes the pieces of the rows that are left, of which there are so many, behind the message of the schema, and the end of stream. The front that is kept for
-// the next piece is the caller's, so that no turn of the loop owns it.
-fn write_left<'a>(
+// Writes the messages of the rows that are left, of which there are so many. The front that is kept for the next piece is the caller's, so that no turn of the
+// loop owns it.
+fn write_runs<'a>(
     alloc: Global,
     schema: &Schema,
     stream: &mut Stream<'a>,
@@ -37,11 +37,11 @@ fn write_left<'a>(
     left: &mut RowsLeft<'a>,
     rows: usize,
 ) -> Result<(), AllocError>
-    requires first { stream_in stream.old ≡ schema_message (schema_of schema.now) }
     requires table { IsTable (runs_table (schema_of schema.now) (runs_left left.old)) }
     requires sound { are_runs_sound (columns_of (schema_of schema.now).columns) (runs_left left.old) ≡ true }
     requires count { rows ≡ length (rows_left (columns_of (schema_of schema.now).columns) left.old) }
-    ensures { OnOk result (stream_in stream.new ≡ canonical (runs_table (schema_of schema.now) (runs_left left.old))) }
+    ensures { OnOk result (stream_in stream.new ≡ stream_in stream.old
+        ++ rows_messages (schema_of schema.now) (rows_left (columns_of (schema_of schema.now).columns) left.old)) }
 {
     pieces_can_be_built();
     let mut from = 0;
@@ -50,7 +50,7 @@ fn write_left<'a>(
         write_run_piece(alloc, stream, kept, schema, &piece)?;
         from += piece.rows;
     }
-    end_stream(stream)
+    Ok(())
 }
 
 // The one stream of the rows that are left, of which there are so many.
@@ -68,7 +68,8 @@ fn encode_left<'a>(
     let mut left = all;
     let first = schema_bytes(alloc, schema)?;
     let mut stream = begin_stream(alloc, first);
-    write_left(alloc, schema, &mut stream, &mut None, &mut left, rows)?;
+    write_runs(alloc, schema, &mut stream, &mut None, &mut left, rows)?;
+    end_stream(&mut stream)?;
     Ok(stream)
 }
 
@@ -86,6 +87,25 @@ pub(crate) fn encode_parts<'a>(
 {
     let left = RowsLeft::new(alloc, parts)?;
     encode_left(alloc, schema, left, rows)
+}
+
+/// The messages of the rows of record batches, of which there are so many.
+pub(crate) fn messages_of_parts<'a>(
+    alloc: Global,
+    schema: &Schema,
+    parts: &'a [Part],
+    rows: usize,
+) -> Result<Stream<'a>, AllocError>
+    requires table { IsTable (parts_table (schema_of schema.now) parts.now) }
+    requires sound { are_parts_sound (columns_of (schema_of schema.now).columns) parts.now ≡ true }
+    requires count { rows ≡ length (parts_rows (columns_of (schema_of schema.now).columns) parts.now) }
+    ensures { IfOk result (λ stream. stream_in stream
+        ≡ rows_messages (schema_of schema.now) (parts_rows (columns_of (schema_of schema.now).columns) parts.now)) }
+{
+    let mut left = RowsLeft::new(alloc, parts)?;
+    let mut stream = begin_stream(alloc, Vec::new(alloc));
+    write_runs(alloc, schema, &mut stream, &mut None, &mut left, rows)?;
+    Ok(stream)
 }
 
 /// The one stream of the rows of some runs, of which there are so many: that of [`crate::encode`] of a table that has these rows.

@@ -3,7 +3,7 @@ ghost use Rattle.std.specs.Prelude.{◌≡◌, ◌<◌, ◌^◌, ◌∷◌, ◌+
 ghost use Rattle.std.specs.List.{AllByRecursion};
 ghost use Rattle.arrow_schema.specs.Limits.{IsWithinLimits};
 ghost use Rattle.arrow_schema.specs.View.{column_of, schema_of};
-ghost use Rattle.canonical_stream.specs.Canonical.{canonical};
+ghost use Rattle.canonical_stream.specs.Canonical.{canonical, rows_messages};
 ghost use Rattle.canonical_stream.specs.Pieces.{IsPieceOf};
 ghost use Rattle.canonical_write.specs.Pieces.{piece_stream, piece_streams, piece_counts};
 ghost use Rattle.canonical_write.specs.View.{joined_parts, streams_behind, streams_in, with_schema};
@@ -15,7 +15,7 @@ ghost use Rattle.values.specs.Borrowed.{borrowed_cells};
 ghost use Rattle.values.specs.Table.{IsTable};
 ghost use Rattle.values.specs.TableView.{table_of};
 
-use crate::by_runs::{encode_parts, encode_parts_pieces};
+use crate::by_runs::{encode_parts, encode_parts_pieces, messages_of_parts};
 use crate::front::BatchFront;
 use crate::messages::write_piece;
 use crate::stream::{Stream, begin_stream, end_stream, into_bytes, into_parts, schema_bytes};
@@ -49,18 +49,16 @@ pub(crate) fn no_pieces<'a>(alloc: Global, schema: &Schema) -> Result<EncodedPie
     })
 }
 
-// Writes the pieces of the rows of a table, under a schema, behind the message of the schema, and the end of stream. The front that is kept for the next piece
-// is the caller's, so that no turn of the loop owns it.
-fn write_table(
+// Writes the messages of the rows of a table, under a schema. The front that is kept for the next piece is the caller's, so that no turn of the loop owns it.
+fn write_rows(
     alloc: Global,
     schema: &Schema,
     table: &Table,
     kept: &mut Option<BatchFront>,
     stream: &mut Stream<'_>,
 ) -> Result<(), AllocError>
-    requires first { stream_in stream.old ≡ schema_message (schema_of schema.now) }
-    requires table { IsTable (with_schema (schema_of schema.now) (table_of table.now)) }
-    ensures { OnOk result (stream_in stream.new ≡ canonical (with_schema (schema_of schema.now) (table_of table.now))) }
+    requires { IsTable (with_schema (schema_of schema.now) (table_of table.now)) }
+    ensures { OnOk result (stream_in stream.new ≡ stream_in stream.old ++ rows_messages (schema_of schema.now) (table_of table.now).rows) }
 {
     pieces_can_be_built();
     let mut from = 0;
@@ -69,7 +67,7 @@ fn write_table(
         write_piece(alloc, stream, kept, schema, &piece)?;
         from += piece.len();
     }
-    end_stream(stream)
+    Ok(())
 }
 
 // The one stream of the rows of a table, under a schema.
@@ -79,7 +77,8 @@ fn encode_rows<'a>(alloc: Global, schema: &Schema, table: &Table) -> Result<Stre
 {
     let first = schema_bytes(alloc, schema)?;
     let mut stream = begin_stream(alloc, first);
-    write_table(alloc, schema, table, &mut None, &mut stream)?;
+    write_rows(alloc, schema, table, &mut None, &mut stream)?;
+    end_stream(&mut stream)?;
     Ok(stream)
 }
 
@@ -103,6 +102,29 @@ pub fn encode(alloc: Global, table: &Table) -> Result<Vec<u8>, AllocError>
     ensures { IfOk result (λ out. out.items ≡ canonical (table_of table.now)) }
 {
     let stream = encode_table(alloc, table)?;
+    into_bytes(alloc, stream)
+}
+
+// The messages of the rows of a table.
+fn messages_of<'a>(alloc: Global, table: &'a Table) -> Result<Stream<'a>, AllocError>
+    ensures { IfOk result (λ stream. stream_in stream ≡ rows_messages (table_of table.now).schema (table_of table.now).rows) }
+{
+    let schema = table.schema();
+    if let Some(parts) = table.parts() {
+        return messages_of_parts(alloc, schema, parts, table.len());
+    }
+    let mut stream = begin_stream(alloc, Vec::new(alloc));
+    write_rows(alloc, schema, table, &mut None, &mut stream)?;
+    Ok(stream)
+}
+
+/// The messages of the rows of a table, as they stand in its stream: without the message of the schema before them and the end of stream behind them.
+///
+/// Memory and time are those of [`encode`].
+pub fn encode_messages(alloc: Global, table: &Table) -> Result<Vec<u8>, AllocError>
+    ensures { IfOk result (λ out. out.items ≡ rows_messages (table_of table.now).schema (table_of table.now).rows) }
+{
+    let stream = messages_of(alloc, table)?;
     into_bytes(alloc, stream)
 }
 

@@ -5,6 +5,7 @@
 //!
 //! ```ignore
 //! let stream = encode(alloc, &table)?;
+//! let messages = encode_messages(alloc, &table)?;
 //! encode_to(alloc, &table, &mut output)?;
 //! let pieces = encode_own_pieces(alloc, &table)?;
 //! ```
@@ -19,6 +20,6 @@ mod stream;
 mod writing;
 
 pub use by_runs::encode_runs;
-pub use encoder::{EncodedPieces, encode, encode_own_pieces, encode_pieces};
+pub use encoder::{EncodedPieces, encode, encode_messages, encode_own_pieces, encode_pieces};
 pub use laws::pieces_are_tables;
 pub use writing::{WriteError, encode_to};

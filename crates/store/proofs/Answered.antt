@@ -17,7 +17,7 @@ use Rattle.store.specs.declared.call.Place.TheVariants as places
 use Rattle.store.specs.declared.store.Store.{Store}
 use Rattle.commit.specs.declared.opening_refusal.OpeningRefusal.{OpeningRefusal}
 use Rattle.store.specs.Calls.{PlainCall, needs_store, apply_call, format_call, open_call, close_call, tables_call, schema_call, read_call, export_call, stream_call, open_export_call, export_next_call, close_export_call, compact_call, PlainReply, done, refused, shut_by}
-use Rattle.store.specs.Machine.{pinned_by, Setting, Machine, Phase, shut, running, halted, shut_down, Allows, AllowsEach}
+use Rattle.store.specs.Machine.{pinned_by, Setting, Machine, Phase, shut, running, halted, shut_down, Allows, AllowsEach, SparesKept}
 use Rattle.store.specs.Steps.{Step}
 use Rattle.store.specs.Runs.{Goes}
 use Rattle.store.specs.Fits.{setting_of, StoreFits, Opens, Shuts}
@@ -67,6 +67,7 @@ refused_shut s m call story failed needs is allows =
       counts = refl;
       tells = tt;
       room = refused_elsewhere s (pinned_by m) call refusals.Halted (now story) (now story) (λ is. cc is);
+      spares = λ needs. stays (SparesKept m (now story)) story;
     }
 
 -- a closing
@@ -89,6 +90,7 @@ closed size story failed base m store fits =
         counts = refl;
         tells = tt;
         room = tt;
+        spares = λ needs. stays (SparesKept m (now (story store.device))) (story store.device);
       };
       fits = record { phase = refl; fits = record { in_limits = fits.device.in_limits; allows = λ image may. fits.device.allows image may; fresh = λ early. let f = fits.device.fresh early in record { settled = f.settled; doubt = f.doubt; began = f.began } } };
     }

@@ -25,7 +25,7 @@ use Rattle.store.specs.Calls.{apply_call, PlainReply, refused, is_failure, is_de
 use Rattle.store.specs.Changes.{PlainChange}
 use Rattle.store.specs.Deciding.{IsDecided}
 use Rattle.store.specs.Held.{whole_reading}
-use Rattle.store.specs.Machine.{pinned_by, Setting, Machine, running, halted, tables_now, has_written, AllowsEach}
+use Rattle.store.specs.Machine.{pinned_by, Setting, Machine, running, halted, tables_now, has_written, AllowsEach, SparesKept}
 use Rattle.store.specs.Reading.{OnlyReadsStore, ended}
 use Rattle.store.specs.Runs.{Goes, TellsFound, TellsRoom}
 use Rattle.store.specs.Steps.{Step, RefusesFrom}
@@ -34,7 +34,7 @@ use Rattle.store.specs.Applying.{EndsAs, IsKept, HasDone, IsOldOrDone, IsApplyin
 use Rattle.store.specs.Carrying.{IsCarried}
 use Rattle.store.specs.Verdicts.{IsVerdict, IsUndecided}
 use Rattle.store.proofs.Asked.{still, not_running, refused_elsewhere}
-use Rattle.store.proofs.ReadsStore.{moments_read, stays_reading, halts_reading}
+use Rattle.store.proofs.ReadsStore.{moments_read, stays_reading, halts_reading, spared_reading}
 
 -- the device alone is the origin of a failure
 abbrev is_by_device : Origin → Bool
@@ -94,7 +94,7 @@ reads_nothing size story failed tells reply store quiet = record {
     count = sym (ap (λ (b : Bool). if b then min (failed store.device + 1) (2 ^ 64 - 1) else failed store.device) quiet);
   };
   kept = refl;
-  pins = refl;
+  book = refl;
   halts = sym (ap (λ (b : Bool). store.halted || b) quiet ∙ or_false store.halted);
 }
 
@@ -175,6 +175,8 @@ module _ {D : Type 0} {g : Ghosts D} (size : D → ℕ) (story : D → Story) (f
           counts = own.counts ∙ ap (counted reply) (reads.device.count ∙ ap (λ (b : Bool). if b then min (failed old.device + 1) (2 ^ 64 - 1) else failed old.device) quiet);
           tells = found;
           room = subst (λ (d : Disk). TellsRoom s (pinned_by m) (apply_call c) reply d (now (story new.device))) later own.room;
+          spares = λ needs. goes_on (spared_reading m (story old.device) (story mid.device) moments)
+              (subst (λ (d : Disk). Grows (SparesKept m d) (story mid.device) (story new.device)) later (own.spares needs));
         };
         fits = goes.fits;
       }

@@ -12,7 +12,7 @@ use Rattle.tables.specs.Refusals.{Origin, by_tables, by_room, by_memory, by_devi
 use Rattle.tables.specs.Commands.{PlainCommand}
 use Rattle.store.specs.declared.store.Store.{Store}
 use Rattle.store.specs.Calls.{PlainCall, apply_call, format_call, open_call, close_call, tables_call, schema_call, read_call, export_call, stream_call, open_export_call, export_next_call, close_export_call, compact_call, PlainReply, refused, is_device_reply}
-use Rattle.store.specs.Machine.{Setting, Phase, running, halted, Machine, AllowsEach, pinned_by}
+use Rattle.store.specs.Machine.{Setting, Phase, running, halted, Machine, AllowsEach, pinned_by, SparesKept}
 use Rattle.store.specs.Steps.{Step}
 use Rattle.store.specs.Runs.{TellsFound, RoomFrom, TellsRoom}
 use Rattle.store.specs.Fits.{setting_of, StoreFits}
@@ -75,6 +75,7 @@ still size story failed base m call reply store step answered fits tells room =
         counts = sym (ap (λ (b : Bool). if b then min (failed store.device + 1) (2 ^ 64 - 1) else failed store.device) answered);
         tells = tells;
         room = room;
+        spares = λ needs. stays (SparesKept m d) (story store.device);
       };
       fits = fits;
     }

@@ -1,24 +1,22 @@
 -- A command in the words of the machine, from what publishing promises.
-use Rattle.std.specs.Prelude.{None, ◌≡◌, ◌≢◌, ◌<◌, ◌+◌, ◌-◌, ◌%◌, ◌^◌, ℕ, min, Bool, true, false, List, [], ◌∷◌, ◌++◌, Some, Ok, Err, IsOk, is_ok, refl}
+use Rattle.std.specs.Prelude.{None, ◌≡◌, ◌≢◌, ◌%◌, ℕ, true, List, [], ◌∷◌, ◌++◌, Ok, Err, IsOk, is_ok, refl}
 use Rattle.std.proofs.Common.{inl, inr, ⊎_elim, sym, ap, ◌∙◌, subst, arith}
-use Rattle.std.proofs.lemmas.Bool.{lt-ltb}
 use Rattle.std.proofs.lemmas.Nat.{mod_below}
-use Rattle.sector_dev.specs.Disk.{Disk, Sector, Story, Image, now, synced_image, shown_image}
+use Rattle.sector_dev.specs.Disk.{Disk, Sector, Story, Image, now, synced_image}
 use Rattle.sector_dev.specs.declared.device.SectorDevice.{Ghosts}
 use Rattle.sector_dev.specs.Time.{Grows, LeavesOnly}
-use Rattle.sector_dev.specs.laws.Time.{weaken, now_has, stays}
-use Rattle.sector_dev.specs.laws.Crash.{only_image}
+use Rattle.sector_dev.specs.laws.Time.{weaken, stays}
 use Rattle.segments.specs.declared.run.Run.{Run}
 use Rattle.segments.specs.Pieces.{PlainPiece, plain_pieces}
 use Rattle.segments.specs.Runs.{OutOf}
 use Rattle.segments.specs.Usages.{Space, IsUsedIn}
 use Rattle.segments.specs.Writing.{runs_of, HoldsEach}
-use Rattle.catalogue.specs.Entries.{PlainCatalogue, IsCatalogue, runs_of as runs_in}
+use Rattle.catalogue.specs.Entries.{PlainCatalogue, runs_of as runs_in}
 use Rattle.catalogue.specs.laws.Kept.{catalogue_is}
 use Rattle.catalogue.specs.View.{catalogue_of}
 use Rattle.commit.specs.declared.sector.Commit.{Commit}
 use Rattle.commit.specs.declared.publishing.Plan.{Plan}
-use Rattle.commit.specs.Publishing.{IsOutside, IsOldOrNew, IsPublishing, IsPublished}
+use Rattle.commit.specs.Publishing.{IsOutside, IsPublishing}
 use Rattle.commit.specs.Replacing.{CanReplace, StandsAs}
 use Rattle.commit.specs.Standing.{is_on_device, runs_fault, rules, standing, Stands}
 use Rattle.commit.specs.Placing.{Takes, AreShort}
@@ -33,22 +31,20 @@ use Rattle.tables.specs.Commands.{PlainCommand}
 use Rattle.tables.specs.Verdict.{verdict, after}
 use Rattle.tables.specs.laws.Steps.{accepted, after_one_more}
 use Rattle.store.specs.declared.stored.StoredCatalogue.{StoredCatalogue}
-use Rattle.store.specs.Calls.{apply_call, done, refused, counted}
-use Rattle.store.specs.Machine.{pinned_by, holds, Machine, running, tables_now, Allows, AllowsEach, meanwhile, has_written, settle, halt}
+use Rattle.store.specs.Calls.{apply_call, refused, counted}
+use Rattle.store.specs.Machine.{pinned_by, Machine, running, tables_now, Allows, AllowsEach, has_written, SparesKept}
 use Rattle.store.specs.Steps.{Step, RefusesFrom}
 use Rattle.store.specs.Runs.{Goes}
-use Rattle.store.specs.Held.{whole_reading, tables_held, held_tables, held_by}
+use Rattle.store.specs.Held.{whole_reading}
 use Rattle.store.specs.declared.store.Store.{Store}
-use Rattle.store.specs.Fits.{setting_of, listed_in, IsSound}
-use Rattle.store.specs.Changes.{PlainChange, CanChange, IsChange, MakesOf, placed_segments}
-use Rattle.store.specs.Deciding.{IsDecided}
+use Rattle.store.specs.Fits.{book_of, setting_of, listed_in}
+use Rattle.store.specs.Changes.{PlainChange, CanChange, IsChange}
 use Rattle.store.specs.Applying.{HasCarried, IsOldOrCarried, IsTaking, IsCarrying}
 use Rattle.store.specs.Carrying.{IsCarried, IsCarriedOut, asked_sizes}
 use Rattle.store.specs.inner.Prepared.{IsPrepared}
-use Rattle.store.specs.laws.Frame.{held_is, same_tables}
-use Rattle.store.specs.laws.Changed.{edited_held}
 use Rattle.store.proofs.Asked.{not_less}
 use Rattle.store.proofs.Prepared.{runs_are, streams_held, can_replace}
+use Rattle.export_book.specs.Book.{runs_kept}
 use Rattle.store.proofs.Roomed.{room_by}
 
 uncounted : (r : Refusal) (failed : ℕ) → r ≢ refusals.Device → failed ≡ counted (refused r) failed
@@ -85,6 +81,7 @@ module _ (size : ℕ) (base : Tables) (m : Machine) (c : PlainCommand) (new : Ta
       counts = uncounted r failed other;
       tells = tt;
       room = room_by (origin_of r) size (pinned_by m) (now s0) (now s0) c r ended;
+      spares = λ needs. stays (SparesKept m (now s0)) s0;
     }
 
 -- what the disk holds of a change
@@ -161,7 +158,7 @@ can_publish {g = g} s mid change plan back prep sound d stands =
     let on = subst (λ (n : ℕ). is_on_device n k.catalogue.run ≡ true) (sym s.same) s.placed in
     let fit = subst (λ (n : ℕ). runs_fault n k.catalogue.run (runs_in was) ≡ None) (sym s.same) s.fit in
     subst (λ (n : ℕ). CanReplace whole_reading n d (record { old = k; was = was; new = plan.commit; will = catalogue_of plan.catalogue.list; pieces = plain_pieces plan.pieces.items })) s.same
-    (can_replace old mid k was change plan back prep on fit s.pins.items s.uses sound d (catalogue_is was s.opened.catalogue.list.kept) (s.own ∙ sym s.same) (subst (λ (n : ℕ). Stands whole_reading n d k was) (sym s.same) stands))
+    (can_replace old mid k was change plan back prep on fit (runs_kept (book_of s).exports) s.uses sound d (catalogue_is was s.opened.catalogue.list.kept) (s.own ∙ sym s.same) (subst (λ (n : ℕ). Stands whole_reading n d k was) (sym s.same) stands))
 
 -- each moment of a publishing
 pub carries : {D : Type 0} {g : Ghosts D} (s : Store D g) (mid : Space) (change : PlainChange) (plan : Plan StoredCatalogue) (back : List Run)

@@ -196,6 +196,7 @@ module _ (size : ℕ) (limits : is_size size ≡ true) (spelled : catalogue_at e
           counts = counts;
           tells = some_store size (shown_image (now s0)) limits (already refl);
           room = tt;
+          spares = λ needs. absurd (cc needs);
         }
     format_refused (errors.Damaged cause) s0 s1 f f' fresh allows grows sound quiet counts already = absurd (sound cause refl)
     format_refused errors.Device s0 s1 f f' fresh allows grows sound quiet counts already =
@@ -207,6 +208,7 @@ module _ (size : ℕ) (limits : is_size size ≡ true) (spelled : catalogue_at e
           counts = counts;
           tells = tt;
           room = tt;
+          spares = λ needs. absurd (cc needs);
         }
     format_refused errors.OutOfMemory s0 s1 f f' fresh allows grows sound quiet counts already =
         let same = quiet (λ is. cc is) in
@@ -218,6 +220,7 @@ module _ (size : ℕ) (limits : is_size size ≡ true) (spelled : catalogue_at e
           counts = counts;
           tells = tt;
           room = tt;
+          spares = λ needs. absurd (cc needs);
         }
 
     -- ---- one that was done
@@ -245,6 +248,7 @@ module _ (size : ℕ) (limits : is_size size ≡ true) (spelled : catalogue_at e
           counts = same;
           tells = tt;
           room = tt;
+          spares = λ needs. absurd (cc needs);
         }
 
     -- its tables are those of the settled commands, of which there are none

@@ -1,12 +1,11 @@
 -- A change that was carried out, in the words of the machine.
-use Rattle.std.specs.Global.{Vec}
-use Rattle.std.specs.Prelude.{◌≡◌, ◌≢◌, ◌⊎◌, ◌↔◌, ◌<◌, ◌+◌, ◌-◌, ◌^◌, ◌&&◌, ℕ, min, Bool, true, false, List, [], ◌∷◌, ◌++◌, Some, Result, Ok, Err, IfErr, OnOk, refl, if◌then◌else◌}
-use Rattle.std.proofs.Common.{inl, inr, ⊎_elim, sym, ap, ◌∙◌, subst, arith}
+use Rattle.std.specs.Prelude.{◌≡◌, ◌≢◌, ◌⊎◌, ◌↔◌, ◌<◌, ◌+◌, ◌-◌, ◌^◌, ℕ, min, Bool, true, false, Some, Result, Ok, Err, IfErr, OnOk, refl, if◌then◌else◌}
+use Rattle.std.proofs.Common.{inl, inr, ⊎_elim, sym, ap, ◌∙◌, subst}
 use Rattle.std.proofs.lemmas.Bool.{lt-ltb, true≢false, false_from_ne_true}
 use Rattle.sector_dev.specs.Disk.{Disk, Story, Image, now, synced_image, shown_image, MayLeave}
 use Rattle.sector_dev.specs.declared.device.SectorDevice.{Ghosts}
 use Rattle.sector_dev.specs.Time.{Grows, LeavesOnly}
-use Rattle.sector_dev.specs.laws.Time.{weaken, now_has, stays}
+use Rattle.sector_dev.specs.laws.Time.{weaken, now_has}
 use Rattle.sector_dev.specs.laws.Crash.{only_image}
 use Rattle.segments.specs.declared.run.Run.{Run}
 use Rattle.segments.specs.Usages.{IsUsedIn}
@@ -16,6 +15,7 @@ use Rattle.commit.specs.Standing.{is_size, rules, standing, used_runs, InSome, S
 use Rattle.commit.specs.Publishing.{next_commit}
 use Rattle.commit.specs.declared.sector.Commit.{Commit}
 use Rattle.catalogue.specs.Text.{list_size}
+use Rattle.export_book.specs.Book.{PlainBook}
 use Rattle.tables.specs.declared.refusal.Refusal.{Refusal}
 use Rattle.tables.specs.declared.refusal.Refusal.TheVariants as refusals
 use Rattle.tables.specs.declared.refusal.Limit.TheVariants as limits
@@ -23,22 +23,24 @@ use Rattle.tables.specs.Tables.{Tables}
 use Rattle.tables.specs.Commands.{PlainCommand}
 use Rattle.tables.specs.Verdict.{verdict, after}
 use Rattle.store.specs.declared.store.Store.{Store}
-use Rattle.store.specs.Calls.{apply_call, done, refused, counted, is_device_reply}
-use Rattle.store.specs.Machine.{holds, Setting, Machine, running, halted, tables_now, Allows, AllowsEach, meanwhile, has_written, settle, halt}
+use Rattle.store.specs.Calls.{apply_call, done, refused, counted}
+use Rattle.store.specs.Machine.{holds, Setting, Machine, running, halted, tables_now, Allows, meanwhile, has_written, settle, halt}
 use Rattle.store.specs.Steps.{Step}
 use Rattle.store.specs.Runs.{Goes}
 use Rattle.store.specs.Held.{whole_reading, tables_held, held_tables, held_by}
-use Rattle.store.specs.Fits.{setting_of, listed_in, device_of, commit_of, StoreFits, IsSound, IsOnDisk}
+use Rattle.store.specs.Fits.{book_of, setting_of, listed_in, ExportsFit, StoreFits, IsSound}
 use Rattle.store.specs.Changes.{PlainChange, MakesOf, edited, placed_segments}
 use Rattle.store.specs.Deciding.{IsDecided}
-use Rattle.store.specs.Carrying.{IsCarried, IsCarriedOut, outline}
+use Rattle.store.specs.Exported.{AreExportable}
+use Rattle.store.specs.Carrying.{IsCarried, outline}
 use Rattle.store.specs.Reading.{ended}
-use Rattle.store.specs.Applying.{GoesOn, EndsAs, IsKept, HasCarried, IsOldOrCarried, IsTaking, IsCarrying, IsCarryingAtEachMoment, IsCarriedOnDisk, HasDone, IsOldOrDone, IsApplying, IsApplyingAtEachMoment, IsDoneOnDisk}
+use Rattle.store.specs.Applying.{GoesOn, EndsAs, IsKept, HasCarried, IsOldOrCarried, IsTaking, IsCarrying, IsCarryingAtEachMoment, IsCarriedOnDisk, HasDone, IsApplying, IsApplyingAtEachMoment, IsDoneOnDisk}
 use Rattle.store.specs.laws.Frame.{held_is, same_tables}
 use Rattle.store.specs.laws.Changed.{edited_held}
 use Rattle.store.proofs.Asked.{not_less}
 use Rattle.store.proofs.ReadsStore.{shown_is_synced}
 use Rattle.store.proofs.Roomed.{carried_out, refused_out}
+use Rattle.store.proofs.Spares.{last_moment, spares_in, exports_on}
 use Rattle.store.proofs.Carried.{new_after, is_accepted, refused_goes}
 
 -- ---- a command that asks for the change
@@ -112,7 +114,7 @@ room_works : (n : ℕ) → refusals.NoRoom n ≢ refusals.Device
 room_works n is = cc is
 
 module _ {D : Type 0} {g : Ghosts D} (size : D → ℕ) (story : D → Story) (failed : D → ℕ) (base : Tables) (m : Machine) (old new : Store D g) (fits : StoreFits size story base m old) (on : m.phase ≡ running)
-    (sized : size new.device ≡ size old.device) (pins : new.pins ≡ old.pins) (change : PlainChange) (c : PlainCommand) (u : Tables)
+    (sized : size new.device ≡ size old.device) (book : book_of new ≡ book_of old) (exportable : AreExportable (size old.device) (book_of old).exports) (change : PlainChange) (c : PlainCommand) (u : Tables)
     (makes : verdict (tables_now (setting_of (size old.device) base) m) c ≡ Ok u) (mk : MakesOf (tables_now (setting_of (size old.device) base) m) change u)
     (decided : IsDecided true (shown_image (now (story old.device))) (listed_in old) c (Ok change)) where
   abbrev s : Setting
@@ -149,19 +151,6 @@ module _ {D : Type 0} {g : Ghosts D} (size : D → ℕ) (story : D → Story) (f
   moments_in : IsCarryingAtEachMoment size story old change new → Grows (λ d. LeavesOnly (Allows s (meanwhile (apply_call c) m (has_written (now (story old.device)) d))) d) (story old.device) (story new.device)
   moments_in carries = weaken at_moment carries
 
-  -- at the beginning, and so at the end
-  first_moment : IsCarrying (size old.device) (IsUsedIn old.opened.map.entries) old.opened.commit (listed_in old) (now (story old.device)) change (now (story old.device))
-  first_moment = record {
-    touches = inl refl;
-    begun = inl refl;
-    leaves = λ image may.
-        let one : image ≡ synced_image (now (story old.device)) = only_image (now (story old.device)) image sound.stands.quiet.pending may in
-        record { which = inl (ap (standing whole_reading (size old.device)) one ∙ sound.stands.found); kept = λ n within. ap (λ (i : Image). i n) one };
-  }
-
-  last_moment : IsCarryingAtEachMoment size story old change new → IsCarrying (size old.device) (IsUsedIn old.opened.map.entries) old.opened.commit (listed_in old) (now (story old.device)) change (now (story new.device))
-  last_moment carries = now_has {P = λ d. IsCarrying (size old.device) (IsUsedIn old.opened.map.entries) old.opened.commit (listed_in old) (now (story old.device)) change d} first_moment carries
-
   -- it was done
   done_on : EndsAs size old (Ok change) (Ok tt) new → failed new.device ≡ failed old.device → new.halted ≡ false → IsCarryingAtEachMoment size story old change new → IsCarriedOnDisk size story old change new
       → GoesOn size story failed base m (apply_call c) done old new
@@ -169,7 +158,7 @@ module _ {D : Type 0} {g : Ghosts D} (size : D → ℕ) (story : D → Story) (f
   done_on carried count quiet carries does =
       let s1 = now (story new.device) in
       let image = synced_image s1 in
-      let is = (last_moment carries).leaves image (own_image s1) in
+      let is = (last_moment size story base m old new sound change carries).leaves image (own_image s1) in
       let tables : tables_held image (listed_in new) ≡ Some u =
       ap (tables_held image) listed ∙ made_held (size old.device) (IsUsedIn old.opened.map.entries) old.opened.commit (listed_in old) (now (story old.device)) change (after base m.settled) u catalogue sound.tables mk image is.kept does.holds in
       let becomes = new_after (size old.device) base m c u on makes in
@@ -188,6 +177,7 @@ module _ {D : Type 0} {g : Ghosts D} (size : D → ℕ) (story : D → Story) (f
           tells = tt;
           room = carried_out size story base m old sound c change (Ok tt) new.opened.commit (listed_in new) s1 decided
               (ap (standing whole_reading (size old.device)) (shown_is_synced s1 does.stands.quiet.shown) ∙ stands) carried;
+          spares = λ needs. spares_in size story base m old new sound book exportable change carries;
         };
         fits = record {
           phase = sym (ap (λ (b : Bool). if b then halted else running) quiet);
@@ -197,7 +187,7 @@ module _ {D : Type 0} {g : Ghosts D} (size : D → ℕ) (story : D → Story) (f
             allows = subst (λ (n : ℕ). LeavesOnly (Allows (setting_of n base) (settle c m)) s1) (sym sized) settles;
             fresh = λ no. absurd (true≢false no);
           };
-          sound = λ again. record { stands = does.stands; tables = tables ∙ ap Some becomes; uses = new.uses; none = refl; pins = ap (λ (v : Vec Run). v.items) pins ∙ sound.pins };
+          sound = λ again. record { stands = does.stands; tables = tables ∙ ap Some becomes; uses = new.uses; none = refl; exports = exports_on size story base m old new sound book exportable change carries; next = ap (λ (b : PlainBook). b.next) book ∙ sound.next };
         };
       }
     where
@@ -233,6 +223,7 @@ module _ {D : Type 0} {g : Ghosts D} (size : D → ℕ) (story : D → Story) (f
           counts = count;
           tells = tt;
           room = tt;
+          spares = λ needs. spares_in size story base m old new sound book exportable change carries;
         };
         fits = record {
           phase = ap (λ (b : Bool). if b then halted else running) (sym stopped);
@@ -275,7 +266,9 @@ module _ {D : Type 0} {g : Ghosts D} (size : D → ℕ) (story : D → Story) (f
             tables = (λ i. tables_held (synced_image (disk i)) (kept.1 i)) ∙ sound.tables;
             uses = new.uses;
             none = sound.none;
-            pins = ap (λ (v : Vec Run). v.items) pins ∙ sound.pins;
+            exports = subst (λ (b : PlainBook). ExportsFit (synced_image (now (story new.device))) b.exports m.exports) (sym book)
+                (subst (λ (d : Disk). ExportsFit (synced_image d) (book_of old).exports m.exports) (sym disk) sound.exports);
+            next = ap (λ (b : PlainBook). b.next) book ∙ sound.next;
           };
         };
       }

@@ -25,9 +25,13 @@ mod Applied
 mod Replied
 mod Streamed
 mod Selected
+mod Spares
 mod Goings
 mod StepParts
 mod StepChanges
 mod StepReads
 mod StepFound
 mod Stepped
+mod OpenExports
+mod ExportSteps
+mod ExportAnswers

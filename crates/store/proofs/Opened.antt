@@ -68,12 +68,12 @@ pub synced_then : (s0 s1 : Story) (c : PlainCatalogue) (t : Option Tables) → n
 unfolding flushed
 synced_then s0 s1 c t synced is = ap (λ (d : Disk). tables_held (synced_image d) c) synced ∙ is
 
-pub runs_then : (base : Tables) (m : Machine) (found : Option Tables) (f : Finds base m found) → (f.next.phase ≡ running) × (f.next.started ≡ true) × (f.next.doubt ≡ None) × (f.next.exports ≡ [])
+pub runs_then : (base : Tables) (m : Machine) (found : Option Tables) (f : Finds base m found) → (f.next.phase ≡ running) × (f.next.started ≡ true) × (f.next.doubt ≡ None) × (f.next.exports ≡ []) × (f.next.next_id ≡ 0)
 runs_then base m found f = by_choice f.is
   where
-    by_choice : (f.next ≡ opened m.settled) ⊎ (f.next ≡ opened (with_doubt m.settled m.doubt)) → (f.next.phase ≡ running) × (f.next.started ≡ true) × (f.next.doubt ≡ None) × (f.next.exports ≡ [])
-    by_choice (inl is) = (ap (λ (k : Machine). k.phase) is, ap (λ (k : Machine). k.started) is, ap (λ (k : Machine). k.doubt) is, ap (λ (k : Machine). k.exports) is)
-    by_choice (inr is) = (ap (λ (k : Machine). k.phase) is, ap (λ (k : Machine). k.started) is, ap (λ (k : Machine). k.doubt) is, ap (λ (k : Machine). k.exports) is)
+    by_choice : (f.next ≡ opened m.settled) ⊎ (f.next ≡ opened (with_doubt m.settled m.doubt)) → (f.next.phase ≡ running) × (f.next.started ≡ true) × (f.next.doubt ≡ None) × (f.next.exports ≡ []) × (f.next.next_id ≡ 0)
+    by_choice (inl is) = (ap (λ (k : Machine). k.phase) is, ap (λ (k : Machine). k.started) is, ap (λ (k : Machine). k.doubt) is, ap (λ (k : Machine). k.exports) is, ap (λ (k : Machine). k.next_id) is)
+    by_choice (inr is) = (ap (λ (k : Machine). k.phase) is, ap (λ (k : Machine). k.started) is, ap (λ (k : Machine). k.doubt) is, ap (λ (k : Machine). k.exports) is, ap (λ (k : Machine). k.next_id) is)
 
 module _ (size : ℕ) (base : Tables) (m : Machine) where
   pub found_tables : (image : Image) (k : Commit) (c : PlainCatalogue) → Allows (setting_of size base) m image → standing whole_reading size image ≡ rules k c → Finds base m (tables_held image c)
@@ -126,6 +126,7 @@ module _ (size : ℕ) (base : Tables) (m : Machine) where
         counts = same;
         tells = tt;
         room = tt;
+        spares = λ needs. absurd (cc needs);
       }
 
   -- after one that is refused the machine allows what it allowed
@@ -166,6 +167,7 @@ module _ (size : ℕ) (base : Tables) (m : Machine) where
         counts = counts;
         tells = ap (held_of (shown_image (now s0))) tells;
         room = tt;
+        spares = λ needs. absurd (cc needs);
       }
   opening_refused (errors.Damaged cause) s0 s1 f f' shows allows grows tells quiet counts = absurd (not_damaged (shown_image (now s0)) cause (allows (shown_image (now s0)) shows) tells)
   opening_refused errors.Device s0 s1 f f' shows allows grows tells quiet counts =
@@ -178,6 +180,7 @@ module _ (size : ℕ) (base : Tables) (m : Machine) where
         counts = counts;
         tells = tt;
         room = tt;
+        spares = λ needs. absurd (cc needs);
       }
   opening_refused errors.OutOfMemory s0 s1 f f' shows allows grows tells quiet counts =
       let opening = now_has {P = IsOpening (now s0)} (inl refl) grows in
@@ -189,6 +192,7 @@ module _ (size : ℕ) (base : Tables) (m : Machine) where
         counts = counts;
         tells = tt;
         room = tt;
+        spares = λ needs. absurd (cc needs);
       }
 
   pub device_after : (s0 s1 : Story) → ShowsImage (now s0) → LeavesOnly (Allows (setting_of size base) m) (now s0) → Grows (IsOpening (now s0)) s0 s1 → LeavesOnly (Allows (setting_of size base) (shut_down m)) (now s1)

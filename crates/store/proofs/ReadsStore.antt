@@ -1,8 +1,6 @@
 -- A call that reads a table is a call of the machine: it changes nothing, unless its device fails.
-use Rattle.segments.specs.declared.run.Run.{Run}
-use Rattle.std.specs.Global.{Vec}
 use Rattle.std.specs.Prelude.{◌≢◌, ◌||◌, ◌&&◌, min, if◌then◌else◌}
-use Rattle.std.proofs.Common.{◌≡◌, ◌+◌, ◌-◌, ◌^◌, ℕ, Bool, true, false, List, [], Option, Some, None, refl, sym, ap, ◌∙◌, subst}
+use Rattle.std.proofs.Common.{◌≡◌, ◌+◌, ◌-◌, ◌^◌, ℕ, Bool, true, false, List, Option, Some, None, refl, sym, ap, ◌∙◌, subst}
 use Rattle.std.proofs.lemmas.Bool.{and_right}
 use Rattle.sector_dev.specs.Disk.{Disk, Story, Image, now, MayLeave, shown_image, synced_image}
 use Rattle.sector_dev.specs.Time.{Grows, LeavesOnly, OnlyReads}
@@ -15,10 +13,10 @@ use Rattle.catalogue.specs.Edits.{entry_of}
 use Rattle.catalogue.specs.View.{catalogue_of}
 use Rattle.catalogue.specs.laws.Changed.{found_passes}
 use Rattle.catalogue.specs.laws.Kept.{entry_is}
-use Rattle.commit.specs.Placing.{Uses}
 use Rattle.commit.specs.declared.recovery.Opened.{Opened}
+use Rattle.export_book.specs.Book.{PlainBook}
 use Rattle.store.specs.declared.stored.StoredCatalogue.{StoredCatalogue}
-use Rattle.commit.specs.Standing.{is_size, used_runs, Stands}
+use Rattle.commit.specs.Standing.{is_size, Stands}
 use Rattle.tables.specs.declared.refusal.Refusal.{Refusal}
 use Rattle.tables.specs.declared.refusal.Refusal.TheVariants as refusals
 use Rattle.tables.specs.Refusals.{by_room, origin_of}
@@ -26,11 +24,11 @@ use Rattle.tables.specs.Tables.{Tables, table_at}
 use Rattle.tables.specs.Verdict.{after}
 use Rattle.store.specs.declared.store.Store.{Store}
 use Rattle.store.specs.Calls.{PlainCall, read_call, export_call, PlainReply, refused, is_device_reply, may_be_done}
-use Rattle.store.specs.Machine.{pinned_by, Setting, Machine, running, halted, halt, meanwhile, has_written, tables_now, Allows, AllowsEach}
+use Rattle.store.specs.Machine.{pinned_by, SparesKept, Setting, Machine, running, halted, halt, meanwhile, has_written, tables_now, Allows, AllowsEach}
 use Rattle.store.specs.Steps.{Step, Stays, RefusesReading}
 use Rattle.store.specs.Runs.{TellsFound, TellsRoom}
 use Rattle.store.specs.Held.{whole_reading, tables_held, table_held}
-use Rattle.store.specs.Fits.{setting_of, StoreFits, DeviceFits, IsSound, listed_in}
+use Rattle.store.specs.Fits.{book_of, setting_of, StoreFits, DeviceFits, ExportsFit, IsSound, listed_in}
 use Rattle.store.specs.Applying.{GoesOn}
 use Rattle.store.specs.Reading.{IsUnread, Unreads, RefusesRead, ReadsTable, OnlyReadsStore}
 use Rattle.store.specs.laws.Named.{entry_has, entry_lacks}
@@ -46,7 +44,7 @@ shown_is_synced d quiet = λ i n. quiet n i
 
 -- ---- moments
 
-none_written : (old new : Story) → OnlyReads old new → has_written (now old) (now new) ≡ false
+pub none_written : (old new : Story) → OnlyReads old new → has_written (now old) (now new) ≡ false
 none_written old new reads = ap (has_written (now old)) (now_read old new reads) ∙ not_less (now old).writes
 
 -- at each moment the machine allows what it allowed
@@ -59,6 +57,10 @@ moments_read s m call reply old new allows reads = weaken each reads
     each : (d : Disk) → d ≡ now old → AllowsEach s call reply m (now old) d
     each d is image may =
         subst (λ (b : Bool). Allows s (meanwhile call m b) image) (sym (written d is)) (allows image (subst (λ (x : Disk). MayLeave x image) is may))
+
+-- and no sector is written
+pub spared_reading : (m : Machine) (old new : Story) → OnlyReads old new → Grows (SparesKept m (now old)) old new
+spared_reading m old new reads = weaken (λ (d : Disk) is n within. ap (λ (x : Disk). x.at n) is) reads
 
 -- why no table is read, in the words of the machine
 abbrev pub RefusesAs : Setting → Machine → PlainCall → List ℕ → Refusal → Machine → Type 0
@@ -82,7 +84,9 @@ module _ {D : Type 0} {g : Ghosts D} (size : D → ℕ) (story : D → Story) (f
         tables = (λ i. tables_held (synced_image (later i)) (catalogue_of (reads.kept i).catalogue.list)) ∙ sound.tables;
         uses = new.uses;
         none = sound.none;
-        pins = ap (λ (v : Vec Run). v.items) reads.pins ∙ sound.pins;
+        exports = subst (λ (b : PlainBook). ExportsFit (synced_image (now (story new.device))) b.exports m.exports) (sym reads.book)
+            (subst (λ (d : Disk). ExportsFit (synced_image d) (book_of old).exports m.exports) (sym later) sound.exports);
+        next = ap (λ (b : PlainBook). b.next) reads.book ∙ sound.next;
       }
 
   device_after : (next : Machine) (ends : PlainReply) → OnlyReadsStore size story failed tells ends old new → (next.started ≡ m.started) × (next.settled ≡ m.settled) × (next.doubt ≡ m.doubt) → LeavesOnly (Allows own next) (now (story new.device))
@@ -124,6 +128,7 @@ module _ {D : Type 0} {g : Ghosts D} (size : D → ℕ) (story : D → Story) (f
           counts = reads.device.count ∙ ap (λ (b : Bool). if b then min (failed old.device + 1) (2 ^ 64 - 1) else failed old.device) (quiet ∙ sym answered);
           tells = found;
           room = room;
+          spares = λ needs. spared_reading m (story old.device) (story new.device) moments;
         };
         fits = fits_reading ends quiet reads;
       }
@@ -149,6 +154,7 @@ module _ {D : Type 0} {g : Ghosts D} (size : D → ℕ) (story : D → Story) (f
           counts = reads.device.count;
           tells = tt;
           room = refused_elsewhere own (pinned_by m) call refusals.Device (now (story old.device)) (now (story new.device)) (λ is. cc is);
+          spares = λ needs. spared_reading m (story old.device) (story new.device) moments;
         };
         fits = record {
           phase = ap (λ (b : Bool). if b then halted else running) (sym halts);

@@ -37,7 +37,7 @@ module _ {D : Type 0} {g : Ghosts D} (size : D → ℕ) (story : D → Story) (f
       record {
         device = record { same = reads.device.same; moments = reads.device.moments; count = cc (reads.device.count, counts) };
         kept = reads.kept;
-        pins = reads.pins;
+        book = reads.book;
         halts = cc (reads.halts, quiet);
       }
 

@@ -1,8 +1,7 @@
 -- A command ends by what stood on the disk when it was called: its commit, its catalogue and the runs that they use.
 use Rattle.std.specs.Prelude.{◌||◌, List, nat_lt, false, refl}
-use Rattle.std.specs.List.{flat_map}
-use Rattle.std.proofs.Common.{◌≡◌, ℕ, Bool, true, Result, Ok, Err, ap, sym, ◌∙◌, subst, lt-ltb}
-use Rattle.sector_dev.specs.Disk.{Disk, Story, now, shown_image}
+use Rattle.std.proofs.Common.{◌≡◌, ℕ, Bool, true, Result, Ok, Err, ap, ◌∙◌, subst, lt-ltb}
+use Rattle.sector_dev.specs.Disk.{Disk, Story, now, shown_image, synced_image}
 use Rattle.sector_dev.specs.declared.device.SectorDevice.{Ghosts}
 use Rattle.segments.specs.declared.run.Run.{Run}
 use Rattle.segments.specs.Usages.{is_used, usage_of, IsUsedIn}
@@ -16,11 +15,12 @@ use Rattle.tables.specs.Refusals.{Origin, by_tables, by_room, by_memory, by_devi
 use Rattle.tables.specs.Tables.{Tables}
 use Rattle.tables.specs.Commands.{PlainCommand}
 use Rattle.store.specs.declared.store.Store.{Store}
-use Rattle.store.specs.Machine.{Machine, Export, pinned_by}
+use Rattle.store.specs.Machine.{Machine, pinned_by}
 use Rattle.store.specs.laws.Edited.{none_listed}
+use Rattle.store.specs.laws.Exported.{kept_pinned}
 use Rattle.store.specs.Held.{whole_reading}
 use Rattle.store.specs.Runs.{RoomFrom}
-use Rattle.store.specs.Fits.{listed_in, IsSound}
+use Rattle.store.specs.Fits.{book_of, listed_in, IsSound}
 use Rattle.store.specs.Changes.{PlainChange}
 use Rattle.store.specs.Deciding.{IsDecided}
 use Rattle.store.specs.Carrying.{IsCarried, IsCarriedOut}
@@ -44,8 +44,8 @@ pins_are pinned run = by_case (is_among pinned run) refl
 
 module _ {D : Type 0} {g : Ghosts D} (size : D → ℕ) (story : D → Story) (base : Tables) (m : Machine) (store : Store D g) (sound : IsSound size story base m store) where
   -- those that the store keeps for exports are those of the machine
-  pins : Uses store.opened.map.entries (used_runs whole_reading store.opened.commit (listed_in store)) (pinned_by m)
-  pins = subst (λ (rs : List Run). Uses store.opened.map.entries (used_runs whole_reading store.opened.commit (listed_in store)) rs) sound.pins sound.uses
+  pub pins : Uses store.opened.map.entries (used_runs whole_reading store.opened.commit (listed_in store)) (pinned_by m)
+  pins = subst (λ (rs : List Run). Uses store.opened.map.entries (used_runs whole_reading store.opened.commit (listed_in store)) rs) (kept_pinned (synced_image (now (story store.device))) (book_of store).exports m.exports sound.exports) sound.uses
 
   -- the runs in use are those of the commit and its catalogue, and those that exports keep
   same_used : (run : Run) → is_used (usage_of store.opened.map.entries run) ≡ (is_among (used_runs whole_reading store.opened.commit (listed_in store)) run || is_among (pinned_by m) run)

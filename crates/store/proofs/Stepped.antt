@@ -1,5 +1,4 @@
 -- A step of a compaction, in the words of the machine: whatever its change does, the tables stay as they are.
-use Rattle.std.specs.Global.{Vec}
 use Rattle.std.specs.Prelude.{◌≡◌, ◌≢◌, ◌⊎◌, ◌≤◌, ◌+◌, ◌-◌, ◌^◌, ◌&&◌, ℕ, min, Bool, true, false, ◌↔◌, List, Option, Some, Ok, Err, refl, if◌then◌else◌}
 use Rattle.std.proofs.Common.{inl, inr, sym, ap, ◌∙◌, subst, arith}
 use Rattle.std.proofs.lemmas.Bool.{lt-ltb, true≢false, false_from_ne_true}
@@ -15,6 +14,7 @@ use Rattle.catalogue.specs.declared.limits.TheConstants.{MAX_SEGMENTS}
 use Rattle.catalogue.specs.Entries.{PlainCatalogue, IsCatalogue, runs_of, segment_count}
 use Rattle.catalogue.specs.laws.Kept.{catalogue_is}
 use Rattle.catalogue.specs.Text.{list_size}
+use Rattle.export_book.specs.Book.{PlainBook}
 use Rattle.commit.specs.Standing.{is_size, rules, standing, used_runs, InSome, Stands}
 use Rattle.commit.specs.Publishing.{next_commit}
 use Rattle.commit.specs.declared.sector.Commit.{Commit}
@@ -30,12 +30,13 @@ use Rattle.store.specs.declared.store.Store.{Store}
 use Rattle.store.specs.declared.compacting.Compaction.{Compaction}
 use Rattle.store.specs.declared.compacting.Compaction.TheVariants as compactions
 use Rattle.store.specs.Calls.{PlainReply, compact_call, done, nothing, refused, is_failure, counted, is_change, is_device_reply, may_be_done}
-use Rattle.store.specs.Machine.{holds, Setting, Machine, running, halted, Allows, AllowsEach, meanwhile, has_written, halt}
+use Rattle.store.specs.Machine.{holds, Setting, Machine, running, halted, Allows, AllowsEach, SparesKept, meanwhile, has_written, halt}
 use Rattle.store.specs.Steps.{Step}
 use Rattle.store.specs.Runs.{Goes, TellsFound}
 use Rattle.store.specs.Held.{whole_reading, tables_held, held_tables, held_by}
-use Rattle.store.specs.Fits.{setting_of, listed_in, StoreFits, IsSound}
+use Rattle.store.specs.Fits.{book_of, setting_of, listed_in, ExportsFit, StoreFits, IsSound}
 use Rattle.store.specs.Changes.{PlainChange, edited, placed_segments, HoldsStreams}
+use Rattle.store.specs.Exported.{AreExportable}
 use Rattle.store.specs.Carrying.{outline}
 use Rattle.store.specs.Reading.{OnlyReadsStore}
 use Rattle.store.specs.Applying.{GoesOn, EndsAs, IsKept, HasCarried, IsOldOrCarried, IsCarrying, IsCarryingAtEachMoment, IsCarriedOnDisk}
@@ -45,7 +46,8 @@ use Rattle.store.specs.inner.Reading.{FailsReading}
 use Rattle.store.specs.laws.Frame.{held_is, same_tables}
 use Rattle.store.proofs.Asked.{not_less, not_running, still}
 use Rattle.store.proofs.Applied.{is_device, refused_by}
-use Rattle.store.proofs.ReadsStore.{moments_read, shown_is_synced, stays_reading, halts_reading}
+use Rattle.store.proofs.ReadsStore.{moments_read, spared_reading, shown_is_synced, stays_reading, halts_reading}
+use Rattle.store.proofs.Spares.{spares_in, exports_on}
 use Rattle.store.proofs.StepChanges.{step_keeps, step_few}
 use Rattle.store.proofs.StepReads.{step_fails}
 
@@ -96,7 +98,7 @@ done_found s compactions.Moved d = tt
 done_found s compactions.Nothing d = tt
 
 module _ {D : Type 0} {g : Ghosts D} (size : D → ℕ) (story : D → Story) (failed : D → ℕ) (base : Tables) (m : Machine) (old new : Store D g) (fits : StoreFits size story base m old) (on : m.phase ≡ running)
-    (sized : size new.device ≡ size old.device) (pins : new.pins ≡ old.pins) (change : PlainChange)
+    (sized : size new.device ≡ size old.device) (book : book_of new ≡ book_of old) (exportable : AreExportable (size old.device) (book_of old).exports) (change : PlainChange)
     (keeps : (image : Image) → ((n : ℕ) → InSome (runs_of (listed_in old)) n → image n ≡ synced_image (now (story old.device)) n) → (others : List Segment)
     → HoldsStreams image others change.streams change.counts → tables_held image (edited (listed_in old) change.edit others) ≡ tables_held image (listed_in old)) where
   abbrev s : Setting
@@ -179,6 +181,7 @@ module _ {D : Type 0} {g : Ghosts D} (size : D → ℕ) (story : D → Story) (f
           counts = count ∙ sym (ap (λ (b : Bool). if b then min (failed old.device + 1) (2 ^ 64 - 1) else failed old.device) (done_works made));
           tells = done_found s made before;
           room = tt;
+          spares = λ needs. spares_in size story base m old new sound book exportable change carries;
         };
         fits = record {
           phase = on ∙ sym (ap (λ (b : Bool). if b then halted else running) quiet);
@@ -188,7 +191,14 @@ module _ {D : Type 0} {g : Ghosts D} (size : D → ℕ) (story : D → Story) (f
             allows = subst (λ (n : ℕ). LeavesOnly (Allows (setting_of n base) m) s1) (sym sized) settles;
             fresh = λ no. absurd (true≢false (sym fits.started ∙ no));
           };
-          sound = λ again. record { stands = does.stands; tables = tables; uses = new.uses; none = sound.none; pins = ap (λ (v : Vec Run). v.items) pins ∙ sound.pins };
+          sound = λ again. record {
+            stands = does.stands;
+            tables = tables;
+            uses = new.uses;
+            none = sound.none;
+            exports = exports_on size story base m old new sound book exportable change carries;
+            next = ap (λ (b : PlainBook). b.next) book ∙ sound.next;
+          };
         };
       }
     where
@@ -220,6 +230,7 @@ module _ {D : Type 0} {g : Ghosts D} (size : D → ℕ) (story : D → Story) (f
           counts = count;
           tells = tt;
           room = tt;
+          spares = λ needs. spares_in size story base m old new sound book exportable change carries;
         };
         fits = record {
           phase = ap (λ (b : Bool). if b then halted else running) (sym stopped);
@@ -237,17 +248,19 @@ module _ {D : Type 0} {g : Ghosts D} (size : D → ℕ) (story : D → Story) (f
       → story new.device ≡ story old.device → GoesOn size story failed base m compact_call (refused r) old new
   refused_stays r step works count quiet kept same =
       let disk : now (story new.device) ≡ before = ap now same in
+      let moments : Grows (λ (d : Disk). d ≡ before) (story old.device) (story new.device) = subst (λ (t : Story). Grows (λ (d : Disk). d ≡ before) (story old.device) t) (sym same) (stays (λ (d : Disk). d ≡ before) (story old.device)) in
       record {
         next = m;
         same = sized;
         goes = record {
           step = subst (λ (b : Bool). Step s m compact_call (refused r) b m) (sym (ap (has_written before) disk ∙ not_less before.writes)) step;
-          moments = moments_read s m compact_call (refused r) (story old.device) (story new.device) fits.device.allows (subst (λ (t : Story). Grows (λ (d : Disk). d ≡ before) (story old.device) t) (sym same) (stays (λ (d : Disk). d ≡ before) (story old.device)));
+          moments = moments_read s m compact_call (refused r) (story old.device) (story new.device) fits.device.allows moments;
           settles = subst (λ (d : Disk). LeavesOnly (Allows s m) d) (sym disk) fits.device.allows;
           quiet = λ no device. disk;
           counts = count ∙ sym (ap (λ (b : Bool). if b then min (failed old.device + 1) (2 ^ 64 - 1) else failed old.device) works);
           tells = tt;
           room = tt;
+          spares = λ needs. spared_reading m (story old.device) (story new.device) moments;
         };
         fits = record {
           phase = on ∙ sym (ap (λ (b : Bool). if b then halted else running) quiet);
@@ -266,7 +279,9 @@ module _ {D : Type 0} {g : Ghosts D} (size : D → ℕ) (story : D → Story) (f
             tables = (λ i. tables_held (synced_image (disk i)) (kept.1 i)) ∙ sound.tables;
             uses = new.uses;
             none = sound.none;
-            pins = ap (λ (v : Vec Run). v.items) pins ∙ sound.pins;
+            exports = subst (λ (b : PlainBook). ExportsFit (synced_image (now (story new.device))) b.exports m.exports) (sym book)
+                (subst (λ (d : Disk). ExportsFit (synced_image d) (book_of old).exports m.exports) (sym disk) sound.exports);
+            next = ap (λ (b : PlainBook). b.next) book ∙ sound.next;
           };
         };
       }
@@ -307,6 +322,8 @@ module _ {D : Type 0} {g : Ghosts D} (size : D → ℕ) (story : D → Story) (f
           counts = own.counts ∙ ap (counted reply) (reads.device.count ∙ ap (λ (b : Bool). if b then min (failed old.device + 1) (2 ^ 64 - 1) else failed old.device) quiet);
           tells = found;
           room = tt;
+          spares = λ needs. goes_on (spared_reading m (story old.device) (story mid.device) moments)
+              (subst (λ (d : Disk). Grows (SparesKept m d) (story mid.device) (story new.device)) later (own.spares needs));
         };
         fits = goes.fits;
       }
@@ -339,7 +356,7 @@ halts_by b r (to, from) = by_test (is_failure r) refl
 module _ {D : Type 0} {g : Ghosts D} (size : D → ℕ) (story : D → Story) (failed : D → ℕ) (base : Tables) (m : Machine) (tells : Bool) (told : tells ≡ true) (laws : LawsBelow) (old mid new : Store D g)
     (fits : StoreFits size story base m old) (on : m.phase ≡ running) (there : StoreFits size story base m mid) (reads : OnlyReadsStore size story failed tells done old mid) (made : Compaction) (change : PlainChange)
     (step : IsStep tells (shown_image (now (story old.device))) (size old.device) (IsUsedIn old.opened.map.entries) (listed_in old) made (Some change))
-    (sized : size new.device ≡ size mid.device) (pins : new.pins ≡ mid.pins) (carries : IsCarryingAtEachMoment size story mid change new) where
+    (sized : size new.device ≡ size mid.device) (book : book_of new ≡ book_of mid) (exportable : AreExportable (size mid.device) (book_of mid).exports) (carries : IsCarryingAtEachMoment size story mid change new) where
   behind : IsStep tells (shown_image (now (story mid.device))) (size mid.device) (IsUsedIn mid.opened.map.entries) (listed_in mid) made (Some change)
   behind = found_behind size story failed tells told old mid done reads made (Some change) step
 
@@ -353,13 +370,13 @@ module _ {D : Type 0} {g : Ghosts D} (size : D → ℕ) (story : D → Story) (f
   pub made_goes : failed new.device ≡ failed mid.device → new.halted ≡ false → IsCarriedOnDisk size story mid change new → GoesOn size story failed base m compact_call (reply_of made) old new
   made_goes count quiet does =
       goes_behind size story failed base m tells told old mid new done (reply_of made) refl fits reads (done_found (setting_of (size old.device) base) made (now (story old.device)))
-      (step_goes size story failed base m mid new there on sized pins change keeps made (is_done tells (shown_image (now (story mid.device))) (size mid.device) (IsUsedIn mid.opened.map.entries) (listed_in mid) made change behind) count quiet carries does)
+      (step_goes size story failed base m mid new there on sized book exportable change keeps made (is_done tells (shown_image (now (story mid.device))) (size mid.device) (IsUsedIn mid.opened.map.entries) (listed_in mid) made change behind) count quiet carries does)
 
   pub refused_goes : (r : Refusal) → failed new.device ≡ counted (refused r) (failed mid.device) → EndsAs size mid (Ok change) (Err r) new → (new.halted ≡ true) ↔ (refused_by r ≡ Err refusals.Device) → IsKept mid new
       → (r ≢ refusals.Device → story new.device ≡ story mid.device) → GoesOn size story failed base m compact_call (refused r) old new
   refused_goes r count carried halts kept quiet =
       goes_behind size story failed base m tells told old mid new done (refused r) refl fits reads tt
-      (refusal_goes size story failed base m mid new there on sized pins change keeps
+      (refusal_goes size story failed base m mid new there on sized book exportable change keeps
       (step_few (listed_in mid) (catalogue_is (listed_in mid) mid.opened.catalogue.list.kept) tells (shown_image (now (story mid.device))) (size mid.device) (IsUsedIn mid.opened.map.entries) made change behind)
       r count carried (halts_by new.halted r halts) kept quiet carries)
 
@@ -403,4 +420,4 @@ never_nothing tells image size used c compactions.Nothing change step is = step
 
 -- reads that were done, in the words of a step
 pub nothing_read : {D : Type 0} {g : Ghosts D} {size : D → ℕ} {story : D → Story} {failed : D → ℕ} {tells : Bool} {old new : Store D g} → OnlyReadsStore size story failed tells done old new → OnlyReadsStore size story failed tells nothing old new
-nothing_read reads = record { device = record { same = reads.device.same; moments = reads.device.moments; count = reads.device.count }; kept = reads.kept; pins = reads.pins; halts = reads.halts }
+nothing_read reads = record { device = record { same = reads.device.same; moments = reads.device.moments; count = reads.device.count }; kept = reads.kept; book = reads.book; halts = reads.halts }

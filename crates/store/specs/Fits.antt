@@ -1,5 +1,5 @@
 -- How a device or a store stands for a machine.
-use Rattle.std.specs.Prelude.{◌≡◌, ◌⊎◌, ◌∷◌, ℕ, Bool, true, false, if◌then◌else◌, [], Some, None}
+use Rattle.std.specs.Prelude.{◌≡◌, ◌⊎◌, ◌∷◌, ℕ, Bool, true, false, if◌then◌else◌, List, [], Some, None}
 use Rattle.sector_dev.specs.Disk.{Story, Image, now, synced_image, shown_image, flushed}
 use Rattle.sector_dev.specs.Time.{Grows, LeavesOnly}
 use Rattle.sector_dev.specs.declared.device.SectorDevice.{Ghosts}
@@ -11,15 +11,18 @@ use Rattle.commit.specs.Formatting.{first_commit, IsFormatting, IsFormatted, IsM
 use Rattle.commit.specs.declared.sector.Commit.{Commit}
 use Rattle.catalogue.specs.Entries.{PlainCatalogue}
 use Rattle.catalogue.specs.View.{catalogue_of}
+use Rattle.export_book.specs.View as books
+use Rattle.export_book.specs.Book.{PlainExport, PlainBook, no_exports, runs_kept}
+use Rattle.catalogue.specs.Entries.{runs_in_segments}
 use Rattle.tables.specs.Tables.{Tables, no_tables}
 use Rattle.tables.specs.Commands.{PlainCommand}
 use Rattle.tables.specs.Verdict.{after}
 use Rattle.store.specs.declared.store.Store.{Store}
 use Rattle.commit.specs.declared.opening_refusal.OpeningRefusal.{OpeningRefusal}
 use Rattle.store.specs.Calls.{PlainCall, done, shut_by}
-use Rattle.store.specs.Machine.{pinned_by, no_store, holds, Setting, Machine, shut, running, halted, shut_down, Allows}
+use Rattle.store.specs.Machine.{Export, no_store, holds, Setting, Machine, shut, running, halted, shut_down, Allows}
 use Rattle.store.specs.Runs.{Goes}
-use Rattle.store.specs.Held.{whole_reading, tables_held, held_by}
+use Rattle.store.specs.Held.{whole_reading, pieces_held, tables_held, held_by}
 
 -- how a run on a device of this size is judged
 abbrev pub setting_of : ℕ → Tables → Setting
@@ -53,17 +56,36 @@ listed_in store = catalogue_of store.opened.catalogue.list
 abbrev pub IsOnDisk : {D : Type 0} {g : Ghosts D} → (size : D → ℕ) → (story : D → Story) → Store D g → Type 0
 IsOnDisk size story store = Stands whole_reading (size (device_of store)) (now (story (device_of store))) (commit_of store) (listed_in store)
 
+-- the exports that are open
+abbrev pub book_of : {D : Type 0} {g : Ghosts D} → Store D g → PlainBook
+book_of store = books.book_of store.book
+
 -- its device failed, so it has to be closed
 abbrev pub is_halted : {D : Type 0} {g : Ghosts D} → Store D g → Bool
 is_halted store = store.halted
 
--- an open store: all is on the disk, and its tables are those of the settled commands
+-- an export of the book stands for one of the machine: it keeps the runs of its segments, and what lies in them are the pieces
+pub record ExportFits (image : Image) (b : PlainExport) (e : Export) : Type 0 where
+  pub id : e.id ≡ b.id
+  pub runs : e.runs ≡ runs_in_segments b.segments
+  pub pieces : pieces_held b.schema b.segments image ≡ Some e.pieces
+  pub given : e.given ≡ b.given
+
+-- one by one, as many
+abbrev pub ExportsFit : Image → List PlainExport → List Export → Type 0
+ExportsFit image [] [] = Unit {0}
+ExportsFit image (b ∷ bs) (e ∷ es) = ExportFits image b e × ExportsFit image bs es
+ExportsFit image [] (e ∷ es) = ⊥
+ExportsFit image (b ∷ bs) [] = ⊥
+
+-- an open store: all is on the disk, its tables are those of the settled commands, and its exports those of the machine
 pub record IsSound {D : Type 0} {g : Ghosts D} (size : D → ℕ) (story : D → Story) (base : Tables) (m : Machine) (store : Store D g) : Type 0 where
   pub stands : IsOnDisk size story store
   pub tables : tables_held (synced_image (now (story store.device))) (listed_in store) ≡ Some (after base m.settled)
-  pub uses : Uses store.opened.map.entries (used_runs whole_reading store.opened.commit (listed_in store)) store.pins.items
+  pub uses : Uses store.opened.map.entries (used_runs whole_reading store.opened.commit (listed_in store)) (runs_kept (book_of store).exports)
   pub none : m.doubt ≡ None
-  pub pins : store.pins.items ≡ pinned_by m
+  pub exports : ExportsFit (synced_image (now (story store.device))) (book_of store).exports m.exports
+  pub next : (book_of store).next ≡ m.next_id
 
 pub record StoreFits {D : Type 0} {g : Ghosts D} (size : D → ℕ) (story : D → Story) (base : Tables) (m : Machine) (store : Store D g) : Type 0 where
   pub phase : m.phase ≡ (if store.halted then halted else running)
@@ -79,7 +101,7 @@ pub record FindsStore {D : Type 0} {g : Ghosts D} (size : D → ℕ) (story : D 
   pub synced : now (story (device_of store)) ≡ flushed (now (story device))
   pub stands : IsOnDisk size story store
   pub uses : Uses store.opened.map.entries (used_runs whole_reading store.opened.commit (listed_in store)) []
-  pub none_kept : store.pins.items ≡ []
+  pub none_open : book_of store ≡ no_exports
   pub on : store.halted ≡ false
 
 -- a formatting of any device that was done: reads showed no store there; the empty store is synced, and no stop during it left anything
@@ -96,7 +118,7 @@ pub record IsNewStore {D : Type 0} {g : Ghosts D} (size : ℕ) (store : Store D 
   pub empty : listed_in store ≡ []
   pub commit : commit_of store ≡ first_commit size
   pub uses : Uses store.opened.map.entries (used_runs whole_reading (commit_of store) (listed_in store)) []
-  pub none_kept : store.pins.items ≡ []
+  pub none_open : book_of store ≡ no_exports
   pub on : store.halted ≡ false
 
 -- an opening or a formatting of a device that was done: some machine goes on, and the store stands for it

@@ -9,6 +9,7 @@ use Rattle.values.specs.Table.{Refusal, table_from}
 use Rattle.ipc_message.specs.declared.fault.Fault.{Fault}
 use Rattle.ipc_message.specs.Header.{supported_codes}
 use Rattle.ipc_write.specs.Written.{schema_message}
+use Rattle.canonical_stream.specs.Canonical.{stream_parts}
 use Rattle.ipc_stream.specs.Meaning.{meaning}
 use Rattle.catalogue.specs.declared.entry.Segment.{Segment}
 use Rattle.catalogue.specs.Entries.{PlainEntry, PlainCatalogue, runs_of}
@@ -45,6 +46,23 @@ joined_rows (Some rows) others = option_map (λ more. rows ++ more) others
 unfoldable pub rows_held : PlainSchema → List Segment → Image → Option (List (List Cell))
 rows_held schema [] image = Some []
 rows_held schema (segment ∷ segments) image = joined_rows (segment_rows schema segment image) (rows_held schema segments image)
+
+-- ---- an export
+
+abbrev pub with_rows : Option (List (List Cell)) → Option (List (List (List Cell))) → Option (List (List (List Cell)))
+with_rows None others = None
+with_rows (Some rows) others = option_map (λ lists. rows ∷ lists) others
+
+-- the rows of each of these segments, where all can be read
+unfoldable pub rows_each : PlainSchema → List Segment → Image → Option (List (List (List Cell)))
+rows_each schema [] image = Some []
+rows_each schema (segment ∷ segments) image = with_rows (segment_rows schema segment image) (rows_each schema segments image)
+
+-- the pieces of an export of these segments: the message of the schema, the messages of each segment's rows, and the end of stream
+abbrev pub pieces_held : PlainSchema → List Segment → Image → Option (List (List ℕ))
+pieces_held schema segments image = option_map (stream_parts schema) (rows_each schema segments image)
+
+-- ---- the table of rows
 
 -- the table of these rows, where they are one
 abbrev pub table_where : Result PlainTable Refusal → Option PlainTable

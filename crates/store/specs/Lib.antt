@@ -10,6 +10,7 @@ pub mod Snapshots
 pub mod Reached
 pub mod Exchanging
 pub mod Held
+pub mod Exported
 pub mod Fits
 pub mod Beginning
 pub mod Changes
@@ -22,6 +23,7 @@ pub mod Verdicts
 pub mod Listing
 pub mod Reading
 pub mod Input
+pub mod Exporting
 pub mod Places
 pub mod Answering
 pub mod laws

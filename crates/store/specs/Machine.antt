@@ -4,6 +4,7 @@ use Rattle.std.specs.List.{filter, flat_map}
 use Rattle.segments.specs.declared.run.Run.{Run}
 use Rattle.sector_dev.specs.Disk.{Disk, Image}
 use Rattle.sector_dev.specs.Time.{LeavesOnly}
+use Rattle.commit.specs.Standing.{InSome}
 use Rattle.tables.specs.Tables.{Tables}
 use Rattle.tables.specs.Commands.{PlainCommand}
 use Rattle.tables.specs.Verdict.{after}
@@ -101,6 +102,10 @@ AllowsEach s call reply m before d = LeavesOnly (AllowsAt s call reply m before 
 -- the runs that they keep
 abbrev pub pinned_by : Machine → List Run
 pinned_by m = flat_map (λ (e : Export). e.runs) m.exports
+
+-- no sector of such a run was written
+abbrev pub SparesKept : Machine → (before : Disk) → Disk → Type 0
+SparesKept m before d = (n : ℕ) → InSome (pinned_by m) n → d.at n ≡ before.at n
 
 abbrev pub is_of : ℕ → Export → Bool
 is_of id e = e.id == id

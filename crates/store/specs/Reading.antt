@@ -15,6 +15,7 @@ use Rattle.tables.specs.declared.refusal.Refusal.TheVariants as refusals
 use Rattle.store.specs.declared.store.Store.{Store}
 use Rattle.store.specs.Calls.{PlainReply, done, refused, is_device_reply, counted}
 use Rattle.store.specs.Held.{segment_rows, rows_held, table_held}
+use Rattle.export_book.specs.View.{book_of}
 
 -- behind these rows a segment has none that can be read, or rows that are too heavy together with them
 abbrev pub ArePast : PlainSchema → List (List Cell) → Option (List (List Cell)) → Type 0
@@ -72,5 +73,5 @@ pub record OnlyReadsDevice {D : Type 0} (size : D → ℕ) (story : D → Story)
 pub record OnlyReadsStore {D : Type 0} {g : Ghosts D} (size : D → ℕ) (story : D → Story) (failed : D → ℕ) (tells : Bool) (reply : PlainReply) (old new : Store D g) : Type 0 where
   pub device : OnlyReadsDevice size story failed tells reply old.device new.device
   pub kept : new.opened ≡ old.opened
-  pub pins : new.pins ≡ old.pins
+  pub book : book_of new.book ≡ book_of old.book
   pub halts : new.halted ≡ (old.halted || is_device_reply reply)

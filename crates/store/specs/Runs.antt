@@ -1,5 +1,5 @@
 -- Calls one after another.
-use Rattle.std.specs.Prelude.{◌≡◌, ◌≢◌, ℕ, false, List, [], ◌∷◌, Ok, Err}
+use Rattle.std.specs.Prelude.{◌≡◌, ◌≢◌, ℕ, true, false, List, [], ◌∷◌, Ok, Err}
 use Rattle.sector_dev.specs.Disk.{Disk, Story, now, shown_image}
 use Rattle.sector_dev.specs.Time.{Grows, LeavesOnly}
 use Rattle.tables.specs.declared.refusal.Refusal.{Refusal}
@@ -7,9 +7,9 @@ use Rattle.tables.specs.Refusals.{Origin, by_room, origin_of}
 use Rattle.tables.specs.Commands.{PlainCommand}
 use Rattle.commit.specs.declared.opening_refusal.OpeningRefusal.TheVariants as openings
 use Rattle.segments.specs.declared.run.Run.{Run as Sectors}
-use Rattle.store.specs.Calls.{PlainCall, apply_call, stream_call, PlainReply, done, refused, shut_by, is_device_reply, is_change, counted}
+use Rattle.store.specs.Calls.{PlainCall, apply_call, stream_call, needs_store, PlainReply, done, refused, shut_by, is_device_reply, is_change, counted}
 use Rattle.store.specs.Carrying.{IsCarriedOut}
-use Rattle.store.specs.Machine.{no_store, Setting, Machine, Allows, AllowsEach, has_written, pinned_by}
+use Rattle.store.specs.Machine.{no_store, Setting, Machine, Allows, AllowsEach, SparesKept, has_written, pinned_by}
 use Rattle.store.specs.Steps.{Step}
 
 -- what is told of a store that was there already, or of none, is what reads showed when the call began
@@ -44,6 +44,8 @@ pub record Goes (s : Setting) (m : Machine) (call : PlainCall) (reply : PlainRep
   pub counts : failed' ≡ counted reply failed
   pub tells : TellsFound s reply (now old)
   pub room : TellsRoom s (pinned_by m) call reply (now old) (now new)
+  -- an opening and a formatting end the exports
+  pub spares : needs_store call ≡ true → Grows (SparesKept m (now old)) old new
 
 -- a call, and then what P says of the machine, the story and the failures after it
 pub record Then (s : Setting) (m : Machine) (call : PlainCall) (reply : PlainReply) (old : Story) (failed : ℕ) (P : Machine → Story → ℕ → Type 0) : Type 0 where

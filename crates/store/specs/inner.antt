@@ -6,3 +6,4 @@ pub mod Gathered
 pub mod Reading
 pub mod LawsBelow
 pub mod Compacting
+pub mod Exporting

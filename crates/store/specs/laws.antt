@@ -18,4 +18,5 @@ pub mod Exchanged
 pub mod Shrinking
 pub mod ExchangedRuns
 pub mod Spared
+pub mod Exported
 pub mod Same

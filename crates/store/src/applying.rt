@@ -23,7 +23,7 @@ impl<D: SectorDevice> Store<D> {
     ghost use Rattle.std.specs.Prelude.{◌↔◌, true, Err, OnOk};
     ghost use Rattle.store.specs.Calls.{apply_call, counted};
     ghost use Rattle.store.specs.Machine.{Machine};
-    ghost use Rattle.store.specs.Fits.{StoreFits, device_of, is_halted, IsOnDisk};
+    ghost use Rattle.store.specs.Fits.{StoreFits, device_of, is_halted, book_of, IsOnDisk};
     ghost use Rattle.store.specs.Applying.{GoesOn, IsApplied, IsKept, IsApplyingAtEachMoment, IsDoneOnDisk};
 
     // What a command changes. Only an append and a query that is saved read the device.
@@ -85,6 +85,8 @@ impl<D: SectorDevice> Store<D> {
             → IsDoneOnDisk D.size D.story self.old (command_of command) self.new) }
         ensures size { D.size (device_of self.new) ≡ D.size (device_of self.old) }
         ensures count { D.failed (device_of self.new) ≡ counted (ended result) (D.failed (device_of self.old)) }
+        // No command opens or closes an export.
+        ensures book { book_of self.new ≡ book_of self.old }
     {
         // What is owned goes by a call: its drop written out would be most of the function.
         if self.halted {

@@ -256,7 +256,7 @@ fn settle(opened: &mut Opened<StoredCatalogue>, prepared: Prepared<'_>)
 impl<D: SectorDevice> Store<D> {
     ghost use Rattle.std.specs.Prelude.{false, ◌↔◌, OnOk};
     ghost use Rattle.store.specs.Calls.{counted};
-    ghost use Rattle.store.specs.Fits.{device_of, listed_in, IsOnDisk};
+    ghost use Rattle.store.specs.Fits.{device_of, listed_in, book_of, IsOnDisk};
     ghost use Rattle.store.specs.Reading.{ended};
     ghost use Rattle.store.specs.Applying.{EndsAs, IsKept, IsCarryingAtEachMoment, IsCarriedOnDisk};
 
@@ -273,7 +273,7 @@ impl<D: SectorDevice> Store<D> {
         ensures halts { (self.new.halted ≡ true) ↔ (result ≡ Err Refusal.Device) }
         ensures not_halted { IfErr result (λ e. e ≢ Refusal.Halted) }
         ensures kept { IfErr result (λ e. IsKept self.old self.new) }
-        ensures pins { self.new.pins ≡ self.old.pins }
+        ensures book { book_of self.new ≡ book_of self.old }
         ensures quiet { IfErr result (λ e. e ≢ Refusal.Device → D.story (device_of self.new) ≡ D.story (device_of self.old)) }
         // On a store that lies on its disk, whatever asks for the change: at each moment a stop leaves what stood, or the change carried out, and no sector
         // was touched outside the runs that it takes, but the one of the next commit.

@@ -77,7 +77,7 @@ impl<D: SectorDevice> Store<D> {
     ghost use Rattle.store.specs.Calls.{compact_call, refused, nothing, counted};
     ghost use Rattle.store.specs.Machine.{Machine};
     ghost use Rattle.store.specs.Exchanging.{Shrinks};
-    ghost use Rattle.store.specs.Fits.{StoreFits, device_of, listed_in, is_halted};
+    ghost use Rattle.store.specs.Fits.{StoreFits, device_of, listed_in, book_of, is_halted};
     ghost use Rattle.store.specs.Reading.{OnlyReadsStore};
     ghost use Rattle.store.specs.Applying.{GoesOn, IsKept};
     ghost use Rattle.store.specs.Compacting.{reply_of, step_reply, HasStepped, RefusesStep};
@@ -128,7 +128,7 @@ impl<D: SectorDevice> Store<D> {
         ensures halts { is_halted self.old ≡ false → (is_halted self.new ≡ true) ↔ (result ≡ Err Refusal.Device) }
         ensures size { D.size (device_of self.new) ≡ D.size (device_of self.old) }
         ensures count { D.failed (device_of self.new) ≡ counted (step_reply result) (D.failed (device_of self.old)) }
-        ensures pins { self.new.pins ≡ self.old.pins }
+        ensures book { book_of self.new ≡ book_of self.old }
     {
         if self.halted {
             return Err(Refusal::Halted);

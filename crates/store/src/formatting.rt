@@ -8,6 +8,7 @@ use crate::stored::StoredCatalogue;
 use crate::{OpeningRefusal, Store};
 use catalogue::{Catalogue, one_text_each};
 use commit::{FormatError, Opened};
+use export_book::ExportBook;
 use sector_dev::SectorDevice;
 use std::alloc::Global;
 
@@ -89,7 +90,7 @@ impl<D: SectorDevice> Store<D> {
                         map,
                     },
                     halted: false,
-                    pins: Vec::new(alloc),
+                    book: ExportBook::new(alloc),
                 })
             }
             Err(error) => Err((formatting_refusal(error), device)),

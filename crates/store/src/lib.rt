@@ -22,6 +22,7 @@ mod compacting;
 mod deciding;
 mod editing;
 mod exporting;
+mod exports;
 mod formatting;
 mod gathered;
 mod importing;

@@ -66,7 +66,7 @@ fn table_in_bytes(
 }
 
 // The table that a segment holds.
-fn read_segment<D: SectorDevice>(
+pub(crate) fn read_segment<D: SectorDevice>(
     alloc: Global,
     device: &mut D,
     front: &[u8],

@@ -4,13 +4,16 @@ ghost use Rattle.commit.specs.Standing.{is_size, is_on_device, runs_fault};
 ghost use Rattle.commit.specs.Placing.{Uses};
 ghost use Rattle.catalogue.specs.Entries.{runs_of};
 ghost use Rattle.catalogue.specs.View.{catalogue_of};
+ghost use Rattle.export_book.specs.Book.{runs_kept};
+ghost use Rattle.export_book.specs.View.{book_of};
+ghost use Rattle.store.specs.Exported.{AreExportable, exportable_prop};
 
 use crate::OpeningRefusal;
 use crate::opening_refusal::opening_refusal;
 use crate::stored::StoredCatalogue;
 use commit::{Opened, recover};
+use export_book::ExportBook;
 use sector_dev::SectorDevice;
-use segments::Run;
 use std::alloc::Global;
 
 /// Named tables on a device. After a failure of the device it is halted: it has to be closed and opened again.
@@ -19,13 +22,14 @@ pub struct Store<D: SectorDevice> {
     pub(crate) device: D,
     pub(crate) opened: Opened<StoredCatalogue>,
     pub(crate) halted: bool,
-    pub(crate) pins: Vec<Run>,
+    pub(crate) book: ExportBook,
     ghost in_limits: { is_size (D.size device) ≡ true },
     ghost same: { opened.map.size ≡ D.size device },
     ghost own: { opened.commit.device_sectors ≡ D.size device },
     ghost fit: { runs_fault (D.size device) opened.commit.catalogue.run (runs_of (catalogue_of opened.catalogue.list)) ≡ None },
     ghost placed: { is_on_device (D.size device) opened.commit.catalogue.run ≡ true },
-    ghost uses: { Uses opened.map.entries (opened.commit.catalogue.run ∷ runs_of (catalogue_of opened.catalogue.list)) pins.items },
+    ghost uses: { Uses opened.map.entries (opened.commit.catalogue.run ∷ runs_of (catalogue_of opened.catalogue.list)) (runs_kept (book_of book).exports) },
+    ghost exported: { AreExportable (D.size device) (book_of book).exports } by { exportable_prop (D.size device) (book_of book).exports },
 }
 
 impl<D: SectorDevice> Store<D> {
@@ -75,7 +79,7 @@ impl<D: SectorDevice> Store<D> {
                 device,
                 opened,
                 halted: false,
-                pins: Vec::new(alloc),
+                book: ExportBook::new(alloc),
             }),
             Err(error) => Err((opening_refusal(error), device)),
         }
@@ -89,7 +93,7 @@ impl<D: SectorDevice> Store<D> {
             device,
             opened: _opened,
             halted: _halted,
-            pins: _pins,
+            book: _book,
         } = self;
         device
     }

@@ -53,7 +53,7 @@ module _ {D : Type 0} {g : Ghosts D} (story : D → Story) where
   read_nothing size failed tells store = record {
     device = record { same = refl; moments = λ told. stays (λ d. d ≡ now (story (device_of store))) (story (device_of store)); count = refl };
     kept = refl;
-    pins = refl;
+    book = refl;
     halts = sym (or-false store.halted);
   }
 
@@ -66,7 +66,7 @@ module _ {D : Type 0} {g : Ghosts D} (story : D → Story) where
       count = second.device.count ∙ ap (counted reply) first.device.count;
     };
     kept = second.kept ∙ first.kept;
-    pins = second.pins ∙ first.pins;
+    book = second.book ∙ first.book;
     halts = second.halts ∙ ap (λ (h : Bool). h || is_device_reply reply) (first.halts ∙ or-false a.halted);
   }
 
@@ -84,7 +84,7 @@ module _ {D : Type 0} {g : Ghosts D} (story : D → Story) where
       record {
         device = record { same = reads.device.same; moments = reads.device.moments; count = reads.device.count };
         kept = reads.kept;
-        pins = reads.pins;
+        book = reads.book;
         halts = reads.halts;
       }
 

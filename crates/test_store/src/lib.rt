@@ -9,6 +9,8 @@ mod commands;
 #[cfg(test)]
 mod compactions;
 #[cfg(test)]
+mod exports;
+#[cfg(test)]
 mod failing_reads;
 #[cfg(test)]
 mod inputs;

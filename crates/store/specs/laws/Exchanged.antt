@@ -9,7 +9,6 @@ use Rattle.catalogue.specs.declared.entry.Segment.{Segment}
 use Rattle.catalogue.specs.Entries.{PlainEntry, PlainCatalogue}
 use Rattle.catalogue.specs.Edits.{entry_of, with_segments, from_place, with_others, with_exchanged}
 use Rattle.store.specs.Held.{joined_rows, rows_held, table_of_rows, table_held, with_held, tables_held}
-use Rattle.store.specs.Changes.{new_entry}
 use Rattle.store.specs.Exchanging.{HoldsSame}
 use Rattle.store.specs.laws.Changed.{rows_behind}
 

@@ -1,7 +1,6 @@
 -- Catalogues that shrink in turn are few.
-use Rattle.std.specs.Prelude.{◌≡◌, ◌⊎◌, ◌≤◌, ◌<◌, ◌+◌, ◌*◌, ◌++◌, ◌&&◌, ℕ, zero, suc, Bool, true, nat_le, List, [], ◌∷◌, length, map, sum_by, refl}
-use Rattle.std.specs.List.{flat_map}
-use Rattle.std.proofs.Common.{inl, inr, ⊎_elim, sym, ap, ◌∙◌, subst, arith, length-append}
+use Rattle.std.specs.Prelude.{◌≡◌, ◌≤◌, ◌<◌, ◌+◌, ◌*◌, ◌&&◌, ℕ, zero, suc, true, nat_le, List, [], ◌∷◌, length, sum_by, refl}
+use Rattle.std.proofs.Common.{⊎_elim, ap, ◌∙◌, subst, arith, length-append}
 use Rattle.std.proofs.lemmas.Bool.{and_parts, leb-true}
 use Rattle.std.proofs.lemmas.List.{length-map}
 use Rattle.std.proofs.lemmas.List.Sums.{sum_by-cons}
@@ -10,7 +9,7 @@ use Rattle.segments.specs.declared.run.Run.{Run}
 use Rattle.catalogue.specs.declared.entry.Segment.{Segment}
 use Rattle.catalogue.specs.Entries.{PlainEntry, PlainCatalogue, runs_in, runs_of, segment_count}
 use Rattle.commit.specs.Standing.{is_on_device, all_on_device}
-use Rattle.store.specs.Exchanging.{starts_sum, Shrinks, ShrinkInTurn, AreOnDevice}
+use Rattle.store.specs.Exchanging.{starts_sum, ShrinkInTurn, AreOnDevice}
 
 abbrev starts : List Run → ℕ
 starts rs = sum_by (λ (r : Run). r.start) rs

@@ -1,8 +1,8 @@
 -- What is given of an export while it stays open: its pieces in order, and all of them where its end was found.
-use Rattle.std.specs.Prelude.{◌≡◌, ◌≢◌, ◌⊎◌, ◌+◌, ◌==◌, ◌&&◌, ◌||◌, ◌++◌, ℕ, zero, suc, Bool, true, false, not, if◌then◌else◌, List, [], ◌∷◌, drop, find, map, slice_get, Option, Some, None, option_map, Ok, refl}
+use Rattle.std.specs.Prelude.{◌≡◌, ◌+◌, ◌==◌, ◌||◌, ◌++◌, ℕ, zero, suc, Bool, true, false, not, if◌then◌else◌, List, [], ◌∷◌, drop, map, slice_get, Option, Some, None, option_map, refl}
 use Rattle.std.specs.List.{filter}
-use Rattle.std.proofs.Common.{inl, inr, ⊎_elim, ap, sym, ◌∙◌, subst, arith, append_assoc, append-nil}
-use Rattle.std.proofs.lemmas.Bool.{and_parts, or_parts, eqb-true, eq-eqb, cases_Bool}
+use Rattle.std.proofs.Common.{ap, sym, ◌∙◌, subst, arith, append_assoc, append-nil}
+use Rattle.std.proofs.lemmas.Bool.{and_parts, eqb-true, eq-eqb}
 use Rattle.sector_dev.specs.Disk.{Story, now}
 use Rattle.ipc_message.specs.Header.{supported_codes}
 use Rattle.ipc_stream.specs.Meaning.{meaning}
@@ -14,8 +14,8 @@ use Rattle.tables.specs.declared.refusal.Refusal.TheVariants as refusals
 use Rattle.tables.specs.declared.refusal.Limit.TheVariants as limits
 use Rattle.tables.specs.Refusals.{Origin, by_tables, by_room, by_memory, by_device, by_halt, elsewhere, origin_of}
 use Rattle.tables.specs.Commands.{PlainCommand}
-use Rattle.store.specs.Calls.{PlainCall, apply_call, format_call, open_call, close_call, tables_call, schema_call, read_call, export_call, stream_call, open_export_call, export_next_call, close_export_call, compact_call, PlainReply, done, counts, schema_is, table_is, bytes_are, export_is, piece_is, merged, moved, nothing, refused, shut_by, is_failure, is_device_reply}
-use Rattle.store.specs.Machine.{Setting, Machine, Export, settle, halt, tables_now, has_written, is_of, export_at, with_export, gave, after_piece, without_export}
+use Rattle.store.specs.Calls.{PlainCall, apply_call, format_call, open_call, close_call, tables_call, schema_call, read_call, export_call, stream_call, open_export_call, export_next_call, close_export_call, compact_call, PlainReply, done, counts, schema_is, table_is, bytes_are, export_is, piece_is, merged, moved, nothing, refused, is_failure}
+use Rattle.store.specs.Machine.{Setting, Machine, Export, settle, tables_now, has_written, is_of, export_at, gave, after_piece}
 use Rattle.store.specs.Steps.{RefusesFrom, Step, IsExportOf, StepOpenExport}
 use Rattle.store.specs.Runs.{Run}
 use Rattle.store.specs.Snapshots.{given_by, given, finds_end, has_ended, leaves_open, stays_open, GivesTable}

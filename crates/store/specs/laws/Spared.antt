@@ -1,13 +1,13 @@
 -- Runs that are pinned are not taken, and what their segments hold stays.
-use Rattle.std.specs.Prelude.{◌≡◌, ◌⊎◌, ◌≤◌, ◌<◌, ◌+◌, ◌++◌, ◌||◌, ℕ, Bool, true, List, [], ◌∷◌, map, nat_lt, Option, Some, None, option_map, Result, Ok, Err, refl}
+use Rattle.std.specs.Prelude.{◌≡◌, ◌⊎◌, ◌||◌, ℕ, Bool, true, List, [], ◌∷◌, map, nat_lt, Option, Some, None, option_map, Result, Ok, Err, refl}
 use Rattle.std.specs.List.{list_all}
 use Rattle.std.proofs.Common.{inl, inr, sym, ap, ◌∙◌, subst, lt-ltb}
 use Rattle.std.proofs.lemmas.Bool.{and_parts, or_right}
 use Rattle.sector_dev.specs.Disk.{Image}
 use Rattle.segments.specs.declared.run.Run.{Run}
 use Rattle.segments.specs.declared.entries.UsageEntry.{UsageEntry}
-use Rattle.segments.specs.Runs.{IsLowest, OutOf}
-use Rattle.segments.specs.Usages.{is_used, same_run, usage_of, IsUsedIn}
+use Rattle.segments.specs.Runs.{OutOf}
+use Rattle.segments.specs.Usages.{is_used, same_run, IsUsedIn}
 use Rattle.segments.specs.laws.Usages.{same_itself}
 use Rattle.segments.specs.laws.Runs.{out_of_apart}
 use Rattle.arrow_schema.specs.Column.{PlainSchema}
@@ -20,7 +20,7 @@ use Rattle.commit.specs.Placing.{is_among, times_among, Uses, in_front, Takes}
 use Rattle.commit.specs.laws.Taking.{Took}
 use Rattle.commit.specs.laws.Placed.{used_apart}
 use Rattle.commit.specs.laws.Fit.{times_some}
-use Rattle.store.specs.Held.{segment_rows, joined_rows, rows_held}
+use Rattle.store.specs.Held.{segment_rows, joined_rows, rows_held, with_rows, rows_each}
 use Rattle.store.specs.laws.Frame.{same_segment}
 
 -- ---- taking
@@ -53,14 +53,6 @@ pub pins_spared : (size : ℕ) (entries : List UsageEntry) (ruling pinned : List
 pins_spared size entries ruling pinned sizes taken uses takes = used_spared size (IsUsedIn entries) sizes taken pinned (takes_took size (IsUsedIn entries) sizes taken takes) (pinned_used entries ruling pinned uses)
 
 -- ---- the rows of each segment
-
-abbrev pub with_rows : Option (List (List Cell)) → Option (List (List (List Cell))) → Option (List (List (List Cell)))
-with_rows None others = None
-with_rows (Some rows) others = option_map (λ lists. rows ∷ lists) others
-
-unfoldable pub rows_each : PlainSchema → List Segment → Image → Option (List (List (List Cell)))
-rows_each schema [] image = Some []
-rows_each schema (segment ∷ segments) image = with_rows (segment_rows schema segment image) (rows_each schema segments image)
 
 -- images that agree on the runs of segments hold the same rows in each
 pub same_each : (a b : Image) (schema : PlainSchema) (segments : List Segment) → list_all is_segment segments ≡ true → ((n : ℕ) → InSome (map (λ (s : Segment). s.place.run) segments) n → b n ≡ a n)

@@ -1,4 +1,4 @@
-use Rattle.std.proofs.Common.{◌∷◌, [], true, inr, map, ap, ◌∙◌}
+use Rattle.std.proofs.Common.{◌∷◌, [], inr, map, ap, ◌∙◌}
 use Rattle.catalogue.specs.Entries.{PlainEntry, plain_entry}
 use Rattle.store.specs.Changes.{exchange}
 use Rattle.store.proofs.StepFound.{last_is, last_sound, last_placed, last_within, some_sectors, one_entry}

@@ -56,7 +56,7 @@ returns-in-Ok-clause-goes g c = λ told base m fits.
     goes_after D.size D.story D.failed base m cmd D.tells told old mid c.carry_out-ended.new.self done (ended c.carry_out-ended.result) refl fits c.in-Ok.ensures.reads
     (tells_command (setting_of (D.size old.device) base) (now (D.story old.device)) c.carry_out-ended.result) (
     let ends = c.carry_out-ended.ensures in
-    carried_goes D.size D.story D.failed base m mid c.carry_out-ended.new.self there runs ends.size ends.pins (change_of c.in-Ok.change) cmd decided.0
+    carried_goes D.size D.story D.failed base m mid c.carry_out-ended.new.self there runs ends.size ends.book mid.exported (change_of c.in-Ok.change) cmd decided.0
     (subst (λ (n : ℕ). verdict (tables_now (setting_of n base) m) cmd ≡ Ok decided.0) (sym c.in-Ok.ensures.reads.device.same) decided.1) decided.2
     (decided_after D.size D.story D.failed D.tells old mid done c.in-Ok.ensures.reads told cmd (change_of c.in-Ok.change)
     (is_change D.tells (shown_image (now (D.story old.device))) (listed_in old) cmd (change_of c.in-Ok.change) told c.in-Ok.ensures.answers))
@@ -221,3 +221,14 @@ carry_out-ended-requires-clause-sound g c =
 
 pub carry_out-ended-requires-clause-on : goal.carry_out-ended-requires-clause-on
 carry_out-ended-requires-clause-on g c = c.in-Ok.ensures.reads.halts ∙ or_false c.args.self.now.halted ∙ c.if-self.false
+
+-- ---- exports
+
+pub returns-then-self-clause-book : goal.returns-then-self-clause-book
+returns-then-self-clause-book g c = refl
+
+pub returns-in-Ok-clause-book : goal.returns-in-Ok-clause-book
+returns-in-Ok-clause-book g c = c.carry_out-ended.ensures.book ∙ c.in-Ok.ensures.reads.book
+
+pub returns-in-Err-clause-book : goal.returns-in-Err-clause-book
+returns-in-Err-clause-book g c = c.in-Err.ensures.reads.book

@@ -1,13 +1,11 @@
 use Rattle.std.proofs.Common.{◌≡◌, ◌≢◌, ◌∷◌, ◌++◌, ◌+◌, ◌-◌, ◌^◌, [], ℕ, List, true, false, Bool, if◌then◌else◌, refl, sym, ap, ◌∙◌, subst}
-use Rattle.std.specs.Prelude.{Some, None, Result, Ok, Err, min}
+use Rattle.std.specs.Prelude.{None, Result, Ok, Err, min}
 use Rattle.std.proofs.lemmas.Bool.{true≢false}
 use Rattle.std.proofs.lemmas.Result.{err_from_is_err_and}
 use Rattle.sector_dev.specs.declared.device.DevError.{DevError}
 use Rattle.sector_dev.specs.Disk.{now, synced_image, Counts}
-use Rattle.sector_dev.specs.Time.{LeavesOnly}
 use Rattle.sector_dev.specs.laws.Time.{stays}
 use Rattle.segments.specs.declared.run.Run.{Run}
-use Rattle.segments.specs.Pieces.{plain_pieces}
 use Rattle.segments.specs.Usages.{IsUsedIn, GivesAll}
 use Rattle.segments.specs.Writing.{runs_of}
 use Rattle.catalogue.specs.Entries as entries
@@ -15,20 +13,18 @@ use Rattle.catalogue.specs.View.{catalogue_of}
 use Rattle.catalogue.specs.laws.Kept.{catalogue_is}
 use Rattle.commit.specs.declared.sector.Commit.{Commit}
 use Rattle.commit.specs.Placing.{Uses, Takes}
-use Rattle.commit.specs.Replacing.{StandsAs}
-use Rattle.commit.specs.Standing.{is_size, is_on_device, runs_fault, standing}
+use Rattle.commit.specs.Standing.{is_size, is_on_device, runs_fault}
 use Rattle.commit.specs.laws.Taking.{took_takes}
 use Rattle.store.specs.declared.stored.StoredCatalogue.{StoredCatalogue}
-use Rattle.store.specs.Calls.{apply_call, is_failure, is_device_reply}
-use Rattle.store.specs.Machine.{halted, running, has_written, settle, halt, Allows}
-use Rattle.store.specs.Held.{whole_reading, tables_held}
-use Rattle.store.specs.Fits.{listed_in, setting_of}
+use Rattle.store.specs.Calls.{is_failure, is_device_reply}
+use Rattle.store.specs.Machine.{halted, running}
+use Rattle.export_book.specs.Book.{runs_kept}
+use Rattle.store.specs.Exported.{AreExportable}
+use Rattle.store.specs.Fits.{book_of, listed_in}
 use Rattle.store.specs.Changes.{PlainChange, change_of}
 use Rattle.store.specs.Applying.{IsCarrying}
 use Rattle.store.specs.Carrying.{IsCarried, asked_sizes}
 use Rattle.store.specs.Reading.{ended}
-use Rattle.store.proofs.ReadsStore.{shown_is_synced}
-use Rattle.store.proofs.Roomed.{carried_out, refused_out}
 use Rattle.store.proofs.Prepared.{failed_usages, placed_then, fit_then, uses_then}
 use Rattle.tables.specs.declared.refusal.Refusal.{Refusal}
 use Rattle.tables.specs.declared.refusal.Refusal.TheVariants as refusals
@@ -68,11 +64,12 @@ invariant_of-self-in-Ok g c =
       in_limits = subst (λ (n : ℕ). is_size n ≡ true) (sym sized) s.in_limits;
       same = c.settle.ensures.map.size ∙ c.in_ok-prepared.ensures.size ∙ s.same ∙ sym sized;
       own = ap (λ (k : Commit). k.device_sectors) (commit_is ∙ prep.commit) ∙ s.own ∙ sym sized;
-      fit = (λ i. runs_fault ((sized ∙ sym s.same) i) (commit_is i).catalogue.run (entries.runs_of (catalogue_of (catalogue_is' i).list))) ∙ fit_then old mid s.opened.commit listed change plan back prep on fit s.pins.items s.uses sound stands;
+      fit = (λ i. runs_fault ((sized ∙ sym s.same) i) (commit_is i).catalogue.run (entries.runs_of (catalogue_of (catalogue_is' i).list))) ∙ fit_then old mid s.opened.commit listed change plan back prep on fit (runs_kept (book_of s).exports) s.uses sound stands;
       placed = (λ i. is_on_device ((sized ∙ sym s.same) i) (commit_is i).catalogue.run) ∙ placed_then old mid s.opened.commit listed change plan back prep;
-      uses = subst (λ (x : StoredCatalogue). Uses c.settle.new.opened.map.entries (c.settle.new.opened.commit.catalogue.run ∷ entries.runs_of (catalogue_of x.list)) s.pins.items) (sym catalogue_is')
-          (subst (λ (k : Commit). Uses c.settle.new.opened.map.entries (k.catalogue.run ∷ entries.runs_of (catalogue_of plan.catalogue.list)) s.pins.items) (sym commit_is)
-          (uses_then old mid s.opened.commit listed change plan back prep on fit s.pins.items s.uses sound c.settle.new.opened.map stands c.settle.ensures.map));
+      uses = subst (λ (x : StoredCatalogue). Uses c.settle.new.opened.map.entries (c.settle.new.opened.commit.catalogue.run ∷ entries.runs_of (catalogue_of x.list)) (runs_kept (book_of s).exports)) (sym catalogue_is')
+          (subst (λ (k : Commit). Uses c.settle.new.opened.map.entries (k.catalogue.run ∷ entries.runs_of (catalogue_of plan.catalogue.list)) (runs_kept (book_of s).exports)) (sym commit_is)
+          (uses_then old mid s.opened.commit listed change plan back prep on fit (runs_kept (book_of s).exports) s.uses sound c.settle.new.opened.map stands c.settle.ensures.map));
+      exported = subst (λ (n : ℕ). AreExportable n (book_of s).exports) (sym sized) s.exported;
     }
 
 pub invariant_of-self-in-Err : goal.invariant_of-self-in-Err
@@ -93,6 +90,7 @@ invariant_of-self-in-Err g c =
       fit = subst (λ (n : ℕ). runs_fault n s.opened.commit.catalogue.run (entries.runs_of listed) ≡ None) (sym sized) s.fit;
       placed = subst (λ (n : ℕ). is_on_device n s.opened.commit.catalogue.run ≡ true) (sym sized) s.placed;
       uses = λ run. usages run ∙ s.uses run;
+      exported = subst (λ (n : ℕ). AreExportable n (book_of s).exports) (sym sized) s.exported;
     }
 
 pub returns-in-Ok-clause-carried : goal.returns-in-Ok-clause-carried

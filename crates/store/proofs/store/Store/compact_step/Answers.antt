@@ -1,5 +1,4 @@
-use Rattle.std.specs.Prelude.{◌≢◌}
-use Rattle.std.proofs.Common.{◌≡◌, Bool, true, false, Some, None, Result, Ok, Err, refl, sym, ◌∙◌, subst}
+use Rattle.std.proofs.Common.{◌≡◌, Bool, Some, None, Result, Ok, Err, refl, sym, ◌∙◌, subst}
 use Rattle.std.proofs.lemmas.Bool.{true≢false, false_from_ne_true}
 use Rattle.sector_dev.specs.Disk.{Disk, Story, now, shown_image}
 use Rattle.sector_dev.specs.Time.{OnlyReads}
@@ -54,7 +53,7 @@ returns-in-Ok-clause-goes g c = λ told base m fits.
     let there = fits_reading D.size D.story D.failed base m D.tells told old mid fits done refl reads in
     let ends = c.in-Ok.ensures in
     made_goes D.size D.story D.failed base m D.tells told c.laws_below.ensures old mid c.carry_out.new.self fits runs there reads c.in-Ok-Some.step.done (change_of c.in-Ok-Some.step.change)
-    (rw c.in-Ok-Some.field-0-is at c.in-Ok-Some.ensures.found) ends.size ends.pins (ends.carries told (there.sound runs).stands) ends.count (false_from_ne_true c.carry_out.new.self.halted (λ is. cc (ends.halts.0 is)))
+    (rw c.in-Ok-Some.field-0-is at c.in-Ok-Some.ensures.found) ends.size ends.book mid.exported (ends.carries told (there.sound runs).stands) ends.count (false_from_ne_true c.carry_out.new.self.halted (λ is. cc (ends.halts.0 is)))
     (ends.done told (there.sound runs).stands)
 
 pub returns-in-Ok-clause-step : goal.returns-in-Ok-clause-step
@@ -92,8 +91,8 @@ returns-in-Ok-clause-count g c =
     let D = g.D.SectorDevice in
     done_counts c.in-Ok-Some.step.done (D.failed c.args.self.now.device) (D.failed c.carry_out.new.self.device) (c.in-Ok.ensures.count ∙ c.in-Ok-Some.ensures.reads.device.count)
 
-pub returns-in-Ok-clause-pins : goal.returns-in-Ok-clause-pins
-returns-in-Ok-clause-pins g c = c.in-Ok.ensures.pins ∙ c.in-Ok-Some.ensures.reads.pins
+pub returns-in-Ok-clause-book : goal.returns-in-Ok-clause-book
+returns-in-Ok-clause-book g c = c.in-Ok.ensures.book ∙ c.in-Ok-Some.ensures.reads.book
 
 pub returns-in-Ok-clause-still : goal.returns-in-Ok-clause-still
 returns-in-Ok-clause-still g c = λ is.
@@ -114,7 +113,7 @@ returns-in-Ok-Some-clause-refused g c = λ told base m fits.
     let there = fits_reading D.size D.story D.failed base m D.tells told old mid fits done refl reads in
     let ends = c.in-Err-carry_out.ensures in
     refused_goes D.size D.story D.failed base m D.tells told c.laws_below.ensures old mid c.carry_out.new.self fits runs there reads c.in-Ok-Some.step.done (change_of c.in-Ok-Some.step.change)
-    (rw c.in-Ok-Some.field-0-is at c.in-Ok-Some.ensures.found) ends.size ends.pins (ends.carries told (there.sound runs).stands) c.in-Err-carry_out.refusal ends.count ends.carried ends.halts ends.kept ends.quiet
+    (rw c.in-Ok-Some.field-0-is at c.in-Ok-Some.ensures.found) ends.size ends.book mid.exported (ends.carries told (there.sound runs).stands) c.in-Err-carry_out.refusal ends.count ends.carried ends.halts ends.kept ends.quiet
 
 pub returns-in-Ok-Some-clause-reads : goal.returns-in-Ok-Some-clause-reads
 returns-in-Ok-Some-clause-reads g c = λ other told.
@@ -159,8 +158,8 @@ returns-in-Ok-None-clause-size g c = c.in-Ok-None.ensures.reads.device.same
 pub returns-in-Ok-None-clause-count : goal.returns-in-Ok-None-clause-count
 returns-in-Ok-None-clause-count g c = c.in-Ok-None.ensures.reads.device.count
 
-pub returns-in-Ok-None-clause-pins : goal.returns-in-Ok-None-clause-pins
-returns-in-Ok-None-clause-pins g c = c.in-Ok-None.ensures.reads.pins
+pub returns-in-Ok-None-clause-book : goal.returns-in-Ok-None-clause-book
+returns-in-Ok-None-clause-book g c = c.in-Ok-None.ensures.reads.book
 
 -- ---- a store that is halted
 

@@ -7,7 +7,8 @@ use Rattle.catalogue.specs.Entries.{PlainCatalogue, runs_of}
 use Rattle.commit.specs.Standing.{is_size, is_on_device, all_on_device, runs_fault}
 use Rattle.commit.specs.laws.Frame.{fault_none}
 use Rattle.store.specs.Calls.{is_failure}
-use Rattle.store.specs.Fits.{listed_in}
+use Rattle.store.specs.Fits.{book_of, listed_in}
+use Rattle.store.specs.Exported.{AreExportable}
 use Rattle.store.specs.Compacting.{UnreadsStep}
 use Rattle.store.specs.inner.Compacting.{FindsStep}
 use Rattle.store.proofs.store.Store.find_step.Goals as goal
@@ -20,7 +21,7 @@ decide_step-requires-clause-placed g c =
     (fault_none (D.size s.device) s.opened.commit.catalogue.run (runs_of (listed_in s)) s.fit).0
 
 pub returns-in-Ok-clause-reads : goal.returns-in-Ok-clause-reads
-returns-in-Ok-clause-reads g c = record { device = c.in-Ok.ensures.reads; kept = refl; pins = refl; halts = sym (or_false c.args.self.now.halted) }
+returns-in-Ok-clause-reads g c = record { device = c.in-Ok.ensures.reads; kept = refl; book = refl; halts = sym (or_false c.args.self.now.halted) }
 
 pub returns-in-Ok-clause-found : goal.returns-in-Ok-clause-found
 returns-in-Ok-clause-found g c =
@@ -32,7 +33,7 @@ returns-in-Ok-clause-found g c =
 
 pub returns-in-Err-clause-reads : goal.returns-in-Err-clause-reads
 returns-in-Err-clause-reads g c =
-    record { device = c.in-Err.ensures.reads; kept = refl; pins = refl; halts = c.is_failure-self.ensures ∙ sym (ap (λ (b : Bool). b || is_failure c.in-Err.refusal) c.requires.on) }
+    record { device = c.in-Err.ensures.reads; kept = refl; book = refl; halts = c.is_failure-self.ensures ∙ sym (ap (λ (b : Bool). b || is_failure c.in-Err.refusal) c.requires.on) }
 
 pub returns-in-Err-clause-unread : goal.returns-in-Err-clause-unread
 returns-in-Err-clause-unread g c =
@@ -53,6 +54,7 @@ invariant_of-self g c =
       fit = subst (λ (n : ℕ). runs_fault n s.opened.commit.catalogue.run (runs_of (listed_in s)) ≡ None) (sym sized) s.fit;
       placed = subst (λ (n : ℕ). is_on_device n s.opened.commit.catalogue.run ≡ true) (sym sized) s.placed;
       uses = s.uses;
+      exported = subst (λ (n : ℕ). AreExportable n (book_of s).exports) (sym sized) s.exported;
     }
 
 pub invariant_of-self-in-Err : goal.invariant_of-self-in-Err
@@ -66,4 +68,5 @@ invariant_of-self-in-Err g c =
       fit = subst (λ (n : ℕ). runs_fault n s.opened.commit.catalogue.run (runs_of (listed_in s)) ≡ None) (sym sized) s.fit;
       placed = subst (λ (n : ℕ). is_on_device n s.opened.commit.catalogue.run ≡ true) (sym sized) s.placed;
       uses = s.uses;
+      exported = subst (λ (n : ℕ). AreExportable n (book_of s).exports) (sym sized) s.exported;
     }

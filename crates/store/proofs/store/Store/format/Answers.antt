@@ -1,5 +1,4 @@
-use Rattle.segments.specs.declared.run.Run.{Run}
-use Rattle.std.proofs.Common.{List, ◌≡◌, ◌≢◌, ◌∙◌, ℕ, true, [], ◌∷◌, Err, refl, ap, sym, subst}
+use Rattle.std.proofs.Common.{◌≡◌, ◌≢◌, ◌∙◌, ℕ, true, [], ◌∷◌, Err, refl, ap, sym, subst}
 use Rattle.std.proofs.lemmas.Bool.{true≢false}
 use Rattle.sector_dev.specs.Disk.{now, shown_image, synced_image}
 use Rattle.sector_dev.specs.Time.{LeavesOnly}
@@ -18,7 +17,9 @@ use Rattle.store.specs.Calls.{format_call, shut_by, counted}
 use Rattle.store.specs.Machine.{opened, shut_down, Allows}
 use Rattle.store.specs.Runs.{Goes}
 use Rattle.store.specs.Held.{whole_reading, tables_held}
-use Rattle.store.specs.Fits.{setting_of, fresh}
+use Rattle.export_book.specs.Book.{PlainBook, runs_kept}
+use Rattle.store.specs.Exported.{AreExportable}
+use Rattle.store.specs.Fits.{setting_of, fresh, ExportsFit}
 use Rattle.store.specs.Opening.{formatting_of, TellsFormatting, IsOfFormatting}
 use Rattle.store.proofs.Formatted.{formatting_counts, formatting_limits, formatted_limits, formatting_damaged, first_placed, formatting_tells, formatting_reason, no_runs, early_moments, early_none, format_refused, refused_allows, format_done, formatted_stands, new_tables}
 use Rattle.store.proofs.store.Store.format.Goals as goal
@@ -34,8 +35,9 @@ invariant_of-result g c =
       own = ap (λ (k : Commit). k.device_sectors) c.in-Ok.ensures.commit ∙ sym c.format.ensures.size;
       fit = no_runs (D.size c.format.new.device) c.in-Ok.commit.catalogue.run (catalogue_of c.empty.result) c.empty.ensures;
       placed = (λ i. is_on_device (c.format.ensures.size i) (c.in-Ok.ensures.commit i).catalogue.run) ∙ first_placed size limits;
-      uses = subst (λ (rs : List Run). Uses c.in-Ok.map.entries (c.in-Ok.commit.catalogue.run ∷ runs_of (catalogue_of c.empty.result)) rs) (sym c.new.ensures.items)
+      uses = subst (λ (b : PlainBook). Uses c.in-Ok.map.entries (c.in-Ok.commit.catalogue.run ∷ runs_of (catalogue_of c.empty.result)) (runs_kept b.exports)) (sym c.new.ensures)
           (subst (λ (x : PlainCatalogue). Uses c.in-Ok.map.entries (c.in-Ok.commit.catalogue.run ∷ runs_of x) []) (sym c.empty.ensures) c.in-Ok.ensures.uses);
+      exported = subst (λ (b : PlainBook). AreExportable (D.size c.format.new.device) b.exports) (sym c.new.ensures) tt;
     }
 
 pub returns-in-Ok-clause-opened : goal.returns-in-Ok-clause-opened
@@ -70,10 +72,11 @@ returns-in-Ok-clause-opened g c = λ told base m fits.
           stands = subst (λ (n : ℕ). Stands whole_reading n (now s1) commit listed) (sym same)
               (subst (λ (k : Commit). Stands whole_reading size (now s1) k listed) (sym c.in-Ok.ensures.commit) (subst (λ (d : PlainCatalogue). Stands whole_reading size (now s1) (first_commit size) d) (sym c.empty.ensures) stands));
           tables = ap (tables_held (synced_image (now s1))) c.empty.ensures ∙ new_tables size fits.in_limits spelled base m (fits.fresh early) (synced_image (now s1));
-          uses = subst (λ (rs : List Run). Uses c.in-Ok.map.entries (commit.catalogue.run ∷ runs_of (catalogue_of c.empty.result)) rs) (sym c.new.ensures.items)
+          uses = subst (λ (b : PlainBook). Uses c.in-Ok.map.entries (commit.catalogue.run ∷ runs_of (catalogue_of c.empty.result)) (runs_kept b.exports)) (sym c.new.ensures)
               (subst (λ (d : PlainCatalogue). Uses c.in-Ok.map.entries (commit.catalogue.run ∷ runs_of d) []) (sym c.empty.ensures) c.in-Ok.ensures.uses);
           none = refl;
-          pins = c.new.ensures.items;
+          exports = subst (λ (b : PlainBook). ExportsFit (synced_image (now s1)) b.exports []) (sym c.new.ensures) tt;
+          next = ap (λ (b : PlainBook). b.next) c.new.ensures;
         };
       };
     }
@@ -104,7 +107,7 @@ returns-in-Ok-clause-empty g c =
       empty = c.empty.ensures;
       commit = c.in-Ok.ensures.commit;
       uses = subst (λ (d : PlainCatalogue). Uses c.in-Ok.map.entries (c.in-Ok.commit.catalogue.run ∷ runs_of d) []) (sym c.empty.ensures) c.in-Ok.ensures.uses;
-      none_kept = c.new.ensures.items;
+      none_open = c.new.ensures;
       on = refl;
     }
 

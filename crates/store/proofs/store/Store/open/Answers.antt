@@ -1,10 +1,8 @@
-use Rattle.segments.specs.declared.run.Run.{Run}
-use Rattle.std.specs.List.{flat_map}
 use Rattle.commit.specs.Placing.{Uses}
 use Rattle.catalogue.specs.Entries.{runs_of}
-use Rattle.std.proofs.Common.{List, ◌∷◌, ◌≡◌, ℕ, true, ◌∙◌, refl, ap, sym, subst}
+use Rattle.std.proofs.Common.{List, [], ◌∷◌, ◌≡◌, ℕ, true, ◌∙◌, refl, ap, sym, subst}
 use Rattle.std.proofs.lemmas.Bool.{true≢false}
-use Rattle.sector_dev.specs.Disk.{now}
+use Rattle.sector_dev.specs.Disk.{now, synced_image}
 use Rattle.sector_dev.specs.Time.{LeavesOnly}
 use Rattle.commit.specs.Standing.{is_size, Stands}
 use Rattle.commit.specs.Opening.{standing_shown}
@@ -14,7 +12,9 @@ use Rattle.store.specs.Calls.{open_call, shut_by, counted}
 use Rattle.store.specs.Machine.{Export, shut_down, Allows}
 use Rattle.store.specs.Runs.{Goes}
 use Rattle.store.specs.Held.{whole_reading}
-use Rattle.store.specs.Fits.{setting_of}
+use Rattle.export_book.specs.Book.{PlainBook, runs_kept}
+use Rattle.store.specs.Exported.{AreExportable}
+use Rattle.store.specs.Fits.{setting_of, ExportsFit}
 use Rattle.store.specs.Opening.{opening_of, TellsOpening}
 use Rattle.store.proofs.Opened.{found_shown, opening_done, opening_refused, opening_counts, opening_tells, opening_limits, device_after, synced_then, runs_then}
 use Rattle.store.proofs.store.Store.open.Goals as goal
@@ -70,9 +70,11 @@ returns-in-Ok-clause-opened g c = λ told base m fits.
         sound = λ on. record {
           stands = subst (λ (n : ℕ). Stands whole_reading n (now s1) commit catalogue) (sym same) (c.in-Ok.ensures.stands told);
           tables = synced_then s0 s1 catalogue _ synced found.tables;
-          uses = subst (λ (rs : List Run). Uses c.in-Ok.opened.map.entries (commit.catalogue.run ∷ runs_of catalogue) rs) (sym c.new.ensures.items) c.in-Ok.ensures.uses;
+          uses = subst (λ (b : PlainBook). Uses c.in-Ok.opened.map.entries (commit.catalogue.run ∷ runs_of catalogue) (runs_kept b.exports)) (sym c.new.ensures) c.in-Ok.ensures.uses;
           none = after.2;
-          pins = c.new.ensures.items ∙ sym (ap (λ (es : List Export). flat_map (λ (e : Export). e.runs) es) after.3);
+          exports = subst (λ (b : PlainBook). ExportsFit (synced_image (now s1)) b.exports found.next.exports) (sym c.new.ensures)
+              (subst (λ (es : List Export). ExportsFit (synced_image (now s1)) [] es) (sym after.3) tt);
+          next = ap (λ (b : PlainBook). b.next) c.new.ensures ∙ sym after.4;
         };
       };
     }
@@ -86,7 +88,7 @@ returns-in-Ok-clause-found g c = λ told.
       synced = c.in-Ok.ensures.synced told;
       stands = subst (λ (n : ℕ). Stands whole_reading n (now (D.story c.recover.new.device)) c.in-Ok.opened.commit (catalogue_of c.in-Ok.opened.catalogue.list)) (sym c.recover.ensures.size) (c.in-Ok.ensures.stands told);
       uses = c.in-Ok.ensures.uses;
-      none_kept = c.new.ensures.items;
+      none_open = c.new.ensures;
       on = refl;
     }
 
@@ -114,3 +116,13 @@ returns-in-Err-clause-count_back g c =
     let after = D.failed c.recover.new.device in
     subst (λ (r : OpeningRefusal). after ≡ counted (shut_by r) before) (sym c.opening_refusal.ensures)
     (opening_counts c.recover.result c.in-Err.error before after c.in-Err.is c.recover.ensures.count)
+
+-- ---- no export is open
+
+pub invariant_of-result-clause-uses : goal.invariant_of-result-clause-uses
+invariant_of-result-clause-uses g c =
+    subst (λ (b : PlainBook). Uses c.in-Ok.opened.map.entries (c.in-Ok.opened.commit.catalogue.run ∷ runs_of (catalogue_of c.in-Ok.opened.catalogue.list)) (runs_kept b.exports)) (sym c.new.ensures) c.in-Ok.ensures.uses
+
+pub invariant_of-result-clause-exported : goal.invariant_of-result-clause-exported
+invariant_of-result-clause-exported g c =
+    subst (λ (b : PlainBook). AreExportable (g.D.SectorDevice.size c.recover.new.device) b.exports) (sym c.new.ensures) tt

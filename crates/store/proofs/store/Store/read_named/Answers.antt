@@ -8,8 +8,9 @@ use Rattle.catalogue.specs.Edits.{entry_of}
 use Rattle.catalogue.specs.laws.Changed.{found_passes}
 use Rattle.commit.specs.laws.Frame.{fault_none}
 use Rattle.tables.specs.declared.refusal.Refusal.TheVariants.{Halted, NoTable}
+use Rattle.store.specs.Exported.{AreExportable}
 use Rattle.store.specs.Calls.{is_failure, refused}
-use Rattle.store.specs.Fits.{listed_in}
+use Rattle.store.specs.Fits.{book_of, listed_in}
 use Rattle.commit.specs.Standing.{is_size, is_on_device, runs_fault}
 use Rattle.store.proofs.AtNames.{read_at, read_nowhere, read_halted, unread_at}
 use Rattle.store.proofs.ReadTables.{runs_on_device, reads_quiet}
@@ -31,7 +32,7 @@ read_entry-requires-clause-sound g c =
 pub returns-then-self-clause-reads : goal.returns-then-self-clause-reads
 returns-then-self-clause-reads g c =
     let D = g.D.SectorDevice in
-    record { device = reads_quiet D.size D.story D.failed D.tells (refused Halted) c.args.self.now.device refl; kept = refl; pins = refl; halts = sym (or_false c.args.self.now.halted) }
+    record { device = reads_quiet D.size D.story D.failed D.tells (refused Halted) c.args.self.now.device refl; kept = refl; book = refl; halts = sym (or_false c.args.self.now.halted) }
 
 pub returns-then-self-clause-told : goal.returns-then-self-clause-told
 returns-then-self-clause-told g c =
@@ -42,7 +43,7 @@ returns-then-self-clause-told g c =
 
 pub returns-in-Ok-clause-reads : goal.returns-in-Ok-clause-reads
 returns-in-Ok-clause-reads g c =
-    record { device = c.in-Ok.ensures.reads; kept = refl; pins = refl; halts = sym (or_false c.args.self.now.halted) }
+    record { device = c.in-Ok.ensures.reads; kept = refl; book = refl; halts = sym (or_false c.args.self.now.halted) }
 
 pub returns-in-Ok-clause-found : goal.returns-in-Ok-clause-found
 returns-in-Ok-clause-found g c =
@@ -53,7 +54,7 @@ returns-in-Ok-clause-found g c =
 
 pub returns-in-Err-clause-reads : goal.returns-in-Err-clause-reads
 returns-in-Err-clause-reads g c =
-    record { device = c.in-Err.ensures.reads; kept = refl; pins = refl; halts = c.is_failure-self.ensures ∙ sym (ap (λ (b : Bool). b || is_failure c.in-Err.refusal) c.if-self.false) }
+    record { device = c.in-Err.ensures.reads; kept = refl; book = refl; halts = c.is_failure-self.ensures ∙ sym (ap (λ (b : Bool). b || is_failure c.in-Err.refusal) c.if-self.false) }
 
 pub returns-in-Err-clause-told : goal.returns-in-Err-clause-told
 returns-in-Err-clause-told g c =
@@ -65,7 +66,7 @@ returns-in-Err-clause-told g c =
 pub returns-in-None-clause-reads : goal.returns-in-None-clause-reads
 returns-in-None-clause-reads g c =
     let D = g.D.SectorDevice in
-    record { device = reads_quiet D.size D.story D.failed D.tells (refused NoTable) c.args.self.now.device refl; kept = refl; pins = refl; halts = sym (or_false c.args.self.now.halted) }
+    record { device = reads_quiet D.size D.story D.failed D.tells (refused NoTable) c.args.self.now.device refl; kept = refl; book = refl; halts = sym (or_false c.args.self.now.halted) }
 
 pub returns-in-None-clause-told : goal.returns-in-None-clause-told
 returns-in-None-clause-told g c =
@@ -87,4 +88,5 @@ invariant_of-self g c =
       fit = subst (λ (n : ℕ). runs_fault n s.opened.commit.catalogue.run (runs_of (listed_in s)) ≡ None) (sym sized) s.fit;
       placed = subst (λ (n : ℕ). is_on_device n s.opened.commit.catalogue.run ≡ true) (sym sized) s.placed;
       uses = s.uses;
+      exported = subst (λ (n : ℕ). AreExportable n (book_of s).exports) (sym sized) s.exported;
     }

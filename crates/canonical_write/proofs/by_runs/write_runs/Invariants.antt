@@ -1,25 +1,23 @@
 use Rattle.std.specs.List.{flat_map}
-use Rattle.std.proofs.Common.{◌≡◌, ◌-◌, ◌++◌}
+use Rattle.std.proofs.Common.{◌≡◌, ◌-◌, ◌++◌, []}
 use Rattle.arrow_schema.specs.Column.{columns_of}
 use Rattle.arrow_schema.specs.View.{schema_of}
-use Rattle.canonical_stream.specs.Canonical.{canonical, piece_messages}
+use Rattle.canonical_stream.specs.Canonical.{piece_messages, rows_messages}
 use Rattle.canonical_write.specs.inner.Stream.{stream_in}
-use Rattle.ipc_write.specs.Written.{end_of_stream}
-use Rattle.run_pieces.specs.Left.{runs_left, rows_left}
-use Rattle.run_pieces.specs.Rows.{runs_table}
+use Rattle.run_pieces.specs.Left.{rows_left}
 use Rattle.table_cut.specs.Cut.{pieces}
 use Rattle.table_cut.specs.Piece.{within_piece}
 use Rattle.canonical_write.proofs.RunSteps.{AreLeft}
-use Rattle.canonical_write.proofs.by_runs.write_left.Given as goal
+use Rattle.canonical_write.proofs.by_runs.write_runs.Given as goal
 
--- what is written, and the pieces that are left, are the stream
+-- what is written, and the messages of the pieces that are left, are all of them
 abbrev pub invariant-loop-from : goal.invariant-loop-from
 invariant-loop-from l =
     let s = schema_of l.schema in
     let cut = pieces (within_piece s) (rows_left (columns_of s.columns) l.left) in
     record {
       left : AreLeft s l.left l.from l.rows;
-      written : stream_in l.stream ++ (flat_map (piece_messages s) cut ++ end_of_stream) ≡ canonical (runs_table s (runs_left l.fn.left));
+      written : stream_in l.stream ++ (flat_map (piece_messages s) cut ++ []) ≡ stream_in l.fn.stream ++ rows_messages s (rows_left (columns_of s.columns) l.fn.left);
     }
 
 abbrev pub decreases-loop-from : goal.decreases-loop-from

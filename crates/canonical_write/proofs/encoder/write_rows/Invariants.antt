@@ -1,17 +1,15 @@
 use Rattle.std.specs.List.{AllByRecursion, flat_map}
-use Rattle.std.proofs.Common.{◌≡◌, ◌-◌, ◌≤◌, ◌++◌, length, drop}
+use Rattle.std.proofs.Common.{◌≡◌, ◌-◌, ◌≤◌, ◌++◌, [], length, drop}
 use Rattle.arrow_schema.specs.View.{schema_of}
-use Rattle.canonical_stream.specs.Canonical.{canonical, piece_messages}
+use Rattle.canonical_stream.specs.Canonical.{piece_messages, rows_messages}
 use Rattle.canonical_stream.specs.Pieces.{IsPieceOf}
-use Rattle.canonical_write.specs.View.{with_schema}
 use Rattle.canonical_write.specs.inner.Stream.{stream_in}
 use Rattle.table_cut.specs.Cut.{pieces}
-use Rattle.ipc_write.specs.Written.{end_of_stream}
 use Rattle.table_cut.specs.Piece.{within_piece}
 use Rattle.values.specs.TableView.{table_of}
-use Rattle.canonical_write.proofs.encoder.write_table.Given as goal
+use Rattle.canonical_write.proofs.encoder.write_rows.Given as goal
 
--- what is written, and the pieces that are left, are the stream
+-- what is written, and the messages of the pieces that are left, are all of them
 abbrev pub invariant-loop-from : goal.invariant-loop-from
 invariant-loop-from l =
     let s = schema_of l.schema in
@@ -19,7 +17,7 @@ invariant-loop-from l =
     record {
       within : l.from ≤ length (table_of l.table).rows;
       each : AllByRecursion (IsPieceOf s) left;
-      written : stream_in l.stream ++ (flat_map (piece_messages s) left ++ end_of_stream) ≡ canonical (with_schema s (table_of l.table));
+      written : stream_in l.stream ++ (flat_map (piece_messages s) left ++ []) ≡ stream_in l.fn.stream ++ rows_messages s (table_of l.table).rows;
     }
 
 abbrev pub decreases-loop-from : goal.decreases-loop-from

@@ -1,22 +1,20 @@
 use Rattle.std.specs.List.{AllByRecursion}
-use Rattle.std.proofs.Common.{◌≡◌, ◌+◌, ◌++◌, ◌∷◌, List, ℕ, length, map, drop, ap, subst, sym, ◌∙◌, arith, rules}
+use Rattle.std.proofs.Common.{◌≡◌, ◌+◌, ◌++◌, ◌∷◌, [], List, ℕ, length, map, drop, ap, subst, sym, ◌∙◌, arith, rules}
 use Rattle.std.proofs.lemmas.List.{drop_all}
-use Rattle.std.proofs.lemmas.Result.{on_ok_weaker}
 use Rattle.arrow_schema.specs.Column.{PlainSchema}
 use Rattle.arrow_schema.specs.View.{schema_of}
-use Rattle.canonical_stream.specs.Canonical.{canonical, piece_messages}
+use Rattle.canonical_stream.specs.Canonical.{piece_messages, rows_messages}
 use Rattle.canonical_stream.specs.Pieces.{IsPieceOf}
 use Rattle.canonical_write.proofs.Steps.{first_written, last_written, next_written}
 use Rattle.canonical_write.specs.View.{with_schema}
 use Rattle.canonical_write.specs.inner.Stream.{stream_in}
 use Rattle.cells.specs.Cell.{Cell, PlainTable}
-use Rattle.ipc_write.specs.Written.{end_of_stream}
 use Rattle.table_cut.specs.Cut.{pieces}
 use Rattle.table_cut.specs.Piece.{within_piece}
 use Rattle.values.specs.Borrowed.{borrowed_cells}
 use Rattle.values.specs.declared.borrowed.Values.{Values}
 use Rattle.values.specs.TableView.{table_of}
-use Rattle.canonical_write.proofs.encoder.write_table.Goals as goal
+use Rattle.canonical_write.proofs.encoder.write_rows.Goals as goal
 
 pub loop-from-init : goal.loop-from-init
 loop-from-init c =
@@ -24,8 +22,8 @@ loop-from-init c =
     let t : PlainTable = table_of c.args.table.now in
     record {
       within = omega arith;
-      each = c.pieces_can_be_built.ensures (with_schema s t) c.requires.table;
-      written = first_written s t (stream_in c.args.stream.now) c.requires.first;
+      each = c.pieces_can_be_built.ensures (with_schema s t) c.requires;
+      written = first_written s t.rows (stream_in c.args.stream.now);
     }
 
 written_rows : {A : Type 0} (f : List A → List ℕ) (old new : List ℕ) (given rows : List A) → new ≡ old ++ f given → given ≡ rows → new ≡ old ++ f rows
@@ -57,7 +55,7 @@ loop-from-preserved c =
     record {
       within = omega (arith, c.in_ok-piece.ensures.within);
       each = (subst (AllByRecursion (IsPieceOf s)) cut is.each).1;
-      written = next_written (piece_messages s) (stream_in c.loop-from.stream) (stream_in c.write_piece.new.stream) end_of_stream (canonical (with_schema s t)) piece old rest cut pushed is.written;
+      written = next_written (piece_messages s) (stream_in c.loop-from.stream) (stream_in c.write_piece.new.stream) [] (stream_in c.args.stream.now ++ rows_messages s t.rows) piece old rest cut pushed is.written;
     }
 
 pub returns : goal.returns
@@ -65,6 +63,4 @@ returns c =
     let s : PlainSchema = schema_of c.args.schema.now in
     let t : PlainTable = table_of c.args.table.now in
     let none = drop_all c.loop-from.from t.rows (omega (arith, c.loop-from-test.false)) in
-    on_ok_weaker c.end_stream.result
-    (λ h. last_written s (stream_in c.loop-from.stream) _ (canonical (with_schema s t)) (drop c.loop-from.from t.rows) none c.loop-from.invariant.written h)
-    c.end_stream.ensures
+    last_written s (stream_in c.loop-from.stream) (stream_in c.args.stream.now ++ rows_messages s t.rows) (drop c.loop-from.from t.rows) none c.loop-from.invariant.written

@@ -1,18 +1,16 @@
-use Rattle.std.proofs.Common.{List, refl, arith}
-use Rattle.std.proofs.lemmas.Result.{on_ok_weaker}
+use Rattle.std.proofs.Common.{◌++◌, [], List, refl, arith}
 use Rattle.arrow_schema.specs.Column.{PlainSchema, columns_of}
 use Rattle.arrow_schema.specs.View.{schema_of}
-use Rattle.canonical_stream.specs.Canonical.{canonical, piece_messages}
+use Rattle.canonical_stream.specs.Canonical.{piece_messages, rows_messages}
 use Rattle.canonical_write.proofs.RunSteps.{all_left, none_left, some_left, first_piece, next_left}
 use Rattle.canonical_write.proofs.Steps.{first_written, last_written, next_written}
 use Rattle.canonical_write.specs.inner.Stream.{stream_in}
 use Rattle.cells.specs.Cell.{Cell, PlainTable}
-use Rattle.ipc_write.specs.Written.{end_of_stream}
 use Rattle.run_pieces.specs.Left.{runs_left, rows_left}
 use Rattle.run_pieces.specs.Rows.{runs_rows, runs_table}
 use Rattle.table_cut.specs.Cut.{pieces}
 use Rattle.table_cut.specs.Piece.{within_piece}
-use Rattle.canonical_write.proofs.by_runs.write_left.Goals as goal
+use Rattle.canonical_write.proofs.by_runs.write_runs.Goals as goal
 
 pub loop-from-init : goal.loop-from-init
 loop-from-init c =
@@ -20,7 +18,7 @@ loop-from-init c =
     let t : PlainTable = runs_table s (runs_left c.args.left.now) in
     record {
       left = all_left c.pieces_can_be_built.ensures s c.args.left.now c.args.rows t.rows refl c.requires.table c.requires.sound c.requires.count;
-      written = first_written s t (stream_in c.args.stream.now) c.requires.first;
+      written = first_written s t.rows (stream_in c.args.stream.now);
     }
 
 pub next_piece-requires-clause-some : goal.next_piece-requires-clause-some
@@ -44,7 +42,7 @@ loop-from-preserved c =
     let piece : List (List Cell) = runs_rows (columns_of s.columns) c.in_ok-piece.piece.runs.items in
     record {
       left = next_left c.next_piece.new.self c.in_ok-piece.piece.rows piece is.left c.in_ok-piece.ensures.piece c.in_ok-piece.ensures.front c.in_ok-piece.ensures.left c.in_ok-piece.ensures.count;
-      written = next_written (piece_messages s) (stream_in c.loop-from.stream) (stream_in c.write_run_piece.new.stream) end_of_stream (canonical (runs_table s (runs_left c.args.left.now))) piece
+      written = next_written (piece_messages s) (stream_in c.loop-from.stream) (stream_in c.write_run_piece.new.stream) [] (stream_in c.args.stream.now ++ rows_messages s (rows_left (columns_of s.columns) c.args.left.now)) piece
           (pieces (within_piece s) old) (pieces (within_piece s) new) c.in_ok-piece.ensures.piece c.in_ok-write_run_piece.ensures is.written;
     }
 
@@ -57,6 +55,4 @@ pub returns : goal.returns
 returns c =
     let s : PlainSchema = schema_of c.args.schema.now in
     let none = none_left c.loop-from.invariant.left c.loop-from-test.false in
-    on_ok_weaker c.end_stream.result
-    (λ h. last_written s (stream_in c.loop-from.stream) _ (canonical (runs_table s (runs_left c.args.left.now))) (rows_left (columns_of s.columns) c.loop-from.left) none c.loop-from.invariant.written h)
-    c.end_stream.ensures
+    last_written s (stream_in c.loop-from.stream) (stream_in c.args.stream.now ++ rows_messages s (rows_left (columns_of s.columns) c.args.left.now)) (rows_left (columns_of s.columns) c.loop-from.left) none c.loop-from.invariant.written

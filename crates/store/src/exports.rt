@@ -1,0 +1,357 @@
+// Exports that give their pieces one after another: of the table as it was when they were opened.
+ghost use Rattle.std.specs.Prelude.{◌≡◌, true, Some, None, if◌then◌else◌, option_map, IfOk, IfErr};
+ghost use Rattle.sector_dev.specs.Disk.{now, shown_image};
+ghost use Rattle.arrow_schema.specs.Column.{PlainSchema};
+ghost use Rattle.arrow_schema.specs.Limits.{IsWithinLimits};
+ghost use Rattle.arrow_schema.specs.View.{schema_of};
+ghost use Rattle.values.specs.TableView.{table_of};
+ghost use Rattle.ipc_write.specs.Written.{schema_message, end_of_stream};
+ghost use Rattle.canonical_stream.specs.Canonical.{rows_messages};
+ghost use Rattle.segments.specs.Usages.{UnpinsAll};
+ghost use Rattle.catalogue.specs.Entries.{is_segment, plain_entry, runs_in_segments};
+ghost use Rattle.commit.specs.Standing.{is_size, is_on_device};
+ghost use Rattle.export_book.specs.Plain.{plain_export};
+ghost use Rattle.store.specs.Exported.{IsExportable};
+ghost use Rattle.store.specs.Exporting.{HasRows, LacksRows, PieceIs, RefusesNumber};
+ghost use Rattle.store.specs.Reading.{OnlyReadsDevice, ended};
+ghost use Rattle.store.specs.inner.Exporting.{IsSnapshot};
+
+use crate::Store;
+use crate::laws::table_laws;
+use crate::reading::{is_failure, read_segment};
+use arrow_schema::Schema;
+use canonical_round_trip::joined_parts_mean_their_table;
+use canonical_write::encode_messages;
+use catalogue::{Segment, TableEntry};
+use export_book::OpenExport;
+use ipc_write::{write_end, write_schema};
+use sector_dev::SectorDevice;
+use segments::{FreeMap, Run};
+use std::alloc::{AllocError, Global};
+use tables::{Limit, Refusal};
+use values::Table;
+
+// The first piece: the message of the schema.
+fn first_piece(alloc: Global, schema: &Schema) -> Result<Option<Vec<u8>>, Refusal>
+    requires { IsWithinLimits (schema_of schema.now) }
+    ensures message { IfOk result (λ piece. option_map (λ v. v.items) piece ≡ Some (schema_message (schema_of schema.now))) }
+    ensures memory { IfErr result (λ e. e ≡ Refusal.OutOfMemory) }
+{
+    let mut piece = Vec::new(alloc);
+    match write_schema(alloc, &mut piece, schema) {
+        Ok(()) => Ok(Some(piece)),
+        Err(_) => Err(Refusal::OutOfMemory),
+    }
+}
+
+// Behind the pieces of the segments: the end of stream, and then none.
+fn last_piece(alloc: Global, ends: bool) -> Result<Option<Vec<u8>>, Refusal>
+    ensures end { IfOk result (λ piece. option_map (λ v. v.items) piece ≡ (if ends then Some end_of_stream else None)) }
+    ensures memory { IfErr result (λ e. (ends ≡ true) × (e ≡ Refusal.OutOfMemory)) }
+{
+    if !ends {
+        return Ok(None);
+    }
+    let mut piece = Vec::new(alloc);
+    match write_end(&mut piece) {
+        Ok(()) => Ok(Some(piece)),
+        Err(_) => Err(Refusal::OutOfMemory),
+    }
+}
+
+// The messages of a table's rows.
+fn rows_piece(alloc: Global, table: &Table) -> Result<Option<Vec<u8>>, Refusal>
+    ensures messages { IfOk result (λ piece. option_map (λ v. v.items) piece ≡ Some (rows_messages (table_of table.now).schema (table_of table.now).rows)) }
+    ensures memory { IfErr result (λ e. e ≡ Refusal.OutOfMemory) }
+{
+    match encode_messages(alloc, table) {
+        Ok(piece) => Ok(Some(piece)),
+        Err(_) => Err(Refusal::OutOfMemory),
+    }
+}
+
+// The messages of the rows of the segment at a place, if it begins with the message of its schema.
+fn read_piece<D: SectorDevice>(
+    alloc: Global,
+    device: &mut D,
+    front: &[u8],
+    place: usize,
+    segment: Segment,
+) -> Result<Option<Vec<u8>>, Refusal>
+    requires size { is_size (D.size device.old) ≡ true }
+    requires placed { is_on_device (D.size device.old) segment.place.run ≡ true }
+    requires sound { is_segment segment ≡ true }
+    ensures reads { OnlyReadsDevice D.size D.story D.failed D.tells (ended result) device.old device.new }
+    ensures piece { IfOk result (λ piece. (s : PlainSchema) → IsWithinLimits s → front.now ≡ schema_message s
+        → HasRows D.tells (shown_image (now (D.story device.old))) s segment (option_map (λ v. v.items) piece)) }
+    ensures told { IfErr result (λ e. (s : PlainSchema) → front.now ≡ schema_message s
+        → LacksRows D.tells (shown_image (now (D.story device.old))) s segment place e) }
+{
+    match read_segment(alloc, device, front, segment) {
+        Ok(Some(weighed)) => rows_piece(alloc, &weighed.table),
+        Ok(None) => Err(Refusal::SegmentUnread(place)),
+        Err(refusal) => Err(refusal),
+    }
+}
+
+// The piece of the segment at a place.
+fn segment_piece<D: SectorDevice>(
+    alloc: Global,
+    device: &mut D,
+    schema: &Schema,
+    place: usize,
+    segment: Segment,
+) -> Result<Option<Vec<u8>>, Refusal>
+    requires size { is_size (D.size device.old) ≡ true }
+    requires placed { is_on_device (D.size device.old) segment.place.run ≡ true }
+    requires sound { is_segment segment ≡ true }
+    requires limits { IsWithinLimits (schema_of schema.now) }
+    ensures reads { OnlyReadsDevice D.size D.story D.failed D.tells (ended result) device.old device.new }
+    ensures piece { IfOk result (λ piece. HasRows D.tells (shown_image (now (D.story device.old))) (schema_of schema.now) segment
+        (option_map (λ v. v.items) piece)) }
+    ensures told { IfErr result (LacksRows D.tells (shown_image (now (D.story device.old))) (schema_of schema.now) segment place) }
+{
+    let mut front = Vec::new(alloc);
+    match write_schema(alloc, &mut front, schema) {
+        Ok(()) => read_piece(alloc, device, &front, place, segment),
+        Err(_) => Err(Refusal::OutOfMemory),
+    }
+}
+
+// The piece of an export behind those that were given. One segment at the most is read.
+fn next_piece<D: SectorDevice>(
+    alloc: Global,
+    device: &mut D,
+    export: &OpenExport,
+) -> Result<Option<Vec<u8>>, Refusal>
+    requires size { is_size (D.size device.old) ≡ true }
+    requires sound { IsExportable (D.size device.old) (plain_export export.now) }
+    ensures reads { OnlyReadsDevice D.size D.story D.failed D.tells (ended result) device.old device.new }
+    ensures piece { IfOk result (λ piece. PieceIs D.tells (shown_image (now (D.story device.old))) (plain_export export.now) export.now.given
+        (option_map (λ v. v.items) piece)) }
+    ensures told { IfErr result (RefusesNumber D.tells (shown_image (now (D.story device.old))) (plain_export export.now) export.now.given) }
+{
+    if export.given == 0 {
+        return first_piece(alloc, &export.schema);
+    }
+    let place = (export.given - 1) as usize;
+    match export.segments.get(place) {
+        Some(segment) => segment_piece(alloc, device, &export.schema, place, *segment),
+        None => last_piece(alloc, place == export.segments.len()),
+    }
+}
+
+// What an export of a table has.
+#[derive(Drop)]
+struct Snapshot {
+    schema: Schema,
+    segments: Vec<Segment>,
+    runs: Vec<Run>,
+}
+
+// What an export of the table of an entry has, in memory of its own.
+fn copy_entry(alloc: Global, entry: &TableEntry) -> Result<Snapshot, AllocError>
+    ensures { IfOk result (IsSnapshot (plain_entry entry.now)) }
+{
+    Ok(Snapshot {
+        schema: entry.schema.copy(alloc)?,
+        segments: Vec::from_slice(alloc, &entry.segments)?,
+        runs: entry.runs(alloc)?,
+    })
+}
+
+// Takes one pin from the run of each of these segments.
+fn unpin_segments(map: &mut FreeMap, segments: &[Segment])
+    ensures { UnpinsAll map.old map.new (runs_in_segments segments.now) }
+{
+    for segment in segments {
+        map.unpin(segment.place.run);
+    }
+}
+
+impl<D: SectorDevice> Store<D> {
+    ghost use Rattle.std.specs.Prelude.{OnOk, OnErr};
+    ghost use Rattle.catalogue.specs.Edits.{entry_of};
+    ghost use Rattle.export_book.specs.Book.{open_at};
+    ghost use Rattle.tables.specs.Tables.{Tables};
+    ghost use Rattle.store.specs.Calls.{open_export_call, export_next_call, close_export_call, done, export_is, piece_is, refused};
+    ghost use Rattle.store.specs.Machine.{Machine};
+    ghost use Rattle.store.specs.Fits.{StoreFits, device_of, listed_in, book_of, is_halted};
+    ghost use Rattle.store.specs.Applying.{GoesOn};
+    ghost use Rattle.store.specs.Exporting.{RefusesExport, OpensAt, GivesPiece, after_giving, RefusesPiece, ReadsForExport, RefusesClosing, ClosesAt};
+    ghost use Rattle.store.specs.Reading.{OnlyReadsStore};
+    ghost use Rattle.store.specs.inner.Exporting.{FindsSnapshot};
+
+    // What an export of the table of a name has, if one can be opened.
+    fn find_snapshot(&self, alloc: Global, name: &str) -> Result<Snapshot, Refusal>
+        ensures found { IfOk result (FindsSnapshot (is_halted self.now) (entry_of (listed_in self.now) name.now) (book_of self.now)) }
+        ensures told { IfErr result (RefusesExport (is_halted self.now) (entry_of (listed_in self.now) name.now) (book_of self.now)) }
+    {
+        if self.halted {
+            return Err(Refusal::Halted);
+        }
+        match self.opened.catalogue.list.get(name) {
+            Some(entry) => {
+                let full = self.book.is_full();
+                if full {
+                    return Err(Refusal::TooMany(Limit::Exports));
+                }
+                match copy_entry(alloc, entry) {
+                    Ok(snapshot) => Ok(snapshot),
+                    Err(_) => Err(Refusal::OutOfMemory),
+                }
+            }
+            None => Err(Refusal::NoTable),
+        }
+    }
+
+    // Opens an export of the table of a name, on any store.
+    fn open_named(&mut self, alloc: Global, name: &str) -> Result<u64, Refusal>
+        ensures opened { IfOk result (λ id. OpensAt (is_halted self.old) (entry_of (listed_in self.old) name.now) self.old id self.new) }
+        ensures told { IfErr result (RefusesExport (is_halted self.old) (entry_of (listed_in self.old) name.now) (book_of self.old)) }
+        ensures kept { IfErr result (λ e. OnlyReadsStore D.size D.story D.failed D.tells (refused e) self.old self.new) }
+        ensures device { device_of self.new ≡ device_of self.old }
+    {
+        match self.find_snapshot(alloc, name) {
+            Ok(snapshot) => {
+                let Snapshot {
+                    schema,
+                    segments,
+                    runs,
+                } = snapshot;
+                match self.book.open(schema, segments) {
+                    Ok(id) => {
+                        self.opened.map.pin_each(&runs);
+                        Ok(id)
+                    }
+                    Err(_) => Err(Refusal::OutOfMemory),
+                }
+            }
+            Err(refusal) => Err(refusal),
+        }
+    }
+
+    /// Opens an export of the table of a name: what it gives is the table as it is now, whatever is done to it until the export is closed. It keeps the
+    /// sectors of the table from being written. Ids count from 0 since the store was opened, and none is given twice.
+    ///
+    /// # Errors
+    /// `Halted` after a failure of the device; `NoTable` where no table has the name; `TooMany(Exports)` where 64 exports are open, or the last id was
+    /// given; `OutOfMemory`. After any nothing has changed.
+    pub fn open_export(&mut self, alloc: Global, name: &str) -> Result<u64, Refusal>
+        // Of a store that stands for a machine: its pieces are a stream of the table of the settled commands, and none was given.
+        ensures goes { IfOk result (λ id. D.tells ≡ true → (base : Tables) (m : Machine) → StoreFits D.size D.story base m self.old
+            → GoesOn D.size D.story D.failed base m (open_export_call name.now) (export_is id) self.old self.new) }
+        ensures refused { IfErr result (λ e. D.tells ≡ true → (base : Tables) (m : Machine) → StoreFits D.size D.story base m self.old
+            → GoesOn D.size D.story D.failed base m (open_export_call name.now) (refused e) self.old self.new) }
+        // Of any store: what the catalogue's entry has goes into the book, and its runs are pinned; each refusal has its one reason.
+        ensures opened { IfOk result (λ id. OpensAt (is_halted self.old) (entry_of (listed_in self.old) name.now) self.old id self.new) }
+        ensures told { IfErr result (RefusesExport (is_halted self.old) (entry_of (listed_in self.old) name.now) (book_of self.old)) }
+        ensures kept { IfErr result (λ e. OnlyReadsStore D.size D.story D.failed D.tells (refused e) self.old self.new) }
+        ensures device { device_of self.new ≡ device_of self.old }
+    {
+        table_laws();
+        joined_parts_mean_their_table();
+        match self.open_named(alloc, name) {
+            Ok(id) => Ok(id),
+            Err(refusal) => Err(refusal),
+        }
+    }
+
+    // Gives the next piece of an export, on any store.
+    fn give_piece(&mut self, alloc: Global, id: u64) -> Result<Option<Vec<u8>>, Refusal>
+        ensures given { IfOk result (λ piece. GivesPiece (is_halted self.old) D.tells (shown_image (now (D.story (device_of self.old))))
+            (open_at (book_of self.old) id) (option_map (λ v. v.items) piece)) }
+        ensures counted { IfOk result (λ piece. book_of self.new ≡ after_giving (option_map (λ v. v.items) piece) id (book_of self.old)) }
+        ensures told { IfErr result (RefusesPiece (is_halted self.old) D.tells (shown_image (now (D.story (device_of self.old))))
+            (open_at (book_of self.old) id)) }
+        ensures kept { OnErr result (book_of self.new ≡ book_of self.old) }
+        ensures reads { ReadsForExport D.size D.story D.failed D.tells (ended result) self.old self.new }
+    {
+        if self.halted {
+            return Err(Refusal::Halted);
+        }
+        match self.book.get(id) {
+            Some(export) => match next_piece(alloc, &mut self.device, export) {
+                Ok(Some(piece)) => {
+                    self.book.give(id);
+                    Ok(Some(piece))
+                }
+                Ok(None) => Ok(None),
+                Err(refusal) => {
+                    self.halted = is_failure(refusal);
+                    Err(refusal)
+                }
+            },
+            None => Err(Refusal::NoExport),
+        }
+    }
+
+    /// The next piece of an export: the message of the schema, the messages of the rows of each segment, the end of stream, and then none for good. Joined they
+    /// are a stream of the table. One segment at a time is read and held in memory.
+    ///
+    /// # Errors
+    /// `Halted` after a failure of the device; `NoExport` where no export has the id; of the piece of a segment `Device`, after which the store is halted, and
+    /// `SegmentUnread` with its place, counted from 0, where it can't be read or is no stream of the schema and the number of rows; `OutOfMemory`. After any
+    /// the same piece is the next one.
+    pub fn export_next(&mut self, alloc: Global, id: u64) -> Result<Option<Vec<u8>>, Refusal>
+        // Of a store that stands for a machine: the piece behind those that were given.
+        ensures goes { IfOk result (λ piece. D.tells ≡ true → (base : Tables) (m : Machine) → StoreFits D.size D.story base m self.old
+            → GoesOn D.size D.story D.failed base m (export_next_call id) (piece_is (option_map (λ v. v.items) piece)) self.old self.new) }
+        ensures refused { IfErr result (λ e. D.tells ≡ true → (base : Tables) (m : Machine) → StoreFits D.size D.story base m self.old
+            → GoesOn D.size D.story D.failed base m (export_next_call id) (refused e) self.old self.new) }
+        // Of any store: the piece of this number, of what the book has, as reads show it; each refusal has its one reason.
+        ensures given { IfOk result (λ piece. GivesPiece (is_halted self.old) D.tells (shown_image (now (D.story (device_of self.old))))
+            (open_at (book_of self.old) id) (option_map (λ v. v.items) piece)) }
+        ensures counted { IfOk result (λ piece. book_of self.new ≡ after_giving (option_map (λ v. v.items) piece) id (book_of self.old)) }
+        ensures told { IfErr result (RefusesPiece (is_halted self.old) D.tells (shown_image (now (D.story (device_of self.old))))
+            (open_at (book_of self.old) id)) }
+        ensures kept { OnErr result (book_of self.new ≡ book_of self.old) }
+        ensures reads { ReadsForExport D.size D.story D.failed D.tells (ended result) self.old self.new }
+    {
+        match self.give_piece(alloc, id) {
+            Ok(piece) => Ok(piece),
+            Err(refusal) => Err(refusal),
+        }
+    }
+
+    // Closes an export, on any store.
+    fn close_by_id(&mut self, id: u64) -> Result<(), Refusal>
+        ensures closed { OnOk result (ClosesAt (is_halted self.old) (open_at (book_of self.old) id) self.old id self.new) }
+        ensures told { IfErr result (RefusesClosing (is_halted self.old) (open_at (book_of self.old) id)) }
+        ensures kept { IfErr result (λ e. OnlyReadsStore D.size D.story D.failed D.tells (refused e) self.old self.new) }
+        ensures device { device_of self.new ≡ device_of self.old }
+    {
+        if self.halted {
+            return Err(Refusal::Halted);
+        }
+        match self.book.close(id) {
+            Some(export) => {
+                unpin_segments(&mut self.opened.map, &export.segments);
+                Ok(())
+            }
+            None => Err(Refusal::NoExport),
+        }
+    }
+
+    /// Closes an export: sectors that it alone kept are free again. It takes no memory, and makes no call of the device.
+    ///
+    /// # Errors
+    /// `Halted` after a failure of the device; `NoExport` where no export has the id. After any nothing has changed.
+    pub fn close_export(&mut self, id: u64) -> Result<(), Refusal>
+        // Of a store that stands for a machine.
+        ensures goes { OnOk result (D.tells ≡ true → (base : Tables) (m : Machine) → StoreFits D.size D.story base m self.old
+            → GoesOn D.size D.story D.failed base m (close_export_call id) done self.old self.new) }
+        ensures refused { IfErr result (λ e. D.tells ≡ true → (base : Tables) (m : Machine) → StoreFits D.size D.story base m self.old
+            → GoesOn D.size D.story D.failed base m (close_export_call id) (refused e) self.old self.new) }
+        // Of any store: the book is without it, and its runs are pinned once less; each refusal has its one reason.
+        ensures closed { OnOk result (ClosesAt (is_halted self.old) (open_at (book_of self.old) id) self.old id self.new) }
+        ensures told { IfErr result (RefusesClosing (is_halted self.old) (open_at (book_of self.old) id)) }
+        ensures kept { IfErr result (λ e. OnlyReadsStore D.size D.story D.failed D.tells (refused e) self.old self.new) }
+        ensures device { device_of self.new ≡ device_of self.old }
+    {
+        match self.close_by_id(id) {
+            Ok(()) => Ok(()),
+            Err(refusal) => Err(refusal),
+        }
+    }
+}
