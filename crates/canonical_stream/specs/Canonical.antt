@@ -10,7 +10,7 @@ use Rattle.columns.specs.Built.{built_parts}
 use Rattle.columns.specs.Tests.{Typed}
 use Rattle.ipc_write.specs.Written.{schema_message, dictionary_message, batch_message, end_of_stream}
 use Rattle.table_cut.specs.Piece.{pieces_of}
-use Rattle.written_batch.specs.WrittenBatch.{raw_nodes}
+use Rattle.canonical_stream.specs.WrittenBatch.{raw_nodes}
 
 -- all entries of a dictionary: a batch of the one column of its values
 abbrev pub entries_message : (id : ℕ) → Typed → List ℕ

@@ -1,3 +1,5 @@
+pub mod WrittenBatch
+pub mod Numbered
 pub mod Canonical
 pub mod Pieces
 pub mod laws

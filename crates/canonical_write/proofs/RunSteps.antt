@@ -14,10 +14,10 @@ use Rattle.cells.specs.Cell.{Cell, PlainTable}
 use Rattle.cells.specs.Row.{is_row}
 use Rattle.columns.specs.Buildable.{can_build_parts, has_each_part}
 use Rattle.columns.specs.View.{fields_of}
-use Rattle.run_pieces.specs.Left.{runs_left, rows_left}
-use Rattle.run_pieces.specs.Rows.{runs_rows, are_runs_sound}
-use Rattle.run_pieces.specs.declared.left.RowsLeft.{RowsLeft}
-use Rattle.run_pieces.specs.declared.row_run.RowRun.{RowRun}
+use Rattle.table_cut.specs.Left.{runs_left, rows_left}
+use Rattle.table_cut.specs.Rows.{runs_rows, are_runs_sound}
+use Rattle.table_cut.specs.declared.left.RowsLeft.{RowsLeft}
+use Rattle.table_cut.specs.declared.row_run.RowRun.{RowRun}
 use Rattle.table_cut.specs.Cut.{pieces}
 use Rattle.table_cut.specs.Piece.{pieces_of, within_piece}
 use Rattle.values.specs.PlainTables.{plain_table}

@@ -29,7 +29,7 @@ use Rattle.table_cut.specs.Cut.{pieces, within_limits}
 use Rattle.ipc_write.specs.Trees.{raw_node as written_node}
 use Rattle.ipc_write.specs.Written.{body, schema_message, dictionary_message, batch_message, end_of_stream, HasRoom, IsWritableBatch}
 use Rattle.table_cut.specs.Piece.{within_piece}
-use Rattle.written_batch.specs.WrittenBatch.{raw_node, raw_nodes, IsWritable}
+use Rattle.canonical_stream.specs.WrittenBatch.{raw_node, raw_nodes, IsWritable}
 
 -- ---- the messages of what was built
 

@@ -9,8 +9,8 @@ ghost use Rattle.canonical_write.specs.Pieces.{piece_stream, piece_streams, piec
 ghost use Rattle.canonical_write.specs.View.{joined_parts, streams_behind, streams_in};
 ghost use Rattle.canonical_write.specs.inner.Stream.{stream_in};
 ghost use Rattle.ipc_write.specs.Written.{schema_message};
-ghost use Rattle.run_pieces.specs.Left.{runs_left, rows_left};
-ghost use Rattle.run_pieces.specs.Rows.{runs_rows, runs_table, are_runs_sound};
+ghost use Rattle.table_cut.specs.Left.{runs_left, rows_left};
+ghost use Rattle.table_cut.specs.Rows.{runs_rows, runs_table, are_runs_sound};
 ghost use Rattle.table_cut.specs.Cut.{pieces};
 ghost use Rattle.table_cut.specs.Piece.{within_piece};
 ghost use Rattle.values.specs.Parts.{are_parts_sound, parts_rows, parts_table};
@@ -23,7 +23,7 @@ use crate::stream::{Stream, begin_stream, end_stream, into_bytes, into_parts, sc
 use array_build::Buffer;
 use arrow_schema::Schema;
 use canonical_stream::pieces_can_be_built;
-use run_pieces::{RowRun, RowsLeft, RunPiece};
+use table_cut::{RowRun, RowsLeft, RunPiece};
 use std::alloc::{AllocError, Global};
 use values::Part;
 

@@ -7,8 +7,7 @@ ghost use Rattle.table_cut.specs.CutRows.{joined};
 ghost use Rattle.table_cut.specs.Piece.{pieces_of};
 ghost use Rattle.values.specs.Table.{IsTable};
 
-use canonical_round_trip::canonical_means_its_table;
-use canonical_stream::pieces_can_be_built;
+use canonical_stream::{canonical_means_its_table, pieces_can_be_built};
 
 /// The pieces of a table. `each`: a piece is few rows, a table by itself, which its stream means (`IsPiece`); `whole`: joined the pieces are the table's
 /// rows.

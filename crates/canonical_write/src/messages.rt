@@ -6,7 +6,7 @@ ghost use Rattle.canonical_stream.specs.Canonical.{piece_messages};
 ghost use Rattle.canonical_stream.specs.Pieces.{IsPieceOf};
 ghost use Rattle.array_build.specs.Batch.{buffers_in, dictionary_in, node_in};
 ghost use Rattle.arrow_schema.specs.Column.{columns_of};
-ghost use Rattle.run_pieces.specs.Rows.{runs_rows, are_runs_sound};
+ghost use Rattle.table_cut.specs.Rows.{runs_rows, are_runs_sound};
 ghost use Rattle.canonical_write.specs.inner.Messages.{AreFew, HasFew, built_message, built_messages, built_batch, entries_of_piece, batch_of_piece};
 ghost use Rattle.canonical_write.specs.inner.Stream.{stream_in};
 ghost use Rattle.ipc_write.specs.Written.{body};
@@ -18,10 +18,10 @@ use array_build::{Buffer, BuiltBatch, BuiltDictionary, build, build_runs};
 use arrow_schema::Schema;
 use columns::{dictionaries_are_written_alone, written_arrays_have_their_shape};
 use ipc_write::{BatchContents, write_dictionary_front};
-use run_pieces::{RowRun, RunPiece, column_runs};
+use table_cut::{RowRun, RunPiece, column_runs};
 use std::alloc::{AllocError, Global};
 use values::Values;
-use written_batch::{written_batches_pass, written_entries_are_read};
+use canonical_stream::{written_batches_pass, written_entries_are_read};
 
 // All but the body of the message of a dictionary's entries.
 fn write_entries_front(

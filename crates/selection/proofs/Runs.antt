@@ -6,7 +6,7 @@ use Rattle.bitmap.specs.Bits.{bit}
 use Rattle.cells.specs.Cell.{Cell}
 use Rattle.query.specs.Choice.{rows_set}
 use Rattle.query.specs.laws.RowsSet.{kept_front, set_append, front_start, front_next, front_run, front_done}
-use Rattle.run_pieces.specs.Rows.{runs_rows, are_runs_sound}
+use Rattle.table_cut.specs.Rows.{runs_rows, are_runs_sound}
 use Rattle.selection.specs.declared.kept.KeptRuns.{KeptRuns}
 use Rattle.selection.specs.inner.Kept.{AreKept, Keeps}
 

@@ -11,7 +11,7 @@ use Rattle.columns.specs.View.{fields_of}
 use Rattle.query.specs.declared.choice.Choice.{Choice}
 use Rattle.query.specs.Choice.{rows_set, chosen_table}
 use Rattle.query.specs.Selection.{pick}
-use Rattle.run_pieces.specs.Rows.{runs_table}
+use Rattle.table_cut.specs.Rows.{runs_table}
 use Rattle.selection.specs.declared.kept.KeptRuns.{KeptRuns}
 use Rattle.selection.specs.declared.picked.PickedBatch.{PickedBatch}
 use Rattle.selection.specs.inner.Kept.{AreKept}

@@ -3,13 +3,13 @@ ghost use Rattle.std.specs.Prelude.{◌≡◌, ◌≤◌, ◌<◌, ◌+◌, ◌*
 ghost use Rattle.std.specs.List.{flat_map, list_all};
 ghost use Rattle.arrow_schema.specs.Column.{Columns};
 ghost use Rattle.query.specs.Choice.{rows_set};
-ghost use Rattle.run_pieces.specs.Rows.{run_rows, runs_rows, is_run_sound, are_runs_sound};
+ghost use Rattle.table_cut.specs.Rows.{run_rows, runs_rows, is_run_sound, are_runs_sound};
 ghost use Rattle.selection.specs.inner.Kept.{AreKept, Keeps};
 ghost use Rattle.selection.specs.inner.Picked.{picked_rows, is_picked_sound};
 
 use crate::picked::{PickedBatch, whole_run};
 use query::next_set;
-use run_pieces::RowRun;
+use table_cut::RowRun;
 use std::alloc::{AllocError, Global};
 
 /// Rows that are kept, as runs, and how many they are.

@@ -6,14 +6,14 @@ ghost use Rattle.columns.specs.Array.{first_array};
 ghost use Rattle.columns.specs.View.{array_in, arrays_in, placed_arrays, fields_of};
 ghost use Rattle.columns.specs.declared.array.Dictionary.{Dictionary};
 ghost use Rattle.query.specs.Selection.{pick};
-ghost use Rattle.run_pieces.specs.Rows.{run_rows, is_run_sound};
+ghost use Rattle.table_cut.specs.Rows.{run_rows, is_run_sound};
 ghost use Rattle.selection.specs.inner.Picked.{first_arrays, picked_columns, picked_rows, is_picked_sound};
 ghost use Rattle.values.specs.Parts.{batch_rows, part_rows, parts_rows, is_batch_sound, are_parts_sound};
 
 use crate::copying::copy_array;
 use arrow_schema::Field;
 use columns::{Dictionary, PlacedArray, array_or, no_array};
-use run_pieces::RowRun;
+use table_cut::RowRun;
 use std::alloc::{AllocError, Global};
 use values::{Batch, Part};
 

@@ -6,7 +6,7 @@ ghost use Rattle.query.specs.declared.errors.QueryError.TheVariants.{OutOfMemory
 ghost use Rattle.query.specs.Choice.{chosen_table};
 ghost use Rattle.query.specs.Selection.{selection};
 ghost use Rattle.query.specs.View.{query_in, Reports};
-ghost use Rattle.run_pieces.specs.Rows.{runs_rows, runs_table, are_runs_sound};
+ghost use Rattle.table_cut.specs.Rows.{runs_rows, runs_table, are_runs_sound};
 ghost use Rattle.values.specs.Parts.{are_parts_sound, parts_rows, parts_table};
 ghost use Rattle.values.specs.Table.{IsTable};
 ghost use Rattle.values.specs.TableView.{table_of};
@@ -14,7 +14,7 @@ ghost use Rattle.values.specs.TableView.{table_of};
 use crate::kept::{KeptRuns, keep_batches};
 use crate::picked::pick_batches;
 use arrow_schema::{DataType, Field, Schema};
-use canonical_round_trip::canonical_means_its_table;
+use canonical_stream::canonical_means_its_table;
 use canonical_write::encode_runs;
 use ipc_stream::decode;
 use query::{Choice, Query, QueryError, choose, chosen_cells, pick_schema, selection_is_a_table};

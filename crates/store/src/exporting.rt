@@ -15,7 +15,7 @@ ghost use Rattle.values.specs.TableView.{table_of};
 
 use crate::Store;
 use crate::laws::table_laws;
-use canonical_round_trip::canonical_means_its_table;
+use canonical_stream::canonical_means_its_table;
 use canonical_write::{WriteError, encode, encode_to};
 use sector_dev::SectorDevice;
 use std::alloc::Global;

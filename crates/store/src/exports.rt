@@ -20,7 +20,7 @@ use crate::Store;
 use crate::laws::table_laws;
 use crate::reading::{is_failure, read_segment};
 use arrow_schema::Schema;
-use canonical_round_trip::joined_parts_mean_their_table;
+use canonical_stream::joined_parts_mean_their_table;
 use canonical_write::encode_messages;
 use catalogue::{Segment, TableEntry};
 use export_book::OpenExport;

@@ -5,3 +5,11 @@ mod SeenLemmas
 pub mod CutRows
 pub mod Fronts
 mod RowsTaken
+pub mod RowLemmas
+pub mod SpanWeights
+pub mod PieceLemmas
+pub mod ColumnLemmas
+pub mod PartLemmas
+pub mod RunSteps
+pub mod RoomLemmas
+pub mod SharedLemmas

@@ -4,3 +4,5 @@ pub mod Piece
 pub mod SeenRows
 pub mod inner
 pub mod laws
+pub mod Rows
+pub mod Left

@@ -1,1 +1,5 @@
 pub mod Seen
+pub mod Columns
+pub mod Weights
+pub mod Room
+pub mod Same

@@ -2,24 +2,41 @@
 //!
 //! [`next_piece`] has the longest front of the rows that are left which is within the limits: at most 4,096 rows, a weight of at most 16,777,216,
 //! and in no dictionary more values than its indices can name. It borrows the rows, and weighs each once, but for the first of the next piece.
-//! [`SeenRows`] tells whether dictionaries have room for rows that are taken one after another, and [`first_unfit_row`] which row of a table another
-//! schema of its shape does not take.
+//! [`first_unfit_row`] tells which row of a table another schema of its shape does not take.
 //!
 //! ```ignore
 //! let piece = next_piece(alloc, table.schema(), &table, from)?;
 //! from += piece.len();
 //! ```
+//!
+//! [`RowsLeft`] cuts a table that is kept in record batches into the same pieces, as runs of its rows, and [`column_runs`] tells what each column has of
+//! them. Where a piece ends is found from the weights of spans of rows ([`arrays::row_span_weight`]). Rows are borrowed only where a dictionary has
+//! indices of 8 or 16 bits, and a piece has rows under several such dictionaries.
+//!
+//! ```ignore
+//! let mut left = RowsLeft::new(alloc, parts)?;
+//! let piece = left.next_piece(alloc, table.schema())?;
+//! let columns = column_runs(alloc, &table.schema().fields, &piece.runs)?;
+//! ```
 #![tactic(auto)]
 
+mod columns_of_runs;
+mod fitting;
 mod holding;
 mod laws;
+mod left;
 mod piece;
+mod room;
+mod row_run;
 mod seen;
 mod seen_rows;
+mod shared;
 mod unfit;
 mod weigh;
 
+pub use columns_of_runs::column_runs;
 pub use laws::{longest_fronts_are_pieces, pieces_are_the_cut};
+pub use left::{RowsLeft, RunPiece};
 pub use piece::next_piece;
-pub use seen_rows::SeenRows;
+pub use row_run::RowRun;
 pub use unfit::first_unfit_row;

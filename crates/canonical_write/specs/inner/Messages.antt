@@ -7,7 +7,7 @@ use Rattle.cells.specs.Cell.{Cell}
 use Rattle.columns.specs.Buffers.{Node, buffers_of, dictionaries_of}
 use Rattle.columns.specs.Built.{built_parts}
 use Rattle.ipc_write.specs.Written.{body, batch_message, dictionary_message, HasRoom}
-use Rattle.written_batch.specs.WrittenBatch.{raw_node, raw_nodes}
+use Rattle.canonical_stream.specs.WrittenBatch.{raw_node, raw_nodes}
 
 -- the dictionaries of a piece, and its record batch: the two parts of `piece_messages`
 abbrev pub entries_of_piece : PlainSchema → List (List Cell) → List ℕ

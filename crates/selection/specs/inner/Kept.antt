@@ -2,7 +2,7 @@
 use Rattle.std.specs.Prelude.{◌≡◌, ℕ, true, List, ◌++◌, length, take}
 use Rattle.arrow_schema.specs.Column.{Columns}
 use Rattle.cells.specs.Cell.{Cell}
-use Rattle.run_pieces.specs.Rows.{runs_rows, are_runs_sound}
+use Rattle.table_cut.specs.Rows.{runs_rows, are_runs_sound}
 use Rattle.selection.specs.declared.kept.KeptRuns.{KeptRuns}
 
 -- the runs have these rows of some columns, and it is known how many they are

@@ -3,7 +3,7 @@ use Rattle.arrow_schema.specs.Column.{PlainSchema, columns_of}
 use Rattle.arrow_schema.specs.View.{schema_of}
 use Rattle.canonical_write.specs.inner.Stream.{stream_in}
 use Rattle.canonical_write.proofs.Steps.{whole_written}
-use Rattle.run_pieces.specs.Left.{rows_left}
+use Rattle.table_cut.specs.Left.{rows_left}
 use Rattle.canonical_write.proofs.by_runs.encode_left.Goals as goal
 
 pub returns : goal.returns

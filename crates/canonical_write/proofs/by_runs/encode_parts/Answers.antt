@@ -4,8 +4,8 @@ use Rattle.arrow_schema.specs.Column.{PlainSchema, Columns, columns_of}
 use Rattle.arrow_schema.specs.View.{schema_of}
 use Rattle.canonical_stream.specs.Canonical.{canonical}
 use Rattle.cells.specs.Cell.{Cell, PlainTable}
-use Rattle.run_pieces.specs.Left.{runs_left, rows_left}
-use Rattle.run_pieces.specs.Rows.{runs_table}
+use Rattle.table_cut.specs.Left.{runs_left, rows_left}
+use Rattle.table_cut.specs.Rows.{runs_table}
 use Rattle.values.specs.Parts.{parts_rows, parts_table}
 use Rattle.values.specs.Table.{IsTable}
 use Rattle.canonical_write.proofs.by_runs.encode_parts.Goals as goal

@@ -9,7 +9,7 @@ use Rattle.canonical_write.specs.View.{joined_parts}
 use Rattle.canonical_write.specs.inner.Stream.{stream_in}
 use Rattle.cells.specs.Cell.{Cell}
 use Rattle.ipc_write.specs.Written.{schema_message, end_of_stream}
-use Rattle.run_pieces.specs.Rows.{runs_rows}
+use Rattle.table_cut.specs.Rows.{runs_rows}
 use Rattle.canonical_write.proofs.by_runs.encode_run_piece.Goals as goal
 
 pub returns-clause-stream : goal.returns-clause-stream

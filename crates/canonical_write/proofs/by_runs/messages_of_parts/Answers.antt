@@ -4,7 +4,7 @@ use Rattle.arrow_schema.specs.View.{schema_of}
 use Rattle.canonical_stream.specs.Canonical.{rows_messages}
 use Rattle.canonical_write.specs.inner.Stream.{stream_in}
 use Rattle.cells.specs.Cell.{Cell}
-use Rattle.run_pieces.specs.Left.{rows_left}
+use Rattle.table_cut.specs.Left.{rows_left}
 use Rattle.values.specs.Table.{IsTable}
 use Rattle.canonical_write.proofs.by_runs.messages_of_parts.Goals as goal
 

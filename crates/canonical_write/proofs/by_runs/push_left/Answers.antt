@@ -13,8 +13,8 @@ use Rattle.canonical_write.specs.View.{joined_parts, streams_behind}
 use Rattle.cells.specs.Cell.{Cell, PlainTable}
 use Rattle.facts.specs.laws.Lists.{all_more}
 use Rattle.ipc_write.specs.Written.{schema_message}
-use Rattle.run_pieces.specs.Left.{runs_left, rows_left}
-use Rattle.run_pieces.specs.Rows.{runs_rows, runs_table}
+use Rattle.table_cut.specs.Left.{runs_left, rows_left}
+use Rattle.table_cut.specs.Rows.{runs_rows, runs_table}
 use Rattle.table_cut.specs.Cut.{pieces}
 use Rattle.table_cut.specs.Piece.{within_piece}
 use Rattle.canonical_write.proofs.by_runs.push_left.Goals as goal

@@ -5,11 +5,11 @@ use Rattle.arrow_schema.specs.View.{schema_of}
 use Rattle.canonical_write.proofs.Alone.{IsAlone}
 use Rattle.canonical_write.specs.Pieces.{piece_stream, piece_streams, piece_counts}
 use Rattle.canonical_write.specs.View.{streams_behind}
-use Rattle.run_pieces.specs.Left.{runs_left, rows_left}
+use Rattle.table_cut.specs.Left.{runs_left, rows_left}
 use Rattle.ipc_write.specs.Written.{schema_message}
 use Rattle.table_cut.specs.Cut.{pieces}
 use Rattle.table_cut.specs.Piece.{within_piece}
-use Rattle.run_pieces.specs.Rows.{runs_table}
+use Rattle.table_cut.specs.Rows.{runs_table}
 use Rattle.canonical_write.proofs.RunSteps.{AreLeft}
 use Rattle.canonical_write.proofs.by_runs.push_left.Given as goal
 

@@ -6,8 +6,8 @@ use Rattle.canonical_write.proofs.RunSteps.{all_left, none_left, some_left, firs
 use Rattle.canonical_write.proofs.Steps.{first_written, last_written, next_written}
 use Rattle.canonical_write.specs.inner.Stream.{stream_in}
 use Rattle.cells.specs.Cell.{Cell, PlainTable}
-use Rattle.run_pieces.specs.Left.{runs_left, rows_left}
-use Rattle.run_pieces.specs.Rows.{runs_rows, runs_table}
+use Rattle.table_cut.specs.Left.{runs_left, rows_left}
+use Rattle.table_cut.specs.Rows.{runs_rows, runs_table}
 use Rattle.table_cut.specs.Cut.{pieces}
 use Rattle.table_cut.specs.Piece.{within_piece}
 use Rattle.canonical_write.proofs.by_runs.write_runs.Goals as goal

@@ -4,7 +4,7 @@ use Rattle.arrow_schema.specs.Column.{columns_of}
 use Rattle.arrow_schema.specs.View.{schema_of}
 use Rattle.canonical_stream.specs.Canonical.{piece_messages, rows_messages}
 use Rattle.canonical_write.specs.inner.Stream.{stream_in}
-use Rattle.run_pieces.specs.Left.{rows_left}
+use Rattle.table_cut.specs.Left.{rows_left}
 use Rattle.table_cut.specs.Cut.{pieces}
 use Rattle.table_cut.specs.Piece.{within_piece}
 use Rattle.canonical_write.proofs.RunSteps.{AreLeft}

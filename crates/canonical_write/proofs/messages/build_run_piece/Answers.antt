@@ -11,7 +11,7 @@ use Rattle.canonical_write.proofs.RunSteps.{AreRunsOf, same_runs, same_sound, pi
 use Rattle.canonical_write.proofs.Steps.{PieceLaws, IsBuiltPiece, built_piece}
 use Rattle.cells.specs.Cell.{Cell}
 use Rattle.columns.specs.View.{fields_of}
-use Rattle.run_pieces.specs.Rows.{runs_rows, are_runs_sound}
+use Rattle.table_cut.specs.Rows.{runs_rows, are_runs_sound}
 use Rattle.canonical_write.proofs.messages.build_run_piece.Goals as goal
 
 pub column_runs-requires : goal.column_runs-requires

@@ -1,8 +1,8 @@
 use Rattle.std.proofs.Common.{◌≡◌, ℕ, ◌+◌, ◌-◌, ◌<◌, ◌≤◌, true, List, ◌++◌, take, drop, length, refl, ap, ◌∙◌, arith}
 use Rattle.bitmap.specs.Bits.{bit}
 use Rattle.cells.specs.Cell.{Cell}
-use Rattle.run_pieces.specs.Rows.{run_rows, runs_rows}
-use Rattle.run_pieces.specs.laws.Runs.{run_size}
+use Rattle.table_cut.specs.Rows.{run_rows, runs_rows}
+use Rattle.table_cut.specs.laws.Runs.{run_size}
 use Rattle.selection.proofs.Runs.{front_taken, kept_start, kept_next, kept_run, kept_done}
 use Rattle.selection.proofs.kept.keep_batch.Goals as goal
 

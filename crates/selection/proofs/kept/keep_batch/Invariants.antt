@@ -3,7 +3,7 @@ use Rattle.arrow_schema.specs.Column.{Columns}
 use Rattle.bitmap.specs.Bits.{bit}
 use Rattle.cells.specs.Cell.{Cell}
 use Rattle.query.specs.laws.RowsSet.{kept_front}
-use Rattle.run_pieces.specs.Rows.{run_rows, is_run_sound}
+use Rattle.table_cut.specs.Rows.{run_rows, is_run_sound}
 use Rattle.selection.specs.inner.Kept.{AreKept}
 use Rattle.selection.proofs.kept.keep_batch.Given as goal
 

@@ -1,7 +1,7 @@
 use Rattle.std.proofs.Common.{List, ◌++◌, ap, ◌∙◌}
 use Rattle.facts.specs.laws.Lists.{flat_map-push}
 use Rattle.cells.specs.Cell.{Cell}
-use Rattle.run_pieces.specs.Rows.{run_rows, runs_rows}
+use Rattle.table_cut.specs.Rows.{run_rows, runs_rows}
 use Rattle.selection.proofs.kept.keep_front.Goals as goal
 
 pub returns-clause-rows : goal.returns-clause-rows

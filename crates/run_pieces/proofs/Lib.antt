@@ -1,8 +1,0 @@
-pub mod RowLemmas
-pub mod WeightLemmas
-pub mod PieceLemmas
-pub mod ColumnLemmas
-pub mod PartLemmas
-pub mod RunSteps
-pub mod RoomLemmas
-pub mod SharedLemmas

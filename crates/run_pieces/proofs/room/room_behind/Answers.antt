@@ -1,7 +1,0 @@
-use Rattle.run_pieces.proofs.room.room_behind.Goals as goal
-
-pub returns : goal.returns
-returns c = λ rows seen fit. record {
-  room = c.in_ok-rows.ensures.room rows seen fit;
-  known = c.in_ok-rows.ensures.seen rows seen;
-}

@@ -1,4 +1,0 @@
-pub mod Rows
-pub mod Left
-pub mod laws
-pub mod inner

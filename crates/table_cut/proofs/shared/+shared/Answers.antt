@@ -1,0 +1,66 @@
+use Rattle.std.proofs.Common.{◌≡◌, ◌∷◌, ◌+◌, ℕ, List, map, drop, rules, sym, subst}
+use Rattle.std.proofs.lemmas.List.{drop_all}
+use Rattle.arrays.specs.Shared.{SharesEntries, SharesBelow, ShareEntries}
+use Rattle.arrow_schema.specs.Column.{Kind, columns_of, lists, large_lists, fixed_lists, structs}
+use Rattle.arrow_schema.specs.View.{kind_of, column_of}
+use Rattle.arrow_schema.specs.declared.types.Field.{Field, the_lemmas as field_lemmas}
+use Rattle.columns.specs.Array.{Array, first_array}
+use Rattle.columns.specs.View.{view_array}
+use Rattle.facts.specs.laws.Lists.{drop-item}
+use Rattle.table_cut.specs.declared.row_run.RowRun.{RowRun}
+use Rattle.table_cut.specs.inner.Columns.{arrays_behind}
+use Rattle.table_cut.proofs.SharedLemmas.{next_shares}
+use Rattle.table_cut.proofs.shared.+shared.Goals as goal
+
+pub share_entries-loop-i-init : goal.share_entries-loop-i-init
+share_entries-loop-i-init t c = λ share. share
+
+pub share_entries-loop-i-preserved : goal.share_entries-loop-i-preserved
+share_entries-loop-i-preserved t c = λ rest.
+    let i : ℕ = c.loop-i.i in
+    let fields : List Field = c.args.fields.now in
+    let field : Field = c.index-fields-i.result in
+    let own : RowRun = c.args.own in
+    let others : RowRun = c.args.others in
+    let here : drop i fields ≡ field ∷ drop (i + 1) fields = drop-item fields i field c.loop-i-test.true c.index-fields-i.is in
+    let first : SharesEntries (column_of field) (first_array (arrays_behind i own)) (first_array (arrays_behind i others))
+    = subst (λ (a : Array). SharesEntries (column_of field) a (first_array (arrays_behind i others))) c.view_at-a.ensures
+    (subst (λ (b : Array). SharesEntries (column_of field) (view_array c.view_at-a.result) b) c.view_at-b.ensures (c.shares_entries.ensures c.if-not-shares_entries.false)) in
+    c.loop-i.invariant
+    (subst (λ (fs : List Field). ShareEntries (columns_of (map column_of fs)) (arrays_behind i own) (arrays_behind i others)) (sym here)
+    (next_shares (column_of field) (columns_of (map column_of (drop (i + 1) fields))) own others i first rest))
+
+pub share_entries-returns : goal.share_entries-returns
+unfolding ShareEntries
+share_entries-returns t c = λ yes.
+    c.loop-i.invariant
+    (subst (λ (fs : List Field). ShareEntries (columns_of (map column_of fs)) (arrays_behind c.loop-i.i c.args.own) (arrays_behind c.loop-i.i c.args.others))
+    (sym (drop_all c.loop-i.i c.args.fields.now c.loop-i-test.false)) tt)
+
+pub shares_below-returns-in-List : goal.shares_below-returns-in-List
+unfolding SharesBelow
+shares_below-returns-in-List t c = λ yes.
+    let kind : kind_of c.args.data_type.now ≡ lists (column_of c.in-List.item.value) = rw c.in-List.is (search (rules, field_lemmas)) in
+    let same = rw (c.deref.ensures, c.items_or.ensures, c.items_or-in-List.ensures) at (c.shares_entries.ensures yes) in
+    subst (λ (k : Kind). SharesBelow k (view_array c.args.own) (view_array c.args.others)) (sym kind) same
+
+pub shares_below-returns-in-LargeList : goal.shares_below-returns-in-LargeList
+unfolding SharesBelow
+shares_below-returns-in-LargeList t c = λ yes.
+    let kind : kind_of c.args.data_type.now ≡ large_lists (column_of c.in-LargeList.item.value) = rw c.in-LargeList.is (search (rules, field_lemmas)) in
+    let same = rw (c.deref-in-LargeList.ensures, c.items_or-in-LargeList.ensures, c.items_or-in-LargeList-2.ensures) at (c.shares_entries-in-LargeList.ensures yes) in
+    subst (λ (k : Kind). SharesBelow k (view_array c.args.own) (view_array c.args.others)) (sym kind) same
+
+pub shares_below-returns-in-FixedSizeList : goal.shares_below-returns-in-FixedSizeList
+unfolding SharesBelow
+shares_below-returns-in-FixedSizeList t c = λ yes.
+    let kind : kind_of c.args.data_type.now ≡ fixed_lists c.in-FixedSizeList.field-0 (column_of c.in-FixedSizeList.item.value) = rw c.in-FixedSizeList.is (search (rules, field_lemmas)) in
+    let same = rw (c.deref-in-FixedSizeList.ensures, c.items_or-in-FixedSizeList.ensures, c.items_or-in-FixedSizeList-2.ensures) at (c.shares_entries-in-FixedSizeList.ensures yes) in
+    subst (λ (k : Kind). SharesBelow k (view_array c.args.own) (view_array c.args.others)) (sym kind) same
+
+pub shares_below-returns-in-Struct : goal.shares_below-returns-in-Struct
+unfolding SharesBelow
+shares_below-returns-in-Struct t c = λ yes.
+    let kind : kind_of c.args.data_type.now ≡ structs (columns_of (map column_of c.in-Struct.fields.items)) = rw c.in-Struct.is (search (rules, field_lemmas)) in
+    let same = rw (c.deref-in-Struct.ensures.value, c.children_of.ensures, c.children_of-in-Struct.ensures) at (c.share_entries.ensures yes) in
+    subst (λ (k : Kind). SharesBelow k (view_array c.args.own) (view_array c.args.others)) (sym kind) same

@@ -1,0 +1,145 @@
+// The rows that are left of a table, and the next piece of them.
+ghost use Rattle.std.specs.Prelude.{◌≡◌, ◌≢◌, ◌++◌, [], ◌∷◌, true, false, length, IfOk, OnOk};
+ghost use Rattle.std.specs.List.{list_all};
+ghost use Rattle.arrow_schema.specs.Column.{Columns, columns_of};
+ghost use Rattle.arrow_schema.specs.Limits.{IsWithinLimits};
+ghost use Rattle.arrow_schema.specs.View.{schema_of};
+ghost use Rattle.cells.specs.Row.{is_row};
+ghost use Rattle.columns.specs.CellAt.{rows_in};
+ghost use Rattle.columns.specs.Sound.{are_sound};
+ghost use Rattle.columns.specs.View.{placed_arrays};
+ghost use Rattle.table_cut.specs.Rows.{run_rows, runs_rows, is_run_sound, are_runs_sound};
+ghost use Rattle.table_cut.specs.Cut.{pieces};
+ghost use Rattle.table_cut.specs.Piece.{within_piece};
+ghost use Rattle.values.specs.Parts.{part_rows, parts_rows, is_batch_sound, are_parts_sound};
+
+use crate::fitting::fitting;
+use crate::room::{Seen, room_within};
+use crate::row_run::RowRun;
+use arrays::shared_entries_fit;
+use arrow_schema::Schema;
+use cells::{MAX_PIECE_ROWS, has_limits};
+use columns::PlacedArray;
+use std::alloc::{AllocError, Global};
+use crate::longest_fronts_are_pieces;
+use values::Part;
+
+/// The rows of a table that is kept in record batches, of which the first are in pieces already.
+#[derive(Drop)]
+pub struct RowsLeft<'a> {
+    pub(crate) runs: Vec<RowRun<'a>>,
+    pub(crate) next: usize,
+}
+
+/// The rows of a piece, as runs, and how many they are.
+#[derive(Drop)]
+pub struct RunPiece<'a> {
+    pub runs: Vec<RowRun<'a>>,
+    pub rows: usize,
+}
+
+// Appends a run, unless it has no row.
+fn push_run<'a>(runs: &mut Vec<RowRun<'a>>, run: RowRun<'a>) -> Result<(), AllocError>
+    ensures rows { OnOk result ((columns : Columns) → runs_rows columns runs.new.items ≡ runs_rows columns runs.old.items ++ run_rows columns run.entry) }
+    ensures sound { OnOk result ((columns : Columns) → are_runs_sound columns runs.old.items ≡ true → is_run_sound columns run.entry ≡ true
+        → are_runs_sound columns runs.new.items ≡ true) }
+{
+    if run.len > 0 {
+        runs.push(run)?;
+    }
+    Ok(())
+}
+
+// All rows of a batch of a part, which has so many.
+fn whole_batch<'a>(part: &'a Part, arrays: &'a [PlacedArray], rows: usize) -> RowRun<'a>
+    ensures rows { (columns : Columns)
+        → run_rows columns result ≡ rows_in columns (placed_arrays part.now.bytes.items part.now.dictionaries.items arrays.now) rows }
+    ensures sound { (columns : Columns) → are_sound columns rows (placed_arrays part.now.bytes.items part.now.dictionaries.items arrays.now) ≡ true
+        → is_run_sound columns result ≡ true }
+{
+    RowRun {
+        arrays,
+        bytes: &part.bytes,
+        dictionaries: &part.dictionaries,
+        from: 0,
+        len: rows,
+    }
+}
+
+fn add_part<'a>(runs: &mut Vec<RowRun<'a>>, part: &'a Part) -> Result<(), AllocError>
+    ensures rows { OnOk result ((columns : Columns) → runs_rows columns runs.new.items ≡ runs_rows columns runs.old.items ++ part_rows columns part.now) }
+    ensures sound { OnOk result ((columns : Columns) → are_runs_sound columns runs.old.items ≡ true
+        → list_all (is_batch_sound columns part.now) part.now.batches.items ≡ true → are_runs_sound columns runs.new.items ≡ true) }
+{
+    for batch in &part.batches {
+        push_run(runs, whole_batch(part, &batch.arrays, batch.rows))?;
+    }
+    Ok(())
+}
+
+impl<'a> RowsLeft<'a> {
+    ghost use Rattle.table_cut.specs.Left.{runs_left, rows_left};
+
+    /// All rows.
+    pub fn new(alloc: Global, parts: &'a [Part]) -> Result<RowsLeft<'a>, AllocError>
+        ensures rows { IfOk result (λ left. (columns : Columns) → rows_left columns left ≡ parts_rows columns parts.now) }
+        ensures sound { IfOk result (λ left. (columns : Columns) → are_parts_sound columns parts.now ≡ true
+            → are_runs_sound columns (runs_left left) ≡ true) }
+    {
+        let mut runs = Vec::new(alloc);
+        for part in parts {
+            add_part(&mut runs, part)?;
+        }
+        Ok(RowsLeft { runs, next: 0 })
+    }
+
+    /// The rows of runs that are given.
+    pub fn of_runs(runs: Vec<RowRun<'a>>) -> RowsLeft<'a>
+        ensures { runs_left result ≡ runs.entry.items }
+    {
+        RowsLeft { runs, next: 0 }
+    }
+
+    /// The rows of the next piece: the longest front of the rows that are left which is within the limits of a piece. It takes time linear in the runs of
+    /// the piece, and for a piece that is too heavy with one run more, in the rows of that run; where its rows stand under several dictionaries of 8 or 16
+    /// bit indices, also in the cells of all its rows. Refused only where a growth was; from then on it is not told which rows are left, and a caller that
+    /// tries again begins with [`RowsLeft::new`].
+    pub fn next_piece(&mut self, alloc: Global, schema: &Schema) -> Result<RunPiece<'a>, AllocError>
+        requires schema { IsWithinLimits (schema_of schema.now) }
+        requires sound { are_runs_sound (columns_of (schema_of schema.now).columns) (runs_left self.old) ≡ true }
+        requires rows { list_all (is_row (schema_of schema.now)) (rows_left (columns_of (schema_of schema.now).columns) self.old) ≡ true }
+        requires some { rows_left (columns_of (schema_of schema.now).columns) self.old ≢ [] }
+        ensures piece { IfOk result (λ piece. let columns = columns_of (schema_of schema.now).columns in
+            pieces (within_piece (schema_of schema.now)) (rows_left columns self.old)
+            ≡ runs_rows columns piece.runs.items ∷ pieces (within_piece (schema_of schema.now)) (rows_left columns self.new)) }
+        ensures front { IfOk result (λ piece. let columns = columns_of (schema_of schema.now).columns in
+            rows_left columns self.old ≡ runs_rows columns piece.runs.items ++ rows_left columns self.new) }
+        ensures count { IfOk result (λ piece. piece.rows ≡ length (runs_rows (columns_of (schema_of schema.now).columns) piece.runs.items)) }
+        ensures sound { IfOk result (λ piece. are_runs_sound (columns_of (schema_of schema.now).columns) piece.runs.items ≡ true) }
+        ensures left { IfOk result (λ _. are_runs_sound (columns_of (schema_of schema.now).columns) (runs_left self.new) ≡ true) }
+    {
+        longest_fronts_are_pieces();
+        shared_entries_fit();
+        let limited = has_limits(schema);
+        let mut runs = Vec::new(alloc);
+        let mut rows = 0;
+        let mut weight = 0;
+        let mut seen = Seen::Nothing;
+        while self.next < self.runs.len() && rows < MAX_PIECE_ROWS {
+            let run = self.runs[self.next];
+            let taken = fitting(schema, run, MAX_PIECE_ROWS - rows, weight);
+            let most = run.front(taken.rows);
+            let room = room_within(alloc, schema, limited, seen, &runs, most)?;
+            push_run(&mut runs, run.front(room.rows))?;
+            rows += room.rows;
+            weight = taken.weight;
+            seen = room.seen;
+            if room.rows < run.len {
+                self.runs[self.next] = run.behind(room.rows);
+                return Ok(RunPiece { runs, rows });
+            }
+            self.next += 1;
+        }
+        Ok(RunPiece { runs, rows })
+    }
+}

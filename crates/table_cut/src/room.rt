@@ -1,0 +1,235 @@
+// How many rows of a run the dictionaries of a piece have room for.
+ghost use Rattle.std.specs.Prelude.{◌≡◌, ◌<◌, ◌+◌, ◌++◌, [], true, take, List, IfOk, OnOk};
+ghost use Rattle.arrays.specs.Shared.{ShareEntries, AreRowsSharing};
+ghost use Rattle.arrow_schema.specs.Column.{columns_of};
+ghost use Rattle.arrow_schema.specs.Limits.{IsWithinLimits};
+ghost use Rattle.arrow_schema.specs.View.{schema_of};
+ghost use Rattle.cells.specs.Cell.{Cell};
+ghost use Rattle.cells.specs.Dictionary.{is_any_limited, dictionaries_fit};
+ghost use Rattle.columns.specs.CellAt.{row_at};
+ghost use Rattle.facts.specs.Bytes.{AreBytes};
+ghost use Rattle.table_cut.specs.Rows.{arrays_of_run, run_rows, runs_rows};
+ghost use Rattle.table_cut.specs.inner.Room.{IsRunOf, AreRunsOf, IsRunBehind, IsSeen, IsSeenWithin, HasRoom, IsRoom};
+ghost use Rattle.table_cut.specs.SeenRows.{HaveSeen};
+ghost use Rattle.values.specs.Borrowed.{borrowed_cells};
+
+use crate::row_run::RowRun;
+use crate::shared::runs_share_entries;
+use arrays::shared_entries_fit;
+use arrow_schema::Schema;
+use columns::row;
+use std::alloc::{AllocError, Global};
+use crate::seen_rows::SeenRows;
+use values::Values;
+
+/// What is known of the entries that dictionaries have in the rows of a piece.
+#[derive(Drop)]
+pub(crate) enum Seen<'a> {
+    /// There is no row.
+    Nothing,
+    /// All rows have, in each dictionary whose indices name only so many, the entries that those of this run have.
+    Shared(RowRun<'a>),
+    /// Each row was gone through.
+    Rows(SeenRows<'a>),
+}
+
+/// How many rows of a run there is room for, and what is known where that is all of them.
+#[derive(Drop)]
+pub(crate) struct Room<'a> {
+    pub(crate) rows: usize,
+    pub(crate) seen: Seen<'a>,
+}
+
+// A byte is below 256: a contract knows it of a slice that it is given.
+fn are_bytes(bytes: &[u8])
+    ensures { AreBytes bytes.now }
+{}
+
+fn row_of<'a>(schema: &'a Schema, run: RowRun<'a>, i: usize) -> Values<'a>
+    requires run { IsRunOf (schema_of schema.now) run }
+    requires within { i < run.len }
+    ensures { borrowed_cells result ≡ row_at (columns_of (schema_of schema.now).columns) (arrays_of_run run.entry) (run.entry.from + i) }
+{
+    Values::of_arrays(row(
+        &schema.fields,
+        run.arrays,
+        run.bytes,
+        run.dictionaries,
+        run.from + run.len,
+        run.from + i,
+    ))
+}
+
+// Goes through the rows of a run.
+fn see_rows<'a>(
+    alloc: Global,
+    schema: &'a Schema,
+    seen: &mut SeenRows<'a>,
+    run: RowRun<'a>,
+) -> Result<(), AllocError>
+    requires limited { is_any_limited (columns_of (schema_of schema.now).columns) ≡ true }
+    requires run { IsRunOf (schema_of schema.now) run }
+    requires seen { (rows : List (List Cell)) × HaveSeen (schema_of schema.now) rows seen.old }
+    ensures { OnOk result ((rows : List (List Cell)) → HaveSeen (schema_of schema.now) rows seen.old
+        → HaveSeen (schema_of schema.now) (rows ++ run_rows (columns_of (schema_of schema.now).columns) run.entry) seen.new) }
+{
+    for i in 0..run.len {
+        seen.take(alloc, schema, row_of(schema, run, i))?;
+    }
+    Ok(())
+}
+
+// Goes through the rows of some runs.
+fn see_runs<'a>(
+    alloc: Global,
+    schema: &'a Schema,
+    runs: &[RowRun<'a>],
+) -> Result<SeenRows<'a>, AllocError>
+    requires limited { is_any_limited (columns_of (schema_of schema.now).columns) ≡ true }
+    requires runs { AreRunsOf (schema_of schema.now) runs.now }
+    ensures { IfOk result (λ seen. HaveSeen (schema_of schema.now) (runs_rows (columns_of (schema_of schema.now).columns) runs.now) seen) }
+{
+    let mut seen = SeenRows::none();
+    for run in runs {
+        see_rows(alloc, schema, &mut seen, *run)?;
+    }
+    Ok(seen)
+}
+
+// Goes through the rows of a run up to the first one that there is no room for, and says how many there is room for.
+fn take_rows<'a>(
+    alloc: Global,
+    schema: &'a Schema,
+    seen: &mut SeenRows<'a>,
+    run: RowRun<'a>,
+) -> Result<usize, AllocError>
+    requires limited { is_any_limited (columns_of (schema_of schema.now).columns) ≡ true }
+    requires run { IsRunOf (schema_of schema.now) run }
+    requires seen { (rows : List (List Cell)) × HaveSeen (schema_of schema.now) rows seen.old }
+    ensures room { IfOk result (λ n. (rows : List (List Cell)) → HaveSeen (schema_of schema.now) rows seen.old
+        → dictionaries_fit (schema_of schema.now) rows ≡ true → HasRoom (schema_of schema.now) rows run.entry n) }
+    ensures seen { IfOk result (λ n. (rows : List (List Cell)) → HaveSeen (schema_of schema.now) rows seen.old → n ≡ run.entry.len
+        → HaveSeen (schema_of schema.now) (rows ++ run_rows (columns_of (schema_of schema.now).columns) run.entry) seen.new) }
+{
+    for i in 0..run.len {
+        if !seen.take(alloc, schema, row_of(schema, run, i))? {
+            return Ok(i);
+        }
+    }
+    Ok(run.len)
+}
+
+// The same of a run behind rows that were gone through.
+fn room_behind<'a>(
+    alloc: Global,
+    schema: &'a Schema,
+    before: SeenRows<'a>,
+    run: RowRun<'a>,
+) -> Result<Room<'a>, AllocError>
+    requires limited { is_any_limited (columns_of (schema_of schema.now).columns) ≡ true }
+    requires run { IsRunOf (schema_of schema.now) run }
+    requires seen { (rows : List (List Cell)) × HaveSeen (schema_of schema.now) rows before }
+    ensures { IfOk result (λ room. (rows : List (List Cell)) → HaveSeen (schema_of schema.now) rows before.entry
+        → dictionaries_fit (schema_of schema.now) rows ≡ true → IsRoom (schema_of schema.now) rows run.entry room) }
+{
+    let mut seen = before;
+    let rows = take_rows(alloc, schema, &mut seen, run)?;
+    Ok(Room {
+        rows,
+        seen: Seen::Rows(seen),
+    })
+}
+
+// Where all rows have the entries that those of one run have, indices name no more of them than they can: there is room for all rows of a run more.
+fn room_sharing<'a>(schema: &Schema, first: RowRun<'a>, run: RowRun<'a>) -> Room<'a>
+    requires schema { IsWithinLimits (schema_of schema.now) }
+    requires shares { let columns = columns_of (schema_of schema.now).columns in ShareEntries columns (arrays_of_run first) (arrays_of_run run) }
+    ensures { (rows : List (List Cell)) → AreRowsSharing (columns_of (schema_of schema.now).columns) (arrays_of_run first.entry) rows
+        → IsRoom (schema_of schema.now) rows run.entry result }
+{
+    shared_entries_fit();
+    are_bytes(run.bytes);
+    Room {
+        rows: run.len,
+        seen: Seen::Shared(first),
+    }
+}
+
+// A run alone has the entries of its own dictionaries.
+fn room_alone<'a>(schema: &Schema, run: RowRun<'a>) -> Room<'a>
+    requires schema { IsWithinLimits (schema_of schema.now) }
+    ensures { IsRoom (schema_of schema.now) [] run.entry result }
+{
+    shared_entries_fit();
+    room_sharing(schema, run, run)
+}
+
+// The same behind a piece, all of whose rows have the entries that those of one run have.
+fn room_behind_shared<'a>(
+    alloc: Global,
+    schema: &'a Schema,
+    first: RowRun<'a>,
+    piece: &[RowRun<'a>],
+    run: RowRun<'a>,
+) -> Result<Room<'a>, AllocError>
+    requires limited { is_any_limited (columns_of (schema_of schema.now).columns) ≡ true }
+    requires behind { IsRunBehind (schema_of schema.now) piece.now run }
+    requires seen { let columns = columns_of (schema_of schema.now).columns in AreRowsSharing columns (arrays_of_run first) (runs_rows columns piece.now) }
+    ensures { IfOk result (λ room. IsRoom (schema_of schema.now) (runs_rows (columns_of (schema_of schema.now).columns) piece.now) run.entry room) }
+{
+    if runs_share_entries(&schema.fields, first, run) {
+        return Ok(room_sharing(schema, first, run));
+    }
+    let seen = see_runs(alloc, schema, piece)?;
+    room_behind(alloc, schema, seen, run)
+}
+
+// How many rows of a run the dictionaries of a piece have room for, behind the rows that it has.
+fn room_for<'a>(
+    alloc: Global,
+    schema: &'a Schema,
+    seen: Seen<'a>,
+    piece: &[RowRun<'a>],
+    run: RowRun<'a>,
+) -> Result<Room<'a>, AllocError>
+    requires limited { is_any_limited (columns_of (schema_of schema.now).columns) ≡ true }
+    requires behind { IsRunBehind (schema_of schema.now) piece.now run }
+    requires seen { IsSeen (schema_of schema.now) (runs_rows (columns_of (schema_of schema.now).columns) piece.now) seen }
+    ensures { IfOk result (λ room. IsRoom (schema_of schema.now) (runs_rows (columns_of (schema_of schema.now).columns) piece.now) run.entry room) }
+{
+    match seen {
+        Seen::Nothing => Ok(room_alone(schema, run)),
+        Seen::Shared(first) => room_behind_shared(alloc, schema, first, piece, run),
+        Seen::Rows(rows) => room_behind(alloc, schema, rows, run),
+    }
+}
+
+/// How many rows of a run the dictionaries of a piece have room for, behind the rows that it has: where no dictionary has a limit, or the run has no row,
+/// nothing is asked.
+pub(crate) fn room_within<'a>(
+    alloc: Global,
+    schema: &'a Schema,
+    limited: bool,
+    seen: Seen<'a>,
+    piece: &[RowRun<'a>],
+    run: RowRun<'a>,
+) -> Result<Room<'a>, AllocError>
+    requires limited { limited ≡ is_any_limited (columns_of (schema_of schema.now).columns) }
+    requires behind { IsRunBehind (schema_of schema.now) piece.now run }
+    requires seen { IsSeenWithin (schema_of schema.now) (runs_rows (columns_of (schema_of schema.now).columns) piece.now) seen }
+    ensures room { IfOk result (λ room. let columns = columns_of (schema_of schema.now).columns in
+        HasRoom (schema_of schema.now) (runs_rows columns piece.now) run.entry room.rows) }
+    ensures seen { IfOk result (λ room. let columns = columns_of (schema_of schema.now).columns in room.rows ≡ run.entry.len
+        → IsSeenWithin (schema_of schema.now) (runs_rows columns piece.now ++ run_rows columns run.entry) room.seen) }
+{
+    if run.len == 0 {
+        return Ok(Room { rows: 0, seen });
+    }
+    if limited {
+        return room_for(alloc, schema, seen, piece, run);
+    }
+    Ok(Room {
+        rows: run.len,
+        seen,
+    })
+}

@@ -1,0 +1,193 @@
+// Whether runs of rows have the same entries in their dictionaries, where indices name only so many.
+ghost use Rattle.std.specs.Prelude.{◌≡◌, true, length, map};
+ghost use Rattle.arrays.specs.Shared.{SharesEntries, SharesBelow, ShareEntries};
+ghost use Rattle.arrow_schema.specs.Column.{columns_of};
+ghost use Rattle.arrow_schema.specs.View.{kind_of, column_of};
+ghost use Rattle.columns.specs.Array.{first_array, children_in};
+ghost use Rattle.columns.specs.Places.{within};
+ghost use Rattle.columns.specs.View.{view_array, placed_dictionary, IsNoArray};
+ghost use Rattle.table_cut.specs.Rows.{arrays_of_run};
+ghost use Rattle.table_cut.specs.inner.Columns.{arrays_behind};
+ghost use Rattle.table_cut.specs.inner.Same.{IsSameLayout, IsSameArray};
+
+use crate::row_run::RowRun;
+use arrow_schema::{DataType, Field};
+use cells::entry_limit;
+use columns::{
+    ArrayView, KnownArrays, PlacedArray, PlacedLayout, Span, array_or, bytes_at, no_array,
+};
+
+// Buffers with more bytes than these together, of which the second are for each row, are not compared: the rows are gone through.
+const LEAST_COMPARED: usize = 16_384;
+
+const COMPARED_PER_ROW: usize = 64;
+
+// Of dictionaries that were appended to more often than this, rows are gone through too.
+const MOST_ARRAYS: usize = 16;
+
+// The bytes that a buffer is looked for in, and how many of a buffer are compared.
+#[derive(Clone, Copy)]
+struct Compared<'a> {
+    own: &'a [u8],
+    others: &'a [u8],
+    most: usize,
+}
+
+fn is_same_span(bytes: Compared<'_>, a: Span, b: Span) -> bool
+    ensures { result ≡ true → within bytes.entry.own.now a ≡ within bytes.entry.others.now b }
+{
+    a.len <= bytes.most && bytes_at(bytes.own, a) == bytes_at(bytes.others, b)
+}
+
+fn is_same_layout(bytes: Compared<'_>, a: &PlacedLayout, b: &PlacedLayout) -> bool
+    ensures { result ≡ true → IsSameLayout bytes.entry.own.now a.now bytes.entry.others.now b.now }
+{
+    match (a, b) {
+        (PlacedLayout::Null, PlacedLayout::Null) => true,
+        (PlacedLayout::Bits(a), PlacedLayout::Bits(b)) => is_same_span(bytes, *a, *b),
+        (PlacedLayout::Fixed(a), PlacedLayout::Fixed(b)) => is_same_span(bytes, *a, *b),
+        (PlacedLayout::Binary(a, contents), PlacedLayout::Binary(b, others)) => {
+            is_same_span(bytes, *a, *b) && is_same_span(bytes, *contents, *others)
+        }
+        _ => false,
+    }
+}
+
+// Whether two arrays are one, of a type whose values are flat.
+fn is_same_array(bytes: Compared<'_>, a: &PlacedArray, b: &PlacedArray) -> bool
+    ensures { result ≡ true → IsSameArray bytes.entry.own.now a.now bytes.entry.others.now b.now }
+{
+    a.slots == b.slots
+        && is_same_span(bytes, a.validity, b.validity)
+        && is_same_layout(bytes, &a.layout, &b.layout)
+}
+
+// Whether two dictionaries are one.
+fn is_same_dictionary(bytes: Compared<'_>, own: KnownArrays<'_>, others: KnownArrays<'_>) -> bool
+    ensures { result ≡ true
+        → placed_dictionary bytes.entry.others.now others.entry.arrays.now ≡ placed_dictionary bytes.entry.own.now own.entry.arrays.now }
+{
+    if own.arrays.len() != others.arrays.len() || own.arrays.len() > MOST_ARRAYS {
+        return false;
+    }
+    for (i, array) in own.arrays.iter().enumerate() {
+        if !is_same_array(bytes, array, &others.arrays[i]) {
+            return false;
+        }
+    }
+    true
+}
+
+// The arrays below that of structs.
+fn children_of<'a>(view: ArrayView<'a>) -> RowRun<'a>
+    ensures { arrays_of_run result ≡ children_in (view_array view.entry) }
+{
+    RowRun {
+        arrays: view.children(),
+        bytes: view.bytes,
+        dictionaries: view.dictionaries,
+        from: 0,
+        len: 0,
+    }
+}
+
+fn view_at<'a>(run: RowRun<'a>, i: usize, none: &'a PlacedArray) -> ArrayView<'a>
+    requires { IsNoArray none.now }
+    ensures { view_array result ≡ first_array (arrays_behind i run.entry) }
+{
+    ArrayView {
+        array: array_or(run.arrays, i, none),
+        bytes: run.bytes,
+        dictionaries: run.dictionaries,
+    }
+}
+
+// Whether an array has the entries of another.
+#[tactic(auto, unfolding(arrays::specs::Shared::SharesEntries))]
+#[cycle(shared)]
+fn shares_entries(
+    field: &Field,
+    own: ArrayView<'_>,
+    others: ArrayView<'_>,
+    none: &PlacedArray,
+    most: usize,
+) -> bool
+    requires { IsNoArray none.now }
+    ensures { result ≡ true → SharesEntries (column_of field.now) (view_array own.entry) (view_array others.entry) }
+{
+    match field.dictionary {
+        None => shares_below(&field.data_type, own, others, none, most),
+        Some(spec) => {
+            let bytes = Compared {
+                own: own.bytes,
+                others: others.bytes,
+                most,
+            };
+            entry_limit(spec.index).is_none()
+                || is_same_dictionary(bytes, own.dictionary(), others.dictionary())
+        }
+    }
+}
+
+#[tactic(auto, unfolding(arrays::specs::Shared::SharesBelow))]
+#[cycle(shared)]
+fn shares_below(
+    data_type: &DataType,
+    own: ArrayView<'_>,
+    others: ArrayView<'_>,
+    none: &PlacedArray,
+    most: usize,
+) -> bool
+    requires { IsNoArray none.now }
+    ensures { result ≡ true → SharesBelow (kind_of data_type.now) (view_array own.entry) (view_array others.entry) }
+{
+    match data_type {
+        DataType::List(item) => {
+            shares_entries(item, own.items_or(none), others.items_or(none), none, most)
+        }
+        DataType::LargeList(item) => {
+            shares_entries(item, own.items_or(none), others.items_or(none), none, most)
+        }
+        DataType::FixedSizeList(_, item) => {
+            shares_entries(item, own.items_or(none), others.items_or(none), none, most)
+        }
+        DataType::Struct(fields) => {
+            share_entries(fields, children_of(own), children_of(others), none, most)
+        }
+        _ => true,
+    }
+}
+
+#[tactic(auto, unfolding(arrays::specs::Shared::ShareEntries))]
+#[cycle(shared)]
+fn share_entries(
+    fields: &[Field],
+    own: RowRun<'_>,
+    others: RowRun<'_>,
+    none: &PlacedArray,
+    most: usize,
+) -> bool
+    requires { IsNoArray none.now }
+    ensures { result ≡ true → ShareEntries (columns_of (map column_of fields.now)) (arrays_of_run own.entry) (arrays_of_run others.entry) }
+{
+    for (i, field) in fields.iter().enumerate() {
+        let a = view_at(own, i, none);
+        let b = view_at(others, i, none);
+        if !shares_entries(field, a, b, none, most) {
+            return false;
+        }
+    }
+    true
+}
+
+/// Whether the arrays of a run are known to have the entries of those of another. Where dictionaries are large beside the rows, that is not asked.
+pub(crate) fn runs_share_entries(fields: &[Field], own: RowRun<'_>, others: RowRun<'_>) -> bool
+    ensures { result ≡ true → ShareEntries (columns_of (map column_of fields.now)) (arrays_of_run own.entry) (arrays_of_run others.entry) }
+{
+    let none = no_array();
+    let most = others
+        .len
+        .saturating_mul(COMPARED_PER_ROW)
+        .saturating_add(LEAST_COMPARED);
+    share_entries(fields, own, others, &none, most)
+}

@@ -1,3 +1,0 @@
-pub mod Written
-pub mod Checked
-pub mod Answered

@@ -1,3 +1,0 @@
-pub mod Ids
-pub mod Replaced
-pub mod ReplacingRead

@@ -1,5 +1,0 @@
-use Rattle.written_ids.proofs.Ids.{ids_of_schema, own}
-use Rattle.written_ids.proofs.laws.written_ids_count_dictionaries.Goals as goal
-
-pub returns : goal.returns
-returns c = record { ids = ids_of_schema; own = own }
